@@ -1,0 +1,17 @@
+//! What every crate of octimap speaks of: the numbers of things, points of the plane, texts, limits,
+//! want of memory, and a counter of steps.
+#![tactic(auto)]
+
+mod ids;
+mod limit;
+mod memory;
+mod point;
+mod steps;
+mod text;
+
+pub use ids::{LineId, NodeId, SegId, StationId};
+pub use limit::{Limit, LimitKind};
+pub use memory::NoMemory;
+pub use point::Point;
+pub use steps::Steps;
+pub use text::Text;
