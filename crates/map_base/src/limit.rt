@@ -1,5 +1,7 @@
 //! Quantities that are counted, and a quantity above its number.
 
+ghost use Rattle.std.specs.Prelude.{◌≡◌};
+
 /// A quantity that is counted against a limit.
 #[derive(Clone, Copy, Debug, PartialEq, Eq)]
 pub enum LimitKind {
@@ -23,6 +25,46 @@ pub enum LimitKind {
     Terms,
     /// Places of one part of the ordering problem: the sum of its segments' lines, each less one.
     Places,
+}
+
+impl LimitKind {
+    ghost use Rattle.map_base.specs.Limits.{limit_name, limit_most};
+
+    /// The quantity as a limit's line prints it.
+    pub fn name(self) -> &'static str
+        ensures { result.now ≡ limit_name self }
+    {
+        match self {
+            LimitKind::File => "file",
+            LimitKind::Lines => "lines",
+            LimitKind::Stations => "stations",
+            LimitKind::Samples => "samples",
+            LimitKind::NetPoints => "net points",
+            LimitKind::Nodes => "nodes",
+            LimitKind::Segments => "segments",
+            LimitKind::Cells => "cells",
+            LimitKind::Terms => "terms",
+            LimitKind::Places => "places",
+        }
+    }
+
+    /// The greatest allowed number: bytes of a file, and counts of everything else.
+    pub fn most(self) -> u64
+        ensures { result ≡ limit_most self }
+    {
+        match self {
+            LimitKind::File => 536_870_912,
+            LimitKind::Lines => 1_000,
+            LimitKind::Stations => 10_000,
+            LimitKind::Samples => 4_000_000,
+            LimitKind::NetPoints => 100_000,
+            LimitKind::Nodes => 10_000,
+            LimitKind::Segments => 20_000,
+            LimitKind::Cells => 400,
+            LimitKind::Terms => 4_000_000,
+            LimitKind::Places => 2_048,
+        }
+    }
 }
 
 /// A counted quantity that is above its greatest allowed number.
