@@ -6,6 +6,7 @@ mod ids;
 mod limit;
 mod memory;
 mod point;
+mod sequence;
 mod steps;
 mod text;
 
@@ -13,5 +14,6 @@ pub use ids::{LineId, NodeId, SegId, StationId};
 pub use limit::{Limit, LimitKind};
 pub use memory::NoMemory;
 pub use point::Point;
+pub use sequence::Sequence;
 pub use steps::Steps;
 pub use text::Text;
