@@ -32,7 +32,7 @@ def write_stops(path, rows):
             platform = row % (PLATFORMS + 1)
             lat = (station * 7919) % 170000000 - 85000000
             lon = (station * 104729) % 340000000 - 170000000
-            name = f'"Haltestelle ""{station % 977}"", Platz {station % 4001}"'
+            name = f'"Halt ""{station % 977}"", Platz {station % 4001}"'
             if platform == 0:
                 out.write(f"S{station},{name},{degrees(lat)},{degrees(lon)},1,\r\n")
             else:
