@@ -1,0 +1,6 @@
+pub mod Fault
+pub mod Files
+pub mod Targets
+pub mod Acts
+pub mod Reading
+pub mod Writing

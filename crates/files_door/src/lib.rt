@@ -1,0 +1,18 @@
+//! Files that are read and sinks that are written to, real ones or in memory: a file whole or the cause
+//! why not, and all bytes written or how many of them. Each fault that is told comes with a count of
+//! faults that rose.
+#![tactic(auto)]
+
+mod files;
+mod reading;
+mod sinks;
+mod stop;
+mod target;
+mod writing;
+
+pub use files::Files;
+pub use reading::DoorFault;
+pub use sinks::Sinks;
+pub use stop::Stop;
+pub use target::Target;
+pub use writing::WriteStop;
