@@ -1,5 +1,6 @@
 pub mod Fault
 pub mod Files
+pub mod FilesInMemory
 pub mod Targets
 pub mod Acts
 pub mod Reading

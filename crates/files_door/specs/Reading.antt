@@ -1,5 +1,5 @@
 -- What reading a whole file answers.
-use Rattle.std.specs.Prelude.{◌≡◌, ℕ, ◌+◌, ◌≤◌, List, length, Option, None, Some, Result, Ok, Err, IsErrOf, if◌then◌else◌, nat_le, ⊤, Vec}
+use Rattle.std.specs.Prelude.{◌≡◌, ℕ, ◌+◌, ◌<◌, List, length, Option, None, Some, Result, Ok, Err, if◌then◌else◌, nat_le, ⊤, Vec}
 use Rattle.std.specs.declared.alloc.Global.{Global}
 use Rattle.map_base.specs.declared.limit.Limit.{Limit}
 use Rattle.map_base.specs.declared.limit.LimitKind.TheVariants.{File}
@@ -37,3 +37,10 @@ ReadCause most before now NoMemory = ⊤
 abbrev pub fault_of : Stop → DoorFault
 fault_of stop.Failed = ReadFault
 fault_of stop.NoMemory = NoMemory
+
+-- there are more bytes than allowed, or memory was wanted
+abbrev pub IsFull : ℕ → List ℕ → DoorFault → Type 0
+IsFull most bytes (TooLong limit) = (most < length bytes) × (limit ≡ file_limit most)
+IsFull most bytes NoMemory = ⊤
+IsFull most bytes Absent = ⊥
+IsFull most bytes ReadFault = ⊥
