@@ -9,14 +9,12 @@ mod sinks;
 mod steady_files;
 mod stop;
 mod target;
-mod whole;
 mod writing;
 
 pub use files::Files;
-pub use reading::DoorFault;
+pub use reading::{DoorFault, read_all};
 pub use sinks::Sinks;
 pub use steady_files::SteadyFiles;
 pub use stop::Stop;
 pub use target::Target;
-pub use whole::read_all;
-pub use writing::WriteStop;
+pub use writing::{WriteStop, write_all};

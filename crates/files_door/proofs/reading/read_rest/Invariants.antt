@@ -1,6 +1,6 @@
 use Rattle.std.proofs.Common.{◌≡◌, ◌≤◌, ◌<◌, ◌-◌, vec_len}
 use Rattle.std.specs.Io.KnownBytes.{Consumes}
-use Rattle.files_door.proofs.whole.read_rest.Given as goal
+use Rattle.files_door.proofs.reading.read_rest.Given as goal
 
 -- what was read so far is the front of what was unread
 abbrev pub invariant-loop-bytes : goal.invariant-loop-bytes
