@@ -1,6 +1,7 @@
 -- Files in memory.
 use Rattle.std.specs.Prelude.{ℕ, zero, suc, List, [], ◌∷◌, map, Option, None, Some, Vec}
 use Rattle.std.specs.declared.alloc.Global.{Global}
+use Rattle.files_door.specs.Counts.{next_count}
 
 -- a file with its path, wherever its bytes lie
 abbrev pub entry : List ℕ × Vec ℕ Global → List ℕ × List ℕ
@@ -24,3 +25,20 @@ begun_bytes files (Some place) = bytes_at files place
 pub record ReadFiles : Type 0 where
   pub files : List (List ℕ × List ℕ)
   pub unread : List ℕ
+
+-- files whose calls fail by their numbers
+pub record FailingFiles : Type 0 where
+  pub files : List (List ℕ × List ℕ)
+  pub unread : List ℕ
+  -- the numbers of the calls that fail; the first call has the number 1
+  pub failing : List ℕ
+  pub calls : ℕ
+  pub faults : ℕ
+
+-- a call was counted
+abbrev pub counted : FailingFiles → FailingFiles
+counted files = record files { calls = next_count files.calls }
+
+-- a call failed: it was counted, as was the fault, and no file is begun
+abbrev pub failed : FailingFiles → FailingFiles
+failed files = record (counted files) { faults = next_count files.faults; unread = [] }

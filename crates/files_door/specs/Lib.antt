@@ -1,3 +1,4 @@
+pub mod Counts
 pub mod Fault
 pub mod Files
 pub mod FilesInMemory

@@ -3,7 +3,9 @@
 //! faults that rose.
 #![tactic(auto)]
 
+mod counts;
 mod files;
+mod memory_files;
 mod reading;
 mod sinks;
 mod steady_files;
@@ -12,6 +14,7 @@ mod target;
 mod writing;
 
 pub use files::Files;
+pub use memory_files::MemoryFiles;
 pub use reading::{DoorFault, read_all};
 pub use sinks::Sinks;
 pub use steady_files::SteadyFiles;

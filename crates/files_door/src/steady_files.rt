@@ -42,6 +42,14 @@ impl SteadyFiles {
             read: 0,
         }
     }
+
+    /// No file is begun any more.
+    pub(crate) fn close(&mut self)
+        ensures { self.new ≡ record self.old { unread = [] } }
+    {
+        self.begun = None;
+        self.read = 0;
+    }
 }
 
 impl Files for SteadyFiles {
