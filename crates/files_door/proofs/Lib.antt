@@ -2,3 +2,5 @@ pub mod Acts
 pub mod Faults
 pub mod Places
 pub mod ReadSoFar
+pub mod Targets
+mod Kept

@@ -1,9 +1,9 @@
 -- What calls do to targets, as a list of acts.
-use Rattle.std.specs.Prelude.{◌≡◌, ℕ, List, [], ◌∷◌, ◌++◌, map, Option, None, Some, if◌then◌else◌}
+use Rattle.std.specs.Prelude.{◌≡◌, ℕ, List, [], ◌∷◌, ◌++◌, map, Option, None, Some, is_some, if◌then◌else◌}
 use Rattle.std.specs.Option.{option_map}
 use Rattle.files_door.specs.declared.target.Target.{Target}
 use Rattle.files_door.specs.declared.target.Target.TheVariants.{Said, Path}
-use Rattle.files_door.specs.Targets.{same_target, Written}
+use Rattle.files_door.specs.Targets.{same_target, Written, held_by}
 
 -- a target is begun, or gets one more byte
 pub data Act : Type 0 where
@@ -15,15 +15,18 @@ abbrev pub kept_by : Target → List ℕ → List ℕ
 kept_by Said bytes = bytes
 kept_by (Path path) bytes = []
 
--- the target is begun
+-- what the target holds changes so; where it was never begun, nothing does
+abbrev pub change : Target → (List ℕ → List ℕ) → Written → Written
+change target step [] = []
+change target step (entry ∷ entries) = if same_target entry.0 target then (entry.0, step entry.1) ∷ entries else entry ∷ change target step entries
+
+-- the target is begun: it is new and empty, or keeps what a target of its kind keeps
 abbrev pub begin_target : Target → Written → Written
-begin_target target [] = (target, []) ∷ []
-begin_target target (entry ∷ entries) = if same_target entry.0 target then (entry.0, kept_by target entry.1) ∷ entries else entry ∷ begin_target target entries
+begin_target target written = if is_some (held_by target written) then change target (kept_by target) written else written ++ (target, []) ∷ []
 
 -- the target gets these bytes at its end
 abbrev pub append_to : Target → List ℕ → Written → Written
-append_to target bytes [] = []
-append_to target bytes (entry ∷ entries) = if same_target entry.0 target then (entry.0, entry.1 ++ bytes) ∷ entries else entry ∷ append_to target bytes entries
+append_to target bytes written = change target (λ held. held ++ bytes) written
 
 -- after one act
 abbrev pub after_act : Act → Written → Written

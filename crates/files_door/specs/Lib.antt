@@ -6,3 +6,4 @@ pub mod Targets
 pub mod Acts
 pub mod Reading
 pub mod Writing
+pub mod SinksInMemory
