@@ -1,11 +1,11 @@
 -- A target's place among the targets in memory.
-use Rattle.std.proofs.Common.{◌≡◌, ◌⊎◌, inl, inr, ℕ, ◌<◌, zero, suc, Bool, true, false, cond, List, [], ◌∷◌, ◌++◌, length, set, get_or, Option, None, Some, is_some, Vec, position, refl, sym, ap, ◌∙◌, subst, arith}
+use Rattle.std.proofs.Common.{◌≡◌, ℕ, ◌<◌, zero, suc, Bool, true, false, cond, List, [], ◌∷◌, ◌++◌, length, set, get_or, Option, None, Some, is_some, Vec, position, refl, sym, ap, ◌∙◌, arith}
 use Rattle.std.proofs.lemmas.List.{map-append}
 use Rattle.std.specs.declared.alloc.Global.{Global}
 use Rattle.std.specs.Option.{option_map}
 use Rattle.files_door.specs.declared.target.Target.{Target}
 use Rattle.files_door.specs.Targets.{same_target, Written, held_by}
-use Rattle.files_door.specs.Acts.{change, begin_target, append_to, kept_by}
+use Rattle.files_door.specs.Acts.{change, begin_target, kept_by}
 use Rattle.files_door.specs.SinksInMemory.{WrittenSinks, held_in, written_in, place_of, target_at, IsFirst}
 use Rattle.files_door.proofs.Places.{position-cons}
 use Rattle.files_door.proofs.Targets.{same_target-refl, from_same_target, with_entry}

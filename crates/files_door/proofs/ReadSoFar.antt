@@ -1,5 +1,5 @@
 -- What was read so far, and what the whole file is.
-use Rattle.std.proofs.Common.{◌≡◌, ◌≢◌, ℕ, ◌+◌, ◌<◌, ◌≤◌, List, [], ◌++◌, length, None, Some, IfSome, IfErr, Ok, Err, Result, Bool, true, false, cond, nat_le, refl, sym, ap, ◌∙◌, subst, arith, append-nil, length-append, take, Vec}
+use Rattle.std.proofs.Common.{◌≡◌, ℕ, ◌<◌, ◌≤◌, List, ◌++◌, length, None, Some, IfSome, Ok, Err, Result, Bool, false, cond, nat_le, sym, ap, ◌∙◌, subst, arith, append-nil, length-append, take, Vec}
 use Rattle.std.proofs.lemmas.List.{take-take, take-append-le}
 use Rattle.std.proofs.lemmas.Bool.{le-leb}
 use Rattle.std.proofs.lemmas.Bool.Decides.{nat_tests}

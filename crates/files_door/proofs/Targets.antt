@@ -1,12 +1,10 @@
 -- Targets that are the same, and what each one holds after a change.
-use Rattle.std.proofs.Common.{◌≡◌, ℕ, zero, suc, Bool, true, false, cond, List, [], ◌∷◌, ◌++◌, length, Option, None, Some, is_some, refl, sym, ap, ◌∙◌, append-nil, append_assoc, subst}
+use Rattle.std.proofs.Common.{◌≡◌, ℕ, Bool, true, false, cond, List, [], ◌∷◌, ◌++◌, Some, refl, sym, ap, ◌∙◌, append-nil, append_assoc}
 use Rattle.std.proofs.lemmas.Slice.Eq.{bytes_eq-Decides}
-use Rattle.std.specs.Option.{option_map}
-use Rattle.std.specs.Str.{bytes_eq}
 use Rattle.files_door.specs.declared.target.Target.{Target}
 use Rattle.files_door.specs.declared.target.Target.TheVariants.{Said, Path}
-use Rattle.files_door.specs.Targets.{same_target, Written, held_by}
-use Rattle.files_door.specs.Acts.{change, append_to, puts, put, after, after_act}
+use Rattle.files_door.specs.Targets.{same_target, Written}
+use Rattle.files_door.specs.Acts.{change, append_to, puts, after}
 
 pub same_target-refl : (t : Target) → same_target t t ≡ true
 same_target-refl Said = refl

@@ -4,6 +4,9 @@ use Rattle.std.specs.Option.{option_map}
 use Rattle.std.specs.declared.alloc.Global.{Global}
 use Rattle.files_door.specs.declared.target.Target.{Target}
 use Rattle.files_door.specs.declared.target.Target.TheVariants.{Said}
+use Rattle.files_door.specs.declared.stop.Stop.{Stop}
+use Rattle.files_door.specs.declared.stop.Stop.TheVariants.{Failed, NoMemory}
+use Rattle.files_door.specs.Counts.{next_count}
 use Rattle.files_door.specs.Targets.{same_target, Written}
 
 -- a target with what it holds, wherever the bytes lie
@@ -39,3 +42,8 @@ pub record RoomySinks : Type 0 where
   pub current : Option Target
   pub room : ℕ
   pub faults : ℕ
+
+-- after a refused write: nothing was taken, and a fault was counted
+abbrev pub refused : Stop → RoomySinks → RoomySinks
+refused Failed sinks = record sinks { faults = next_count sinks.faults }
+refused NoMemory sinks = sinks

@@ -6,6 +6,7 @@
 mod counts;
 mod files;
 mod memory_files;
+mod memory_sinks;
 mod reading;
 mod sinks;
 mod steady_files;
@@ -16,6 +17,7 @@ mod writing;
 
 pub use files::Files;
 pub use memory_files::MemoryFiles;
+pub use memory_sinks::MemorySinks;
 pub use reading::{DoorFault, read_all};
 pub use sinks::Sinks;
 pub use steady_files::SteadyFiles;

@@ -91,11 +91,7 @@ fn place_of(targets: &[(Target, Vec<u8>)], to: &Target) -> Option<usize>
 }
 
 // Begins the target, and answers its place.
-fn begin_in(
-    alloc: Global,
-    targets: &mut Vec<(Target, Vec<u8>)>,
-    to: &Target,
-) -> Result<usize, Stop>
+fn begin_in(alloc: Global, targets: &mut Vec<(Target, Vec<u8>)>, to: &Target) -> Result<usize, Stop>
     ensures begun { OnOk result (written_in targets.new.items ≡ begin_target to.now (written_in targets.old.items)) }
     ensures place { IfOk result (λ place. place_of to.now (written_in targets.new.items) ≡ Some place) }
     ensures err { IfErr result (λ stop. (stop ≡ NoMemory) × (written_in targets.new.items ≡ written_in targets.old.items)) }
@@ -121,11 +117,7 @@ fn restart(targets: &mut Vec<(Target, Vec<u8>)>, place: usize, to: &Target)
 }
 
 // Appends the piece to the target at this place.
-fn append_at(
-    targets: &mut Vec<(Target, Vec<u8>)>,
-    place: usize,
-    piece: &[u8],
-) -> Result<(), Stop>
+fn append_at(targets: &mut Vec<(Target, Vec<u8>)>, place: usize, piece: &[u8]) -> Result<(), Stop>
     requires { IsFirst (written_in targets.old.items) place }
     ensures ok { OnOk result (written_in targets.new.items ≡ append_to (target_at (written_in targets.old.items) place) piece.now (written_in targets.old.items)) }
     ensures err { IfErr result (λ stop. (stop ≡ NoMemory) × (written_in targets.new.items ≡ written_in targets.old.items)) }

@@ -1,7 +1,7 @@
 use Rattle.std.proofs.Common.{arith, rules, sym, subst, ap, ◌∙◌, take}
 use Rattle.std.proofs.lemmas.Result.{err_from_is_err_and}
 use Rattle.std.specs.Io.KnownBytes.{Consumes}
-use Rattle.std.proofs.KnownBytes.{Consumes-nil, Consumes-trans}
+use Rattle.std.proofs.KnownBytes.{Consumes-trans}
 use Rattle.files_door.proofs.ReadSoFar.{at_end, at_stop, front_of, stop_cause}
 use Rattle.files_door.proofs.reading.read_rest.Goals as goal
 

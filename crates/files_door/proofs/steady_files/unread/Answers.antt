@@ -1,4 +1,4 @@
-use Rattle.std.proofs.Common.{◌≡◌, length, arith, rules, ap, ◌∙◌, sym, drop, get_or}
+use Rattle.std.proofs.Common.{length, arith, ap, ◌∙◌, sym, drop, get_or}
 use Rattle.std.proofs.lemmas.List.{take_rest}
 use Rattle.files_door.proofs.Places.{begun_read}
 use Rattle.files_door.proofs.steady_files.unread.Goals as goal

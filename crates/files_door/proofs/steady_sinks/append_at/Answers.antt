@@ -14,8 +14,11 @@ pub returns-in_err-extend_from_slice-clause-err : goal.returns-in_err-extend_fro
 returns-in_err-extend_from_slice-clause-err c =
     let p = err_from_is_err_and c.from_residual.result c.from_residual.ensures.1 in
     let target = target_at (written_in c.args.targets.now.items) c.args.place in
-    rw (p.1, p.2) (refl, change_at target (λ held. held) c.args.targets.now.items c.args.place c.index_mut.result.now c.extend_from_slice.new.self c.requires c.index_mut.ensures.value c.in_err-extend_from_slice.ensures.items
-    ∙ change_same target (λ held. held) (λ held. refl) (written_in c.args.targets.now.items))
+    rw (p.1, p.2) (
+      refl,
+      change_at target (λ held. held) c.args.targets.now.items c.args.place c.index_mut.result.now c.extend_from_slice.new.self c.requires c.index_mut.ensures.value c.in_err-extend_from_slice.ensures.items
+          ∙ change_same target (λ held. held) (λ held. refl) (written_in c.args.targets.now.items),
+    )
 
 pub returns-clause-ok : goal.returns-clause-ok
 returns-clause-ok c =

@@ -1,4 +1,4 @@
-use Rattle.std.proofs.Common.{List, ℕ, [], ap, sym, ◌∙◌, rules}
+use Rattle.std.proofs.Common.{ap, sym, ◌∙◌, rules}
 use Rattle.files_door.specs.declared.target.Target.{Target}
 use Rattle.files_door.specs.Acts.{kept_by}
 use Rattle.files_door.specs.SinksInMemory.{written_in}
