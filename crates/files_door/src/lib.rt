@@ -25,3 +25,6 @@ pub use steady_sinks::SteadySinks;
 pub use stop::Stop;
 pub use target::Target;
 pub use writing::{WriteStop, write_all};
+
+#[cfg(test)]
+mod tests;
