@@ -1,6 +1,7 @@
 pub mod Acts
+mod Examples
 pub mod Faults
-pub mod Places
-pub mod ReadSoFar
-pub mod Targets
 mod Kept
+mod Places
+mod ReadSoFar
+pub mod Targets

@@ -1,4 +1,4 @@
-use Rattle.std.proofs.Common.{arith, rules, sym, subst, ap, ◌∙◌, take}
+use Rattle.std.proofs.Common.{◌≡◌, arith, rules, sym, subst, ap, ◌∙◌, take, drop, length}
 use Rattle.std.proofs.lemmas.Result.{err_from_is_err_and}
 use Rattle.std.specs.Io.KnownBytes.{Consumes}
 use Rattle.std.proofs.KnownBytes.{Consumes-trans}
@@ -21,11 +21,21 @@ returns-in_err-count-clause-cause g c =
 
 pub loop-bytes-preserved : goal.loop-bytes-preserved
 loop-bytes-preserved g c =
-    let appended = c.in_ok-append.ensures.appended in
+    let rest = g.F.Files.rest c.args.files.now in
+    let mid = g.F.Files.rest c.loop-bytes.files in
+    let new = g.F.Files.rest c.read.new.self in
+    let count = c.in_ok-count.count in
+    let into = c.read.new.into in
+    let len = c.loop-bytes.piece.len in
+    let behind = drop (length into) c.loop-bytes.piece.items in
+    let read = c.in_ok-count.ensures in
+    let front : take count c.deref.result.now ≡ take count into =
+    ap (take count) c.deref.ensures.value ∙ front_of count len into behind read.bound (omega (arith, read.bound, c.deref_mut.ensures.len)) in
+    let consumed : Consumes mid new (take count c.deref.result.now) = subst (Consumes mid new) (sym front) read.bytes in
     record {
       room = omega (arith, c.deref_mut.ensures.len);
       within = c.in_ok-append.ensures.within;
-      read = subst (Consumes (g.F.Files.rest c.args.files.now) (g.F.Files.rest c.read.new.self)) (sym appended) (Consumes-trans _ _ _ _ _ c.loop-bytes.invariant.read (subst (Consumes _ _) (sym (ap (take c.in_ok-count.count) c.deref.ensures.value ∙ front_of c.in_ok-count.count c.loop-bytes.piece.len c.read.new.into _ c.in_ok-count.ensures.bound (omega (arith, c.in_ok-count.ensures.bound, c.deref_mut.ensures.len)))) c.in_ok-count.ensures.bytes));
+      read = subst (Consumes rest new) (sym c.in_ok-append.ensures.appended) (Consumes-trans rest mid new c.loop-bytes.bytes.items (take count c.deref.result.now) c.loop-bytes.invariant.read consumed);
       told = c.in_ok-count.ensures.told ∙ c.loop-bytes.invariant.told;
       later = omega (arith, c.in_ok-count.ensures.cause.later, c.loop-bytes.invariant.later);
     }
