@@ -1,0 +1,6 @@
+pub mod Records
+pub mod Pieces
+pub mod Spaces
+pub mod WholeNumber
+pub mod DegreeText
+pub mod HexColour

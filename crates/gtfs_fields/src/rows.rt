@@ -1,0 +1,79 @@
+//! The rows of a table.
+
+ghost use Rattle.std.specs.Prelude.{◌≡◌, ℕ, ◌<◌, [], ◌∷◌, ◌++◌, List, length, OnOk, IfOk};
+ghost use Rattle.csv.specs.Records.{fields_of};
+ghost use Rattle.gtfs_fields.specs.Records.{records_of, width_of, field_of};
+
+use crate::pieces::Pieces;
+use csv::{ByteRecord, ReaderBuilder};
+use map_base::NoMemory;
+use std::alloc::Global;
+use std::marker::Model;
+
+/// The records of a CSV file, the header among them: a list of rows, each a list of fields, each a list of
+/// bytes. Rows may differ in width. All fields' bytes stand in one buffer, with one number for each field and
+/// one for each row.
+#[derive(Drop)]
+pub struct Rows {
+    fields: Pieces,
+    ends: Vec<usize>,
+}
+
+impl Model for Rows {
+    ghost use Rattle.std.specs.Prelude.{ℕ, List, length};
+    ghost use Rattle.gtfs_fields.specs.Pieces.{cut, Covers};
+
+    ghost Value = { List (List (List ℕ)) };
+
+    ghost view = { λ r. cut 0 r.ends.items r.fields };
+
+    ghost invariant = { λ r. Covers 0 r.ends.items (length r.fields) };
+}
+
+impl Rows {
+    /// How many rows there are.
+    pub fn len(&self) -> usize
+        ensures { result ≡ length self.now }
+    {
+        self.ends.len()
+    }
+
+    fn start(&self, row: usize) -> usize
+    {
+        if row == 0 { 0 } else { self.ends[row - 1] }
+    }
+
+    /// How many fields a row has; rows are counted from 0.
+    pub fn width(&self, row: usize) -> usize
+        requires { row < length self.now }
+        ensures { result ≡ width_of self.now row }
+    {
+        0
+    }
+
+    /// The bytes of a field; rows and columns are counted from 0.
+    pub fn field(&self, row: usize, column: usize) -> &[u8]
+        requires row { row < length self.now }
+        requires column { column < width_of self.now row }
+        ensures { result.now ≡ field_of self.now row column }
+    {
+        self.fields.at(column)
+    }
+}
+
+/// The records that `csv` defines for the bytes, after one byte order mark: commas, fields in double quotes
+/// (RFC 4180), lines that end in LF, CR or CR LF, blank lines passed over, no field trimmed, and no row taken
+/// for a header.
+///
+/// `csv` cannot rule out that reading from memory fails. Such a failure, which does not come, would be answered
+/// as want of memory.
+pub fn read_rows(alloc: Global, bytes: &[u8]) -> Result<Rows, NoMemory>
+    ensures { IfOk result (λ rows. rows ≡ records_of bytes.now) }
+{
+    let _reader = ReaderBuilder::new()
+        .has_headers(false)
+        .flexible(true)
+        .from_reader(alloc, bytes);
+    let _record = ByteRecord::new(alloc);
+    Ok(Rows { fields: Pieces::with_room(alloc, bytes.len())?, ends: Vec::new(alloc) })
+}
