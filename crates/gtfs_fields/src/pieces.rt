@@ -1,6 +1,6 @@
 //! Texts kept end to end in one buffer.
 
-ghost use Rattle.std.specs.Prelude.{◌≡◌, ℕ, ◌<◌, [], ◌∷◌, ◌++◌, List, length, OnOk, IfOk, slice_index_or};
+ghost use Rattle.std.specs.Prelude.{◌≡◌, ℕ, ◌<◌, [], ◌∷◌, ◌++◌, ◌≤◌, List, length, OnOk, OnErr, IfOk, slice_index, slice_index_or};
 
 use map_base::NoMemory;
 use std::alloc::Global;
@@ -44,11 +44,16 @@ impl Pieces {
 
     /// Adds a text at the end.
     pub fn push(&mut self, text: &[u8]) -> Result<(), NoMemory>
-        ensures { OnOk result (self.new ≡ self.old ++ text.now ∷ []) }
+        ensures ok { OnOk result (self.new ≡ self.old ++ text.now ∷ []) }
+        ensures err { OnErr result (self.new ≡ self.old) }
     {
+        let start = self.bytes.len();
         self.bytes.extend_from_slice(text)?;
         let end = self.bytes.len();
-        self.ends.push(end)?;
+        if self.ends.push(end).is_err() {
+            self.bytes.truncate(start);
+            return Err(NoMemory);
+        }
         Ok(())
     }
 
@@ -57,11 +62,14 @@ impl Pieces {
         requires { place < length self.now }
         ensures { result.now ≡ slice_index_or self.now place [] }
     {
-        let start = if place == 0 {
-            0
-        } else {
-            self.ends[place - 1]
-        };
-        &self.bytes[start..self.ends[place]]
+        &self.bytes[start_of(&self.ends, place)..self.ends[place]]
     }
+}
+
+/// Where the piece at a place starts, in a list of the places where the pieces end.
+pub fn start_of(ends: &[usize], place: usize) -> usize
+    requires { place ≤ length ends.now }
+    ensures { result ≡ slice_index (0 ∷ ends.now) place }
+{
+    if place == 0 { 0 } else { ends[place - 1] }
 }

@@ -1,11 +1,13 @@
 //! The rows of a table.
 
-ghost use Rattle.std.specs.Prelude.{◌≡◌, ℕ, ◌<◌, [], ◌∷◌, ◌++◌, List, length, OnOk, IfOk};
+ghost use Rattle.std.specs.Prelude.{◌≡◌, ℕ, ◌<◌, [], ◌∷◌, ◌++◌, List, length, OnOk, IfOk, Some};
+ghost use Rattle.csv.specs.Reading.{ReadRecord, Ready, reader_trim};
 ghost use Rattle.csv.specs.Records.{fields_of};
+ghost use Rattle.csv.specs.declared.reader.Trim.TheVariants as trim;
 ghost use Rattle.gtfs_fields.specs.Records.{records_of, width_of, field_of};
 
-use crate::pieces::Pieces;
-use csv::{ByteRecord, ReaderBuilder};
+use crate::pieces::{Pieces, start_of};
+use csv::{ByteRecord, Reader, ReaderBuilder};
 use map_base::NoMemory;
 use std::alloc::Global;
 use std::marker::Model;
@@ -38,17 +40,12 @@ impl Rows {
         self.ends.len()
     }
 
-    fn start(&self, row: usize) -> usize
-    {
-        if row == 0 { 0 } else { self.ends[row - 1] }
-    }
-
     /// How many fields a row has; rows are counted from 0.
     pub fn width(&self, row: usize) -> usize
         requires { row < length self.now }
         ensures { result ≡ width_of self.now row }
     {
-        0
+        self.ends[row] - start_of(&self.ends, row)
     }
 
     /// The bytes of a field; rows and columns are counted from 0.
@@ -57,7 +54,28 @@ impl Rows {
         requires column { column < width_of self.now row }
         ensures { result.now ≡ field_of self.now row column }
     {
-        self.fields.at(column)
+        self.fields.at(start_of(&self.ends, row) + column)
+    }
+}
+
+// Adds a record's fields at the end.
+fn push_fields(fields: &mut Pieces, record: &ByteRecord) -> Result<(), NoMemory>
+    ensures { OnOk result (fields.new ≡ fields.old ++ fields_of record.now) }
+{
+    for field in record {
+        fields.push(field)?;
+    }
+    Ok(())
+}
+
+// Reads the next record, and says whether there was one.
+fn read_next(reader: &mut Reader<&[u8]>, record: &mut ByteRecord) -> Result<bool, NoMemory>
+    ensures { IfOk result (λ found. (reader_trim reader.old ≡ trim.None) → Ready reader.old
+        → ReadRecord (λ s. Some s.now) reader.old reader.new found (fields_of record.new) × Ready reader.new) }
+{
+    match reader.read_byte_record(record) {
+        Ok(found) => Ok(found),
+        Err(_) => Err(NoMemory),
     }
 }
 
@@ -70,10 +88,16 @@ impl Rows {
 pub fn read_rows(alloc: Global, bytes: &[u8]) -> Result<Rows, NoMemory>
     ensures { IfOk result (λ rows. rows ≡ records_of bytes.now) }
 {
-    let _reader = ReaderBuilder::new()
+    let mut reader = ReaderBuilder::new()
         .has_headers(false)
         .flexible(true)
         .from_reader(alloc, bytes);
-    let _record = ByteRecord::new(alloc);
-    Ok(Rows { fields: Pieces::with_room(alloc, bytes.len())?, ends: Vec::new(alloc) })
+    let mut record = ByteRecord::new(alloc);
+    let mut fields = Pieces::with_room(alloc, bytes.len())?;
+    let mut ends = Vec::new(alloc);
+    while read_next(&mut reader, &mut record)? {
+        push_fields(&mut fields, &record)?;
+        ends.push(fields.len())?;
+    }
+    Ok(Rows { fields, ends })
 }
