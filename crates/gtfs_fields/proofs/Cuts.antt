@@ -55,3 +55,19 @@ pub get_or-piece : {A : Type 0} (start : ℕ) (ends : List ℕ) (items : List A)
     → get_or (get_or (cut start ends items) place d) i e ≡ get_or items (get_or (start ∷ ends) place 0 + i) e
 get_or-piece start ends items place d i e within low =
     rw (get_or-cut start ends items place d within, get_or-take _ (drop (get_or (start ∷ ends) place 0) items) i e low, get_or-drop) refl
+
+-- the two lists after one more piece
+pub pushed_covers : {A : Type 0} (ends ends2 : List ℕ) (items items2 more : List A) (size : ℕ) → Covers 0 ends (length items) → ends2 ≡ ends ++ size ∷ [] → items2 ≡ items ++ more
+    → size ≡ length items + length more → Covers 0 ends2 (length items2)
+pushed_covers ends ends2 items items2 more size covers ends_are items_are is =
+    let grown : length items2 ≡ size = omega (arith, ap length items_are, length-append items more) in
+    rw (grown, ends_are) (Covers-push 0 ends (length items) size covers (omega arith))
+
+pub pushed_cut : {A : Type 0} (ends ends2 : List ℕ) (items items2 more : List A) (size : ℕ) → Covers 0 ends (length items) → ends2 ≡ ends ++ size ∷ [] → items2 ≡ items ++ more
+    → size ≡ length items + length more → cut 0 ends2 items2 ≡ cut 0 ends items ++ more ∷ []
+pushed_cut ends ends2 items items2 more size covers ends_are items_are is =
+    rw (ends_are, items_are) (cut-push 0 ends items more size covers is)
+
+-- a place among the pieces is a place among their ends
+pub cut_within : {A : Type 0} (ends : List ℕ) (items : List A) (now : List (List A)) (place : ℕ) → cut 0 ends items ≡ now → place < length now → place < length ends
+cut_within ends items now place is low = omega (arith, ap length is, length-cut 0 ends items)

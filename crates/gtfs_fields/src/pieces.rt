@@ -62,7 +62,9 @@ impl Pieces {
         requires { place < length self.now }
         ensures { result.now ≡ slice_index_or self.now place [] }
     {
-        &self.bytes[start_of(&self.ends, place)..self.ends[place]]
+        let start = start_of(&self.ends, place);
+        let end = self.ends[place];
+        &self.bytes[start..end]
     }
 }
 

@@ -59,21 +59,21 @@ impl Rows {
 }
 
 // Adds a record's fields at the end.
-fn push_fields(fields: &mut Pieces, record: &ByteRecord) -> Result<(), NoMemory>
-    ensures { OnOk result (fields.new ≡ fields.old ++ fields_of record.now) }
+fn push_fields(fields: &mut Pieces, row: &ByteRecord) -> Result<(), NoMemory>
+    ensures { OnOk result (fields.new ≡ fields.old ++ fields_of row.now) }
 {
-    for field in record {
+    for field in row {
         fields.push(field)?;
     }
     Ok(())
 }
 
 // Reads the next record, and says whether there was one.
-fn read_next(reader: &mut Reader<&[u8]>, record: &mut ByteRecord) -> Result<bool, NoMemory>
+fn read_next(reader: &mut Reader<&[u8]>, row: &mut ByteRecord) -> Result<bool, NoMemory>
     ensures { IfOk result (λ found. (reader_trim reader.old ≡ trim.None) → Ready reader.old
-        → ReadRecord (λ s. Some s.now) reader.old reader.new found (fields_of record.new) × Ready reader.new) }
+        → ReadRecord (λ s. Some s.now) reader.old reader.new found (fields_of row.new) × Ready reader.new) }
 {
-    match reader.read_byte_record(record) {
+    match reader.read_byte_record(row) {
         Ok(found) => Ok(found),
         Err(_) => Err(NoMemory),
     }
@@ -92,11 +92,11 @@ pub fn read_rows(alloc: Global, bytes: &[u8]) -> Result<Rows, NoMemory>
         .has_headers(false)
         .flexible(true)
         .from_reader(alloc, bytes);
-    let mut record = ByteRecord::new(alloc);
+    let mut row = ByteRecord::new(alloc);
     let mut fields = Pieces::with_room(alloc, bytes.len())?;
     let mut ends = Vec::new(alloc);
-    while read_next(&mut reader, &mut record)? {
-        push_fields(&mut fields, &record)?;
+    while read_next(&mut reader, &mut row)? {
+        push_fields(&mut fields, &row)?;
         ends.push(fields.len())?;
     }
     Ok(Rows { fields, ends })
