@@ -92,3 +92,8 @@ left-lt cfg s s2 (c ∷ xs) ys r h =
     let shorter : length h.0.2 ≤ length (c ∷ xs) - 1 = next-le cfg s [] [] (c ∷ xs) h.0 h.1 in
     let same : length h.0.2 ≡ length ys = ap length h.3.1 in
     omega (arith, flag-le (ends_at_end s2))
+
+-- the same of bytes that a reader is known to have left
+pub known_left-lt : (cfg : Config) (s s2 : State) (xs ys : List ℕ) (r : List (List ℕ)) (before after : Option (List ℕ)) → before ≡ Some xs → after ≡ Some ys → Reached cfg s xs (r ∷ []) s2 ys
+    → left_of s2 (unwrap_or after []) < left_of s (unwrap_or before [])
+known_left-lt cfg s s2 xs ys r before after was is h = rw (was, is) (left-lt cfg s s2 xs ys r h)

@@ -71,3 +71,29 @@ pushed_cut ends ends2 items items2 more size covers ends_are items_are is =
 -- a place among the pieces is a place among their ends
 pub cut_within : {A : Type 0} (ends : List ℕ) (items : List A) (now : List (List A)) (place : ℕ) → cut 0 ends items ≡ now → place < length now → place < length ends
 cut_within ends items now place is low = omega (arith, ap length is, length-cut 0 ends items)
+
+-- a piece that starts and ends at these places
+pub record IsPiece {A : Type 0} (items : List A) (piece : List A) (start end : ℕ) : Type 0 where
+  pub rises : start ≤ end
+  pub fits : end ≤ length items
+  pub is : piece ≡ take (end - start) (drop start items)
+  pub size : length piece ≡ end - start
+
+pub piece_at : {A : Type 0} (ends : List ℕ) (items : List A) (now : List (List A)) (place : ℕ) (e : List ℕ) (start end : ℕ) → cut 0 ends items ≡ now → Covers 0 ends (length items)
+    → place < length now → e ≡ ends → start ≡ get_or (0 ∷ e) place 0 → end ≡ get_or e place 0 → IsPiece items (get_or now place []) start end
+piece_at ends items now place e start end is covers low same start_is end_is =
+    let within = cut_within ends items now place is low in
+    let bounds = Covers-bounds 0 ends (length items) place covers within in
+    let from : start ≡ get_or (0 ∷ ends) place 0 = start_is ∙ ap (λ (x : List ℕ). get_or (0 ∷ x) place 0) same in
+    let to : end ≡ get_or ends place 0 = end_is ∙ ap (λ (x : List ℕ). get_or x place 0) same in
+    record {
+      rises = omega arith;
+      fits = omega arith;
+      is = rw (← is, from, to) (get_or-cut 0 ends items place [] within);
+      size = rw (← is, from, to) (length_piece 0 ends items place [] covers within);
+    }
+
+-- an item of a piece
+pub piece_item : {A : Type 0} (items piece : List A) (start end i : ℕ) (d : A) → IsPiece items piece start end → i < length piece → get_or piece i d ≡ get_or items (start + i) d
+piece_item items piece start end i d p low =
+    rw (p.is, get_or-take (end - start) (drop start items) i d (omega (arith, p.size)), get_or-drop) refl

@@ -1,3 +1,4 @@
 pub mod Cuts
 pub mod AllRecords
+pub mod RecordFields
 mod Examples

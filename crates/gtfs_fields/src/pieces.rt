@@ -62,16 +62,17 @@ impl Pieces {
         requires { place < length self.now }
         ensures { result.now ≡ slice_index_or self.now place [] }
     {
-        let start = start_of(&self.ends, place);
-        let end = self.ends[place];
+        let (start, end) = bounds_of(&self.ends, place);
         &self.bytes[start..end]
     }
 }
 
-/// Where the piece at a place starts, in a list of the places where the pieces end.
-pub fn start_of(ends: &[usize], place: usize) -> usize
-    requires { place ≤ length ends.now }
-    ensures { result ≡ slice_index (0 ∷ ends.now) place }
+/// Where the piece at a place starts and ends, in a list of the places where the pieces end.
+pub fn bounds_of(ends: &[usize], place: usize) -> (usize, usize)
+    requires { place < length ends.now }
+    ensures start { result.0 ≡ slice_index (0 ∷ ends.now) place }
+    ensures end { result.1 ≡ slice_index ends.now place }
 {
-    if place == 0 { 0 } else { ends[place - 1] }
+    let start = if place == 0 { 0 } else { ends[place - 1] };
+    (start, ends[place])
 }

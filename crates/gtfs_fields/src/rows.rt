@@ -6,7 +6,7 @@ ghost use Rattle.csv.specs.Records.{fields_of};
 ghost use Rattle.csv.specs.declared.reader.Trim.TheVariants as trim;
 ghost use Rattle.gtfs_fields.specs.Records.{records_of, width_of, field_of};
 
-use crate::pieces::{Pieces, start_of};
+use crate::pieces::{Pieces, bounds_of};
 use csv::{ByteRecord, Reader, ReaderBuilder};
 use map_base::NoMemory;
 use std::alloc::Global;
@@ -45,7 +45,8 @@ impl Rows {
         requires { row < length self.now }
         ensures { result ≡ width_of self.now row }
     {
-        self.ends[row] - start_of(&self.ends, row)
+        let (start, end) = bounds_of(&self.ends, row);
+        end - start
     }
 
     /// The bytes of a field; rows and columns are counted from 0.
@@ -54,7 +55,8 @@ impl Rows {
         requires column { column < width_of self.now row }
         ensures { result.now ≡ field_of self.now row column }
     {
-        self.fields.at(start_of(&self.ends, row) + column)
+        let (start, _) = bounds_of(&self.ends, row);
+        self.fields.at(start + column)
     }
 }
 
