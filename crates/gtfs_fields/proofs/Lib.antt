@@ -1,4 +1,5 @@
 pub mod Cuts
 pub mod AllRecords
 pub mod RecordFields
+pub mod SpaceLemmas
 mod Examples

@@ -4,6 +4,7 @@ ghost use Rattle.std.specs.Prelude.{◌≡◌};
 ghost use Rattle.gtfs_fields.specs.Spaces.{trimmed, without_leading_spaces};
 ghost use Rattle.std.specs.Prelude.{reverse};
 
+#[tactic(auto, using(crate::proofs::SpaceLemmas::leading_space, crate::proofs::SpaceLemmas::no_leading_space, crate::proofs::SpaceLemmas::nothing_leading))]
 fn trim_front(text: &[u8]) -> &[u8]
     ensures { result.now ≡ without_leading_spaces text.now }
 {
@@ -14,6 +15,7 @@ fn trim_front(text: &[u8]) -> &[u8]
     rest
 }
 
+#[tactic(auto, using(crate::proofs::SpaceLemmas::trailing_space, crate::proofs::SpaceLemmas::no_trailing_space, crate::proofs::SpaceLemmas::nothing_trailing))]
 fn trim_back(text: &[u8]) -> &[u8]
     ensures { result.now ≡ reverse (without_leading_spaces (reverse text.now)) }
 {
