@@ -2,4 +2,5 @@ pub mod Cuts
 pub mod AllRecords
 pub mod RecordFields
 pub mod SpaceLemmas
+pub mod DigitLemmas
 mod Examples

@@ -6,6 +6,7 @@
 #![tactic(auto)]
 
 mod degree_text;
+mod digits;
 mod hex_colour;
 mod pieces;
 mod rows;

@@ -3,6 +3,7 @@
 ghost use Rattle.std.specs.Prelude.{◌≡◌};
 ghost use Rattle.gtfs_fields.specs.WholeNumber.{whole_value};
 
+use crate::digits::digits_after;
 use crate::spaces::trim_spaces;
 
 /// The number that one or more decimal digits spell, spaces (U+0020) at both ends passed over and leading
@@ -14,5 +15,6 @@ pub fn whole(text: &[u8]) -> Option<u32>
     if digits.is_empty() {
         return None;
     }
-    None
+    let number = digits_after(0, digits, u64::from(u32::MAX))?;
+    Some(number as u32)
 }
