@@ -3,4 +3,6 @@ pub mod AllRecords
 pub mod RecordFields
 pub mod SpaceLemmas
 pub mod DigitLemmas
+pub mod TextParts
+pub mod Scaling
 mod Examples
