@@ -4,5 +4,5 @@ pub mod RecordFields
 pub mod SpaceLemmas
 pub mod DigitLemmas
 pub mod TextParts
-pub mod Scaling
+pub mod ScaledNumbers
 mod Examples

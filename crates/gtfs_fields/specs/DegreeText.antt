@@ -38,10 +38,14 @@ tens_of text = if list_any is_exponent_mark text then exponent_value (after_firs
 abbrev pub microdegrees_of : List ℕ → List ℕ → ℕ × ℕ → ℕ
 microdegrees_of units decimals tens = digits_value 10 (units ++ decimals) * 10 ^ (6 + tens.0) / 10 ^ (length decimals + tens.1)
 
--- the same where there is at least one digit and nothing else, up to 10^12
+-- how many microdegrees a text may spell, either way
+abbrev pub most_microdegrees : ℕ
+most_microdegrees = 10 ^ 12
+
+-- the same where there is at least one digit and nothing else, the exponent is right and the number not too great
 abbrev pub degrees_with_tens : List ℕ → List ℕ → Option (ℕ × ℕ) → Option ℕ
 degrees_with_tens units decimals None = None
-degrees_with_tens units decimals (Some tens) = if are_digits (units ++ decimals) then up_to 1000000000000 (microdegrees_of units decimals tens) else None
+degrees_with_tens units decimals (Some tens) = if are_digits (units ++ decimals) then up_to most_microdegrees (microdegrees_of units decimals tens) else None
 
 -- the microdegrees of a text without spaces and sign; its digits stand before its first 'e' or 'E', round the first point
 abbrev pub unsigned_value : List ℕ → Option ℕ

@@ -1,18 +1,39 @@
 //! Degree texts, read as whole microdegrees.
 
-ghost use Rattle.std.specs.Prelude.{◌≡◌, ℕ, ◌+◌, ◌*◌, ◌/◌, ◌^◌, ◌<◌, ◌++◌, List, length, true, option_map, take, drop, ◌≤◌, IfSome};
-ghost use Rattle.std.specs.Char.{is_ascii_digit};
-ghost use Rattle.std.specs.List.{list_all, position_or_len};
-ghost use Rattle.std.specs.Str.{all_ascii_digits};
-ghost use Rattle.std.specs.Str.Parse.{digits_value};
-ghost use Rattle.gtfs_fields.specs.Digits.{are_digits, up_to};
-ghost use Rattle.gtfs_fields.specs.DegreeText.{degree_value, exponent_value, is_exponent_mark, is_negative, is_point, microdegrees_of, tens_of, unsigned_value, without_sign};
+ghost use Rattle.std.specs.Prelude.{◌≡◌, ℕ, ◌+◌, ◌≤◌, length, take, drop, IfSome};
+ghost use Rattle.std.specs.List.{position_or_len};
+ghost use Rattle.gtfs_fields.specs.DegreeText.{degree_value, exponent_value, is_exponent_mark, is_negative, is_point, most_microdegrees, tens_of, unsigned_value, without_sign};
 
-use crate::digits::{digits_after, zeros_after};
+use crate::digits::{are_digits, digits_after};
+use crate::scaling::microdegrees;
 use crate::spaces::trim_spaces;
 
-/// The greatest number of microdegrees, either way.
-const MOST: u64 = 1_000_000_000_000;
+/// The microdegrees that a degree text spells, cut towards zero. A degree text is an optional sign, digits with
+/// at most one point and at least one digit in all, and an optional `e` or `E` with an optional sign and one or
+/// two digits; spaces (U+0020) at both ends are passed over. There are none where the text is anything else, or
+/// where the cut value is past 10^12 either way.
+pub fn micro_degrees(text: &[u8]) -> Option<i64>
+    ensures { result ≡ degree_value text.now }
+{
+    let (negative, unsigned) = split_sign(trim_spaces(text));
+    let size = unsigned_micro_degrees(unsigned)? as i64;
+    Some(if negative { -size } else { size })
+}
+
+// The microdegrees of a degree text without spaces and sign.
+fn unsigned_micro_degrees(text: &[u8]) -> Option<u64>
+    ensures value { result ≡ unsigned_value text.now }
+    ensures bound { IfSome result (λ n. n ≤ most_microdegrees) }
+{
+    let mark = mark_place(text);
+    let (up, down) = tens_at(text, mark)?;
+    let mantissa = &text[..mark];
+    let (units, decimals) = split_around(mantissa, point_place(mantissa));
+    if !are_digits(units, decimals) {
+        return None;
+    }
+    microdegrees(units, decimals, up, down)
+}
 
 // Whether a minus stands at the front, and the text without a sign there.
 fn split_sign(text: &[u8]) -> (bool, &[u8])
@@ -57,7 +78,7 @@ fn mark_place(text: &[u8]) -> usize
 }
 
 // The text before a place, and the text after the byte there.
-fn around(text: &[u8], place: usize) -> (&[u8], &[u8])
+fn split_around(text: &[u8], place: usize) -> (&[u8], &[u8])
     requires { place ≤ length text.now }
     ensures before { result.0.now ≡ take place text.now }
     ensures after { result.1.now ≡ drop (place + 1) text.now }
@@ -82,66 +103,8 @@ fn exponent_tens(text: &[u8]) -> Option<(usize, usize)>
     Some(if negative { (0, tens) } else { (tens, 0) })
 }
 
-// Whether both texts are digits alone, and one of them is not empty.
-fn are_digits(units: &[u8], decimals: &[u8]) -> bool
-    ensures { result ≡ are_digits (units.now ++ decimals.now) }
-{
-    if units.is_empty() && decimals.is_empty() {
-        return false;
-    }
-    if !digits_alone(units) {
-        return false;
-    }
-    digits_alone(decimals)
-}
-
-fn digits_alone(text: &[u8]) -> bool
-    ensures { result ≡ list_all is_ascii_digit text.now }
-{
-    text.iter().all(|byte| byte.is_ascii_digit())
-}
-
-// The number of the digits without as many of the last ones as given.
-fn shortened(units: &[u8], cut: usize) -> Option<u64>
-    requires { all_ascii_digits units.now ≡ true }
-    ensures value { result ≡ up_to 1000000000000 (digits_value 10 units.now / 10 ^ cut) }
-    ensures bound { IfSome result (λ n. n ≤ 1000000000000) }
-{
-    let kept = units.len().saturating_sub(cut);
-    digits_after(0, &units[..kept], MOST)
-}
-
-// The number of the digits before a point and as many behind it as given, zeros where they end.
-fn lengthened(units: &[u8], decimals: &[u8], places: usize) -> Option<u64>
-    requires units { all_ascii_digits units.now ≡ true }
-    requires decimals { all_ascii_digits decimals.now ≡ true }
-    ensures value { result ≡ up_to 1000000000000 (digits_value 10 (units.now ++ decimals.now) * 10 ^ places / 10 ^ length decimals.now) }
-    ensures bound { IfSome result (λ n. n ≤ 1000000000000) }
-{
-    let taken = places.min(decimals.len());
-    let number = digits_after(0, units, MOST)?;
-    let number = digits_after(number, &decimals[..taken], MOST)?;
-    zeros_after(number, places - taken, MOST)
-}
-
-// The microdegrees of digits before a point and behind it, times tens.
-fn scaled(units: &[u8], decimals: &[u8], up: usize, down: usize) -> Option<u64>
-    requires units { all_ascii_digits units.now ≡ true }
-    requires decimals { all_ascii_digits decimals.now ≡ true }
-    requires up { up < 2 ^ 60 }
-    ensures value { result ≡ up_to 1000000000000 (microdegrees_of units.now decimals.now (up, down)) }
-    ensures bound { IfSome result (λ n. n ≤ 1000000000000) }
-{
-    let up = 6 + up;
-    if down > up {
-        shortened(units, down - up)
-    } else {
-        lengthened(units, decimals, up - down)
-    }
-}
-
 // The tens of a text's exponent, where it has one.
-fn tens(text: &[u8], mark: usize) -> Option<(usize, usize)>
+fn tens_at(text: &[u8], mark: usize) -> Option<(usize, usize)>
     requires { mark ≡ position_or_len is_exponent_mark text.now }
     ensures value { result ≡ tens_of text.now }
     ensures bound { IfSome result (λ t. t.0 ≤ 99) }
@@ -150,30 +113,4 @@ fn tens(text: &[u8], mark: usize) -> Option<(usize, usize)>
         return Some((0, 0));
     }
     exponent_tens(&text[mark + 1..])
-}
-
-fn unsigned_micro_degrees(text: &[u8]) -> Option<u64>
-    ensures value { result ≡ unsigned_value text.now }
-    ensures bound { IfSome result (λ n. n ≤ 1000000000000) }
-{
-    let mark = mark_place(text);
-    let (up, down) = tens(text, mark)?;
-    let mantissa = &text[..mark];
-    let (units, decimals) = around(mantissa, point_place(mantissa));
-    if !are_digits(units, decimals) {
-        return None;
-    }
-    scaled(units, decimals, up, down)
-}
-
-/// The microdegrees that a degree text spells, cut towards zero. A degree text is an optional sign, digits with
-/// at most one point and at least one digit in all, and an optional `e` or `E` with an optional sign and one or
-/// two digits; spaces (U+0020) at both ends are passed over. There are none where the text is anything else, or
-/// where the cut value is past 10^12 either way.
-pub fn micro_degrees(text: &[u8]) -> Option<i64>
-    ensures { result ≡ degree_value text.now }
-{
-    let (negative, unsigned) = split_sign(trim_spaces(text));
-    let size = unsigned_micro_degrees(unsigned)? as i64;
-    Some(if negative { -size } else { size })
 }

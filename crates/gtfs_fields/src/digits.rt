@@ -1,7 +1,9 @@
 //! Numbers by their decimal digits.
 
-ghost use Rattle.std.specs.Prelude.{◌≡◌, ℕ, ◌+◌, ◌*◌, ◌<◌, ◌≤◌, ◌^◌, IfSome};
-ghost use Rattle.gtfs_fields.specs.Digits.{up_to, with_digit, with_digits};
+ghost use Rattle.std.specs.Prelude.{◌≡◌, ℕ, ◌+◌, ◌*◌, ◌<◌, ◌≤◌, ◌^◌, ◌++◌, IfSome};
+ghost use Rattle.std.specs.Char.{is_ascii_digit};
+ghost use Rattle.std.specs.List.{list_all};
+ghost use Rattle.gtfs_fields.specs.Digits.{are_digits, up_to, with_digit, with_digits};
 
 /// The number that a byte makes of a number, as one more digit. There is none where it is no digit, or where the
 /// number gets above `most`.
@@ -45,4 +47,23 @@ pub fn zeros_after(number: u64, zeros: usize, most: u64) -> Option<u64>
         longer = digit_after(longer, b'0', most)?;
     }
     Some(longer)
+}
+
+fn digits_alone(text: &[u8]) -> bool
+    ensures { result ≡ list_all is_ascii_digit text.now }
+{
+    text.iter().all(|byte| byte.is_ascii_digit())
+}
+
+/// Whether both texts are digits alone, and one of them is not empty.
+pub fn are_digits(units: &[u8], decimals: &[u8]) -> bool
+    ensures { result ≡ are_digits (units.now ++ decimals.now) }
+{
+    if units.is_empty() && decimals.is_empty() {
+        return false;
+    }
+    if !digits_alone(units) {
+        return false;
+    }
+    digits_alone(decimals)
 }

@@ -10,6 +10,7 @@ mod digits;
 mod hex_colour;
 mod pieces;
 mod rows;
+mod scaling;
 mod spaces;
 mod whole_number;
 

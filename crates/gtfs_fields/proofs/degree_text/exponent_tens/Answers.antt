@@ -1,6 +1,6 @@
 use Rattle.std.proofs.Common.{◌≡◌, ◌≤◌, ◌-◌, ◌<◌, ℕ, sym, ap, ◌∙◌, length, take, arith, refl}
 use Rattle.gtfs_fields.specs.DegreeText.{without_sign}
-use Rattle.gtfs_fields.proofs.Scaling.{two_digits_refused}
+use Rattle.gtfs_fields.proofs.ScaledNumbers.{two_digits_refused}
 use Rattle.gtfs_fields.proofs.degree_text.exponent_tens.Goals as goal
 
 pub returns-in_err-tens-clause-value : goal.returns-in_err-tens-clause-value

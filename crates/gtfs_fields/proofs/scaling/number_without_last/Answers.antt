@@ -1,7 +1,7 @@
 use Rattle.std.proofs.Common.{◌-◌, ℕ, sym, ap, ◌∙◌, length, take}
 use Rattle.gtfs_fields.specs.Digits.{up_to}
-use Rattle.gtfs_fields.proofs.Scaling.{with_taken, value_shortened}
-use Rattle.gtfs_fields.proofs.degree_text.shortened.Goals as goal
+use Rattle.gtfs_fields.proofs.ScaledNumbers.{with_taken, value_shortened}
+use Rattle.gtfs_fields.proofs.scaling.number_without_last.Goals as goal
 
 pub returns-clause-value : goal.returns-clause-value
 returns-clause-value c =

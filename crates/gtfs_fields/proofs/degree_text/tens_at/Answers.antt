@@ -3,7 +3,7 @@ use Rattle.std.specs.List.{position_or_len}
 use Rattle.std.proofs.lemmas.List.{take_all}
 use Rattle.gtfs_fields.specs.DegreeText.{is_exponent_mark}
 use Rattle.gtfs_fields.proofs.TextParts.{list_any-place, list_any-none, place-le}
-use Rattle.gtfs_fields.proofs.degree_text.tens.Goals as goal
+use Rattle.gtfs_fields.proofs.degree_text.tens_at.Goals as goal
 
 pub returns-then-mark-text-clause-value : goal.returns-then-mark-text-clause-value
 returns-then-mark-text-clause-value c = rw (list_any-none is_exponent_mark c.args.text.now (sym c.requires ∙ c.if-mark-text.true)) refl

@@ -1,8 +1,8 @@
 use Rattle.std.proofs.Common.{◌≡◌, refl, ◌-◌, ◌*◌, ◌^◌, ℕ, List, ◌++◌, sym, ap, ◌∙◌, length, take, min}
 use Rattle.std.specs.Str.Parse.{digits_value}
 use Rattle.gtfs_fields.specs.Digits.{up_to}
-use Rattle.gtfs_fields.proofs.Scaling.{digits_parts, value_lengthened, units_past, both_past, both_taken}
-use Rattle.gtfs_fields.proofs.degree_text.lengthened.Goals as goal
+use Rattle.gtfs_fields.proofs.ScaledNumbers.{digits_parts, value_lengthened, units_past, both_past, both_taken}
+use Rattle.gtfs_fields.proofs.scaling.number_with_places.Goals as goal
 
 pub returns-in_err-number-clause-value : goal.returns-in_err-number-clause-value
 returns-in_err-number-clause-value c =

@@ -1,7 +1,7 @@
 use Rattle.std.proofs.Common.{◌≡◌, ℕ, ◌<◌, ◌⊎◌, List, length, Bool, false, sym, ap, ◌∙◌, inl, inr, refl}
-use Rattle.gtfs_fields.proofs.Scaling.{both_are_digits, not_empty}
-use Rattle.gtfs_fields.proofs.degree_text.are_digits.Goals.{else-is_empty-via-then-is_empty+else-is_empty-2, else-is_empty-via-else-is_empty}
-use Rattle.gtfs_fields.proofs.degree_text.are_digits.Goals as goal
+use Rattle.gtfs_fields.proofs.ScaledNumbers.{both_are_digits, not_empty}
+use Rattle.gtfs_fields.proofs.digits.are_digits.Goals.{else-is_empty-via-then-is_empty+else-is_empty-2, else-is_empty-via-else-is_empty}
+use Rattle.gtfs_fields.proofs.digits.are_digits.Goals as goal
 
 pub returns-then-not-digits_alone : goal.returns-then-not-digits_alone
 returns-then-not-digits_alone c =
