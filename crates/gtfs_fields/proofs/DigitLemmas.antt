@@ -45,6 +45,7 @@ refused most number c cs e = by (is_ascii_digit c) e
     whole : (b : Bool) → most < number * 10 + digit_value c → cond b (up_to most (digits_value_after 10 (number * 10 + digit_value c) cs)) None ≡ None
     whole true past = up_to_past most _ (omega (arith, after-ge (number * 10 + digit_value c) cs))
     whole false past = refl
+
     by : (b : Bool) → None ≡ cond b (up_to most (number * 10 + digit_value c)) None → cond (b && all_ascii_digits cs) (up_to most (digits_value_after 10 (number * 10 + digit_value c) cs)) None ≡ None
     by true e = whole (all_ascii_digits cs) (up_to_none most _ e)
     by false e = refl

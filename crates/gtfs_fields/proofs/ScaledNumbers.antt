@@ -83,40 +83,40 @@ value_cut xs ys k e len =
 
 pub value_shortened : (xs : List ℕ) (cut : ℕ) → all_ascii_digits xs ≡ true → digits_value 10 (take (length xs - cut) xs) ≡ digits_value 10 xs / 10 ^ cut
 value_shortened xs cut e = elim (cases_lt (length xs) cut) [
-    | inl past ↦
-        let none : length xs - cut ≡ 0 = omega arith in
-        let small = value-lt xs cut e (omega arith) in
-        let padded : digits_value 10 xs ≡ 0 * 10 ^ cut + digits_value 10 xs = omega arith in
-        rw none (sym (ap (λ (y : ℕ). y / 10 ^ cut) padded ∙ div-mul-add 0 (10 ^ cut) (digits_value 10 xs) small))
-    | inr within ↦
-        let kept = length xs - cut in
-        let len : length (drop kept xs) ≡ cut = omega (arith, length-drop kept xs) in
-        sym (ap (λ (t : List ℕ). digits_value 10 t / 10 ^ cut) (sym (take-append-drop kept xs)) ∙ value_cut (take kept xs) (drop kept xs) cut (digits_parts kept xs e).1 len)
-  ]
+  | inl past ↦
+      let none : length xs - cut ≡ 0 = omega arith in
+      let small = value-lt xs cut e (omega arith) in
+      let padded : digits_value 10 xs ≡ 0 * 10 ^ cut + digits_value 10 xs = omega arith in
+      rw none (sym (ap (λ (y : ℕ). y / 10 ^ cut) padded ∙ div-mul-add 0 (10 ^ cut) (digits_value 10 xs) small))
+  | inr within ↦
+      let kept = length xs - cut in
+      let len : length (drop kept xs) ≡ cut = omega (arith, length-drop kept xs) in
+      sym (ap (λ (t : List ℕ). digits_value 10 t / 10 ^ cut) (sym (take-append-drop kept xs)) ∙ value_cut (take kept xs) (drop kept xs) cut (digits_parts kept xs e).1 len)
+]
 
 -- zeros behind the last digit kept
 pub value_lengthened : (units decimals : List ℕ) (places : ℕ) → all_ascii_digits decimals ≡ true
     → digits_value 10 (units ++ decimals) * 10 ^ places / 10 ^ length decimals ≡ digits_value 10 (units ++ take (min places (length decimals)) decimals) * 10 ^ (places - min places (length decimals))
 value_lengthened units decimals places e = elim (cases_lt places (length decimals)) [
-    | inl fewer ↦
-        let all : min places (length decimals) ≡ places = omega arith in
-        let none : places - places ≡ 0 = omega arith in
-        let rest = length decimals - places in
-        let size : length decimals ≡ places + rest = omega arith in
-        let len : length (drop places decimals) ≡ rest = omega (arith, length-drop places decimals) in
-        let parts : units ++ decimals ≡ (units ++ take places decimals) ++ drop places decimals = ap (λ (t : List ℕ). units ++ t) (sym (take-append-drop places decimals)) ∙ sym (append_assoc units (take places decimals) (drop places decimals)) in
-        let cut : digits_value 10 (units ++ decimals) / 10 ^ rest ≡ digits_value 10 (units ++ take places decimals) = ap (λ (t : List ℕ). digits_value 10 t / 10 ^ rest) parts ∙ value_cut (units ++ take places decimals) (drop places decimals) rest (digits_parts places decimals e).1 len in
-        let one : digits_value 10 (units ++ take places decimals) ≡ digits_value 10 (units ++ take places decimals) * 10 ^ 0 = omega arith in
-        rw (all, none) (ap (λ (k : ℕ). digits_value 10 (units ++ decimals) * 10 ^ places / 10 ^ k) size ∙ cancel (digits_value 10 (units ++ decimals)) places rest ∙ cut ∙ one)
-    | inr more ↦
-        let all : min places (length decimals) ≡ length decimals = omega arith in
-        let rest = places - length decimals in
-        let size : places ≡ rest + length decimals = omega arith in
-        let some : 0 < 10 ^ length decimals = one-le-pow (length decimals) 10 (omega arith) in
-        let v = digits_value 10 (units ++ decimals) in
-        let grown : v * 10 ^ places ≡ v * 10 ^ rest * 10 ^ length decimals = omega (arith, ap (λ (k : ℕ). v * 10 ^ k) size, ap (λ (y : ℕ). v * y) (pow-add 10 rest (length decimals))) in
-        rw (all, take_all (length decimals) decimals (omega arith)) (ap (λ (y : ℕ). y / 10 ^ length decimals) grown ∙ mul-div_cancel (v * 10 ^ rest) some)
-  ]
+  | inl fewer ↦
+      let all : min places (length decimals) ≡ places = omega arith in
+      let none : places - places ≡ 0 = omega arith in
+      let rest = length decimals - places in
+      let size : length decimals ≡ places + rest = omega arith in
+      let len : length (drop places decimals) ≡ rest = omega (arith, length-drop places decimals) in
+      let parts : units ++ decimals ≡ (units ++ take places decimals) ++ drop places decimals = ap (λ (t : List ℕ). units ++ t) (sym (take-append-drop places decimals)) ∙ sym (append_assoc units (take places decimals) (drop places decimals)) in
+      let cut : digits_value 10 (units ++ decimals) / 10 ^ rest ≡ digits_value 10 (units ++ take places decimals) = ap (λ (t : List ℕ). digits_value 10 t / 10 ^ rest) parts ∙ value_cut (units ++ take places decimals) (drop places decimals) rest (digits_parts places decimals e).1 len in
+      let one : digits_value 10 (units ++ take places decimals) ≡ digits_value 10 (units ++ take places decimals) * 10 ^ 0 = omega arith in
+      rw (all, none) (ap (λ (k : ℕ). digits_value 10 (units ++ decimals) * 10 ^ places / 10 ^ k) size ∙ cancel (digits_value 10 (units ++ decimals)) places rest ∙ cut ∙ one)
+  | inr more ↦
+      let all : min places (length decimals) ≡ length decimals = omega arith in
+      let rest = places - length decimals in
+      let size : places ≡ rest + length decimals = omega arith in
+      let some : 0 < 10 ^ length decimals = one-le-pow (length decimals) 10 (omega arith) in
+      let v = digits_value 10 (units ++ decimals) in
+      let grown : v * 10 ^ places ≡ v * 10 ^ rest * 10 ^ length decimals = omega (arith, ap (λ (k : ℕ). v * 10 ^ k) size, ap (λ (y : ℕ). v * y) (pow-add 10 rest (length decimals))) in
+      rw (all, take_all (length decimals) decimals (omega arith)) (ap (λ (y : ℕ). y / 10 ^ length decimals) grown ∙ mul-div_cancel (v * 10 ^ rest) some)
+]
 
 -- a million and some tens against the places behind the point
 pub value_scaled_down : (units decimals : List ℕ) (up down : ℕ) → all_ascii_digits decimals ≡ true → 6 + up < down

@@ -19,3 +19,6 @@ pub use hex_colour::colour;
 pub use rows::{Rows, read_rows};
 pub use spaces::trim_spaces;
 pub use whole_number::whole;
+
+#[cfg(test)]
+mod tests;

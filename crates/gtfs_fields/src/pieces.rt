@@ -7,7 +7,7 @@ use std::alloc::Global;
 use std::marker::Model;
 
 /// Texts of any bytes, seen as the list of them. Their bytes stand in one buffer, with one number for each text.
-#[derive(Drop)]
+#[derive(Debug, Drop)]
 pub struct Pieces {
     bytes: Vec<u8>,
     ends: Vec<usize>,

@@ -1,6 +1,6 @@
 //! The rows of a table.
 
-ghost use Rattle.std.specs.Prelude.{◌≡◌, ℕ, ◌<◌, [], ◌∷◌, ◌++◌, List, length, OnOk, IfOk, Some};
+ghost use Rattle.std.specs.Prelude.{◌≡◌, ◌==◌, ℕ, ◌<◌, [], ◌∷◌, ◌++◌, List, length, OnOk, IfOk, Some};
 ghost use Rattle.csv.specs.Reading.{ReadRecord, Ready, reader_trim};
 ghost use Rattle.csv.specs.Records.{fields_of};
 ghost use Rattle.csv.specs.declared.reader.Trim.TheVariants as trim;
@@ -15,7 +15,7 @@ use std::marker::Model;
 /// The records of a CSV file, the header among them: a list of rows, each a list of fields, each a list of
 /// bytes. Rows may differ in width. All fields' bytes stand in one buffer, with one number for each field and
 /// one for each row.
-#[derive(Drop)]
+#[derive(Debug, Drop)]
 pub struct Rows {
     fields: Pieces,
     ends: Vec<usize>,
@@ -38,6 +38,13 @@ impl Rows {
         ensures { result ≡ length self.now }
     {
         self.ends.len()
+    }
+
+    /// Whether there is no row.
+    pub fn is_empty(&self) -> bool
+        ensures { result ≡ (length self.now == 0) }
+    {
+        self.len() == 0
     }
 
     /// How many fields a row has; rows are counted from 0.
