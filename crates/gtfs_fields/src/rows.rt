@@ -1,13 +1,13 @@
 //! The rows of a table.
 
-ghost use Rattle.std.specs.Prelude.{◌≡◌, ◌==◌, ℕ, ◌<◌, [], ◌∷◌, ◌++◌, List, length, OnOk, IfOk, Some};
-ghost use Rattle.csv.specs.Reading.{ReadRecord, Ready, reader_trim};
+ghost use Rattle.std.specs.Prelude.{◌≡◌, ◌==◌, ℕ, ◌<◌, [], ◌∷◌, ◌++◌, List, length, OnOk, IfOk, Some, true};
+ghost use Rattle.csv.specs.Reading.{ReadRecord, Ready, is_flexible, reader_trim};
 ghost use Rattle.csv.specs.Records.{fields_of};
 ghost use Rattle.csv.specs.declared.reader.Trim.TheVariants as trim;
 ghost use Rattle.gtfs_fields.specs.Records.{records_of, width_of, field_of};
 
 use crate::pieces::{Pieces, bounds_of};
-use csv::{ByteRecord, Reader, ReaderBuilder};
+use csv::{ByteRecord, ErrorKind, Reader, ReaderBuilder};
 use map_base::NoMemory;
 use std::alloc::Global;
 use std::marker::Model;
@@ -77,14 +77,22 @@ fn push_fields(fields: &mut Pieces, row: &ByteRecord) -> Result<(), NoMemory>
     Ok(())
 }
 
-// Reads the next record, and says whether there was one.
+// Reads the next record, and says whether there was one. Records may differ in width and need not be text, so
+// that nothing but a failure of the reader underneath or want of memory comes in its place.
 fn read_next(reader: &mut Reader<&[u8]>, row: &mut ByteRecord) -> Result<bool, NoMemory>
-    ensures { IfOk result (λ found. (reader_trim reader.old ≡ trim.None) → Ready reader.old
-        → ReadRecord (λ s. Some s.now) reader.old reader.new found (fields_of row.new) × Ready reader.new) }
+    requires untrimmed { reader_trim reader.old ≡ trim.None }
+    requires ready { Ready reader.old }
+    requires flexible { is_flexible reader.old ≡ true }
+    ensures reads { IfOk result (λ found. ReadRecord (λ s. Some s.now) reader.old reader.new found (fields_of row.new)) }
+    ensures ready { OnOk result (Ready reader.new) }
+    ensures flexible { OnOk result (is_flexible reader.new ≡ true) }
 {
     match reader.read_byte_record(row) {
         Ok(found) => Ok(found),
-        Err(_) => Err(NoMemory),
+        Err(error) => match error.kind() {
+            ErrorKind::Io(_) | ErrorKind::OutOfMemory => Err(NoMemory),
+            _ => unreachable!(),
+        },
     }
 }
 

@@ -17,6 +17,7 @@ loop-ends-init c =
     rw (c.new-ends.ensures.items, c.in_ok-fields.ensures) (
       rw (f, e) at fr.trim ∙ c.new.ensures.trim,
       inr (inr (rw (f, e) at fr.has_headers, fr.headers)),
+      rw f at fr.flexible,
       rw (f, e) at fr.config ∙ c.new.ensures.config,
       refl,
       strip_bom c.args.bytes.now,
@@ -27,23 +28,24 @@ loop-ends-init c =
 pub loop-ends-smaller : goal.loop-ends-smaller
 unfolding Reached
 loop-ends-smaller c =
-    let (trim, ready, config, covers, rest, source, reached) = c.loop-ends.invariant in
-    let step = rw c.if-branch.true at (c.in_ok-read_next.ensures trim ready) in
-    let more = rows-more (λ (s : Bor (List ℕ)). Some s.now) c.loop-ends.reader c.read_next.new.reader (fields_of c.read_next.new.row) default_config c.loop-ends.reader.state rest rest [] config source (refl, refl) step.0 in
+    let (trim, ready, flexible, config, covers, rest, source, reached) = c.loop-ends.invariant in
+    let step = rw c.if-branch.true at c.in_ok-read_next.ensures.reads in
+    let more = rows-more (λ (s : Bor (List ℕ)). Some s.now) c.loop-ends.reader c.read_next.new.reader (fields_of c.read_next.new.row) default_config c.loop-ends.reader.state rest rest [] config source (refl, refl) step in
     known_left-lt default_config c.loop-ends.reader.state c.read_next.new.reader.state rest more.0 (fields_of c.read_next.new.row) _ _ source more.1 more.2
 
 pub loop-ends-preserved : goal.loop-ends-preserved
 loop-ends-preserved c =
-    let (trim, ready, config, covers, rest, source, reached) = c.loop-ends.invariant in
-    let step = rw c.if-branch.true at (c.in_ok-read_next.ensures trim ready) in
+    let (trim, ready, flexible, config, covers, rest, source, reached) = c.loop-ends.invariant in
+    let step = rw c.if-branch.true at c.in_ok-read_next.ensures.reads in
     let f = fields_of c.read_next.new.row in
-    let more = rows-more (λ (s : Bor (List ℕ)). Some s.now) c.loop-ends.reader c.read_next.new.reader f default_config st.StartRecord (strip_bom c.args.bytes.now) rest (cut 0 c.loop-ends.ends.items c.loop-ends.fields) config source reached step.0 in
+    let more = rows-more (λ (s : Bor (List ℕ)). Some s.now) c.loop-ends.reader c.read_next.new.reader f default_config st.StartRecord (strip_bom c.args.bytes.now) rest (cut 0 c.loop-ends.ends.items c.loop-ends.fields) config source reached step in
     let fields = c.in_ok-push_fields.ensures in
     let ends = c.in_ok-push.ensures.items in
     let size : c.len.result ≡ length c.loop-ends.fields + length f = c.len.ensures ∙ ap length fields ∙ length-append c.loop-ends.fields f in (
-      step.0.3 ∙ trim,
-      step.1,
-      step.0.2 ∙ config,
+      step.3 ∙ trim,
+      c.in_ok-read_next.ensures.ready,
+      c.in_ok-read_next.ensures.flexible,
+      step.2 ∙ config,
       pushed_covers c.loop-ends.ends.items c.push.new.self.items c.loop-ends.fields c.push_fields.new.fields f c.len.result covers ends fields size,
       more.0,
       more.1,
@@ -52,7 +54,7 @@ loop-ends-preserved c =
 
 pub returns : goal.returns
 returns c =
-    let (trim, ready, config, covers, rest, source, reached) = c.loop-ends.invariant in
-    let step = rw c.if-branch.false at (c.in_ok-read_next.ensures trim ready) in
-    let none = rows-end (λ (s : Bor (List ℕ)). Some s.now) c.loop-ends.reader c.read_next.new.reader (fields_of c.read_next.new.row) default_config rest config source step.0 in
+    let (trim, ready, flexible, config, covers, rest, source, reached) = c.loop-ends.invariant in
+    let step = rw c.if-branch.false at c.in_ok-read_next.ensures.reads in
+    let none = rows-end (λ (s : Bor (List ℕ)). Some s.now) c.loop-ends.reader c.read_next.new.reader (fields_of c.read_next.new.row) default_config rest config source step in
     sym (records_is default_config (strip_bom c.args.bytes.now) (cut 0 c.loop-ends.ends.items c.loop-ends.fields) (c.loop-ends.reader.state, rest, reached, none))
