@@ -1,5 +1,5 @@
 -- The definitions at worked texts.
-use Rattle.std.proofs.Common.{◌≡◌, ◌∷◌, [], List, ℕ, ◌^◌, Some, None, pos, neg_ℤ, refl}
+use Rattle.std.proofs.Common.{◌≡◌, ◌∷◌, [], ◌^◌, Some, None, pos, neg_ℤ, refl}
 use Rattle.std.specs.Prelude.{codes}
 use Rattle.csv.proofs.OnLiterals.{csv_on_literals}
 use Rattle.gtfs_fields.specs.Records.{records_of, field_of, width_of}

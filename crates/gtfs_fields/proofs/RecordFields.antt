@@ -1,5 +1,5 @@
 -- The fields of a record, one after the other.
-use Rattle.std.proofs.Common.{◌≡◌, ℕ, zero, suc, ◌+◌, ◌≤◌, List, [], ◌∷◌, ◌++◌, length, take, Option, Some, None, refl, sym, ap, ◌∙◌, add-one, append_assoc}
+use Rattle.std.proofs.Common.{◌≡◌, ℕ, zero, suc, ◌+◌, List, [], ◌∷◌, ◌++◌, take, Some, None, refl, ap, add-one, append_assoc}
 use Rattle.csv.specs.Records.{field_at}
 
 some_is : {A : Type 0} (x y : A) → Some x ≡ Some y → x ≡ y

@@ -8,6 +8,9 @@ use crate::digits::{are_digits, digits_after};
 use crate::scaling::microdegrees;
 use crate::spaces::trim_spaces;
 
+// How many digits an exponent has at most.
+const EXPONENT_DIGITS: usize = 2;
+
 /// The microdegrees that a degree text spells, cut towards zero. A degree text is an optional sign, digits with
 /// at most one point and at least one digit in all, and an optional `e` or `E` with an optional sign and one or
 /// two digits; spaces (U+0020) at both ends are passed over. There are none where the text is anything else, or
@@ -96,7 +99,7 @@ fn exponent_tens(text: &[u8]) -> Option<(usize, usize)>
     ensures bound { IfSome result (λ t. t.0 ≤ 99) }
 {
     let (negative, digits) = split_sign(text);
-    if digits.is_empty() || digits.len() > 2 {
+    if digits.is_empty() || digits.len() > EXPONENT_DIGITS {
         return None;
     }
     let tens = digits_after(0, digits, 99)? as usize;

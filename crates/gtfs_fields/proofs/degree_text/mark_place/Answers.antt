@@ -1,4 +1,4 @@
-use Rattle.std.proofs.Common.{arith, refl, sym, ◌∙◌}
+use Rattle.std.proofs.Common.{sym, ◌∙◌}
 use Rattle.gtfs_fields.specs.DegreeText.{is_exponent_mark}
 use Rattle.gtfs_fields.proofs.TextParts.{place_found, place_none}
 use Rattle.gtfs_fields.proofs.degree_text.mark_place.Goals as goal

@@ -1,4 +1,4 @@
-use Rattle.std.proofs.Common.{arith, refl}
+use Rattle.std.proofs.Common.{refl}
 use Rattle.gtfs_fields.specs.DegreeText.{is_point}
 use Rattle.gtfs_fields.proofs.TextParts.{place_found, place_none}
 use Rattle.gtfs_fields.proofs.degree_text.point_place.Goals as goal

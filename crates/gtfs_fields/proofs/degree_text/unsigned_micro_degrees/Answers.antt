@@ -1,4 +1,4 @@
-use Rattle.std.proofs.Common.{◌≡◌, ◌≤◌, ◌-◌, ◌<◌, ℕ, sym, ap, ◌∙◌, length, take, arith, refl}
+use Rattle.std.proofs.Common.{sym, ◌∙◌}
 use Rattle.gtfs_fields.specs.DegreeText.{is_point}
 use Rattle.gtfs_fields.proofs.TextParts.{place-le}
 use Rattle.gtfs_fields.proofs.ScaledNumbers.{digits_of_both}

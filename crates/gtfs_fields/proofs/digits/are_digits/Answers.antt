@@ -1,4 +1,4 @@
-use Rattle.std.proofs.Common.{◌≡◌, ℕ, ◌<◌, ◌⊎◌, List, length, Bool, false, sym, ap, ◌∙◌, inl, inr, refl}
+use Rattle.std.proofs.Common.{◌<◌, ◌⊎◌, length, inl, inr, refl}
 use Rattle.gtfs_fields.proofs.ScaledNumbers.{both_are_digits, not_empty}
 use Rattle.gtfs_fields.proofs.digits.are_digits.Goals.{else-is_empty-via-then-is_empty+else-is_empty-2, else-is_empty-via-else-is_empty}
 use Rattle.gtfs_fields.proofs.digits.are_digits.Goals as goal

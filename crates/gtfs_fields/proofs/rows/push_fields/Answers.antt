@@ -1,6 +1,6 @@
-use Rattle.std.proofs.Common.{◌≡◌, ℕ, ◌+◌, List, [], ◌∷◌, ◌++◌, take, Some, refl, sym, ap, ◌∙◌, append_assoc}
-use Rattle.csv.specs.Records.{Row, fields_of}
-use Rattle.gtfs_fields.proofs.RecordFields.{take_field, take_all_fields, pushed_field}
+use Rattle.std.proofs.Common.{ℕ, List, ◌++◌, ap, ◌∙◌}
+use Rattle.csv.specs.Records.{fields_of}
+use Rattle.gtfs_fields.proofs.RecordFields.{take_all_fields, pushed_field}
 use Rattle.gtfs_fields.proofs.rows.push_fields.Goals as goal
 
 pub loop-field-preserved : goal.loop-field-preserved

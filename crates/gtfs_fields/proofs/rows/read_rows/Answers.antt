@@ -1,5 +1,5 @@
-use Rattle.std.proofs.Common.{Bor, ap, List, ℕ, ◌≡◌, ◌+◌, ◌++◌, length, ◌∙◌, sym, refl, rules, inl, inr, true, Some, ◌∷◌, [], unwrap_or, arith, length-append}
-use Rattle.csv.specs.Reading.{Reached, default_config, source_of, strip_bom}
+use Rattle.std.proofs.Common.{Bor, ap, List, ℕ, ◌≡◌, ◌+◌, length, ◌∙◌, sym, refl, inr, Some, [], length-append}
+use Rattle.csv.specs.Reading.{Reached, default_config, strip_bom}
 use Rattle.csv.specs.Records.{fields_of}
 use Rattle.csv.specs.declared.parser.State.TheVariants as st
 use Rattle.csv.proofs.ReadFacts.{rows-end, rows-more}

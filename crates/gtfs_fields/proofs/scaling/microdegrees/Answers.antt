@@ -1,4 +1,4 @@
-use Rattle.std.proofs.Common.{◌≡◌, ◌≤◌, ◌-◌, ◌<◌, ℕ, sym, ap, ◌∙◌, length, take, arith, refl}
+use Rattle.std.proofs.Common.{sym, ap, ◌∙◌}
 use Rattle.gtfs_fields.specs.Digits.{up_to}
 use Rattle.gtfs_fields.proofs.ScaledNumbers.{value_scaled_down, value_scaled_up}
 use Rattle.gtfs_fields.proofs.scaling.microdegrees.Goals as goal

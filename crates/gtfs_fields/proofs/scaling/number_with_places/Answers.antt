@@ -1,4 +1,4 @@
-use Rattle.std.proofs.Common.{◌≡◌, refl, ◌-◌, ◌*◌, ◌^◌, ℕ, List, ◌++◌, sym, ap, ◌∙◌, length, take, min}
+use Rattle.std.proofs.Common.{◌≡◌, refl, ◌-◌, ◌*◌, ◌^◌, ◌++◌, sym, ap, ◌∙◌, length, take, min}
 use Rattle.std.specs.Str.Parse.{digits_value}
 use Rattle.gtfs_fields.specs.Digits.{up_to}
 use Rattle.gtfs_fields.proofs.ScaledNumbers.{digits_parts, value_lengthened, units_past, both_past, both_taken}

@@ -1,4 +1,4 @@
-use Rattle.std.proofs.Common.{◌-◌, ℕ, sym, ap, ◌∙◌, length, take}
+use Rattle.std.proofs.Common.{ap, ◌∙◌}
 use Rattle.gtfs_fields.specs.Digits.{up_to}
 use Rattle.gtfs_fields.proofs.ScaledNumbers.{with_taken, value_shortened}
 use Rattle.gtfs_fields.proofs.scaling.number_without_last.Goals as goal

@@ -1,4 +1,4 @@
-use Rattle.std.proofs.Common.{length, refl, sym, ap, ◌∙◌, arith}
+use Rattle.std.proofs.Common.{length, refl, ap, arith}
 use Rattle.gtfs_fields.proofs.Cuts.{piece_at, cut_within}
 use Rattle.gtfs_fields.proofs.pieces.Pieces.at.Goals as goal
 

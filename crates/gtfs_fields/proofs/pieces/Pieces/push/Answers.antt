@@ -1,4 +1,4 @@
-use Rattle.std.proofs.Common.{◌≡◌, ℕ, ◌+◌, List, [], ◌∷◌, ◌++◌, length, true, rules, refl, sym, ap, ◌∙◌, arith, length-append}
+use Rattle.std.proofs.Common.{◌≡◌, ℕ, ◌+◌, List, [], ◌∷◌, ◌++◌, length, true, rules, ap, ◌∙◌, arith, length-append}
 use Rattle.std.specs.Result.{is_ok}
 use Rattle.gtfs_fields.proofs.Cuts.{pushed_covers, pushed_cut}
 use Rattle.gtfs_fields.proofs.pieces.Pieces.push.Goals as goal

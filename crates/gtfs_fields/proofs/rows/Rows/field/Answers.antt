@@ -1,4 +1,4 @@
-use Rattle.std.proofs.Common.{List, ℕ, [], length, sym, ap, ◌∙◌, arith}
+use Rattle.std.proofs.Common.{[], length, sym, ap, ◌∙◌, arith}
 use Rattle.gtfs_fields.proofs.Cuts.{piece_at, piece_item, cut_within}
 use Rattle.gtfs_fields.proofs.rows.Rows.field.Goals as goal
 
