@@ -1,0 +1,8 @@
+pub mod Cuts
+pub mod AllRecords
+pub mod RecordFields
+pub mod SpaceLemmas
+pub mod DigitLemmas
+pub mod TextParts
+pub mod ScaledNumbers
+mod Examples

@@ -1,0 +1,78 @@
+//! Texts kept end to end in one buffer.
+
+ghost use Rattle.std.specs.Prelude.{◌≡◌, ℕ, ◌<◌, [], ◌∷◌, ◌++◌, ◌≤◌, List, length, OnOk, OnErr, IfOk, slice_index, slice_index_or};
+
+use map_base::NoMemory;
+use std::alloc::Global;
+use std::marker::Model;
+
+/// Texts of any bytes, seen as the list of them. Their bytes stand in one buffer, with one number for each text.
+#[derive(Debug, Drop)]
+pub struct Pieces {
+    bytes: Vec<u8>,
+    ends: Vec<usize>,
+}
+
+impl Model for Pieces {
+    ghost use Rattle.std.specs.Prelude.{ℕ, List, length};
+    ghost use Rattle.gtfs_fields.specs.Pieces.{cut, Covers};
+
+    ghost Value = { List (List ℕ) };
+
+    ghost view = { λ p. cut 0 p.ends.items p.bytes.items };
+
+    ghost invariant = { λ p. Covers 0 p.ends.items (length p.bytes.items) };
+}
+
+impl Pieces {
+    /// No text, with room for so many bytes.
+    pub fn with_room(alloc: Global, room: usize) -> Result<Pieces, NoMemory>
+        ensures { IfOk result (λ p. p ≡ []) }
+    {
+        Ok(Pieces {
+            bytes: Vec::with_capacity(alloc, room)?,
+            ends: Vec::new(alloc),
+        })
+    }
+
+    /// How many texts there are.
+    pub fn len(&self) -> usize
+        ensures { result ≡ length self.now }
+    {
+        self.ends.len()
+    }
+
+    /// Adds a text at the end.
+    pub fn push(&mut self, text: &[u8]) -> Result<(), NoMemory>
+        ensures ok { OnOk result (self.new ≡ self.old ++ text.now ∷ []) }
+        ensures err { OnErr result (self.new ≡ self.old) }
+    {
+        let start = self.bytes.len();
+        self.bytes.extend_from_slice(text)?;
+        let end = self.bytes.len();
+        if self.ends.push(end).is_err() {
+            self.bytes.truncate(start);
+            return Err(NoMemory);
+        }
+        Ok(())
+    }
+
+    /// The text at a place.
+    pub fn at(&self, place: usize) -> &[u8]
+        requires { place < length self.now }
+        ensures { result.now ≡ slice_index_or self.now place [] }
+    {
+        let (start, end) = bounds_of(&self.ends, place);
+        &self.bytes[start..end]
+    }
+}
+
+/// Where the piece at a place starts and ends, in a list of the places where the pieces end.
+pub fn bounds_of(ends: &[usize], place: usize) -> (usize, usize)
+    requires { place < length ends.now }
+    ensures start { result.0 ≡ slice_index (0 ∷ ends.now) place }
+    ensures end { result.1 ≡ slice_index ends.now place }
+{
+    let start = if place == 0 { 0 } else { ends[place - 1] };
+    (start, ends[place])
+}

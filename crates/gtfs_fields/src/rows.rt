@@ -1,0 +1,120 @@
+//! The rows of a table.
+
+ghost use Rattle.std.specs.Prelude.{◌≡◌, ◌==◌, ℕ, ◌<◌, [], ◌∷◌, ◌++◌, List, length, OnOk, IfOk, Some, true};
+ghost use Rattle.csv.specs.Reading.{ReadRecord, Ready, is_flexible, reader_trim};
+ghost use Rattle.csv.specs.Records.{fields_of};
+ghost use Rattle.csv.specs.declared.reader.Trim.TheVariants as trim;
+ghost use Rattle.gtfs_fields.specs.Records.{records_of, width_of, field_of};
+
+use crate::pieces::{Pieces, bounds_of};
+use csv::{ByteRecord, ErrorKind, Reader, ReaderBuilder};
+use map_base::NoMemory;
+use std::alloc::Global;
+use std::marker::Model;
+
+/// The records of a CSV file, the header among them: a list of rows, each a list of fields, each a list of
+/// bytes. Rows may differ in width. All fields' bytes stand in one buffer, with one number for each field and
+/// one for each row.
+#[derive(Debug, Drop)]
+pub struct Rows {
+    fields: Pieces,
+    ends: Vec<usize>,
+}
+
+impl Model for Rows {
+    ghost use Rattle.std.specs.Prelude.{ℕ, List, length};
+    ghost use Rattle.gtfs_fields.specs.Pieces.{cut, Covers};
+
+    ghost Value = { List (List (List ℕ)) };
+
+    ghost view = { λ r. cut 0 r.ends.items r.fields };
+
+    ghost invariant = { λ r. Covers 0 r.ends.items (length r.fields) };
+}
+
+impl Rows {
+    /// How many rows there are.
+    pub fn len(&self) -> usize
+        ensures { result ≡ length self.now }
+    {
+        self.ends.len()
+    }
+
+    /// Whether there is no row.
+    pub fn is_empty(&self) -> bool
+        ensures { result ≡ (length self.now == 0) }
+    {
+        self.len() == 0
+    }
+
+    /// How many fields a row has; rows are counted from 0.
+    pub fn width(&self, row: usize) -> usize
+        requires { row < length self.now }
+        ensures { result ≡ width_of self.now row }
+    {
+        let (start, end) = bounds_of(&self.ends, row);
+        end - start
+    }
+
+    /// The bytes of a field; rows and columns are counted from 0.
+    pub fn field(&self, row: usize, column: usize) -> &[u8]
+        requires row { row < length self.now }
+        requires column { column < width_of self.now row }
+        ensures { result.now ≡ field_of self.now row column }
+    {
+        let (start, _) = bounds_of(&self.ends, row);
+        self.fields.at(start + column)
+    }
+}
+
+// Adds a record's fields at the end.
+fn push_fields(fields: &mut Pieces, row: &ByteRecord) -> Result<(), NoMemory>
+    ensures { OnOk result (fields.new ≡ fields.old ++ fields_of row.now) }
+{
+    for field in row {
+        fields.push(field)?;
+    }
+    Ok(())
+}
+
+// Reads the next record, and says whether there was one. Records may differ in width and need not be text, so
+// that nothing but a failure of the reader underneath or want of memory comes in its place.
+fn read_next(reader: &mut Reader<&[u8]>, row: &mut ByteRecord) -> Result<bool, NoMemory>
+    requires untrimmed { reader_trim reader.old ≡ trim.None }
+    requires ready { Ready reader.old }
+    requires flexible { is_flexible reader.old ≡ true }
+    ensures reads { IfOk result (λ found. ReadRecord (λ s. Some s.now) reader.old reader.new found (fields_of row.new)) }
+    ensures ready { OnOk result (Ready reader.new) }
+    ensures flexible { OnOk result (is_flexible reader.new ≡ true) }
+{
+    match reader.read_byte_record(row) {
+        Ok(found) => Ok(found),
+        Err(error) => match error.kind() {
+            ErrorKind::Io(_) | ErrorKind::OutOfMemory => Err(NoMemory),
+            _ => unreachable!(),
+        },
+    }
+}
+
+/// The records that `csv` defines for the bytes, after one byte order mark: commas, fields in double quotes
+/// (RFC 4180), lines that end in LF, CR or CR LF, blank lines passed over, no field trimmed, and no row taken
+/// for a header.
+///
+/// `csv` cannot rule out that reading from memory fails. Such a failure, which does not come, would be answered
+/// as want of memory.
+pub fn read_rows(alloc: Global, bytes: &[u8]) -> Result<Rows, NoMemory>
+    ensures { IfOk result (λ rows. rows ≡ records_of bytes.now) }
+{
+    let mut reader = ReaderBuilder::new()
+        .has_headers(false)
+        .flexible(true)
+        .from_reader(alloc, bytes);
+    let mut row = ByteRecord::new(alloc);
+    let mut fields = Pieces::with_room(alloc, bytes.len())?;
+    let mut ends = Vec::new(alloc);
+    while read_next(&mut reader, &mut row)? {
+        push_fields(&mut fields, &row)?;
+        ends.push(fields.len())?;
+    }
+    Ok(Rows { fields, ends })
+}
