@@ -14,6 +14,7 @@ infixl 7 ◌⊛◌
 pub data Term : Type 0 where
   var : ℕ → Term
   num : ℤ → Term
+  minus : Term → Term
   ◌⊕◌ : Term → Term → Term
   ◌⊖◌ : Term → Term → Term
   ◌⊛◌ : Term → Term → Term
@@ -28,6 +29,7 @@ value_at (x ∷ xs) (suc n) = value_at xs n
 abbrev pub value : List ℤ → Term → ℤ
 value xs (var n) = value_at xs n
 value xs (num z) = z
+value xs (minus t) = neg_ℤ (value xs t)
 value xs (s ⊕ t) = value xs s +ℤ value xs t
 value xs (s ⊖ t) = value xs s -ℤ value xs t
 value xs (s ⊛ t) = value xs s *ℤ value xs t
@@ -170,6 +172,7 @@ sum_of-multiplied xs (m ∷ ms) ns =
 abbrev pub expanded : Term → List Monomial
 expanded (var n) = record { coefficient = pos 1; variables = n ∷ [] } ∷ []
 expanded (num z) = record { coefficient = z; variables = [] } ∷ []
+expanded (minus t) = negated (expanded t)
 expanded (s ⊕ t) = added (expanded s) (expanded t)
 expanded (s ⊖ t) = added (negated (expanded t)) (expanded s)
 expanded (s ⊛ t) = multiplied (expanded s) (expanded t)
@@ -186,6 +189,7 @@ taken x y = omega (arith, ints)
 sum_of-expanded : (xs : List ℤ) (t : Term) → sum_of xs (expanded t) ≡ value xs t
 sum_of-expanded xs (var n) = alone (value_at xs n)
 sum_of-expanded xs (num z) = constant z
+sum_of-expanded xs (minus t) = sum_of-negated xs (expanded t) ∙ ap neg_ℤ (sum_of-expanded xs t)
 sum_of-expanded xs (s ⊕ t) =
     sum_of-added xs (expanded s) (expanded t) ∙ ap (λ n. n +ℤ sum_of xs (expanded t)) (sum_of-expanded xs s)
     ∙ ap (λ n. value xs s +ℤ n) (sum_of-expanded xs t)

@@ -1,3 +1,4 @@
 pub mod Products
 pub mod Identities
+pub mod Signs
 pub mod Crossings

@@ -1,6 +1,10 @@
 -- Where points of the plane lie to one another, by their coordinates.
 use Rattle.std.specs.Prelude.{ℤ, ◌+ℤ◌, ◌-ℤ◌, ◌*ℤ◌}
 
+-- the area that the ways a and b span: above 0 where b turns left from a, below 0 where it turns right
+abbrev pub cross_of : (ax ay bx by : ℤ) → ℤ
+cross_of ax ay bx by = ax *ℤ by -ℤ ay *ℤ bx
+
 -- twice the area of the triangle of a, b and c: above 0 where c lies left of the way from a to b, below 0
 -- where it lies right of it
 abbrev pub turn_of : (ax ay bx by cx cy : ℤ) → ℤ
