@@ -1,5 +1,7 @@
-use Rattle.std.proofs.Common.{◌≡◌, pos, negsuc, refl}
+use Rattle.std.proofs.Common.{◌≡◌, pos, negsuc, refl, Less, Equal, Greater}
 use Rattle.fixed_plane.specs.Plane.{band_at, projected}
+use Rattle.fixed_plane.specs.Measures.{dist2_of, side_of}
+use Rattle.fixed_plane.specs.Directions.{clockwise_of}
 
 -- a ten-thousandth of a degree south of the origin: downwards, and so away from it
 south : projected (negsuc 99) (pos 0) 0 ≡ record { x = pos 0; y = negsuc 111 }
@@ -22,3 +24,34 @@ second_band = refl
 
 last_band : band_at (negsuc 89999999) ≡ 18
 last_band = refl
+
+-- three and four make five
+far : dist2_of (record { x = pos 1; y = pos 1 }) (record { x = negsuc 1; y = pos 5 }) ≡ 25
+far = refl
+
+-- north lies left of the way east, and south right of it
+left : side_of (record { x = pos 0; y = pos 0 }) (record { x = pos 2; y = pos 0 }) (record { x = pos 1; y = pos 3 }) ≡ pos 6
+left = refl
+
+right : side_of (record { x = pos 0; y = pos 0 }) (record { x = pos 2; y = pos 0 }) (record { x = pos 1; y = negsuc 2 }) ≡ negsuc 5
+right = refl
+
+-- clockwise from north come east, south and west, and what lies just left of north is last
+north_east : clockwise_of (record { x = pos 0; y = pos 5 }) (record { x = pos 1; y = pos 0 }) ≡ Less
+north_east = refl
+
+east_south : clockwise_of (record { x = pos 1; y = pos 0 }) (record { x = pos 0; y = negsuc 1 }) ≡ Less
+east_south = refl
+
+south_west : clockwise_of (record { x = pos 0; y = negsuc 1 }) (record { x = negsuc 2; y = pos 0 }) ≡ Less
+south_west = refl
+
+last : clockwise_of (record { x = negsuc 0; y = pos 9 }) (record { x = pos 0; y = pos 5 }) ≡ Greater
+last = refl
+
+-- a way that is twice as long is the same direction, and the opposite one is not
+longer : clockwise_of (record { x = pos 3; y = negsuc 0 }) (record { x = pos 6; y = negsuc 1 }) ≡ Equal
+longer = refl
+
+opposite : clockwise_of (record { x = pos 3; y = negsuc 0 }) (record { x = negsuc 2; y = pos 1 }) ≡ Less
+opposite = refl

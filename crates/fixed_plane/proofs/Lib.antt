@@ -1,2 +1,3 @@
-pub mod Rounding
+pub mod Distances
+pub mod Rounds
 mod Examples

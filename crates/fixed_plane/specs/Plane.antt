@@ -1,6 +1,6 @@
 use Rattle.std.specs.Prelude.{ℕ, ◌+◌, ◌*◌, ◌/◌, ◌≤◌, ℤ, pos, ◌*ℤ◌, unsigned_abs, List, [], ◌∷◌, slice_index}
-use Rattle.std.specs.Int.{int_div_euclid}
 use Rattle.map_base.specs.declared.point.Point.{Point}
+use Rattle.whole_algebra.specs.Rounding.{floor_quotient}
 
 -- the point lies within 300,000,000 decimetres of the origin, either way along each axis
 pub record IsInPlane (p : Point) : Type 0 where
@@ -17,10 +17,6 @@ per_mille_table = 1000 ∷ 996 ∷ 985 ∷ 966 ∷ 940 ∷ 906 ∷ 866 ∷ 819 �
 
 abbrev pub per_mille : ℕ → ℕ
 per_mille band = slice_index per_mille_table band
-
--- the quotient by a positive number, rounded downwards, also below zero
-abbrev pub floor_quotient : ℤ → ℕ → ℤ
-floor_quotient z n = int_div_euclid z (pos n)
 
 -- the point of a place in microdegrees: 11,132 decimetres for each 10,000 microdegrees northwards, and of
 -- that as much per mille eastwards as its band has

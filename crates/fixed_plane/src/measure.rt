@@ -27,7 +27,7 @@ pub fn side(a: Point, b: Point, c: Point) -> i64
 {
     let left = product(difference(a.x, b.x), difference(a.y, c.y));
     let right = product(difference(a.y, b.y), difference(a.x, c.x));
-    left - right
+    less(left, right)
 }
 
 /// How far it is from one coordinate to another.
@@ -56,4 +56,30 @@ pub(crate) fn product(a: i64, b: i64) -> i64
     ensures within { unsigned_abs result ≤ 360000000000000000 }
 {
     a * b
+}
+
+/// What is left of one product when another is taken from it.
+pub(crate) fn less(whole: i64, part: i64) -> i64
+    requires whole_within { unsigned_abs whole ≤ 360000000000000000 }
+    requires part_within { unsigned_abs part ≤ 360000000000000000 }
+    ensures value { result ≡ whole -ℤ part }
+    ensures within { unsigned_abs result ≤ 720000000000000000 }
+{
+    whole - part
+}
+
+#[cfg(test)]
+mod tests {
+    use super::*;
+
+    #[test]
+    fn distances_and_sides(rt: HostRuntime) {
+        let origin = Point { x: 0, y: 0 };
+        let east = Point { x: 40, y: 0 };
+        let north = Point { x: 0, y: 30 };
+        assert_eq!(rt; dist2(east, north), 2_500);
+        assert_eq!(rt; side(origin, east, north), 1_200);
+        assert_eq!(rt; side(origin, north, east), -1_200);
+        assert_eq!(rt; side(origin, east, Point { x: -7, y: 0 }), 0);
+    }
 }

@@ -1,7 +1,8 @@
 //! From degrees to points of the plane.
 
 ghost use Rattle.std.specs.Prelude.{◌≡◌, ◌+◌, ◌*◌, ◌^◌, ◌<◌, ◌≤◌, pos, ◌*ℤ◌, unsigned_abs};
-ghost use Rattle.fixed_plane.specs.Plane.{IsInPlane, band_at, floor_quotient, projected};
+ghost use Rattle.fixed_plane.specs.Plane.{IsInPlane, band_at, projected};
+ghost use Rattle.whole_algebra.specs.Rounding.{floor_quotient};
 
 use map_base::Point;
 

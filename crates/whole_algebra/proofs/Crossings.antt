@@ -1,6 +1,6 @@
 -- What the areas that three ways span, and the corners of two edges ab and cd, have to do with one another.
 use Rattle.std.proofs.Common.{◌≡◌, refl, ℤ, pos, ◌+ℤ◌, ◌-ℤ◌, ◌*ℤ◌, neg_ℤ, [], ◌∷◌}
-use Rattle.whole_algebra.specs.Turns.{cross_of, turn_of, square_between, excess_of}
+use Rattle.whole_algebra.specs.Turns.{cross_of, turn_of, excess_of}
 use Rattle.whole_algebra.proofs.Identities.{Term, var, num, minus, ◌⊕◌, ◌⊖◌, ◌⊛◌, identity}
 
 -- the definitions as terms
@@ -71,8 +71,8 @@ pub excess_of-weighted : (ax ay bx by cx cy dx dy : ℤ) →
 excess_of-weighted ax ay bx by cx cy dx dy =
     identity (ax ∷ ay ∷ bx ∷ by ∷ cx ∷ cy ∷ dx ∷ dy ∷ [])
     (turn_term (var 0) (var 1) (var 2) (var 3) (var 4) (var 5) ⊛ excess_term (var 0) (var 1) (var 2) (var 3) (var 6) (var 7)
-        ⊖ turn_term (var 0) (var 1) (var 2) (var 3) (var 6) (var 7) ⊛ excess_term (var 0) (var 1) (var 2) (var 3) (var 4) (var 5)
-        ⊕ turn_term (var 4) (var 5) (var 6) (var 7) (var 2) (var 3) ⊛ excess_term (var 4) (var 5) (var 6) (var 7) (var 0) (var 1)
-        ⊖ turn_term (var 4) (var 5) (var 6) (var 7) (var 0) (var 1) ⊛ excess_term (var 4) (var 5) (var 6) (var 7) (var 2) (var 3))
+    ⊖ turn_term (var 0) (var 1) (var 2) (var 3) (var 6) (var 7) ⊛ excess_term (var 0) (var 1) (var 2) (var 3) (var 4) (var 5)
+    ⊕ turn_term (var 4) (var 5) (var 6) (var 7) (var 2) (var 3) ⊛ excess_term (var 4) (var 5) (var 6) (var 7) (var 0) (var 1)
+    ⊖ turn_term (var 4) (var 5) (var 6) (var 7) (var 0) (var 1) ⊛ excess_term (var 4) (var 5) (var 6) (var 7) (var 2) (var 3))
     (num (pos 0))
     refl

@@ -1,7 +1,7 @@
 -- Identities of sums, differences and products: a term becomes a sum of monomials, and where the sum of the
 -- difference of two terms has only zeros, the two have one value whatever their variables are.
-use Rattle.std.proofs.Common.{◌≡◌, refl, sym, ◌∙◌, ap, ℕ, zero, suc, ℤ, pos, negsuc, ◌+ℤ◌, ◌-ℤ◌, ◌*ℤ◌, neg_ℤ, Bool, true, false, nat_eq, nat_le, ◌==◌, List, [], ◌∷◌, arith}
-use Rattle.std.proofs.Math.IntN.{zero-*ℤ, *ℤ-zero, *ℤ_comm, +ℤ_idl, +ℤ_idr, +ℤ_assoc}
+use Rattle.std.proofs.Common.{◌≡◌, refl, sym, ◌∙◌, ap, ℕ, zero, suc, ℤ, pos, negsuc, ◌+ℤ◌, ◌-ℤ◌, ◌*ℤ◌, neg_ℤ, Bool, true, false, nat_eq, nat_le, List, [], ◌∷◌, arith}
+use Rattle.std.proofs.Math.IntN.{zero-*ℤ, *ℤ-zero, +ℤ_idl, +ℤ_assoc}
 use Rattle.std.proofs.lemmas.Int.{ints}
 use Rattle.std.proofs.lemmas.Bool.{eqb-true}
 use Rattle.whole_algebra.proofs.Products.{+ℤ-*ℤ, *ℤ-+ℤ, neg_ℤ-*ℤ, *ℤ_assoc, *ℤ_left_comm}
@@ -9,7 +9,6 @@ use Rattle.whole_algebra.proofs.Products.{+ℤ-*ℤ, *ℤ-+ℤ, neg_ℤ-*ℤ, *�
 infixl 6 ◌⊕◌
 infixl 6 ◌⊖◌
 infixl 7 ◌⊛◌
-
 -- a term over numbered variables
 pub data Term : Type 0 where
   var : ℕ → Term
@@ -56,9 +55,10 @@ insert_variable v (w ∷ ws) = elim (nat_le v w) [ true ↦ v ∷ w ∷ ws | fal
 product_of-insert_variable : (xs : List ℤ) (v : ℕ) (ws : List ℕ) → product_of xs (insert_variable v ws) ≡ value_at xs v *ℤ product_of xs ws
 product_of-insert_variable xs v [] = refl
 product_of-insert_variable xs v (w ∷ ws) =
-    elim (nat_le v w) as (λ b. product_of xs (elim b [ true ↦ v ∷ w ∷ ws | false ↦ w ∷ insert_variable v ws ]) ≡ value_at xs v *ℤ product_of xs (w ∷ ws))
-    [ true ↦ refl
-    | false ↦ ap (λ s. value_at xs w *ℤ s) (product_of-insert_variable xs v ws) ∙ *ℤ_left_comm (value_at xs w) (value_at xs v) (product_of xs ws) ]
+    elim (nat_le v w) as (λ b. product_of xs (elim b [ true ↦ v ∷ w ∷ ws | false ↦ w ∷ insert_variable v ws ]) ≡ value_at xs v *ℤ product_of xs (w ∷ ws)) [
+      | true ↦ refl
+      | false ↦ ap (λ s. value_at xs w *ℤ s) (product_of-insert_variable xs v ws) ∙ *ℤ_left_comm (value_at xs w) (value_at xs v) (product_of xs ws)
+    ]
 
 abbrev pub merged : List ℕ → List ℕ → List ℕ
 merged [] ws = ws
@@ -86,9 +86,10 @@ same-true [] [] e = refl
 same-true [] (w ∷ ws) e = cc
 same-true (v ∷ vs) [] e = cc
 same-true (v ∷ vs) (w ∷ ws) e =
-    (elim (nat_eq v w) as (λ b. nat_eq v w ≡ b → elim b [ true ↦ same vs ws | false ↦ false ] ≡ true → v ∷ vs ≡ w ∷ ws)
-    [ true ↦ λ heads tails. let first : v ≡ w = eqb-true v w heads in let rest = same-true vs ws tails in cc
-    | false ↦ λ heads tails. cc ]) refl e
+    (elim (nat_eq v w) as (λ b. nat_eq v w ≡ b → elim b [ true ↦ same vs ws | false ↦ false ] ≡ true → v ∷ vs ≡ w ∷ ws) [
+      | true ↦ λ heads tails. let first : v ≡ w = eqb-true v w heads in let rest = same-true vs ws tails in cc
+      | false ↦ λ heads tails. cc
+    ]) refl e
 
 abbrev pub add_monomial : Monomial → List Monomial → List Monomial
 add_monomial m [] = m ∷ []
@@ -106,11 +107,12 @@ sum_of-add_monomial : (xs : List ℤ) (m : Monomial) (ns : List Monomial) → su
 sum_of-add_monomial xs m [] = refl
 sum_of-add_monomial xs m (n ∷ ns) =
     (elim (same m.variables n.variables) as (λ b. same m.variables n.variables ≡ b →
-        sum_of xs (elim b [ true ↦ record { coefficient = m.coefficient +ℤ n.coefficient; variables = n.variables } ∷ ns | false ↦ n ∷ add_monomial m ns ])
-        ≡ m.coefficient *ℤ product_of xs m.variables +ℤ sum_of xs (n ∷ ns))
-    [ true ↦ λ e. gathered m.coefficient n.coefficient (product_of xs m.variables) (product_of xs n.variables) (sum_of xs ns) (ap (product_of xs) (same-true m.variables n.variables e))
-    | false ↦ λ e. ap (λ s. n.coefficient *ℤ product_of xs n.variables +ℤ s) (sum_of-add_monomial xs m ns)
-        ∙ passed (n.coefficient *ℤ product_of xs n.variables) (m.coefficient *ℤ product_of xs m.variables) (sum_of xs ns) ]) refl
+    sum_of xs (elim b [ true ↦ record { coefficient = m.coefficient +ℤ n.coefficient; variables = n.variables } ∷ ns | false ↦ n ∷ add_monomial m ns ])
+    ≡ m.coefficient *ℤ product_of xs m.variables +ℤ sum_of xs (n ∷ ns)) [
+      | true ↦ λ e. gathered m.coefficient n.coefficient (product_of xs m.variables) (product_of xs n.variables) (sum_of xs ns) (ap (product_of xs) (same-true m.variables n.variables e))
+      | false ↦ λ e. ap (λ s. n.coefficient *ℤ product_of xs n.variables +ℤ s) (sum_of-add_monomial xs m ns)
+          ∙ passed (n.coefficient *ℤ product_of xs n.variables) (m.coefficient *ℤ product_of xs m.variables) (sum_of xs ns)
+    ]) refl
 
 abbrev pub added : List Monomial → List Monomial → List Monomial
 added [] ns = ns
@@ -217,11 +219,12 @@ vanishes (m ∷ ms) = elim (is_zero m.coefficient) [ true ↦ vanishes ms | fals
 sum_of-vanishes : (xs : List ℤ) (ms : List Monomial) → vanishes ms ≡ true → sum_of xs ms ≡ pos 0
 sum_of-vanishes xs [] e = refl
 sum_of-vanishes xs (m ∷ ms) e =
-    (elim (is_zero m.coefficient) as (λ b. is_zero m.coefficient ≡ b → elim b [ true ↦ vanishes ms | false ↦ false ] ≡ true → sum_of xs (m ∷ ms) ≡ pos 0)
-    [ true ↦ λ zero_here rest.
-        ap (λ c. c *ℤ product_of xs m.variables +ℤ sum_of xs ms) (is_zero-true m.coefficient zero_here)
-        ∙ ap (λ s. s +ℤ sum_of xs ms) (zero-*ℤ (product_of xs m.variables)) ∙ +ℤ_idl (sum_of xs ms) ∙ sum_of-vanishes xs ms rest
-    | false ↦ λ here rest. cc ]) refl e
+    (elim (is_zero m.coefficient) as (λ b. is_zero m.coefficient ≡ b → elim b [ true ↦ vanishes ms | false ↦ false ] ≡ true → sum_of xs (m ∷ ms) ≡ pos 0) [
+      | true ↦ λ zero_here rest.
+          ap (λ c. c *ℤ product_of xs m.variables +ℤ sum_of xs ms) (is_zero-true m.coefficient zero_here)
+          ∙ ap (λ s. s +ℤ sum_of xs ms) (zero-*ℤ (product_of xs m.variables)) ∙ +ℤ_idl (sum_of xs ms) ∙ sum_of-vanishes xs ms rest
+      | false ↦ λ here rest. cc
+    ]) refl e
 
 -- two terms whose difference vanishes have one value, whatever the values of their variables are
 pub identity : (xs : List ℤ) (s t : Term) → vanishes (expanded (s ⊖ t)) ≡ true → value xs s ≡ value xs t

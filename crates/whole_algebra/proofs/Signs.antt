@@ -1,9 +1,9 @@
 -- Signs of products, and squares.
-use Rattle.std.proofs.Common.{◌≡◌, refl, sym, ◌∙◌, ap, ℕ, zero, suc, ◌+◌, ◌*◌, ◌<◌, ◌≤◌, ℤ, pos, negsuc, ◌+ℤ◌, ◌-ℤ◌, ◌*ℤ◌, ◌≤ℤ◌, ◌<ℤ◌, neg_ℤ, unsigned_abs, Less, Greater, arith}
-use Rattle.std.proofs.Math.IntN.{*ℤ_comm, zero-*ℤ}
+use Rattle.std.proofs.Common.{◌≡◌, refl, sym, ◌∙◌, ap, zero, suc, ◌*◌, ℤ, pos, negsuc, ◌*ℤ◌, ◌≤ℤ◌, ◌<ℤ◌, neg_ℤ, unsigned_abs, Less, Greater, arith}
+use Rattle.std.proofs.Math.IntN.{zero-*ℤ}
 use Rattle.std.proofs.lemmas.Int.{ints}
-use Rattle.std.specs.Ordering.{int_cmp}
-use Rattle.whole_algebra.proofs.Products.{neg_ℤ-*ℤ, -ℤ-*ℤ}
+use Rattle.std.specs.Ordering.{int_cmp, ordering_reverse}
+use Rattle.whole_algebra.proofs.Products.{neg_ℤ-*ℤ}
 
 -- a product of two numbers above 0 is above 0
 pub *ℤ-positive : (a b : ℤ) → pos 0 <ℤ a → pos 0 <ℤ b → pos 0 <ℤ (a *ℤ b)
@@ -21,12 +21,18 @@ pub *ℤ-not_negative : (a b : ℤ) → pos 0 ≤ℤ a → pos 0 ≤ℤ b → po
 pub square-not_negative : (a : ℤ) → pos 0 ≤ℤ (a *ℤ a)
 square-not_negative a = grind (arith, ints)
 
--- the three answers of a comparison with 0
+-- the answers of a comparison with 0
 pub int_cmp-positive : (a : ℤ) → pos 0 <ℤ a → int_cmp a (pos 0) ≡ Greater
 int_cmp-positive a h = grind (arith, ints)
 
 pub int_cmp-negative : (a : ℤ) → a <ℤ pos 0 → int_cmp a (pos 0) ≡ Less
 int_cmp-negative a h = grind (arith, ints)
+
+-- a number compares with 0 as its opposite does the other way round
+pub int_cmp-neg_ℤ : (a : ℤ) → int_cmp a (pos 0) ≡ ordering_reverse (int_cmp (neg_ℤ a) (pos 0))
+int_cmp-neg_ℤ (pos zero) = refl
+int_cmp-neg_ℤ (pos (suc n)) = int_cmp-positive (pos (suc n)) (omega (arith, ints))
+int_cmp-neg_ℤ (negsuc n) = sym (ap ordering_reverse (int_cmp-positive (pos (suc n)) (omega (arith, ints))))
 
 -- a product of a number below 0 and one above 0 is below 0
 pub *ℤ-negative : (a b : ℤ) → a <ℤ pos 0 → pos 0 <ℤ b → (a *ℤ b) <ℤ pos 0
@@ -50,6 +56,16 @@ int_cmp-*ℤ (pos zero) b k = ap (λ z. int_cmp z (pos 0)) (zero-*ℤ b)
 int_cmp-*ℤ (pos (suc m)) b k =
     int_cmp-positive (pos (suc m) *ℤ b) (*ℤ-positive (pos (suc m)) b (omega (arith, ints)) k) ∙ sym (int_cmp-positive (pos (suc m)) (omega (arith, ints)))
 int_cmp-*ℤ (negsuc m) b k = int_cmp-negative (negsuc m *ℤ b) (*ℤ-negative (negsuc m) b (omega (arith, ints)) k)
+
+-- a factor of a product that is below 0, beside one above 0, is below 0
+pub *ℤ-negative_factor : (a b : ℤ) → pos 0 <ℤ b → (a *ℤ b) <ℤ pos 0 → a <ℤ pos 0
+*ℤ-negative_factor (pos n) b k h =
+    let not_below : pos 0 ≤ℤ (pos n *ℤ b) = *ℤ-not_negative (pos n) b (omega (arith, ints)) (omega (arith, ints)) in
+    absurd (both (pos n *ℤ b) not_below h)
+  where
+    both : (x : ℤ) → pos 0 ≤ℤ x → x <ℤ pos 0 → ⊥
+    both x h k = omega (arith, ints)
+*ℤ-negative_factor (negsuc n) b k h = omega (arith, ints)
 
 -- a factor of a product that is 0, beside one above 0, is 0
 pub *ℤ-eq_zero : (a b : ℤ) → pos 0 <ℤ b → a *ℤ b ≡ pos 0 → a ≡ pos 0

@@ -1,7 +1,7 @@
 use Rattle.std.proofs.Common.{◌≡◌, ◌*◌, ◌≤◌, pos, ◌*ℤ◌, unsigned_abs, to_z, of_z, w64, rules}
 use Rattle.std.proofs.lemmas.Int.{unsigned_abs-mul}
-use Rattle.fixed_plane.specs.Plane.{floor_quotient}
-use Rattle.fixed_plane.proofs.Rounding.{floor_quotient-within}
+use Rattle.whole_algebra.specs.Rounding.{floor_quotient}
+use Rattle.whole_algebra.proofs.Rounding.{floor_quotient-within}
 use Rattle.fixed_plane.proofs.projection.scaled.Goals as goal
 
 pub returns-clause-in_plane : goal.returns-clause-in_plane
