@@ -1,0 +1,28 @@
+use Rattle.std.specs.Prelude.{◌≡◌, ℕ, ◌+◌, ◌-◌, ◌*◌, ◌^◌, ◌<◌, ◌≤◌, min, List, [], ◌∷◌, ◌++◌, map, length, slice_range, sum_by}
+use Rattle.map_base.specs.declared.point.Point.{Point}
+use Rattle.map_base.specs.declared.limit.Limit.{Limit}
+use Rattle.map_base.specs.declared.limit.LimitKind.TheVariants.{Samples}
+use Rattle.shape_track.specs.declared.fault.SampleFault.{SampleFault}
+use Rattle.shape_track.specs.declared.fault.SampleFault.TheVariants.{Limit as AboveLimit, NoMemory}
+use Rattle.shape_track.specs.Samples.{samples_of}
+
+-- the points of a hop: its station, the samples from its place to the next station's, and that station
+abbrev pub hop_points : List Point → Point → ℕ → Point → ℕ → List Point
+hop_points samples from i to j = from ∷ (slice_range samples i (j + 1) ++ to ∷ [])
+
+-- the hops from each station to the next, each as the samples of its points
+abbrev pub hops_of : ℕ → List Point → List Point → List ℕ → List (List Point)
+hops_of near samples [] is = []
+hops_of near samples (s ∷ []) is = []
+hops_of near samples (s ∷ t ∷ ss) [] = []
+hops_of near samples (s ∷ t ∷ ss) (i ∷ []) = []
+hops_of near samples (s ∷ t ∷ ss) (i ∷ j ∷ is) = samples_of near (hop_points samples s i t j) ∷ hops_of near samples (t ∷ ss) (j ∷ is)
+
+-- how many samples the hops have in all
+abbrev pub total_of : List (List Point) → ℕ
+total_of hops = sum_by length hops
+
+-- the fault has its cause: a limit only where there are more samples than the greatest allowed number
+abbrev pub HasCause : ℕ → ℕ → SampleFault → Type 0
+HasCause most count (AboveLimit limit) = (limit ≡ record { what = Samples; found = min (most + 1) (2 ^ 64 - 1); most = most }) × (most < count)
+HasCause most count NoMemory = Unit {0}

@@ -1,0 +1,9 @@
+//! From the course of a pattern to its track: samples along the course, the snap of the stations on them, and
+//! the hops from each station to the next.
+#![tactic(auto)]
+
+mod fault;
+mod piece;
+mod sampler;
+
+pub use fault::SampleFault;
