@@ -1,9 +1,5 @@
-use Rattle.std.specs.Prelude.{◌≡◌, ℕ, ◌+◌, ◌-◌, ◌*◌, ◌^◌, ◌<◌, ◌≤◌, min, List, [], ◌∷◌, ◌++◌, map, length, slice_range, sum_by}
+use Rattle.std.specs.Prelude.{ℕ, ◌+◌, List, [], ◌∷◌, ◌++◌, length, slice_range, sum_by}
 use Rattle.map_base.specs.declared.point.Point.{Point}
-use Rattle.map_base.specs.declared.limit.Limit.{Limit}
-use Rattle.map_base.specs.declared.limit.LimitKind.TheVariants.{Samples}
-use Rattle.shape_track.specs.declared.fault.SampleFault.{SampleFault}
-use Rattle.shape_track.specs.declared.fault.SampleFault.TheVariants.{Limit as AboveLimit, NoMemory}
 use Rattle.shape_track.specs.Samples.{samples_of}
 
 -- the points of a hop: its station, the samples from its place to the next station's, and that station
@@ -21,8 +17,3 @@ hops_of near samples (s ∷ t ∷ ss) (i ∷ j ∷ is) = samples_of near (hop_po
 -- how many samples the hops have in all
 abbrev pub total_of : List (List Point) → ℕ
 total_of hops = sum_by length hops
-
--- the fault has its cause: a limit only where there are more samples than the greatest allowed number
-abbrev pub HasCause : ℕ → ℕ → SampleFault → Type 0
-HasCause most count (AboveLimit limit) = (limit ≡ record { what = Samples; found = min (most + 1) (2 ^ 64 - 1); most = most }) × (most < count)
-HasCause most count NoMemory = Unit {0}

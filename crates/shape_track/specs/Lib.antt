@@ -1,3 +1,5 @@
+pub mod Faults
 pub mod Samples
+pub mod Sampling
 pub mod Snaps
 pub mod Hops

@@ -29,11 +29,15 @@ part_point a b n i = record {
 abbrev pub part_points : Point → Point → ℕ → List Point
 part_points a b n = map (part_point a b n) (range_with_len 0 n)
 
+-- the same for the least number of parts
+abbrev pub piece_points : ℕ → Point → Point → List Point
+piece_points near a b = part_points a b (parts_of near (dist2_of a b))
+
 -- the beginnings of the parts of each piece, and then the last point
 abbrev pub cut_points : ℕ → List Point → List Point
 cut_points near [] = []
 cut_points near (p ∷ []) = p ∷ []
-cut_points near (p ∷ q ∷ ps) = part_points p q (parts_of near (dist2_of p q)) ++ cut_points near (q ∷ ps)
+cut_points near (p ∷ q ∷ ps) = piece_points near p q ++ cut_points near (q ∷ ps)
 
 abbrev pub is_point : Point → Point → Bool
 is_point p q = int_eq p.x q.x && int_eq p.y q.y
