@@ -5,5 +5,7 @@
 mod fault;
 mod piece;
 mod sampler;
+mod samples;
 
 pub use fault::SampleFault;
+pub use samples::sample;
