@@ -2,4 +2,5 @@ pub mod Faults
 pub mod Samples
 pub mod Sampling
 pub mod Snaps
+pub mod Sweeps
 pub mod Hops

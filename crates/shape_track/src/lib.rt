@@ -6,6 +6,7 @@ mod fault;
 mod piece;
 mod sampler;
 mod samples;
+mod sweep;
 
 pub use fault::SampleFault;
 pub use samples::sample;
