@@ -3,4 +3,5 @@ pub mod Samples
 pub mod Sampling
 pub mod Snaps
 pub mod Sweeps
+pub mod Rows
 pub mod Hops

@@ -6,7 +6,9 @@ mod fault;
 mod piece;
 mod sampler;
 mod samples;
+mod snapping;
 mod sweep;
 
 pub use fault::SampleFault;
 pub use samples::sample;
+pub use snapping::snap;
