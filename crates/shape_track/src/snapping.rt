@@ -37,7 +37,7 @@ fn rows_of(alloc: Global, samples: &[Point], stations: &[Point]) -> Result<Vec<V
     requires some { 0 < length samples.now }
     requires samples_in_plane { All IsInPlane samples.now }
     requires stations_in_plane { All IsInPlane stations.now }
-    ensures count { IfOk result (λ rows. vec_len rows ≡ length stations.now) }
+    ensures count { IfOk result (λ rows. length rows.items ≡ length stations.now) }
     ensures rows { IfOk result (λ rows. AreRows samples.now stations.now rows.items) }
 {
     let mut rows = Vec::new(alloc);

@@ -1,6 +1,6 @@
 //! Least costs of placing stations, from the last station to the first.
 
-ghost use Rattle.std.specs.Prelude.{◌≡◌, ℕ, ◌+◌, ◌-◌, ◌*◌, ◌^◌, ◌<◌, ◌≤◌, min, IfOk, length, All, vec_len, nat_le, true};
+ghost use Rattle.std.specs.Prelude.{◌≡◌, ℕ, ◌+◌, ◌-◌, ◌*◌, ◌^◌, ◌<◌, ◌≤◌, min, IfOk, length, All, nat_le, true};
 ghost use Rattle.fixed_plane.specs.Plane.{IsInPlane};
 ghost use Rattle.std.specs.Option.{option_map_or};
 ghost use Rattle.fixed_plane.specs.Measures.{dist2_of};
@@ -25,7 +25,7 @@ pub(crate) fn swept(
     requires station_in_plane { IsInPlane station }
     requires count { length costs.old ≡ length samples.now }
     requires bounded { AreBounded later costs.old }
-    ensures count { IfOk result (λ row. vec_len row ≡ length samples.now) }
+    ensures count { IfOk result (λ row. length row.items ≡ length samples.now) }
     ensures bounded { IfOk result (λ _. AreBounded (later + 1) costs.new) }
     ensures swept { IfOk result (λ row. IsSweptDown samples.now station costs.old costs.new row.items 0) }
 {
