@@ -1,6 +1,6 @@
-use Rattle.std.specs.Prelude.{ℕ, ◌+◌, List, [], ◌∷◌, ◌++◌, length, slice_range, sum_by}
+use Rattle.std.specs.Prelude.{◌≡◌, ℕ, ◌+◌, ◌≤◌, List, [], ◌∷◌, ◌++◌, Some, length, slice_range, sum_by}
 use Rattle.map_base.specs.declared.point.Point.{Point}
-use Rattle.shape_track.specs.Samples.{samples_of}
+use Rattle.shape_track.specs.Samples.{samples_of, Joins}
 
 -- the points of a hop: its station, the samples from its place to the next station's, and that station
 abbrev pub hop_points : List Point → Point → ℕ → Point → ℕ → List Point
@@ -17,3 +17,13 @@ hops_of near samples (s ∷ t ∷ ss) (i ∷ j ∷ is) = samples_of near (hop_po
 -- how many samples the hops have in all
 abbrev pub total_of : List (List Point) → ℕ
 total_of hops = sum_by length hops
+
+-- there is a hop from each station to the next, which begins and ends with the two, and in which each sample
+-- is at most `near` from the next
+abbrev pub AreJoined : ℕ → List Point → List (List Point) → Type 0
+AreJoined near [] [] = Unit {0}
+AreJoined near [] (hop ∷ hops) = ⊥
+AreJoined near (s ∷ []) [] = Unit {0}
+AreJoined near (s ∷ []) (hop ∷ hops) = ⊥
+AreJoined near (s ∷ t ∷ ss) [] = ⊥
+AreJoined near (s ∷ t ∷ ss) (hop ∷ hops) = Joins near (Some s) (Some t) hop × AreJoined near (t ∷ ss) hops

@@ -8,7 +8,9 @@ mod sampler;
 mod samples;
 mod snapping;
 mod sweep;
+mod tracking;
 
 pub use fault::SampleFault;
 pub use samples::sample;
 pub use snapping::snap;
+pub use tracking::track;
