@@ -1,0 +1,37 @@
+use Rattle.std.specs.Prelude.{◌≡◌, ℕ, ◌+◌, ◌<◌, ◌≤◌, Bool, if◌then◌else◌, nat_lt, ◌==◌, IsTrue, ◌||◌, ◌&&◌, true, false, ℤ, pos, List, [], ◌∷◌, length, slice_index_or}
+use Rattle.map_base.specs.declared.point.Point.{Point}
+use Rattle.fixed_plane.specs.Measures.{dist2_of}
+
+-- the sample at a place
+abbrev pub sample_at : List Point → ℕ → Point
+sample_at samples place = slice_index_or samples place (record { x = pos 0; y = pos 0 })
+
+-- the places are one per station, in range, and none is below the one before it, nor the first below a floor
+abbrev pub ArePlacesFrom : ℕ → ℕ → List Point → List ℕ → Type 0
+ArePlacesFrom floor n [] [] = Unit {0}
+ArePlacesFrom floor n [] (i ∷ is) = ⊥
+ArePlacesFrom floor n (s ∷ ss) [] = ⊥
+ArePlacesFrom floor n (s ∷ ss) (i ∷ is) = (floor ≤ i) × (i < n) × ArePlacesFrom i n ss is
+
+-- the sum of the squares of the distances from each station to the sample at its place
+abbrev pub cost_of : List Point → List Point → List ℕ → ℕ
+cost_of samples [] is = 0
+cost_of samples (s ∷ ss) [] = 0
+cost_of samples (s ∷ ss) (i ∷ is) = dist2_of s (sample_at samples i) + cost_of samples ss is
+
+-- of two lists the first is not after the second in the order of dictionaries
+abbrev pub is_not_after : List ℕ → List ℕ → Bool
+is_not_after [] js = true
+is_not_after (i ∷ is) [] = false
+is_not_after (i ∷ is) (j ∷ js) = nat_lt i j || ((i == j) && is_not_after is js)
+
+-- the snap of stations on samples, from a floor on: non-falling places whose cost no such list undercuts,
+-- and of those of that cost the first
+pub record IsSnapFrom (floor : ℕ) (samples stations : List Point) (places : List ℕ) : Type 0 where
+  pub placed : ArePlacesFrom floor (length samples) stations places
+  pub least : (others : List ℕ) → ArePlacesFrom floor (length samples) stations others → cost_of samples stations places ≤ cost_of samples stations others
+  pub first : (others : List ℕ) → ArePlacesFrom floor (length samples) stations others → cost_of samples stations others ≡ cost_of samples stations places → IsTrue (is_not_after places others)
+
+-- the snap
+abbrev pub IsSnap : List Point → List Point → List ℕ → Type 0
+IsSnap samples stations places = IsSnapFrom 0 samples stations places

@@ -1,0 +1,16 @@
+//! From the course of a pattern to its track: samples along the course, the snap of the stations on them, and
+//! the hops from each station to the next.
+#![tactic(auto)]
+
+mod fault;
+mod piece;
+mod sampler;
+mod samples;
+mod snapping;
+mod sweep;
+mod tracking;
+
+pub use fault::SampleFault;
+pub use samples::sample;
+pub use snapping::snap;
+pub use tracking::track;

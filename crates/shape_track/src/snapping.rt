@@ -1,0 +1,64 @@
+//! The snap of stations on samples.
+
+ghost use Rattle.std.specs.Prelude.{◌≡◌, ℕ, ◌+◌, ◌-◌, ◌^◌, ◌<◌, ◌≤◌, IfOk, length, vec_len, All, true, slice_get, slice_index, drop};
+ghost use Rattle.fixed_plane.specs.Plane.{IsInPlane};
+ghost use Rattle.shape_track.specs.Snaps.{IsSnap};
+ghost use Rattle.shape_track.specs.Sweeps.{LeadsTo, taken_at};
+ghost use Rattle.shape_track.specs.Rows.{AreRows};
+
+use crate::sweep::swept;
+use map_base::{NoMemory, Point};
+use std::alloc::Global;
+
+/// The snap of stations on samples: for each station the place of a sample, none before that of the station
+/// before it, so that no other such places have a lesser sum of the squared distances from each station to
+/// its sample; and of those with that sum the first in the order of dictionaries.
+///
+/// It takes time, and at most a byte, for each station and sample.
+pub fn snap(alloc: Global, samples: &[Point], stations: &[Point]) -> Result<Vec<u32>, NoMemory>
+    requires some { 0 < length samples.now }
+    requires short { length samples.now < 2 ^ 32 }
+    requires samples_in_plane { All IsInPlane samples.now }
+    requires stations_in_plane { All IsInPlane stations.now }
+    ensures { IfOk result (λ places. IsSnap samples.now stations.now places.items) }
+{
+    let rows = rows_of(alloc, samples, stations)?;
+    let mut places = Vec::new(alloc);
+    let mut floor = 0;
+    for index in 0..stations.len() {
+        floor = first_taken(&rows[stations.len() - 1 - index], floor);
+        places.push(floor as u32)?;
+    }
+    Ok(places)
+}
+
+/// For each station, from the last one to the first, the row that says at which places it is best placed.
+fn rows_of(alloc: Global, samples: &[Point], stations: &[Point]) -> Result<Vec<Vec<bool>>, NoMemory>
+    requires some { 0 < length samples.now }
+    requires samples_in_plane { All IsInPlane samples.now }
+    requires stations_in_plane { All IsInPlane stations.now }
+    ensures count { IfOk result (λ rows. length rows.items ≡ length stations.now) }
+    ensures rows { IfOk result (λ rows. AreRows samples.now stations.now rows.items) }
+{
+    let mut rows = Vec::new(alloc);
+    let mut costs = vec![in alloc; 0u128; samples.len()]?;
+    for later in 0..stations.len() {
+        let station = stations[stations.len() - 1 - later];
+        rows.push(swept(alloc, samples, station, later, &mut costs)?)?;
+    }
+    Ok(rows)
+}
+
+/// The first place from a floor on that a row takes.
+fn first_taken(row: &[bool], floor: usize) -> usize
+    requires floor { floor < length row.now }
+    requires last { taken_at row.now (length row.now - 1) ≡ true }
+    ensures place { result < length row.now }
+    ensures leads { LeadsTo row.now floor result }
+{
+    let mut place = floor;
+    while !row[place] {
+        place += 1;
+    }
+    place
+}

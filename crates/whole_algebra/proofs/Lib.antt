@@ -1,0 +1,5 @@
+pub mod Products
+pub mod Identities
+pub mod Signs
+pub mod Rounding
+pub mod Crossings
