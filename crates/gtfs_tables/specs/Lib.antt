@@ -1,0 +1,9 @@
+pub mod Ids
+pub mod Values
+pub mod Cells
+pub mod Reasons
+pub mod Outcome
+pub mod Stops
+pub mod Parents
+pub mod Folder
+pub mod NotRead
