@@ -5,3 +5,4 @@ pub mod RowLemmas
 pub mod StopLemmas
 pub mod FolderLemmas
 mod StopExamples
+pub mod PlacedLemmas

@@ -7,3 +7,4 @@ pub mod Stops
 pub mod Parents
 pub mod Folder
 pub mod NotRead
+pub mod Placed

@@ -1,10 +1,11 @@
 //! The stations of `stops.txt`.
 
-ghost use Rattle.std.specs.Prelude.{◌≡◌, ◌≤◌, ◌<◌, ◌++◌, None, ℕ, true, length, pos, unwrap_or, option_to_list, option_map, IfOk, OnOk, IfSome, List, Option};
+ghost use Rattle.std.specs.Prelude.{◌≡◌, ◌≤◌, ◌<◌, ◌++◌, None, ℕ, true, length, pos, unwrap_or, option_to_list, option_map, IfOk, OnOk, IfSome, List, Option, All};
 ghost use Rattle.gtfs_tables.specs.declared.why.Table.TheVariants as tables;
 ghost use Rattle.gtfs_tables.specs.Folder.{table_file};
 ghost use Rattle.gtfs_tables.specs.Cells.{row_at, field_in, is_text};
 ghost use Rattle.gtfs_tables.specs.Reasons.{first_bad};
+ghost use Rattle.gtfs_tables.specs.Placed.{IsPlaced};
 ghost use Rattle.gtfs_tables.specs.Outcome.{Answers, never, rose_at};
 ghost use Rattle.gtfs_tables.specs.Stops.{stop_columns, type_in, is_own_station, station_of, stations_of, stops_reason, stops_of, stops_of_file, stops_outcome};
 
@@ -83,7 +84,8 @@ fn stations_of(alloc: Global, rows: &Rows, columns: &StopColumns) -> Result<Vec<
 
 /// The stations of a table, or its first bad row.
 pub(crate) fn stations_in(alloc: Global, rows: &Rows) -> Result<Vec<Station>, FeedFault>
-    ensures { Answers never (λ stations. stations.items) result (stops_of rows.now) }
+    ensures stations { Answers never (λ stations. stations.items) result (stops_of rows.now) }
+    ensures placed { IfOk result (λ stations. All IsPlaced stations.items) }
 {
     if rows.len() == 0 {
         return Err(bad_row(Table::Stops, 0, Why::MissingColumn));
@@ -95,7 +97,8 @@ pub(crate) fn stations_in(alloc: Global, rows: &Rows) -> Result<Vec<Station>, Fe
 
 /// The stations of the bytes of `stops.txt`, if it is there, or its first bad row.
 fn stations_of_file(alloc: Global, bytes: Option<Vec<u8>>) -> Result<Vec<Station>, FeedFault>
-    ensures { Answers never (λ stations. stations.items) result (stops_of_file (option_map (λ v. v.items) bytes)) }
+    ensures stations { Answers never (λ stations. stations.items) result (stops_of_file (option_map (λ v. v.items) bytes)) }
+    ensures placed { IfOk result (λ stations. All IsPlaced stations.items) }
 {
     let rows = required_rows(alloc, Table::Stops, bytes)?;
     stations_in(alloc, &rows)
@@ -114,6 +117,7 @@ pub fn read_stations<F: Files>(
 ) -> Result<Vec<Station>, FeedFault>
     ensures told { IfSome (F.told files.old) (λ all. Answers (rose_at tables.Stops (F.faults files.old) (F.faults files.new)) (λ stations. stations.items) result (stops_outcome (table_file all folder.now tables.Stops))) }
     ensures untold { (file : Option (List ℕ)) × Answers (rose_at tables.Stops (F.faults files.old) (F.faults files.new)) (λ stations. stations.items) result (stops_outcome file) }
+    ensures placed { IfOk result (λ stations. All IsPlaced stations.items) }
     ensures kept { F.told files.new ≡ F.told files.old }
     ensures later { F.faults files.old ≤ F.faults files.new }
 {

@@ -1,0 +1,22 @@
+-- What the words of the command line ask for.
+use Rattle.std.specs.Prelude.{ℕ, List, [], ◌∷◌, codes, if◌then◌else◌}
+use Rattle.std.specs.Str.{bytes_eq}
+use Rattle.map_cli.specs.declared.words.Request.{Request}
+use Rattle.map_cli.specs.declared.words.Request.TheVariants as request
+
+-- a command with what it works on; `unread` where the words are no command
+pub data Asked : Type 0 where
+  stations : List ℕ → Asked
+  unread : Asked
+
+-- `stations FEED` is the one command
+abbrev pub asked : List (List ℕ) → Asked
+asked [] = unread
+asked (command ∷ []) = unread
+asked (command ∷ feed ∷ []) = if bytes_eq command (codes "stations") then stations feed else unread
+asked (command ∷ feed ∷ more ∷ rest) = unread
+
+-- what a request of the program stands for
+abbrev pub asked_by : Request → Asked
+asked_by (request.Stations feed) = stations feed.now
+asked_by request.Unread = unread

@@ -1,0 +1,78 @@
+//! Real files, to be read.
+
+ghost use Rattle.std.specs.Prelude.{◌≡◌, None};
+
+use crate::failures::stop_of;
+use files_door::{Files, Stop};
+use std::fs::File;
+use std::io::{ErrorKind, Read};
+use std::{io, rt};
+
+/// The files of the disk. Nothing is told of what they hold. The count rises at each error of the system
+/// that is answered as a failure.
+#[derive(Drop)]
+pub struct DiskFiles<R: rt::Files> {
+    rt: R,
+    begun: Option<R::File>,
+    failures: u64,
+}
+
+impl<R: rt::Files> DiskFiles<R> {
+    /// The files that `rt` reaches; none is begun, and the count is 0.
+    pub fn new(rt: R) -> DiskFiles<R>
+        ensures none_begun { result.begun ≡ None }
+        ensures count { result.failures ≡ 0 }
+    {
+        DiskFiles {
+            rt,
+            begun: None,
+            failures: 0,
+        }
+    }
+}
+
+impl<R: rt::Files> Files for DiskFiles<R> {
+    ghost use Rattle.std.specs.Prelude.{None, Some, [], if◌then◌else◌, is_none};
+
+    ghost told = { λ files. None };
+
+    ghost rest = { λ files. if is_none files.begun then Some [] else None };
+
+    ghost faults = { λ files. files.failures };
+
+    fn begin(&mut self, path: &str) -> Result<bool, Stop> {
+        self.begun = None;
+        match File::open(&self.rt, path) {
+            Ok(file) => {
+                self.begun = Some(file);
+                Ok(true)
+            }
+            Err(error) => {
+                if is_absent(&error) {
+                    Ok(false)
+                } else {
+                    Err(stop_of(&mut self.failures, &error))
+                }
+            }
+        }
+    }
+
+    fn read(&mut self, into: &mut [u8]) -> Result<usize, Stop> {
+        let Some(file) = &mut self.begun else {
+            return Ok(0);
+        };
+        match file.read(into) {
+            Ok(count) => Ok(count),
+            Err(error) => {
+                self.begun = None;
+                Err(stop_of(&mut self.failures, &error))
+            }
+        }
+    }
+}
+
+/// Whether an error says that there is no such file.
+fn is_absent(error: &io::Error) -> bool {
+    let kind = error.kind();
+    kind == ErrorKind::NotFound || kind == ErrorKind::NotADirectory
+}

@@ -1,0 +1,67 @@
+//! The program octimap: it reads an unpacked GTFS Schedule feed and prints what a command asks for. `run`
+//! does all that the program does, over any files and sinks; `main` hands it the disk and standard output.
+#![tactic(auto)]
+
+ghost use Rattle.std.specs.Prelude.{◌≡◌, ◌<◌};
+
+mod answer;
+mod deliver;
+mod disk_files;
+mod disk_sinks;
+mod failures;
+mod help;
+mod line;
+mod run;
+mod stations;
+mod stations_command;
+mod status;
+#[cfg(test)]
+mod tests;
+mod words;
+
+use crate::disk_files::DiskFiles;
+use crate::disk_sinks::DiskSinks;
+use crate::status::Status;
+use map_base::Steps;
+use std::marker::Brand;
+use std::process::ExitCode;
+use std::sync::ledger::{Blank, Ledger};
+use std::{env, io};
+
+fn main(rt: HostRuntime) -> ExitCode {
+    let status = match words_of(&rt) {
+        Ok(words) => run_counted::<Brand>(&rt, &words, Blank::new(1)),
+        Err(error) => unread_words(&rt, &error),
+    };
+    ExitCode::from(status.number())
+}
+
+/// The words after the program's name.
+fn words_of(rt: &HostRuntime) -> io::Result<Vec<String>> {
+    let mut words = Vec::new(rt.alloc());
+    for word in env::args(rt)?.skip(1) {
+        words.push(word)?;
+    }
+    Ok(words)
+}
+
+/// Runs over the disk and standard output, with a counter of steps at 0.
+fn run_counted<L: Ledger>(rt: &HostRuntime, words: &[String], blank: Blank) -> Status
+    requires name { blank.name ≡ L.name }
+    requires parts { blank.parts ≡ L.parts }
+    requires some_part { 0 < blank.parts }
+{
+    let mut files = DiskFiles::new(rt);
+    let mut sinks = DiskSinks::new(rt, rt.alloc());
+    let mut steps = Steps::<L>::open(blank);
+    run::run(rt.alloc(), words, &mut files, &mut sinks, &mut steps)
+}
+
+/// The words are no text, or there is no memory for them.
+fn unread_words(rt: &HostRuntime, error: &io::Error) -> Status {
+    if error.kind() == io::ErrorKind::OutOfMemory {
+        return Status::NoMemory;
+    }
+    let _not_shown = println!(rt; "octimap: a word of the command line is not UTF-8");
+    Status::Usage
+}

@@ -1,0 +1,61 @@
+//! All that the program does, over any files and sinks.
+
+ghost use Rattle.std.specs.Prelude.{◌≡◌, ◌⊎◌, map, string_bytes, IfOk};
+ghost use Rattle.files_door.specs.Fault.{Rose};
+ghost use Rattle.map_cli.specs.Words.{asked, unread};
+ghost use Rattle.map_cli.specs.Outcome.{alone};
+ghost use Rattle.map_cli.specs.Ending.{Ends, HasCause, IsAnswerTo};
+
+use crate::answer::Answer;
+use crate::deliver::{deliver, out_of_memory};
+use crate::stations_command::answer_stations;
+use crate::status::Status;
+use crate::words::{Request, request_of};
+use files_door::{Files, Sinks};
+use map_base::{NoMemory, Sequence, Steps};
+use std::alloc::Global;
+use std::sync::ledger::Ledger;
+
+/// Does what the words after the program's name ask for, and answers how that ended.
+///
+/// The outcome is a function of the words and of the files that they name: a status, and the bytes of each
+/// target. Where no count of faults rises and memory is there, the run ends with exactly that. Where reading
+/// fails, the line of standard output names the path. Where writing fails, each target holds a beginning of
+/// its bytes.
+pub fn run<F: Files, S: Sinks, L: Ledger>(
+    alloc: Global,
+    words: &[String],
+    files: &mut F,
+    sinks: &mut S,
+    _steps: &mut Steps<L>,
+) -> Status
+    // The run ends as its outcome says, by the files or, where they are not told, by some files.
+    ensures ends { Ends (asked (map string_bytes words.now)) (F.told files.old) (Rose (F.faults files.old) (F.faults files.new)) (Rose (S.faults sinks.old) (S.faults sinks.new)) (S.written sinks.old) (S.written sinks.new) result }
+
+    // Each status has its cause.
+    ensures cause { HasCause (asked (map string_bytes words.now)) (Rose (F.faults files.old) (F.faults files.new)) (Rose (S.faults sinks.old) (S.faults sinks.new)) result }
+    ensures usage { asked (map string_bytes words.now) ≡ unread → (result ≡ Status.Usage) ⊎ (result ≡ Status.NoMemory) }
+
+    // No step is taken.
+    ensures steps { _steps.new ≡ _steps.old }
+{
+    match answer_of(alloc, words, files) {
+        Ok(answer) => deliver(alloc, answer, words, sinks),
+        Err(NoMemory) => out_of_memory(sinks),
+    }
+}
+
+/// What the words ask for, worked out over the files.
+fn answer_of<F: Files>(alloc: Global, words: &[String], files: &mut F) -> Result<Answer, NoMemory>
+    ensures answer { IfOk result (IsAnswerTo (asked (map string_bytes words.now)) (F.told files.old) (Rose (F.faults files.old) (F.faults files.new))) }
+    ensures cause { IfOk result (λ answer. HasCause (asked (map string_bytes words.now)) (Rose (F.faults files.old) (F.faults files.new)) ⊥ answer.status) }
+    ensures usage { asked (map string_bytes words.now) ≡ unread → IfOk result (λ answer. answer ≡ alone Status.Usage) }
+{
+    match request_of(words) {
+        Request::Stations(feed) => answer_stations(alloc, feed, files),
+        Request::Unread => Ok(Answer {
+            status: Status::Usage,
+            outputs: Sequence::of(Vec::new(alloc)),
+        }),
+    }
+}

@@ -1,0 +1,192 @@
+//! Whole runs over files and sinks in memory, and over the disk.
+
+ghost use Rattle.std.specs.Prelude.{◌≡◌, ◌<◌};
+
+use crate::disk_files::DiskFiles;
+use crate::disk_sinks::DiskSinks;
+use crate::run::run;
+use files_door::{
+    Files, MemoryFiles, MemorySinks, Sinks, SteadyFiles, SteadySinks, Target, read_all, write_all,
+};
+use map_base::{NoMemory, Steps, Text};
+use std::alloc::{AllocError, Global};
+use std::fs;
+use std::marker::Brand;
+use std::sync::ledger::{Blank, Ledger};
+use std::test::Fail;
+
+/// The number that a run ends with.
+fn run_counted<F: Files, S: Sinks, L: Ledger>(
+    alloc: Global,
+    words: &[String],
+    files: &mut F,
+    sinks: &mut S,
+    blank: Blank,
+) -> u8
+    requires name { blank.name ≡ L.name }
+    requires parts { blank.parts ≡ L.parts }
+    requires some_part { 0 < blank.parts }
+{
+    let mut steps = Steps::<L>::open(blank);
+    run(alloc, words, files, sinks, &mut steps).number()
+}
+
+fn run_on<F: Files, S: Sinks>(alloc: Global, words: &[String], files: &mut F, sinks: &mut S) -> u8 {
+    run_counted::<F, S, Brand>(alloc, words, files, sinks, Blank::new(1))
+}
+
+fn words_of(alloc: Global, line: &str) -> Result<Vec<String>, AllocError> {
+    let mut words = Vec::new(alloc);
+    for word in line.split(' ') {
+        words.push(String::from_str(alloc, word)?)?;
+    }
+    Ok(words)
+}
+
+/// The folder `feed` with this `stops.txt`, if any.
+fn feed_with(alloc: Global, stops: Option<&str>) -> Result<Vec<(Text, Vec<u8>)>, NoMemory> {
+    let mut files = Vec::new(alloc);
+    if let Some(stops) = stops {
+        let path = Text::of(alloc, "feed/stops.txt")?;
+        files.push((path, stops.as_bytes().to_vec(alloc)?))?;
+    }
+    Ok(files)
+}
+
+/// The station X at 0.0001 degrees south.
+const ONE_STATION: &str = "stop_id,stop_name,stop_lat,stop_lon\nX,X,-0.0001,0\n";
+
+#[test]
+fn stations_are_printed_or_the_first_bad_row(rt: HostRuntime) -> Result<(), Fail> {
+    let alloc = rt.alloc();
+    let cases = [
+        (Some(ONE_STATION), 0, "0 -112 X\n"),
+        (
+            Some("stop_id,stop_name,stop_lat,stop_lon\nX,X,9e,0\n"),
+            3,
+            "bad row: stops.txt 2 bad latitude\n",
+        ),
+        (None, 3, "bad row: stops.txt 0 missing file\n"),
+        (Some("stop_id,stop_lat,stop_lon\n"), 0, ""),
+        (
+            Some("stop_id,stop_lat,stop_lon\nA\u{1}B,60,0.0001\nC,0,-0.0001\n"),
+            0,
+            "55 66792000 A\u{FFFD}B\n-56 0 C\n",
+        ),
+    ];
+    for (stops, status, said) in cases {
+        let words = words_of(alloc, "stations feed")?;
+        let mut files = SteadyFiles::with(feed_with(alloc, stops)?);
+        let mut sinks = SteadySinks::none(alloc);
+        assert_eq!(rt; run_on(alloc, &words, &mut files, &mut sinks), status);
+        let held = sinks.written(&Target::Said).unwrap_or(b"");
+        assert_eq!(rt; held, said.as_bytes());
+    }
+    Ok(())
+}
+
+#[test]
+fn a_fault_of_reading_names_the_path(rt: HostRuntime) -> Result<(), Fail> {
+    let alloc = rt.alloc();
+    let words = words_of(alloc, "stations feed")?;
+    // The calls are: begin, a read that gives the file, and a read that gives its end.
+    for (failing, status, said) in [
+        (1, 7, "read fault: feed/stops.txt\n"),
+        (2, 7, "read fault: feed/stops.txt\n"),
+        (4, 0, "0 -112 X\n"),
+    ] {
+        let listed = vec![in alloc; failing]?;
+        let mut files = MemoryFiles::with(feed_with(alloc, Some(ONE_STATION))?, listed);
+        let mut sinks = SteadySinks::none(alloc);
+        assert_eq!(rt; run_on(alloc, &words, &mut files, &mut sinks), status);
+        let held = sinks.written(&Target::Said).unwrap_or(b"");
+        assert_eq!(rt; held, said.as_bytes());
+    }
+    Ok(())
+}
+
+#[test]
+fn a_fault_of_writing_leaves_a_beginning(rt: HostRuntime) -> Result<(), Fail> {
+    let alloc = rt.alloc();
+    let words = words_of(alloc, "stations feed")?;
+    for (room, status, said) in [
+        (0, 8, ""),
+        (4, 8, "0 -1"),
+        (8, 8, "0 -112 X"),
+        (9, 0, "0 -112 X\n"),
+    ] {
+        let mut files = SteadyFiles::with(feed_with(alloc, Some(ONE_STATION))?);
+        let mut sinks = MemorySinks::with_room(alloc, room);
+        assert_eq!(rt; run_on(alloc, &words, &mut files, &mut sinks), status);
+        let held = sinks.written(&Target::Said).unwrap_or(b"");
+        assert_eq!(rt; held, said.as_bytes());
+    }
+    // The line of another status may be cut short, and the status stays.
+    let mut files = SteadyFiles::with(feed_with(alloc, None)?);
+    let mut sinks = MemorySinks::with_room(alloc, 7);
+    assert_eq!(rt; run_on(alloc, &words, &mut files, &mut sinks), 3);
+    let held = sinks.written(&Target::Said).unwrap_or(b"");
+    assert_eq!(rt; held, b"bad row".as_slice());
+    Ok(())
+}
+
+#[test]
+fn words_that_are_not_read_get_the_help(rt: HostRuntime) -> Result<(), Fail> {
+    let alloc = rt.alloc();
+    for (line, complaint) in [
+        ("help", "octimap draws"),
+        ("--help", "octimap draws"),
+        ("stations --help", "octimap draws"),
+        (
+            "station feed",
+            "octimap: there is no command \"station\"\n\noctimap draws",
+        ),
+        (
+            "stations",
+            "octimap: stations needs the folder FEED\n\noctimap draws",
+        ),
+        (
+            "stations feed more",
+            "octimap: stations takes one folder FEED and nothing more\n\noctimap draws",
+        ),
+    ] {
+        let words = words_of(alloc, line)?;
+        let mut files = SteadyFiles::with(feed_with(alloc, None)?);
+        let mut sinks = SteadySinks::none(alloc);
+        assert_eq!(rt; run_on(alloc, &words, &mut files, &mut sinks), 2);
+        let held = sinks.written(&Target::Said).unwrap_or(b"");
+        assert!(rt; held.starts_with(complaint.as_bytes()), "{line}");
+        assert!(rt; held.ends_with(b"9  no memory\n"), "{line}");
+    }
+    Ok(())
+}
+
+#[test]
+fn files_of_the_disk_are_read(rt: HostRuntime) -> Result<(), Fail> {
+    let alloc = rt.alloc();
+    fs::write(&rt, "octimap-test-stops.txt", "stop_id\r\n")?;
+    let mut files = DiskFiles::new(&rt);
+    let bytes = read_all(alloc, &mut files, "octimap-test-stops.txt", 100);
+    fs::remove_file(&rt, "octimap-test-stops.txt")?;
+    assert_eq!(rt; bytes?.as_slice(), b"stop_id\r\n".as_slice());
+    let absent = read_all(alloc, &mut files, "octimap-test-stops.txt/stops.txt", 100);
+    assert!(rt; absent.is_err());
+    Ok(())
+}
+
+#[test]
+fn files_of_the_disk_are_written(rt: HostRuntime) -> Result<(), Fail> {
+    let alloc = rt.alloc();
+    let target = Target::Path(Text::of(alloc, "octimap-test-map.svg")?);
+    let mut sinks = DiskSinks::new(&rt, alloc);
+    for text in ["<svg>longer</svg>\n", "<svg/>\n"] {
+        if sinks.begin(&target).is_err() {
+            return Err(Fail::from("the file is not begun"));
+        }
+        write_all(&mut sinks, text.as_bytes())?;
+    }
+    let held = fs::read(&rt, "octimap-test-map.svg");
+    fs::remove_file(&rt, "octimap-test-map.svg")?;
+    assert_eq!(rt; held?.as_slice(), b"<svg/>\n".as_slice());
+    Ok(())
+}

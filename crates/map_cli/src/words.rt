@@ -1,0 +1,29 @@
+//! The words of the command line.
+
+ghost use Rattle.std.specs.Prelude.{◌≡◌, map, string_bytes};
+ghost use Rattle.map_cli.specs.Words.{asked, asked_by};
+
+/// What the words ask for.
+#[derive(Clone, Copy, Debug)]
+pub enum Request<'a> {
+    /// The stations of the feed in this folder.
+    Stations(&'a str),
+    /// The words are no command.
+    Unread,
+}
+
+/// Reads the words after the program's name.
+pub fn request_of(words: &[String]) -> Request<'_>
+    ensures { asked_by result ≡ asked (map string_bytes words.now) }
+{
+    match words {
+        [command, feed] => {
+            if command.as_str() == "stations" {
+                Request::Stations(feed.as_str())
+            } else {
+                Request::Unread
+            }
+        }
+        _ => Request::Unread,
+    }
+}
