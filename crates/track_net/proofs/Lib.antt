@@ -1,0 +1,4 @@
+pub mod Lists
+mod EdgeLemmas
+mod ThinLemmas
+mod Examples
