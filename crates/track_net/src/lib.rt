@@ -3,12 +3,14 @@
 //! of `net_of` says.
 #![tactic(auto)]
 
+mod building;
 mod edges;
 mod fault;
 mod nearness;
 mod net;
 mod thinning;
 
+pub use building::net_of;
 pub use fault::NetFault;
 pub use nearness::has_near_point;
 pub use net::Net;
