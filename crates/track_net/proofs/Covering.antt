@@ -1,11 +1,8 @@
 -- Each sample has a net point near by, and net points are different.
-use Rattle.std.proofs.Common.{◌≡◌, ◌≢◌, refl, sym, ◌∙◌, ap, subst, ℕ, zero, suc, ◌+◌, ◌*◌, ◌<◌, ◌≤◌, ◌⊎◌, inl, inr, Bool, true, false, cond, pos, List, [], ◌∷◌, ◌++◌, length, get_or, fold, arith, length-append}
-use Rattle.std.specs.List.{list_any}
-use Rattle.std.proofs.Math.Nat.{le_trans}
-use Rattle.std.proofs.lemmas.Bool.{both_ways, ltb-true, lt-ltb, cases_lt, cases_Bool}
+use Rattle.std.proofs.Common.{◌≡◌, refl, sym, ◌∙◌, ap, subst, ℕ, ◌*◌, ◌<◌, ◌≤◌, ◌⊎◌, inl, inr, Bool, true, false, cond, pos, List, [], ◌∷◌, ◌++◌, length, arith, length-append}
+use Rattle.std.proofs.lemmas.Bool.{both_ways, ltb-true, lt-ltb, cases_lt}
 use Rattle.std.proofs.lemmas.List.{get_or_append_left, get_or_push, get_or_default}
 use Rattle.std.proofs.lemmas.List.Folds.{list_any_at, Any-from_list_any}
-use Rattle.std.proofs.lemmas.List.Sums.{fold-append}
 use Rattle.map_base.specs.declared.point.Point.{Point}
 use Rattle.fixed_plane.specs.Measures.{dist2_of}
 use Rattle.track_net.specs.Nearness.{point_at, is_nearer, has_near}
@@ -38,9 +35,9 @@ IsCovered-later : (near : ℕ) (ps samples : List Point) (p : Point) → IsCover
 IsCovered-later near ps samples p c =
     let more = length-net_points near ps samples in
     record {
-        number = c.number;
-        in_range = omega (arith, c.in_range);
-        close = subst (λ (q : Point). dist2_of q p < near * near) (sym (point_at-net_points near ps samples c.number c.in_range)) c.close;
+      number = c.number;
+      in_range = omega (arith, c.in_range);
+      close = subst (λ (q : Point). dist2_of q p < near * near) (sym (point_at-net_points near ps samples c.number c.in_range)) c.close;
     }
 
 -- a sample that is looked at is covered
@@ -52,16 +49,16 @@ IsCovered-here near ps p some = of_test (has_near near ps p) refl
         let found = Any-from_list_any (λ q. is_nearer near q p) ps e in
         let here : point_at ps found.0 ≡ found.1 = get_or_default ps found.0 (record { x = pos 0; y = pos 0 }) found.1 found.2 ∙ found.3 in
         record {
-            number = found.0;
-            in_range = found.2;
-            close = subst (λ (q : Point). dist2_of q p < near * near) (sym here) (ltb-true (dist2_of found.1 p) (near * near) found.4);
+          number = found.0;
+          in_range = found.2;
+          close = subst (λ (q : Point). dist2_of q p < near * near) (sym here) (ltb-true (dist2_of found.1 p) (near * near) found.4);
         }
     of_test false e =
         let here : point_at (ps ++ p ∷ []) (length ps) ≡ p = get_or_push ps p (record { x = pos 0; y = pos 0 }) (length ps) refl in
         record {
-            number = length ps;
-            in_range = omega (arith, length-append ps (p ∷ []));
-            close = subst (λ (n : ℕ). n < near * near) (sym (ap (λ q. dist2_of q p) here ∙ dist2_of-self p)) some;
+          number = length ps;
+          in_range = omega (arith, length-append ps (p ∷ []));
+          close = subst (λ (n : ℕ). n < near * near) (sym (ap (λ q. dist2_of q p) here ∙ dist2_of-self p)) some;
         }
 
 -- each point of a list is covered
@@ -88,21 +85,26 @@ AreDistinct-with_sample near ps p some distinct = of_test (has_near near ps p) r
   where
     start : Point
     start = record { x = pos 0; y = pos 0 }
+
     of_test : (b : Bool) → has_near near ps p ≡ b → AreDistinct (cond b ps (ps ++ p ∷ []))
     of_test true e i j i_in j_in same = distinct i j i_in j_in same
     of_test false e i j i_in j_in same = of_orders (cases_lt i (length ps)) (cases_lt j (length ps))
       where
         old : (k : ℕ) → k < length ps → point_at (ps ++ p ∷ []) k ≡ point_at ps k
         old k below = get_or_append_left ps (p ∷ []) start k below
+
         last : (k : ℕ) → length ps ≤ k → k < length (ps ++ p ∷ []) → k ≡ length ps
         last k above below = omega (arith, length-append ps (p ∷ []))
+
         new : (k : ℕ) → length ps ≤ k → k < length (ps ++ p ∷ []) → point_at (ps ++ p ∷ []) k ≡ p
         new k above below = get_or_push ps p start k (sym (last k above below))
+
         not_there : (k : ℕ) → k < length ps → point_at ps k ≡ p → ⊥
         not_there k below here =
             both_ways (has_near near ps p) e
             (list_any_at (λ q. is_nearer near q p) ps k start below
             (lt-ltb (dist2_of (point_at ps k) p) (near * near) (subst (λ (n : ℕ). n < near * near) (sym (dist2_of-same (point_at ps k) p here)) some)))
+
         of_orders : (i < length ps) ⊎ (length ps ≤ i) → (j < length ps) ⊎ (length ps ≤ j) → i ≡ j
         of_orders (inl h) (inl k) = distinct i j h k (sym (old i h) ∙ same ∙ old j k)
         of_orders (inl h) (inr k) = absurd (not_there i h (sym (old i h) ∙ same ∙ new j k j_in))

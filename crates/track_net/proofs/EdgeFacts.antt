@@ -1,10 +1,10 @@
 -- What an edge of a net is.
-use Rattle.std.proofs.Common.{◌≡◌, ◌≢◌, refl, sym, ◌∙◌, ap, subst, ℕ, zero, suc, ◌+◌, ◌*◌, ◌<◌, ◌≤◌, ◌⊎◌, inl, inr, Bool, true, false, cond, ◌&&◌, nat_eq, nat_le, nat_lt, not, List, [], ◌∷◌, ◌++◌, length, get_or, filter, All, Contains, arith}
+use Rattle.std.proofs.Common.{◌≡◌, ◌≢◌, sym, ◌∙◌, ap, subst, ℕ, zero, suc, ◌+◌, ◌*◌, ◌<◌, ◌≤◌, ◌⊎◌, inl, inr, Bool, true, false, cond, ◌&&◌, nat_eq, not, List, [], ◌∷◌, length, get_or, filter, Contains, arith}
 use Rattle.std.specs.List.{list_any, range_with_len}
-use Rattle.std.proofs.lemmas.Bool.{false≢true, both_ways, and_parts, and_from, not-true, not_from_false, ltb-true, lt-ltb, leb-false, leb-true, eqb-true, eq-eqb, ne_eqb, cases_lt, cases_Bool, false_from_ne_true}
+use Rattle.std.proofs.lemmas.Bool.{both_ways, and_parts, and_from, not-true, not_from_false, ltb-true, lt-ltb, leb-false, leb-true, eq-eqb, ne_eqb, cases_lt, false_from_ne_true}
 use Rattle.std.proofs.lemmas.List.{get_or_past}
 use Rattle.std.proofs.lemmas.List.Elements.{All-contains, All-filter, All-weaker, filter_passes}
-use Rattle.std.proofs.lemmas.List.Folds.{list_any_at, list_any_none, Any-from_list_any}
+use Rattle.std.proofs.lemmas.List.Folds.{list_any_at, list_any_none}
 use Rattle.std.proofs.lemmas.List.FromFn.{length-range_with_len, get_or-range_with_len}
 use Rattle.map_base.specs.declared.point.Point.{Point}
 use Rattle.fixed_plane.specs.Measures.{dist2_of}
@@ -51,29 +51,37 @@ edge_of_test near ps i j i_in j_in test = record {
   where
     a : Point
     a = point_at ps i
+
     b : Point
     b = point_at ps j
+
     parting : Bool
     parting = list_any (parts_them ps i j) (range_with_len 0 (length ps))
+
     two : (is_nearer (3 * near) a b ≡ true) × ((not (nat_eq i j) && not parting) ≡ true)
     two = and_parts (is_nearer (3 * near) a b) (not (nat_eq i j) && not parting) test
+
     rest : (not (nat_eq i j) ≡ true) × (not parting ≡ true)
     rest = and_parts (not (nat_eq i j)) (not parting) two.1
+
     unequal : nat_eq i j ≡ false
     unequal = not-true (nat_eq i j) rest.0
+
     none : parting ≡ false
     none = not-true parting rest.1
+
     equal : i ≡ j → nat_eq i j ≡ true
     equal e = eq-eqb i j e
+
     outside : (k : ℕ) → k < length ps → k ≢ i → k ≢ j → is_in_disk a b (point_at ps k) ≡ false
     outside k below not_i not_j =
         false_from_ne_true (is_in_disk a b (point_at ps k))
         (λ inside.
-            both_ways parting none
-            (list_any_at (parts_them ps i j) (range_with_len 0 (length ps)) k k (omega (arith, length-range_with_len 0 (length ps)))
-            (ap (parts_them ps i j) (get_or-range_with_len 0 (length ps) k k below ∙ (let same : 0 + k ≡ k = omega arith in same))
-            ∙ and_from (not (nat_eq k i) && not (nat_eq k j)) (is_in_disk a b (point_at ps k))
-            (and_from (not (nat_eq k i)) (not (nat_eq k j)) (not_from_false (nat_eq k i) (ne_eqb k i not_i)) (not_from_false (nat_eq k j) (ne_eqb k j not_j))) inside)))
+        both_ways parting none
+        (list_any_at (parts_them ps i j) (range_with_len 0 (length ps)) k k (omega (arith, length-range_with_len 0 (length ps)))
+        (ap (parts_them ps i j) (get_or-range_with_len 0 (length ps) k k below ∙ (let same : 0 + k ≡ k = omega arith in same))
+        ∙ and_from (not (nat_eq k i) && not (nat_eq k j)) (is_in_disk a b (point_at ps k))
+        (and_from (not (nat_eq k i)) (not (nat_eq k j)) (not_from_false (nat_eq k i) (ne_eqb k i not_i)) (not_from_false (nat_eq k j) (ne_eqb k j not_j))) inside)))
 
 -- an edge of the net over points is one
 pub edge_of_net : (near : ℕ) (ps : List Point) (i j : ℕ) → HasEdge (net_over near ps) i j → IsEdge near ps i j
@@ -81,6 +89,7 @@ edge_of_net near ps i j edge = of_order (cases_lt i (length ps))
   where
     all : List ℕ
     all = range_with_len 0 (length ps)
+
     of_order : (i < length ps) ⊎ (length ps ≤ i) → IsEdge near ps i j
     of_order (inl i_in) =
         let here : Contains (edges_at near ps i) j = subst (λ (xs : List ℕ). Contains xs j) (get_or-all_edges near ps i i_in) edge in
@@ -106,10 +115,13 @@ has_edge_from near ps i j e =
   where
     a : Point
     a = point_at ps i
+
     b : Point
     b = point_at ps j
+
     parting : Bool
     parting = list_any (parts_them ps i j) (range_with_len 0 (length ps))
+
     not_parting : (k : ℕ) → k < length ps → parts_them ps i j k ≡ true → ⊥
     not_parting k below test =
         let p = point_at ps k in
@@ -117,8 +129,9 @@ has_edge_from near ps i j e =
         let others = and_parts (not (nat_eq k i)) (not (nat_eq k j)) third.0 in
         let inside : dist2_of a p + dist2_of p b ≤ dist2_of a b = leb-true (dist2_of a p + dist2_of p b) (dist2_of a b) third.1 in
         let outside : dist2_of a b < dist2_of a p + dist2_of p b =
-            e.clear k below (λ same. both_ways (nat_eq k i) (not-true (nat_eq k i) others.0) (eq-eqb k i same)) (λ same. both_ways (nat_eq k j) (not-true (nat_eq k j) others.1) (eq-eqb k j same)) in
+        e.clear k below (λ same. both_ways (nat_eq k i) (not-true (nat_eq k i) others.0) (eq-eqb k i same)) (λ same. both_ways (nat_eq k j) (not-true (nat_eq k j) others.1) (eq-eqb k j same)) in
         omega arith
+
     none : parting ≡ false
     none =
         list_any_none (parts_them ps i j) (range_with_len 0 (length ps))

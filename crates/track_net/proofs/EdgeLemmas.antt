@@ -1,7 +1,7 @@
 -- The edges of a net, looked for among near points alone.
-use Rattle.std.proofs.Common.{◌≡◌, refl, sym, ◌∙◌, ap, ℕ, zero, suc, ◌+◌, ◌*◌, ◌<◌, ◌≤◌, Bool, true, false, cond, ◌||◌, ◌&&◌, nat_lt, nat_le, nat_eq, not, List, [], ◌∷◌, ◌++◌, map, length, get_or, filter, All, arith}
+use Rattle.std.proofs.Common.{◌≡◌, sym, ◌∙◌, ap, ℕ, ◌+◌, ◌*◌, ◌<◌, ◌≤◌, Bool, true, false, ◌&&◌, nat_eq, not, List, [], length, get_or, filter, All, arith}
 use Rattle.std.specs.List.{list_any, range_with_len}
-use Rattle.std.proofs.lemmas.Bool.{false≢true, ltb-true, lt-ltb, leb-true, and_parts, and_left}
+use Rattle.std.proofs.lemmas.Bool.{ltb-true, lt-ltb, leb-true, and_parts}
 use Rattle.std.proofs.lemmas.List.Elements.{All-filter}
 use Rattle.std.proofs.lemmas.List.FromFn.{length-map-range_with_len, get_or-map-range_with_len}
 use Rattle.map_base.specs.declared.point.Point.{Point}

@@ -1,8 +1,8 @@
 -- The definitions at small values.
-use Rattle.std.proofs.Common.{◌≡◌, refl, ℕ, Bool, true, false, pos, negsuc, List, [], ◌∷◌}
+use Rattle.std.proofs.Common.{◌≡◌, refl, ℕ, pos, [], ◌∷◌}
 use Rattle.map_base.specs.declared.point.Point.{Point}
-use Rattle.track_net.specs.Nearness.{is_nearer, numbers_near}
-use Rattle.track_net.specs.Nets.{net_points, is_in_disk, all_edges, net_of_samples, net_over}
+use Rattle.track_net.specs.Nearness.{numbers_near}
+use Rattle.track_net.specs.Nets.{net_points, all_edges, net_of_samples, net_over}
 
 abbrev at : ℕ → ℕ → Point
 at x y = record { x = pos x; y = pos y }

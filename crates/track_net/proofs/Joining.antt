@@ -1,5 +1,5 @@
 -- Near net points are joined, and so are stations that a run of samples leads between.
-use Rattle.std.proofs.Common.{◌≡◌, ◌≢◌, refl, sym, ◌∙◌, ap, subst, ℕ, zero, suc, ◌+◌, ◌*◌, ◌<◌, ◌≤◌, ◌⊎◌, inl, inr, Bool, true, false, ◌&&◌, not, nat_eq, List, [], ◌∷◌, ◌++◌, length, get_or, fold, arith}
+use Rattle.std.proofs.Common.{◌≡◌, ◌≢◌, refl, sym, ◌∙◌, subst, ℕ, zero, suc, ◌+◌, ◌*◌, ◌<◌, ◌≤◌, ◌⊎◌, inl, inr, Bool, true, false, ◌&&◌, not, nat_eq, List, [], ◌∷◌, ◌++◌, length, arith}
 use Rattle.std.specs.List.{list_any, range_with_len}
 use Rattle.std.proofs.lemmas.Bool.{both_ways, and_parts, and_from, not-true, not_from_false, lt-ltb, leb-true, eq-eqb, ne_eqb, cases_lt, cases_eq, cases_Bool}
 use Rattle.std.proofs.lemmas.List.Elements.{All-contains}
@@ -8,13 +8,13 @@ use Rattle.map_base.specs.declared.point.Point.{Point}
 use Rattle.fixed_plane.specs.Measures.{dist2_of}
 use Rattle.fixed_plane.proofs.Distances.{dist2_of_comm}
 use Rattle.track_net.specs.Nearness.{point_at, is_nearer}
-use Rattle.track_net.specs.Nets.{NetParts, net_points, net_over, net_of_samples, is_in_disk, parts_them, has_edge, AreDistinct, HasEdge, Leads, Joins}
-use Rattle.track_net.specs.Laws.{RunsTo, IsRun, JoinsStations}
+use Rattle.track_net.specs.Nets.{NetParts, net_points, net_over, net_of_samples, is_in_disk, parts_them, has_edge, AreDistinct, Leads, Joins}
+use Rattle.track_net.specs.Laws.{RunsTo, JoinsStations}
 use Rattle.track_net.proofs.Lists.{range_below}
-use Rattle.track_net.proofs.Squares.{dist2_of-self, dist2_of-same, same_where_none, three_steps}
+use Rattle.track_net.proofs.Squares.{dist2_of-same, same_where_none, three_steps}
 use Rattle.track_net.proofs.EdgeFacts.{net_has_edge}
 use Rattle.track_net.proofs.ThinLemmas.{length-net_points}
-use Rattle.track_net.proofs.Covering.{IsCovered, AreCovered, samples_are_covered, AreCovered-left, AreCovered-right, point_at-net_points}
+use Rattle.track_net.proofs.Covering.{AreCovered, samples_are_covered, AreCovered-left, AreCovered-right, point_at-net_points}
 
 -- ways in a net, one after another
 Leads-append : (net : NetParts) (i j k : ℕ) (ks ls : List ℕ) → Leads net i j ks → Leads net j k ls → Leads net i k (ks ++ ls)
@@ -38,12 +38,16 @@ edge_or_parted near ps i j apart close = of_test (cases_Bool parting)
   where
     a : Point
     a = point_at ps i
+
     b : Point
     b = point_at ps j
+
     all : List ℕ
     all = range_with_len 0 (length ps)
+
     parting : Bool
     parting = list_any (parts_them ps i j) all
+
     of_test : (parting ≡ true) ⊎ (parting ≡ false) → (has_edge near ps i j ≡ true) ⊎ IsParted ps i j
     of_test (inr none) =
         inl (and_from (is_nearer (3 * near) a b) (not (nat_eq i j) && not parting) (lt-ltb (dist2_of a b) (3 * near * (3 * near)) close)
@@ -55,11 +59,11 @@ edge_or_parted near ps i j apart close = of_test (cases_Bool parting)
         let third = and_parts (not (nat_eq k i) && not (nat_eq k j)) (is_in_disk a b p) found.4 in
         let others = and_parts (not (nat_eq k i)) (not (nat_eq k j)) third.0 in
         inr (record {
-            third = k;
-            in_range = All-contains (λ m. m < length ps) all k (range_below (length ps)) (found.0, found.2, found.3);
-            not_i = λ same. both_ways (nat_eq k i) (not-true (nat_eq k i) others.0) (eq-eqb k i same);
-            not_j = λ same. both_ways (nat_eq k j) (not-true (nat_eq k j) others.1) (eq-eqb k j same);
-            inside = leb-true (dist2_of a p + dist2_of p b) (dist2_of a b) third.1;
+          third = k;
+          in_range = All-contains (λ m. m < length ps) all k (range_below (length ps)) (found.0, found.2, found.3);
+          not_i = λ same. both_ways (nat_eq k i) (not-true (nat_eq k i) others.0) (eq-eqb k i same);
+          not_j = λ same. both_ways (nat_eq k j) (not-true (nat_eq k j) others.1) (eq-eqb k j same);
+          inside = leb-true (dist2_of a p + dist2_of p b) (dist2_of a b) third.1;
         })
 
 -- different points are apart
@@ -88,6 +92,7 @@ joined_within near ps distinct (suc n) i j i_in j_in below close =
         let some_j : 0 < dist2_of (point_at ps k) (point_at ps j) = apart_points ps k j distinct p.in_range j_in p.not_j in
         let inside : dist2_of (point_at ps i) (point_at ps k) + dist2_of (point_at ps k) (point_at ps j) ≤ dist2_of (point_at ps i) (point_at ps j) = p.inside in
         Joins-trans (net_over near ps) i k j (nearer i k i_in p.in_range (omega arith) (omega arith)) (nearer k j p.in_range j_in (omega arith) (omega arith))
+
     by_case : (near : ℕ) (ps : List Point) → AreDistinct ps → (n i j : ℕ) → i < length ps → j < length ps → dist2_of (point_at ps i) (point_at ps j) < suc n →
         dist2_of (point_at ps i) (point_at ps j) < 3 * near * (3 * near) →
         ((i j : ℕ) → i < length ps → j < length ps → dist2_of (point_at ps i) (point_at ps j) < n → dist2_of (point_at ps i) (point_at ps j) < 3 * near * (3 * near) → Joins (net_over near ps) i j) →

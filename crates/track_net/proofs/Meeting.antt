@@ -1,19 +1,19 @@
 -- No two edges meet but at a common end, and no two edges of one point have one direction.
-use Rattle.std.proofs.Common.{◌≡◌, ◌≢◌, refl, sym, ◌∙◌, ap, subst, ℕ, zero, suc, ◌+◌, ◌*◌, ◌<◌, ◌≤◌, ◌⊎◌, inl, inr, ℤ, pos, negsuc, ◌+ℤ◌, ◌-ℤ◌, ◌*ℤ◌, ◌≤ℤ◌, ◌<ℤ◌, List, [], ◌∷◌, length, arith}
+use Rattle.std.proofs.Common.{◌≡◌, refl, sym, ◌∙◌, ap, ℕ, zero, suc, ◌⊎◌, inl, inr, ℤ, pos, negsuc, ◌+ℤ◌, ◌-ℤ◌, ◌*ℤ◌, ◌≤ℤ◌, ◌<ℤ◌, List, [], ◌∷◌, arith}
 use Rattle.std.proofs.lemmas.Int.{ints}
-use Rattle.std.proofs.Math.IntN.{zero-*ℤ, *ℤ_comm}
+use Rattle.std.proofs.Math.IntN.{zero-*ℤ}
 use Rattle.map_base.specs.declared.point.Point.{Point}
-use Rattle.whole_algebra.specs.Turns.{turn_of, excess_of}
-use Rattle.whole_algebra.proofs.Identities.{Term, var, num, ◌⊕◌, ◌⊖◌, ◌⊛◌, identity}
+use Rattle.whole_algebra.specs.Turns.{excess_of}
+use Rattle.whole_algebra.proofs.Identities.{var, num, ◌⊕◌, ◌⊖◌, ◌⊛◌, identity}
 use Rattle.whole_algebra.proofs.Crossings.{excess_term, turn_of-differences, excess_of-weighted}
 use Rattle.whole_algebra.proofs.Signs.{*ℤ-positive, *ℤ-not_negative, *ℤ-not_positive, *ℤ-eq_zero}
-use Rattle.fixed_plane.specs.Measures.{dist2_of, side_of}
-use Rattle.fixed_plane.specs.Directions.{way_of, LieInOneDirection}
+use Rattle.fixed_plane.specs.Measures.{side_of}
+use Rattle.fixed_plane.specs.Directions.{LieInOneDirection}
 use Rattle.track_net.specs.Nearness.{point_at}
-use Rattle.track_net.specs.Nets.{net_over, HasEdge}
-use Rattle.track_net.specs.Laws.{HaveOneSign, LieOnOneLine, LiesBetween, DoNotMeet, IsPlanar, HasOwnDirections}
+use Rattle.track_net.specs.Nets.{net_over}
+use Rattle.track_net.specs.Laws.{HaveOneSign, LieOnOneLine, DoNotMeet, IsPlanar, HasOwnDirections}
 use Rattle.track_net.proofs.Squares.{excess_outside, excess_between}
-use Rattle.track_net.proofs.EdgeFacts.{IsEdge, edge_of_net}
+use Rattle.track_net.proofs.EdgeFacts.{edge_of_net}
 
 -- two numbers do not have one sign, or one of them is 0
 abbrev AreOpposed : ℤ → ℤ → Type 0
@@ -50,7 +50,7 @@ opposed_none s1 s2 t1 t2 ea eb ec ed differ weighted pa pb pc pd (inl h) (inr k)
     let above_c : pos 0 ≤ℤ ec = omega (arith, ints) in
     let above_d : pos 0 ≤ℤ ed = omega (arith, ints) in
     let both = atoms (s1 *ℤ ed) (s2 *ℤ ec) (t2 *ℤ ea) (t1 *ℤ eb) weighted (*ℤ-not_negative s1 ed h.0 above_d) (*ℤ-not_positive s2 ec h.1 above_c)
-        (*ℤ-not_negative t2 ea k.1 above_a) (*ℤ-not_positive t1 eb k.0 above_b) in
+    (*ℤ-not_negative t2 ea k.1 above_a) (*ℤ-not_positive t1 eb k.0 above_b) in
     (*ℤ-eq_zero s1 ed pd both.0, *ℤ-eq_zero s2 ec pc both.1)
   where
     atoms : (w x y z : ℤ) → w -ℤ x +ℤ y -ℤ z ≡ pos 0 → pos 0 ≤ℤ w → x ≤ℤ pos 0 → pos 0 ≤ℤ y → z ≤ℤ pos 0 → (w ≡ pos 0) × (x ≡ pos 0)
@@ -61,7 +61,7 @@ opposed_none s1 s2 t1 t2 ea eb ec ed differ weighted pa pb pc pd (inr h) (inl k)
     let above_c : pos 0 ≤ℤ ec = omega (arith, ints) in
     let above_d : pos 0 ≤ℤ ed = omega (arith, ints) in
     let both = atoms (s1 *ℤ ed) (s2 *ℤ ec) (t2 *ℤ ea) (t1 *ℤ eb) weighted (*ℤ-not_positive s1 ed h.0 above_d) (*ℤ-not_negative s2 ec h.1 above_c)
-        (*ℤ-not_positive t2 ea k.1 above_a) (*ℤ-not_negative t1 eb k.0 above_b) in
+    (*ℤ-not_positive t2 ea k.1 above_a) (*ℤ-not_negative t1 eb k.0 above_b) in
     (*ℤ-eq_zero s1 ed pd both.0, *ℤ-eq_zero s2 ec pc both.1)
   where
     atoms : (w x y z : ℤ) → w -ℤ x +ℤ y -ℤ z ≡ pos 0 → w ≤ℤ pos 0 → pos 0 ≤ℤ x → y ≤ℤ pos 0 → pos 0 ≤ℤ z → (w ≡ pos 0) × (x ≡ pos 0)
@@ -81,6 +81,7 @@ do_not_meet a b c d pa pb pc pd = record {
   where
     none : (e : ℤ) → pos 0 <ℤ e → e ≤ℤ pos 0 → ⊥
     none e h k = omega (arith, ints)
+
     aside : (LieOnOneLine a b c d → ⊥) → HaveOneSign (side_of a b c) (side_of a b d) ⊎ AreOpposed (side_of a b c) (side_of a b d) →
         HaveOneSign (side_of c d a) (side_of c d b) ⊎ AreOpposed (side_of c d a) (side_of c d b) →
         HaveOneSign (side_of a b c) (side_of a b d) ⊎ HaveOneSign (side_of c d a) (side_of c d b)
@@ -108,8 +109,10 @@ own_directions a b c pc pb way =
         (var 6 ⊛ excess_term (var 0) (var 1) (var 4) (var 5) (var 2) (var 3) ⊕ var 7 ⊛ excess_term (var 0) (var 1) (var 2) (var 3) (var 4) (var 5))
         (num (pos 2) ⊛ ((var 6 ⊛ (var 2 ⊖ var 0) ⊖ var 7 ⊛ (var 4 ⊖ var 0)) ⊛ (var 2 ⊖ var 4) ⊕ (var 6 ⊛ (var 3 ⊖ var 1) ⊖ var 7 ⊛ (var 5 ⊖ var 1)) ⊛ (var 3 ⊖ var 5)))
         refl
+
     gone : (x y k : ℤ) → x ≡ y → (x -ℤ y) *ℤ k ≡ pos 0
     gone x y k e = let none : x -ℤ y ≡ pos 0 = omega (arith, ints) in ap (λ z. z *ℤ k) none ∙ zero-*ℤ k
+
     clash : (p q u v : ℤ) → p +ℤ q ≡ pos 2 *ℤ (u +ℤ v) → u ≡ pos 0 → v ≡ pos 0 → pos 0 <ℤ p → pos 0 <ℤ q → ⊥
     clash p q u v e f g h k = omega (arith, ints)
 

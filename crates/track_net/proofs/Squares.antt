@@ -1,5 +1,5 @@
 -- Squares of distances: of equal points, of different points, over three steps; and excesses over a way.
-use Rattle.std.proofs.Common.{◌≡◌, ◌≢◌, refl, sym, ◌∙◌, ap, subst, ℕ, zero, suc, ◌+◌, ◌*◌, ◌<◌, ◌≤◌, ◌⊎◌, inl, inr, ℤ, pos, negsuc, ◌+ℤ◌, ◌-ℤ◌, ◌*ℤ◌, ◌≤ℤ◌, ◌<ℤ◌, unsigned_abs, [], ◌∷◌, arith}
+use Rattle.std.proofs.Common.{◌≡◌, refl, sym, ◌∙◌, ap, subst, ℕ, zero, suc, ◌+◌, ◌*◌, ◌<◌, ◌≤◌, inl, inr, ℤ, pos, ◌+ℤ◌, ◌-ℤ◌, ◌*ℤ◌, ◌≤ℤ◌, ◌<ℤ◌, unsigned_abs, [], ◌∷◌, arith}
 use Rattle.std.proofs.lemmas.Int.{ints}
 use Rattle.std.proofs.Math.IntN.{*ℤ_comm}
 use Rattle.map_base.specs.declared.point.Point.{Point}
@@ -17,6 +17,7 @@ dist2_of-self p = none (p.x -ℤ p.x) (p.y -ℤ p.y) (gone p.x) (gone p.y)
   where
     gone : (x : ℤ) → unsigned_abs (x -ℤ x) ≡ 0
     gone x = omega (arith, ints)
+
     none : (x y : ℤ) → unsigned_abs x ≡ 0 → unsigned_abs y ≡ 0 → square_of x + square_of y ≡ 0
     none x y e f = ap (λ n. n * n + square_of y) e ∙ ap (λ n. 0 * 0 + n * n) f
 
@@ -36,8 +37,10 @@ same_where_none p q e =
   where
     left : (m n : ℕ) → m + n ≡ 0 → m ≡ 0
     left m n e = omega arith
+
     right : (m n : ℕ) → m + n ≡ 0 → n ≡ 0
     right m n e = omega arith
+
     one : (x y : ℤ) → unsigned_abs (y -ℤ x) ≡ 0 → x ≡ y
     one x y e = omega (arith, ints)
 
@@ -52,8 +55,10 @@ three_steps a b c d =
   where
     first : Term → Term → Term
     first p q = q ⊖ p
+
     twice : Term → Term
     twice t = t ⊛ t
+
     sum :
         square_between a.x a.y d.x d.y
         +ℤ ((((b.x -ℤ a.x) -ℤ (c.x -ℤ b.x)) *ℤ ((b.x -ℤ a.x) -ℤ (c.x -ℤ b.x)) +ℤ ((c.x -ℤ b.x) -ℤ (d.x -ℤ c.x)) *ℤ ((c.x -ℤ b.x) -ℤ (d.x -ℤ c.x)))
@@ -70,10 +75,12 @@ three_steps a b c d =
         ⊕ ((var 7 ⊖ var 5) ⊖ (var 3 ⊖ var 1)) ⊛ ((var 7 ⊖ var 5) ⊖ (var 3 ⊖ var 1))))
         (num (pos 3) ⊛ (square_term (var 0) (var 1) (var 2) (var 3) ⊕ square_term (var 2) (var 3) (var 4) (var 5) ⊕ square_term (var 4) (var 5) (var 6) (var 7)))
         refl
+
     atoms : (x y z w p q r s t u : ℤ) (k l m n : ℕ) → pos k ≡ x → pos l ≡ y → pos m ≡ z → pos n ≡ w →
         pos 0 ≤ℤ p → pos 0 ≤ℤ q → pos 0 ≤ℤ r → pos 0 ≤ℤ s → pos 0 ≤ℤ t → pos 0 ≤ℤ u →
         x +ℤ ((p +ℤ q) +ℤ r) +ℤ ((s +ℤ t) +ℤ u) ≡ pos 3 *ℤ (y +ℤ z +ℤ w) → k ≤ 3 * (l + m + n)
     atoms x y z w p q r s t u k l m n e f g h ip iq ir is it iu whole = omega (arith, ints)
+
     bound : (x y z w p q r s t u : ℤ) (k l m n : ℕ) → pos k ≡ x → pos l ≡ y → pos m ≡ z → pos n ≡ w →
         x +ℤ ((p *ℤ p +ℤ q *ℤ q) +ℤ r *ℤ r) +ℤ ((s *ℤ s +ℤ t *ℤ t) +ℤ u *ℤ u) ≡ pos 3 *ℤ (y +ℤ z +ℤ w) → k ≤ 3 * (l + m + n)
     bound x y z w p q r s t u k l m n e f g h whole =
@@ -110,5 +117,6 @@ excess_between a b p h =
         (excess_term (var 0) (var 1) (var 2) (var 3) (var 4) (var 5))
         (num (pos 2) ⊛ ((var 4 ⊖ var 0) ⊛ (var 4 ⊖ var 2) ⊕ (var 5 ⊖ var 1) ⊛ (var 5 ⊖ var 3)))
         refl
+
     atoms : (e u v : ℤ) → e ≡ pos 2 *ℤ (u +ℤ v) → u ≤ℤ pos 0 → v ≤ℤ pos 0 → e ≤ℤ pos 0
     atoms e u v is h k = omega (arith, ints)

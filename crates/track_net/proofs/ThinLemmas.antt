@@ -1,13 +1,12 @@
 -- Net points only grow in number, and stay in the plane and distinct.
-use Rattle.std.proofs.Common.{◌≡◌, refl, sym, ◌∙◌, ap, subst, ℕ, zero, suc, ◌+◌, ◌*◌, ◌<◌, ◌≤◌, Bool, true, false, cond, List, [], ◌∷◌, ◌++◌, length, get_or, take, drop, All, fold, arith, length-append}
-use Rattle.std.specs.List.{list_any}
+use Rattle.std.proofs.Common.{◌≡◌, sym, ◌∙◌, ap, subst, ℕ, ◌+◌, ◌<◌, ◌≤◌, Bool, true, false, cond, List, [], ◌∷◌, ◌++◌, length, get_or, take, drop, arith, length-append}
 use Rattle.std.proofs.Math.Nat.{le_trans, le_refl}
 use Rattle.std.proofs.lemmas.List.{take-append-drop}
 use Rattle.std.proofs.lemmas.List.Sums.{fold-append, fold_more}
 use Rattle.map_base.specs.declared.point.Point.{Point}
 use Rattle.track_net.specs.declared.fault.NetFault.{NetFault}
 use Rattle.track_net.specs.declared.fault.NetFault.TheVariants.{Limit as AboveLimit, NoMemory}
-use Rattle.track_net.specs.Nearness.{point_at, has_near}
+use Rattle.track_net.specs.Nearness.{has_near}
 use Rattle.track_net.specs.Nets.{with_sample, net_points}
 use Rattle.track_net.specs.Faults.{HasCause}
 
@@ -36,7 +35,7 @@ HasCause-more m n NoMemory more cause = tt
 pub length-net_points-part : (near i : ℕ) (stations samples : List Point) → length (net_points near stations (take i samples)) ≤ length (net_points near stations samples)
 length-net_points-part near i stations samples =
     let whole : net_points near stations samples ≡ net_points near (net_points near stations (take i samples)) (drop i samples) =
-        sym (ap (net_points near stations) (take-append-drop i samples)) ∙ fold-append (with_sample near) stations (take i samples) (drop i samples) in
+    sym (ap (net_points near stations) (take-append-drop i samples)) ∙ fold-append (with_sample near) stations (take i samples) (drop i samples) in
     let more = length-net_points near (net_points near stations (take i samples)) (drop i samples) in
     subst (λ (ps : List Point). length (net_points near stations (take i samples)) ≤ length ps) (sym whole) more
 
@@ -44,6 +43,6 @@ pub length-net_points-next : (near i : ℕ) (stations samples ps : List Point) (
     sample ≡ get_or samples i d → length (with_sample near ps sample) ≤ length (net_points near stations samples)
 length-net_points-next near i stations samples ps sample d below is here =
     let next : with_sample near ps sample ≡ net_points near stations (take (i + 1) samples) =
-        ap (λ qs. with_sample near qs sample) is ∙ ap (with_sample near (net_points near stations (take i samples))) here
-        ∙ sym (fold_more (with_sample near) stations samples i d below) in
+    ap (λ qs. with_sample near qs sample) is ∙ ap (with_sample near (net_points near stations (take i samples))) here
+    ∙ sym (fold_more (with_sample near) stations samples i d below) in
     subst (λ (qs : List Point). length qs ≤ length (net_points near stations samples)) (sym next) (length-net_points-part near (i + 1) stations samples)

@@ -20,7 +20,12 @@ use std::alloc::Global;
 ///
 /// Edges meet only at their ends, those of one point have different directions, and where a run of samples leads
 /// from one station to another, each sample at most `near` from the next, the net joins the two.
-pub fn net_of(alloc: Global, stations: &[Point], samples: &[Point], near: u32) -> Result<Net, NetFault>
+pub fn net_of(
+    alloc: Global,
+    stations: &[Point],
+    samples: &[Point],
+    near: u32,
+) -> Result<Net, NetFault>
     requires distinct { AreDistinct stations.now }
     requires stations_in_plane { All IsInPlane stations.now }
     requires samples_in_plane { All IsInPlane samples.now }
@@ -38,4 +43,44 @@ pub fn net_of(alloc: Global, stations: &[Point], samples: &[Point], near: u32) -
     let points = thinned(alloc, stations, samples, near)?;
     let edges = edges_over(alloc, &points, near)?;
     Ok(Net { points, edges })
+}
+
+#[cfg(test)]
+mod tests {
+    use super::*;
+    use std::test::Fail;
+
+    #[test]
+    fn a_point_on_the_rim_parts_two_stations(rt: HostRuntime) -> Result<(), Fail> {
+        let stations = [
+            Point { x: 0, y: 0 },
+            Point { x: 1000, y: 0 },
+            Point { x: 500, y: 500 },
+        ];
+        let net = net_of(rt.alloc(), &stations, &[], 500)?;
+        assert_eq!(rt; net.len(), 3);
+        assert!(rt; !net.is_empty());
+        let (first, third) = (net.edges_of(0), net.edges_of(2));
+        assert_eq!(rt; first, [2].as_slice());
+        assert_eq!(rt; third, [0, 1].as_slice());
+        Ok(())
+    }
+
+    #[test]
+    fn samples_at_near_and_below(rt: HostRuntime) -> Result<(), Fail> {
+        let stations = [Point { x: 0, y: 0 }, Point { x: 1500, y: 0 }];
+        let samples = [
+            Point { x: 499, y: 0 },
+            Point { x: 500, y: 0 },
+            Point { x: 1500, y: 500 },
+        ];
+        let net = net_of(rt.alloc(), &stations, &samples, 500)?;
+        assert_eq!(rt; net.len(), 4);
+        assert_eq!(rt; net.point(2), Point { x: 500, y: 0 });
+        assert_eq!(rt; net.point(3), Point { x: 1500, y: 500 });
+        let (station, sample) = (net.edges_of(1), net.edges_of(2));
+        assert_eq!(rt; station, [2, 3].as_slice());
+        assert_eq!(rt; sample, [0, 1].as_slice());
+        Ok(())
+    }
 }

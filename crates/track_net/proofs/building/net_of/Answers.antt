@@ -1,8 +1,7 @@
-use Rattle.std.proofs.Common.{◌≡◌, sym, ◌∙◌, ap, subst, ℕ, zero, suc, ◌*◌, ◌<◌, ◌≤◌, List, length, map, All, Vec, arith}
+use Rattle.std.proofs.Common.{◌≡◌, sym, ◌∙◌, ap, subst, ℕ, zero, suc, ◌*◌, ◌<◌, ◌≤◌, List, map, Vec, arith}
 use Rattle.std.specs.Global.{Global}
 use Rattle.map_base.specs.declared.point.Point.{Point}
-use Rattle.fixed_plane.specs.Plane.{IsInPlane}
-use Rattle.track_net.specs.Nets.{NetParts, AreDistinct, IsNet, all_edges, net_points, net_over, net_of_samples}
+use Rattle.track_net.specs.Nets.{AreDistinct, all_edges, net_points, net_over, net_of_samples}
 use Rattle.track_net.specs.Laws.{IsPlanar, HasOwnDirections, JoinsStations}
 use Rattle.track_net.proofs.Covering.{AreDistinct-net_points}
 use Rattle.track_net.proofs.Joining.{net_joins_stations}
@@ -28,13 +27,13 @@ invariant_of-result c =
     let points = c.in_ok-points.points.items in
     let some = square_some near c.requires.near_low in
     record {
-        near = near;
-        near_low = c.requires.near_low;
-        near_high = c.requires.near_high;
-        few = omega (arith, c.in_ok-points.ensures.few, c.in_ok-points.points.ok);
-        in_plane = c.in_ok-points.ensures.in_plane;
-        distinct = subst AreDistinct (sym c.in_ok-points.ensures.points) (AreDistinct-net_points near stations samples some c.requires.distinct);
-        edges = c.in_ok-edges.ensures ∙ ap (all_edges near) c.deref.ensures.value;
+      near = near;
+      near_low = c.requires.near_low;
+      near_high = c.requires.near_high;
+      few = omega (arith, c.in_ok-points.ensures.few, c.in_ok-points.points.ok);
+      in_plane = c.in_ok-points.ensures.in_plane;
+      distinct = subst AreDistinct (sym c.in_ok-points.ensures.points) (AreDistinct-net_points near stations samples some c.requires.distinct);
+      edges = c.in_ok-edges.ensures ∙ ap (all_edges near) c.deref.ensures.value;
     }
 
 pub returns-clause-planar : goal.returns-clause-planar

@@ -1,4 +1,4 @@
-use Rattle.std.proofs.Common.{◌≡◌, sym, ◌∙◌, ap, ℕ, ◌*◌, ◌≤◌, List, length, filter, take}
+use Rattle.std.proofs.Common.{◌≡◌, ◌∙◌, ap, ℕ, ◌*◌, ◌≤◌, List, length, filter, take}
 use Rattle.std.proofs.lemmas.List.{take_all}
 use Rattle.map_base.specs.declared.point.Point.{Point}
 use Rattle.track_net.specs.Nearness.{point_at, numbers_near}

@@ -1,4 +1,4 @@
-use Rattle.std.proofs.Common.{◌≡◌, sym, ◌∙◌, ap, subst, ℕ, ◌+◌, ◌<◌, ◌≤◌, Bool, true, false, List, [], ◌∷◌, ◌++◌, length, filter, All, arith}
+use Rattle.std.proofs.Common.{◌≡◌, sym, ◌∙◌, ap, subst, ℕ, ◌<◌, ◌≤◌, List, length, filter, All, arith}
 use Rattle.std.specs.List.{range_with_len}
 use Rattle.map_base.specs.declared.point.Point.{Point}
 use Rattle.track_net.specs.Nearness.{is_nearer, point_at, numbers_near}

@@ -2,7 +2,7 @@ use Rattle.std.proofs.Common.{◌≡◌, sym, ◌∙◌, ap, ◌<◌, length, ma
 use Rattle.std.specs.Global.{Global}
 use Rattle.std.proofs.lemmas.List.{get_or-map, length-map}
 use Rattle.map_base.specs.declared.point.Point.{Point}
-use Rattle.track_net.specs.Nets.{NetParts, all_edges, edges_of_point}
+use Rattle.track_net.specs.Nets.{NetParts, all_edges}
 use Rattle.track_net.proofs.EdgeLemmas.{length-all_edges}
 use Rattle.track_net.proofs.net.Net.edges_of.Goals as goal
 
@@ -19,7 +19,7 @@ in_range near rows ps net i is view below =
 pub index-requires : goal.index-requires
 index-requires c =
     let below : c.args.i < length c.self.inside.edges.items =
-        in_range c.self.invariant.near c.self.inside.edges.items c.self.inside.points.items c.args.self.now c.args.i c.self.invariant.edges c.self.view_is c.requires in
+    in_range c.self.invariant.near c.self.inside.edges.items c.self.inside.points.items c.args.self.now c.args.i c.self.invariant.edges c.self.view_is c.requires in
     omega (arith, c.self.inside.edges.ok)
 
 pub returns : goal.returns
