@@ -1,0 +1,3 @@
+pub mod Corridors
+pub mod Stretches
+pub mod Searching

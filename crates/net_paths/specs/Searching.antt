@@ -1,0 +1,92 @@
+-- The search for least costs: what is known, what waits, and what is left to be followed.
+use Rattle.std.specs.Prelude.{◌≡◌, ℕ, ◌+◌, ◌*◌, ◌<◌, ◌≤◌, ◌⊎◌, Bool, false, ◌&&◌, if◌then◌else◌, List, ◌∷◌, Option, Some, None, length, map, Contains, IsPermutation, slice_index_or, slice_set, sum_by}
+use Rattle.std.specs.Option.{option_map_or}
+use Rattle.std.specs.declared.cmp.Ordering.{Ordering}
+use Rattle.std.specs.declared.cmp.Reverse.{Reverse}
+use Rattle.std.specs.Ordering.{nat_cmp, ordering_then}
+use Rattle.map_base.specs.declared.point.Point.{Point}
+use Rattle.least_path.specs.Orders.{AtMost}
+use Rattle.least_path.specs.Paths.{Path, AreLeastCosts}
+use Rattle.fixed_plane.specs.Measures.{dist2_of}
+use Rattle.track_net.specs.Nearness.{point_at}
+use Rattle.track_net.specs.Nets.{NetParts, HasEdge}
+use Rattle.net_paths.specs.Corridors.{is_in_corridor}
+
+-- for each point whether it lies in the corridor
+abbrev pub flags_of : ℕ → List Point → List Point → List Bool
+flags_of near corridor ps = map (is_in_corridor near corridor) ps
+
+-- the cost of an edge by the flags of its ends
+abbrev pub flagged_cost : List Bool → List Point → ℕ → ℕ → ℕ
+flagged_cost flags ps a b =
+    if slice_index_or flags a false && slice_index_or flags b false then dist2_of (point_at ps a) (point_at ps b) else 8 * dist2_of (point_at ps a) (point_at ps b)
+
+-- an edge of the net leads from point a to point s, whose number is its label, at its cost by the flags
+pub record IsFlaggedStep (flags : List Bool) (net : NetParts) (a l s c : ℕ) : Type 0 where
+  pub edge : HasEdge net a l
+  pub leads_to : s ≡ l
+  pub cost : c ≡ flagged_cost flags net.points a l
+
+-- the known cost of a point
+abbrev pub known_at : List (Option ℕ) → ℕ → Option ℕ
+known_at table s = slice_index_or table s None
+
+-- a cost and a point, as they wait
+abbrev pub entry : ℕ → ℕ → Reverse (ℕ × ℕ)
+entry k s = record { 0 = (k, s) }
+
+-- a point waits with a cost
+abbrev pub Waits : List (Reverse (ℕ × ℕ)) → ℕ → ℕ → Type 0
+Waits queue s k = Contains queue (entry k s)
+
+-- the order of the queue: the least cost first, then the least point
+abbrev pub queue_cmp : Reverse (ℕ × ℕ) → Reverse (ℕ × ℕ) → Ordering
+queue_cmp x y = ordering_then (nat_cmp y.0.0 x.0.0) (nat_cmp y.0.1 x.0.1)
+
+-- there is a limit, and a cost is above it
+abbrev pub IsBeyond : Option ℕ → ℕ → Type 0
+IsBeyond None k = ⊥
+IsBeyond (Some d) k = d < k
+
+-- a cost of a point was looked at: nothing changes where as low a one is known; else it is known, and the point
+-- waits with it
+abbrev pub IsLowered : List (Option ℕ) → List (Option ℕ) → List (Reverse (ℕ × ℕ)) → List (Reverse (ℕ × ℕ)) → ℕ → ℕ → Type 0
+IsLowered old new queue longer at cost =
+    (AtMost (known_at old at) cost × (new ≡ old) × (longer ≡ queue))
+    ⊎ ((AtMost (known_at old at) cost → ⊥) × (new ≡ slice_set old at (Some cost)) × IsPermutation (entry cost at ∷ queue) longer)
+
+-- no edge costs more
+abbrev pub dearest : ℕ
+dearest = 8 * 720000000000000000
+
+-- how many points have no known cost
+abbrev pub unknowns_of : List (Option ℕ) → ℕ
+unknowns_of table = sum_by (λ o. option_map_or (λ k. 0) o 1) table
+
+-- what is left to be lowered: the sum of the known costs, and more than any cost for each point that has none
+abbrev pub height_of : ℕ → List (Option ℕ) → ℕ
+height_of top table = sum_by (λ o. option_map_or (λ k. k) o top) table
+
+-- each step that leads to a point of this cost is followed by a known cost of the point that it comes from
+abbrev pub IsFollowed : List Bool → NetParts → List (Option ℕ) → ℕ → ℕ → Type 0
+IsFollowed flags net table s k = (a l c : ℕ) → IsFlaggedStep flags net a l s c → AtMost (known_at table a) (c + k)
+
+-- the state of a search for the least costs to a point
+pub record IsSearch (flags : List Bool) (net : NetParts) (to : ℕ) (table : List (Option ℕ)) (queue : List (Reverse (ℕ × ℕ))) (excepted : ℕ → ℕ → Type 0) : Type 0 where
+  pub each : length table ≡ length net.points
+  pub attained : (s k : ℕ) → known_at table s ≡ Some k → (labels : List ℕ) × Path (IsFlaggedStep flags net) s to labels k
+  pub target : AtMost (known_at table to) 0
+  pub bounded : (s k : ℕ) → known_at table s ≡ Some k → k + dearest * unknowns_of table ≤ dearest * length table
+  pub in_range : (s k : ℕ) → Waits queue s k → s < length table
+  pub settled : (s k : ℕ) → known_at table s ≡ Some k → Waits queue s k ⊎ (IsFollowed flags net table s k ⊎ excepted s k)
+
+-- nothing is excepted
+abbrev pub nothing : ℕ → ℕ → Type 0
+nothing s k = ⊥
+
+-- the search is over: the cost of one point is known, and within it what is known are the least costs
+pub record IsSearched (flags : List Bool) (net : NetParts) (from to : ℕ) (table : List (Option ℕ)) : Type 0 where
+  pub cost : ℕ
+  pub known : known_at table from ≡ Some cost
+  pub each : length table ≡ length net.points
+  pub least : AreLeastCosts (IsFlaggedStep flags net) to cost (known_at table)

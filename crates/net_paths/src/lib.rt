@@ -1,0 +1,5 @@
+//! The least path over a net between two of its points along a corridor, with its tie rule.
+#![tactic(auto)]
+
+mod costs;
+mod queue;

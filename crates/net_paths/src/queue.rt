@@ -1,0 +1,68 @@
+//! Points that wait with a cost, the least cost first.
+
+ghost use Rattle.std.specs.Prelude.{◌≡◌, ℕ, ◌+◌, ◌<◌, ◌↔◌, IsTrue, IfSome, IfNone, OnOk, IsPermutation, length, ◌∷◌, Contains};
+ghost use Rattle.std.specs.BinaryHeap.{IsHeap, heap_items, heap_len};
+ghost use Rattle.least_path.specs.Orders.{AtMost};
+ghost use Rattle.net_paths.specs.Searching.{IsBeyond, IsLowered, Waits, entry, queue_cmp};
+
+use map_base::NoMemory;
+use std::cmp::Reverse;
+use std::collections::BinaryHeap;
+
+/// Costs with the numbers of points that can be left at them, the least cost first.
+pub(crate) type Queue = BinaryHeap<Reverse<(u128, u32)>>;
+
+/// Takes the least cost that waits, with its point; none where nothing waits or all that waits is beyond a limit.
+pub(crate) fn next(queue: &mut Queue, limit: Option<u128>) -> Option<(u128, u32)>
+    requires order { IsHeap queue_cmp (heap_items queue.old) }
+    ensures order { IsHeap queue_cmp (heap_items queue.new) }
+    ensures taken { IfSome result (λ w. IsPermutation (heap_items queue.old) (entry w.0 w.1 ∷ heap_items queue.new)) }
+    ensures shorter { IfSome result (λ _. heap_len queue.new + 1 ≡ heap_len queue.old) }
+    ensures none { IfNone result ((s k : ℕ) → Waits (heap_items queue.old) s k → IsBeyond limit k) }
+{
+    let Reverse(least) = queue.pop()?;
+    if is_beyond(limit, least.0) {
+        return None;
+    }
+    Some(least)
+}
+
+/// Whether there is a limit, and a cost is above it.
+fn is_beyond(limit: Option<u128>, cost: u128) -> bool
+    ensures { IsTrue result ↔ IsBeyond limit cost }
+{
+    match limit {
+        None => false,
+        Some(most) => most < cost,
+    }
+}
+
+/// Notes a cost of a point where none as low is known, and lets the point wait with it.
+pub(crate) fn lower(
+    known: &mut [Option<u128>],
+    queue: &mut Queue,
+    at: u32,
+    cost: u128,
+) -> Result<(), NoMemory>
+    requires in_range { at < length known.old }
+    requires order { IsHeap queue_cmp (heap_items queue.old) }
+    ensures order { OnOk result (IsHeap queue_cmp (heap_items queue.new)) }
+    ensures lowered { OnOk result (IsLowered known.old known.new (heap_items queue.old) (heap_items queue.new) at cost) }
+{
+    if is_as_low(known[at as usize], cost) {
+        return Ok(());
+    }
+    known[at as usize] = Some(cost);
+    queue.push(Reverse((cost, at)))?;
+    Ok(())
+}
+
+/// Whether a known cost is at most another.
+fn is_as_low(known: Option<u128>, cost: u128) -> bool
+    ensures { IsTrue result ↔ AtMost known cost }
+{
+    match known {
+        None => false,
+        Some(least) => least <= cost,
+    }
+}
