@@ -1,6 +1,5 @@
 -- The search for least costs: what is known, what waits, and what is left to be followed.
 use Rattle.std.specs.Prelude.{◌≡◌, ℕ, ◌+◌, ◌*◌, ◌<◌, ◌≤◌, ◌⊎◌, Bool, false, ◌&&◌, if◌then◌else◌, List, ◌∷◌, Option, Some, None, length, map, Contains, IsPermutation, slice_index_or, slice_set, sum_by}
-use Rattle.std.specs.Option.{option_map_or}
 use Rattle.std.specs.declared.cmp.Ordering.{Ordering}
 use Rattle.std.specs.declared.cmp.Reverse.{Reverse}
 use Rattle.std.specs.Ordering.{nat_cmp, ordering_then}
@@ -60,12 +59,20 @@ abbrev pub dearest : ℕ
 dearest = 8 * 720000000000000000
 
 -- how many points have no known cost
-abbrev pub unknowns_of : List (Option ℕ) → ℕ
-unknowns_of table = sum_by (λ o. option_map_or (λ k. 0) o 1) table
+abbrev pub unknown_of : Option ℕ → ℕ
+unknown_of None = 1
+unknown_of (Some k) = 0
 
--- what is left to be lowered: the sum of the known costs, and more than any cost for each point that has none
+abbrev pub unknowns_of : List (Option ℕ) → ℕ
+unknowns_of table = sum_by unknown_of table
+
+-- what is left to be lowered: the sum of the known costs, and a number above every cost for each point without one
+abbrev pub height_at : ℕ → Option ℕ → ℕ
+height_at top None = top
+height_at top (Some k) = k
+
 abbrev pub height_of : ℕ → List (Option ℕ) → ℕ
-height_of top table = sum_by (λ o. option_map_or (λ k. k) o top) table
+height_of top table = sum_by (height_at top) table
 
 -- each step that leads to a point of this cost is followed by a known cost of the point that it comes from
 abbrev pub IsFollowed : List Bool → NetParts → List (Option ℕ) → ℕ → ℕ → Type 0
@@ -79,6 +86,14 @@ pub record IsSearch (flags : List Bool) (net : NetParts) (to : ℕ) (table : Lis
   pub bounded : (s k : ℕ) → known_at table s ≡ Some k → k + dearest * unknowns_of table ≤ dearest * length table
   pub in_range : (s k : ℕ) → Waits queue s k → s < length table
   pub settled : (s k : ℕ) → known_at table s ≡ Some k → Waits queue s k ⊎ (IsFollowed flags net table s k ⊎ excepted s k)
+
+-- what is left to do: twice what can be lowered, and what waits
+abbrev pub left_of : List (Option ℕ) → List (Reverse (ℕ × ℕ)) → ℕ
+left_of table queue = 2 * height_of (dearest * length table + 1) table + length queue
+
+-- one point with one cost is excepted
+abbrev pub is_point_at : ℕ → ℕ → ℕ → ℕ → Type 0
+is_point_at at cost s k = (s ≡ at) × (k ≡ cost)
 
 -- nothing is excepted
 abbrev pub nothing : ℕ → ℕ → Type 0

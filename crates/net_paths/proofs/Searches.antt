@@ -1,0 +1,2 @@
+-- The search keeps its state.
+use Rattle.std.proofs.Common.{◌≡◌, refl, ℕ}

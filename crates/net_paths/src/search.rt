@@ -1,0 +1,79 @@
+//! The search for the least costs at which one point can be reached from others.
+
+ghost use Rattle.std.specs.Prelude.{◌≡◌, ℕ, ◌<◌, ◌≤◌, ◌↔◌, Some, IsTrue, IfOk, OnOk, length};
+ghost use Rattle.std.specs.BinaryHeap.{IsHeap, heap_items};
+ghost use Rattle.track_net.specs.Nets.{IsNet, Joins};
+ghost use Rattle.net_paths.specs.Searching.{IsSearch, IsSearched, is_point_at, known_at, left_of, nothing, queue_cmp};
+
+use crate::costs::cost_between;
+use crate::queue::{Queue, lower, next};
+use map_base::NoMemory;
+use std::alloc::Global;
+use track_net::Net;
+
+/// For points of the net the least costs at which `to` can be reached, as far as they are no greater than that
+/// of `from`. The search goes from `to` outwards and ends where what waits costs more than `from` does.
+pub(crate) fn costs_to(
+    alloc: Global,
+    net: &Net,
+    flags: &[bool],
+    from: u32,
+    to: u32,
+) -> Result<Vec<Option<u128>>, NoMemory>
+    requires from_in_range { from < length net.now.points }
+    requires to_in_range { to < length net.now.points }
+    requires joined { Joins net.now from to }
+    requires flag_each { length flags.now ≡ length net.now.points }
+    ensures { IfOk result (λ table. IsSearched flags.now net.now from to table.items) }
+{
+    let mut known = vec![in alloc; None; net.len()]?;
+    let mut queue = Queue::new(alloc);
+    lower(&mut known, &mut queue, to, 0)?;
+    while let Some((cost, at)) = next(&mut queue, known[from as usize]) {
+        if is_known(known[at as usize], cost) {
+            spread(net, flags, at, cost, &mut known, &mut queue)?;
+        }
+    }
+    Ok(known)
+}
+
+/// Whether this cost is the known one.
+fn is_known(known: Option<u128>, cost: u128) -> bool
+    ensures { IsTrue result ↔ (known ≡ Some cost) }
+{
+    match known {
+        None => false,
+        Some(least) => least == cost,
+    }
+}
+
+/// Follows each edge that leads to a point of a known cost: what it costs from its other end is noted there.
+fn spread(
+    net: &Net,
+    flags: &[bool],
+    at: u32,
+    cost: u128,
+    known: &mut [Option<u128>],
+    queue: &mut Queue,
+) -> Result<(), NoMemory>
+    ghost to: { ℕ }
+    requires kept { IsNet net.now }
+    requires in_range { at < length net.now.points }
+    requires flag_each { length flags.now ≡ length net.now.points }
+    requires known { known_at known.old at ≡ Some cost }
+    requires order { IsHeap queue_cmp (heap_items queue.old) }
+    requires search { IsSearch flags.now net.now to known.old (heap_items queue.old) (is_point_at at cost) }
+    ensures order { OnOk result (IsHeap queue_cmp (heap_items queue.new)) }
+    ensures search { OnOk result (IsSearch flags.now net.now to known.new (heap_items queue.new) nothing) }
+    ensures lower { OnOk result (left_of known.new (heap_items queue.new) ≤ left_of known.old (heap_items queue.old)) }
+{
+    for next in net.edges_of(at) {
+        lower(
+            known,
+            queue,
+            *next,
+            cost + cost_between(net, flags, *next, at),
+        )?;
+    }
+    Ok(())
+}
