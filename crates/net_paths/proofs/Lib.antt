@@ -1,3 +1,4 @@
 mod Tables
 mod NetSteps
 mod Searches
+mod Spreading

@@ -105,3 +105,9 @@ pub record IsSearched (flags : List Bool) (net : NetParts) (from to : ℕ) (tabl
   pub known : known_at table from ≡ Some cost
   pub each : length table ≡ length net.points
   pub least : AreLeastCosts (IsFlaggedStep flags net) to cost (known_at table)
+
+-- the edges of a point with its known cost were followed: a search in whose state only this was left out goes on,
+-- with no more left to do
+abbrev pub IsSpread : List Bool → NetParts → ℕ → ℕ → List (Option ℕ) → List (Reverse (ℕ × ℕ)) → List (Option ℕ) → List (Reverse (ℕ × ℕ)) → Type 0
+IsSpread flags net at cost table queue new longer =
+    (to : ℕ) → IsSearch flags net to table queue (is_point_at at cost) → IsSearch flags net to new longer nothing × (left_of new longer ≤ left_of table queue)

@@ -1,9 +1,9 @@
 //! The search for the least costs at which one point can be reached from others.
 
-ghost use Rattle.std.specs.Prelude.{◌≡◌, ℕ, ◌<◌, ◌≤◌, ◌↔◌, Some, IsTrue, IfOk, OnOk, length};
+ghost use Rattle.std.specs.Prelude.{◌≡◌, ◌*◌, ◌<◌, ◌≤◌, ◌↔◌, Some, IsTrue, IfOk, OnOk, length};
 ghost use Rattle.std.specs.BinaryHeap.{IsHeap, heap_items};
 ghost use Rattle.track_net.specs.Nets.{IsNet, Joins};
-ghost use Rattle.net_paths.specs.Searching.{IsSearch, IsSearched, is_point_at, known_at, left_of, nothing, queue_cmp};
+ghost use Rattle.net_paths.specs.Searching.{IsSearched, IsSpread, dearest, known_at, queue_cmp};
 
 use crate::costs::cost_between;
 use crate::queue::{Queue, lower, next};
@@ -56,16 +56,15 @@ fn spread(
     known: &mut [Option<u128>],
     queue: &mut Queue,
 ) -> Result<(), NoMemory>
-    ghost to: { ℕ }
     requires kept { IsNet net.now }
     requires in_range { at < length net.now.points }
     requires flag_each { length flags.now ≡ length net.now.points }
+    requires cost_each { length known.old ≡ length net.now.points }
     requires known { known_at known.old at ≡ Some cost }
+    requires bounded { cost ≤ dearest * 100000 }
     requires order { IsHeap queue_cmp (heap_items queue.old) }
-    requires search { IsSearch flags.now net.now to known.old (heap_items queue.old) (is_point_at at cost) }
     ensures order { OnOk result (IsHeap queue_cmp (heap_items queue.new)) }
-    ensures search { OnOk result (IsSearch flags.now net.now to known.new (heap_items queue.new) nothing) }
-    ensures lower { OnOk result (left_of known.new (heap_items queue.new) ≤ left_of known.old (heap_items queue.old)) }
+    ensures spread { OnOk result (IsSpread flags.now net.now at cost known.old (heap_items queue.old) known.new (heap_items queue.new)) }
 {
     for next in net.edges_of(at) {
         lower(
