@@ -1,3 +1,4 @@
 pub mod Costs
 pub mod Walks
+pub mod Same
 mod Examples

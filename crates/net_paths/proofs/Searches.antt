@@ -254,3 +254,18 @@ search_ends flags net from to table queue joined s beyond = of_known (known_at t
             let above : bound < d = subst (λ (o : Option ℕ). IsBeyond o d) e (beyond p d w) in absurd (omega arith)
         closed a p l c d step inside (inr (inl f)) = f a l c step
         closed a p l c d step inside (inr (inr x)) = absurd x
+
+-- what is taken from the queue was a number of a point
+pub taken_in_range : (flags : List Bool) (net : NetParts) (to : ℕ) (table : List (Option ℕ)) (queue rest : List (Reverse (ℕ × ℕ))) (at k : ℕ) →
+    IsSearch flags net to table queue nothing → IsPermutation queue (entry k at ∷ rest) → at < length table
+taken_in_range flags net to table queue rest at k s moved =
+    s.in_range at k (Waits-new rest queue k at (IsPermutation-sym queue (entry k at ∷ rest) moved))
+
+-- and less is left to do
+pub less_left : (table new : List (Option ℕ)) (queue rest longer : List (Reverse (ℕ × ℕ))) (at k : ℕ) → IsPermutation queue (entry k at ∷ rest) → left_of new longer ≤ left_of table rest →
+    left_of new longer < left_of table queue
+less_left table new queue rest longer at k moved no_more =
+    sums (left_of new longer) (2 * height_of (dearest * length table + 1) table) (length queue) (length rest) (length_permutation queue (entry k at ∷ rest) moved) no_more
+  where
+    sums : (a h m n : ℕ) → suc n ≡ m → a ≤ h + n → a < h + m
+    sums a h m n e f = omega arith

@@ -1,3 +1,4 @@
 pub mod Corridors
 pub mod Stretches
 pub mod Searching
+pub mod Walking

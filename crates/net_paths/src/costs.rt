@@ -2,6 +2,7 @@
 
 ghost use Rattle.std.specs.Prelude.{◌≡◌, ◌<◌, ◌≤◌, ◌&&◌, IfOk, All, length};
 ghost use Rattle.fixed_plane.specs.Plane.{IsInPlane};
+ghost use Rattle.track_net.specs.Nets.{IsNet};
 ghost use Rattle.net_paths.specs.Searching.{dearest, flagged_cost, flags_of};
 
 use fixed_plane::dist2;
@@ -18,7 +19,8 @@ pub(crate) fn corridor_flags(
 ) -> Result<Vec<bool>, NoMemory>
     requires corridor_in_plane { All IsInPlane corridor.now }
     requires near_high { near ≤ 20000 }
-    ensures { IfOk result (λ flags. flags.items ≡ flags_of near corridor.now net.now.points) }
+    ensures flags { IfOk result (λ flags. flags.items ≡ flags_of near corridor.now net.now.points) }
+    ensures kept { IsNet net.now }
 {
     let mut flags = Vec::new(alloc);
     for i in 0..net.len() {

@@ -4,3 +4,7 @@
 mod costs;
 mod queue;
 mod search;
+mod stretch;
+mod walk;
+
+pub use stretch::stretch_path;

@@ -1,6 +1,6 @@
 //! The search for the least costs at which one point can be reached from others.
 
-ghost use Rattle.std.specs.Prelude.{◌≡◌, ◌*◌, ◌<◌, ◌≤◌, ◌↔◌, Some, IsTrue, IfOk, OnOk, length};
+ghost use Rattle.std.specs.Prelude.{◌≡◌, ◌*◌, ◌<◌, ◌≤◌, ◌↔◌, Some, None, [], IsTrue, IfOk, OnOk, length, replicate};
 ghost use Rattle.std.specs.BinaryHeap.{IsHeap, heap_items};
 ghost use Rattle.track_net.specs.Nets.{IsNet, Joins};
 ghost use Rattle.net_paths.specs.Searching.{IsSearched, IsSpread, dearest, known_at, queue_cmp};
@@ -28,13 +28,36 @@ pub(crate) fn costs_to(
 {
     let mut known = vec![in alloc; None; net.len()]?;
     let mut queue = Queue::new(alloc);
-    lower(&mut known, &mut queue, to, 0)?;
-    while let Some((cost, at)) = next(&mut queue, known[from as usize]) {
+    search(net, flags, from, to, &mut known, &mut queue)?;
+    Ok(known)
+}
+
+/// Fills a table in which nothing is known with the least costs at which `to` can be reached.
+fn search(
+    net: &Net,
+    flags: &[bool],
+    from: u32,
+    to: u32,
+    known: &mut [Option<u128>],
+    queue: &mut Queue,
+) -> Result<(), NoMemory>
+    requires kept { IsNet net.now }
+    requires from_in_range { from < length net.now.points }
+    requires to_in_range { to < length net.now.points }
+    requires joined { Joins net.now from to }
+    requires flag_each { length flags.now ≡ length net.now.points }
+    requires nothing_known { known.old ≡ replicate (length net.now.points) None }
+    requires nothing_waits { heap_items queue.old ≡ [] }
+    requires order { IsHeap queue_cmp (heap_items queue.old) }
+    ensures { OnOk result (IsSearched flags.now net.now from to known.new) }
+{
+    lower(known, queue, to, 0)?;
+    while let Some((cost, at)) = next(queue, known[from as usize]) {
         if is_known(known[at as usize], cost) {
-            spread(net, flags, at, cost, &mut known, &mut queue)?;
+            spread(net, flags, at, cost, known, queue)?;
         }
     }
-    Ok(known)
+    Ok(())
 }
 
 /// Whether this cost is the known one.

@@ -1,0 +1,76 @@
+//! The walk along known costs.
+
+ghost use Rattle.std.specs.Prelude.{◌≡◌, ℕ, ◌+◌, ◌<◌, ◌≤◌, ◌↔◌, Some, IsTrue, IfOk, IfSome, IfNone, length};
+ghost use Rattle.track_net.specs.Nets.{HasEdge, IsNet};
+ghost use Rattle.net_paths.specs.Walking.{DifferBy, IsLeastStep, IsWalked, KeepsCost};
+
+use crate::costs::cost_between;
+use map_base::NoMemory;
+use std::alloc::Global;
+use track_net::Net;
+
+/// Goes from a point along the known costs, each time to the least of the points to which an edge keeps the cost,
+/// until no edge does.
+pub(crate) fn walk(
+    alloc: Global,
+    net: &Net,
+    flags: &[bool],
+    known: &[Option<u128>],
+    from: u32,
+) -> Result<Vec<u32>, NoMemory>
+    requires kept { IsNet net.now }
+    requires from_in_range { from < length net.now.points }
+    requires flag_each { length flags.now ≡ length net.now.points }
+    requires cost_each { length known.now ≡ length net.now.points }
+    ensures { IfOk result (λ path. IsWalked flags.now net.now known.now from path.items) }
+{
+    let mut path = Vec::new(alloc);
+    path.push(from)?;
+    let mut at = from;
+    while let Some(next) = next_point(net, flags, known, at) {
+        path.push(next)?;
+        at = next;
+    }
+    Ok(path)
+}
+
+/// The least point to which an edge keeps the cost.
+fn next_point(net: &Net, flags: &[bool], known: &[Option<u128>], at: u32) -> Option<u32>
+    requires kept { IsNet net.now }
+    requires in_range { at < length net.now.points }
+    requires flag_each { length flags.now ≡ length net.now.points }
+    requires cost_each { length known.now ≡ length net.now.points }
+    ensures least { IfSome result (IsLeastStep flags.now net.now known.now at) }
+    ensures none { IfNone result ((other : ℕ) → HasEdge net.now at other → KeepsCost flags.now net.now known.now at other → ⊥) }
+{
+    for next in net.edges_of(at) {
+        let cost = cost_between(net, flags, at, *next);
+        if differ_by(known[at as usize], known[*next as usize], cost) {
+            return Some(*next);
+        }
+    }
+    None
+}
+
+/// Whether two costs are known, and the one is greater than the other by this much.
+fn differ_by(greater: Option<u128>, lesser: Option<u128>, by: u128) -> bool
+    ensures { IsTrue result ↔ DifferBy greater lesser by }
+{
+    match greater {
+        None => false,
+        Some(whole) => match lesser {
+            None => false,
+            Some(rest) => is_sum(whole, by, rest),
+        },
+    }
+}
+
+/// Whether a number is the sum of two others.
+fn is_sum(whole: u128, first: u128, second: u128) -> bool
+    ensures { IsTrue result ↔ (whole ≡ first + second) }
+{
+    if whole < first {
+        return false;
+    }
+    whole - first == second
+}
