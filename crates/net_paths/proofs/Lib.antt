@@ -2,3 +2,5 @@ mod Tables
 mod NetSteps
 mod Searches
 mod Spreading
+mod Rising
+mod Walked
