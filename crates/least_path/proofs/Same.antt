@@ -1,5 +1,5 @@
 -- Steps that are the same have the same paths.
-use Rattle.std.proofs.Common.{◌≡◌, ℕ, List, [], ◌∷◌}
+use Rattle.std.proofs.Common.{ℕ, List, [], ◌∷◌}
 use Rattle.least_path.specs.Paths.{Path, IsLeastPath}
 
 -- a path of steps is one of other steps, where each of its steps is one of these

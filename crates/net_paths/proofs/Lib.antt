@@ -4,3 +4,4 @@ mod Searches
 mod Spreading
 mod Rising
 mod Walked
+mod Examples

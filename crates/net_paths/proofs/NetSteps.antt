@@ -1,13 +1,10 @@
 -- Steps over the edges of a net.
-use Rattle.std.proofs.Common.{◌≡◌, ◌≢◌, refl, sym, ◌∙◌, ap, subst, ℕ, zero, suc, ◌+◌, ◌*◌, ◌<◌, ◌≤◌, ◌⊎◌, inl, inr, Bool, true, false, cond, ◌&&◌, List, [], ◌∷◌, map, length, get_or, Contains, arith}
+use Rattle.std.proofs.Common.{◌≡◌, refl, sym, ◌∙◌, ap, subst, ℕ, ◌+◌, ◌*◌, ◌<◌, ◌≤◌, ◌⊎◌, inl, inr, Bool, true, false, cond, ◌&&◌, List, [], ◌∷◌, get_or, arith}
 use Rattle.std.proofs.lemmas.Bool.{cases_lt}
-use Rattle.std.proofs.lemmas.List.{get_or-map, length-map}
-use Rattle.map_base.specs.declared.point.Point.{Point}
 use Rattle.fixed_plane.specs.Measures.{dist2_of}
-use Rattle.fixed_plane.proofs.Distances.{dist2_of_comm}
 use Rattle.least_path.specs.Paths.{Path, IsWeighted}
 use Rattle.track_net.specs.Nearness.{point_at}
-use Rattle.track_net.specs.Nets.{NetParts, IsNet, all_edges, net_over, edges_of_point, HasEdge, Leads, Joins}
+use Rattle.track_net.specs.Nets.{NetParts, IsNet, net_over, HasEdge, Leads}
 use Rattle.track_net.proofs.EdgeFacts.{IsEdge, IsEdge_symm, edge_of_net, has_edge_from, net_has_edge}
 use Rattle.track_net.proofs.Squares.{same_where_none}
 use Rattle.net_paths.specs.Searching.{flagged_cost, IsFlaggedStep}

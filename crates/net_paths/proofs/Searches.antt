@@ -1,16 +1,16 @@
 -- The search keeps its state: at its begin, where a cost is taken, lowered or followed, and at its end.
-use Rattle.std.proofs.Common.{◌≡◌, ◌≢◌, refl, sym, ◌∙◌, ap, subst, ℕ, zero, suc, ◌+◌, ◌*◌, ◌<◌, ◌≤◌, ◌⊎◌, inl, inr, Bool, List, [], ◌∷◌, Option, Some, None, length, get_or, set, replicate, Contains, IsPermutation, arith, length-set}
-use Rattle.std.proofs.lemmas.Bool.{cases_eq, cases_lt}
+use Rattle.std.proofs.Common.{◌≡◌, ◌≢◌, refl, sym, ◌∙◌, ap, subst, ℕ, suc, ◌+◌, ◌*◌, ◌<◌, ◌≤◌, ◌⊎◌, inl, inr, Bool, List, [], ◌∷◌, Option, Some, None, length, get_or, set, replicate, IsPermutation, arith, length-set}
+use Rattle.std.proofs.lemmas.Bool.{cases_eq}
 use Rattle.std.proofs.lemmas.List.{get_or_default, length-replicate}
 use Rattle.std.proofs.lemmas.List.Sorted.{IsPermutation-sym, length_permutation}
 use Rattle.std.specs.declared.cmp.Reverse.{Reverse}
 use Rattle.least_path.specs.Orders.{AtMost}
-use Rattle.least_path.specs.Paths.{Path, AreLeastCosts}
-use Rattle.least_path.proofs.Costs.{AtMost-le, known_at_most, least_when_closed}
+use Rattle.least_path.specs.Paths.{Path}
+use Rattle.least_path.proofs.Costs.{least_when_closed}
 use Rattle.track_net.specs.Nets.{NetParts, IsNet, HasEdge, edges_of_point, Joins}
 use Rattle.net_paths.specs.Searching.{flagged_cost, IsFlaggedStep, known_at, entry, Waits, IsBeyond, IsLowered, dearest, unknowns_of, height_of, left_of, IsFollowed, IsSearch, is_point_at, nothing, IsSearched}
-use Rattle.net_paths.proofs.Tables.{known_at-same, known_at-other, AtMost-lowered, unknowns_of-first, unknowns_of-again, below_known, height_of-lowered, Waits-pushed, Waits-new, Waits-cases, known_at-none, unknowns_of-none}
-use Rattle.net_paths.proofs.NetSteps.{edge_of, HasEdge_symm, path_of_leads}
+use Rattle.net_paths.proofs.Tables.{known_at-same, known_at-other, AtMost-lowered, unknowns_of-first, unknowns_of-again, below_known, Waits-pushed, Waits-new, Waits-cases, known_at-none, unknowns_of-none}
+use Rattle.net_paths.proofs.NetSteps.{HasEdge_symm, path_of_leads}
 
 -- a cost is in bounds where it and the number of points without one come to no more than all points together
 abbrev pub IsBounded : List (Option ℕ) → ℕ → Type 0

@@ -1,14 +1,12 @@
 -- The edges of a point are followed one by one.
-use Rattle.std.proofs.Common.{◌≡◌, ◌≢◌, refl, sym, ◌∙◌, ap, subst, ℕ, zero, suc, ◌+◌, ◌*◌, ◌<◌, ◌≤◌, ◌⊎◌, inl, inr, Bool, List, [], ◌∷◌, Option, Some, None, length, get_or, set, Contains, IsPermutation, arith, length-set}
-use Rattle.std.proofs.lemmas.Bool.{cases_eq, cases_lt}
+use Rattle.std.proofs.Common.{◌≡◌, ◌≢◌, refl, sym, ◌∙◌, ap, subst, ℕ, suc, ◌+◌, ◌*◌, ◌<◌, ◌≤◌, ◌⊎◌, inl, inr, Bool, List, ◌∷◌, Option, Some, length, get_or, set, Contains, arith, length-set}
+use Rattle.std.proofs.lemmas.Bool.{cases_lt}
 use Rattle.std.proofs.lemmas.List.Elements.{Contains-get_or}
 use Rattle.std.proofs.lemmas.List.Sorted.{length_permutation}
 use Rattle.std.specs.declared.cmp.Reverse.{Reverse}
 use Rattle.least_path.specs.Orders.{AtMost}
 use Rattle.least_path.specs.Paths.{Path}
-use Rattle.least_path.proofs.Costs.{AtMost-le}
 use Rattle.track_net.specs.Nets.{NetParts, IsNet, HasEdge, edges_of_point}
-use Rattle.track_net.proofs.EdgeFacts.{IsEdge}
 use Rattle.net_paths.specs.Searching.{flagged_cost, IsFlaggedStep, known_at, entry, IsLowered, dearest, height_of, left_of, IsSearch, is_point_at, nothing}
 use Rattle.net_paths.proofs.Tables.{known_at-same, known_at-other, AtMost-lowered, height_of-lowered}
 use Rattle.net_paths.proofs.NetSteps.{edge_of, HasEdge_symm}

@@ -1,9 +1,8 @@
-use Rattle.std.proofs.Common.{◌≡◌, refl, sym, ◌∙◌, ap, subst, ℕ, ◌<◌, ◌≤◌, Option, Some, None, List, [], ◌∷◌, length, replicate, IsPermutation, arith}
-use Rattle.std.specs.BinaryHeap.{IsHeap, heap_items}
+use Rattle.std.proofs.Common.{subst, ℕ, Option, None, List, [], length, replicate}
+use Rattle.std.specs.BinaryHeap.{heap_items}
 use Rattle.std.proofs.lemmas.Bool.{iff_false}
-use Rattle.net_paths.specs.Searching.{IsSearch, IsLowered, entry, known_at, left_of}
+use Rattle.net_paths.specs.Searching.{IsLowered}
 use Rattle.net_paths.proofs.Searches.{search_begins, search_taken, search_stale, search_ends, taken_in_range, less_left}
-use Rattle.net_paths.proofs.Spreading.{cost_in_bounds}
 use Rattle.net_paths.proofs.search.search.Goals as goal
 
 pub loop-cost-init : goal.loop-cost-init

@@ -1,6 +1,6 @@
-use Rattle.std.proofs.Common.{◌≡◌, refl, sym, ◌∙◌, ap, subst, ◌<◌, ◌≤◌, length, get_or, ℕ, arith}
+use Rattle.std.proofs.Common.{refl, ◌<◌, length, get_or, arith}
 use Rattle.std.specs.BinaryHeap.{heap_items}
-use Rattle.net_paths.specs.Searching.{IsLowered, left_of}
+use Rattle.net_paths.specs.Searching.{left_of}
 use Rattle.net_paths.proofs.Spreading.{spreading_begins, spreading_goes_on, spreading_ends, edge_in_range}
 use Rattle.net_paths.proofs.search.spread.Goals as goal
 

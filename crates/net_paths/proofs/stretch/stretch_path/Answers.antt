@@ -1,4 +1,4 @@
-use Rattle.std.proofs.Common.{◌≡◌, ◌≢◌, sym, ◌∙◌, ap, subst, ℕ, ◌<◌, Bool, Option, List, Result, Ok, Err, IfOk, length, arith}
+use Rattle.std.proofs.Common.{◌≢◌, sym, ◌∙◌, subst, ℕ, Bool, Option, List, Result, Ok, Err, IfOk, arith}
 use Rattle.net_paths.specs.Searching.{IsSearched}
 use Rattle.net_paths.specs.Stretches.{IsStretchPath}
 use Rattle.net_paths.specs.Walking.{IsWalked}

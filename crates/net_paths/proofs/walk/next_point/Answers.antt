@@ -1,6 +1,6 @@
-use Rattle.std.proofs.Common.{◌≡◌, refl, sym, ◌∙◌, ap, subst, ℕ, ◌+◌, ◌<◌, ◌≤◌, length, get_or, below_more, arith}
+use Rattle.std.proofs.Common.{refl, sym, subst, ℕ, ◌<◌, length, get_or, below_more, arith}
 use Rattle.std.proofs.lemmas.Bool.{iff_false}
-use Rattle.net_paths.specs.Searching.{flagged_cost, known_at}
+use Rattle.net_paths.specs.Searching.{known_at}
 use Rattle.net_paths.specs.Walking.{DifferBy, KeepsCost}
 use Rattle.net_paths.proofs.Spreading.{edge_in_range}
 use Rattle.net_paths.proofs.Walked.{least_at, none_keeps}

@@ -1,4 +1,4 @@
-use Rattle.std.proofs.Common.{◌≡◌, refl, sym, ◌∙◌, ap, subst, ℕ, ◌<◌, List, [], ◌∷◌, ◌++◌, length}
+use Rattle.std.proofs.Common.{sym, ◌∙◌, ap, subst, ℕ, List, [], ◌∷◌, ◌++◌}
 use Rattle.net_paths.proofs.Walked.{walking_begins, walking_goes_on, walking_ends, nearer, next_in_range, IsWalking}
 use Rattle.net_paths.proofs.walk.walk.Goals as goal
 
