@@ -3,7 +3,7 @@
 ghost use Rattle.std.specs.Prelude.{◌≡◌, ◌+◌, ◌<◌, ◌≤◌, [], IfOk, IfErr, length, vec_len, All, Some, None};
 ghost use Rattle.fixed_plane.specs.Plane.{IsInPlane};
 ghost use Rattle.shape_track.specs.Faults.{HasCause};
-ghost use Rattle.shape_track.specs.Samples.{samples_of};
+ghost use Rattle.shape_track.specs.Samples.{Joins, first_of, last_of, samples_of};
 
 use crate::fault::SampleFault;
 use crate::sampler::Sampler;
@@ -21,6 +21,10 @@ pub fn sample(alloc: Global, points: &[Point], near: u32, most: u64) -> Result<V
     ensures samples { IfOk result (λ samples. samples.items ≡ samples_of near points.now) }
     ensures within { IfOk result (λ samples. vec_len samples ≤ most) }
     ensures cause { IfErr result (λ fault. HasCause most (length (samples_of near points.now)) fault) }
+
+    // They begin and end where the points do, each is close to the next, and they are in the plane.
+    ensures joins { IfOk result (λ samples. Joins near (first_of points.now) (last_of points.now) samples.items) }
+    ensures in_plane { IfOk result (λ samples. All IsInPlane samples.items) }
 {
     let sampler = counted_samples(alloc, points, near, 0, most)?;
     Ok(sampler.kept)

@@ -8,6 +8,12 @@ use Rattle.shape_track.specs.Hops.{hop_points, hops_of, total_of}
 use Rattle.shape_track.proofs.Keeping.{HasCause-more}
 use Rattle.shape_track.proofs.Courses.{point_at}
 use Rattle.shape_track.proofs.HopLemmas.{places_count, place_in_range, places_rise, hop_at, hops_of-end, lists_of, hops_pushed, total_pushed, hop_counted}
+use Rattle.std.specs.List.{All}
+use Rattle.std.proofs.lemmas.List.{length-map, get_or-map}
+use Rattle.fixed_plane.specs.Plane.{IsInPlane}
+use Rattle.shape_track.specs.Hops.{AreJoined}
+use Rattle.shape_track.proofs.Closeness.{hops_joined}
+use Rattle.shape_track.proofs.InPlane.{hops_in_plane}
 use Rattle.shape_track.proofs.tracking.track.Goals as goal
 
 pub bounds-places-index : goal.bounds-places-index
@@ -89,3 +95,21 @@ pub returns-clause-within : goal.returns-clause-within
 returns-clause-within c =
     let whole = whole_at_end c.args.near c.args.samples.now c.args.stations.now c.args.places.now c.loop-index.index c.loop-index.hops.items (omega arith) c.loop-index.invariant.kept in
     subst (λ (n : ℕ). n ≤ c.args.most) (c.loop-index.invariant.counted ∙ ap total_of whole) c.loop-index.invariant.within
+
+pub returns-clause-joined : goal.returns-clause-joined
+returns-clause-joined c =
+    let whole = whole_at_end c.args.near c.args.samples.now c.args.stations.now c.args.places.now c.loop-index.index c.loop-index.hops.items (omega arith) c.loop-index.invariant.kept in
+    subst (λ (hops : List (List Point)). AreJoined c.args.near c.args.stations.now hops) (sym whole)
+    (hops_joined c.args.near 0 (length c.args.samples.now) c.args.samples.now c.args.stations.now c.args.places.now c.requires.near_low c.requires.placed)
+
+-- what holds of each list that vectors hold
+of_lists : (P : List Point → Type 0) (hops : List (Vec Point Global)) → All P (lists_of hops) → All (λ hop. P hop.items) hops
+of_lists P hops all = λ k d below.
+    subst P (get_or-map (λ (v : Vec Point Global). v.items) hops k d d.items below) (all k d.items (rw length-map below))
+
+pub returns-clause-in_plane : goal.returns-clause-in_plane
+returns-clause-in_plane c =
+    let whole = whole_at_end c.args.near c.args.samples.now c.args.stations.now c.args.places.now c.loop-index.index c.loop-index.hops.items (omega arith) c.loop-index.invariant.kept in
+    of_lists (λ (hop : List Point). All IsInPlane hop) c.loop-index.hops.items
+    (subst (λ (hops : List (List Point)). All (λ hop. All IsInPlane hop) hops) (sym whole)
+        (hops_in_plane c.args.near c.args.samples.now c.args.stations.now c.args.places.now c.requires.samples_in_plane c.requires.stations_in_plane))
