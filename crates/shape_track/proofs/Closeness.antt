@@ -29,6 +29,7 @@ part_point-first a b n =
   where
     none : (x : ℤ) → x +ℤ pos 0 ≡ x
     none x = omega (arith, ints)
+
     nothing : (x z : ℤ) → x +ℤ floor_quotient (z *ℤ pos 0) n ≡ x
     nothing x z = ap (λ p. x +ℤ floor_quotient p n) (*ℤ-zero z) ∙ ap (λ q. x +ℤ pos q) (zero_div n) ∙ none x
       where
@@ -41,14 +42,17 @@ floor_quotient-whole z n some =
     let u = floor_quotient (z *ℤ pos n) n in
     let product : (z -ℤ u) *ℤ pos n ≡ z *ℤ pos n -ℤ u *ℤ pos n = -ℤ-*ℤ z u (pos n) in
     equal u z (none (z -ℤ u) (low (z *ℤ pos n) (u *ℤ pos n) ((z -ℤ u) *ℤ pos n) product (floor_quotient-lower (z *ℤ pos n) n some))
-        (high (z *ℤ pos n) (u *ℤ pos n) ((z -ℤ u) *ℤ pos n) product (floor_quotient-upper (z *ℤ pos n) n some)))
+    (high (z *ℤ pos n) (u *ℤ pos n) ((z -ℤ u) *ℤ pos n) product (floor_quotient-upper (z *ℤ pos n) n some)))
   where
     low : (p q w : ℤ) → w ≡ p -ℤ q → q ≤ℤ p → pos 0 ≤ℤ w
     low p q w e h = omega (arith, ints)
+
     high : (p q w : ℤ) → w ≡ p -ℤ q → p <ℤ (q +ℤ pos n) → w <ℤ pos n
     high p q w e h = omega (arith, ints)
+
     equal : (u z : ℤ) → z -ℤ u ≡ pos 0 → u ≡ z
     equal u z e = omega (arith, ints)
+
     none : (w : ℤ) → pos 0 ≤ℤ (w *ℤ pos n) → (w *ℤ pos n) <ℤ pos n → w ≡ pos 0
     none (pos zero) h k = refl
     none (pos (suc m)) h k = absurd (clash m n k)
@@ -68,6 +72,7 @@ part_point-last a b n some =
   where
     back : (x y : ℤ) → x +ℤ (y -ℤ x) ≡ y
     back x y = omega (arith, ints)
+
     there : (x y : ℤ) → x +ℤ floor_quotient ((y -ℤ x) *ℤ pos n) n ≡ y
     there x y = ap (λ q. x +ℤ q) (floor_quotient-whole (y -ℤ x) n some) ∙ back x y
 
@@ -81,11 +86,11 @@ parts_close near a b i low =
     let s = unsigned_abs (floor_quotient (x *ℤ pos (i + 1)) n -ℤ floor_quotient (x *ℤ pos i) n) in
     let t = unsigned_abs (floor_quotient (y *ℤ pos (i + 1)) n -ℤ floor_quotient (y *ℤ pos i) n) in
     let near_by : s * s + t * t ≤ near * near =
-        steps_near near n (unsigned_abs x) (unsigned_abs y) s t low some (parts_of-reaches near (dist2_of a b) (omega arith)) (step_within x n i some) (step_within y n i some) in
+    steps_near near n (unsigned_abs x) (unsigned_abs y) s t low some (parts_of-reaches near (dist2_of a b) (omega arith)) (step_within x n i some) (step_within y n i some) in
     subst (λ (d : ℕ). d ≤ near * near)
     (ap (λ m. m * m + t * t) (shifted a.x (floor_quotient (x *ℤ pos i) n) (floor_quotient (x *ℤ pos (i + 1)) n))
     ∙ ap (λ m. unsigned_abs ((a.x +ℤ floor_quotient (x *ℤ pos (i + 1)) n) -ℤ (a.x +ℤ floor_quotient (x *ℤ pos i) n)) * unsigned_abs ((a.x +ℤ floor_quotient (x *ℤ pos (i + 1)) n) -ℤ (a.x +ℤ floor_quotient (x *ℤ pos i) n)) + m * m)
-        (shifted a.y (floor_quotient (y *ℤ pos i) n) (floor_quotient (y *ℤ pos (i + 1)) n))) near_by
+    (shifted a.y (floor_quotient (y *ℤ pos i) n) (floor_quotient (y *ℤ pos (i + 1)) n))) near_by
   where
     shifted : (x u v : ℤ) → unsigned_abs (v -ℤ u) ≡ unsigned_abs ((x +ℤ v) -ℤ (x +ℤ u))
     shifted x u v = let same : v -ℤ u ≡ (x +ℤ v) -ℤ (x +ℤ u) = omega (arith, ints) in ap unsigned_abs same
@@ -96,9 +101,10 @@ close_from : (near : ℕ) (a b : Point) (rest : List Point) → 20 ≤ near → 
 close_from near a b rest low after zero i at_end = after
 close_from near a b rest low after (suc zero) i at_end =
     let n = parts_of near (dist2_of a b) in
-    let next : i + 1 ≡ n = omega arith in
-    ( subst (λ (q : Point). dist2_of (part_point a b n i) q ≤ near * near) (ap (part_point a b n) next ∙ part_point-last a b n (parts_of-some near (dist2_of a b))) (parts_close near a b i low)
-    , after )
+    let next : i + 1 ≡ n = omega arith in (
+      subst (λ (q : Point). dist2_of (part_point a b n i) q ≤ near * near) (ap (part_point a b n) next ∙ part_point-last a b n (parts_of-some near (dist2_of a b))) (parts_close near a b i low),
+      after,
+    )
 close_from near a b rest low after (suc (suc m)) i at_end =
     (parts_close near a b i low, close_from near a b rest low after (suc m) (i + 1) (omega arith))
 
@@ -148,13 +154,16 @@ is_point-true p q e =
     first : (a b : Bool) → (a && b) ≡ true → a ≡ true
     first true b h = refl
     first false b h = cc
+
     second : (a b : Bool) → (a && b) ≡ true → b ≡ true
     second true b h = h
     second false b h = cc
+
     equal : (o : Ordering) → is_eq o ≡ true → o ≡ Equal
     equal Less h = cc
     equal Equal h = refl
     equal Greater h = cc
+
     same : (x y : ℤ) → int_eq x y ≡ true → x ≡ y
     same x y h = int_ranked x y Equal (sym (equal (int_cmp x y) h))
 
@@ -162,16 +171,16 @@ kept_close : (near : ℕ) (p : Point) (ps : List Point) → AreClose near (p ∷
 kept_close near p [] close = tt
 kept_close near p (q ∷ qs) close =
     (elim (is_point p q) as (λ b. is_point p q ≡ b → AreClose near (p ∷ (cond b [] (q ∷ []) ++ without_repeats (Some q) qs))) [
-    | true ↦ λ e. subst (λ (x : Point). AreClose near (x ∷ without_repeats (Some q) qs)) (sym (is_point-true p q e)) (kept_close near q qs close.1)
-    | false ↦ λ e. (close.0, kept_close near q qs close.1)
+      | true ↦ λ e. subst (λ (x : Point). AreClose near (x ∷ without_repeats (Some q) qs)) (sym (is_point-true p q e)) (kept_close near q qs close.1)
+      | false ↦ λ e. (close.0, kept_close near q qs close.1)
     ]) refl
 
 kept_ends : (p : Point) (ps : List Point) → last_of (p ∷ without_repeats (Some p) ps) ≡ last_of (p ∷ ps)
 kept_ends p [] = refl
 kept_ends p (q ∷ qs) =
     (elim (is_point p q) as (λ b. is_point p q ≡ b → last_of (p ∷ (cond b [] (q ∷ []) ++ without_repeats (Some q) qs)) ≡ last_of (q ∷ qs)) [
-    | true ↦ λ e. ap (λ x. last_of (x ∷ without_repeats (Some q) qs)) (is_point-true p q e) ∙ kept_ends q qs
-    | false ↦ λ e. kept_ends q qs
+      | true ↦ λ e. ap (λ x. last_of (x ∷ without_repeats (Some q) qs)) (is_point-true p q e) ∙ kept_ends q qs
+      | false ↦ λ e. kept_ends q qs
     ]) refl
 
 -- the samples of a course join its ends
@@ -191,6 +200,7 @@ hops_joined near floor n samples [] is low placed = tt
 hops_joined near floor n samples (s ∷ []) is low placed = tt
 hops_joined near floor n samples (s ∷ t ∷ ss) [] low placed = absurd placed
 hops_joined near floor n samples (s ∷ t ∷ ss) (i ∷ []) low placed = absurd placed.2
-hops_joined near floor n samples (s ∷ t ∷ ss) (i ∷ j ∷ is) low placed =
-    ( subst (λ (to : Option Point). Joins near (Some s) to (samples_of near (hop_points samples s i t j))) (last_of-append (s ∷ slice_range samples i (j + 1)) t []) (samples_join near (hop_points samples s i t j) low)
-    , hops_joined near i n samples (t ∷ ss) (j ∷ is) low placed.2 )
+hops_joined near floor n samples (s ∷ t ∷ ss) (i ∷ j ∷ is) low placed = (
+  subst (λ (to : Option Point). Joins near (Some s) to (samples_of near (hop_points samples s i t j))) (last_of-append (s ∷ slice_range samples i (j + 1)) t []) (samples_join near (hop_points samples s i t j) low),
+  hops_joined near i n samples (t ∷ ss) (j ∷ is) low placed.2,
+)

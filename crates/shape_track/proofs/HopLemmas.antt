@@ -59,7 +59,7 @@ hops_of-step near samples stations places i some below count =
     ap (λ ss. hops_of near samples ss (drop (i - 1) places)) (two_from stations origin i some below)
     ∙ ap (λ is. hops_of near samples (point_at stations (i - 1) ∷ (point_at stations i ∷ drop (i + 1) stations)) is) (two_from places 0 i some place_below)
     ∙ sym (ap (λ ss. hop_at near samples stations places i ∷ hops_of near samples ss (drop (i + 1 - 1) places)) (next_from stations origin i below)
-        ∙ ap (λ is. hop_at near samples stations places i ∷ hops_of near samples (point_at stations i ∷ drop (i + 1) stations) is) (next_from places 0 i place_below))
+    ∙ ap (λ is. hop_at near samples stations places i ∷ hops_of near samples (point_at stations i ∷ drop (i + 1) stations) is) (next_from places 0 i place_below))
 
 -- no hop begins at the last station
 pub hops_of-end : (near : ℕ) (samples stations : List Point) (places : List ℕ) (i : ℕ) → length stations ≤ i → hops_of near samples (drop (i - 1) stations) places ≡ []
@@ -97,9 +97,9 @@ pub hop_counted : (hops : List (Vec Point Global)) (near : ℕ) (samples station
 hop_counted hops near samples stations places whole i some below count kept =
     let rest = hops_of near samples (drop (i + 1 - 1) stations) (drop (i + 1 - 1) places) in
     let all : total_of whole ≡ total_of (lists_of hops) + ((0 + length (hop_at near samples stations places i)) + total_of rest) =
-        sym (ap total_of kept) ∙ ap (λ xs. total_of (lists_of hops ++ xs)) (hops_of-step near samples stations places i some below count)
-        ∙ sum_by-append length (lists_of hops) (hop_at near samples stations places i ∷ rest)
-        ∙ ap (λ n. total_of (lists_of hops) + n) (sum_by-append length (hop_at near samples stations places i ∷ []) rest) in
+    sym (ap total_of kept) ∙ ap (λ xs. total_of (lists_of hops ++ xs)) (hops_of-step near samples stations places i some below count)
+    ∙ sum_by-append length (lists_of hops) (hop_at near samples stations places i ∷ rest)
+    ∙ ap (λ n. total_of (lists_of hops) + n) (sum_by-append length (hop_at near samples stations places i ∷ []) rest) in
     part (total_of whole) (total_of (lists_of hops)) (length (hop_at near samples stations places i)) (total_of rest) all
   where
     part : (w t n r : ℕ) → w ≡ t + ((0 + n) + r) → t + n ≤ w

@@ -75,8 +75,8 @@ kept_in_plane : (before : Option Point) (ps : List Point) → All IsInPlane ps �
 kept_in_plane before [] all = all
 kept_in_plane before (p ∷ ps) all =
     elim (is_repeat before p) as (λ b. All IsInPlane (cond b [] (p ∷ []) ++ without_repeats (Some p) ps)) [
-    | true ↦ kept_in_plane (Some p) ps (tail_of p ps all)
-    | false ↦ All-cons IsInPlane p (without_repeats (Some p) ps) (head_of p ps all) (kept_in_plane (Some p) ps (tail_of p ps all))
+      | true ↦ kept_in_plane (Some p) ps (tail_of p ps all)
+      | false ↦ All-cons IsInPlane p (without_repeats (Some p) ps) (head_of p ps all) (kept_in_plane (Some p) ps (tail_of p ps all))
     ]
 
 pub samples_in_plane : (near : ℕ) (ps : List Point) → All IsInPlane ps → All IsInPlane (samples_of near ps)
@@ -86,7 +86,7 @@ hop_points_in_plane : (samples : List Point) (from : Point) (i : ℕ) (to : Poin
 hop_points_in_plane samples from i to j all first last =
     All-cons IsInPlane from (slice_range samples i (j + 1) ++ to ∷ []) first
     (All-append IsInPlane (slice_range samples i (j + 1)) (to ∷ []) (All-take IsInPlane (j + 1 - i) (drop i samples) (All-drop IsInPlane i samples all))
-        (All-cons IsInPlane to [] last (All-nil IsInPlane)))
+    (All-cons IsInPlane to [] last (All-nil IsInPlane)))
 
 pub hops_in_plane : (near : ℕ) (samples ss : List Point) (is : List ℕ) → All IsInPlane samples → All IsInPlane ss → All (λ hop. All IsInPlane hop) (hops_of near samples ss is)
 hops_in_plane near samples [] is all stations = All-nil (λ (hop : List Point). All IsInPlane hop)

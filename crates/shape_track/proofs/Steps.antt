@@ -18,17 +18,17 @@ reaches_within : (near d n more : ℕ) → 4 * d ≤ (n + more) * (n + more) * (
 reaches_within near d n zero far = let same : n + 0 ≡ n = omega arith in subst (λ (m : ℕ). 4 * d ≤ m * m * (near * near)) same far
 reaches_within near d n (suc more) far =
     (elim (reaches near d n) as (λ b. reaches near d n ≡ b →
-        4 * d ≤ elim b [ true ↦ n | false ↦ first_that_reaches near d (n + 1) more ] * elim b [ true ↦ n | false ↦ first_that_reaches near d (n + 1) more ] * (near * near)) [
-    | true ↦ λ e. leb-true (4 * d) (n * n * (near * near)) e
-    | false ↦ λ e. reaches_within near d (n + 1) more (let same : n + suc more ≡ n + 1 + more = omega arith in subst (λ (m : ℕ). 4 * d ≤ m * m * (near * near)) same far)
+    4 * d ≤ elim b [ true ↦ n | false ↦ first_that_reaches near d (n + 1) more ] * elim b [ true ↦ n | false ↦ first_that_reaches near d (n + 1) more ] * (near * near)) [
+      | true ↦ λ e. leb-true (4 * d) (n * n * (near * near)) e
+      | false ↦ λ e. reaches_within near d (n + 1) more (let same : n + suc more ≡ n + 1 + more = omega arith in subst (λ (m : ℕ). 4 * d ≤ m * m * (near * near)) same far)
     ]) refl
 
 at_least : (near d n more : ℕ) → n ≤ first_that_reaches near d n more
 at_least near d n zero = le_refl n
 at_least near d n (suc more) =
     elim (reaches near d n) as (λ b. n ≤ elim b [ true ↦ n | false ↦ first_that_reaches near d (n + 1) more ]) [
-    | true ↦ le_refl n
-    | false ↦ let next : n + 1 ≤ first_that_reaches near d (n + 1) more = at_least near d (n + 1) more in omega arith
+      | true ↦ le_refl n
+      | false ↦ let next : n + 1 ≤ first_that_reaches near d (n + 1) more = at_least near d (n + 1) more in omega arith
     ]
 
 pub parts_of-some : (near d : ℕ) → 1 ≤ parts_of near d
@@ -55,12 +55,13 @@ step_within z n i some =
     let v = floor_quotient (z *ℤ pos (i + 1)) n in
     let size : unsigned_abs ((v -ℤ u) *ℤ pos n) ≡ unsigned_abs (v -ℤ u) * n = unsigned_abs-mul (v -ℤ u) (pos n) in
     let bound : unsigned_abs ((v -ℤ u) *ℤ pos n) ≤ unsigned_abs z + n =
-        between ((v -ℤ u) *ℤ pos n) (v *ℤ pos n) (u *ℤ pos n) (z *ℤ pos i) (z *ℤ pos (i + 1)) z n (-ℤ-*ℤ v u (pos n)) (next_product z i)
-        (floor_quotient-lower (z *ℤ pos i) n some) (floor_quotient-upper (z *ℤ pos i) n some) (floor_quotient-lower (z *ℤ pos (i + 1)) n some) (floor_quotient-upper (z *ℤ pos (i + 1)) n some) in
+    between ((v -ℤ u) *ℤ pos n) (v *ℤ pos n) (u *ℤ pos n) (z *ℤ pos i) (z *ℤ pos (i + 1)) z n (-ℤ-*ℤ v u (pos n)) (next_product z i)
+    (floor_quotient-lower (z *ℤ pos i) n some) (floor_quotient-upper (z *ℤ pos i) n some) (floor_quotient-lower (z *ℤ pos (i + 1)) n some) (floor_quotient-upper (z *ℤ pos (i + 1)) n some) in
     turned n (unsigned_abs (v -ℤ u)) (unsigned_abs ((v -ℤ u) *ℤ pos n)) (unsigned_abs z + n) size bound
   where
     between : (w v u a b z : ℤ) (n : ℕ) → w ≡ v -ℤ u → b ≡ a +ℤ z → u ≤ℤ a → a <ℤ (u +ℤ pos n) → v ≤ℤ b → b <ℤ (v +ℤ pos n) → unsigned_abs w ≤ unsigned_abs z + n
     between w v u a b z n e f h k l m = omega (arith, ints)
+
     turned : (n s p q : ℕ) → p ≡ s * n → p ≤ q → n * s ≤ q
     turned n s p q e h = omega arith
 
@@ -91,5 +92,6 @@ steps_near near n x y s t low some far across along =
   where
     roomy : (near : ℕ) → 20 ≤ near → 8 * near + 8 ≤ 3 * (near * near)
     roomy near low = let product : 20 * near ≤ near * near = mul-le-mul_right near low in omega arith
+
     quarter : (a b : ℕ) → 4 * a ≤ 4 * b → a ≤ b
     quarter a b h = omega arith

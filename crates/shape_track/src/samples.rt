@@ -14,7 +14,12 @@ use std::alloc::Global;
 /// half of `near`, and the samples are where the parts begin, rounded downwards, and then the last point. A
 /// sample that equals the one before it is left out. There is a limit where there are more than `most`
 /// samples, and no more than `most` are made.
-pub fn sample(alloc: Global, points: &[Point], near: u32, most: u64) -> Result<Vec<Point>, SampleFault>
+pub fn sample(
+    alloc: Global,
+    points: &[Point],
+    near: u32,
+    most: u64,
+) -> Result<Vec<Point>, SampleFault>
     requires some { 0 < length points.now }
     requires in_plane { All IsInPlane points.now }
     requires near_low { 20 ≤ near }

@@ -39,7 +39,14 @@ pub fn track(
     let mut count = 0;
     for index in 1..stations.len() {
         let (from, to) = (places[index - 1] as usize, places[index] as usize);
-        let course = hop_course(alloc, samples, stations[index - 1], from, stations[index], to)?;
+        let course = hop_course(
+            alloc,
+            samples,
+            stations[index - 1],
+            from,
+            stations[index],
+            to,
+        )?;
         let sampler = counted_samples(alloc, &course, near, count, most)?;
         count = sampler.count;
         hops.push(sampler.kept)?;

@@ -53,13 +53,13 @@ loop-index-preserved c =
     let hop_is : hop.items ≡ hop_at near samples stations places i = c.in_ok-sampler.ensures.samples ∙ is in
     let pushed : c.push.new.self.items ≡ hops ++ hop ∷ [] = c.in_ok-push.ensures.items in
     record {
-        kept = ap (λ (hs : List (Vec Point Global)). lists_of hs ++ hops_of near samples (drop (i + 1 - 1) stations) (drop (i + 1 - 1) places)) pushed
-            ∙ hops_pushed hops hop near samples stations places (hops_of near samples stations places) i (omega arith) c.loop-index-test.true count hop_is c.loop-index.invariant.kept;
-        counted = c.in_ok-sampler.ensures.count
-            ∙ ap (λ n. n + length (samples_of near c.deref.result.now)) c.loop-index.invariant.counted
-            ∙ ap (λ xs. total_of (lists_of hops) + length xs) (sym c.in_ok-sampler.ensures.samples)
-            ∙ sym (total_pushed hops hop) ∙ ap (λ (hs : List (Vec Point Global)). total_of (lists_of hs)) (sym pushed);
-        within = c.in_ok-sampler.ensures.within;
+      kept = ap (λ (hs : List (Vec Point Global)). lists_of hs ++ hops_of near samples (drop (i + 1 - 1) stations) (drop (i + 1 - 1) places)) pushed
+          ∙ hops_pushed hops hop near samples stations places (hops_of near samples stations places) i (omega arith) c.loop-index-test.true count hop_is c.loop-index.invariant.kept;
+      counted = c.in_ok-sampler.ensures.count
+          ∙ ap (λ n. n + length (samples_of near c.deref.result.now)) c.loop-index.invariant.counted
+          ∙ ap (λ xs. total_of (lists_of hops) + length xs) (sym c.in_ok-sampler.ensures.samples)
+          ∙ sym (total_pushed hops hop) ∙ ap (λ (hs : List (Vec Point Global)). total_of (lists_of hs)) (sym pushed);
+      within = c.in_ok-sampler.ensures.within;
     }
 
 pub returns-in_err-sampler-clause-cause : goal.returns-in_err-sampler-clause-cause
@@ -74,11 +74,11 @@ returns-in_err-sampler-clause-cause c =
     let count = places_count 0 (length samples) stations places c.requires.placed in
     let is = sampled near samples stations places i c.in_ok-course.course.items c.deref.result.now c.deref.ensures.value c.in_ok-course.ensures.points in
     let part : total_of (lists_of hops) + length (hop_at near samples stations places i) ≤ total_of whole =
-        hop_counted hops near samples stations places whole i (omega arith) c.loop-index-test.true count c.loop-index.invariant.kept in
+    hop_counted hops near samples stations places whole i (omega arith) c.loop-index-test.true count c.loop-index.invariant.kept in
     let more : c.loop-index.count + length (samples_of near c.deref.result.now) ≤ total_of whole =
-        subst (λ (n : ℕ). n ≤ total_of whole) (sym (ap (λ n. n + length (samples_of near c.deref.result.now)) c.loop-index.invariant.counted ∙ ap (λ xs. total_of (lists_of hops) + length xs) is)) part in
+    subst (λ (n : ℕ). n ≤ total_of whole) (sym (ap (λ n. n + length (samples_of near c.deref.result.now)) c.loop-index.invariant.counted ∙ ap (λ xs. total_of (lists_of hops) + length xs) is)) part in
     let cause : HasCause c.args.most (total_of whole) c.in_err-sampler.field-0.0 =
-        HasCause-more c.args.most (c.loop-index.count + length (samples_of near c.deref.result.now)) (total_of whole) c.in_err-sampler.field-0.0 more c.in_err-sampler.ensures.cause in
+    HasCause-more c.args.most (c.loop-index.count + length (samples_of near c.deref.result.now)) (total_of whole) c.in_err-sampler.field-0.0 more c.in_err-sampler.ensures.cause in
     search (rules, cause)
 
 -- at the end the hops are whole
@@ -112,4 +112,4 @@ returns-clause-in_plane c =
     let whole = whole_at_end c.args.near c.args.samples.now c.args.stations.now c.args.places.now c.loop-index.index c.loop-index.hops.items (omega arith) c.loop-index.invariant.kept in
     of_lists (λ (hop : List Point). All IsInPlane hop) c.loop-index.hops.items
     (subst (λ (hops : List (List Point)). All (λ hop. All IsInPlane hop) hops) (sym whole)
-        (hops_in_plane c.args.near c.args.samples.now c.args.stations.now c.args.places.now c.requires.samples_in_plane c.requires.stations_in_plane))
+    (hops_in_plane c.args.near c.args.samples.now c.args.stations.now c.args.places.now c.requires.samples_in_plane c.requires.stations_in_plane))
