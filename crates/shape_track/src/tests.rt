@@ -1,6 +1,6 @@
 //! Cases that were worked by hand, over all lists where there are ties.
 
-ghost use Rattle.std.specs.Prelude.{◌≡◌, IfOk, length, All};
+ghost use Rattle.std.specs.Prelude.{◌≡◌, ◌<◌, IfOk, length, All};
 ghost use Rattle.fixed_plane.specs.Plane.{IsInPlane};
 
 use super::*;
