@@ -1,16 +1,15 @@
 -- Rows of choices, from the last station to the first, and the snap that they lead to.
-use Rattle.std.proofs.Common.{◌≡◌, ◌≢◌, refl, sym, ◌∙◌, ap, subst, ℕ, zero, suc, ◌+◌, ◌-◌, ◌<◌, ◌≤◌, Bool, true, false, List, [], ◌∷◌, ◌++◌, length, get_or, drop, take, Vec, ◌⊎◌, inl, inr, arith, append-nil, append_assoc, length-append}
+use Rattle.std.proofs.Common.{◌≡◌, refl, sym, ◌∙◌, ap, subst, ℕ, ◌+◌, ◌-◌, ◌<◌, ◌≤◌, Bool, true, List, [], ◌∷◌, ◌++◌, length, get_or, drop, take, Vec, ◌⊎◌, inl, inr, arith, append-nil, append_assoc, length-append}
 use Rattle.std.specs.Global.{Global}
 use Rattle.std.proofs.Math.ListN.{get_or-append}
 use Rattle.std.proofs.Math.Seq.{get_or-append_seam}
 use Rattle.std.proofs.lemmas.Bool.{cases_lt}
 use Rattle.std.proofs.lemmas.List.{drop_all, take_all}
 use Rattle.map_base.specs.declared.point.Point.{Point}
-use Rattle.shape_track.specs.Snaps.{ArePlacesFrom, cost_of, is_not_after, IsSnapFrom}
-use Rattle.shape_track.specs.Sweeps.{taken_at, AreLeastCosts, IsSweptDown, LeadsTo, Leads}
+use Rattle.shape_track.specs.Snaps.{IsSnapFrom}
+use Rattle.shape_track.specs.Sweeps.{taken_at, LeadsTo, Leads}
 use Rattle.shape_track.specs.Rows.{LeadsFirst, AreRows}
 use Rattle.shape_track.proofs.Courses.{point_at, from_place}
-use Rattle.shape_track.proofs.Leading.{swept_least, leads_of}
 
 -- what is written to a whole slice of a vector is all of it
 pub written_whole : (xs ys : List ℕ) (n : ℕ) → length xs ≡ n → length ys ≡ n → take n (xs ++ drop (length xs) ys) ≡ xs
@@ -50,7 +49,7 @@ pub snap_goes_on : (samples stations : List Point) (places : List ℕ) (row : Li
 snap_goes_on samples stations places row index floor place below leads within to whole rest snap =
     let here : drop index stations ≡ point_at stations index ∷ drop (index + 1) stations = from_place stations index below in
     let row_leads : Leads samples (point_at stations index) (drop (index + 1) stations) row =
-        subst (λ (ss : List Point). LeadsFirst samples ss row) here leads in
+    subst (λ (ss : List Point). LeadsFirst samples ss row) here leads in
     let begun : IsSnapFrom floor samples (point_at stations index ∷ drop (index + 1) stations) (place ∷ rest) = row_leads.begins floor place rest within to snap in
     subst (λ (ps : List ℕ). IsSnapFrom 0 samples stations ps) (sym (append_assoc places (place ∷ []) rest))
     (whole (place ∷ rest) (subst (λ (ss : List Point). IsSnapFrom floor samples ss (place ∷ rest)) (sym here) begun))
@@ -67,5 +66,5 @@ pub row_whole : (samples stations : List Point) (row : List Bool) (index : ℕ) 
     (length row ≡ length samples) × (taken_at row (length samples - 1) ≡ true)
 row_whole samples stations row index below leads =
     let row_leads : Leads samples (point_at stations index) (drop (index + 1) stations) row =
-        subst (λ (ss : List Point). LeadsFirst samples ss row) (from_place stations index below) leads in
+    subst (λ (ss : List Point). LeadsFirst samples ss row) (from_place stations index below) leads in
     (row_leads.count, row_leads.last)

@@ -1,4 +1,5 @@
-use Rattle.std.specs.Prelude.{◌≡◌, ℕ, ◌+◌, ◌-◌, ◌*◌, ◌<◌, ◌≤◌, min, Bool, true, false, nat_le, List, [], ◌∷◌, drop, length, slice_index, slice_index_or}
+-- Least costs of the stations from one on, for each place from which they may be placed.
+use Rattle.std.specs.Prelude.{◌≡◌, ℕ, ◌+◌, ◌-◌, ◌*◌, ◌<◌, ◌≤◌, min, Bool, true, false, nat_le, List, ◌∷◌, length, slice_index, slice_index_or}
 use Rattle.map_base.specs.declared.point.Point.{Point}
 use Rattle.fixed_plane.specs.Measures.{dist2_of}
 use Rattle.shape_track.specs.Snaps.{sample_at, ArePlacesFrom, cost_of, IsSnapFrom}
@@ -43,7 +44,7 @@ pub record Leads (samples : List Point) (station : Point) (later : List Point) (
   pub count : length row ≡ length samples
   pub last : taken_at row (length samples - 1) ≡ true
   pub begins : (floor place : ℕ) (rest : List ℕ) → place < length samples → LeadsTo row floor place → IsSnapFrom place samples later rest →
-    IsSnapFrom floor samples (station ∷ later) (place ∷ rest)
+      IsSnapFrom floor samples (station ∷ later) (place ∷ rest)
 
 -- the costs are bounded by that of some stations, each at the greatest distance there is
 abbrev pub AreBounded : ℕ → List ℕ → Type 0

@@ -12,5 +12,8 @@ mod tracking;
 
 pub use fault::SampleFault;
 pub use samples::sample;
-pub use snapping::snap;
+pub use snapping::{snap, snap_is_one};
 pub use tracking::track;
+
+#[cfg(test)]
+mod tests;

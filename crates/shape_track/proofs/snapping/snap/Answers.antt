@@ -1,9 +1,9 @@
-use Rattle.std.proofs.Common.{◌≡◌, sym, ◌∙◌, ap, subst, ℕ, ◌+◌, ◌-◌, ◌<◌, ◌^◌, List, [], ◌∷◌, ◌++◌, Bool, true, Vec, get_or, length, drop, arith, append-nil, Fits, w32}
+use Rattle.std.proofs.Common.{◌≡◌, sym, subst, ℕ, ◌-◌, ◌<◌, ◌^◌, List, [], ◌++◌, Bool, true, Vec, get_or, length, drop, arith, append-nil}
 use Rattle.std.specs.Global.{Global}
 use Rattle.std.proofs.lemmas.List.{drop_all}
 use Rattle.map_base.specs.declared.point.Point.{Point}
 use Rattle.shape_track.specs.Snaps.{IsSnapFrom}
-use Rattle.shape_track.specs.Sweeps.{LeadsTo, taken_at}
+use Rattle.shape_track.specs.Sweeps.{taken_at}
 use Rattle.shape_track.specs.Rows.{LeadsFirst, AreRows}
 use Rattle.shape_track.proofs.RowLemmas.{nothing_snapped, snap_goes_on, row_at, row_whole}
 use Rattle.shape_track.proofs.snapping.snap.Goals as goal
@@ -49,10 +49,10 @@ loop-index-preserved c =
     let count : length c.deref.result.now ≡ length samples = (row_whole samples stations c.deref.result.now index c.loop-index-test.true leads).0 in
     let within : place < length samples = subst (λ (n : ℕ). place < n) count c.first_taken-floor.ensures.place in
     record {
-        floor = within;
-        leads = λ rest snap.
-            subst (λ (ps : List ℕ). IsSnapFrom 0 samples stations (ps ++ rest)) (sym c.in_ok-push.ensures.items)
-            (snap_goes_on samples stations places c.deref.result.now index c.loop-index.floor place c.loop-index-test.true leads within c.first_taken-floor.ensures.leads c.loop-index.invariant.leads rest snap);
+      floor = within;
+      leads = λ rest snap.
+          subst (λ (ps : List ℕ). IsSnapFrom 0 samples stations (ps ++ rest)) (sym c.in_ok-push.ensures.items)
+          (snap_goes_on samples stations places c.deref.result.now index c.loop-index.floor place c.loop-index-test.true leads within c.first_taken-floor.ensures.leads c.loop-index.invariant.leads rest snap);
     }
 
 pub returns : goal.returns

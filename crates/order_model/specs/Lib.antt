@@ -1,0 +1,5 @@
+pub mod Problems
+pub mod PriceLists
+pub mod Terms
+pub mod Costs
+pub mod Limits

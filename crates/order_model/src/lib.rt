@@ -1,0 +1,26 @@
+//! The problem of line orders: what orders of the lines on each segment cost.
+//!
+//! An order of a segment lists its lines from left to right as seen from its lower end. `terms_of` gives the
+//! crossings, splits and separations that a line graph can have, and `cost` sums those that orders have.
+#![tactic(auto)]
+
+mod costs;
+mod fault;
+mod found;
+mod graph_terms;
+mod node_terms;
+mod orders;
+mod prices;
+mod problem;
+mod rule;
+mod term;
+mod ways;
+
+pub use costs::cost;
+pub use fault::TermFault;
+pub use graph_terms::terms_of;
+pub use orders::Orders;
+pub use prices::Prices;
+pub use problem::{Problem, ProblemParts};
+pub use rule::Rule;
+pub use term::Term;
