@@ -9,6 +9,7 @@ mod point;
 mod sequence;
 mod steps;
 mod text;
+mod weights;
 
 pub use ids::{LineId, NodeId, SegId, StationId};
 pub use limit::{Limit, LimitKind};
@@ -17,3 +18,4 @@ pub use point::Point;
 pub use sequence::Sequence;
 pub use steps::Steps;
 pub use text::Text;
+pub use weights::Weights;

@@ -1,0 +1,58 @@
+-- What orders cost.
+use Rattle.std.specs.Prelude.{◌≡◌, ℕ, ◌+◌, ◌==◌, Bool, true, false, ◌&&◌, ◌||◌, not, List, [], ◌∷◌, length, sum_by, All, if◌then◌else◌, IsPermutation, slice_index_or, zip}
+use Rattle.map_base.specs.declared.ids.SegId.{SegId}
+use Rattle.map_base.specs.declared.ids.LineId.{LineId}
+use Rattle.order_model.specs.declared.term.Term.{Term}
+use Rattle.order_model.specs.declared.term.Term.TheVariants.{Side, Link, Apart}
+use Rattle.order_model.specs.Problems.{lines_on}
+
+-- of two lines a comes before b in the order
+abbrev pub comes_before : List LineId → LineId → LineId → Bool
+comes_before [] a b = false
+comes_before (x ∷ xs) a b = if x.0 == a.0 then true else if x.0 == b.0 then false else comes_before xs a b
+
+-- two lines are these two, either way
+abbrev pub are_these : LineId → LineId → LineId → LineId → Bool
+are_these x y a b = (x.0 == a.0 && y.0 == b.0) || (x.0 == b.0 && y.0 == a.0)
+
+-- two lines stand next to each other in the order
+abbrev pub are_neighbours : List LineId → LineId → LineId → Bool
+are_neighbours [] a b = false
+are_neighbours (x ∷ []) a b = false
+are_neighbours (x ∷ y ∷ rest) a b = are_these x y a b || are_neighbours (y ∷ rest) a b
+
+-- two answers are the same
+abbrev pub same_answer : Bool → Bool → Bool
+same_answer true y = y
+same_answer false y = not y
+
+-- a Side costs where the second line comes before the first. A Link costs where the two lines stand in one order
+-- on both segments and it has a flip, or in opposite orders and it has none. An Apart costs where its two lines
+-- are neighbours on exactly one of its segments
+abbrev pub is_met : List (List LineId) → Term → Bool
+is_met orders (Side seg first second w) = comes_before (lines_on orders seg) second first
+is_met orders (Link seg other flip a b w) =
+    same_answer flip (same_answer (comes_before (lines_on orders seg) a b) (comes_before (lines_on orders other) a b))
+is_met orders (Apart seg other a b w) =
+    not (same_answer (are_neighbours (lines_on orders seg) a b) (are_neighbours (lines_on orders other) a b))
+
+-- the weight of a term
+abbrev pub weight_of : Term → ℕ
+weight_of (Side seg first second w) = w
+weight_of (Link seg other flip a b w) = w
+weight_of (Apart seg other a b w) = w
+
+-- what a term costs under orders
+abbrev pub term_cost : List (List LineId) → Term → ℕ
+term_cost orders t = if is_met orders t then weight_of t else 0
+
+-- the sum of the weights of all terms that cost something
+abbrev pub cost_of : List Term → List (List LineId) → ℕ
+cost_of terms orders = sum_by (term_cost orders) terms
+
+-- orders of segments: one list a segment, which has its lines in some order
+abbrev pub AreOrders : List (List LineId) → List (List LineId) → Type 0
+AreOrders [] [] = Unit {0}
+AreOrders (lines ∷ segs) (order ∷ orders) = IsPermutation lines order × AreOrders segs orders
+AreOrders [] (order ∷ orders) = ⊥
+AreOrders (lines ∷ segs) [] = ⊥

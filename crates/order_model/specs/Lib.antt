@@ -1,0 +1,4 @@
+pub mod Problems
+pub mod PriceLists
+pub mod Terms
+pub mod Costs

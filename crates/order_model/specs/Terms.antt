@@ -1,0 +1,148 @@
+-- The terms of a line graph.
+use Rattle.std.specs.Prelude.{◌≡◌, ℕ, zero, suc, ◌+◌, ◌-◌, ◌%◌, ◌<◌, ◌≤◌, ◌==◌, nat_lt, Bool, true, false, List, [], ◌∷◌, ◌++◌, length, map, flat_map, All, if◌then◌else◌, slice_index_or, Ordering, Less, Equal, Greater}
+use Rattle.std.specs.Ordering.{nat_cmp, ordering_then, is_lt}
+use Rattle.map_base.specs.declared.ids.NodeId.{NodeId}
+use Rattle.map_base.specs.declared.ids.SegId.{SegId}
+use Rattle.map_base.specs.declared.ids.LineId.{LineId}
+use Rattle.map_base.specs.declared.weights.Weights.{Weights}
+use Rattle.graph_core.specs.declared.parts.NodeKind.{NodeKind}
+use Rattle.graph_core.specs.declared.parts.NodeKind.TheVariants.{Station, Junction}
+use Rattle.graph_core.specs.declared.parts.Join.{Join}
+use Rattle.graph_core.specs.declared.parts.GraphParts.{GraphParts}
+use Rattle.order_model.specs.declared.term.Term.{Term}
+use Rattle.order_model.specs.declared.term.Term.TheVariants as term
+use Rattle.order_model.specs.declared.found.Way.{Way}
+use Rattle.order_model.specs.declared.found.Kind.{Kind}
+use Rattle.order_model.specs.declared.found.Kind.TheVariants.{Side, Link, Apart}
+use Rattle.order_model.specs.declared.found.Found.{Found}
+
+-- Which lines go on from a segment.
+
+-- how many segments stand before this one in the round
+abbrev pub place_in : List SegId → SegId → ℕ
+place_in [] s = 0
+place_in (r ∷ rs) s = if r.0 == s.0 then 0 else 1 + place_in rs s
+
+-- how many places clockwise after the segment e the segment f stands
+abbrev pub turn_of : List SegId → SegId → SegId → ℕ
+turn_of round e f = (place_in round f + length round - place_in round e) % length round
+
+-- a line that goes on from e to f
+abbrev pub way : List SegId → SegId → LineId → SegId → Way
+way round e line f = record { line = line; to = f; turn = turn_of round e f }
+
+-- the way out of the segment e that a join gives its line, if it joins e
+abbrev pub way_by : List SegId → SegId → Join → List Way
+way_by round e j = if j.e.0 == e.0 then way round e j.line j.f ∷ [] else if j.f.0 == e.0 then way round e j.line j.e ∷ [] else []
+
+-- the ways out of the segment e at a node
+abbrev pub ways_from : List SegId → List Join → SegId → List Way
+ways_from round joins e = flat_map (way_by round e) joins
+
+-- What two lines make that leave a segment together.
+
+-- a term of weight 0 is not made
+abbrev pub if_weighed : ℕ → Found → List Found
+if_weighed w x = if nat_lt 0 w then x ∷ [] else []
+
+-- two lines, the lesser first, that both go on from the segment e to another: told at the lesser segment
+abbrev pub together : Weights → SegId → Way → Way → List Found
+together w e u v =
+    let found = λ (k : Kind). record { lesser = u.line; greater = v.line; kind = k; seg = e; to = u.to; beside = u.to; first = u.line }
+    in if nat_lt e.0 u.to.0 then if_weighed w.link (found Link) ++ if_weighed w.sep (found Apart) else []
+
+-- two lines, the lesser first, that part: line A goes on to the segment that comes first clockwise after e, line B
+-- to the other. It costs where A stands left of B as seen from the node, so at the lower end of e B is wanted
+-- first, and at the upper end A
+abbrev pub parting : Bool → SegId → LineId → LineId → Way → Way → Found
+parting at_lower e lesser greater a b = record { lesser = lesser; greater = greater; kind = Side; seg = e; to = a.to; beside = b.to; first = if at_lower then b.line else a.line }
+
+abbrev pub apart : Weights → Bool → SegId → Way → Way → List Found
+apart w at_lower e u v =
+    if_weighed w.split (if nat_lt u.turn v.turn then parting at_lower e u.line v.line u v else parting at_lower e u.line v.line v u)
+
+-- what two ways out of the segment e make, where the first has the lesser line
+abbrev pub found_by : Weights → Bool → SegId → Way → Way → List Found
+found_by w at_lower e u v =
+    if nat_lt u.line.0 v.line.0 then (if u.to.0 == v.to.0 then together w e u v else apart w at_lower e u v) else []
+
+-- what all ways out of the segment e make, two by two
+abbrev pub found_among : Weights → Bool → SegId → List Way → List Found
+found_among w at_lower e ways = flat_map (λ u. flat_map (found_by w at_lower e u) ways) ways
+
+-- The terms of a node, and of the graph.
+
+-- the lower end of a segment is this node
+abbrev pub is_lower_end : List (NodeId × NodeId) → ℕ → SegId → Bool
+is_lower_end ends n s = (slice_index_or ends s.0 (record { 0 = n }, record { 0 = n })).0.0 == n
+
+-- what is found at a node, segment by segment of its round
+abbrev pub found_at : Weights → List (NodeId × NodeId) → ℕ → List SegId → List Join → List Found
+found_at w ends n round joins = flat_map (λ e. found_among w (is_lower_end ends n e) e (ways_from round joins e)) round
+
+-- the place of a kind in the order of terms
+abbrev pub kind_index : Kind → ℕ
+kind_index Side = 0
+kind_index Link = 1
+kind_index Apart = 2
+
+-- the order of the terms of a node: by the lesser line, then by the greater, then by kind, by segment, by the
+-- segments that they go on to, and by the line that is wanted first
+abbrev pub order_of : Found → Found → Ordering
+order_of x y =
+    ordering_then (nat_cmp x.lesser.0 y.lesser.0)
+    (ordering_then (nat_cmp x.greater.0 y.greater.0)
+    (ordering_then (nat_cmp (kind_index x.kind) (kind_index y.kind))
+    (ordering_then (nat_cmp x.seg.0 y.seg.0)
+    (ordering_then (nat_cmp x.to.0 y.to.0)
+    (ordering_then (nat_cmp x.beside.0 y.beside.0) (nat_cmp x.first.0 y.first.0))))))
+
+-- with one more in its place
+abbrev pub with_one : Found → List Found → List Found
+with_one x [] = x ∷ []
+with_one x (y ∷ ys) = if is_lt (order_of y x) then y ∷ with_one x ys else x ∷ y ∷ ys
+
+-- in the order of terms
+abbrev pub in_order : List Found → List Found
+in_order [] = []
+in_order (x ∷ xs) = with_one x (in_order xs)
+
+-- the other of two lines
+abbrev pub other_line : Found → LineId
+other_line x = if x.first.0 == x.lesser.0 then x.greater else x.lesser
+
+-- the node is the lower end of both segments, or the upper end of both
+abbrev pub is_flip : List (NodeId × NodeId) → ℕ → SegId → SegId → Bool
+is_flip ends n e f = elim (is_lower_end ends n e) [ true ↦ is_lower_end ends n f | false ↦ if is_lower_end ends n f then false else true ]
+
+-- the term that was found
+abbrev pub term_of_kind : Weights → List (NodeId × NodeId) → ℕ → Found → Kind → Term
+term_of_kind w ends n x Side = term.Side x.seg x.first (other_line x) w.split
+term_of_kind w ends n x Link = term.Link x.seg x.to (is_flip ends n x.seg x.to) x.lesser x.greater w.link
+term_of_kind w ends n x Apart = term.Apart x.seg x.to x.lesser x.greater w.sep
+
+abbrev pub term_of : Weights → List (NodeId × NodeId) → ℕ → Found → Term
+term_of w ends n x = term_of_kind w ends n x x.kind
+
+-- the terms of a node, in order
+abbrev pub terms_at_node : Weights → List (NodeId × NodeId) → ℕ → List SegId → List Join → List Term
+terms_at_node w ends n round joins = map (term_of w ends n) (in_order (found_at w ends n round joins))
+
+-- the weights at a kind of node, of those at a junction and those at a station
+abbrev pub weights_at : Weights → Weights → NodeKind → Weights
+weights_at junction station (Station s) = station
+weights_at junction station Junction = junction
+
+-- the terms of a node of the graph
+abbrev pub terms_at : GraphParts → Weights → Weights → ℕ → List Term
+terms_at g junction station n =
+    terms_at_node (weights_at junction station (slice_index_or g.kinds n Junction)) g.ends n (slice_index_or g.rounds n []) (slice_index_or g.joins n [])
+
+-- the terms of the nodes below n, node by node
+abbrev pub terms_below : GraphParts → Weights → Weights → ℕ → List Term
+terms_below g junction station zero = []
+terms_below g junction station (suc n) = terms_below g junction station n ++ terms_at g junction station n
+
+-- the terms of a line graph
+abbrev pub graph_terms : GraphParts → Weights → Weights → List Term
+graph_terms g junction station = terms_below g junction station (length g.kinds)

@@ -1,0 +1,19 @@
+//! The problem of line orders: what orders of the lines on each segment cost.
+//!
+//! An order of a segment lists its lines from left to right as seen from its lower end. `terms_of` gives the
+//! crossings, splits and separations that a line graph can have, `cost` sums those that orders have, and
+//! `parts_of` gives the parts of a problem that can be solved one by one.
+#![tactic(auto)]
+
+mod found;
+mod orders;
+mod prices;
+mod problem;
+mod rule;
+mod term;
+
+pub use orders::Orders;
+pub use prices::Prices;
+pub use problem::{Problem, ProblemParts};
+pub use rule::Rule;
+pub use term::Term;
