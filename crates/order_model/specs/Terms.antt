@@ -1,5 +1,6 @@
 -- The terms of a line graph.
-use Rattle.std.specs.Prelude.{◌≡◌, ℕ, zero, suc, ◌+◌, ◌-◌, ◌%◌, ◌<◌, ◌≤◌, ◌==◌, nat_lt, Bool, true, false, List, [], ◌∷◌, ◌++◌, length, map, flat_map, All, if◌then◌else◌, slice_index_or, Ordering, Less, Equal, Greater}
+use Rattle.std.specs.Prelude.{◌≡◌, ℕ, zero, suc, ◌+◌, ◌-◌, ◌%◌, ◌<◌, ◌≤◌, ◌==◌, nat_lt, Bool, true, false, List, [], ◌∷◌, ◌++◌, length, map, flat_map, All, if◌then◌else◌, slice_index_or}
+use Rattle.std.specs.declared.cmp.Ordering.{Ordering}
 use Rattle.std.specs.Ordering.{nat_cmp, ordering_then, is_lt}
 use Rattle.map_base.specs.declared.ids.NodeId.{NodeId}
 use Rattle.map_base.specs.declared.ids.SegId.{SegId}
@@ -45,11 +46,14 @@ ways_from round joins e = flat_map (way_by round e) joins
 abbrev pub if_weighed : ℕ → Found → List Found
 if_weighed w x = if nat_lt 0 w then x ∷ [] else []
 
--- two lines, the lesser first, that both go on from the segment e to another: told at the lesser segment
+-- what two lines make that both go on from the segment e to another, the lesser line first
+abbrev pub found_together : Kind → SegId → Way → Way → Found
+found_together k e u v = record { lesser = u.line; greater = v.line; kind = k; seg = e; to = u.to; beside = u.to; first = u.line }
+
+-- the same, told at the lesser of the two segments
 abbrev pub together : Weights → SegId → Way → Way → List Found
 together w e u v =
-    let found = λ (k : Kind). record { lesser = u.line; greater = v.line; kind = k; seg = e; to = u.to; beside = u.to; first = u.line }
-    in if nat_lt e.0 u.to.0 then if_weighed w.link (found Link) ++ if_weighed w.sep (found Apart) else []
+    if nat_lt e.0 u.to.0 then if_weighed w.link (found_together Link e u v) ++ if_weighed w.sep (found_together Apart e u v) else []
 
 -- two lines, the lesser first, that part: line A goes on to the segment that comes first clockwise after e, line B
 -- to the other. It costs where A stands left of B as seen from the node, so at the lower end of e B is wanted
