@@ -1,5 +1,5 @@
 -- What orders cost.
-use Rattle.std.specs.Prelude.{◌≡◌, ℕ, ◌+◌, ◌==◌, Bool, true, false, ◌&&◌, ◌||◌, not, List, [], ◌∷◌, length, sum_by, All, if◌then◌else◌, IsPermutation, slice_index_or, zip}
+use Rattle.std.specs.Prelude.{◌≡◌, ℕ, ◌<◌, ◌≤◌, ◌==◌, Bool, true, false, ◌&&◌, ◌||◌, not, List, [], ◌∷◌, sum_by, if◌then◌else◌, IsPermutation}
 use Rattle.map_base.specs.declared.ids.SegId.{SegId}
 use Rattle.map_base.specs.declared.ids.LineId.{LineId}
 use Rattle.order_model.specs.declared.term.Term.{Term}
@@ -49,6 +49,12 @@ term_cost orders t = if is_met orders t then weight_of t else 0
 -- the sum of the weights of all terms that cost something
 abbrev pub cost_of : List Term → List (List LineId) → ℕ
 cost_of terms orders = sum_by (term_cost orders) terms
+
+-- a term can be read over n lists
+abbrev pub IsReadable : ℕ → Term → Type 0
+IsReadable n (Side seg first second w) = (seg.0 < n) × (w ≤ 256000)
+IsReadable n (Link seg other flip a b w) = (seg.0 < n) × (other.0 < n) × (w ≤ 256000)
+IsReadable n (Apart seg other a b w) = (seg.0 < n) × (other.0 < n) × (w ≤ 256000)
 
 -- orders of segments: one list a segment, which has its lines in some order
 abbrev pub AreOrders : List (List LineId) → List (List LineId) → Type 0

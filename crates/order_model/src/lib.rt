@@ -5,6 +5,7 @@
 //! `parts_of` gives the parts of a problem that can be solved one by one.
 #![tactic(auto)]
 
+mod costs;
 mod found;
 mod orders;
 mod prices;
@@ -12,6 +13,7 @@ mod problem;
 mod rule;
 mod term;
 
+pub use costs::cost;
 pub use orders::Orders;
 pub use prices::Prices;
 pub use problem::{Problem, ProblemParts};

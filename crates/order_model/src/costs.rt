@@ -1,0 +1,115 @@
+//! What orders cost.
+
+ghost use Rattle.std.specs.Prelude.{◌≡◌, ◌≤◌, length, sum_by, All};
+ghost use Rattle.order_model.specs.Costs.{comes_before, are_these, are_neighbours, is_met, weight_of, term_cost, cost_of, IsReadable, AreOrders};
+
+use crate::orders::Orders;
+use crate::problem::Problem;
+use crate::term::Term;
+use map_base::{LineId, Sequence};
+
+/// What the orders cost: the sum of the weights of all terms that cost something. The orders have one list for each
+/// segment of the problem, with its lines in some order.
+pub fn cost(problem: &Problem, orders: &Orders) -> u64
+    requires { AreOrders problem.now.segs orders.now.lists }
+    ensures { result ≡ cost_of problem.now.terms orders.now.lists }
+{
+    let terms = problem.terms();
+    total_cost(terms, orders.lists.as_slice())
+}
+
+/// The sum of what the terms cost.
+fn total_cost(terms: &[Term], lists: &[Sequence<LineId>]) -> u64
+    requires readable { All (IsReadable (length lists.now)) terms.now }
+    requires few { length terms.now ≤ 4000000 }
+    ensures { result ≡ sum_by (term_cost lists.now) terms.now }
+{
+    let mut total: u64 = 0;
+    for term in terms {
+        total += term_cost(*term, lists);
+    }
+    total
+}
+
+/// What one term costs.
+fn term_cost(term: Term, lists: &[Sequence<LineId>]) -> u64
+    requires { IsReadable (length lists.now) term }
+    ensures value { result ≡ term_cost lists.now term }
+    ensures most { result ≤ 256000 }
+{
+    if is_met(term, lists) {
+        u64::from(weight_of(term))
+    } else {
+        0
+    }
+}
+
+/// The weight of a term.
+fn weight_of(term: Term) -> u32
+    ensures { result ≡ weight_of term }
+{
+    match term {
+        Term::Side { w, .. } | Term::Link { w, .. } | Term::Apart { w, .. } => w,
+    }
+}
+
+/// Whether a term costs something.
+fn is_met(term: Term, lists: &[Sequence<LineId>]) -> bool
+    requires { IsReadable (length lists.now) term }
+    ensures { result ≡ is_met lists.now term }
+{
+    match term {
+        Term::Side { seg, first, second, .. } => {
+            comes_before(lists[seg.0 as usize].as_slice(), second, first)
+        }
+        Term::Link { seg, other, flip, a, b, .. } => {
+            let here = comes_before(lists[seg.0 as usize].as_slice(), a, b);
+            let there = comes_before(lists[other.0 as usize].as_slice(), a, b);
+            flip == (here == there)
+        }
+        Term::Apart { seg, other, a, b, .. } => {
+            let here = are_neighbours(lists[seg.0 as usize].as_slice(), a, b);
+            let there = are_neighbours(lists[other.0 as usize].as_slice(), a, b);
+            here != there
+        }
+    }
+}
+
+/// Whether of two lines `a` comes before `b` in an order.
+#[tactic(auto, using(std::proofs::lemmas::List::at_drop_more))]
+fn comes_before(order: &[LineId], a: LineId, b: LineId) -> bool
+    ensures { result ≡ comes_before order.now a b }
+{
+    for x in order {
+        if *x == a {
+            return true;
+        }
+        if *x == b {
+            return false;
+        }
+    }
+    false
+}
+
+/// Whether two lines stand next to each other in an order.
+fn are_neighbours(order: &[LineId], a: LineId, b: LineId) -> bool
+    ensures { result ≡ are_neighbours order.now a b }
+{
+    let mut rest = order;
+    while let [x, others @ ..] = rest {
+        if let Some(y) = others.first() {
+            if are_these(*x, *y, a, b) {
+                return true;
+            }
+        }
+        rest = others;
+    }
+    false
+}
+
+/// Whether two lines are these two, either way.
+fn are_these(x: LineId, y: LineId, a: LineId, b: LineId) -> bool
+    ensures { result ≡ are_these x y a b }
+{
+    (x == a && y == b) || (x == b && y == a)
+}
