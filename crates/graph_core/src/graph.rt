@@ -38,7 +38,8 @@ impl LineGraph {
 
     /// How many nodes there are.
     pub fn nodes(&self) -> u32
-        ensures { result ≡ length self.now.kinds }
+        ensures count { result ≡ length self.now.kinds }
+        ensures fits { IsConsistent self.now }
     {
         self.parts.kinds.as_slice().len() as u32
     }

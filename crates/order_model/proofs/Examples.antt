@@ -28,7 +28,7 @@ abbrev weights : ℕ → ℕ → ℕ → Weights
 weights l s a = record { link = l; split = s; sep = a }
 
 abbrev usual_terms : GraphParts → List Term
-usual_terms g = graph_terms g (weights 4 1 3) (weights 12 3 9)
+usual_terms g = graph_terms g (weights 4 1 3 ∷ weights 12 3 9 ∷ [])
 
 -- Three segments at a station, and two lines with all three connections: six Sides, three Links, three Aparts.
 
@@ -81,11 +81,11 @@ crossing = record {
   joins = (join 0 1 0 ∷ join 1 2 1 ∷ []) ∷ (join 1 3 0 ∷ join 1 3 1 ∷ []) ∷ (join 3 4 1 ∷ join 3 5 0 ∷ []) ∷ ([]) ∷ ([]) ∷ ([]) ∷ ([]) ∷ [];
 }
 
-crossing_terms : graph_terms crossing (weights 4 1 3) (weights 1 5 0)
+crossing_terms : graph_terms crossing (weights 4 1 3 ∷ weights 1 5 0 ∷ [])
     ≡ Side (seg 1) (line 0) (line 1) 5 ∷ Link (seg 1) (seg 3) false (line 0) (line 1) 1 ∷ Side (seg 3) (line 1) (line 0) 5 ∷ []
 crossing_terms = refl
 
-crossing_cost : cost_of (graph_terms crossing (weights 4 1 3) (weights 1 5 0)) ((line 0 ∷ []) ∷ (line 0 ∷ line 1 ∷ []) ∷ (line 1 ∷ []) ∷ (line 1 ∷ line 0 ∷ []) ∷ (line 1 ∷ []) ∷ (line 0 ∷ []) ∷ []) ≡ 1
+crossing_cost : cost_of (graph_terms crossing (weights 4 1 3 ∷ weights 1 5 0 ∷ [])) ((line 0 ∷ []) ∷ (line 0 ∷ line 1 ∷ []) ∷ (line 1 ∷ []) ∷ (line 1 ∷ line 0 ∷ []) ∷ (line 1 ∷ []) ∷ (line 0 ∷ []) ∷ []) ≡ 1
 crossing_cost = refl
 
 -- A line that leaves two others: it costs where it stands between them.

@@ -2,3 +2,4 @@ pub mod Problems
 pub mod PriceLists
 pub mod Terms
 pub mod Costs
+pub mod Limits

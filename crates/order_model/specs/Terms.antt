@@ -61,14 +61,13 @@ together w e u v =
 abbrev pub parting : Bool → SegId → LineId → LineId → Way → Way → Found
 parting at_lower e lesser greater a b = record { lesser = lesser; greater = greater; kind = Side; seg = e; to = a.to; beside = b.to; first = if at_lower then b.line else a.line }
 
-abbrev pub apart : Weights → Bool → SegId → Way → Way → List Found
-apart w at_lower e u v =
-    if_weighed w.split (if nat_lt u.turn v.turn then parting at_lower e u.line v.line u v else parting at_lower e u.line v.line v u)
+abbrev pub parted_by : Bool → SegId → Way → Way → Found
+parted_by at_lower e u v = if nat_lt u.turn v.turn then parting at_lower e u.line v.line u v else parting at_lower e u.line v.line v u
 
 -- what two ways out of the segment e make, where the first has the lesser line
 abbrev pub found_by : Weights → Bool → SegId → Way → Way → List Found
 found_by w at_lower e u v =
-    if nat_lt u.line.0 v.line.0 then (if u.to.0 == v.to.0 then together w e u v else apart w at_lower e u v) else []
+    if nat_lt u.line.0 v.line.0 then (if u.to.0 == v.to.0 then together w e u v else if_weighed w.split (parted_by at_lower e u v)) else []
 
 -- what all ways out of the segment e make, two by two
 abbrev pub found_among : Weights → Bool → SegId → List Way → List Found
@@ -132,21 +131,29 @@ term_of w ends n x = term_of_kind w ends n x x.kind
 abbrev pub terms_at_node : Weights → List (NodeId × NodeId) → ℕ → List SegId → List Join → List Term
 terms_at_node w ends n round joins = map (term_of w ends n) (in_order (found_at w ends n round joins))
 
--- the weights at a kind of node, of those at a junction and those at a station
-abbrev pub weights_at : Weights → Weights → NodeKind → Weights
-weights_at junction station (Station s) = station
-weights_at junction station Junction = junction
+-- no weights
+abbrev pub no_weights : Weights
+no_weights = record { link = 0; split = 0; sep = 0 }
+
+-- the weights at a kind of node: of the two weights those at a junction come first, then those at a station
+abbrev pub weights_at : List Weights → NodeKind → Weights
+weights_at weights Junction = slice_index_or weights 0 no_weights
+weights_at weights (Station s) = slice_index_or weights 1 no_weights
 
 -- the terms of a node of the graph
-abbrev pub terms_at : GraphParts → Weights → Weights → ℕ → List Term
-terms_at g junction station n =
-    terms_at_node (weights_at junction station (slice_index_or g.kinds n Junction)) g.ends n (slice_index_or g.rounds n []) (slice_index_or g.joins n [])
+abbrev pub terms_at : GraphParts → List Weights → ℕ → List Term
+terms_at g weights n =
+    terms_at_node (weights_at weights (slice_index_or g.kinds n Junction)) g.ends n (slice_index_or g.rounds n []) (slice_index_or g.joins n [])
 
 -- the terms of the nodes below n, node by node
-abbrev pub terms_below : GraphParts → Weights → Weights → ℕ → List Term
-terms_below g junction station zero = []
-terms_below g junction station (suc n) = terms_below g junction station n ++ terms_at g junction station n
+abbrev pub terms_below : GraphParts → List Weights → ℕ → List Term
+terms_below g weights zero = []
+terms_below g weights (suc n) = terms_below g weights n ++ terms_at g weights n
 
 -- the terms of a line graph
-abbrev pub graph_terms : GraphParts → Weights → Weights → List Term
-graph_terms g junction station = terms_below g junction station (length g.kinds)
+abbrev pub graph_terms : GraphParts → List Weights → List Term
+graph_terms g weights = terms_below g weights (length g.kinds)
+
+-- each weight is at most 1,000
+abbrev pub IsModest : Weights → Type 0
+IsModest w = (w.link ≤ 1000) × (w.split ≤ 1000) × (w.sep ≤ 1000)

@@ -6,6 +6,7 @@
 #![tactic(auto)]
 
 mod costs;
+mod fault;
 mod found;
 mod orders;
 mod prices;
@@ -14,6 +15,7 @@ mod rule;
 mod term;
 
 pub use costs::cost;
+pub use fault::TermFault;
 pub use orders::Orders;
 pub use prices::Prices;
 pub use problem::{Problem, ProblemParts};
