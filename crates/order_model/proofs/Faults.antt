@@ -1,0 +1,22 @@
+-- What is above the limit stays above it where more is added.
+use Rattle.std.proofs.Common.{◌≡◌, ℕ, ◌+◌, ◌<◌, ◌≤◌, List, ◌++◌, length, get_or, take, ap, arith, length-append, vec_len}
+use Rattle.std.specs.declared.vec.Vec.{Vec}
+use Rattle.std.specs.List.{flat_map}
+use Rattle.std.proofs.lemmas.List.Folds.{length-flat_map-take}
+use Rattle.order_model.specs.declared.fault.TermFault.{TermFault}
+use Rattle.order_model.specs.declared.fault.TermFault.TheVariants.{Limit, NoMemory}
+use Rattle.order_model.specs.Limits.{IsAbove}
+
+pub above_more : (most m n : ℕ) (e : TermFault) → m ≤ n → IsAbove most m e → IsAbove most n e
+above_more most m n (Limit l) le h = (omega (arith, h.0), h.1)
+above_more most m n NoMemory le h = tt
+
+-- in a loop that adds what f gives of each element
+pub above_in_loop : {X Y Z : Type 0} (f : X → List Y) (xs : List X) (i : ℕ) (d : X) (most : ℕ) (old new : Vec Y Z) (e : TermFault)
+    → i < length xs → new.items ≡ old.items ++ flat_map f (take i xs)
+    → IsAbove most (vec_len new + length (f (get_or xs i d))) e
+    → IsAbove most (vec_len old + length (flat_map f xs)) e
+above_in_loop f xs i d most old new e below grown h =
+    above_more most _ _ e
+    (omega (arith, length-flat_map-take f xs i d below, ap length grown, old.ok.0, new.ok.0, length-append old.items (flat_map f (take i xs))))
+    h
