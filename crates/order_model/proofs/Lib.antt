@@ -1,3 +1,4 @@
 pub mod Examples
 pub mod OrderLemmas
 pub mod Faults
+pub mod Rounds

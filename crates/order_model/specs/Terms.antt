@@ -79,9 +79,13 @@ found_among w at_lower e ways = flat_map (λ u. flat_map (found_by w at_lower e 
 abbrev pub is_lower_end : List (NodeId × NodeId) → ℕ → SegId → Bool
 is_lower_end ends n s = (slice_index_or ends s.0 (record { 0 = n }, record { 0 = n })).0.0 == n
 
--- what is found at a node, segment by segment of its round
-abbrev pub found_at : Weights → List (NodeId × NodeId) → ℕ → List SegId → List Join → List Found
-found_at w ends n round joins = flat_map (λ e. found_among w (is_lower_end ends n e) e (ways_from round joins e)) round
+-- what is found at a node of this round and these joins, segment by segment of the round
+abbrev pub found_around : Weights → List (NodeId × NodeId) → ℕ → List SegId → List Join → List Found
+found_around w ends n round joins = flat_map (λ e. found_among w (is_lower_end ends n e) e (ways_from round joins e)) round
+
+-- what is found at a node of the graph
+abbrev pub found_at : Weights → GraphParts → ℕ → List Found
+found_at w g n = found_around w g.ends n (slice_index_or g.rounds n []) (slice_index_or g.joins n [])
 
 -- the place of a kind in the order of terms
 abbrev pub kind_index : Kind → ℕ
@@ -127,10 +131,6 @@ term_of_kind w ends n x Apart = term.Apart x.seg x.to x.lesser x.greater w.sep
 abbrev pub term_of : Weights → List (NodeId × NodeId) → ℕ → Found → Term
 term_of w ends n x = term_of_kind w ends n x x.kind
 
--- the terms of a node, in order
-abbrev pub terms_at_node : Weights → List (NodeId × NodeId) → ℕ → List SegId → List Join → List Term
-terms_at_node w ends n round joins = map (term_of w ends n) (in_order (found_at w ends n round joins))
-
 -- no weights
 abbrev pub no_weights : Weights
 no_weights = record { link = 0; split = 0; sep = 0 }
@@ -140,10 +140,10 @@ abbrev pub weights_at : List Weights → NodeKind → Weights
 weights_at weights Junction = slice_index_or weights 0 no_weights
 weights_at weights (Station s) = slice_index_or weights 1 no_weights
 
--- the terms of a node of the graph
+-- the terms of a node of the graph, in order
 abbrev pub terms_at : GraphParts → List Weights → ℕ → List Term
 terms_at g weights n =
-    terms_at_node (weights_at weights (slice_index_or g.kinds n Junction)) g.ends n (slice_index_or g.rounds n []) (slice_index_or g.joins n [])
+    let w : Weights = weights_at weights (slice_index_or g.kinds n Junction) in map (term_of w g.ends n) (in_order (found_at w g n))
 
 -- the terms of the nodes below n, node by node
 abbrev pub terms_below : GraphParts → List Weights → ℕ → List Term
@@ -157,3 +157,13 @@ graph_terms g weights = terms_below g weights (length g.kinds)
 -- each weight is at most 1,000
 abbrev pub IsModest : Weights → Type 0
 IsModest w = (w.link ≤ 1000) × (w.split ≤ 1000) × (w.sep ≤ 1000)
+
+-- some segments of the graph, and no more than it may have
+pub record IsSegmentsOf (ends : List (NodeId × NodeId)) (round : List SegId) : Type 0 where
+  pub some : 0 < length round
+  pub few : length round ≤ 20000
+  pub known : All (λ s. s.0 < length ends) round
+
+-- what was found names segments of the graph
+abbrev pub IsWithinGraph : List (NodeId × NodeId) → Found → Type 0
+IsWithinGraph ends x = (x.seg.0 < length ends) × (x.to.0 < length ends)

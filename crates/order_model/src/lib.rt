@@ -8,11 +8,13 @@
 mod costs;
 mod fault;
 mod found;
+mod node_terms;
 mod orders;
 mod prices;
 mod problem;
 mod rule;
 mod term;
+mod ways;
 
 pub use costs::cost;
 pub use fault::TermFault;
