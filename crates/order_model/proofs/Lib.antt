@@ -2,3 +2,4 @@ pub mod Examples
 pub mod OrderLemmas
 pub mod Faults
 pub mod Rounds
+pub mod Sorting
