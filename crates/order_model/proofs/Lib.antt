@@ -3,3 +3,4 @@ pub mod OrderLemmas
 pub mod Faults
 pub mod Rounds
 pub mod Sorting
+pub mod GraphFacts

@@ -8,6 +8,7 @@
 mod costs;
 mod fault;
 mod found;
+mod graph_terms;
 mod node_terms;
 mod orders;
 mod prices;
@@ -18,6 +19,7 @@ mod ways;
 
 pub use costs::cost;
 pub use fault::TermFault;
+pub use graph_terms::terms_of;
 pub use orders::Orders;
 pub use prices::Prices;
 pub use problem::{Problem, ProblemParts};

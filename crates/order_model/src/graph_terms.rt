@@ -1,0 +1,61 @@
+//! The problem of a line graph.
+
+ghost use Rattle.std.specs.Prelude.{◌≡◌, ◌<◌, ◌≤◌, length, vec_len, map, All, IfOk, IfErr};
+ghost use Rattle.graph_core.specs.Consistent.{IsConsistent};
+ghost use Rattle.order_model.specs.Problems.{IsProblem};
+ghost use Rattle.order_model.specs.Terms.{graph_terms, terms_below, IsModest};
+ghost use Rattle.order_model.specs.Limits.{IsAbove};
+
+use crate::fault::TermFault;
+use crate::found::MOST_TERMS;
+use crate::node_terms::push_terms_at;
+use crate::problem::{Problem, ProblemParts};
+use crate::term::Term;
+use graph_core::LineGraph;
+use map_base::{LineId, NoMemory, NodeId, SegId, Sequence, Weights};
+use std::alloc::Global;
+
+/// The problem of a line graph, under the weights at a junction and those at a station: its lines by segment, and
+/// its terms node by node. The terms of a node are sorted by the lesser of their two lines, then by the greater, then
+/// by kind (`Side`, `Link`, `Apart`), by segment, and by the segments that the lines go on to. The limit is answered
+/// exactly where there are more than 4,000,000 terms.
+pub fn terms_of(alloc: Global, graph: &LineGraph, weights: &[Weights; 2]) -> Result<Problem, TermFault>
+    requires { All IsModest weights.now }
+    ensures segs { IfOk result (λ p. p.segs ≡ graph.now.lines) }
+    ensures terms { IfOk result (λ p. p.terms ≡ graph_terms graph.now weights.now) }
+    ensures few { IfOk result (λ p. length p.terms ≤ 4000000) }
+    ensures limit { IfErr result (IsAbove 4000000 (length (graph_terms graph.now weights.now))) }
+{
+    let terms = all_terms(alloc, graph, weights)?;
+    let segs = all_lines(alloc, graph)?;
+    Ok(Problem::new(ProblemParts {
+        segs: Sequence::of(segs),
+        terms: Sequence::of(terms),
+    }))
+}
+
+/// The terms of all nodes.
+fn all_terms(alloc: Global, graph: &LineGraph, weights: &[Weights; 2]) -> Result<Vec<Term>, TermFault>
+    ensures terms { IfOk result (λ ts. ts.items ≡ graph_terms graph.now weights.now) }
+    ensures few { IfOk result (λ ts. vec_len ts ≤ 4000000) }
+    ensures fits { IsConsistent graph.now }
+    ensures limit { IfErr result (IsAbove 4000000 (length (graph_terms graph.now weights.now))) }
+{
+    let mut terms = Vec::new(alloc);
+    for n in 0..graph.nodes() {
+        push_terms_at(alloc, graph, weights, NodeId(n), MOST_TERMS, &mut terms)?;
+    }
+    Ok(terms)
+}
+
+/// A copy of the lines of each segment.
+fn all_lines(alloc: Global, graph: &LineGraph) -> Result<Vec<Sequence<LineId>>, NoMemory>
+    ensures { IfOk result (λ segs. segs.items ≡ graph.now.lines) }
+{
+    let mut segs = Vec::new(alloc);
+    for s in 0..graph.segs() {
+        let lines = graph.lines(SegId(s)).to_vec(alloc)?;
+        segs.push(Sequence::of(lines))?;
+    }
+    Ok(segs)
+}
