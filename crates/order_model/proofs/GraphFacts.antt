@@ -99,30 +99,30 @@ ways_good g round e (j ∷ joins) ok known =
 
 -- What is found.
 
-abbrev weight_for : Weights → Kind → ℕ
+abbrev pub weight_for : Weights → Kind → ℕ
 weight_for w Side = w.split
 weight_for w Link = w.link
 weight_for w Apart = w.sep
 
-record IsBoth (g : GraphParts) (x : Found) : Type 0 where
-  seg_below : x.seg.0 < x.to.0
-  lesser_there : IsOn g.lines x.to x.lesser
-  greater_there : IsOn g.lines x.to x.greater
+pub record IsBoth (g : GraphParts) (x : Found) : Type 0 where
+  pub seg_below : x.seg.0 < x.to.0
+  pub lesser_there : IsOn g.lines x.to x.lesser
+  pub greater_there : IsOn g.lines x.to x.greater
 
-abbrev FitsKind : GraphParts → Found → Kind → Type 0
+abbrev pub FitsKind : GraphParts → Found → Kind → Type 0
 FitsKind g x Side = Unit {0}
 FitsKind g x Link = IsBoth g x
 FitsKind g x Apart = IsBoth g x
 
-record IsGood (g : GraphParts) (w : Weights) (x : Found) : Type 0 where
-  seg_known : x.seg.0 < length g.ends
-  to_known : x.to.0 < length g.ends
-  below : x.lesser.0 < x.greater.0
-  lesser_on : IsOn g.lines x.seg x.lesser
-  greater_on : IsOn g.lines x.seg x.greater
-  first_is : (x.first ≡ x.lesser) ⊎ (x.first ≡ x.greater)
-  fits_kind : FitsKind g x x.kind
-  weighed : 0 < weight_for w x.kind
+pub record IsGood (g : GraphParts) (w : Weights) (x : Found) : Type 0 where
+  pub seg_known : x.seg.0 < length g.ends
+  pub to_known : x.to.0 < length g.ends
+  pub below : x.lesser.0 < x.greater.0
+  pub lesser_on : IsOn g.lines x.seg x.lesser
+  pub greater_on : IsOn g.lines x.seg x.greater
+  pub first_is : (x.first ≡ x.lesser) ⊎ (x.first ≡ x.greater)
+  pub fits_kind : FitsKind g x x.kind
+  pub weighed : 0 < weight_for w x.kind
 
 weighed_good : (g : GraphParts) (w : Weights) (n : ℕ) (x : Found) → (0 < n → IsGood g w x) → All (IsGood g w) (if_weighed n x)
 weighed_good g w n x h = by_test (nat_lt 0 n) refl
@@ -197,7 +197,7 @@ found_round_good g w n (e ∷ es) all joins ok allknown known =
         (found_among_good g w (is_lower_end g.ends n e) e _ _ (All-head (IsKnown (length g.ends)) e es known) ways ways)
         (found_round_good g w n es all joins ok allknown (All-tail (IsKnown (length g.ends)) e es known))
 
-found_at_good : (g : GraphParts) → IsConsistent g → (w : Weights) (n : ℕ) → n < length g.kinds → All (IsGood g w) (in_order (found_at w g n))
+pub found_at_good : (g : GraphParts) → IsConsistent g → (w : Weights) (n : ℕ) → n < length g.kinds → All (IsGood g w) (in_order (found_at w g n))
 found_at_good g ok w n below =
     let round = round_of_graph g ok n below in
     All-in_order (IsGood g w) _ (found_round_good g w n _ _ _ (joins_of_graph g ok n below) round.known round.known)
@@ -210,4 +210,4 @@ found_within g ok w n below k d here =
 pub above_in_order : (f : Found → Term) (xs : List Found) (most old : ℕ) (e : TermFault) → old ≤ most
     → IsAbove (most - old) (length xs) e → IsAbove most (old + length (map f (in_order xs))) e
 above_in_order f xs most old e le h =
-    above_more most _ _ e (omega (arith, length-map f (in_order xs), length-in_order xs)) (above_room most old (length xs) e le h)
+    above_more most _ _ e (omega (arith, length-map (in_order xs) f, length-in_order xs)) (above_room most old (length xs) e le h)

@@ -4,3 +4,4 @@ pub mod Faults
 pub mod Rounds
 pub mod Sorting
 pub mod GraphFacts
+pub mod GraphProblem

@@ -50,12 +50,20 @@ fn all_terms(alloc: Global, graph: &LineGraph, weights: &[Weights; 2]) -> Result
 
 /// A copy of the lines of each segment.
 fn all_lines(alloc: Global, graph: &LineGraph) -> Result<Vec<Sequence<LineId>>, NoMemory>
+    requires { IsConsistent graph.now }
     ensures { IfOk result (λ segs. segs.items ≡ graph.now.lines) }
 {
     let mut segs = Vec::new(alloc);
     for s in 0..graph.segs() {
-        let lines = graph.lines(SegId(s)).to_vec(alloc)?;
-        segs.push(Sequence::of(lines))?;
+        let lines = copied(alloc, graph.lines(SegId(s)))?;
+        segs.push(lines)?;
     }
     Ok(segs)
+}
+
+/// A copy of lines.
+fn copied(alloc: Global, lines: &[LineId]) -> Result<Sequence<LineId>, NoMemory>
+    ensures { IfOk result (λ copy. copy ≡ lines.now) }
+{
+    Ok(Sequence::of(lines.to_vec(alloc)?))
 }
