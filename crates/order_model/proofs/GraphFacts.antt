@@ -1,28 +1,23 @@
 -- A consistent graph: its rounds name segments of the graph, and what is found at its nodes fits it.
-use Rattle.std.proofs.Common.{◌≡◌, ◌≢◌, ℕ, zero, suc, ◌+◌, ◌-◌, ◌<◌, ◌≤◌, ◌==◌, nat_lt, Bool, true, false, cond, List, [], ◌∷◌, ◌++◌, length, map, get_or, refl, sym, ◌∙◌, ap, subst, arith, inl, inr, ◌⊎◌, true≢false, ltb-true, eqb-true}
-use Rattle.std.specs.List.{All, Contains, filter, flat_map, sum_by}
-use Rattle.std.specs.List.Sorted.{IsPermutation}
-use Rattle.std.proofs.lemmas.List.Elements.{All-nil, All-cons, All-head, All-tail, All-append, All-contains, All-map, All-get_or}
+use Rattle.std.proofs.Common.{◌≡◌, ℕ, ◌+◌, ◌-◌, ◌<◌, ◌≤◌, ◌==◌, nat_lt, Bool, true, false, cond, List, [], ◌∷◌, ◌++◌, length, map, get_or, refl, sym, subst, arith, inl, inr, ◌⊎◌, ltb-true, eqb-true}
+use Rattle.std.specs.List.{All, Contains, flat_map}
+use Rattle.std.proofs.lemmas.List.Elements.{All-nil, All-cons, All-head, All-tail, All-append, All-contains}
 use Rattle.std.proofs.lemmas.List.Sorted.{All-permutation, length_permutation}
-use Rattle.std.proofs.lemmas.List.Sums.{sum_by-cons}
 use Rattle.map_base.specs.declared.ids.NodeId.{NodeId}
 use Rattle.map_base.specs.declared.ids.SegId.{SegId}
 use Rattle.map_base.specs.declared.ids.LineId.{LineId}
 use Rattle.map_base.specs.declared.weights.Weights.{Weights}
-use Rattle.graph_core.specs.Round.{ends_at, segments_from, segments_at}
-use Rattle.graph_core.specs.Consistent.{IsConsistent, IsRound, IsJoin, AreRising, AreFewLines, lines_at}
+use Rattle.graph_core.specs.Round.{ends_at, segments_from}
+use Rattle.graph_core.specs.Consistent.{IsConsistent, IsRound, IsJoin}
 use Rattle.graph_core.specs.declared.parts.Join.{Join}
-use Rattle.graph_core.specs.declared.parts.NodeKind.{NodeKind}
-use Rattle.graph_core.specs.declared.parts.NodeKind.TheVariants.{Station, Junction}
 use Rattle.graph_core.specs.declared.parts.GraphParts.{GraphParts}
 use Rattle.order_model.specs.declared.found.Way.{Way}
 use Rattle.order_model.specs.declared.found.Found.{Found}
 use Rattle.order_model.specs.declared.found.Kind.{Kind}
 use Rattle.order_model.specs.declared.found.Kind.TheVariants.{Side, Link, Apart}
 use Rattle.order_model.specs.declared.term.Term.{Term}
-use Rattle.order_model.specs.declared.problem.ProblemParts.{ProblemParts}
-use Rattle.order_model.specs.Problems.{IsOn, IsTerm, IsProblem, lines_on, choices}
-use Rattle.order_model.specs.Terms.{place_in, way, way_by, ways_from, if_weighed, found_together, together, parting, parted_by, found_by, found_among, found_around, found_at, is_lower_end, in_order, other_line, is_flip, term_of, term_of_kind, weights_at, terms_at, terms_below, graph_terms, IsModest, IsSegmentsOf, IsWithinGraph}
+use Rattle.order_model.specs.Problems.{IsOn}
+use Rattle.order_model.specs.Terms.{way, ways_from, if_weighed, found_together, together, parting, parted_by, found_by, found_among, found_at, is_lower_end, in_order, IsSegmentsOf, IsWithinGraph}
 use Rattle.std.proofs.lemmas.List.{length-map}
 use Rattle.order_model.specs.declared.fault.TermFault.{TermFault}
 use Rattle.order_model.specs.Limits.{IsAbove}
@@ -52,10 +47,10 @@ few_from i n (e ∷ es) =
 
 segments_of_round : (ends : List (NodeId × NodeId)) (n : ℕ) (round : List SegId) → length ends ≤ 20000 → IsRound ends n round → IsSegmentsOf ends round
 segments_of_round ends n round few h = record {
-    some = h.0;
-    few = omega (arith, length_permutation _ _ h.1, few_from 0 n ends);
-    known = All-permutation (IsKnown (length ends)) _ _ h.1 (known_from 0 n (length ends) ends (omega arith));
-  }
+  some = h.0;
+  few = omega (arith, length_permutation _ _ h.1, few_from 0 n ends);
+  known = All-permutation (IsKnown (length ends)) _ _ h.1 (known_from 0 n (length ends) ends (omega arith));
+}
 
 pub round_of_graph : (g : GraphParts) → IsConsistent g → (n : ℕ) → n < length g.kinds → IsSegmentsOf g.ends (get_or g.rounds n [])
 round_of_graph g ok n below = segments_of_round g.ends n _ ok.few_segments (ok.rounds n (omega (arith, ok.round_each)))
@@ -78,16 +73,16 @@ way_good : (g : GraphParts) (round : List SegId) (e : SegId) (j : Join) → IsJo
     → All (IsWay g e) (cond here (way round e j.line j.f ∷ []) (cond there (way round e j.line j.e ∷ []) []))
 way_good g round e j ok known true there p q =
     let good : IsWay g e (way round e j.line j.f) = record {
-        to_known = All-contains (IsKnown (length g.ends)) round j.f known ok.greater;
-        on_here = on_same g.lines j.e e j.line (eqb-true _ _ p) ok.on_lesser;
-        on_there = ok.on_greater;
-      } in All-cons (IsWay g e) (way round e j.line j.f) [] good (All-nil (IsWay g e))
+      to_known = All-contains (IsKnown (length g.ends)) round j.f known ok.greater;
+      on_here = on_same g.lines j.e e j.line (eqb-true _ _ p) ok.on_lesser;
+      on_there = ok.on_greater;
+    } in All-cons (IsWay g e) (way round e j.line j.f) [] good (All-nil (IsWay g e))
 way_good g round e j ok known false true p q =
     let good : IsWay g e (way round e j.line j.e) = record {
-        to_known = All-contains (IsKnown (length g.ends)) round j.e known ok.lesser;
-        on_here = on_same g.lines j.f e j.line (eqb-true _ _ q) ok.on_greater;
-        on_there = ok.on_lesser;
-      } in All-cons (IsWay g e) (way round e j.line j.e) [] good (All-nil (IsWay g e))
+      to_known = All-contains (IsKnown (length g.ends)) round j.e known ok.lesser;
+      on_here = on_same g.lines j.f e j.line (eqb-true _ _ q) ok.on_greater;
+      on_there = ok.on_lesser;
+    } in All-cons (IsWay g e) (way round e j.line j.e) [] good (All-nil (IsWay g e))
 way_good g round e j ok known false false p q = All-nil (IsWay g e)
 
 ways_good : (g : GraphParts) (round : List SegId) (e : SegId) (joins : List Join) → All (IsJoin g.lines round) joins
@@ -95,7 +90,7 @@ ways_good : (g : GraphParts) (round : List SegId) (e : SegId) (joins : List Join
 ways_good g round e [] ok known = All-nil (IsWay g e)
 ways_good g round e (j ∷ joins) ok known =
     All-append (IsWay g e) _ _ (way_good g round e j (All-head (IsJoin g.lines round) j joins ok) known (j.e.0 == e.0) (j.f.0 == e.0) refl refl)
-        (ways_good g round e joins (All-tail (IsJoin g.lines round) j joins ok) known)
+    (ways_good g round e joins (All-tail (IsJoin g.lines round) j joins ok) known)
 
 -- What is found.
 
@@ -137,18 +132,26 @@ together_good g w e u v known a b below same = by_test (nat_lt e.0 u.to.0) refl
   where
     found : (k : Kind) → (0 < weight_for w k) → FitsKind g (found_together k e u v) k → IsGood g w (found_together k e u v)
     found k heavy fits = record {
-        seg_known = known; to_known = a.to_known; below = below; lesser_on = a.on_here; greater_on = b.on_here;
-        first_is = inl refl; fits_kind = fits; weighed = heavy;
-      }
+      seg_known = known;
+      to_known = a.to_known;
+      below = below;
+      lesser_on = a.on_here;
+      greater_on = b.on_here;
+      first_is = inl refl;
+      fits_kind = fits;
+      weighed = heavy;
+    }
+
     both : (k : Kind) → e.0 < u.to.0 → IsBoth g (found_together k e u v)
     both k up = record { seg_below = up; lesser_there = a.on_there; greater_there = on_same g.lines v.to u.to v.line (sym same) b.on_there }
+
     by_test : (t : Bool) → nat_lt e.0 u.to.0 ≡ t
         → All (IsGood g w) (cond t (if_weighed w.link (found_together Link e u v) ++ if_weighed w.sep (found_together Apart e u v)) [])
     by_test true p =
         let up : e.0 < u.to.0 = ltb-true e.0 u.to.0 p in
         All-append (IsGood g w) (if_weighed w.link (found_together Link e u v)) (if_weighed w.sep (found_together Apart e u v))
-            (weighed_good g w w.link (found_together Link e u v) (λ heavy. found Link heavy (both Link up)))
-            (weighed_good g w w.sep (found_together Apart e u v) (λ heavy. found Apart heavy (both Apart up)))
+        (weighed_good g w w.link (found_together Link e u v) (λ heavy. found Link heavy (both Link up)))
+        (weighed_good g w w.sep (found_together Apart e u v) (λ heavy. found Apart heavy (both Apart up)))
     by_test false p = All-nil (IsGood g w)
 
 first_good : (at_lower : Bool) (a b lesser greater : LineId) → (a ≡ lesser) ⊎ (a ≡ greater) → (b ≡ lesser) ⊎ (b ≡ greater)
@@ -159,11 +162,28 @@ first_good false a b lesser greater p q = p
 parted_good : (g : GraphParts) (w : Weights) (at_lower : Bool) (e : SegId) (u v : Way) → e.0 < length g.ends → IsWay g e u → IsWay g e v
     → u.line.0 < v.line.0 → 0 < w.split → IsGood g w (parted_by at_lower e u v)
 parted_good g w at_lower e u v known a b below heavy =
-    elim (nat_lt u.turn v.turn) as (λ t. IsGood g w (cond t (parting at_lower e u.line v.line u v) (parting at_lower e u.line v.line v u)))
-    [ true ↦ record { seg_known = known; to_known = a.to_known; below = below; lesser_on = a.on_here; greater_on = b.on_here;
-        first_is = first_good at_lower u.line v.line u.line v.line (inl refl) (inr refl); fits_kind = tt; weighed = heavy }
-    | false ↦ record { seg_known = known; to_known = b.to_known; below = below; lesser_on = a.on_here; greater_on = b.on_here;
-        first_is = first_good at_lower v.line u.line u.line v.line (inr refl) (inl refl); fits_kind = tt; weighed = heavy } ]
+    elim (nat_lt u.turn v.turn) as (λ t. IsGood g w (cond t (parting at_lower e u.line v.line u v) (parting at_lower e u.line v.line v u))) [
+      | true ↦ record {
+        seg_known = known;
+        to_known = a.to_known;
+        below = below;
+        lesser_on = a.on_here;
+        greater_on = b.on_here;
+        first_is = first_good at_lower u.line v.line u.line v.line (inl refl) (inr refl);
+        fits_kind = tt;
+        weighed = heavy;
+      }
+      | false ↦ record {
+        seg_known = known;
+        to_known = b.to_known;
+        below = below;
+        lesser_on = a.on_here;
+        greater_on = b.on_here;
+        first_is = first_good at_lower v.line u.line u.line v.line (inr refl) (inl refl);
+        fits_kind = tt;
+        weighed = heavy;
+      }
+    ]
 
 found_by_good : (g : GraphParts) (w : Weights) (at_lower : Bool) (e : SegId) (u v : Way) → e.0 < length g.ends → IsWay g e u → IsWay g e v
     → All (IsGood g w) (found_by w at_lower e u v)
@@ -194,8 +214,8 @@ found_round_good g w n [] all joins ok allknown known = All-nil (IsGood g w)
 found_round_good g w n (e ∷ es) all joins ok allknown known =
     let ways : All (IsWay g e) (ways_from all joins e) = ways_good g all e joins ok allknown in
     All-append (IsGood g w) _ _
-        (found_among_good g w (is_lower_end g.ends n e) e _ _ (All-head (IsKnown (length g.ends)) e es known) ways ways)
-        (found_round_good g w n es all joins ok allknown (All-tail (IsKnown (length g.ends)) e es known))
+    (found_among_good g w (is_lower_end g.ends n e) e _ _ (All-head (IsKnown (length g.ends)) e es known) ways ways)
+    (found_round_good g w n es all joins ok allknown (All-tail (IsKnown (length g.ends)) e es known))
 
 pub found_at_good : (g : GraphParts) → IsConsistent g → (w : Weights) (n : ℕ) → n < length g.kinds → All (IsGood g w) (in_order (found_at w g n))
 found_at_good g ok w n below =

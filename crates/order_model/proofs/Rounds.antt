@@ -1,5 +1,5 @@
 -- Places in a round, one step at a time.
-use Rattle.std.proofs.Common.{◌≡◌, ℕ, zero, suc, ◌+◌, ◌<◌, ◌≤◌, List, [], ◌∷◌, length, get_or, drop, refl, ap, arith}
+use Rattle.std.proofs.Common.{◌≡◌, ℕ, ◌+◌, ◌<◌, List, ◌∷◌, length, get_or, drop}
 use Rattle.std.proofs.lemmas.List.{at_drop_more}
 use Rattle.map_base.specs.declared.ids.SegId.{SegId}
 use Rattle.order_model.specs.Terms.{place_in}

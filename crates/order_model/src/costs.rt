@@ -59,15 +59,31 @@ fn is_met(term: Term, lists: &[Sequence<LineId>]) -> bool
     ensures { result ≡ is_met lists.now term }
 {
     match term {
-        Term::Side { seg, first, second, .. } => {
-            comes_before(lists[seg.0 as usize].as_slice(), second, first)
-        }
-        Term::Link { seg, other, flip, a, b, .. } => {
+        Term::Side {
+            seg,
+            first,
+            second,
+            ..
+        } => { comes_before(lists[seg.0 as usize].as_slice(), second, first) }
+        Term::Link {
+            seg,
+            other,
+            flip,
+            a,
+            b,
+            ..
+        } => {
             let here = comes_before(lists[seg.0 as usize].as_slice(), a, b);
             let there = comes_before(lists[other.0 as usize].as_slice(), a, b);
             flip == (here == there)
         }
-        Term::Apart { seg, other, a, b, .. } => {
+        Term::Apart {
+            seg,
+            other,
+            a,
+            b,
+            ..
+        } => {
             let here = are_neighbours(lists[seg.0 as usize].as_slice(), a, b);
             let there = are_neighbours(lists[other.0 as usize].as_slice(), a, b);
             here != there

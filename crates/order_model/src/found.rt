@@ -61,7 +61,12 @@ pub(crate) struct SegEnd {
 }
 
 /// Adds what all ways out of a segment make, two by two, while there are at most `most`.
-pub(crate) fn push_found_among(found: &mut Vec<Found>, most: usize, end: SegEnd, ways: &[Way]) -> Result<(), TermFault>
+pub(crate) fn push_found_among(
+    found: &mut Vec<Found>,
+    most: usize,
+    end: SegEnd,
+    ways: &[Way],
+) -> Result<(), TermFault>
     requires { vec_len found.old ≤ most }
     ensures ok { OnOk result (found.new.items ≡ found.old.items ++ found_among end.weights end.at_lower end.seg ways.now) }
     ensures few { OnOk result (vec_len found.new ≤ most) }
@@ -74,7 +79,13 @@ pub(crate) fn push_found_among(found: &mut Vec<Found>, most: usize, end: SegEnd,
 }
 
 /// Adds what one way makes with each other that has a greater line.
-fn push_found_with(found: &mut Vec<Found>, most: usize, end: SegEnd, u: Way, ways: &[Way]) -> Result<(), TermFault>
+fn push_found_with(
+    found: &mut Vec<Found>,
+    most: usize,
+    end: SegEnd,
+    u: Way,
+    ways: &[Way],
+) -> Result<(), TermFault>
     requires { vec_len found.old ≤ most }
     ensures ok { OnOk result (found.new.items ≡ found.old.items ++ flat_map (found_by end.weights end.at_lower end.seg u) ways.now) }
     ensures few { OnOk result (vec_len found.new ≤ most) }
@@ -87,7 +98,13 @@ fn push_found_with(found: &mut Vec<Found>, most: usize, end: SegEnd, u: Way, way
 }
 
 /// Adds what two ways make, where the first has the lesser line.
-fn push_found_by(found: &mut Vec<Found>, most: usize, end: SegEnd, u: Way, v: Way) -> Result<(), TermFault>
+fn push_found_by(
+    found: &mut Vec<Found>,
+    most: usize,
+    end: SegEnd,
+    u: Way,
+    v: Way,
+) -> Result<(), TermFault>
     requires { vec_len found.old ≤ most }
     ensures ok { OnOk result (found.new.items ≡ found.old.items ++ found_by end.weights end.at_lower end.seg u v) }
     ensures few { OnOk result (vec_len found.new ≤ most) }
@@ -104,7 +121,13 @@ fn push_found_by(found: &mut Vec<Found>, most: usize, end: SegEnd, u: Way, v: Wa
 }
 
 /// Adds what two lines make that both go on to one segment.
-fn push_together(found: &mut Vec<Found>, most: usize, end: SegEnd, u: Way, v: Way) -> Result<(), TermFault>
+fn push_together(
+    found: &mut Vec<Found>,
+    most: usize,
+    end: SegEnd,
+    u: Way,
+    v: Way,
+) -> Result<(), TermFault>
     requires { vec_len found.old ≤ most }
     ensures ok { OnOk result (found.new.items ≡ found.old.items ++ together end.weights end.seg u v) }
     ensures few { OnOk result (vec_len found.new ≤ most) }
@@ -113,8 +136,18 @@ fn push_together(found: &mut Vec<Found>, most: usize, end: SegEnd, u: Way, v: Wa
     if end.seg >= u.to {
         return Ok(());
     }
-    push_weighed(found, most, end.weights.link, found_together(Kind::Link, end.seg, u, v))?;
-    push_weighed(found, most, end.weights.sep, found_together(Kind::Apart, end.seg, u, v))
+    push_weighed(
+        found,
+        most,
+        end.weights.link,
+        found_together(Kind::Link, end.seg, u, v),
+    )?;
+    push_weighed(
+        found,
+        most,
+        end.weights.sep,
+        found_together(Kind::Apart, end.seg, u, v),
+    )
 }
 
 /// A term of two lines that both go on to one segment.

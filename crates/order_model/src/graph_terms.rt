@@ -19,7 +19,11 @@ use std::alloc::Global;
 /// its terms node by node. The terms of a node are sorted by the lesser of their two lines, then by the greater, then
 /// by kind (`Side`, `Link`, `Apart`), by segment, and by the segments that the lines go on to. The limit is answered
 /// exactly where there are more than 4,000,000 terms.
-pub fn terms_of(alloc: Global, graph: &LineGraph, weights: &[Weights; 2]) -> Result<Problem, TermFault>
+pub fn terms_of(
+    alloc: Global,
+    graph: &LineGraph,
+    weights: &[Weights; 2],
+) -> Result<Problem, TermFault>
     requires { All IsModest weights.now }
     ensures segs { IfOk result (λ p. p.segs ≡ graph.now.lines) }
     ensures terms { IfOk result (λ p. p.terms ≡ graph_terms graph.now weights.now) }
@@ -35,7 +39,11 @@ pub fn terms_of(alloc: Global, graph: &LineGraph, weights: &[Weights; 2]) -> Res
 }
 
 /// The terms of all nodes.
-fn all_terms(alloc: Global, graph: &LineGraph, weights: &[Weights; 2]) -> Result<Vec<Term>, TermFault>
+fn all_terms(
+    alloc: Global,
+    graph: &LineGraph,
+    weights: &[Weights; 2],
+) -> Result<Vec<Term>, TermFault>
     ensures terms { IfOk result (λ ts. ts.items ≡ graph_terms graph.now weights.now) }
     ensures few { IfOk result (λ ts. vec_len ts ≤ 4000000) }
     ensures fits { IsConsistent graph.now }

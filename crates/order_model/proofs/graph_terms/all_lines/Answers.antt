@@ -1,4 +1,4 @@
-use Rattle.std.proofs.Common.{◌≡◌, ◌≤◌, ◌<◌, [], List, get_or, take, length, arith, ◌∙◌}
+use Rattle.std.proofs.Common.{◌≤◌, ◌<◌, [], length, arith, ◌∙◌}
 use Rattle.std.proofs.lemmas.List.{take_more, take_all}
 use Rattle.std.proofs.lemmas.Option.{get_or_from_slice_get}
 use Rattle.order_model.proofs.graph_terms.all_lines.Goals as goal

@@ -1,4 +1,4 @@
-use Rattle.std.proofs.Common.{◌≡◌, ◌≤◌, ap, length, vec_len, arith, sym, ◌∙◌}
+use Rattle.std.proofs.Common.{◌≤◌, ap, length, arith}
 use Rattle.order_model.specs.Terms.{graph_terms}
 use Rattle.order_model.proofs.GraphProblem.{problem_of_graph}
 use Rattle.order_model.proofs.graph_terms.terms_of.Goals as goal
@@ -6,6 +6,6 @@ use Rattle.order_model.proofs.graph_terms.terms_of.Goals as goal
 pub new-requires : goal.new-requires
 new-requires c =
     let few : length (graph_terms c.args.graph.now c.args.weights.now) ≤ 4000000 =
-        omega (arith, ap length c.in_ok-terms.ensures.terms, c.in_ok-terms.terms.ok.0, c.in_ok-terms.ensures.few) in
+    omega (arith, ap length c.in_ok-terms.ensures.terms, c.in_ok-terms.terms.ok.0, c.in_ok-terms.ensures.few) in
     rw (c.of.ensures, c.of-2.ensures, c.in_ok-segs.ensures, c.in_ok-terms.ensures.terms)
     (problem_of_graph c.args.graph.now c.in_ok-terms.ensures.fits c.args.weights.now c.requires few)
