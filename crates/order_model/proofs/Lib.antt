@@ -5,3 +5,4 @@ pub mod Rounds
 pub mod Sorting
 pub mod GraphFacts
 pub mod GraphProblem
+pub mod SmallGraph

@@ -75,3 +75,64 @@ fn copied(alloc: Global, lines: &[LineId]) -> Result<Sequence<LineId>, NoMemory>
 {
     Ok(Sequence::of(lines.to_vec(alloc)?))
 }
+
+#[cfg(test)]
+mod tests {
+    use super::*;
+    use graph_core::{GraphParts, Join, NodeKind};
+    use map_base::{Point, StationId};
+    use std::alloc::AllocError;
+    use std::test::Fail;
+
+    /// Two stations, and one line from the one to the other.
+    fn one_line(alloc: Global) -> Result<GraphParts, AllocError>
+        ensures { IfOk result IsConsistent }
+    {
+        let kinds = vec![in alloc;
+            NodeKind::Station(StationId(0)),
+            NodeKind::Station(StationId(1)),
+        ]?;
+        let places = vec![in alloc; Point { x: 0, y: 0 }, Point { x: 11_132, y: 0 }]?;
+        let ends = vec![in alloc; (NodeId(0), NodeId(1))]?;
+        let lines = vec![in alloc; Sequence::of(vec![in alloc; LineId(0)]?)]?;
+        let here = Sequence::of(vec![in alloc; SegId(0)]?);
+        let there = Sequence::of(vec![in alloc; SegId(0)]?);
+        let rounds = vec![in alloc; here, there]?;
+        let none: Sequence<Join> = Sequence::of(Vec::new(alloc));
+        let none_too: Sequence<Join> = Sequence::of(Vec::new(alloc));
+        let joins = vec![in alloc; none, none_too]?;
+        Ok(GraphParts {
+            kinds: Sequence::of(kinds),
+            places: Sequence::of(places),
+            ends: Sequence::of(ends),
+            lines: Sequence::of(lines),
+            rounds: Sequence::of(rounds),
+            joins: Sequence::of(joins),
+        })
+    }
+
+    #[test]
+    fn one_line_has_no_terms(rt: HostRuntime) -> Result<(), Fail> {
+        let graph = LineGraph::new(one_line(rt.alloc())?);
+        let weights = [
+            Weights {
+                link: 4,
+                split: 1,
+                sep: 3,
+            },
+            Weights {
+                link: 12,
+                split: 3,
+                sep: 9,
+            },
+        ];
+        let problem = terms_of(rt.alloc(), &graph, &weights)?;
+        let segs = problem.segs();
+        assert_eq!(rt; segs.len(), 1);
+        let lines = segs[0].as_slice();
+        assert_eq!(rt; lines, [LineId(0)].as_slice());
+        let terms = problem.terms();
+        assert_eq!(rt; terms.len(), 0);
+        Ok(())
+    }
+}
