@@ -6,3 +6,4 @@ pub mod Sorting
 pub mod GraphFacts
 pub mod GraphProblem
 pub mod SmallGraph
+pub mod Classes

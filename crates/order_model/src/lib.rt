@@ -9,6 +9,7 @@ mod costs;
 mod fault;
 mod found;
 mod graph_terms;
+mod labels;
 mod node_terms;
 mod orders;
 mod prices;
