@@ -30,7 +30,7 @@ station-placed columns row rest others =
       longitude = within-bound 180000000 (degrees_of (field_in row columns.lon));
     } in
     elim (is_own_station (type_in columns row) (field_in row columns.parent)) as (λ b. All IsPlaced (cons_option (cond b (Some station) None) rest))
-        [ true ↦ All-cons IsPlaced station rest placed others | false ↦ others ]
+    [ true ↦ All-cons IsPlaced station rest placed others | false ↦ others ]
 
 -- each station of rows is placed
 pub stations-placed : (columns : StopColumns) (rows : List Row) → All IsPlaced (filter_map (station_of columns) rows)

@@ -1,4 +1,4 @@
-//! What every crate of octimap speaks of: the numbers of things, points of the plane, texts, limits,
+//! What every crate of octimap speaks of: the numbers of things, points of the plane, texts, settings, limits,
 //! want of memory, and a counter of steps.
 #![tactic(auto)]
 
@@ -7,6 +7,7 @@ mod limit;
 mod memory;
 mod point;
 mod sequence;
+mod settings;
 mod steps;
 mod text;
 mod weights;
@@ -16,6 +17,7 @@ pub use limit::{Limit, LimitKind};
 pub use memory::NoMemory;
 pub use point::Point;
 pub use sequence::Sequence;
+pub use settings::Settings;
 pub use steps::Steps;
 pub use text::Text;
 pub use weights::Weights;

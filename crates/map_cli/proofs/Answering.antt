@@ -1,7 +1,6 @@
 -- From what a table gives to the answer of a run.
 use Rattle.std.proofs.Common.{Bool, cond, ◌≡◌, ◌≢◌, ℕ, List, [], ◌∷◌, Option, None, Some, Result, Ok, Err, IfSome, IfOk, inl, inr, refl, sym, ap, ◌∙◌, subst, lit<, take}
 use Rattle.std.proofs.lemmas.Slice.Eq.{bytes_eq-Decides}
-use Rattle.std.specs.declared.alloc.Global.{Global}
 use Rattle.map_base.specs.declared.memory.NoMemory.{NoMemory}
 use Rattle.gtfs_tables.specs.declared.why.Table.{Table}
 use Rattle.gtfs_tables.specs.declared.why.Table.TheVariants.{Stops}
@@ -9,7 +8,7 @@ use Rattle.gtfs_tables.specs.declared.station.Station.{Station}
 use Rattle.gtfs_tables.specs.declared.fault.FeedFault.{FeedFault}
 use Rattle.gtfs_tables.specs.declared.fault.FeedFault.TheVariants as fault
 use Rattle.gtfs_tables.specs.Folder.{path_in, table_file}
-use Rattle.gtfs_tables.specs.Outcome.{Answers, Refuses, rose_at}
+use Rattle.gtfs_tables.specs.Outcome.{Answers, rose_at}
 use Rattle.gtfs_tables.specs.Stops.{stops_outcome}
 use Rattle.map_cli.specs.declared.answer.Answer.{Answer}
 use Rattle.map_cli.specs.declared.status.Status.TheVariants as ended
@@ -20,7 +19,7 @@ use Rattle.map_cli.specs.Words.{Asked, stations, unread}
 use Rattle.map_cli.specs.Lines.{no_memory_line}
 use Rattle.map_cli.proofs.Delivery.{some_line}
 use Rattle.map_cli.specs.Stations.{stations_text}
-use Rattle.map_cli.specs.Outcome.{alone, printed, status_of_fault, stations_answer, outcome, read_paths, AreFiles}
+use Rattle.map_cli.specs.Outcome.{alone, printed, status_of_fault, stations_answer, outcome, AreFiles}
 use Rattle.map_cli.specs.Ending.{IsAnswerTo, line_acts, Ends}
 
 -- files of which one alone is the `stops.txt` of a folder, or none

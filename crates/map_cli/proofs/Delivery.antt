@@ -1,9 +1,8 @@
 -- Acts that are done up to a place, put together.
-use Rattle.std.proofs.Common.{None, IfSome, inl, inr, append_assoc, ◌≡◌, ℕ, suc, ◌+◌, ◌<◌, ◌≤◌, List, [], ◌∷◌, ◌++◌, length, take, drop, map, get_or, Option, Some, Result, Ok, Err, refl, sym, ap, ◌∙◌, subst, arith}
+use Rattle.std.proofs.Common.{None, IfSome, inl, inr, append_assoc, ◌≡◌, ℕ, suc, ◌+◌, ◌<◌, List, [], ◌∷◌, ◌++◌, length, take, drop, map, get_or, Option, Some, Result, Ok, Err, refl, sym, ap, ◌∙◌, subst, arith}
 use Rattle.std.proofs.Math.Seq.{take-append-add, take-length, drop-cons}
 use Rattle.std.proofs.lemmas.List.{append-nil, take-append-le, take-append-drop, take-map, take_more, length-append, length-map}
 use Rattle.std.proofs.lemmas.Grind.{flat_map-append}
-use Rattle.std.specs.List.{flat_map}
 use Rattle.files_door.specs.declared.target.Target.{Target}
 use Rattle.files_door.specs.Targets.{Written}
 use Rattle.files_door.specs.Acts.{Act, begun, put, puts, Does}

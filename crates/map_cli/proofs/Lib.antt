@@ -1,2 +1,3 @@
 pub mod Delivery
 pub mod Answering
+pub mod HoldingLaw

@@ -1,5 +1,5 @@
 -- How a run ends: what its targets hold then, and which status it has.
-use Rattle.std.specs.Prelude.{◌≡◌, ◌≢◌, ℕ, ◌<◌, ◌⊎◌, List, [], ◌∷◌, ◌++◌, length, take, Contains, Option, Some, None, IfSome, ⊤}
+use Rattle.std.specs.Prelude.{◌≡◌, ◌≢◌, ℕ, ◌<◌, ◌⊎◌, List, [], ◌∷◌, ◌++◌, length, take, Contains, Option, Some, IfSome, ⊤}
 use Rattle.std.specs.List.{flat_map}
 use Rattle.files_door.specs.declared.target.Target.{Target}
 use Rattle.files_door.specs.declared.target.Target.TheVariants.{Said}
@@ -79,16 +79,16 @@ abbrev pub Ends : Asked → Option (List (List ℕ × List ℕ)) → Type 0 → 
 Ends asked told files_rose sinks_rose old new status =
     (answer : Answer) × IsAnswerTo asked told files_rose answer × IsDelivered answer sinks_rose old new status
 
--- what a status says of the run
-abbrev pub HasCause : Asked → Type 0 → Type 0 → Status → Type 0
+-- a status has its cause
+abbrev pub IsCaused : Asked → Type 0 → Type 0 → Status → Type 0
 -- words that are not read, and no others, end with the help
-HasCause asked files_rose sinks_rose ended.Usage = asked ≡ unread
+IsCaused asked files_rose sinks_rose ended.Usage = asked ≡ unread
 -- a fault of reading or writing comes only where its count rose
-HasCause asked files_rose sinks_rose (ended.ReadFault path) = files_rose × Contains (read_paths asked) path
-HasCause asked files_rose sinks_rose ended.WriteFault = sinks_rose
+IsCaused asked files_rose sinks_rose (ended.ReadFault path) = files_rose × Contains (read_paths asked) path
+IsCaused asked files_rose sinks_rose ended.WriteFault = sinks_rose
 -- a feed is refused or worked on only where the words name one
-HasCause asked files_rose sinks_rose ended.Done = asked ≢ unread
-HasCause asked files_rose sinks_rose (ended.BadRow table row why) = asked ≢ unread
-HasCause asked files_rose sinks_rose (ended.Limit limit) = asked ≢ unread
+IsCaused asked files_rose sinks_rose ended.Done = asked ≢ unread
+IsCaused asked files_rose sinks_rose (ended.BadRow table row why) = asked ≢ unread
+IsCaused asked files_rose sinks_rose (ended.Limit limit) = asked ≢ unread
 -- want of memory is free
-HasCause asked files_rose sinks_rose ended.NoMemory = ⊤
+IsCaused asked files_rose sinks_rose ended.NoMemory = ⊤

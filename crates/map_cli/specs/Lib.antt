@@ -5,3 +5,4 @@ pub mod Outcome
 pub mod Ending
 pub mod Places
 pub mod Writing
+pub mod Holding

@@ -1,5 +1,5 @@
 -- The lines that name how a run ended.
-use Rattle.std.specs.Prelude.{ℕ, List, [], ◌∷◌, ◌++◌, codes, Option, Some, None}
+use Rattle.std.specs.Prelude.{ℕ, List, [], ◌++◌, codes, Option, Some, None}
 use Rattle.std.specs.Fmt.{decimal}
 use Rattle.map_base.specs.Limits.{limit_name}
 use Rattle.gtfs_tables.specs.Folder.{file_name}

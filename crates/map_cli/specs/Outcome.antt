@@ -1,5 +1,5 @@
 -- What a run of the program is to do, by its words and the files that it reads.
-use Rattle.std.specs.Prelude.{◌≡◌, ℕ, List, [], ◌∷◌, Option, None, Some, Result, Ok, Err, IfSome, Contains, ⊤}
+use Rattle.std.specs.Prelude.{◌≡◌, ℕ, List, [], ◌∷◌, Option, Result, Ok, Err, IfSome}
 use Rattle.files_door.specs.declared.target.Target.TheVariants.{Said}
 use Rattle.gtfs_tables.specs.declared.why.Table.TheVariants.{Stops}
 use Rattle.gtfs_tables.specs.declared.station.Station.{Station}

@@ -1,5 +1,5 @@
 -- The target that a place on the disk stands for.
-use Rattle.std.specs.Prelude.{ℕ, List, Option, None, Some}
+use Rattle.std.specs.Prelude.{Option, None, Some}
 use Rattle.files_door.specs.declared.target.Target.{Target}
 use Rattle.files_door.specs.declared.target.Target.TheVariants as target
 use Rattle.map_cli.specs.declared.disk_sinks.Place.{Place}

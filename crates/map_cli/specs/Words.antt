@@ -1,5 +1,6 @@
 -- What the words of the command line ask for.
-use Rattle.std.specs.Prelude.{ℕ, List, [], ◌∷◌, codes, if◌then◌else◌}
+use Rattle.std.specs.Prelude.{ℕ, List, [], ◌∷◌, map, codes, if◌then◌else◌, String, string_bytes}
+use Rattle.std.specs.declared.alloc.Global.{Global}
 use Rattle.std.specs.Str.{bytes_eq}
 use Rattle.map_cli.specs.declared.words.Request.{Request}
 use Rattle.map_cli.specs.declared.words.Request.TheVariants as request
@@ -15,6 +16,9 @@ asked [] = unread
 asked (command ∷ []) = unread
 asked (command ∷ feed ∷ []) = if bytes_eq command (codes "stations") then stations feed else unread
 asked (command ∷ feed ∷ more ∷ rest) = unread
+
+abbrev pub asked_in : List (String Global) → Asked
+asked_in words = asked (map string_bytes words)
 
 -- what a request of the program stands for
 abbrev pub asked_by : Request → Asked

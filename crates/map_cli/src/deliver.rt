@@ -16,7 +16,8 @@ use std::alloc::Global;
 /// Writes an answer's outputs, and then the line of its status. A fault cuts the outputs short, and then
 /// the status is that of a fault; it may cut the line short too, and the status stays.
 pub fn deliver<S: Sinks>(alloc: Global, answer: Answer, words: &[String], sinks: &mut S) -> Status
-    ensures delivered { IsDelivered answer (Rose (S.faults sinks.old) (S.faults sinks.new)) (S.written sinks.old) (S.written sinks.new) result }
+    ensures delivered { IsDelivered answer (Rose (S.faults sinks.old) (S.faults sinks.new))
+        (S.written sinks.old) (S.written sinks.new) result }
     ensures later { S.faults sinks.old ≤ S.faults sinks.new }
 {
     let Answer { status, outputs } = answer;
@@ -29,7 +30,8 @@ pub fn deliver<S: Sinks>(alloc: Global, answer: Answer, words: &[String], sinks:
 
 /// Ends with a status, whose line is written.
 fn end<S: Sinks>(alloc: Global, status: Status, words: &[String], sinks: &mut S) -> Status
-    ensures ended { IsEnded status (Rose (S.faults sinks.old) (S.faults sinks.new)) (S.written sinks.old) (S.written sinks.new) result }
+    ensures ended { IsEnded status (Rose (S.faults sinks.old) (S.faults sinks.new))
+        (S.written sinks.old) (S.written sinks.new) result }
     ensures later { S.faults sinks.old ≤ S.faults sinks.new }
 {
     match line_of(alloc, &status, words) {

@@ -10,6 +10,7 @@ mod disk_files;
 mod disk_sinks;
 mod failures;
 mod help;
+mod holding;
 mod line;
 mod run;
 mod stations;

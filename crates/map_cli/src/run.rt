@@ -1,10 +1,10 @@
 //! All that the program does, over any files and sinks.
 
-ghost use Rattle.std.specs.Prelude.{◌≡◌, ◌⊎◌, map, string_bytes, IfOk};
+ghost use Rattle.std.specs.Prelude.{◌≡◌, ◌⊎◌, IfOk};
 ghost use Rattle.files_door.specs.Fault.{Rose};
-ghost use Rattle.map_cli.specs.Words.{asked, unread};
+ghost use Rattle.map_cli.specs.Words.{asked_in, unread};
 ghost use Rattle.map_cli.specs.Outcome.{alone};
-ghost use Rattle.map_cli.specs.Ending.{Ends, HasCause, IsAnswerTo};
+ghost use Rattle.map_cli.specs.Ending.{Ends, IsCaused, IsAnswerTo};
 
 use crate::answer::Answer;
 use crate::deliver::{deliver, out_of_memory};
@@ -16,7 +16,8 @@ use map_base::{NoMemory, Sequence, Steps};
 use std::alloc::Global;
 use std::sync::ledger::Ledger;
 
-/// Does what the words after the program's name ask for, and answers how that ended.
+/// Does what the words after the program's name ask for, and answers how that ended. `steps` counts the
+/// branch nodes of searches, of which the commands so far have none.
 ///
 /// The outcome is a function of the words and of the files that they name: a status, and the bytes of each
 /// target. Where no count of faults rises and memory is there, the run ends with exactly that. Where reading
@@ -27,17 +28,22 @@ pub fn run<F: Files, S: Sinks, L: Ledger>(
     words: &[String],
     files: &mut F,
     sinks: &mut S,
-    _steps: &mut Steps<L>,
+    steps: &mut Steps<L>,
 ) -> Status
     // The run ends as its outcome says, by the files or, where they are not told, by some files.
-    ensures ends { Ends (asked (map string_bytes words.now)) (F.told files.old) (Rose (F.faults files.old) (F.faults files.new)) (Rose (S.faults sinks.old) (S.faults sinks.new)) (S.written sinks.old) (S.written sinks.new) result }
+    ensures ends { Ends (asked_in words.now) (F.told files.old)
+        (Rose (F.faults files.old) (F.faults files.new))
+        (Rose (S.faults sinks.old) (S.faults sinks.new))
+        (S.written sinks.old) (S.written sinks.new) result }
 
     // Each status has its cause.
-    ensures cause { HasCause (asked (map string_bytes words.now)) (Rose (F.faults files.old) (F.faults files.new)) (Rose (S.faults sinks.old) (S.faults sinks.new)) result }
-    ensures usage { asked (map string_bytes words.now) ≡ unread → (result ≡ Status.Usage) ⊎ (result ≡ Status.NoMemory) }
+    ensures cause { IsCaused (asked_in words.now)
+        (Rose (F.faults files.old) (F.faults files.new))
+        (Rose (S.faults sinks.old) (S.faults sinks.new)) result }
+    ensures usage { asked_in words.now ≡ unread → (result ≡ Status.Usage) ⊎ (result ≡ Status.NoMemory) }
 
     // No step is taken.
-    ensures steps { _steps.new ≡ _steps.old }
+    ensures steps { steps.new ≡ steps.old }
 {
     match answer_of(alloc, words, files) {
         Ok(answer) => deliver(alloc, answer, words, sinks),
@@ -47,9 +53,11 @@ pub fn run<F: Files, S: Sinks, L: Ledger>(
 
 /// What the words ask for, worked out over the files.
 fn answer_of<F: Files>(alloc: Global, words: &[String], files: &mut F) -> Result<Answer, NoMemory>
-    ensures answer { IfOk result (IsAnswerTo (asked (map string_bytes words.now)) (F.told files.old) (Rose (F.faults files.old) (F.faults files.new))) }
-    ensures cause { IfOk result (λ answer. HasCause (asked (map string_bytes words.now)) (Rose (F.faults files.old) (F.faults files.new)) ⊥ answer.status) }
-    ensures usage { asked (map string_bytes words.now) ≡ unread → IfOk result (λ answer. answer ≡ alone Status.Usage) }
+    ensures answer { IfOk result (IsAnswerTo (asked_in words.now) (F.told files.old)
+        (Rose (F.faults files.old) (F.faults files.new))) }
+    ensures cause { IfOk result (λ answer. IsCaused (asked_in words.now)
+        (Rose (F.faults files.old) (F.faults files.new)) ⊥ answer.status) }
+    ensures usage { asked_in words.now ≡ unread → IfOk result (λ answer. answer ≡ alone Status.Usage) }
 {
     match request_of(words) {
         Request::Stations(feed) => answer_stations(alloc, feed, files),

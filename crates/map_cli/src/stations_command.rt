@@ -6,7 +6,7 @@ ghost use Rattle.gtfs_tables.specs.declared.why.Table.TheVariants as table;
 ghost use Rattle.gtfs_tables.specs.Folder.{path_in};
 ghost use Rattle.map_cli.specs.Words.{stations};
 ghost use Rattle.map_cli.specs.Outcome.{alone, printed, status_of_fault};
-ghost use Rattle.map_cli.specs.Ending.{HasCause, IsAnswerTo};
+ghost use Rattle.map_cli.specs.Ending.{IsCaused, IsAnswerTo};
 
 use crate::answer::{Answer, Output};
 use crate::line::name_of;
@@ -23,8 +23,10 @@ pub fn answer_stations<F: Files>(
     feed: &str,
     files: &mut F,
 ) -> Result<Answer, NoMemory>
-    ensures answer { IfOk result (IsAnswerTo (stations feed.now) (F.told files.old) (Rose (F.faults files.old) (F.faults files.new))) }
-    ensures cause { IfOk result (λ answer. HasCause (stations feed.now) (Rose (F.faults files.old) (F.faults files.new)) ⊥ answer.status) }
+    ensures answer { IfOk result (IsAnswerTo (stations feed.now) (F.told files.old)
+        (Rose (F.faults files.old) (F.faults files.new))) }
+    ensures cause { IfOk result (λ answer. IsCaused (stations feed.now)
+        (Rose (F.faults files.old) (F.faults files.new)) ⊥ answer.status) }
     ensures later { F.faults files.old ≤ F.faults files.new }
 {
     match read_stations(alloc, files, feed) {

@@ -136,7 +136,6 @@ fn words_that_are_not_read_get_the_help(rt: HostRuntime) -> Result<(), Fail> {
     for (line, complaint) in [
         ("help", "octimap draws"),
         ("--help", "octimap draws"),
-        ("stations --help", "octimap draws"),
         (
             "station feed",
             "octimap: there is no command \"station\"\n\noctimap draws",

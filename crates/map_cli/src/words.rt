@@ -1,7 +1,7 @@
 //! The words of the command line.
 
-ghost use Rattle.std.specs.Prelude.{◌≡◌, map, string_bytes};
-ghost use Rattle.map_cli.specs.Words.{asked, asked_by};
+ghost use Rattle.std.specs.Prelude.{◌≡◌};
+ghost use Rattle.map_cli.specs.Words.{asked_in, asked_by};
 
 /// What the words ask for.
 #[derive(Clone, Copy, Debug)]
@@ -14,7 +14,7 @@ pub enum Request<'a> {
 
 /// Reads the words after the program's name.
 pub fn request_of(words: &[String]) -> Request<'_>
-    ensures { asked_by result ≡ asked (map string_bytes words.now) }
+    ensures { asked_by result ≡ asked_in words.now }
 {
     match words {
         [command, feed] => {

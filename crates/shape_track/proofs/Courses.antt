@@ -24,7 +24,7 @@ course_step near ps i k w some below whole =
     let back : i - 1 + 1 ≡ i = omega arith in
     let rest : drop i ps ≡ q ∷ drop (i + 1) ps = from_place ps i below in
     let both : drop (i - 1) ps ≡ p ∷ (q ∷ drop (i + 1) ps) =
-        from_place ps (i - 1) (omega arith) ∙ ap (λ n. p ∷ drop n ps) back ∙ ap (λ xs. p ∷ xs) rest in
+    from_place ps (i - 1) (omega arith) ∙ ap (λ n. p ∷ drop n ps) back ∙ ap (λ xs. p ∷ xs) rest in
     ap (λ n. with_points (with_points k (piece_points near p q)) (cut_points near (drop n ps))) here
     ∙ ap (λ xs. with_points (with_points k (piece_points near p q)) (cut_points near xs)) rest
     ∙ sym (with_points-append k (piece_points near p q) (cut_points near (q ∷ drop (i + 1) ps)))
@@ -43,9 +43,10 @@ course_end near ps i k w at_end some whole =
 pub kept_from_nothing : (near count : ℕ) (ps : List Point) (k : Kept) → with_points (record { points = []; before = None; count = count }) (cut_points near ps) ≡ k →
     (k.points ≡ samples_of near ps) × (k.count ≡ count + length (samples_of near ps))
 kept_from_nothing near count ps k is =
-    let start : Kept = record { points = []; before = None; count = count } in
-    ( sym (ap (λ (w : Kept). w.points) is) ∙ points-with_points start (cut_points near ps)
-    , sym (ap (λ (w : Kept). w.count) is) ∙ count-with_points_is start (cut_points near ps) )
+    let start : Kept = record { points = []; before = None; count = count } in (
+      sym (ap (λ (w : Kept). w.points) is) ∙ points-with_points start (cut_points near ps),
+      sym (ap (λ (w : Kept). w.count) is) ∙ count-with_points_is start (cut_points near ps),
+    )
 
 -- what is kept of a part of a course is counted of the whole
 pub kept_of_part : (k w : Kept) (ps : List Point) → with_points k ps ≡ w → k.count ≤ w.count

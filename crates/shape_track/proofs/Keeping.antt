@@ -64,6 +64,7 @@ count-with_points_is k (p ∷ ps) = count-with_points_is (with_point k p) ps ∙
   where
     rest : ℕ
     rest = length (without_repeats (Some p) ps)
+
     of_test : (b : Bool) → cond b k.count (k.count + 1) + length (without_repeats (Some p) ps) ≡ k.count + length (cond b [] (p ∷ []) ++ without_repeats (Some p) ps)
     of_test true = refl
     of_test false = omega arith

@@ -44,25 +44,33 @@ swept_step samples s ss rest costs row l swept floor more_below later =
   where
     below : floor < length samples
     below = omega arith
+
     here : IsLeastCost samples ss floor (get_or rest floor 0)
     here = l.least floor below
+
     is : get_or costs floor 0 ≡ min (cost_at samples s rest floor) (get_or costs (floor + 1) 0)
     is = swept.lesser floor (omega arith) more_below
+
     lesser : (c h x o : ℕ) → c ≡ min h x → (h ≤ o) ⊎ (x ≤ o) → c ≤ o
     lesser c h x o e (inl k) = omega arith
     lesser c h x o e (inr k) = omega arith
+
     either : (others : List ℕ) → (dist2_of s (sample_at samples floor) + get_or rest floor 0 ≤ cost_of samples (s ∷ ss) others) ⊎ ArePlacesFrom (floor + 1) (length samples) (s ∷ ss) others →
         (cost_at samples s rest floor ≤ cost_of samples (s ∷ ss) others) ⊎ (get_or costs (floor + 1) 0 ≤ cost_of samples (s ∷ ss) others)
     either others (inl h) = inl h
     either others (inr h) = inr (later.least others h)
+
     least : (others : List ℕ) → ArePlacesFrom floor (length samples) (s ∷ ss) others → get_or costs floor 0 ≤ cost_of samples (s ∷ ss) others
     least others placed =
         lesser (get_or costs floor 0) (cost_at samples s rest floor) (get_or costs (floor + 1) 0) (cost_of samples (s ∷ ss) others) is
         (either others (taking samples s ss floor (get_or rest floor 0) below here others placed))
+
     min_first : (c h x : ℕ) → c ≡ min h x → h ≤ x → h ≡ c
     min_first c h x e k = omega arith
+
     min_second : (c h x : ℕ) → c ≡ min h x → x < h → x ≡ c
     min_second c h x e k = omega arith
+
     by_cost : (get_or costs (floor + 1) 0 < cost_at samples s rest floor) ⊎ (cost_at samples s rest floor ≤ get_or costs (floor + 1) 0) → IsLeastCost samples (s ∷ ss) floor (get_or costs floor 0)
     by_cost (inl h) = record {
       places = later.places;
@@ -86,15 +94,16 @@ swept_at samples s ss rest costs row l swept zero floor at_end =
     let here = l.least floor below in
     let is : get_or costs floor 0 ≡ cost_at samples s rest floor = swept.last floor (omega arith) last in
     record {
-        places = floor ∷ here.places;
-        placed = (le_refl floor, below, here.placed);
-        reached = ap (λ n. dist2_of s (sample_at samples floor) + n) here.reached ∙ sym is;
-        least = λ others placed. by_step others placed is last (taking samples s ss floor (get_or rest floor 0) below here others placed);
+      places = floor ∷ here.places;
+      placed = (le_refl floor, below, here.placed);
+      reached = ap (λ n. dist2_of s (sample_at samples floor) + n) here.reached ∙ sym is;
+      least = λ others placed. by_step others placed is last (taking samples s ss floor (get_or rest floor 0) below here others placed);
     }
   where
     beyond : (others : List ℕ) (f : ℕ) → f ≡ length samples → ArePlacesFrom f (length samples) (s ∷ ss) others → ⊥
     beyond [] f e placed = placed
     beyond (i ∷ is) f e placed = let low : f ≤ i = placed.0 in let high : i < length samples = placed.1 in omega arith
+
     by_step : (others : List ℕ) → ArePlacesFrom floor (length samples) (s ∷ ss) others → get_or costs floor 0 ≡ cost_at samples s rest floor → floor + 1 ≡ length samples →
         (dist2_of s (sample_at samples floor) + get_or rest floor 0 ≤ cost_of samples (s ∷ ss) others) ⊎ ArePlacesFrom (floor + 1) (length samples) (s ∷ ss) others →
         get_or costs floor 0 ≤ cost_of samples (s ∷ ss) others
@@ -119,6 +128,7 @@ taken_cost samples s rest costs row swept place below taken = by_order (cases_lt
   where
     first : (c h x : ℕ) → c ≡ min h x → h ≤ x → c ≡ h
     first c h x e k = omega arith
+
     by_order : (place + 1 < length samples) ⊎ (length samples ≤ place + 1) → get_or costs place 0 ≡ cost_at samples s rest place
     by_order (inl more) =
         first (get_or costs place 0) (cost_at samples s rest place) (get_or costs (place + 1) 0) (swept.lesser place (omega arith) more)
@@ -130,7 +140,7 @@ passed_cost : (samples : List Point) (s : Point) (rest costs : List ℕ) (row : 
     (get_or costs place 0 ≡ get_or costs (place + 1) 0) × (get_or costs (place + 1) 0 < cost_at samples s rest place)
 passed_cost samples s rest costs row swept place more passed =
     let dearer : get_or costs (place + 1) 0 < cost_at samples s rest place =
-        leb-false (cost_at samples s rest place) (get_or costs (place + 1) 0) (sym (swept.taken place (omega arith) more) ∙ passed) in
+    leb-false (cost_at samples s rest place) (get_or costs (place + 1) 0) (sym (swept.taken place (omega arith) more) ∙ passed) in
     (second (get_or costs place 0) (cost_at samples s rest place) (get_or costs (place + 1) 0) (swept.lesser place (omega arith) more) dearer, dearer)
   where
     second : (c h x : ℕ) → c ≡ min h x → x < h → c ≡ x
@@ -170,24 +180,31 @@ begins_snap samples s ss rest costs row l swept count floor place is below leads
       where
         both : (a b : ℕ) → a ≤ b → b ≤ a → a ≡ b
         both a b h k = omega arith
+
     place_cost : get_or costs place 0 ≡ cost_at samples s rest place
     place_cost = taken_cost samples s rest costs row swept place below leads.taken
+
     floor_cost : get_or costs floor 0 ≡ cost_of samples (s ∷ ss) (place ∷ is)
     floor_cost =
         same_cost samples s rest costs row swept place below (place - floor) floor (omega (arith, leads.above)) leads.passed ∙ place_cost
         ∙ ap (λ n. dist2_of s (sample_at samples place) + n) (sym rest_cost)
+
     all_least : IsLeastCost samples (s ∷ ss) floor (get_or costs floor 0)
     all_least = (swept_least samples s ss rest costs row l swept count).least floor (omega (arith, leads.above))
+
     earlier : (i : ℕ) → floor ≤ i → i < place → cost_of samples (s ∷ ss) (place ∷ is) < cost_at samples s rest i
     earlier i above under =
         let dearer : get_or costs (i + 1) 0 < cost_at samples s rest i = (passed_cost samples s rest costs row swept i (omega arith) (leads.passed i above under)).1 in
         let to_place : get_or costs (i + 1) 0 ≡ get_or costs place 0 =
-            same_cost samples s rest costs row swept place below (place - (i + 1)) (i + 1) (omega arith) (λ other over low. leads.passed other (omega arith) low) in
+        same_cost samples s rest costs row swept place below (place - (i + 1)) (i + 1) (omega arith) (λ other over low. leads.passed other (omega arith) low) in
         subst (λ (n : ℕ). n < cost_at samples s rest i) (to_place ∙ place_cost ∙ ap (λ n. dist2_of s (sample_at samples place) + n) (sym rest_cost)) dearer
+
     same_rest : (a b c : ℕ) → a + b ≡ a + c → b ≡ c
     same_rest a b c e = omega arith
+
     clash : (x h d c r : ℕ) → x < h → h ≡ d + r → r ≤ c → d + c ≡ x → ⊥
     clash x h d c r low is more same = omega arith
+
     by_order : (i : ℕ) (js : List ℕ) → ArePlacesFrom floor (length samples) (s ∷ ss) (i ∷ js) → cost_of samples (s ∷ ss) (i ∷ js) ≡ cost_of samples (s ∷ ss) (place ∷ is) →
         (i < place) ⊎ (place ≤ i) → (place < i) ⊎ (i ≤ place) → IsTrue (is_not_after (place ∷ is) (i ∷ js))
     by_order i js placed same (inl h) k =
@@ -198,9 +215,10 @@ begins_snap samples s ss rest costs row l swept count floor place is below leads
         let here : i ≡ place = omega arith in
         let later : ArePlacesFrom place (length samples) ss js = subst (λ (f : ℕ). ArePlacesFrom f (length samples) ss js) here placed.2 in
         let costs_same : cost_of samples ss js ≡ cost_of samples ss is =
-            same_rest (dist2_of s (sample_at samples place)) (cost_of samples ss js) (cost_of samples ss is)
-            (ap (λ n. dist2_of s (sample_at samples n) + cost_of samples ss js) (sym here) ∙ same) in
+        same_rest (dist2_of s (sample_at samples place)) (cost_of samples ss js) (cost_of samples ss is)
+        (ap (λ n. dist2_of s (sample_at samples n) + cost_of samples ss js) (sym here) ∙ same) in
         after_same place i is js (sym here) (snap.first js later costs_same)
+
     first : (others : List ℕ) → ArePlacesFrom floor (length samples) (s ∷ ss) others → cost_of samples (s ∷ ss) others ≡ cost_of samples (s ∷ ss) (place ∷ is) → IsTrue (is_not_after (place ∷ is) others)
     first [] placed same = absurd placed
     first (i ∷ js) placed same = by_order i js placed same (cases_lt i place) (cases_lt place i)

@@ -20,8 +20,8 @@ first_is : (near d r n more : ℕ) → IsLeastParts near d r → 1 ≤ n → n �
 first_is near d r n zero l some below above = omega arith
 first_is near d r n (suc more) l some below above =
     (elim (reaches near d n) as (λ b. reaches near d n ≡ b → elim b [ true ↦ n | false ↦ first_that_reaches near d (n + 1) more ] ≡ r) [
-    | true ↦ λ e. let upper : r ≤ n = l.least n some (leb-true (4 * d) (n * n * (near * near)) e) in omega arith
-    | false ↦ λ e. first_is near d r (n + 1) more l (omega arith) (later (leb-false (4 * d) (n * n * (near * near)) e)) (omega arith)
+      | true ↦ λ e. let upper : r ≤ n = l.least n some (leb-true (4 * d) (n * n * (near * near)) e) in omega arith
+      | false ↦ λ e. first_is near d r (n + 1) more l (omega arith) (later (leb-false (4 * d) (n * n * (near * near)) e)) (omega arith)
     ]) refl
   where
     later : n * n * (near * near) < 4 * d → n + 1 ≤ r
@@ -29,6 +29,7 @@ first_is near d r n (suc more) l some below above =
       where
         clash : (p q f : ℕ) → p ≤ q → f ≤ p → q < f → ⊥
         clash p q f grows far short = omega arith
+
         by_order : (n < r) ⊎ (r ≤ n) → n + 1 ≤ r
         by_order (inl h) = omega arith
         by_order (inr h) =
@@ -40,8 +41,10 @@ parts_of_is near d r some l = first_is near d r 1 (2 * d) l (omega arith) l.some
   where
     square : (d : ℕ) → 4 * d ≤ (1 + 2 * d) * (1 + 2 * d)
     square d = omega arith
+
     enough : 4 * d ≤ (1 + 2 * d) * (1 + 2 * d) * (near * near)
     enough = le_trans (square d) (le-mul_of_pos_right ((1 + 2 * d) * (1 + 2 * d)) (mul-le-mul some some))
+
     bounded : (m : ℕ) → r ≤ 1 + m → r ≤ 1 + m
     bounded m h = h
 
@@ -56,6 +59,7 @@ least_by_root near d squares s enough tight root next = record {
   where
     up : (a b : ℕ) → a - 1 < b → a ≤ b
     up a b h = omega arith
+
     least : (n : ℕ) → 1 ≤ n → 4 * d ≤ n * n * (near * near) → s + 1 ≤ n
     least n some far = by_order (cases_lt s n)
       where
@@ -71,8 +75,10 @@ least_by_root near d squares s enough tight root next = record {
           where
             expand : (k w : ℕ) → (k + 1) * w ≡ k * w + w
             expand k w = omega arith
+
             split : (m w : ℕ) → 1 ≤ m → (m - 1) * w + w ≡ m * w
             split m w h = let back : m ≡ m - 1 + 1 = omega arith in sym (ap (λ n. n * w) back ∙ expand (m - 1) w)
+
             clash_of : (p q t w f : ℕ) → p ≤ q → q + w ≡ t → f ≤ p → t < f + w → ⊥
             clash_of p q t w f weighed less far tight = omega arith
 

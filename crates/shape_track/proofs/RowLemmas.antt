@@ -50,7 +50,7 @@ pub snap_goes_on : (samples stations : List Point) (places : List ℕ) (row : Li
 snap_goes_on samples stations places row index floor place below leads within to whole rest snap =
     let here : drop index stations ≡ point_at stations index ∷ drop (index + 1) stations = from_place stations index below in
     let row_leads : Leads samples (point_at stations index) (drop (index + 1) stations) row =
-        subst (λ (ss : List Point). LeadsFirst samples ss row) here leads in
+    subst (λ (ss : List Point). LeadsFirst samples ss row) here leads in
     let begun : IsSnapFrom floor samples (point_at stations index ∷ drop (index + 1) stations) (place ∷ rest) = row_leads.begins floor place rest within to snap in
     subst (λ (ps : List ℕ). IsSnapFrom 0 samples stations ps) (sym (append_assoc places (place ∷ []) rest))
     (whole (place ∷ rest) (subst (λ (ss : List Point). IsSnapFrom floor samples ss (place ∷ rest)) (sym here) begun))
@@ -67,5 +67,5 @@ pub row_whole : (samples stations : List Point) (row : List Bool) (index : ℕ) 
     (length row ≡ length samples) × (taken_at row (length samples - 1) ≡ true)
 row_whole samples stations row index below leads =
     let row_leads : Leads samples (point_at stations index) (drop (index + 1) stations) row =
-        subst (λ (ss : List Point). LeadsFirst samples ss row) (from_place stations index below) leads in
+    subst (λ (ss : List Point). LeadsFirst samples ss row) (from_place stations index below) leads in
     (row_leads.count, row_leads.last)

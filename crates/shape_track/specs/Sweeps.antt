@@ -43,7 +43,7 @@ pub record Leads (samples : List Point) (station : Point) (later : List Point) (
   pub count : length row ≡ length samples
   pub last : taken_at row (length samples - 1) ≡ true
   pub begins : (floor place : ℕ) (rest : List ℕ) → place < length samples → LeadsTo row floor place → IsSnapFrom place samples later rest →
-    IsSnapFrom floor samples (station ∷ later) (place ∷ rest)
+      IsSnapFrom floor samples (station ∷ later) (place ∷ rest)
 
 -- the costs are bounded by that of some stations, each at the greatest distance there is
 abbrev pub AreBounded : ℕ → List ℕ → Type 0

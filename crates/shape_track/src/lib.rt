@@ -14,3 +14,6 @@ pub use fault::SampleFault;
 pub use samples::sample;
 pub use snapping::snap;
 pub use tracking::track;
+
+#[cfg(test)]
+mod tests;

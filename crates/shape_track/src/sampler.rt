@@ -48,11 +48,7 @@ impl Sampler {
     {
         let repeated = repeats(self.before, point);
         self.before = Some(point);
-        if repeated {
-            Ok(())
-        } else {
-            self.store(point)
-        }
+        if repeated { Ok(()) } else { self.store(point) }
     }
 
     fn store(&mut self, point: Point) -> Result<(), SampleFault>

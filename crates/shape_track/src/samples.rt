@@ -3,7 +3,7 @@
 ghost use Rattle.std.specs.Prelude.{◌≡◌, ◌+◌, ◌<◌, ◌≤◌, [], IfOk, IfErr, length, vec_len, All, Some, None};
 ghost use Rattle.fixed_plane.specs.Plane.{IsInPlane};
 ghost use Rattle.shape_track.specs.Faults.{HasCause};
-ghost use Rattle.shape_track.specs.Samples.{samples_of};
+ghost use Rattle.shape_track.specs.Samples.{Joins, first_of, last_of, samples_of};
 
 use crate::fault::SampleFault;
 use crate::sampler::Sampler;
@@ -14,13 +14,22 @@ use std::alloc::Global;
 /// half of `near`, and the samples are where the parts begin, rounded downwards, and then the last point. A
 /// sample that equals the one before it is left out. There is a limit where there are more than `most`
 /// samples, and no more than `most` are made.
-pub fn sample(alloc: Global, points: &[Point], near: u32, most: u64) -> Result<Vec<Point>, SampleFault>
+pub fn sample(
+    alloc: Global,
+    points: &[Point],
+    near: u32,
+    most: u64,
+) -> Result<Vec<Point>, SampleFault>
     requires some { 0 < length points.now }
     requires in_plane { All IsInPlane points.now }
     requires near_low { 20 ≤ near }
     ensures samples { IfOk result (λ samples. samples.items ≡ samples_of near points.now) }
     ensures within { IfOk result (λ samples. vec_len samples ≤ most) }
     ensures cause { IfErr result (λ fault. HasCause most (length (samples_of near points.now)) fault) }
+
+    // They begin and end where the points do, each is close to the next, and they are in the plane.
+    ensures joins { IfOk result (λ samples. Joins near (first_of points.now) (last_of points.now) samples.items) }
+    ensures in_plane { IfOk result (λ samples. All IsInPlane samples.items) }
 {
     let sampler = counted_samples(alloc, points, near, 0, most)?;
     Ok(sampler.kept)

@@ -4,7 +4,7 @@ ghost use Rattle.std.specs.Prelude.{◌≡◌, ◌+◌, ◌<◌, ◌≤◌, IfOk
 ghost use Rattle.fixed_plane.specs.Plane.{IsInPlane};
 ghost use Rattle.shape_track.specs.Faults.{HasCause};
 ghost use Rattle.shape_track.specs.Snaps.{ArePlacesFrom};
-ghost use Rattle.shape_track.specs.Hops.{hop_points, hops_of, total_of};
+ghost use Rattle.shape_track.specs.Hops.{AreJoined, hop_points, hops_of, total_of};
 
 use crate::fault::SampleFault;
 use crate::samples::counted_samples;
@@ -29,12 +29,24 @@ pub fn track(
     ensures hops { IfOk result (λ hops. map (λ hop. hop.items) hops.items ≡ hops_of near samples.now stations.now places.now) }
     ensures within { IfOk result (λ _. total_of (hops_of near samples.now stations.now places.now) ≤ most) }
     ensures cause { IfErr result (λ fault. HasCause most (total_of (hops_of near samples.now stations.now places.now)) fault) }
+
+    // Each hop begins and ends with its two stations, each of its samples is close to the next, and all are in
+    // the plane.
+    ensures joined { IfOk result (λ hops. AreJoined near stations.now (map (λ hop. hop.items) hops.items)) }
+    ensures in_plane { IfOk result (λ hops. All (λ hop. All IsInPlane hop.items) hops.items) }
 {
     let mut hops = Vec::new(alloc);
     let mut count = 0;
     for index in 1..stations.len() {
         let (from, to) = (places[index - 1] as usize, places[index] as usize);
-        let course = hop_course(alloc, samples, stations[index - 1], from, stations[index], to)?;
+        let course = hop_course(
+            alloc,
+            samples,
+            stations[index - 1],
+            from,
+            stations[index],
+            to,
+        )?;
         let sampler = counted_samples(alloc, &course, near, count, most)?;
         count = sampler.count;
         hops.push(sampler.kept)?;

@@ -1,4 +1,4 @@
-use Rattle.std.proofs.Common.{ℕ, List, length, take, subst, ◌<◌}
+use Rattle.std.proofs.Common.{List, length, take, subst, ◌<◌}
 use Rattle.files_door.proofs.Faults.{rose_later}
 use Rattle.files_door.specs.Acts.{Does}
 use Rattle.map_cli.specs.declared.answer.Output.{Output}

@@ -1,6 +1,5 @@
 use Rattle.std.proofs.Common.{ℕ, List, subst, sym}
-use Rattle.map_cli.specs.Lines.{no_memory_line}
-use Rattle.map_cli.specs.Ending.{IsLineOf, line_acts}
+use Rattle.map_cli.specs.Ending.{IsLineOf}
 use Rattle.files_door.proofs.Acts.{Does-nil}
 use Rattle.map_cli.proofs.Delivery.{ended_whole, ended_out, some_line}
 use Rattle.map_cli.proofs.deliver.end.Goals as goal

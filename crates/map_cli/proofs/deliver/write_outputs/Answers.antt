@@ -1,4 +1,4 @@
-use Rattle.std.proofs.Common.{◌≤◌, arith}
+use Rattle.std.proofs.Common.{arith}
 use Rattle.std.proofs.lemmas.Result.{err_from_is_err_and}
 use Rattle.map_cli.proofs.Delivery.{outputs_front, outputs_more}
 use Rattle.map_cli.proofs.deliver.write_outputs.Goals as goal

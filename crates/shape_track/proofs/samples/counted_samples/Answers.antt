@@ -13,11 +13,11 @@ loop-index-preserved c =
     let i = c.loop-index.index in
     let near = c.args.near in
     record {
-        kept = ap (λ k. with_points k (cut_points near (drop (i + 1 - 1) ps))) c.in_ok-keep_piece.ensures.kept
-            ∙ course_step near ps i (kept_by c.loop-index.sampler) (with_points (record { points = []; before = None; count = c.args.count }) (cut_points near ps)) (omega arith) (omega arith)
-                c.loop-index.invariant.kept;
-        counted = subst (λ (n : ℕ). c.keep_piece.new.self.count ≤ n) c.loop-index.invariant.most c.in_ok-keep_piece.ensures.counted;
-        most = c.in_ok-keep_piece.ensures.most ∙ c.loop-index.invariant.most;
+      kept = ap (λ k. with_points k (cut_points near (drop (i + 1 - 1) ps))) c.in_ok-keep_piece.ensures.kept
+          ∙ course_step near ps i (kept_by c.loop-index.sampler) (with_points (record { points = []; before = None; count = c.args.count }) (cut_points near ps)) (omega arith) (omega arith)
+          c.loop-index.invariant.kept;
+      counted = subst (λ (n : ℕ). c.keep_piece.new.self.count ≤ n) c.loop-index.invariant.most c.in_ok-keep_piece.ensures.counted;
+      most = c.in_ok-keep_piece.ensures.most ∙ c.loop-index.invariant.most;
     }
 
 pub returns-in_err-keep_piece-clause-cause : goal.returns-in_err-keep_piece-clause-cause
@@ -30,10 +30,10 @@ returns-in_err-keep_piece-clause-cause c =
     let total = c.args.count + length (samples_of near ps) in
     let step = course_step near ps i (kept_by c.loop-index.sampler) whole (omega arith) (omega arith) c.loop-index.invariant.kept in
     let more : k.count ≤ total =
-        subst (λ (n : ℕ). k.count ≤ n) (kept_from_nothing near c.args.count ps whole refl).1 (kept_of_part k whole (cut_points near (drop (i + 1 - 1) ps)) step) in
+    subst (λ (n : ℕ). k.count ≤ n) (kept_from_nothing near c.args.count ps whole refl).1 (kept_of_part k whole (cut_points near (drop (i + 1 - 1) ps)) step) in
     let cause : HasCause c.args.most total c.in_err-keep_piece.field-0.0 =
-        subst (λ (n : ℕ). HasCause n total c.in_err-keep_piece.field-0.0) c.loop-index.invariant.most
-        (HasCause-more c.loop-index.sampler.most k.count total c.in_err-keep_piece.field-0.0 more c.in_err-keep_piece.ensures.cause) in
+    subst (λ (n : ℕ). HasCause n total c.in_err-keep_piece.field-0.0) c.loop-index.invariant.most
+    (HasCause-more c.loop-index.sampler.most k.count total c.in_err-keep_piece.field-0.0 more c.in_err-keep_piece.ensures.cause) in
     search (rules, cause)
 
 -- at the end of the loop the last point makes the course whole
@@ -51,8 +51,8 @@ returns-in_err-keep-clause-cause c =
     let total = c.args.count + length (samples_of near ps) in
     let whole = whole_course near c.args.count c.loop-index.index ps (kept_by c.loop-index.sampler) (omega arith) c.requires.some c.loop-index.invariant.kept in
     let cause : HasCause c.args.most total c.in_err-keep.field-0.0 =
-        subst (λ (n : ℕ). HasCause c.args.most n c.in_err-keep.field-0.0) whole.1
-        (subst (λ (n : ℕ). HasCause n (with_point (kept_by c.loop-index.sampler) (point_at ps (length ps - 1))).count c.in_err-keep.field-0.0) c.loop-index.invariant.most c.in_err-keep.ensures.cause) in
+    subst (λ (n : ℕ). HasCause c.args.most n c.in_err-keep.field-0.0) whole.1
+    (subst (λ (n : ℕ). HasCause n (with_point (kept_by c.loop-index.sampler) (point_at ps (length ps - 1))).count c.in_err-keep.field-0.0) c.loop-index.invariant.most c.in_err-keep.ensures.cause) in
     search (rules, cause)
 
 pub returns-clause-samples : goal.returns-clause-samples

@@ -49,10 +49,10 @@ loop-index-preserved c =
     let count : length c.deref.result.now ≡ length samples = (row_whole samples stations c.deref.result.now index c.loop-index-test.true leads).0 in
     let within : place < length samples = subst (λ (n : ℕ). place < n) count c.first_taken-floor.ensures.place in
     record {
-        floor = within;
-        leads = λ rest snap.
-            subst (λ (ps : List ℕ). IsSnapFrom 0 samples stations (ps ++ rest)) (sym c.in_ok-push.ensures.items)
-            (snap_goes_on samples stations places c.deref.result.now index c.loop-index.floor place c.loop-index-test.true leads within c.first_taken-floor.ensures.leads c.loop-index.invariant.leads rest snap);
+      floor = within;
+      leads = λ rest snap.
+          subst (λ (ps : List ℕ). IsSnapFrom 0 samples stations (ps ++ rest)) (sym c.in_ok-push.ensures.items)
+          (snap_goes_on samples stations places c.deref.result.now index c.loop-index.floor place c.loop-index-test.true leads within c.first_taken-floor.ensures.leads c.loop-index.invariant.leads rest snap);
     }
 
 pub returns : goal.returns

@@ -26,8 +26,8 @@ whole_piece near n a b is = ap (part_points a b) is
 pub loop-index-preserved : goal.loop-index-preserved
 loop-index-preserved c = record {
   kept = ap (λ k. with_points k (part_points_from c.args.a c.args.b c.parts-count.result (c.loop-index.index + 1))) c.in_ok-keep.ensures.kept
-    ∙ step (kept_by c.loop-index.self) (with_points (kept_by c.args.self.now) (part_points c.args.a c.args.b c.parts-count.result)) c.args.a c.args.b c.part.result
-        c.parts-count.result c.loop-index.index (omega arith) c.part.ensures.value c.loop-index.invariant.kept;
+      ∙ step (kept_by c.loop-index.self) (with_points (kept_by c.args.self.now) (part_points c.args.a c.args.b c.parts-count.result)) c.args.a c.args.b c.part.result
+      c.parts-count.result c.loop-index.index (omega arith) c.part.ensures.value c.loop-index.invariant.kept;
   counted = subst (λ (n : ℕ). c.keep.new.self.count ≤ n) c.loop-index.invariant.most c.in_ok-keep.ensures.counted;
   most = c.in_ok-keep.ensures.most ∙ c.loop-index.invariant.most;
 }
@@ -39,14 +39,14 @@ returns-in_err-keep-clause-cause c =
     let rest = part_points_from c.args.a c.args.b c.parts-count.result (c.loop-index.index + 1) in
     let whole = with_points (kept_by c.args.self.now) (part_points c.args.a c.args.b c.parts-count.result) in
     let all : with_points k rest ≡ whole =
-        step (kept_by c.loop-index.self) whole c.args.a c.args.b c.part.result c.parts-count.result c.loop-index.index (omega arith) c.part.ensures.value c.loop-index.invariant.kept in
+    step (kept_by c.loop-index.self) whole c.args.a c.args.b c.part.result c.parts-count.result c.loop-index.index (omega arith) c.part.ensures.value c.loop-index.invariant.kept in
     let is : with_points k rest ≡ with_points (kept_by c.args.self.now) (piece_points near c.args.a c.args.b) =
-        all ∙ ap (with_points (kept_by c.args.self.now)) (whole_piece near c.parts-count.result c.args.a c.args.b count_is) in
+    all ∙ ap (with_points (kept_by c.args.self.now)) (whole_piece near c.parts-count.result c.args.a c.args.b count_is) in
     let more : k.count ≤ (with_points (kept_by c.args.self.now) (piece_points near c.args.a c.args.b)).count =
-        subst (λ (w : Kept). k.count ≤ w.count) is (count-with_points k rest) in
+    subst (λ (w : Kept). k.count ≤ w.count) is (count-with_points k rest) in
     let cause : HasCause c.args.self.now.most (with_points (kept_by c.args.self.now) (piece_points near c.args.a c.args.b)).count c.in_err-keep.field-0.0 =
-        subst (λ (n : ℕ). HasCause n (with_points (kept_by c.args.self.now) (piece_points near c.args.a c.args.b)).count c.in_err-keep.field-0.0) c.loop-index.invariant.most
-        (HasCause-more c.loop-index.self.most k.count (with_points (kept_by c.args.self.now) (piece_points near c.args.a c.args.b)).count c.in_err-keep.field-0.0 more c.in_err-keep.ensures.cause) in
+    subst (λ (n : ℕ). HasCause n (with_points (kept_by c.args.self.now) (piece_points near c.args.a c.args.b)).count c.in_err-keep.field-0.0) c.loop-index.invariant.most
+    (HasCause-more c.loop-index.self.most k.count (with_points (kept_by c.args.self.now) (piece_points near c.args.a c.args.b)).count c.in_err-keep.field-0.0 more c.in_err-keep.ensures.cause) in
     search (rules, cause)
   where
     count_is : c.parts-count.result ≡ parts_of c.args.near (dist2_of c.args.a c.args.b)

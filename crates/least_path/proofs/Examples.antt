@@ -1,0 +1,31 @@
+-- A small graph in which two ways cost the same: 0 to 1 to 3 and 0 to 2 to 3, each at 2, and a dear step from 0 to 3.
+use Rattle.std.proofs.Common.{refl, ℕ, inl, inr, [], ◌∷◌, arith}
+use Rattle.least_path.specs.Orders.{LexLe}
+use Rattle.least_path.specs.Paths.{Path}
+
+data Edge : ℕ → ℕ → ℕ → ℕ → Type 0 where
+  first : Edge 0 1 1 1
+  second : Edge 0 2 2 1
+  from_first : Edge 1 3 3 1
+  from_second : Edge 2 3 3 1
+  dear : Edge 0 3 3 3
+
+by_first : Path Edge 0 3 (1 ∷ 3 ∷ []) 2
+by_first = (1, 1, 1, first, (3, 1, 0, from_first, (refl, refl), refl), refl)
+
+by_second : Path Edge 0 3 (2 ∷ 3 ∷ []) 2
+by_second = (2, 1, 1, second, (3, 1, 0, from_second, (refl, refl), refl), refl)
+
+at_once : Path Edge 0 3 (3 ∷ []) 3
+at_once = (3, 3, 0, dear, (refl, refl), refl)
+
+-- the tie goes to the lesser label, and a list stands before each that it begins
+lesser_label : LexLe (1 ∷ 3 ∷ []) (2 ∷ 3 ∷ [])
+lesser_label = inl (omega arith)
+
+shorter_list : LexLe (1 ∷ []) (1 ∷ 3 ∷ [])
+shorter_list = inr (refl, tt)
+
+not_the_longer : LexLe (1 ∷ 3 ∷ []) (1 ∷ []) → ⊥
+not_the_longer (inl h) = omega arith
+not_the_longer (inr h) = h.1

@@ -1,0 +1,53 @@
+-- Small cases, worked by hand.
+use Rattle.std.proofs.Common.{◌≡◌, pos, negsuc, refl, ℕ, true, false, List, [], ◌∷◌}
+use Rattle.map_base.specs.declared.point.Point.{Point}
+use Rattle.shape_track.specs.Samples.{parts_of, samples_of}
+use Rattle.shape_track.specs.Snaps.{cost_of, is_not_after}
+use Rattle.shape_track.specs.Hops.{hop_points, hops_of}
+
+abbrev at : ℕ → Point
+at x = record { x = pos x; y = pos 0 }
+
+-- half of 500 goes four times into 1000, and five times into 1001
+four_parts : parts_of 500 1000000 ≡ 4
+four_parts = refl
+
+five_parts : parts_of 500 1002001 ≡ 5
+five_parts = refl
+
+-- no distance is one part
+one_part : parts_of 20 0 ≡ 1
+one_part = refl
+
+quarters : samples_of 500 (at 0 ∷ at 1000 ∷ []) ≡ at 0 ∷ at 250 ∷ at 500 ∷ at 750 ∷ at 1000 ∷ []
+quarters = refl
+
+-- a point that stands twice is one sample, and one that comes again later is another
+repeated : samples_of 20 (at 0 ∷ at 0 ∷ at 10 ∷ at 0 ∷ []) ≡ at 0 ∷ at 10 ∷ at 0 ∷ []
+repeated = refl
+
+-- the parts of an odd way are rounded downwards, also below zero
+below_zero : samples_of 20 (record { x = pos 0; y = pos 0 } ∷ record { x = negsuc 14; y = pos 0 } ∷ []) ≡ at 0 ∷ record { x = negsuc 7; y = pos 0 } ∷ record { x = negsuc 14; y = pos 0 } ∷ []
+below_zero = refl
+
+-- both stations at one sample cost less than in the order of the way
+together : cost_of (at 0 ∷ at 100 ∷ at 200 ∷ at 300 ∷ []) (at 290 ∷ at 110 ∷ []) (2 ∷ 2 ∷ []) ≡ 16200
+together = refl
+
+in_turn : cost_of (at 0 ∷ at 100 ∷ at 200 ∷ at 300 ∷ []) (at 290 ∷ at 110 ∷ []) (3 ∷ 3 ∷ []) ≡ 36200
+in_turn = refl
+
+-- the order of dictionaries
+earlier : is_not_after (0 ∷ 3 ∷ []) (1 ∷ 1 ∷ []) ≡ true
+earlier = refl
+
+later : is_not_after (1 ∷ 2 ∷ []) (1 ∷ 1 ∷ []) ≡ false
+later = refl
+
+-- a hop has the samples from the one place to the other, with both
+hop : hop_points (at 0 ∷ at 10 ∷ at 20 ∷ []) (at 9) 1 (at 21) 2 ≡ at 9 ∷ at 10 ∷ at 20 ∷ at 21 ∷ []
+hop = refl
+
+-- there is a hop less than there are stations
+one_hop : hops_of 100 (at 0 ∷ at 10 ∷ at 20 ∷ []) (at 0 ∷ at 20 ∷ []) (0 ∷ 2 ∷ []) ≡ (at 0 ∷ at 10 ∷ at 20 ∷ []) ∷ []
+one_hop = refl

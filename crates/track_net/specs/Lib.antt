@@ -1,0 +1,5 @@
+pub mod Nearness
+pub mod Nets
+pub mod Faults
+pub mod Laws
+pub mod Searching

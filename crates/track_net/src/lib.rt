@@ -1,0 +1,16 @@
+//! The net of points on which lines are bundled: stations and samples of all tracks, thinned, and edges between
+//! near ones. A `Net` is planar and joins each two stations that a run of samples leads between, as the contract
+//! of `net_of` says.
+#![tactic(auto)]
+
+mod building;
+mod edges;
+mod fault;
+mod nearness;
+mod net;
+mod thinning;
+
+pub use building::net_of;
+pub use fault::NetFault;
+pub use nearness::has_near_point;
+pub use net::Net;

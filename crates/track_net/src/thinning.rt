@@ -1,0 +1,69 @@
+//! Samples that become net points.
+
+ghost use Rattle.std.specs.Prelude.{◌≡◌, ℕ, ◌<◌, ◌≤◌, OnOk, IfOk, IfErr, All, length, vec_len};
+ghost use Rattle.fixed_plane.specs.Plane.{IsInPlane};
+ghost use Rattle.track_net.specs.Nets.{net_points, with_sample};
+ghost use Rattle.track_net.specs.Faults.{HasCause};
+
+use crate::fault::NetFault;
+use crate::nearness::has_near_point;
+use map_base::{Limit, LimitKind, Point};
+use std::alloc::Global;
+
+/// The greatest allowed number of net points.
+const MOST_POINTS: usize = 100_000;
+
+/// The net points: the stations, and then each sample that has no earlier net point nearer than `near`.
+pub(crate) fn thinned(
+    alloc: Global,
+    stations: &[Point],
+    samples: &[Point],
+    near: u32,
+) -> Result<Vec<Point>, NetFault>
+    requires stations_in_plane { All IsInPlane stations.now }
+    requires samples_in_plane { All IsInPlane samples.now }
+    ensures points { IfOk result (λ points. points.items ≡ net_points near stations.now samples.now) }
+    ensures in_plane { IfOk result (λ points. All IsInPlane points.items) }
+    ensures few { IfOk result (λ points. vec_len points ≤ 100000) }
+    ensures cause { IfErr result (λ fault. HasCause (length (net_points near stations.now samples.now)) fault) }
+{
+    if stations.len() > MOST_POINTS {
+        return Err(too_many());
+    }
+    let mut points = stations.to_vec(alloc)?;
+    for sample in samples {
+        add_sample(&mut points, *sample, near)?;
+    }
+    Ok(points)
+}
+
+/// Adds a sample to the net points, unless one of them is nearer than `near`.
+fn add_sample(points: &mut Vec<Point>, sample: Point, near: u32) -> Result<(), NetFault>
+    requires points_in_plane { All IsInPlane points.old.items }
+    requires sample_in_plane { IsInPlane sample }
+    requires few { vec_len points.old ≤ 100000 }
+    ensures points { OnOk result (points.new.items ≡ with_sample near points.old.items sample) }
+    ensures in_plane { OnOk result (All IsInPlane points.new.items) }
+    ensures few { OnOk result (vec_len points.new ≤ 100000) }
+    ensures cause { IfErr result (λ fault. HasCause (length (with_sample near points.old.items sample)) fault) }
+{
+    if has_near_point(points, sample, near) {
+        return Ok(());
+    }
+    if points.len() >= MOST_POINTS {
+        return Err(too_many());
+    }
+    points.push(sample)?;
+    Ok(())
+}
+
+/// What is reported of more net points than the greatest allowed number.
+fn too_many() -> NetFault
+    ensures { (count : ℕ) → 100000 < count → HasCause count result }
+{
+    NetFault::Limit(Limit {
+        what: LimitKind::NetPoints,
+        found: 100_001,
+        most: 100_000,
+    })
+}
