@@ -3,7 +3,7 @@ use Rattle.std.proofs.Common.{◌≡◌, ◌≢◌, ℕ, zero, suc, ◌+◌, ◌
 use Rattle.std.specs.List.{All, Contains}
 use Rattle.std.proofs.lemmas.Bool.{eqb-false, cases_lt}
 use Rattle.std.proofs.lemmas.Bool.Decides.{nat_tests}
-use Rattle.std.proofs.lemmas.List.{get_or-map, length-map, take_more, take_all}
+use Rattle.std.proofs.lemmas.List.{get_or-map, length-map, take_more, take_all, drop_all, append-nil}
 use Rattle.std.proofs.lemmas.List.Elements.{All-contains, Contains-append_left, Contains-append_cases, Contains-push}
 use Rattle.order_model.specs.declared.term.Term.{Term}
 use Rattle.order_model.specs.declared.term.Term.TheVariants.{Side, Link, Apart}
@@ -14,12 +14,12 @@ use Rattle.order_model.specs.Parts.Reaches.{itself, onward}
 -- Reaching.
 
 reaches_more : (terms more : List Term) (s t : ℕ) → Reaches terms s t → Reaches (terms ++ more) s t
-reaches_more terms more s t (itself s) = itself s
-reaches_more terms more s u (onward s t u x h b r) = onward s t u x (Contains-append_left terms more x h) b (reaches_more terms more t u r)
+reaches_more terms more _ _ (itself s) = itself s
+reaches_more terms more _ _ (onward s t u x h b r) = onward s t u x (Contains-append_left terms more x h) b (reaches_more terms more t u r)
 
 reaches_on : (terms : List Term) (s t u : ℕ) → Reaches terms s t → Reaches terms t u → Reaches terms s u
-reaches_on terms s t u (itself s) q = q
-reaches_on terms s t u (onward s v t x h b r) q = onward s v u x h b (reaches_on terms v t u r q)
+reaches_on terms _ _ u (itself s) q = q
+reaches_on terms _ _ u (onward s v t x h b r) q = onward s v u x h b (reaches_on terms v t u r q)
 
 either : (a b : Bool) → (a || b) ≡ true → (a ≡ true) ⊎ (b ≡ true)
 either true b h = inl refl
@@ -151,3 +151,93 @@ module _ (terms : List Term) (n : ℕ) (ls : List ℕ) (x : Term) (e f : ℕ) (o
       only_one : (y : Term) → Contains (x ∷ []) y → x ≡ y
       only_one y (zero, below, is) = is
       only_one y (suc k, below, is) = absurd (omega arith)
+
+  step_known : (s t : ℕ) (y : Term) → Contains more y → is_between y s t ≡ true → t < n
+  step_known s t y h between = elim (Contains-append_cases terms (x ∷ []) y h)
+      [ inl old ↦ between_known n s t y (All-contains (IsReadable n) terms y readable old) between
+      | inr new ↦ (let is : x ≡ y = only_here y new in
+          elim (only s t (subst (λ z. is_between z s t ≡ true) (sym is) between))
+          [ inl p ↦ subst (λ k. k < n) p.1 f_known | inr p ↦ subst (λ k. k < n) p.0 e_known ]) ]
+    where
+      only_here : (y : Term) → Contains (x ∷ []) y → x ≡ y
+      only_here y (zero, below, is) = is
+      only_here y (suc k, below, is) = absurd (omega arith)
+
+  reached : (s t : ℕ) → Reaches more s t → s < n → t < n → get_or (joined ls a b) s 0 ≡ get_or (joined ls a b) t 0
+  reached _ _ (itself s) s_known t_known = refl
+  reached _ _ (onward s t u y h between r) s_known u_known =
+      let t_known : t < n = step_known s t y h between in
+      step s t y s_known t_known h between ∙ reached t u r t_known u_known
+
+  -- the lower of the two labels is a label of its own
+  low_rooted : get_or ls (min a b) 0 ≡ min a b
+  low_rooted = elim (cases_lt a b)
+      [ inl below ↦ (let l : min a b ≡ a = omega arith in rw l (ok.rooted e e_known))
+      | inr above ↦ (let l : min a b ≡ b = omega arith in rw l (ok.rooted f f_known)) ]
+
+  root_known : (s : ℕ) → s < n → get_or ls s 0 < n
+  root_known s below = omega (arith, ok.lowest s below)
+
+  rooted : (s : ℕ) → s < n → get_or (joined ls a b) (get_or (joined ls a b) s 0) 0 ≡ get_or (joined ls a b) s 0
+  rooted s below = elim (which (min a b) (max a b) (omega arith) (get_or ls s 0))
+      [ inl high ↦ (let is : get_or (joined ls a b) s 0 ≡ min a b = label s below ∙ ap after high ∙ new_high (min a b) (max a b) (omega arith) in
+          let low_known : min a b < n = omega (arith, root_known e e_known) in
+          rw is (label (min a b) low_known ∙ ap after low_rooted ∙ new_low (min a b) (max a b) (omega arith)))
+      | inr other ↦ (let kept : after (get_or ls s 0) ≡ get_or ls s 0 = new_other (min a b) (max a b) (omega arith) (get_or ls s 0) other in
+          let is : get_or (joined ls a b) s 0 ≡ get_or ls s 0 = label s below ∙ kept in
+          rw is (label (get_or ls s 0) (root_known s below) ∙ ap after (ok.rooted s below) ∙ kept)) ]
+
+  joined_labels : AreLabels more n (joined ls a b)
+  joined_labels = record {
+      each = length-map ls after ∙ ok.each;
+      lowest = lowest;
+      rooted = rooted;
+      same = same;
+      reached = λ s t s_known t_known r. reached s t r s_known t_known;
+    }
+
+-- The labels at first, and after each term.
+
+nothing_contained : (y : Term) → Contains [] y → ⊥
+nothing_contained y h = omega (arith, h.1)
+
+reaches_none : (s t : ℕ) → Reaches [] s t → s ≡ t
+reaches_none _ _ (itself s) = refl
+reaches_none _ _ (onward s t u x h b r) = absurd (nothing_contained x h)
+
+pub own_labels_tell : (n : ℕ) (ls : List ℕ) → length ls ≡ n → ((s : ℕ) → s < n → get_or ls s 0 ≡ s) → AreLabels [] n ls
+own_labels_tell n ls each own = record {
+    each = each;
+    lowest = λ s below. omega (arith, own s below);
+    rooted = λ s below. ap (λ k. get_or ls k 0) (own s below);
+    same = λ s t s_known t_known e. subst (λ k. Reaches [] s k) (sym (own s s_known) ∙ e ∙ own t t_known) (itself s);
+    reached = λ s t s_known t_known r. ap (λ k. get_or ls k 0) (reaches_none s t r);
+  }
+
+reaches_aside : (terms : List Term) (x : Term) → ((s t : ℕ) → is_between x s t ≡ false) → (s t : ℕ) → Reaches (terms ++ x ∷ []) s t → Reaches terms s t
+reaches_aside terms x never _ _ (itself s) = itself s
+reaches_aside terms x never _ _ (onward s t u y h b r) = elim (Contains-append_cases terms (x ∷ []) y h)
+    [ inl old ↦ onward s t u y old b (reaches_aside terms x never t u r)
+    | inr new ↦ absurd (true≢false (sym b ∙ ap (λ z. is_between z s t) (sym (only y new)) ∙ never s t)) ]
+  where
+    only : (y : Term) → Contains (x ∷ []) y → x ≡ y
+    only y (zero, below, is) = is
+    only y (suc k, below, is) = absurd (omega arith)
+
+pub labels_after : (terms : List Term) (n : ℕ) (ls : List ℕ) (x : Term) → AreLabels terms n ls → All (IsReadable n) terms → IsReadable n x
+    → AreLabels (terms ++ x ∷ []) n (joined_by ls x)
+labels_after terms n ls (Side seg first second w) ok readable here = record {
+    each = ok.each; lowest = ok.lowest; rooted = ok.rooted;
+    same = λ s t s_known t_known e. reaches_more terms _ s t (ok.same s t s_known t_known e);
+    reached = λ s t s_known t_known r. ok.reached s t s_known t_known (reaches_aside terms (Side seg first second w) (λ s t. refl) s t r);
+  }
+labels_after terms n ls (Link seg other flip a b w) ok readable here =
+    joined_labels terms n ls (Link seg other flip a b w) seg.0 other.0 ok here.0 here.1 readable
+        (ends_here seg.0 other.0) (ends_back seg.0 other.0) (λ s t h. ends_are seg.0 other.0 s t h)
+labels_after terms n ls (Apart seg other a b w) ok readable here =
+    joined_labels terms n ls (Apart seg other a b w) seg.0 other.0 ok here.0 here.1 readable
+        (ends_here seg.0 other.0) (ends_back seg.0 other.0) (λ s t h. ends_are seg.0 other.0 s t h)
+
+-- what a slice over a whole vector writes back
+pub written_back : (xs fresh : List ℕ) (n : ℕ) → length xs ≡ n → length fresh ≡ n → take n (fresh ++ drop (length fresh) xs) ≡ fresh
+written_back xs fresh n p q = rw (drop_all (length fresh) xs (omega arith), append-nil) (take_all n fresh (omega arith))
