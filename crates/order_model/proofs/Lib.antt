@@ -7,3 +7,4 @@ pub mod GraphFacts
 pub mod GraphProblem
 pub mod SmallGraph
 pub mod Classes
+pub mod Placing

@@ -4,3 +4,4 @@ pub mod Terms
 pub mod Costs
 pub mod Limits
 pub mod Parts
+pub mod Gathering
