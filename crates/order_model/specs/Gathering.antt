@@ -18,14 +18,22 @@ added label s part = if least_of part == label then part ++ record { 0 = s } ∷
 abbrev pub with_member : ℕ → ℕ → List (List SegId) → List (List SegId)
 with_member label s parts = if label == s then parts ++ (record { 0 = s } ∷ []) ∷ [] else map (added label s) parts
 
--- the parts of the segments below s
-abbrev pub gathered : List (List LineId) → List ℕ → ℕ → List (List SegId)
-gathered segs labels zero = []
-gathered segs labels (suc s) = if is_wide segs s then with_member (slice_index labels s) s (gathered segs labels s) else gathered segs labels s
-
 -- where the part of a label stands
 abbrev pub with_place : ℕ → ℕ → ℕ → List ℕ → List ℕ
 with_place label s place places = if label == s then slice_set places s place else places
+
+-- the parts after a segment, which joins none where it has fewer than two lines
+abbrev pub after_segment : List (List LineId) → List ℕ → ℕ → List (List SegId) → List (List SegId)
+after_segment segs labels s parts = if is_wide segs s then with_member (slice_index labels s) s parts else parts
+
+-- where parts stand after it
+abbrev pub places_after : List (List LineId) → List ℕ → ℕ → ℕ → List ℕ → List ℕ
+places_after segs labels s count places = if is_wide segs s then with_place (slice_index labels s) s count places else places
+
+-- the parts of the segments below s
+abbrev pub gathered : List (List LineId) → List ℕ → ℕ → List (List SegId)
+gathered segs labels zero = []
+gathered segs labels (suc s) = after_segment segs labels s (gathered segs labels s)
 
 -- the part at this place, and no other, has this least segment
 pub record IsOnlyAt (parts : List (List SegId)) (place label : ℕ) : Type 0 where
@@ -39,3 +47,12 @@ pub record AreGatherable (segs : List (List LineId)) (labels : List ℕ) : Type 
   pub lowest : (s : ℕ) → s < length segs → slice_index labels s ≤ s
   pub rooted : (s : ℕ) → s < length segs → slice_index labels (slice_index labels s) ≡ slice_index labels s
   pub wide : (s : ℕ) → s < length segs → IsTrue (is_wide segs s) → IsTrue (is_wide segs (slice_index labels s))
+
+-- where each part stands, once the segments below s are gathered
+pub record ArePlaced (segs : List (List LineId)) (labels : List ℕ) (s : ℕ) (parts : List (List SegId)) (places : List ℕ) : Type 0 where
+  pub each : length places ≡ length segs
+  pub some : (i : ℕ) → i < length parts → 0 < length (slice_index_or parts i [])
+  pub at : (i : ℕ) → i < length parts → slice_index places (least_of (slice_index_or parts i [])) ≡ i
+  pub below : (i : ℕ) → i < length parts → least_of (slice_index_or parts i []) < s
+  pub found : (r : ℕ) → r < s → IsTrue (is_wide segs r) → slice_index labels r ≡ r
+      → (slice_index places r < length parts) × (least_of (slice_index_or parts (slice_index places r) []) ≡ r)

@@ -2,7 +2,7 @@
 
 ghost use Rattle.std.specs.Prelude.{◌≡◌, ◌≢◌, ◌<◌, ◌^◌, [], ◌∷◌, ◌++◌, length, IfOk, OnOk, slice_index, slice_index_or, slice_set};
 ghost use Rattle.order_model.specs.Parts.{AreParts};
-ghost use Rattle.order_model.specs.Gathering.{part_lists, with_member, with_place, gathered, IsOnlyAt, AreGatherable};
+ghost use Rattle.order_model.specs.Gathering.{part_lists, with_member, with_place, after_segment, places_after, gathered, IsOnlyAt, ArePlaced, AreGatherable};
 
 use crate::labels::labels_of;
 use crate::problem::Problem;
@@ -32,11 +32,31 @@ fn gathered(
     let mut parts = Vec::new(alloc);
     let mut places = vec![in alloc; 0_usize; segs.len()]?;
     for s in 0..segs.len() {
-        if segs[s].as_slice().len() >= 2 {
-            add_member(alloc, &mut parts, &mut places, labels[s], s as u32)?;
-        }
+        add_segment(alloc, segs, labels, s, &mut parts, &mut places)?;
     }
     Ok(parts)
+}
+
+/// Adds a segment, if it has at least two lines.
+fn add_segment(
+    alloc: Global,
+    segs: &[Sequence<LineId>],
+    labels: &[u32],
+    s: usize,
+    parts: &mut Vec<Vec<SegId>>,
+    places: &mut Vec<usize>,
+) -> Result<(), NoMemory>
+    requires known { s < length segs.now }
+    requires few { length segs.now < 2 ^ 32 }
+    requires labels { AreGatherable segs.now labels.now }
+    requires placed { ArePlaced segs.now labels.now s (part_lists parts.old.items) places.old.items }
+    ensures parts { OnOk result (part_lists parts.new.items ≡ after_segment segs.now labels.now s (part_lists parts.old.items)) }
+    ensures places { OnOk result (places.new.items ≡ places_after segs.now labels.now s (length parts.old.items) places.old.items) }
+{
+    if segs[s].as_slice().len() < 2 {
+        return Ok(());
+    }
+    add_member(alloc, parts, places, labels[s], s as u32)
 }
 
 /// Adds a segment: it begins a part where it is its own label, and else joins the part of its label.
