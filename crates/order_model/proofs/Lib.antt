@@ -8,3 +8,4 @@ pub mod GraphProblem
 pub mod SmallGraph
 pub mod Classes
 pub mod Placing
+pub mod PartLemmas

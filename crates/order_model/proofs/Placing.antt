@@ -1,14 +1,13 @@
 -- Where the part of each label stands, while segments are gathered.
-use Rattle.std.proofs.Common.{◌≡◌, ◌≢◌, ℕ, zero, suc, ◌+◌, ◌-◌, ◌<◌, ◌≤◌, ◌==◌, Bool, true, false, cond, List, [], ◌∷◌, ◌++◌, length, map, set, get_or, refl, sym, ◌∙◌, ap, subst, arith, inl, inr, ◌⊎◌, true≢false, eqb-true, eq-eqb, length-append}
+use Rattle.std.proofs.Common.{◌≡◌, ◌≢◌, ℕ, zero, suc, ◌+◌, ◌<◌, ◌==◌, Bool, true, false, cond, List, [], ◌∷◌, ◌++◌, length, map, set, get_or, refl, sym, ◌∙◌, ap, arith, inl, inr, ◌⊎◌, true≢false, eqb-true, eq-eqb, length-append}
 use Rattle.std.proofs.lemmas.Bool.{eqb-false, cases_lt}
-use Rattle.std.proofs.lemmas.Bool.Decides.{nat_tests}
 use Rattle.std.proofs.lemmas.List.{get_or-map, length-map, map-set, get_or_append_left, length-set, get_or-set_same, get_or-set_other}
 use Rattle.map_base.specs.declared.ids.SegId.{SegId}
 use Rattle.map_base.specs.declared.ids.LineId.{LineId}
 use Rattle.order_model.specs.Parts.{least_of, is_wide}
 use Rattle.std.specs.Prelude.{Vec}
 use Rattle.std.specs.Global.{Global}
-use Rattle.order_model.specs.Gathering.{part_lists, added, with_member, with_place, after_segment, places_after, gathered, IsOnlyAt, ArePlaced, AreGatherable}
+use Rattle.order_model.specs.Gathering.{part_lists, added, with_member, with_place, after_segment, places_after, IsOnlyAt, ArePlaced, AreGatherable}
 
 map_unchanged : {X : Type 0} (f : X → X) (xs : List X) → ((j : ℕ) (d : X) → j < length xs → f (get_or xs j d) ≡ get_or xs j d) → map f xs ≡ xs
 map_unchanged f [] h = refl
@@ -46,8 +45,8 @@ pub member_joins : (parts : List (List SegId)) (place label s : ℕ) → IsOnlyA
 member_joins parts place label s only =
     ap (λ p. set parts place p) (sym (added_here label s (get_or parts place []) only.here))
     ∙ set_as_map (added label s) parts place [] only.known
-        (λ j e below differ. let same = default_is_nothing parts j e below in
-            added_elsewhere label s (get_or parts j e) (λ is. only.alone j below differ (ap least_of (sym same) ∙ is)))
+    (λ j e below differ. let same = default_is_nothing parts j e below in
+    added_elsewhere label s (get_or parts j e) (λ is. only.alone j below differ (ap least_of (sym same) ∙ is)))
 
 -- a segment more in one part
 pub part_grown : (parts : List (Vec SegId Global)) (i : ℕ) (old grown : Vec SegId Global) (s : SegId) → i < length parts
@@ -95,24 +94,27 @@ placed_begin segs labels s parts places ok known =
     let grown : List (List SegId) = parts ++ (here ∷ []) ∷ [] in
     let written : get_or (set places s (length parts)) s 0 ≡ length parts = get_or-set_same places s (length parts) 0 (omega (arith, ok.each)) in
     let part : (i : ℕ) → i < length grown → ((i ≡ length parts) × (get_or grown i [] ≡ here ∷ [])) ⊎ ((i < length parts) × (get_or grown i [] ≡ get_or parts i [])) =
-        λ i below. elim (last_or_earlier i (length parts) (omega (arith, length-append parts ((here ∷ []) ∷ []))))
-            [ inl e ↦ inl (e, ap (λ k. get_or grown k []) e ∙ at_end parts (here ∷ [])) | inr b ↦ inr (b, get_or_append_left parts ((here ∷ []) ∷ []) [] i b) ] in
+    λ i below. elim (last_or_earlier i (length parts) (omega (arith, length-append parts ((here ∷ []) ∷ []))))
+    [ inl e ↦ inl (e, ap (λ k. get_or grown k []) e ∙ at_end parts (here ∷ [])) | inr b ↦ inr (b, get_or_append_left parts ((here ∷ []) ∷ []) [] i b) ] in
     record {
       each = length-set places s (length parts) ∙ ok.each;
       some = λ i below. elim (part i below) [ inl p ↦ rw p.1 (omega arith) | inr p ↦ rw p.1 (ok.some i p.0) ];
-      at = λ i below. elim (part i below)
-          [ inl p ↦ ap (λ q. get_or (set places s (length parts)) (least_of q) 0) p.1 ∙ written ∙ sym p.0
-          | inr p ↦ (let low = ok.below i p.0 in
-              ap (λ q. get_or (set places s (length parts)) (least_of q) 0) p.1
-              ∙ get_or-set_other places s _ (length parts) 0 (λ e. omega (arith, e, low)) ∙ ok.at i p.0) ];
+      at = λ i below. elim (part i below) [
+        | inl p ↦ ap (λ q. get_or (set places s (length parts)) (least_of q) 0) p.1 ∙ written ∙ sym p.0
+        | inr p ↦ (let low = ok.below i p.0 in
+            ap (λ q. get_or (set places s (length parts)) (least_of q) 0) p.1
+            ∙ get_or-set_other places s _ (length parts) 0 (λ e. omega (arith, e, low)) ∙ ok.at i p.0)
+      ];
       below = λ i below. elim (part i below) [ inl p ↦ rw p.1 (omega arith) | inr p ↦ rw p.1 (omega (arith, ok.below i p.0)) ];
-      found = λ r below wide root. elim (last_or_earlier r s below)
-          [ inl e ↦ (let at : get_or (set places s (length parts)) r 0 ≡ length parts = ap (λ k. get_or (set places s (length parts)) k 0) e ∙ written in
-              (omega (arith, at, length-append parts ((here ∷ []) ∷ [])), ap (λ k. least_of (get_or grown k [])) at ∙ ap least_of (at_end parts (here ∷ [])) ∙ sym e))
-          | inr b ↦ (let at : get_or (set places s (length parts)) r 0 ≡ get_or places r 0 = get_or-set_other places s r (length parts) 0 (λ e. omega (arith, e, b)) in
-              let old = ok.found r b wide root in
-              (omega (arith, at, old.0, length-append parts ((here ∷ []) ∷ [])),
-               ap (λ k. least_of (get_or grown k [])) at ∙ ap least_of (get_or_append_left parts ((here ∷ []) ∷ []) [] (get_or places r 0) old.0) ∙ old.1)) ];
+      found = λ r below wide root. elim (last_or_earlier r s below) [
+        | inl e ↦ (let at : get_or (set places s (length parts)) r 0 ≡ length parts = ap (λ k. get_or (set places s (length parts)) k 0) e ∙ written in
+            (omega (arith, at, length-append parts ((here ∷ []) ∷ [])), ap (λ k. least_of (get_or grown k [])) at ∙ ap least_of (at_end parts (here ∷ [])) ∙ sym e))
+        | inr b ↦ (let at : get_or (set places s (length parts)) r 0 ≡ get_or places r 0 = get_or-set_other places s r (length parts) 0 (λ e. omega (arith, e, b)) in
+            let old = ok.found r b wide root in (
+              omega (arith, at, old.0, length-append parts ((here ∷ []) ∷ [])),
+              ap (λ k. least_of (get_or grown k [])) at ∙ ap least_of (get_or_append_left parts ((here ∷ []) ∷ []) [] (get_or places r 0) old.0) ∙ old.1,
+            ))
+      ];
     }
 
 least-append : (p : List SegId) (s : SegId) → 0 < length p → least_of (p ++ s ∷ []) ≡ least_of p
@@ -131,30 +133,32 @@ placed_join segs labels s parts places ok differ =
     let label = get_or labels s 0 in
     let same_length : length (map (added label s) parts) ≡ length parts = length-map parts (added label s) in
     let part : (i : ℕ) → i < length parts → get_or (map (added label s) parts) i [] ≡ added label s (get_or parts i []) =
-        λ i below. get_or-map (added label s) parts i [] [] below in
+    λ i below. get_or-map (added label s) parts i [] [] below in
     let least : (i : ℕ) → i < length parts → least_of (get_or (map (added label s) parts) i []) ≡ least_of (get_or parts i []) =
-        λ i below. ap least_of (part i below) ∙ (added_keeps label s (get_or parts i []) (ok.some i below)).0 in
+    λ i below. ap least_of (part i below) ∙ (added_keeps label s (get_or parts i []) (ok.some i below)).0 in
     record {
       each = ok.each;
       some = λ i below. (let b : i < length parts = omega (arith, same_length) in rw (part i b) ((added_keeps label s (get_or parts i []) (ok.some i b)).1));
       at = λ i below. (let b : i < length parts = omega (arith, same_length) in ap (λ k. get_or places k 0) (least i b) ∙ ok.at i b);
       below = λ i below. (let b : i < length parts = omega (arith, same_length) in omega (arith, least i b, ok.below i b));
-      found = λ r below wide root. elim (last_or_earlier r s below)
-          [ inl e ↦ absurd (differ (ap (λ k. get_or labels k 0) (sym e) ∙ root ∙ e))
-          | inr b ↦ (let old = ok.found r b wide root in (omega (arith, old.0, same_length), least (get_or places r 0) old.0 ∙ old.1)) ];
+      found = λ r below wide root. elim (last_or_earlier r s below) [
+        | inl e ↦ absurd (differ (ap (λ k. get_or labels k 0) (sym e) ∙ root ∙ e))
+        | inr b ↦ (let old = ok.found r b wide root in (omega (arith, old.0, same_length), least (get_or places r 0) old.0 ∙ old.1))
+      ];
     }
 
 placed_skip : (segs : List (List LineId)) (labels : List ℕ) (s : ℕ) (parts : List (List SegId)) (places : List ℕ)
     → ArePlaced segs labels s parts places → is_wide segs s ≡ false → ArePlaced segs labels (s + 1) parts places
 placed_skip segs labels s parts places ok narrow = record {
-    each = ok.each;
-    some = ok.some;
-    at = ok.at;
-    below = λ i below. omega (arith, ok.below i below);
-    found = λ r below wide root. elim (last_or_earlier r s below)
-        [ inl e ↦ absurd (true≢false (sym wide ∙ ap (is_wide segs) e ∙ narrow))
-        | inr b ↦ ok.found r b wide root ];
-  }
+  each = ok.each;
+  some = ok.some;
+  at = ok.at;
+  below = λ i below. omega (arith, ok.below i below);
+  found = λ r below wide root. elim (last_or_earlier r s below) [
+    | inl e ↦ absurd (true≢false (sym wide ∙ ap (is_wide segs) e ∙ narrow))
+    | inr b ↦ ok.found r b wide root
+  ];
+}
 
 placed_member : (segs : List (List LineId)) (labels : List ℕ) (s : ℕ) (parts : List (List SegId)) (places : List ℕ)
     → ArePlaced segs labels s parts places → s < length segs

@@ -1,4 +1,4 @@
-use Rattle.std.proofs.Common.{◌≡◌, ◌∙◌, ap, get_or, length, take, ◌++◌, ◌∷◌, [], arith, subst, sym, List, ◌<◌}
+use Rattle.std.proofs.Common.{◌≡◌, ◌∙◌, ap, get_or, length, take, ◌++◌, ◌∷◌, [], sym, List}
 use Rattle.std.specs.List.{All}
 use Rattle.std.proofs.lemmas.List.{take_more}
 use Rattle.std.proofs.lemmas.List.Elements.{All-take, All-get_or}
@@ -20,10 +20,13 @@ loop-term-preserved c =
     let before : All (IsReadable c.args.count) (take i terms) = All-take (IsReadable c.args.count) i terms c.requires in
     let here : IsReadable c.args.count x = All-get_or (IsReadable c.args.count) terms i _ c.loop-term-test.true c.requires in
     let after : AreLabels (take i terms ++ x ∷ []) c.args.count (joined_by c.loop-term.labels.items x) =
-        labels_after (take i terms) c.args.count c.loop-term.labels.items x c.loop-term.invariant before here in
+    labels_after (take i terms) c.args.count c.loop-term.labels.items x c.loop-term.invariant before here in
     let is : c.join_by.new.labels ≡ joined_by c.loop-term.labels.items x = c.join_by.ensures ∙ ap (λ ls. joined_by ls x) c.as_mut_slice.ensures.value in
     let each : length c.join_by.new.labels ≡ c.args.count = ap length is ∙ after.each in
     let same_len : length c.loop-term.labels.items ≡ c.loop-term.labels.len = sym c.loop-term.labels.ok.0 in
     let new_len : length c.join_by.new.labels ≡ c.loop-term.labels.len = each ∙ sym c.loop-term.invariant.each ∙ same_len in
-    rw (take_more terms i (Side (record { 0 = 0 }) (record { 0 = 0 }) (record { 0 = 0 }) 0) c.loop-term-test.true,
-        written_back c.loop-term.labels.items c.join_by.new.labels c.loop-term.labels.len same_len new_len, is) after
+    rw (
+      take_more terms i (Side (record { 0 = 0 }) (record { 0 = 0 }) (record { 0 = 0 }) 0) c.loop-term-test.true,
+      written_back c.loop-term.labels.items c.join_by.new.labels c.loop-term.labels.len same_len new_len,
+      is,
+    ) after
