@@ -1,3 +1,4 @@
+-- The order of directions clockwise from north, and when two directions are one.
 use Rattle.std.specs.Prelude.{◌≡◌, ℕ, ℤ, pos, ◌-ℤ◌, ◌*ℤ◌, ◌<ℤ◌}
 use Rattle.std.specs.Ordering.{int_cmp, nat_cmp, ordering_then}
 use Rattle.std.specs.declared.cmp.Ordering.{Ordering}

@@ -1,3 +1,4 @@
+-- The square of a distance, and the side of a way on which a point lies.
 use Rattle.std.specs.Prelude.{ℕ, ◌+◌, ◌*◌, ℤ, ◌-ℤ◌, unsigned_abs}
 use Rattle.map_base.specs.declared.point.Point.{Point}
 use Rattle.whole_algebra.specs.Turns.{turn_of}

@@ -1,3 +1,4 @@
+-- The range of the plane, and the point of a place in microdegrees.
 use Rattle.std.specs.Prelude.{ℕ, ◌+◌, ◌*◌, ◌/◌, ◌≤◌, ℤ, pos, ◌*ℤ◌, unsigned_abs, List, [], ◌∷◌, slice_index}
 use Rattle.map_base.specs.declared.point.Point.{Point}
 use Rattle.whole_algebra.specs.Rounding.{floor_quotient}

@@ -1,5 +1,5 @@
 -- Samples begin and end with the ends of their course, and each is close to the next.
-use Rattle.std.proofs.Common.{◌≡◌, refl, sym, ◌∙◌, ap, subst, ℕ, zero, suc, ◌+◌, ◌-◌, ◌*◌, ◌/◌, ◌<◌, ◌≤◌, ◌⊎◌, inl, inr, Bool, true, false, cond, ◌&&◌, ℤ, pos, negsuc, ◌+ℤ◌, ◌-ℤ◌, ◌*ℤ◌, ◌≤ℤ◌, ◌<ℤ◌, unsigned_abs, List, [], ◌∷◌, ◌++◌, map, Option, Some, None, Equal, arith}
+use Rattle.std.proofs.Common.{◌≡◌, refl, sym, ◌∙◌, ap, subst, ℕ, zero, suc, ◌+◌, ◌*◌, ◌/◌, ◌<◌, ◌≤◌, Bool, true, false, cond, ◌&&◌, ℤ, pos, negsuc, ◌+ℤ◌, ◌-ℤ◌, ◌*ℤ◌, ◌≤ℤ◌, ◌<ℤ◌, unsigned_abs, List, [], ◌∷◌, ◌++◌, map, Option, Some, None, Equal, arith}
 use Rattle.std.proofs.Math.IntN.{*ℤ-zero}
 use Rattle.std.proofs.Math.Nat.{zero-div}
 use Rattle.std.proofs.lemmas.Int.{ints}
@@ -10,11 +10,11 @@ use Rattle.std.specs.declared.cmp.Ordering.{Ordering}
 use Rattle.std.specs.declared.cmp.Ordering.TheVariants.{Less, Greater}
 use Rattle.map_base.specs.declared.point.Point.{Point}
 use Rattle.whole_algebra.specs.Rounding.{floor_quotient}
-use Rattle.whole_algebra.proofs.Products.{*ℤ-+ℤ, -ℤ-*ℤ}
+use Rattle.whole_algebra.proofs.Products.{minus-*ℤ}
 use Rattle.whole_algebra.proofs.Rounding.{floor_quotient-lower, floor_quotient-upper}
 use Rattle.whole_algebra.proofs.Signs.{*ℤ-negative}
 use Rattle.fixed_plane.specs.Measures.{dist2_of}
-use Rattle.shape_track.specs.Samples.{parts_of, part_point, part_points, piece_points, cut_points, is_point, is_repeat, without_repeats, samples_of, AreClose, first_of, last_of, Joins}
+use Rattle.shape_track.specs.Samples.{parts_of, part_point, part_points, cut_points, is_point, without_repeats, samples_of, AreClose, first_of, last_of, Joins}
 use Rattle.shape_track.specs.Snaps.{ArePlacesFrom}
 use Rattle.shape_track.specs.Hops.{hop_points, hops_of, AreJoined}
 use Rattle.std.specs.List.{slice_range}
@@ -40,7 +40,7 @@ part_point-first a b n =
 pub floor_quotient-whole : (z : ℤ) (n : ℕ) → 0 < n → floor_quotient (z *ℤ pos n) n ≡ z
 floor_quotient-whole z n some =
     let u = floor_quotient (z *ℤ pos n) n in
-    let product : (z -ℤ u) *ℤ pos n ≡ z *ℤ pos n -ℤ u *ℤ pos n = -ℤ-*ℤ z u (pos n) in
+    let product : (z -ℤ u) *ℤ pos n ≡ z *ℤ pos n -ℤ u *ℤ pos n = minus-*ℤ z u (pos n) in
     equal u z (none (z -ℤ u) (low (z *ℤ pos n) (u *ℤ pos n) ((z -ℤ u) *ℤ pos n) product (floor_quotient-lower (z *ℤ pos n) n some))
     (high (z *ℤ pos n) (u *ℤ pos n) ((z -ℤ u) *ℤ pos n) product (floor_quotient-upper (z *ℤ pos n) n some)))
   where

@@ -1,8 +1,8 @@
 -- The pieces of a course are kept one by one.
-use Rattle.std.proofs.Common.{◌≡◌, refl, sym, ◌∙◌, ap, subst, ℕ, zero, suc, ◌+◌, ◌-◌, ◌<◌, ◌≤◌, List, [], ◌∷◌, ◌++◌, length, get_or, drop, Option, Some, None, pos, arith, drop-cons, add-one, length-drop}
+use Rattle.std.proofs.Common.{◌≡◌, sym, ◌∙◌, ap, subst, ℕ, ◌+◌, ◌-◌, ◌<◌, ◌≤◌, List, [], ◌∷◌, length, get_or, drop, None, pos, arith, drop-cons, add-one}
 use Rattle.std.proofs.lemmas.List.{drop_all}
 use Rattle.map_base.specs.declared.point.Point.{Point}
-use Rattle.shape_track.specs.Samples.{piece_points, cut_points, without_repeats, samples_of}
+use Rattle.shape_track.specs.Samples.{piece_points, cut_points, samples_of}
 use Rattle.shape_track.specs.Sampling.{Kept, with_point, with_points}
 use Rattle.shape_track.proofs.Keeping.{with_points-append, points-with_points, count-with_points_is, count-with_points}
 

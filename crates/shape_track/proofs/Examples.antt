@@ -1,5 +1,5 @@
 -- Small cases, worked by hand.
-use Rattle.std.proofs.Common.{◌≡◌, pos, negsuc, refl, ℕ, true, false, List, [], ◌∷◌}
+use Rattle.std.proofs.Common.{◌≡◌, pos, negsuc, refl, ℕ, true, false, [], ◌∷◌}
 use Rattle.map_base.specs.declared.point.Point.{Point}
 use Rattle.shape_track.specs.Samples.{parts_of, samples_of}
 use Rattle.shape_track.specs.Snaps.{cost_of, is_not_after}

@@ -1,5 +1,5 @@
 -- Points that are kept one by one.
-use Rattle.std.proofs.Common.{◌≡◌, refl, sym, ◌∙◌, ap, ℕ, zero, suc, ◌+◌, ◌-◌, ◌<◌, ◌≤◌, Bool, true, false, cond, List, [], ◌∷◌, ◌++◌, map, length, Option, Some, None, arith, append_assoc, append-nil, length-append}
+use Rattle.std.proofs.Common.{◌≡◌, refl, sym, ◌∙◌, ap, ℕ, suc, ◌+◌, ◌-◌, ◌<◌, ◌≤◌, Bool, true, false, cond, List, [], ◌∷◌, ◌++◌, map, length, Some, arith, append_assoc, append-nil}
 use Rattle.std.proofs.Math.Nat.{le_trans, le_refl}
 use Rattle.std.specs.List.{range_with_len}
 use Rattle.map_base.specs.declared.point.Point.{Point}

@@ -1,5 +1,5 @@
 -- Least costs from the last station to the first, and what they say of snaps.
-use Rattle.std.proofs.Common.{◌≡◌, ◌≢◌, refl, sym, ◌∙◌, ap, subst, ℕ, zero, suc, ◌+◌, ◌-◌, ◌*◌, ◌<◌, ◌≤◌, min, Bool, true, false, nat_le, nat_lt, ◌==◌, ◌||◌, ◌&&◌, IsTrue, List, [], ◌∷◌, length, get_or, ◌⊎◌, inl, inr, arith}
+use Rattle.std.proofs.Common.{◌≡◌, refl, sym, ◌∙◌, ap, subst, ℕ, zero, suc, ◌+◌, ◌-◌, ◌<◌, ◌≤◌, min, Bool, true, false, nat_lt, ◌==◌, ◌||◌, ◌&&◌, IsTrue, List, [], ◌∷◌, length, get_or, ◌⊎◌, inl, inr, arith}
 use Rattle.std.proofs.Math.Nat.{le_trans, le_refl}
 use Rattle.std.proofs.lemmas.Bool.{leb-true, leb-false, cases_lt, lt-ltb, eq-eqb}
 use Rattle.map_base.specs.declared.point.Point.{Point}

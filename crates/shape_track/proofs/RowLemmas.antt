@@ -1,16 +1,15 @@
 -- Rows of choices, from the last station to the first, and the snap that they lead to.
-use Rattle.std.proofs.Common.{◌≡◌, ◌≢◌, refl, sym, ◌∙◌, ap, subst, ℕ, zero, suc, ◌+◌, ◌-◌, ◌<◌, ◌≤◌, Bool, true, false, List, [], ◌∷◌, ◌++◌, length, get_or, drop, take, Vec, ◌⊎◌, inl, inr, arith, append-nil, append_assoc, length-append}
+use Rattle.std.proofs.Common.{◌≡◌, refl, sym, ◌∙◌, ap, subst, ℕ, ◌+◌, ◌-◌, ◌<◌, ◌≤◌, Bool, true, List, [], ◌∷◌, ◌++◌, length, get_or, drop, take, Vec, ◌⊎◌, inl, inr, arith, append-nil, append_assoc, length-append}
 use Rattle.std.specs.Global.{Global}
 use Rattle.std.proofs.Math.ListN.{get_or-append}
 use Rattle.std.proofs.Math.Seq.{get_or-append_seam}
 use Rattle.std.proofs.lemmas.Bool.{cases_lt}
 use Rattle.std.proofs.lemmas.List.{drop_all, take_all}
 use Rattle.map_base.specs.declared.point.Point.{Point}
-use Rattle.shape_track.specs.Snaps.{ArePlacesFrom, cost_of, is_not_after, IsSnapFrom}
-use Rattle.shape_track.specs.Sweeps.{taken_at, AreLeastCosts, IsSweptDown, LeadsTo, Leads}
+use Rattle.shape_track.specs.Snaps.{IsSnapFrom}
+use Rattle.shape_track.specs.Sweeps.{taken_at, LeadsTo, Leads}
 use Rattle.shape_track.specs.Rows.{LeadsFirst, AreRows}
 use Rattle.shape_track.proofs.Courses.{point_at, from_place}
-use Rattle.shape_track.proofs.Leading.{swept_least, leads_of}
 
 -- what is written to a whole slice of a vector is all of it
 pub written_whole : (xs ys : List ℕ) (n : ℕ) → length xs ≡ n → length ys ≡ n → take n (xs ++ drop (length xs) ys) ≡ xs

@@ -1,15 +1,12 @@
 -- How far apart the parts of a piece are.
-use Rattle.std.proofs.Common.{◌≡◌, refl, sym, ◌∙◌, ap, subst, ℕ, zero, suc, ◌+◌, ◌-◌, ◌*◌, ◌<◌, ◌≤◌, ◌⊎◌, inl, inr, Bool, true, false, ℤ, pos, negsuc, ◌+ℤ◌, ◌-ℤ◌, ◌*ℤ◌, ◌≤ℤ◌, ◌<ℤ◌, neg_ℤ, unsigned_abs, arith}
+use Rattle.std.proofs.Common.{◌≡◌, refl, ◌∙◌, ap, subst, ℕ, zero, suc, ◌+◌, ◌*◌, ◌<◌, ◌≤◌, ◌⊎◌, inl, inr, true, false, ℤ, pos, ◌+ℤ◌, ◌-ℤ◌, ◌*ℤ◌, ◌≤ℤ◌, ◌<ℤ◌, unsigned_abs, arith}
 use Rattle.std.proofs.Math.Nat.{mul-le-mul, mul-le-mul_left, mul-le-mul_right, le_of_mul-le-mul_left, le_trans, le_refl, le-mul_of_pos_right}
-use Rattle.std.proofs.lemmas.Bool.{cases_lt, leb-true, leb-false, le-leb}
+use Rattle.std.proofs.lemmas.Bool.{cases_lt, leb-true}
 use Rattle.std.proofs.lemmas.Int.{ints, unsigned_abs-mul}
-use Rattle.map_base.specs.declared.point.Point.{Point}
 use Rattle.whole_algebra.specs.Rounding.{floor_quotient}
-use Rattle.whole_algebra.proofs.Products.{*ℤ-+ℤ, -ℤ-*ℤ}
+use Rattle.whole_algebra.proofs.Products.{*ℤ-+ℤ, minus-*ℤ}
 use Rattle.whole_algebra.proofs.Rounding.{floor_quotient-lower, floor_quotient-upper}
-use Rattle.whole_algebra.proofs.Signs.{*ℤ-negative}
-use Rattle.fixed_plane.specs.Measures.{dist2_of}
-use Rattle.shape_track.specs.Samples.{reaches, first_that_reaches, parts_of, part_point}
+use Rattle.shape_track.specs.Samples.{reaches, first_that_reaches, parts_of}
 
 -- ---- the parts reach
 
@@ -55,7 +52,7 @@ step_within z n i some =
     let v = floor_quotient (z *ℤ pos (i + 1)) n in
     let size : unsigned_abs ((v -ℤ u) *ℤ pos n) ≡ unsigned_abs (v -ℤ u) * n = unsigned_abs-mul (v -ℤ u) (pos n) in
     let bound : unsigned_abs ((v -ℤ u) *ℤ pos n) ≤ unsigned_abs z + n =
-    between ((v -ℤ u) *ℤ pos n) (v *ℤ pos n) (u *ℤ pos n) (z *ℤ pos i) (z *ℤ pos (i + 1)) z n (-ℤ-*ℤ v u (pos n)) (next_product z i)
+    between ((v -ℤ u) *ℤ pos n) (v *ℤ pos n) (u *ℤ pos n) (z *ℤ pos i) (z *ℤ pos (i + 1)) z n (minus-*ℤ v u (pos n)) (next_product z i)
     (floor_quotient-lower (z *ℤ pos i) n some) (floor_quotient-upper (z *ℤ pos i) n some) (floor_quotient-lower (z *ℤ pos (i + 1)) n some) (floor_quotient-upper (z *ℤ pos (i + 1)) n some) in
     turned n (unsigned_abs (v -ℤ u)) (unsigned_abs ((v -ℤ u) *ℤ pos n)) (unsigned_abs z + n) size bound
   where

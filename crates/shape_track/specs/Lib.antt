@@ -1,3 +1,4 @@
+-- Samples of a course, the snap of stations on them, and hops.
 pub mod Faults
 pub mod Samples
 pub mod Sampling

@@ -1,3 +1,4 @@
+-- The rows of the table of the snap, one for each station.
 use Rattle.std.specs.Prelude.{◌≡◌, ℕ, ◌-◌, ◌<◌, Bool, Vec, List, [], ◌∷◌, drop, length, slice_index_or}
 use Rattle.std.specs.Global.{Global}
 use Rattle.map_base.specs.declared.point.Point.{Point}

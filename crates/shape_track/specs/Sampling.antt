@@ -1,4 +1,5 @@
-use Rattle.std.specs.Prelude.{◌≡◌, ℕ, ◌+◌, ◌≤◌, if◌then◌else◌, List, [], ◌∷◌, ◌++◌, Option, Some, None}
+-- What is kept of points that come one by one.
+use Rattle.std.specs.Prelude.{ℕ, ◌+◌, if◌then◌else◌, List, [], ◌∷◌, ◌++◌, Option, Some}
 use Rattle.map_base.specs.declared.point.Point.{Point}
 use Rattle.shape_track.specs.declared.sampler.Sampler.{Sampler}
 use Rattle.shape_track.specs.Samples.{is_repeat}

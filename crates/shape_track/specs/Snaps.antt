@@ -1,4 +1,5 @@
-use Rattle.std.specs.Prelude.{◌≡◌, ℕ, ◌+◌, ◌<◌, ◌≤◌, Bool, if◌then◌else◌, nat_lt, ◌==◌, IsTrue, ◌||◌, ◌&&◌, true, false, ℤ, pos, List, [], ◌∷◌, length, slice_index_or}
+-- The snap of stations on samples.
+use Rattle.std.specs.Prelude.{◌≡◌, ℕ, ◌+◌, ◌<◌, ◌≤◌, Bool, nat_lt, ◌==◌, IsTrue, ◌||◌, ◌&&◌, true, false, pos, List, [], ◌∷◌, length, slice_index_or}
 use Rattle.map_base.specs.declared.point.Point.{Point}
 use Rattle.fixed_plane.specs.Measures.{dist2_of}
 
@@ -35,3 +36,7 @@ pub record IsSnapFrom (floor : ℕ) (samples stations : List Point) (places : Li
 -- the snap
 abbrev pub IsSnap : List Point → List Point → List ℕ → Type 0
 IsSnap samples stations places = IsSnapFrom 0 samples stations places
+
+-- two lists that are both the snap of the same stations on the same samples are one list
+abbrev pub IsOneSnap : List Point → List Point → List ℕ → List ℕ → Type 0
+IsOneSnap samples stations places others = IsSnap samples stations places → IsSnap samples stations others → places ≡ others

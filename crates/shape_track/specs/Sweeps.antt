@@ -1,4 +1,5 @@
-use Rattle.std.specs.Prelude.{◌≡◌, ℕ, ◌+◌, ◌-◌, ◌*◌, ◌<◌, ◌≤◌, min, Bool, true, false, nat_le, List, [], ◌∷◌, drop, length, slice_index, slice_index_or}
+-- Least costs of the stations from one on, for each place from which they may be placed.
+use Rattle.std.specs.Prelude.{◌≡◌, ℕ, ◌+◌, ◌-◌, ◌*◌, ◌<◌, ◌≤◌, min, Bool, true, false, nat_le, List, ◌∷◌, length, slice_index, slice_index_or}
 use Rattle.map_base.specs.declared.point.Point.{Point}
 use Rattle.fixed_plane.specs.Measures.{dist2_of}
 use Rattle.shape_track.specs.Snaps.{sample_at, ArePlacesFrom, cost_of, IsSnapFrom}

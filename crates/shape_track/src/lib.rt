@@ -12,7 +12,7 @@ mod tracking;
 
 pub use fault::SampleFault;
 pub use samples::sample;
-pub use snapping::snap;
+pub use snapping::{snap, snap_is_one};
 pub use tracking::track;
 
 #[cfg(test)]

@@ -1,6 +1,6 @@
 //! A straight piece, cut into parts.
 
-ghost use Rattle.std.specs.Prelude.{◌≡◌, ◌+◌, ◌*◌, ◌^◌, ◌<◌, ◌≤◌, pos, ◌+ℤ◌, ◌-ℤ◌, ◌*ℤ◌, unsigned_abs};
+ghost use Rattle.std.specs.Prelude.{◌≡◌, ◌+◌, ◌-◌, ◌*◌, ◌^◌, ◌<◌, ◌≤◌, pos, ◌+ℤ◌, ◌-ℤ◌, ◌*ℤ◌, unsigned_abs};
 ghost use Rattle.whole_algebra.specs.Rounding.{floor_quotient};
 ghost use Rattle.fixed_plane.specs.Plane.{IsInPlane};
 ghost use Rattle.shape_track.specs.Samples.{part_point, parts_of};
@@ -18,7 +18,17 @@ pub(crate) fn parts(distance2: u64, near: u32) -> u64
 {
     let near = u64::from(near);
     let squares = (4 * distance2).div_ceil(near * near);
-    squares.saturating_sub(1).isqrt() + 1
+    root_above(squares.saturating_sub(1))
+}
+
+/// The least number whose square is above this one.
+fn root_above(square: u64) -> u64
+    ensures some { 0 < result }
+    ensures fits { result ≤ 2 ^ 32 }
+    ensures above { square < result * result }
+    ensures least { (result - 1) * (result - 1) ≤ square }
+{
+    square.isqrt() + 1
 }
 
 /// Where part `index` of `count` begins on the way from `a` to `b`, rounded downwards.

@@ -1,8 +1,9 @@
 //! The snap of stations on samples.
 
-ghost use Rattle.std.specs.Prelude.{◌≡◌, ℕ, ◌+◌, ◌-◌, ◌^◌, ◌<◌, ◌≤◌, IfOk, length, vec_len, All, true, slice_get, slice_index, drop};
+ghost use Rattle.std.specs.Prelude.{◌≡◌, ℕ, ◌+◌, ◌-◌, ◌^◌, ◌<◌, ◌≤◌, IfOk, length, vec_len, All, true, slice_get, slice_index, drop, List};
 ghost use Rattle.fixed_plane.specs.Plane.{IsInPlane};
-ghost use Rattle.shape_track.specs.Snaps.{IsSnap};
+ghost use Rattle.shape_track.specs.Snaps.{IsOneSnap, IsSnap};
+ghost use Rattle.map_base.specs.declared.point.Point.{Point};
 ghost use Rattle.shape_track.specs.Sweeps.{LeadsTo, taken_at};
 ghost use Rattle.shape_track.specs.Rows.{AreRows};
 
@@ -31,6 +32,11 @@ pub fn snap(alloc: Global, samples: &[Point], stations: &[Point]) -> Result<Vec<
     }
     Ok(places)
 }
+
+/// A law: there is one snap, so what `snap` gives is determined by the samples and the stations alone.
+pub fn snap_is_one()
+    ensures { (samples stations : List Point) (places others : List ℕ) → IsOneSnap samples stations places others }
+{}
 
 /// For each station, from the last one to the first, the row that says at which places it is best placed.
 fn rows_of(alloc: Global, samples: &[Point], stations: &[Point]) -> Result<Vec<Vec<bool>>, NoMemory>

@@ -47,13 +47,13 @@ neg_ℤ-*ℤ a k =
     opposite x y e = omega (arith, ints)
 
 -- (a - b) * k = a * k - b * k
-pub -ℤ-*ℤ : (a b k : ℤ) → (a -ℤ b) *ℤ k ≡ a *ℤ k -ℤ b *ℤ k
--ℤ-*ℤ a b k = +ℤ-*ℤ a (neg_ℤ b) k ∙ ap (λ s. a *ℤ k +ℤ s) (neg_ℤ-*ℤ b k)
+pub minus-*ℤ : (a b k : ℤ) → (a -ℤ b) *ℤ k ≡ a *ℤ k -ℤ b *ℤ k
+minus-*ℤ a b k = +ℤ-*ℤ a (neg_ℤ b) k ∙ ap (λ s. a *ℤ k +ℤ s) (neg_ℤ-*ℤ b k)
 
 -- k * (a - b) = k * a - k * b
-pub *ℤ--ℤ : (k a b : ℤ) → k *ℤ (a -ℤ b) ≡ k *ℤ a -ℤ k *ℤ b
-*ℤ--ℤ k a b =
-    *ℤ_comm k (a -ℤ b) ∙ -ℤ-*ℤ a b k ∙ ap (λ s. s -ℤ b *ℤ k) (*ℤ_comm a k) ∙ ap (λ s. k *ℤ a -ℤ s) (*ℤ_comm b k)
+pub *ℤ-minus : (k a b : ℤ) → k *ℤ (a -ℤ b) ≡ k *ℤ a -ℤ k *ℤ b
+*ℤ-minus k a b =
+    *ℤ_comm k (a -ℤ b) ∙ minus-*ℤ a b k ∙ ap (λ s. s -ℤ b *ℤ k) (*ℤ_comm a k) ∙ ap (λ s. k *ℤ a -ℤ s) (*ℤ_comm b k)
 
 assoc_none : (b c : ℤ) → (pos 0 *ℤ b) *ℤ c ≡ pos 0 *ℤ (b *ℤ c)
 assoc_none b c = ap (λ s. s *ℤ c) (zero-*ℤ b) ∙ zero-*ℤ c ∙ sym (zero-*ℤ (b *ℤ c))
@@ -65,10 +65,10 @@ pub *ℤ_assoc : (a b c : ℤ) → (a *ℤ b) *ℤ c ≡ a *ℤ (b *ℤ c)
     ap (λ s. s *ℤ c) (suc_ℤ-*ℤ (pos n) b) ∙ +ℤ-*ℤ (pos n *ℤ b) b c ∙ ap (λ s. s +ℤ b *ℤ c) (*ℤ_assoc (pos n) b c)
     ∙ sym (suc_ℤ-*ℤ (pos n) (b *ℤ c))
 *ℤ_assoc (negsuc zero) b c =
-    ap (λ s. s *ℤ c) (pred_ℤ-*ℤ (pos 0) b) ∙ -ℤ-*ℤ (pos 0 *ℤ b) b c ∙ ap (λ s. s -ℤ b *ℤ c) (assoc_none b c)
+    ap (λ s. s *ℤ c) (pred_ℤ-*ℤ (pos 0) b) ∙ minus-*ℤ (pos 0 *ℤ b) b c ∙ ap (λ s. s -ℤ b *ℤ c) (assoc_none b c)
     ∙ sym (pred_ℤ-*ℤ (pos 0) (b *ℤ c))
 *ℤ_assoc (negsuc (suc n)) b c =
-    ap (λ s. s *ℤ c) (pred_ℤ-*ℤ (negsuc n) b) ∙ -ℤ-*ℤ (negsuc n *ℤ b) b c ∙ ap (λ s. s -ℤ b *ℤ c) (*ℤ_assoc (negsuc n) b c)
+    ap (λ s. s *ℤ c) (pred_ℤ-*ℤ (negsuc n) b) ∙ minus-*ℤ (negsuc n *ℤ b) b c ∙ ap (λ s. s -ℤ b *ℤ c) (*ℤ_assoc (negsuc n) b c)
     ∙ sym (pred_ℤ-*ℤ (negsuc n) (b *ℤ c))
 
 -- a * (b * c) = b * (a * c)

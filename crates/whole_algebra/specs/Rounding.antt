@@ -1,3 +1,4 @@
+-- Division of whole numbers, rounded downwards.
 use Rattle.std.specs.Prelude.{ℕ, ℤ, pos}
 use Rattle.std.specs.Int.{int_div_euclid}
 

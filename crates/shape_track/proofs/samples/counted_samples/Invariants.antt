@@ -1,6 +1,6 @@
 use Rattle.std.proofs.Common.{◌≡◌, ◌≤◌, ◌-◌, [], drop, None}
 use Rattle.shape_track.specs.Samples.{cut_points}
-use Rattle.shape_track.specs.Sampling.{Kept, kept_by, with_points}
+use Rattle.shape_track.specs.Sampling.{kept_by, with_points}
 use Rattle.shape_track.proofs.samples.counted_samples.Given as goal
 
 abbrev pub invariant-loop-index : goal.invariant-loop-index

@@ -1,4 +1,4 @@
-use Rattle.std.proofs.Common.{◌≡◌, sym, ◌∙◌, ap, subst, ℕ, ◌+◌, ◌-◌, ◌*◌, ◌<◌, ◌≤◌, Bool, Vec, List, [], ◌∷◌, ◌++◌, length, drop, take, arith, length-append}
+use Rattle.std.proofs.Common.{◌≡◌, sym, ◌∙◌, ap, subst, ℕ, ◌+◌, ◌-◌, Bool, Vec, List, [], ◌∷◌, ◌++◌, length, drop, take, arith, length-append}
 use Rattle.std.specs.Global.{Global}
 use Rattle.map_base.specs.declared.point.Point.{Point}
 use Rattle.shape_track.specs.Sweeps.{AreLeastCosts, AreBounded, IsSweptDown, Leads}

@@ -1,9 +1,9 @@
-use Rattle.std.proofs.Common.{◌≡◌, sym, ◌∙◌, ap, subst, ℕ, ◌+◌, ◌-◌, ◌<◌, ◌^◌, List, [], ◌∷◌, ◌++◌, Bool, true, Vec, get_or, length, drop, arith, append-nil, Fits, w32}
+use Rattle.std.proofs.Common.{◌≡◌, sym, subst, ℕ, ◌-◌, ◌<◌, ◌^◌, List, [], ◌++◌, Bool, true, Vec, get_or, length, drop, arith, append-nil}
 use Rattle.std.specs.Global.{Global}
 use Rattle.std.proofs.lemmas.List.{drop_all}
 use Rattle.map_base.specs.declared.point.Point.{Point}
 use Rattle.shape_track.specs.Snaps.{IsSnapFrom}
-use Rattle.shape_track.specs.Sweeps.{LeadsTo, taken_at}
+use Rattle.shape_track.specs.Sweeps.{taken_at}
 use Rattle.shape_track.specs.Rows.{LeadsFirst, AreRows}
 use Rattle.shape_track.proofs.RowLemmas.{nothing_snapped, snap_goes_on, row_at, row_whole}
 use Rattle.shape_track.proofs.snapping.snap.Goals as goal

@@ -1,4 +1,4 @@
-use Rattle.std.proofs.Common.{◌≡◌, ◌<◌, List, ◌++◌, ℕ, drop, length}
+use Rattle.std.proofs.Common.{◌<◌, List, ◌++◌, ℕ, drop, length}
 use Rattle.shape_track.specs.Snaps.{IsSnapFrom}
 use Rattle.shape_track.proofs.snapping.snap.Given as goal
 

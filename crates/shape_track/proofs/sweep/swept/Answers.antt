@@ -1,4 +1,4 @@
-use Rattle.std.proofs.Common.{◌≡◌, ◌∙◌, ap, ◌+◌, ◌-◌, ◌<◌, length, arith}
+use Rattle.std.proofs.Common.{◌∙◌, ap, ◌+◌, ◌-◌, arith}
 use Rattle.fixed_plane.specs.Measures.{dist2_of}
 use Rattle.shape_track.specs.Snaps.{sample_at}
 use Rattle.shape_track.proofs.Sweeping.{one_more}

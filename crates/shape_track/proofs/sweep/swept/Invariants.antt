@@ -1,6 +1,4 @@
-use Rattle.std.proofs.Common.{◌≡◌, ◌≤◌}
 use Rattle.shape_track.proofs.Sweeping.{IsSweptFrom}
-use Rattle.shape_track.proofs.Leading.{swept_least}
 use Rattle.shape_track.proofs.sweep.swept.Given as goal
 
 abbrev pub invariant-loop-place : goal.invariant-loop-place

@@ -1,9 +1,8 @@
-use Rattle.std.proofs.Common.{◌≡◌, refl, sym, ◌∙◌, ap, subst, ℕ, suc, ◌+◌, ◌-◌, ◌<◌, ◌≤◌, List, [], ◌∷◌, ◌++◌, length, get_or, drop, Vec, arith, rules, append-nil}
+use Rattle.std.proofs.Common.{◌≡◌, sym, ◌∙◌, ap, subst, ℕ, suc, ◌+◌, ◌-◌, ◌≤◌, List, [], ◌∷◌, ◌++◌, length, get_or, drop, Vec, arith, rules, append-nil}
 use Rattle.std.specs.Global.{Global}
 use Rattle.map_base.specs.declared.point.Point.{Point}
 use Rattle.shape_track.specs.Faults.{HasCause}
 use Rattle.shape_track.specs.Samples.{samples_of}
-use Rattle.shape_track.specs.Snaps.{ArePlacesFrom}
 use Rattle.shape_track.specs.Hops.{hop_points, hops_of, total_of}
 use Rattle.shape_track.proofs.Keeping.{HasCause-more}
 use Rattle.shape_track.proofs.Courses.{point_at}

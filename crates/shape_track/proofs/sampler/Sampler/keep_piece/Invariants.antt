@@ -1,4 +1,4 @@
-use Rattle.std.proofs.Common.{◌≡◌, ◌≤◌, ◌<◌}
+use Rattle.std.proofs.Common.{◌≡◌, ◌≤◌}
 use Rattle.shape_track.specs.Samples.{part_points}
 use Rattle.shape_track.specs.Sampling.{kept_by, with_points}
 use Rattle.shape_track.proofs.Keeping.{part_points_from}
