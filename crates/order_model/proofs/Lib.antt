@@ -6,3 +6,6 @@ pub mod Sorting
 pub mod GraphFacts
 pub mod GraphProblem
 pub mod SmallGraph
+pub mod Classes
+pub mod Placing
+pub mod PartLemmas

@@ -3,3 +3,5 @@ pub mod PriceLists
 pub mod Terms
 pub mod Costs
 pub mod Limits
+pub mod Parts
+pub mod Gathering

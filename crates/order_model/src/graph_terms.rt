@@ -79,6 +79,7 @@ fn copied(alloc: Global, lines: &[LineId]) -> Result<Sequence<LineId>, NoMemory>
 #[cfg(test)]
 mod tests {
     use super::*;
+    use crate::parts::parts_of;
     use graph_core::{GraphParts, Join, NodeKind};
     use map_base::{Point, StationId};
     use std::alloc::AllocError;
@@ -112,7 +113,7 @@ mod tests {
     }
 
     #[test]
-    fn one_line_has_no_terms(rt: HostRuntime) -> Result<(), Fail> {
+    fn one_line_has_no_terms_and_no_parts(rt: HostRuntime) -> Result<(), Fail> {
         let graph = LineGraph::new(one_line(rt.alloc())?);
         let weights = [
             Weights {
@@ -133,6 +134,8 @@ mod tests {
         assert_eq!(rt; lines, [LineId(0)].as_slice());
         let terms = problem.terms();
         assert_eq!(rt; terms.len(), 0);
+        let parts = parts_of(rt.alloc(), &problem)?;
+        assert_eq!(rt; parts.len(), 0);
         Ok(())
     }
 }
