@@ -1,17 +1,19 @@
 -- Placing and taking back keep a prefix of its problem.
-use Rattle.std.proofs.Common.{◌≡◌, ◌≢◌, ℕ, zero, suc, ◌+◌, ◌-◌, ◌<◌, ◌≤◌, ◌==◌, ◌||◌, ◌&&◌, nat_le, not, Bool, true, false, cond, List, [], ◌∷◌, ◌++◌, length, map, take, set, get_or, refl, sym, ◌∙◌, ap, subst, arith, inl, inr, ◌⊎◌, true≢false, eqb-true, eq-eqb, length-append, Some, None, Option}
-use Rattle.std.specs.List.{All, Contains, filter, find, list_any}
+use Rattle.std.proofs.Common.{◌≡◌, ℕ, zero, suc, ◌+◌, ◌-◌, ◌<◌, ◌≤◌, ◌==◌, ◌||◌, ◌&&◌, nat_le, not, Bool, true, false, cond, List, [], ◌∷◌, ◌++◌, length, map, take, set, get_or, refl, sym, ◌∙◌, ap, subst, arith, inl, inr, ◌⊎◌, true≢false, eqb-true, eq-eqb, length-append, Some, None}
+use Rattle.std.specs.List.{All, Contains, filter, find}
 use Rattle.std.specs.Option.{option_to_list}
-use Rattle.std.proofs.lemmas.Bool.{eqb-false, leb-true}
+use Rattle.std.proofs.Common.{append_assoc}
+use Rattle.std.proofs.Math.Seq.{take-append_seam}
+use Rattle.std.proofs.lemmas.Bool.{eqb-false, leb-true, le-leb}
 use Rattle.std.proofs.lemmas.Bool.Decides.{nat_tests}
 use Rattle.std.proofs.lemmas.List.{get_or-map, length-map, map-set, length-set, get_or-set_same, get_or-set_other, length-take-le}
-use Rattle.std.proofs.lemmas.List.Elements.{All-nil, All-cons, All-head, All-tail, All-push, All-take, All-contains, Contains-push}
-use Rattle.std.specs.Prelude.{Vec, vec_len, vec_capacity}
+use Rattle.std.proofs.lemmas.List.Elements.{All-nil, All-cons, All-head, All-tail, All-push, All-take}
+use Rattle.std.specs.Prelude.{Vec, vec_capacity}
 use Rattle.std.specs.Global.{Global}
 use Rattle.map_base.specs.declared.ids.LineId.{LineId}
 use Rattle.graph_core.specs.Consistent.{AreRising}
 use Rattle.order_model.specs.Prefixes.{Placement, placement_of, is_placed, is_unplaced, with_line, last_placed, without_last, AreApart, ArePlacedLines, IsPrefixOf}
-use Rattle.order_model.proofs.GraphProblem.{contains_cases, contains_first, contains_later, contains_kept, length_without, few_rising}
+use Rattle.order_model.proofs.GraphProblem.{contains_first, contains_later, contains_kept, length_without, few_rising}
 
 neither : (a b : Bool) → (a || b) ≡ false → (a ≡ false) × (b ≡ false)
 neither true b h = absurd (true≢false h)
@@ -37,7 +39,7 @@ few_apart (x ∷ xs) known h all =
     let kept : List LineId = filter (other_than x) known in
     let fewer : length kept < length known = length_without (other_than x) x known (All-head (Contains known) x xs all) (not_other_than x) in
     let rest : length xs ≤ length kept = few_apart xs kept h.1
-        (λ k d below. contains_kept (other_than x) (get_or xs k d) known (All-tail (Contains known) x xs all k d below) (ap not (none_placed x xs h.0 k d below))) in
+    (λ k d below. contains_kept (other_than x) (get_or xs k d) known (All-tail (Contains known) x xs all k d below) (ap not (none_placed x xs h.0 k d below))) in
     omega arith
 
 -- A line that is not placed keeps lines apart.
@@ -117,12 +119,16 @@ last_found lines now rising e known apart = by_found (found_one (is_unplaced now
         → ArePlacedLines lines (now ++ option_to_list (find (is_unplaced now) lines))
     by_found (inl h) =
         let whole : ArePlacedLines lines (now ++ h.0 ∷ []) = record {
-            known = All-push (Contains lines) now h.0 known h.2;
-            apart = apart_push now h.0 apart (not_true (is_placed now h.0) h.3);
-            none_alone = λ f. absurd (omega (arith, f, length-append now (h.0 ∷ [])));
-          } in subst (λ o. ArePlacedLines lines (now ++ option_to_list o)) (sym h.1) whole
-    by_found (inr h) = absurd (omega (arith, e, few_rising lines now rising
-        (λ k d below. contains_placed now (get_or lines k d) (not_false (is_placed now (get_or lines k d)) (h.1 k d below)))))
+          known = All-push (Contains lines) now h.0 known h.2;
+          apart = apart_push now h.0 apart (not_true (is_placed now h.0) h.3);
+          none_alone = λ f. absurd (omega (arith, f, length-append now (h.0 ∷ [])));
+        } in subst (λ o. ArePlacedLines lines (now ++ option_to_list o)) (sym h.1) whole
+    by_found (inr h) = absurd (omega (
+      arith,
+      e,
+      few_rising lines now rising
+          (λ k d below. contains_placed now (get_or lines k d) (not_false (is_placed now (get_or lines k d)) (h.1 k d below))),
+    ))
 
 pub placed_with_line : (lines placed : List LineId) (line : LineId) → AreRising lines → ArePlacedLines lines placed → Contains lines line
     → is_placed placed line ≡ false → ArePlacedLines lines (with_line lines placed line)
@@ -133,19 +139,19 @@ placed_with_line lines placed line rising ok here free = by_test (length (placed
     by_test true e = last_found lines (placed ++ line ∷ []) rising (eqb-true (length (placed ++ line ∷ []) + 1) (length lines) e)
         (All-push (Contains lines) placed line ok.known here) (apart_push placed line ok.apart free)
     by_test false e = record {
-        known = All-push (Contains lines) placed line ok.known here;
-        apart = apart_push placed line ok.apart free;
-        none_alone = λ f. absurd (eqb-false (length (placed ++ line ∷ []) + 1) (length lines) e f);
-      }
+      known = All-push (Contains lines) placed line ok.known here;
+      apart = apart_push placed line ok.apart free;
+      none_alone = λ f. absurd (eqb-false (length (placed ++ line ∷ []) + 1) (length lines) e f);
+    }
 
 -- Taking back.
 
 cut : (lines placed : List LineId) (k : ℕ) → ArePlacedLines lines placed → k ≤ length placed → (k + 1 ≡ length lines → length lines ≡ 1) → ArePlacedLines lines (take k placed)
 cut lines placed k ok within alone = record {
-    known = All-take (Contains lines) k placed ok.known;
-    apart = apart_take k placed ok.apart;
-    none_alone = λ f. alone (omega (arith, f, length-take-le k placed within));
-  }
+  known = All-take (Contains lines) k placed ok.known;
+  apart = apart_take k placed ok.apart;
+  none_alone = λ f. alone (omega (arith, f, length-take-le k placed within));
+}
 
 below_two : (n : ℕ) → nat_le 2 n ≡ false → n < 2
 below_two n h = grind (arith, nat_tests)
@@ -170,35 +176,38 @@ room_of v = vec_capacity v
 pub prefix_after : (segs : List (List LineId)) (lists : List (Vec LineId Global)) (s : ℕ) (v : Vec LineId Global) → IsPrefixOf segs (placement_of lists)
     → s < length segs → length (get_or segs s []) ≤ vec_capacity v → ArePlacedLines (get_or segs s []) v.items → IsPrefixOf segs (placement_of (set lists s v))
 prefix_after segs lists s v ok known room placed = record {
-    each = length-map (set lists s v) items_of ∙ length-set lists s v ∙ sym (length-map lists items_of) ∙ ok.each;
-    room_each = length-map (set lists s v) room_of ∙ length-set lists s v ∙ sym (length-map lists room_of) ∙ ok.room_each;
-    room = λ t below. by_room t below (t == s) refl;
-    lines = λ t below. by_lines t below (t == s) refl;
-  }
+  each = length-map (set lists s v) items_of ∙ length-set lists s v ∙ sym (length-map lists items_of) ∙ ok.each;
+  room_each = length-map (set lists s v) room_of ∙ length-set lists s v ∙ sym (length-map lists room_of) ∙ ok.room_each;
+  room = λ t below. by_room t below (t == s) refl;
+  lines = λ t below. by_lines t below (t == s) refl;
+}
   where
     within : s < length (map items_of lists)
     within = omega (arith, ok.each)
+
     within_room : s < length (map room_of lists)
     within_room = omega (arith, ok.room_each)
+
     by_lines : (t : ℕ) → t < length segs → (b : Bool) → (t == s) ≡ b → ArePlacedLines (get_or segs t []) (get_or (map items_of (set lists s v)) t [])
     by_lines t below true e =
         let same : s ≡ t = sym (eqb-true t s e) in
         let is : get_or (map items_of (set lists s v)) s [] ≡ v.items =
-            ap (λ ls. get_or ls s []) (map-set items_of lists s v) ∙ get_or-set_same (map items_of lists) s v.items [] within in
+        ap (λ ls. get_or ls s []) (map-set items_of lists s v) ∙ get_or-set_same (map items_of lists) s v.items [] within in
         subst (λ k. ArePlacedLines (get_or segs k []) (get_or (map items_of (set lists s v)) k [])) same (rw is placed)
     by_lines t below false e =
         let is : get_or (map items_of (set lists s v)) t [] ≡ get_or (map items_of lists) t [] =
-            ap (λ ls. get_or ls t []) (map-set items_of lists s v) ∙ get_or-set_other (map items_of lists) s t v.items [] (eqb-false t s e) in
+        ap (λ ls. get_or ls t []) (map-set items_of lists s v) ∙ get_or-set_other (map items_of lists) s t v.items [] (eqb-false t s e) in
         rw is (ok.lines t below)
+
     by_room : (t : ℕ) → t < length segs → (b : Bool) → (t == s) ≡ b → length (get_or segs t []) ≤ get_or (map room_of (set lists s v)) t 0
     by_room t below true e =
         let same : s ≡ t = sym (eqb-true t s e) in
         let is : get_or (map room_of (set lists s v)) s 0 ≡ vec_capacity v =
-            ap (λ ls. get_or ls s 0) (map-set room_of lists s v) ∙ get_or-set_same (map room_of lists) s (vec_capacity v) 0 within_room in
+        ap (λ ls. get_or ls s 0) (map-set room_of lists s v) ∙ get_or-set_same (map room_of lists) s (vec_capacity v) 0 within_room in
         subst (λ k. length (get_or segs k []) ≤ get_or (map room_of (set lists s v)) k 0) same (rw is room)
     by_room t below false e =
         let is : get_or (map room_of (set lists s v)) t 0 ≡ get_or (map room_of lists) t 0 =
-            ap (λ ls. get_or ls t 0) (map-set room_of lists s v) ∙ get_or-set_other (map room_of lists) s t (vec_capacity v) 0 (eqb-false t s e) in
+        ap (λ ls. get_or ls t 0) (map-set room_of lists s v) ∙ get_or-set_other (map room_of lists) s t (vec_capacity v) 0 (eqb-false t s e) in
         rw is (ok.room t below)
 
 -- the placed lines after a change of one segment's, which f gives of its lines and of those that were placed
@@ -224,12 +233,64 @@ lines_at_segment (l ∷ segs) (suc s) lines below is = lines_at_segment segs s l
 -- no line is placed at first
 pub none_placed_fits : (segs : List (List LineId)) (p : Placement) → p.placed ≡ map (λ _. []) segs → p.room ≡ map length segs → IsPrefixOf segs p
 none_placed_fits segs p placed room = record {
-    each = ap length placed ∙ length-map segs (λ _. []);
-    room_each = ap length room ∙ length-map segs length;
-    room = λ s below. (let is : get_or p.room s 0 ≡ length (get_or segs s []) = ap (λ r. get_or r s 0) room ∙ get_or-map length segs s [] 0 below in omega (arith, is));
-    lines = λ s below. (let is : get_or p.placed s [] ≡ [] = ap (λ q. get_or q s []) placed ∙ get_or-map (λ _. []) segs s [] [] below in
-        rw is (nothing (get_or segs s [])));
-  }
+  each = ap length placed ∙ length-map segs (λ _. []);
+  room_each = ap length room ∙ length-map segs length;
+  room = λ s below. (let is : get_or p.room s 0 ≡ length (get_or segs s []) = ap (λ r. get_or r s 0) room ∙ get_or-map length segs s [] 0 below in omega (arith, is));
+  lines = λ s below. (let is : get_or p.placed s [] ≡ [] = ap (λ q. get_or q s []) placed ∙ get_or-map (λ _. []) segs s [] [] below in
+      rw is (nothing (get_or segs s [])));
+}
   where
     nothing : (lines : List LineId) → ArePlacedLines lines []
     nothing lines = record { known = All-nil (Contains lines); apart = tt; none_alone = λ e. omega (arith, e) }
+
+-- Taking back undoes the last placing.
+
+length_with_last : (lines now : List LineId) → AreRising lines → length now + 1 ≡ length lines
+    → length (now ++ option_to_list (find (is_unplaced now) lines)) ≡ length lines
+length_with_last lines now rising e = by_found (found_one (is_unplaced now) lines)
+  where
+    by_found : ((a : LineId) × (find (is_unplaced now) lines ≡ Some a) × Contains lines a × (is_unplaced now a ≡ true)) ⊎ ((find (is_unplaced now) lines ≡ None) × All (λ a. is_unplaced now a ≡ false) lines)
+        → length (now ++ option_to_list (find (is_unplaced now) lines)) ≡ length lines
+    by_found (inl h) = subst (λ o. length (now ++ option_to_list o) ≡ length lines) (sym h.1) (omega (arith, e, length-append now (h.0 ∷ [])))
+    by_found (inr h) = absurd (omega (
+      arith,
+      e,
+      few_rising lines now rising
+          (λ k d below. contains_placed now (get_or lines k d) (not_false (is_placed now (get_or lines k d)) (h.1 k d below))),
+    ))
+
+-- how many were placed last, by how many lines there are
+two_last : (lines placed : List LineId) → 2 ≤ length lines → length placed ≡ length lines → last_placed lines placed ≡ 2
+two_last lines placed two whole = rw (le-leb 2 (length lines) two, eq-eqb (length placed) (length lines) whole) refl
+
+one_last : (lines placed : List LineId) → (length placed ≡ length lines → length lines ≤ 1) → last_placed lines placed ≡ 1
+one_last lines placed h = by_tests (nat_le 2 (length lines)) (length placed == length lines) refl refl
+  where
+    by_tests : (two whole : Bool) → nat_le 2 (length lines) ≡ two → (length placed == length lines) ≡ whole → ◌≡◌ {A = ℕ} (cond (two && whole) 2 1) 1
+    by_tests true true p q = absurd (omega (arith, leb-true 2 (length lines) p, h (eqb-true (length placed) (length lines) q)))
+    by_tests true false p q = refl
+    by_tests false whole p q = refl
+
+take_front : (xs ys : List LineId) (k : ℕ) → k ≡ length xs → take k (xs ++ ys) ≡ xs
+take_front xs ys k e = ap (λ n. take n (xs ++ ys)) e ∙ take-append_seam xs ys
+
+pub undone : (lines placed : List LineId) (line : LineId) → AreRising lines → ArePlacedLines lines placed → without_last lines (with_line lines placed line) ≡ placed
+undone lines placed line rising ok = by_test (length (placed ++ line ∷ []) + 1 == length lines) refl
+  where
+    by_test : (b : Bool) → (length (placed ++ line ∷ []) + 1 == length lines) ≡ b
+        → without_last lines (cond b ((placed ++ line ∷ []) ++ option_to_list (find (is_unplaced (placed ++ line ∷ [])) lines)) (placed ++ line ∷ [])) ≡ placed
+    by_test true e =
+        let now : List LineId = placed ++ line ∷ [] in
+        let more : List LineId = option_to_list (find (is_unplaced now) lines) in
+        let left : length now + 1 ≡ length lines = eqb-true (length now + 1) (length lines) e in
+        let whole : length (now ++ more) ≡ length lines = length_with_last lines now rising left in
+        let count : length now ≡ length placed + 1 = length-append placed (line ∷ []) in
+        let two : last_placed lines (now ++ more) ≡ 2 = two_last lines (now ++ more) (omega arith) whole in
+        ap (λ n. take (length (now ++ more) - n) (now ++ more)) two
+        ∙ ap (take (length (now ++ more) - 2)) (append_assoc placed (line ∷ []) more)
+        ∙ take_front placed (line ∷ more) (length (now ++ more) - 2) (omega arith)
+    by_test false e =
+        let now : List LineId = placed ++ line ∷ [] in
+        let count : length now ≡ length placed + 1 = length-append placed (line ∷ []) in
+        let one : last_placed lines now ≡ 1 = one_last lines now (λ whole. omega (arith, ok.none_alone (omega arith))) in
+        ap (λ n. take (length now - n) now) one ∙ take_front placed (line ∷ []) (length now - 1) (omega arith)

@@ -1,11 +1,10 @@
 -- Prefixes: on each segment the lines placed so far, left to right, before all lines that are not.
-use Rattle.std.specs.Prelude.{◌≡◌, ℕ, ◌+◌, ◌-◌, ◌<◌, ◌≤◌, ◌==◌, nat_le, Bool, true, false, ◌&&◌, not, List, [], ◌∷◌, ◌++◌, length, map, take, find, All, Contains, if◌then◌else◌, slice_index, slice_index_or}
+use Rattle.std.specs.Prelude.{◌≡◌, ℕ, ◌+◌, ◌-◌, ◌<◌, ◌≤◌, ◌==◌, nat_le, Bool, false, ◌&&◌, not, List, [], ◌∷◌, ◌++◌, length, map, take, find, All, Contains, if◌then◌else◌, slice_index, slice_index_or}
 use Rattle.std.specs.Prelude.{Vec, vec_capacity}
 use Rattle.std.specs.Global.{Global}
 use Rattle.std.specs.List.{list_any}
 use Rattle.std.specs.Option.{option_to_list}
 use Rattle.map_base.specs.declared.ids.LineId.{LineId}
-use Rattle.order_model.specs.Problems.{lines_on}
 
 -- the lines placed on each segment, and how many each has room for
 pub record Placement : Type 0 where

@@ -25,7 +25,7 @@ pub use fault::TermFault;
 pub use graph_terms::terms_of;
 pub use orders::Orders;
 pub use parts::parts_of;
-pub use prefix::Prefix;
+pub use prefix::{Prefix, taking_back_undoes_placing};
 pub use prices::Prices;
 pub use problem::{Problem, ProblemParts};
 pub use rule::Rule;

@@ -1,9 +1,10 @@
 //! Prefixes of orders: the lines placed so far on each segment of a problem.
 
-ghost use Rattle.std.specs.Prelude.{◌≡◌, ◌+◌, ◌<◌, ◌≤◌, [], ◌∷◌, ◌++◌, length, map, find, false, vec_len, vec_capacity, Contains, IfOk, slice_set, slice_index_or};
+ghost use Rattle.std.specs.Prelude.{◌≡◌, ◌+◌, ◌<◌, ◌≤◌, List, [], ◌∷◌, ◌++◌, length, map, find, false, vec_len, vec_capacity, Contains, IfOk, slice_set, slice_index_or};
 ghost use Rattle.std.specs.Option.{option_to_list};
+ghost use Rattle.graph_core.specs.Consistent.{AreRising};
 ghost use Rattle.order_model.specs.Problems.{lines_on};
-ghost use Rattle.order_model.specs.Prefixes.{is_placed, is_unplaced, with_line, last_placed, without_last, IsPrefixOf};
+ghost use Rattle.order_model.specs.Prefixes.{is_placed, is_unplaced, with_line, last_placed, without_last, ArePlacedLines, IsPrefixOf};
 
 use crate::problem::Problem;
 use map_base::{LineId, NoMemory, SegId};
@@ -146,3 +147,9 @@ fn take_last(placed: &mut Vec<LineId>, lines: &[LineId])
     let count = if both { 2 } else { 1 };
     placed.truncate(placed.len() - count);
 }
+
+/// Taking back undoes the last placing, also where it placed the last two lines.
+pub fn taking_back_undoes_placing()
+    ensures { (lines placed : List LineId) (line : LineId) → AreRising lines → ArePlacedLines lines placed
+        → without_last lines (with_line lines placed line) ≡ placed }
+{}

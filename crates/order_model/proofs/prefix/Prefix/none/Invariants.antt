@@ -1,4 +1,4 @@
-use Rattle.std.proofs.Common.{◌≡◌, ◌≤◌, ◌<◌, ℕ, [], map, take, length, get_or}
+use Rattle.std.proofs.Common.{◌≡◌, [], map, take, length}
 use Rattle.order_model.specs.Prefixes.{placement_of}
 use Rattle.order_model.proofs.prefix.Prefix.none.Given as goal
 
