@@ -1,4 +1,5 @@
 mod Tables
+mod Reaching
 mod NetSteps
 mod Searches
 mod Spreading

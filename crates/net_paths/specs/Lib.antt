@@ -1,4 +1,5 @@
 pub mod Corridors
 pub mod Stretches
+pub mod Reaches
 pub mod Searching
 pub mod Walking

@@ -5,10 +5,11 @@ ghost use Rattle.fixed_plane.specs.Plane.{IsInPlane};
 ghost use Rattle.track_net.specs.Nets.{IsNet};
 ghost use Rattle.net_paths.specs.Searching.{dearest, flagged_cost, flags_of};
 
+use crate::reach::Reach;
 use fixed_plane::dist2;
 use map_base::{NoMemory, Point};
 use std::alloc::Global;
-use track_net::{Net, has_near_point};
+use track_net::Net;
 
 /// For each point of the net whether it lies in the corridor: nearer than four times `near` to some sample.
 pub(crate) fn corridor_flags(
@@ -22,9 +23,10 @@ pub(crate) fn corridor_flags(
     ensures flags { IfOk result (λ flags. flags.items ≡ flags_of near corridor.now net.now.points) }
     ensures kept { IsNet net.now }
 {
+    let reach = Reach::around(corridor, 4 * near);
     let mut flags = Vec::new(alloc);
     for i in 0..net.len() {
-        flags.push(has_near_point(corridor, net.point(i as u32), 4 * near))?;
+        flags.push(reach.has_near(corridor, net.point(i as u32), 4 * near))?;
     }
     Ok(flags)
 }

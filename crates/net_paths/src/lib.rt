@@ -3,6 +3,7 @@
 
 mod costs;
 mod queue;
+mod reach;
 mod search;
 mod stretch;
 mod walk;

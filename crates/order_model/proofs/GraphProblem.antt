@@ -112,17 +112,17 @@ terms_below_good g ok ws modest (suc n) h =
 abbrev above : LineId → LineId → Bool
 above x y = nat_lt x.0 y.0
 
-contains_cases : (x y : LineId) (xs : List LineId) → Contains (x ∷ xs) y → (x ≡ y) ⊎ Contains xs y
+pub contains_cases : (x y : LineId) (xs : List LineId) → Contains (x ∷ xs) y → (x ≡ y) ⊎ Contains xs y
 contains_cases x y xs (zero, below, is) = inl is
 contains_cases x y xs (suc k, below, is) = inr (k, omega arith, is)
 
-contains_first : (x : LineId) (xs : List LineId) → Contains (x ∷ xs) x
+pub contains_first : (x : LineId) (xs : List LineId) → Contains (x ∷ xs) x
 contains_first x xs = (0, omega arith, refl)
 
-contains_later : (x y : LineId) (xs : List LineId) → Contains xs y → Contains (x ∷ xs) y
+pub contains_later : (x y : LineId) (xs : List LineId) → Contains xs y → Contains (x ∷ xs) y
 contains_later x y xs h = (suc h.0, omega (arith, h.1), h.2)
 
-contains_kept : (p : LineId → Bool) (y : LineId) (xs : List LineId) → Contains xs y → p y ≡ true → Contains (filter p xs) y
+pub contains_kept : (p : LineId → Bool) (y : LineId) (xs : List LineId) → Contains xs y → p y ≡ true → Contains (filter p xs) y
 contains_kept p y [] h t = absurd (omega (arith, h.1))
 contains_kept p y (x ∷ xs) h t = elim (contains_cases x y xs h) [
   | inl e ↦ (let q : p x ≡ true = ap p e ∙ t in
@@ -136,7 +136,7 @@ length_kept p [] = omega arith
 length_kept p (x ∷ xs) =
     elim (p x) as (λ b. length (cond b (x ∷ filter p xs) (filter p xs)) ≤ length (x ∷ xs)) [ true ↦ omega (arith, length_kept p xs) | false ↦ omega (arith, length_kept p xs) ]
 
-length_without : (p : LineId → Bool) (y : LineId) (xs : List LineId) → Contains xs y → p y ≡ false → length (filter p xs) < length xs
+pub length_without : (p : LineId → Bool) (y : LineId) (xs : List LineId) → Contains xs y → p y ≡ false → length (filter p xs) < length xs
 length_without p y [] h f = absurd (omega (arith, h.1))
 length_without p y (x ∷ xs) h f = elim (contains_cases x y xs h) [
   | inl e ↦ (let q : p x ≡ false = ap p e ∙ f in
@@ -160,7 +160,7 @@ rising_above x (y ∷ ys) h =
 not_above : (x : LineId) → above x x ≡ false
 not_above x = grind (arith, nat_tests)
 
-few_rising : (xs known : List LineId) → AreRising xs → All (Contains known) xs → length xs ≤ length known
+pub few_rising : (xs known : List LineId) → AreRising xs → All (Contains known) xs → length xs ≤ length known
 few_rising [] known h all = omega arith
 few_rising (x ∷ xs) known h all =
     let kept : List LineId = filter (above x) known in

@@ -9,3 +9,4 @@ pub mod SmallGraph
 pub mod Classes
 pub mod Placing
 pub mod PartLemmas
+pub mod PrefixLemmas

@@ -5,3 +5,4 @@ pub mod Costs
 pub mod Limits
 pub mod Parts
 pub mod Gathering
+pub mod Prefixes

@@ -80,6 +80,7 @@ fn copied(alloc: Global, lines: &[LineId]) -> Result<Sequence<LineId>, NoMemory>
 mod tests {
     use super::*;
     use crate::parts::parts_of;
+    use crate::prefix::Prefix;
     use graph_core::{GraphParts, Join, NodeKind};
     use map_base::{Point, StationId};
     use std::alloc::AllocError;
@@ -136,6 +137,9 @@ mod tests {
         assert_eq!(rt; terms.len(), 0);
         let parts = parts_of(rt.alloc(), &problem)?;
         assert_eq!(rt; parts.len(), 0);
+        let prefix = Prefix::none(rt.alloc(), &problem)?;
+        let placed = prefix.placed(SegId(0));
+        assert_eq!(rt; placed.len(), 0);
         Ok(())
     }
 }

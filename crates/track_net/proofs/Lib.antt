@@ -1,9 +1,12 @@
 pub mod Lists
 pub mod Squares
+mod CellLemmas
+mod RisingLists
 mod EdgeLemmas
 mod ThinLemmas
 pub mod EdgeFacts
 pub mod Meeting
 mod Covering
+mod CellsAround
 pub mod Joining
 mod Examples

@@ -1,6 +1,7 @@
 -- Numbers in a row, and elements that pass tests.
 use Rattle.std.proofs.Common.{◌≡◌, refl, sym, ◌∙◌, ap, ℕ, ◌+◌, ◌<◌, Bool, true, false, cond, ◌||◌, List, [], ◌∷◌, ◌++◌, get_or, filter, All, append-nil, arith}
 use Rattle.std.specs.List.{list_any, range_with_len}
+use Rattle.std.specs.List.Sorted.{IsStrictlyIncreasing}
 use Rattle.std.proofs.lemmas.List.{map-id}
 use Rattle.std.proofs.lemmas.List.Elements.{filter-append}
 use Rattle.std.proofs.lemmas.List.FromFn.{map-range_with_len_more, get_or-range_with_len, length-range_with_len}
@@ -55,3 +56,11 @@ taken_more p n ns ms before passes is =
 pub left_more : (p : ℕ → Bool) (n : ℕ) (ns ms : List ℕ) → ns ≡ filter p (range_with_len 0 n) → p n ≡ false → ms ≡ ns → ms ≡ filter p (range_with_len 0 (n + 1))
 left_more p n ns ms before fails is =
     is ∙ before ∙ sym (filter-range_more p n ∙ ap (λ b. filter p (range_with_len 0 n) ++ cond b (n ∷ []) []) fails ∙ append-nil (filter p (range_with_len 0 n)))
+
+-- numbers in a row rise
+pub range_rises : (n : ℕ) → IsStrictlyIncreasing (range_with_len 0 n)
+range_rises n k below =
+    let within : k + 1 < n = omega (arith, length-range_with_len 0 n) in
+    let here : get_or (range_with_len 0 n) k 0 ≡ 0 + k = get_or-range_with_len 0 n k 0 (omega arith) in
+    let next : get_or (range_with_len 0 n) (k + 1) 0 ≡ 0 + (k + 1) = get_or-range_with_len 0 n (k + 1) 0 within in
+    omega arith

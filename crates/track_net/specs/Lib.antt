@@ -3,3 +3,4 @@ pub mod Nets
 pub mod Faults
 pub mod Laws
 pub mod Searching
+pub mod Cells

@@ -3,6 +3,7 @@
 //! of `net_of` says.
 #![tactic(auto)]
 
+mod buckets;
 mod building;
 mod edges;
 mod fault;
@@ -10,6 +11,7 @@ mod nearness;
 mod net;
 mod thinning;
 
+pub use buckets::Buckets;
 pub use building::net_of;
 pub use fault::NetFault;
 pub use nearness::has_near_point;

@@ -1,0 +1,296 @@
+-- Placing and taking back keep a prefix of its problem.
+use Rattle.std.proofs.Common.{◌≡◌, ℕ, zero, suc, ◌+◌, ◌-◌, ◌<◌, ◌≤◌, ◌==◌, ◌||◌, ◌&&◌, nat_le, not, Bool, true, false, cond, List, [], ◌∷◌, ◌++◌, length, map, take, set, get_or, refl, sym, ◌∙◌, ap, subst, arith, inl, inr, ◌⊎◌, true≢false, eqb-true, eq-eqb, length-append, Some, None}
+use Rattle.std.specs.List.{All, Contains, filter, find}
+use Rattle.std.specs.Option.{option_to_list}
+use Rattle.std.proofs.Common.{append_assoc}
+use Rattle.std.proofs.Math.Seq.{take-append_seam}
+use Rattle.std.proofs.lemmas.Bool.{eqb-false, leb-true, le-leb}
+use Rattle.std.proofs.lemmas.Bool.Decides.{nat_tests}
+use Rattle.std.proofs.lemmas.List.{get_or-map, length-map, map-set, length-set, get_or-set_same, get_or-set_other, length-take-le}
+use Rattle.std.proofs.lemmas.List.Elements.{All-nil, All-cons, All-head, All-tail, All-push, All-take}
+use Rattle.std.specs.Prelude.{Vec, vec_capacity}
+use Rattle.std.specs.Global.{Global}
+use Rattle.map_base.specs.declared.ids.LineId.{LineId}
+use Rattle.graph_core.specs.Consistent.{AreRising}
+use Rattle.order_model.specs.Prefixes.{Placement, placement_of, is_placed, is_unplaced, with_line, last_placed, without_last, AreApart, ArePlacedLines, IsPrefixOf}
+use Rattle.order_model.proofs.GraphProblem.{contains_first, contains_later, contains_kept, length_without, few_rising}
+
+neither : (a b : Bool) → (a || b) ≡ false → (a ≡ false) × (b ≡ false)
+neither true b h = absurd (true≢false h)
+neither false b h = (refl, h)
+
+-- Lines that are apart and all known are no more than the known ones.
+
+abbrev other_than : LineId → LineId → Bool
+other_than x y = not (y.0 == x.0)
+
+not_other_than : (x : LineId) → other_than x x ≡ false
+not_other_than x = grind (arith, nat_tests)
+
+none_placed : (a : LineId) (xs : List LineId) → is_placed xs a ≡ false → All (λ (b : LineId). (b.0 == a.0) ≡ false) xs
+none_placed a [] h = All-nil (λ (b : LineId). (b.0 == a.0) ≡ false)
+none_placed a (x ∷ xs) h =
+    let both = neither (x.0 == a.0) (is_placed xs a) h in
+    All-cons (λ (b : LineId). (b.0 == a.0) ≡ false) x xs both.0 (none_placed a xs both.1)
+
+few_apart : (xs known : List LineId) → AreApart xs → All (Contains known) xs → length xs ≤ length known
+few_apart [] known h all = omega arith
+few_apart (x ∷ xs) known h all =
+    let kept : List LineId = filter (other_than x) known in
+    let fewer : length kept < length known = length_without (other_than x) x known (All-head (Contains known) x xs all) (not_other_than x) in
+    let rest : length xs ≤ length kept = few_apart xs kept h.1
+    (λ k d below. contains_kept (other_than x) (get_or xs k d) known (All-tail (Contains known) x xs all k d below) (ap not (none_placed x xs h.0 k d below))) in
+    omega arith
+
+-- A line that is not placed keeps lines apart.
+
+not_placed_push : (x a : LineId) (xs : List LineId) → is_placed xs x ≡ false → (a.0 == x.0) ≡ false → is_placed (xs ++ a ∷ []) x ≡ false
+not_placed_push x a [] h e = rw e refl
+not_placed_push x a (y ∷ xs) h e =
+    let both = neither (y.0 == x.0) (is_placed xs x) h in rw both.0 (not_placed_push x a xs both.1 e)
+
+turned : (a b : ℕ) → (a == b) ≡ false → (b == a) ≡ false
+turned a b h = grind (arith, nat_tests)
+
+apart_push : (xs : List LineId) (a : LineId) → AreApart xs → is_placed xs a ≡ false → AreApart (xs ++ a ∷ [])
+apart_push [] a h e = (refl, tt)
+apart_push (x ∷ xs) a h e =
+    let both = neither (x.0 == a.0) (is_placed xs a) e in
+    (not_placed_push x a xs h.0 (turned x.0 a.0 both.0), apart_push xs a h.1 both.1)
+
+not_placed_take : (k : ℕ) (x : LineId) (xs : List LineId) → is_placed xs x ≡ false → is_placed (take k xs) x ≡ false
+not_placed_take zero x xs h = refl
+not_placed_take (suc k) x [] h = refl
+not_placed_take (suc k) x (y ∷ xs) h =
+    let both = neither (y.0 == x.0) (is_placed xs x) h in rw both.0 (not_placed_take k x xs both.1)
+
+apart_take : (k : ℕ) (xs : List LineId) → AreApart xs → AreApart (take k xs)
+apart_take zero xs h = tt
+apart_take (suc k) [] h = tt
+apart_take (suc k) (x ∷ xs) h = (not_placed_take k x xs h.0, apart_take k xs h.1)
+
+-- The first line that is not placed.
+
+placed_here : (x a : LineId) (xs : List LineId) (b : Bool) → (x.0 == a.0) ≡ b → (is_placed xs a ≡ true → Contains xs a) → (b || is_placed xs a) ≡ true → Contains (x ∷ xs) a
+placed_here x a xs true e later h =
+    let same : x ≡ a = ap (λ (n : ℕ). let l : LineId = record { 0 = n } in l) (eqb-true x.0 a.0 e) in
+    subst (λ y. Contains (x ∷ xs) y) same (contains_first x xs)
+placed_here x a xs false e later h = contains_later x a xs (later h)
+
+contains_placed : (xs : List LineId) (a : LineId) → is_placed xs a ≡ true → Contains xs a
+contains_placed [] a h = absurd (true≢false (sym h))
+contains_placed (x ∷ xs) a h = placed_here x a xs (x.0 == a.0) refl (contains_placed xs a) h
+
+found_one : (p : LineId → Bool) (xs : List LineId) → ((a : LineId) × (find p xs ≡ Some a) × Contains xs a × (p a ≡ true)) ⊎ ((find p xs ≡ None) × All (λ a. p a ≡ false) xs)
+found_one p [] = inr (refl, All-nil (λ a. p a ≡ false))
+found_one p (x ∷ xs) = by_test (p x) refl (found_one p xs)
+  where
+    by_test : (b : Bool) → p x ≡ b
+        → ((a : LineId) × (find p xs ≡ Some a) × Contains xs a × (p a ≡ true)) ⊎ ((find p xs ≡ None) × All (λ a. p a ≡ false) xs)
+        → ((a : LineId) × (cond b (Some x) (find p xs) ≡ Some a) × Contains (x ∷ xs) a × (p a ≡ true)) ⊎ ((cond b (Some x) (find p xs) ≡ None) × All (λ a. p a ≡ false) (x ∷ xs))
+    by_test true e later = inl (x, refl, contains_first x xs, e)
+    by_test false e (inl h) = inl (h.0, h.1, contains_later x h.0 xs h.2, h.3)
+    by_test false e (inr h) = inr (h.0, All-cons (λ a. p a ≡ false) x xs e h.1)
+
+-- Placing a line.
+
+room_for : (lines placed : List LineId) (line : LineId) → ArePlacedLines lines placed → Contains lines line → is_placed placed line ≡ false
+    → length (placed ++ line ∷ []) ≤ length lines
+room_for lines placed line ok here free =
+    few_apart (placed ++ line ∷ []) lines (apart_push placed line ok.apart free) (All-push (Contains lines) placed line ok.known here)
+
+pub room_left : (lines placed : List LineId) (line : LineId) → ArePlacedLines lines placed → Contains lines line → is_placed placed line ≡ false
+    → length placed < length lines
+room_left lines placed line ok here free = omega (arith, room_for lines placed line ok here free, length-append placed (line ∷ []))
+
+not_true : (b : Bool) → not b ≡ true → b ≡ false
+not_true true h = absurd (true≢false (sym h))
+not_true false h = refl
+
+not_false : (b : Bool) → not b ≡ false → b ≡ true
+not_false true h = refl
+not_false false h = absurd (true≢false h)
+
+last_found : (lines now : List LineId) → AreRising lines → length now + 1 ≡ length lines → All (Contains lines) now → AreApart now
+    → ArePlacedLines lines (now ++ option_to_list (find (is_unplaced now) lines))
+last_found lines now rising e known apart = by_found (found_one (is_unplaced now) lines)
+  where
+    by_found : ((a : LineId) × (find (is_unplaced now) lines ≡ Some a) × Contains lines a × (is_unplaced now a ≡ true)) ⊎ ((find (is_unplaced now) lines ≡ None) × All (λ a. is_unplaced now a ≡ false) lines)
+        → ArePlacedLines lines (now ++ option_to_list (find (is_unplaced now) lines))
+    by_found (inl h) =
+        let whole : ArePlacedLines lines (now ++ h.0 ∷ []) = record {
+          known = All-push (Contains lines) now h.0 known h.2;
+          apart = apart_push now h.0 apart (not_true (is_placed now h.0) h.3);
+          none_alone = λ f. absurd (omega (arith, f, length-append now (h.0 ∷ [])));
+        } in subst (λ o. ArePlacedLines lines (now ++ option_to_list o)) (sym h.1) whole
+    by_found (inr h) = absurd (omega (
+      arith,
+      e,
+      few_rising lines now rising
+          (λ k d below. contains_placed now (get_or lines k d) (not_false (is_placed now (get_or lines k d)) (h.1 k d below))),
+    ))
+
+pub placed_with_line : (lines placed : List LineId) (line : LineId) → AreRising lines → ArePlacedLines lines placed → Contains lines line
+    → is_placed placed line ≡ false → ArePlacedLines lines (with_line lines placed line)
+placed_with_line lines placed line rising ok here free = by_test (length (placed ++ line ∷ []) + 1 == length lines) refl
+  where
+    by_test : (b : Bool) → (length (placed ++ line ∷ []) + 1 == length lines) ≡ b
+        → ArePlacedLines lines (cond b ((placed ++ line ∷ []) ++ option_to_list (find (is_unplaced (placed ++ line ∷ [])) lines)) (placed ++ line ∷ []))
+    by_test true e = last_found lines (placed ++ line ∷ []) rising (eqb-true (length (placed ++ line ∷ []) + 1) (length lines) e)
+        (All-push (Contains lines) placed line ok.known here) (apart_push placed line ok.apart free)
+    by_test false e = record {
+      known = All-push (Contains lines) placed line ok.known here;
+      apart = apart_push placed line ok.apart free;
+      none_alone = λ f. absurd (eqb-false (length (placed ++ line ∷ []) + 1) (length lines) e f);
+    }
+
+-- Taking back.
+
+cut : (lines placed : List LineId) (k : ℕ) → ArePlacedLines lines placed → k ≤ length placed → (k + 1 ≡ length lines → length lines ≡ 1) → ArePlacedLines lines (take k placed)
+cut lines placed k ok within alone = record {
+  known = All-take (Contains lines) k placed ok.known;
+  apart = apart_take k placed ok.apart;
+  none_alone = λ f. alone (omega (arith, f, length-take-le k placed within));
+}
+
+below_two : (n : ℕ) → nat_le 2 n ≡ false → n < 2
+below_two n h = grind (arith, nat_tests)
+
+pub placed_without_last : (lines placed : List LineId) → ArePlacedLines lines placed → 0 < length placed → ArePlacedLines lines (without_last lines placed)
+placed_without_last lines placed ok some = by_tests (nat_le 2 (length lines)) (length placed == length lines) refl refl
+  where
+    by_tests : (two whole : Bool) → nat_le 2 (length lines) ≡ two → (length placed == length lines) ≡ whole
+        → ArePlacedLines lines (take (length placed - cond (two && whole) 2 1) placed)
+    by_tests true true p q = cut lines placed (length placed - 2) ok (omega arith) (λ f. absurd (omega (arith, f, leb-true 2 (length lines) p, eqb-true (length placed) (length lines) q)))
+    by_tests true false p q = cut lines placed (length placed - 1) ok (omega arith) (λ f. absurd (eqb-false (length placed) (length lines) q (omega (arith, f, some))))
+    by_tests false whole p q = cut lines placed (length placed - 1) ok (omega arith) (λ f. omega (arith, f, below_two (length lines) p))
+
+-- The prefix as it lies in memory.
+
+abbrev pub items_of : Vec LineId Global → List LineId
+items_of v = v.items
+
+abbrev pub room_of : Vec LineId Global → ℕ
+room_of v = vec_capacity v
+
+pub prefix_after : (segs : List (List LineId)) (lists : List (Vec LineId Global)) (s : ℕ) (v : Vec LineId Global) → IsPrefixOf segs (placement_of lists)
+    → s < length segs → length (get_or segs s []) ≤ vec_capacity v → ArePlacedLines (get_or segs s []) v.items → IsPrefixOf segs (placement_of (set lists s v))
+prefix_after segs lists s v ok known room placed = record {
+  each = length-map (set lists s v) items_of ∙ length-set lists s v ∙ sym (length-map lists items_of) ∙ ok.each;
+  room_each = length-map (set lists s v) room_of ∙ length-set lists s v ∙ sym (length-map lists room_of) ∙ ok.room_each;
+  room = λ t below. by_room t below (t == s) refl;
+  lines = λ t below. by_lines t below (t == s) refl;
+}
+  where
+    within : s < length (map items_of lists)
+    within = omega (arith, ok.each)
+
+    within_room : s < length (map room_of lists)
+    within_room = omega (arith, ok.room_each)
+
+    by_lines : (t : ℕ) → t < length segs → (b : Bool) → (t == s) ≡ b → ArePlacedLines (get_or segs t []) (get_or (map items_of (set lists s v)) t [])
+    by_lines t below true e =
+        let same : s ≡ t = sym (eqb-true t s e) in
+        let is : get_or (map items_of (set lists s v)) s [] ≡ v.items =
+        ap (λ ls. get_or ls s []) (map-set items_of lists s v) ∙ get_or-set_same (map items_of lists) s v.items [] within in
+        subst (λ k. ArePlacedLines (get_or segs k []) (get_or (map items_of (set lists s v)) k [])) same (rw is placed)
+    by_lines t below false e =
+        let is : get_or (map items_of (set lists s v)) t [] ≡ get_or (map items_of lists) t [] =
+        ap (λ ls. get_or ls t []) (map-set items_of lists s v) ∙ get_or-set_other (map items_of lists) s t v.items [] (eqb-false t s e) in
+        rw is (ok.lines t below)
+
+    by_room : (t : ℕ) → t < length segs → (b : Bool) → (t == s) ≡ b → length (get_or segs t []) ≤ get_or (map room_of (set lists s v)) t 0
+    by_room t below true e =
+        let same : s ≡ t = sym (eqb-true t s e) in
+        let is : get_or (map room_of (set lists s v)) s 0 ≡ vec_capacity v =
+        ap (λ ls. get_or ls s 0) (map-set room_of lists s v) ∙ get_or-set_same (map room_of lists) s (vec_capacity v) 0 within_room in
+        subst (λ k. length (get_or segs k []) ≤ get_or (map room_of (set lists s v)) k 0) same (rw is room)
+    by_room t below false e =
+        let is : get_or (map room_of (set lists s v)) t 0 ≡ get_or (map room_of lists) t 0 =
+        ap (λ ls. get_or ls t 0) (map-set room_of lists s v) ∙ get_or-set_other (map room_of lists) s t (vec_capacity v) 0 (eqb-false t s e) in
+        rw is (ok.room t below)
+
+-- the placed lines after a change of one segment's, which f gives of its lines and of those that were placed
+pub lists_after : (f : List LineId → List LineId → List LineId) (segs placed : List (List LineId)) (lists : List (Vec LineId Global)) (s : ℕ)
+    (lines : List LineId) (old fresh : Vec LineId Global) → map items_of lists ≡ placed → lines ≡ get_or segs s [] → old.items ≡ get_or (map items_of lists) s []
+    → fresh.items ≡ f lines old.items → map items_of (set lists s fresh) ≡ set placed s (f (get_or segs s []) (get_or placed s []))
+lists_after f segs placed lists s lines old fresh seen is was made =
+    map-set items_of lists s fresh
+    ∙ ap (λ x. set (map items_of lists) s x) (made ∙ ap (λ l. f l old.items) is ∙ ap (λ o. f (get_or segs s []) o) was)
+    ∙ ap (λ q. set q s (f (get_or segs s []) (get_or q s []))) seen
+
+pub list_at : (lists : List (Vec LineId Global)) (s : ℕ) (old : Vec LineId Global) → s < length lists → old ≡ get_or lists s old → old.items ≡ get_or (map items_of lists) s []
+list_at lists s old below is = ap items_of is ∙ sym (get_or-map items_of lists s old [] below)
+
+pub room_at : (lists : List (Vec LineId Global)) (s : ℕ) (old : Vec LineId Global) → s < length lists → old ≡ get_or lists s old → vec_capacity old ≡ get_or (map room_of lists) s 0
+room_at lists s old below is = ap room_of is ∙ sym (get_or-map room_of lists s old 0 below)
+
+pub lines_at_segment : (segs : List (List LineId)) (s : ℕ) (lines : List LineId) → s < length segs → lines ≡ get_or segs s lines → lines ≡ get_or segs s []
+lines_at_segment [] s lines below is = absurd (omega arith)
+lines_at_segment (l ∷ segs) zero lines below is = is
+lines_at_segment (l ∷ segs) (suc s) lines below is = lines_at_segment segs s lines (omega arith) is
+
+-- no line is placed at first
+pub none_placed_fits : (segs : List (List LineId)) (p : Placement) → p.placed ≡ map (λ _. []) segs → p.room ≡ map length segs → IsPrefixOf segs p
+none_placed_fits segs p placed room = record {
+  each = ap length placed ∙ length-map segs (λ _. []);
+  room_each = ap length room ∙ length-map segs length;
+  room = λ s below. (let is : get_or p.room s 0 ≡ length (get_or segs s []) = ap (λ r. get_or r s 0) room ∙ get_or-map length segs s [] 0 below in omega (arith, is));
+  lines = λ s below. (let is : get_or p.placed s [] ≡ [] = ap (λ q. get_or q s []) placed ∙ get_or-map (λ _. []) segs s [] [] below in
+      rw is (nothing (get_or segs s [])));
+}
+  where
+    nothing : (lines : List LineId) → ArePlacedLines lines []
+    nothing lines = record { known = All-nil (Contains lines); apart = tt; none_alone = λ e. omega (arith, e) }
+
+-- Taking back undoes the last placing.
+
+length_with_last : (lines now : List LineId) → AreRising lines → length now + 1 ≡ length lines
+    → length (now ++ option_to_list (find (is_unplaced now) lines)) ≡ length lines
+length_with_last lines now rising e = by_found (found_one (is_unplaced now) lines)
+  where
+    by_found : ((a : LineId) × (find (is_unplaced now) lines ≡ Some a) × Contains lines a × (is_unplaced now a ≡ true)) ⊎ ((find (is_unplaced now) lines ≡ None) × All (λ a. is_unplaced now a ≡ false) lines)
+        → length (now ++ option_to_list (find (is_unplaced now) lines)) ≡ length lines
+    by_found (inl h) = subst (λ o. length (now ++ option_to_list o) ≡ length lines) (sym h.1) (omega (arith, e, length-append now (h.0 ∷ [])))
+    by_found (inr h) = absurd (omega (
+      arith,
+      e,
+      few_rising lines now rising
+          (λ k d below. contains_placed now (get_or lines k d) (not_false (is_placed now (get_or lines k d)) (h.1 k d below))),
+    ))
+
+-- how many were placed last, by how many lines there are
+two_last : (lines placed : List LineId) → 2 ≤ length lines → length placed ≡ length lines → last_placed lines placed ≡ 2
+two_last lines placed two whole = rw (le-leb 2 (length lines) two, eq-eqb (length placed) (length lines) whole) refl
+
+one_last : (lines placed : List LineId) → (length placed ≡ length lines → length lines ≤ 1) → last_placed lines placed ≡ 1
+one_last lines placed h = by_tests (nat_le 2 (length lines)) (length placed == length lines) refl refl
+  where
+    by_tests : (two whole : Bool) → nat_le 2 (length lines) ≡ two → (length placed == length lines) ≡ whole → ◌≡◌ {A = ℕ} (cond (two && whole) 2 1) 1
+    by_tests true true p q = absurd (omega (arith, leb-true 2 (length lines) p, h (eqb-true (length placed) (length lines) q)))
+    by_tests true false p q = refl
+    by_tests false whole p q = refl
+
+take_front : (xs ys : List LineId) (k : ℕ) → k ≡ length xs → take k (xs ++ ys) ≡ xs
+take_front xs ys k e = ap (λ n. take n (xs ++ ys)) e ∙ take-append_seam xs ys
+
+pub undone : (lines placed : List LineId) (line : LineId) → AreRising lines → ArePlacedLines lines placed → without_last lines (with_line lines placed line) ≡ placed
+undone lines placed line rising ok = by_test (length (placed ++ line ∷ []) + 1 == length lines) refl
+  where
+    by_test : (b : Bool) → (length (placed ++ line ∷ []) + 1 == length lines) ≡ b
+        → without_last lines (cond b ((placed ++ line ∷ []) ++ option_to_list (find (is_unplaced (placed ++ line ∷ [])) lines)) (placed ++ line ∷ [])) ≡ placed
+    by_test true e =
+        let now : List LineId = placed ++ line ∷ [] in
+        let more : List LineId = option_to_list (find (is_unplaced now) lines) in
+        let left : length now + 1 ≡ length lines = eqb-true (length now + 1) (length lines) e in
+        let whole : length (now ++ more) ≡ length lines = length_with_last lines now rising left in
+        let count : length now ≡ length placed + 1 = length-append placed (line ∷ []) in
+        let two : last_placed lines (now ++ more) ≡ 2 = two_last lines (now ++ more) (omega arith) whole in
+        ap (λ n. take (length (now ++ more) - n) (now ++ more)) two
+        ∙ ap (take (length (now ++ more) - 2)) (append_assoc placed (line ∷ []) more)
+        ∙ take_front placed (line ∷ more) (length (now ++ more) - 2) (omega arith)
+    by_test false e =
+        let now : List LineId = placed ++ line ∷ [] in
+        let count : length now ≡ length placed + 1 = length-append placed (line ∷ []) in
+        let one : last_placed lines now ≡ 1 = one_last lines now (λ whole. omega (arith, ok.none_alone (omega arith))) in
+        ap (λ n. take (length now - n) now) one ∙ take_front placed (line ∷ []) (length now - 1) (omega arith)

@@ -1,0 +1,205 @@
+-- The points near to a place lie in its cell and the cells around it.
+use Rattle.std.proofs.Common.{◌≡◌, refl, sym, ◌∙◌, ap, subst, ℕ, zero, suc, ◌+◌, ◌*◌, ◌/◌, ◌%◌, ◌<◌, ◌≤◌, ◌⊎◌, inl, inr, Bool, true, false, cond, ◌&&◌, ℤ, pos, negsuc, ◌+ℤ◌, ◌-ℤ◌, ◌*ℤ◌, ◌≤ℤ◌, ◌<ℤ◌, unsigned_abs, List, [], ◌∷◌, ◌++◌, filter, length, get_or, All, AllPairs, Contains, IsPermutation, eqb, arith}
+use Rattle.std.specs.Ordering.{int_eq}
+use Rattle.std.specs.List.{range_with_len, flat_map}
+use Rattle.std.proofs.Math.Nat.{mul-le-mul}
+use Rattle.std.proofs.lemmas.Int.{ints}
+use Rattle.std.proofs.lemmas.Bool.{and_from, ltb-true, cases_lt}
+use Rattle.std.proofs.lemmas.Bool.Decides.{Decides-int_eq}
+use Rattle.std.proofs.lemmas.List.Elements.{All-contains, All-filter, filter_passes, Contains-append_left, Contains-append_right, Contains-append_cases}
+use Rattle.std.specs.List.{dedup}
+use Rattle.std.specs.List.Sorted.{IsSorted}
+use Rattle.std.specs.Ordering.{nat_cmp}
+use Rattle.std.proofs.lemmas.List.Kept.{Contains-dedup_nat, Contains-from_dedup, IsStrictlyIncreasing-filter, AllPairs-from_increasing}
+use Rattle.std.proofs.lemmas.Map.Keys.{IsStrictlyIncreasing-dedup}
+use Rattle.std.proofs.lemmas.List.Sorted.{IsPermutation-sym, Contains-permutation}
+use Rattle.map_base.specs.declared.point.Point.{Point}
+use Rattle.whole_algebra.specs.Rounding.{floor_quotient}
+use Rattle.whole_algebra.proofs.Rounding.{floor_quotient-lower, floor_quotient-upper}
+use Rattle.whole_algebra.proofs.Products.{+ℤ-*ℤ, minus-*ℤ}
+use Rattle.whole_algebra.proofs.Signs.{*ℤ-negative_factor}
+use Rattle.fixed_plane.specs.Measures.{square_of, dist2_of}
+use Rattle.track_net.specs.Nearness.{point_at, is_nearer, numbers_near}
+use Rattle.track_net.specs.Cells.{cell_of, is_cell, cell_around, CellMap, listed, numbers_in, AreListed}
+use Rattle.track_net.proofs.Lists.{range_below, range_rises}
+use Rattle.track_net.proofs.RisingLists.{same_where_rising}
+use Rattle.track_net.proofs.EdgeFacts.{Contains-filter, Contains-range}
+
+-- a square below another is that of a lesser number
+less_than : (a w m : ℕ) → a * a ≤ m → m < w * w → a < w
+less_than a w m square below = of_order (cases_lt a w)
+  where
+    of_order : (a < w) ⊎ (w ≤ a) → a < w
+    of_order (inl h) = h
+    of_order (inr h) = let more : w * w ≤ a * a = mul-le-mul h h in absurd (omega arith)
+
+-- quotients of numbers that are less than a size apart differ by one at most
+quotient_below : (x y : ℤ) (n : ℕ) → 0 < n → unsigned_abs (y -ℤ x) < n → floor_quotient y n ≤ℤ (floor_quotient x n +ℤ pos 1)
+quotient_below x y n some near =
+    next (floor_quotient y n) (floor_quotient x n)
+    (*ℤ-negative_factor (floor_quotient y n -ℤ (floor_quotient x n +ℤ pos 2)) (pos n) (omega (arith, ints))
+    (product (floor_quotient y n) (floor_quotient x n) (floor_quotient-lower y n some) (floor_quotient-upper x n some)))
+  where
+    next : (p q : ℤ) → (p -ℤ (q +ℤ pos 2)) <ℤ pos 0 → p ≤ℤ (q +ℤ pos 1)
+    next p q h = omega (arith, ints)
+
+    sums : (pn qn an : ℤ) → an ≡ pn -ℤ (qn +ℤ (pos n +ℤ pos n)) → pn ≤ℤ y → x <ℤ (qn +ℤ pos n) → an <ℤ pos 0
+    sums pn qn an e h k = omega (arith, ints)
+
+    product : (p q : ℤ) → (p *ℤ pos n) ≤ℤ y → x <ℤ (q *ℤ pos n +ℤ pos n) → ((p -ℤ (q +ℤ pos 2)) *ℤ pos n) <ℤ pos 0
+    product p q h k =
+        let twice : pos 2 *ℤ pos n ≡ pos n +ℤ pos n = omega (arith, ints) in
+        sums (p *ℤ pos n) (q *ℤ pos n) ((p -ℤ (q +ℤ pos 2)) *ℤ pos n)
+        (minus-*ℤ p (q +ℤ pos 2) (pos n) ∙ ap (λ z. p *ℤ pos n -ℤ z) (+ℤ-*ℤ q (pos 2) (pos n)) ∙ ap (λ z. p *ℤ pos n -ℤ (q *ℤ pos n +ℤ z)) twice) h k
+
+back_apart : (x y : ℤ) (n : ℕ) → unsigned_abs (y -ℤ x) < n → unsigned_abs (x -ℤ y) < n
+back_apart x y n h = omega (arith, ints)
+
+-- so the one is the other, or the one before or after it
+pub record IsBeside (p q : ℤ) : Type 0 where
+  pub step : ℕ
+  pub three : step < 3
+  pub is : p +ℤ (pos step -ℤ pos 1) ≡ q
+
+beside_of : (p q : ℤ) → q ≤ℤ (p +ℤ pos 1) → p ≤ℤ (q +ℤ pos 1) → IsBeside p q
+beside_of p q h k = of_cases (cases p q h k)
+  where
+    cases : (p q : ℤ) → q ≤ℤ (p +ℤ pos 1) → p ≤ℤ (q +ℤ pos 1) → (q ≡ p -ℤ pos 1) ⊎ ((q ≡ p) ⊎ (q ≡ p +ℤ pos 1))
+    cases p q h k = of_difference (q -ℤ p) refl
+      where
+        of_difference : (z : ℤ) → q -ℤ p ≡ z → (q ≡ p -ℤ pos 1) ⊎ ((q ≡ p) ⊎ (q ≡ p +ℤ pos 1))
+        of_difference (pos zero) e = inr (inl (omega (arith, ints)))
+        of_difference (pos (suc zero)) e = inr (inr (omega (arith, ints)))
+        of_difference (pos (suc (suc n))) e = absurd (omega (arith, ints))
+        of_difference (negsuc zero) e = inl (omega (arith, ints))
+        of_difference (negsuc (suc n)) e = absurd (omega (arith, ints))
+
+    of_cases : (q ≡ p -ℤ pos 1) ⊎ ((q ≡ p) ⊎ (q ≡ p +ℤ pos 1)) → IsBeside p q
+    of_cases (inl e) = record { step = 0; three = omega arith; is = omega (arith, ints) }
+    of_cases (inr (inl e)) = record { step = 1; three = omega arith; is = omega (arith, ints) }
+    of_cases (inr (inr e)) = record { step = 2; three = omega arith; is = omega (arith, ints) }
+
+-- the cell of a near point is one of the nine
+pub near_cell : (size within : ℕ) (at q : Point) → 0 < size → within ≤ size → is_nearer within at q ≡ true → (i : ℕ) × (i < 9) × (cell_around (cell_of size at) i ≡ cell_of size q)
+near_cell size within at q some small near =
+    (3 * column.step + row.step, (omega (arith, column.three, row.three)), same)
+  where
+    below : dist2_of at q < within * within
+    below = ltb-true (dist2_of at q) (within * within) near
+
+    left : (a b : ℕ) → a ≤ a + b
+    left a b = omega arith
+
+    right : (a b : ℕ) → b ≤ a + b
+    right a b = omega arith
+
+    across : unsigned_abs (q.x -ℤ at.x) < within
+    across = less_than (unsigned_abs (q.x -ℤ at.x)) within (dist2_of at q) (left (square_of (q.x -ℤ at.x)) (square_of (q.y -ℤ at.y))) below
+
+    along : unsigned_abs (q.y -ℤ at.y) < within
+    along = less_than (unsigned_abs (q.y -ℤ at.y)) within (dist2_of at q) (right (square_of (q.x -ℤ at.x)) (square_of (q.y -ℤ at.y))) below
+
+    wide : (a : ℕ) → a < within → a < size
+    wide a h = omega arith
+
+    column : IsBeside (floor_quotient at.x size) (floor_quotient q.x size)
+    column =
+        beside_of (floor_quotient at.x size) (floor_quotient q.x size) (quotient_below at.x q.x size some (wide (unsigned_abs (q.x -ℤ at.x)) across))
+        (quotient_below q.x at.x size some (back_apart at.x q.x size (wide (unsigned_abs (q.x -ℤ at.x)) across)))
+
+    row : IsBeside (floor_quotient at.y size) (floor_quotient q.y size)
+    row =
+        beside_of (floor_quotient at.y size) (floor_quotient q.y size) (quotient_below at.y q.y size some (wide (unsigned_abs (q.y -ℤ at.y)) along))
+        (quotient_below q.y at.y size some (back_apart at.y q.y size (wide (unsigned_abs (q.y -ℤ at.y)) along)))
+
+    third : (a b : ℕ) → b < 3 → (3 * a + b) / 3 ≡ a
+    third a b h = omega arith
+
+    rest : (a b : ℕ) → b < 3 → (3 * a + b) % 3 ≡ b
+    rest a b h = omega arith
+
+    same : cell_around (cell_of size at) (3 * column.step + row.step) ≡ cell_of size q
+    same =
+        ap (λ (n : ℕ). (floor_quotient at.x size +ℤ (pos n -ℤ pos 1), floor_quotient at.y size +ℤ (pos ((3 * column.step + row.step) % 3) -ℤ pos 1))) (third column.step row.step row.three)
+        ∙ ap (λ (n : ℕ). (floor_quotient at.x size +ℤ (pos column.step -ℤ pos 1), floor_quotient at.y size +ℤ (pos n -ℤ pos 1))) (rest column.step row.step row.three)
+        ∙ ap (λ (z : ℤ). (z, floor_quotient at.y size +ℤ (pos row.step -ℤ pos 1))) column.is ∙ ap (λ (z : ℤ). (floor_quotient q.x size, z)) row.is
+
+-- a number stands in lists joined where it stands in one of them
+Contains-flat_map : (F : ℕ → List ℕ) (xs : List ℕ) (i k : ℕ) → Contains xs i → Contains (F i) k → Contains (flat_map F xs) k
+Contains-flat_map F xs i k h g = at_place xs h.0 h.1 h.2
+  where
+    at_place : (xs : List ℕ) (j : ℕ) → j < length xs → get_or xs j i ≡ i → Contains (flat_map F xs) k
+    at_place [] j below e = absurd (omega arith)
+    at_place (x ∷ xs) zero below e = Contains-append_left (F x) (flat_map F xs) k (subst (λ (n : ℕ). Contains (F n) k) (sym e) g)
+    at_place (x ∷ xs) (suc j) below e = Contains-append_right (F x) (flat_map F xs) k (at_place xs j (omega arith) e)
+
+flat_map-member : (F : ℕ → List ℕ) (xs : List ℕ) (k : ℕ) → Contains (flat_map F xs) k → (i : ℕ) × Contains (F i) k
+flat_map-member F [] k h = let none : h.0 < 0 = h.1 in absurd (omega arith)
+flat_map-member F (x ∷ xs) k h = of_case (Contains-append_cases (F x) (flat_map F xs) k h) (flat_map-member F xs k)
+  where
+    of_case : Contains (F x) k ⊎ Contains (flat_map F xs) k → (Contains (flat_map F xs) k → (i : ℕ) × Contains (F i) k) → (i : ℕ) × Contains (F i) k
+    of_case (inl g) later = (x, g)
+    of_case (inr g) later = later g
+
+int_eq-self : (x : ℤ) → int_eq x x ≡ true
+int_eq-self x = (Decides-int_eq x x).1 refl
+
+is_cell-self : (c d : ℤ × ℤ) → c ≡ d → is_cell c d ≡ true
+is_cell-self c d e =
+    subst (λ (b : ℤ × ℤ). is_cell c b ≡ true) e (and_from (int_eq c.0 c.0) (int_eq c.1 c.1) (int_eq-self c.0) (int_eq-self c.1))
+
+-- what is found in the nine cells
+abbrev pub found_of : ℕ → List Point → Point → ℕ → CellMap → List ℕ
+found_of size ps at within cells =
+    flat_map (λ i. filter (λ k. is_nearer within at (point_at ps k)) (listed cells (cell_around (cell_of size at) i))) (range_with_len 0 9)
+
+pub listed_in_range : (size : ℕ) (ps : List Point) (cells : CellMap) → AreListed size ps (length ps) cells → (c : ℤ × ℤ) → All (λ k. k < length ps) (listed cells c)
+listed_in_range size ps cells is c =
+    subst (λ (ks : List ℕ). All (λ k. k < length ps) ks) (sym (is c))
+    (All-filter (λ k. is_cell (cell_of size (point_at ps k)) c) (λ k. k < length ps) (range_with_len 0 (length ps)) (range_below (length ps)))
+
+-- are numbers of near points
+pub found_is_near : (size within : ℕ) (ps : List Point) (at : Point) (cells : CellMap) → AreListed size ps (length ps) cells → (k : ℕ) → Contains (found_of size ps at within cells) k →
+    Contains (numbers_near within ps at) k
+found_is_near size within ps at cells is k h =
+    let near = (λ (j : ℕ). is_nearer within at (point_at ps j)) in
+    let F = (λ (i : ℕ). filter near (listed cells (cell_around (cell_of size at) i))) in
+    let member = flat_map-member F (range_with_len 0 9) k h in
+    let c = cell_around (cell_of size at) member.0 in
+    let passes : near k ≡ true = All-contains (λ j. near j ≡ true) (F member.0) k (filter_passes near (listed cells c)) member.1 in
+    let below : k < length ps = All-contains (λ j. j < length ps) (F member.0) k (All-filter near (λ j. j < length ps) (listed cells c) (listed_in_range size ps cells is c)) member.1 in
+    Contains-filter near (range_with_len 0 (length ps)) k (Contains-range (length ps) k below) passes
+
+-- and all of them
+pub near_is_found : (size within : ℕ) (ps : List Point) (at : Point) (cells : CellMap) → 0 < size → within ≤ size → AreListed size ps (length ps) cells → (k : ℕ) →
+    Contains (numbers_near within ps at) k → Contains (found_of size ps at within cells) k
+near_is_found size within ps at cells some small is k h =
+    let near = (λ (j : ℕ). is_nearer within at (point_at ps j)) in
+    let all = range_with_len 0 (length ps) in
+    let F = (λ (i : ℕ). filter near (listed cells (cell_around (cell_of size at) i))) in
+    let passes : near k ≡ true = All-contains (λ j. near j ≡ true) (filter near all) k (filter_passes near all) h in
+    let below : k < length ps = All-contains (λ j. j < length ps) (filter near all) k (All-filter near (λ j. j < length ps) all (range_below (length ps))) h in
+    let place = near_cell size within at (point_at ps k) some small passes in
+    let c = cell_around (cell_of size at) place.0 in
+    let inside : Contains (numbers_in size ps (length ps) c) k =
+    Contains-filter (λ j. is_cell (cell_of size (point_at ps j)) c) all k (Contains-range (length ps) k below) (is_cell-self (cell_of size (point_at ps k)) c (sym place.2)) in
+    let kept : Contains (listed cells c) k = subst (λ (ks : List ℕ). Contains ks k) (sym (is c)) inside in
+    Contains-flat_map F (range_with_len 0 9) place.0 k (Contains-range 9 place.0 place.1) (Contains-filter near (listed cells c) k kept passes)
+
+-- so the numbers that are found, in order and each once, are those of the near points
+pub found_in_order : (size within : ℕ) (ps : List Point) (at : Point) (cells : CellMap) (found sorted : List ℕ) → 0 < size → within ≤ size → AreListed size ps (length ps) cells →
+    found ≡ found_of size ps at within cells → IsPermutation found sorted → IsSorted nat_cmp sorted → dedup eqb sorted ≡ numbers_near within ps at
+found_in_order size within ps at cells found sorted some small is found_is moved in_order =
+    same_where_rising (dedup eqb sorted) (numbers_near within ps at) (AllPairs-from_increasing (dedup eqb sorted) (IsStrictlyIncreasing-dedup sorted in_order))
+    (AllPairs-from_increasing (numbers_near within ps at) (IsStrictlyIncreasing-filter (λ k. is_nearer within at (point_at ps k)) (range_with_len 0 (length ps)) (range_rises (length ps))))
+    (λ k h. there k h) (λ k h. back k h)
+  where
+    there : (k : ℕ) → Contains (dedup eqb sorted) k → Contains (numbers_near within ps at) k
+    there k h =
+        found_is_near size within ps at cells is k
+        (subst (λ (ks : List ℕ). Contains ks k) found_is (Contains-permutation sorted found k (IsPermutation-sym found sorted moved) (Contains-from_dedup eqb sorted k h)))
+
+    back : (k : ℕ) → Contains (numbers_near within ps at) k → Contains (dedup eqb sorted) k
+    back k h =
+        Contains-dedup_nat sorted k
+        (Contains-permutation found sorted k moved (subst (λ (ks : List ℕ). Contains ks k) (sym found_is) (near_is_found size within ps at cells some small is k h)))

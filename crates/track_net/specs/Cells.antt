@@ -1,0 +1,54 @@
+-- Points by square cells of the plane.
+use Rattle.std.specs.Prelude.{◌≡◌, ℕ, ◌<◌, ◌/◌, ◌%◌, Bool, ◌&&◌, ℤ, pos, ◌+ℤ◌, ◌-ℤ◌, Vec, List, [], Option, Some, None, filter, length, All}
+use Rattle.std.specs.Global.{Global}
+use Rattle.std.specs.Ordering.{int_eq}
+use Rattle.std.specs.List.{range_with_len}
+use Rattle.std.specs.declared.hash.FoldHasher.{FoldHasher}
+use Rattle.std.specs.declared.hash.BuildHasherDefault.{BuildHasherDefault}
+use Rattle.std.specs.HashMap.{get, HashMap}
+use Rattle.map_base.specs.declared.point.Point.{Point}
+use Rattle.whole_algebra.specs.Rounding.{floor_quotient}
+use Rattle.fixed_plane.specs.Plane.{IsInPlane}
+use Rattle.track_net.specs.Nearness.{point_at}
+
+-- the column and the row of the square cell, of a size, in which a point lies
+abbrev pub cell_of : ℕ → Point → ℤ × ℤ
+cell_of size p = (floor_quotient p.x size, floor_quotient p.y size)
+
+abbrev pub is_cell : ℤ × ℤ → ℤ × ℤ → Bool
+is_cell c d = int_eq c.0 d.0 && int_eq c.1 d.1
+
+-- the nine cells that are a cell and those around it, by number
+abbrev pub cell_around : ℤ × ℤ → ℕ → ℤ × ℤ
+cell_around c i = (c.0 +ℤ (pos (i / 3) -ℤ pos 1), c.1 +ℤ (pos (i % 3) -ℤ pos 1))
+
+-- numbers of points by cells
+abbrev pub CellMap : Type 0
+CellMap = HashMap (ℤ × ℤ) (Vec ℕ Global) (BuildHasherDefault FoldHasher)
+
+abbrev pub items_or_none : Option (Vec ℕ Global) → List ℕ
+items_or_none None = []
+items_or_none (Some v) = v.items
+
+-- the numbers that are kept for a cell
+abbrev pub listed : CellMap → ℤ × ℤ → List ℕ
+listed cells c = items_or_none (get is_cell cells c)
+
+-- the numbers below n of the points that lie in a cell
+abbrev pub numbers_in : ℕ → List Point → ℕ → ℤ × ℤ → List ℕ
+numbers_in size ps n c = filter (λ k. is_cell (cell_of size (point_at ps k)) c) (range_with_len 0 n)
+
+-- for each cell the numbers of its points are kept
+abbrev pub AreListed : ℕ → List Point → ℕ → CellMap → Type 0
+AreListed size ps n cells = (c : ℤ × ℤ) → listed cells c ≡ numbers_in size ps n c
+
+-- points in buckets, as contracts see them: the points and the size
+pub record BucketParts : Type 0 where
+  pub points : List Point
+  pub size : ℕ
+
+-- the buckets hold what they are to
+pub record AreBuckets (size : ℕ) (ps : List Point) (cells : CellMap) : Type 0 where
+  pub some : 0 < size
+  pub in_plane : All IsInPlane ps
+  pub listed_each : AreListed size ps (length ps) cells
