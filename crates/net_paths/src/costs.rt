@@ -9,9 +9,10 @@ use crate::reach::Reach;
 use fixed_plane::dist2;
 use map_base::{NoMemory, Point};
 use std::alloc::Global;
-use track_net::Net;
+use track_net::{Net, PointCells};
 
-/// For each point of the net whether it lies in the corridor: nearer than four times `near` to some sample.
+/// For each point of the net whether it lies in the corridor: nearer than four times `near` to some sample. The
+/// cells are a decimetre wider than that, so that they have a size also where `near` is 0.
 pub(crate) fn corridor_flags(
     alloc: Global,
     net: &Net,
@@ -23,10 +24,12 @@ pub(crate) fn corridor_flags(
     ensures flags { IfOk result (λ flags. flags.items ≡ flags_of near corridor.now net.now.points) }
     ensures kept { IsNet net.now }
 {
+    let count = net.len();
     let reach = Reach::around(corridor, 4 * near);
+    let cells = PointCells::of(alloc, corridor, 4 * near + 1)?;
     let mut flags = Vec::new(alloc);
-    for i in 0..net.len() {
-        flags.push(reach.has_near(corridor, net.point(i as u32), 4 * near))?;
+    for i in 0..count {
+        flags.push(reach.has_near(&cells, net.point(i as u32), 4 * near))?;
     }
     Ok(flags)
 }

@@ -5,7 +5,7 @@ ghost use Rattle.fixed_plane.specs.Plane.{IsInPlane};
 ghost use Rattle.track_net.specs.Nearness.{has_near};
 
 use map_base::Point;
-use track_net::has_near_point;
+use track_net::PointCells;
 
 /// The sides of a rectangle, in decimetres.
 #[derive(Clone, Copy, Debug)]
@@ -25,16 +25,24 @@ impl Reach {
         requires distance { distance ≤ 80000 }
         ensures { All (IsReached result distance) points.now }
     {
-        let mut reach = Reach {
-            west: 0,
-            east: 0,
-            south: 0,
-            north: 0,
-        };
+        let mut reach = Reach::at(first_or_origin(points));
         for point in points {
             reach = reach.widened(*point, distance);
         }
         reach
+    }
+
+    /// The rectangle that is only a point.
+    fn at(point: Point) -> Reach
+        requires in_plane { IsInPlane point }
+        ensures { IsNarrow result }
+    {
+        Reach {
+            west: point.x,
+            east: point.x,
+            south: point.y,
+            north: point.y,
+        }
     }
 
     /// The rectangle, as much wider as a point needs that is to be no nearer to a side than a distance.
@@ -54,17 +62,17 @@ impl Reach {
         }
     }
 
-    /// Whether some point of a list is nearer to `at` than a distance, where the rectangle is theirs.
-    pub(crate) fn has_near(&self, points: &[Point], at: Point, distance: u32) -> bool
-        requires in_plane { All IsInPlane points.now }
+    /// Whether some point in cells is nearer to `at` than a distance, where the rectangle is that of the points.
+    pub(crate) fn has_near(&self, cells: &PointCells, at: Point, distance: u32) -> bool
         requires at_in_plane { IsInPlane at }
-        requires theirs { All (IsReached self.now distance) points.now }
-        ensures { result ≡ has_near distance points.now at }
+        requires within { distance ≤ cells.now.size }
+        requires theirs { All (IsReached self.now distance) cells.now.points }
+        ensures { result ≡ has_near distance cells.now.points at }
     {
         if self.leaves_out(at) {
             return false;
         }
-        has_near_point(points, at, distance)
+        cells.has_near(at, distance)
     }
 
     /// Whether a point does not lie inside.
@@ -81,6 +89,17 @@ impl Reach {
             return true;
         }
         self.north <= at.y
+    }
+}
+
+/// The first of some points, or the origin where there is none.
+fn first_or_origin(points: &[Point]) -> Point
+    requires in_plane { All IsInPlane points.now }
+    ensures { IsInPlane result }
+{
+    match points.first() {
+        None => Point { x: 0, y: 0 },
+        Some(first) => *first,
     }
 }
 
