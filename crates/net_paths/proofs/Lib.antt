@@ -1,5 +1,5 @@
 mod Tables
-mod Reaching
+mod CostTables
 mod NetSteps
 mod Searches
 mod Spreading

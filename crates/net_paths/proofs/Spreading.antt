@@ -39,6 +39,11 @@ cost_in_bounds flags net to at cost table queue excepted kept s known =
     let few : length table ≤ 100000 = subst (λ (n : ℕ). n ≤ 100000) (sym s.each) kept.few in
     omega arith
 
+-- a table keeps its length
+pub length-lowered : (table lower : List (Option ℕ)) (queue longer : List (Reverse (ℕ × ℕ))) (at cost : ℕ) → IsLowered table lower queue longer at cost → length lower ≡ length table
+length-lowered table lower queue longer at cost (inl h) = ap length h.1
+length-lowered table lower queue longer at cost (inr h) = ap length h.1 ∙ length-set table at (Some cost)
+
 -- one more edge
 pub spreading_goes_on : (flags : List Bool) (net : NetParts) (to at cost : ℕ) (edges : List ℕ) (done left : ℕ) (table lower : List (Option ℕ)) (queue longer : List (Reverse (ℕ × ℕ))) (next c : ℕ) →
     IsNet net → edges ≡ edges_of_point net at → done < length edges → next ≡ get_or edges done 0 → c ≡ flagged_cost flags net.points next at → c ≤ dearest →

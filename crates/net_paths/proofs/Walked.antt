@@ -14,6 +14,7 @@ use Rattle.net_paths.specs.Stretches.{IsStep, IsStretchPath}
 use Rattle.net_paths.specs.Searching.{flags_of, flagged_cost, IsFlaggedStep, known_at, IsSearched}
 use Rattle.net_paths.specs.Walking.{KeepsCost, IsLeastStep, IsFlaggedPath}
 use Rattle.net_paths.proofs.NetSteps.{edge_of, steps_are_weighted}
+use Rattle.net_paths.proofs.CostTables.{cost_by_flags}
 use Rattle.net_paths.proofs.Rising.{edge_not_below}
 
 -- the least of the edges that keep the cost is the first of them
@@ -140,17 +141,7 @@ walking_ends flags net table from to s numbers at w none = record {
         let more = next_exists (IsFlaggedStep flags net) to s.cost (known_at table) s.least at w.rest apart w.within w.known in
         absurd (none more.0 more.4.goes.edge (keeps_of flags net table at more.0 more.1 more.2 more.3 more.4))
 
--- the costs by flags are those along the corridor
-cost_by_flags : (near : ℕ) (corridor : List Point) (net : NetParts) (a b : ℕ) → a < length net.points → b < length net.points →
-    flagged_cost (flags_of near corridor net.points) net.points a b ≡ edge_cost near corridor (point_at net.points a) (point_at net.points b)
-cost_by_flags near corridor net a b a_in b_in =
-    let p = point_at net.points a in
-    let q = point_at net.points b in
-    ap (λ t. cond (t && get_or (flags_of near corridor net.points) b false) (dist2_of p q) (8 * dist2_of p q))
-    (get_or-map (is_in_corridor near corridor) net.points a (record { x = pos 0; y = pos 0 }) false a_in)
-    ∙ ap (λ t. cond (is_in_corridor near corridor p && t) (dist2_of p q) (8 * dist2_of p q))
-    (get_or-map (is_in_corridor near corridor) net.points b (record { x = pos 0; y = pos 0 }) false b_in)
-
+-- a least path by flags is the stretch path
 pub stretch_path_of : (near : ℕ) (corridor : List Point) (net : NetParts) → IsNet net → (flags : List Bool) (from to : ℕ) (numbers : List ℕ) → flags ≡ flags_of near corridor net.points →
     IsFlaggedPath flags net from to numbers → IsStretchPath near corridor net from to numbers
 stretch_path_of near corridor net kept flags from to numbers is p = record {

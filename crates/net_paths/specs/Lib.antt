@@ -1,5 +1,4 @@
 pub mod Corridors
 pub mod Stretches
-pub mod Reaches
 pub mod Searching
 pub mod Walking

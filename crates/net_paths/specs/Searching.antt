@@ -1,7 +1,11 @@
 -- The search for least costs: what is known, what waits, and what is left to be followed.
-use Rattle.std.specs.Prelude.{◌≡◌, ℕ, ◌+◌, ◌*◌, ◌<◌, ◌≤◌, ◌⊎◌, Bool, false, ◌&&◌, if◌then◌else◌, List, ◌∷◌, Option, Some, None, length, map, Contains, IsPermutation, slice_index_or, slice_set, sum_by}
+use Rattle.std.specs.Prelude.{◌≡◌, ℕ, ◌+◌, ◌*◌, ◌<◌, ◌≤◌, ◌⊎◌, Bool, false, nat_eq, ◌&&◌, if◌then◌else◌, List, ◌∷◌, Option, Some, None, length, map, Contains, IsPermutation, slice_index_or, slice_set, sum_by}
 use Rattle.std.specs.declared.cmp.Ordering.{Ordering}
 use Rattle.std.specs.declared.cmp.Reverse.{Reverse}
+use Rattle.std.specs.List.{range_with_len}
+use Rattle.std.specs.declared.hash.FoldHasher.{FoldHasher}
+use Rattle.std.specs.declared.hash.BuildHasherDefault.{BuildHasherDefault}
+use Rattle.std.specs.HashMap.{get, HashMap}
 use Rattle.std.specs.Ordering.{nat_cmp, ordering_then}
 use Rattle.map_base.specs.declared.point.Point.{Point}
 use Rattle.least_path.specs.Orders.{AtMost}
@@ -9,11 +13,15 @@ use Rattle.least_path.specs.Paths.{Path, AreLeastCosts}
 use Rattle.fixed_plane.specs.Measures.{dist2_of}
 use Rattle.track_net.specs.Nearness.{point_at}
 use Rattle.track_net.specs.Nets.{NetParts, HasEdge}
-use Rattle.net_paths.specs.Corridors.{is_in_corridor}
+use Rattle.net_paths.specs.Corridors.{is_in_corridor, CorridorParts}
 
 -- for each point whether it lies in the corridor
 abbrev pub flags_of : ℕ → List Point → List Point → List Bool
 flags_of near corridor ps = map (is_in_corridor near corridor) ps
+
+-- the same for the points of a net
+unfoldable pub flags_along : CorridorParts → NetParts → List Bool
+flags_along corridor net = flags_of corridor.near corridor.samples net.points
 
 -- the cost of an edge by the flags of its ends
 abbrev pub flagged_cost : List Bool → List Point → ℕ → ℕ → ℕ
@@ -29,6 +37,14 @@ pub record IsFlaggedStep (flags : List Bool) (net : NetParts) (a l s c : ℕ) : 
 -- the known cost of a point
 abbrev pub known_at : List (Option ℕ) → ℕ → Option ℕ
 known_at table s = slice_index_or table s None
+
+-- what is known of the points below a number, by a map
+abbrev pub costs_below : HashMap ℕ ℕ (BuildHasherDefault FoldHasher) → ℕ → List (Option ℕ)
+costs_below costs n = map (λ s. get nat_eq costs s) (range_with_len 0 n)
+
+-- the cost of a point is known
+abbrev pub with_known : List (Option ℕ) → ℕ → ℕ → List (Option ℕ)
+with_known table at cost = slice_set table at (Some cost)
 
 -- a cost and a point, as they wait
 abbrev pub entry : ℕ → ℕ → Reverse (ℕ × ℕ)

@@ -1,9 +1,10 @@
 //! The least path over a net between two of its points along a corridor, with its tie rule.
 #![tactic(auto)]
 
+mod corridor;
 mod costs;
+mod known;
 mod queue;
-mod reach;
 mod search;
 mod stretch;
 mod walk;

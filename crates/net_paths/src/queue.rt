@@ -5,6 +5,7 @@ ghost use Rattle.std.specs.BinaryHeap.{IsHeap, heap_items, heap_len};
 ghost use Rattle.least_path.specs.Orders.{AtMost};
 ghost use Rattle.net_paths.specs.Searching.{IsBeyond, IsLowered, Waits, entry, queue_cmp};
 
+use crate::known::Known;
 use map_base::NoMemory;
 use std::cmp::Reverse;
 use std::collections::BinaryHeap;
@@ -39,7 +40,7 @@ fn is_beyond(limit: Option<u128>, cost: u128) -> bool
 
 /// Notes a cost of a point where none as low is known, and lets the point wait with it.
 pub(crate) fn lower(
-    known: &mut [Option<u128>],
+    known: &mut Known,
     queue: &mut Queue,
     at: u32,
     cost: u128,
@@ -49,10 +50,10 @@ pub(crate) fn lower(
     ensures order { OnOk result (IsHeap queue_cmp (heap_items queue.new)) }
     ensures lowered { OnOk result (IsLowered known.old known.new (heap_items queue.old) (heap_items queue.new) at cost) }
 {
-    if is_as_low(known[at as usize], cost) {
+    if is_as_low(known.of(at), cost) {
         return Ok(());
     }
-    known[at as usize] = Some(cost);
+    known.note(at, cost)?;
     queue.push(Reverse((cost, at)))?;
     Ok(())
 }

@@ -3,58 +3,59 @@
 ghost use Rattle.std.specs.Prelude.{◌≡◌, ◌*◌, ◌<◌, ◌≤◌, ◌↔◌, Some, None, [], IsTrue, IfOk, OnOk, length, replicate};
 ghost use Rattle.std.specs.BinaryHeap.{IsHeap, heap_items};
 ghost use Rattle.track_net.specs.Nets.{IsNet, Joins};
-ghost use Rattle.net_paths.specs.Searching.{IsSearched, IsSpread, dearest, known_at, queue_cmp};
+ghost use Rattle.net_paths.specs.Searching.{IsSearched, IsSpread, dearest, flags_along, known_at, queue_cmp};
 
+use crate::corridor::Corridor;
 use crate::costs::cost_between;
+use crate::known::Known;
 use crate::queue::{Queue, lower, next};
 use map_base::NoMemory;
 use std::alloc::Global;
 use track_net::Net;
 
-/// For points of the net the least costs at which `to` can be reached, as far as they are no greater than that
-/// of `from`. The search goes from `to` outwards and ends where what waits costs more than `from` does.
-pub(crate) fn costs_to(
+/// Notes, where nothing is known, the least costs at which `to` can be reached, as far as they are no greater than
+/// that of `from`. The search goes from `to` outwards and ends where what waits costs more than `from` does.
+pub(crate) fn note_costs_to(
     alloc: Global,
     net: &Net,
-    flags: &[bool],
+    corridor: &Corridor,
     from: u32,
     to: u32,
-) -> Result<Vec<Option<u128>>, NoMemory>
+    known: &mut Known,
+) -> Result<(), NoMemory>
+    requires kept { IsNet net.now }
     requires from_in_range { from < length net.now.points }
     requires to_in_range { to < length net.now.points }
     requires joined { Joins net.now from to }
-    requires flag_each { length flags.now ≡ length net.now.points }
-    ensures { IfOk result (λ table. IsSearched flags.now net.now from to table.items) }
+    requires nothing_known { known.old ≡ replicate (length net.now.points) None }
+    ensures { OnOk result (IsSearched (flags_along corridor.now net.now) net.now from to known.new) }
 {
-    let mut known = vec![in alloc; None; net.len()]?;
     let mut queue = Queue::new(alloc);
-    search(net, flags, from, to, &mut known, &mut queue)?;
-    Ok(known)
+    search(net, corridor, from, to, known, &mut queue)
 }
 
-/// Fills a table in which nothing is known with the least costs at which `to` can be reached.
+/// The same, with a queue in which nothing waits.
 fn search(
     net: &Net,
-    flags: &[bool],
+    corridor: &Corridor,
     from: u32,
     to: u32,
-    known: &mut [Option<u128>],
+    known: &mut Known,
     queue: &mut Queue,
 ) -> Result<(), NoMemory>
     requires kept { IsNet net.now }
     requires from_in_range { from < length net.now.points }
     requires to_in_range { to < length net.now.points }
     requires joined { Joins net.now from to }
-    requires flag_each { length flags.now ≡ length net.now.points }
     requires nothing_known { known.old ≡ replicate (length net.now.points) None }
     requires nothing_waits { heap_items queue.old ≡ [] }
     requires order { IsHeap queue_cmp (heap_items queue.old) }
-    ensures { OnOk result (IsSearched flags.now net.now from to known.new) }
+    ensures { OnOk result (IsSearched (flags_along corridor.now net.now) net.now from to known.new) }
 {
     lower(known, queue, to, 0)?;
-    while let Some((cost, at)) = next(queue, known[from as usize]) {
-        if is_known(known[at as usize], cost) {
-            spread(net, flags, at, cost, known, queue)?;
+    while let Some((cost, at)) = next(queue, known.of(from)) {
+        if is_known(known.of(at), cost) {
+            spread(net, corridor, at, cost, known, queue)?;
         }
     }
     Ok(())
@@ -73,28 +74,27 @@ fn is_known(known: Option<u128>, cost: u128) -> bool
 /// Follows each edge that leads to a point of a known cost: what it costs from its other end is noted there.
 fn spread(
     net: &Net,
-    flags: &[bool],
+    corridor: &Corridor,
     at: u32,
     cost: u128,
-    known: &mut [Option<u128>],
+    known: &mut Known,
     queue: &mut Queue,
 ) -> Result<(), NoMemory>
     requires kept { IsNet net.now }
     requires in_range { at < length net.now.points }
-    requires flag_each { length flags.now ≡ length net.now.points }
     requires cost_each { length known.old ≡ length net.now.points }
     requires known { known_at known.old at ≡ Some cost }
     requires bounded { cost ≤ dearest * 100000 }
     requires order { IsHeap queue_cmp (heap_items queue.old) }
     ensures order { OnOk result (IsHeap queue_cmp (heap_items queue.new)) }
-    ensures spread { OnOk result (IsSpread flags.now net.now at cost known.old (heap_items queue.old) known.new (heap_items queue.new)) }
+    ensures spread { OnOk result (IsSpread (flags_along corridor.now net.now) net.now at cost known.old (heap_items queue.old) known.new (heap_items queue.new)) }
 {
     for next in net.edges_of(at) {
         lower(
             known,
             queue,
             *next,
-            cost + cost_between(net, flags, *next, at),
+            cost + cost_between(net, corridor, *next, at),
         )?;
     }
     Ok(())

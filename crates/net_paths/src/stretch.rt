@@ -5,8 +5,9 @@ ghost use Rattle.fixed_plane.specs.Plane.{IsInPlane};
 ghost use Rattle.track_net.specs.Nets.{Joins};
 ghost use Rattle.net_paths.specs.Stretches.{IsStretchPath};
 
-use crate::costs::corridor_flags;
-use crate::search::costs_to;
+use crate::corridor::Corridor;
+use crate::known::Known;
+use crate::search::note_costs_to;
 use crate::walk::walk;
 use map_base::{NoMemory, Point};
 use std::alloc::Global;
@@ -30,9 +31,10 @@ pub fn stretch_path(
     requires near_high { near ≤ 20000 }
     ensures { IfOk result (λ path. IsStretchPath near corridor.now net.now from to path.items) }
 {
-    let flags = corridor_flags(alloc, net, corridor, near)?;
-    let known = costs_to(alloc, net, &flags, from, to)?;
-    walk(alloc, net, &flags, &known, from)
+    let mut known = Known::none(alloc, net.len());
+    let corridor = Corridor::along(alloc, corridor, near)?;
+    note_costs_to(alloc, net, &corridor, from, to, &mut known)?;
+    walk(alloc, net, &corridor, &known, from)
 }
 
 #[cfg(test)]

@@ -2,9 +2,12 @@
 
 ghost use Rattle.std.specs.Prelude.{◌≡◌, ℕ, ◌+◌, ◌<◌, ◌≤◌, ◌↔◌, Some, IsTrue, IfOk, IfSome, IfNone, length};
 ghost use Rattle.track_net.specs.Nets.{HasEdge, IsNet};
+ghost use Rattle.net_paths.specs.Searching.{flags_along};
 ghost use Rattle.net_paths.specs.Walking.{DifferBy, IsLeastStep, IsWalked, KeepsCost};
 
+use crate::corridor::Corridor;
 use crate::costs::cost_between;
+use crate::known::Known;
 use map_base::NoMemory;
 use std::alloc::Global;
 use track_net::Net;
@@ -14,20 +17,19 @@ use track_net::Net;
 pub(crate) fn walk(
     alloc: Global,
     net: &Net,
-    flags: &[bool],
-    known: &[Option<u128>],
+    corridor: &Corridor,
+    known: &Known,
     from: u32,
 ) -> Result<Vec<u32>, NoMemory>
     requires kept { IsNet net.now }
     requires from_in_range { from < length net.now.points }
-    requires flag_each { length flags.now ≡ length net.now.points }
     requires cost_each { length known.now ≡ length net.now.points }
-    ensures { IfOk result (λ path. IsWalked flags.now net.now known.now from path.items) }
+    ensures { IfOk result (λ path. IsWalked (flags_along corridor.now net.now) net.now known.now from path.items) }
 {
     let mut path = Vec::new(alloc);
     path.push(from)?;
     let mut at = from;
-    while let Some(next) = next_point(net, flags, known, at) {
+    while let Some(next) = next_point(net, corridor, known, at) {
         path.push(next)?;
         at = next;
     }
@@ -35,17 +37,16 @@ pub(crate) fn walk(
 }
 
 /// The least point to which an edge keeps the cost.
-fn next_point(net: &Net, flags: &[bool], known: &[Option<u128>], at: u32) -> Option<u32>
+fn next_point(net: &Net, corridor: &Corridor, known: &Known, at: u32) -> Option<u32>
     requires kept { IsNet net.now }
     requires in_range { at < length net.now.points }
-    requires flag_each { length flags.now ≡ length net.now.points }
     requires cost_each { length known.now ≡ length net.now.points }
-    ensures least { IfSome result (IsLeastStep flags.now net.now known.now at) }
-    ensures none { IfNone result ((other : ℕ) → HasEdge net.now at other → KeepsCost flags.now net.now known.now at other → ⊥) }
+    ensures least { IfSome result (IsLeastStep (flags_along corridor.now net.now) net.now known.now at) }
+    ensures none { IfNone result ((other : ℕ) → HasEdge net.now at other → KeepsCost (flags_along corridor.now net.now) net.now known.now at other → ⊥) }
 {
     for next in net.edges_of(at) {
-        let cost = cost_between(net, flags, at, *next);
-        if differ_by(known[at as usize], known[*next as usize], cost) {
+        let cost = cost_between(net, corridor, at, *next);
+        if differ_by(known.of(at), known.of(*next), cost) {
             return Some(*next);
         }
     }

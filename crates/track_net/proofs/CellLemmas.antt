@@ -4,13 +4,15 @@ use Rattle.std.specs.Global.{Global}
 use Rattle.std.specs.Option.{unwrap_or}
 use Rattle.std.specs.Ordering.{int_eq}
 use Rattle.std.specs.List.{range_with_len, flat_map}
+use Rattle.std.specs.declared.hash.FoldHasher.{FoldHasher}
+use Rattle.std.specs.declared.hash.BuildHasherDefault.{BuildHasherDefault}
 use Rattle.std.specs.HashMap.{get, HashMap}
-use Rattle.std.proofs.lemmas.List.{get_or_append_left, get_or_push}
+use Rattle.std.proofs.lemmas.List.Elements.{filter-append}
 use Rattle.std.proofs.lemmas.Bool.{and_parts, and_from}
 use Rattle.std.proofs.lemmas.Bool.Decides.{Decides-int_eq}
 use Rattle.map_base.specs.declared.point.Point.{Point}
 use Rattle.track_net.specs.Nearness.{point_at, is_nearer, numbers_near}
-use Rattle.track_net.specs.Cells.{cell_of, is_cell, cell_around, CellMap, items_or_none, listed, numbers_in, AreListed}
+use Rattle.track_net.specs.Cells.{cell_of, is_cell, cell_around, CellMap, items_or_none, listed, numbers_in, AreListed, points_in, AreKept}
 use Rattle.track_net.proofs.Lists.{range_more, filter-range_more}
 
 int_eq-true : (x y : ℤ) → int_eq x y ≡ true → x ≡ y
@@ -22,24 +24,24 @@ is_cell-true c d e =
     let parts = and_parts (int_eq c.0 d.0) (int_eq c.1 d.1) e in
     ap (λ (x : ℤ). (x, c.1)) (int_eq-true c.0 d.0 parts.0) ∙ ap (λ (y : ℤ). (d.0, y)) (int_eq-true c.1 d.1 parts.1)
 
--- one more number is kept for a cell
-pub listed_more : (old between new : CellMap) (cell : ℤ × ℤ) (k : ℕ) (none kept more : Vec ℕ Global) (taken : Option (Vec ℕ Global)) → none.items ≡ [] →
-    taken ≡ get is_cell old cell → ((q : ℤ × ℤ) → get is_cell between q ≡ cond (is_cell cell q) None (get is_cell old q)) → kept ≡ unwrap_or taken none →
-    more.items ≡ kept.items ++ k ∷ [] → ((q : ℤ × ℤ) → get is_cell new q ≡ cond (is_cell cell q) (Some more) (get is_cell between q)) →
-    (other : ℤ × ℤ) → listed new other ≡ cond (is_cell cell other) (listed old other ++ k ∷ []) (listed old other)
-listed_more old between new cell k none kept more taken empty taken_is gone kept_is more_is put other = of_test (is_cell cell other) refl
+-- one more item is kept for a cell
+pub listed_more : {X : Type 0} (old between new : HashMap (ℤ × ℤ) (Vec X Global) (BuildHasherDefault FoldHasher)) (cell : ℤ × ℤ) (x : X) (none had more : Vec X Global) (taken : Option (Vec X Global)) → none.items ≡ [] →
+    taken ≡ get is_cell old cell → ((q : ℤ × ℤ) → get is_cell between q ≡ cond (is_cell cell q) None (get is_cell old q)) → had ≡ unwrap_or taken none →
+    more.items ≡ had.items ++ x ∷ [] → ((q : ℤ × ℤ) → get is_cell new q ≡ cond (is_cell cell q) (Some more) (get is_cell between q)) →
+    (other : ℤ × ℤ) → listed new other ≡ cond (is_cell cell other) (listed old other ++ x ∷ []) (listed old other)
+listed_more {X} old between new cell x none had more taken empty taken_is gone had_is more_is put other = of_test (is_cell cell other) refl
   where
-    items_of : (o : Option (Vec ℕ Global)) → (unwrap_or o none).items ≡ items_or_none o
+    items_of : (o : Option (Vec X Global)) → (unwrap_or o none).items ≡ items_or_none o
     items_of None = empty
     items_of (Some v) = refl
 
-    before : kept.items ≡ listed old cell
-    before = ap (λ (v : Vec ℕ Global). v.items) kept_is ∙ items_of taken ∙ ap items_or_none taken_is
+    before : had.items ≡ listed old cell
+    before = ap (λ (v : Vec X Global). v.items) had_is ∙ items_of taken ∙ ap items_or_none taken_is
 
-    of_test : (b : Bool) → is_cell cell other ≡ b → listed new other ≡ cond b (listed old other ++ k ∷ []) (listed old other)
+    of_test : (b : Bool) → is_cell cell other ≡ b → listed new other ≡ cond b (listed old other ++ x ∷ []) (listed old other)
     of_test true e =
         let here : get is_cell new other ≡ Some more = put other ∙ ap (λ b. cond b (Some more) (get is_cell between other)) e in
-        ap items_or_none here ∙ more_is ∙ ap (λ ns. ns ++ k ∷ []) (before ∙ ap (listed old) (is_cell-true cell other e))
+        ap items_or_none here ∙ more_is ∙ ap (λ xs. xs ++ x ∷ []) (before ∙ ap (listed old) (is_cell-true cell other e))
     of_test false e =
         let here : get is_cell new other ≡ get is_cell between other = put other ∙ ap (λ b. cond b (Some more) (get is_cell between other)) e in
         let there : get is_cell between other ≡ get is_cell old other = gone other ∙ ap (λ b. cond b None (get is_cell old other)) e in
@@ -54,7 +56,7 @@ flat_map-range_more F n = ap (flat_map F) (range_more n) ∙ joined (range_with_
     joined (x ∷ xs) = ap (λ ys. F x ++ ys) (joined xs) ∙ sym (append_assoc (F x) (flat_map F xs) (F n))
 
 -- one more point
-pub one_more : (size : ℕ) (ps : List Point) (k : ℕ) (old new : CellMap) (cell : ℤ × ℤ) → AreListed size ps k old → cell ≡ cell_of size (point_at ps k) →
+pub one_more : (size : ℕ) (ps : List Point) (k : ℕ) (old new : CellMap ℕ) (cell : ℤ × ℤ) → AreListed size ps k old → cell ≡ cell_of size (point_at ps k) →
     ((other : ℤ × ℤ) → listed new other ≡ cond (is_cell cell other) (listed old other ++ k ∷ []) (listed old other)) → AreListed size ps (k + 1) new
 one_more size ps k old new cell before is added other =
     added other ∙ ap (λ d. cond (is_cell d other) (listed old other ++ k ∷ []) (listed old other)) is
@@ -68,30 +70,14 @@ one_more size ps k old new cell before is added other =
     of_test true = refl
     of_test false = sym (append-nil (numbers_in size ps k other))
 
--- the numbers of a cell stay where a point is added behind the others
-numbers_in-longer : (size : ℕ) (ps : List Point) (p : Point) (c : ℤ × ℤ) (n : ℕ) → n ≤ length ps → numbers_in size (ps ++ p ∷ []) n c ≡ numbers_in size ps n c
-numbers_in-longer size ps p c zero below = refl
-numbers_in-longer size ps p c (suc n) below =
-    let next : suc n ≡ n + 1 = omega arith in
-    let here : point_at (ps ++ p ∷ []) n ≡ point_at ps n = get_or_append_left ps (p ∷ []) (record { x = pos 0; y = pos 0 }) n (omega arith) in
-    ap (λ (m : ℕ). numbers_in size (ps ++ p ∷ []) m c) next ∙ filter-range_more (λ k. is_cell (cell_of size (point_at (ps ++ p ∷ []) k)) c) n
-    ∙ ap (λ (ks : List ℕ). ks ++ cond (is_cell (cell_of size (point_at (ps ++ p ∷ []) n)) c) (n ∷ []) []) (numbers_in-longer size ps p c n (omega arith))
-    ∙ ap (λ (q : Point). numbers_in size ps n c ++ cond (is_cell (cell_of size q) c) (n ∷ []) []) here
-    ∙ sym (filter-range_more (λ k. is_cell (cell_of size (point_at ps k)) c) n) ∙ sym (ap (λ (m : ℕ). numbers_in size ps m c) next)
-
--- a point that is added to the points and to its cell
-pub AreListed-pushed : (size : ℕ) (ps qs : List Point) (p : Point) (old new : CellMap) (cell : ℤ × ℤ) (n : ℕ) → AreListed size ps (length ps) old → qs ≡ ps ++ p ∷ [] → n ≡ length ps →
-    cell ≡ cell_of size p → ((other : ℤ × ℤ) → listed new other ≡ cond (is_cell cell other) (listed old other ++ n ∷ []) (listed old other)) → AreListed size qs (length qs) new
-AreListed-pushed size ps qs p old new cell n before pushed last is added =
-    subst (λ (rs : List Point). AreListed size rs (length rs) new) (sym pushed)
-    (subst (λ (m : ℕ). AreListed size (ps ++ p ∷ []) m new) more
-    (one_more size (ps ++ p ∷ []) n old new cell longer (is ∙ ap (cell_of size) (sym here)) added))
+-- one more point, in its cell
+pub AreKept-pushed : (size : ℕ) (ps qs : List Point) (p : Point) (old new : CellMap Point) (cell : ℤ × ℤ) → AreKept size ps old → qs ≡ ps ++ p ∷ [] → cell ≡ cell_of size p →
+    ((other : ℤ × ℤ) → listed new other ≡ cond (is_cell cell other) (listed old other ++ p ∷ []) (listed old other)) → AreKept size qs new
+AreKept-pushed size ps qs p old new cell before pushed is added other =
+    added other ∙ ap (λ d. cond (is_cell d other) (listed old other ++ p ∷ []) (listed old other)) is
+    ∙ ap (λ (ks : List Point). cond (is_cell (cell_of size p) other) (ks ++ p ∷ []) ks) (before other) ∙ of_test (is_cell (cell_of size p) other)
+    ∙ sym (filter-append (λ (q : Point). is_cell (cell_of size q) other) ps (p ∷ [])) ∙ ap (λ (rs : List Point). points_in size rs other) (sym pushed)
   where
-    more : n + 1 ≡ length (ps ++ p ∷ [])
-    more = omega (arith, length-append ps (p ∷ []))
-
-    here : point_at (ps ++ p ∷ []) n ≡ p
-    here = get_or_push ps p (record { x = pos 0; y = pos 0 }) n (sym last)
-
-    longer : (c : ℤ × ℤ) → listed old c ≡ numbers_in size (ps ++ p ∷ []) n c
-    longer c = before c ∙ ap (λ (m : ℕ). numbers_in size ps m c) (sym last) ∙ sym (numbers_in-longer size ps p c n (omega arith))
+    of_test : (b : Bool) → cond b (points_in size ps other ++ p ∷ []) (points_in size ps other) ≡ points_in size ps other ++ cond b (p ∷ []) []
+    of_test true = refl
+    of_test false = sym (append-nil (points_in size ps other))

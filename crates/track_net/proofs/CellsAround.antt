@@ -6,8 +6,7 @@ use Rattle.std.proofs.Math.Nat.{mul-le-mul}
 use Rattle.std.proofs.lemmas.Int.{ints}
 use Rattle.std.proofs.lemmas.Bool.{and_from, ltb-true, cases_lt}
 use Rattle.std.proofs.lemmas.Bool.Decides.{Decides-int_eq}
-use Rattle.std.proofs.lemmas.List.{get_or_default}
-use Rattle.std.proofs.lemmas.List.Folds.{Any-from_list_any, list_any_at}
+use Rattle.std.proofs.lemmas.List.Folds.{Any-from_list_any}
 use Rattle.std.proofs.lemmas.List.Elements.{All-contains, All-filter, filter_passes, Contains-append_left, Contains-append_right, Contains-append_cases}
 use Rattle.std.specs.List.{dedup}
 use Rattle.std.specs.List.Sorted.{IsSorted}
@@ -20,11 +19,12 @@ use Rattle.whole_algebra.specs.Rounding.{floor_quotient}
 use Rattle.whole_algebra.proofs.Rounding.{floor_quotient-lower, floor_quotient-upper}
 use Rattle.whole_algebra.proofs.Products.{+ℤ-*ℤ, minus-*ℤ}
 use Rattle.whole_algebra.proofs.Signs.{*ℤ-negative_factor}
+use Rattle.fixed_plane.specs.Plane.{IsInPlane}
 use Rattle.fixed_plane.specs.Measures.{square_of, dist2_of}
 use Rattle.fixed_plane.proofs.Distances.{dist2_of_comm}
 use Rattle.track_net.specs.Nearness.{point_at, is_nearer, has_near, numbers_near}
-use Rattle.track_net.specs.Cells.{cell_of, is_cell, cell_around, CellMap, listed, numbers_in, AreListed, has_near_of, has_near_around}
-use Rattle.track_net.proofs.Lists.{range_below, range_rises, any_found}
+use Rattle.track_net.specs.Cells.{cell_of, is_cell, cell_around, CellMap, listed, numbers_in, AreListed, points_in, AreKept, has_near_around}
+use Rattle.track_net.proofs.Lists.{range_below, range_rises, any_found, any_in_filter, any_kept}
 use Rattle.track_net.proofs.RisingLists.{same_where_rising}
 use Rattle.track_net.proofs.EdgeFacts.{Contains-filter, Contains-range}
 
@@ -152,17 +152,17 @@ is_cell-self c d e =
     subst (λ (b : ℤ × ℤ). is_cell c b ≡ true) e (and_from (int_eq c.0 c.0) (int_eq c.1 c.1) (int_eq-self c.0) (int_eq-self c.1))
 
 -- what is found in the nine cells
-abbrev pub found_of : ℕ → List Point → Point → ℕ → CellMap → List ℕ
+abbrev pub found_of : ℕ → List Point → Point → ℕ → CellMap ℕ → List ℕ
 found_of size ps at within cells =
     flat_map (λ i. filter (λ k. is_nearer within at (point_at ps k)) (listed cells (cell_around (cell_of size at) i))) (range_with_len 0 9)
 
-pub listed_in_range : (size : ℕ) (ps : List Point) (cells : CellMap) → AreListed size ps (length ps) cells → (c : ℤ × ℤ) → All (λ k. k < length ps) (listed cells c)
+pub listed_in_range : (size : ℕ) (ps : List Point) (cells : CellMap ℕ) → AreListed size ps (length ps) cells → (c : ℤ × ℤ) → All (λ k. k < length ps) (listed cells c)
 listed_in_range size ps cells is c =
     subst (λ (ks : List ℕ). All (λ k. k < length ps) ks) (sym (is c))
     (All-filter (λ k. is_cell (cell_of size (point_at ps k)) c) (λ k. k < length ps) (range_with_len 0 (length ps)) (range_below (length ps)))
 
 -- are numbers of near points
-pub found_is_near : (size within : ℕ) (ps : List Point) (at : Point) (cells : CellMap) → AreListed size ps (length ps) cells → (k : ℕ) → Contains (found_of size ps at within cells) k →
+pub found_is_near : (size within : ℕ) (ps : List Point) (at : Point) (cells : CellMap ℕ) → AreListed size ps (length ps) cells → (k : ℕ) → Contains (found_of size ps at within cells) k →
     Contains (numbers_near within ps at) k
 found_is_near size within ps at cells is k h =
     let near = (λ (j : ℕ). is_nearer within at (point_at ps j)) in
@@ -174,7 +174,7 @@ found_is_near size within ps at cells is k h =
     Contains-filter near (range_with_len 0 (length ps)) k (Contains-range (length ps) k below) passes
 
 -- and all of them
-pub near_is_found : (size within : ℕ) (ps : List Point) (at : Point) (cells : CellMap) → 0 < size → within ≤ size → AreListed size ps (length ps) cells → (k : ℕ) →
+pub near_is_found : (size within : ℕ) (ps : List Point) (at : Point) (cells : CellMap ℕ) → 0 < size → within ≤ size → AreListed size ps (length ps) cells → (k : ℕ) →
     Contains (numbers_near within ps at) k → Contains (found_of size ps at within cells) k
 near_is_found size within ps at cells some small is k h =
     let near = (λ (j : ℕ). is_nearer within at (point_at ps j)) in
@@ -190,7 +190,7 @@ near_is_found size within ps at cells some small is k h =
     Contains-flat_map F (range_with_len 0 9) place.0 k (Contains-range 9 place.0 place.1) (Contains-filter near (listed cells c) k kept passes)
 
 -- so the numbers that are found, in order and each once, are those of the near points
-pub found_in_order : (size within : ℕ) (ps : List Point) (at : Point) (cells : CellMap) (found sorted : List ℕ) → 0 < size → within ≤ size → AreListed size ps (length ps) cells →
+pub found_in_order : (size within : ℕ) (ps : List Point) (at : Point) (cells : CellMap ℕ) (found sorted : List ℕ) → 0 < size → within ≤ size → AreListed size ps (length ps) cells →
     found ≡ found_of size ps at within cells → IsPermutation found sorted → IsSorted nat_cmp sorted → dedup eqb sorted ≡ numbers_near within ps at
 found_in_order size within ps at cells found sorted some small is found_is moved in_order =
     same_where_rising (dedup eqb sorted) (numbers_near within ps at) (AllPairs-from_increasing (dedup eqb sorted) (IsStrictlyIncreasing-dedup sorted in_order))
@@ -207,50 +207,46 @@ found_in_order size within ps at cells found sorted some small is found_is moved
         Contains-dedup_nat sorted k
         (Contains-permutation found sorted k moved (subst (λ (ks : List ℕ). Contains ks k) (sym found_is) (near_is_found size within ps at cells some small is k h)))
 
--- a point of the nine cells is near exactly where some point is
-pub has_near-around : (size within : ℕ) (ps : List Point) (at : Point) (cells : CellMap) → 0 < size → within ≤ size → AreListed size ps (length ps) cells →
-    has_near_around within ps at cells (cell_of size at) ≡ has_near within ps at
+-- a point that is kept for one of the nine cells is near exactly where some point is
+pub has_near-around : (size within : ℕ) (ps : List Point) (at : Point) (cells : CellMap Point) → 0 < size → within ≤ size → AreKept size ps cells →
+    has_near_around within at cells (cell_of size at) ≡ has_near within ps at
 has_near-around size within ps at cells some small is =
-    same_tests (has_near_around within ps at cells (cell_of size at)) (has_near within ps at) there back
+    same_tests (has_near_around within at cells (cell_of size at)) (has_near within ps at) there back
   where
-    near : ℕ → Bool
-    near k = is_nearer within at (point_at ps k)
+    near : Point → Bool
+    near q = is_nearer within q at
 
-    in_cell : ℕ → List ℕ
-    in_cell i = listed cells (cell_around (cell_of size at) ((i + 4) % 9))
+    around : ℕ → ℤ × ℤ
+    around i = cell_around (cell_of size at) ((i + 4) % 9)
 
-    turned : (p q : Point) → is_nearer within p q ≡ is_nearer within q p
-    turned p q = ap (λ d. nat_lt d (within * within)) (dist2_of_comm p q)
+    in_cell : (i : ℕ) → list_any near (listed cells (around i)) ≡ list_any near (points_in size ps (around i))
+    in_cell i = ap (list_any near) (is (around i))
 
-    there : has_near_around within ps at cells (cell_of size at) ≡ true → has_near within ps at ≡ true
+    there : has_near_around within at cells (cell_of size at) ≡ true → has_near within ps at ≡ true
     there e =
-        let cell = Any-from_list_any (λ i. has_near_of within ps at (in_cell i)) (range_with_len 0 9) e in
-        let found = Any-from_list_any near (in_cell cell.1) cell.4 in
-        let k = found.1 in
-        let below : k < length ps = All-contains (λ j. j < length ps) (in_cell cell.1) k (listed_in_range size ps cells is (cell_around (cell_of size at) ((cell.1 + 4) % 9))) (found.0, found.2, found.3) in
-        list_any_at (λ q. is_nearer within q at) ps k (record { x = pos 0; y = pos 0 }) below (turned (point_at ps k) at ∙ found.4)
+        let cell = Any-from_list_any (λ i. list_any near (listed cells (around i))) (range_with_len 0 9) e in
+        any_in_filter near (λ (q : Point). is_cell (cell_of size q) (around cell.1)) ps (sym (in_cell cell.1) ∙ cell.4)
 
-    around : (k : ℕ) → k < length ps → near k ≡ true → has_near_around within ps at cells (cell_of size at) ≡ true
-    around k below e =
-        let place = near_cell size within at (point_at ps k) some small e in
+    found : (k : ℕ) (q : Point) → k < length ps → get_or ps k q ≡ q → near q ≡ true → has_near_around within at cells (cell_of size at) ≡ true
+    found k q below here e =
+        let turned : is_nearer within at q ≡ true = ap (λ d. nat_lt d (within * within)) (dist2_of_comm at q) ∙ e in
+        let place = near_cell size within at q some small turned in
         let i = (place.0 + 5) % 9 in
         let turn : (i + 4) % 9 ≡ place.0 = omega (arith, place.1) in
-        let c = cell_around (cell_of size at) ((i + 4) % 9) in
-        let same : c ≡ cell_of size (point_at ps k) = ap (cell_around (cell_of size at)) turn ∙ place.2 in
-        let inside : Contains (numbers_in size ps (length ps) c) k =
-        Contains-filter (λ j. is_cell (cell_of size (point_at ps j)) c) (range_with_len 0 (length ps)) k (Contains-range (length ps) k below)
-        (is_cell-self (cell_of size (point_at ps k)) c (sym same)) in
-        let kept : Contains (in_cell i) k = subst (λ (ks : List ℕ). Contains ks k) (sym (is c)) inside in
-        let here : has_near_of within ps at (in_cell i) ≡ true = list_any_at near (in_cell i) kept.0 k kept.1 (ap near kept.2 ∙ e) in
-        any_found (λ j. has_near_of within ps at (in_cell j)) i 9 (omega arith) here
+        let same : around i ≡ cell_of size q = ap (cell_around (cell_of size at)) turn ∙ place.2 in
+        let inside : list_any near (points_in size ps (around i)) ≡ true =
+        any_kept near (λ (r : Point). is_cell (cell_of size r) (around i)) ps k q below (ap near here ∙ e)
+        (ap (λ (r : Point). is_cell (cell_of size r) (around i)) here ∙ is_cell-self (cell_of size q) (around i) (sym same)) in
+        any_found (λ j. list_any near (listed cells (around j))) i 9 (omega arith) (in_cell i ∙ inside)
 
-    back : has_near within ps at ≡ true → has_near_around within ps at cells (cell_of size at) ≡ true
-    back e =
-        let found = Any-from_list_any (λ q. is_nearer within q at) ps e in
-        let here : point_at ps found.0 ≡ found.1 = get_or_default ps found.0 (record { x = pos 0; y = pos 0 }) found.1 found.2 ∙ found.3 in
-        around found.0 found.2 (ap (is_nearer within at) here ∙ turned at found.1 ∙ found.4)
+    back : has_near within ps at ≡ true → has_near_around within at cells (cell_of size at) ≡ true
+    back e = let some_near = Any-from_list_any near ps e in found some_near.0 some_near.1 some_near.2 some_near.3 some_near.4
 
     same_tests : (a b : Bool) → (a ≡ true → b ≡ true) → (b ≡ true → a ≡ true) → a ≡ b
     same_tests true b there back = sym (there refl)
     same_tests false true there back = back refl
     same_tests false false there back = refl
+
+-- the points that are kept for a cell lie in the plane
+pub kept_in_plane : (size : ℕ) (ps : List Point) (cells : CellMap Point) → All IsInPlane ps → AreKept size ps cells → (c : ℤ × ℤ) → All IsInPlane (listed cells c)
+kept_in_plane size ps cells all is c = subst (λ (qs : List Point). All IsInPlane qs) (sym (is c)) (All-filter (λ (q : Point). is_cell (cell_of size q) c) IsInPlane ps all)

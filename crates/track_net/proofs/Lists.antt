@@ -1,5 +1,5 @@
 -- Numbers in a row, and elements that pass tests.
-use Rattle.std.proofs.Common.{◌≡◌, refl, sym, ◌∙◌, ap, ℕ, ◌+◌, ◌<◌, Bool, true, false, cond, ◌||◌, List, [], ◌∷◌, ◌++◌, get_or, filter, All, append-nil, arith}
+use Rattle.std.proofs.Common.{◌≡◌, refl, sym, ◌∙◌, ap, ℕ, zero, suc, ◌+◌, ◌<◌, Bool, true, false, cond, ◌||◌, List, [], ◌∷◌, ◌++◌, length, get_or, filter, All, append-nil, arith}
 use Rattle.std.specs.List.{list_any, range_with_len}
 use Rattle.std.specs.List.Sorted.{IsStrictlyIncreasing}
 use Rattle.std.proofs.lemmas.List.{map-id}
@@ -77,3 +77,31 @@ any_found p n m below passes =
     let here : get_or (range_with_len 0 m) n 0 ≡ 0 + n = get_or-range_with_len 0 m n 0 below in
     let same : 0 + n ≡ n = omega arith in
     list_any_at p (range_with_len 0 m) n 0 (omega (arith, length-range_with_len 0 m)) (ap p (here ∙ same) ∙ passes)
+
+or_right : (a b : Bool) → b ≡ true → (a || b) ≡ true
+or_right true b e = refl
+or_right false b e = e
+
+-- what passes a test among those that pass another passes it among all
+pub any_in_filter : {X : Type 0} (p q : X → Bool) (xs : List X) → list_any p (filter q xs) ≡ true → list_any p xs ≡ true
+any_in_filter p q [] e = e
+any_in_filter p q (x ∷ xs) e = of_test (q x) e (any_in_filter p q xs)
+  where
+    shown : (t a b : Bool) → (t || a) ≡ true → (a ≡ true → b ≡ true) → (t || b) ≡ true
+    shown true a b e later = refl
+    shown false a b e later = later e
+
+    of_test : (b : Bool) → list_any p (cond b (x ∷ filter q xs) (filter q xs)) ≡ true → (list_any p (filter q xs) ≡ true → list_any p xs ≡ true) → (p x || list_any p xs) ≡ true
+    of_test true e later = shown (p x) (list_any p (filter q xs)) (list_any p xs) e later
+    of_test false e later = or_right (p x) (list_any p xs) (later e)
+
+-- an element that passes both tests passes the one among those that pass the other
+pub any_kept : {X : Type 0} (p q : X → Bool) (xs : List X) (i : ℕ) (d : X) → i < length xs → p (get_or xs i d) ≡ true → q (get_or xs i d) ≡ true → list_any p (filter q xs) ≡ true
+any_kept p q [] i d below passes kept = absurd (omega arith)
+any_kept p q (x ∷ xs) zero d below passes kept =
+    ap (λ b. list_any p (cond b (x ∷ filter q xs) (filter q xs))) kept ∙ ap (λ b. b || list_any p (filter q xs)) passes
+any_kept p q (x ∷ xs) (suc i) d below passes kept = of_test (q x) (any_kept p q xs i d (omega arith) passes kept)
+  where
+    of_test : (b : Bool) → list_any p (filter q xs) ≡ true → list_any p (cond b (x ∷ filter q xs) (filter q xs)) ≡ true
+    of_test true e = or_right (p x) (list_any p (filter q xs)) e
+    of_test false e = e

@@ -1,16 +1,20 @@
 //! Points in square cells, found by nearness.
 
-ghost use Rattle.std.specs.Prelude.{◌≡◌, ◌^◌, ◌<◌, ◌≤◌, ◌++◌, IfOk, OnOk, All, filter, length, unsigned_abs, ℤ};
+ghost use Rattle.std.specs.Prelude.{◌≡◌, ◌^◌, ◌<◌, ◌≤◌, ◌++◌, ◌∷◌, [], IfOk, OnOk, All, filter, length, unsigned_abs, ℤ, if◌then◌else◌};
 ghost use Rattle.std.specs.List.{flat_map, range_with_len};
 ghost use Rattle.fixed_plane.specs.Plane.{IsInPlane};
-ghost use Rattle.track_net.specs.Nearness.{has_near, is_nearer, numbers_near, point_at};
-ghost use Rattle.track_net.specs.Cells.{cell_around, listed};
+ghost use Rattle.track_net.specs.Nearness.{is_nearer, numbers_near, point_at};
+ghost use Rattle.track_net.specs.Cells.{cell_around, is_cell, listed};
 
-use crate::cells::{Cell, Cells, cell_at, cell_beside, cells_of, is_near_in_cells};
+use crate::cells::{Cell, cell_at, cell_beside};
 use crate::nearness::are_near;
 use map_base::{NoMemory, Point};
 use std::alloc::Global;
+use std::collections::HashMap;
 use std::marker::Model;
+
+/// The numbers of the points of each cell that has some.
+type Cells = HashMap<Cell, Vec<u32>>;
 
 /// Points by square cells of a size in decimetres, seen as the points and the size. It finds the points near to
 /// a place without a look at those of far cells.
@@ -41,7 +45,10 @@ impl Buckets {
         requires some { 0 < size }
         ensures { IfOk result (λ buckets. buckets ≡ record { points = points.now; size = size }) }
     {
-        let cells = cells_of(alloc, points, size)?;
+        let mut cells = Cells::new(alloc);
+        for k in 0..points.len() {
+            add(alloc, &mut cells, cell_at(points[k], size), k as u32)?;
+        }
         let points = points.to_vec(alloc)?;
         Ok(Buckets {
             size,
@@ -63,15 +70,16 @@ impl Buckets {
         numbers.dedup();
         Ok(numbers)
     }
+}
 
-    /// Whether some point is nearer to `at` than `within`. `within` is no more than the size.
-    pub fn has_near(&self, at: Point, within: u32) -> bool
-        requires at_in_plane { IsInPlane at }
-        requires within { within ≤ self.now.size }
-        ensures { result ≡ has_near within self.now.points at }
-    {
-        is_near_in_cells(&self.cells, &self.points, self.size, at, within)
-    }
+/// Keeps a number for a cell, after those that are kept for it.
+fn add(alloc: Global, cells: &mut Cells, cell: Cell, number: u32) -> Result<(), NoMemory>
+    ensures { OnOk result ((other : ℤ × ℤ) → listed cells.new other ≡ (if is_cell cell other then listed cells.old other ++ number ∷ [] else listed cells.old other)) }
+{
+    let mut numbers = cells.remove(&cell).unwrap_or(Vec::new(alloc));
+    numbers.push(number)?;
+    cells.insert(cell, numbers)?;
+    Ok(())
 }
 
 /// The numbers of the points in a cell and the cells around it that are nearer to `at` than `within`, cell by cell.

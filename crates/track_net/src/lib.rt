@@ -10,6 +10,7 @@ mod edges;
 mod fault;
 mod nearness;
 mod net;
+mod point_cells;
 mod thinning;
 
 pub use buckets::Buckets;
@@ -17,3 +18,4 @@ pub use building::net_of;
 pub use fault::NetFault;
 pub use nearness::has_near_point;
 pub use net::Net;
+pub use point_cells::PointCells;

@@ -3,11 +3,12 @@
 ghost use Rattle.std.specs.Prelude.{◌≡◌, ℕ, ◌<◌, ◌≤◌, OnOk, IfOk, IfErr, All, length, vec_len};
 ghost use Rattle.fixed_plane.specs.Plane.{IsInPlane};
 ghost use Rattle.track_net.specs.Nets.{net_points, with_sample};
-ghost use Rattle.track_net.specs.Cells.{AreListed};
+ghost use Rattle.track_net.specs.Cells.{AreKept};
 ghost use Rattle.track_net.specs.Faults.{HasCause};
 
-use crate::cells::{Cells, add, cell_at, cells_of, is_near_in_cells};
+use crate::cells::cell_at;
 use crate::fault::NetFault;
+use crate::point_cells::{Kept, is_near_in_cells, keep, kept_of};
 use map_base::{Limit, LimitKind, Point};
 use std::alloc::Global;
 
@@ -33,7 +34,7 @@ pub(crate) fn thinned(
         return Err(too_many());
     }
     let mut points = stations.to_vec(alloc)?;
-    let mut cells = cells_of(alloc, stations, near)?;
+    let mut cells = kept_of(alloc, stations, near)?;
     for sample in samples {
         add_sample(alloc, &mut points, &mut cells, *sample, near)?;
     }
@@ -44,7 +45,7 @@ pub(crate) fn thinned(
 fn add_sample(
     alloc: Global,
     points: &mut Vec<Point>,
-    cells: &mut Cells,
+    cells: &mut Kept,
     sample: Point,
     near: u32,
 ) -> Result<(), NetFault>
@@ -52,11 +53,11 @@ fn add_sample(
     requires sample_in_plane { IsInPlane sample }
     requires few { vec_len points.old ≤ 100000 }
     requires some { 0 < near }
-    requires theirs { AreListed near points.old.items (length points.old.items) cells.old }
+    requires theirs { AreKept near points.old.items cells.old }
     ensures points { OnOk result (points.new.items ≡ with_sample near points.old.items sample) }
     ensures in_plane { OnOk result (All IsInPlane points.new.items) }
     ensures few { OnOk result (vec_len points.new ≤ 100000) }
-    ensures theirs { OnOk result (AreListed near points.new.items (length points.new.items) cells.new) }
+    ensures theirs { OnOk result (AreKept near points.new.items cells.new) }
     ensures cause { IfErr result (λ fault. HasCause (length (with_sample near points.old.items sample)) fault) }
 {
     if is_near_in_cells(cells, points, near, sample, near) {
@@ -65,7 +66,7 @@ fn add_sample(
     if points.len() >= MOST_POINTS {
         return Err(too_many());
     }
-    add(alloc, cells, cell_at(sample, near), points.len() as u32)?;
+    keep(alloc, cells, cell_at(sample, near), sample)?;
     points.push(sample)?;
     Ok(())
 }

@@ -1,6 +1,6 @@
-use Rattle.std.proofs.Common.{refl, sym, subst, ℕ, ◌<◌, length, get_or, below_more, arith}
+use Rattle.std.proofs.Common.{refl, sym, subst, ℕ, Option, ◌<◌, length, get_or, below_more, arith}
 use Rattle.std.proofs.lemmas.Bool.{iff_false}
-use Rattle.net_paths.specs.Searching.{known_at}
+use Rattle.net_paths.specs.Searching.{flags_along, known_at}
 use Rattle.net_paths.specs.Walking.{DifferBy, KeepsCost}
 use Rattle.net_paths.proofs.Spreading.{edge_in_range}
 use Rattle.net_paths.proofs.Walked.{least_at, none_keeps}
@@ -12,8 +12,8 @@ cost_between-cost-requires-clause-b_in_range c =
     edge_in_range c.args.net.now c.requires.kept c.args.at c.loop-next.next-index (get_or c.edges_of-next-items.result.now c.loop-next.next-index 0) c.edges_of-next-items.result.now
     c.edges_of-next-items.ensures c.loop-next-test.true refl
 
-pub bounds-known-next : goal.bounds-known-next
-bounds-known-next c =
+pub of-requires-in-loop-next : goal.of-requires-in-loop-next
+of-requires-in-loop-next c =
     let inside : get_or c.edges_of-next-items.result.now c.loop-next.next-index 0 < length c.args.net.now.points =
     edge_in_range c.args.net.now c.requires.kept c.args.at c.loop-next.next-index (get_or c.edges_of-next-items.result.now c.loop-next.next-index 0) c.edges_of-next-items.result.now
     c.edges_of-next-items.ensures c.loop-next-test.true refl in
@@ -22,20 +22,24 @@ bounds-known-next c =
 pub returns-then-differ_by-clause-least : goal.returns-then-differ_by-clause-least
 returns-then-differ_by-clause-least c =
     let next = get_or c.edges_of-next-items.result.now c.loop-next.next-index 0 in
-    let differ : DifferBy (known_at c.args.known.now c.args.at) (known_at c.args.known.now next) c.cost_between-cost.result = c.differ_by.ensures.0 c.if-differ_by.true in
-    least_at c.args.flags.now c.args.net.now c.args.known.now c.requires.kept c.args.at c.loop-next.next-index c.requires.in_range c.edges_of-next-items.result.now c.edges_of-next-items.ensures
+    let differ : DifferBy (known_at c.args.known.now c.args.at) (known_at c.args.known.now next) c.cost_between-cost.result =
+    subst (λ (o : Option ℕ). DifferBy o (known_at c.args.known.now next) c.cost_between-cost.result) c.of.ensures
+    (subst (λ (o : Option ℕ). DifferBy c.of.result o c.cost_between-cost.result) c.of-in-loop-next.ensures (c.differ_by.ensures.0 c.if-differ_by.true)) in
+    least_at (flags_along c.args.corridor.now c.args.net.now) c.args.net.now c.args.known.now c.requires.kept c.args.at c.loop-next.next-index c.requires.in_range c.edges_of-next-items.result.now c.edges_of-next-items.ensures
     c.loop-next-test.true c.loop-next.invariant
     (subst (λ (n : ℕ). DifferBy (known_at c.args.known.now c.args.at) (known_at c.args.known.now next) n) c.cost_between-cost.ensures.value differ)
 
 pub loop-next-preserved : goal.loop-next-preserved
 loop-next-preserved c =
-    below_more (λ i. KeepsCost c.args.flags.now c.args.net.now c.args.known.now c.args.at (get_or c.edges_of-next-items.result.now i 0) → ⊥) c.loop-next.next-index c.loop-next.invariant
+    below_more (λ i. KeepsCost (flags_along c.args.corridor.now c.args.net.now) c.args.net.now c.args.known.now c.args.at (get_or c.edges_of-next-items.result.now i 0) → ⊥) c.loop-next.next-index c.loop-next.invariant
     (λ keeps.
     iff_false c.differ_by.ensures c.if-differ_by.false
+    (subst (λ (o : Option ℕ). DifferBy o c.of-in-loop-next.result c.cost_between-cost.result) (sym c.of.ensures)
+    (subst (λ (o : Option ℕ). DifferBy (known_at c.args.known.now c.args.at) o c.cost_between-cost.result) (sym c.of-in-loop-next.ensures)
     (subst
     (λ (n : ℕ). DifferBy (known_at c.args.known.now c.args.at) (known_at c.args.known.now (get_or c.edges_of-next-items.result.now c.loop-next.next-index 0)) n)
-    (sym c.cost_between-cost.ensures.value) keeps))
+    (sym c.cost_between-cost.ensures.value) keeps))))
 
 pub returns-clause-none : goal.returns-clause-none
 returns-clause-none c =
-    none_keeps c.args.flags.now c.args.net.now c.args.known.now c.args.at c.loop-next.next-index c.edges_of-next-items.result.now c.edges_of-next-items.ensures c.loop-next-test.false c.loop-next.invariant
+    none_keeps (flags_along c.args.corridor.now c.args.net.now) c.args.net.now c.args.known.now c.args.at c.loop-next.next-index c.edges_of-next-items.result.now c.edges_of-next-items.ensures c.loop-next-test.false c.loop-next.invariant

@@ -2,7 +2,7 @@ use Rattle.std.proofs.Common.{◌≡◌, sym, ◌∙◌, ap, false, length, arit
 use Rattle.track_net.specs.Nearness.{has_near}
 use Rattle.track_net.specs.Nets.{with_sample}
 use Rattle.track_net.proofs.ThinLemmas.{length-with_new_sample}
-use Rattle.track_net.proofs.CellLemmas.{AreListed-pushed}
+use Rattle.track_net.proofs.CellLemmas.{AreKept-pushed}
 use Rattle.track_net.proofs.thinning.add_sample.Goals as goal
 
 pub returns-then-len-ge-MOST_POINTS-clause-cause :
@@ -15,5 +15,5 @@ returns-then-len-ge-MOST_POINTS-clause-cause c =
 
 pub returns-clause-theirs : goal.returns-clause-theirs
 returns-clause-theirs c =
-    AreListed-pushed c.args.near c.args.points.now.items c.push.new.self.items c.args.sample c.args.cells.now c.add.new.cells c.cell_at.result c.len-2.result c.requires.theirs
-    c.in_ok-push.ensures.items (omega (arith, c.args.points.now.ok)) c.cell_at.ensures.value c.in_ok-add.ensures
+    AreKept-pushed c.args.near c.args.points.now.items c.push.new.self.items c.args.sample c.args.cells.now c.keep.new.cells c.cell_at.result c.requires.theirs c.in_ok-push.ensures.items
+    c.cell_at.ensures.value c.in_ok-keep.ensures

@@ -1,6 +1,6 @@
 use Rattle.std.proofs.Common.{◌≡◌}
 use Rattle.track_net.proofs.CellLemmas.{listed_more}
-use Rattle.track_net.proofs.cells.add.Goals as goal
+use Rattle.track_net.proofs.buckets.add.Goals as goal
 
 pub returns : goal.returns
 returns c =

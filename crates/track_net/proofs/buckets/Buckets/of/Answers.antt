@@ -1,5 +1,5 @@
 use Rattle.track_net.proofs.CellLemmas.{one_more}
-use Rattle.track_net.proofs.cells.cells_of.Goals as goal
+use Rattle.track_net.proofs.buckets.Buckets.of.Goals as goal
 
 pub loop-k-preserved : goal.loop-k-preserved
 loop-k-preserved c =

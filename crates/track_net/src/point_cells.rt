@@ -1,0 +1,138 @@
+//! Points in square cells, of which some may be near.
+
+ghost use Rattle.std.specs.Prelude.{◌≡◌, ◌+◌, ◌%◌, ◌<◌, ◌≤◌, ◌++◌, ◌∷◌, [], IfOk, OnOk, All, unsigned_abs, ℤ, if◌then◌else◌};
+ghost use Rattle.fixed_plane.specs.Plane.{IsInPlane};
+ghost use Rattle.track_net.specs.Nearness.{has_near};
+ghost use Rattle.track_net.specs.Cells.{AreKept, has_near_around, is_cell, listed};
+
+use crate::cells::{Cell, cell_at, cell_beside};
+use crate::nearness::has_near_point;
+use map_base::{NoMemory, Point};
+use std::alloc::Global;
+use std::collections::HashMap;
+use std::marker::Model;
+
+/// The points of each cell that has some.
+pub(crate) type Kept = HashMap<Cell, Vec<Point>>;
+
+/// Points by square cells of a size in decimetres, seen as the points and the size. It tells whether some point is
+/// near to a place without a look at those of far cells.
+#[derive(Drop)]
+pub struct PointCells {
+    size: u32,
+    points: Vec<Point>,
+    cells: Kept,
+}
+
+impl Model for PointCells {
+    ghost use Rattle.track_net.specs.Cells.{BucketParts};
+
+    ghost Value = { BucketParts };
+
+    ghost use Rattle.track_net.specs.Cells.{KeepPoints};
+
+    ghost view = { λ b. record { points = b.points.items; size = b.size } };
+
+    ghost invariant = { λ b. KeepPoints b.size b.points.items b.cells };
+}
+
+impl PointCells {
+    /// Cells of a size, in decimetres, for these points.
+    pub fn of(alloc: Global, points: &[Point], size: u32) -> Result<PointCells, NoMemory>
+        requires in_plane { All IsInPlane points.now }
+        requires some { 0 < size }
+        ensures { IfOk result (λ cells. cells ≡ record { points = points.now; size = size }) }
+    {
+        let cells = kept_of(alloc, points, size)?;
+        let points = points.to_vec(alloc)?;
+        Ok(PointCells {
+            size,
+            points,
+            cells,
+        })
+    }
+
+    /// Whether some point is nearer to `at` than `within`. `within` is no more than the size.
+    pub fn has_near(&self, at: Point, within: u32) -> bool
+        requires at_in_plane { IsInPlane at }
+        requires within { within ≤ self.now.size }
+        ensures { result ≡ has_near within self.now.points at }
+    {
+        is_near_in_cells(&self.cells, &self.points, self.size, at, within)
+    }
+}
+
+/// For each cell of a size, in decimetres, its points.
+pub(crate) fn kept_of(alloc: Global, points: &[Point], size: u32) -> Result<Kept, NoMemory>
+    requires in_plane { All IsInPlane points.now }
+    requires some { 0 < size }
+    ensures { IfOk result (AreKept size points.now) }
+{
+    let mut cells = Kept::new(alloc);
+    for point in points {
+        keep(alloc, &mut cells, cell_at(*point, size), *point)?;
+    }
+    Ok(cells)
+}
+
+/// Keeps a point for a cell, after those that are kept for it.
+pub(crate) fn keep(
+    alloc: Global,
+    cells: &mut Kept,
+    cell: Cell,
+    point: Point,
+) -> Result<(), NoMemory>
+    ensures { OnOk result ((other : ℤ × ℤ) → listed cells.new other ≡ (if is_cell cell other then listed cells.old other ++ point ∷ [] else listed cells.old other)) }
+{
+    let mut points = cells.remove(&cell).unwrap_or(Vec::new(alloc));
+    points.push(point)?;
+    cells.insert(cell, points)?;
+    Ok(())
+}
+
+/// Whether some point is nearer to `at` than `within`, where the cells, of a size no less, are those of the points.
+pub(crate) fn is_near_in_cells(
+    cells: &Kept,
+    points: &[Point],
+    size: u32,
+    at: Point,
+    within: u32,
+) -> bool
+    requires in_plane { All IsInPlane points.now }
+    requires at_in_plane { IsInPlane at }
+    requires some { 0 < size }
+    requires within { within ≤ size }
+    requires theirs { AreKept size points.now cells.now }
+    ensures { result ≡ has_near within points.now at }
+{
+    is_near_around(cells, cell_at(at, size), at, within)
+}
+
+/// Whether some point of a cell or of the cells around it is nearer to `at` than `within`. The cell itself is
+/// looked at first.
+fn is_near_around(cells: &Kept, center: Cell, at: Point, within: u32) -> bool
+    requires at_in_plane { IsInPlane at }
+    requires column { unsigned_abs center.0 ≤ 300000000 }
+    requires row { unsigned_abs center.1 ≤ 300000000 }
+    requires in_plane { (cell : ℤ × ℤ) → All IsInPlane (listed cells.now cell) }
+    ensures { result ≡ has_near_around within at cells.now center }
+{
+    for i in 0..9 {
+        if is_near_in_cell(cells, cell_beside(center, (i + 4) % 9), at, within) {
+            return true;
+        }
+    }
+    false
+}
+
+/// Whether some point of a cell is nearer to `at` than `within`.
+fn is_near_in_cell(cells: &Kept, cell: Cell, at: Point, within: u32) -> bool
+    requires at_in_plane { IsInPlane at }
+    requires in_plane { All IsInPlane (listed cells.now cell) }
+    ensures { result ≡ has_near within (listed cells.now cell) at }
+{
+    match cells.get(&cell) {
+        None => false,
+        Some(points) => has_near_point(points, at, within),
+    }
+}
