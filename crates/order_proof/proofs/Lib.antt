@@ -1,2 +1,5 @@
 pub mod Views
 pub mod Written
+pub mod Words
+pub mod Rising
+pub mod DigitLemmas
