@@ -1,5 +1,10 @@
 pub mod Views
 pub mod Written
 pub mod Words
+pub mod Fronts
+pub mod Steps
+pub mod NumberLemmas
+pub mod LineLemmas
+pub mod LineAgain
 pub mod Rising
 pub mod DigitLemmas

@@ -15,7 +15,7 @@ place_found p text place within before here = sym (position_or_len_is p text pla
 pub place_none : (p : ℕ → Bool) (text : List ℕ) (place : ℕ) → length text ≤ place → ((k : ℕ) → k < place → p (get_or text k 0) ≡ false) → length text ≡ position_or_len p text
 place_none p text place past before = sym (position_or_len_is p text (length text) 0 (omega arith) (λ k low. before k (omega arith)) (λ low. absurd (omega arith)))
 
-abbrev word_end : List ℕ → ℕ
+abbrev pub word_end : List ℕ → ℕ
 word_end text = position_or_len is_space text
 
 -- the first word, and what stands behind it
