@@ -6,5 +6,10 @@ pub mod Steps
 pub mod NumberLemmas
 pub mod LineLemmas
 pub mod LineAgain
+pub mod FormLemmas
+pub mod Stops
+pub mod ReadRules
+pub mod Children
+pub mod ReadTrees
 pub mod Rising
 pub mod DigitLemmas

@@ -18,6 +18,9 @@ use map_base::{LineId, SegId, Sequence};
 use order_model::Rule;
 use std::alloc::Global;
 
+/// How many splits may stand on a way to a leaf.
+const MOST_DEPTH: u32 = 2_048;
+
 /// The word of the line at the front. Its numbers replace those in `numbers`.
 fn read_line<'a>(
     text: &'a [u8],
@@ -124,4 +127,105 @@ fn read_take<'a>(
         Some(line) => Ok((line, rest)),
         None => Err(Stop::Wrong(text.len())),
     }
+}
+
+/// So many rules.
+fn read_rules<'a>(
+    alloc: Global,
+    count: u64,
+    text: &'a [u8],
+    numbers: &mut Vec<i64>,
+) -> Result<(Vec<Rule>, &'a [u8]), Stop>
+    ensures follows { Follows (λ x. x.1.now) result (reading (rules_due count) text.now) }
+    ensures rules { IfOk result (λ x. AreRulesOf count x.0.items text.now x.1.now) }
+{
+    let mut rules = Vec::new(alloc);
+    let mut rest = text;
+    for _ in 0..count {
+        let (rule, behind) = read_rule(alloc, rest, numbers)?;
+        rules.push(rule)?;
+        rest = behind;
+    }
+    Ok((rules, rest))
+}
+
+/// A tree with at most `room` splits on a way to a leaf.
+#[cycle(tree_reading)]
+fn read_tree<'a>(
+    alloc: Global,
+    room: u32,
+    text: &'a [u8],
+    numbers: &mut Vec<i64>,
+) -> Result<(Tree, &'a [u8]), Stop>
+    ensures follows { Follows (λ x. x.1.now) result (reading (ATree room ∷ []) text.now) }
+    ensures tree { IfOk result (λ x. IsTreeOf room (plain x.0) text.now x.1.now) }
+{
+    let (node, rest) = read_node(alloc, room, text, numbers)?;
+    match node {
+        NodeLine::Close { prices } => Ok((Tree::Close { prices }, rest)),
+        NodeLine::Split { seg, count } => {
+            let (children, rest) = read_children(alloc, room - 1, count, rest, numbers)?;
+            Ok((Tree::Split { seg, children }, rest))
+        }
+    }
+}
+
+/// So many cases of a split, of different lines, each with its tree.
+#[cycle(tree_reading)]
+fn read_children<'a>(
+    alloc: Global,
+    room: u32,
+    count: u32,
+    text: &'a [u8],
+    numbers: &mut Vec<i64>,
+) -> Result<(Vec<(LineId, Tree)>, &'a [u8]), Stop>
+    ensures follows { Follows (λ x. x.1.now) result (reading (cases_due count [] room) text.now) }
+    ensures cases { IfOk result (λ x. AreCasesOf room count (plain_children x.0.items) text.now x.1.now) }
+{
+    let mut taken = Vec::new(alloc);
+    let mut children = Vec::new(alloc);
+    let mut rest = text;
+    for _ in 0..count {
+        let (line, behind) = read_take(taken.as_slice(), rest, numbers)?;
+        let (tree, behind) = read_tree(alloc, room, behind, numbers)?;
+        taken.push(line)?;
+        children.push((line, tree))?;
+        rest = behind;
+    }
+    Ok((children, rest))
+}
+
+/// A part with its tree.
+fn read_part<'a>(
+    alloc: Global,
+    text: &'a [u8],
+    numbers: &mut Vec<i64>,
+) -> Result<(Part, &'a [u8]), Stop>
+    ensures follows { Follows (λ x. x.1.now) result (reading (parts_due 1) text.now) }
+    ensures part { IfOk result (λ x. IsPartOf (plain_part x.0) text.now x.1.now) }
+{
+    let ((target, segs), rest) = read_part_head(alloc, text, numbers)?;
+    let (tree, rest) = read_tree(alloc, MOST_DEPTH, rest, numbers)?;
+    let segs = Sequence::of(segs);
+    Ok((Part { segs, target, tree }, rest))
+}
+
+/// So many parts.
+fn read_parts<'a>(
+    alloc: Global,
+    count: u64,
+    text: &'a [u8],
+    numbers: &mut Vec<i64>,
+) -> Result<(Vec<Part>, &'a [u8]), Stop>
+    ensures follows { Follows (λ x. x.1.now) result (reading (parts_due count) text.now) }
+    ensures parts { IfOk result (λ x. ArePartsOf count (map plain_part x.0.items) text.now x.1.now) }
+{
+    let mut parts = Vec::new(alloc);
+    let mut rest = text;
+    for _ in 0..count {
+        let (part, behind) = read_part(alloc, rest, numbers)?;
+        parts.push(part)?;
+        rest = behind;
+    }
+    Ok((parts, rest))
 }
