@@ -11,5 +11,8 @@ pub mod Stops
 pub mod ReadRules
 pub mod Children
 pub mod ReadTrees
+pub mod ReadParts
+pub mod ReadProofs
+pub mod Ends
 pub mod Rising
 pub mod DigitLemmas

@@ -1,7 +1,9 @@
 -- What readers answer: a value and what stands behind its text, or where they stopped.
-use Rattle.std.specs.Prelude.{◌≡◌, ◌≤◌, ℕ, List, ◌++◌, length, Option, Some, None, Result, Ok, Err}
+use Rattle.std.specs.Prelude.{◌≡◌, ◌≤◌, ◌-◌, ℕ, List, ◌++◌, length, take, Option, Some, None, Result, Ok, Err}
 use Rattle.std.specs.List.{AllByRecursion}
 use Rattle.order_model.specs.declared.rule.Rule.{Rule}
+use Rattle.order_proof.specs.declared.fault.BadText.{BadText}
+use Rattle.order_proof.specs.declared.fault.BadText.TheVariants as bad
 use Rattle.order_proof.specs.declared.fault.Stop.{Stop}
 use Rattle.order_proof.specs.declared.fault.Stop.TheVariants as stops
 use Rattle.order_proof.specs.Plain.{PlainTree, Cases, PlainPart, PlainProof}
@@ -60,3 +62,25 @@ pub record ArePartsOf (count : ℕ) (parts : List PlainPart) (text rest : List �
 pub record IsProofOf (p : PlainProof) (text rest : List ℕ) : Type 0 where
   pub range : IsInRange p
   pub front : text ≡ proof_text p ++ rest
+
+-- a proof in range has this text of so many bytes at the front of others
+pub record IsTextOf (p : PlainProof) (used : ℕ) (bytes : List ℕ) : Type 0 where
+  pub range : IsInRange p
+  pub within : used ≤ length bytes
+  pub text : take used bytes ≡ proof_text p
+
+-- how many bytes were read, or where the first line begins that has not the form due there, is as defined
+abbrev pub EndsAs : {X : Type 0} → (X → ℕ) → Result X BadText → Result ℕ ℕ → Type 0
+EndsAs used (Ok x) defined = defined ≡ Ok (used x)
+EndsAs used (Err (bad.At at)) defined = defined ≡ Err at
+EndsAs used (Err bad.NoMemory) defined = Unit {0}
+
+-- reading stopped within a text of so many bytes
+abbrev pub IsStopWithin : ℕ → Stop → Type 0
+IsStopWithin len (stops.Wrong left) = left ≤ len
+IsStopWithin len stops.Memory = Unit {0}
+
+-- why no proof was read, where reading stopped in a text of so many bytes
+abbrev pub IsBadText : ℕ → Stop → BadText → Type 0
+IsBadText len (stops.Wrong left) text = text ≡ bad.At (len - left)
+IsBadText len stops.Memory text = text ≡ bad.NoMemory

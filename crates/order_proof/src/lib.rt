@@ -14,6 +14,7 @@ mod writing;
 
 pub use fault::BadText;
 pub use proof::{Part, Proof};
+pub use reading::read_proof;
 pub use tree::Tree;
 pub use writing::write_proof;
 

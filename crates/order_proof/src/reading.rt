@@ -4,10 +4,10 @@ ghost use Rattle.std.specs.Prelude.{◌≡◌, ◌≤◌, ◌<◌, ◌∷◌, []
 ghost use Rattle.order_proof.specs.Plain.{plain, plain_children, plain_part, plain_proof};
 ghost use Rattle.order_proof.specs.FrontLine.{front_line, front};
 ghost use Rattle.order_proof.specs.Forms.{rules_in, rule_in, parts_in, part_in, node_in, take_in};
-ghost use Rattle.order_proof.specs.Reading.{RuleCount, ATree, APart, rules_due, cases_due, parts_due, reading};
-ghost use Rattle.order_proof.specs.Readers.{IsRead, Follows, AreRulesOf, IsTreeOf, AreCasesOf, IsPartOf, ArePartsOf, IsProofOf};
+ghost use Rattle.order_proof.specs.Reading.{RuleCount, ATree, APart, rules_due, cases_due, parts_due, reading, proof_end};
+ghost use Rattle.order_proof.specs.Readers.{IsRead, Follows, AreRulesOf, IsTreeOf, AreCasesOf, IsPartOf, ArePartsOf, IsProofOf, IsTextOf, EndsAs, IsStopWithin, IsBadText};
 
-use crate::fault::Stop;
+use crate::fault::{BadText, Stop};
 use crate::forms::{node_in, part_in, parts_in, rule_in, rules_in, take_in};
 use crate::front_line::front_line;
 use crate::line_word::LineWord;
@@ -228,4 +228,50 @@ fn read_parts<'a>(
         rest = behind;
     }
     Ok((parts, rest))
+}
+
+/// Rules and parts, each kind counted before it, and what stands behind them.
+fn read_all<'a>(
+    alloc: Global,
+    text: &'a [u8],
+    numbers: &mut Vec<i64>,
+) -> Result<(Vec<Rule>, Vec<Part>, &'a [u8]), Stop>
+    ensures follows { Follows (λ x. x.2.now) result (reading (RuleCount ∷ []) text.now) }
+    ensures proof { IfOk result (λ x. IsProofOf (plain_proof (record { rules = x.0.items; parts = x.1.items })) text.now x.2.now) }
+{
+    let (count, rest) = read_rule_count(text, numbers)?;
+    let (rules, rest) = read_rules(alloc, count, rest, numbers)?;
+    let (count, rest) = read_part_count(rest, numbers)?;
+    let (parts, rest) = read_parts(alloc, count, rest, numbers)?;
+    Ok((rules, parts, rest))
+}
+
+/// Reads the proof at the front of bytes, and tells how many bytes its text has. What stands behind it is not looked
+/// at.
+pub fn read_proof(alloc: Global, bytes: &[u8]) -> Result<(Proof, usize), BadText>
+    ensures proof { IfOk result (λ x. IsTextOf (plain_proof x.0) x.1 bytes.now) }
+    ensures end { EndsAs (λ x. x.1) result (proof_end bytes.now) }
+{
+    let mut numbers = Vec::new(alloc);
+    match read_all(alloc, bytes, &mut numbers) {
+        Ok((rules, parts, rest)) => {
+            let rules = Sequence::of(rules);
+            let parts = Sequence::of(parts);
+            Ok((Proof { rules, parts }, bytes.len() - rest.len()))
+        }
+        Err(stop) => Err(bad_text(bytes.len(), stop)),
+    }
+}
+
+/// Why no proof was read, where reading stopped in a text of so many bytes.
+fn bad_text(len: usize, stop: Stop) -> BadText
+    requires { IsStopWithin len stop }
+    ensures { IsBadText len stop result }
+{
+    match stop {
+        Stop::Wrong(left) => BadText::At {
+            at: (len - left) as u64,
+        },
+        Stop::Memory => BadText::NoMemory,
+    }
 }
