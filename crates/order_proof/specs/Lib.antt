@@ -2,3 +2,9 @@ pub mod Plain
 pub mod Trees
 pub mod Lines
 pub mod Text
+pub mod Numbers
+pub mod FrontLine
+pub mod Forms
+pub mod Reading
+pub mod Ranges
+pub mod Readers

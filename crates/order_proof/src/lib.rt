@@ -1,12 +1,20 @@
 //! Proofs that orders of lines cost least: their form, and their text both ways.
 #![tactic(auto)]
 
+mod fault;
+mod forms;
+mod front_line;
 mod line_word;
+mod node_line;
+mod numbers;
 mod proof;
+mod reading;
 mod tree;
 mod writing;
 
+pub use fault::BadText;
 pub use proof::{Part, Proof};
+pub use reading::read_proof;
 pub use tree::Tree;
 pub use writing::write_proof;
 

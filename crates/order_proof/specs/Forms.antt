@@ -1,0 +1,130 @@
+-- The forms that lines may have, and what a line of each form says.
+use Rattle.std.specs.Prelude.{ℕ, zero, suc, ◌^◌, ◌-◌, ◌==◌, ℤ, pos, negsuc, Bool, true, false, ◌&&◌, List, [], ◌∷◌, length, map, Option, Some, None, option_map, if◌then◌else◌, nat_le, nat_lt}
+use Rattle.std.specs.Option.{option_and_then}
+use Rattle.map_base.specs.declared.ids.SegId.{SegId}
+use Rattle.map_base.specs.declared.ids.LineId.{LineId}
+use Rattle.order_model.specs.declared.rule.Rule.{Rule}
+use Rattle.order_model.specs.declared.rule.Rule.TheVariants.{Merge as merge_rule, Divide as divide_rule}
+use Rattle.order_proof.specs.declared.line_word.LineWord.{LineWord}
+use Rattle.order_proof.specs.declared.line_word.LineWord.TheVariants.{Rules, Merge, Divide, Parts, Part, Split, Take, Close}
+use Rattle.order_proof.specs.declared.node_line.NodeLine.{NodeLine}
+use Rattle.order_proof.specs.declared.node_line.NodeLine.TheVariants as NodeLine
+use Rattle.order_proof.specs.Numbers.{up_to}
+use Rattle.order_proof.specs.Trees.{is_among}
+
+-- how many rules, and how many parts, a proof may have
+abbrev pub most_items : ℕ
+most_items = 20000000
+
+-- the greatest number of a segment, a line or a term
+abbrev pub most_id : ℕ
+most_id = 2 ^ 32 - 1
+
+-- how many cases a split may have
+abbrev pub most_cases : ℕ
+most_cases = 1000
+
+-- the greatest target
+abbrev pub most_target : ℕ
+most_target = 10 ^ 15
+
+-- the greatest price, either way
+abbrev pub most_price : ℕ
+most_price = 10 ^ 9
+
+-- a number that is not negative and at most `most`
+abbrev pub natural_within : ℕ → ℤ → Option ℕ
+natural_within most (pos n) = up_to most n
+natural_within most (negsuc n) = None
+
+-- the segment, and the line, of a number
+abbrev pub seg : ℕ → SegId
+seg n = record { 0 = n }
+
+abbrev pub line_id : ℕ → LineId
+line_id n = record { 0 = n }
+
+-- a number of at least `least` and at most `most`
+abbrev pub from_to : ℕ → ℕ → ℤ → Option ℕ
+from_to least most (pos n) = if nat_le least n then up_to most n else None
+from_to least most (negsuc n) = None
+
+-- things by their numbers, which rise strictly, the first of them at least `least`
+abbrev pub rising : {A : Type 0} → (ℕ → A) → ℕ → List ℤ → Option (List A)
+rising make least [] = Some []
+rising make least (z ∷ rest) = option_and_then (λ n. option_map (λ more. make n ∷ more) (rising make (suc n) rest)) (from_to least most_id z)
+
+-- a price: not 0, and at most the greatest either way
+abbrev pub price_of : ℤ → Option ℤ
+price_of (pos zero) = None
+price_of (pos (suc n)) = option_map pos (up_to most_price (suc n))
+price_of (negsuc n) = if nat_lt n most_price then Some (negsuc n) else None
+
+-- the number of a term, at least `least`, and its price
+abbrev pub term_with : Option ℕ → Option ℤ → Option (ℕ × ℤ)
+term_with None price = None
+term_with (Some term) None = None
+term_with (Some term) (Some price) = Some (term, price)
+
+abbrev pub priced_term : ℕ → ℤ → ℤ → Option (ℕ × ℤ)
+priced_term least term price = term_with (from_to least most_id term) (price_of price)
+
+-- prices, each behind the number of its term, which rise strictly
+abbrev pub prices_from : ℕ → List ℤ → Option (List (ℕ × ℤ))
+prices_from least [] = Some []
+prices_from least (term ∷ []) = None
+prices_from least (term ∷ price ∷ rest) =
+    option_and_then (λ p. option_map (λ more. p ∷ more) (prices_from (suc p.0) rest)) (priced_term least term price)
+
+-- whether a number counts so many things
+abbrev pub counts : ℕ → ℤ → Bool
+counts n (pos m) = n == m
+counts n (negsuc m) = false
+
+abbrev pub flag_of : ℤ → Option Bool
+flag_of (pos zero) = Some false
+flag_of (pos (suc zero)) = Some true
+flag_of (pos (suc (suc n))) = None
+flag_of (negsuc n) = None
+
+-- `rules R`
+abbrev pub rules_in : LineWord → List ℤ → Option ℕ
+rules_in Rules (count ∷ []) = natural_within most_items count
+rules_in word numbers = None
+
+-- the rule that merges two segments, where both and the flag are there
+abbrev pub merge_with : Option ℕ → Option ℕ → Option Bool → Option Rule
+merge_with (Some into) (Some from) (Some flip) = Some (merge_rule (seg into) (seg from) flip)
+merge_with into from flip = None
+
+-- `merge E F B` or `divide E LINE ..`
+abbrev pub rule_in : LineWord → List ℤ → Option Rule
+rule_in Merge (into ∷ from ∷ flip ∷ []) = merge_with (natural_within most_id into) (natural_within most_id from) (flag_of flip)
+rule_in Divide (e ∷ lines) = option_and_then (λ n. option_map (divide_rule (seg n)) (rising line_id 0 lines)) (natural_within most_id e)
+rule_in word numbers = None
+
+-- `parts P`
+abbrev pub parts_in : LineWord → List ℤ → Option ℕ
+parts_in Parts (count ∷ []) = natural_within most_items count
+parts_in word numbers = None
+
+-- `part T SEG ..`: the target and the segments
+abbrev pub part_in : LineWord → List ℤ → Option (ℕ × List SegId)
+part_in Part (target ∷ segs) = option_and_then (λ t. option_map (λ list. (t, list)) (rising seg 0 segs)) (natural_within most_target target)
+part_in word numbers = None
+
+-- a split, where one more is allowed
+abbrev pub split_with : ℕ → Option ℕ → Option ℕ → Option NodeLine
+split_with (suc room) (Some e) (Some count) = Some (NodeLine.Split (seg e) count)
+split_with room e count = None
+
+-- `split SEG COUNT`, where there is room for one more split, or `close COUNT TERM PRICE ..`
+abbrev pub node_in : ℕ → LineWord → List ℤ → Option NodeLine
+node_in room Split (e ∷ count ∷ []) = split_with room (natural_within most_id e) (from_to 1 most_cases count)
+node_in room Close (count ∷ numbers) = option_and_then (λ prices. if counts (length prices) count then Some (NodeLine.Close prices) else None) (prices_from 0 numbers)
+node_in room word numbers = None
+
+-- `take LINE`, of a line that is not taken yet
+abbrev pub take_in : List LineId → LineWord → List ℤ → Option LineId
+take_in taken Take (a ∷ []) = option_and_then (λ n. if is_among taken (line_id n) then None else Some (line_id n)) (natural_within most_id a)
+take_in taken word numbers = None
