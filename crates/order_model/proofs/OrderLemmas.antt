@@ -13,7 +13,7 @@ length-orders (s ∷ segs) (o ∷ orders) h = let rest = length-orders segs orde
 length-orders [] (o ∷ orders) h = absurd h
 length-orders (s ∷ segs) [] h = absurd h
 
-readable_term : (segs : List (List LineId)) (t : Term) → IsTerm segs t → IsReadable (length segs) t
+pub readable_term : (segs : List (List LineId)) (t : Term) → IsTerm segs t → IsReadable (length segs) t
 readable_term segs (Side seg first second w) h = (h.seg_known, h.weight.1)
 readable_term segs (Link seg other flip a b w) h = (omega (arith, h.seg_below, h.other_known), h.other_known, h.weight.1)
 readable_term segs (Apart seg other a b w) h = (omega (arith, h.seg_below, h.other_known), h.other_known, h.weight.1)

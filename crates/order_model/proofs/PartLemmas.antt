@@ -222,20 +222,20 @@ so_far segs labels (suc s) tell h =
 
 -- Parts of one least segment are one part.
 
-part_cases : (q p : List SegId) (ps : List (List SegId)) → Contains (q ∷ ps) p → (q ≡ p) ⊎ Contains ps p
+pub part_cases : (q p : List SegId) (ps : List (List SegId)) → Contains (q ∷ ps) p → (q ≡ p) ⊎ Contains ps p
 part_cases q p ps (zero, below, is) = inl is
 part_cases q p ps (suc k, below, is) = inr (k, omega arith, is)
 
-least_below_later : (p q : List SegId) (ps : List (List SegId)) → AreByLeast (p ∷ ps) → Contains ps q → least_of p < least_of q
+pub least_below_later : (p q : List SegId) (ps : List (List SegId)) → AreByLeast (p ∷ ps) → Contains ps q → least_of p < least_of q
 least_below_later p q [] h c = absurd (omega (arith, c.1))
 least_below_later p q (r ∷ ps) h c = elim (part_cases r q ps c)
     [ inl e ↦ subst (λ x. least_of p < least_of x) e h.0 | inr later ↦ omega (arith, h.0, least_below_later r q ps h.1 later) ]
 
-by_least_tail : (p : List SegId) (ps : List (List SegId)) → AreByLeast (p ∷ ps) → AreByLeast ps
+pub by_least_tail : (p : List SegId) (ps : List (List SegId)) → AreByLeast (p ∷ ps) → AreByLeast ps
 by_least_tail p [] h = tt
 by_least_tail p (q ∷ ps) h = h.1
 
-one_least : (ps : List (List SegId)) (p q : List SegId) → AreByLeast ps → Contains ps p → Contains ps q → least_of p ≡ least_of q → p ≡ q
+pub one_least : (ps : List (List SegId)) (p q : List SegId) → AreByLeast ps → Contains ps p → Contains ps q → least_of p ≡ least_of q → p ≡ q
 one_least [] p q h a b same = absurd (omega (arith, a.1))
 one_least (r ∷ ps) p q h a b same = elim (part_cases r p ps a) [
   | inl e ↦ elim (part_cases r q ps b) [

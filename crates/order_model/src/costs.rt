@@ -44,7 +44,7 @@ fn term_cost(term: Term, lists: &[Sequence<LineId>]) -> u64
 }
 
 /// The segment of a term and its other segment, or its only one twice.
-pub(crate) fn ends_of(term: Term) -> (SegId, SegId)
+pub fn ends_of(term: Term) -> (SegId, SegId)
     ensures seg { result.0 ≡ seg_of term }
     ensures other { result.1 ≡ other_of term }
     ensures known { (n : ℕ) → IsReadable n term → result.0.0 < n }

@@ -20,7 +20,7 @@ mod rule;
 mod term;
 mod ways;
 
-pub use costs::cost;
+pub use costs::{cost, ends_of};
 pub use fault::TermFault;
 pub use graph_terms::terms_of;
 pub use orders::Orders;

@@ -1,0 +1,4 @@
+mod Nodes
+mod Walks
+mod Totals
+mod Verdicts

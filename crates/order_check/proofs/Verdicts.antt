@@ -1,0 +1,198 @@
+-- The first item that is refused, part by part, and what it shows that there is none.
+use Rattle.std.proofs.Common.{◌≡◌, ℕ, suc, ◌+◌, ◌<◌, ◌≤◌, ◌==◌, Bool, true, false, cond, List, [], ◌∷◌, length, map, drop, get_or, Vec, Global, refl, sym, ◌∙◌, ap, arith, Some, None, Option, eqb-true}
+use Rattle.std.specs.List.{All, sum_by}
+use Rattle.std.proofs.lemmas.List.{at_drop_more, drop_all, get_or-map, length-map}
+use Rattle.std.proofs.lemmas.List.Elements.{All-head, All-tail}
+use Rattle.std.proofs.lemmas.List.Sums.{sum_by-cons}
+use Rattle.map_base.specs.declared.ids.SegId.{SegId}
+use Rattle.map_base.specs.declared.ids.LineId.{LineId}
+use Rattle.graph_core.specs.Consistent.{AreRising}
+use Rattle.order_model.specs.declared.term.Term.{Term}
+use Rattle.order_model.specs.Costs.{cost_of, AreOrders}
+use Rattle.order_model.specs.Parts.{AreParts, AreByLeast, IsRisingPart, least_of}
+use Rattle.order_model.specs.Gathering.{part_lists}
+use Rattle.order_proof.specs.declared.proof.Part.{Part}
+use Rattle.order_proof.specs.Plain.{PlainPart, PlainProof, close, plain_part}
+use Rattle.order_trees.specs.PartTerms.{part_terms, AreBest}
+use Rattle.order_trees.specs.Completions.{none_placed}
+use Rattle.order_trees.specs.Accepting.{question, failing}
+use Rattle.order_trees.proofs.Sound.{accepted_bounds, all_complete_none}
+use Rattle.order_trees.proofs.Failing.{accepted_where_none}
+use Rattle.order_trees.proofs.Shares.{parts_apart, shares_fit}
+use Rattle.order_check.specs.declared.refusal.ProofItem.{ProofItem}
+use Rattle.order_check.specs.declared.refusal.ProofItem.TheVariants as item
+use Rattle.order_check.specs.declared.refusal.ProofStop.{ProofStop}
+use Rattle.order_check.specs.declared.refusal.ProofStop.TheVariants as stop
+use Rattle.order_check.specs.Verdict.{are_same, first_item, tree_refusal, part_refusal, first_part, targets, total_refusal, first_refused, IsCause, IsRefusal}
+
+-- Part by part.
+
+-- what is refused first from part k on is what is refused first
+abbrev pub FirstFrom : List (List LineId) → List Term → List (List SegId) → List PlainPart → ℕ → Type 0
+FirstFrom segs terms parts proofs k = first_part segs terms k (drop k parts) (drop k proofs) ≡ first_part segs terms 0 parts proofs
+
+module _ (segs : List (List LineId)) (terms : List Term) (parts : List (List SegId)) (proofs : List PlainPart) where
+  pub part_missing : (k : ℕ) (d : List SegId) → k < length parts → length proofs ≤ k → FirstFrom segs terms parts proofs k
+      → first_part segs terms 0 parts proofs ≡ Some (item.Part k [])
+  part_missing k d below over h =
+      sym h ∙ ap (λ rs. first_part segs terms k (drop k parts) rs) (drop_all k proofs over)
+      ∙ at_drop_more (λ ps. first_part segs terms k ps []) parts k d below
+
+  any_part : PlainPart
+  any_part = record { segs = []; target = 0; tree = close [] }
+
+  pub part_left_over : (k : ℕ) → length parts ≤ k → k < length proofs → FirstFrom segs terms parts proofs k
+      → first_part segs terms 0 parts proofs ≡ Some (item.Part k [])
+  part_left_over k over below h =
+      sym h ∙ ap (λ ps. first_part segs terms k ps (drop k proofs)) (drop_all k parts over)
+      ∙ at_drop_more (λ rs. first_part segs terms k [] rs) proofs k any_part below
+
+  pub no_part_left : (k : ℕ) → length parts ≤ k → length proofs ≤ k → FirstFrom segs terms parts proofs k → first_part segs terms 0 parts proofs ≡ None
+  no_part_left k over over_too h =
+      sym h ∙ ap (λ ps. first_part segs terms k ps (drop k proofs)) (drop_all k parts over) ∙ ap (λ rs. first_part segs terms k [] rs) (drop_all k proofs over_too)
+
+  at_part : (k : ℕ) (d : List SegId) (e : PlainPart) → k < length parts → k < length proofs → FirstFrom segs terms parts proofs k
+      → first_item (part_refusal segs terms k (get_or parts k d) (get_or proofs k e)) (first_part segs terms (k + 1) (drop (k + 1) parts) (drop (k + 1) proofs))
+      ≡ first_part segs terms 0 parts proofs
+  at_part k d e below below_too h =
+      sym (at_drop_more (λ ps. first_part segs terms k ps (drop k proofs)) parts k d below
+      ∙ at_drop_more (λ rs. first_part segs terms k (get_or parts k d ∷ drop (k + 1) parts) rs) proofs k e below_too)
+      ∙ h
+
+  pub part_passed : (k : ℕ) (d : List SegId) (e : PlainPart) → k < length parts → k < length proofs → FirstFrom segs terms parts proofs k
+      → part_refusal segs terms k (get_or parts k d) (get_or proofs k e) ≡ None → FirstFrom segs terms parts proofs (k + 1)
+  part_passed k d e below below_too h none =
+      sym (ap (λ f. first_item f (first_part segs terms (k + 1) (drop (k + 1) parts) (drop (k + 1) proofs))) none) ∙ at_part k d e below below_too h
+
+  pub part_refused : (k : ℕ) (d : List SegId) (e : PlainPart) (stop : ProofStop) → k < length parts → k < length proofs → FirstFrom segs terms parts proofs k
+      → IsCause (part_refusal segs terms k (get_or parts k d) (get_or proofs k e)) stop → IsCause (first_part segs terms 0 parts proofs) stop
+  part_refused k d e (stop.Refuted i) below below_too h some =
+      sym (at_part k d e below below_too h) ∙ ap (λ f. first_item f (first_part segs terms (k + 1) (drop (k + 1) parts) (drop (k + 1) proofs))) some
+  part_refused k d e stop.NoMemory below below_too h some = tt
+
+-- Parts are no more than segments.
+
+count_up : (parts : List (List SegId)) (n m : ℕ) → AreByLeast parts → All (λ (p : List SegId). least_of p < n) parts → m ≤ n
+    → ((p : List SegId) (rest : List (List SegId)) → parts ≡ p ∷ rest → m ≤ least_of p) → m + length parts ≤ n
+count_up [] n m h below least from = omega (arith, least)
+count_up (p ∷ []) n m h below least from =
+    omega (arith, from p [] refl, All-head (λ (p : List SegId). least_of p < n) p [] below)
+count_up (p ∷ q ∷ parts) n m h below least from =
+    let first : m ≤ least_of p = from p (q ∷ parts) refl in
+    let here : least_of p < n = All-head (λ (p : List SegId). least_of p < n) p (q ∷ parts) below in
+    let rest : suc m + length (q ∷ parts) ≤ n =
+    count_up (q ∷ parts) n (suc m) h.1 (All-tail (λ (p : List SegId). least_of p < n) p (q ∷ parts) below) (omega (arith, first, here))
+    (λ r others e. next r others e) in
+    omega (arith, rest)
+  where
+    next : (r : List SegId) (others : List (List SegId)) → (q ∷ parts) ≡ r ∷ others → suc m ≤ least_of r
+    next r others e = let same : least_of q ≡ least_of r = ap first_least e in omega (arith, same, h.0, from p (q ∷ parts) refl)
+      where
+        first_least : List (List SegId) → ℕ
+        first_least [] = 0
+        first_least (p ∷ rest) = least_of p
+
+-- Items of a whole proof.
+
+pub refused_by_part : (cost : ℕ) (first : Option ProofItem) (proofs : List PlainPart) (rules : Bool) (stop : ProofStop) → rules ≡ true → IsCause first stop
+    → IsCause (cond rules (first_item first (total_refusal proofs cost)) (Some (item.Rule 0))) stop
+refused_by_part cost first proofs rules (stop.Refuted i) e h =
+    ap (λ b. cond b (first_item first (total_refusal proofs cost)) (Some (item.Rule 0))) e ∙ ap (λ f. first_item f (total_refusal proofs cost)) h
+refused_by_part cost first proofs rules stop.NoMemory e h = tt
+
+pub refused_by_total : (cost : ℕ) (first : Option ProofItem) (proofs : List PlainPart) (rules : Bool) (stop : ProofStop) → rules ≡ true → first ≡ None
+    → IsCause (total_refusal proofs cost) stop → IsCause (cond rules (first_item first (total_refusal proofs cost)) (Some (item.Rule 0))) stop
+refused_by_total cost first proofs rules (stop.Refuted i) e f h =
+    ap (λ b. cond b (first_item first (total_refusal proofs cost)) (Some (item.Rule 0))) e ∙ ap (λ g. first_item g (total_refusal proofs cost)) f ∙ h
+refused_by_total cost first proofs rules stop.NoMemory e f h = tt
+
+pub accepted_whole : (cost : ℕ) (first : Option ProofItem) (proofs : List PlainPart) (rules : Bool) → rules ≡ true → first ≡ None → total_refusal proofs cost ≡ None
+    → cond rules (first_item first (total_refusal proofs cost)) (Some (item.Rule 0)) ≡ None
+accepted_whole cost first proofs rules e f h =
+    ap (λ b. cond b (first_item first (total_refusal proofs cost)) (Some (item.Rule 0))) e ∙ ap (λ g. first_item g (total_refusal proofs cost)) f ∙ h
+
+pub refusal_of : (segs : List (List LineId)) (terms : List Term) (parts : List (List SegId)) (orders : List (List LineId)) (proof : PlainProof) (stop : ProofStop)
+    → AreParts segs terms parts → IsCause (first_refused segs terms parts orders proof) stop → IsRefusal segs terms orders proof stop
+refusal_of segs terms parts orders proof (stop.Refuted i) ok h = (parts, ok, h)
+refusal_of segs terms parts orders proof stop.NoMemory ok h = tt
+
+-- Where nothing is refused, the orders are best.
+
+some_item : (i : ProofItem) → Some i ≡ None → ⊥
+some_item i h = cc
+
+none_first : (f g : Option ProofItem) → first_item f g ≡ None → (f ≡ None) × (g ≡ None)
+none_first None g h = (refl, h)
+none_first (Some i) g h = absurd (some_item i h)
+
+none_if : (b : Bool) (f : Option ProofItem) (i : ProofItem) → cond b f (Some i) ≡ None → (b ≡ true) × (f ≡ None)
+none_if true f i h = (refl, h)
+none_if false f i h = absurd (some_item i h)
+
+none_total : (b : Bool) (i : ProofItem) → cond b None (Some i) ≡ None → b ≡ true
+none_total true i h = refl
+none_total false i h = absurd (some_item i h)
+
+none_tree : (k : ℕ) (f : Option (List LineId)) → tree_refusal k f ≡ None → f ≡ None
+none_tree k None h = refl
+none_tree k (Some way) h = absurd (some_item (item.Part k way) h)
+
+none_length : (segs : List (List LineId)) → length (none_placed segs) ≡ length segs
+none_length segs = length-map segs (λ _. [])
+
+abbrev IsKnown : List (List LineId) → List SegId → Type 0
+IsKnown segs part = All (λ (s : SegId). s.0 < length segs) part
+
+targets_fit : (segs : List (List LineId)) (terms : List Term) (k : ℕ) (parts : List (List SegId)) (proofs : List PlainPart) (others : List (List LineId))
+    → All AreRising segs → All (IsKnown segs) parts → AreOrders segs others → first_part segs terms k parts proofs ≡ None
+    → targets proofs ≤ sum_by (λ p. cost_of (part_terms terms p) others) parts
+targets_fit segs terms k [] [] others rising known are none = omega arith
+targets_fit segs terms k [] (r ∷ proofs) others rising known are none = absurd (some_item (item.Part k []) none)
+targets_fit segs terms k (p ∷ parts) [] others rising known are none = absurd (some_item (item.Part k []) none)
+targets_fit segs terms k (p ∷ parts) (r ∷ proofs) others rising known are none =
+    let both = none_first (part_refusal segs terms k p r) (first_part segs terms (k + 1) parts proofs) none in
+    let tree = none_if (are_same p r.segs) (tree_refusal k (failing (question segs p (part_terms terms p) r.target) (none_placed segs) r.tree)) (item.Part k []) both.0 in
+    let accepted = accepted_where_none (question segs p (part_terms terms p) r.target) (none_placed segs) r.tree
+    (none_tree k (failing (question segs p (part_terms terms p) r.target) (none_placed segs) r.tree) tree.1) in
+    let here : r.target ≤ cost_of (part_terms terms p) others =
+    accepted_bounds segs p terms r.target (none_placed segs) r.tree rising (All-head (IsKnown segs) p parts known) (none_length segs) accepted others are (all_complete_none segs p others) in
+    let rest = targets_fit segs terms (k + 1) parts proofs others rising (All-tail (IsKnown segs) p parts known) are both.1 in
+    omega (arith, here, rest, sum_by-cons (λ (p : PlainPart). p.target) r proofs, sum_by-cons (λ p. cost_of (part_terms terms p) others) p parts)
+
+pub best_of : (segs : List (List LineId)) (terms : List Term) (parts : List (List SegId)) (orders : List (List LineId)) (proof : PlainProof)
+    → All AreRising segs → AreParts segs terms parts → first_refused segs terms parts orders proof ≡ None → AreBest segs terms orders
+best_of segs terms parts orders proof rising ok none others are =
+    let rules = none_if (length proof.rules == 0) (first_item (first_part segs terms 0 parts proof.parts) (total_refusal proof.parts (cost_of terms orders))) (item.Rule 0) none in
+    let both = none_first (first_part segs terms 0 parts proof.parts) (total_refusal proof.parts (cost_of terms orders)) rules.1 in
+    let total : targets proof.parts ≡ cost_of terms orders =
+    eqb-true (targets proof.parts) (cost_of terms orders) (none_total (targets proof.parts == cost_of terms orders) item.Total both.1) in
+    let known : All (IsKnown segs) parts = λ k d below j e under. (ok.wide k d below j e under).0 in
+    let fit = targets_fit segs terms 0 parts proof.parts others rising known are both.0 in
+    omega (arith, total, fit, shares_fit parts terms others (parts_apart segs terms parts ok))
+
+-- The parts of a problem.
+
+least_known : (n : ℕ) (p : List SegId) → IsRisingPart p → All (λ (s : SegId). s.0 < n) p → least_of p < n
+least_known n [] h all = absurd h
+least_known n (s ∷ p) h all = All-head (λ (s : SegId). s.0 < n) s p all
+
+pub known_part : (segs : List (List LineId)) (terms : List Term) (parts : List (List SegId)) (k : ℕ) → AreParts segs terms parts → k < length parts
+    → All (λ (s : SegId). s.0 < length segs) (get_or parts k [])
+known_part segs terms parts k ok below j e under = (ok.wide k [] below j e under).0
+
+pub few_parts : (segs : List (List LineId)) (terms : List Term) (parts : List (List SegId)) → AreParts segs terms parts → length parts ≤ length segs
+few_parts segs terms parts ok =
+    omega (
+      arith,
+      count_up parts (length segs) 0 ok.by_least
+          (λ k d below. least_known (length segs) (get_or parts k d) (ok.rising k d below) (λ j e under. (ok.wide k d below j e under).0))
+          (omega arith) (λ p rest e. omega arith),
+    )
+
+-- a part of the problem, and its part of the proof, as they lie in memory
+pub part_at : (parts : List (Vec SegId Global)) (k : ℕ) (v : Vec SegId Global) (list : List SegId) → k < length parts → v ≡ get_or parts k v → list ≡ v.items
+    → list ≡ get_or (part_lists parts) k []
+part_at parts k v list below is e = e ∙ ap (λ (w : Vec SegId Global). w.items) is ∙ sym (get_or-map (λ (w : Vec SegId Global). w.items) parts k v [] below)
+
+pub proof_at : (proofs : List Part) (k : ℕ) (p : Part) → k < length proofs → p ≡ get_or proofs k p → plain_part p ≡ get_or (map plain_part proofs) k (plain_part p)
+proof_at proofs k p below is = ap plain_part is ∙ sym (get_or-map plain_part proofs k p (plain_part p) below)

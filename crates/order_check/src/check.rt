@@ -1,0 +1,91 @@
+//! The check of a whole proof.
+
+ghost use Rattle.std.specs.Prelude.{◌≡◌, [], map, IfOk, IfErr, None};
+ghost use Rattle.order_model.specs.Costs.{AreOrders};
+ghost use Rattle.order_model.specs.Parts.{AreParts};
+ghost use Rattle.order_model.specs.Gathering.{part_lists};
+ghost use Rattle.order_proof.specs.Plain.{plain_part, plain_proof};
+ghost use Rattle.order_trees.specs.PartTerms.{AreBest};
+ghost use Rattle.order_check.specs.Verdict.{first_part, first_refused, HasVerdict, IsCause, IsRefusal};
+
+use crate::part::check_part;
+use crate::refusal::{ProofItem, ProofStop};
+use crate::total::check_total;
+use map_base::{SegId, Sequence};
+use order_model::{Orders, Problem, cost, parts_of};
+use order_proof::{Part, Proof};
+use std::alloc::Global;
+
+/// Whether a proof shows that no orders of the problem cost less than these. The items are checked in order: the rules,
+/// of which the first is refused; the parts, one by one, each with its segments and its tree; and that the targets of
+/// the parts sum to what the orders cost. The first item that is refused is named.
+pub fn check_proof(
+    alloc: Global,
+    problem: Problem,
+    orders: &Orders,
+    proof: &Proof,
+) -> Result<(), ProofStop>
+    requires { AreOrders problem.segs orders.now.lists }
+    ensures accepted { IfOk result (λ _. HasVerdict problem.segs problem.terms orders.now.lists (plain_proof proof.now) None) }
+    ensures refused { IfErr result (IsRefusal problem.segs problem.terms orders.now.lists (plain_proof proof.now)) }
+    ensures best { IfOk result (λ _. AreBest problem.segs problem.terms orders.now.lists) }
+{
+    let parts = parts_of(alloc, &problem)?;
+    check_items(alloc, &problem, parts.as_slice(), orders, proof)
+}
+
+/// The same, by the parts of the problem.
+fn check_items(
+    alloc: Global,
+    problem: &Problem,
+    parts: &[Vec<SegId>],
+    orders: &Orders,
+    proof: &Proof,
+) -> Result<(), ProofStop>
+    requires orders { AreOrders problem.now.segs orders.now.lists }
+    requires parts { AreParts problem.now.segs problem.now.terms (part_lists parts.now) }
+    ensures accepted { IfOk result (λ _. first_refused problem.now.segs problem.now.terms (part_lists parts.now) orders.now.lists (plain_proof proof.now) ≡ None) }
+    ensures refused { IfErr result (IsCause (first_refused problem.now.segs problem.now.terms (part_lists parts.now) orders.now.lists (plain_proof proof.now))) }
+{
+    let rules = proof.rules.as_slice();
+    if !rules.is_empty() {
+        return Err(ProofStop::Refuted(ProofItem::Rule { index: 0 }));
+    }
+    let proofs = proof.parts.as_slice();
+    check_parts(alloc, problem, parts, proofs)?;
+    check_total(proofs, cost(problem, orders))
+}
+
+/// Refuses the first part that is not the problem's in its turn, or has a tree that isn't accepted.
+fn check_parts(
+    alloc: Global,
+    problem: &Problem,
+    parts: &[Vec<SegId>],
+    proofs: &[Part],
+) -> Result<(), ProofStop>
+    requires { AreParts problem.now.segs problem.now.terms (part_lists parts.now) }
+    ensures accepted { IfOk result (λ _. first_part problem.now.segs problem.now.terms 0 (part_lists parts.now) (map plain_part proofs.now) ≡ None) }
+    ensures refused { IfErr result (IsCause (first_part problem.now.segs problem.now.terms 0 (part_lists parts.now) (map plain_part proofs.now))) }
+{
+    let _segs = problem.segs();
+    for k in 0..parts.len() {
+        if k >= proofs.len() {
+            return Err(part_alone(alloc, k as u32));
+        }
+        check_part(alloc, problem, k as u32, parts[k].as_slice(), &proofs[k])?;
+    }
+    if proofs.len() > parts.len() {
+        return Err(part_alone(alloc, parts.len() as u32));
+    }
+    Ok(())
+}
+
+/// Part `k` is refused with no lines.
+fn part_alone(alloc: Global, k: u32) -> ProofStop
+    ensures { result ≡ ProofStop.Refuted (ProofItem.Part k []) }
+{
+    ProofStop::Refuted(ProofItem::Part {
+        index: k,
+        after: Sequence::of(Vec::new(alloc)),
+    })
+}

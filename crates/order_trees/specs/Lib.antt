@@ -1,0 +1,4 @@
+pub mod PartTerms
+pub mod Completions
+pub mod Accepting
+pub mod Marks

@@ -1,0 +1,23 @@
+-- The terms of a part, and its orders that cost least.
+use Rattle.std.specs.Prelude.{◌≤◌, ◌==◌, Bool, ◌&&◌, List, filter}
+use Rattle.std.specs.List.{list_any}
+use Rattle.map_base.specs.declared.ids.SegId.{SegId}
+use Rattle.map_base.specs.declared.ids.LineId.{LineId}
+use Rattle.order_model.specs.declared.term.Term.{Term}
+use Rattle.order_model.specs.Costs.{seg_of, other_of, cost_of, AreOrders}
+
+-- the segment is one of these
+abbrev pub is_in : List SegId → SegId → Bool
+is_in part s = list_any (λ (t : SegId). t.0 == s.0) part
+
+-- the segments of the term are of the part
+abbrev pub is_of : List SegId → Term → Bool
+is_of part t = is_in part (seg_of t) && is_in part (other_of t)
+
+-- the terms whose segments are of the part
+abbrev pub part_terms : List Term → List SegId → List Term
+part_terms terms part = filter (is_of part) terms
+
+-- no orders of these segments cost less
+abbrev pub AreBest : List (List LineId) → List Term → List (List LineId) → Type 0
+AreBest segs terms orders = (others : List (List LineId)) → AreOrders segs others → cost_of terms orders ≤ cost_of terms others

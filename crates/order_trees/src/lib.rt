@@ -1,0 +1,11 @@
+//! When a tree shows that orders cost at least a target: which terms a part has, which orders complete a prefix, and
+//! which trees are accepted. The crates above search and check such trees.
+#![tactic(auto)]
+
+mod laws;
+mod marks;
+mod terms;
+
+pub use laws::{accepted_trees_bound_completions, nothing_fails_where_accepted};
+pub use marks::marks_of;
+pub use terms::part_terms;
