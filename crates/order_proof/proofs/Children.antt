@@ -1,10 +1,10 @@
 -- Children of a split, one more at the end.
-use Rattle.std.proofs.Common.{◌≡◌, ℕ, zero, suc, ◌+◌, ◌<◌, ◌≤◌, max, Bool, true, false, ◌||◌, ◌==◌, true≢false, List, [], ◌∷◌, ◌++◌, length, refl, ap, subst, sym, ◌∙◌, append_assoc, arith}
+use Rattle.std.proofs.Common.{◌≡◌, ℕ, suc, ◌≤◌, Bool, true, false, ◌||◌, ◌==◌, true≢false, List, [], ◌∷◌, ◌++◌, refl, ap, sym, ◌∙◌, append_assoc, arith}
 use Rattle.std.proofs.lemmas.Bool.{eqb-true, eq-eqb}
 use Rattle.std.proofs.lemmas.List.{append-nil}
 use Rattle.map_base.specs.declared.ids.LineId.{LineId}
 use Rattle.order_proof.specs.declared.tree.Tree.{Tree}
-use Rattle.order_proof.specs.Plain.{PlainTree, Cases, no_case, case_of, plain, plain_children}
+use Rattle.order_proof.specs.Plain.{plain, plain_children}
 use Rattle.order_proof.specs.Trees.{depth_of, depth_of_cases, count_of, lines_of, is_among, AreDistinct}
 use Rattle.order_proof.specs.Lines.{line_text, take_line}
 use Rattle.order_proof.specs.Text.{tree_text, cases_text}
@@ -57,3 +57,13 @@ distinct_push [] a distinct free = (refl, tt)
 distinct_push (l ∷ lines) a distinct free =
     let parts = or_parts (l.0 == a.0) (is_among lines a) free in
     (among_push lines a l distinct.0 (other_way l.0 a.0 parts.0), distinct_push lines a distinct.1 parts.1)
+
+among_middle : (lines : List LineId) (a b : LineId) (rest : List LineId) → is_among (lines ++ a ∷ rest) b ≡ false → (a.0 == b.0) ≡ false
+among_middle [] a b rest free = (or_parts (a.0 == b.0) (is_among rest b) free).0
+among_middle (l ∷ lines) a b rest free = among_middle lines a b rest (or_parts (l.0 == b.0) (is_among (lines ++ a ∷ rest) b) free).1
+
+-- a line is not among those before it
+pub distinct_middle : (lines : List LineId) (a : LineId) (rest : List LineId) → AreDistinct (lines ++ a ∷ rest) → is_among lines a ≡ false
+distinct_middle [] a rest distinct = refl
+distinct_middle (l ∷ lines) a rest distinct =
+    ap (λ (t : Bool). t || is_among lines a) (other_way a.0 l.0 (among_middle lines a l rest distinct.0)) ∙ distinct_middle lines a rest distinct.1

@@ -1,5 +1,5 @@
 -- What a line of each form says, and that it is the line which is written of it.
-use Rattle.std.proofs.Common.{◌≡◌, ℕ, zero, suc, ◌+◌, ◌-◌, ◌^◌, ◌<◌, ◌≤◌, ℤ, pos, negsuc, Bool, true, false, cond, leb, ltb, List, [], ◌∷◌, ◌++◌, length, Option, Some, None, option_map, refl, ap, subst, sym, ◌∙◌, arith}
+use Rattle.std.proofs.Common.{◌≡◌, ℕ, zero, suc, ◌<◌, ◌≤◌, ℤ, pos, negsuc, Bool, true, false, cond, leb, ltb, List, [], ◌∷◌, ◌++◌, length, Option, Some, None, option_map, refl, ap, subst, sym, ◌∙◌, arith}
 use Rattle.std.specs.Option.{option_and_then}
 use Rattle.std.proofs.lemmas.Bool.{eqb-true, leb-true, ltb-true}
 use Rattle.map_base.specs.declared.ids.SegId.{SegId}
@@ -134,18 +134,22 @@ rule_is l r e = by l.word l.numbers e
         let into = within_is most_id x m.0 m.3 in
         let from = within_is most_id y m.1 m.4 in
         let flip = flag_is z m.2 m.5 in
-        subst (λ (q : Rule). (record { word = Merge; numbers = x ∷ y ∷ z ∷ [] } ≡ rule_line q) × IsRuleInRange q) m.6
-        (ap (λ (u : ℤ). record { word = Merge; numbers = u ∷ y ∷ z ∷ [] }) into.0
-        ∙ ap (λ (u : ℤ). record { word = Merge; numbers = pos m.0 ∷ u ∷ z ∷ [] }) from.0
-        ∙ ap (λ (u : ℤ). record { word = Merge; numbers = pos m.0 ∷ pos m.1 ∷ u ∷ [] }) flip, (into.1, from.1))
+        subst (λ (q : Rule). (record { word = Merge; numbers = x ∷ y ∷ z ∷ [] } ≡ rule_line q) × IsRuleInRange q) m.6 (
+          ap (λ (u : ℤ). record { word = Merge; numbers = u ∷ y ∷ z ∷ [] }) into.0
+              ∙ ap (λ (u : ℤ). record { word = Merge; numbers = pos m.0 ∷ u ∷ z ∷ [] }) from.0
+              ∙ ap (λ (u : ℤ). record { word = Merge; numbers = pos m.0 ∷ pos m.1 ∷ u ∷ [] }) flip,
+          (into.1, from.1),
+        )
     by Divide (x ∷ rest) e =
         let a = and_then_is (λ n. option_map (divide_rule (seg n)) (rising line_id 0 rest)) (natural_within most_id x) r e in
         let m = map_is (divide_rule (seg a.0)) (rising line_id 0 rest) r a.2 in
         let at = within_is most_id x a.0 a.1 in
         let lines = lines_are 0 rest m.0 m.1 in
-        subst (λ (q : Rule). (record { word = Divide; numbers = x ∷ rest } ≡ rule_line q) × IsRuleInRange q) m.2
-        (ap (λ (u : ℤ). record { word = Divide; numbers = u ∷ rest }) at.0
-        ∙ ap (λ (us : List ℤ). record { word = Divide; numbers = pos a.0 ∷ us }) lines.0, (at.1, lines.1))
+        subst (λ (q : Rule). (record { word = Divide; numbers = x ∷ rest } ≡ rule_line q) × IsRuleInRange q) m.2 (
+          ap (λ (u : ℤ). record { word = Divide; numbers = u ∷ rest }) at.0
+              ∙ ap (λ (us : List ℤ). record { word = Divide; numbers = pos a.0 ∷ us }) lines.0,
+          (at.1, lines.1),
+        )
     by _ _ e = absurd cc
 
 pub parts_is : (l : Line) (n : ℕ) → parts_in l.word l.numbers ≡ Some n → (l ≡ parts_line n) × (n ≤ most_items)
@@ -164,9 +168,12 @@ part_is l p e = by l.word l.numbers e
         let m = map_is (λ list. (a.0, list)) (rising seg 0 rest) p a.2 in
         let target = within_is most_target x a.0 a.1 in
         let segs = segments_are 0 rest m.0 m.1 in
-        subst (λ (q : ℕ × List SegId). (record { word = Part; numbers = x ∷ rest } ≡ part_line q.0 q.1) × (q.0 ≤ most_target) × AreRisingSegments 0 q.1) m.2
-        (ap (λ (u : ℤ). record { word = Part; numbers = u ∷ rest }) target.0
-        ∙ ap (λ (us : List ℤ). record { word = Part; numbers = pos a.0 ∷ us }) segs.0, target.1, segs.1)
+        subst (λ (q : ℕ × List SegId). (record { word = Part; numbers = x ∷ rest } ≡ part_line q.0 q.1) × (q.0 ≤ most_target) × AreRisingSegments 0 q.1) m.2 (
+          ap (λ (u : ℤ). record { word = Part; numbers = u ∷ rest }) target.0
+              ∙ ap (λ (us : List ℤ). record { word = Part; numbers = pos a.0 ∷ us }) segs.0,
+          target.1,
+          segs.1,
+        )
     by _ _ e = absurd cc
 
 -- what the line of a node says
@@ -191,9 +198,11 @@ node_is room l node e = by l.word l.numbers e
         → (record { word = Close; numbers = z ∷ rest } ≡ node_line node) × IsNodeWithin room node
     close_with z rest ps are true counted e =
         let list = prices_are 0 rest ps are in
-        subst (λ (q : NodeLine). (record { word = Close; numbers = z ∷ rest } ≡ node_line q) × IsNodeWithin room q) (some_is (nodes.Close ps) node e)
-        (ap (λ (u : ℤ). record { word = Close; numbers = u ∷ rest }) (counts_is (length ps) z counted)
-        ∙ ap (λ (us : List ℤ). record { word = Close; numbers = pos (length ps) ∷ us }) list.0, list.1)
+        subst (λ (q : NodeLine). (record { word = Close; numbers = z ∷ rest } ≡ node_line q) × IsNodeWithin room q) (some_is (nodes.Close ps) node e) (
+          ap (λ (u : ℤ). record { word = Close; numbers = u ∷ rest }) (counts_is (length ps) z counted)
+              ∙ ap (λ (us : List ℤ). record { word = Close; numbers = pos (length ps) ∷ us }) list.0,
+          list.1,
+        )
     close_with z rest ps are false counted e = absurd cc
 
     by : (word : LineWord) (zs : List ℤ) → node_in room word zs ≡ Some node → (record { word = word; numbers = zs } ≡ node_line node) × IsNodeWithin room node
@@ -201,9 +210,11 @@ node_is room l node e = by l.word l.numbers e
         let m = split_is room (natural_within most_id x) (from_to 1 most_cases y) node e in
         let at = within_is most_id x m.0 m.3 in
         let count = from_to_is 1 most_cases y m.1 m.4 in
-        subst (λ (q : NodeLine). (record { word = Split; numbers = x ∷ y ∷ [] } ≡ node_line q) × IsNodeWithin room q) m.5
-        (ap (λ (u : ℤ). record { word = Split; numbers = u ∷ y ∷ [] }) at.0
-        ∙ ap (λ (u : ℤ). record { word = Split; numbers = pos m.0 ∷ u ∷ [] }) count.0, (m.2, at.1, count.1, count.2))
+        subst (λ (q : NodeLine). (record { word = Split; numbers = x ∷ y ∷ [] } ≡ node_line q) × IsNodeWithin room q) m.5 (
+          ap (λ (u : ℤ). record { word = Split; numbers = u ∷ y ∷ [] }) at.0
+              ∙ ap (λ (u : ℤ). record { word = Split; numbers = pos m.0 ∷ u ∷ [] }) count.0,
+          (m.2, at.1, count.1, count.2),
+        )
     by Close (z ∷ rest) e =
         let a = and_then_is (λ (ps : List (ℕ × ℤ)). cond (counts (length ps) z) (some (nodes.Close ps)) None) (prices_from 0 rest) node e in
         close_with z rest a.0 a.1 (counts (length a.0) z) refl a.2

@@ -1,8 +1,8 @@
 -- What stands at the front of a text.
-use Rattle.std.proofs.Common.{◌≡◌, ℕ, zero, suc, ◌+◌, ◌-◌, ◌<◌, ◌≤◌, ℤ, Bool, true, false, cond, ltb, List, [], ◌∷◌, ◌++◌, length, drop, Option, Some, None, option_map, refl, ap, subst, sym, ◌∙◌, length-drop, lt-ltb, le-ltb, arith, inl, inr}
+use Rattle.std.proofs.Common.{◌≡◌, ℕ, ◌+◌, ◌<◌, ℤ, Bool, true, false, cond, ltb, List, length, Option, Some, None, option_map, refl, ap, sym, ◌∙◌, length-drop, arith}
 use Rattle.std.specs.Option.{option_and_then}
 use Rattle.std.specs.List.{position_or_len, before_first, after_first}
-use Rattle.std.proofs.lemmas.Bool.{cases_lt, ltb-true}
+use Rattle.std.proofs.lemmas.Bool.{ltb-true}
 use Rattle.order_proof.specs.declared.line_word.LineWord.{LineWord}
 use Rattle.order_proof.specs.Lines.{Line}
 use Rattle.order_proof.specs.FrontLine.{is_line_end, line_of, front_line, front}
@@ -52,7 +52,7 @@ pub record IsSaid {A : Type 0} (reading : LineWord → List ℤ → Option A) (t
   pub says : reading line.word line.numbers ≡ Some a
 
 -- what a line says, with what stands behind it
-abbrev said : {A : Type 0} → (LineWord → List ℤ → Option A) → Line × List ℕ → Option (A × List ℕ)
+abbrev pub said : {A : Type 0} → (LineWord → List ℤ → Option A) → Line × List ℕ → Option (A × List ℕ)
 said reading x = option_map (paired x.1) (reading x.0.word x.0.numbers)
 
 -- a value changed, with what stands behind it

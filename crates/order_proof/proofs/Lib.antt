@@ -14,5 +14,8 @@ pub mod ReadTrees
 pub mod ReadParts
 pub mod ReadProofs
 pub mod Ends
+pub mod FormAgain
+pub mod TextAgain
+pub mod OneSpelling
 pub mod Rising
 pub mod DigitLemmas

@@ -1,5 +1,5 @@
 -- A line that was written is read again.
-use Rattle.std.proofs.Common.{◌≡◌, ℕ, zero, suc, ◌+◌, ◌<◌, ◌≤◌, ℤ, pos, negsuc, Bool, true, false, cond, not, ◌&&◌, ◌==◌, true≢false, List, [], ◌∷◌, ◌++◌, length, get_or, take, drop, Option, Some, None, option_map, codes, refl, ap, subst, sym, ◌∙◌, append_assoc, length-append, arith}
+use Rattle.std.proofs.Common.{◌≡◌, ℕ, suc, ◌+◌, ℤ, pos, negsuc, Bool, true, false, cond, not, ◌&&◌, ◌==◌, true≢false, List, [], ◌∷◌, ◌++◌, length, take, drop, Option, Some, option_map, refl, ap, sym, ◌∙◌, append_assoc, length-append, arith}
 use Rattle.std.specs.Char.{is_ascii_digit}
 use Rattle.std.specs.Str.{all_ascii_digits}
 use Rattle.std.specs.Fmt.{decimal, signed_decimal}
@@ -11,7 +11,7 @@ use Rattle.std.proofs.lemmas.List.Splits.{slice_split_at, slice_split_none}
 use Rattle.order_proof.specs.declared.line_word.LineWord.{LineWord}
 use Rattle.order_proof.specs.declared.line_word.LineWord.TheVariants.{Rules, Merge, Divide, Parts, Part, Split, Take, Close}
 use Rattle.order_proof.specs.Lines.{Line, word_text, numbers_text, line_text}
-use Rattle.order_proof.specs.Numbers.{number_of, numbers_of, in_front}
+use Rattle.order_proof.specs.Numbers.{numbers_of, in_front}
 use Rattle.order_proof.specs.FrontLine.{is_space, is_line_end, word_of, words_behind, line_with, line_of_words, line_of, front_line}
 use Rattle.order_proof.proofs.Words.{front_line_by}
 use Rattle.order_proof.proofs.NumberLemmas.{IsNumber, number_again, digits_written}
@@ -112,9 +112,9 @@ pub front_line_again : (l : Line) (rest : List ℕ) → AreNumbers l.numbers →
 front_line_again l rest few =
     let line = word_text l.word ++ body l.numbers in
     let whole : line_text l ++ rest ≡ line ++ 10 ∷ rest =
-      ap (λ (bytes : List ℕ). (word_text l.word ++ bytes) ++ rest) (body_ends l.numbers)
-      ∙ ap (λ (bytes : List ℕ). bytes ++ rest) (sym (append_assoc (word_text l.word) (body l.numbers) (10 ∷ [])))
-      ∙ append_assoc line (10 ∷ []) rest in
+    ap (λ (bytes : List ℕ). (word_text l.word ++ bytes) ++ rest) (body_ends l.numbers)
+    ∙ ap (λ (bytes : List ℕ). bytes ++ rest) (sym (append_assoc (word_text l.word) (body l.numbers) (10 ∷ [])))
+    ∙ append_assoc line (10 ∷ []) rest in
     let end : position_or_len is_line_end (line ++ 10 ∷ rest) ≡ length line = place_behind is_line_end line 10 rest (lacks-append is_line_end (word_text l.word) (body l.numbers) (word_lacks_end l.word) (body_lacks_end l.numbers few)) refl in
     let taken : take (length line) (line ++ 10 ∷ rest) ≡ line = take_at line (10 ∷ rest) (length line) refl in
     let dropped : drop (length line) (line ++ 10 ∷ rest) ≡ 10 ∷ rest = drop_at line (10 ∷ rest) (length line) refl in

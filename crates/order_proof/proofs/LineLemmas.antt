@@ -1,23 +1,20 @@
 -- A line that is read is the line that was written, and what was written is read again.
-use Rattle.std.proofs.Common.{◌≡◌, ℕ, zero, suc, ◌+◌, ◌<◌, ◌≤◌, ℤ, pos, negsuc, Bool, true, false, cond, not, ◌&&◌, ◌==◌, true≢false, List, [], ◌∷◌, ◌++◌, length, get_or, take, drop, Option, Some, None, option_map, codes, refl, ap, subst, sym, ◌∙◌, append_assoc, length-append, lt-ltb, arith}
-use Rattle.std.specs.Char.{is_ascii_digit}
-use Rattle.std.specs.Str.{all_ascii_digits, bytes_eq}
-use Rattle.std.specs.Fmt.{decimal, signed_decimal}
-use Rattle.std.specs.List.{AllByRecursion, slice_split, position_or_len, before_first, after_first}
-use Rattle.std.proofs.lemmas.Bool.{eqb-true, eq-eqb}
-use Rattle.std.proofs.lemmas.List.{append-nil, take_at, drop_at, take-append-drop, length-drop}
-use Rattle.std.proofs.lemmas.List.Elements.{All-from_recursion}
+use Rattle.std.proofs.Common.{◌≡◌, ℕ, zero, suc, ◌+◌, ◌≤◌, ℤ, Bool, true, false, cond, not, List, [], ◌∷◌, ◌++◌, length, get_or, take, drop, Option, Some, None, refl, ap, subst, sym, ◌∙◌, append_assoc, arith}
+use Rattle.std.specs.Str.{bytes_eq}
+use Rattle.std.specs.Fmt.{signed_decimal}
+use Rattle.std.specs.List.{AllByRecursion, position_or_len, before_first, after_first}
+use Rattle.std.proofs.lemmas.Bool.{eqb-true}
+use Rattle.std.proofs.lemmas.List.{take-append-drop, length-drop}
 use Rattle.std.proofs.lemmas.List.Sums.{split_at_first, passes_at_first}
-use Rattle.std.proofs.lemmas.List.Splits.{slice_split_at, slice_split_none}
 use Rattle.std.proofs.lemmas.Slice.Eq.{bytes_eq-Decides}
 use Rattle.order_proof.specs.declared.line_word.LineWord.{LineWord}
 use Rattle.order_proof.specs.declared.line_word.LineWord.TheVariants.{Rules, Merge, Divide, Parts, Part, Split, Take, Close}
 use Rattle.order_proof.specs.Lines.{Line, word_text, numbers_text, line_text}
 use Rattle.order_proof.specs.Numbers.{number_of, numbers_of, in_front}
 use Rattle.order_proof.specs.FrontLine.{is_space, is_line_end, word_of, words_behind, line_with, line_of_words, line_of, front_line}
-use Rattle.order_proof.proofs.Words.{word_end, front_word, front_line_by}
+use Rattle.order_proof.proofs.Words.{word_end, front_word}
 use Rattle.order_proof.proofs.Fronts.{front_line_is}
-use Rattle.order_proof.proofs.NumberLemmas.{IsNumber, number_is, number_again, digits_written}
+use Rattle.order_proof.proofs.NumberLemmas.{IsNumber, number_is}
 
 abbrev some : {A : Type 0} → A → Option A
 some x = Some x
@@ -59,11 +56,11 @@ numbers_are (suc most) (b ∷ rest) zs few space e =
     let first = number_is (take k rest) parts.0 parts.2 in
     let later = numbers_are most (drop k rest) parts.1 (omega (arith, length-drop k rest)) (space_behind rest) parts.3 in
     let whole : (b ∷ rest) ++ 10 ∷ [] ≡ 32 ∷ (signed_decimal parts.0 ++ numbers_text parts.1) =
-      ap (λ (c : ℕ). (c ∷ rest) ++ 10 ∷ []) space
-      ∙ ap (λ (bytes : List ℕ). 32 ∷ (bytes ++ 10 ∷ [])) (sym (take-append-drop k rest))
-      ∙ ap (λ (bytes : List ℕ). 32 ∷ bytes) (append_assoc (take k rest) (drop k rest) (10 ∷ []))
-      ∙ ap (λ (bytes : List ℕ). 32 ∷ (take k rest ++ bytes)) later.0
-      ∙ ap (λ (bytes : List ℕ). 32 ∷ (bytes ++ numbers_text parts.1)) first.0 in
+    ap (λ (c : ℕ). (c ∷ rest) ++ 10 ∷ []) space
+    ∙ ap (λ (bytes : List ℕ). 32 ∷ (bytes ++ 10 ∷ [])) (sym (take-append-drop k rest))
+    ∙ ap (λ (bytes : List ℕ). 32 ∷ bytes) (append_assoc (take k rest) (drop k rest) (10 ∷ []))
+    ∙ ap (λ (bytes : List ℕ). 32 ∷ (take k rest ++ bytes)) later.0
+    ∙ ap (λ (bytes : List ℕ). 32 ∷ (bytes ++ numbers_text parts.1)) first.0 in
     subst (λ (ys : List ℤ). ((b ∷ rest) ++ 10 ∷ [] ≡ numbers_text ys) × AreNumbers ys) (sym parts.4) (whole, (first.1, later.1))
 
 this_word : (text : List ℕ) (this : LineWord) (others : Option LineWord) (w : LineWord) → (others ≡ Some w → text ≡ word_text w) → cond (bytes_eq text (word_text this)) (Some this) others ≡ Some w → text ≡ word_text w
@@ -97,11 +94,13 @@ line_is text l e =
     let k = word_end text in
     let parts = line_with_is (word_of (take k text)) (numbers_of (words_behind (drop k text))) l (sym (ap line_of_words (front_word text)) ∙ e) in
     let first = word_is (take k text) l.word parts.0 in
-    let later = numbers_are (length (drop k text)) (drop k text) l.numbers (omega arith) (space_behind text) parts.1 in
-    (ap (λ (bytes : List ℕ). bytes ++ 10 ∷ []) (sym (take-append-drop k text))
-    ∙ append_assoc (take k text) (drop k text) (10 ∷ [])
-    ∙ ap (λ (bytes : List ℕ). take k text ++ bytes) later.0
-    ∙ ap (λ (bytes : List ℕ). bytes ++ numbers_text l.numbers) first, later.1)
+    let later = numbers_are (length (drop k text)) (drop k text) l.numbers (omega arith) (space_behind text) parts.1 in (
+      ap (λ (bytes : List ℕ). bytes ++ 10 ∷ []) (sym (take-append-drop k text))
+          ∙ append_assoc (take k text) (drop k text) (10 ∷ [])
+          ∙ ap (λ (bytes : List ℕ). take k text ++ bytes) later.0
+          ∙ ap (λ (bytes : List ℕ). bytes ++ numbers_text l.numbers) first,
+      later.1,
+    )
 
 -- the line at the front of a text, and the rest behind it, are the text
 pub front_line_text : (text : List ℕ) (l : Line) (rest : List ℕ) → front_line text ≡ Some (l, rest) → (text ≡ line_text l ++ rest) × AreNumbers l.numbers
@@ -109,9 +108,11 @@ front_line_text text l rest e =
     let is = front_line_is text l rest e in
     let before = before_first is_line_end text in
     let end : get_or text (position_or_len is_line_end text) 0 ≡ 10 = eqb-true (get_or text (position_or_len is_line_end text) 0) 10 (passes_at_first is_line_end text 0 is.within) in
-    let line = line_is before l is.line_is in
-    (split_at_first is_line_end text 0 is.within
-    ∙ ap (λ (c : ℕ). before ++ (c ∷ after_first is_line_end text)) end
-    ∙ ap (λ (bytes : List ℕ). before ++ (10 ∷ bytes)) (sym is.rest_is)
-    ∙ sym (append_assoc before (10 ∷ []) rest)
-    ∙ ap (λ (bytes : List ℕ). bytes ++ rest) line.0, line.1)
+    let line = line_is before l is.line_is in (
+      split_at_first is_line_end text 0 is.within
+          ∙ ap (λ (c : ℕ). before ++ (c ∷ after_first is_line_end text)) end
+          ∙ ap (λ (bytes : List ℕ). before ++ (10 ∷ bytes)) (sym is.rest_is)
+          ∙ sym (append_assoc before (10 ∷ []) rest)
+          ∙ ap (λ (bytes : List ℕ). bytes ++ rest) line.0,
+      line.1,
+    )

@@ -1,5 +1,5 @@
 -- A number that is read is the number that was written, and what was written is read again.
-use Rattle.std.proofs.Common.{◌≡◌, ◌≢◌, ℕ, zero, suc, ◌+◌, ◌^◌, ◌<◌, ◌≤◌, ℤ, pos, negsuc, Bool, true, false, cond, not, ◌&&◌, ◌==◌, true≢false, List, [], ◌∷◌, ◌++◌, length, get_or, Option, Some, None, option_map, refl, ap, subst, sym, ◌∙◌, arith}
+use Rattle.std.proofs.Common.{◌≡◌, ℕ, zero, suc, ◌<◌, ◌≤◌, ℤ, pos, negsuc, Bool, true, false, cond, not, ◌&&◌, ◌==◌, true≢false, List, [], ◌∷◌, length, get_or, Option, Some, None, option_map, refl, ap, subst, sym, ◌∙◌, arith}
 use Rattle.std.specs.Char.{is_ascii_digit}
 use Rattle.std.specs.Str.{all_ascii_digits}
 use Rattle.std.specs.Str.Parse.{digits_value, digits_value_after}
@@ -61,7 +61,7 @@ first_digit : (n : ℕ) → n ≤ most_number → 1 < length (decimal n) → 48 
 first_digit zero few long = absurd (omega (arith, ap length (decimal_digit 0 (omega arith))))
 first_digit (suc n) few long = first_decimal (suc n) (omega arith) (omega arith)
 
-up_to_within : (most n : ℕ) → n ≤ most → up_to most n ≡ Some n
+pub up_to_within : (most n : ℕ) → n ≤ most → up_to most n ≡ Some n
 up_to_within most n few = ap (λ (b : Bool). cond b (Some n) None) (le-leb n most few)
 
 -- what was written is read again

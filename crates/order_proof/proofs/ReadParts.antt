@@ -1,17 +1,16 @@
 -- A part, and parts one after the other.
-use Rattle.std.proofs.Common.{◌≡◌, ℕ, zero, suc, ◌+◌, ◌-◌, ◌<◌, ◌≤◌, ℤ, List, [], ◌∷◌, ◌++◌, length, map, Option, Some, None, option_map, Result, Ok, Err, refl, ap, subst, sym, ◌∙◌, append_assoc, arith}
-use Rattle.std.specs.List.{AllByRecursion}
+use Rattle.std.proofs.Common.{◌≡◌, ℕ, suc, ◌+◌, ◌-◌, ◌<◌, List, [], ◌∷◌, ◌++◌, map, Option, Some, None, Result, Ok, Err, refl, ap, subst, sym, ◌∙◌, append_assoc, arith}
 use Rattle.std.proofs.lemmas.List.{append-nil, length-append}
 use Rattle.map_base.specs.declared.ids.SegId.{SegId}
 use Rattle.order_proof.specs.declared.proof.Part.{Part}
-use Rattle.order_proof.specs.Plain.{PlainTree, PlainPart, plain, plain_part}
+use Rattle.order_proof.specs.Plain.{PlainTree, PlainPart, plain_part}
 use Rattle.order_proof.specs.Trees.{most_depth}
-use Rattle.order_proof.specs.Lines.{Line, line_text, part_line}
+use Rattle.order_proof.specs.Lines.{line_text, part_line}
 use Rattle.order_proof.specs.FrontLine.{front}
 use Rattle.order_proof.specs.Forms.{part_in}
 use Rattle.order_proof.specs.Text.{tree_text, part_text, parts_text}
 use Rattle.order_proof.specs.Ranges.{IsPartInRange}
-use Rattle.order_proof.specs.Reading.{Due, ATree, APart, parts_due, after, reading}
+use Rattle.order_proof.specs.Reading.{Due, ATree, APart, parts_due, reading}
 use Rattle.order_proof.specs.Readers.{IsTreeOf, IsPartOf, ArePartsOf}
 use Rattle.order_proof.proofs.Fronts.{front_map, front_is}
 use Rattle.order_proof.proofs.Steps.{then_read, goes_on, stops, reading_nothing, reading_after}
@@ -82,14 +81,14 @@ pub part_taken : (count done : ℕ) (parts new : List Part) (text rest behind : 
     → reading (parts_due 1) rest ≡ Ok behind → IsPartOf (plain_part p) rest behind → new ≡ parts ++ p ∷ [] → ArePartsSoFar count (done + 1) new text behind
 part_taken count done parts new text rest behind p below before read is pushed =
     let step : reading (parts_due (count - done)) rest ≡ reading (parts_due (count - (done + 1))) behind =
-      ap (λ (due : List Due). reading due rest) (due_next count done below) ∙ part_then (count - (done + 1)) rest
-      ∙ ap (λ (r : Result (List ℕ) (List ℕ)). then_read r (reading (parts_due (count - (done + 1))))) read in
+    ap (λ (due : List Due). reading due rest) (due_next count done below) ∙ part_then (count - (done + 1)) rest
+    ∙ ap (λ (r : Result (List ℕ) (List ℕ)). then_read r (reading (parts_due (count - (done + 1))))) read in
     let so_far : ArePartsOf (done + 1) (map plain_part parts ++ plain_part p ∷ []) text behind = record {
       counted = omega (arith, before.so_far.counted, length-append (map plain_part parts) (plain_part p ∷ []));
       range = all-append IsPartInRange (map plain_part parts) (plain_part p ∷ []) before.so_far.range (is.range, tt);
       front = before.so_far.front ∙ ap (λ (bytes : List ℕ). parts_text (map plain_part parts) ++ bytes) is.front
-        ∙ sym (append_assoc (parts_text (map plain_part parts)) (part_text (plain_part p)) behind)
-        ∙ ap (λ (bytes : List ℕ). bytes ++ behind) (sym (parts_text_push (map plain_part parts) (plain_part p)));
+          ∙ sym (append_assoc (parts_text (map plain_part parts)) (part_text (plain_part p)) behind)
+          ∙ ap (λ (bytes : List ℕ). bytes ++ behind) (sym (parts_text_push (map plain_part parts) (plain_part p)));
     } in
     subst (λ (ps : List Part). ArePartsSoFar count (done + 1) ps text behind) (sym pushed) (record {
       left = sym step ∙ before.left;

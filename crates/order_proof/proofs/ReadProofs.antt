@@ -1,17 +1,17 @@
 -- A proof, section by section.
-use Rattle.std.proofs.Common.{◌≡◌, ◌≢◌, ℕ, zero, suc, ◌+◌, ◌-◌, ◌<◌, ◌≤◌, ℤ, pos, negsuc, List, [], ◌∷◌, ◌++◌, length, take, Option, Some, None, option_map, Result, Ok, Err, refl, ap, subst, sym, ◌∙◌, append_assoc, arith}
+use Rattle.std.proofs.Common.{◌≡◌, ◌≢◌, ℕ, zero, suc, ℤ, pos, negsuc, List, [], ◌∷◌, ◌++◌, length, Some, None, Result, Ok, Err, ap, sym, ◌∙◌, append_assoc, arith}
 use Rattle.std.specs.List.{AllByRecursion}
-use Rattle.std.proofs.lemmas.List.{append-nil, length-append, take_at}
+use Rattle.std.proofs.lemmas.List.{append-nil}
 use Rattle.order_model.specs.declared.rule.Rule.{Rule}
 use Rattle.order_model.specs.PriceLists.{AreRisingPrices}
 use Rattle.order_proof.specs.Plain.{PlainTree, split, close, Cases, no_case, case_of, PlainPart, PlainProof}
 use Rattle.order_proof.specs.Trees.{AreNotZero, IsTree, AreTrees, IsProofTree, HasTrees}
-use Rattle.order_proof.specs.Lines.{Line, line_text, rules_line, parts_line}
+use Rattle.order_proof.specs.Lines.{line_text, rules_line, parts_line}
 use Rattle.order_proof.specs.FrontLine.{front}
 use Rattle.order_proof.specs.Forms.{rules_in, parts_in}
-use Rattle.order_proof.specs.Text.{rules_text, parts_text, proof_text}
+use Rattle.order_proof.specs.Text.{rules_text, parts_text}
 use Rattle.order_proof.specs.Ranges.{IsPrice, ArePrices, IsTreeInRange, AreCasesInRange, IsPartInRange, IsInRange}
-use Rattle.order_proof.specs.Reading.{Due, RuleCount, PartCount, rules_due, parts_due, after, reading}
+use Rattle.order_proof.specs.Reading.{Due, RuleCount, PartCount, rules_due, parts_due, reading}
 use Rattle.order_proof.specs.Readers.{AreRulesOf, ArePartsOf, IsProofOf}
 use Rattle.order_proof.proofs.Fronts.{front_map, front_is}
 use Rattle.order_proof.proofs.Steps.{then_read, goes_on, stops, reading_after}
@@ -57,11 +57,11 @@ proof_read text n one rules two m three parts rest first are second parts_are =
         parts = parts_are.range;
       };
       front =
-        line ∙ ap (λ (k : ℕ). line_text (rules_line k) ++ one) (sym are.counted)
-        ∙ ap (λ (bytes : List ℕ). a ++ bytes) (are.front
+          line ∙ ap (λ (k : ℕ). line_text (rules_line k) ++ one) (sym are.counted)
+          ∙ ap (λ (bytes : List ℕ). a ++ bytes) (are.front
           ∙ ap (λ (bytes : List ℕ). b ++ bytes) (parts_head ∙ ap (λ (k : ℕ). line_text (parts_line k) ++ three) (sym parts_are.counted) ∙ ap (λ (bytes : List ℕ). d ++ bytes) parts_are.front ∙ sym (append_assoc d e rest))
           ∙ sym (append_assoc b (d ++ e) rest))
-        ∙ sym (append_assoc a (b ++ (d ++ e)) rest);
+          ∙ sym (append_assoc a (b ++ (d ++ e)) rest);
     }
 
 -- ---- what the type of proofs keeps

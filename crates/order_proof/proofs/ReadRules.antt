@@ -1,16 +1,15 @@
 -- Rules read one after the other.
-use Rattle.std.proofs.Common.{◌≡◌, ℕ, zero, suc, ◌+◌, ◌-◌, ◌<◌, ◌≤◌, ℤ, List, [], ◌∷◌, ◌++◌, length, Option, Some, None, option_map, Result, Ok, Err, refl, ap, subst, sym, ◌∙◌, append_assoc, length-append, arith}
+use Rattle.std.proofs.Common.{◌≡◌, ℕ, suc, ◌+◌, ◌-◌, ◌<◌, List, [], ◌∷◌, ◌++◌, Some, None, Ok, Err, refl, ap, subst, sym, ◌∙◌, append_assoc, length-append, arith}
 use Rattle.std.specs.List.{AllByRecursion}
 use Rattle.std.proofs.lemmas.List.{append-nil}
 use Rattle.order_model.specs.declared.rule.Rule.{Rule}
-use Rattle.order_proof.specs.declared.line_word.LineWord.{LineWord}
-use Rattle.order_proof.specs.Lines.{Line, line_text, rule_line}
+use Rattle.order_proof.specs.Lines.{line_text, rule_line}
 use Rattle.order_proof.specs.FrontLine.{front}
 use Rattle.order_proof.specs.Forms.{rule_in}
 use Rattle.order_proof.specs.Text.{rules_text}
 use Rattle.order_proof.specs.Ranges.{IsRuleInRange}
-use Rattle.order_proof.specs.Reading.{Due, ARule, rules_due, after, reading}
-use Rattle.order_proof.specs.Readers.{left_of, AreRulesOf}
+use Rattle.order_proof.specs.Reading.{Due, ARule, rules_due, reading}
+use Rattle.order_proof.specs.Readers.{AreRulesOf}
 use Rattle.order_proof.proofs.Fronts.{front_map, front_is}
 use Rattle.order_proof.proofs.Steps.{goes_on, stops, reading_nothing}
 use Rattle.order_proof.proofs.FormLemmas.{rule_is, front_text}
@@ -42,16 +41,16 @@ pub rule_taken : (count done : ℕ) (rules new : List Rule) (text rest behind : 
 rule_taken count done rules new text rest behind r below before there pushed =
     let more = count - (done + 1) in
     let step : reading (rules_due (count - done)) rest ≡ reading (rules_due more) behind =
-      ap (λ (due : List Due). reading due rest) (due_next count done below)
-      ∙ goes_on (λ (_ : Rule). rules_due more) rule_in (ARule more) [] rest r behind (front_map (λ (_ : Rule). rules_due more) rule_in rest) there
-      ∙ ap (λ (due : List Due). reading due behind) (append-nil (rules_due more)) in
+    ap (λ (due : List Due). reading due rest) (due_next count done below)
+    ∙ goes_on (λ (_ : Rule). rules_due more) rule_in (ARule more) [] rest r behind (front_map (λ (_ : Rule). rules_due more) rule_in rest) there
+    ∙ ap (λ (due : List Due). reading due behind) (append-nil (rules_due more)) in
     let said = front_is rule_in rest r behind there in
     let line = front_text rule_in rest r behind (rule_line r) (λ l e. (rule_is l r e).0) there in
     let whole : text ≡ rules_text (rules ++ r ∷ []) ++ behind =
-      before.so_far.front ∙ ap (λ (bytes : List ℕ). rules_text rules ++ bytes) line
-      ∙ ap (λ (bytes : List ℕ). rules_text rules ++ (bytes ++ behind)) (sym (append-nil (line_text (rule_line r))))
-      ∙ sym (append_assoc (rules_text rules) (rules_text (r ∷ [])) behind)
-      ∙ ap (λ (bytes : List ℕ). bytes ++ behind) (sym (rules_text-append rules (r ∷ []))) in
+    before.so_far.front ∙ ap (λ (bytes : List ℕ). rules_text rules ++ bytes) line
+    ∙ ap (λ (bytes : List ℕ). rules_text rules ++ (bytes ++ behind)) (sym (append-nil (line_text (rule_line r))))
+    ∙ sym (append_assoc (rules_text rules) (rules_text (r ∷ [])) behind)
+    ∙ ap (λ (bytes : List ℕ). bytes ++ behind) (sym (rules_text-append rules (r ∷ []))) in
     subst (λ (rs : List Rule). AreRulesSoFar count (done + 1) rs text behind) (sym pushed) (record {
       left = sym step ∙ before.left;
       so_far = record {

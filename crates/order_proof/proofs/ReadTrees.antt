@@ -1,19 +1,18 @@
 -- Trees, and the cases of a split one after the other.
-use Rattle.std.proofs.Common.{◌≡◌, ℕ, zero, suc, ◌+◌, ◌-◌, ◌<◌, ◌≤◌, ℤ, false, List, [], ◌∷◌, ◌++◌, length, Option, Some, None, option_map, Result, Ok, Err, refl, ap, subst, sym, ◌∙◌, append_assoc, arith}
+use Rattle.std.proofs.Common.{◌≡◌, ℕ, suc, ◌+◌, ◌-◌, ◌<◌, ℤ, false, List, [], ◌∷◌, ◌++◌, Some, None, Result, Ok, Err, refl, ap, subst, sym, ◌∙◌, append_assoc, arith}
 use Rattle.std.proofs.lemmas.List.{append-nil}
 use Rattle.map_base.specs.declared.ids.SegId.{SegId}
 use Rattle.map_base.specs.declared.ids.LineId.{LineId}
-use Rattle.order_proof.specs.declared.line_word.LineWord.{LineWord}
 use Rattle.order_proof.specs.declared.node_line.NodeLine.{NodeLine}
 use Rattle.order_proof.specs.declared.node_line.NodeLine.TheVariants as nodes
 use Rattle.order_proof.specs.declared.tree.Tree.{Tree}
-use Rattle.order_proof.specs.Plain.{PlainTree, split, close, Cases, plain, plain_children}
-use Rattle.order_proof.specs.Trees.{depth_of, count_of, lines_of, is_among, AreDistinct}
-use Rattle.order_proof.specs.Lines.{Line, line_text, split_line, take_line}
+use Rattle.order_proof.specs.Plain.{split, close, Cases, plain, plain_children}
+use Rattle.order_proof.specs.Trees.{count_of, lines_of, is_among, AreDistinct}
+use Rattle.order_proof.specs.Lines.{line_text, split_line, take_line}
 use Rattle.order_proof.specs.FrontLine.{front}
-use Rattle.order_proof.specs.Forms.{node_in, take_in, most_id}
+use Rattle.order_proof.specs.Forms.{node_in, take_in}
 use Rattle.order_proof.specs.Text.{tree_text, cases_text}
-use Rattle.order_proof.specs.Reading.{Due, ATree, ACase, cases_due, node_due, after, reading}
+use Rattle.order_proof.specs.Reading.{Due, ATree, ACase, cases_due, node_due, reading}
 use Rattle.order_proof.specs.Readers.{IsTreeOf, AreCasesOf}
 use Rattle.order_proof.proofs.Fronts.{front_map, front_is}
 use Rattle.order_proof.proofs.Steps.{then_read, goes_on, stops, reading_nothing, reading_after}
@@ -54,9 +53,9 @@ split_tree room text e count behind cases rest there are =
       range = (within.1, omega (arith, within.2, are.counted), omega (arith, within.3, are.counted), are.distinct, are.range);
       depth = omega (arith, within.0, are.depth);
       front = node_text room text (nodes.Split e count) behind there
-        ∙ ap (λ (n : ℕ). line_text (split_line e n) ++ behind) (sym are.counted)
-        ∙ ap (λ (bytes : List ℕ). line_text (split_line e (count_of cases)) ++ bytes) are.front
-        ∙ sym (append_assoc (line_text (split_line e (count_of cases))) (cases_text cases) rest);
+          ∙ ap (λ (n : ℕ). line_text (split_line e n) ++ behind) (sym are.counted)
+          ∙ ap (λ (bytes : List ℕ). line_text (split_line e (count_of cases)) ++ bytes) are.front
+          ∙ sym (append_assoc (line_text (split_line e (count_of cases))) (cases_text cases) rest);
     }
 
 -- ---- cases
@@ -84,16 +83,19 @@ take_stops room count done taken children text rest below before none =
     sym before.left ∙ ap (λ (due : List Due). reading due rest) (due_next room count done taken below)
     ∙ stops (λ (a : LineId). ATree room ∷ cases_due more (taken ++ a ∷ []) room) (take_in taken) (ACase more taken room) [] rest (front_map (λ (a : LineId). ATree room ∷ cases_due more (taken ++ a ∷ []) room) (take_in taken) rest) none
 
--- a line is taken: its tree is due, and then the other cases
+-- a line is taken: its tree is due, and then so many more cases
+pub take_step : (room more : ℕ) (taken : List LineId) (rest : List ℕ) (a : LineId) (behind : List ℕ) → front (take_in taken) rest ≡ Some (a, behind)
+    → reading (cases_due (suc more) taken room) rest ≡ then_read (reading (ATree room ∷ []) behind) (reading (cases_due more (taken ++ a ∷ []) room))
+take_step room more taken rest a behind there =
+    let later = cases_due more (taken ++ a ∷ []) room in
+    goes_on (λ (b : LineId). ATree room ∷ cases_due more (taken ++ b ∷ []) room) (take_in taken) (ACase more taken room) [] rest a behind (front_map (λ (b : LineId). ATree room ∷ cases_due more (taken ++ b ∷ []) room) (take_in taken) rest) there
+    ∙ ap (λ (due : List Due). reading (ATree room ∷ due) behind) (append-nil later)
+    ∙ reading_after (ATree room ∷ []) later behind
+
 take_goes_on : (room count done : ℕ) (taken : List LineId) (rest : List ℕ) (a : LineId) (behind : List ℕ) → done < count → front (take_in taken) rest ≡ Some (a, behind)
     → reading (cases_due (count - done) taken room) rest ≡ then_read (reading (ATree room ∷ []) behind) (reading (cases_due (count - (done + 1)) (taken ++ a ∷ []) room))
 take_goes_on room count done taken rest a behind below there =
-    let more = count - (done + 1) in
-    let later = cases_due more (taken ++ a ∷ []) room in
-    ap (λ (due : List Due). reading due rest) (due_next room count done taken below)
-    ∙ goes_on (λ (b : LineId). ATree room ∷ cases_due more (taken ++ b ∷ []) room) (take_in taken) (ACase more taken room) [] rest a behind (front_map (λ (b : LineId). ATree room ∷ cases_due more (taken ++ b ∷ []) room) (take_in taken) rest) there
-    ∙ ap (λ (due : List Due). reading (ATree room ∷ due) behind) (append-nil later)
-    ∙ reading_after (ATree room ∷ []) later behind
+    ap (λ (due : List Due). reading due rest) (due_next room count done taken below) ∙ take_step room (count - (done + 1)) taken rest a behind there
 
 pub case_due : (room count done : ℕ) (taken : List LineId) (children : List Child) (text rest : List ℕ) (a : LineId) (behind : List ℕ) → done < count → AreCasesSoFar room count done taken children text rest
     → front (take_in taken) rest ≡ Some (a, behind) → reading (cases_due count [] room) text ≡ then_read (reading (ATree room ∷ []) behind) (reading (cases_due (count - (done + 1)) (taken ++ a ∷ []) room))
@@ -108,8 +110,8 @@ case_taken room count done taken new_taken children new text rest a tree behind 
     let take = take_is taken said.line a said.says in
     let line = front_text (take_in taken) rest a behind (take_line a) (λ l e. (take_is taken l a e).0) there in
     let step : reading (cases_due (count - done) taken room) rest ≡ reading (cases_due (count - (done + 1)) (taken ++ a ∷ []) room) left =
-      take_goes_on room count done taken rest a behind below there
-      ∙ ap (λ (r : Result (List ℕ) (List ℕ)). then_read r (reading (cases_due (count - (done + 1)) (taken ++ a ∷ []) room))) read in
+    take_goes_on room count done taken rest a behind below there
+    ∙ ap (λ (r : Result (List ℕ) (List ℕ)). then_read r (reading (cases_due (count - (done + 1)) (taken ++ a ∷ []) room))) read in
     let free : is_among (lines_of (plain_children children)) a ≡ false = ap (λ (ls : List LineId). is_among ls a) before.lines ∙ take.2 in
     let made : AreCasesSoFar room count (done + 1) (taken ++ a ∷ []) (children ++ c ∷ []) text left = record {
       left = sym step ∙ before.left;
@@ -120,9 +122,9 @@ case_taken room count done taken new_taken children new text rest a tree behind 
         range = range_push children c before.so_far.range take.1 is.range;
         depth = depth_push room children c before.so_far.depth is.depth;
         front = before.so_far.front
-          ∙ ap (λ (bytes : List ℕ). cases_text (plain_children children) ++ bytes) (line ∙ ap (λ (bytes : List ℕ). line_text (take_line a) ++ bytes) is.front ∙ sym (append_assoc (line_text (take_line a)) (tree_text (plain tree)) left))
-          ∙ sym (append_assoc (cases_text (plain_children children)) (line_text (take_line a) ++ tree_text (plain tree)) left)
-          ∙ ap (λ (bytes : List ℕ). bytes ++ left) (sym (text_push children c));
+            ∙ ap (λ (bytes : List ℕ). cases_text (plain_children children) ++ bytes) (line ∙ ap (λ (bytes : List ℕ). line_text (take_line a) ++ bytes) is.front ∙ sym (append_assoc (line_text (take_line a)) (tree_text (plain tree)) left))
+            ∙ sym (append_assoc (cases_text (plain_children children)) (line_text (take_line a) ++ tree_text (plain tree)) left)
+            ∙ ap (λ (bytes : List ℕ). bytes ++ left) (sym (text_push children c));
       };
     } in
     subst (λ (cs : List Child). AreCasesSoFar room count (done + 1) new_taken cs text left) (sym pushed)
@@ -131,6 +133,7 @@ case_taken room count done taken new_taken children new text rest a tree behind 
 pub cases_end : (room count done : ℕ) (taken : List LineId) (children : List Child) (text rest : List ℕ) → count ≡ done → AreCasesSoFar room count done taken children text rest
     → (reading (cases_due count [] room) text ≡ Ok rest) × AreCasesOf room count (plain_children children) text rest
 cases_end room count done taken children text rest is before =
-    let nothing : count - done ≡ 0 = omega arith in
-    (sym before.left ∙ ap (λ (n : ℕ). reading (cases_due n taken room) rest) nothing ∙ reading_nothing rest,
-    subst (λ (n : ℕ). AreCasesOf room n (plain_children children) text rest) (sym is) before.so_far)
+    let nothing : count - done ≡ 0 = omega arith in (
+      sym before.left ∙ ap (λ (n : ℕ). reading (cases_due n taken room) rest) nothing ∙ reading_nothing rest,
+      subst (λ (n : ℕ). AreCasesOf room n (plain_children children) text rest) (sym is) before.so_far,
+    )

@@ -3,7 +3,7 @@ use Rattle.std.proofs.Common.{◌≡◌, ℕ, suc, ◌+◌, ◌^◌, ◌<◌, �
 use Rattle.std.proofs.lemmas.List.{append-nil}
 use Rattle.std.specs.Option.{option_and_then}
 use Rattle.order_model.specs.PriceLists.{AreRisingPrices}
-use Rattle.order_proof.specs.Forms.{rising, priced_term, prices_from}
+use Rattle.order_proof.specs.Forms.{priced_term, prices_from}
 
 -- things before others, where those are there
 abbrev pub behind : {A : Type 0} → List A → Option (List A) → Option (List A)
@@ -34,7 +34,7 @@ price_taken least done p [] total long is whole = absurd (omega arith)
 price_taken least done p (x ∷ []) total long is whole = absurd (omega arith)
 price_taken least done p (x ∷ y ∷ rest) total long is whole =
     let one : prices_from least (x ∷ y ∷ rest) ≡ option_map (λ more. p ∷ more) (prices_from (suc p.0) rest) =
-      ap (option_and_then (λ (q : ℕ × ℤ). option_map (λ more. q ∷ more) (prices_from (suc q.0) rest))) (sym is) in
+    ap (option_and_then (λ (q : ℕ × ℤ). option_map (λ more. q ∷ more) (prices_from (suc q.0) rest))) (sym is) in
     let next : suc p.0 ≡ p.0 + 1 = omega arith in
     ap (λ (n : ℕ). behind (done ++ p ∷ []) (prices_from n rest)) (sym next) ∙ sym (joined done p (prices_from (suc p.0) rest)) ∙ ap (behind done) (sym one) ∙ whole
 

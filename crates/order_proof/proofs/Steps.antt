@@ -1,10 +1,9 @@
 -- Reading line by line: one line, and one thing after the other.
-use Rattle.std.proofs.Common.{◌≡◌, ℕ, zero, suc, ◌<◌, ◌≤◌, ℤ, List, [], ◌∷◌, ◌++◌, length, Option, Some, None, Result, Ok, Err, option_map, refl, ap, sym, ◌∙◌, append_assoc, arith}
-use Rattle.std.proofs.lemmas.List.{append-nil}
+use Rattle.std.proofs.Common.{◌≡◌, ℕ, zero, suc, ◌≤◌, ℤ, List, [], ◌∷◌, ◌++◌, length, Option, Some, None, Result, Ok, Err, option_map, refl, ap, sym, ◌∙◌, append_assoc, arith}
 use Rattle.order_proof.specs.declared.line_word.LineWord.{LineWord}
 use Rattle.order_proof.specs.FrontLine.{front}
 use Rattle.order_proof.specs.Reading.{Due, after, go_on, read_lines, reading}
-use Rattle.order_proof.proofs.Fronts.{changed, front_shorter, front_empty, front_map}
+use Rattle.order_proof.proofs.Fronts.{changed, front_shorter, front_empty}
 
 -- a bound that is great enough is as good as another
 enough : (m n : ℕ) (due : List Due) (text : List ℕ) → length text ≤ m → length text ≤ n → read_lines m due text ≡ read_lines n due text

@@ -1,5 +1,5 @@
 -- Where readers stop.
-use Rattle.std.proofs.Common.{◌≡◌, ℕ, List, length, Option, Some, None, Result, Ok, Err, refl, ap, sym, ◌∙◌}
+use Rattle.std.proofs.Common.{◌≡◌, ℕ, List, Option, None, Result, Ok, Err, ap, sym, ◌∙◌}
 use Rattle.order_proof.specs.declared.fault.Stop.{Stop}
 use Rattle.order_proof.specs.declared.fault.Stop.TheVariants as stops
 use Rattle.order_proof.specs.Readers.{IsRead, left_of, Follows}

@@ -1,8 +1,8 @@
 -- Trees, node by node.
-use Rattle.std.proofs.Common.{◌≡◌, ℕ, suc, ℤ, List, [], ◌∷◌, length, Vec, Global, refl, ap, sym, ◌∙◌, arith, rules}
+use Rattle.std.proofs.Common.{◌≡◌, ℕ, suc, ℤ, List, [], ◌∷◌, length, Vec, Global, refl, ap, rules}
 use Rattle.map_base.specs.declared.ids.SegId.{SegId}
 use Rattle.map_base.specs.declared.ids.LineId.{LineId}
-use Rattle.order_proof.specs.Plain.{PlainTree, split, close, plain, plain_children}
+use Rattle.order_proof.specs.Plain.{split, close, plain, plain_children}
 use Rattle.order_proof.specs.Trees.{count_of}
 use Rattle.order_proof.specs.declared.tree.Tree.{Tree, Split, Close, the_lemmas}
 

@@ -1,9 +1,7 @@
 -- The words of a line, taken one at a time.
-use Rattle.std.proofs.Common.{◌≡◌, ℕ, suc, ◌+◌, ◌<◌, ◌≤◌, ℤ, Bool, true, false, cond, not, List, [], ◌∷◌, ◌++◌, length, get_or, take, drop, Option, Some, None, option_map, refl, ap, subst, sym, ◌∙◌, append_assoc, drop-drop, lt-ltb, le-ltb, arith}
+use Rattle.std.proofs.Common.{◌≡◌, ℕ, suc, ◌+◌, ◌<◌, ◌≤◌, ℤ, Bool, true, false, cond, not, List, [], ◌∷◌, ◌++◌, length, get_or, take, drop, Option, Some, None, option_map, refl, ap, sym, ◌∙◌, append_assoc, drop-drop, lt-ltb, le-ltb, arith}
 use Rattle.std.specs.List.{slice_split, onto_first, position_or_len}
 use Rattle.std.proofs.lemmas.List.Sums.{position_or_len_is}
-use Rattle.order_proof.specs.declared.line_word.LineWord.{LineWord}
-use Rattle.order_proof.specs.Lines.{Line}
 use Rattle.order_proof.specs.Numbers.{number_of, numbers_of, in_front}
 use Rattle.order_proof.specs.FrontLine.{is_space, is_line_end, front_line, word_of, words_behind, numbers_behind, line_with, line_of_words, line_of}
 

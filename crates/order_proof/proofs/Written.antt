@@ -1,8 +1,8 @@
 -- What was written of a tree.
-use Rattle.std.proofs.Common.{◌≡◌, ℕ, List, [], ◌∷◌, ◌++◌, length, sym, ap, ◌∙◌, append_assoc}
+use Rattle.std.proofs.Common.{◌≡◌, ℕ, List, ◌++◌, length, sym, ap, ◌∙◌, append_assoc}
 use Rattle.map_base.specs.declared.ids.SegId.{SegId}
 use Rattle.map_base.specs.declared.ids.LineId.{LineId}
-use Rattle.order_proof.specs.Plain.{PlainTree, split, plain, plain_children}
+use Rattle.order_proof.specs.Plain.{PlainTree, split, plain_children}
 use Rattle.order_proof.specs.Lines.{line_text, split_line}
 use Rattle.order_proof.specs.Trees.{count_of}
 use Rattle.order_proof.specs.Text.{tree_text, cases_text}

@@ -1,5 +1,5 @@
 -- The forms that lines may have, and what a line of each form says.
-use Rattle.std.specs.Prelude.{ℕ, zero, suc, ◌^◌, ◌-◌, ◌==◌, ℤ, pos, negsuc, Bool, true, false, ◌&&◌, List, [], ◌∷◌, length, map, Option, Some, None, option_map, if◌then◌else◌, nat_le, nat_lt}
+use Rattle.std.specs.Prelude.{ℕ, zero, suc, ◌^◌, ◌-◌, ◌==◌, ℤ, pos, negsuc, Bool, true, false, List, [], ◌∷◌, length, Option, Some, None, option_map, if◌then◌else◌, nat_le, nat_lt}
 use Rattle.std.specs.Option.{option_and_then}
 use Rattle.map_base.specs.declared.ids.SegId.{SegId}
 use Rattle.map_base.specs.declared.ids.LineId.{LineId}
@@ -8,7 +8,6 @@ use Rattle.order_model.specs.declared.rule.Rule.TheVariants.{Merge as merge_rule
 use Rattle.order_proof.specs.declared.line_word.LineWord.{LineWord}
 use Rattle.order_proof.specs.declared.line_word.LineWord.TheVariants.{Rules, Merge, Divide, Parts, Part, Split, Take, Close}
 use Rattle.order_proof.specs.declared.node_line.NodeLine.{NodeLine}
-use Rattle.order_proof.specs.declared.node_line.NodeLine.TheVariants as NodeLine
 use Rattle.order_proof.specs.Numbers.{up_to}
 use Rattle.order_proof.specs.Trees.{is_among}
 

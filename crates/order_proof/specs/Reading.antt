@@ -3,7 +3,6 @@ use Rattle.std.specs.Prelude.{ℕ, zero, suc, ◌-◌, ℤ, List, [], ◌∷◌,
 use Rattle.map_base.specs.declared.ids.LineId.{LineId}
 use Rattle.order_proof.specs.declared.line_word.LineWord.{LineWord}
 use Rattle.order_proof.specs.declared.node_line.NodeLine.{NodeLine}
-use Rattle.order_proof.specs.declared.node_line.NodeLine.TheVariants as NodeLine
 use Rattle.order_proof.specs.Trees.{most_depth}
 use Rattle.order_proof.specs.FrontLine.{front}
 use Rattle.order_proof.specs.Forms.{rules_in, rule_in, parts_in, part_in, node_in, take_in}

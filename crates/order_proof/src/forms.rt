@@ -134,7 +134,11 @@ fn prices_in(alloc: Global, numbers: &[i64]) -> Result<Option<Vec<(u32, i64)>>, 
         least = u64::from(price.0) + 1;
         rest = rest.split_at(2).1;
     }
-    if rest.is_empty() { Ok(Some(prices)) } else { Ok(None) }
+    if rest.is_empty() {
+        Ok(Some(prices))
+    } else {
+        Ok(None)
+    }
 }
 
 /// The number of a segment, a line or a term.
@@ -176,7 +180,11 @@ fn divide_of(alloc: Global, seg: i64, lines: &[i64]) -> Result<Option<Rule>, NoM
 }
 
 /// A rule.
-pub(crate) fn rule_in(alloc: Global, word: LineWord, numbers: &[i64]) -> Result<Option<Rule>, NoMemory>
+pub(crate) fn rule_in(
+    alloc: Global,
+    word: LineWord,
+    numbers: &[i64],
+) -> Result<Option<Rule>, NoMemory>
     ensures { IfOk result (λ rule. rule ≡ rule_in word numbers.now) }
 {
     match (word, numbers) {
@@ -284,7 +292,11 @@ pub(crate) fn take_in(taken: &[LineId], word: LineWord, numbers: &[i64]) -> Opti
     match (word, numbers) {
         (LineWord::Take, [line]) => {
             let line = LineId(id_of(*line)?);
-            if is_among(taken, line) { None } else { Some(line) }
+            if is_among(taken, line) {
+                None
+            } else {
+                Some(line)
+            }
         }
         _ => None,
     }

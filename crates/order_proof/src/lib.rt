@@ -4,6 +4,7 @@
 mod fault;
 mod forms;
 mod front_line;
+mod laws;
 mod line_word;
 mod node_line;
 mod numbers;
@@ -13,6 +14,9 @@ mod tree;
 mod writing;
 
 pub use fault::BadText;
+pub use laws::{
+    every_proof_has_one_spelling, no_proof_where_reading_stops, what_is_written_is_read,
+};
 pub use proof::{Part, Proof};
 pub use reading::read_proof;
 pub use tree::Tree;

@@ -22,10 +22,7 @@ use std::alloc::Global;
 const MOST_DEPTH: u32 = 2_048;
 
 /// The word of the line at the front. Its numbers replace those in `numbers`.
-fn read_line<'a>(
-    text: &'a [u8],
-    numbers: &mut Vec<i64>,
-) -> Result<(LineWord, &'a [u8]), Stop>
+fn read_line<'a>(text: &'a [u8], numbers: &mut Vec<i64>) -> Result<(LineWord, &'a [u8]), Stop>
     ensures { IsRead (λ x. (record { word = x.0; numbers = numbers.new.items }, x.1.now)) result text.now (front_line text.now) }
 {
     match front_line(text, numbers)? {
@@ -36,10 +33,7 @@ fn read_line<'a>(
 
 /// The line that counts the rules.
 #[tactic(auto, unfolding(crate::specs::FrontLine::front))]
-fn read_rule_count<'a>(
-    text: &'a [u8],
-    numbers: &mut Vec<i64>,
-) -> Result<(u64, &'a [u8]), Stop>
+fn read_rule_count<'a>(text: &'a [u8], numbers: &mut Vec<i64>) -> Result<(u64, &'a [u8]), Stop>
     ensures { IsRead (λ x. (x.0, x.1.now)) result text.now (front rules_in text.now) }
 {
     let (word, rest) = read_line(text, numbers)?;
@@ -67,10 +61,7 @@ fn read_rule<'a>(
 
 /// The line that counts the parts.
 #[tactic(auto, unfolding(crate::specs::FrontLine::front))]
-fn read_part_count<'a>(
-    text: &'a [u8],
-    numbers: &mut Vec<i64>,
-) -> Result<(u64, &'a [u8]), Stop>
+fn read_part_count<'a>(text: &'a [u8], numbers: &mut Vec<i64>) -> Result<(u64, &'a [u8]), Stop>
     ensures { IsRead (λ x. (x.0, x.1.now)) result text.now (front parts_in text.now) }
 {
     let (word, rest) = read_line(text, numbers)?;

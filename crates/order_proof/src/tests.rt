@@ -1,32 +1,114 @@
 use super::*;
-use map_base::{LineId, SegId, Sequence};
-use order_model::Rule;
+use map_base::NoMemory;
+use std::alloc::Global;
 use std::test::Fail;
 
+/// Texts of proofs.
+const TEXTS: [&[u8]; 7] = [
+    b"rules 0\nparts 0\n",
+    b"rules 2\nmerge 1 3 0\ndivide 1 0\nparts 0\n",
+    b"rules 0\nparts 1\npart 21 0 1 2\nsplit 0 2\ntake 0\nsplit 1 2\ntake 0\nsplit 2 2\ntake 1\nclose 0\ntake 0\nclose 0\ntake 1\nclose 0\ntake 1\nclose 1 8 12\n",
+    b"rules 0\nparts 1\npart 1 1 3\nsplit 1 2\ntake 0\nsplit 3 2\ntake 1\nclose 0\ntake 0\nclose 0\ntake 1\nclose 0\n",
+    b"rules 0\nparts 1\npart 0 0 1\nsplit 0 3\ntake 0\nsplit 0 2\ntake 2\nsplit 1 2\ntake 0\nclose 0\ntake 2\nclose 0\ntake 1\nclose 0\ntake 2\nclose 0\ntake 1\nclose 0\n",
+    b"rules 0\nparts 1\npart 3 1\nclose 0\n",
+    b"rules 1\nmerge 4294967295 0 1\nparts 2\npart 1000000000000000\nclose 2 0 -1000000000 4294967295 1000000000\npart 0 7 8\nclose 0\n",
+];
+
 #[test]
-fn writes_rules(rt: HostRuntime) -> Result<(), Fail> {
+fn reads_and_writes(rt: HostRuntime) -> Result<(), Fail> {
     let alloc = rt.alloc();
-    let first = vec![in alloc; LineId(0)]?;
-    let rules = vec![in alloc;
-        Rule::Merge {
-            into: SegId(1),
-            from: SegId(3),
-            flip: false,
-        },
-        Rule::Divide {
-            seg: SegId(1),
-            first: Sequence::of(first),
-        },
-    ]?;
-    let proof = Proof {
-        rules: Sequence::of(rules),
-        parts: Sequence::of(Vec::new(alloc)),
-    };
-    let text = write_proof(alloc, &proof)?;
-    let shown = text.as_slice();
-    assert_eq!(rt;
-        shown,
-        b"rules 2\nmerge 1 3 0\ndivide 1 0\nparts 0\n".as_slice()
+    for text in TEXTS {
+        let mut longer = Vec::from_slice(alloc, text)?;
+        longer.extend_from_slice(b"rules 9")?;
+        let (proof, used) = read_proof(alloc, &longer).ok().ok_or("a proof's text")?;
+        assert_eq!(rt; used, text.len());
+        let written = write_proof(alloc, &proof)?;
+        let shown = written.as_slice();
+        assert_eq!(rt; shown, text);
+    }
+    Ok(())
+}
+
+/// Texts that are no proof's, and where the first line begins that has not the form due there.
+const WRONG: [(&[u8], u64); 24] = [
+    (b"", 0),
+    (b"rules 0", 0),
+    (b"rules 0\n", 8),
+    (b"rules 0\nparts 0", 8),
+    (b"rules 01\nparts 0\n", 0),
+    (b"rules  0\nparts 0\n", 0),
+    (b"rules 0 \nparts 0\n", 0),
+    (b"rules -0\nparts 0\n", 0),
+    (b"rules 20000001\nparts 0\n", 0),
+    (b"rules 1\nparts 0\n", 8),
+    (b"rules 1\nmerge 1 3 2\nparts 0\n", 8),
+    (b"rules 1\nmerge 1 4294967296 0\nparts 0\n", 8),
+    (b"rules 1\ndivide 1 2 2\nparts 0\n", 8),
+    (b"rules 1\ndivide\nparts 0\n", 8),
+    (b"rules 0\nparts 1\n", 16),
+    (b"rules 0\nparts 1\npart 1000000000000001\nclose 0\n", 16),
+    (b"rules 0\nparts 1\npart 0 2 1\nclose 0\n", 16),
+    (b"rules 0\nparts 1\npart 0 0\nsplit 0 0\nclose 0\n", 25),
+    (b"rules 0\nparts 1\npart 0 0\nsplit 0 1001\n", 25),
+    (
+        b"rules 0\nparts 1\npart 0 0\nsplit 0 2\ntake 0\nclose 0\ntake 0\nclose 0\n",
+        50,
+    ),
+    (b"rules 0\nparts 1\npart 0 0\nclose 1 8 0\n", 25),
+    (b"rules 0\nparts 1\npart 0 0\nclose 1 8 1000000001\n", 25),
+    (b"rules 0\nparts 1\npart 0 0\nclose 2 8 1\n", 25),
+    (b"rules 0\nparts 1\npart 0 0\nclose 2 8 1 8 1\n", 25),
+];
+
+#[test]
+fn finds_the_first_wrong_line(rt: HostRuntime) {
+    for (text, at) in WRONG {
+        assert!(rt;
+            matches!(read_proof(rt.alloc(), text), Err(BadText::At { at: found }) if found == at)
+        );
+    }
+}
+
+/// A tree with one split below the other.
+fn deep_text(alloc: Global, splits: u32) -> Result<Vec<u8>, NoMemory> {
+    let mut text = Vec::from_slice(alloc, b"rules 0\nparts 1\npart 0 0\n")?;
+    for _ in 0..splits {
+        text.extend_from_slice(b"split 0 1\ntake 0\n")?;
+    }
+    text.extend_from_slice(b"close 0\n")?;
+    Ok(text)
+}
+
+#[test]
+fn reads_a_tree_of_the_greatest_depth(rt: HostRuntime) -> Result<(), Fail> {
+    let alloc = rt.alloc();
+    let text = deep_text(alloc, 2_048)?;
+    let (proof, used) = read_proof(alloc, &text).ok().ok_or("a proof's text")?;
+    assert_eq!(rt; used, 34_849);
+    let written = write_proof(alloc, &proof)?;
+    assert_eq!(rt; written, text);
+    Ok(())
+}
+
+#[test]
+fn refuses_a_deeper_tree(rt: HostRuntime) -> Result<(), Fail> {
+    let text = deep_text(rt.alloc(), 2_049)?;
+    assert!(rt;
+        matches!(
+            read_proof(rt.alloc(), &text),
+            Err(BadText::At { at: 34_841 })
+        )
     );
+    Ok(())
+}
+
+#[test]
+fn refuses_a_number_of_400_digits(rt: HostRuntime) -> Result<(), Fail> {
+    let mut text = Vec::from_slice(rt.alloc(), b"rules 0\nparts 1\npart ")?;
+    for _ in 0..400 {
+        text.push(b'9')?;
+    }
+    text.extend_from_slice(b"\nclose 0\n")?;
+    assert!(rt; matches!(read_proof(rt.alloc(), &text), Err(BadText::At { at: 16 })));
     Ok(())
 }

@@ -1,4 +1,4 @@
-use Rattle.std.proofs.Common.{◌≡◌, ℕ, ℤ, List, Option, Some, None, option_map, refl, ap, sym, ◌∙◌, drop, arith}
+use Rattle.std.proofs.Common.{ℕ, List, option_map, refl, ap, sym, ◌∙◌, drop, arith}
 use Rattle.order_proof.specs.declared.line_word.LineWord.{LineWord}
 use Rattle.order_proof.specs.Lines.{Line}
 use Rattle.order_proof.proofs.Words.{no_front_line, front_line_by}

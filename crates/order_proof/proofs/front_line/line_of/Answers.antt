@@ -1,4 +1,4 @@
-use Rattle.std.proofs.Common.{◌≡◌, ap, sym, ◌∙◌}
+use Rattle.std.proofs.Common.{ap, sym, ◌∙◌}
 use Rattle.order_proof.specs.Numbers.{numbers_of}
 use Rattle.order_proof.specs.FrontLine.{words_behind, line_with}
 use Rattle.order_proof.proofs.Words.{line_by}

@@ -1,4 +1,4 @@
-use Rattle.std.proofs.Common.{◌≡◌, List, [], ◌∷◌, map, ◌∙◌}
+use Rattle.std.proofs.Common.{[], ◌∷◌, map, ◌∙◌}
 use Rattle.std.proofs.lemmas.Result.{err_from_is_err_and}
 use Rattle.order_proof.specs.Plain.{plain_part}
 use Rattle.order_proof.specs.FrontLine.{front}

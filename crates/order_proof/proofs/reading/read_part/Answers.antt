@@ -1,4 +1,4 @@
-use Rattle.std.proofs.Common.{◌≡◌, List, [], ◌∷◌, subst, sym, ◌∙◌}
+use Rattle.std.proofs.Common.{List, [], ◌∷◌, subst, sym, ◌∙◌}
 use Rattle.std.proofs.lemmas.Result.{err_from_is_err_and}
 use Rattle.map_base.specs.declared.ids.SegId.{SegId}
 use Rattle.order_proof.specs.Plain.{plain}

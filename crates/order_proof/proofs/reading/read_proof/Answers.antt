@@ -1,7 +1,7 @@
-use Rattle.std.proofs.Common.{◌≡◌, ℕ, ◌-◌, List, [], ◌∷◌, length, subst, sym}
+use Rattle.std.proofs.Common.{◌-◌, List, [], ◌∷◌, length, subst, sym}
 use Rattle.order_model.specs.declared.rule.Rule.{Rule}
 use Rattle.order_proof.specs.declared.proof.Part.{Part}
-use Rattle.order_proof.specs.Plain.{PlainProof, plain_proof}
+use Rattle.order_proof.specs.Plain.{plain_proof}
 use Rattle.order_proof.specs.Trees.{HasTrees}
 use Rattle.order_proof.specs.Reading.{RuleCount}
 use Rattle.order_proof.specs.Readers.{IsTextOf}

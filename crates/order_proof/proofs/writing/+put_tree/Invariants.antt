@@ -1,4 +1,4 @@
-use Rattle.std.proofs.Common.{◌≡◌, ◌++◌, map, drop}
+use Rattle.std.proofs.Common.{◌≡◌, ◌++◌, drop}
 use Rattle.order_proof.specs.Plain.{plain, plain_children}
 use Rattle.order_proof.specs.Text.{tree_text, cases_text}
 use Rattle.order_proof.proofs.writing.+put_tree.Given as goal

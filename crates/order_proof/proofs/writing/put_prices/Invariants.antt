@@ -1,4 +1,4 @@
-use Rattle.std.proofs.Common.{◌≡◌, ◌++◌, map, drop}
+use Rattle.std.proofs.Common.{◌≡◌, ◌++◌, drop}
 use Rattle.order_proof.specs.Lines.{numbers_text, price_numbers}
 use Rattle.order_proof.proofs.writing.put_prices.Given as goal
 

@@ -1,4 +1,4 @@
-use Rattle.std.proofs.Common.{◌≡◌, ◌++◌, map, drop}
+use Rattle.std.proofs.Common.{◌≡◌, ◌++◌, drop}
 use Rattle.order_proof.specs.Text.{rules_text}
 use Rattle.order_proof.proofs.writing.put_rules.Given as goal
 
