@@ -6,3 +6,4 @@ mod Spreading
 mod Rising
 mod Walked
 mod Examples
+mod Choosing

@@ -24,7 +24,7 @@ HasEdge_symm net kept i j edge =
     subst (λ (n : NetParts). HasEdge n j i) (sym (whole_net net kept)) (net_has_edge kept.near net.points j i back.i_in back.j_in (has_edge_from kept.near net.points j i back))
 
 -- no edge is free
-apart : (net : NetParts) (kept : IsNet net) (i j : ℕ) → HasEdge net i j → 1 ≤ dist2_of (point_at net.points i) (point_at net.points j)
+pub apart : (net : NetParts) (kept : IsNet net) (i j : ℕ) → HasEdge net i j → 1 ≤ dist2_of (point_at net.points i) (point_at net.points j)
 apart net kept i j edge = of_order (cases_lt 0 (dist2_of (point_at net.points i) (point_at net.points j)))
   where
     e : IsEdge kept.near net.points i j
@@ -34,7 +34,7 @@ apart net kept i j edge = of_order (cases_lt 0 (dist2_of (point_at net.points i)
     of_order (inl h) = omega arith
     of_order (inr h) = absurd (e.apart (kept.distinct i j e.i_in e.j_in (same_where_none (point_at net.points i) (point_at net.points j) (omega arith))))
 
-not_free : (b : Bool) (d : ℕ) → 1 ≤ d → 1 ≤ cond b d (8 * d)
+pub not_free : (b : Bool) (d : ℕ) → 1 ≤ d → 1 ≤ cond b d (8 * d)
 not_free b d h = of_test b
   where
     of_test : (b : Bool) → 1 ≤ cond b d (8 * d)

@@ -1,15 +1,14 @@
 -- The walk along known costs is the least path.
-use Rattle.std.proofs.Common.{◌≡◌, ◌≢◌, refl, sym, ◌∙◌, ap, subst, ℕ, ◌+◌, ◌*◌, ◌<◌, ◌≤◌, ◌⊎◌, inl, inr, Bool, List, [], ◌∷◌, ◌++◌, Option, Some, None, length, get_or, arith, ◌&&◌, cond, false, pos}
+use Rattle.std.proofs.Common.{◌≡◌, ◌≢◌, refl, sym, ◌∙◌, ap, subst, ℕ, ◌+◌, ◌<◌, ◌≤◌, ◌⊎◌, inl, inr, Bool, List, [], ◌∷◌, ◌++◌, Option, Some, None, length, get_or, arith}
 use Rattle.std.proofs.lemmas.Bool.{cases_eq, cases_lt}
-use Rattle.std.proofs.lemmas.List.{get_or-map, get_or_default}
+use Rattle.std.proofs.lemmas.List.{get_or_default}
 use Rattle.map_base.specs.declared.point.Point.{Point}
-use Rattle.fixed_plane.specs.Measures.{dist2_of}
 use Rattle.least_path.proofs.Walks.{IsNext, next_exists, next_is_nearer, walk_begins, walk_goes_on, walk_ends}
 use Rattle.least_path.proofs.Walks as walks
 use Rattle.least_path.proofs.Same.{IsLeastPath-along}
 use Rattle.track_net.specs.Nearness.{point_at}
 use Rattle.track_net.specs.Nets.{NetParts, IsNet, HasEdge, Leads, Joins, edges_of_point}
-use Rattle.net_paths.specs.Corridors.{is_in_corridor, edge_cost}
+use Rattle.net_paths.specs.Corridors.{edge_cost}
 use Rattle.net_paths.specs.Stretches.{IsStep, IsStretchPath}
 use Rattle.net_paths.specs.Searching.{flags_of, flagged_cost, IsFlaggedStep, known_at, IsSearched}
 use Rattle.net_paths.specs.Walking.{KeepsCost, IsLeastStep, IsFlaggedPath}

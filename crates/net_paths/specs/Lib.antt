@@ -2,3 +2,4 @@ pub mod Corridors
 pub mod Stretches
 pub mod Searching
 pub mod Walking
+pub mod Choices

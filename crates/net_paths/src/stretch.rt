@@ -1,8 +1,9 @@
 //! Stretch paths.
 
-ghost use Rattle.std.specs.Prelude.{◌<◌, ◌≤◌, IfOk, All};
+ghost use Rattle.std.specs.Prelude.{◌≡◌, ◌<◌, ◌≤◌, IfOk, All};
 ghost use Rattle.fixed_plane.specs.Plane.{IsInPlane};
 ghost use Rattle.track_net.specs.Nets.{Joins};
+ghost use Rattle.net_paths.specs.Choices.{stretch_path_of};
 ghost use Rattle.net_paths.specs.Stretches.{IsStretchPath};
 
 use crate::corridor::Corridor;
@@ -29,7 +30,8 @@ pub fn stretch_path(
     requires joined { Joins net.now from to }
     requires corridor_in_plane { All IsInPlane corridor.now }
     requires near_high { near ≤ 20000 }
-    ensures { IfOk result (λ path. IsStretchPath near corridor.now net.now from to path.items) }
+    ensures path { IfOk result (λ path. IsStretchPath near corridor.now net.now from to path.items) }
+    ensures chosen { IfOk result (λ path. path.items ≡ stretch_path_of near corridor.now net.now from to) }
 {
     let mut known = Known::none(alloc, net.len());
     let corridor = Corridor::along(alloc, corridor, near)?;

@@ -1,5 +1,5 @@
 -- Numbers that are kept by cells.
-use Rattle.std.proofs.Common.{◌≡◌, refl, sym, ◌∙◌, ap, subst, ℕ, zero, suc, ◌+◌, ◌*◌, ◌<◌, ◌≤◌, ◌⊎◌, inl, inr, Bool, true, false, cond, ◌&&◌, ℤ, pos, negsuc, ◌+ℤ◌, ◌-ℤ◌, ◌*ℤ◌, ◌≤ℤ◌, ◌<ℤ◌, unsigned_abs, Vec, List, [], ◌∷◌, ◌++◌, Option, Some, None, filter, length, get_or, append_assoc, append-nil, length-append, All, Contains, arith}
+use Rattle.std.proofs.Common.{◌≡◌, refl, sym, ◌∙◌, ap, ℕ, ◌+◌, Bool, true, false, cond, ℤ, Vec, List, [], ◌∷◌, ◌++◌, Option, Some, None, append_assoc, append-nil}
 use Rattle.std.specs.Global.{Global}
 use Rattle.std.specs.Option.{unwrap_or}
 use Rattle.std.specs.Ordering.{int_eq}
@@ -8,11 +8,11 @@ use Rattle.std.specs.declared.hash.FoldHasher.{FoldHasher}
 use Rattle.std.specs.declared.hash.BuildHasherDefault.{BuildHasherDefault}
 use Rattle.std.specs.HashMap.{get, HashMap}
 use Rattle.std.proofs.lemmas.List.Elements.{filter-append}
-use Rattle.std.proofs.lemmas.Bool.{and_parts, and_from}
+use Rattle.std.proofs.lemmas.Bool.{and_parts}
 use Rattle.std.proofs.lemmas.Bool.Decides.{Decides-int_eq}
 use Rattle.map_base.specs.declared.point.Point.{Point}
-use Rattle.track_net.specs.Nearness.{point_at, is_nearer, numbers_near}
-use Rattle.track_net.specs.Cells.{cell_of, is_cell, cell_around, CellMap, items_or_none, listed, numbers_in, AreListed, points_in, AreKept}
+use Rattle.track_net.specs.Nearness.{point_at}
+use Rattle.track_net.specs.Cells.{cell_of, is_cell, CellMap, items_or_none, listed, numbers_in, AreListed, points_in, AreKept}
 use Rattle.track_net.proofs.Lists.{range_more, filter-range_more}
 
 int_eq-true : (x y : ℤ) → int_eq x y ≡ true → x ≡ y

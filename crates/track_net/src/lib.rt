@@ -16,6 +16,5 @@ mod thinning;
 pub use buckets::Buckets;
 pub use building::net_of;
 pub use fault::NetFault;
-pub use nearness::has_near_point;
 pub use net::Net;
 pub use point_cells::PointCells;

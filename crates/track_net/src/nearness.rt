@@ -17,7 +17,7 @@ pub(crate) fn are_near(a: Point, b: Point, distance: u32) -> bool
 }
 
 /// Whether some point of a list is nearer to `at` than `distance`, in decimetres.
-pub fn has_near_point(points: &[Point], at: Point, distance: u32) -> bool
+pub(crate) fn has_near_point(points: &[Point], at: Point, distance: u32) -> bool
     requires points_in_plane { All IsInPlane points.now }
     requires at_in_plane { IsInPlane at }
     ensures { result ≡ has_near distance points.now at }

@@ -1,4 +1,4 @@
-use Rattle.std.proofs.Common.{refl, sym, ◌∙◌, subst, ℕ, ◌+◌, ◌<◌, length, get_or, arith}
+use Rattle.std.proofs.Common.{refl, sym, ◌∙◌, subst, ℕ, ◌+◌, ◌<◌, length, get_or}
 use Rattle.std.specs.BinaryHeap.{heap_items}
 use Rattle.net_paths.specs.Searching.{flags_along, left_of}
 use Rattle.net_paths.proofs.Spreading.{spreading_begins, spreading_goes_on, spreading_ends, edge_in_range, length-lowered}

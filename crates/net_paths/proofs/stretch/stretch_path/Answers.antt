@@ -1,9 +1,11 @@
-use Rattle.std.proofs.Common.{◌≢◌, ap, sym, ◌∙◌, subst, ℕ, Bool, Option, List, Result, Ok, Err, IfOk, arith}
+use Rattle.std.proofs.Common.{◌≡◌, ◌≢◌, ap, ◌∙◌, Result, Ok, Err, IfOk, arith}
 use Rattle.net_paths.specs.Searching.{flags_along}
 use Rattle.net_paths.specs.Corridors.{CorridorParts}
 use Rattle.net_paths.specs.Stretches.{IsStretchPath}
 use Rattle.net_paths.specs.Walking.{IsWalked}
 use Rattle.net_paths.proofs.CostTables.{flags_along-is}
+use Rattle.net_paths.specs.Choices as choices
+use Rattle.net_paths.proofs.Choosing.{path_chosen}
 use Rattle.net_paths.proofs.Walked.{stretch_path_of, joined_in_range}
 use Rattle.net_paths.proofs.stretch.stretch_path.Goals as goal
 
@@ -20,8 +22,8 @@ pub note_costs_to-requires-clause-to_in_range : goal.note_costs_to-requires-clau
 note_costs_to-requires-clause-to_in_range c =
     let apart : c.args.from ≢ c.args.to = omega arith in (joined_in_range c.args.net.now c.len.ensures.kept c.args.from c.args.to apart c.requires.joined).1
 
-pub returns : goal.returns
-returns c =
+pub returns-clause-path : goal.returns-clause-path
+returns-clause-path c =
     let net = c.args.net.now in
     let corridor = c.in_ok-corridor.corridor in
     let known = c.note_costs_to.new.known in
@@ -31,3 +33,12 @@ returns c =
     (ap (λ (k : CorridorParts). flags_along k net) c.in_ok-corridor.ensures ∙ flags_along-is (record { near = c.args.near; samples = c.args.corridor.now }) net)
     (walked c.args.to c.in_ok-note_costs_to.ensures))
     c.walk.result c.walk.ensures
+
+pub returns-clause-chosen : goal.returns-clause-chosen
+returns-clause-chosen c =
+    let net = c.args.net.now in
+    let apart : c.args.from ≢ c.args.to = omega arith in
+    let inside = joined_in_range net c.len.ensures.kept c.args.from c.args.to apart c.requires.joined in
+    IfOk-weaker (λ path. IsStretchPath c.args.near c.args.corridor.now net c.args.from c.args.to path.items) (λ path. path.items ≡ choices.stretch_path_of c.args.near c.args.corridor.now net c.args.from c.args.to)
+    (λ path is. path_chosen c.args.near c.args.corridor.now net c.len.ensures.kept c.args.from c.args.to inside.0 path.items is)
+    c.walk.result (returns-clause-path c)

@@ -1,4 +1,4 @@
-use Rattle.std.proofs.Common.{◌≡◌, sym, ◌∙◌, ap, ℕ, ◌++◌, List, ℤ, filter}
+use Rattle.std.proofs.Common.{sym, ◌∙◌, ap, ℕ, ◌++◌, List, ℤ, filter}
 use Rattle.std.specs.List.{flat_map, range_with_len}
 use Rattle.track_net.specs.Nearness.{is_nearer, point_at}
 use Rattle.track_net.specs.Cells.{listed, cell_around}

@@ -1,4 +1,4 @@
-use Rattle.std.proofs.Common.{◌≡◌, sym, ◌∙◌, ap, ℕ, ◌+◌, ◌%◌, Bool, true, false, ℤ, arith}
+use Rattle.std.proofs.Common.{◌≡◌, sym, ◌∙◌, ap, ℕ, ◌+◌, ◌%◌, true, false, ℤ, arith}
 use Rattle.std.specs.List.{list_any, range_with_len}
 use Rattle.track_net.specs.Nearness.{has_near}
 use Rattle.track_net.specs.Cells.{listed, cell_around}

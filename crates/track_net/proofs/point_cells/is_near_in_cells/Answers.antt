@@ -1,4 +1,4 @@
-use Rattle.std.proofs.Common.{◌≡◌, ◌∙◌, ap, ℤ}
+use Rattle.std.proofs.Common.{◌∙◌, ap}
 use Rattle.track_net.specs.Cells.{has_near_around}
 use Rattle.track_net.proofs.CellsAround.{kept_in_plane, has_near-around}
 use Rattle.track_net.proofs.point_cells.is_near_in_cells.Goals as goal

@@ -1,4 +1,3 @@
-use Rattle.std.proofs.Common.{◌≡◌}
 use Rattle.track_net.proofs.CellLemmas.{listed_more}
 use Rattle.track_net.proofs.point_cells.keep.Goals as goal
 

@@ -1,4 +1,4 @@
-use Rattle.std.proofs.Common.{◌≡◌, ◌+◌, subst, pos, List, take, arith}
+use Rattle.std.proofs.Common.{◌+◌, subst, pos, List, take, arith}
 use Rattle.std.proofs.lemmas.List.{take_all, take_more}
 use Rattle.map_base.specs.declared.point.Point.{Point}
 use Rattle.track_net.specs.Nearness.{point_at}

@@ -1,4 +1,4 @@
-use Rattle.std.proofs.Common.{◌≡◌, rules}
+use Rattle.std.proofs.Common.{rules}
 use Rattle.net_paths.proofs.CostTables.{costs_below-none}
 use Rattle.net_paths.proofs.known.Known.none.Goals as goal
 

@@ -1,5 +1,4 @@
-use Rattle.std.proofs.Common.{◌≡◌, sym, ◌∙◌, ap, subst, ℕ, ◌<◌, Option, Some, List, length, set, arith}
-use Rattle.net_paths.specs.Searching.{costs_below, with_known}
+use Rattle.std.proofs.Common.{sym, ◌∙◌, ap, subst, ℕ, ◌<◌, Option, Some, List, length, set}
 use Rattle.net_paths.proofs.CostTables.{costs_below-more, length-costs_below}
 use Rattle.net_paths.proofs.known.Known.note.Goals as goal
 

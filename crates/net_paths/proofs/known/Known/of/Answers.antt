@@ -1,5 +1,5 @@
-use Rattle.std.proofs.Common.{◌≡◌, sym, ◌∙◌, ap, subst, ℕ, ◌<◌, Option, List, length}
-use Rattle.net_paths.specs.Searching.{known_at, costs_below}
+use Rattle.std.proofs.Common.{sym, ◌∙◌, ap, subst, ℕ, ◌<◌, Option, List, length}
+use Rattle.net_paths.specs.Searching.{known_at}
 use Rattle.net_paths.proofs.CostTables.{known_at-costs_below, length-costs_below}
 use Rattle.net_paths.proofs.known.Known.of.Goals as goal
 
