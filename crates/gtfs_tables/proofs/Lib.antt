@@ -1,3 +1,5 @@
 pub mod StopLemmas
 mod StopExamples
 pub mod PlacedLemmas
+pub mod RouteLemmas
+pub mod TripLemmas

@@ -35,7 +35,7 @@ type_in c row = number_of (field_in row c.kind)
 -- whether a type is one of those that are wanted
 abbrev pub is_wanted : List ℕ → Option ℕ → Bool
 is_wanted types None = false
-is_wanted types (Some kind) = list_any (nat_eq kind) types
+is_wanted types (Some kind) = list_any (λ wanted. nat_eq wanted kind) types
 
 -- whether a row's route is selected
 abbrev pub is_selected : List ℕ → RouteColumns → Row → Bool

@@ -1,11 +1,12 @@
 -- A set of slices, seen as the list of what they point to.
-use Rattle.std.proofs.Common.{◌≡◌, ℕ, Bool, true, false, ◌||◌, List, [], ◌∷◌, ◌++◌, map, refl, sym, ap, ◌∙◌, Bor, bytes_eq, if◌then◌else◌}
-use Rattle.std.specs.List.{list_any}
+use Rattle.std.proofs.Common.{◌≡◌, ℕ, Bool, true, false, ◌||◌, List, [], ◌∷◌, ◌++◌, map, refl, sym, ap, ◌∙◌, Bor, bytes_eq, not, ◌+◌, cond, ltb, length, position, Option, Some, None, if◌then◌else◌}
+use Rattle.std.specs.List.{list_any, position_or_len}
+use Rattle.std.proofs.lemmas.List.{length-map}
 use Rattle.std.specs.Cmp.Lexicographic.{nat_list_eq_equiv}
 use Rattle.std.proofs.Math.Bool.{or-false}
 use Rattle.std.proofs.lemmas.Map.Steps.{list_any_congr}
 use Rattle.std.proofs.lemmas.List.Folds.{list_any-append}
-use Rattle.table_rows.specs.Ids.{is_among, noted}
+use Rattle.table_rows.specs.Ids.{is_among, noted, place_among}
 
 -- what a slice points to
 abbrev pub pointed : Bor (List ℕ) → List ℕ
@@ -49,3 +50,14 @@ is_among-noted ids id other = by (is_among id ids) refl
         ap (λ b. is_among other (if b then ids else ids ++ id ∷ [])) e
         ∙ list_any-append (bytes_eq other) ids (id ∷ [])
         ∙ ap (λ b. is_among other ids || b) (or-false (bytes_eq other id))
+
+-- the first place that passes a test of what a map gives
+position_or_len-map : {X Y : Type 0} (test : Y → Bool) (f : X → Y) (xs : List X) → position_or_len (λ x. test (f x)) xs ≡ position_or_len test (map f xs)
+position_or_len-map test f [] = refl
+position_or_len-map test f (x ∷ xs) = ap (λ n. if not (test (f x)) then 1 + n else 0) (position_or_len-map test f xs)
+
+-- the place of a slice among slices is that of its bytes among theirs
+pub place_among-pointed : (id : List ℕ) (keys : List (Bor (List ℕ))) → position (λ k. bytes_eq id k.now) keys ≡ place_among (map pointed keys) id
+place_among-pointed id keys =
+    ap (λ n. cond (ltb n (length keys)) (Some n) None) (position_or_len-map (bytes_eq id) pointed keys)
+    ∙ ap (λ all. cond (ltb (position_or_len (bytes_eq id) (map pointed keys)) all) (Some (position_or_len (bytes_eq id) (map pointed keys))) None) (sym (length-map keys pointed))

@@ -1,5 +1,5 @@
 -- The first bad row.
-use Rattle.std.proofs.Common.{◌≡◌, ◌∷◌, [], ◌++◌, Bool, true, false, if◌then◌else◌, ◌<◌, ◌≤◌, ℕ, zero, suc, ◌+◌, ◌⊎◌, inl, inr, Option, Some, None, refl, ap, sym, ◌∙◌, subst, arith, max, List, length}
+use Rattle.std.proofs.Common.{◌≡◌, ◌∷◌, [], ◌++◌, Bool, true, false, if◌then◌else◌, ◌<◌, ◌≤◌, ℕ, zero, suc, ◌+◌, ◌⊎◌, inl, inr, Option, Some, None, refl, ap, sym, ◌∙◌, subst, arith, max, not, true≢false, Ok, Err, List, length}
 use Rattle.std.proofs.lemmas.Bool.{cases_lt}
 use Rattle.std.proofs.lemmas.Option.{none-some}
 use Rattle.table_rows.specs.declared.why.Table.{Table}
@@ -92,3 +92,23 @@ first_bad-at reason rows place within none = first_below-none reason (max 1 (len
 pub first_met-none : (test : Bool) (why : Why) (others : List (Bool × Why)) → first_met ((test, why) ∷ others) ≡ None → (test ≡ false) × (first_met others ≡ None)
 first_met-none true why others none = absurd (none-some why (sym none))
 first_met-none false why others none = (refl, none)
+
+-- a text that is not found wanting is one
+not-false : (b : Bool) → not b ≡ false → b ≡ true
+not-false true e = refl
+not-false false e = absurd (true≢false e)
+
+-- a row that has no reason is text, and what its fourth reason tests is false
+pub text_and_fourth : (a text c d : Bool) (v w x y : Why) (others : List (Bool × Why))
+    → first_met ((a, v) ∷ (not text, w) ∷ (c, x) ∷ (d, y) ∷ others) ≡ None → (text ≡ true) × (d ≡ false)
+text_and_fourth a text c d v w x y others none =
+    let first = first_met-none a v ((not text, w) ∷ (c, x) ∷ (d, y) ∷ others) none in
+    let second = first_met-none (not text) w ((c, x) ∷ (d, y) ∷ others) first.1 in
+    let third = first_met-none c x ((d, y) ∷ others) second.1 in
+    let fourth = first_met-none d y others third.1 in
+    (not-false text second.0, fourth.0)
+
+-- a check that passes finds no bad row
+pub unless_bad-good : (table : Table) (bad : Option (ℕ × Why)) (done : Unit {0}) → unless_bad table bad tt ≡ Ok done → bad ≡ None
+unless_bad-good table None done passed = refl
+unless_bad-good table (Some bad) done passed = cc

@@ -1,8 +1,8 @@
 -- The rows behind the header, one more at a time, and the ids that they give.
-use Rattle.std.proofs.Common.{◌≡◌, ◌<◌, ◌≤◌, ℕ, zero, suc, ◌+◌, Bool, true, false, ◌||◌, ◌&&◌, List, [], ◌∷◌, ◌++◌, Option, Some, None, option_to_list, filter, take, drop, length, refl, ap, sym, ◌∙◌, arith, bytes_eq, if◌then◌else◌}
+use Rattle.std.proofs.Common.{◌≡◌, ◌<◌, ◌≤◌, ℕ, zero, suc, ◌+◌, Bool, true, false, ◌||◌, ◌&&◌, List, [], ◌∷◌, ◌++◌, Option, Some, None, option_to_list, filter, map, true≢false, take, drop, length, refl, ap, sym, ◌∙◌, arith, bytes_eq, if◌then◌else◌}
 use Rattle.std.specs.List.{list_any, filter_map, cons_option}
 use Rattle.std.proofs.Math.Bool.{or-false}
-use Rattle.std.proofs.lemmas.List.{take_more, take_all, map-append}
+use Rattle.std.proofs.lemmas.List.{take_more, take_all, map-append, append-nil}
 use Rattle.std.proofs.lemmas.List.Elements.{filter-append, filter_map-append}
 use Rattle.std.proofs.lemmas.List.Folds.{list_any-append, list_any_at}
 use Rattle.table_rows.specs.Ids.{is_among, AreSame}
@@ -83,3 +83,53 @@ filter_map_before h place rows from l =
     one : {A : Type 0} (found : Option A) → cons_option found [] ≡ option_to_list found
     one None = refl
     one (Some x) = refl
+
+-- the ids that the rows before a place give, once one more row is looked at
+pub ids_in_before : (column : Option ℕ) (place : ℕ) (rows : List Row) → 1 ≤ place → place < length rows
+    → ids_in column (rows_before (place + 1) rows) ≡ ids_in column (rows_before place rows) ++ field_in (row_at rows place) column ∷ []
+ids_in_before column place rows from l =
+    ap (ids_in column) (rows_before-more place rows from l)
+    ∙ map-append (λ row. field_in row column) (rows_before place rows) (row_at rows place ∷ [])
+
+-- what each row before a place gives, once one more row is looked at
+pub map_before : {A : Type 0} (h : Row → A) (place : ℕ) (rows : List Row) → 1 ≤ place → place < length rows
+    → map h (rows_before (place + 1) rows) ≡ map h (rows_before place rows) ++ h (row_at rows place) ∷ []
+map_before h place rows from l =
+    ap (map h) (rows_before-more place rows from l)
+    ∙ map-append h (rows_before place rows) (row_at rows place ∷ [])
+
+-- the rows before a place that pass a test, once one more row is looked at
+pub filter_before : (test : Row → Bool) (place : ℕ) (rows : List Row) → 1 ≤ place → place < length rows
+    → filter test (rows_before (place + 1) rows) ≡ filter test (rows_before place rows) ++ filter test (row_at rows place ∷ [])
+filter_before test place rows from l =
+    ap (filter test) (rows_before-more place rows from l)
+    ∙ filter-append test (rows_before place rows) (row_at rows place ∷ [])
+
+-- an id that no row gives, no row that passes a test gives
+pub is_among-unfiltered : (column : Option ℕ) (test : Row → Bool) (id : List ℕ) (rows : List Row)
+    → is_among id (ids_in column rows) ≡ false → is_among id (ids_in column (filter test rows)) ≡ false
+is_among-unfiltered column test id [] none = refl
+is_among-unfiltered column test id (row ∷ rows) none = by (bytes_eq id (field_in row column)) refl (test row) (is_among-unfiltered column test id rows)
+  where
+    by : (b : Bool) → bytes_eq id (field_in row column) ≡ b → (t : Bool) → (is_among id (ids_in column rows) ≡ false → is_among id (ids_in column (filter test rows)) ≡ false)
+        → is_among id (ids_in column (if t then row ∷ filter test rows else filter test rows)) ≡ false
+    by true e t rest = absurd (true≢false (sym (ap (λ x. x || is_among id (ids_in column rows)) e) ∙ none))
+    by false e true rest =
+        ap (λ x. x || is_among id (ids_in column (filter test rows))) e
+        ∙ rest (sym (ap (λ x. x || is_among id (ids_in column rows)) e) ∙ none)
+    by false e false rest = rest (sym (ap (λ x. x || is_among id (ids_in column rows)) e) ∙ none)
+
+-- the ids of the rows before a place that pass a test, once one more row is looked at
+pub ids_filtered_before : (column : Option ℕ) (test : Row → Bool) (place : ℕ) (rows : List Row) → 1 ≤ place → place < length rows
+    → ids_in column (filter test (rows_before (place + 1) rows))
+    ≡ (if test (row_at rows place) then ids_in column (filter test (rows_before place rows)) ++ field_in (row_at rows place) column ∷ [] else ids_in column (filter test (rows_before place rows)))
+ids_filtered_before column test place rows from l =
+    ap (ids_in column) (filter_before test place rows from l)
+    ∙ map-append (λ row. field_in row column) (filter test (rows_before place rows)) (filter test (row_at rows place ∷ []))
+    ∙ last (test (row_at rows place))
+  where
+    last : (b : Bool)
+        → ids_in column (filter test (rows_before place rows)) ++ ids_in column (if b then row_at rows place ∷ [] else [])
+        ≡ (if b then ids_in column (filter test (rows_before place rows)) ++ field_in (row_at rows place) column ∷ [] else ids_in column (filter test (rows_before place rows)))
+    last true = refl
+    last false = append-nil (ids_in column (filter test (rows_before place rows)))

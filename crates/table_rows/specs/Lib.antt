@@ -5,3 +5,4 @@ pub mod Reasons
 pub mod Outcome
 pub mod Folder
 pub mod NotRead
+pub mod NewIds

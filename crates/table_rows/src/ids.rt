@@ -1,7 +1,7 @@
 //! A set of ids that a table spells, each found at once.
 
-ghost use Rattle.std.specs.Prelude.{◌≡◌, not, [], IfOk, OnOk, OnErr, bytes_eq, ◌||◌, List, ℕ};
-ghost use Rattle.table_rows.specs.Ids.{is_among, noted};
+ghost use Rattle.std.specs.Prelude.{◌≡◌, not, [], IfOk, OnOk, OnErr, bytes_eq, ◌||◌, ◌<◌, List, ℕ, length, IfSome};
+ghost use Rattle.table_rows.specs.Ids.{is_among, noted, place_among};
 
 use indexmap::IndexSet;
 use map_base::NoMemory;
@@ -47,5 +47,13 @@ impl<'a> Ids<'a> {
         ensures { result ≡ is_among id.now self.now }
     {
         self.held.contains(id)
+    }
+
+    /// The place of an id among those that were noted.
+    pub fn place_of(&self, id: &[u8]) -> Option<usize>
+        ensures place { result ≡ place_among self.now id.now }
+        ensures within { IfSome result (λ place. place < length self.now) }
+    {
+        self.held.get_index_of(id)
     }
 }

@@ -9,6 +9,7 @@ mod cells;
 mod fault;
 mod folder;
 mod ids;
+mod row_ids;
 mod text;
 mod values;
 mod why;
@@ -17,6 +18,7 @@ pub use cells::{column_of, ends_early, field_in, header_reason, is_text, lacks_c
 pub use fault::{FeedFault, bad_row};
 pub use folder::{bytes_of, required_rows};
 pub use ids::Ids;
+pub use row_ids::{ids_of_rows, note_new};
 pub use text::text_of;
 pub use values::{bare, colour_of, degrees_of, number_of, rows_of};
 pub use why::{Table, Why};
