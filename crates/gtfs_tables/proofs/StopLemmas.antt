@@ -1,12 +1,12 @@
 -- The reasons of the rows of `stops.txt`.
 use Rattle.std.proofs.Common.{◌≡◌, ◌≤◌, ◌<◌, ℕ, zero, suc, Bool, true, false, not, ◌&&◌, List, [], ◌∷◌, ◌++◌, length, Some, None, is_none, refl, sym, ◌∙◌, arith}
-use Rattle.gtfs_tables.specs.declared.why.Why.{Why}
-use Rattle.gtfs_tables.specs.Reasons.{first_met, first_bad}
-use Rattle.gtfs_tables.proofs.ReasonLemmas.{first_met-past, first_met-front, first_met-none, first_bad-at}
+use Rattle.table_rows.specs.declared.why.Why.{Why}
+use Rattle.table_rows.specs.Reasons.{first_met, first_bad}
+use Rattle.table_rows.proofs.ReasonLemmas.{first_met-past, first_met-front, first_met-none, first_bad-at}
 use Rattle.std.proofs.lemmas.Option.{none-some}
-use Rattle.gtfs_tables.specs.declared.why.Why.TheVariants.{WrongFields, NotUtf8, EmptyId, RepeatedId, BadLatitude, BadLongitude, BadType, UnknownParent}
-use Rattle.gtfs_tables.specs.Ids.{is_among}
-use Rattle.gtfs_tables.specs.Cells.{Row, row_at, rows_before, field_in, ids_in, ends_early, is_text, is_empty}
+use Rattle.table_rows.specs.declared.why.Why.TheVariants.{WrongFields, NotUtf8, EmptyId, RepeatedId, BadLatitude, BadLongitude, BadType, UnknownParent}
+use Rattle.table_rows.specs.Ids.{is_among}
+use Rattle.table_rows.specs.Cells.{Row, row_at, rows_before, field_in, ids_in, ends_early, is_text, is_empty}
 use Rattle.gtfs_tables.specs.Stops.{stop_columns, required_columns, is_placed, latitude_in, longitude_in, lacks_parent, type_in, stop_reason, stops_reason}
 
 -- behind the header a row has the reasons of a row

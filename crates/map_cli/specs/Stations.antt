@@ -4,7 +4,7 @@ use Rattle.std.specs.List.{flat_map}
 use Rattle.std.specs.Fmt.{signed_decimal}
 use Rattle.map_base.specs.declared.point.Point.{Point}
 use Rattle.fixed_plane.specs.Plane.{band_at, projected}
-use Rattle.gtfs_tables.specs.declared.station.Station.{Station}
+use Rattle.transit_feed.specs.declared.station.Station.{Station}
 
 -- a byte of an id as it is printed: those of control characters become U+FFFD
 abbrev pub printed_byte : ℕ → List ℕ
