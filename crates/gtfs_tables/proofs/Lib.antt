@@ -3,3 +3,7 @@ mod StopExamples
 pub mod PlacedLemmas
 pub mod RouteLemmas
 pub mod TripLemmas
+pub mod ReadLemmas
+pub mod PlaceLemmas
+pub mod StopTimeLemmas
+pub mod StationLemmas

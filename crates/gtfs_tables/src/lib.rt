@@ -8,6 +8,7 @@
 #![tactic(auto)]
 
 mod degrees;
+mod first_refused;
 mod known;
 mod parents;
 mod route_columns;
@@ -20,6 +21,10 @@ mod small;
 mod stop_columns;
 mod stop_row;
 mod stop_time_columns;
+mod stop_time_reads;
+mod stop_time_row;
+mod stop_times;
+mod stop_times_read;
 mod stops;
 mod stops_check;
 mod trip_columns;
