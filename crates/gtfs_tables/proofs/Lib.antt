@@ -3,3 +3,4 @@ mod StopExamples
 pub mod PlacedLemmas
 pub mod RouteLemmas
 pub mod TripLemmas
+pub mod LeadLemmas

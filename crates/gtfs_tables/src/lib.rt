@@ -8,7 +8,9 @@
 #![tactic(auto)]
 
 mod degrees;
+mod feed_stops;
 mod known;
+mod leads;
 mod parents;
 mod route_columns;
 mod route_row;
