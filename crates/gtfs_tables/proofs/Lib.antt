@@ -4,3 +4,4 @@ pub mod PlacedLemmas
 pub mod RouteLemmas
 pub mod TripLemmas
 pub mod LeadLemmas
+pub mod PatternLemmas

@@ -8,4 +8,5 @@ pub mod Rising
 pub mod Shapes
 pub mod StopTimes
 pub mod Patterns
+pub mod PatternKeys
 pub mod Feed

@@ -12,6 +12,8 @@ mod feed_stops;
 mod known;
 mod leads;
 mod parents;
+mod pattern_set;
+mod patterns;
 mod route_columns;
 mod route_row;
 mod routes;
