@@ -3,6 +3,8 @@ mod StopExamples
 pub mod PlacedLemmas
 pub mod RouteLemmas
 pub mod TripLemmas
+pub mod LeadLemmas
+pub mod PatternLemmas
 pub mod ReadLemmas
 pub mod PlaceLemmas
 pub mod StopTimeLemmas

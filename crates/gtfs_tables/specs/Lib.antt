@@ -11,4 +11,5 @@ pub mod StopTimes
 pub mod StopTimeReads
 pub mod StationsOfTrips
 pub mod Patterns
+pub mod PatternKeys
 pub mod Feed

@@ -1,18 +1,22 @@
 -- Patterns: the stations that trips serve.
-use Rattle.std.specs.Prelude.{ℕ, ◌==◌, Bool, true, false, ◌&&◌, List, [], ◌∷◌, ◌++◌, length, Option, Some, None, if◌then◌else◌, nat_le, nat_eq}
+use Rattle.std.specs.Prelude.{ℕ, Bool, true, false, ◌&&◌, List, [], ◌∷◌, ◌++◌, length, Option, Some, None, if◌then◌else◌, nat_le, nat_eq}
 use Rattle.std.specs.List.{list_any, cons_option}
 use Rattle.map_base.specs.declared.ids.StationId.{StationId}
 use Rattle.transit_feed.specs.declared.pattern.Pattern.{Pattern}
 
--- stations without those that repeat the one before, which is given
-abbrev pub apart_from : StationId → List StationId → List StationId
-apart_from before [] = []
-apart_from before (station ∷ rest) = if before.0 == station.0 then apart_from before rest else station ∷ apart_from station rest
+-- whether a number is there and is this one
+abbrev pub is_number : Option ℕ → ℕ → Bool
+is_number None number = false
+is_number (Some other) number = nat_eq other number
+
+-- stations without those that repeat the one before; the number of the one before the first, if any, is given
+abbrev pub apart_after : Option ℕ → List StationId → List StationId
+apart_after before [] = []
+apart_after before (station ∷ rest) = if is_number before station.0 then apart_after (Some station.0) rest else station ∷ apart_after (Some station.0) rest
 
 -- stations with immediate repeats dropped
 abbrev pub apart : List StationId → List StationId
-apart [] = []
-apart (station ∷ rest) = station ∷ apart_from station rest
+apart stations = apart_after None stations
 
 -- the pattern of a line, stations and a shape, where there are two stations
 abbrev pub pattern_of : ℕ → List StationId → Option ℕ → Option Pattern

@@ -23,5 +23,5 @@ first_refused (Some place) stopped = Some (place, RepeatedSequence)
 first_refused None stopped = stopped
 
 -- each id stands once: its place among the ids is its own
-pub record AreApart (ids : List (List ℕ)) : Type 0 where
+pub record StandOnce (ids : List (List ℕ)) : Type 0 where
   pub once : (place : ℕ) → place < length ids → place_among ids (slice_index_or ids place []) ≡ Some place

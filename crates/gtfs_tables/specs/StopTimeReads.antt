@@ -12,7 +12,7 @@ use Rattle.gtfs_tables.specs.declared.stop_time_reads.StopTimeRead.{StopTimeRead
 use Rattle.gtfs_tables.specs.declared.stop_time_reads.StopTimeReads.{StopTimeReads}
 use Rattle.gtfs_tables.specs.declared.known.KnownStops.{KnownStops}
 use Rattle.gtfs_tables.specs.declared.known.KnownTrips.{KnownTrips}
-use Rattle.gtfs_tables.specs.Reads.{places_before, AreApart}
+use Rattle.gtfs_tables.specs.Reads.{places_before, StandOnce}
 use Rattle.gtfs_tables.specs.StopTimes.{stop_time_columns, required_columns, sequence_in, station_in, station_at, is_read}
 use Rattle.gtfs_tables.specs.Trips.{trip_place}
 
@@ -49,7 +49,7 @@ FailsInFull stops c row other = ⊥
 pub record AreNumbered (trips : KnownTrips) : Type 0 where
   pub lines : length trips.lines ≡ length trips.ids
   pub few : length trips.ids ≤ 2 ^ 32
-  pub apart : AreApart trips.ids
+  pub apart : StandOnce trips.ids
 
 -- what was read of the rows before a place, none of which is bad by itself, and whether the row at that place is
 pub record AreReads (trips : KnownTrips) (stops : KnownStops) (rows : List Row) (reads : StopTimeReads) : Type 0 where

@@ -8,9 +8,13 @@
 #![tactic(auto)]
 
 mod degrees;
+mod feed_stops;
 mod first_refused;
 mod known;
+mod leads;
 mod parents;
+mod pattern_set;
+mod patterns;
 mod route_columns;
 mod route_row;
 mod routes;

@@ -20,7 +20,7 @@ use table_rows::{FeedFault, Table, Why, bad_row, bytes_of, field_in, required_ro
 use transit_feed::Station;
 
 /// Whether a row is a station: one of that type, or a stop without a parent.
-fn is_own_station(rows: &Rows, row: usize, columns: &StopColumns) -> bool
+pub(crate) fn is_own_station(rows: &Rows, row: usize, columns: &StopColumns) -> bool
     requires { row < length rows.now }
     ensures { result ≡ is_own_station (type_in columns.now (row_at rows.now row)) (field_in (row_at rows.now row) columns.now.parent) }
 {
@@ -64,7 +64,11 @@ fn push_some(stations: &mut Vec<Station>, station: Option<Station>) -> Result<()
 
 /// The stations of a table without a bad row.
 #[tactic(auto, using(crate::proofs::StopLemmas::is_text_good, table_rows::proofs::RowLemmas::filter_map_before))]
-fn stations_of(alloc: Global, rows: &Rows, columns: &StopColumns) -> Result<Vec<Station>, NoMemory>
+pub(crate) fn stations_of(
+    alloc: Global,
+    rows: &Rows,
+    columns: &StopColumns,
+) -> Result<Vec<Station>, NoMemory>
     requires header { 0 < length rows.now }
     requires columns { columns.now ≡ stop_columns rows.now }
     requires good { first_bad (stops_reason rows.now) rows.now ≡ None }
