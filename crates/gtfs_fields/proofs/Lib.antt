@@ -5,4 +5,6 @@ pub mod SpaceLemmas
 pub mod DigitLemmas
 pub mod TextParts
 pub mod ScaledNumbers
+pub mod Counts
+pub mod TextRows
 mod Examples

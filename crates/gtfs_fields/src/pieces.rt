@@ -1,16 +1,18 @@
 //! Texts kept end to end in one buffer.
 
-ghost use Rattle.std.specs.Prelude.{◌≡◌, ℕ, ◌<◌, [], ◌∷◌, ◌++◌, ◌≤◌, List, length, OnOk, OnErr, IfOk, slice_index, slice_index_or};
+ghost use Rattle.std.specs.Prelude.{◌≡◌, ℕ, ◌+◌, ◌<◌, [], ◌∷◌, ◌++◌, ◌≤◌, List, length, OnOk, OnErr, IfOk, slice_index, slice_index_or, true};
+ghost use Rattle.std.specs.Str.{IsAscii};
 
 use map_base::NoMemory;
 use std::alloc::Global;
 use std::marker::Model;
 
-/// Texts of any bytes, seen as the list of them. Their bytes stand in one buffer, with one number for each text.
+/// Texts of any bytes, seen as the list of them. Their bytes stand in one buffer, with a number of four bytes for
+/// each text: so they are fewer than 4 GiB in all.
 #[derive(Debug, Drop)]
 pub struct Pieces {
     bytes: Vec<u8>,
-    ends: Vec<usize>,
+    ends: Vec<u32>,
 }
 
 impl Model for Pieces {
@@ -42,14 +44,14 @@ impl Pieces {
         self.ends.len()
     }
 
-    /// Adds a text at the end.
+    /// Adds a text at the end. Past 4 GiB want of memory is answered.
     pub fn push(&mut self, text: &[u8]) -> Result<(), NoMemory>
         ensures ok { OnOk result (self.new ≡ self.old ++ text.now ∷ []) }
         ensures err { OnErr result (self.new ≡ self.old) }
     {
         let start = self.bytes.len();
+        let end = end_after(start, text)?;
         self.bytes.extend_from_slice(text)?;
-        let end = self.bytes.len();
         if self.ends.push(end).is_err() {
             self.bytes.truncate(start);
             return Err(NoMemory);
@@ -65,14 +67,37 @@ impl Pieces {
         let (start, end) = bounds_of(&self.ends, place);
         &self.bytes[start..end]
     }
+
+    /// Whether the texts from one place up to another are all ASCII. They stand side by side, so this is one look
+    /// at their bytes.
+    pub fn are_ascii(&self, from: usize, to: usize) -> bool
+        requires from { from < to }
+        requires to { to ≤ length self.now }
+        ensures { result ≡ true → (place : ℕ) → from ≤ place → place < to → IsAscii (slice_index_or self.now place []) }
+    {
+        let (start, _) = bounds_of(&self.ends, from);
+        let (_, end) = bounds_of(&self.ends, to - 1);
+        self.bytes[start..end].is_ascii()
+    }
+}
+
+// Where a text ends that starts here, if four bytes hold that.
+fn end_after(start: usize, text: &[u8]) -> Result<u32, NoMemory>
+    ensures { IfOk result (λ end. end ≡ start + length text.now) }
+{
+    const MOST: usize = u32::MAX as usize;
+    if start > MOST || text.len() > MOST - start {
+        return Err(NoMemory);
+    }
+    Ok((start + text.len()) as u32)
 }
 
 /// Where the piece at a place starts and ends, in a list of the places where the pieces end.
-pub fn bounds_of(ends: &[usize], place: usize) -> (usize, usize)
+pub fn bounds_of(ends: &[u32], place: usize) -> (usize, usize)
     requires { place < length ends.now }
     ensures start { result.0 ≡ slice_index (0 ∷ ends.now) place }
     ensures end { result.1 ≡ slice_index ends.now place }
 {
     let start = if place == 0 { 0 } else { ends[place - 1] };
-    (start, ends[place])
+    (start as usize, ends[place] as usize)
 }

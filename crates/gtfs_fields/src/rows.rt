@@ -1,10 +1,11 @@
 //! The rows of a table.
 
-ghost use Rattle.std.specs.Prelude.{◌≡◌, ◌==◌, ℕ, ◌<◌, [], ◌∷◌, ◌++◌, List, length, OnOk, IfOk, Some, true};
+ghost use Rattle.std.specs.Prelude.{◌≡◌, ◌==◌, ℕ, ◌<◌, [], ◌∷◌, ◌++◌, List, length, OnOk, IfOk, Some, true, slice_index_or};
+ghost use Rattle.std.specs.Str.{is_utf8};
 ghost use Rattle.csv.specs.Reading.{ReadRecord, Ready, is_flexible, reader_trim};
 ghost use Rattle.csv.specs.Records.{fields_of};
 ghost use Rattle.csv.specs.declared.reader.Trim.TheVariants as trim;
-ghost use Rattle.gtfs_fields.specs.Records.{records_of, width_of, field_of};
+ghost use Rattle.gtfs_fields.specs.Records.{records_of, width_of, field_of, is_text};
 
 use crate::pieces::{Pieces, bounds_of};
 use csv::{ByteRecord, ErrorKind, Reader, ReaderBuilder};
@@ -13,12 +14,12 @@ use std::alloc::Global;
 use std::marker::Model;
 
 /// The records of a CSV file, the header among them: a list of rows, each a list of fields, each a list of
-/// bytes. Rows may differ in width. All fields' bytes stand in one buffer, with one number for each field and
-/// one for each row.
+/// bytes. Rows may differ in width. All fields' bytes stand in one buffer, with a number of four bytes for each
+/// field and one for each row.
 #[derive(Debug, Drop)]
 pub struct Rows {
     fields: Pieces,
-    ends: Vec<usize>,
+    ends: Vec<u32>,
 }
 
 impl Model for Rows {
@@ -65,6 +66,42 @@ impl Rows {
         let (start, _) = bounds_of(&self.ends, row);
         self.fields.at(start + column)
     }
+
+    /// Whether each field of a row is UTF-8.
+    pub fn is_text(&self, row: usize) -> bool
+        requires { row < length self.now }
+        ensures { result ≡ is_text (slice_index_or self.now row []) }
+    {
+        self.is_ascii(row) || self.is_utf8(row)
+    }
+
+    // Whether each field of a row is ASCII, as most are.
+    fn is_ascii(&self, row: usize) -> bool
+        requires { row < length self.now }
+        ensures { result ≡ true → is_text (slice_index_or self.now row []) ≡ true }
+    {
+        let (start, end) = bounds_of(&self.ends, row);
+        start < end && self.fields.are_ascii(start, end)
+    }
+
+    // Whether each field of a row is UTF-8, field by field.
+    fn is_utf8(&self, row: usize) -> bool
+        requires { row < length self.now }
+        ensures { result ≡ is_text (slice_index_or self.now row []) }
+    {
+        for column in 0..self.width(row) {
+            if !is_utf8(self.field(row, column)) {
+                return false;
+            }
+        }
+        true
+    }
+}
+
+fn is_utf8(bytes: &[u8]) -> bool
+    ensures { result ≡ is_utf8 bytes.now }
+{
+    str::from_utf8(bytes).is_ok()
 }
 
 // Adds a record's fields at the end.
@@ -75,6 +112,16 @@ fn push_fields(fields: &mut Pieces, row: &ByteRecord) -> Result<(), NoMemory>
         fields.push(field)?;
     }
     Ok(())
+}
+
+// A number of fields, if four bytes hold it.
+fn place_of(count: usize) -> Result<u32, NoMemory>
+    ensures { IfOk result (λ place. place ≡ count) }
+{
+    if count > u32::MAX as usize {
+        return Err(NoMemory);
+    }
+    Ok(count as u32)
 }
 
 // Reads the next record, and says whether there was one. Records may differ in width and need not be text, so
@@ -101,7 +148,7 @@ fn read_next(reader: &mut Reader<&[u8]>, row: &mut ByteRecord) -> Result<bool, N
 /// for a header.
 ///
 /// `csv` cannot rule out that reading from memory fails. Such a failure, which does not come, would be answered
-/// as want of memory.
+/// as want of memory, and so are fields of more than 4 GiB in all.
 pub fn read_rows(alloc: Global, bytes: &[u8]) -> Result<Rows, NoMemory>
     ensures { IfOk result (λ rows. rows ≡ records_of bytes.now) }
 {
@@ -114,7 +161,7 @@ pub fn read_rows(alloc: Global, bytes: &[u8]) -> Result<Rows, NoMemory>
     let mut ends = Vec::new(alloc);
     while read_next(&mut reader, &mut row)? {
         push_fields(&mut fields, &row)?;
-        ends.push(fields.len())?;
+        ends.push(place_of(fields.len())?)?;
     }
     Ok(Rows { fields, ends })
 }

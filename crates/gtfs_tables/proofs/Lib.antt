@@ -1,8 +1,13 @@
-pub mod IdLemmas
-pub mod CellLemmas
-pub mod ReasonLemmas
-pub mod RowLemmas
 pub mod StopLemmas
-pub mod FolderLemmas
 mod StopExamples
 pub mod PlacedLemmas
+pub mod RouteLemmas
+pub mod TripLemmas
+pub mod LeadLemmas
+pub mod PatternLemmas
+pub mod ReadLemmas
+pub mod PlaceLemmas
+pub mod StopTimeLemmas
+pub mod StationLemmas
+pub mod ShapeLemmas
+pub mod CourseLemmas

@@ -3,12 +3,13 @@ use Rattle.std.proofs.Common.{◌≡◌, ℕ, ◌≤◌, ℤ, pos, unsigned_abs,
 use Rattle.std.proofs.lemmas.Bool.{leb-true}
 use Rattle.std.proofs.lemmas.List.Elements.{All-nil, All-cons}
 use Rattle.std.specs.List.{filter_map, cons_option}
-use Rattle.gtfs_tables.specs.declared.station.Station.{Station}
+use Rattle.transit_feed.specs.declared.station.Station.{Station}
 use Rattle.gtfs_tables.specs.declared.stop_columns.StopColumns.{StopColumns}
-use Rattle.gtfs_tables.specs.Cells.{Row, field_in}
-use Rattle.gtfs_tables.specs.Placed.{IsPlaced}
-use Rattle.gtfs_tables.specs.Values.{degrees_of}
-use Rattle.gtfs_tables.specs.Stops.{within, latitude_in, longitude_in, station_of, stations_of, stop_columns, is_own_station, type_in}
+use Rattle.table_rows.specs.Cells.{Row, field_in}
+use Rattle.transit_feed.specs.Feeds.{IsPlaced}
+use Rattle.table_rows.specs.Values.{degrees_of}
+use Rattle.gtfs_tables.specs.Degrees.{within}
+use Rattle.gtfs_tables.specs.Stops.{latitude_in, longitude_in, station_of, stations_of, stop_columns, is_own_station, type_in}
 
 -- what is read within a bound, or 0 in its place, keeps the bound
 within-bound : (most : ℕ) (read : Option ℤ) → unsigned_abs (unwrap_or (within most read) (pos 0)) ≤ most

@@ -1,11 +1,11 @@
 -- Worked examples of `stops.txt`, which the definitions have to give.
 use Rattle.std.proofs.Common.{◌≡◌, ℕ, pos, List, [], ◌∷◌, Ok, Err, None, refl, codes}
-use Rattle.gtfs_tables.specs.declared.why.Table.TheVariants.{Stops}
-use Rattle.gtfs_tables.specs.declared.why.Why.TheVariants.{MissingFile, MissingColumn, BadLatitude, UnknownParent}
-use Rattle.gtfs_tables.specs.declared.fault.FeedFault.TheVariants.{BadRow}
-use Rattle.gtfs_tables.specs.Cells.{Row}
+use Rattle.table_rows.specs.declared.why.Table.TheVariants.{Stops}
+use Rattle.table_rows.specs.declared.why.Why.TheVariants.{MissingFile, MissingColumn, BadLatitude, UnknownParent}
+use Rattle.table_rows.specs.declared.fault.FeedFault.TheVariants.{BadRow}
+use Rattle.table_rows.specs.Cells.{Row}
 use Rattle.gtfs_tables.specs.Stops.{stops_of, stops_outcome}
-use Rattle.gtfs_tables.specs.Values.{bare, number_of, degrees_of}
+use Rattle.table_rows.specs.Values.{bare, number_of, degrees_of}
 use Rattle.std.specs.Str.{is_utf8, chars}
 use lib.Utf8.{encode}
 

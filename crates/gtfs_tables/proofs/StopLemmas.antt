@@ -1,12 +1,13 @@
 -- The reasons of the rows of `stops.txt`.
 use Rattle.std.proofs.Common.{◌≡◌, ◌≤◌, ◌<◌, ℕ, zero, suc, Bool, true, false, not, ◌&&◌, List, [], ◌∷◌, ◌++◌, length, Some, None, is_none, refl, sym, ◌∙◌, arith}
-use Rattle.gtfs_tables.specs.declared.why.Why.{Why}
-use Rattle.gtfs_tables.specs.Reasons.{first_met, first_bad}
-use Rattle.gtfs_tables.proofs.ReasonLemmas.{first_met-past, first_met-front, first_met-none, first_bad-at}
+use Rattle.table_rows.specs.declared.why.Why.{Why}
+use Rattle.table_rows.specs.Reasons.{first_met, first_bad}
+use Rattle.table_rows.proofs.ReasonLemmas.{first_met-past, first_met-front, first_met-none, first_bad-at, text_and_fourth}
 use Rattle.std.proofs.lemmas.Option.{none-some}
-use Rattle.gtfs_tables.specs.declared.why.Why.TheVariants.{WrongFields, NotUtf8, EmptyId, RepeatedId, BadLatitude, BadLongitude, BadType, UnknownParent}
-use Rattle.gtfs_tables.specs.Ids.{is_among}
-use Rattle.gtfs_tables.specs.Cells.{Row, row_at, rows_before, field_in, ids_in, ends_early, is_text, is_empty}
+use Rattle.table_rows.specs.declared.why.Why.TheVariants.{WrongFields, NotUtf8, EmptyId, RepeatedId, BadLatitude, BadLongitude, BadType, UnknownParent}
+use Rattle.table_rows.specs.Ids.{is_among}
+use Rattle.table_rows.specs.NewIds.{AreNew}
+use Rattle.table_rows.specs.Cells.{Row, row_at, rows_before, field_in, ids_in, ends_early, is_text, is_empty}
 use Rattle.gtfs_tables.specs.Stops.{stop_columns, required_columns, is_placed, latitude_in, longitude_in, lacks_parent, type_in, stop_reason, stops_reason}
 
 -- behind the header a row has the reasons of a row
@@ -44,3 +45,19 @@ is_text_good rows place from within good =
     ∷ (lacks_parent c rows (type_in c row) (field_in row c.parent), UnknownParent)
     ∷ [])
     (sym (stops_reason-behind rows place from) ∙ first_bad-at (stops_reason rows) rows place within good)
+
+-- each row of a table without a bad one has an id of its own
+pub stops_new : (rows : List Row) → first_bad (stops_reason rows) rows ≡ None → AreNew (stop_columns rows).id rows
+stops_new rows good = record {
+  new = λ place from within.
+      let c = stop_columns rows in
+      let row = row_at rows place in
+      (text_and_fourth (ends_early row (required_columns c)) (is_text row) (is_empty (field_in row c.id)) (is_among (field_in row c.id) (ids_in c.id (rows_before place rows)))
+      WrongFields NotUtf8 EmptyId RepeatedId
+      ((is_placed (type_in c row) && is_none (latitude_in c row), BadLatitude)
+      ∷ (is_placed (type_in c row) && is_none (longitude_in c row), BadLongitude)
+      ∷ (is_none (type_in c row), BadType)
+      ∷ (lacks_parent c rows (type_in c row) (field_in row c.parent), UnknownParent)
+      ∷ [])
+      (sym (stops_reason-behind rows place from) ∙ first_bad-at (stops_reason rows) rows place within good)).1;
+}

@@ -3,8 +3,8 @@ use Rattle.std.specs.Prelude.{◌≡◌, true, List}
 use Rattle.gtfs_tables.specs.declared.stop_columns.StopColumns.{StopColumns}
 use Rattle.gtfs_tables.specs.declared.stop_columns.LocationType.TheVariants as kind
 use Rattle.gtfs_tables.specs.declared.parents.Parents.{Parents}
-use Rattle.gtfs_tables.specs.Ids.{AreSame}
-use Rattle.gtfs_tables.specs.Cells.{Row}
+use Rattle.table_rows.specs.Ids.{AreSame}
+use Rattle.table_rows.specs.Cells.{Row}
 use Rattle.gtfs_tables.specs.Stops.{ids_of_type, has_boarding_area}
 
 -- the ids of all stations, and those of all stops where a boarding area may name one

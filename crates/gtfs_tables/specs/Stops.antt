@@ -1,21 +1,21 @@
 -- `stops.txt`: which of its rows is bad, and which stations it gives (GTFS Schedule reference, stops.txt).
-use Rattle.std.specs.Prelude.{ℕ, zero, suc, ℤ, pos, unsigned_abs, Bool, true, false, not, ◌&&◌, ◌==◌, List, [], ◌∷◌, drop, filter, filter_map, Option, Some, None, is_none, unwrap_or, option_and_then, Result, if◌then◌else◌, nat_le, codes}
+use Rattle.std.specs.Prelude.{ℕ, zero, suc, ℤ, pos, Bool, true, false, not, ◌&&◌, ◌==◌, List, [], ◌∷◌, drop, filter, filter_map, Option, Some, None, is_none, unwrap_or, option_and_then, Result, if◌then◌else◌, codes}
 use Rattle.std.specs.List.{list_any}
-use Rattle.gtfs_tables.specs.Values.{number_of}
-use Rattle.gtfs_tables.specs.Values.{degrees_of}
-use Rattle.gtfs_tables.specs.declared.why.Table.TheVariants as tables
-use Rattle.gtfs_tables.specs.declared.why.Why.{Why}
-use Rattle.gtfs_tables.specs.declared.why.Why.TheVariants.{WrongFields, NotUtf8, EmptyId, RepeatedId, BadLatitude, BadLongitude, BadType, UnknownParent}
-use Rattle.gtfs_tables.specs.declared.fault.FeedFault.{FeedFault}
-use Rattle.gtfs_tables.specs.declared.station.Station.{Station}
+use Rattle.table_rows.specs.Values.{number_of}
+use Rattle.gtfs_tables.specs.Degrees.{latitude_of, longitude_of}
+use Rattle.table_rows.specs.declared.why.Table.TheVariants as tables
+use Rattle.table_rows.specs.declared.why.Why.{Why}
+use Rattle.table_rows.specs.declared.why.Why.TheVariants.{WrongFields, NotUtf8, EmptyId, RepeatedId, BadLatitude, BadLongitude, BadType, UnknownParent}
+use Rattle.table_rows.specs.declared.fault.FeedFault.{FeedFault}
+use Rattle.transit_feed.specs.declared.station.Station.{Station}
 use Rattle.gtfs_tables.specs.declared.stop_columns.StopColumns.{StopColumns}
 use Rattle.gtfs_tables.specs.declared.stop_columns.LocationType.{LocationType}
 use Rattle.gtfs_tables.specs.declared.stop_columns.LocationType.TheVariants as kind
-use Rattle.gtfs_tables.specs.Ids.{is_among}
-use Rattle.gtfs_tables.specs.Cells.{Row, row_at, column_of, field_in, ids_in, rows_before, ends_early, is_empty, is_text}
-use Rattle.gtfs_tables.specs.Folder.{file_outcome, required_rows}
-use Rattle.gtfs_tables.specs.Outcome.{◌>>=◌}
-use Rattle.gtfs_tables.specs.Reasons.{first_met, header_reason, first_bad, unless_bad}
+use Rattle.table_rows.specs.Ids.{is_among}
+use Rattle.table_rows.specs.Cells.{Row, row_at, column_of, field_in, ids_in, rows_before, ends_early, is_empty, is_text}
+use Rattle.table_rows.specs.Folder.{file_outcome, required_rows}
+use Rattle.table_rows.specs.Outcome.{◌>>=◌}
+use Rattle.table_rows.specs.Reasons.{first_met, header_reason, first_bad, unless_bad}
 
 -- where the columns stand
 abbrev pub stop_columns : List Row → StopColumns
@@ -65,16 +65,11 @@ has_type kind.GenericNode (Some kind.GenericNode) = true
 has_type kind.BoardingArea (Some kind.BoardingArea) = true
 has_type wanted other = false
 
--- a number of microdegrees that is at most so many either way
-abbrev pub within : ℕ → Option ℤ → Option ℤ
-within most None = None
-within most (Some degrees) = if nat_le (unsigned_abs degrees) most then Some degrees else None
-
 abbrev pub latitude_in : StopColumns → Row → Option ℤ
-latitude_in c row = within 90000000 (degrees_of (field_in row c.lat))
+latitude_in c row = latitude_of (field_in row c.lat)
 
 abbrev pub longitude_in : StopColumns → Row → Option ℤ
-longitude_in c row = within 180000000 (degrees_of (field_in row c.lon))
+longitude_in c row = longitude_of (field_in row c.lon)
 
 -- the rows of one type
 abbrev pub rows_of_type : LocationType → StopColumns → List Row → List Row

@@ -7,24 +7,43 @@
 //! that it meets. Each answer is exactly the one that `specs/` defines for the file's bytes.
 #![tactic(auto)]
 
-mod cells;
-mod fault;
-mod folder;
-mod ids;
+mod degrees;
+mod feed_stops;
+mod first_refused;
+mod known;
+mod leads;
 mod parents;
-mod station;
+mod pattern_set;
+mod patterns;
+mod route_columns;
+mod route_row;
+mod routes;
+mod routes_check;
+mod shape_columns;
+mod shape_reads;
+mod shape_row;
+mod shapes;
+mod shapes_kept;
+mod shapes_read;
+mod slices;
+mod small;
 mod stop_columns;
 mod stop_row;
+mod stop_time_columns;
+mod stop_time_reads;
+mod stop_time_row;
+mod stop_times;
+mod stop_times_read;
 mod stops;
 mod stops_check;
-mod text;
-mod values;
-mod why;
+mod trip_columns;
+mod trip_row;
+mod trips;
+mod trips_check;
 
-pub use fault::FeedFault;
-pub use station::Station;
 pub use stops::read_stations;
-pub use why::{Table, Why};
+pub use table_rows::{FeedFault, Table, Why};
+pub use transit_feed::{Line, Pattern, Shape, Station, Tables};
 
 #[cfg(test)]
 mod tests;

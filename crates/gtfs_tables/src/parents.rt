@@ -2,18 +2,17 @@
 
 ghost use Rattle.std.specs.Prelude.{◌≡◌, ◌<◌, ◌||◌, ◌&&◌, ℕ, true, List, length, drop, bytes_eq, IfOk, OnOk};
 ghost use Rattle.std.specs.List.{list_any};
-ghost use Rattle.gtfs_tables.specs.Ids.{is_among, AreSame};
-ghost use Rattle.gtfs_tables.specs.Cells.{row_at};
+ghost use Rattle.table_rows.specs.Ids.{is_among, AreSame};
+ghost use Rattle.table_rows.specs.Cells.{row_at};
 ghost use Rattle.gtfs_tables.specs.Stops.{ids_of_type, has_type, type_in, has_boarding_area};
 ghost use Rattle.gtfs_tables.specs.Parents.{AreParents};
 
-use crate::cells::field_in;
-use crate::ids::Ids;
 use crate::stop_columns::{LocationType, StopColumns};
 use crate::stop_row::{has_type, type_in};
 use gtfs_fields::Rows;
 use map_base::NoMemory;
 use std::alloc::Global;
+use table_rows::{Ids, field_in};
 
 /// The ids that a parent may have.
 #[derive(Drop)]

@@ -1,15 +1,14 @@
 //! What a row of `stops.txt` says.
 
 ghost use Rattle.std.specs.Prelude.{◌≡◌, ◌<◌, ℕ, Bool, length, codes};
-ghost use Rattle.gtfs_tables.specs.Values.{number_of};
-ghost use Rattle.gtfs_tables.specs.Values.{degrees_of};
-ghost use Rattle.gtfs_tables.specs.Stops.{stop_columns, type_of_number, location_type, type_in, is_placed, has_type, within, latitude_in, longitude_in};
-ghost use Rattle.gtfs_tables.specs.Cells.{row_at};
+ghost use Rattle.table_rows.specs.Values.{number_of};
+ghost use Rattle.gtfs_tables.specs.Stops.{stop_columns, type_of_number, location_type, type_in, is_placed, has_type, latitude_in, longitude_in};
+ghost use Rattle.table_rows.specs.Cells.{row_at};
 
-use crate::cells::{column_of, field_in};
+use crate::degrees::{latitude_of, longitude_of};
 use crate::stop_columns::{LocationType, StopColumns};
-use crate::values::{degrees_of, number_of};
 use gtfs_fields::Rows;
+use table_rows::{column_of, field_in, number_of};
 
 /// The columns that a header names.
 pub(crate) fn stop_columns(rows: &Rows) -> StopColumns
@@ -80,28 +79,12 @@ pub(crate) fn has_type(wanted: LocationType, kind: Option<LocationType>) -> bool
     }
 }
 
-/// The microdegrees that a field spells, where they are at most `most` either way.
-fn degrees(field: &[u8], most: u64) -> Option<i64>
-    ensures { result ≡ within most (degrees_of field.now) }
-{
-    match degrees_of(field) {
-        None => None,
-        Some(value) => {
-            if value.unsigned_abs() <= most {
-                Some(value)
-            } else {
-                None
-            }
-        }
-    }
-}
-
 /// The latitude of a row.
 pub(crate) fn latitude_in(rows: &Rows, row: usize, columns: &StopColumns) -> Option<i64>
     requires { row < length rows.now }
     ensures { result ≡ latitude_in columns.now (row_at rows.now row) }
 {
-    degrees(field_in(rows, row, columns.lat), 90_000_000)
+    latitude_of(field_in(rows, row, columns.lat))
 }
 
 /// The longitude of a row.
@@ -109,5 +92,5 @@ pub(crate) fn longitude_in(rows: &Rows, row: usize, columns: &StopColumns) -> Op
     requires { row < length rows.now }
     ensures { result ≡ longitude_in columns.now (row_at rows.now row) }
 {
-    degrees(field_in(rows, row, columns.lon), 180_000_000)
+    longitude_of(field_in(rows, row, columns.lon))
 }

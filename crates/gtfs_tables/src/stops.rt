@@ -1,30 +1,26 @@
 //! The stations of `stops.txt`.
 
 ghost use Rattle.std.specs.Prelude.{◌≡◌, ◌≤◌, ◌<◌, ◌++◌, None, ℕ, true, length, pos, unwrap_or, option_to_list, option_map, IfOk, OnOk, IfSome, List, Option, All};
-ghost use Rattle.gtfs_tables.specs.declared.why.Table.TheVariants as tables;
-ghost use Rattle.gtfs_tables.specs.Folder.{table_file};
-ghost use Rattle.gtfs_tables.specs.Cells.{row_at, field_in, is_text};
-ghost use Rattle.gtfs_tables.specs.Reasons.{first_bad};
-ghost use Rattle.gtfs_tables.specs.Placed.{IsPlaced};
-ghost use Rattle.gtfs_tables.specs.Outcome.{Answers, never, rose_at};
+ghost use Rattle.table_rows.specs.declared.why.Table.TheVariants as tables;
+ghost use Rattle.table_rows.specs.Folder.{table_file};
+ghost use Rattle.table_rows.specs.Cells.{row_at, field_in, is_text};
+ghost use Rattle.table_rows.specs.Reasons.{first_bad};
+ghost use Rattle.transit_feed.specs.Feeds.{IsPlaced};
+ghost use Rattle.table_rows.specs.Outcome.{Answers, never, rose_at};
 ghost use Rattle.gtfs_tables.specs.Stops.{stop_columns, type_in, is_own_station, station_of, stations_of, stops_reason, stops_of, stops_of_file, stops_outcome};
 
-use crate::cells::field_in;
-use crate::fault::{FeedFault, bad_row};
-use crate::folder::{bytes_of, required_rows};
-use crate::station::Station;
 use crate::stop_columns::{LocationType, StopColumns};
 use crate::stop_row::{latitude_in, longitude_in, stop_columns, type_in};
 use crate::stops_check::check_stops;
-use crate::text::text_of;
-use crate::why::{Table, Why};
 use files_door::Files;
 use gtfs_fields::Rows;
 use map_base::NoMemory;
 use std::alloc::Global;
+use table_rows::{FeedFault, Table, Why, bad_row, bytes_of, field_in, required_rows, text_of};
+use transit_feed::Station;
 
 /// Whether a row is a station: one of that type, or a stop without a parent.
-fn is_own_station(rows: &Rows, row: usize, columns: &StopColumns) -> bool
+pub(crate) fn is_own_station(rows: &Rows, row: usize, columns: &StopColumns) -> bool
     requires { row < length rows.now }
     ensures { result ≡ is_own_station (type_in columns.now (row_at rows.now row)) (field_in (row_at rows.now row) columns.now.parent) }
 {
@@ -67,8 +63,12 @@ fn push_some(stations: &mut Vec<Station>, station: Option<Station>) -> Result<()
 }
 
 /// The stations of a table without a bad row.
-#[tactic(auto, using(crate::proofs::StopLemmas::is_text_good, crate::proofs::RowLemmas::filter_map_before))]
-fn stations_of(alloc: Global, rows: &Rows, columns: &StopColumns) -> Result<Vec<Station>, NoMemory>
+#[tactic(auto, using(crate::proofs::StopLemmas::is_text_good, table_rows::proofs::RowLemmas::filter_map_before))]
+pub(crate) fn stations_of(
+    alloc: Global,
+    rows: &Rows,
+    columns: &StopColumns,
+) -> Result<Vec<Station>, NoMemory>
     requires header { 0 < length rows.now }
     requires columns { columns.now ≡ stop_columns rows.now }
     requires good { first_bad (stops_reason rows.now) rows.now ≡ None }

@@ -1,25 +1,24 @@
 //! The rows of `stops.txt` are checked.
 
 ghost use Rattle.std.specs.Prelude.{◌≡◌, ◌≤◌, ◌<◌, ◌+◌, ◌∷◌, [], ℕ, Bool, length, not};
-ghost use Rattle.gtfs_tables.specs.declared.why.Table.TheVariants as tables;
-ghost use Rattle.gtfs_tables.specs.declared.why.Why.TheVariants as why;
-ghost use Rattle.gtfs_tables.specs.declared.fault.FeedFault.TheVariants as faults;
-ghost use Rattle.gtfs_tables.specs.Ids.{is_among};
-ghost use Rattle.gtfs_tables.specs.Cells.{row_at, field_in, ids_in, rows_before};
-ghost use Rattle.gtfs_tables.specs.Reasons.{header_reason, first_bad, unless_bad};
-ghost use Rattle.gtfs_tables.specs.Outcome.{Answers, never};
+ghost use Rattle.table_rows.specs.declared.why.Table.TheVariants as tables;
+ghost use Rattle.table_rows.specs.declared.why.Why.TheVariants as why;
+ghost use Rattle.table_rows.specs.declared.fault.FeedFault.TheVariants as faults;
+ghost use Rattle.table_rows.specs.Ids.{is_among};
+ghost use Rattle.table_rows.specs.Cells.{row_at, field_in, ids_in, rows_before};
+ghost use Rattle.table_rows.specs.Reasons.{header_reason, first_bad, unless_bad};
+ghost use Rattle.table_rows.specs.Outcome.{Answers, never};
 ghost use Rattle.gtfs_tables.specs.Stops.{stop_columns, required_columns, place_reason, lacks_parent, stop_reason, stops_reason, type_in};
 ghost use Rattle.gtfs_tables.specs.Parents.{AreParents};
 
-use crate::cells::{ends_early, field_in, header_reason, is_text};
-use crate::fault::{FeedFault, bad_row};
-use crate::ids::Ids;
 use crate::parents::{Parents, parents_of};
 use crate::stop_columns::{LocationType, StopColumns};
 use crate::stop_row::{is_placed, latitude_in, longitude_in, type_in};
-use crate::why::{Table, Why};
 use gtfs_fields::Rows;
 use std::alloc::Global;
+use table_rows::{
+    FeedFault, Ids, Table, Why, bad_row, ends_early, field_in, header_reason, is_text,
+};
 
 /// What is wrong with a row's latitude, longitude or type. Where the type is bad, neither of the others is read.
 fn place_reason(rows: &Rows, row: usize, columns: &StopColumns) -> Option<Why>

@@ -2,13 +2,13 @@
 use Rattle.std.proofs.Common.{Bool, cond, ◌≡◌, ◌≢◌, ℕ, List, [], ◌∷◌, Option, None, Some, Result, Ok, Err, IfSome, IfOk, inl, inr, refl, sym, ap, ◌∙◌, subst, lit<, take}
 use Rattle.std.proofs.lemmas.Slice.Eq.{bytes_eq-Decides}
 use Rattle.map_base.specs.declared.memory.NoMemory.{NoMemory}
-use Rattle.gtfs_tables.specs.declared.why.Table.{Table}
-use Rattle.gtfs_tables.specs.declared.why.Table.TheVariants.{Stops}
-use Rattle.gtfs_tables.specs.declared.station.Station.{Station}
-use Rattle.gtfs_tables.specs.declared.fault.FeedFault.{FeedFault}
-use Rattle.gtfs_tables.specs.declared.fault.FeedFault.TheVariants as fault
-use Rattle.gtfs_tables.specs.Folder.{path_in, table_file}
-use Rattle.gtfs_tables.specs.Outcome.{Answers, rose_at}
+use Rattle.table_rows.specs.declared.why.Table.{Table}
+use Rattle.table_rows.specs.declared.why.Table.TheVariants.{Stops}
+use Rattle.transit_feed.specs.declared.station.Station.{Station}
+use Rattle.table_rows.specs.declared.fault.FeedFault.{FeedFault}
+use Rattle.table_rows.specs.declared.fault.FeedFault.TheVariants as fault
+use Rattle.table_rows.specs.Folder.{path_in, table_file}
+use Rattle.table_rows.specs.Outcome.{Answers, rose_at}
 use Rattle.gtfs_tables.specs.Stops.{stops_outcome}
 use Rattle.map_cli.specs.declared.answer.Answer.{Answer}
 use Rattle.map_cli.specs.declared.status.Status.TheVariants as ended

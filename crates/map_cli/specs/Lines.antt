@@ -2,9 +2,9 @@
 use Rattle.std.specs.Prelude.{ℕ, List, [], ◌++◌, codes, Option, Some, None}
 use Rattle.std.specs.Fmt.{decimal}
 use Rattle.map_base.specs.Limits.{limit_name}
-use Rattle.gtfs_tables.specs.Folder.{file_name}
-use Rattle.gtfs_tables.specs.declared.why.Why.{Why}
-use Rattle.gtfs_tables.specs.declared.why.Why.TheVariants.{MissingFile, MissingColumn, WrongFields, NotUtf8, EmptyId, RepeatedId, BadLatitude, BadLongitude, BadType, BadColour, BadWhole, UnknownParent, UnknownRoute, UnknownTrip, UnknownStop, RepeatedSequence}
+use Rattle.table_rows.specs.Folder.{file_name}
+use Rattle.table_rows.specs.declared.why.Why.{Why}
+use Rattle.table_rows.specs.declared.why.Why.TheVariants.{MissingFile, MissingColumn, WrongFields, NotUtf8, EmptyId, RepeatedId, BadLatitude, BadLongitude, BadType, BadColour, BadWhole, UnknownParent, UnknownRoute, UnknownTrip, UnknownStop, RepeatedSequence}
 use Rattle.map_cli.specs.declared.status.Status.{Status}
 use Rattle.map_cli.specs.declared.status.Status.TheVariants as ended
 

@@ -1,11 +1,11 @@
 -- What a run of the program is to do, by its words and the files that it reads.
 use Rattle.std.specs.Prelude.{◌≡◌, ℕ, List, [], ◌∷◌, Option, Result, Ok, Err, IfSome}
 use Rattle.files_door.specs.declared.target.Target.TheVariants.{Said}
-use Rattle.gtfs_tables.specs.declared.why.Table.TheVariants.{Stops}
-use Rattle.gtfs_tables.specs.declared.station.Station.{Station}
-use Rattle.gtfs_tables.specs.declared.fault.FeedFault.{FeedFault}
-use Rattle.gtfs_tables.specs.declared.fault.FeedFault.TheVariants as fault
-use Rattle.gtfs_tables.specs.Folder.{path_in, table_file}
+use Rattle.table_rows.specs.declared.why.Table.TheVariants.{Stops}
+use Rattle.transit_feed.specs.declared.station.Station.{Station}
+use Rattle.table_rows.specs.declared.fault.FeedFault.{FeedFault}
+use Rattle.table_rows.specs.declared.fault.FeedFault.TheVariants as fault
+use Rattle.table_rows.specs.Folder.{path_in, table_file}
 use Rattle.gtfs_tables.specs.Stops.{stops_outcome}
 use Rattle.map_cli.specs.Words.{Asked, stations, unread}
 use Rattle.map_cli.specs.Stations.{stations_text}

@@ -3,7 +3,7 @@ use Rattle.std.specs.Prelude.{ℕ, List, [], ◌∷◌}
 use Rattle.std.specs.List.{flat_map}
 use Rattle.fixed_plane.specs.Plane.{band_at, projected}
 use Rattle.printed_text.specs.Printed.{point_line}
-use Rattle.gtfs_tables.specs.declared.station.Station.{Station}
+use Rattle.transit_feed.specs.declared.station.Station.{Station}
 
 -- the line of a station
 abbrev pub station_line : ℕ → Station → List ℕ

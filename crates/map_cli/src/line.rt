@@ -1,7 +1,7 @@
 //! The lines that name how a run ended.
 
 ghost use Rattle.std.specs.Prelude.{◌≡◌, IfOk, IfSome, string_bytes};
-ghost use Rattle.gtfs_tables.specs.Folder.{file_name};
+ghost use Rattle.table_rows.specs.Folder.{file_name};
 ghost use Rattle.map_cli.specs.Lines.{status_line, reason_text};
 
 use crate::help::usage_text;

@@ -1,7 +1,7 @@
 //! What the command `stations` prints.
 
 ghost use Rattle.std.specs.Prelude.{◌≡◌, ◌≤◌, ◌++◌, All, IfOk, OnOk, vec_len, unsigned_abs};
-ghost use Rattle.gtfs_tables.specs.Placed.{IsPlaced};
+ghost use Rattle.transit_feed.specs.Feeds.{IsPlaced};
 ghost use Rattle.map_cli.specs.Stations.{feed_band, station_line, stations_text};
 
 use fixed_plane::{band_of, project};

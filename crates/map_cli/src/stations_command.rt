@@ -2,8 +2,8 @@
 
 ghost use Rattle.std.specs.Prelude.{◌≡◌, ◌≢◌, ◌≤◌, IfOk};
 ghost use Rattle.files_door.specs.Fault.{Rose};
-ghost use Rattle.gtfs_tables.specs.declared.why.Table.TheVariants as table;
-ghost use Rattle.gtfs_tables.specs.Folder.{path_in};
+ghost use Rattle.table_rows.specs.declared.why.Table.TheVariants as table;
+ghost use Rattle.table_rows.specs.Folder.{path_in};
 ghost use Rattle.map_cli.specs.Words.{stations};
 ghost use Rattle.map_cli.specs.Outcome.{alone, printed, status_of_fault};
 ghost use Rattle.map_cli.specs.Ending.{IsCaused, IsAnswerTo};

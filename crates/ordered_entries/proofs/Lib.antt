@@ -1,3 +1,4 @@
 pub mod Rising
 pub mod Places
 pub mod OrderLemmas
+pub mod Values

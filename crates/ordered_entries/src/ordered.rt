@@ -1,6 +1,6 @@
 //! Entries in order.
 
-ghost use Rattle.std.specs.Prelude.{◌≡◌, ◌≤◌, ◌<◌, ◌+◌, ◌^◌, ℕ, length, IfOk, MatchOption, slice_index, Bool, Option};
+ghost use Rattle.std.specs.Prelude.{◌≡◌, ◌≤◌, ◌<◌, ◌+◌, ◌^◌, ℕ, length, IfOk, MatchOption, slice_index, Bool, Option, All};
 ghost use Rattle.ordered_entries.specs.Entries.{places_of, entry_at, AreDistinct, IsFirstRepeat};
 ghost use Rattle.ordered_entries.specs.Order.{IsOrderOf, IsRank};
 
@@ -51,7 +51,8 @@ impl OrderedEntries {
 
     /// The places of a key's entries by rising sequence numbers; those of one number in the order of the places.
     pub fn places_of(&self, key: u32) -> &[u32]
-        ensures { result.now ≡ places_of self.now key }
+        ensures places { result.now ≡ places_of self.now key }
+        ensures within { All (λ place. place < length self.now) result.now }
     {
         let key = u64::from(key);
         let from = rank(&self.entries, &self.order, key);

@@ -41,15 +41,15 @@ loop-ends-preserved c =
     let more = rows-more (λ (s : Bor (List ℕ)). Some s.now) c.loop-ends.reader c.read_next.new.reader f default_config st.StartRecord (strip_bom c.args.bytes.now) rest (cut 0 c.loop-ends.ends.items c.loop-ends.fields) config source reached step in
     let fields = c.in_ok-push_fields.ensures in
     let ends = c.in_ok-push.ensures.items in
-    let size : c.len.result ≡ length c.loop-ends.fields + length f = c.len.ensures ∙ ap length fields ∙ length-append c.loop-ends.fields f in (
+    let size : c.in_ok-place_of.field-0 ≡ length c.loop-ends.fields + length f = c.in_ok-place_of.ensures ∙ c.len.ensures ∙ ap length fields ∙ length-append c.loop-ends.fields f in (
       step.3 ∙ trim,
       c.in_ok-read_next.ensures.ready,
       c.in_ok-read_next.ensures.flexible,
       step.2 ∙ config,
-      pushed_covers c.loop-ends.ends.items c.push.new.self.items c.loop-ends.fields c.push_fields.new.fields f c.len.result covers ends fields size,
+      pushed_covers c.loop-ends.ends.items c.push.new.self.items c.loop-ends.fields c.push_fields.new.fields f c.in_ok-place_of.field-0 covers ends fields size,
       more.0,
       more.1,
-      rw (pushed_cut c.loop-ends.ends.items c.push.new.self.items c.loop-ends.fields c.push_fields.new.fields f c.len.result covers ends fields size) more.2,
+      rw (pushed_cut c.loop-ends.ends.items c.push.new.self.items c.loop-ends.fields c.push_fields.new.fields f c.in_ok-place_of.field-0 covers ends fields size) more.2,
     )
 
 pub returns : goal.returns

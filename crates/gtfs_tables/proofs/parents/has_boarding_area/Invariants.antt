@@ -1,7 +1,7 @@
 use Rattle.std.proofs.Common.{◌≡◌, false}
 use Rattle.std.specs.List.{list_any}
 use Rattle.gtfs_tables.specs.declared.stop_columns.LocationType.TheVariants.{BoardingArea}
-use Rattle.gtfs_tables.specs.Cells.{rows_before}
+use Rattle.table_rows.specs.Cells.{rows_before}
 use Rattle.gtfs_tables.specs.Stops.{has_type, type_in}
 use Rattle.gtfs_tables.proofs.parents.has_boarding_area.Given as goal
 

@@ -1,8 +1,8 @@
 use Rattle.std.proofs.Common.{◌∙◌, ◌||◌, ◌&&◌, ap, bytes_eq, arith}
-use Rattle.gtfs_tables.specs.Ids.{is_among}
-use Rattle.gtfs_tables.specs.Cells.{row_at}
+use Rattle.table_rows.specs.Ids.{is_among}
+use Rattle.table_rows.specs.Cells.{row_at}
 use Rattle.gtfs_tables.specs.Stops.{has_type, type_in}
-use Rattle.gtfs_tables.proofs.RowLemmas.{AreSame-filtered}
+use Rattle.table_rows.proofs.RowLemmas.{AreSame-filtered}
 use Rattle.gtfs_tables.proofs.parents.ids_of_type.Goals as goal
 
 pub loop-row-preserved : goal.loop-row-preserved

@@ -1,5 +1,5 @@
-use Rattle.gtfs_tables.specs.Ids.{AreSame}
-use Rattle.gtfs_tables.specs.Cells.{rows_before, ids_in}
+use Rattle.table_rows.specs.Ids.{AreSame}
+use Rattle.table_rows.specs.Cells.{rows_before, ids_in}
 use Rattle.gtfs_tables.specs.Stops.{rows_of_type}
 use Rattle.gtfs_tables.proofs.parents.ids_of_type.Given as goal
 

@@ -1,5 +1,5 @@
 use Rattle.std.proofs.Common.{◌∙◌, ◌||◌, ◌&&◌, ap, sym, bytes_eq}
-use Rattle.gtfs_tables.specs.Ids.{is_among}
+use Rattle.table_rows.specs.Ids.{is_among}
 use Rattle.gtfs_tables.proofs.parents.note_if.Goals as goal
 
 pub returns-in_ok-note : goal.returns-in_ok-note

@@ -1,6 +1,6 @@
 use Rattle.std.proofs.Common.{IsUtf8, subst, sym}
-use Rattle.gtfs_tables.specs.Cells.{row_at}
-use Rattle.gtfs_tables.proofs.CellLemmas.{IsUtf8-field}
+use Rattle.table_rows.specs.Cells.{row_at}
+use Rattle.table_rows.proofs.CellLemmas.{IsUtf8-field}
 use Rattle.gtfs_tables.proofs.stops.station_of.Goals as goal
 
 pub text_of-requires : goal.text_of-requires

@@ -1,6 +1,6 @@
 use Rattle.std.proofs.Common.{◌≡◌}
 use Rattle.std.specs.List.{filter_map}
-use Rattle.gtfs_tables.specs.Cells.{rows_before}
+use Rattle.table_rows.specs.Cells.{rows_before}
 use Rattle.gtfs_tables.specs.Stops.{station_of}
 use Rattle.gtfs_tables.proofs.stops.stations_of.Given as goal
 

@@ -1,9 +1,9 @@
 use Rattle.std.proofs.Common.{◌∙◌, ap, sym, arith, ◌||◌, bytes_eq}
-use Rattle.gtfs_tables.specs.declared.why.Table.TheVariants.{Stops}
-use Rattle.gtfs_tables.specs.Ids.{is_among}
+use Rattle.table_rows.specs.declared.why.Table.TheVariants.{Stops}
+use Rattle.table_rows.specs.Ids.{is_among}
 use Rattle.gtfs_tables.specs.Stops.{stops_reason, stop_reason}
-use Rattle.gtfs_tables.proofs.ReasonLemmas.{first_below-more, Refuses-bad}
-use Rattle.gtfs_tables.proofs.RowLemmas.{AreSame-more}
+use Rattle.table_rows.proofs.ReasonLemmas.{first_below-more, Refuses-bad}
+use Rattle.table_rows.proofs.RowLemmas.{AreSame-more}
 use Rattle.gtfs_tables.proofs.StopLemmas.{stops_reason-behind}
 use Rattle.gtfs_tables.proofs.stops_check.check_rows.Goals as goal
 

@@ -1,7 +1,7 @@
 use Rattle.std.proofs.Common.{◌≡◌, None}
-use Rattle.gtfs_tables.specs.Ids.{AreSame}
-use Rattle.gtfs_tables.specs.Cells.{rows_before, ids_in}
-use Rattle.gtfs_tables.specs.Reasons.{first_below}
+use Rattle.table_rows.specs.Ids.{AreSame}
+use Rattle.table_rows.specs.Cells.{rows_before, ids_in}
+use Rattle.table_rows.specs.Reasons.{first_below}
 use Rattle.gtfs_tables.specs.Stops.{stops_reason}
 use Rattle.gtfs_tables.proofs.stops_check.check_rows.Given as goal
 

@@ -1,9 +1,9 @@
 use Rattle.std.proofs.Common.{◌∙◌, ap, sym, refl}
-use Rattle.gtfs_tables.specs.declared.why.Table.TheVariants.{Stops}
-use Rattle.gtfs_tables.specs.Cells.{row_at}
-use Rattle.gtfs_tables.specs.Reasons.{header_reason}
+use Rattle.table_rows.specs.declared.why.Table.TheVariants.{Stops}
+use Rattle.table_rows.specs.Cells.{row_at}
+use Rattle.table_rows.specs.Reasons.{header_reason}
 use Rattle.gtfs_tables.specs.Stops.{stops_reason, required_columns}
-use Rattle.gtfs_tables.proofs.ReasonLemmas.{Refuses-bad}
+use Rattle.table_rows.proofs.ReasonLemmas.{Refuses-bad}
 use Rattle.gtfs_tables.proofs.stops_check.check_stops.Goals as goal
 
 pub returns-in-Some : goal.returns-in-Some

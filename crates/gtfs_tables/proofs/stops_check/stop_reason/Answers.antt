@@ -1,7 +1,7 @@
 use Rattle.std.proofs.Common.{◌∙◌, sym, ap, not, ◌&&◌, ◌∷◌, [], is_none}
-use Rattle.gtfs_tables.specs.declared.why.Why.TheVariants.{WrongFields, NotUtf8, EmptyId, RepeatedId, BadLatitude, BadLongitude, BadType, UnknownParent}
-use Rattle.gtfs_tables.specs.Ids.{is_among}
-use Rattle.gtfs_tables.specs.Cells.{row_at, field_in, ids_in, rows_before, ends_early, is_text, is_empty}
+use Rattle.table_rows.specs.declared.why.Why.TheVariants.{WrongFields, NotUtf8, EmptyId, RepeatedId, BadLatitude, BadLongitude, BadType, UnknownParent}
+use Rattle.table_rows.specs.Ids.{is_among}
+use Rattle.table_rows.specs.Cells.{row_at, field_in, ids_in, rows_before, ends_early, is_text, is_empty}
 use Rattle.gtfs_tables.specs.Stops.{required_columns, is_placed, latitude_in, longitude_in, lacks_parent, type_in}
 use Rattle.gtfs_tables.proofs.StopLemmas.{first_met-fourth}
 use Rattle.gtfs_tables.proofs.stops_check.stop_reason.Goals as goal

@@ -1,9 +1,9 @@
 use Rattle.std.proofs.Common.{ap, ◌∙◌, Ok, Err, Vec}
 use Rattle.std.specs.declared.alloc.Global.{Global}
 use Rattle.map_cli.specs.Stations.{stations_text}
-use Rattle.gtfs_tables.specs.declared.station.Station.{Station}
-use Rattle.gtfs_tables.specs.declared.why.Table.TheVariants.{Stops}
-use Rattle.gtfs_tables.specs.Outcome.{rose_at}
+use Rattle.transit_feed.specs.declared.station.Station.{Station}
+use Rattle.table_rows.specs.declared.why.Table.TheVariants.{Stops}
+use Rattle.table_rows.specs.Outcome.{rose_at}
 use Rattle.map_cli.proofs.Answering.{seen, answered, refused}
 use Rattle.map_cli.proofs.stations_command.answer_stations.Goals as goal
 

@@ -1,8 +1,0 @@
-use Rattle.std.proofs.Common.{◌∙◌, ap}
-use Rattle.gtfs_tables.specs.Ids.{is_among}
-use Rattle.gtfs_tables.proofs.IdLemmas.{is_among-pointed}
-use Rattle.gtfs_tables.proofs.ids.Ids.contains.Goals as goal
-
-pub returns : goal.returns
-returns c =
-    c.contains.ensures ∙ is_among-pointed c.args.id.now c.self.inside.held.keys ∙ ap (is_among c.args.id.now) c.self.view_is

@@ -1,0 +1,5 @@
+pub mod IdLemmas
+pub mod CellLemmas
+pub mod ReasonLemmas
+pub mod RowLemmas
+pub mod FolderLemmas

@@ -1,0 +1,24 @@
+//! Rows of a feed's tables: their files, columns, fields and ids, and the first bad row with its least reason.
+//!
+//! What all tables of a feed share (GTFS Schedule reference). Columns are found by their names in the header,
+//! spaces at both ends aside, the first of equal names; an absent column, and a field that a row lacks, read as
+//! empty.
+#![tactic(auto)]
+
+mod cells;
+mod fault;
+mod folder;
+mod ids;
+mod row_ids;
+mod text;
+mod values;
+mod why;
+
+pub use cells::{column_of, ends_early, field_in, header_reason, is_text, lacks_column};
+pub use fault::{FeedFault, bad_row};
+pub use folder::{bytes_of, required_rows};
+pub use ids::Ids;
+pub use row_ids::{ids_of_rows, note_new};
+pub use text::text_of;
+pub use values::{bare, colour_of, degrees_of, number_of, rows_of};
+pub use why::{Table, Why};
