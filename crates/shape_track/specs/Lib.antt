@@ -3,6 +3,7 @@ pub mod Faults
 pub mod Samples
 pub mod Sampling
 pub mod Snaps
+pub mod Choices
 pub mod Sweeps
 pub mod Rows
 pub mod Hops

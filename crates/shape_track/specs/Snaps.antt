@@ -1,7 +1,8 @@
 -- The snap of stations on samples.
-use Rattle.std.specs.Prelude.{◌≡◌, ℕ, ◌+◌, ◌<◌, ◌≤◌, Bool, nat_lt, ◌==◌, IsTrue, ◌||◌, ◌&&◌, true, false, pos, List, [], ◌∷◌, length, slice_index_or}
+use Rattle.std.specs.Prelude.{◌≡◌, ℕ, ◌+◌, ◌<◌, ◌≤◌, IsTrue, pos, List, [], ◌∷◌, length, slice_index_or}
 use Rattle.map_base.specs.declared.point.Point.{Point}
 use Rattle.fixed_plane.specs.Measures.{dist2_of}
+pub use Rattle.least_path.specs.Least.{is_not_after}
 
 -- the sample at a place
 abbrev pub sample_at : List Point → ℕ → Point
@@ -19,12 +20,6 @@ abbrev pub cost_of : List Point → List Point → List ℕ → ℕ
 cost_of samples [] is = 0
 cost_of samples (s ∷ ss) [] = 0
 cost_of samples (s ∷ ss) (i ∷ is) = dist2_of s (sample_at samples i) + cost_of samples ss is
-
--- of two lists the first is not after the second in the order of dictionaries
-abbrev pub is_not_after : List ℕ → List ℕ → Bool
-is_not_after [] js = true
-is_not_after (i ∷ is) [] = false
-is_not_after (i ∷ is) (j ∷ js) = nat_lt i j || ((i == j) && is_not_after is js)
 
 -- the snap of stations on samples, from a floor on: non-falling places whose cost no such list undercuts,
 -- and of those of that cost the first

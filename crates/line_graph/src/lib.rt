@@ -1,0 +1,4 @@
+//! The line graph of a feed.
+#![tactic(auto)]
+
+mod placeholder;

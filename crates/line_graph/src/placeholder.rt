@@ -1,0 +1,5 @@
+//! Nothing yet.
+
+pub fn nothing(x: u32) -> u32 {
+    x
+}
