@@ -45,16 +45,16 @@ ends_back e f = grind (arith, nat_tests)
 -- A label after two classes became one.
 
 module _ (low high : ℕ) (under : low ≤ high) where
-  abbrev new : ℕ → ℕ
+  abbrev pub new : ℕ → ℕ
   new l = relabelled low high l
 
-  new_high : new high ≡ low
+  pub new_high : new high ≡ low
   new_high = grind (arith, nat_tests)
 
-  new_other : (l : ℕ) → l ≢ high → new l ≡ l
+  pub new_other : (l : ℕ) → l ≢ high → new l ≡ l
   new_other l h = grind (arith, nat_tests)
 
-  new_low : new low ≡ low
+  pub new_low : new low ≡ low
   new_low = grind (arith, nat_tests)
 
   which : (l : ℕ) → (l ≡ high) ⊎ (l ≢ high)
@@ -92,7 +92,7 @@ two_labels a b l m e = elim (new_same (min a b) (max a b) (omega arith) l m e) [
   ]
 ]
 
-both_low : (a b : ℕ) → (relabelled (min a b) (max a b) a ≡ min a b) × (relabelled (min a b) (max a b) b ≡ min a b)
+pub both_low : (a b : ℕ) → (relabelled (min a b) (max a b) a ≡ min a b) × (relabelled (min a b) (max a b) b ≡ min a b)
 both_low a b = elim (cases_lt a b) [
   | inl below ↦ (let l : min a b ≡ a = omega arith in let h : max a b ≡ b = omega arith in (rw (l, h) (new_low a b (omega arith)), rw (l, h) (new_high a b (omega arith))))
   | inr above ↦ (let l : min a b ≡ b = omega arith in let h : max a b ≡ a = omega arith in (rw (l, h) (new_high b a (omega arith)), rw (l, h) (new_low b a (omega arith))))

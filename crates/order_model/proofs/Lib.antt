@@ -7,6 +7,7 @@ pub mod GraphFacts
 pub mod GraphProblem
 pub mod SmallGraph
 pub mod Classes
+pub mod Pointing
 pub mod Placing
 pub mod PartLemmas
 pub mod PrefixLemmas

@@ -1,5 +1,6 @@
 -- What orders cost.
 use Rattle.std.specs.Prelude.{ℕ, ◌<◌, ◌≤◌, ◌==◌, Bool, true, false, ◌&&◌, ◌||◌, not, List, [], ◌∷◌, sum_by, if◌then◌else◌, IsPermutation}
+use Rattle.map_base.specs.declared.ids.SegId.{SegId}
 use Rattle.map_base.specs.declared.ids.LineId.{LineId}
 use Rattle.order_model.specs.declared.term.Term.{Term}
 use Rattle.order_model.specs.declared.term.Term.TheVariants.{Side, Link, Apart}
@@ -25,15 +26,29 @@ abbrev pub same_answer : Bool → Bool → Bool
 same_answer true y = y
 same_answer false y = not y
 
+-- the segment of a term, the lesser of two
+abbrev pub seg_of : Term → SegId
+seg_of (Side seg first second w) = seg
+seg_of (Link seg other flip a b w) = seg
+seg_of (Apart seg other a b w) = seg
+
+-- the other segment of a term, or its only one
+abbrev pub other_of : Term → SegId
+other_of (Side seg first second w) = seg
+other_of (Link seg other flip a b w) = other
+other_of (Apart seg other a b w) = other
+
 -- a Side costs where the second line comes before the first. A Link costs where the two lines stand in one order
 -- on both segments and it has a flip, or in opposite orders and it has none. An Apart costs where its two lines
 -- are neighbours on exactly one of its segments
+abbrev pub is_met_on : List LineId → List LineId → Term → Bool
+is_met_on here there (Side seg first second w) = comes_before here second first
+is_met_on here there (Link seg other flip a b w) = same_answer flip (same_answer (comes_before here a b) (comes_before there a b))
+is_met_on here there (Apart seg other a b w) = not (same_answer (are_neighbours here a b) (are_neighbours there a b))
+
+-- the same under the orders of all segments
 abbrev pub is_met : List (List LineId) → Term → Bool
-is_met orders (Side seg first second w) = comes_before (lines_on orders seg) second first
-is_met orders (Link seg other flip a b w) =
-    same_answer flip (same_answer (comes_before (lines_on orders seg) a b) (comes_before (lines_on orders other) a b))
-is_met orders (Apart seg other a b w) =
-    not (same_answer (are_neighbours (lines_on orders seg) a b) (are_neighbours (lines_on orders other) a b))
+is_met orders t = is_met_on (lines_on orders (seg_of t)) (lines_on orders (other_of t)) t
 
 -- the weight of a term
 abbrev pub weight_of : Term → ℕ
@@ -41,9 +56,13 @@ weight_of (Side seg first second w) = w
 weight_of (Link seg other flip a b w) = w
 weight_of (Apart seg other a b w) = w
 
+-- what a term costs where these are the orders of its segments
+abbrev pub cost_on : List LineId → List LineId → Term → ℕ
+cost_on here there t = if is_met_on here there t then weight_of t else 0
+
 -- what a term costs under orders
 abbrev pub term_cost : List (List LineId) → Term → ℕ
-term_cost orders t = if is_met orders t then weight_of t else 0
+term_cost orders t = cost_on (lines_on orders (seg_of t)) (lines_on orders (other_of t)) t
 
 -- the sum of the weights of all terms that cost something
 abbrev pub cost_of : List Term → List (List LineId) → ℕ

@@ -74,3 +74,21 @@ pub record AreLabels (terms : List Term) (n : ℕ) (labels : List ℕ) : Type 0 
   pub rooted : (s : ℕ) → s < n → slice_index labels (slice_index labels s) ≡ slice_index labels s
   pub same : (s t : ℕ) → s < n → t < n → slice_index labels s ≡ slice_index labels t → Reaches terms s t
   pub reached : (s t : ℕ) → s < n → t < n → Reaches terms s t → slice_index labels s ≡ slice_index labels t
+
+-- How labels are kept while classes become one: each segment points at one that is not above it, in its class.
+
+-- no segment points above itself
+abbrev pub PointDown : List ℕ → Type 0
+PointDown parents = (s : ℕ) → s < length parents → slice_index parents s ≤ s
+
+-- each segment points within its class, and only a label points at itself
+pub record PointWithin (labels parents : List ℕ) : Type 0 where
+  pub each : length parents ≡ length labels
+  pub down : (s : ℕ) → s < length parents → slice_index parents s ≤ s
+  pub same : (s : ℕ) → s < length parents → slice_index labels (slice_index parents s) ≡ slice_index labels s
+  pub own : (s : ℕ) → s < length parents → slice_index parents s ≡ s → slice_index labels s ≡ s
+
+-- a label is not above its segment, and is its own label
+pub record AreOwnLabels (labels : List ℕ) : Type 0 where
+  pub lowest : (s : ℕ) → s < length labels → slice_index labels s ≤ s
+  pub rooted : (s : ℕ) → s < length labels → slice_index labels (slice_index labels s) ≡ slice_index labels s

@@ -1,12 +1,12 @@
 //! What orders cost.
 
-ghost use Rattle.std.specs.Prelude.{◌≡◌, ◌≤◌, length, sum_by, All};
-ghost use Rattle.order_model.specs.Costs.{comes_before, are_these, are_neighbours, is_met, weight_of, term_cost, cost_of, IsReadable, AreOrders};
+ghost use Rattle.std.specs.Prelude.{◌≡◌, ℕ, ◌<◌, ◌≤◌, length, sum_by, All};
+ghost use Rattle.order_model.specs.Costs.{comes_before, are_these, are_neighbours, seg_of, other_of, is_met_on, weight_of, cost_on, term_cost, cost_of, IsReadable, AreOrders};
 
 use crate::orders::Orders;
 use crate::problem::Problem;
 use crate::term::Term;
-use map_base::{LineId, Sequence};
+use map_base::{LineId, SegId, Sequence};
 
 /// What the orders cost: the sum of the weights of all terms that cost something. The orders have one list for each
 /// segment of the problem, with its lines in some order.
@@ -37,7 +37,33 @@ fn term_cost(term: Term, lists: &[Sequence<LineId>]) -> u64
     ensures value { result ≡ term_cost lists.now term }
     ensures most { result ≤ 256000 }
 {
-    if is_met(term, lists) {
+    let (seg, other) = ends_of(term);
+    let here = lists[seg.0 as usize].as_slice();
+    let there = lists[other.0 as usize].as_slice();
+    cost_on(term, here, there)
+}
+
+/// The segment of a term and its other segment, or its only one twice.
+pub(crate) fn ends_of(term: Term) -> (SegId, SegId)
+    ensures seg { result.0 ≡ seg_of term }
+    ensures other { result.1 ≡ other_of term }
+    ensures known { (n : ℕ) → IsReadable n term → result.0.0 < n }
+    ensures other_known { (n : ℕ) → IsReadable n term → result.1.0 < n }
+{
+    match term {
+        Term::Side { seg, .. } => (seg, seg),
+        Term::Link { seg, other, .. } => (seg, other),
+        Term::Apart { seg, other, .. } => (seg, other),
+    }
+}
+
+/// What one term costs where these are the orders of its segments.
+pub(crate) fn cost_on(term: Term, here: &[LineId], there: &[LineId]) -> u64
+    requires { (n : ℕ) × IsReadable n term }
+    ensures value { result ≡ cost_on here.now there.now term }
+    ensures most { result ≤ 256000 }
+{
+    if is_met_on(term, here, there) {
         u64::from(weight_of(term))
     } else {
         0
@@ -53,40 +79,21 @@ fn weight_of(term: Term) -> u32
     }
 }
 
-/// Whether a term costs something.
-fn is_met(term: Term, lists: &[Sequence<LineId>]) -> bool
-    requires { IsReadable (length lists.now) term }
-    ensures { result ≡ is_met lists.now term }
+/// Whether a term costs something where these are the orders of its segments.
+fn is_met_on(term: Term, here: &[LineId], there: &[LineId]) -> bool
+    ensures { result ≡ is_met_on here.now there.now term }
 {
     match term {
-        Term::Side {
-            seg,
-            first,
-            second,
-            ..
-        } => { comes_before(lists[seg.0 as usize].as_slice(), second, first) }
-        Term::Link {
-            seg,
-            other,
-            flip,
-            a,
-            b,
-            ..
-        } => {
-            let here = comes_before(lists[seg.0 as usize].as_slice(), a, b);
-            let there = comes_before(lists[other.0 as usize].as_slice(), a, b);
-            flip == (here == there)
+        Term::Side { first, second, .. } => comes_before(here, second, first),
+        Term::Link { flip, a, b, .. } => {
+            let before = comes_before(here, a, b);
+            let before_too = comes_before(there, a, b);
+            flip == (before == before_too)
         }
-        Term::Apart {
-            seg,
-            other,
-            a,
-            b,
-            ..
-        } => {
-            let here = are_neighbours(lists[seg.0 as usize].as_slice(), a, b);
-            let there = are_neighbours(lists[other.0 as usize].as_slice(), a, b);
-            here != there
+        Term::Apart { a, b, .. } => {
+            let together = are_neighbours(here, a, b);
+            let together_too = are_neighbours(there, a, b);
+            together != together_too
         }
     }
 }

@@ -1,12 +1,15 @@
 //! Prefixes of orders: the lines placed so far on each segment of a problem.
 
-ghost use Rattle.std.specs.Prelude.{◌≡◌, ◌+◌, ◌<◌, ◌≤◌, List, [], ◌∷◌, ◌++◌, length, map, find, false, vec_len, vec_capacity, Contains, IfOk, slice_set, slice_index_or};
+ghost use Rattle.std.specs.Prelude.{◌≡◌, ◌+◌, ◌<◌, ◌≤◌, List, [], ◌∷◌, ◌++◌, length, map, find, false, vec_len, vec_capacity, All, Contains, IfOk, slice_set, slice_index_or};
 ghost use Rattle.std.specs.Option.{option_to_list};
 ghost use Rattle.graph_core.specs.Consistent.{AreRising};
 ghost use Rattle.order_model.specs.Problems.{lines_on};
+ghost use Rattle.order_model.specs.Costs.{IsReadable, term_cost, cost_of};
 ghost use Rattle.order_model.specs.Prefixes.{is_placed, is_unplaced, with_line, last_placed, without_last, ArePlacedLines, IsPrefixOf};
 
+use crate::costs::{cost_on, ends_of};
 use crate::problem::Problem;
+use crate::term::Term;
 use map_base::{LineId, NoMemory, SegId};
 use std::alloc::Global;
 use std::marker::Model;
@@ -75,6 +78,29 @@ impl Prefix {
         ensures { result.now ≡ lines_on self.now.placed seg }
     {
         self.lists[seg.0 as usize].as_slice()
+    }
+
+    /// What these terms of its problem cost, where the placed lines of a segment are its order.
+    pub fn cost(&self, terms: &[Term]) -> u64
+        requires readable { All (IsReadable (length self.now.placed)) terms.now }
+        requires few { length terms.now ≤ 4000000 }
+        ensures { result ≡ cost_of terms.now self.now.placed }
+    {
+        let mut total: u64 = 0;
+        for term in terms {
+            total += self.term_cost(*term);
+        }
+        total
+    }
+
+    /// What one term costs.
+    fn term_cost(&self, term: Term) -> u64
+        requires { IsReadable (length self.now.placed) term }
+        ensures value { result ≡ term_cost self.now.placed term }
+        ensures most { result ≤ 256000 }
+    {
+        let (seg, other) = ends_of(term);
+        cost_on(term, self.placed(seg), self.placed(other))
     }
 }
 

@@ -1,10 +1,11 @@
 -- Numbers that are kept by cells.
-use Rattle.std.proofs.Common.{◌≡◌, refl, sym, ◌∙◌, ap, subst, ℕ, zero, suc, ◌+◌, ◌*◌, ◌<◌, ◌≤◌, ◌⊎◌, inl, inr, Bool, true, false, cond, ◌&&◌, ℤ, pos, negsuc, ◌+ℤ◌, ◌-ℤ◌, ◌*ℤ◌, ◌≤ℤ◌, ◌<ℤ◌, unsigned_abs, Vec, List, [], ◌∷◌, ◌++◌, Option, Some, None, filter, length, get_or, append_assoc, append-nil, All, Contains, arith}
+use Rattle.std.proofs.Common.{◌≡◌, refl, sym, ◌∙◌, ap, subst, ℕ, zero, suc, ◌+◌, ◌*◌, ◌<◌, ◌≤◌, ◌⊎◌, inl, inr, Bool, true, false, cond, ◌&&◌, ℤ, pos, negsuc, ◌+ℤ◌, ◌-ℤ◌, ◌*ℤ◌, ◌≤ℤ◌, ◌<ℤ◌, unsigned_abs, Vec, List, [], ◌∷◌, ◌++◌, Option, Some, None, filter, length, get_or, append_assoc, append-nil, length-append, All, Contains, arith}
 use Rattle.std.specs.Global.{Global}
 use Rattle.std.specs.Option.{unwrap_or}
 use Rattle.std.specs.Ordering.{int_eq}
 use Rattle.std.specs.List.{range_with_len, flat_map}
 use Rattle.std.specs.HashMap.{get, HashMap}
+use Rattle.std.proofs.lemmas.List.{get_or_append_left, get_or_push}
 use Rattle.std.proofs.lemmas.Bool.{and_parts, and_from}
 use Rattle.std.proofs.lemmas.Bool.Decides.{Decides-int_eq}
 use Rattle.map_base.specs.declared.point.Point.{Point}
@@ -51,3 +52,46 @@ flat_map-range_more F n = ap (flat_map F) (range_more n) ∙ joined (range_with_
     joined : (xs : List ℕ) → flat_map F (xs ++ n ∷ []) ≡ flat_map F xs ++ F n
     joined [] = append-nil (F n)
     joined (x ∷ xs) = ap (λ ys. F x ++ ys) (joined xs) ∙ sym (append_assoc (F x) (flat_map F xs) (F n))
+
+-- one more point
+pub one_more : (size : ℕ) (ps : List Point) (k : ℕ) (old new : CellMap) (cell : ℤ × ℤ) → AreListed size ps k old → cell ≡ cell_of size (point_at ps k) →
+    ((other : ℤ × ℤ) → listed new other ≡ cond (is_cell cell other) (listed old other ++ k ∷ []) (listed old other)) → AreListed size ps (k + 1) new
+one_more size ps k old new cell before is added other =
+    added other ∙ ap (λ d. cond (is_cell d other) (listed old other ++ k ∷ []) (listed old other)) is
+    ∙ ap (λ ks. cond (is_cell (cell_of size (point_at ps k)) other) (ks ++ k ∷ []) ks) (before other) ∙ of_test (is_cell (cell_of size (point_at ps k)) other)
+    ∙ sym (filter-range_more (λ j. is_cell (cell_of size (point_at ps j)) other) k)
+  where
+    kept : List ℕ
+    kept = numbers_in size ps k other
+
+    of_test : (b : Bool) → cond b (numbers_in size ps k other ++ k ∷ []) (numbers_in size ps k other) ≡ numbers_in size ps k other ++ cond b (k ∷ []) []
+    of_test true = refl
+    of_test false = sym (append-nil (numbers_in size ps k other))
+
+-- the numbers of a cell stay where a point is added behind the others
+numbers_in-longer : (size : ℕ) (ps : List Point) (p : Point) (c : ℤ × ℤ) (n : ℕ) → n ≤ length ps → numbers_in size (ps ++ p ∷ []) n c ≡ numbers_in size ps n c
+numbers_in-longer size ps p c zero below = refl
+numbers_in-longer size ps p c (suc n) below =
+    let next : suc n ≡ n + 1 = omega arith in
+    let here : point_at (ps ++ p ∷ []) n ≡ point_at ps n = get_or_append_left ps (p ∷ []) (record { x = pos 0; y = pos 0 }) n (omega arith) in
+    ap (λ (m : ℕ). numbers_in size (ps ++ p ∷ []) m c) next ∙ filter-range_more (λ k. is_cell (cell_of size (point_at (ps ++ p ∷ []) k)) c) n
+    ∙ ap (λ (ks : List ℕ). ks ++ cond (is_cell (cell_of size (point_at (ps ++ p ∷ []) n)) c) (n ∷ []) []) (numbers_in-longer size ps p c n (omega arith))
+    ∙ ap (λ (q : Point). numbers_in size ps n c ++ cond (is_cell (cell_of size q) c) (n ∷ []) []) here
+    ∙ sym (filter-range_more (λ k. is_cell (cell_of size (point_at ps k)) c) n) ∙ sym (ap (λ (m : ℕ). numbers_in size ps m c) next)
+
+-- a point that is added to the points and to its cell
+pub AreListed-pushed : (size : ℕ) (ps qs : List Point) (p : Point) (old new : CellMap) (cell : ℤ × ℤ) (n : ℕ) → AreListed size ps (length ps) old → qs ≡ ps ++ p ∷ [] → n ≡ length ps →
+    cell ≡ cell_of size p → ((other : ℤ × ℤ) → listed new other ≡ cond (is_cell cell other) (listed old other ++ n ∷ []) (listed old other)) → AreListed size qs (length qs) new
+AreListed-pushed size ps qs p old new cell n before pushed last is added =
+    subst (λ (rs : List Point). AreListed size rs (length rs) new) (sym pushed)
+    (subst (λ (m : ℕ). AreListed size (ps ++ p ∷ []) m new) more
+    (one_more size (ps ++ p ∷ []) n old new cell longer (is ∙ ap (cell_of size) (sym here)) added))
+  where
+    more : n + 1 ≡ length (ps ++ p ∷ [])
+    more = omega (arith, length-append ps (p ∷ []))
+
+    here : point_at (ps ++ p ∷ []) n ≡ p
+    here = get_or_push ps p (record { x = pos 0; y = pos 0 }) n (sym last)
+
+    longer : (c : ℤ × ℤ) → listed old c ≡ numbers_in size (ps ++ p ∷ []) n c
+    longer c = before c ∙ ap (λ (m : ℕ). numbers_in size ps m c) (sym last) ∙ sym (numbers_in-longer size ps p c n (omega arith))

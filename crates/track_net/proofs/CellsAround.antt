@@ -1,11 +1,13 @@
 -- The points near to a place lie in its cell and the cells around it.
-use Rattle.std.proofs.Common.{◌≡◌, refl, sym, ◌∙◌, ap, subst, ℕ, zero, suc, ◌+◌, ◌*◌, ◌/◌, ◌%◌, ◌<◌, ◌≤◌, ◌⊎◌, inl, inr, Bool, true, false, cond, ◌&&◌, ℤ, pos, negsuc, ◌+ℤ◌, ◌-ℤ◌, ◌*ℤ◌, ◌≤ℤ◌, ◌<ℤ◌, unsigned_abs, List, [], ◌∷◌, ◌++◌, filter, length, get_or, All, AllPairs, Contains, IsPermutation, eqb, arith}
+use Rattle.std.proofs.Common.{◌≡◌, refl, sym, ◌∙◌, ap, subst, ℕ, zero, suc, ◌+◌, ◌*◌, ◌/◌, ◌%◌, ◌<◌, ◌≤◌, ◌⊎◌, inl, inr, Bool, true, false, cond, ◌&&◌, nat_lt, ℤ, pos, negsuc, ◌+ℤ◌, ◌-ℤ◌, ◌*ℤ◌, ◌≤ℤ◌, ◌<ℤ◌, unsigned_abs, List, [], ◌∷◌, ◌++◌, filter, length, get_or, All, AllPairs, Contains, IsPermutation, eqb, arith}
 use Rattle.std.specs.Ordering.{int_eq}
-use Rattle.std.specs.List.{range_with_len, flat_map}
+use Rattle.std.specs.List.{list_any, range_with_len, flat_map}
 use Rattle.std.proofs.Math.Nat.{mul-le-mul}
 use Rattle.std.proofs.lemmas.Int.{ints}
 use Rattle.std.proofs.lemmas.Bool.{and_from, ltb-true, cases_lt}
 use Rattle.std.proofs.lemmas.Bool.Decides.{Decides-int_eq}
+use Rattle.std.proofs.lemmas.List.{get_or_default}
+use Rattle.std.proofs.lemmas.List.Folds.{Any-from_list_any, list_any_at}
 use Rattle.std.proofs.lemmas.List.Elements.{All-contains, All-filter, filter_passes, Contains-append_left, Contains-append_right, Contains-append_cases}
 use Rattle.std.specs.List.{dedup}
 use Rattle.std.specs.List.Sorted.{IsSorted}
@@ -19,9 +21,10 @@ use Rattle.whole_algebra.proofs.Rounding.{floor_quotient-lower, floor_quotient-u
 use Rattle.whole_algebra.proofs.Products.{+ℤ-*ℤ, minus-*ℤ}
 use Rattle.whole_algebra.proofs.Signs.{*ℤ-negative_factor}
 use Rattle.fixed_plane.specs.Measures.{square_of, dist2_of}
-use Rattle.track_net.specs.Nearness.{point_at, is_nearer, numbers_near}
-use Rattle.track_net.specs.Cells.{cell_of, is_cell, cell_around, CellMap, listed, numbers_in, AreListed}
-use Rattle.track_net.proofs.Lists.{range_below, range_rises}
+use Rattle.fixed_plane.proofs.Distances.{dist2_of_comm}
+use Rattle.track_net.specs.Nearness.{point_at, is_nearer, has_near, numbers_near}
+use Rattle.track_net.specs.Cells.{cell_of, is_cell, cell_around, CellMap, listed, numbers_in, AreListed, has_near_of, has_near_around}
+use Rattle.track_net.proofs.Lists.{range_below, range_rises, any_found}
 use Rattle.track_net.proofs.RisingLists.{same_where_rising}
 use Rattle.track_net.proofs.EdgeFacts.{Contains-filter, Contains-range}
 
@@ -203,3 +206,51 @@ found_in_order size within ps at cells found sorted some small is found_is moved
     back k h =
         Contains-dedup_nat sorted k
         (Contains-permutation found sorted k moved (subst (λ (ks : List ℕ). Contains ks k) (sym found_is) (near_is_found size within ps at cells some small is k h)))
+
+-- a point of the nine cells is near exactly where some point is
+pub has_near-around : (size within : ℕ) (ps : List Point) (at : Point) (cells : CellMap) → 0 < size → within ≤ size → AreListed size ps (length ps) cells →
+    has_near_around within ps at cells (cell_of size at) ≡ has_near within ps at
+has_near-around size within ps at cells some small is =
+    same_tests (has_near_around within ps at cells (cell_of size at)) (has_near within ps at) there back
+  where
+    near : ℕ → Bool
+    near k = is_nearer within at (point_at ps k)
+
+    in_cell : ℕ → List ℕ
+    in_cell i = listed cells (cell_around (cell_of size at) ((i + 4) % 9))
+
+    turned : (p q : Point) → is_nearer within p q ≡ is_nearer within q p
+    turned p q = ap (λ d. nat_lt d (within * within)) (dist2_of_comm p q)
+
+    there : has_near_around within ps at cells (cell_of size at) ≡ true → has_near within ps at ≡ true
+    there e =
+        let cell = Any-from_list_any (λ i. has_near_of within ps at (in_cell i)) (range_with_len 0 9) e in
+        let found = Any-from_list_any near (in_cell cell.1) cell.4 in
+        let k = found.1 in
+        let below : k < length ps = All-contains (λ j. j < length ps) (in_cell cell.1) k (listed_in_range size ps cells is (cell_around (cell_of size at) ((cell.1 + 4) % 9))) (found.0, found.2, found.3) in
+        list_any_at (λ q. is_nearer within q at) ps k (record { x = pos 0; y = pos 0 }) below (turned (point_at ps k) at ∙ found.4)
+
+    around : (k : ℕ) → k < length ps → near k ≡ true → has_near_around within ps at cells (cell_of size at) ≡ true
+    around k below e =
+        let place = near_cell size within at (point_at ps k) some small e in
+        let i = (place.0 + 5) % 9 in
+        let turn : (i + 4) % 9 ≡ place.0 = omega (arith, place.1) in
+        let c = cell_around (cell_of size at) ((i + 4) % 9) in
+        let same : c ≡ cell_of size (point_at ps k) = ap (cell_around (cell_of size at)) turn ∙ place.2 in
+        let inside : Contains (numbers_in size ps (length ps) c) k =
+        Contains-filter (λ j. is_cell (cell_of size (point_at ps j)) c) (range_with_len 0 (length ps)) k (Contains-range (length ps) k below)
+        (is_cell-self (cell_of size (point_at ps k)) c (sym same)) in
+        let kept : Contains (in_cell i) k = subst (λ (ks : List ℕ). Contains ks k) (sym (is c)) inside in
+        let here : has_near_of within ps at (in_cell i) ≡ true = list_any_at near (in_cell i) kept.0 k kept.1 (ap near kept.2 ∙ e) in
+        any_found (λ j. has_near_of within ps at (in_cell j)) i 9 (omega arith) here
+
+    back : has_near within ps at ≡ true → has_near_around within ps at cells (cell_of size at) ≡ true
+    back e =
+        let found = Any-from_list_any (λ q. is_nearer within q at) ps e in
+        let here : point_at ps found.0 ≡ found.1 = get_or_default ps found.0 (record { x = pos 0; y = pos 0 }) found.1 found.2 ∙ found.3 in
+        around found.0 found.2 (ap (is_nearer within at) here ∙ turned at found.1 ∙ found.4)
+
+    same_tests : (a b : Bool) → (a ≡ true → b ≡ true) → (b ≡ true → a ≡ true) → a ≡ b
+    same_tests true b there back = sym (there refl)
+    same_tests false true there back = back refl
+    same_tests false false there back = refl

@@ -5,6 +5,7 @@ use Rattle.std.specs.List.Sorted.{IsStrictlyIncreasing}
 use Rattle.std.proofs.lemmas.List.{map-id}
 use Rattle.std.proofs.lemmas.List.Elements.{filter-append}
 use Rattle.std.proofs.lemmas.List.FromFn.{map-range_with_len_more, get_or-range_with_len, length-range_with_len}
+use Rattle.std.proofs.lemmas.List.Folds.{list_any-append, list_any_at}
 use Rattle.std.proofs.lemmas.Bool.{false≢true, false_from_ne_true}
 
 -- the numbers below n + 1 are those below n, and n
@@ -64,3 +65,15 @@ range_rises n k below =
     let here : get_or (range_with_len 0 n) k 0 ≡ 0 + k = get_or-range_with_len 0 n k 0 (omega arith) in
     let next : get_or (range_with_len 0 n) (k + 1) 0 ≡ 0 + (k + 1) = get_or-range_with_len 0 n (k + 1) 0 within in
     omega arith
+
+-- no number below n + 1 passes a test where none below n does, nor n
+pub any_not_yet : (p : ℕ → Bool) (n : ℕ) → list_any p (range_with_len 0 n) ≡ false → p n ≡ false → list_any p (range_with_len 0 (n + 1)) ≡ false
+any_not_yet p n before fails =
+    ap (list_any p) (range_more n) ∙ list_any-append p (range_with_len 0 n) (n ∷ []) ∙ ap (λ b. b || (p n || false)) before ∙ ap (λ b. b || false) fails
+
+-- some number below m passes a test where n, below m, does
+pub any_found : (p : ℕ → Bool) (n m : ℕ) → n < m → p n ≡ true → list_any p (range_with_len 0 m) ≡ true
+any_found p n m below passes =
+    let here : get_or (range_with_len 0 m) n 0 ≡ 0 + n = get_or-range_with_len 0 m n 0 below in
+    let same : 0 + n ≡ n = omega arith in
+    list_any_at p (range_with_len 0 m) n 0 (omega (arith, length-range_with_len 0 m)) (ap p (here ∙ same) ∙ passes)

@@ -1,15 +1,15 @@
 -- Points by square cells of the plane.
-use Rattle.std.specs.Prelude.{◌≡◌, ℕ, ◌<◌, ◌/◌, ◌%◌, Bool, ◌&&◌, ℤ, pos, ◌+ℤ◌, ◌-ℤ◌, Vec, List, [], Option, Some, None, filter, length, All}
+use Rattle.std.specs.Prelude.{◌≡◌, ℕ, ◌+◌, ◌<◌, ◌/◌, ◌%◌, Bool, ◌&&◌, ℤ, pos, ◌+ℤ◌, ◌-ℤ◌, Vec, List, [], Option, Some, None, filter, length, All}
 use Rattle.std.specs.Global.{Global}
 use Rattle.std.specs.Ordering.{int_eq}
-use Rattle.std.specs.List.{range_with_len}
+use Rattle.std.specs.List.{list_any, range_with_len}
 use Rattle.std.specs.declared.hash.FoldHasher.{FoldHasher}
 use Rattle.std.specs.declared.hash.BuildHasherDefault.{BuildHasherDefault}
 use Rattle.std.specs.HashMap.{get, HashMap}
 use Rattle.map_base.specs.declared.point.Point.{Point}
 use Rattle.whole_algebra.specs.Rounding.{floor_quotient}
 use Rattle.fixed_plane.specs.Plane.{IsInPlane}
-use Rattle.track_net.specs.Nearness.{point_at}
+use Rattle.track_net.specs.Nearness.{point_at, is_nearer}
 
 -- the column and the row of the square cell, of a size, in which a point lies
 abbrev pub cell_of : ℕ → Point → ℤ × ℤ
@@ -41,6 +41,14 @@ numbers_in size ps n c = filter (λ k. is_cell (cell_of size (point_at ps k)) c)
 -- for each cell the numbers of its points are kept
 abbrev pub AreListed : ℕ → List Point → ℕ → CellMap → Type 0
 AreListed size ps n cells = (c : ℤ × ℤ) → listed cells c ≡ numbers_in size ps n c
+
+-- a point of some of these numbers is nearer to a place than a distance
+abbrev pub has_near_of : ℕ → List Point → Point → List ℕ → Bool
+has_near_of distance ps p ks = list_any (λ k. is_nearer distance p (point_at ps k)) ks
+
+-- the same of the numbers that are kept for a cell and those around it, its own first
+abbrev pub has_near_around : ℕ → List Point → Point → CellMap → ℤ × ℤ → Bool
+has_near_around distance ps p cells c = list_any (λ i. has_near_of distance ps p (listed cells (cell_around c ((i + 4) % 9)))) (range_with_len 0 9)
 
 -- points in buckets, as contracts see them: the points and the size
 pub record BucketParts : Type 0 where

@@ -1,23 +1,16 @@
 //! Points in square cells, found by nearness.
 
-ghost use Rattle.std.specs.Prelude.{◌≡◌, ◌^◌, ◌<◌, ◌≤◌, ◌++◌, ◌∷◌, [], IfOk, OnOk, All, filter, length, unsigned_abs, ℤ, pos, ◌+ℤ◌, ◌-ℤ◌, if◌then◌else◌};
-ghost use Rattle.whole_algebra.specs.Rounding.{floor_quotient};
+ghost use Rattle.std.specs.Prelude.{◌≡◌, ◌^◌, ◌<◌, ◌≤◌, ◌++◌, IfOk, OnOk, All, filter, length, unsigned_abs, ℤ};
 ghost use Rattle.std.specs.List.{flat_map, range_with_len};
 ghost use Rattle.fixed_plane.specs.Plane.{IsInPlane};
-ghost use Rattle.track_net.specs.Nearness.{is_nearer, numbers_near, point_at};
-ghost use Rattle.track_net.specs.Cells.{cell_around, cell_of, is_cell, listed};
+ghost use Rattle.track_net.specs.Nearness.{has_near, is_nearer, numbers_near, point_at};
+ghost use Rattle.track_net.specs.Cells.{cell_around, listed};
 
+use crate::cells::{Cell, Cells, cell_at, cell_beside, cells_of, is_near_in_cells};
 use crate::nearness::are_near;
 use map_base::{NoMemory, Point};
 use std::alloc::Global;
-use std::collections::HashMap;
 use std::marker::Model;
-
-/// A square cell of the plane: its column and its row.
-type Cell = (i64, i64);
-
-/// The numbers of the points of each cell that has some.
-type Cells = HashMap<Cell, Vec<u32>>;
 
 /// Points by square cells of a size in decimetres, seen as the points and the size. It finds the points near to
 /// a place without a look at those of far cells.
@@ -48,10 +41,7 @@ impl Buckets {
         requires some { 0 < size }
         ensures { IfOk result (λ buckets. buckets ≡ record { points = points.now; size = size }) }
     {
-        let mut cells = Cells::new(alloc);
-        for k in 0..points.len() {
-            add(alloc, &mut cells, cell_at(points[k], size), k as u32)?;
-        }
+        let cells = cells_of(alloc, points, size)?;
         let points = points.to_vec(alloc)?;
         Ok(Buckets {
             size,
@@ -64,7 +54,8 @@ impl Buckets {
     pub fn near(&self, alloc: Global, at: Point, within: u32) -> Result<Vec<u32>, NoMemory>
         requires at_in_plane { IsInPlane at }
         requires within { within ≤ self.now.size }
-        ensures { IfOk result (λ numbers. numbers.items ≡ numbers_near within self.now.points at) }
+        ensures numbers { IfOk result (λ numbers. numbers.items ≡ numbers_near within self.now.points at) }
+        ensures in_range { IfOk result (λ numbers. All (λ k. k < length self.now.points) numbers.items) }
     {
         let center = cell_at(at, self.size);
         let mut numbers = found_around(alloc, &self.cells, &self.points, center, at, within)?;
@@ -72,37 +63,15 @@ impl Buckets {
         numbers.dedup();
         Ok(numbers)
     }
-}
 
-/// The cell in which a point lies.
-fn cell_at(point: Point, size: u32) -> Cell
-    requires in_plane { IsInPlane point }
-    requires some { 0 < size }
-    ensures value { result ≡ cell_of size point }
-    ensures column { unsigned_abs result.0 ≤ 300000000 }
-    ensures row { unsigned_abs result.1 ≤ 300000000 }
-{
-    (quotient(point.x, size), quotient(point.y, size))
-}
-
-/// `coordinate / size`, rounded downwards.
-fn quotient(coordinate: i64, size: u32) -> i64
-    requires in_plane { unsigned_abs coordinate ≤ 300000000 }
-    requires some { 0 < size }
-    ensures value { result ≡ floor_quotient coordinate size }
-    ensures in_plane { unsigned_abs result ≤ 300000000 }
-{
-    coordinate.div_euclid(i64::from(size))
-}
-
-/// Keeps a number for a cell, after those that are kept for it.
-fn add(alloc: Global, cells: &mut Cells, cell: Cell, number: u32) -> Result<(), NoMemory>
-    ensures { OnOk result ((other : ℤ × ℤ) → listed cells.new other ≡ (if is_cell cell other then listed cells.old other ++ number ∷ [] else listed cells.old other)) }
-{
-    let mut numbers = cells.remove(&cell).unwrap_or(Vec::new(alloc));
-    numbers.push(number)?;
-    cells.insert(cell, numbers)?;
-    Ok(())
+    /// Whether some point is nearer to `at` than `within`. `within` is no more than the size.
+    pub fn has_near(&self, at: Point, within: u32) -> bool
+        requires at_in_plane { IsInPlane at }
+        requires within { within ≤ self.now.size }
+        ensures { result ≡ has_near within self.now.points at }
+    {
+        is_near_in_cells(&self.cells, &self.points, self.size, at, within)
+    }
 }
 
 /// The numbers of the points in a cell and the cells around it that are nearer to `at` than `within`, cell by cell.
@@ -133,26 +102,6 @@ fn found_around(
         )?;
     }
     Ok(found)
-}
-
-/// One of the nine cells that are a cell and those around it.
-fn cell_beside(center: Cell, i: u32) -> Cell
-    requires column { unsigned_abs center.0 ≤ 300000000 }
-    requires row { unsigned_abs center.1 ≤ 300000000 }
-    requires nine { i < 9 }
-    ensures { result ≡ cell_around center i }
-{
-    (beside(center.0, i / 3), beside(center.1, i % 3))
-}
-
-/// The number before one, the number itself, or the one after it.
-fn beside(number: i64, i: u32) -> i64
-    requires small { unsigned_abs number ≤ 300000000 }
-    requires three { i < 3 }
-    ensures value { result ≡ number +ℤ (pos i -ℤ pos 1) }
-    ensures small { unsigned_abs result ≤ 300000001 }
-{
-    number + (i64::from(i) - 1)
 }
 
 /// Keeps the numbers of the points in a cell that are nearer to `at` than `within`.

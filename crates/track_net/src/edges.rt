@@ -6,7 +6,7 @@ ghost use Rattle.track_net.specs.Nearness.{point_at};
 ghost use Rattle.track_net.specs.Nets.{all_edges, edges_at, is_in_disk, parts_them};
 ghost use Rattle.track_net.specs.Searching.{is_undivided};
 
-use crate::nearness::near_numbers;
+use crate::buckets::Buckets;
 use fixed_plane::dist2;
 use map_base::{NoMemory, Point};
 use std::alloc::Global;
@@ -19,26 +19,35 @@ pub(crate) fn edges_over(
 ) -> Result<Vec<Vec<u32>>, NoMemory>
     requires in_plane { All IsInPlane points.now }
     requires few { length points.now ≤ 100000 }
+    requires some { 0 < near }
     requires near_high { near ≤ 20000 }
     ensures { IfOk result (λ edges. map (λ row. row.items) edges.items ≡ all_edges near points.now) }
 {
+    let buckets = Buckets::of(alloc, points, 3 * near)?;
     let mut edges = Vec::new(alloc);
     for i in 0..points.len() {
-        edges.push(edges_from(alloc, points, i as u32, near)?)?;
+        edges.push(edges_from(alloc, points, &buckets, i as u32, near)?)?;
     }
     Ok(edges)
 }
 
-/// The numbers of the points with which point `i` has an edge, rising. What parts two near points is near to
+/// The numbers of the points with which point `i` has an edge, rising. The buckets are those of the points. What parts two near points is near to
 /// both, so that only near points are looked at.
-fn edges_from(alloc: Global, points: &[Point], i: u32, near: u32) -> Result<Vec<u32>, NoMemory>
+fn edges_from(
+    alloc: Global,
+    points: &[Point],
+    buckets: &Buckets,
+    i: u32,
+    near: u32,
+) -> Result<Vec<u32>, NoMemory>
     requires in_plane { All IsInPlane points.now }
+    requires theirs { buckets.now ≡ record { points = points.now; size = 3 * near } }
     requires few { length points.now ≤ 100000 }
     requires in_range { i < length points.now }
     requires near_high { near ≤ 20000 }
     ensures { IfOk result (λ row. row.items ≡ edges_at near points.now i) }
 {
-    let candidates = near_numbers(alloc, points, points[i as usize], 3 * near)?;
+    let candidates = buckets.near(alloc, points[i as usize], 3 * near)?;
     let mut row = Vec::new(alloc);
     for j in &candidates {
         if are_undivided(points, &candidates, i, *j) {

@@ -5,6 +5,7 @@
 
 mod buckets;
 mod building;
+mod cells;
 mod edges;
 mod fault;
 mod nearness;

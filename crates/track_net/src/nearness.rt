@@ -1,12 +1,11 @@
 //! Points that are near to others.
 
-ghost use Rattle.std.specs.Prelude.{◌≡◌, ◌+◌, ◌^◌, ◌<◌, ◌≤◌, IfOk, All, length};
+ghost use Rattle.std.specs.Prelude.{◌≡◌, All};
 ghost use Rattle.fixed_plane.specs.Plane.{IsInPlane};
-ghost use Rattle.track_net.specs.Nearness.{has_near, is_nearer, numbers_near};
+ghost use Rattle.track_net.specs.Nearness.{has_near, is_nearer};
 
 use fixed_plane::dist2;
-use map_base::{NoMemory, Point};
-use std::alloc::Global;
+use map_base::Point;
 
 /// Whether two points are nearer to one another than `distance`, in decimetres.
 pub(crate) fn are_near(a: Point, b: Point, distance: u32) -> bool
@@ -29,26 +28,4 @@ pub fn has_near_point(points: &[Point], at: Point, distance: u32) -> bool
         }
     }
     false
-}
-
-/// The numbers of the points that are nearer to `at` than `distance`, rising.
-pub(crate) fn near_numbers(
-    alloc: Global,
-    points: &[Point],
-    at: Point,
-    distance: u32,
-) -> Result<Vec<u32>, NoMemory>
-    requires points_in_plane { All IsInPlane points.now }
-    requires at_in_plane { IsInPlane at }
-    requires few { length points.now < 2 ^ 32 }
-    ensures numbers { IfOk result (λ numbers. numbers.items ≡ numbers_near distance points.now at) }
-    ensures in_range { IfOk result (λ numbers. All (λ k. k < length points.now) numbers.items) }
-{
-    let mut numbers = Vec::new(alloc);
-    for (k, point) in points.iter().enumerate() {
-        if are_near(at, *point, distance) {
-            numbers.push(k as u32)?;
-        }
-    }
-    Ok(numbers)
 }

@@ -3,10 +3,11 @@
 ghost use Rattle.std.specs.Prelude.{◌≡◌, ℕ, ◌<◌, ◌≤◌, OnOk, IfOk, IfErr, All, length, vec_len};
 ghost use Rattle.fixed_plane.specs.Plane.{IsInPlane};
 ghost use Rattle.track_net.specs.Nets.{net_points, with_sample};
+ghost use Rattle.track_net.specs.Cells.{AreListed};
 ghost use Rattle.track_net.specs.Faults.{HasCause};
 
+use crate::cells::{Cells, add, cell_at, cells_of, is_near_in_cells};
 use crate::fault::NetFault;
-use crate::nearness::has_near_point;
 use map_base::{Limit, LimitKind, Point};
 use std::alloc::Global;
 
@@ -22,6 +23,7 @@ pub(crate) fn thinned(
 ) -> Result<Vec<Point>, NetFault>
     requires stations_in_plane { All IsInPlane stations.now }
     requires samples_in_plane { All IsInPlane samples.now }
+    requires some { 0 < near }
     ensures points { IfOk result (λ points. points.items ≡ net_points near stations.now samples.now) }
     ensures in_plane { IfOk result (λ points. All IsInPlane points.items) }
     ensures few { IfOk result (λ points. vec_len points ≤ 100000) }
@@ -31,28 +33,39 @@ pub(crate) fn thinned(
         return Err(too_many());
     }
     let mut points = stations.to_vec(alloc)?;
+    let mut cells = cells_of(alloc, stations, near)?;
     for sample in samples {
-        add_sample(&mut points, *sample, near)?;
+        add_sample(alloc, &mut points, &mut cells, *sample, near)?;
     }
     Ok(points)
 }
 
-/// Adds a sample to the net points, unless one of them is nearer than `near`.
-fn add_sample(points: &mut Vec<Point>, sample: Point, near: u32) -> Result<(), NetFault>
+/// Adds a sample to the net points, unless one of them is nearer than `near`. The cells are those of the points.
+fn add_sample(
+    alloc: Global,
+    points: &mut Vec<Point>,
+    cells: &mut Cells,
+    sample: Point,
+    near: u32,
+) -> Result<(), NetFault>
     requires points_in_plane { All IsInPlane points.old.items }
     requires sample_in_plane { IsInPlane sample }
     requires few { vec_len points.old ≤ 100000 }
+    requires some { 0 < near }
+    requires theirs { AreListed near points.old.items (length points.old.items) cells.old }
     ensures points { OnOk result (points.new.items ≡ with_sample near points.old.items sample) }
     ensures in_plane { OnOk result (All IsInPlane points.new.items) }
     ensures few { OnOk result (vec_len points.new ≤ 100000) }
+    ensures theirs { OnOk result (AreListed near points.new.items (length points.new.items) cells.new) }
     ensures cause { IfErr result (λ fault. HasCause (length (with_sample near points.old.items sample)) fault) }
 {
-    if has_near_point(points, sample, near) {
+    if is_near_in_cells(cells, points, near, sample, near) {
         return Ok(());
     }
     if points.len() >= MOST_POINTS {
         return Err(too_many());
     }
+    add(alloc, cells, cell_at(sample, near), points.len() as u32)?;
     points.push(sample)?;
     Ok(())
 }

@@ -4,6 +4,7 @@ use Rattle.map_base.specs.declared.point.Point.{Point}
 use Rattle.track_net.specs.Nearness.{point_at, numbers_near}
 use Rattle.track_net.specs.Nets.{edges_at}
 use Rattle.track_net.specs.Searching.{is_undivided}
+use Rattle.track_net.specs.Cells.{BucketParts}
 use Rattle.track_net.proofs.EdgeLemmas.{edges_at-among}
 use Rattle.track_net.proofs.edges.edges_from.Goals as goal
 
@@ -15,4 +16,5 @@ whole_row near i looked ps row items is all near_ones =
 pub returns : goal.returns
 returns c =
     whole_row c.args.near c.args.i c.loop-j.j-index c.args.points.now c.loop-j.row.items c.deref-j-items.result.now c.loop-j.invariant c.loop-j-test.false
-    (c.deref-j-items.ensures.value ∙ c.in_ok-candidates.ensures.numbers)
+    (c.deref-j-items.ensures.value ∙ c.in_ok-candidates.ensures.numbers
+    ∙ ap (λ (b : BucketParts). numbers_near (3 * c.args.near) b.points (point_at c.args.points.now c.args.i)) c.requires.theirs)

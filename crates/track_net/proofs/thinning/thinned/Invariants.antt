@@ -1,6 +1,7 @@
-use Rattle.std.proofs.Common.{◌≡◌, ◌≤◌, take, All, vec_len}
+use Rattle.std.proofs.Common.{◌≡◌, ◌≤◌, take, length, All, vec_len}
 use Rattle.fixed_plane.specs.Plane.{IsInPlane}
 use Rattle.track_net.specs.Nets.{net_points}
+use Rattle.track_net.specs.Cells.{AreListed}
 use Rattle.track_net.proofs.thinning.thinned.Given as goal
 
 abbrev pub invariant-loop-sample : goal.invariant-loop-sample
@@ -8,4 +9,5 @@ invariant-loop-sample l = record {
   points : l.points.items ≡ net_points l.near l.stations (take l.sample-index l.samples);
   in_plane : All IsInPlane l.points.items;
   few : vec_len l.points ≤ 100000;
+  theirs : AreListed l.near l.points.items (length l.points.items) l.cells;
 }

@@ -4,6 +4,7 @@ use Rattle.std.proofs.lemmas.List.Filters.{dedup_is}
 use Rattle.map_base.specs.declared.point.Point.{Point}
 use Rattle.track_net.specs.Nearness.{is_nearer, numbers_near, point_at}
 use Rattle.track_net.specs.Cells.{BucketParts, cell_around, cell_of, listed}
+use Rattle.track_net.proofs.EdgeLemmas.{numbers_near-below}
 use Rattle.track_net.proofs.CellsAround.{listed_in_range, found_in_order}
 use Rattle.track_net.proofs.buckets.Buckets.near.Goals as goal
 
@@ -12,8 +13,8 @@ found_around-requires-clause-in_range c = λ cell.
     subst (λ (ps : List Point). All (λ k. k < length ps) (listed c.self.inside.cells cell)) (sym c.deref.ensures.value)
     (listed_in_range c.self.inside.size c.self.inside.points.items c.self.inside.cells c.self.invariant.listed_each cell)
 
-pub returns : goal.returns
-returns c =
+pub returns-clause-numbers : goal.returns-clause-numbers
+returns-clause-numbers c =
     let size = c.self.inside.size in
     let ps = c.self.inside.points.items in
     let cells = c.self.inside.cells in
@@ -24,3 +25,8 @@ returns c =
     dedup_is eqb c.sort_unstable.new.self.items c.dedup.new.self.items c.dedup.ensures.filtered
     ∙ found_in_order size c.args.within ps c.args.at cells c.in_ok-numbers.numbers.items c.sort_unstable.new.self.items c.self.invariant.some small c.self.invariant.listed_each found
     c.sort_unstable.ensures.permutation c.sort_unstable.ensures.sorted ∙ ap (λ (b : BucketParts). numbers_near c.args.within b.points c.args.at) c.self.view_is
+
+pub returns-clause-in_range : goal.returns-clause-in_range
+returns-clause-in_range c =
+    subst (λ (ks : List ℕ). All (λ k. k < length c.args.self.now.points) ks) (sym (returns-clause-numbers c))
+    (numbers_near-below c.args.within c.args.self.now.points c.args.at)

@@ -1,0 +1,32 @@
+-- The one text of each proof.
+use Rattle.std.specs.Prelude.{ℕ, List, [], ◌∷◌, ◌++◌, length}
+use Rattle.order_model.specs.declared.rule.Rule.{Rule}
+use Rattle.order_proof.specs.Plain.{PlainTree, split, close, Cases, no_case, case_of, PlainPart, PlainProof}
+use Rattle.order_proof.specs.Trees.{count_of}
+use Rattle.order_proof.specs.Lines.{line_text, rules_line, rule_line, parts_line, part_line, split_line, take_line, close_line}
+
+abbrev mutual
+  -- a tree, each node before its cases
+  pub tree_text : PlainTree → List ℕ
+  tree_text (split seg cases) = line_text (split_line seg (count_of cases)) ++ cases_text cases
+  tree_text (close prices) = line_text (close_line prices)
+
+  -- each case: its line, then its tree
+  pub cases_text : Cases → List ℕ
+  cases_text no_case = []
+  cases_text (case_of a tree rest) = line_text (take_line a) ++ (tree_text tree ++ cases_text rest)
+
+abbrev pub rules_text : List Rule → List ℕ
+rules_text [] = []
+rules_text (rule ∷ rest) = line_text (rule_line rule) ++ rules_text rest
+
+abbrev pub part_text : PlainPart → List ℕ
+part_text part = line_text (part_line part.target part.segs) ++ tree_text part.tree
+
+abbrev pub parts_text : List PlainPart → List ℕ
+parts_text [] = []
+parts_text (part ∷ rest) = part_text part ++ parts_text rest
+
+-- the text of a proof: its rules and its parts, each kind counted before it
+abbrev pub proof_text : PlainProof → List ℕ
+proof_text p = line_text (rules_line (length p.rules)) ++ (rules_text p.rules ++ (line_text (parts_line (length p.parts)) ++ parts_text p.parts))

@@ -1,5 +1,0 @@
-use Rattle.track_net.specs.Cells.{AreListed}
-use Rattle.track_net.proofs.buckets.Buckets.of.Given as goal
-
-abbrev pub invariant-loop-k : goal.invariant-loop-k
-invariant-loop-k l = AreListed l.size l.points l.k l.cells

@@ -1,0 +1,8 @@
+use Rattle.std.proofs.Common.{◌≡◌, ◌+◌, ◌%◌, false}
+use Rattle.std.specs.List.{list_any, range_with_len}
+use Rattle.track_net.specs.Cells.{has_near_of, listed, cell_around}
+use Rattle.track_net.proofs.cells.is_near_around.Given as goal
+
+abbrev pub invariant-loop-i : goal.invariant-loop-i
+invariant-loop-i l =
+    list_any (λ i. has_near_of l.within l.points l.at (listed l.cells (cell_around l.center ((i + 4) % 9)))) (range_with_len 0 l.i) ≡ false
