@@ -1,5 +1,5 @@
 -- Where the used stations of a feed lie on the plane.
-use Rattle.std.specs.Prelude.{ℕ, zero, suc, ℤ, pos, ◌+ℤ◌, Bool, List, [], ◌∷◌, ◌++◌, length, map, fold, Option, Some, None, if◌then◌else◌, slice_get}
+use Rattle.std.specs.Prelude.{ℕ, zero, suc, pos, ◌+ℤ◌, Bool, List, [], ◌∷◌, ◌++◌, length, map, fold, Option, Some, None, if◌then◌else◌, slice_get}
 use Rattle.std.specs.List.{list_any}
 use Rattle.map_base.specs.declared.point.Point.{Point}
 use Rattle.fixed_plane.specs.Plane.{band_at, projected}

@@ -1,7 +1,6 @@
 -- What of a feed is shown: the patterns of lines that are not hidden, and what these use.
-use Rattle.std.specs.Prelude.{ℕ, Bool, false, not, ◌==◌, List, [], ◌∷◌, length, map, filter, Option, Some, None, slice_get}
+use Rattle.std.specs.Prelude.{ℕ, Bool, false, not, ◌==◌, List, length, filter, Option, Some, None, slice_get}
 use Rattle.std.specs.List.{list_any, range_with_len}
-use Rattle.map_base.specs.declared.ids.LineId.{LineId}
 use Rattle.map_base.specs.declared.ids.StationId.{StationId}
 use Rattle.transit_feed.specs.declared.line.Line.{Line}
 use Rattle.transit_feed.specs.declared.pattern.Pattern.{Pattern}

@@ -1,4 +1,5 @@
 pub mod Costs
 pub mod Walks
 pub mod Same
+pub mod Chosen
 mod Examples

@@ -6,7 +6,7 @@ use Rattle.map_base.specs.declared.point.Point.{Point}
 use Rattle.shape_track.specs.Snaps.{cost_of, is_not_after, IsSnap}
 
 -- the first of a list that is not after another is below the other's, or equal and so on
-by_head : (i j : ℕ) (rest : Bool) → (nat_lt i j || ((i == j) && rest)) ≡ true → (i < j) ⊎ ((i ≡ j) × (rest ≡ true))
+pub by_head : (i j : ℕ) (rest : Bool) → (nat_lt i j || ((i == j) && rest)) ≡ true → (i < j) ⊎ ((i ≡ j) × (rest ≡ true))
 by_head i j rest not_after =
     (elim (nat_lt i j) as (λ b. nat_lt i j ≡ b → (b || ((i == j) && rest)) ≡ true → (i < j) ⊎ ((i ≡ j) × (rest ≡ true))) [
       | true ↦ λ below h. inl (ltb-true i j below)

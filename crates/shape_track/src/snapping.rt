@@ -3,6 +3,7 @@
 ghost use Rattle.std.specs.Prelude.{◌≡◌, ℕ, ◌+◌, ◌-◌, ◌^◌, ◌<◌, ◌≤◌, IfOk, length, vec_len, All, true, slice_get, slice_index, drop, List};
 ghost use Rattle.fixed_plane.specs.Plane.{IsInPlane};
 ghost use Rattle.shape_track.specs.Snaps.{IsOneSnap, IsSnap};
+ghost use Rattle.shape_track.specs.Choices.{snap_of};
 ghost use Rattle.map_base.specs.declared.point.Point.{Point};
 ghost use Rattle.shape_track.specs.Sweeps.{LeadsTo, taken_at};
 ghost use Rattle.shape_track.specs.Rows.{AreRows};
@@ -21,7 +22,8 @@ pub fn snap(alloc: Global, samples: &[Point], stations: &[Point]) -> Result<Vec<
     requires short { length samples.now < 2 ^ 32 }
     requires samples_in_plane { All IsInPlane samples.now }
     requires stations_in_plane { All IsInPlane stations.now }
-    ensures { IfOk result (λ places. IsSnap samples.now stations.now places.items) }
+    ensures snap { IfOk result (λ places. IsSnap samples.now stations.now places.items) }
+    ensures chosen { IfOk result (λ places. places.items ≡ snap_of samples.now stations.now) }
 {
     let rows = rows_of(alloc, samples, stations)?;
     let mut places = Vec::new(alloc);

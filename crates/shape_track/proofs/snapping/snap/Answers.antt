@@ -2,7 +2,8 @@ use Rattle.std.proofs.Common.{◌≡◌, sym, subst, ℕ, ◌-◌, ◌<◌, ◌^
 use Rattle.std.specs.Global.{Global}
 use Rattle.std.proofs.lemmas.List.{drop_all}
 use Rattle.map_base.specs.declared.point.Point.{Point}
-use Rattle.shape_track.specs.Snaps.{IsSnapFrom}
+use Rattle.shape_track.specs.Snaps.{IsSnap, IsSnapFrom}
+use Rattle.shape_track.proofs.Choosing.{snap-chosen}
 use Rattle.shape_track.specs.Sweeps.{taken_at}
 use Rattle.shape_track.specs.Rows.{LeadsFirst, AreRows}
 use Rattle.shape_track.proofs.RowLemmas.{nothing_snapped, snap_goes_on, row_at, row_whole}
@@ -60,5 +61,6 @@ returns c =
     let samples = c.args.samples.now in
     let stations = c.args.stations.now in
     let none : drop c.loop-index.index stations ≡ [] = drop_all c.loop-index.index stations (omega arith) in
-    subst (λ (ps : List ℕ). IsSnapFrom 0 samples stations ps) (append-nil c.loop-index.places.items)
-    (c.loop-index.invariant.leads [] (subst (λ (ss : List Point). IsSnapFrom c.loop-index.floor samples ss []) (sym none) (nothing_snapped samples c.loop-index.floor)))
+    let snap : IsSnap samples stations c.loop-index.places.items = subst (λ (ps : List ℕ). IsSnapFrom 0 samples stations ps) (append-nil c.loop-index.places.items)
+    (c.loop-index.invariant.leads [] (subst (λ (ss : List Point). IsSnapFrom c.loop-index.floor samples ss []) (sym none) (nothing_snapped samples c.loop-index.floor))) in
+    record { snap = snap; chosen = snap-chosen samples stations c.loop-index.places.items snap }
