@@ -1,7 +1,4 @@
 pub mod Legs
-pub mod Edges
-pub mod Chains
-pub mod Segments
-pub mod Joins
+pub mod Handing
 pub mod Outcome
 pub mod Text

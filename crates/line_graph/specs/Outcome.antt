@@ -1,24 +1,21 @@
 -- The line graph of a feed, or the limit that is met first.
-use Rattle.std.specs.Prelude.{ℕ, ◌+◌, Bool, List, [], ◌∷◌, ◌++◌, length, map, Option, Some, None, slice_index_or, slice_get, Result, Ok, Err, nat_lt, if◌then◌else◌}
+use Rattle.std.specs.Prelude.{ℕ, List, ◌++◌, length, Result, Ok, Err}
 use Rattle.std.specs.List.{flat_map}
-use Rattle.map_base.specs.declared.ids.LineId.{LineId}
-use Rattle.map_base.specs.declared.ids.StationId.{StationId}
 use Rattle.map_base.specs.declared.point.Point.{Point}
 use Rattle.map_base.specs.declared.limit.Limit.{Limit}
 use Rattle.map_base.specs.declared.limit.LimitKind.TheVariants.{NetPoints, Nodes, Segments}
-use Rattle.track_net.specs.Nearness.{point_at}
 use Rattle.track_net.specs.Nets.{NetParts, net_of_samples}
-use Rattle.graph_core.specs.declared.parts.NodeKind.{NodeKind}
-use Rattle.graph_core.specs.declared.parts.NodeKind.TheVariants.{Station, Junction}
 use Rattle.graph_core.specs.declared.parts.GraphParts.{GraphParts}
 use Rattle.transit_feed.specs.Feeds.{Feed}
 use Rattle.feed_courses.specs.declared.courses.Course.{Course}
 use Rattle.feed_courses.specs.declared.courses.Courses.{Courses}
 use Rattle.feed_courses.specs.Outcome.{courses_outcome, unless_above}
-use Rattle.line_graph.specs.Legs.{Leg, legs_of, all_legs, path_of, ways_of}
-use Rattle.line_graph.specs.Chains.{Network}
-use Rattle.line_graph.specs.Segments.{nodes_of, segment_chains, ends_of, lines_of, round_of}
-use Rattle.line_graph.specs.Joins.{Passage, passages_of_way, passages_between, joins_at}
+use Rattle.line_graph.specs.Legs.{legs_of, all_legs, path_of, ways_of}
+use Rattle.line_graph.specs.Handing.{passages_between}
+use Rattle.way_network.specs.declared.way.Passage.{Passage}
+use Rattle.way_network.specs.Chains.{Network}
+use Rattle.way_network.specs.Joins.{passages_of_way}
+use Rattle.way_network.specs.Graphs.{graph_over}
 
 -- the samples of all courses, in order
 abbrev pub all_samples : List Course → List Point
@@ -42,25 +39,6 @@ abbrev pub all_passages : ℕ → Courses → NetParts → List Passage
 all_passages near all net =
     flat_map passages_of_way (ways_of near net (all_legs all.courses))
     ++ flat_map (λ (c : Course). passages_between (path_of near net (all_legs all.courses)) (legs_of c)) all.courses
-
--- what stands at a net point: a station, where it is one of the first points, or a junction
-abbrev pub kind_of : Option StationId → NodeKind
-kind_of None = Junction
-kind_of (Some station) = Station station
-
-abbrev pub kind_at : List StationId → ℕ → NodeKind
-kind_at stations p = kind_of (slice_get stations p)
-
--- the graph of a network
-abbrev pub graph_over : List StationId → List Point → Network → List Passage → GraphParts
-graph_over stations points g passages = record {
-  kinds = map (kind_at stations) (nodes_of g);
-  places = map (point_at points) (nodes_of g);
-  ends = map (ends_of g) (segment_chains points g);
-  lines = map (lines_of g) (segment_chains points g);
-  rounds = map (round_of points g (segment_chains points g)) (nodes_of g);
-  joins = map (joins_at (segment_chains points g) passages g.lines) (nodes_of g);
-}
 
 -- the graph, unless it has too many nodes or segments
 abbrev pub graph_within : GraphParts → Result GraphParts Limit

@@ -1,5 +1,5 @@
 -- The text of a line graph: a line for the counts, for each node, for each segment, for each round and for each join.
-use Rattle.std.specs.Prelude.{ℕ, ◌+◌, List, [], ◌∷◌, ◌++◌, length, codes, slice_get, slice_index_or, Option, Some, None}
+use Rattle.std.specs.Prelude.{ℕ, ◌+◌, List, [], ◌∷◌, ◌++◌, length, codes, slice_get, Option, Some, None}
 use Rattle.std.specs.List.{flat_map}
 use Rattle.std.specs.Fmt.{decimal}
 use Rattle.map_base.specs.declared.ids.NodeId.{NodeId}
@@ -11,12 +11,11 @@ use Rattle.graph_core.specs.declared.parts.NodeKind.TheVariants.{Station, Juncti
 use Rattle.graph_core.specs.declared.parts.GraphParts.{GraphParts}
 use Rattle.graph_core.specs.declared.parts.Join.{Join}
 use Rattle.transit_feed.specs.declared.station.Station as feed
-use Rattle.printed_text.specs.Printed.{printed_id, printed_point, point_line}
+use Rattle.printed_text.specs.Printed.{printed_point, point_line}
 
 -- a space and a number
 abbrev pub and_number : ℕ → List ℕ
 and_number n = 32 ∷ decimal n
-
 
 -- the id of a station that is there
 abbrev pub id_of : Option feed.Station → List ℕ

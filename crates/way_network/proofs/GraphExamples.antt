@@ -1,14 +1,14 @@
 -- The line graph of two lines that part at a junction, worked out.
-use Rattle.std.proofs.Common.{◌≡◌, ℕ, ℤ, pos, List, [], ◌∷◌, ◌++◌, map, refl, ◌==◌, if◌then◌else◌}
+use Rattle.std.proofs.Common.{◌≡◌, ℕ, pos, List, [], ◌∷◌, refl}
 use Rattle.std.specs.List.{flat_map}
 use Rattle.map_base.specs.declared.point.Point.{Point}
 use Rattle.map_base.specs.declared.ids.StationId.{StationId}
 use Rattle.graph_core.specs.declared.parts.NodeKind.TheVariants.{Station, Junction}
 use Rattle.graph_core.specs.declared.parts.GraphParts.{GraphParts}
-use Rattle.line_graph.specs.Legs.{Leg, Way}
-use Rattle.line_graph.specs.Chains.{Network}
-use Rattle.line_graph.specs.Joins.{passages_of_way, passages_between}
-use Rattle.line_graph.specs.Outcome.{graph_over}
+use Rattle.way_network.specs.declared.way.Way.{Way}
+use Rattle.way_network.specs.Chains.{Network}
+use Rattle.way_network.specs.Joins.{passages_of_way}
+use Rattle.way_network.specs.Graphs.{graph_over}
 
 abbrev at : ℕ → ℕ → Point
 at x y = record { x = pos x; y = pos y }
@@ -20,7 +20,7 @@ abbrev points : List Point
 points = at 0 0 ∷ at 5000 0 ∷ at 2500 2500 ∷ at 1000 0 ∷ at 2500 0 ∷ at 4000 0 ∷ at 2500 1000 ∷ []
 
 abbrev ways : List Way
-ways = record { line = 0; points = 0 ∷ 3 ∷ 4 ∷ 5 ∷ 1 ∷ [] } ∷ record { line = 1; points = 0 ∷ 3 ∷ 4 ∷ 6 ∷ 2 ∷ [] } ∷ []
+ways = record { line = record { 0 = 0 }; points = 0 ∷ 3 ∷ 4 ∷ 5 ∷ 1 ∷ [] } ∷ record { line = record { 0 = 1 }; points = 0 ∷ 3 ∷ 4 ∷ 6 ∷ 2 ∷ [] } ∷ []
 
 abbrev network : Network
 network = record { stations = 3; points = 7; lines = 2; ways = ways }
@@ -58,7 +58,7 @@ joins-worked = refl
 
 -- Two lines between the same two stations, the one by the north: two segments.
 abbrev two_ways : List Way
-two_ways = record { line = 0; points = 0 ∷ 1 ∷ [] } ∷ record { line = 1; points = 0 ∷ 2 ∷ 3 ∷ 1 ∷ [] } ∷ []
+two_ways = record { line = record { 0 = 0 }; points = 0 ∷ 1 ∷ [] } ∷ record { line = record { 0 = 1 }; points = 0 ∷ 2 ∷ 3 ∷ 1 ∷ [] } ∷ []
 
 abbrev two_points : List Point
 two_points = at 0 0 ∷ at 5000 0 ∷ at 0 400 ∷ at 5000 400 ∷ []
@@ -72,26 +72,14 @@ two-lines-worked = refl
 two-rounds-worked : two_segments.rounds ≡ (record { 0 = 0 } ∷ record { 0 = 1 } ∷ []) ∷ (record { 0 = 0 } ∷ record { 0 = 1 } ∷ []) ∷ []
 two-rounds-worked = refl
 
--- A line that goes back over the way that it came, and one that goes on: only the second joins the two segments.
-abbrev there : Leg
-there = record { line = 0; from = 0; to = 1; samples = [] }
-
-abbrev back : Leg
-back = record { line = 0; from = 1; to = 0; samples = [] }
-
-abbrev further : Leg
-further = record { line = 1; from = 0; to = 1; samples = [] }
-
-abbrev onwards : Leg
-onwards = record { line = 1; from = 1; to = 2; samples = [] }
-
-abbrev path : Leg → List ℕ
-path leg = if leg.to == 2 then 1 ∷ 2 ∷ [] else 0 ∷ 1 ∷ []
+-- A line that ends at a station, and one that goes on there: only the second joins the two segments.
+abbrev row_ways : List Way
+row_ways = record { line = record { 0 = 0 }; points = 0 ∷ 1 ∷ [] } ∷ record { line = record { 0 = 1 }; points = 0 ∷ 1 ∷ [] } ∷ record { line = record { 0 = 1 }; points = 1 ∷ 2 ∷ [] } ∷ []
 
 abbrev row_of_three : GraphParts
 row_of_three = graph_over (station 0 ∷ station 1 ∷ station 2 ∷ []) (at 0 0 ∷ at 5000 0 ∷ at 9000 0 ∷ [])
-    (record { stations = 3; points = 3; lines = 2; ways = map (λ (l : Leg). (record { line = l.line; points = path l })) (there ∷ back ∷ further ∷ onwards ∷ []) })
-    (passages_between path (there ∷ back ∷ []) ++ passages_between path (further ∷ onwards ∷ []))
+    (record { stations = 3; points = 3; lines = 2; ways = row_ways })
+    (record { line = record { 0 = 0 }; at = 1; from = 0; to = 0 } ∷ record { line = record { 0 = 1 }; at = 1; from = 0; to = 2 } ∷ [])
 
 row-lines-worked : row_of_three.lines ≡ (record { 0 = 0 } ∷ record { 0 = 1 } ∷ []) ∷ (record { 0 = 1 } ∷ []) ∷ []
 row-lines-worked = refl

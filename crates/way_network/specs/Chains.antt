@@ -1,7 +1,7 @@
 -- Chains of used edges between nodes.
-use Rattle.std.specs.Prelude.{ℕ, zero, suc, Bool, ◌==◌, not, List, [], ◌∷◌, find, Option, Some, None, unwrap_or, if◌then◌else◌}
-use Rattle.line_graph.specs.Legs.{Way}
-use Rattle.line_graph.specs.Edges.{used_from, is_node}
+use Rattle.std.specs.Prelude.{ℕ, zero, suc, Bool, ◌==◌, not, List, [], ◌∷◌, find, unwrap_or, if◌then◌else◌}
+use Rattle.way_network.specs.declared.way.Way.{Way}
+use Rattle.way_network.specs.Edges.{used_from, is_node}
 
 -- the network that chains are cut from: how many stations, net points and lines there are, and the ways
 pub record Network : Type 0 where

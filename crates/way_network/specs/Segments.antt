@@ -1,16 +1,16 @@
 -- The nodes and segments of the line graph, and the round of each node.
-use Rattle.std.specs.Prelude.{ℕ, Bool, true, false, ◌==◌, ◌&&◌, ◌||◌, nat_lt, not, List, [], ◌∷◌, ◌++◌, length, map, filter, fold, position, Option, Some, None, unwrap_or, slice_index_or, if◌then◌else◌, pos}
+use Rattle.std.specs.Prelude.{ℕ, Bool, true, false, ◌==◌, ◌&&◌, ◌||◌, nat_lt, List, [], ◌∷◌, map, filter, position, unwrap_or, if◌then◌else◌}
 use Rattle.std.specs.List.{flat_map}
 use Rattle.std.specs.declared.cmp.Ordering.{Ordering}
-use Rattle.std.specs.declared.cmp.Ordering.TheVariants.{Less, Equal, Greater}
+use Rattle.std.specs.declared.cmp.Ordering.TheVariants.{Less}
 use Rattle.map_base.specs.declared.point.Point.{Point}
 use Rattle.map_base.specs.declared.ids.NodeId.{NodeId}
 use Rattle.map_base.specs.declared.ids.SegId.{SegId}
 use Rattle.map_base.specs.declared.ids.LineId.{LineId}
 use Rattle.fixed_plane.specs.Directions.{clockwise_from}
 use Rattle.track_net.specs.Nearness.{point_at}
-use Rattle.line_graph.specs.Edges.{lines_over, node_points}
-use Rattle.line_graph.specs.Chains.{Network, used_at, chain_from}
+use Rattle.way_network.specs.Edges.{lines_over, node_points}
+use Rattle.way_network.specs.Chains.{Network, used_at, chain_from}
 
 -- the one direction stands before the other
 abbrev pub is_less : Ordering → Bool

@@ -1,7 +1,7 @@
 -- The edges of the net that lines run over, and the nodes among its points.
-use Rattle.std.specs.Prelude.{ℕ, Bool, true, false, not, ◌==◌, ◌&&◌, ◌||◌, nat_lt, List, [], ◌∷◌, length, filter, if◌then◌else◌}
+use Rattle.std.specs.Prelude.{ℕ, Bool, true, false, not, ◌==◌, ◌&&◌, ◌||◌, nat_lt, List, [], ◌∷◌, filter}
 use Rattle.std.specs.List.{list_any, range_with_len}
-use Rattle.line_graph.specs.Legs.{Way}
+use Rattle.way_network.specs.declared.way.Way.{Way}
 
 -- these two numbers are p and q, either way
 abbrev pub are_ends : ℕ → ℕ → ℕ → ℕ → Bool
@@ -15,7 +15,7 @@ runs_over p q (a ∷ b ∷ rest) = are_ends p q a b || runs_over p q (b ∷ rest
 
 -- a line runs over the edge of p and q: one of its ways does
 abbrev pub line_runs_over : List Way → ℕ → ℕ → ℕ → Bool
-line_runs_over ways p q line = list_any (λ (w : Way). (w.line == line) && runs_over p q w.points) ways
+line_runs_over ways p q line = list_any (λ (w : Way). (w.line.0 == line) && runs_over p q w.points) ways
 
 -- the lines of the edge of p and q, rising, of that many lines
 abbrev pub lines_over : ℕ → List Way → ℕ → ℕ → List ℕ
