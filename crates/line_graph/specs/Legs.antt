@@ -1,6 +1,6 @@
 -- Legs of courses, the corridors of stretches, and their paths over the net.
-use Rattle.std.specs.Prelude.{ℕ, Bool, ◌==◌, ◌&&◌, List, [], ◌∷◌, map, min, max, filter}
-use Rattle.std.specs.List.{flat_map}
+use Rattle.std.specs.Prelude.{ℕ, Bool, ◌==◌, ◌&&◌, List, [], ◌∷◌, ◌++◌, map, min, max, filter, fold, if◌then◌else◌}
+use Rattle.std.specs.List.{flat_map, list_any}
 use Rattle.map_base.specs.declared.ids.LineId.{LineId}
 use Rattle.map_base.specs.declared.point.Point.{Point}
 use Rattle.way_network.specs.declared.way.Way.{Way}
@@ -37,6 +37,18 @@ are_one_stretch a b = (a.line.0 == b.line.0) && ((min a.from a.to == min b.from 
 abbrev pub corridor_of : List Leg → Leg → List Point
 corridor_of legs leg = flat_map (λ (l : Leg). l.samples) (filter (are_one_stretch leg) legs)
 
+-- one of the legs is of this leg's stretch
+abbrev pub has_stretch : List Leg → Leg → Bool
+has_stretch legs leg = list_any (are_one_stretch leg) legs
+
+-- the first legs of stretches, once another leg is seen
+abbrev pub with_stretch : List Leg → Leg → List Leg
+with_stretch firsts leg = if has_stretch firsts leg then firsts else firsts ++ leg ∷ []
+
+-- the first leg of each stretch, in order
+abbrev pub stretches_of : List Leg → List Leg
+stretches_of legs = fold with_stretch [] legs
+
 -- the stretch path of a leg, from the lower of its two stations to the other
 abbrev pub path_of : ℕ → NetParts → List Leg → Leg → List ℕ
 path_of near net legs leg = stretch_path_of near (corridor_of legs leg) net (min leg.from leg.to) (max leg.from leg.to)
@@ -44,6 +56,6 @@ path_of near net legs leg = stretch_path_of near (corridor_of legs leg) net (min
 abbrev pub way_of : ℕ → NetParts → List Leg → Leg → Way
 way_of near net legs leg = record { line = leg.line; points = path_of near net legs leg }
 
--- the ways of all legs, in order
+-- the ways of all stretches, in order
 abbrev pub ways_of : ℕ → NetParts → List Leg → List Way
-ways_of near net legs = map (way_of near net legs) legs
+ways_of near net legs = map (way_of near net legs) (stretches_of legs)

@@ -1,6 +1,6 @@
 -- The text of a line graph: a line for the counts, for each node, for each segment, for each round and for each join.
-use Rattle.std.specs.Prelude.{ℕ, ◌+◌, List, [], ◌∷◌, ◌++◌, length, codes, slice_get, Option, Some, None}
-use Rattle.std.specs.List.{flat_map}
+use Rattle.std.specs.Prelude.{ℕ, ◌<◌, pos, List, [], ◌∷◌, ◌++◌, length, codes, slice_get, unwrap_or, Option, Some, None}
+use Rattle.std.specs.List.{flat_map, range_with_len}
 use Rattle.std.specs.Fmt.{decimal}
 use Rattle.map_base.specs.declared.ids.NodeId.{NodeId}
 use Rattle.map_base.specs.declared.ids.SegId.{SegId}
@@ -27,34 +27,66 @@ abbrev pub node_text : List feed.Station → NodeKind → Point → List ℕ
 node_text stations (Station s) place = codes " station " ++ point_line place (id_of (slice_get stations s.0))
 node_text stations Junction place = codes " junction " ++ (printed_point place ++ 10 ∷ [])
 
--- `node N station X Y ID` or `node N junction X Y` for each node from a number on
-abbrev pub node_lines : List feed.Station → ℕ → List NodeKind → List Point → List ℕ
-node_lines stations n [] places = []
-node_lines stations n (kind ∷ kinds) [] = []
-node_lines stations n (kind ∷ kinds) (place ∷ places) = codes "node" ++ (and_number n ++ (node_text stations kind place ++ node_lines stations (n + 1) kinds places))
+-- what node n is
+abbrev pub kind_at : List NodeKind → ℕ → NodeKind
+kind_at kinds n = unwrap_or (slice_get kinds n) Junction
 
--- `segment S LOW UP LINE ..` for each segment from a number on
-abbrev pub segment_lines : ℕ → List (NodeId × NodeId) → List (List LineId) → List ℕ
-segment_lines n [] lines = []
-segment_lines n (e ∷ ends) [] = []
-segment_lines n (e ∷ ends) (on ∷ lines) = codes "segment" ++ (and_number n ++ (and_number e.0.0 ++ (and_number e.1.0 ++ (flat_map (λ (l : LineId). and_number l.0) on ++ (10 ∷ segment_lines (n + 1) ends lines)))))
+-- where node n lies
+abbrev pub place_at : List Point → ℕ → Point
+place_at places n = unwrap_or (slice_get places n) (record { x = pos 0; y = pos 0 })
 
--- `round N SEG ..` for each node from a number on
-abbrev pub round_lines : ℕ → List (List SegId) → List ℕ
-round_lines n [] = []
-round_lines n (round ∷ rounds) = codes "round" ++ (and_number n ++ (flat_map (λ (s : SegId). and_number s.0) round ++ (10 ∷ round_lines (n + 1) rounds)))
+-- `node N station X Y ID` or `node N junction X Y`
+abbrev pub node_line : List feed.Station → GraphParts → ℕ → List ℕ
+node_line stations g n = codes "node" ++ (and_number n ++ node_text stations (kind_at g.kinds n) (place_at g.places n))
+
+-- the ends of segment s
+abbrev pub ends_at : List (NodeId × NodeId) → ℕ → NodeId × NodeId
+ends_at ends s = unwrap_or (slice_get ends s) (record { 0 = 0 }, record { 0 = 0 })
+
+-- the numbers of the lower and the upper node
+abbrev pub ends_text : NodeId × NodeId → List ℕ
+ends_text ends = and_number ends.0.0 ++ and_number ends.1.0
+
+-- `segment S LOW UP LINE ..`
+abbrev pub segment_line : GraphParts → ℕ → List ℕ
+segment_line g s =
+    codes "segment" ++ (and_number s ++ (ends_text (ends_at g.ends s)
+    ++ (flat_map (λ (l : LineId). and_number l.0) (unwrap_or (slice_get g.lines s) []) ++ 10 ∷ [])))
+
+-- `round N SEG ..`
+abbrev pub round_line : GraphParts → ℕ → List ℕ
+round_line g n = codes "round" ++ (and_number n ++ (flat_map (λ (s : SegId). and_number s.0) (unwrap_or (slice_get g.rounds n) []) ++ 10 ∷ []))
 
 -- `join N E F LINE`
 abbrev pub join_line : ℕ → Join → List ℕ
 join_line n join = codes "join" ++ (and_number n ++ (and_number join.e.0 ++ (and_number join.f.0 ++ (and_number join.line.0 ++ 10 ∷ []))))
 
--- the joins of each node from a number on
-abbrev pub join_lines : ℕ → List (List Join) → List ℕ
-join_lines n [] = []
-join_lines n (joins ∷ rest) = flat_map (join_line n) joins ++ join_lines (n + 1) rest
+-- the joins of node n
+abbrev pub join_lines : GraphParts → ℕ → List ℕ
+join_lines g n = flat_map (join_line n) (unwrap_or (slice_get g.joins n) [])
+
+-- the first line: `graph NODES SEGMENTS`
+abbrev pub counts_line : GraphParts → List ℕ
+counts_line g = codes "graph" ++ (and_number (length g.kinds) ++ (and_number (length g.ends) ++ 10 ∷ []))
+
+-- the lines of all nodes, of all segments, of all rounds and of all joins
+abbrev pub all_nodes : List feed.Station → GraphParts → List ℕ
+all_nodes stations g = flat_map (node_line stations g) (range_with_len 0 (length g.kinds))
+
+abbrev pub all_segments : GraphParts → List ℕ
+all_segments g = flat_map (segment_line g) (range_with_len 0 (length g.ends))
+
+abbrev pub all_rounds : GraphParts → List ℕ
+all_rounds g = flat_map (round_line g) (range_with_len 0 (length g.kinds))
+
+abbrev pub all_joins : GraphParts → List ℕ
+all_joins g = flat_map (join_lines g) (range_with_len 0 (length g.kinds))
 
 -- the text of a graph over stations
 abbrev pub graph_text : List feed.Station → GraphParts → List ℕ
-graph_text stations g =
-    codes "graph" ++ (and_number (length g.kinds) ++ (and_number (length g.ends) ++ (10 ∷
-    (node_lines stations 0 g.kinds g.places ++ (segment_lines 0 g.ends g.lines ++ (round_lines 0 g.rounds ++ join_lines 0 g.joins))))))
+graph_text stations g = counts_line g ++ (all_nodes stations g ++ (all_segments g ++ (all_rounds g ++ all_joins g)))
+
+-- a node that is a station is one of these
+abbrev pub IsKnown : List feed.Station → NodeKind → Type 0
+IsKnown stations (Station s) = s.0 < length stations
+IsKnown stations Junction = Unit {0}

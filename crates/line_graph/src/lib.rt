@@ -1,4 +1,6 @@
 //! The line graph of a feed.
 #![tactic(auto)]
 
-mod placeholder;
+mod print;
+
+pub use print::print_graph;

@@ -1,5 +1,0 @@
-//! Nothing yet.
-
-pub fn nothing(x: u32) -> u32 {
-    x
-}
