@@ -1,0 +1,7 @@
+pub mod Edges
+pub mod Chains
+pub mod Segments
+pub mod Joins
+pub mod Graphs
+pub mod Tables
+pub mod Premises

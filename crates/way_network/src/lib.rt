@@ -1,0 +1,9 @@
+//! The network of ways that lines take over the points of a net: its used edges, its nodes, the chains between
+//! them, the round of each node, and where lines go on from one chain to another.
+#![tactic(auto)]
+
+mod edges;
+mod way;
+
+pub use edges::UsedEdge;
+pub use way::{Passage, Way};
