@@ -5,4 +5,5 @@ mod Searches
 mod Spreading
 mod Rising
 mod Walked
+mod Choosing
 mod Examples
