@@ -49,18 +49,18 @@ abbrev pub course_samples : ℕ → Feed → Pattern → List Point
 course_samples near feed pattern = samples_of near (course_points feed pattern pattern.shape)
 
 -- the hops of stations along samples, each station at its place of the snap
-abbrev pub hops_along : ℕ → List Point → List Point → List (List Point)
+unfoldable pub hops_along : ℕ → List Point → List Point → List (List Point)
 hops_along near samples stations = hops_of near samples stations (snap_of samples stations)
 
 abbrev pub course_hops : ℕ → Feed → Pattern → List (List Point)
 course_hops near feed pattern = hops_along near (course_samples near feed pattern) (stop_points feed pattern)
 
 -- the course of a pattern
-abbrev pub course_of : ℕ → Feed → Pattern → Course
+unfoldable pub course_of : ℕ → Feed → Pattern → Course
 course_of near feed pattern = record { line = pattern.line; stops = stop_places feed pattern; hops = course_hops near feed pattern }
 
 -- how many samples a pattern has: those of its course and those of its hops
-abbrev pub sample_count : ℕ → Feed → Pattern → ℕ
+unfoldable pub sample_count : ℕ → Feed → Pattern → ℕ
 sample_count near feed pattern = length (course_samples near feed pattern) + total_of (course_hops near feed pattern)
 
 -- how many samples all patterns that are shown have
@@ -92,7 +92,7 @@ abbrev pub unless_above : {A : Type 0} → LimitKind → ℕ → Result A Limit 
 unless_above kind count next = if is_within kind count then next else Err (limit_of kind)
 
 -- the courses of a feed, or the first limit that it is above: of lines, of stations, of samples
-abbrev pub courses_outcome : ℕ → Feed → Result Courses Limit
+unfoldable pub courses_outcome : ℕ → Feed → Result Courses Limit
 courses_outcome near feed =
     unless_above Lines (length (shown_lines feed))
     (unless_above Stations (length (used_stations feed))

@@ -45,5 +45,5 @@ abbrev pub moved_apart : List Point → List Point
 moved_apart points = fold with_point [] points
 
 -- the points of the used stations, in their order
-abbrev pub used_points : Feed → List Point
+unfoldable pub used_points : Feed → List Point
 used_points feed = moved_apart (map (projected_station feed.stations) (used_stations feed))

@@ -16,7 +16,7 @@ abbrev pub is_shown : List Line → Pattern → Bool
 is_shown lines pattern = is_open (slice_get lines pattern.line.0)
 
 -- the patterns that are shown, in the order of the feed
-abbrev pub shown_patterns : Feed → List Pattern
+unfoldable pub shown_patterns : Feed → List Pattern
 shown_patterns feed = filter (is_shown feed.lines) feed.patterns
 
 -- some of these patterns is one of the line
@@ -40,5 +40,5 @@ abbrev pub stations_in : ℕ → List Pattern → List ℕ
 stations_in count patterns = filter (λ n. list_any (serves n) patterns) (range_with_len 0 count)
 
 -- the stations that stand in a pattern that is shown
-abbrev pub used_stations : Feed → List ℕ
+unfoldable pub used_stations : Feed → List ℕ
 used_stations feed = stations_in (length feed.stations) (shown_patterns feed)

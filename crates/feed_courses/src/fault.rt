@@ -1,6 +1,14 @@
 //! Why no courses came of a feed.
 
-use map_base::{Limit, NoMemory};
+ghost use Rattle.std.specs.Prelude.{◌≡◌, ◌<◌, ◌≤◌, IfErr, OnOk};
+ghost use Rattle.map_base.specs.Limits.{limit_most};
+ghost use Rattle.feed_courses.specs.Outcome.{limit_of};
+ghost use Rattle.feed_courses.specs.Faults.{IsAbove, fault_of};
+ghost use Rattle.feed_courses.specs.declared.fault.CourseFault.TheVariants.{NoMemory as OutOfMemory};
+
+use map_base::{Limit, LimitKind, NoMemory};
+use shape_track::SampleFault;
+use std::alloc::{AllocError, AllocFailed};
 
 /// Why the courses of a feed are refused.
 #[derive(Clone, Copy, Debug, PartialEq, Eq)]
@@ -12,7 +20,58 @@ pub enum CourseFault {
 }
 
 impl From<NoMemory> for CourseFault {
+    ghost from_gives = { λ _ fault. fault ≡ OutOfMemory };
+
     fn from(_refused: NoMemory) -> CourseFault {
         CourseFault::NoMemory
     }
+}
+
+impl From<AllocError> for CourseFault {
+    ghost from_gives = { λ _ fault. fault ≡ OutOfMemory };
+
+    fn from(_refused: AllocError) -> CourseFault {
+        CourseFault::NoMemory
+    }
+}
+
+impl<T: Drop> From<AllocFailed<T>> for CourseFault {
+    ghost from_gives = { λ _ fault. fault ≡ OutOfMemory };
+
+    fn from(_refused: AllocFailed<T>) -> CourseFault {
+        CourseFault::NoMemory
+    }
+}
+
+impl From<SampleFault> for CourseFault {
+    ghost from_gives = { λ sample_fault fault. fault ≡ fault_of sample_fault };
+
+    fn from(fault: SampleFault) -> CourseFault {
+        match fault {
+            SampleFault::Limit(_) => CourseFault::Limit(limit_of(LimitKind::Samples)),
+            SampleFault::NoMemory => CourseFault::NoMemory,
+        }
+    }
+}
+
+/// What is reported of more things of a kind than the greatest allowed number.
+fn limit_of(kind: LimitKind) -> Limit
+    ensures { result ≡ limit_of kind }
+{
+    Limit {
+        what: kind,
+        found: kind.most().saturating_add(1),
+        most: kind.most(),
+    }
+}
+
+/// Refuses more things of a kind than the greatest allowed number.
+pub(crate) fn check_count(kind: LimitKind, count: usize) -> Result<(), CourseFault>
+    ensures within { OnOk result (count ≤ limit_most kind) }
+    ensures cause { IfErr result (λ fault. IsAbove kind (limit_most kind) count fault) }
+{
+    if count as u64 > kind.most() {
+        return Err(CourseFault::Limit(limit_of(kind)));
+    }
+    Ok(())
 }

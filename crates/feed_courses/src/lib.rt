@@ -2,8 +2,19 @@
 //! its hops from station to station.
 #![tactic(auto)]
 
+mod apart;
+mod building;
 mod courses;
 mod fault;
+mod flags;
+mod hops;
+mod plane;
+mod shown;
+mod used;
 
+pub use building::courses_of;
 pub use courses::{Course, Courses};
 pub use fault::CourseFault;
+
+#[cfg(test)]
+mod tests;

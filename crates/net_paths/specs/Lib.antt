@@ -1,6 +1,5 @@
 pub mod Corridors
 pub mod Stretches
-pub mod Choices
-pub mod Reaches
 pub mod Searching
 pub mod Walking
+pub mod Choices

@@ -1,0 +1,11 @@
+mod Lists
+mod OnePoint
+mod RunLemmas
+mod Earth
+mod PlaceTables
+mod FlagLemmas
+mod Served
+mod HopsAlong
+mod CourseLemmas
+mod SumLemmas
+mod WholeLemmas
