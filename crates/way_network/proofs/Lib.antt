@@ -1,1 +1,2 @@
 mod GraphExamples
+pub mod Turning

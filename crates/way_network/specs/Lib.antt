@@ -5,3 +5,4 @@ pub mod Joins
 pub mod Graphs
 pub mod Tables
 pub mod Premises
+pub mod Rows

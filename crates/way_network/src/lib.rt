@@ -2,7 +2,10 @@
 //! them, the round of each node, and where lines go on from one chain to another.
 #![tactic(auto)]
 
+mod around;
+mod chains;
 mod edges;
+mod segments;
 mod way;
 
 pub use edges::UsedEdge;

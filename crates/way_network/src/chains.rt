@@ -1,0 +1,52 @@
+//! Chains of used edges between nodes.
+
+ghost use Rattle.std.specs.Prelude.{◌≡◌, ◌<◌, length, vec_len, All, IfOk};
+ghost use Rattle.way_network.specs.Rows.{other_in, walked_from, AreKnown};
+
+use crate::edges::UsedEdge;
+use map_base::{NoMemory, Sequence};
+use std::alloc::Global;
+
+/// The points of the chain from one point over its edge to another, up to the next node. `flags` says of each point
+/// whether it is a node.
+pub(crate) fn chain_from(
+    alloc: Global,
+    rows: &[Sequence<UsedEdge>],
+    flags: &[bool],
+    from: u32,
+    to: u32,
+) -> Result<Vec<u32>, NoMemory>
+    requires flag_each { length flags.now ≡ length rows.now }
+    requires known { AreKnown rows.now }
+    requires to { to < length rows.now }
+    ensures { IfOk result (λ chain. chain.items ≡ walked_from rows.now flags.now from to) }
+{
+    let mut chain = Vec::new(alloc);
+    chain.push(from)?;
+    let mut last = from;
+    let mut here = to;
+    for _ in 0..rows.len() {
+        chain.push(here)?;
+        if flags[here as usize] {
+            return Ok(chain);
+        }
+        let next = other_end(rows[here as usize].as_slice(), last, here);
+        last = here;
+        here = next;
+    }
+    chain.push(here)?;
+    Ok(chain)
+}
+
+/// Where the first edge leads that does not lead back, or the point itself where there is none.
+#[tactic(auto, using(std::proofs::lemmas::List::at_drop_more))]
+fn other_end(row: &[UsedEdge], from: u32, here: u32) -> u32
+    ensures { result ≡ other_in row.now from here }
+{
+    for edge in row {
+        if edge.to != from {
+            return edge.to;
+        }
+    }
+    here
+}

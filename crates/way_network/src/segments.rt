@@ -1,0 +1,98 @@
+//! Segments: the chains between two nodes, each from its lower to its upper node.
+
+ghost use Rattle.std.specs.Prelude.{◌≡◌, ◌<◌, ◌-◌, ◌++◌, [], ◌∷◌, length, filter, vec_len, All, IfOk, slice_index};
+ghost use Rattle.fixed_plane.specs.Plane.{IsInPlane};
+ghost use Rattle.way_network.specs.Segments.{last_of};
+ghost use Rattle.way_network.specs.Rows.{walked_from, row_chains, all_chains, rises_from, AreKnown, AllLeadAway};
+
+use crate::around::around;
+use crate::chains::chain_from;
+use crate::edges::UsedEdge;
+use map_base::{NoMemory, Point, Sequence};
+use std::alloc::Global;
+
+/// The chains that rise, node by node, those of one node clockwise from north. `flags` says of each point whether it
+/// is a node, and `nodes` are the nodes.
+pub(crate) fn chains_of(
+    alloc: Global,
+    points: &[Point],
+    rows: &[Sequence<UsedEdge>],
+    flags: &[bool],
+    nodes: &[u32],
+) -> Result<Vec<Sequence<u32>>, NoMemory>
+    requires in_plane { All IsInPlane points.now }
+    requires row_each { length rows.now ≡ length points.now }
+    requires flag_each { length flags.now ≡ length rows.now }
+    requires known { AreKnown rows.now }
+    requires lead_away { AllLeadAway points.now rows.now }
+    requires nodes { All (λ p. p < length rows.now) nodes.now }
+    ensures { IfOk result (λ chains. chains.items ≡ all_chains points.now rows.now flags.now nodes.now) }
+{
+    let mut chains = Vec::new(alloc);
+    for node in nodes {
+        push_rising(alloc, points, rows, flags, *node, &mut chains)?;
+    }
+    Ok(chains)
+}
+
+/// Adds the chains that begin at a node and end at a higher one.
+fn push_rising(
+    alloc: Global,
+    points: &[Point],
+    rows: &[Sequence<UsedEdge>],
+    flags: &[bool],
+    node: u32,
+    chains: &mut Vec<Sequence<u32>>,
+) -> Result<(), NoMemory>
+    requires in_plane { All IsInPlane points.now }
+    requires row_each { length rows.now ≡ length points.now }
+    requires flag_each { length flags.now ≡ length rows.now }
+    requires known { AreKnown rows.now }
+    requires lead_away { AllLeadAway points.now rows.now }
+    requires node { node < length rows.now }
+    ensures { IfOk result (λ _. chains.new.items ≡ chains.old.items ++ row_chains points.now rows.now flags.now node) }
+{
+    let order = around(alloc, points, node, rows[node as usize].as_slice())?;
+    for next in order.as_slice() {
+        push_where_rising(alloc, rows, flags, node, *next, chains)?;
+    }
+    Ok(())
+}
+
+/// Adds the chain from a node over an edge if it ends at a higher node.
+fn push_where_rising(
+    alloc: Global,
+    rows: &[Sequence<UsedEdge>],
+    flags: &[bool],
+    node: u32,
+    next: u32,
+    chains: &mut Vec<Sequence<u32>>,
+) -> Result<(), NoMemory>
+    requires flag_each { length flags.now ≡ length rows.now }
+    requires known { AreKnown rows.now }
+    requires next { next < length rows.now }
+    ensures { IfOk result (λ _. chains.new.items ≡ chains.old.items ++ filter (rises_from node) (walked_from rows.now flags.now node next ∷ [])) }
+{
+    let chain = chain_from(alloc, rows, flags, node, next)?;
+    if node < last_of(chain.as_slice()) {
+        chains.push(Sequence::of(chain))?;
+    }
+    Ok(())
+}
+
+/// The last point of a chain, or 0 where it has none.
+fn last_of(chain: &[u32]) -> u32
+    ensures { result ≡ last_of chain.now }
+{
+    point_of(chain, chain.len().saturating_sub(1))
+}
+
+/// The point at a place of a chain, or 0 past its end.
+pub(crate) fn point_of(chain: &[u32], place: usize) -> u32
+    ensures { result ≡ slice_index chain.now place }
+{
+    match chain.get(place) {
+        None => 0,
+        Some(point) => *point,
+    }
+}
