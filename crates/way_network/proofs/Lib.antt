@@ -1,2 +1,4 @@
 mod GraphExamples
 pub mod Turning
+pub mod Walking
+pub mod Numbering

@@ -6,3 +6,4 @@ pub mod Graphs
 pub mod Tables
 pub mod Premises
 pub mod Rows
+pub mod Numbers

@@ -9,6 +9,7 @@ use std::alloc::Global;
 
 /// The points of the chain from one point over its edge to another, up to the next node. `flags` says of each point
 /// whether it is a node.
+#[tactic(auto, using(crate::proofs::Walking::walk_more, crate::proofs::Walking::walk_all))]
 pub(crate) fn chain_from(
     alloc: Global,
     rows: &[Sequence<UsedEdge>],
@@ -39,7 +40,7 @@ pub(crate) fn chain_from(
 }
 
 /// Where the first edge leads that does not lead back, or the point itself where there is none.
-#[tactic(auto, using(std::proofs::lemmas::List::at_drop_more))]
+#[tactic(auto, using(std::proofs::lemmas::List::at_drop_more, crate::proofs::Walking::other_in_known))]
 fn other_end(row: &[UsedEdge], from: u32, here: u32) -> u32
     ensures { result ≡ other_in row.now from here }
 {

@@ -5,8 +5,11 @@
 mod around;
 mod chains;
 mod edges;
+mod numbers;
+mod rounds;
 mod segments;
 mod way;
 
 pub use edges::UsedEdge;
+pub use numbers::Segments;
 pub use way::{Passage, Way};

@@ -81,7 +81,7 @@ fn push_where_rising(
 }
 
 /// The last point of a chain, or 0 where it has none.
-fn last_of(chain: &[u32]) -> u32
+pub(crate) fn last_of(chain: &[u32]) -> u32
     ensures { result ≡ last_of chain.now }
 {
     point_of(chain, chain.len().saturating_sub(1))
