@@ -2,3 +2,4 @@ mod GraphExamples
 pub mod Turning
 pub mod Walking
 pub mod Numbering
+pub mod NetworkRows

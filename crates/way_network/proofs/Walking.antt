@@ -25,8 +25,8 @@ pub other_in_known : (m : ℕ) (row : List UsedEdge) (from here : ℕ) → All (
 other_in_known m [] from here known stays = stays
 other_in_known m (edge ∷ row) from here known stays =
     elim (not (eqb edge.to from)) as (λ t. unwrap_or (cond t (Some edge.to) (find (λ p. not (eqb p from)) (map point_of row))) here < m) [
-      true ↦ All-head (λ (edge : UsedEdge). edge.to < m) edge row known
-    | false ↦ other_in_known m row from here (All-tail (λ (edge : UsedEdge). edge.to < m) edge row known) stays
+      | true ↦ All-head (λ (edge : UsedEdge). edge.to < m) edge row known
+      | false ↦ other_in_known m row from here (All-tail (λ (edge : UsedEdge). edge.to < m) edge row known) stays
     ]
 
 -- the last point by its place

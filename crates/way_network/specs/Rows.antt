@@ -1,10 +1,11 @@
 -- Chains and rounds, read from the used edges of each point and from which points are nodes.
 use Rattle.std.specs.Prelude.{◌≡◌, ◌≢◌, ℕ, zero, suc, ◌<◌, Bool, false, ◌==◌, not, nat_lt, List, [], ◌∷◌, map, filter, find, length, unwrap_or, slice_index_or, All, if◌then◌else◌}
-use Rattle.std.specs.List.{flat_map}
+use Rattle.std.specs.List.{flat_map, range_with_len}
 use Rattle.map_base.specs.declared.point.Point.{Point}
 use Rattle.track_net.specs.Nearness.{point_at}
 use Rattle.way_network.specs.declared.edges.UsedEdge.{UsedEdge}
-use Rattle.way_network.specs.Segments.{turns_before, put_in_order, last_of}
+use Rattle.way_network.specs.Chains.{Network, has_node}
+use Rattle.way_network.specs.Segments.{turns_before, put_in_order, last_of, node_at}
 
 -- from a point the one lies before the other, clockwise from north, as one word
 unfoldable pub stands_before : List Point → ℕ → ℕ → ℕ → Bool
@@ -67,3 +68,11 @@ all_chains points rows flags nodes = flat_map (row_chains points rows flags) nod
 -- each edge leads to a point that lies elsewhere
 abbrev pub AllLeadAway : List Point → List (List UsedEdge) → Type 0
 AllLeadAway points rows = (p : ℕ) → p < length rows → LeadAway points p (row_at rows p)
+
+-- for each point of a network whether it is a node
+abbrev pub node_flags : Network → List Bool
+node_flags g = map (has_node g) (range_with_len 0 g.points)
+
+-- for each point of a network the number of its node, and 0 where it is none
+abbrev pub node_numbers : Network → List ℕ
+node_numbers g = map (node_at g) (range_with_len 0 g.points)

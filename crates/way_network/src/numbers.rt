@@ -64,10 +64,7 @@ impl Segments {
 }
 
 /// The number of the first chain that leaves a point over an edge, for all edges over which chains leave points.
-fn numbers_of(
-    alloc: Global,
-    chains: &[Sequence<u32>],
-) -> Result<HashMap<Edge, u32>, NoMemory>
+fn numbers_of(alloc: Global, chains: &[Sequence<u32>]) -> Result<HashMap<Edge, u32>, NoMemory>
     requires { length chains.now < 2 ^ 32 }
     ensures { IfOk result (AreNumbered chains.now 0) }
 {
@@ -79,11 +76,7 @@ fn numbers_of(
 }
 
 /// Puts the number of a chain to both edges over which it leaves its ends.
-fn put_number(
-    numbers: &mut HashMap<Edge, u32>,
-    chain: &[u32],
-    number: u32,
-) -> Result<(), NoMemory>
+fn put_number(numbers: &mut HashMap<Edge, u32>, chain: &[u32], number: u32) -> Result<(), NoMemory>
     ensures { OnOk result ((edge : ℕ × ℕ) → get is_edge numbers.new edge ≡ (if leaves edge.0 edge.1 chain.now then Some number else get is_edge numbers.old edge)) }
 {
     numbers.insert(lower_edge(chain), number)?;

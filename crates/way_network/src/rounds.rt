@@ -132,11 +132,7 @@ fn lines_of_chain(
 
 /// The lines of the edge to a point, and none where there is no such edge.
 #[tactic(auto, using(std::proofs::lemmas::List::at_drop_more))]
-fn lines_of_edge(
-    alloc: Global,
-    row: &[UsedEdge],
-    to: u32,
-) -> Result<Sequence<LineId>, NoMemory>
+fn lines_of_edge(alloc: Global, row: &[UsedEdge], to: u32) -> Result<Sequence<LineId>, NoMemory>
     ensures { IfOk result (λ lines. lines ≡ lines_to row.now to) }
 {
     for edge in row {

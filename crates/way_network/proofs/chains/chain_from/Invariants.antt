@@ -6,5 +6,5 @@ use Rattle.way_network.proofs.chains.chain_from.Given as goal
 abbrev pub invariant-loop : goal.invariant-loop
 invariant-loop l = record {
   whole : l.chain.items ++ walked_on l.rows l.flags (length l.rows - l.counter) l.last l.here ≡ walked_from l.rows l.flags l.from l.to;
-  here : l.here < length l.rows
+  here : l.here < length l.rows;
 }
