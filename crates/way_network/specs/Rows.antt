@@ -1,5 +1,5 @@
 -- Chains and rounds, read from the used edges of each point and from which points are nodes.
-use Rattle.std.specs.Prelude.{◌≡◌, ◌≢◌, ℕ, zero, suc, ◌<◌, Bool, false, ◌==◌, not, nat_lt, List, [], ◌∷◌, map, filter, find, length, unwrap_or, slice_index_or, All, if◌then◌else◌}
+use Rattle.std.specs.Prelude.{◌≡◌, ◌≢◌, ℕ, zero, suc, ◌<◌, ◌≤◌, Bool, true, false, ◌==◌, not, nat_lt, List, [], ◌∷◌, map, filter, find, length, unwrap_or, slice_index, slice_index_or, All, if◌then◌else◌}
 use Rattle.std.specs.List.{flat_map, range_with_len}
 use Rattle.map_base.specs.declared.point.Point.{Point}
 use Rattle.track_net.specs.Nearness.{point_at}
@@ -76,3 +76,15 @@ node_flags g = map (has_node g) (range_with_len 0 g.points)
 -- for each point of a network the number of its node, and 0 where it is none
 abbrev pub node_numbers : Network → List ℕ
 node_numbers g = map (node_at g) (range_with_len 0 g.points)
+
+-- of these numbers none stands before an earlier one
+abbrev pub IsInTurn : (ℕ → ℕ → Bool) → List ℕ → Type 0
+IsInTurn before [] = Unit {0}
+IsInTurn before (a ∷ rest) = All (λ b. before b a ≡ false) rest × IsInTurn before rest
+
+-- the first of these numbers that passes a test, where those from it on pass too, stands between two places
+pub record IsBetween (test : ℕ → Bool) (xs : List ℕ) (low high : ℕ) : Type 0 where
+  pub rising : low ≤ high
+  pub within : high ≤ length xs
+  pub fails : (k : ℕ) → k < low → test (slice_index xs k) ≡ false
+  pub passes : (k : ℕ) → high ≤ k → k < length xs → test (slice_index xs k) ≡ true
