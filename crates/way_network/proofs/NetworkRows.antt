@@ -12,8 +12,8 @@ use Rattle.way_network.specs.Edges.{is_used}
 use Rattle.way_network.specs.Chains.{Network, used_at, has_node, onward, chain_on, chain_from}
 use Rattle.way_network.specs.Segments.{turns_before, put_in_order, around, last_of, first_of, second_of, chains_from, rising_chains, nodes_of, node_at, segment_chains, ends_of, lines_of, round_of, node_numbered}
 use Rattle.way_network.specs.Tables.{edge_to, edges_from, edge_table}
-use Rattle.way_network.specs.Premises.{HasEndsApart}
-use Rattle.way_network.specs.Rows.{stands_before, point_of, row_around, row_at, flag_at, other_in, walked_on, walked_from, rises_from, row_chains, all_chains, node_flags, node_numbers, IsNeighbour, LeadAway, AllLeadAway, AreKnown}
+use Rattle.way_network.specs.Premises.{HasEndsApart, IsNetwork}
+use Rattle.way_network.specs.Rows.{stands_before, point_of, row_around, row_at, flag_at, other_in, walked_on, walked_from, rises_from, row_chains, all_chains, node_flags, node_numbers, IsNeighbour, LeadAway, AllLeadAway, AreKnown, AreEdgesOver}
 use Rattle.way_network.specs.Numbers.{lines_or_none, lines_to, row_lines, row_round, ends_by, number_to}
 use Rattle.way_network.proofs.Turning.{all_put_in}
 use Rattle.way_network.proofs.Walking.{last_of_at}
@@ -99,6 +99,15 @@ table_leads_away points g count apart p below =
     subst (λ (row : List UsedEdge). LeadAway points p row) (sym (row_is g p known))
     (All-map (λ (edge : UsedEdge). IsNeighbour points p edge.to) (edge_to g p) (used_at g p)
     (All-weaker (IsNext g p) (IsNeighbour points p) (λ q next. record { known = subst (λ m. q < m) count next.known; apart = apart p q next.used }) (used_at g p) (next_of g p)))
+
+-- the table of a network over points of the plane
+pub table_over : (points : List Point) (g : Network) → IsNetwork points g → AreEdgesOver points (edge_table g)
+table_over points g network = record {
+  in_plane = network.in_plane;
+  row_each = length-edge_table g ∙ network.count;
+  known = known_table g;
+  lead_away = table_leads_away points g network.count network.apart;
+}
 
 -- where a chain goes on
 onward_is : (g : Network) (from here : ℕ) → here < g.points → other_in (row_at (edge_table g) here) from here ≡ onward g from here

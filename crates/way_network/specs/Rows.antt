@@ -2,6 +2,7 @@
 use Rattle.std.specs.Prelude.{◌≡◌, ◌≢◌, ℕ, zero, suc, ◌<◌, ◌≤◌, Bool, true, false, ◌==◌, not, nat_lt, List, [], ◌∷◌, map, filter, find, length, unwrap_or, slice_index, slice_index_or, All, if◌then◌else◌}
 use Rattle.std.specs.List.{flat_map, range_with_len}
 use Rattle.map_base.specs.declared.point.Point.{Point}
+use Rattle.fixed_plane.specs.Plane.{IsInPlane}
 use Rattle.track_net.specs.Nearness.{point_at}
 use Rattle.way_network.specs.declared.edges.UsedEdge.{UsedEdge}
 use Rattle.way_network.specs.Chains.{Network, has_node}
@@ -68,6 +69,13 @@ all_chains points rows flags nodes = flat_map (row_chains points rows flags) nod
 -- each edge leads to a point that lies elsewhere
 abbrev pub AllLeadAway : List Point → List (List UsedEdge) → Type 0
 AllLeadAway points rows = (p : ℕ) → p < length rows → LeadAway points p (row_at rows p)
+
+-- the used edges of each of these points of the plane, which lead to others of them
+pub record AreEdgesOver (points : List Point) (rows : List (List UsedEdge)) : Type 0 where
+  pub in_plane : All IsInPlane points
+  pub row_each : length rows ≡ length points
+  pub known : AreKnown rows
+  pub lead_away : AllLeadAway points rows
 
 -- for each point of a network whether it is a node
 abbrev pub node_flags : Network → List Bool

@@ -3,7 +3,7 @@
 ghost use Rattle.std.specs.Prelude.{◌≡◌, ◌<◌, length, map, vec_len, All, IfOk, slice_index};
 ghost use Rattle.fixed_plane.specs.Plane.{IsInPlane};
 ghost use Rattle.way_network.specs.Segments.{first_of, second_of, last_of};
-ghost use Rattle.way_network.specs.Rows.{row_around, row_at, LeadAway, AllLeadAway};
+ghost use Rattle.way_network.specs.Rows.{row_around, row_at, LeadAway, AreEdgesOver};
 ghost use Rattle.way_network.specs.Numbers.{number_to, row_round, ends_by, lines_to, row_lines};
 
 use crate::around::around;
@@ -21,9 +21,7 @@ pub(crate) fn rounds_of(
     nodes: &[u32],
     segments: &Segments,
 ) -> Result<Vec<Sequence<SegId>>, NoMemory>
-    requires in_plane { All IsInPlane points.now }
-    requires row_each { length rows.now ≡ length points.now }
-    requires lead_away { AllLeadAway points.now rows.now }
+    requires edges { AreEdgesOver points.now rows.now }
     requires nodes { All (λ p. p < length rows.now) nodes.now }
     ensures { IfOk result (λ rounds. rounds.items ≡ map (row_round points.now rows.now segments.now) nodes.now) }
 {

@@ -1,9 +1,8 @@
 //! Segments: the chains between two nodes, each from its lower to its upper node.
 
 ghost use Rattle.std.specs.Prelude.{◌≡◌, ◌<◌, ◌-◌, ◌++◌, [], ◌∷◌, length, filter, vec_len, All, IfOk, slice_index};
-ghost use Rattle.fixed_plane.specs.Plane.{IsInPlane};
 ghost use Rattle.way_network.specs.Segments.{last_of};
-ghost use Rattle.way_network.specs.Rows.{walked_from, row_chains, all_chains, rises_from, AreKnown, AllLeadAway};
+ghost use Rattle.way_network.specs.Rows.{walked_from, row_chains, all_chains, rises_from, AreEdgesOver, AreKnown};
 
 use crate::around::around;
 use crate::chains::chain_from;
@@ -20,11 +19,8 @@ pub(crate) fn chains_of(
     flags: &[bool],
     nodes: &[u32],
 ) -> Result<Vec<Sequence<u32>>, NoMemory>
-    requires in_plane { All IsInPlane points.now }
-    requires row_each { length rows.now ≡ length points.now }
+    requires edges { AreEdgesOver points.now rows.now }
     requires flag_each { length flags.now ≡ length rows.now }
-    requires known { AreKnown rows.now }
-    requires lead_away { AllLeadAway points.now rows.now }
     requires nodes { All (λ p. p < length rows.now) nodes.now }
     ensures { IfOk result (λ chains. chains.items ≡ all_chains points.now rows.now flags.now nodes.now) }
 {
@@ -44,11 +40,8 @@ fn push_rising(
     node: u32,
     chains: &mut Vec<Sequence<u32>>,
 ) -> Result<(), NoMemory>
-    requires in_plane { All IsInPlane points.now }
-    requires row_each { length rows.now ≡ length points.now }
+    requires edges { AreEdgesOver points.now rows.now }
     requires flag_each { length flags.now ≡ length rows.now }
-    requires known { AreKnown rows.now }
-    requires lead_away { AllLeadAway points.now rows.now }
     requires node { node < length rows.now }
     ensures { IfOk result (λ _. chains.new.items ≡ chains.old.items ++ row_chains points.now rows.now flags.now node) }
 {

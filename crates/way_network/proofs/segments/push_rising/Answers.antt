@@ -8,4 +8,4 @@ pub around-requires-clause-lead_away : goal.around-requires-clause-lead_away
 around-requires-clause-lead_away c =
     let rows : List (List UsedEdge) = c.args.rows.now in
     let is_row : c.as_slice.result.now ≡ row_at rows c.args.node = c.as_slice.ensures ∙ get_or_read rows c.args.node c.index-rows-node.result c.requires.node c.index-rows-node.is [] in
-    subst (λ (row : List UsedEdge). LeadAway c.args.points.now c.args.node row) (sym is_row) (c.requires.lead_away c.args.node c.requires.node)
+    subst (λ (row : List UsedEdge). LeadAway c.args.points.now c.args.node row) (sym is_row) (c.requires.edges.lead_away c.args.node c.requires.node)
