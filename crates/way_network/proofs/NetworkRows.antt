@@ -1,5 +1,5 @@
 -- What is read from the kept used edges of a network is what the network has.
-use Rattle.std.proofs.Common.{◌≡◌, refl, sym, ◌∙◌, ap, subst, ℕ, zero, suc, ◌+◌, ◌-◌, ◌<◌, Bool, true, false, cond, not, ◌||◌, eqb, List, [], ◌∷◌, ◌++◌, Option, Some, None, length, get_or, map, filter, All, eq-eqb, eqb-true, arith}
+use Rattle.std.proofs.Common.{◌≡◌, refl, sym, ◌∙◌, ap, subst, ℕ, zero, suc, ◌+◌, ◌-◌, ◌<◌, Bool, true, false, cond, not, ◌&&◌, ◌||◌, eqb, List, [], ◌∷◌, ◌++◌, Option, Some, None, length, get_or, map, filter, All, eq-eqb, eqb-true, lt-ltb, arith}
 use Rattle.std.specs.List.{find, flat_map, list_any, range_with_len}
 use Rattle.std.specs.Option.{unwrap_or}
 use Rattle.std.proofs.lemmas.List.Elements.{All-nil, All-cons, All-head, All-tail, All-append, All-map, All-weaker, All-filter, filter_passes}
@@ -11,10 +11,12 @@ use Rattle.way_network.specs.declared.edges.UsedEdge.{UsedEdge}
 use Rattle.way_network.specs.Edges.{is_used}
 use Rattle.way_network.specs.Chains.{Network, used_at, has_node, onward, chain_on, chain_from}
 use Rattle.way_network.specs.Segments.{turns_before, put_in_order, around, last_of, first_of, second_of, chains_from, rising_chains, nodes_of, node_at, segment_chains, ends_of, lines_of, round_of, node_numbered}
-use Rattle.way_network.specs.Tables.{edge_to, edges_from, edge_table}
+use Rattle.way_network.specs.Tables.{edge_to, edges_from, edge_table, row_at}
+use Rattle.way_network.specs.Uses.{has_number}
+use Rattle.way_network.proofs.RisingLists.{has_filtered, has_below}
 use Rattle.way_network.specs.Premises.{HasEndsApart, IsNetwork}
-use Rattle.way_network.specs.Rows.{stands_before, point_of, row_around, row_at, flag_at, other_in, walked_on, walked_from, rises_from, row_chains, all_chains, node_flags, node_numbers, IsNeighbour, LeadAway, AllLeadAway, AreKnown, AreEdgesOver}
-use Rattle.way_network.specs.Numbers.{lines_or_none, lines_to, row_lines, row_round, ends_by, number_to}
+use Rattle.way_network.specs.Rows.{stands_before, point_of, row_around, other_in, walked_on, walked_from, rises_from, row_chains, all_chains, IsNeighbour, LeadAway, AllLeadAway, AreKnown, AreEdgesOver}
+use Rattle.way_network.specs.Numbers.{lines_or_none, lines_to, row_lines, row_round, ends_among, number_to, EndsBelow}
 use Rattle.way_network.proofs.Turning.{all_put_in}
 use Rattle.way_network.proofs.Walking.{last_of_at}
 
@@ -61,17 +63,12 @@ nodes_known g = All-filter (has_node g) (λ p. p < g.points) (range_with_len 0 g
 pub length-edge_table : (g : Network) → length (edge_table g) ≡ g.points
 length-edge_table g = length-map-range_with_len (edges_from g) 0 g.points
 
-pub length-node_flags : (g : Network) → length (node_flags g) ≡ g.points
-length-node_flags g = length-map-range_with_len (has_node g) 0 g.points
-
 row_is : (g : Network) (p : ℕ) → p < g.points → row_at (edge_table g) p ≡ edges_from g p
 row_is g p below = get_or-map-range_with_len (edges_from g) 0 g.points p p [] below (omega arith)
 
-flag_is : (g : Network) (p : ℕ) → p < g.points → flag_at (node_flags g) p ≡ has_node g p
-flag_is g p below = get_or-map-range_with_len (has_node g) 0 g.points p p false below (omega arith)
-
-number_is : (g : Network) (p : ℕ) → p < g.points → get_or (node_numbers g) p 0 ≡ node_at g p
-number_is g p below = get_or-map-range_with_len (node_at g) 0 g.points p p 0 below (omega arith)
+node_is : (g : Network) (p : ℕ) → p < g.points → has_number (nodes_of g) p ≡ has_node g p
+node_is g p below =
+    has_filtered (has_node g) p (range_with_len 0 g.points) ∙ ap (λ b. b && has_node g p) (has_below p g.points ∙ lt-ltb p g.points below)
 
 ends_of_row : (g : Network) (p : ℕ) (qs : List ℕ) → map point_of (map (edge_to g p) qs) ≡ qs
 ends_of_row g p [] = refl
@@ -126,33 +123,33 @@ onward_known g from here below =
     found_known g.points from here (used_at g here) (All-weaker (IsNext g here) (λ q. q < g.points) (λ q next. next.known) (used_at g here) (next_of g here)) below
 
 -- the chains that are walked
-walked_is : (g : Network) (n from here : ℕ) → here < g.points → walked_on (edge_table g) (node_flags g) n from here ≡ chain_on g n from here
+walked_is : (g : Network) (n from here : ℕ) → here < g.points → walked_on (edge_table g) (nodes_of g) n from here ≡ chain_on g n from here
 walked_is g zero from here below = refl
 walked_is g (suc n) from here below =
-    ap (λ b. here ∷ cond b [] (walked_on (edge_table g) (node_flags g) n here (other_in (row_at (edge_table g) here) from here))) (flag_is g here below)
-    ∙ ap (λ next. here ∷ cond (has_node g here) [] (walked_on (edge_table g) (node_flags g) n here next)) (onward_is g from here below)
+    ap (λ b. here ∷ cond b [] (walked_on (edge_table g) (nodes_of g) n here (other_in (row_at (edge_table g) here) from here))) (node_is g here below)
+    ∙ ap (λ next. here ∷ cond (has_node g here) [] (walked_on (edge_table g) (nodes_of g) n here next)) (onward_is g from here below)
     ∙ ap (λ ps. here ∷ cond (has_node g here) [] ps) (walked_is g n here (onward g from here) (onward_known g from here below))
 
-chain_is : (g : Network) (from here : ℕ) → here < g.points → walked_from (edge_table g) (node_flags g) from here ≡ chain_from g from here
+chain_is : (g : Network) (from here : ℕ) → here < g.points → walked_from (edge_table g) (nodes_of g) from here ≡ chain_from g from here
 chain_is g from here below =
-    ap (λ n. from ∷ walked_on (edge_table g) (node_flags g) n from here) (length-edge_table g) ∙ ap (λ ps. from ∷ ps) (walked_is g g.points from here below)
+    ap (λ n. from ∷ walked_on (edge_table g) (nodes_of g) n from here) (length-edge_table g) ∙ ap (λ ps. from ∷ ps) (walked_is g g.points from here below)
 
 around_is : (points : List Point) (g : Network) (p : ℕ) → p < g.points → row_around points p (row_at (edge_table g) p) ≡ around points g p
 unfolding stands_before
 around_is points g p below = ap (λ qs. put_in_order (turns_before points p) qs) (neighbours_are g p below)
 
-rising_are : (points : List Point) (g : Network) (p : ℕ) → p < g.points → row_chains points (edge_table g) (node_flags g) p ≡ rising_chains points g p
+rising_are : (points : List Point) (g : Network) (p : ℕ) → p < g.points → row_chains points (edge_table g) (nodes_of g) p ≡ rising_chains points g p
 rising_are points g p below =
-    let walked = walked_from (edge_table g) (node_flags g) p in
+    let walked = walked_from (edge_table g) (nodes_of g) p in
     ap (λ qs. filter (rises_from p) (map walked qs)) (around_is points g p below)
     ∙ ap (λ chains. filter (rises_from p) chains) (map_same walked (chain_from g p) (around points g p)
     (All-weaker (IsNext g p) (λ q. walked q ≡ chain_from g p q) (λ q next. chain_is g p q next.known) (around points g p) (around_next points g p)))
 
 -- the chains that are the segments
-pub segments_are : (points : List Point) (g : Network) → all_chains points (edge_table g) (node_flags g) (nodes_of g) ≡ segment_chains points g
+pub segments_are : (points : List Point) (g : Network) → all_chains points (edge_table g) (nodes_of g) ≡ segment_chains points g
 segments_are points g =
-    flat_map_same (row_chains points (edge_table g) (node_flags g)) (rising_chains points g) (nodes_of g)
-    (All-weaker (λ p. p < g.points) (λ p. row_chains points (edge_table g) (node_flags g) p ≡ rising_chains points g p) (rising_are points g) (nodes_of g) (nodes_known g))
+    flat_map_same (row_chains points (edge_table g) (nodes_of g)) (rising_chains points g) (nodes_of g)
+    (All-weaker (λ p. p < g.points) (λ p. row_chains points (edge_table g) (nodes_of g) p ≡ rising_chains points g p) (rising_are points g) (nodes_of g) (nodes_known g))
 
 -- the rounds
 pub rounds_are : (points : List Point) (g : Network) (chains : List (List ℕ)) →
@@ -203,15 +200,12 @@ are_chains points g =
         (All-weaker (IsNext g p) (λ q. IsChainOf g (chain_from g p q)) (λ q next. is_chain g p q below next) (around points g p) (around_next points g p)))
 
 -- the nodes at the ends of the segments
-pub ends_are : (points : List Point) (g : Network) → map (ends_by (node_numbers g)) (segment_chains points g) ≡ map (ends_of g) (segment_chains points g)
-ends_are points g =
-    map_same (ends_by (node_numbers g)) (ends_of g) (segment_chains points g)
-    (All-weaker (IsChainOf g) (λ chain. ends_by (node_numbers g) chain ≡ ends_of g chain) one (segment_chains points g) (are_chains points g))
-  where
-    one : (chain : List ℕ) → IsChainOf g chain → ends_by (node_numbers g) chain ≡ ends_of g chain
-    one chain is =
-        ap (λ (n : ℕ). (node_numbered n, node_numbered (get_or (node_numbers g) (last_of chain) 0))) (number_is g (first_of chain) is.first)
-        ∙ ap (λ (n : ℕ). (node_numbered (node_at g (first_of chain)), node_numbered n)) (number_is g (last_of chain) is.last)
+pub ends_are : (points : List Point) (g : Network) → map (ends_among (nodes_of g)) (segment_chains points g) ≡ map (ends_of g) (segment_chains points g)
+ends_are points g = refl
+
+pub ends_below : (points : List Point) (g : Network) → All (EndsBelow g.points) (segment_chains points g)
+ends_below points g =
+    All-weaker (IsChainOf g) (EndsBelow g.points) (λ chain is. record { first = is.first; last = is.last }) (segment_chains points g) (are_chains points g)
 
 -- the lines of an edge are found in the row of its point
 find_edge : (g : Network) (p q : ℕ) (qs : List ℕ) → list_any (λ x. eqb x q) qs ≡ true → find (λ (edge : UsedEdge). eqb edge.to q) (map (edge_to g p) qs) ≡ Some (edge_to g p q)

@@ -10,7 +10,9 @@ use Rattle.map_base.specs.declared.ids.SegId.{SegId}
 use Rattle.map_base.specs.declared.ids.LineId.{LineId}
 use Rattle.way_network.specs.declared.edges.UsedEdge.{UsedEdge}
 use Rattle.way_network.specs.Segments.{first_of, second_of, last_of, reversed, leaves, segment_at, segment_numbered, node_numbered}
-use Rattle.way_network.specs.Rows.{row_at, row_around}
+use Rattle.way_network.specs.Tables.{row_at}
+use Rattle.way_network.specs.Nodes.{place_in}
+use Rattle.way_network.specs.Rows.{row_around}
 
 -- edges are one where they lead from one point to one point
 abbrev pub is_edge : ℕ × ℕ → ℕ × ℕ → Bool
@@ -48,9 +50,14 @@ number_to chains p q = segment_numbered (segment_at chains p q)
 abbrev pub row_round : List Point → List (List UsedEdge) → List (List ℕ) → ℕ → List SegId
 row_round points rows chains p = map (number_to chains p) (row_around points p (row_at rows p))
 
--- the nodes at the ends of a chain, by the numbers of the nodes at the points
-abbrev pub ends_by : List ℕ → List ℕ → NodeId × NodeId
-ends_by numbers chain = (node_numbered (slice_index numbers (first_of chain)), node_numbered (slice_index numbers (last_of chain)))
+-- the nodes at the ends of a chain
+abbrev pub ends_among : List ℕ → List ℕ → NodeId × NodeId
+ends_among nodes chain = (node_numbered (place_in nodes (first_of chain)), node_numbered (place_in nodes (last_of chain)))
+
+-- a chain begins and ends at points below a number
+pub record EndsBelow (n : ℕ) (chain : List ℕ) : Type 0 where
+  pub first : first_of chain < n
+  pub last : last_of chain < n
 
 -- the lines of an edge, and none where it is none
 abbrev pub lines_or_none : Option UsedEdge → List LineId

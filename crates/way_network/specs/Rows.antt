@@ -1,12 +1,13 @@
--- Chains and rounds, read from the used edges of each point and from which points are nodes.
+-- Chains and rounds, told from the used edges of each point and from which points are nodes.
 use Rattle.std.specs.Prelude.{◌≡◌, ◌≢◌, ℕ, zero, suc, ◌<◌, ◌≤◌, Bool, true, false, ◌==◌, not, nat_lt, List, [], ◌∷◌, map, filter, find, length, unwrap_or, slice_index, slice_index_or, All, if◌then◌else◌}
-use Rattle.std.specs.List.{flat_map, range_with_len}
+use Rattle.std.specs.List.{flat_map}
 use Rattle.map_base.specs.declared.point.Point.{Point}
 use Rattle.fixed_plane.specs.Plane.{IsInPlane}
 use Rattle.track_net.specs.Nearness.{point_at}
 use Rattle.way_network.specs.declared.edges.UsedEdge.{UsedEdge}
-use Rattle.way_network.specs.Chains.{Network, has_node}
-use Rattle.way_network.specs.Segments.{turns_before, put_in_order, last_of, node_at}
+use Rattle.way_network.specs.Segments.{turns_before, put_in_order, last_of}
+use Rattle.way_network.specs.Tables.{row_at}
+use Rattle.way_network.specs.Uses.{has_number}
 
 -- from a point the one lies before the other, clockwise from north, as one word
 unfoldable pub stands_before : List Point → ℕ → ℕ → ℕ → Bool
@@ -29,14 +30,6 @@ point_of edge = edge.to
 abbrev pub row_around : List Point → ℕ → List UsedEdge → List ℕ
 row_around points p row = put_in_order (stands_before points p) (map point_of row)
 
--- the used edges of a point
-abbrev pub row_at : List (List UsedEdge) → ℕ → List UsedEdge
-row_at rows p = slice_index_or rows p []
-
--- whether a point is a node
-abbrev pub flag_at : List Bool → ℕ → Bool
-flag_at flags p = slice_index_or flags p false
-
 -- the edges of a table lead to points of it
 abbrev pub AreKnown : List (List UsedEdge) → Type 0
 AreKnown rows = All (λ (row : List UsedEdge). All (λ (edge : UsedEdge). edge.to < length rows) row) rows
@@ -46,25 +39,25 @@ abbrev pub other_in : List UsedEdge → ℕ → ℕ → ℕ
 other_in row from here = unwrap_or (find (λ p. not (p == from)) (map point_of row)) here
 
 -- the points of a chain from one point over its edge to another, up to the next node, and no more than that many
-abbrev pub walked_on : List (List UsedEdge) → List Bool → ℕ → ℕ → ℕ → List ℕ
-walked_on rows flags zero from here = here ∷ []
-walked_on rows flags (suc more) from here = here ∷ (if flag_at flags here then [] else walked_on rows flags more here (other_in (row_at rows here) from here))
+abbrev pub walked_on : List (List UsedEdge) → List ℕ → ℕ → ℕ → ℕ → List ℕ
+walked_on rows nodes zero from here = here ∷ []
+walked_on rows nodes (suc more) from here = here ∷ (if has_number nodes here then [] else walked_on rows nodes more here (other_in (row_at rows here) from here))
 
 -- the chain that begins with these two points, up to the next node
-abbrev pub walked_from : List (List UsedEdge) → List Bool → ℕ → ℕ → List ℕ
-walked_from rows flags from to = from ∷ walked_on rows flags (length rows) from to
+abbrev pub walked_from : List (List UsedEdge) → List ℕ → ℕ → ℕ → List ℕ
+walked_from rows nodes from to = from ∷ walked_on rows nodes (length rows) from to
 
 -- a chain ends at a higher point than this
 abbrev pub rises_from : ℕ → List ℕ → Bool
 rises_from p chain = nat_lt p (last_of chain)
 
 -- the chains that begin at a point and end at a higher one, clockwise from north
-abbrev pub row_chains : List Point → List (List UsedEdge) → List Bool → ℕ → List (List ℕ)
-row_chains points rows flags p = filter (rises_from p) (map (walked_from rows flags p) (row_around points p (row_at rows p)))
+abbrev pub row_chains : List Point → List (List UsedEdge) → List ℕ → ℕ → List (List ℕ)
+row_chains points rows nodes p = filter (rises_from p) (map (walked_from rows nodes p) (row_around points p (row_at rows p)))
 
 -- those of all nodes, in order
-abbrev pub all_chains : List Point → List (List UsedEdge) → List Bool → List ℕ → List (List ℕ)
-all_chains points rows flags nodes = flat_map (row_chains points rows flags) nodes
+abbrev pub all_chains : List Point → List (List UsedEdge) → List ℕ → List (List ℕ)
+all_chains points rows nodes = flat_map (row_chains points rows nodes) nodes
 
 -- each edge leads to a point that lies elsewhere
 abbrev pub AllLeadAway : List Point → List (List UsedEdge) → Type 0
@@ -76,14 +69,6 @@ pub record AreEdgesOver (points : List Point) (rows : List (List UsedEdge)) : Ty
   pub row_each : length rows ≡ length points
   pub known : AreKnown rows
   pub lead_away : AllLeadAway points rows
-
--- for each point of a network whether it is a node
-abbrev pub node_flags : Network → List Bool
-node_flags g = map (has_node g) (range_with_len 0 g.points)
-
--- for each point of a network the number of its node, and 0 where it is none
-abbrev pub node_numbers : Network → List ℕ
-node_numbers g = map (node_at g) (range_with_len 0 g.points)
 
 -- of these numbers none stands before an earlier one
 abbrev pub IsInTurn : (ℕ → ℕ → Bool) → List ℕ → Type 0

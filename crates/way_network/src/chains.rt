@@ -3,35 +3,36 @@
 ghost use Rattle.std.specs.Prelude.{◌≡◌, ◌<◌, length, vec_len, All, IfOk};
 ghost use Rattle.way_network.specs.Rows.{other_in, walked_from, AreKnown};
 
+use crate::edge_table::EdgeTable;
 use crate::edges::UsedEdge;
-use map_base::{NoMemory, Sequence};
+use crate::nodes::Nodes;
+use map_base::NoMemory;
 use std::alloc::Global;
 
-/// The points of the chain from one point over its edge to another, up to the next node. `flags` says of each point
-/// whether it is a node.
+/// The points of the chain from one point over its edge to another, up to the next node.
 #[tactic(auto, using(crate::proofs::Walking::walk_more, crate::proofs::Walking::walk_all))]
 pub(crate) fn chain_from(
     alloc: Global,
-    rows: &[Sequence<UsedEdge>],
-    flags: &[bool],
+    table: &EdgeTable,
+    nodes: &Nodes,
     from: u32,
     to: u32,
 ) -> Result<Vec<u32>, NoMemory>
-    requires flag_each { length flags.now ≡ length rows.now }
-    requires known { AreKnown rows.now }
-    requires to { to < length rows.now }
-    ensures { IfOk result (λ chain. chain.items ≡ walked_from rows.now flags.now from to) }
+    requires points { nodes.now.points ≡ length table.now }
+    requires known { AreKnown table.now }
+    requires to { to < length table.now }
+    ensures { IfOk result (λ chain. chain.items ≡ walked_from table.now nodes.now.nodes from to) }
 {
     let mut chain = Vec::new(alloc);
     chain.push(from)?;
     let mut last = from;
     let mut here = to;
-    for _ in 0..rows.len() {
+    for _ in 0..table.len() {
         chain.push(here)?;
-        if flags[here as usize] {
+        if nodes.is_node(here) {
             return Ok(chain);
         }
-        let next = other_end(rows[here as usize].as_slice(), last, here);
+        let next = other_end(table.row(here), last, here);
         last = here;
         here = next;
     }

@@ -3,13 +3,15 @@
 ghost use Rattle.std.specs.Prelude.{◌≡◌, ◌<◌, length, map, vec_len, All, IfOk, slice_index};
 ghost use Rattle.fixed_plane.specs.Plane.{IsInPlane};
 ghost use Rattle.way_network.specs.Segments.{first_of, second_of, last_of};
-ghost use Rattle.way_network.specs.Rows.{row_around, row_at, LeadAway, AreEdgesOver};
-ghost use Rattle.way_network.specs.Numbers.{number_to, row_round, ends_by, lines_to, row_lines};
+ghost use Rattle.way_network.specs.Rows.{row_around, LeadAway, AreEdgesOver};
+ghost use Rattle.way_network.specs.Numbers.{number_to, row_round, ends_among, row_lines, EndsBelow};
 
 use crate::around::around;
+use crate::edge_table::EdgeTable;
 use crate::edges::UsedEdge;
+use crate::nodes::Nodes;
 use crate::numbers::Segments;
-use crate::segments::{last_of, point_of};
+use crate::segments::last_of;
 use map_base::{LineId, NoMemory, NodeId, Point, SegId, Sequence};
 use std::alloc::Global;
 
@@ -17,18 +19,17 @@ use std::alloc::Global;
 pub(crate) fn rounds_of(
     alloc: Global,
     points: &[Point],
-    rows: &[Sequence<UsedEdge>],
-    nodes: &[u32],
+    table: &EdgeTable,
+    nodes: &Nodes,
     segments: &Segments,
 ) -> Result<Vec<Sequence<SegId>>, NoMemory>
-    requires edges { AreEdgesOver points.now rows.now }
-    requires nodes { All (λ p. p < length rows.now) nodes.now }
-    ensures { IfOk result (λ rounds. rounds.items ≡ map (row_round points.now rows.now segments.now) nodes.now) }
+    requires edges { AreEdgesOver points.now table.now }
+    requires nodes { All (λ p. p < length table.now) nodes.now.nodes }
+    ensures { IfOk result (λ rounds. rounds.items ≡ map (row_round points.now table.now segments.now) nodes.now.nodes) }
 {
     let mut rounds = Vec::new(alloc);
-    for node in nodes {
-        let row = rows[*node as usize].as_slice();
-        rounds.push(round_of(alloc, points, *node, row, segments)?)?;
+    for node in nodes.points() {
+        rounds.push(round_of(alloc, points, *node, table.row(*node), segments)?)?;
     }
     Ok(rounds)
 }
@@ -54,27 +55,29 @@ fn round_of(
     Ok(Sequence::of(round))
 }
 
-/// The lower and the upper node of each chain. `numbers` has for each point the number of its node.
+/// The lower and the upper node of each chain.
 pub(crate) fn ends_of(
     alloc: Global,
     chains: &[Sequence<u32>],
-    numbers: &[u32],
+    nodes: &Nodes,
 ) -> Result<Vec<(NodeId, NodeId)>, NoMemory>
-    ensures { IfOk result (λ ends. ends.items ≡ map (ends_by numbers.now) chains.now) }
+    requires { All (EndsBelow nodes.now.points) chains.now }
+    ensures { IfOk result (λ ends. ends.items ≡ map (ends_among nodes.now.nodes) chains.now) }
 {
     let mut ends = Vec::new(alloc);
     for chain in chains {
-        ends.push(ends_of_chain(chain.as_slice(), numbers))?;
+        ends.push(ends_of_chain(chain.as_slice(), nodes))?;
     }
     Ok(ends)
 }
 
 /// The lower and the upper node of a chain.
-fn ends_of_chain(chain: &[u32], numbers: &[u32]) -> (NodeId, NodeId)
-    ensures { result ≡ ends_by numbers.now chain.now }
+fn ends_of_chain(chain: &[u32], nodes: &Nodes) -> (NodeId, NodeId)
+    requires { EndsBelow nodes.now.points chain.now }
+    ensures { result ≡ ends_among nodes.now.nodes chain.now }
 {
-    let lower = point_of(numbers, first_of(chain) as usize);
-    let upper = point_of(numbers, last_of(chain) as usize);
+    let lower = nodes.node_at(first_of(chain));
+    let upper = nodes.node_at(last_of(chain));
     (NodeId(lower), NodeId(upper))
 }
 
@@ -102,14 +105,15 @@ fn second_of(chain: &[u32]) -> u32
 /// The lines of each chain: those of its first edge.
 pub(crate) fn lines_of(
     alloc: Global,
-    rows: &[Sequence<UsedEdge>],
+    table: &EdgeTable,
     chains: &[Sequence<u32>],
 ) -> Result<Vec<Sequence<LineId>>, NoMemory>
-    ensures { IfOk result (λ lines. lines.items ≡ map (row_lines rows.now) chains.now) }
+    requires { All (EndsBelow (length table.now)) chains.now }
+    ensures { IfOk result (λ lines. lines.items ≡ map (row_lines table.now) chains.now) }
 {
     let mut lines = Vec::new(alloc);
     for chain in chains {
-        lines.push(lines_of_chain(alloc, rows, chain.as_slice())?)?;
+        lines.push(lines_of_chain(alloc, table, chain.as_slice())?)?;
     }
     Ok(lines)
 }
@@ -117,28 +121,16 @@ pub(crate) fn lines_of(
 /// The lines of a chain.
 fn lines_of_chain(
     alloc: Global,
-    rows: &[Sequence<UsedEdge>],
+    table: &EdgeTable,
     chain: &[u32],
 ) -> Result<Sequence<LineId>, NoMemory>
-    ensures { IfOk result (λ lines. lines ≡ row_lines rows.now chain.now) }
+    requires { first_of chain.now < length table.now }
+    ensures { IfOk result (λ lines. lines ≡ row_lines table.now chain.now) }
 {
-    match rows.get(first_of(chain) as usize) {
+    match table.edge_to(first_of(chain), second_of(chain)) {
         None => Ok(Sequence::of(Vec::new(alloc))),
-        Some(row) => lines_of_edge(alloc, row.as_slice(), second_of(chain)),
+        Some(edge) => copied(alloc, edge.lines.as_slice()),
     }
-}
-
-/// The lines of the edge to a point, and none where there is no such edge.
-#[tactic(auto, using(std::proofs::lemmas::List::at_drop_more))]
-fn lines_of_edge(alloc: Global, row: &[UsedEdge], to: u32) -> Result<Sequence<LineId>, NoMemory>
-    ensures { IfOk result (λ lines. lines ≡ lines_to row.now to) }
-{
-    for edge in row {
-        if edge.to == to {
-            return copied(alloc, edge.lines.as_slice());
-        }
-    }
-    Ok(Sequence::of(Vec::new(alloc)))
 }
 
 /// A copy of lines.

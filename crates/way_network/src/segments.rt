@@ -6,27 +6,26 @@ ghost use Rattle.way_network.specs.Rows.{walked_from, row_chains, all_chains, ri
 
 use crate::around::around;
 use crate::chains::chain_from;
-use crate::edges::UsedEdge;
+use crate::edge_table::EdgeTable;
+use crate::nodes::Nodes;
 use map_base::{NoMemory, Point, Sequence};
 use std::alloc::Global;
 
-/// The chains that rise, node by node, those of one node clockwise from north. `flags` says of each point whether it
-/// is a node, and `nodes` are the nodes.
+/// The chains that rise, node by node, those of one node clockwise from north.
 pub(crate) fn chains_of(
     alloc: Global,
     points: &[Point],
-    rows: &[Sequence<UsedEdge>],
-    flags: &[bool],
-    nodes: &[u32],
+    table: &EdgeTable,
+    nodes: &Nodes,
 ) -> Result<Vec<Sequence<u32>>, NoMemory>
-    requires edges { AreEdgesOver points.now rows.now }
-    requires flag_each { length flags.now ≡ length rows.now }
-    requires nodes { All (λ p. p < length rows.now) nodes.now }
-    ensures { IfOk result (λ chains. chains.items ≡ all_chains points.now rows.now flags.now nodes.now) }
+    requires edges { AreEdgesOver points.now table.now }
+    requires points { nodes.now.points ≡ length table.now }
+    requires nodes { All (λ p. p < length table.now) nodes.now.nodes }
+    ensures { IfOk result (λ chains. chains.items ≡ all_chains points.now table.now nodes.now.nodes) }
 {
     let mut chains = Vec::new(alloc);
-    for node in nodes {
-        push_rising(alloc, points, rows, flags, *node, &mut chains)?;
+    for node in nodes.points() {
+        push_rising(alloc, points, table, nodes, *node, &mut chains)?;
     }
     Ok(chains)
 }
@@ -35,19 +34,19 @@ pub(crate) fn chains_of(
 fn push_rising(
     alloc: Global,
     points: &[Point],
-    rows: &[Sequence<UsedEdge>],
-    flags: &[bool],
+    table: &EdgeTable,
+    nodes: &Nodes,
     node: u32,
     chains: &mut Vec<Sequence<u32>>,
 ) -> Result<(), NoMemory>
-    requires edges { AreEdgesOver points.now rows.now }
-    requires flag_each { length flags.now ≡ length rows.now }
-    requires node { node < length rows.now }
-    ensures { IfOk result (λ _. chains.new.items ≡ chains.old.items ++ row_chains points.now rows.now flags.now node) }
+    requires edges { AreEdgesOver points.now table.now }
+    requires points { nodes.now.points ≡ length table.now }
+    requires node { node < length table.now }
+    ensures { IfOk result (λ _. chains.new.items ≡ chains.old.items ++ row_chains points.now table.now nodes.now.nodes node) }
 {
-    let order = around(alloc, points, node, rows[node as usize].as_slice())?;
+    let order = around(alloc, points, node, table.row(node))?;
     for next in order.as_slice() {
-        push_where_rising(alloc, rows, flags, node, *next, chains)?;
+        push_where_rising(alloc, table, nodes, node, *next, chains)?;
     }
     Ok(())
 }
@@ -55,18 +54,18 @@ fn push_rising(
 /// Adds the chain from a node over an edge if it ends at a higher node.
 fn push_where_rising(
     alloc: Global,
-    rows: &[Sequence<UsedEdge>],
-    flags: &[bool],
+    table: &EdgeTable,
+    nodes: &Nodes,
     node: u32,
     next: u32,
     chains: &mut Vec<Sequence<u32>>,
 ) -> Result<(), NoMemory>
-    requires flag_each { length flags.now ≡ length rows.now }
-    requires known { AreKnown rows.now }
-    requires next { next < length rows.now }
-    ensures { IfOk result (λ _. chains.new.items ≡ chains.old.items ++ filter (rises_from node) (walked_from rows.now flags.now node next ∷ [])) }
+    requires points { nodes.now.points ≡ length table.now }
+    requires known { AreKnown table.now }
+    requires next { next < length table.now }
+    ensures { IfOk result (λ _. chains.new.items ≡ chains.old.items ++ filter (rises_from node) (walked_from table.now nodes.now.nodes node next ∷ [])) }
 {
-    let chain = chain_from(alloc, rows, flags, node, next)?;
+    let chain = chain_from(alloc, table, nodes, node, next)?;
     if node < last_of(chain.as_slice()) {
         chains.push(Sequence::of(chain))?;
     }
@@ -81,7 +80,7 @@ pub(crate) fn last_of(chain: &[u32]) -> u32
 }
 
 /// The point at a place of a chain, or 0 past its end.
-pub(crate) fn point_of(chain: &[u32], place: usize) -> u32
+fn point_of(chain: &[u32], place: usize) -> u32
     ensures { result ≡ slice_index chain.now place }
 {
     match chain.get(place) {

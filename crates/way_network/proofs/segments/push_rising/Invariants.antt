@@ -5,4 +5,4 @@ use Rattle.way_network.proofs.segments.push_rising.Given as goal
 -- the rising chains over the earlier edges are added
 abbrev pub invariant-loop-next : goal.invariant-loop-next
 invariant-loop-next l =
-    l.chains.items ≡ l.initial.chains.items ++ filter (rises_from l.node) (map (walked_from l.rows l.flags l.node) (take l.next-index l.next-items))
+    l.chains.items ≡ l.initial.chains.items ++ filter (rises_from l.node) (map (walked_from l.table l.nodes.nodes l.node) (take l.next-index l.next-items))
