@@ -1,1 +1,12 @@
 mod GraphExamples
+pub mod RisingLists
+mod UseLemmas
+mod UseOrder
+mod RowSearch
+pub mod TableLemmas
+pub mod NodeLemmas
+pub mod Turning
+pub mod Searching
+pub mod Walking
+pub mod Numbering
+pub mod NetworkRows

@@ -4,4 +4,8 @@ pub mod Segments
 pub mod Joins
 pub mod Graphs
 pub mod Tables
+pub mod Uses
+pub mod Nodes
 pub mod Premises
+pub mod Rows
+pub mod Numbers

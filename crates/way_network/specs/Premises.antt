@@ -25,6 +25,10 @@ abbrev pub HasOwnDirections : List Point → Network → Type 0
 HasOwnDirections points g =
     (a b c : ℕ) → is_used g.ways a b ≡ true → is_used g.ways a c ≡ true → b ≢ c → LieInOneDirection (point_at points a) (point_at points b) (point_at points c) → ⊥
 
+-- the ends of each used edge lie apart
+abbrev pub HasEndsApart : List Point → Network → Type 0
+HasEndsApart points g = (a b : ℕ) → is_used g.ways a b ≡ true → point_at points b ≢ point_at points a
+
 -- the network lies over these points of the plane, of which the first are the stations
 pub record IsNetwork (points : List Point) (g : Network) : Type 0 where
   pub count : g.points ≡ length points
@@ -34,3 +38,4 @@ pub record IsNetwork (points : List Point) (g : Network) : Type 0 where
   pub in_plane : All IsInPlane points
   pub ways : All (IsWay g) g.ways
   pub directions : HasOwnDirections points g
+  pub apart : HasEndsApart points g

@@ -1,6 +1,6 @@
 -- The used edges of a network, as they are kept: for each point its neighbours, and the lines of each edge.
-use Rattle.std.specs.Prelude.{ℕ, List, map}
-use Rattle.std.specs.List.{range_with_len}
+use Rattle.std.specs.Prelude.{ℕ, List, [], map}
+use Rattle.std.specs.List.{range_with_len, slice_index_or}
 use Rattle.way_network.specs.declared.edges.UsedEdge.{UsedEdge}
 use Rattle.way_network.specs.Edges.{lines_over}
 use Rattle.way_network.specs.Chains.{Network, used_at}
@@ -17,3 +17,7 @@ edges_from g p = map (edge_to g p) (used_at g p)
 -- the used edges of each point
 abbrev pub edge_table : Network → List (List UsedEdge)
 edge_table g = map (edges_from g) (range_with_len 0 g.points)
+
+-- the row of a point
+abbrev pub row_at : List (List UsedEdge) → ℕ → List UsedEdge
+row_at table p = slice_index_or table p []

@@ -2,8 +2,23 @@
 //! them, the round of each node, and where lines go on from one chain to another.
 #![tactic(auto)]
 
+mod around;
+mod chains;
+mod edge_table;
+mod edge_use;
 mod edges;
+mod nodes;
+mod numbers;
+mod ranks;
+mod rounds;
+mod segments;
 mod way;
 
+pub use edge_table::EdgeTable;
 pub use edges::UsedEdge;
+pub use nodes::Nodes;
+pub use numbers::Segments;
 pub use way::{Passage, Way};
+
+#[cfg(test)]
+mod tests;
