@@ -114,8 +114,8 @@ found_known : (n from here : ℕ) (qs : List ℕ) → All (λ q. q < n) qs → h
 found_known n from here [] known stays = stays
 found_known n from here (q ∷ qs) known stays =
     elim (not (eqb q from)) as (λ t. unwrap_or (cond t (Some q) (find (λ p. not (eqb p from)) qs)) here < n) [
-      true ↦ All-head (λ p. p < n) q qs known
-    | false ↦ found_known n from here qs (All-tail (λ p. p < n) q qs known) stays
+      | true ↦ All-head (λ p. p < n) q qs known
+      | false ↦ found_known n from here qs (All-tail (λ p. p < n) q qs known) stays
     ]
 
 onward_known : (g : Network) (from here : ℕ) → here < g.points → onward g from here < g.points
@@ -170,8 +170,8 @@ points_known g zero from here below = All-cons (λ p. p < g.points) here [] belo
 points_known g (suc n) from here below =
     All-cons (λ p. p < g.points) here (cond (has_node g here) [] (chain_on g n here (onward g from here))) below
     (elim (has_node g here) as (λ t. All (λ p. p < g.points) (cond t [] (chain_on g n here (onward g from here)))) [
-      true ↦ All-nil (λ p. p < g.points)
-    | false ↦ points_known g n here (onward g from here) (onward_known g from here below)
+      | true ↦ All-nil (λ p. p < g.points)
+      | false ↦ points_known g n here (onward g from here) (onward_known g from here below)
     ])
 
 second_is : (g : Network) (n from here : ℕ) → here ≡ second_of (from ∷ chain_on g n from here)

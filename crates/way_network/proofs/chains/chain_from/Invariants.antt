@@ -6,5 +6,5 @@ use Rattle.way_network.proofs.chains.chain_from.Given as goal
 abbrev pub invariant-loop : goal.invariant-loop
 invariant-loop l = record {
   whole : l.chain.items ++ walked_on l.table l.nodes.nodes (length l.table - l.counter) l.last l.here ≡ walked_from l.table l.nodes.nodes l.from l.to;
-  here : l.here < length l.table
+  here : l.here < length l.table;
 }
