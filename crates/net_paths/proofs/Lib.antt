@@ -7,3 +7,4 @@ mod Rising
 mod Walked
 mod Examples
 mod Choosing
+pub mod Visiting

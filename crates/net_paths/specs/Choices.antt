@@ -1,11 +1,12 @@
 -- The stretch path as a function: the least of all ways that are no longer than there are points.
-use Rattle.std.specs.Prelude.{ℕ, zero, suc, ◌+◌, Bool, nat_lt, ◌==◌, ◌||◌, ◌&&◌, if◌then◌else◌, List, [], ◌∷◌, ◌++◌, length, map}
-use Rattle.std.specs.List.{flat_map}
+use Rattle.std.specs.Prelude.{ℕ, nat_eq, zero, suc, ◌+◌, Bool, nat_lt, ◌==◌, ◌||◌, ◌&&◌, if◌then◌else◌, List, [], ◌∷◌, ◌++◌, length, map}
+use Rattle.std.specs.List.{flat_map, IsDistinct}
 use Rattle.map_base.specs.declared.point.Point.{Point}
 use Rattle.least_path.specs.Least.{least_by, is_not_after}
 use Rattle.track_net.specs.Nearness.{point_at}
-use Rattle.track_net.specs.Nets.{NetParts, edges_of_point}
+use Rattle.track_net.specs.Nets.{NetParts, IsNet, edges_of_point}
 use Rattle.net_paths.specs.Corridors.{edge_cost}
+use Rattle.net_paths.specs.Stretches.{IsStretchPath}
 
 -- no step, where the way has arrived
 abbrev pub arrived : ℕ → ℕ → List (List ℕ)
@@ -30,3 +31,7 @@ is_no_worse near corridor net a ls ms =
 -- the stretch path: the best of all ways from the one point to the other
 abbrev pub stretch_path_of : ℕ → List Point → NetParts → ℕ → ℕ → List ℕ
 stretch_path_of near corridor net from to = from ∷ least_by (is_no_worse near corridor net from) [] (ways net (length net.points) from to)
+
+-- a stretch path over a net visits no point twice
+abbrev pub VisitsOnce : ℕ → List Point → NetParts → ℕ → ℕ → List ℕ → Type 0
+VisitsOnce near corridor net from to numbers = IsNet net → IsStretchPath near corridor net from to numbers → IsDistinct nat_eq numbers

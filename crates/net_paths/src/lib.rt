@@ -4,9 +4,11 @@
 mod corridor;
 mod costs;
 mod known;
+mod once;
 mod queue;
 mod search;
 mod stretch;
 mod walk;
 
+pub use once::stretch_path_visits_once;
 pub use stretch::stretch_path;
