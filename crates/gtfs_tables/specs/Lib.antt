@@ -10,3 +10,5 @@ pub mod StopTimes
 pub mod Patterns
 pub mod PatternKeys
 pub mod Feed
+pub mod Good
+pub mod Steps

@@ -14,26 +14,33 @@ mod leads;
 mod parents;
 mod pattern_set;
 mod patterns;
+mod whole_feed;
 mod route_columns;
 mod route_row;
 mod routes;
 mod routes_check;
 mod shape_columns;
+mod shapes;
 mod slices;
 mod small;
 mod stop_columns;
 mod stop_row;
 mod stop_time_columns;
+mod stop_times;
 mod stops;
 mod stops_check;
+mod table_file;
 mod trip_columns;
 mod trip_row;
 mod trips;
 mod trips_check;
 
+pub use whole_feed::read_tables;
 pub use stops::read_stations;
 pub use table_rows::{FeedFault, Table, Why};
 pub use transit_feed::{Line, Pattern, Shape, Station, Tables};
 
+#[cfg(test)]
+mod feed_tests;
 #[cfg(test)]
 mod tests;
