@@ -10,12 +10,13 @@ use Rattle.table_rows.specs.declared.why.Why.{Why}
 use Rattle.table_rows.specs.Ids.{place_among}
 use Rattle.table_rows.specs.Cells.{Row, field_in, ids_in}
 use Rattle.table_rows.specs.Reasons.{first_bad, unless_bad}
-use Rattle.table_rows.proofs.DistinctIds.{distinct_ids, place_among-below}
+use Rattle.table_rows.proofs.DistinctIds.{distinct_ids, place_among-below, place_of_distinct}
 use Rattle.gtfs_tables.specs.declared.route_columns.RouteColumns.{RouteColumns}
 use Rattle.gtfs_tables.specs.declared.known.KnownRoutes.{KnownRoutes}
 use Rattle.gtfs_tables.specs.declared.known.KnownTrips.{KnownTrips}
 use Rattle.gtfs_tables.specs.declared.known.FeedRoutes.{FeedRoutes}
 use Rattle.gtfs_tables.specs.Good.{IsBelow, AreGoodRoutes, AreGoodTrips}
+use Rattle.gtfs_tables.specs.StopTimeReads.{AreNumbered}
 use Rattle.gtfs_tables.specs.Routes.{route_columns, routes_reason, is_selected, selected_rows, lines_from, lines_of, known_routes, feed_routes}
 use Rattle.gtfs_tables.specs.Trips.{trip_columns, trips_reason, line_in, shape_in, known_trips, trips_of}
 use Rattle.gtfs_tables.proofs.RouteLemmas.{routes_new, length-lines_from}
@@ -103,3 +104,11 @@ count_lines routes good = ap length good.line_ids ∙ length-map routes.lines (�
 
 pub few_lines : (routes : FeedRoutes) → AreGoodRoutes routes → length routes.known.line_ids ≤ 2 ^ 32
 few_lines routes good = omega (arith, count_lines routes good, good.few)
+
+-- trips of a feed are numbered by their ids
+pub numbered : (count : ℕ) (trips : KnownTrips) → AreGoodTrips count trips → AreNumbered trips
+numbered count trips good = record {
+  lines = good.as_many_lines;
+  few = omega (arith, good.few);
+  apart = record { once = λ place within. place_of_distinct trips.ids place good.distinct within };
+}

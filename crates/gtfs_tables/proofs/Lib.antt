@@ -14,3 +14,7 @@ pub mod GoodPatterns
 pub mod StepLemmas
 pub mod FewRows
 pub mod StepCases
+pub mod ReadLemmas
+pub mod PlaceLemmas
+pub mod StopTimeLemmas
+pub mod StationLemmas

@@ -5,8 +5,11 @@ pub mod Leads
 pub mod Routes
 pub mod Trips
 pub mod Rising
+pub mod Reads
 pub mod Shapes
 pub mod StopTimes
+pub mod StopTimeReads
+pub mod StationsOfTrips
 pub mod Patterns
 pub mod PatternKeys
 pub mod Feed

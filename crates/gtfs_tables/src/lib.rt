@@ -9,12 +9,12 @@
 
 mod degrees;
 mod feed_stops;
+mod first_refused;
 mod known;
 mod leads;
 mod parents;
 mod pattern_set;
 mod patterns;
-mod whole_feed;
 mod route_columns;
 mod route_row;
 mod routes;
@@ -26,7 +26,10 @@ mod small;
 mod stop_columns;
 mod stop_row;
 mod stop_time_columns;
+mod stop_time_reads;
+mod stop_time_row;
 mod stop_times;
+mod stop_times_read;
 mod stops;
 mod stops_check;
 mod table_file;
@@ -34,6 +37,7 @@ mod trip_columns;
 mod trip_row;
 mod trips;
 mod trips_check;
+mod whole_feed;
 
 pub use whole_feed::read_tables;
 pub use stops::read_stations;

@@ -9,6 +9,7 @@ use Rattle.gtfs_tables.specs.Steps.{FailsAt, feed_after_shapes, before_stop_time
 use Rattle.gtfs_tables.specs.Good.{AreServed}
 use Rattle.gtfs_tables.specs.StopTimes.{stop_times_of}
 use Rattle.gtfs_tables.proofs.StepLemmas.{step_unread, step_refused, step_went_on, of_any_folder, answers_never}
+use Rattle.gtfs_tables.proofs.GoodRoutes.{numbered}
 use Rattle.gtfs_tables.proofs.GoodStations.{good_stations}
 use Rattle.gtfs_tables.proofs.whole_feed.after_shapes.Goals as goal
 
@@ -34,6 +35,9 @@ returns-in_err-stations-clause-read g c =
     (err_from_is_err_and c.from_residual-in_err-stations.result c.from_residual-in_err-stations.ensures.1)
     c.in_ok-rows.rows
     c.in_ok-rows.ensures.read c.in_err-stations.ensures
+
+pub stop_times_in-requires-clause-numbered : goal.stop_times_in-requires-clause-numbered
+stop_times_in-requires-clause-numbered g c = numbered (length c.args.routes.lines) c.args.trips.now c.requires.trips
 
 pub tables_of-requires-clause-served : goal.tables_of-requires-clause-served
 tables_of-requires-clause-served g c =
