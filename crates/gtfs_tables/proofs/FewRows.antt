@@ -1,5 +1,6 @@
 -- How many rows a table has.
-use Rattle.std.proofs.Common.{◌≡◌, ◌≤◌, ◌^◌, ℕ, ◌+◌, Bool, true, false, List, Option, Some, None, Result, Ok, Err, IfOk, length, nat_le, if◌then◌else◌, refl, subst, arith}
+use Rattle.std.proofs.Common.{◌≡◌, ◌≤◌, ◌^◌, ℕ, ◌+◌, Bool, true, false, List, Option, Some, None, Result, Ok, Err, IfOk, length, nat_le, if◌then◌else◌, refl, subst, arith, Vec, option_map, IfSome}
+use Rattle.std.specs.declared.alloc.Global.{Global}
 use Rattle.std.proofs.lemmas.Bool.{leb-true}
 use Rattle.gtfs_fields.proofs.Counts.{records_of-le}
 use Rattle.files_door.specs.Reading.{file_limit}
@@ -36,3 +37,8 @@ few_rows table file None (Ok rows) is answers = cc
 few_rows table file (Some bytes) (Ok rows) is answers =
     let same : rows_of bytes ≡ rows = cc in
     subst (λ (r : List Row). length r ≤ 2 ^ 32) same (few_of_bytes bytes (few_bytes file bytes is))
+
+pub few_option : (file : Option (List ℕ)) (bytes : Option (Vec ℕ Global)) → file_outcome file ≡ Ok (option_map {T = Vec ℕ Global} {U = List ℕ} (λ v. v.items) bytes)
+    → IfSome bytes (λ v. length (rows_of v.items) ≤ 2 ^ 32)
+few_option file None is = tt
+few_option file (Some v) is = few_of_bytes v.items (few_bytes file v.items is)

@@ -18,3 +18,5 @@ pub mod ReadLemmas
 pub mod PlaceLemmas
 pub mod StopTimeLemmas
 pub mod StationLemmas
+pub mod ShapeLemmas
+pub mod CourseLemmas

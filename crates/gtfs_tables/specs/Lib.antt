@@ -7,6 +7,8 @@ pub mod Trips
 pub mod Rising
 pub mod Reads
 pub mod Shapes
+pub mod ShapeReads
+pub mod KeptShapes
 pub mod StopTimes
 pub mod StopTimeReads
 pub mod StationsOfTrips

@@ -20,7 +20,12 @@ mod route_row;
 mod routes;
 mod routes_check;
 mod shape_columns;
+mod shape_file;
+mod shape_reads;
+mod shape_row;
 mod shapes;
+mod shapes_kept;
+mod shapes_read;
 mod slices;
 mod small;
 mod stop_columns;
@@ -39,10 +44,10 @@ mod trips;
 mod trips_check;
 mod whole_feed;
 
-pub use whole_feed::read_tables;
 pub use stops::read_stations;
 pub use table_rows::{FeedFault, Table, Why};
 pub use transit_feed::{Line, Pattern, Shape, Station, Tables};
+pub use whole_feed::read_tables;
 
 #[cfg(test)]
 mod feed_tests;

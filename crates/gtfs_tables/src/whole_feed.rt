@@ -10,7 +10,7 @@ use crate::feed_stops::stops_in;
 use crate::known::{FeedRoutes, FeedStops, KnownShapes, KnownTrips};
 use crate::patterns::patterns_of;
 use crate::routes::routes_in;
-use crate::shapes::shapes_in_file;
+use crate::shape_file::shapes_in_file;
 use crate::stop_times::stop_times_in;
 use crate::table_file::{file_in, rows_in};
 use crate::trips::trips_in;

@@ -13,7 +13,7 @@ use Rattle.gtfs_tables.specs.Shapes.{shapes_of_file}
 use Rattle.gtfs_tables.proofs.StepLemmas.{step_unread, step_refused, step_went_on}
 use Rattle.gtfs_tables.proofs.StepCases.{routes_later, stops_later, trips_later, shapes_later}
 use Rattle.gtfs_tables.proofs.GoodShapes.{good_shapes}
-use Rattle.gtfs_tables.proofs.FewRows.{few_bytes, few_of_bytes}
+use Rattle.gtfs_tables.proofs.FewRows.{few_bytes, few_of_bytes, few_option}
 use Rattle.gtfs_tables.proofs.whole_feed.after_trips.Goals as goal
 
 pub returns-in_err-bytes-clause-read : goal.returns-in_err-bytes-clause-read
@@ -36,6 +36,14 @@ returns-in_err-shapes-clause-read g c =
     (err_from_is_err_and c.from_residual-in_err-shapes.result c.from_residual-in_err-shapes.ensures.1)
     (option_map {T = Vec ℕ Global} {U = List ℕ} (λ v. v.items) c.in_ok-bytes.bytes)
     c.in_ok-bytes.ensures.read c.in_err-shapes.ensures
+
+pub shapes_in_file-requires-clause-few : goal.shapes_in_file-requires-clause-few
+shapes_in_file-requires-clause-few g c =
+    let of = c.in_ok-bytes.ensures.read in
+    few_option of.file c.in_ok-bytes.bytes of.holds
+
+pub shapes_in_file-requires-clause-few_trips : goal.shapes_in_file-requires-clause-few_trips
+shapes_in_file-requires-clause-few_trips g c = omega (arith, c.requires.trips.as_many_shapes, c.requires.trips.few)
 
 pub after_shapes-requires-clause-shapes : goal.after_shapes-requires-clause-shapes
 after_shapes-requires-clause-shapes g c =
