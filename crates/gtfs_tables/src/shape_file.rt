@@ -14,7 +14,6 @@ use table_rows::{FeedFault, Ids, rows_of};
 
 /// No shape, where there is no such table.
 fn no_shapes(alloc: Global, trips: &KnownTrips) -> Result<KnownShapes, FeedFault>
-    requires { length trips.now.shapes ≤ 2 ^ 32 }
     ensures { Answers never (λ shapes. shapes) result (Ok (no_shapes trips.now)) }
 {
     let none = Ids::new(alloc);
