@@ -23,6 +23,8 @@ returns-clause-untold g c =
     let old = g.F.Files.faults c.args.files.now in
     let now = g.F.Files.faults c.feed_in.new.files in
     let types = c.args.types.now in
-    let of = c.feed_in.ensures.read in
-    (of.folder, answers_weaker (FailsAt (before_any types of.folder) old now) (may_fail types of.folder old now) (λ tables. tables) c.feed_in.result (feed_outcome types of.folder)
-    (λ table at. (at.0, sym (before_is types of.folder table) ∙ at.1)) of.holds)
+    let of = c.feed_in.ensures.read in (
+      of.folder,
+      answers_weaker (FailsAt (before_any types of.folder) old now) (may_fail types of.folder old now) (λ tables. tables) c.feed_in.result (feed_outcome types of.folder)
+          (λ table at. (at.0, sym (before_is types of.folder table) ∙ at.1)) of.holds,
+    )
