@@ -5,6 +5,15 @@ pub mod RouteLemmas
 pub mod TripLemmas
 pub mod LeadLemmas
 pub mod PatternLemmas
+pub mod GoodRoutes
+pub mod GoodStops
+pub mod RisingLemmas
+pub mod GoodShapes
+pub mod GoodStations
+pub mod GoodPatterns
+pub mod StepLemmas
+pub mod FewRows
+pub mod StepCases
 pub mod ReadLemmas
 pub mod PlaceLemmas
 pub mod StopTimeLemmas

@@ -15,3 +15,5 @@ pub mod StationsOfTrips
 pub mod Patterns
 pub mod PatternKeys
 pub mod Feed
+pub mod Good
+pub mod Steps
