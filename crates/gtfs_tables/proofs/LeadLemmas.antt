@@ -32,7 +32,7 @@ ids-rows c (row ∷ rows) =
 pub station_ids-rows : (rows : List Row) → station_ids (stations_of rows) ≡ ids_in (stop_columns rows).id (filter (is_station_row (stop_columns rows)) (drop 1 rows))
 station_ids-rows rows = ids-rows (stop_columns rows) (drop 1 rows)
 
-filter-few : (test : Row → Bool) (rows : List Row) → length (filter test rows) ≤ length rows
+pub filter-few : (test : Row → Bool) (rows : List Row) → length (filter test rows) ≤ length rows
 filter-few test [] = omega arith
 filter-few test (row ∷ rows) = by (test row) (filter-few test rows)
   where

@@ -12,7 +12,7 @@ use Rattle.gtfs_tables.specs.Degrees.{within}
 use Rattle.gtfs_tables.specs.Stops.{latitude_in, longitude_in, station_of, stations_of, stop_columns, is_own_station, type_in}
 
 -- what is read within a bound, or 0 in its place, keeps the bound
-within-bound : (most : ℕ) (read : Option ℤ) → unsigned_abs (unwrap_or (within most read) (pos 0)) ≤ most
+pub within-bound : (most : ℕ) (read : Option ℤ) → unsigned_abs (unwrap_or (within most read) (pos 0)) ≤ most
 within-bound most None = omega arith
 within-bound most (Some degrees) = by_test (nat_le (unsigned_abs degrees) most) refl
   where

@@ -30,11 +30,14 @@ Folder = Table → Option (List ℕ)
 abbrev pub told_folder : List (List ℕ × List ℕ) → List ℕ → Folder
 told_folder files folder = table_file files folder
 
--- the rows of a table that has to be there
-abbrev pub rows_outcome : Table → Folder → Result (List Row) FeedFault
-rows_outcome table folder = do
-  bytes ← file_outcome (folder table)
+-- the rows of a table that has to be there, told its file
+abbrev pub table_outcome : Table → Option (List ℕ) → Result (List Row) FeedFault
+table_outcome table file = do
+  bytes ← file_outcome file
   required_rows table bytes
+
+abbrev pub rows_outcome : Table → Folder → Result (List Row) FeedFault
+rows_outcome table folder = table_outcome table (folder table)
 
 -- the first of the five steps: the routes
 abbrev pub routes_outcome : List ℕ → Folder → Result FeedRoutes FeedFault

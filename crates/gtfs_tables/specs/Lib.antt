@@ -5,8 +5,15 @@ pub mod Leads
 pub mod Routes
 pub mod Trips
 pub mod Rising
+pub mod Reads
 pub mod Shapes
+pub mod ShapeReads
+pub mod KeptShapes
 pub mod StopTimes
+pub mod StopTimeReads
+pub mod StationsOfTrips
 pub mod Patterns
 pub mod PatternKeys
 pub mod Feed
+pub mod Good
+pub mod Steps

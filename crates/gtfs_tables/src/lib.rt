@@ -9,6 +9,7 @@
 
 mod degrees;
 mod feed_stops;
+mod first_refused;
 mod known;
 mod leads;
 mod parents;
@@ -19,21 +20,36 @@ mod route_row;
 mod routes;
 mod routes_check;
 mod shape_columns;
+mod shape_file;
+mod shape_reads;
+mod shape_row;
+mod shapes;
+mod shapes_kept;
+mod shapes_read;
 mod slices;
 mod small;
 mod stop_columns;
 mod stop_row;
 mod stop_time_columns;
+mod stop_time_reads;
+mod stop_time_row;
+mod stop_times;
+mod stop_times_read;
 mod stops;
 mod stops_check;
+mod table_file;
 mod trip_columns;
 mod trip_row;
 mod trips;
 mod trips_check;
+mod whole_feed;
 
 pub use stops::read_stations;
 pub use table_rows::{FeedFault, Table, Why};
 pub use transit_feed::{Line, Pattern, Shape, Station, Tables};
+pub use whole_feed::read_tables;
 
+#[cfg(test)]
+mod feed_tests;
 #[cfg(test)]
 mod tests;

@@ -20,16 +20,6 @@ module _ {X : Type 0} (p : X → Bool) (xs : List X) (d : X) where
       let at : position_or_len p xs ≡ length xs = position_or_len_is p xs (length xs) d (omega arith) before (λ l. absurd (omega (arith, l))) in
       ap (λ n. cond (ltb n (length xs)) (Some n) None) at ∙ ap (λ b. cond b (Some (length xs)) None) (le-ltb (length xs) (length xs) (omega arith))
 
--- `is_ok` of a call of `from_utf8`
-pub is_utf8-is_ok : {A E : Type 0} (P : A → Type 0) (Q : E → Type 0) (bytes : List ℕ) (r : Result A E)
-    → MatchResult r (λ s. P s × IsUtf8 bytes) (λ e. (¬ (IsUtf8 bytes)) × Q e) → is_ok r ≡ is_utf8 bytes
-is_utf8-is_ok P Q bytes (Ok s) h = sym (is_utf8-from_IsUtf8 bytes h.1)
-is_utf8-is_ok P Q bytes (Err e) h = by (is_utf8 bytes) refl
-  where
-    by : (b : Bool) → is_utf8 bytes ≡ b → false ≡ b
-    by true e = absurd (h.0 (IsUtf8-from_is_utf8 bytes e))
-    by false e = refl
-
 -- each field of a row that is text is UTF-8, and so is the empty one
 pub IsUtf8-field : (row : Row) (column : Option ℕ) → is_text row ≡ true → IsUtf8 (field_in row column)
 IsUtf8-field row None text = ([], (refl, refl))

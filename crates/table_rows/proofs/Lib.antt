@@ -3,3 +3,4 @@ pub mod CellLemmas
 pub mod ReasonLemmas
 pub mod RowLemmas
 pub mod FolderLemmas
+pub mod DistinctIds

@@ -1,7 +1,6 @@
 //! The fields of a table, by its columns' names.
 
 ghost use Rattle.std.specs.Prelude.{◌≡◌, ◌<◌, length};
-ghost use Rattle.std.specs.Str.{is_utf8};
 ghost use Rattle.table_rows.specs.Cells.{row_at, field_in, ends_before, ends_early, is_text, column_of, lacks_column};
 ghost use Rattle.table_rows.specs.Reasons.{header_reason};
 
@@ -66,23 +65,12 @@ pub fn lacks_column(required: &[Option<usize>]) -> bool
     required.iter().any(|column| column.is_none())
 }
 
-fn is_utf8(bytes: &[u8]) -> bool
-    ensures { result ≡ is_utf8 bytes.now }
-{
-    str::from_utf8(bytes).is_ok()
-}
-
 /// Whether each field of a row, read or not, is UTF-8.
 pub fn is_text(rows: &Rows, row: usize) -> bool
     requires { row < length rows.now }
     ensures { result ≡ is_text (row_at rows.now row) }
 {
-    for column in 0..rows.width(row) {
-        if !is_utf8(rows.field(row, column)) {
-            return false;
-        }
-    }
-    true
+    rows.is_text(row)
 }
 
 /// What is wrong with a header.

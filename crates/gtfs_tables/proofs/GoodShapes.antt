@@ -1,0 +1,103 @@
+-- What `shapes.txt` without a bad row keeps.
+use Rattle.std.proofs.Common.{◌≡◌, ◌<◌, ◌≤◌, ◌^◌, ℕ, suc, cond, Bool, true, false, List, [], ◌∷◌, Option, Some, None, Ok, All, map, filter, drop, length, bytes_eq, nat_le, unwrap_or, refl, ap, sym, ◌∙◌, subst, arith}
+use Rattle.std.proofs.lemmas.Bool.{leb-true}
+use Rattle.std.proofs.lemmas.List.{length-map}
+use Rattle.std.proofs.lemmas.List.Elements.{All-nil, All-map, All-weaker, filter_passes}
+use Rattle.transit_feed.specs.declared.shape.Shape.{Shape}
+use Rattle.transit_feed.specs.Feeds.{ArePlace, IsShape}
+use Rattle.table_rows.specs.declared.why.Table.TheVariants.{Shapes}
+use Rattle.table_rows.specs.Ids.{sighted, place_among}
+use Rattle.table_rows.specs.Values.{rows_of, degrees_of}
+use Rattle.table_rows.specs.Cells.{Row, field_in, ids_in}
+use Rattle.table_rows.specs.Reasons.{first_bad}
+use Rattle.table_rows.proofs.DistinctIds.{length-sighted}
+use Rattle.gtfs_tables.specs.declared.shape_columns.ShapeColumns.{ShapeColumns}
+use Rattle.gtfs_tables.specs.declared.known.KnownTrips.{KnownTrips}
+use Rattle.gtfs_tables.specs.declared.known.KnownShapes.{KnownShapes}
+use Rattle.gtfs_tables.specs.Good.{IsBelow, AreGoodTrips, AreGoodShapes}
+use Rattle.gtfs_tables.specs.Rising.{by_rising}
+use Rattle.gtfs_tables.specs.Trips.{is_named}
+use Rattle.gtfs_tables.specs.Shapes.{shape_columns, shapes_reason, sequence_in, point_in, rows_of_shape, points_of_shape, named_shapes, kept_shapes, shape_of, known_shapes, shapes_of, no_shapes, shapes_of_file}
+use Rattle.gtfs_tables.proofs.LeadLemmas.{filter-few}
+use Rattle.gtfs_tables.proofs.PlacedLemmas.{within-bound}
+use Rattle.gtfs_tables.proofs.RisingLemmas.{length-by_rising}
+use Rattle.gtfs_tables.proofs.GoodRoutes.{unless_bad-ok, all_of, all_of_map, is_below-place, few_behind}
+
+-- the points of rows are places
+point_place : (c : ShapeColumns) (row : Row) → ArePlace (point_in c row).0 (point_in c row).1
+point_place c row = record {
+  latitude = within-bound 90000000 (degrees_of (field_in row c.lat));
+  longitude = within-bound 180000000 (degrees_of (field_in row c.lon));
+}
+
+module _ (c : ShapeColumns) (rows : List Row) (few : length rows ≤ 2 ^ 32) where
+  length-points : (shape : List ℕ) → length (points_of_shape c rows shape) ≡ length (rows_of_shape c rows shape)
+  length-points shape =
+      let number = λ (row : Row). unwrap_or (sequence_in c row) 0 in
+      length-map (by_rising number (rows_of_shape c rows shape)) (point_in c) ∙ length-by_rising number (rows_of_shape c rows shape)
+
+  good_shape : (shape : List ℕ) → nat_le 2 (length (rows_of_shape c rows shape)) ≡ true → IsShape (shape_of c rows shape)
+  good_shape shape two =
+      let counted = length-points shape in
+      let at_least = leb-true 2 (length (rows_of_shape c rows shape)) two in
+      let kept = filter-few (λ row. bytes_eq shape (field_in row c.id)) (drop 1 rows) in
+      let behind = few_behind rows few in
+      record {
+        some_points = omega (arith, counted, at_least);
+        few_points = omega (arith, counted, kept, behind);
+        places = all_of_map (λ point. ArePlace point.0 point.1) (point_in c) (by_rising (λ row. unwrap_or (sequence_in c row) 0) (rows_of_shape c rows shape)) (point_place c);
+      }
+
+filter_few : {A : Type 0} (test : A → Bool) (xs : List A) → length (filter test xs) ≤ length xs
+filter_few test [] = omega arith
+filter_few test (x ∷ xs) = by (test x) (filter_few test xs)
+  where
+    by : (b : Bool) → length (filter test xs) ≤ length xs → length (cond b (x ∷ filter test xs) (filter test xs)) ≤ suc (length xs)
+    by true l = omega (arith, l)
+    by false l = omega (arith, l)
+
+few_kept : (trips : KnownTrips) (c : ShapeColumns) (rows : List Row) → length rows ≤ 2 ^ 32 → length (kept_shapes trips c rows) < 2 ^ 32
+few_kept trips c rows few =
+    let ids = ids_in c.id (drop 1 rows) in
+    let kept = filter_few (λ shape. nat_le 2 (length (rows_of_shape c rows shape))) (named_shapes trips c rows) in
+    let seen = length-sighted [] (filter (is_named trips) ids) in
+    let named = filter_few (is_named trips) ids in
+    let given = length-map (drop 1 rows) (λ row. field_in row c.id) in
+    let behind = few_behind rows few in
+    omega (arith, kept, seen, named, given, behind)
+
+module _ (count : ℕ) (trips : KnownTrips) (good : AreGoodTrips count trips) where
+  good_known : (rows : List Row) → length rows ≤ 2 ^ 32 → AreGoodShapes trips (known_shapes trips rows)
+  good_known rows few =
+      let c = shape_columns rows in
+      let kept = kept_shapes trips c rows in
+      let counted = length-map kept (shape_of c rows) in
+      let below = few_kept trips c rows few in
+      record {
+        few = omega (arith, counted, below);
+        shapes = All-map IsShape (shape_of c rows) kept
+            (All-weaker (λ shape. nat_le 2 (length (rows_of_shape c rows shape)) ≡ true) (λ shape. IsShape (shape_of c rows shape)) (good_shape c rows few) kept
+            (filter_passes (λ shape. nat_le 2 (length (rows_of_shape c rows shape))) (named_shapes trips c rows)));
+        of_trips = subst (λ n. All (IsBelow n) (map (place_among kept) trips.shapes)) (sym counted)
+            (all_of_map (IsBelow (length kept)) (place_among kept) trips.shapes (is_below-place kept));
+        as_many = length-map trips.shapes (place_among kept) ∙ good.as_many_shapes;
+      }
+
+  good_none : AreGoodShapes trips (no_shapes trips)
+  good_none = record {
+    few = omega arith;
+    shapes = All-nil IsShape;
+    of_trips = all_of_map (IsBelow 0) (place_among []) trips.shapes (is_below-place []);
+    as_many = length-map trips.shapes (place_among []) ∙ good.as_many_shapes;
+  }
+
+  pub good_shapes : (file : Option (List ℕ)) (known : KnownShapes)
+      → ((bytes : List ℕ) → file ≡ Some bytes → length (rows_of bytes) ≤ 2 ^ 32)
+      → shapes_of_file trips file ≡ Ok known → AreGoodShapes trips known
+  good_shapes None known few is =
+      let same : no_shapes trips ≡ known = cc in
+      subst (AreGoodShapes trips) same good_none
+  good_shapes (Some bytes) known few is =
+      let rows = rows_of bytes in
+      let both = unless_bad-ok Shapes (first_bad (shapes_reason trips rows) rows) (known_shapes trips rows) known is in
+      subst (AreGoodShapes trips) both.1 (good_known rows (few bytes refl))

@@ -1,9 +1,0 @@
-use Rattle.std.proofs.Common.{◌≡◌, ◌∙◌}
-use Rattle.std.specs.Str.{IsValidUpTo, valid_up_to}
-use Rattle.table_rows.proofs.CellLemmas.{is_utf8-is_ok}
-use Rattle.table_rows.proofs.cells.is_utf8.Goals as goal
-
-pub returns : goal.returns
-returns c =
-    c.is_ok.ensures.value
-    ∙ is_utf8-is_ok (λ s. s.now ≡ c.args.bytes.now) (λ e. IsValidUpTo c.args.bytes.now (valid_up_to e)) c.args.bytes.now c.from_utf8.result c.from_utf8.ensures.cases
