@@ -1,7 +1,9 @@
 -- The five tables of a folder, one after another.
-use Rattle.std.proofs.Common.{◌≡◌, ℕ, List, Option, Ok, refl, ap, ◌∙◌}
+use Rattle.std.proofs.Common.{◌≡◌, ℕ, List, Option, Some, None, Result, Ok, Err, refl, ap, sym, ◌∙◌}
+use Rattle.map_base.specs.declared.ids.StationId.{StationId}
 use Rattle.table_rows.specs.declared.why.Table.{Table}
 use Rattle.table_rows.specs.declared.why.Table.TheVariants as tables
+use Rattle.table_rows.specs.declared.fault.FeedFault.{FeedFault}
 use Rattle.table_rows.specs.Folder.{file_outcome}
 use Rattle.table_rows.specs.Outcome.{◌>>=◌}
 use Rattle.gtfs_tables.specs.declared.known.KnownTrips.{KnownTrips}

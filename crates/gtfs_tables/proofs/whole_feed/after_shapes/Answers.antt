@@ -1,6 +1,7 @@
-use Rattle.std.proofs.Common.{◌≤◌, List, Ok, length, refl, sym, subst, arith}
+use Rattle.std.proofs.Common.{◌≡◌, ◌∙◌, ◌≤◌, ℕ, List, Option, Some, None, Result, Ok, Err, length, refl, ap, sym, subst, arith}
 use Rattle.std.proofs.lemmas.Result.{err_from_is_err_and}
 use Rattle.map_base.specs.declared.ids.StationId.{StationId}
+use Rattle.transit_feed.specs.Feeds.{Feed}
 use Rattle.table_rows.specs.declared.why.Table.TheVariants as tables
 use Rattle.table_rows.specs.Outcome.{Answers, never}
 use Rattle.gtfs_tables.specs.Feed.{table_outcome, feed_of}

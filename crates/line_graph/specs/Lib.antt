@@ -1,4 +1,0 @@
-pub mod Legs
-pub mod Handing
-pub mod Outcome
-pub mod Text
