@@ -68,8 +68,7 @@ module _ {X V : Type 0} (entry : X → Entry) (value : X → V) (d : V) where
   all_stand : (front values : List V) (xs : List X) → values ≡ front ++ map value xs → Alike (Stands values) (placed_from (length front) (map entry xs)) xs
   all_stand front values [] e = tt
   all_stand front values (x ∷ xs) e =
-      let count : length (front ++ value x ∷ []) ≡ suc (length front) = omega (arith, length-append front (value x ∷ [])) in
-      (
+      let count : length (front ++ value x ∷ []) ≡ suc (length front) = omega (arith, length-append front (value x ∷ [])) in (
         record { key = refl; sequence = refl; value_is = ap (λ vs. get_or vs (length front) d) e ∙ value_at front (value x) (map value xs) },
         rw (← count) (all_stand (front ++ value x ∷ []) values xs (e ∙ sym (append_assoc front (value x ∷ []) (map value xs)))),
       )
