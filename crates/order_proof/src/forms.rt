@@ -272,17 +272,16 @@ pub(crate) fn node_in(
     }
 }
 
-/// Whether a line is one of these.
+/// Whether a line is one of these. All of them are looked at, since a loop with no way out compares several at once.
 #[tactic(auto, using(std::proofs::lemmas::List::at_drop_more))]
 fn is_among(lines: &[LineId], line: LineId) -> bool
     ensures { result ≡ is_among lines.now line }
 {
+    let mut among = false;
     for other in lines {
-        if *other == line {
-            return true;
-        }
+        among |= other.0 == line.0;
     }
-    false
+    among
 }
 
 /// The line of a case, where it is not taken yet.
