@@ -1,5 +1,6 @@
 -- The limits: how a counted quantity is printed, and its greatest allowed number.
-use Rattle.std.specs.Prelude.{ℕ, List, codes}
+use Rattle.std.specs.Prelude.{ℕ, ◌+◌, Bool, nat_le, List, codes, Result, Err, if◌then◌else◌}
+use Rattle.map_base.specs.declared.limit.Limit.{Limit}
 use Rattle.map_base.specs.declared.limit.LimitKind.{LimitKind}
 use Rattle.map_base.specs.declared.limit.LimitKind.TheVariants.{File, Lines, Stations, Samples, NetPoints, Nodes, Segments, Cells, Terms, Places}
 
@@ -28,3 +29,15 @@ limit_most Segments = 20000
 limit_most Cells = 400
 limit_most Terms = 4000000
 limit_most Places = 2048
+
+-- a limit, as it is reported where counting stops at one more than the greatest allowed number
+abbrev pub limit_of : LimitKind → Limit
+limit_of kind = record { what = kind; found = limit_most kind + 1; most = limit_most kind }
+
+-- the number of things of a kind is no more than is allowed
+abbrev pub is_within : LimitKind → ℕ → Bool
+is_within kind count = nat_le count (limit_most kind)
+
+-- what comes next, unless there are too many things of a kind
+abbrev pub unless_above : {A : Type 0} → LimitKind → ℕ → Result A Limit → Result A Limit
+unless_above kind count next = if is_within kind count then next else Err (limit_of kind)

@@ -77,3 +77,18 @@ pub struct Limit {
     /// The greatest allowed number.
     pub most: u64,
 }
+
+impl Limit {
+    ghost use Rattle.map_base.specs.Limits.{limit_of};
+
+    /// What is reported where counting stops at one more than the greatest allowed number.
+    pub fn above(kind: LimitKind) -> Limit
+        ensures { result ≡ limit_of kind }
+    {
+        Limit {
+            what: kind,
+            found: kind.most().saturating_add(1),
+            most: kind.most(),
+        }
+    }
+}
