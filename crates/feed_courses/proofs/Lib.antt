@@ -1,0 +1,12 @@
+mod Lists
+mod OnePoint
+mod RunLemmas
+mod Earth
+mod PlaceTables
+mod FlagLemmas
+mod Served
+mod HopsAlong
+mod CourseLemmas
+mod SumLemmas
+mod WholeLemmas
+mod FeedLemmas

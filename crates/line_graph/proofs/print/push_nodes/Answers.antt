@@ -1,0 +1,6 @@
+use Rattle.line_graph.specs.Text.{node_line}
+use Rattle.line_graph.proofs.Ranges.{pushed_more}
+use Rattle.line_graph.proofs.print.push_nodes.Goals as goal
+
+pub loop-n-preserved : goal.loop-n-preserved
+loop-n-preserved c = pushed_more (node_line c.args.stations.now c.args.graph.now) c.loop-n.n c.args.text.now.items c.loop-n.text.items c.push_node.new.text.items c.loop-n.invariant c.in_ok-push_node.ensures

@@ -1,0 +1,4 @@
+pub mod Legs
+pub mod Handing
+pub mod Outcome
+pub mod Text

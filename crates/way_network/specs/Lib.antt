@@ -1,0 +1,13 @@
+pub mod Edges
+pub mod Chains
+pub mod Segments
+pub mod Joins
+pub mod Graphs
+pub mod Tables
+pub mod Uses
+pub mod Nodes
+pub mod Crossings
+pub mod Premises
+pub mod Rows
+pub mod Numbers
+pub mod Pieces

@@ -1,0 +1,28 @@
+//! The network of ways that lines take over the points of a net: its used edges, its nodes, the chains between
+//! them, the round of each node, and where lines go on from one chain to another.
+#![tactic(auto)]
+
+mod around;
+mod chains;
+mod crossings;
+mod edge_table;
+mod edge_use;
+mod edges;
+mod joins;
+mod nodes;
+mod numbers;
+mod ranks;
+mod rounds;
+mod segments;
+mod way;
+
+pub use edge_table::EdgeTable;
+pub use edges::UsedEdge;
+pub use nodes::Nodes;
+pub use numbers::Segments;
+pub use way::{Passage, Way};
+
+#[cfg(test)]
+mod segment_tests;
+#[cfg(test)]
+mod tests;

@@ -1,0 +1,68 @@
+//! Where the uses of an edge stand among uses in order.
+
+ghost use Rattle.std.specs.Prelude.{◌≡◌, ◌<◌, ◌+◌, ◌==◌, Bool, if◌then◌else◌, filter};
+ghost use Rattle.std.specs.List.Sorted.{IsSortedBy};
+ghost use Rattle.way_network.specs.declared.edge_use.EdgeUse.{EdgeUse};
+ghost use Rattle.way_network.specs.Uses.{IsBetween, IsRank, is_from, is_over, stands_before, use_is_before};
+
+use crate::edge_use::EdgeUse;
+
+fn stands_before(u: EdgeUse, p: u64, q: u64) -> bool
+    ensures { result ≡ stands_before p q u }
+{
+    let from = u64::from(u.from);
+    if from == p {
+        return u64::from(u.to) < q;
+    }
+    from < p
+}
+
+// The bounds of a search once its middle was looked at.
+fn narrowed(low: usize, high: usize, middle: usize, is_below: bool) -> (usize, usize)
+    requires { middle < high }
+    ensures { result ≡ (if is_below then (middle + 1, high) else (low, middle)) }
+{
+    if is_below {
+        (middle + 1, high)
+    } else {
+        (low, middle)
+    }
+}
+
+/// How many uses stand before those of the edge from `p` to `q`.
+fn rank(uses: &[EdgeUse], p: u64, q: u64) -> usize
+    requires { IsSortedBy use_is_before uses.now }
+    ensures { IsRank uses.now p q result }
+{
+    let mut low = 0;
+    let mut high = uses.len();
+    while low < high {
+        let middle = low + (high - low) / 2;
+        let is_below = stands_before(uses[middle], p, q);
+        (low, high) = narrowed(low, high, middle, is_below);
+    }
+    low
+}
+
+/// The uses of edges from point `p`.
+pub(crate) fn uses_from(uses: &[EdgeUse], p: u32) -> &[EdgeUse]
+    requires { IsSortedBy use_is_before uses.now }
+    ensures { result.now ≡ filter (is_from p) uses.now }
+{
+    let p = u64::from(p);
+    let low = rank(uses, p, 0);
+    let high = rank(uses, p + 1, 0);
+    &uses[low..high]
+}
+
+/// The uses of the edge from `p` to `q`.
+pub(crate) fn uses_over(uses: &[EdgeUse], p: u32, q: u32) -> &[EdgeUse]
+    requires { IsSortedBy use_is_before uses.now }
+    ensures { result.now ≡ filter (is_over p q) uses.now }
+{
+    let p = u64::from(p);
+    let q = u64::from(q);
+    let low = rank(uses, p, q);
+    let high = rank(uses, p, q + 1);
+    &uses[low..high]
+}
