@@ -1,24 +1,22 @@
 -- The course of a pattern, made of its parts.
-use Rattle.std.proofs.Common.{◌≡◌, refl, sym, ◌∙◌, ap, subst, ℕ, ◌+◌, ◌<◌, ◌≤◌, List, [], ◌∷◌, Option, Some, None, map, length, get_or, All, Contains, arith}
-use Rattle.std.specs.List.{slice_get, sum_by}
+use Rattle.std.proofs.Common.{◌≡◌, refl, sym, ◌∙◌, ap, subst, ℕ, ◌+◌, ◌<◌, ◌≤◌, List, [], ◌∷◌, Some, map, length, get_or, All, Contains, arith}
+use Rattle.std.specs.List.{slice_get}
 use Rattle.std.proofs.lemmas.List.{length-map}
 use Rattle.map_base.specs.declared.ids.StationId.{StationId}
 use Rattle.map_base.specs.declared.point.Point.{Point}
 use Rattle.map_base.specs.declared.limit.LimitKind.{LimitKind}
-use Rattle.map_base.specs.declared.limit.LimitKind.TheVariants.{Samples}
 use Rattle.fixed_plane.specs.Plane.{IsInPlane}
 use Rattle.shape_track.specs.Samples.{samples_of}
 use Rattle.shape_track.specs.Hops.{AreJoined, total_of}
 use Rattle.transit_feed.specs.declared.pattern.Pattern.{Pattern}
 use Rattle.transit_feed.specs.declared.shape.Shape.{Shape}
-use Rattle.transit_feed.specs.Feeds.{Feed, IsFeed, IsPattern, IsShape, NamesShape}
+use Rattle.transit_feed.specs.Feeds.{Feed, IsPattern, NamesShape}
 use Rattle.feed_courses.specs.Shown.{shown_patterns, used_stations}
 use Rattle.feed_courses.specs.Places.{feed_band, used_points}
-use Rattle.feed_courses.specs.Outcome.{place_of, station_numbered, stop_places, point_at, stop_points, shape_points, course_points, course_samples, hops_along, course_hops, course_of, sample_count}
+use Rattle.feed_courses.specs.Outcome.{place_of, stop_places, point_at, stop_points, shape_points, course_points, course_samples, hops_along, course_hops, course_of, sample_count}
 use Rattle.feed_courses.specs.Fit.{IsCourse}
 use Rattle.feed_courses.specs.Faults.{IsAbove}
 use Rattle.feed_courses.specs.Tables.{place_in, IsPlaceTable, AreUsed}
-use Rattle.feed_courses.specs.declared.courses.Course.{Course}
 use Rattle.feed_courses.specs.declared.fault.CourseFault.{CourseFault}
 use Rattle.feed_courses.specs.declared.fault.CourseFault.TheVariants.{Limit as AboveLimit, NoMemory}
 use Rattle.feed_courses.specs.declared.used.Used.{Used}

@@ -1,6 +1,6 @@
 -- Points of places on earth.
 use Rattle.std.proofs.Common.{◌≡◌, refl, subst, ℕ, zero, suc, ◌*◌, ◌≤◌, ℤ, pos, ◌*ℤ◌, unsigned_abs, List, [], ◌∷◌, get_or, arith}
-use Rattle.std.proofs.Math.Nat.{mul-le-mul, le_refl, le_trans}
+use Rattle.std.proofs.Math.Nat.{mul-le-mul}
 use Rattle.std.proofs.lemmas.Int.{unsigned_abs-mul}
 use Rattle.whole_algebra.specs.Rounding.{floor_quotient}
 use Rattle.whole_algebra.proofs.Rounding.{floor_quotient-within}

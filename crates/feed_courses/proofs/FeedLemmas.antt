@@ -1,7 +1,6 @@
 -- When feeds of a few stations fit together.
-use Rattle.std.proofs.Common.{◌≡◌, ◌≢◌, refl, sym, ◌∙◌, ap, subst, ℕ, ◌<◌, ◌≤◌, ◌^◌, Bool, false, ℤ, pos, unsigned_abs, List, [], ◌∷◌, map, length, Option, Some, None, All, bytes_eq, arith}
-use Rattle.std.specs.List.{IsDistinct, AllByRecursion}
-use Rattle.std.proofs.lemmas.Int.{ints}
+use Rattle.std.proofs.Common.{◌≡◌, refl, sym, ◌∙◌, ap, subst, ℕ, ◌<◌, false, ℤ, pos, List, [], ◌∷◌, map, Some, None, All, bytes_eq, arith}
+use Rattle.std.specs.List.{IsDistinct}
 use Rattle.std.proofs.lemmas.List.Elements.{All-from_recursion}
 use Rattle.std.proofs.lemmas.Map.Keys.{IsDistinct-cons, IsDistinct-from_apart}
 use Rattle.map_base.specs.declared.ids.StationId.{StationId}
@@ -9,7 +8,7 @@ use Rattle.transit_feed.specs.declared.station.Station.{Station}
 use Rattle.transit_feed.specs.declared.line.Line.{Line}
 use Rattle.transit_feed.specs.declared.pattern.Pattern.{Pattern}
 use Rattle.transit_feed.specs.declared.shape.Shape.{Shape}
-use Rattle.transit_feed.specs.Feeds.{Feed, ArePlace, IsPlaced, IsShape, AreApart, NamesShape, IsPattern, IsFeed}
+use Rattle.transit_feed.specs.Feeds.{ArePlace, IsPlaced, IsShape, IsPattern, IsFeed}
 use Rattle.feed_courses.specs.Outcome.{station_numbered}
 
 -- a station with an id of one letter, at a place

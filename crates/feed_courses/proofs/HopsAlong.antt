@@ -3,7 +3,7 @@ use Rattle.std.proofs.Common.{◌≡◌, ◌∙◌, refl, ap, ℕ, ◌+◌, ◌-
 use Rattle.map_base.specs.declared.point.Point.{Point}
 use Rattle.map_base.specs.declared.limit.LimitKind.TheVariants.{Samples}
 use Rattle.shape_track.specs.Choices.{snap_of}
-use Rattle.shape_track.specs.Hops.{hops_of, total_of}
+use Rattle.shape_track.specs.Hops.{hops_of}
 use Rattle.shape_track.specs.Faults.{HasCause}
 use Rattle.shape_track.specs.declared.fault.SampleFault.{SampleFault}
 use Rattle.shape_track.specs.declared.fault.SampleFault.TheVariants.{Limit as TooManySamples, NoMemory as NoMemoryForSamples}

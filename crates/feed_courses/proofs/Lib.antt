@@ -10,3 +10,4 @@ mod CourseLemmas
 mod SumLemmas
 mod WholeLemmas
 mod FeedLemmas
+pub mod ServedStations

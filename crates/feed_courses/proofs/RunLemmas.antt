@@ -1,5 +1,5 @@
 -- Runs of taken points, and the first free point past them.
-use Rattle.std.proofs.Common.{◌≡◌, refl, sym, ◌∙◌, ap, subst, ℕ, zero, suc, ◌+◌, ◌-◌, ◌<◌, ◌≤◌, ◌⊎◌, inl, inr, Bool, true, false, cond, ◌||◌, ℤ, pos, ◌+ℤ◌, ◌-ℤ◌, unsigned_abs, List, [], ◌∷◌, ◌++◌, Option, Some, None, map, length, get_or, All, arith, length-append}
+use Rattle.std.proofs.Common.{◌≡◌, refl, sym, ◌∙◌, ap, subst, ℕ, zero, suc, ◌+◌, ◌-◌, ◌<◌, ◌≤◌, ◌⊎◌, inl, inr, Bool, true, false, cond, ◌||◌, ℤ, pos, ◌+ℤ◌, ◌-ℤ◌, unsigned_abs, List, [], ◌∷◌, ◌++◌, Option, Some, None, map, length, get_or, arith, length-append}
 use Rattle.std.specs.List.{list_any, range_with_len}
 use Rattle.std.specs.HashMap.{get}
 use Rattle.std.proofs.lemmas.Bool.{both_ways, cases_lt}
@@ -17,7 +17,7 @@ use Rattle.feed_courses.specs.Outcome.{point_at}
 use Rattle.feed_courses.specs.Places.{is_taken, right_of, first_free, with_point}
 use Rattle.feed_courses.specs.Fit.{AreDistinct}
 use Rattle.feed_courses.specs.Runs.{IsOnEarth, moved_right, IsRun, LeadsPast, PointMap, AreKept}
-use Rattle.feed_courses.proofs.OnePoint.{is_point-true, is_point-self, is_point-same, is_point-apart, is_point-equivalence}
+use Rattle.feed_courses.proofs.OnePoint.{is_point-true, is_point-same, is_point-apart, is_point-equivalence}
 
 -- ---- points to the right of one
 

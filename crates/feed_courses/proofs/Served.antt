@@ -1,18 +1,18 @@
 -- The stops of a pattern that is shown are used stations.
-use Rattle.std.proofs.Common.{◌≡◌, ◌≢◌, refl, sym, ◌∙◌, ap, subst, ℕ, zero, suc, ◌+◌, ◌<◌, ◌≤◌, Bool, true, false, cond, eqb, ◌||◌, List, [], ◌∷◌, ◌++◌, map, fold, length, get_or, filter, All, Contains, arith, length-append}
+use Rattle.std.proofs.Common.{◌≡◌, refl, sym, ◌∙◌, ap, subst, ℕ, suc, ◌+◌, ◌<◌, Bool, true, false, cond, eqb, ◌||◌, List, [], ◌∷◌, map, fold, length, get_or, filter, All, Contains, arith, length-append}
 use Rattle.std.specs.List.{list_any, range_with_len}
 use Rattle.std.proofs.lemmas.Bool.{false≢true, false_from_ne_true, eq-eqb, eqb-true}
 use Rattle.std.proofs.lemmas.List.{length-map}
-use Rattle.std.proofs.lemmas.List.Elements.{All-filter, All-contains, All-map, All-head, All-tail, All-cons, All-nil}
+use Rattle.std.proofs.lemmas.List.Elements.{All-filter, All-map}
 use Rattle.std.proofs.lemmas.List.Folds.{list_any_at}
 use Rattle.std.proofs.lemmas.List.FromFn.{get_or-range_with_len, length-range_with_len}
 use Rattle.map_base.specs.declared.ids.StationId.{StationId}
 use Rattle.map_base.specs.declared.point.Point.{Point}
 use Rattle.transit_feed.specs.declared.pattern.Pattern.{Pattern}
 use Rattle.transit_feed.specs.Feeds.{Feed, IsFeed, IsPattern, AreApart as AreStopsApart}
-use Rattle.feed_courses.specs.Shown.{is_shown, shown_patterns, serves, stations_in, used_stations}
-use Rattle.feed_courses.specs.Places.{first_free, with_point, moved_apart, projected_station, used_points}
-use Rattle.feed_courses.specs.Outcome.{place_of, station_numbered, stop_places}
+use Rattle.feed_courses.specs.Shown.{is_shown, shown_patterns, serves, used_stations}
+use Rattle.feed_courses.specs.Places.{first_free, with_point, projected_station, used_points}
+use Rattle.feed_courses.specs.Outcome.{place_of, stop_places}
 use Rattle.feed_courses.specs.Fit.{AreApart}
 use Rattle.feed_courses.proofs.Lists.{range_below}
 use Rattle.feed_courses.proofs.PlaceTables.{has_place}

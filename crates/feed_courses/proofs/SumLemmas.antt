@@ -1,7 +1,7 @@
 -- One element more of a list that is gone through.
-use Rattle.std.proofs.Common.{◌≡◌, refl, sym, ◌∙◌, ap, subst, ℕ, ◌+◌, ◌<◌, ◌≤◌, List, [], ◌∷◌, ◌++◌, map, take, drop, length, get_or, Contains, arith}
+use Rattle.std.proofs.Common.{◌≡◌, sym, ◌∙◌, ap, ℕ, ◌+◌, ◌<◌, ◌≤◌, List, [], ◌∷◌, ◌++◌, map, take, drop, length, get_or, Contains, arith}
 use Rattle.std.specs.List.{sum_by}
-use Rattle.std.proofs.lemmas.List.{length-map, get_or-map, map-append, take_more, take-append-drop, take_all}
+use Rattle.std.proofs.lemmas.List.{length-map, get_or-map, map-append, take_more, take-append-drop}
 use Rattle.std.proofs.lemmas.List.Sums.{sum_by-append}
 
 -- what is read of a list is among what the elements stand for

@@ -1,5 +1,5 @@
 -- The outcome of a feed as a whole.
-use Rattle.std.proofs.Common.{◌≡◌, refl, sym, ◌∙◌, ap, subst, ℕ, ◌+◌, ◌<◌, ◌≤◌, Bool, true, false, cond, leb, List, map, length, get_or, All, Ok, Err, Result, arith}
+use Rattle.std.proofs.Common.{◌≡◌, sym, ◌∙◌, ap, subst, ℕ, ◌+◌, ◌<◌, ◌≤◌, cond, List, map, length, get_or, All, Ok, Err, Result, arith}
 use Rattle.std.specs.List.{sum_by}
 use Rattle.std.proofs.lemmas.List.{length-map, get_or-map}
 use Rattle.std.proofs.lemmas.Bool.{le-leb, lt-leb}
@@ -12,18 +12,16 @@ use Rattle.map_base.specs.Limits.{limit_most, limit_of, unless_above}
 use Rattle.shape_track.specs.Hops.{total_of}
 use Rattle.fixed_plane.specs.Plane.{IsInPlane}
 use Rattle.transit_feed.specs.declared.pattern.Pattern.{Pattern}
-use Rattle.transit_feed.specs.Feeds.{Feed, IsFeed, IsPattern}
+use Rattle.transit_feed.specs.Feeds.{Feed}
 use Rattle.feed_courses.specs.Shown.{shown_patterns, lines_with, shown_lines, stations_in, used_stations}
 use Rattle.feed_courses.specs.Places.{used_points}
 use Rattle.feed_courses.specs.Outcome.{course_of, course_samples, course_hops, sample_count, sample_total, station_numbered, courses_of, courses_outcome}
 use Rattle.feed_courses.specs.Faults.{IsAbove, HasCause}
 use Rattle.feed_courses.specs.Fit.{AreDistinct, IsCourse, hop_total, AreFit}
-use Rattle.feed_courses.specs.Tables.{AreUsed}
 use Rattle.feed_courses.specs.declared.courses.Course.{Course}
 use Rattle.feed_courses.specs.declared.courses.Courses.{Courses}
 use Rattle.feed_courses.specs.declared.fault.CourseFault.{CourseFault}
 use Rattle.feed_courses.specs.declared.fault.CourseFault.TheVariants.{Limit as AboveLimit, NoMemory}
-use Rattle.feed_courses.specs.declared.used.Used.{Used}
 use Rattle.feed_courses.proofs.Served.{length-used_points}
 use Rattle.feed_courses.proofs.SumLemmas.{sum_by-below}
 

@@ -1,5 +1,7 @@
 -- What holds of all courses: points apart and in the plane, hops that join the points of their stops.
-use Rattle.std.specs.Prelude.{◌≡◌, ◌≢◌, ℕ, ◌<◌, ◌≤◌, List, [], ◌∷◌, length, map, sum_by, All}
+use Rattle.std.specs.Prelude.{◌≡◌, ◌≢◌, ℕ, ◌<◌, ◌≤◌, ◌^◌, ◌==◌, Bool, true, List, [], ◌∷◌, length, map, sum_by, All, Contains}
+use Rattle.std.specs.List.{list_any}
+use Rattle.map_base.specs.declared.ids.LineId.{LineId}
 use Rattle.map_base.specs.declared.point.Point.{Point}
 use Rattle.fixed_plane.specs.Plane.{IsInPlane}
 use Rattle.shape_track.specs.Hops.{AreJoined, total_of}
@@ -39,3 +41,14 @@ pub record AreFit (near : ℕ) (courses : Courses) : Type 0 where
   pub in_plane : All IsInPlane courses.points
   pub each : All (IsCourse near courses.points) courses.courses
   pub few_samples : sum_by hop_total courses.courses ≤ 4000000
+
+-- a course stops at a place
+abbrev pub stops_at : ℕ → Course → Bool
+stops_at place course = list_any (λ s. s == place) course.stops
+
+-- the courses are those of at most 1,000 different lines of so many, and one of them stops at each station
+pub record AreServed (count : ℕ) (courses : Courses) : Type 0 where
+  pub few : count < 2 ^ 32
+  pub lines : All (λ (c : Course). c.line.0 < count) courses.courses
+  pub known_lines : (known : List LineId) × (length known ≤ 1000) × All (λ (c : Course). Contains known c.line) courses.courses
+  pub served : (place : ℕ) → place < length courses.points → list_any (stops_at place) courses.courses ≡ true

@@ -1,5 +1,5 @@
 -- The courses of a feed's patterns, or the limit that is met first.
-use Rattle.std.specs.Prelude.{ℕ, ℤ, ◌+◌, Bool, ◌==◌, nat_le, List, [], length, map, sum_by, Option, Some, None, unwrap_or, position, slice_get, slice_index_or, Result, Ok, Err, if◌then◌else◌, pos}
+use Rattle.std.specs.Prelude.{ℕ, ℤ, ◌+◌, ◌==◌, List, [], length, map, sum_by, Option, Some, None, unwrap_or, position, slice_get, slice_index_or, Result, Ok, pos}
 use Rattle.map_base.specs.declared.ids.StationId.{StationId}
 use Rattle.map_base.specs.declared.point.Point.{Point}
 use Rattle.map_base.specs.declared.limit.Limit.{Limit}

@@ -8,7 +8,7 @@ ghost use Rattle.feed_courses.specs.Shown.{shown_patterns};
 ghost use Rattle.feed_courses.specs.Places.{used_points};
 ghost use Rattle.feed_courses.specs.Outcome.{course_of, course_points, courses_outcome, sample_count, sample_total, stop_points};
 ghost use Rattle.feed_courses.specs.Faults.{HasCause, IsAbove};
-ghost use Rattle.feed_courses.specs.Fit.{AreFit, IsCourse};
+ghost use Rattle.feed_courses.specs.Fit.{AreFit, AreServed, IsCourse};
 ghost use Rattle.feed_courses.specs.Tables.{AreUsed};
 
 use crate::courses::{Course, Courses};
@@ -39,6 +39,9 @@ pub fn courses_of(alloc: Global, tables: &Tables, near: u32) -> Result<Courses, 
 
     // Points are apart and in the plane, and hops join the points of their stops.
     ensures fit { IfOk result (λ courses. AreFit near courses) }
+
+    // One of them stops at each station, and their lines are at most 1,000 of those of the tables.
+    ensures served { IfOk result (λ courses. AreServed (length tables.now.lines) courses) }
 {
     let shown = shown_patterns(alloc, tables)?;
     let lines = lines_with(alloc, tables.lines.len(), &shown)?;

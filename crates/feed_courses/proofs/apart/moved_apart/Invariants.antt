@@ -1,4 +1,4 @@
-use Rattle.std.proofs.Common.{◌≡◌, ◌≤◌, length, take}
+use Rattle.std.proofs.Common.{◌≡◌, length, take}
 use Rattle.feed_courses.specs.Places.{moved_apart}
 use Rattle.feed_courses.proofs.apart.moved_apart.Given as goal
 

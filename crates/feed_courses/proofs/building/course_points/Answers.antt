@@ -1,4 +1,4 @@
-use Rattle.std.proofs.Common.{◌≡◌, ◌∙◌, sym, ap, subst, ℕ, ◌+◌, ◌<◌, ◌≤◌, List, Some, Vec, length, get_or, arith, refl}
+use Rattle.std.proofs.Common.{◌≡◌, ◌∙◌, sym, ap, subst, ℕ, ◌<◌, ◌≤◌, List, Some, Vec, length, get_or, arith, refl}
 use Rattle.std.specs.Global.{Global}
 use Rattle.std.specs.List.{slice_get}
 use Rattle.std.proofs.lemmas.List.{length-map}
@@ -7,7 +7,7 @@ use Rattle.std.proofs.lemmas.Option.{slice_get_read}
 use Rattle.std.proofs.lemmas.Result.{IfOk-weaker}
 use Rattle.map_base.specs.declared.point.Point.{Point}
 use Rattle.transit_feed.specs.declared.shape.Shape.{Shape}
-use Rattle.transit_feed.specs.Feeds.{Feed, IsFeed, IsPattern, IsShape}
+use Rattle.transit_feed.specs.Feeds.{Feed, IsFeed, IsShape}
 use Rattle.feed_courses.specs.Places.{feed_band}
 use Rattle.feed_courses.specs.Outcome.{course_points, shape_points}
 use Rattle.feed_courses.proofs.CourseLemmas.{shape_named, points_of_shape, stops_give_points}

@@ -11,6 +11,7 @@ use Rattle.feed_courses.specs.Shown.{shown_patterns, shown_lines, used_stations}
 use Rattle.feed_courses.specs.Outcome.{courses_outcome, sample_total, station_numbered}
 use Rattle.feed_courses.specs.Faults.{HasCause}
 use Rattle.feed_courses.proofs.Served.{ArePatterns-shown}
+use Rattle.feed_courses.proofs.ServedStations.{are_served}
 use Rattle.feed_courses.proofs.WholeLemmas.{shown-hold, lines_are, stations_are, too_many_lines, too_many_stations, too_many_samples, within_limits, HasCause-above, courses_are, AreFit-made}
 use Rattle.feed_courses.proofs.building.courses_of.Goals as goal
 
@@ -115,3 +116,6 @@ returns-clause-fit c =
     (c.of.ensures ∙ c.in_ok-stations.ensures ∙ ap (map station_numbered) c.deref-4.ensures.value) (c.of-2.ensures ∙ c.in_ok-used.ensures.used.points) (c.of-3.ensures ∙ c.in_ok-courses.ensures.courses)
     few_stations c.in_ok-courses.ensures.few (subst AreDistinct (sym c.of-2.ensures) c.in_ok-used.ensures.distinct) (All-same IsInPlane c.of-2.result c.in_ok-used.used.points.items c.of-2.ensures c.in_ok-used.ensures.in_plane)
     (All-same (IsCourse c.args.near (used_points feed)) c.of-3.result c.in_ok-courses.courses.items c.of-3.ensures c.in_ok-courses.ensures.fit)
+
+pub returns-clause-served : goal.returns-clause-served
+returns-clause-served c = are_served c.args.near c.args.tables.now _ (subst IsFeed c.tables.view_is c.tables.invariant) (returns-clause-courses c)

@@ -1,4 +1,4 @@
-use Rattle.std.proofs.Common.{◌≡◌, ◌∙◌, sym, ap, ℕ, ◌+◌, ◌≤◌, List, [], ◌∷◌, ◌++◌, map, take, All, arith, rules}
+use Rattle.std.proofs.Common.{◌∙◌, sym, ap, ◌+◌, ◌≤◌, [], ◌∷◌, ◌++◌, map, take, arith, rules}
 use Rattle.std.specs.List.{sum_by}
 use Rattle.std.proofs.lemmas.List.{map-append}
 use Rattle.std.proofs.lemmas.List.Elements.{All-contains, All-push, All-same}
