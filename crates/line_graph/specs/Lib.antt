@@ -2,3 +2,4 @@ pub mod Legs
 pub mod Handing
 pub mod Outcome
 pub mod Text
+pub mod Faults

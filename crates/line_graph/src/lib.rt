@@ -1,6 +1,10 @@
 //! The line graph of a feed.
 #![tactic(auto)]
 
+mod building;
+mod fault;
 mod print;
 
+pub use building::build;
+pub use fault::BuildFault;
 pub use print::print_graph;

@@ -19,7 +19,8 @@ use Rattle.map_cli.specs.Words.{Asked, stations, unread}
 use Rattle.map_cli.specs.Lines.{no_memory_line}
 use Rattle.map_cli.proofs.Delivery.{some_line}
 use Rattle.map_cli.specs.Stations.{stations_text}
-use Rattle.map_cli.specs.Outcome.{alone, printed, status_of_fault, stations_answer, outcome, AreFiles}
+use Rattle.map_cli.specs.Answers.{alone, printed, status_of_fault}
+use Rattle.map_cli.specs.Outcome.{stations_answer, outcome, AreFiles}
 use Rattle.map_cli.specs.Ending.{IsAnswerTo, line_acts, Ends}
 
 -- files of which one alone is the `stops.txt` of a folder, or none
@@ -71,7 +72,7 @@ refused told folder before now rose view (fault.Limit limit) (Ok answer) at seen
 refused told folder before now rose view (fault.ReadFault table) (Ok answer) at seen said free =
     let both = at table seen.2 in
     let path : path_in folder table ≡ path_in folder Stops = ap (path_in folder) both.0 in
-    (seen.0, seen.1, inr (path_in folder Stops, both.1, (0, lit< tt, refl), said ∙ ap (λ (p : List ℕ). alone (ended.ReadFault p)) path))
+    (seen.0, seen.1, inr (path_in folder Stops, both.1, refl, said ∙ ap (λ (p : List ℕ). alone (ended.ReadFault p)) path))
 refused told folder before now rose view fault.NoMemory (Ok answer) at seen said free = absurd (free refl)
 
 -- some files, those that are told if they are

@@ -7,7 +7,8 @@ use Rattle.files_door.specs.Targets.{Written}
 use Rattle.files_door.specs.Acts.{Act, begun, puts, Does}
 use Rattle.map_cli.specs.Lines.{status_line, no_memory_line}
 use Rattle.map_cli.specs.Words.{Asked, unread}
-use Rattle.map_cli.specs.Outcome.{alone, outcome, read_paths, AreFiles}
+use Rattle.map_cli.specs.Answers.{alone}
+use Rattle.map_cli.specs.Outcome.{outcome, read_paths, Reads, AreFiles}
 use Rattle.map_cli.specs.declared.answer.Answer.{Answer}
 use Rattle.map_cli.specs.declared.answer.Output.{Output}
 use Rattle.map_cli.specs.declared.status.Status.{Status}
@@ -65,14 +66,14 @@ IsEnded ended_with sinks_rose old new status =
     × Does (take n (line_acts line) ++ take m (line_acts no_memory_line)) old new)
 
 -- the answer is the outcome, or where reading failed, the fault at a file that the work reads
-abbrev pub IsAnswer : Answer → List (List ℕ) → Type 0 → Answer → Type 0
-IsAnswer outcome paths files_rose answer =
-    (answer ≡ outcome) ⊎ ((path : List ℕ) × files_rose × Contains paths path × (answer ≡ alone (ended.ReadFault path)))
+abbrev pub IsAnswer : Answer → (List ℕ → Type 0) → Type 0 → Answer → Type 0
+IsAnswer outcome reads files_rose answer =
+    (answer ≡ outcome) ⊎ ((path : List ℕ) × files_rose × reads path × (answer ≡ alone (ended.ReadFault path)))
 
 -- the answer is one that the files give, or some files where they are not told
 abbrev pub IsAnswerTo : Asked → Option (List (List ℕ × List ℕ)) → Type 0 → Answer → Type 0
 IsAnswerTo asked told files_rose answer =
-    (files : List (List ℕ × List ℕ)) × AreFiles told files × IsAnswer (outcome asked files) (read_paths asked) files_rose answer
+    (files : List (List ℕ × List ℕ)) × AreFiles told files × IsAnswer (outcome asked files) (Reads asked files) files_rose answer
 
 -- how a run ends, by what the words ask for and the files
 abbrev pub Ends : Asked → Option (List (List ℕ × List ℕ)) → Type 0 → Type 0 → Option Written → Option Written → Status → Type 0

@@ -1,6 +1,8 @@
 pub mod Words
 pub mod Lines
 pub mod Stations
+pub mod Answers
+pub mod Graph
 pub mod Outcome
 pub mod Ending
 pub mod Places

@@ -8,13 +8,21 @@ use Rattle.map_cli.specs.declared.words.Request.TheVariants as request
 -- a command with what it works on; `unread` where the words are no command
 pub data Asked : Type 0 where
   stations : List ℕ → Asked
+  graph : List ℕ → Asked
   unread : Asked
 
--- `stations FEED` is the one command
+-- a command that takes one folder
+abbrev pub asked_of : List ℕ → List ℕ → Asked
+asked_of command feed =
+    if bytes_eq command (codes "stations") then stations feed
+    else if bytes_eq command (codes "graph") then graph feed
+    else unread
+
+-- the commands are `stations FEED` and `graph FEED`
 abbrev pub asked : List (List ℕ) → Asked
 asked [] = unread
 asked (command ∷ []) = unread
-asked (command ∷ feed ∷ []) = if bytes_eq command (codes "stations") then stations feed else unread
+asked (command ∷ feed ∷ []) = asked_of command feed
 asked (command ∷ feed ∷ more ∷ rest) = unread
 
 abbrev pub asked_in : List (String Global) → Asked
@@ -23,4 +31,5 @@ asked_in words = asked (map string_bytes words)
 -- what a request of the program stands for
 abbrev pub asked_by : Request → Asked
 asked_by (request.Stations feed) = stations feed.now
+asked_by (request.Graph feed) = graph feed.now
 asked_by request.Unread = unread

@@ -3,16 +3,17 @@
 ghost use Rattle.std.specs.Prelude.{◌≡◌, ◌⊎◌, IfOk};
 ghost use Rattle.files_door.specs.Fault.{Rose};
 ghost use Rattle.map_cli.specs.Words.{asked_in, unread};
-ghost use Rattle.map_cli.specs.Outcome.{alone};
+ghost use Rattle.map_cli.specs.Answers.{alone};
 ghost use Rattle.map_cli.specs.Ending.{Ends, IsCaused, IsAnswerTo};
 
-use crate::answer::Answer;
+use crate::answer::{Answer, end_with};
 use crate::deliver::{deliver, out_of_memory};
+use crate::graph_command::answer_graph;
 use crate::stations_command::answer_stations;
 use crate::status::Status;
 use crate::words::{Request, request_of};
 use files_door::{Files, Sinks};
-use map_base::{NoMemory, Sequence, Steps};
+use map_base::{NoMemory, Steps};
 use std::alloc::Global;
 use std::sync::ledger::Ledger;
 
@@ -61,9 +62,7 @@ fn answer_of<F: Files>(alloc: Global, words: &[String], files: &mut F) -> Result
 {
     match request_of(words) {
         Request::Stations(feed) => answer_stations(alloc, feed, files),
-        Request::Unread => Ok(Answer {
-            status: Status::Usage,
-            outputs: Sequence::of(Vec::new(alloc)),
-        }),
+        Request::Graph(feed) => answer_graph(alloc, feed, files),
+        Request::Unread => Ok(end_with(alloc, Status::Usage)),
     }
 }
