@@ -13,3 +13,6 @@ pub mod Searching
 pub mod Walking
 pub mod Numbering
 pub mod NetworkRows
+pub mod ChainLaws
+pub mod SegmentFacts
+pub mod Consistency
