@@ -13,6 +13,7 @@ pub mod Searching
 pub mod Walking
 pub mod Numbering
 pub mod NetworkRows
+pub mod ChainEdges
 pub mod ChainLaws
 pub mod SegmentFacts
 pub mod Consistency
