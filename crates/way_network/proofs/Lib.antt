@@ -14,6 +14,8 @@ pub mod Walking
 pub mod Numbering
 pub mod NetworkRows
 pub mod ChainEdges
+pub mod ChainPaths
+pub mod ChainSteps
 pub mod ChainLaws
 pub mod SegmentFacts
 pub mod Consistency
