@@ -16,6 +16,7 @@ pub mod NetworkRows
 pub mod ChainEdges
 pub mod ChainPaths
 pub mod ChainSteps
+pub mod ChainPieces
 pub mod ChainLaws
 pub mod SegmentFacts
 pub mod Consistency
