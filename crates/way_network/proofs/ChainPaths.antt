@@ -38,7 +38,7 @@ all_turned P xs all k d l =
     let within : k < length xs = omega (arith, l, length-reverse xs) in
     subst P (sym (get_or-reverse xs k d within)) (all (length xs - 1 - k) d (omega arith))
 
-eqb_either : (a b : ℕ) → eqb a b ≡ eqb b a
+pub eqb_either : (a b : ℕ) → eqb a b ≡ eqb b a
 eqb_either a b = grind (arith, nat_tests)
 
 distinct_turned : (xs : List ℕ) → IsDistinct eqb xs → IsDistinct eqb (reversed xs)

@@ -74,7 +74,7 @@ course_turned g xs c = record { way = c.way; known = c.known; along = of_along c
     of_along way (inr e) = inl (ap reversed e ∙ reverse-reverse way.points)
 
 -- a part of a course runs as a chain does
-runs_in_course : (g : Network) (part xs : List ℕ) (c : IsCourse g xs) → StandsIn part xs → StandsIn part c.way.points ⊎ StandsIn (reversed part) c.way.points
+pub runs_in_course : (g : Network) (part xs : List ℕ) (c : IsCourse g xs) → StandsIn part xs → StandsIn part c.way.points ⊎ StandsIn (reversed part) c.way.points
 runs_in_course g part xs c s = of_along c.way c.along
   where
     of_along : (way : Way) → (xs ≡ way.points) ⊎ (xs ≡ reversed way.points) → StandsIn part way.points ⊎ StandsIn (reversed part) way.points

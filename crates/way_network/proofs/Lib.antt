@@ -18,5 +18,7 @@ pub mod ChainPaths
 pub mod ChainSteps
 pub mod ChainPieces
 pub mod ChainLaws
+pub mod ChainSegments
+pub mod ChainThrough
 pub mod SegmentFacts
 pub mod Consistency

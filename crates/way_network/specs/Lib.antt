@@ -11,3 +11,4 @@ pub mod Premises
 pub mod Rows
 pub mod Numbers
 pub mod Pieces
+pub mod Laws
