@@ -9,6 +9,7 @@ mod edge_table;
 mod edge_use;
 mod edges;
 mod joins;
+mod laws;
 mod nodes;
 mod numbers;
 mod ranks;
@@ -18,6 +19,10 @@ mod way;
 
 pub use edge_table::EdgeTable;
 pub use edges::UsedEdge;
+pub use laws::{
+    edges_are_on_one_segment, lines_are_on_the_segments_of_their_ways,
+    segments_have_the_lines_of_their_edges, used_edges_are_on_segments,
+};
 pub use nodes::Nodes;
 pub use numbers::Segments;
 pub use way::{Passage, Way};
