@@ -15,4 +15,6 @@ pub mod Numbering
 pub mod NetworkRows
 pub mod ChainLaws
 pub mod SegmentFacts
+mod ConsistencyLists
+mod ConsistencySegments
 pub mod Consistency
