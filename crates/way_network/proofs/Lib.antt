@@ -17,4 +17,5 @@ pub mod ChainLaws
 pub mod SegmentFacts
 mod ConsistencyLists
 mod ConsistencySegments
+mod ConsistencyParts
 pub mod Consistency
