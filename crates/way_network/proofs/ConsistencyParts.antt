@@ -19,7 +19,7 @@ use Rattle.way_network.specs.declared.way.Way.{Way}
 use Rattle.way_network.specs.declared.way.Passage.{Passage}
 use Rattle.way_network.specs.Edges.{runs_over, line_runs_over, lines_over, is_used, is_on_edges, passes}
 use Rattle.way_network.specs.Chains.{Network, used_at, has_node}
-use Rattle.way_network.specs.Segments.{first_of, second_of, last_of, reversed, around, nodes_of, segment_chains, node_at, begins_with, leaves, segment_at, segment_numbered, line_numbered, ends_of, lines_of, round_of}
+use Rattle.way_network.specs.Segments.{first_of, second_of, last_of, reversed, around, nodes_of, segment_chains, node_at, begins_with, leaves, segment_at, node_numbered, segment_numbered, line_numbered, ends_of, lines_of, round_of}
 use Rattle.way_network.specs.Joins.{leads, joins, join_of, joins_of_pair, joins_from, joins_at}
 use Rattle.way_network.specs.Premises.{IsNetwork, IsPassage}
 use Rattle.way_network.specs.Pieces.{IsChain}
@@ -287,8 +287,136 @@ module _ (points : List Point) (g : Network) (network : IsNetwork points g) wher
         by (inl e) = inl (point (first_of c) (first_node points g network c chain) e)
         by (inr e) = inr (point (last_of c) (last_node points g network c chain) e)
 
-    abbrev round : List SegId
-    round = round_of points g (segment_chains points g) (get_or (nodes_of g) n 0)
-
     number_at : ℕ → SegId
     number_at q = segment_numbered (segment_at (segment_chains points g) (get_or (nodes_of g) n 0) q)
+
+    round_apart : Apart (round_of points g (segment_chains points g) (get_or (nodes_of g) n 0))
+    round_apart =
+        follow_map (λ (x y : ℕ). x ≢ y) (λ (s r : SegId). s ≢ r) (λ q. segment_numbered (segment_at (segment_chains points g) p q)) (around points g p) (around_apart points g p)
+        (λ q r m k other e. other (same q r (from_around points g p q m) (from_around points g p r k) (ap (λ (s : SegId). s.0) e)))
+      where
+        same : (q r : ℕ) → is_used g.ways p q ≡ true → is_used g.ways p r ≡ true → segment_at (segment_chains points g) p q ≡ segment_at (segment_chains points g) p r → q ≡ r
+        same q r s t e =
+            let one = at_leaving points g network p q node s in
+            let other = at_leaving points g network p r node t in
+            let k : ℕ = segment_at (segment_chains points g) p q in
+            let c : List ℕ = get_or (segment_chains points g) k [] in
+            same_edge p q r (get_or (segment_chains points g) (segment_at (segment_chains points g) p q) []) (from_segments points g network c (in_at (segment_chains points g) k [] one.0)).1 (one.1 [])
+            (subst (λ (j : ℕ). leaves p r (get_or (segment_chains points g) j []) ≡ true) (sym e) (other.1 []))
+
+    here : List (NodeId × NodeId)
+    here = map (ends_of g) (segment_chains points g)
+
+    in_round : (s : SegId) → In s (segments_at n (map (ends_of g) (segment_chains points g))) → In s (round_of points g (segment_chains points g) p)
+    in_round s m =
+        let r = segments_after 0 n (map (ends_of g) (segment_chains points g)) s m in
+        let k : ℕ = r.0 in
+        let within : k < length (segment_chains points g) = subst (λ (j : ℕ). k < j) (length-map (segment_chains points g) (ends_of g)) r.1 in
+        let c : List ℕ = get_or (segment_chains points g) k [] in
+        let chain = (from_segments points g network c (in_at (segment_chains points g) k [] within)).0 in
+        let test : ends_at n (ends_of g c) ≡ true =
+            ap (ends_at n) (sym (get_or-map (ends_of g) (segment_chains points g) k [] (node_numbered 0, node_numbered 0) within)) ∙ r.3 (node_numbered 0, node_numbered 0) in
+        let edge = some_edge p c chain (ends_test c chain test) in
+        let at : 0 + k ≡ k = omega arith in
+        let number : segment_at (segment_chains points g) p edge.0 ≡ k = at_is points g network p edge.0 k [] within edge.2 in
+        let same : segment_numbered (segment_at (segment_chains points g) p edge.0) ≡ s = ap segment_numbered (number ∙ sym at) ∙ r.2 in
+        subst (λ t. In t (round_of points g (segment_chains points g) p)) same
+        (in_map (λ q. segment_numbered (segment_at (segment_chains points g) p q)) edge.0 (around points g p) (in_around points g network.ways p edge.0 edge.1))
+
+    from_round : (s : SegId) → In s (round_of points g (segment_chains points g) p) → In s (segments_at n (map (ends_of g) (segment_chains points g)))
+    from_round s m =
+        let r = from_map (λ q. segment_numbered (segment_at (segment_chains points g) p q)) s (around points g p) m in
+        let k : ℕ = segment_at (segment_chains points g) p r.0 in
+        let f = at_leaving points g network p r.0 node (from_around points g p r.0 r.1) in
+        let c : List ℕ = get_or (segment_chains points g) k [] in
+        let test : ends_at n (get_or (map (ends_of g) (segment_chains points g)) k (node_numbered 0, node_numbered 0)) ≡ true =
+            ap (ends_at n) (get_or-map (ends_of g) (segment_chains points g) k [] (node_numbered 0, node_numbered 0) f.0) ∙ test_ends c (leaves_ends p r.0 c (f.1 [])) in
+        let within : k < length (map (ends_of g) (segment_chains points g)) = subst (λ (j : ℕ). k < j) (sym (length-map (segment_chains points g) (ends_of g))) f.0 in
+        let at : 0 + k ≡ k = omega arith in
+        subst (λ t. In t (segments_at n (map (ends_of g) (segment_chains points g)))) (ap segment_numbered at ∙ r.2)
+        (in_segments_from 0 n k (map (ends_of g) (segment_chains points g)) (node_numbered 0, node_numbered 0) within test)
+
+    pub round_fits : IsRound (map (ends_of g) (segment_chains points g)) n (round_of points g (segment_chains points g) (get_or (nodes_of g) n 0))
+    round_fits =
+        let q = node_used p node in
+        (some_in (segment_numbered (segment_at (segment_chains points g) p q.0)) (round_of points g (segment_chains points g) p)
+                (in_map (λ q. segment_numbered (segment_at (segment_chains points g) p q)) q.0 (around points g p) (in_around points g network.ways p q.0 q.1)),
+            same_members (segments_at n (map (ends_of g) (segment_chains points g))) (round_of points g (segment_chains points g) p)
+                (follow_weaker (λ (s r : SegId). s.0 < r.0) (λ (s r : SegId). s ≢ r) (segments_at n (map (ends_of g) (segment_chains points g))) segments_differ
+                    (segments_rise 0 n (map (ends_of g) (segment_chains points g))))
+                round_apart in_round from_round)
+
+  leaves_lines : (p q : ℕ) (c : List ℕ) → IsChain g c → leaves p q c ≡ true → lines_over g.lines g.ways (first_of c) (second_of c) ≡ lines_over g.lines g.ways p q
+  leaves_lines p q c chain t = by (either (begins_with p q c) (begins_with p q (reversed c)) t)
+    where
+      by : (begins_with p q c ≡ true) ⊎ (begins_with p q (reversed c) ≡ true) → lines_over g.lines g.ways (first_of c) (second_of c) ≡ lines_over g.lines g.ways p q
+      by (inl e) =
+          let r = begins_at points g network p q c e in
+          λ i. lines_over g.lines g.ways (r.0 i) (r.1 i)
+      by (inr e) =
+          let r = begins_at points g network p q (reversed c) e in
+          equal_lines g c network.ways chain ∙ (λ i. lines_over g.lines g.ways (r.0 i) (r.1 i))
+
+  -- a line of an edge at a node is on the segment that leaves the node there
+  on_segment : (p q line : ℕ) → has_node g p ≡ true → line < g.lines → line_runs_over g.ways p q line ≡ true
+      → Contains (round_of points g (segment_chains points g) p) (segment_numbered (segment_at (segment_chains points g) p q))
+      × Contains (lines_at (map (lines_of g) (segment_chains points g)) (segment_numbered (segment_at (segment_chains points g) p q))) (line_numbered line)
+  on_segment p q line node l t =
+      let used : is_used g.ways p q ≡ true = line_used g p q line t in
+      let k : ℕ = segment_at (segment_chains points g) p q in
+      let f = at_leaving points g network p q node used in
+      let c : List ℕ = get_or (segment_chains points g) k [] in
+      let chain = (from_segments points g network c (in_at (segment_chains points g) k [] f.0)).0 in
+      let lines : get_or (map (lines_of g) (segment_chains points g)) k [] ≡ map line_numbered (lines_over g.lines g.ways p q) =
+          get_or-map (lines_of g) (segment_chains points g) k [] [] f.0 ∙ ap (map line_numbered) (leaves_lines p q c chain (f.1 [])) in
+      (to_contains (segment_numbered k) (round_of points g (segment_chains points g) p)
+              (in_map (λ q. segment_numbered (segment_at (segment_chains points g) p q)) q (around points g p) (in_around points g network.ways p q used)),
+          subst (λ (ls : List LineId). Contains ls (line_numbered line)) (sym lines)
+              (to_contains (line_numbered line) (map line_numbered (lines_over g.lines g.ways p q)) (in_map line_numbered line (lines_over g.lines g.ways p q) (in_lines g p q line l t))))
+
+  abbrev FitsOne : ℕ → ℕ → ℕ → Type 0
+  FitsOne p e line = Contains (round_of points g (segment_chains points g) p) (segment_numbered e) × Contains (lines_at (map (lines_of g) (segment_chains points g)) (segment_numbered e)) (line_numbered line)
+
+  module _ (passages : List Passage) (all : All (IsPassage g) passages) (p : ℕ) (node : has_node g p ≡ true) where
+    abbrev Fits : Join → Type 0
+    Fits j = IsJoin (map (lines_of g) (segment_chains points g)) (round_of points g (segment_chains points g) p) j
+
+    pair : (e f line : ℕ) → line < g.lines → joins (segment_chains points g) passages p e f line ≡ true → FitsOne p e line × FitsOne p f line
+    pair e f line l t =
+        let r = from_any (λ (x : Passage). eqb x.line.0 line && (eqb x.at p && leads (segment_chains points g) e f x)) passages t in
+        let x : Passage = r.0 in
+        let one = both (eqb x.line.0 line) (eqb x.at p && leads (segment_chains points g) e f x) r.2 in
+        let two = both (eqb x.at p) (leads (segment_chains points g) e f x) one.1 in
+        let passage : IsPassage g r.0 = all_at (IsPassage g) r.0 passages all r.1 in
+        by r.0.at r.0.from r.0.to r.0.line.0 (eqb-true x.at p two.0) (eqb-true x.line.0 line one.0) passage.comes passage.goes two.1
+      where
+        by : (at from to number : ℕ) → at ≡ p → number ≡ line → line_runs_over g.ways at from number ≡ true → line_runs_over g.ways at to number ≡ true
+            → ((eqb (segment_at (segment_chains points g) at from) e && eqb (segment_at (segment_chains points g) at to) f)
+                || (eqb (segment_at (segment_chains points g) at from) f && eqb (segment_at (segment_chains points g) at to) e)) ≡ true
+            → FitsOne p e line × FitsOne p f line
+        by at from to number same same_line comes goes h = cases
+            (either (eqb (segment_at (segment_chains points g) at from) e && eqb (segment_at (segment_chains points g) at to) f)
+            (eqb (segment_at (segment_chains points g) at from) f && eqb (segment_at (segment_chains points g) at to) e) h)
+          where
+            over : (q k : ℕ) → line_runs_over g.ways at q number ≡ true → segment_at (segment_chains points g) at q ≡ k → FitsOne p k line
+            over q k runs e =
+                subst (λ (j : ℕ). FitsOne p j line) (ap (λ (z : ℕ). segment_at (segment_chains points g) z q) (sym same) ∙ e)
+                (on_segment p q line node l (sym (λ i. line_runs_over g.ways (same i) q (same_line i)) ∙ runs))
+
+            cases : ((eqb (segment_at (segment_chains points g) at from) e && eqb (segment_at (segment_chains points g) at to) f) ≡ true)
+                ⊎ ((eqb (segment_at (segment_chains points g) at from) f && eqb (segment_at (segment_chains points g) at to) e) ≡ true)
+                → FitsOne p e line × FitsOne p f line
+            cases (inl t) =
+                let r = both (eqb (segment_at (segment_chains points g) at from) e) (eqb (segment_at (segment_chains points g) at to) f) t in
+                (over from e comes (eqb-true (segment_at (segment_chains points g) at from) e r.0), over to f goes (eqb-true (segment_at (segment_chains points g) at to) f r.1))
+            cases (inr t) =
+                let r = both (eqb (segment_at (segment_chains points g) at from) f) (eqb (segment_at (segment_chains points g) at to) e) t in
+                (over to e goes (eqb-true (segment_at (segment_chains points g) at to) e r.1), over from f comes (eqb-true (segment_at (segment_chains points g) at from) f r.0))
+
+    pub joins_fit : All (IsJoin (map (lines_of g) (segment_chains points g)) (round_of points g (segment_chains points g) p)) (joins_at (segment_chains points g) passages g.lines p)
+    joins_fit = all_in Fits (joins_at (segment_chains points g) passages g.lines p) (λ j m. by j (from_joins (segment_chains points g) passages g.lines p j m))
+      where
+        by : (j : Join) → IsMade (segment_chains points g) passages g.lines p j → Fits j
+        by j made =
+            let r = pair made.e made.f made.line made.known made.joined in
+            subst (λ (k : Join). Fits k) made.is record { order = made.order; lesser = r.0.0; greater = r.1.0; on_lesser = r.0.1; on_greater = r.1.1 }
