@@ -276,9 +276,9 @@ same_members {X} (x ∷ xs) ys u v there back =
     let r = parted x ys (there x (inl refl)) in
     let w : Apart (r.0 ++ x ∷ r.1) = subst (λ zs. Apart zs) r.2 v in
     let rest : IsPermutation xs (r.0 ++ r.1) =
-        same_members xs (r.0 ++ r.1) u.1 (without x r.0 r.1 w).0
-        (λ z m. on_there r.0 r.1 z m (from_append z r.0 (x ∷ r.1) (subst (λ zs. In z zs) r.2 (there z (inr m)))))
-        (λ z m. on_back z (λ e. (without x r.0 r.1 w).1 (subst (λ k. In k (r.0 ++ r.1)) (sym e) m)) (back z (subst (λ zs. In z zs) (sym r.2) (wider r.0 r.1 z (from_append z r.0 r.1 m))))) in
+    same_members xs (r.0 ++ r.1) u.1 (without x r.0 r.1 w).0
+    (λ z m. on_there r.0 r.1 z m (from_append z r.0 (x ∷ r.1) (subst (λ zs. In z zs) r.2 (there z (inr m)))))
+    (λ z m. on_back z (λ e. (without x r.0 r.1 w).1 (subst (λ k. In k (r.0 ++ r.1)) (sym e) m)) (back z (subst (λ zs. In z zs) (sym r.2) (wider r.0 r.1 z (from_append z r.0 r.1 m))))) in
     subst (λ zs. IsPermutation (x ∷ xs) zs) (sym r.2)
     (IsPermutation-trans (x ∷ xs) (x ∷ (r.0 ++ r.1)) (r.0 ++ x ∷ r.1) (IsPermutation-cons x xs (r.0 ++ r.1) rest)
     (IsPermutation-sym (r.0 ++ x ∷ r.1) (x ∷ (r.0 ++ r.1)) (IsPermutation-middle r.0 x r.1)))

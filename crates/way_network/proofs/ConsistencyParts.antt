@@ -1,9 +1,8 @@
 -- The rounds, the lines and the joins of the graph of a network.
-use Rattle.std.proofs.Common.{◌≡◌, ◌≢◌, refl, sym, ◌∙◌, ap, subst, ℕ, zero, suc, ◌+◌, ◌<◌, ◌≤◌, ◌⊎◌, inl, inr, Bool, true, false, cond, not, eqb, ltb, ◌||◌, ◌&&◌, List, [], ◌∷◌, ◌++◌, length, get_or, map, filter, arith}
-use Rattle.std.specs.Prelude.{ℤ, pos, negsuc, unsigned_abs, ◌≤ℤ◌, IsPermutation}
-use Rattle.std.specs.List.{All, Contains, flat_map, range_with_len}
-use Rattle.std.proofs.lemmas.Bool.{cases_lt, eq-eqb, eqb-true}
-use Rattle.std.proofs.lemmas.Bool.Decides.{nat_tests}
+use Rattle.std.proofs.Common.{◌≡◌, ◌≢◌, refl, sym, ◌∙◌, ap, subst, ℕ, zero, suc, ◌+◌, ◌<◌, ◌≤◌, ◌⊎◌, inl, inr, Bool, true, false, cond, not, eqb, ltb, ◌||◌, ◌&&◌, List, [], ◌∷◌, length, get_or, map, filter, arith}
+use Rattle.std.specs.Prelude.{ℤ, pos, negsuc, unsigned_abs, ◌≤ℤ◌}
+use Rattle.std.specs.List.{All, Contains, range_with_len}
+use Rattle.std.proofs.lemmas.Bool.{eq-eqb, eqb-true}
 use Rattle.std.proofs.lemmas.Int.{ints}
 use Rattle.std.proofs.lemmas.List.{length-map, get_or-map}
 use Rattle.std.proofs.lemmas.List.Elements.{All-map}
@@ -25,7 +24,7 @@ use Rattle.way_network.specs.Premises.{IsNetwork, IsPassage}
 use Rattle.way_network.specs.Pieces.{IsChain}
 use Rattle.way_network.proofs.ChainLaws.{turned, used_first, equal_lines}
 use Rattle.way_network.proofs.ConsistencyLists.{In, in_map, from_map, in_filter, from_filter, from_flat_map, in_range, from_range, in_at, to_contains, all_in, all_at, from_any, Follow, follow_filter, follow_map, follow_flat_map, follow_range, follow_weaker, Apart, same_members}
-use Rattle.way_network.proofs.ConsistencySegments.{low, is_low, both, either, is_left, is_right, first_reversed, line_used, used_line, from_nodes, node_place, node_is, node_rises, in_around, from_around, around_apart, from_segments, first_node, last_node, begins_at, is_begun, at_leaving, at_is, less_apart}
+use Rattle.way_network.proofs.ConsistencySegments.{low, both, either, is_left, is_right, first_reversed, line_used, used_line, from_nodes, node_place, node_is, node_rises, in_around, from_around, around_apart, from_segments, first_node, last_node, begins_at, is_begun, at_leaving, at_is, less_apart}
 
 some_in : {X : Type 0} (x : X) (xs : List X) → In x xs → 0 < length xs
 some_in x [] m = absurd m
@@ -200,10 +199,13 @@ module _ (chains : List (List ℕ)) (passages : List Passage) (lines p : ℕ) wh
 -- The parts of the graph.
 
 module _ (points : List Point) (g : Network) (network : IsNetwork points g) where
-  pub lines_fit : All (λ (ls : List LineId). (0 < length ls) × AreRising ls) (map (lines_of g) (segment_chains points g))
+  abbrev pub chains : List (List ℕ)
+  chains = segment_chains points g
+
+  pub lines_fit : All (λ (ls : List LineId). (0 < length ls) × AreRising ls) (map (lines_of g) chains)
   lines_fit =
-      All-map (λ (ls : List LineId). (0 < length ls) × AreRising ls) (lines_of g) (segment_chains points g)
-      (all_in (λ (c : List ℕ). (0 < length (lines_of g c)) × AreRising (lines_of g c)) (segment_chains points g) (λ c m. at c (from_segments points g network c m).0))
+      All-map (λ (ls : List LineId). (0 < length ls) × AreRising ls) (lines_of g) chains
+      (all_in (λ (c : List ℕ). (0 < length (lines_of g c)) × AreRising (lines_of g c)) chains (λ c m. at c (from_segments points g network c m).0))
     where
       at : (c : List ℕ) → IsChain g c → (0 < length (lines_of g c)) × AreRising (lines_of g c)
       at c chain =
@@ -213,10 +215,10 @@ module _ (points : List Point) (g : Network) (network : IsNetwork points g) wher
           let some : 0 < length (lines_over g.lines g.ways p q) = some_in r.0 (lines_over g.lines g.ways p q) (in_lines g p q r.0 r.1 r.2) in
           (omega (arith, some, length-map (lines_over g.lines g.ways p q) line_numbered), over_rise g p q)
 
-  pub ends_fit : All (AreEnds (length (nodes_of g))) (map (ends_of g) (segment_chains points g))
+  pub ends_fit : All (AreEnds (length (nodes_of g))) (map (ends_of g) chains)
   ends_fit =
-      All-map (AreEnds (length (nodes_of g))) (ends_of g) (segment_chains points g)
-      (all_in (λ (c : List ℕ). AreEnds (length (nodes_of g)) (ends_of g c)) (segment_chains points g) (λ c m. at c (from_segments points g network c m)))
+      All-map (AreEnds (length (nodes_of g))) (ends_of g) chains
+      (all_in (λ (c : List ℕ). AreEnds (length (nodes_of g)) (ends_of g c)) chains (λ c m. at c (from_segments points g network c m)))
     where
       at : (c : List ℕ) → IsChain g c × (first_of c < last_of c) → AreEnds (length (nodes_of g)) (ends_of g c)
       at c r =
@@ -239,9 +241,11 @@ module _ (points : List Point) (g : Network) (network : IsNetwork points g) wher
   )
   some_edge p c chain (inr e) =
       let q : ℕ = second_of (reversed c) in
-      let first : first_of (reversed c) ≡ p = first_reversed c ∙ e in
-      (q, ap (λ (k : ℕ). is_used g.ways k q) (sym first) ∙ used_first g (reversed c) network.ways (turned g c chain),
-          is_right (begins_with p q c) (begins_with p q (reversed c)) (is_begun points g network p q (reversed c) first refl))
+      let first : first_of (reversed c) ≡ p = first_reversed c ∙ e in (
+        q,
+        ap (λ (k : ℕ). is_used g.ways k q) (sym first) ∙ used_first g (reversed c) network.ways (turned g c chain),
+        is_right (begins_with p q c) (begins_with p q (reversed c)) (is_begun points g network p q (reversed c) first refl),
+      )
 
   same_edge : (p q r : ℕ) (c : List ℕ) → first_of c < last_of c → leaves p q c ≡ true → leaves p r c ≡ true → q ≡ r
   same_edge p q r c up s t = by (either (begins_with p q c) (begins_with p q (reversed c)) s) (either (begins_with p r c) (begins_with p r (reversed c)) t)
@@ -267,84 +271,91 @@ module _ (points : List Point) (g : Network) (network : IsNetwork points g) wher
       by (q ∷ xs) e t = (q, (from_filter (is_used g.ways p) q (range_with_len 0 g.points) (subst (λ ys. In q ys) (sym e) (inl refl))).1)
 
   module _ (n : ℕ) (l : n < length (nodes_of g)) where
-    abbrev p : ℕ
+    abbrev pub p : ℕ
     p = get_or (nodes_of g) n 0
 
-    node : has_node g (get_or (nodes_of g) n 0) ≡ true
-    node = (from_nodes g (get_or (nodes_of g) n 0) (in_at (nodes_of g) n 0 l)).1
+    node : has_node g p ≡ true
+    node = (from_nodes g p (in_at (nodes_of g) n 0 l)).1
 
-    test_ends : (c : List ℕ) → (first_of c ≡ get_or (nodes_of g) n 0) ⊎ (last_of c ≡ get_or (nodes_of g) n 0) → ends_at n (ends_of g c) ≡ true
+    test_ends : (c : List ℕ) → (first_of c ≡ p) ⊎ (last_of c ≡ p) → ends_at n (ends_of g c) ≡ true
     test_ends c (inl e) = is_left (eqb (node_at g (first_of c)) n) (eqb (node_at g (last_of c)) n) (eq-eqb (node_at g (first_of c)) n (ap (node_at g) e ∙ node_is g n l))
     test_ends c (inr e) = is_right (eqb (node_at g (first_of c)) n) (eqb (node_at g (last_of c)) n) (eq-eqb (node_at g (last_of c)) n (ap (node_at g) e ∙ node_is g n l))
 
-    ends_test : (c : List ℕ) → IsChain g c → ends_at n (ends_of g c) ≡ true → (first_of c ≡ get_or (nodes_of g) n 0) ⊎ (last_of c ≡ get_or (nodes_of g) n 0)
+    ends_test : (c : List ℕ) → IsChain g c → ends_at n (ends_of g c) ≡ true → (first_of c ≡ p) ⊎ (last_of c ≡ p)
     ends_test c chain t = by (either (eqb (node_at g (first_of c)) n) (eqb (node_at g (last_of c)) n) t)
       where
-        point : (k : ℕ) → In k (nodes_of g) → eqb (node_at g k) n ≡ true → k ≡ get_or (nodes_of g) n 0
+        point : (k : ℕ) → In k (nodes_of g) → eqb (node_at g k) n ≡ true → k ≡ p
         point k m e = sym ((node_place g k m).1 0) ∙ ap (λ (j : ℕ). get_or (nodes_of g) j 0) (eqb-true (node_at g k) n e)
 
-        by : (eqb (node_at g (first_of c)) n ≡ true) ⊎ (eqb (node_at g (last_of c)) n ≡ true) → (first_of c ≡ get_or (nodes_of g) n 0) ⊎ (last_of c ≡ get_or (nodes_of g) n 0)
+        by : (eqb (node_at g (first_of c)) n ≡ true) ⊎ (eqb (node_at g (last_of c)) n ≡ true) → (first_of c ≡ p) ⊎ (last_of c ≡ p)
         by (inl e) = inl (point (first_of c) (first_node points g network c chain) e)
         by (inr e) = inr (point (last_of c) (last_node points g network c chain) e)
 
-    number_at : ℕ → SegId
-    number_at q = segment_numbered (segment_at (segment_chains points g) (get_or (nodes_of g) n 0) q)
+    abbrev pub number_at : ℕ → SegId
+    number_at q = segment_numbered (segment_at chains p q)
 
-    round_apart : Apart (round_of points g (segment_chains points g) (get_or (nodes_of g) n 0))
+    abbrev pub round : List SegId
+    round = round_of points g chains p
+
+    abbrev pub ends : List (NodeId × NodeId)
+    ends = map (ends_of g) chains
+
+    abbrev no_ends : NodeId × NodeId
+    no_ends = (node_numbered 0, node_numbered 0)
+
+    round_apart : Apart round
     round_apart =
-        follow_map (λ (x y : ℕ). x ≢ y) (λ (s r : SegId). s ≢ r) (λ q. segment_numbered (segment_at (segment_chains points g) p q)) (around points g p) (around_apart points g p)
+        follow_map (λ (x y : ℕ). x ≢ y) (λ (s r : SegId). s ≢ r) number_at (around points g p) (around_apart points g p)
         (λ q r m k other e. other (same q r (from_around points g p q m) (from_around points g p r k) (ap (λ (s : SegId). s.0) e)))
       where
-        same : (q r : ℕ) → is_used g.ways p q ≡ true → is_used g.ways p r ≡ true → segment_at (segment_chains points g) p q ≡ segment_at (segment_chains points g) p r → q ≡ r
+        same : (q r : ℕ) → is_used g.ways p q ≡ true → is_used g.ways p r ≡ true → segment_at chains p q ≡ segment_at chains p r → q ≡ r
         same q r s t e =
             let one = at_leaving points g network p q node s in
             let other = at_leaving points g network p r node t in
-            let k : ℕ = segment_at (segment_chains points g) p q in
-            let c : List ℕ = get_or (segment_chains points g) k [] in
-            same_edge p q r (get_or (segment_chains points g) (segment_at (segment_chains points g) p q) []) (from_segments points g network c (in_at (segment_chains points g) k [] one.0)).1 (one.1 [])
-            (subst (λ (j : ℕ). leaves p r (get_or (segment_chains points g) j []) ≡ true) (sym e) (other.1 []))
+            let k : ℕ = segment_at chains p q in
+            let c : List ℕ = get_or chains k [] in
+            same_edge p q r (get_or chains (segment_at chains p q) []) (from_segments points g network c (in_at chains k [] one.0)).1 (one.1 [])
+            (subst (λ (j : ℕ). leaves p r (get_or chains j []) ≡ true) (sym e) (other.1 []))
 
-    here : List (NodeId × NodeId)
-    here = map (ends_of g) (segment_chains points g)
-
-    in_round : (s : SegId) → In s (segments_at n (map (ends_of g) (segment_chains points g))) → In s (round_of points g (segment_chains points g) p)
+    in_round : (s : SegId) → In s (segments_at n ends) → In s round
     in_round s m =
-        let r = segments_after 0 n (map (ends_of g) (segment_chains points g)) s m in
+        let r = segments_after 0 n ends s m in
         let k : ℕ = r.0 in
-        let within : k < length (segment_chains points g) = subst (λ (j : ℕ). k < j) (length-map (segment_chains points g) (ends_of g)) r.1 in
-        let c : List ℕ = get_or (segment_chains points g) k [] in
-        let chain = (from_segments points g network c (in_at (segment_chains points g) k [] within)).0 in
+        let within : k < length chains = subst (λ (j : ℕ). k < j) (length-map chains (ends_of g)) r.1 in
+        let c : List ℕ = get_or chains k [] in
+        let chain = (from_segments points g network c (in_at chains k [] within)).0 in
         let test : ends_at n (ends_of g c) ≡ true =
-            ap (ends_at n) (sym (get_or-map (ends_of g) (segment_chains points g) k [] (node_numbered 0, node_numbered 0) within)) ∙ r.3 (node_numbered 0, node_numbered 0) in
+        ap (ends_at n) (sym (get_or-map (ends_of g) chains k [] no_ends within)) ∙ r.3 no_ends in
         let edge = some_edge p c chain (ends_test c chain test) in
         let at : 0 + k ≡ k = omega arith in
-        let number : segment_at (segment_chains points g) p edge.0 ≡ k = at_is points g network p edge.0 k [] within edge.2 in
-        let same : segment_numbered (segment_at (segment_chains points g) p edge.0) ≡ s = ap segment_numbered (number ∙ sym at) ∙ r.2 in
-        subst (λ t. In t (round_of points g (segment_chains points g) p)) same
-        (in_map (λ q. segment_numbered (segment_at (segment_chains points g) p q)) edge.0 (around points g p) (in_around points g network.ways p edge.0 edge.1))
+        let number : segment_at chains p edge.0 ≡ k = at_is points g network p edge.0 k [] within edge.2 in
+        let same : number_at edge.0 ≡ s = ap segment_numbered (number ∙ sym at) ∙ r.2 in
+        subst (λ t. In t round) same
+        (in_map number_at edge.0 (around points g p) (in_around points g network.ways p edge.0 edge.1))
 
-    from_round : (s : SegId) → In s (round_of points g (segment_chains points g) p) → In s (segments_at n (map (ends_of g) (segment_chains points g)))
+    from_round : (s : SegId) → In s round → In s (segments_at n ends)
     from_round s m =
-        let r = from_map (λ q. segment_numbered (segment_at (segment_chains points g) p q)) s (around points g p) m in
-        let k : ℕ = segment_at (segment_chains points g) p r.0 in
+        let r = from_map number_at s (around points g p) m in
+        let k : ℕ = segment_at chains p r.0 in
         let f = at_leaving points g network p r.0 node (from_around points g p r.0 r.1) in
-        let c : List ℕ = get_or (segment_chains points g) k [] in
-        let test : ends_at n (get_or (map (ends_of g) (segment_chains points g)) k (node_numbered 0, node_numbered 0)) ≡ true =
-            ap (ends_at n) (get_or-map (ends_of g) (segment_chains points g) k [] (node_numbered 0, node_numbered 0) f.0) ∙ test_ends c (leaves_ends p r.0 c (f.1 [])) in
-        let within : k < length (map (ends_of g) (segment_chains points g)) = subst (λ (j : ℕ). k < j) (sym (length-map (segment_chains points g) (ends_of g))) f.0 in
+        let c : List ℕ = get_or chains k [] in
+        let test : ends_at n (get_or ends k no_ends) ≡ true =
+        ap (ends_at n) (get_or-map (ends_of g) chains k [] no_ends f.0) ∙ test_ends c (leaves_ends p r.0 c (f.1 [])) in
+        let within : k < length ends = subst (λ (j : ℕ). k < j) (sym (length-map chains (ends_of g))) f.0 in
         let at : 0 + k ≡ k = omega arith in
-        subst (λ t. In t (segments_at n (map (ends_of g) (segment_chains points g)))) (ap segment_numbered at ∙ r.2)
-        (in_segments_from 0 n k (map (ends_of g) (segment_chains points g)) (node_numbered 0, node_numbered 0) within test)
+        subst (λ t. In t (segments_at n ends)) (ap segment_numbered at ∙ r.2)
+        (in_segments_from 0 n k ends no_ends within test)
 
-    pub round_fits : IsRound (map (ends_of g) (segment_chains points g)) n (round_of points g (segment_chains points g) (get_or (nodes_of g) n 0))
+    pub round_fits : IsRound ends n round
     round_fits =
-        let q = node_used p node in
-        (some_in (segment_numbered (segment_at (segment_chains points g) p q.0)) (round_of points g (segment_chains points g) p)
-                (in_map (λ q. segment_numbered (segment_at (segment_chains points g) p q)) q.0 (around points g p) (in_around points g network.ways p q.0 q.1)),
-            same_members (segments_at n (map (ends_of g) (segment_chains points g))) (round_of points g (segment_chains points g) p)
-                (follow_weaker (λ (s r : SegId). s.0 < r.0) (λ (s r : SegId). s ≢ r) (segments_at n (map (ends_of g) (segment_chains points g))) segments_differ
-                    (segments_rise 0 n (map (ends_of g) (segment_chains points g))))
-                round_apart in_round from_round)
+        let q = node_used p node in (
+          some_in (number_at q.0) round
+              (in_map number_at q.0 (around points g p) (in_around points g network.ways p q.0 q.1)),
+          same_members (segments_at n ends) round
+              (follow_weaker (λ (s r : SegId). s.0 < r.0) (λ (s r : SegId). s ≢ r) (segments_at n ends) segments_differ
+              (segments_rise 0 n ends))
+              round_apart in_round from_round,
+        )
 
   leaves_lines : (p q : ℕ) (c : List ℕ) → IsChain g c → leaves p q c ≡ true → lines_over g.lines g.ways (first_of c) (second_of c) ≡ lines_over g.lines g.ways p q
   leaves_lines p q c chain t = by (either (begins_with p q c) (begins_with p q (reversed c)) t)
@@ -359,64 +370,65 @@ module _ (points : List Point) (g : Network) (network : IsNetwork points g) wher
 
   -- a line of an edge at a node is on the segment that leaves the node there
   on_segment : (p q line : ℕ) → has_node g p ≡ true → line < g.lines → line_runs_over g.ways p q line ≡ true
-      → Contains (round_of points g (segment_chains points g) p) (segment_numbered (segment_at (segment_chains points g) p q))
-      × Contains (lines_at (map (lines_of g) (segment_chains points g)) (segment_numbered (segment_at (segment_chains points g) p q))) (line_numbered line)
+      → Contains (round_of points g chains p) (segment_numbered (segment_at chains p q))
+      × Contains (lines_at (map (lines_of g) chains) (segment_numbered (segment_at chains p q))) (line_numbered line)
   on_segment p q line node l t =
       let used : is_used g.ways p q ≡ true = line_used g p q line t in
-      let k : ℕ = segment_at (segment_chains points g) p q in
+      let k : ℕ = segment_at chains p q in
       let f = at_leaving points g network p q node used in
-      let c : List ℕ = get_or (segment_chains points g) k [] in
-      let chain = (from_segments points g network c (in_at (segment_chains points g) k [] f.0)).0 in
-      let lines : get_or (map (lines_of g) (segment_chains points g)) k [] ≡ map line_numbered (lines_over g.lines g.ways p q) =
-          get_or-map (lines_of g) (segment_chains points g) k [] [] f.0 ∙ ap (map line_numbered) (leaves_lines p q c chain (f.1 [])) in
-      (to_contains (segment_numbered k) (round_of points g (segment_chains points g) p)
-              (in_map (λ q. segment_numbered (segment_at (segment_chains points g) p q)) q (around points g p) (in_around points g network.ways p q used)),
-          subst (λ (ls : List LineId). Contains ls (line_numbered line)) (sym lines)
-              (to_contains (line_numbered line) (map line_numbered (lines_over g.lines g.ways p q)) (in_map line_numbered line (lines_over g.lines g.ways p q) (in_lines g p q line l t))))
+      let c : List ℕ = get_or chains k [] in
+      let chain = (from_segments points g network c (in_at chains k [] f.0)).0 in
+      let lines : get_or (map (lines_of g) chains) k [] ≡ map line_numbered (lines_over g.lines g.ways p q) =
+      get_or-map (lines_of g) chains k [] [] f.0 ∙ ap (map line_numbered) (leaves_lines p q c chain (f.1 [])) in (
+        to_contains (segment_numbered k) (round_of points g chains p)
+            (in_map (λ q. segment_numbered (segment_at chains p q)) q (around points g p) (in_around points g network.ways p q used)),
+        subst (λ (ls : List LineId). Contains ls (line_numbered line)) (sym lines)
+            (to_contains (line_numbered line) (map line_numbered (lines_over g.lines g.ways p q)) (in_map line_numbered line (lines_over g.lines g.ways p q) (in_lines g p q line l t))),
+      )
 
   abbrev FitsOne : ℕ → ℕ → ℕ → Type 0
-  FitsOne p e line = Contains (round_of points g (segment_chains points g) p) (segment_numbered e) × Contains (lines_at (map (lines_of g) (segment_chains points g)) (segment_numbered e)) (line_numbered line)
+  FitsOne p e line = Contains (round_of points g chains p) (segment_numbered e) × Contains (lines_at (map (lines_of g) chains) (segment_numbered e)) (line_numbered line)
 
   module _ (passages : List Passage) (all : All (IsPassage g) passages) (p : ℕ) (node : has_node g p ≡ true) where
     abbrev Fits : Join → Type 0
-    Fits j = IsJoin (map (lines_of g) (segment_chains points g)) (round_of points g (segment_chains points g) p) j
+    Fits j = IsJoin (map (lines_of g) chains) (round_of points g chains p) j
 
-    pair : (e f line : ℕ) → line < g.lines → joins (segment_chains points g) passages p e f line ≡ true → FitsOne p e line × FitsOne p f line
+    pair : (e f line : ℕ) → line < g.lines → joins chains passages p e f line ≡ true → FitsOne p e line × FitsOne p f line
     pair e f line l t =
-        let r = from_any (λ (x : Passage). eqb x.line.0 line && (eqb x.at p && leads (segment_chains points g) e f x)) passages t in
+        let r = from_any (λ (x : Passage). eqb x.line.0 line && (eqb x.at p && leads chains e f x)) passages t in
         let x : Passage = r.0 in
-        let one = both (eqb x.line.0 line) (eqb x.at p && leads (segment_chains points g) e f x) r.2 in
-        let two = both (eqb x.at p) (leads (segment_chains points g) e f x) one.1 in
+        let one = both (eqb x.line.0 line) (eqb x.at p && leads chains e f x) r.2 in
+        let two = both (eqb x.at p) (leads chains e f x) one.1 in
         let passage : IsPassage g r.0 = all_at (IsPassage g) r.0 passages all r.1 in
         by r.0.at r.0.from r.0.to r.0.line.0 (eqb-true x.at p two.0) (eqb-true x.line.0 line one.0) passage.comes passage.goes two.1
       where
         by : (at from to number : ℕ) → at ≡ p → number ≡ line → line_runs_over g.ways at from number ≡ true → line_runs_over g.ways at to number ≡ true
-            → ((eqb (segment_at (segment_chains points g) at from) e && eqb (segment_at (segment_chains points g) at to) f)
-                || (eqb (segment_at (segment_chains points g) at from) f && eqb (segment_at (segment_chains points g) at to) e)) ≡ true
+            → ((eqb (segment_at chains at from) e && eqb (segment_at chains at to) f)
+            || (eqb (segment_at chains at from) f && eqb (segment_at chains at to) e)) ≡ true
             → FitsOne p e line × FitsOne p f line
         by at from to number same same_line comes goes h = cases
-            (either (eqb (segment_at (segment_chains points g) at from) e && eqb (segment_at (segment_chains points g) at to) f)
-            (eqb (segment_at (segment_chains points g) at from) f && eqb (segment_at (segment_chains points g) at to) e) h)
+            (either (eqb (segment_at chains at from) e && eqb (segment_at chains at to) f)
+            (eqb (segment_at chains at from) f && eqb (segment_at chains at to) e) h)
           where
-            over : (q k : ℕ) → line_runs_over g.ways at q number ≡ true → segment_at (segment_chains points g) at q ≡ k → FitsOne p k line
+            over : (q k : ℕ) → line_runs_over g.ways at q number ≡ true → segment_at chains at q ≡ k → FitsOne p k line
             over q k runs e =
-                subst (λ (j : ℕ). FitsOne p j line) (ap (λ (z : ℕ). segment_at (segment_chains points g) z q) (sym same) ∙ e)
+                subst (λ (j : ℕ). FitsOne p j line) (ap (λ (z : ℕ). segment_at chains z q) (sym same) ∙ e)
                 (on_segment p q line node l (sym (λ i. line_runs_over g.ways (same i) q (same_line i)) ∙ runs))
 
-            cases : ((eqb (segment_at (segment_chains points g) at from) e && eqb (segment_at (segment_chains points g) at to) f) ≡ true)
-                ⊎ ((eqb (segment_at (segment_chains points g) at from) f && eqb (segment_at (segment_chains points g) at to) e) ≡ true)
+            cases : ((eqb (segment_at chains at from) e && eqb (segment_at chains at to) f) ≡ true)
+                ⊎ ((eqb (segment_at chains at from) f && eqb (segment_at chains at to) e) ≡ true)
                 → FitsOne p e line × FitsOne p f line
             cases (inl t) =
-                let r = both (eqb (segment_at (segment_chains points g) at from) e) (eqb (segment_at (segment_chains points g) at to) f) t in
-                (over from e comes (eqb-true (segment_at (segment_chains points g) at from) e r.0), over to f goes (eqb-true (segment_at (segment_chains points g) at to) f r.1))
+                let r = both (eqb (segment_at chains at from) e) (eqb (segment_at chains at to) f) t in
+                (over from e comes (eqb-true (segment_at chains at from) e r.0), over to f goes (eqb-true (segment_at chains at to) f r.1))
             cases (inr t) =
-                let r = both (eqb (segment_at (segment_chains points g) at from) f) (eqb (segment_at (segment_chains points g) at to) e) t in
-                (over to e goes (eqb-true (segment_at (segment_chains points g) at to) e r.1), over from f comes (eqb-true (segment_at (segment_chains points g) at from) f r.0))
+                let r = both (eqb (segment_at chains at from) f) (eqb (segment_at chains at to) e) t in
+                (over to e goes (eqb-true (segment_at chains at to) e r.1), over from f comes (eqb-true (segment_at chains at from) f r.0))
 
-    pub joins_fit : All (IsJoin (map (lines_of g) (segment_chains points g)) (round_of points g (segment_chains points g) p)) (joins_at (segment_chains points g) passages g.lines p)
-    joins_fit = all_in Fits (joins_at (segment_chains points g) passages g.lines p) (λ j m. by j (from_joins (segment_chains points g) passages g.lines p j m))
+    pub joins_fit : All (IsJoin (map (lines_of g) chains) (round_of points g chains p)) (joins_at chains passages g.lines p)
+    joins_fit = all_in Fits (joins_at chains passages g.lines p) (λ j m. by j (from_joins chains passages g.lines p j m))
       where
-        by : (j : Join) → IsMade (segment_chains points g) passages g.lines p j → Fits j
+        by : (j : Join) → IsMade chains passages g.lines p j → Fits j
         by j made =
             let r = pair made.e made.f made.line made.known made.joined in
             subst (λ (k : Join). Fits k) made.is record { order = made.order; lesser = r.0.0; greater = r.1.0; on_lesser = r.0.1; on_greater = r.1.1 }

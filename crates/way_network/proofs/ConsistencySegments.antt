@@ -1,5 +1,5 @@
 -- The segments of a network: the chains that rise, each once, and the one that leaves a node over an edge.
-use Rattle.std.proofs.Common.{◌≡◌, ◌≢◌, refl, sym, ◌∙◌, ap, subst, ℕ, zero, suc, ◌+◌, ◌<◌, ◌≤◌, ◌⊎◌, inl, inr, Bool, true, false, cond, eqb, ltb, ◌||◌, ◌&&◌, List, [], ◌∷◌, ◌++◌, length, get_or, map, filter, append-nil, arith}
+use Rattle.std.proofs.Common.{◌≡◌, ◌≢◌, refl, sym, ◌∙◌, ap, subst, ℕ, ◌+◌, ◌<◌, ◌≤◌, ◌⊎◌, inl, inr, Bool, true, false, cond, eqb, ltb, ◌||◌, ◌&&◌, List, [], ◌∷◌, ◌++◌, length, get_or, map, append-nil, arith}
 use Rattle.std.specs.List.{All, range_with_len}
 use Rattle.std.proofs.lemmas.Bool.{cases_lt, eq-eqb, eqb-true}
 use Rattle.std.proofs.lemmas.Bool.Decides.{nat_tests}
@@ -163,9 +163,12 @@ pub used_line : (g : Network) → All (IsWay g) g.ways → (p q : ℕ) → is_us
 used_line g ways p q t =
     let r = from_any (λ (w : Way). runs_over p q w.points) g.ways t in
     let way : IsWay g r.0 = all_at (IsWay g) r.0 g.ways ways r.1 in
-    let w : Way = r.0 in
-    (w.line.0, way.line, any_in (λ (v : Way). eqb v.line.0 w.line.0 && runs_over p q v.points) w g.ways r.1
-        (is_both (eqb w.line.0 w.line.0) (runs_over p q w.points) (eq-eqb w.line.0 w.line.0 refl) r.2))
+    let w : Way = r.0 in (
+      w.line.0,
+      way.line,
+      any_in (λ (v : Way). eqb v.line.0 w.line.0 && runs_over p q v.points) w g.ways r.1
+          (is_both (eqb w.line.0 w.line.0) (runs_over p q w.points) (eq-eqb w.line.0 w.line.0 refl) r.2),
+    )
 
 -- Nodes.
 
@@ -235,10 +238,10 @@ around_apart points g p =
 -- Segments.
 
 module _ (points : List Point) (g : Network) (network : IsNetwork points g) where
-  abbrev cs : List (List ℕ)
-  cs = segment_chains points g
+  abbrev pub chains : List (List ℕ)
+  chains = segment_chains points g
 
-  pub from_segments : (c : List ℕ) → In c (segment_chains points g) → IsChain g c × (first_of c < last_of c)
+  pub from_segments : (c : List ℕ) → In c chains → IsChain g c × (first_of c < last_of c)
   from_segments c m =
       let r = from_flat_map (rising_chains points g) c (nodes_of g) m in
       let f = from_filter (λ (chain : List ℕ). ltb r.0 (last_of chain)) c (map (chain_from g r.0) (around points g r.0)) r.2 in
@@ -258,17 +261,17 @@ module _ (points : List Point) (g : Network) (network : IsNetwork points g) wher
   pub last_node : (c : List ℕ) → IsChain g c → In (last_of c) (nodes_of g)
   last_node c chain = in_nodes g (last_of c) (chain_below c chain).1 chain.ends
 
-  pub in_segments : (c : List ℕ) → IsChain g c → first_of c < last_of c → In c (segment_chains points g)
+  pub in_segments : (c : List ℕ) → IsChain g c → first_of c < last_of c → In c chains
   in_segments c chain up =
       let p : ℕ = first_of c in
       let q : ℕ = second_of c in
       let made : In (chain_from g p q) (map (chain_from g p) (around points g p)) =
-          in_map (chain_from g p) q (around points g p) (in_around points g network.ways p q (used_first g c network.ways chain)) in
+      in_map (chain_from g p) q (around points g p) (in_around points g network.ways p q (used_first g c network.ways chain)) in
       let kept : In c (map (chain_from g p) (around points g p)) = subst (λ d. In d (map (chain_from g p) (around points g p))) (followed g c network.ways chain) made in
       in_flat_map (rising_chains points g) p c (nodes_of g) (first_node c chain)
       (in_filter (λ (d : List ℕ). ltb p (last_of d)) c (map (chain_from g p) (around points g p)) kept (is_low p (last_of c) up))
 
-  pub segments_apart : Apart (segment_chains points g)
+  pub segments_apart : Apart chains
   segments_apart =
       follow_flat_map (λ x y. x < y) (λ (c d : List ℕ). c ≢ d) (rising_chains points g) (nodes_of g) (nodes_rise g) (λ p m. at_one p) (λ p q l c d m k e. less_apart p q l (sym (first p c m) ∙ ap first_of e ∙ first q d k))
     where
@@ -311,7 +314,7 @@ module _ (points : List Point) (g : Network) (network : IsNetwork points g) wher
       let two : last_of c ≡ first_of d = ap last_of e ∙ last_reversed d in
       omega (arith, up_c, up_d, one, two)
 
-  pub only_one : (p q : ℕ) (c d : List ℕ) → In c (segment_chains points g) → In d (segment_chains points g) → leaves p q c ≡ true → leaves p q d ≡ true → c ≡ d
+  pub only_one : (p q : ℕ) (c d : List ℕ) → In c chains → In d chains → leaves p q c ≡ true → leaves p q d ≡ true → c ≡ d
   only_one p q c d m k s t =
       let r = from_segments c m in
       let u = from_segments d k in
@@ -323,40 +326,35 @@ module _ (points : List Point) (g : Network) (network : IsNetwork points g) wher
       by up_c up_d (inr e) (inl f) = absurd (crossed d c up_d up_c (f ∙ sym e))
       by up_c up_d (inr e) (inr f) = sym (reversed_twice c) ∙ ap reversed (e ∙ sym f) ∙ reversed_twice d
 
-  some_leaves : (p q : ℕ) → has_node g p ≡ true → is_used g.ways p q ≡ true → (c : List ℕ) × In c (segment_chains points g) × (leaves p q c ≡ true)
-  some_leaves p q node used = by (cases_lt (first_of c) (last_of c)) (cases_lt (last_of c) (first_of c))
+  -- a chain that begins with two points rises, or falls and is turned
+  some_rises : (p q : ℕ) (c : List ℕ) → IsChain g c → begins_with p q c ≡ true → (d : List ℕ) × In d chains × (leaves p q d ≡ true)
+  some_rises p q c chain begins = by (cases_lt (first_of c) (last_of c)) (cases_lt (last_of c) (first_of c))
     where
-      c : List ℕ
-      c = chain_from g p q
-
-      chain : IsChain g (chain_from g p q)
-      chain = begun g network.ways p q node used
-
-      begins : begins_with p q (chain_from g p q) ≡ true
-      begins = is_begun p q (chain_from g p q) (begun_first g p q) (begun_second g p q)
-
-      by : (first_of (chain_from g p q) < last_of (chain_from g p q)) ⊎ (last_of (chain_from g p q) ≤ first_of (chain_from g p q))
-          → (last_of (chain_from g p q) < first_of (chain_from g p q)) ⊎ (first_of (chain_from g p q) ≤ last_of (chain_from g p q))
-          → (c : List ℕ) × In c (segment_chains points g) × (leaves p q c ≡ true)
-      by (inl up) other = (chain_from g p q, in_segments (chain_from g p q) chain up, is_left (begins_with p q (chain_from g p q)) (begins_with p q (reversed (chain_from g p q))) begins)
+      by : (first_of c < last_of c) ⊎ (last_of c ≤ first_of c) → (last_of c < first_of c) ⊎ (first_of c ≤ last_of c) → (d : List ℕ) × In d chains × (leaves p q d ≡ true)
+      by (inl up) other = (c, in_segments c chain up, is_left (begins_with p q c) (begins_with p q (reversed c)) begins)
       by (inr a) (inl down) =
-          let d : List ℕ = reversed (chain_from g p q) in
-          let up : first_of (reversed (chain_from g p q)) < last_of (reversed (chain_from g p q)) = omega (arith, down, first_reversed (chain_from g p q), last_reversed (chain_from g p q)) in
-          (reversed (chain_from g p q), in_segments (reversed (chain_from g p q)) (turned g (chain_from g p q) chain) up, is_right (begins_with p q (reversed (chain_from g p q))) (begins_with p q (reversed (reversed (chain_from g p q))))
-          (ap (begins_with p q) (reversed_twice (chain_from g p q)) ∙ begins))
-      by (inr a) (inr b) = absurd (apart g (chain_from g p q) network.ways chain (omega (arith, a, b)))
+          let up : first_of (reversed c) < last_of (reversed c) = omega (arith, down, first_reversed c, last_reversed c) in (
+            reversed c,
+            in_segments (reversed c) (turned g c chain) up,
+            is_right (begins_with p q (reversed c)) (begins_with p q (reversed (reversed c))) (ap (begins_with p q) (reversed_twice c) ∙ begins),
+          )
+      by (inr a) (inr b) = absurd (apart g c network.ways chain (omega (arith, a, b)))
+
+  some_leaves : (p q : ℕ) → has_node g p ≡ true → is_used g.ways p q ≡ true → (c : List ℕ) × In c chains × (leaves p q c ≡ true)
+  some_leaves p q node used =
+      some_rises p q (chain_from g p q) (begun g network.ways p q node used) (is_begun p q (chain_from g p q) (begun_first g p q) (begun_second g p q))
 
   -- the segment that leaves a node over a used edge
   pub at_leaving : (p q : ℕ) → has_node g p ≡ true → is_used g.ways p q ≡ true
-      → (segment_at (segment_chains points g) p q < length (segment_chains points g)) × ((d : List ℕ) → leaves p q (get_or (segment_chains points g) (segment_at (segment_chains points g) p q) d) ≡ true)
+      → (segment_at chains p q < length chains) × ((d : List ℕ) → leaves p q (get_or chains (segment_at chains p q) d) ≡ true)
   at_leaving p q node used =
       let r = some_leaves p q node used in
-      first_found (leaves p q) r.0 (segment_chains points g) r.1 r.2
+      first_found (leaves p q) r.0 chains r.1 r.2
 
   -- a segment that leaves a node over an edge is that one
-  pub at_is : (p q k : ℕ) (d : List ℕ) → k < length (segment_chains points g) → leaves p q (get_or (segment_chains points g) k d) ≡ true → segment_at (segment_chains points g) p q ≡ k
+  pub at_is : (p q k : ℕ) (d : List ℕ) → k < length chains → leaves p q (get_or chains k d) ≡ true → segment_at chains p q ≡ k
   at_is p q k d l t =
-      let f = first_found (leaves p q) (get_or (segment_chains points g) k d) (segment_chains points g) (in_at (segment_chains points g) k d l) t in
-      let n : ℕ = segment_at (segment_chains points g) p q in
-      same_place (segment_chains points g) segments_apart n k d f.0 l
-      (only_one p q (get_or (segment_chains points g) n d) (get_or (segment_chains points g) k d) (in_at (segment_chains points g) n d f.0) (in_at (segment_chains points g) k d l) (f.1 d) t)
+      let f = first_found (leaves p q) (get_or chains k d) chains (in_at chains k d l) t in
+      let n : ℕ = segment_at chains p q in
+      same_place chains segments_apart n k d f.0 l
+      (only_one p q (get_or chains n d) (get_or chains k d) (in_at chains n d f.0) (in_at chains k d l) (f.1 d) t)
