@@ -21,4 +21,7 @@ pub mod ChainLaws
 pub mod ChainSegments
 pub mod ChainThrough
 pub mod SegmentFacts
+mod ConsistencyLists
+mod ConsistencySegments
+mod ConsistencyParts
 pub mod Consistency
