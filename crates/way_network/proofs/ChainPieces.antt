@@ -1,5 +1,5 @@
 -- Chains from node to node along pieces of ways.
-use Rattle.std.proofs.Common.{◌≡◌, ◌≢◌, refl, sym, ◌∙◌, ap, subst, ℕ, zero, suc, ◌+◌, ◌-◌, ◌<◌, ◌≤◌, ◌⊎◌, inl, inr, Bool, true, false, eqb, ltb, not, ◌&&◌, ◌||◌, List, [], ◌∷◌, ◌++◌, append_assoc, append-nil, length, get_or, All, arith}
+use Rattle.std.proofs.Common.{◌≡◌, ◌≢◌, refl, sym, ◌∙◌, ap, subst, ℕ, zero, suc, ◌+◌, ◌-◌, ◌<◌, ◌≤◌, ◌⊎◌, inl, inr, Bool, true, false, ltb, not, ◌&&◌, ◌||◌, List, [], ◌∷◌, ◌++◌, append-nil, length, get_or, All, arith}
 use Rattle.std.specs.List.{Contains}
 use Rattle.std.proofs.lemmas.Bool.Decides.{nat_tests}
 use Rattle.std.proofs.lemmas.List.{reverse-reverse, length-reverse, length-append, get_or-reverse, get_or-append-add}
@@ -13,7 +13,7 @@ use Rattle.way_network.specs.Premises.{IsWay}
 use Rattle.way_network.specs.Pieces.{StandsIn, IsChain}
 use Rattle.way_network.proofs.Numbering.{first_of_at}
 use Rattle.way_network.proofs.Walking.{last_of_at}
-use Rattle.way_network.proofs.ChainEdges.{StepsOver, steps_from_runs, steps_turned, either_true, ends_are, lines_either, used_either, runs_at, runs_turned_back}
+use Rattle.way_network.proofs.ChainEdges.{StepsOver, steps_from_runs, steps_turned, either_true, ends_are, lines_either, runs_at, runs_turned_back}
 use Rattle.way_network.proofs.ChainPaths.{IsPath, path_in, path_tail, path_turned, path_of_way, path_of_chain, path_length, path_apart, stands_turned}
 use Rattle.way_network.proofs.ChainSteps.{LeadsOn, goes_on, up_to, up_to_begins, up_to_inner, up_to_last, up_to_all, follows}
 

@@ -1,11 +1,10 @@
 -- Where a way goes on at a point that is no node, and what a chain follows.
-use Rattle.std.proofs.Common.{◌≡◌, ◌≢◌, refl, sym, ◌∙◌, ap, ℕ, zero, suc, ◌+◌, ◌<◌, ◌≤◌, ◌⊎◌, inl, inr, Bool, true, false, cond, not, eqb, ltb, ◌&&◌, ◌||◌, List, [], ◌∷◌, ◌++◌, length, get_or, All, arith, Some, None, unwrap_or}
+use Rattle.std.proofs.Common.{◌≡◌, ◌≢◌, refl, sym, ◌∙◌, ap, ℕ, zero, suc, ◌+◌, ◌<◌, ◌⊎◌, inl, inr, Bool, true, false, cond, not, eqb, ltb, ◌&&◌, ◌||◌, List, [], ◌∷◌, ◌++◌, length, get_or, arith, Some, None, unwrap_or}
 use Rattle.std.specs.List.{find, range_with_len}
-use Rattle.std.proofs.lemmas.Bool.{cases_Bool, eq-eqb, eqb-true}
+use Rattle.std.proofs.lemmas.Bool.{eq-eqb, eqb-true}
 use Rattle.std.proofs.lemmas.Bool.Decides.{nat_tests}
-use Rattle.std.proofs.lemmas.List.Elements.{All-head}
 use Rattle.way_network.specs.declared.way.Way.{Way}
-use Rattle.way_network.specs.Edges.{runs_over, is_used, are_equal, lines_over, passes, is_on_edges}
+use Rattle.way_network.specs.Edges.{is_used, are_equal, lines_over, passes, is_on_edges}
 use Rattle.way_network.specs.Chains.{Network, used_at, has_node, onward, chain_on}
 use Rattle.way_network.specs.Segments.{last_of}
 use Rattle.way_network.specs.Uses.{has_number}

@@ -1,7 +1,7 @@
 -- The chain through an edge: there is one, and but for its direction no other.
-use Rattle.std.proofs.Common.{◌≡◌, ◌↔◌, refl, sym, ◌∙◌, ap, subst, ℕ, zero, suc, ◌+◌, ◌-◌, ◌<◌, ◌≤◌, ◌⊎◌, inl, inr, Bool, true, false, cond, eqb, ltb, ◌&&◌, List, [], ◌∷◌, ◌++◌, append_assoc, append-nil, length, get_or, map, filter, All, arith}
+use Rattle.std.proofs.Common.{◌≡◌, ◌↔◌, refl, sym, ◌∙◌, ap, subst, ℕ, suc, ◌+◌, ◌-◌, ◌<◌, ◌≤◌, ◌⊎◌, inl, inr, Bool, true, false, cond, eqb, ltb, ◌&&◌, List, [], ◌∷◌, ◌++◌, append_assoc, length, get_or, All, arith}
 use Rattle.std.specs.List.{Contains, list_any, range_with_len}
-use Rattle.std.proofs.lemmas.Bool.{cases_lt, cases_eq}
+use Rattle.std.proofs.lemmas.Bool.{cases_lt}
 use Rattle.std.proofs.lemmas.Bool.Decides.{nat_tests}
 use Rattle.std.proofs.lemmas.List.{reverse-append, reverse-reverse, length-reverse, length-append, get_or-reverse, get_or_append_left, get_or-append-add}
 use Rattle.std.proofs.lemmas.List.Elements.{All-contains}
@@ -10,15 +10,15 @@ use Rattle.map_base.specs.declared.ids.LineId.{LineId}
 use Rattle.map_base.specs.declared.point.Point.{Point}
 use Rattle.way_network.specs.Edges.{runs_over, is_used, line_runs_over, lines_over}
 use Rattle.way_network.specs.Chains.{Network, has_node, chain_on}
-use Rattle.way_network.specs.Segments.{first_of, second_of, last_of, reversed, segment_chains, line_numbered, lines_of}
+use Rattle.way_network.specs.Segments.{first_of, second_of, last_of, reversed, segment_chains, line_numbered}
 use Rattle.way_network.specs.Uses.{has_number}
 use Rattle.way_network.specs.Premises.{IsWay}
 use Rattle.way_network.specs.Pieces.{StandsIn, IsChain}
 use Rattle.way_network.specs.Laws.{chain_numbered, is_line_of, Shares, HasUsedEdges, HasEdgesOnce, HasLinesOfEdges, HasLinesOfWays}
 use Rattle.way_network.proofs.Parts.{list_any-mapped, list_any-agree}
 use Rattle.way_network.proofs.RisingLists.{has_filtered, has_below}
-use Rattle.way_network.proofs.ChainEdges.{StepsOver, steps_from_runs, steps_turned, turned_at, runs_at, runs_either, runs_turned}
-use Rattle.way_network.proofs.ChainPaths.{IsPath, path_of_chain, eqb_either}
+use Rattle.way_network.proofs.ChainEdges.{StepsOver, steps_from_runs, steps_turned, turned_at, runs_at, runs_turned}
+use Rattle.way_network.proofs.ChainPaths.{path_of_chain, eqb_either}
 use Rattle.way_network.proofs.ChainSteps.{up_to, up_to_begins, up_to_inner, up_to_last}
 use Rattle.way_network.proofs.ChainPieces.{IsCourse, course_over, course_ends, course_turned, runs_in_course, first_turned, last_turned, last_appended, chain_turned, chain_apart, chain_lines, follows_chain, runs_first}
 use Rattle.way_network.proofs.ChainSegments.{segment_once, segments_are, segment_listed}
