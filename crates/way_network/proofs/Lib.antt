@@ -16,3 +16,4 @@ pub mod NetworkRows
 pub mod ChainLaws
 pub mod SegmentFacts
 pub mod Consistency
+mod GraphLemmas

@@ -11,3 +11,5 @@ pub mod Premises
 pub mod Rows
 pub mod Numbers
 pub mod Pieces
+pub mod RowGraphs
+pub mod Faults

@@ -8,6 +8,8 @@ mod crossings;
 mod edge_table;
 mod edge_use;
 mod edges;
+mod fault;
+mod graph;
 mod joins;
 mod nodes;
 mod numbers;
@@ -18,6 +20,8 @@ mod way;
 
 pub use edge_table::EdgeTable;
 pub use edges::UsedEdge;
+pub use fault::GraphFault;
+pub use graph::graph_of;
 pub use nodes::Nodes;
 pub use numbers::Segments;
 pub use way::{Passage, Way};
