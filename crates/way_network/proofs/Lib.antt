@@ -25,3 +25,4 @@ mod ConsistencyLists
 mod ConsistencySegments
 mod ConsistencyParts
 pub mod Consistency
+mod GraphLemmas

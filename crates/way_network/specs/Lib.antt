@@ -12,3 +12,5 @@ pub mod Rows
 pub mod Numbers
 pub mod Pieces
 pub mod Laws
+pub mod RowGraphs
+pub mod Faults
