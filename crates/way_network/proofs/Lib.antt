@@ -13,3 +13,16 @@ pub mod Searching
 pub mod Walking
 pub mod Numbering
 pub mod NetworkRows
+pub mod ChainEdges
+pub mod ChainPaths
+pub mod ChainSteps
+pub mod ChainPieces
+pub mod ChainLaws
+pub mod ChainSegments
+pub mod ChainThrough
+pub mod SegmentFacts
+mod ConsistencyLists
+mod ConsistencySegments
+mod ConsistencyParts
+pub mod Consistency
+mod GraphLemmas

@@ -9,10 +9,15 @@ use Rattle.track_net.specs.Nearness.{point_at}
 use Rattle.graph_core.specs.declared.parts.NodeKind.{NodeKind}
 use Rattle.graph_core.specs.declared.parts.NodeKind.TheVariants.{Station, Junction}
 use Rattle.graph_core.specs.declared.parts.GraphParts.{GraphParts}
+use Rattle.way_network.specs.declared.way.Way.{Way}
 use Rattle.way_network.specs.declared.way.Passage.{Passage}
 use Rattle.way_network.specs.Chains.{Network}
 use Rattle.way_network.specs.Segments.{nodes_of, segment_chains, ends_of, lines_of, round_of}
 use Rattle.way_network.specs.Joins.{joins_at}
+
+-- the network of these ways, over these net points, of which the first are these stations, and of that many lines
+abbrev pub network_over : List StationId → List Point → ℕ → List Way → Network
+network_over stations points lines ways = record { stations = length stations; points = length points; lines = lines; ways = ways }
 
 -- what stands at a net point: a station, where it is one of the first points, or a junction
 abbrev pub kind_of : Option StationId → NodeKind

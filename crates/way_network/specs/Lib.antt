@@ -11,3 +11,6 @@ pub mod Premises
 pub mod Rows
 pub mod Numbers
 pub mod Pieces
+pub mod Laws
+pub mod RowGraphs
+pub mod Faults

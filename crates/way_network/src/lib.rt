@@ -1,5 +1,5 @@
-//! The network of ways that lines take over the points of a net: its used edges, its nodes, the chains between
-//! them, the round of each node, and where lines go on from one chain to another.
+//! The network of ways that lines take over the points of a net, and its line graph: the used edges, the nodes, the
+//! chains between them, the round of each node, and where lines go on from one chain to another.
 #![tactic(auto)]
 
 mod around;
@@ -8,7 +8,10 @@ mod crossings;
 mod edge_table;
 mod edge_use;
 mod edges;
+mod fault;
+mod graph;
 mod joins;
+mod laws;
 mod nodes;
 mod numbers;
 mod ranks;
@@ -18,6 +21,12 @@ mod way;
 
 pub use edge_table::EdgeTable;
 pub use edges::UsedEdge;
+pub use fault::GraphFault;
+pub use graph::graph_of;
+pub use laws::{
+    edges_are_on_one_segment, lines_are_on_the_segments_of_their_ways,
+    segments_have_the_lines_of_their_edges, used_edges_are_on_segments,
+};
 pub use nodes::Nodes;
 pub use numbers::Segments;
 pub use way::{Passage, Way};
