@@ -1,22 +1,94 @@
 //! The line graph of a feed.
 
-ghost use Rattle.std.specs.Prelude.{◌≡◌, All, IfOk, IfErr, Ok};
-ghost use Rattle.line_graph.specs.Outcome.{graph_outcome};
+ghost use Rattle.std.specs.Prelude.{◌≡◌, ◌≤◌, All, IfOk, IfErr, Ok};
+ghost use Rattle.track_net.specs.Laws.{HasOwnDirections, JoinsStations};
+ghost use Rattle.feed_courses.specs.Fit.{AreFit, AreServed};
+ghost use Rattle.way_network.specs.Graphs.{graph_over, graph_within};
+ghost use Rattle.line_graph.specs.Outcome.{all_passages, all_samples, graph_outcome, graph_over_net, net_of_courses, network_of};
 ghost use Rattle.line_graph.specs.Faults.{HasCause};
 ghost use Rattle.line_graph.specs.Text.{IsKnown};
 
 use crate::fault::BuildFault;
+use crate::network::network;
+use crate::samples::all_samples;
+use feed_courses::{Courses, courses_of};
 use graph_core::LineGraph;
-use map_base::Settings;
+use map_base::{NoMemory, Point, Settings};
 use std::alloc::Global;
+use track_net::{Net, net_of};
 use transit_feed::Tables;
+use way_network::graph_of;
 
-/// The line graph of a feed: its nodes are the stations that lines use and the points at which lines part or meet,
-/// its segments the ways between them, each with its lines.
-pub fn build(_alloc: Global, tables: &Tables, settings: &Settings) -> Result<LineGraph, BuildFault>
+/// The line graph of a feed: how its lines share their ways.
+///
+/// Shapes and hops are sampled, at most `near` decimetres apart, and thinned to a net of points. Each stretch of a
+/// line, from one station of a pattern to the next, takes the least path over the net along its own samples. Nodes
+/// are the stations that lines use, and the points at which lines part or meet; segments are the ways between them,
+/// each with its lines. Hidden lines are left out.
+///
+/// There is a limit where the feed has more lines, stations, samples, net points, nodes or segments than are worked
+/// on, the first of these in this order.
+pub fn build(alloc: Global, tables: &Tables, settings: &Settings) -> Result<LineGraph, BuildFault>
     ensures graph { IfOk result (λ graph. graph_outcome settings.now.near tables.now ≡ Ok graph) }
-    ensures stations { IfOk result (λ graph. All (IsKnown tables.now.stations) graph.kinds) }
     ensures cause { IfErr result (λ fault. HasCause (graph_outcome settings.now.near tables.now) fault) }
+
+    // Its stations are stations of the tables.
+    ensures stations { IfOk result (λ graph. All (IsKnown tables.now.stations) graph.kinds) }
 {
-    Err(BuildFault::NoMemory)
+    let courses = courses_of(alloc, tables, settings.near)?;
+    graph_of_courses(alloc, &courses, settings.near, tables.lines.len() as u32)
+}
+
+/// The line graph of courses, of that many lines.
+fn graph_of_courses(
+    alloc: Global,
+    courses: &Courses,
+    near: u32,
+    lines: u32,
+) -> Result<LineGraph, BuildFault>
+    requires fit { AreFit near courses.now }
+    requires served { AreServed lines courses.now }
+    requires near_low { 20 ≤ near }
+    requires near_high { near ≤ 20000 }
+    ensures graph { IfOk result (λ graph. graph_over_net near lines courses.now (net_of_courses near courses.now) ≡ Ok graph) }
+    ensures cause { IfErr result (λ fault. HasCause (graph_over_net near lines courses.now (net_of_courses near courses.now)) fault) }
+{
+    let samples = all_samples(alloc, courses.courses.as_slice())?;
+    let net = net_of(alloc, courses.points.as_slice(), &samples, near)?;
+    graph_of_net(alloc, courses, &net, near, lines)
+}
+
+/// The line graph of courses over the net of their samples.
+fn graph_of_net(
+    alloc: Global,
+    courses: &Courses,
+    net: &Net,
+    near: u32,
+    lines: u32,
+) -> Result<LineGraph, BuildFault>
+    requires fit { AreFit near courses.now }
+    requires served { AreServed lines courses.now }
+    requires net { net.now ≡ net_of_courses near courses.now }
+    requires directions { HasOwnDirections net.now }
+    requires joined { JoinsStations near courses.now.points (all_samples courses.now.courses) net.now }
+    requires near_high { near ≤ 20000 }
+    ensures graph { IfOk result (λ graph. graph_within (graph_over courses.now.stations net.now.points (network_of near lines courses.now net.now) (all_passages near courses.now net.now)) ≡ Ok graph) }
+    ensures cause { IfErr result (λ fault. HasCause (graph_within (graph_over courses.now.stations net.now.points (network_of near lines courses.now net.now) (all_passages near courses.now net.now))) fault) }
+{
+    let traced = network(alloc, courses, net, near, lines)?;
+    let points = points_of(alloc, net)?;
+    let stations = courses.stations.as_slice();
+    let graph = graph_of(alloc, &points, stations, lines, &traced.ways, &traced.passages)?;
+    Ok(graph)
+}
+
+/// The points of a net.
+fn points_of(alloc: Global, net: &Net) -> Result<Vec<Point>, NoMemory>
+    ensures { IfOk result (λ points. points.items ≡ net.now.points) }
+{
+    let mut points = Vec::with_capacity(alloc, net.len())?;
+    for i in 0..net.len() {
+        points.push(net.point(i as u32))?;
+    }
+    Ok(points)
 }

@@ -3,7 +3,9 @@
 
 mod building;
 mod fault;
+mod network;
 mod print;
+mod samples;
 
 pub use building::build;
 pub use fault::BuildFault;
