@@ -13,3 +13,4 @@ pub mod Numbers
 pub mod Pieces
 pub mod RowGraphs
 pub mod Faults
+pub mod PremiseTests

@@ -131,11 +131,7 @@ fn parts_of(
 }
 
 /// What stands at each of these points.
-fn kinds_of(
-    alloc: Global,
-    stations: &[StationId],
-    nodes: &[u32],
-) -> Result<Vec<NodeKind>, NoMemory>
+fn kinds_of(alloc: Global, stations: &[StationId], nodes: &[u32]) -> Result<Vec<NodeKind>, NoMemory>
     ensures { IfOk result (λ kinds. kinds.items ≡ map (kind_at_of stations.now) nodes.now) }
 {
     let mut kinds = Vec::with_capacity(alloc, nodes.len())?;
