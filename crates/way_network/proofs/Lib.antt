@@ -17,4 +17,4 @@ pub mod ChainLaws
 pub mod SegmentFacts
 pub mod Consistency
 mod GraphLemmas
-pub mod PremiseLemmas
+mod PremiseLemmas

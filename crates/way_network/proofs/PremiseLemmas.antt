@@ -1,9 +1,8 @@
 -- The tests of a network tell what is to be known of it.
-use Rattle.std.proofs.Common.{◌≡◌, ◌≢◌, refl, sym, ◌∙◌, ap, subst, ℕ, zero, suc, ◌+◌, ◌<◌, ◌≤◌, ◌^◌, Bool, true, false, cond, not, ◌&&◌, ◌||◌, eqb, ltb, leb, unsigned_abs, List, [], ◌∷◌, length, get_or, map, filter, All, eqb-true, arith}
-use Rattle.std.specs.List.{list_all, list_any, range_with_len, IsDistinct, AllByRecursion}
+use Rattle.std.proofs.Common.{◌≡◌, refl, sym, ◌∙◌, ap, subst, ℕ, ◌+◌, ◌<◌, ◌≤◌, Bool, true, false, cond, not, ◌&&◌, ◌||◌, eqb, ltb, leb, unsigned_abs, List, [], ◌∷◌, length, get_or, map, filter, All, eqb-true, arith}
+use Rattle.std.specs.List.{list_all, range_with_len, IsDistinct, AllByRecursion}
 use Rattle.std.specs.Ordering.{int_cmp, ordering_then}
 use Rattle.std.specs.Cmp.{int_cmp_is}
-use Rattle.std.specs.declared.cmp.Ordering.{Ordering}
 use Rattle.std.specs.declared.cmp.Ordering.TheVariants.{Equal}
 use Rattle.std.proofs.lemmas.Bool.{leb-true, ltb-true}
 use Rattle.std.proofs.lemmas.List.{length-map, get_or-map}
@@ -12,7 +11,7 @@ use Rattle.std.proofs.lemmas.List.FromFn.{get_or-range_with_len, length-range_wi
 use Rattle.std.proofs.lemmas.List.Sums.{AllPass-from_list_all}
 use Rattle.map_base.specs.declared.point.Point.{Point}
 use Rattle.fixed_plane.specs.Plane.{IsInPlane}
-use Rattle.fixed_plane.specs.Directions.{clockwise_from, LieInOneDirection, way_of}
+use Rattle.fixed_plane.specs.Directions.{clockwise_from, way_of}
 use Rattle.fixed_plane.proofs.Rounds.{clockwise_of-one_way}
 use Rattle.track_net.specs.Nearness.{point_at}
 use Rattle.way_network.specs.declared.way.Way.{Way}

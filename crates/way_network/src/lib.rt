@@ -1,5 +1,5 @@
-//! The network of ways that lines take over the points of a net: its used edges, its nodes, the chains between
-//! them, the round of each node, and where lines go on from one chain to another.
+//! The network of ways that lines take over the points of a net, and its line graph: the used edges, the nodes, the
+//! chains between them, the round of each node, and where lines go on from one chain to another.
 #![tactic(auto)]
 
 mod around;

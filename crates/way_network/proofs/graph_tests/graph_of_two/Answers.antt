@@ -1,4 +1,4 @@
-use Rattle.std.proofs.Common.{◌≡◌, ◌∙◌, sym, subst, List, All}
+use Rattle.std.proofs.Common.{◌∙◌, sym, subst, List, All}
 use Rattle.way_network.specs.declared.way.Way.{Way}
 use Rattle.way_network.specs.Graphs.{network_over}
 use Rattle.way_network.specs.Premises.{IsNetwork, IsPassage}
