@@ -1,5 +1,5 @@
 -- What is made of the used edges of a network is the network's graph.
-use Rattle.std.proofs.Common.{◌≡◌, refl, sym, ◌∙◌, ap, subst, ℕ, ◌+◌, ◌<◌, ◌≤◌, ◌^◌, Bool, true, false, cond, ◌&&◌, ◌||◌, eqb, leb, List, [], ◌∷◌, Ok, Err, Result, length, get_or, map, filter, All, eq-eqb, arith}
+use Rattle.std.proofs.Common.{◌≡◌, refl, sym, ◌∙◌, ap, subst, ℕ, ◌<◌, ◌≤◌, Bool, true, false, cond, ◌&&◌, ◌||◌, eqb, List, [], ◌∷◌, Ok, Err, Result, length, get_or, map, filter, All, eq-eqb, arith}
 use Rattle.std.specs.List.{range_with_len}
 use Rattle.std.proofs.lemmas.Bool.{le-leb, lt-leb}
 use Rattle.std.proofs.lemmas.List.{length-map}
@@ -21,7 +21,7 @@ use Rattle.way_network.specs.declared.fault.GraphFault.{GraphFault}
 use Rattle.way_network.specs.declared.fault.GraphFault.TheVariants.{Limit as AboveLimit, NoMemory}
 use Rattle.way_network.specs.Edges.{runs_over, is_used, line_runs_over}
 use Rattle.way_network.specs.Chains.{Network, has_node}
-use Rattle.way_network.specs.Segments.{nodes_of, segment_chains, segment_at, ends_of}
+use Rattle.way_network.specs.Segments.{nodes_of, segment_chains, ends_of}
 use Rattle.way_network.specs.Joins.{joins_at}
 use Rattle.way_network.specs.Graphs.{network_over, kind_at, graph_over, graph_within}
 use Rattle.way_network.specs.Tables.{edge_table}

@@ -26,3 +26,4 @@ mod ConsistencySegments
 mod ConsistencyParts
 pub mod Consistency
 mod GraphLemmas
+mod PremiseLemmas

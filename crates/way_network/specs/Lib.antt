@@ -14,3 +14,4 @@ pub mod Pieces
 pub mod Laws
 pub mod RowGraphs
 pub mod Faults
+pub mod PremiseTests

@@ -11,7 +11,7 @@ use Rattle.way_network.specs.declared.joins.Crossing.{Crossing}
 use Rattle.way_network.specs.Graphs.{kind_at}
 use Rattle.way_network.specs.Nodes.{NodeTable}
 use Rattle.way_network.specs.Rows.{AreEdgesOver}
-use Rattle.way_network.specs.Numbers.{ends_among, row_lines, row_round, EndsBelow}
+use Rattle.way_network.specs.Numbers.{ends_among, row_lines, row_round}
 use Rattle.way_network.specs.Crossings.{crossing_of, is_passage_at, IsWithin}
 
 -- the crossings that the passages at nodes are

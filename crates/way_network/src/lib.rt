@@ -32,6 +32,8 @@ pub use numbers::Segments;
 pub use way::{Passage, Way};
 
 #[cfg(test)]
+mod graph_tests;
+#[cfg(test)]
 mod segment_tests;
 #[cfg(test)]
 mod tests;

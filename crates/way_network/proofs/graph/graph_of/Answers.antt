@@ -1,8 +1,5 @@
-use Rattle.std.proofs.Common.{◌≡◌, ◌∙◌, sym, ap, subst, rules, refl, ℕ, ◌<◌, ◌≤◌, Ok, List, length, All, arith}
-use Rattle.map_base.specs.declared.limit.LimitKind.TheVariants.{Nodes, Segments}
-use Rattle.way_network.specs.Chains.{Network}
+use Rattle.std.proofs.Common.{◌∙◌, sym, ap, subst, rules, refl, ℕ, ◌≤◌, length, arith}
 use Rattle.way_network.specs.Segments.{nodes_of, segment_chains}
-use Rattle.way_network.specs.Tables.{edge_table}
 use Rattle.way_network.specs.Nodes.{node_points_in}
 use Rattle.way_network.specs.Rows.{all_chains}
 use Rattle.way_network.specs.Graphs.{network_over, graph_over, graph_within}
