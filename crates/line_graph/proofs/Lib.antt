@@ -1,2 +1,3 @@
 mod Ranges
 pub mod Runs
+mod TableSteps

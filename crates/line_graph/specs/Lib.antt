@@ -2,3 +2,5 @@ pub mod Legs
 pub mod Handing
 pub mod Outcome
 pub mod Text
+pub mod StretchTables
+pub mod Premises

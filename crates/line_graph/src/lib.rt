@@ -1,6 +1,12 @@
 //! The line graph of a feed.
 #![tactic(auto)]
 
+mod legs;
+mod network;
+mod passages;
 mod print;
+mod samples;
+mod stretches;
+mod ways;
 
 pub use print::print_graph;
