@@ -1,3 +1,6 @@
 mod Ranges
 pub mod Runs
 mod TableSteps
+mod PassageSteps
+mod WaySteps
+mod TableLemmas

@@ -117,7 +117,7 @@ fn extend_at(
     ensures { OnOk result (map (λ c. c.items) corridors.new.items ≡ extended (map (λ c. c.items) corridors.old.items) place samples.now) }
 {
     if place == corridors.len() {
-        corridors.push(samples.to_vec(alloc)?)?;
+        corridors.push(Vec::from_slice(alloc, samples)?)?;
         return Ok(());
     }
     corridors[place].extend_from_slice(samples)?;
