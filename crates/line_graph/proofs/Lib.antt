@@ -4,3 +4,5 @@ mod TableSteps
 mod PassageSteps
 mod WaySteps
 mod TableLemmas
+mod LegFacts
+mod PathFacts

@@ -70,6 +70,10 @@ place_found xs s = of_order (cases_lt (place_in xs s) (length xs))
         ap (λ b. unwrap_or (cond b (Some (place_in xs s)) None) (length xs)) (le-ltb (place_in xs s) (length xs) h)
         ∙ (let most = place_within xs s in omega (arith, most, h))
 
+pub place_told : (xs : List Stretch) (s : Stretch) (found : Option ℕ) (count place : ℕ) → place ≡ unwrap_or found count → found ≡ position (is_stretch s) xs → count ≡ length xs → place ≡ place_in xs s
+place_told xs s found count place is is_found is_count =
+    is ∙ ap (λ (o : Option ℕ). unwrap_or o count) is_found ∙ ap (λ (n : ℕ). unwrap_or (position (is_stretch s) xs) n) is_count ∙ place_found xs s
+
 -- ---- legs, by their places
 
 -- the leg at a place
