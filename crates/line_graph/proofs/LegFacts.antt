@@ -3,7 +3,7 @@ use Rattle.std.proofs.Common.{◌≡◌, ◌≢◌, refl, sym, ◌∙◌, ap, su
 use Rattle.std.specs.List.{flat_map, list_any}
 use Rattle.std.proofs.lemmas.Bool.{or_cases, false≢true}
 use Rattle.std.proofs.lemmas.List.{length-map}
-use Rattle.std.proofs.lemmas.List.Elements.{All-nil, All-cons, All-head, All-tail, All-append, Contains-append_left, Contains-append_right, Contains-get_or}
+use Rattle.std.proofs.lemmas.List.Elements.{All-nil, All-cons, All-head, All-tail, All-append, All-contains, Contains-append_left, Contains-append_right, Contains-get_or}
 use Rattle.map_base.specs.declared.ids.LineId.{LineId}
 use Rattle.map_base.specs.declared.point.Point.{Point}
 use Rattle.fixed_plane.specs.Plane.{IsInPlane}
@@ -24,6 +24,15 @@ pub all_flat_map : {A B : Type 0} (P : B → Type 0) (f : A → List B) (xs : Li
 all_flat_map P f [] each = All-nil P
 all_flat_map P f (x ∷ xs) each =
     All-append P (f x) (flat_map f xs) (All-head (λ z. All P (f z)) x xs each) (all_flat_map P f xs (All-tail (λ z. All P (f z)) x xs each))
+
+pub all_parts : {A B : Type 0} (P : B → Type 0) (f : A → List B) (xs : List A) → All P (flat_map f xs) → All (λ x. All P (f x)) xs
+all_parts P f [] each = All-nil (λ x. All P (f x))
+all_parts P f (x ∷ xs) each =
+    All-cons (λ x. All P (f x)) x xs
+    (λ i e within. All-contains P (f x ++ flat_map f xs) (get_or (f x) i e) each (Contains-append_left (f x) (flat_map f xs) (get_or (f x) i e) (Contains-get_or (f x) i e within)))
+    (all_parts P f xs
+    (λ i e within. All-contains P (f x ++ flat_map f xs) (get_or (flat_map f xs) i e) each
+    (Contains-append_right (f x) (flat_map f xs) (get_or (flat_map f xs) i e) (Contains-get_or (flat_map f xs) i e within))))
 
 -- joined stations have a hop between each two
 joined_each : (near : ℕ) (stations : List Point) (hops : List (List Point)) → AreJoined near stations hops → 1 ≤ length stations → length hops + 1 ≡ length stations

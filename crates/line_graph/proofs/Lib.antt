@@ -6,3 +6,4 @@ mod WaySteps
 mod TableLemmas
 mod LegFacts
 mod PathFacts
+mod NetworkFacts

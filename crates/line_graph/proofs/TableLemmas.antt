@@ -285,13 +285,25 @@ place_below (x ∷ xs) s e = of_test (is_stretch s x) refl (place_below xs s)
         omega (arith, at, later rest)
 
 -- the path of a stretch
-abbrev path_along : ℕ → NetParts → List Leg → Stretch → List ℕ
+abbrev pub path_along : ℕ → NetParts → List Leg → Stretch → List ℕ
 path_along near net legs s = stretch_path_of near (flat_map (λ (l : Leg). l.samples) (filter (λ (l : Leg). is_stretch s (stretch_of_leg l)) legs)) net s.low s.high
 
-pub path_there : (near : ℕ) (net : NetParts) (legs : List Leg) (leg : Leg) → has_stretch (stretches_of legs) leg ≡ true → path_in (whole_table legs) (ways_of near net legs) leg ≡ path_of near net legs leg
-path_there near net legs leg seen =
-    ap (λ (w : Way). w.points) (get_or-map (way_of near net legs) fs place (first_leg [] 0) (record { line = record { 0 = 0 }; points = [] }) within)
-    ∙ ap (path_along near net legs) (sym same)
+-- the stretch of a leg has its place, and there stands its first leg
+pub record HasPlace (legs : List Leg) (leg : Leg) : Type 0 where
+  pub place : ℕ
+  pub is : place ≡ place_in (map stretch_of_leg (stretches_of legs)) (stretch_of_leg leg)
+  pub within : place < length (stretches_of legs)
+  pub same : stretch_of_leg (first_leg legs place) ≡ stretch_of_leg leg
+
+pub has_place : (legs : List Leg) (leg : Leg) → has_stretch (stretches_of legs) leg ≡ true → HasPlace legs leg
+has_place legs leg seen = record {
+  place = place;
+  is = refl;
+  within = within;
+  same = sym
+      (is_stretch_same s (get_or (map stretch_of_leg fs) place s) (passes_at_first (is_stretch s) (map stretch_of_leg fs) s below)
+      ∙ get_or-map stretch_of_leg fs place (first_leg [] 0) s within);
+}
   where
     fs : List Leg
     fs = stretches_of legs
@@ -312,7 +324,18 @@ path_there near net legs leg seen =
     within : place < length fs
     within = omega (arith, below, length-map fs stretch_of_leg)
 
-    same : s ≡ stretch_of_leg (get_or fs place (first_leg [] 0))
-    same =
-        is_stretch_same s (get_or (map stretch_of_leg fs) place s) (passes_at_first (is_stretch s) (map stretch_of_leg fs) s below)
-        ∙ get_or-map stretch_of_leg fs place (first_leg [] 0) s within
+-- the way of a stretch; that of a leg is that of its stretch
+abbrev pub way_by : ℕ → NetParts → List Leg → Stretch → Way
+way_by near net legs s = record { line = s.line; points = path_along near net legs s }
+
+pub way_at_place : (near : ℕ) (net : NetParts) (legs : List Leg) (place : ℕ) (d : Way) → place < length (stretches_of legs) →
+    get_or (ways_of near net legs) place d ≡ way_by near net legs (stretch_of_leg (first_leg legs place))
+way_at_place near net legs place d within = get_or-map (way_of near net legs) (stretches_of legs) place (first_leg [] 0) d within
+
+pub path_there : (near : ℕ) (net : NetParts) (legs : List Leg) (leg : Leg) → has_stretch (stretches_of legs) leg ≡ true → path_in (whole_table legs) (ways_of near net legs) leg ≡ path_of near net legs leg
+path_there near net legs leg seen = of_place (has_place legs leg seen)
+  where
+    of_place : HasPlace legs leg → path_in (whole_table legs) (ways_of near net legs) leg ≡ path_of near net legs leg
+    of_place there =
+        ap (λ n. points_at (ways_of near net legs) n) (sym there.is)
+        ∙ ap (λ (w : Way). w.points) (way_at_place near net legs there.place (record { line = record { 0 = 0 }; points = [] }) there.within) ∙ ap (path_along near net legs) there.same

@@ -4,6 +4,7 @@ use Rattle.line_graph.specs.Premises.{HasHops}
 use Rattle.line_graph.proofs.LegFacts.{all_have_hops, legs_fit, leg_at_station, lines_all}
 use Rattle.line_graph.proofs.PathFacts.{comes_last, leaves_first, all_along, leads_known, leads_some, leads_last, runs_over_edge, path_leads, joins_lower}
 use Rattle.line_graph.proofs.TableLemmas.{table_is, path_there, ways_are, each_seen, stretches_all}
+use Rattle.line_graph.proofs.NetworkFacts.{all_asked, leg_trace, ways_traced, way_passages, handed_along, touched, stations_stay, is_network, few_lines, all_between_same}
 use Rattle.line_graph.proofs.network.network.Goals as goal
 
 pub stretches_of-requires : goal.stretches_of-requires
