@@ -7,3 +7,4 @@ mod TableLemmas
 mod LegFacts
 mod PathFacts
 mod NetworkFacts
+mod Whole

@@ -1,15 +1,15 @@
 -- The ways of courses over their net make a network, and their passages are passages of it.
-use Rattle.std.proofs.Common.{◌≡◌, ◌≢◌, refl, sym, ◌∙◌, ap, subst, ℕ, zero, suc, ◌+◌, ◌<◌, ◌≤◌, ◌^◌, ◌⊎◌, inl, inr, Bool, true, false, cond, ◌&&◌, ◌||◌, eqb, eq-eqb, List, [], ◌∷◌, ◌++◌, length, get_or, map, filter, fold, min, max, All, Contains, arith, length-append}
+use Rattle.std.proofs.Common.{◌≡◌, ◌≢◌, refl, sym, ◌∙◌, ap, subst, ℕ, ◌<◌, ◌≤◌, ◌^◌, ◌⊎◌, inl, inr, Bool, true, false, cond, ◌&&◌, ◌||◌, eqb, eq-eqb, List, [], ◌∷◌, ◌++◌, length, get_or, filter, min, max, All, Contains, arith, length-append}
 use Rattle.std.specs.List.{IsDistinct, flat_map, list_any, range_with_len}
 use Rattle.std.proofs.lemmas.Bool.{and_parts, and_from, or_cases, or_left, or_right, false≢true}
 use Rattle.std.proofs.lemmas.List.{length-map}
-use Rattle.std.proofs.lemmas.List.Elements.{All-nil, All-cons, All-head, All-tail, All-append, All-contains, All-filter, All-map, All-weaker}
+use Rattle.std.proofs.lemmas.List.Elements.{All-nil, All-cons, All-head, All-tail, All-filter, All-map, All-weaker}
 use Rattle.std.proofs.lemmas.List.Folds.{list_any_at}
 use Rattle.map_base.specs.declared.ids.LineId.{LineId}
 use Rattle.map_base.specs.declared.point.Point.{Point}
 use Rattle.fixed_plane.specs.Plane.{IsInPlane}
-use Rattle.track_net.specs.Nearness.{point_at, has_near}
-use Rattle.track_net.specs.Nets.{NetParts, IsNet, HasEdge, Leads, Joins, with_sample, net_points}
+use Rattle.track_net.specs.Nearness.{has_near}
+use Rattle.track_net.specs.Nets.{NetParts, IsNet, HasEdge, Leads, with_sample, net_points}
 use Rattle.track_net.specs.Laws.{HasOwnDirections}
 use Rattle.track_net.proofs.Lists.{any_found}
 use Rattle.net_paths.specs.Stretches.{IsStretchPath}
@@ -26,7 +26,7 @@ use Rattle.line_graph.specs.declared.stretches.Stretch.{Stretch}
 use Rattle.line_graph.specs.Legs.{Leg, legs_between, corridor_of, are_one_stretch, has_stretch, stretches_of, path_of, ways_of}
 use Rattle.line_graph.specs.Handing.{directed, handed_over, passages_between}
 use Rattle.line_graph.specs.StretchTables.{stretch_of_leg, stretch_at, corridor_at, directed_between}
-use Rattle.line_graph.specs.Premises.{IsAsked, IsLed, AreAsked, AreLed}
+use Rattle.line_graph.specs.Premises.{IsAsked, AreAsked, AreLed}
 use Rattle.line_graph.proofs.WaySteps.{led_same}
 use Rattle.line_graph.proofs.LegFacts.{all_flat_map, IsFitLeg, Touches}
 use Rattle.line_graph.proofs.PathFacts.{edge_of, joins_lower, path_leads, runs_over_edge, leads_last, leads_some, leads_known, IsAlong, all_along, RunsBetween, leaves_first, comes_last}

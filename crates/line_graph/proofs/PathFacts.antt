@@ -1,17 +1,14 @@
 -- Ways over a net: from station to station over net edges.
-use Rattle.std.proofs.Common.{◌≡◌, ◌≢◌, refl, sym, ◌∙◌, ap, subst, ℕ, zero, suc, ◌+◌, ◌-◌, ◌<◌, ◌≤◌, ◌⊎◌, inl, inr, Bool, true, false, cond, ◌&&◌, ◌||◌, eqb, eqb-true, eq-eqb, nat_lt, List, [], ◌∷◌, ◌++◌, length, get_or, map, filter, min, max, All, Contains, arith}
-use Rattle.std.specs.List.{IsDistinct, list_any, range_with_len}
+use Rattle.std.proofs.Common.{◌≡◌, ◌≢◌, refl, sym, ◌∙◌, ap, subst, ℕ, zero, suc, ◌-◌, ◌<◌, ◌≤◌, ◌⊎◌, inl, inr, true, cond, ◌&&◌, eqb, eqb-true, eq-eqb, List, [], ◌∷◌, ◌++◌, length, get_or, min, max, All, arith}
 use Rattle.std.proofs.lemmas.Bool.{and_parts, and_from, or_cases, or_left, or_right, false≢true, lt-ltb, le-ltb, cases_order}
 use Rattle.std.proofs.lemmas.List.{reverse-reverse}
-use Rattle.std.proofs.lemmas.List.Elements.{All-nil, All-cons, All-head, All-tail}
+use Rattle.std.proofs.lemmas.List.Elements.{All-nil, All-cons}
 use Rattle.map_base.specs.declared.ids.LineId.{LineId}
 use Rattle.map_base.specs.declared.point.Point.{Point}
 use Rattle.least_path.specs.Paths.{Path}
-use Rattle.track_net.specs.Nearness.{point_at}
 use Rattle.track_net.specs.Nets.{NetParts, IsNet, net_over, HasEdge, Leads, Joins}
 use Rattle.track_net.proofs.EdgeFacts.{IsEdge, IsEdge_symm, edge_of_net, has_edge_from, net_has_edge}
-use Rattle.net_paths.specs.Stretches.{IsStep, IsStretchPath}
-use Rattle.way_network.specs.declared.way.Way.{Way}
+use Rattle.net_paths.specs.Stretches.{IsStep}
 use Rattle.way_network.specs.declared.way.Passage.{Passage}
 use Rattle.way_network.specs.Edges.{are_ends, runs_over}
 use Rattle.way_network.specs.Joins.{passages_along}

@@ -1,20 +1,19 @@
 -- The table of legs holds the first leg of each stretch, and its corridor.
-use Rattle.std.proofs.Common.{◌≡◌, refl, sym, ◌∙◌, ap, subst, ℕ, zero, suc, ◌+◌, ◌<◌, ◌≤◌, Bool, true, false, cond, not, ◌||◌, ◌&&◌, eqb, List, [], ◌∷◌, ◌++◌, length, get_or, map, filter, fold, min, max, All, append_assoc, append-nil, arith}
-use Rattle.std.specs.List.{flat_map, list_any, range_with_len, position_or_len}
+use Rattle.std.proofs.Common.{◌≡◌, refl, sym, ◌∙◌, ap, subst, ℕ, suc, ◌+◌, ◌<◌, Bool, true, false, cond, ◌||◌, ◌&&◌, eqb, List, [], ◌∷◌, ◌++◌, length, get_or, map, filter, fold, All, append_assoc, append-nil, arith}
+use Rattle.std.specs.List.{flat_map, list_any, range_with_len}
 use Rattle.std.proofs.lemmas.Bool.{eq-eqb, eqb-true, and_parts, and_from, or_parts, or_from, or_left, or_right, false≢true, false_from_ne_true}
 use Rattle.std.proofs.lemmas.Grind.{flat_map-append}
 use Rattle.std.proofs.lemmas.List.{map-append, length-map, get_or-map}
 use Rattle.std.proofs.lemmas.List.Elements.{filter-append, All-nil, All-cons, All-head, All-tail, All-push}
 use Rattle.std.proofs.lemmas.List.Folds.{list_any-append}
 use Rattle.std.proofs.lemmas.List.Sums.{fold-append, passes_at_first}
-use Rattle.map_base.specs.declared.ids.LineId.{LineId}
 use Rattle.map_base.specs.declared.point.Point.{Point}
 use Rattle.way_network.specs.declared.way.Way.{Way}
 use Rattle.track_net.specs.Nets.{NetParts}
 use Rattle.net_paths.specs.Choices.{stretch_path_of}
 use Rattle.line_graph.specs.declared.stretches.Stretch.{Stretch}
 use Rattle.line_graph.specs.Legs.{Leg, are_one_stretch, corridor_of, has_stretch, with_stretch, stretches_of, path_of, way_of, ways_of}
-use Rattle.line_graph.specs.StretchTables.{StretchTable, stretch_of_leg, is_stretch, place_in, noted, extended, with_leg, no_stretches, table_of, stretch_at, corridor_at, way_at, ways_over, points_at, path_in}
+use Rattle.line_graph.specs.StretchTables.{StretchTable, stretch_of_leg, is_stretch, place_in, noted, extended, with_leg, table_of, stretch_at, corridor_at, way_at, ways_over, points_at, path_in}
 use Rattle.line_graph.proofs.TableSteps.{place_here, place_later}
 
 -- ---- one stretch
@@ -118,9 +117,11 @@ AreApart (f ∷ fs) = (has_stretch fs f ≡ false) × AreApart fs
 apart_push : (fs : List Leg) (leg : Leg) → AreApart fs → has_stretch fs leg ≡ false → AreApart (fs ++ leg ∷ [])
 apart_push [] leg apart none = (refl, tt)
 apart_push (f ∷ fs) leg apart none =
-    let parts = or_parts (are_one_stretch leg f) (has_stretch fs leg) none in
-    (list_any-append (are_one_stretch f) fs (leg ∷ [])
-    ∙ or_from (has_stretch fs f) (has_stretch (leg ∷ []) f) apart.0 (or_from (are_one_stretch f leg) false (other_way leg f false parts.0) refl), apart_push fs leg apart.1 parts.1)
+    let parts = or_parts (are_one_stretch leg f) (has_stretch fs leg) none in (
+      list_any-append (are_one_stretch f) fs (leg ∷ [])
+          ∙ or_from (has_stretch fs f) (has_stretch (leg ∷ []) f) apart.0 (or_from (are_one_stretch f leg) false (other_way leg f false parts.0) refl),
+      apart_push fs leg apart.1 parts.1,
+    )
 
 apart_with : (fs : List Leg) (leg : Leg) → AreApart fs → AreApart (with_stretch fs leg)
 apart_with fs leg apart = of_test (has_stretch fs leg) refl
@@ -145,7 +146,6 @@ none_before fs (leg ∷ legs) x e =
         (sym e ∙ has_alike (fold with_stretch (with_stretch fs leg) legs) x leg (same_stretch x leg one) ∙ fold_seen (with_stretch fs leg) legs leg (seen_now fs leg))
 
 -- ---- corridors
-
 
 -- one more leg is in the corridor of its own stretch
 corridor_more : (legs : List Leg) (leg f : Leg) (b : Bool) → are_one_stretch f leg ≡ b → corridor_of (legs ++ leg ∷ []) f ≡ corridor_of legs f ++ cond b leg.samples []
@@ -231,7 +231,6 @@ pub table_is : (legs : List Leg) → table_of legs ≡ whole_table legs
 table_is legs = whole_fold [] legs
 
 -- ---- what is read from it
-
 
 -- the first leg at a place
 abbrev pub first_leg : List Leg → ℕ → Leg

@@ -1,6 +1,6 @@
 -- What the network of courses needs to be one.
 use Rattle.std.specs.Prelude.{◌≡◌, ℕ, ◌+◌, ◌<◌, ◌≤◌, ◌^◌, true, ◌==◌, List, length, All, Contains}
-use Rattle.std.specs.List.{list_any, range_with_len}
+use Rattle.std.specs.List.{list_any}
 use Rattle.map_base.specs.declared.ids.LineId.{LineId}
 use Rattle.map_base.specs.declared.point.Point.{Point}
 use Rattle.fixed_plane.specs.Plane.{IsInPlane}
@@ -11,7 +11,6 @@ use Rattle.feed_courses.specs.declared.courses.Course.{Course}
 use Rattle.feed_courses.specs.declared.courses.Courses.{Courses}
 use Rattle.line_graph.specs.declared.stretches.Stretch.{Stretch}
 use Rattle.line_graph.specs.StretchTables.{StretchTable, stretch_at, corridor_at}
-
 
 -- the lines of courses are below a number of lines, at most 1,000 of them are different, and some course stops at
 -- each place

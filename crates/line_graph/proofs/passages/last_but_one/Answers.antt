@@ -1,7 +1,6 @@
-use Rattle.std.proofs.Common.{ap, ◌∙◌, List, ℕ}
-use Rattle.way_network.specs.declared.way.Way.{Way}
-use Rattle.way_network.specs.Segments.{reversed, second_of}
-use Rattle.line_graph.specs.StretchTables.{directed_between, points_at}
+use Rattle.std.proofs.Common.{ap, ◌∙◌}
+use Rattle.way_network.specs.Segments.{second_of}
+use Rattle.line_graph.specs.StretchTables.{points_at}
 use Rattle.line_graph.proofs.PassageSteps.{second_back, way_found}
 use Rattle.line_graph.proofs.passages.last_but_one.Goals as goal
 

@@ -1,6 +1,5 @@
-use Rattle.std.proofs.Common.{◌≡◌, ◌∙◌, ◌<◌, ◌++◌, ◌∷◌, [], refl, sym, ap, map, set, length, get_or, List, arith, Vec}
+use Rattle.std.proofs.Common.{◌∙◌, ◌<◌, ◌++◌, ◌∷◌, [], sym, ap, map, set, length, arith}
 use Rattle.std.proofs.lemmas.List.{map-append, map-set, length-map, get_or-map}
-use Rattle.map_base.specs.declared.point.Point.{Point}
 use Rattle.line_graph.proofs.TableSteps.{extended_new, extended_at}
 use Rattle.line_graph.proofs.stretches.extend_at.Goals as goal
 

@@ -1,5 +1,4 @@
-use Rattle.std.proofs.Common.{◌≡◌, ◌∙◌, refl, ap, ℕ, ◌<◌, below_more}
-use Rattle.map_base.specs.declared.point.Point.{Point}
+use Rattle.std.proofs.Common.{◌∙◌, refl, ap, below_more}
 use Rattle.way_network.proofs.NodeLemmas.{value_more}
 use Rattle.line_graph.specs.StretchTables.{way_at, way_along, stretch_at, corridor_at}
 use Rattle.line_graph.specs.Premises.{IsLed}

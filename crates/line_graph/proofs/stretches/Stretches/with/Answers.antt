@@ -1,4 +1,4 @@
-use Rattle.std.proofs.Common.{◌≡◌, ◌∙◌, refl, sym, ap, map, length, List, arith}
+use Rattle.std.proofs.Common.{◌∙◌, sym, ap, map, length}
 use Rattle.std.proofs.lemmas.List.{length-map}
 use Rattle.line_graph.specs.StretchTables.{extended}
 use Rattle.line_graph.proofs.TableSteps.{each_kept}
