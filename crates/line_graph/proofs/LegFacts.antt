@@ -162,3 +162,9 @@ pub leg_at_station : (near lines : ℕ) (courses : Courses) → AreFit near cour
     (leg : Leg) × Contains (all_legs courses.courses) leg × Touches place leg
 leg_at_station near lines courses fit served place below =
     any_leg place courses.courses (all_have_hops near courses fit) (λ k d inside. (fit.each k d inside).some_stops) (served.served place below)
+
+-- all samples are in the plane
+pub samples_in_plane : (near : ℕ) (courses : Courses) → AreFit near courses → All IsInPlane (all_samples courses.courses)
+samples_in_plane near courses fit =
+    all_flat_map IsInPlane (λ (c : Course). flat_map (λ (hop : List Point). hop) c.hops) courses.courses
+    (λ k d below. all_flat_map IsInPlane (λ (hop : List Point). hop) (get_or courses.courses k d).hops (fit.each k d below).in_plane)

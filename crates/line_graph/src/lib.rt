@@ -1,6 +1,7 @@
 //! The line graph of a feed.
 #![tactic(auto)]
 
+mod course_net;
 mod legs;
 mod network;
 mod passages;
