@@ -1,7 +1,6 @@
 //! The stretches of all legs of courses.
 
-ghost use Rattle.std.specs.Prelude.{◌≡◌, ◌+◌, ◌≤◌, IfOk, All, fold, length};
-ghost use Rattle.feed_courses.specs.declared.courses.Course.{Course};
+ghost use Rattle.std.specs.Prelude.{◌≡◌, IfOk, All, fold};
 ghost use Rattle.line_graph.specs.Legs.{all_legs, legs_of};
 ghost use Rattle.line_graph.specs.StretchTables.{table_of, with_leg};
 ghost use Rattle.line_graph.specs.Premises.{HasHops};

@@ -1,6 +1,6 @@
 //! The network of courses over a net.
 
-ghost use Rattle.std.specs.Prelude.{◌≡◌, ◌≤◌, ◌<◌, IfOk, All, length};
+ghost use Rattle.std.specs.Prelude.{◌≡◌, ◌≤◌, IfOk, All};
 ghost use Rattle.track_net.specs.Laws.{HasOwnDirections, JoinsStations};
 ghost use Rattle.track_net.specs.Nets.{IsNet};
 ghost use Rattle.way_network.specs.Premises.{IsNetwork, IsPassage};
@@ -18,7 +18,7 @@ use std::alloc::Global;
 use track_net::Net;
 use way_network::{Passage, Way};
 
-/// The ways that lines take over a net, and where they go on from edge to edge.
+/// The points of a net, the ways that lines take over it, and where they go on from edge to edge.
 #[derive(Drop)]
 pub(crate) struct Traced {
     /// The points of the net.

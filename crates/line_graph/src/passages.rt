@@ -1,6 +1,6 @@
 //! Passages of lines from edge to edge.
 
-ghost use Rattle.std.specs.Prelude.{◌≡◌, ◌<◌, ◌≤◌, ◌++◌, IfOk, OnOk, All, length};
+ghost use Rattle.std.specs.Prelude.{◌≡◌, ◌≤◌, ◌++◌, IfOk, OnOk, All, length};
 ghost use Rattle.std.specs.List.{flat_map};
 ghost use Rattle.feed_courses.specs.declared.courses.Course.{Course as C};
 ghost use Rattle.way_network.specs.Joins.{passages_along, passages_of_way};

@@ -1,7 +1,7 @@
 //! Stretches of lines between stations, and their corridors.
 
 ghost use Rattle.std.specs.Prelude.{◌≡◌, ◌<◌, ◌≤◌, OnOk, IfOk, length, map};
-ghost use Rattle.line_graph.specs.StretchTables.{corridor_at, extended, stretch_at, stretch_between, with_leg};
+ghost use Rattle.line_graph.specs.StretchTables.{corridor_at, extended, stretch_at, stretch_between};
 
 use indexmap::IndexSet;
 use map_base::{LineId, NoMemory, Point};
