@@ -1,2 +1,10 @@
 mod Ranges
 pub mod Runs
+mod TableSteps
+mod PassageSteps
+mod WaySteps
+mod TableLemmas
+mod LegFacts
+mod PathFacts
+mod NetworkFacts
+mod Whole

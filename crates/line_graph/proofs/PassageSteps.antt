@@ -1,10 +1,9 @@
 -- Passages, pushed one after another.
-use Rattle.std.proofs.Common.{◌≡◌, refl, sym, ◌∙◌, ap, subst, ℕ, zero, suc, ◌+◌, ◌-◌, ◌<◌, ◌≤◌, Bool, true, false, cond, nat_lt, lt-ltb, List, [], ◌∷◌, ◌++◌, length, get_or, take, append_assoc, append-nil, arith}
+use Rattle.std.proofs.Common.{◌≡◌, refl, sym, ◌∙◌, ap, subst, ℕ, zero, suc, ◌+◌, ◌-◌, ◌<◌, ◌≤◌, true, cond, nat_lt, lt-ltb, List, [], ◌∷◌, ◌++◌, length, get_or, take, append_assoc, arith}
 use Rattle.std.specs.List.{flat_map}
 use Rattle.std.proofs.lemmas.List.{get_or_default, take_more, take_all, flat_map_more, reverse-reverse}
 use Rattle.std.proofs.lemmas.Bool.{ltb-true}
 use Rattle.map_base.specs.declared.ids.LineId.{LineId}
-use Rattle.map_base.specs.declared.point.Point.{Point}
 use Rattle.feed_courses.specs.declared.courses.Course.{Course}
 use Rattle.way_network.specs.declared.way.Way.{Way}
 use Rattle.way_network.specs.declared.way.Passage.{Passage}

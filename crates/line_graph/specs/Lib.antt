@@ -3,3 +3,5 @@ pub mod Handing
 pub mod Outcome
 pub mod Text
 pub mod Faults
+pub mod StretchTables
+pub mod Premises

@@ -4,18 +4,18 @@ ghost use Rattle.std.specs.Prelude.{◌≡◌, ◌≤◌, All, IfOk, IfErr, Ok};
 ghost use Rattle.track_net.specs.Laws.{HasOwnDirections, JoinsStations};
 ghost use Rattle.feed_courses.specs.Fit.{AreFit, AreServed};
 ghost use Rattle.way_network.specs.Graphs.{graph_over, graph_within};
-ghost use Rattle.line_graph.specs.Outcome.{all_passages, all_samples, graph_outcome, graph_over_net, net_of_courses, network_of};
+ghost use Rattle.line_graph.specs.Outcome.{all_passages, all_samples, graph_outcome, graph_over_net, net_of_courses as net_of, network_of};
 ghost use Rattle.line_graph.specs.Faults.{HasCause};
 ghost use Rattle.line_graph.specs.Text.{IsKnown};
 
+use crate::course_net::net_of_courses;
 use crate::fault::BuildFault;
 use crate::network::network;
-use crate::samples::all_samples;
 use feed_courses::{Courses, courses_of};
 use graph_core::LineGraph;
 use map_base::{NoMemory, Point, Settings};
 use std::alloc::Global;
-use track_net::{Net, net_of};
+use track_net::Net;
 use transit_feed::Tables;
 use way_network::graph_of;
 
@@ -50,11 +50,10 @@ fn graph_of_courses(
     requires served { AreServed lines courses.now }
     requires near_low { 20 ≤ near }
     requires near_high { near ≤ 20000 }
-    ensures graph { IfOk result (λ graph. graph_over_net near lines courses.now (net_of_courses near courses.now) ≡ Ok graph) }
-    ensures cause { IfErr result (λ fault. HasCause (graph_over_net near lines courses.now (net_of_courses near courses.now)) fault) }
+    ensures graph { IfOk result (λ graph. graph_over_net near lines courses.now (net_of near courses.now) ≡ Ok graph) }
+    ensures cause { IfErr result (λ fault. HasCause (graph_over_net near lines courses.now (net_of near courses.now)) fault) }
 {
-    let samples = all_samples(alloc, courses.courses.as_slice())?;
-    let net = net_of(alloc, courses.points.as_slice(), &samples, near)?;
+    let net = net_of_courses(alloc, courses, near)?;
     graph_of_net(alloc, courses, &net, near, lines)
 }
 
@@ -68,7 +67,7 @@ fn graph_of_net(
 ) -> Result<LineGraph, BuildFault>
     requires fit { AreFit near courses.now }
     requires served { AreServed lines courses.now }
-    requires net { net.now ≡ net_of_courses near courses.now }
+    requires net { net.now ≡ net_of near courses.now }
     requires directions { HasOwnDirections net.now }
     requires joined { JoinsStations near courses.now.points (all_samples courses.now.courses) net.now }
     requires near_high { near ≤ 20000 }
