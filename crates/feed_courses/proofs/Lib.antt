@@ -4,7 +4,7 @@ mod RunLemmas
 mod Earth
 mod PlaceTables
 mod FlagLemmas
-pub mod Served
+mod Served
 mod HopsAlong
 mod CourseLemmas
 mod SumLemmas

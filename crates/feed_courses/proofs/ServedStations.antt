@@ -18,7 +18,7 @@ use Rattle.feed_courses.specs.declared.courses.Courses.{Courses}
 use Rattle.feed_courses.specs.Shown.{shown_patterns, has_pattern, shown_lines, serves, used_stations}
 use Rattle.feed_courses.specs.Outcome.{place_of, station_numbered, stop_places, course_of, courses_of, courses_outcome, sample_total}
 use Rattle.feed_courses.specs.Fit.{AreServed, stops_at}
-use Rattle.feed_courses.proofs.Served.{ArePatterns-shown, number_among, length-used_points}
+use Rattle.feed_courses.proofs.Served.{ArePatterns-shown, number_among, length-used_points, used-below}
 use Rattle.feed_courses.proofs.PlaceTables.{has_place}
 
 -- ---- an element that passes a test
@@ -176,3 +176,15 @@ are_served near feed courses fits e =
     let stations = passed (leb (length (used_stations feed)) 10000) _ _ courses lines.1 in
     let samples = passed (leb (sample_total near feed) 4000000) _ _ courses stations.1 in
     subst (AreServed (length feed.lines)) (same_courses (courses_of near feed) courses samples.1) (all_served near feed fits (leb-true (length (shown_lines feed)) 1000 lines.0))
+
+-- the stations of courses are stations of the feed
+known_stations : (near : ℕ) (feed : Feed) → All (λ (s : StationId). s.0 < length feed.stations) (courses_of near feed).stations
+known_stations near feed = All-map (λ (s : StationId). s.0 < length feed.stations) station_numbered (used_stations feed) (used-below feed)
+
+pub are_known : (near : ℕ) (feed : Feed) (courses : Courses) → courses_outcome near feed ≡ Ok courses → All (λ (s : StationId). s.0 < length feed.stations) courses.stations
+unfolding courses_outcome
+are_known near feed courses e =
+    let lines = passed (leb (length (shown_lines feed)) 1000) _ _ courses e in
+    let stations = passed (leb (length (used_stations feed)) 10000) _ _ courses lines.1 in
+    let samples = passed (leb (sample_total near feed) 4000000) _ _ courses stations.1 in
+    subst (λ (all : Courses). All (λ (s : StationId). s.0 < length feed.stations) all.stations) (same_courses (courses_of near feed) courses samples.1) (known_stations near feed)

@@ -8,3 +8,4 @@ mod LegFacts
 mod PathFacts
 mod NetworkFacts
 mod Whole
+mod Outcomes

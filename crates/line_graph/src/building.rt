@@ -13,7 +13,7 @@ use crate::fault::BuildFault;
 use crate::network::network;
 use feed_courses::{Courses, courses_of};
 use graph_core::LineGraph;
-use map_base::{NoMemory, Point, Settings};
+use map_base::Settings;
 use std::alloc::Global;
 use track_net::Net;
 use transit_feed::Tables;
@@ -75,19 +75,7 @@ fn graph_of_net(
     ensures cause { IfErr result (λ fault. HasCause (graph_within (graph_over courses.now.stations net.now.points (network_of near lines courses.now net.now) (all_passages near courses.now net.now))) fault) }
 {
     let traced = network(alloc, courses, net, near, lines)?;
-    let points = points_of(alloc, net)?;
     let stations = courses.stations.as_slice();
-    let graph = graph_of(alloc, &points, stations, lines, &traced.ways, &traced.passages)?;
+    let graph = graph_of(alloc, &traced.points, stations, lines, &traced.ways, &traced.passages)?;
     Ok(graph)
-}
-
-/// The points of a net.
-fn points_of(alloc: Global, net: &Net) -> Result<Vec<Point>, NoMemory>
-    ensures { IfOk result (λ points. points.items ≡ net.now.points) }
-{
-    let mut points = Vec::with_capacity(alloc, net.len())?;
-    for i in 0..net.len() {
-        points.push(net.point(i as u32))?;
-    }
-    Ok(points)
 }

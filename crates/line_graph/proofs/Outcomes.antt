@@ -1,0 +1,101 @@
+-- From what each step gives to the outcome of a feed.
+use Rattle.std.proofs.Common.{◌≡◌, sym, ◌∙◌, ap, subst, ℕ, ◌<◌, ◌≤◌, ◌⊎◌, inl, inr, Bool, true, false, cond, leb, List, length, get_or, map, All, Option, Some, None, Result, Ok, Err, IfOk}
+use Rattle.std.specs.List.{slice_get}
+use Rattle.std.proofs.lemmas.Bool.{le-leb, lt-leb}
+use Rattle.std.proofs.lemmas.List.Elements.{All-map}
+use Rattle.std.proofs.lemmas.Option.{slice_get_cases}
+use Rattle.map_base.specs.declared.ids.StationId.{StationId}
+use Rattle.map_base.specs.declared.limit.Limit.{Limit}
+use Rattle.map_base.specs.declared.limit.LimitKind.{LimitKind}
+use Rattle.map_base.specs.declared.limit.LimitKind.TheVariants.{NetPoints, Nodes, Segments}
+use Rattle.map_base.specs.Limits.{limit_most, limit_of, unless_above}
+use Rattle.transit_feed.specs.declared.station.Station.{Station}
+use Rattle.transit_feed.specs.Feeds.{Feed}
+use Rattle.graph_core.specs.declared.parts.GraphParts.{GraphParts}
+use Rattle.graph_core.specs.declared.parts.NodeKind.{NodeKind}
+use Rattle.track_net.specs.Nets.{NetParts}
+use Rattle.track_net.specs.Faults.{HasCause as HasNetCause}
+use Rattle.track_net.specs.declared.fault.NetFault.{NetFault}
+use Rattle.track_net.specs.declared.fault.NetFault.TheVariants as net
+use Rattle.feed_courses.specs.declared.courses.Courses.{Courses}
+use Rattle.feed_courses.specs.declared.fault.CourseFault.{CourseFault}
+use Rattle.feed_courses.specs.declared.fault.CourseFault.TheVariants as courses
+use Rattle.feed_courses.specs.Faults.{HasCause as HasCourseCause}
+use Rattle.feed_courses.specs.Outcome.{courses_outcome}
+use Rattle.feed_courses.proofs.ServedStations.{are_known}
+use Rattle.way_network.specs.Graphs.{kind_of, kind_at, graph_over, graph_within}
+use Rattle.way_network.specs.Segments.{nodes_of}
+use Rattle.line_graph.specs.declared.fault.BuildFault.{BuildFault}
+use Rattle.line_graph.specs.Outcome.{net_of_courses, network_of, all_passages, graph_over_net, graph_of_courses, graph_outcome}
+use Rattle.line_graph.specs.Faults.{of_courses, of_net, HasCause}
+use Rattle.line_graph.specs.Text.{IsKnown}
+
+-- ---- limits
+
+is_within-next : {A : Type 0} (kind : LimitKind) (count : ℕ) (next : Result A Limit) → count ≤ limit_most kind → unless_above kind count next ≡ next
+is_within-next kind count next within = ap (λ b. cond b next (Err (limit_of kind))) (le-leb count (limit_most kind) within)
+
+is_above-limit : {A : Type 0} (kind : LimitKind) (count : ℕ) (next : Result A Limit) → limit_most kind < count → unless_above kind count next ≡ Err (limit_of kind)
+is_above-limit kind count next above = ap (λ b. cond b next (Err (limit_of kind))) (lt-leb count (limit_most kind) above)
+
+-- ---- the net
+
+-- a net of too many points is refused
+pub net_refused : (near lines : ℕ) (all : Courses) (over : NetParts) (fault : NetFault) → HasNetCause (length over.points) fault → HasCause (graph_over_net near lines all over) (of_net fault)
+net_refused near lines all over (net.Limit limit) cause = is_above-limit NetPoints (length over.points) _ cause.1 ∙ sym (ap Err cause.0)
+net_refused near lines all over net.NoMemory cause = tt
+
+-- else the outcome is that of the graph over it
+pub net_fits : (near lines : ℕ) (all : Courses) (over : NetParts) → length over.points ≤ 100000 →
+    graph_over_net near lines all over ≡ graph_within (graph_over all.stations over.points (network_of near lines all over) (all_passages near all over))
+net_fits near lines all over few = is_within-next NetPoints (length over.points) _ few
+
+-- ---- courses
+
+-- courses that are refused refuse the graph
+pub courses_refused : (near : ℕ) (feed : Feed) (fault : CourseFault) → HasCourseCause (courses_outcome near feed) fault → HasCause (graph_outcome near feed) (of_courses fault)
+courses_refused near feed (courses.Limit limit) cause = ap (graph_of_courses near (length feed.lines)) cause
+courses_refused near feed courses.NoMemory cause = tt
+
+-- else the outcome is that of the courses
+pub outcome_is : (near lines : ℕ) (feed : Feed) (all : Courses) → lines ≡ length feed.lines → courses_outcome near feed ≡ Ok all → graph_outcome near feed ≡ graph_over_net near lines all (net_of_courses near all)
+outcome_is near lines feed all count is =
+    ap (graph_of_courses near (length feed.lines)) is ∙ sym (ap (λ (n : ℕ). graph_over_net near n all (net_of_courses near all)) count)
+
+-- ---- stations
+
+kind_known : (stations : List Station) (known : List StationId) (p : ℕ) → All (λ (s : StationId). s.0 < length stations) known → IsKnown stations (kind_at known p)
+kind_known stations known p all = by_cases (slice_get_cases known p).1
+  where
+    by_cases : ((x : StationId) × (p < length known) × (slice_get known p ≡ Some x) × (get_or known p x ≡ x)) ⊎ ((length known ≤ p) × (slice_get known p ≡ None)) → IsKnown stations (kind_of (slice_get known p))
+    by_cases (inl there) =
+        subst (λ (o : Option StationId). IsKnown stations (kind_of o)) (sym there.2)
+        (subst (λ (s : StationId). s.0 < length stations) there.3 (all p there.0 there.1))
+    by_cases (inr past) = subst (λ (o : Option StationId). IsKnown stations (kind_of o)) (sym past.1) tt
+
+passed : {A : Type 0} (b : Bool) (next : Result A Limit) (limit : Limit) (x : A) → cond b next (Err limit) ≡ Ok x → next ≡ Ok x
+passed true next limit x e = e
+passed false next limit x e = cc
+
+abbrev outcome_with : GraphParts → Result GraphParts Limit
+outcome_with parts = Ok parts
+
+same_parts : (a b : GraphParts) → outcome_with a ≡ outcome_with b → a ≡ b
+same_parts a b same = cc
+
+-- the stations of a graph are those of the feed
+pub stations_known : (near lines : ℕ) (feed : Feed) (all : Courses) (over : NetParts) (parts : GraphParts) → courses_outcome near feed ≡ Ok all → graph_over_net near lines all over ≡ Ok parts →
+    All (IsKnown feed.stations) parts.kinds
+stations_known near lines feed all over parts is_all is =
+    let made : GraphParts = graph_over all.stations over.points (network_of near lines all over) (all_passages near all over) in
+    let within = passed (leb (length over.points) 100000) _ _ parts is in
+    let nodes = passed (leb (length made.kinds) 10000) _ _ parts within in
+    let segments = passed (leb (length made.ends) 20000) _ _ parts nodes in
+    let known = are_known near feed all is_all in
+    subst (λ (g : GraphParts). All (IsKnown feed.stations) g.kinds) (same_parts made parts segments)
+    (All-map (IsKnown feed.stations) (kind_at all.stations) (nodes_of (network_of near lines all over)) (λ k d below. kind_known feed.stations all.stations (get_or (nodes_of (network_of near lines all over)) k d) known))
+
+pub known_where : (near lines : ℕ) (feed : Feed) (all : Courses) (over : NetParts) (result : Result GraphParts BuildFault) → courses_outcome near feed ≡ Ok all →
+    IfOk result (λ parts. graph_over_net near lines all over ≡ Ok parts) → IfOk result (λ parts. All (IsKnown feed.stations) parts.kinds)
+known_where near lines feed all over (Ok parts) is_all is = stations_known near lines feed all over parts is_all is
+known_where near lines feed all over (Err fault) is_all is = tt
