@@ -2,6 +2,7 @@
 
 ghost use Rattle.std.specs.Prelude.{◌≡◌, ◌≤◌, IfOk};
 ghost use Rattle.files_door.specs.Fault.{Rose};
+ghost use Rattle.map_base.specs.Settings.{standard_choices};
 ghost use Rattle.line_graph.specs.Outcome.{graph_outcome};
 ghost use Rattle.map_cli.specs.Words.{graph};
 ghost use Rattle.map_cli.specs.Graph.{drawn};
@@ -30,8 +31,25 @@ pub fn answer_graph<F: Files>(
     ensures later { F.faults files.old ≤ F.faults files.new }
 {
     let settings = Settings::standard(alloc)?;
+    graph_with(alloc, feed, files, &settings)
+}
+
+/// The same, by the settings where a user sets none.
+fn graph_with<F: Files>(
+    alloc: Global,
+    feed: &str,
+    files: &mut F,
+    settings: &Settings,
+) -> Result<Answer, NoMemory>
+    requires standard { settings.now ≡ standard_choices }
+    ensures answer { IfOk result (IsAnswerTo (graph feed.now) (F.told files.old)
+        (Rose (F.faults files.old) (F.faults files.new))) }
+    ensures cause { IfOk result (λ answer. IsCaused (graph feed.now)
+        (Rose (F.faults files.old) (F.faults files.new)) ⊥ answer.status) }
+    ensures later { F.faults files.old ≤ F.faults files.new }
+{
     match read_tables(alloc, files, feed, settings.types.as_slice()) {
-        Ok(tables) => draw(alloc, &tables, &settings),
+        Ok(tables) => draw(alloc, &tables, settings),
         Err(fault) => refuse(alloc, feed, fault),
     }
 }
