@@ -1,5 +1,5 @@
 -- What the words of the command line ask for.
-use Rattle.std.specs.Prelude.{ℕ, List, [], ◌∷◌, map, codes, if◌then◌else◌, String, string_bytes}
+use Rattle.std.specs.Prelude.{ℕ, Bool, false, ◌==◌, List, [], ◌∷◌, map, codes, if◌then◌else◌, String, string_bytes}
 use Rattle.std.specs.declared.alloc.Global.{Global}
 use Rattle.std.specs.Str.{bytes_eq}
 use Rattle.map_cli.specs.declared.words.Request.{Request}
@@ -11,10 +11,17 @@ pub data Asked : Type 0 where
   graph : List ℕ → Asked
   unread : Asked
 
--- a command that takes one folder
+-- a word that spells an option: `-` and more
+abbrev pub is_option : List ℕ → Bool
+is_option [] = false
+is_option (a ∷ []) = false
+is_option (a ∷ b ∷ rest) = a == 45
+
+-- a command that takes one folder, which no option is
 abbrev pub asked_of : List ℕ → List ℕ → Asked
 asked_of command feed =
-    if bytes_eq command (codes "stations") then stations feed
+    if is_option feed then unread
+    else if bytes_eq command (codes "stations") then stations feed
     else if bytes_eq command (codes "graph") then graph feed
     else unread
 

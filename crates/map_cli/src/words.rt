@@ -1,7 +1,7 @@
 //! The words of the command line.
 
 ghost use Rattle.std.specs.Prelude.{◌≡◌};
-ghost use Rattle.map_cli.specs.Words.{asked_in, asked_by, asked_of};
+ghost use Rattle.map_cli.specs.Words.{asked_in, asked_by, asked_of, is_option};
 
 /// What the words ask for.
 #[derive(Clone, Copy, Debug)]
@@ -28,11 +28,23 @@ pub fn request_of(words: &[String]) -> Request<'_>
 fn request_for<'a>(command: &str, feed: &'a str) -> Request<'a>
     ensures { asked_by result ≡ asked_of command.now feed.now }
 {
-    if command == "stations" {
+    if is_option(feed) {
+        Request::Unread
+    } else if command == "stations" {
         Request::Stations(feed)
     } else if command == "graph" {
         Request::Graph(feed)
     } else {
         Request::Unread
+    }
+}
+
+/// Whether a word spells an option: `-` and more.
+fn is_option(word: &str) -> bool
+    ensures { result ≡ is_option word.now }
+{
+    match word.as_bytes() {
+        [first, _, ..] => *first == b'-',
+        _ => false,
     }
 }
