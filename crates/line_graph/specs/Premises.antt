@@ -1,14 +1,11 @@
 -- What the network of courses needs to be one.
-use Rattle.std.specs.Prelude.{◌≡◌, ℕ, ◌+◌, ◌<◌, ◌≤◌, ◌^◌, true, ◌==◌, List, length, All, Contains}
-use Rattle.std.specs.List.{list_any}
-use Rattle.map_base.specs.declared.ids.LineId.{LineId}
+use Rattle.std.specs.Prelude.{◌≡◌, ℕ, ◌+◌, ◌<◌, List, length, All}
 use Rattle.map_base.specs.declared.point.Point.{Point}
 use Rattle.fixed_plane.specs.Plane.{IsInPlane}
 use Rattle.track_net.specs.Nets.{NetParts, Joins}
 use Rattle.net_paths.specs.Stretches.{IsStretchPath}
 use Rattle.net_paths.specs.Choices.{stretch_path_of}
 use Rattle.feed_courses.specs.declared.courses.Course.{Course}
-use Rattle.feed_courses.specs.declared.courses.Courses.{Courses}
 use Rattle.line_graph.specs.declared.stretches.Stretch.{Stretch}
 use Rattle.line_graph.specs.StretchTables.{StretchTable, stretch_at, corridor_at}
 

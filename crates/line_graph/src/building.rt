@@ -76,6 +76,13 @@ fn graph_of_net(
 {
     let traced = network(alloc, courses, net, near, lines)?;
     let stations = courses.stations.as_slice();
-    let graph = graph_of(alloc, &traced.points, stations, lines, &traced.ways, &traced.passages)?;
+    let graph = graph_of(
+        alloc,
+        &traced.points,
+        stations,
+        lines,
+        &traced.ways,
+        &traced.passages,
+    )?;
     Ok(graph)
 }

@@ -1,5 +1,5 @@
 -- From what a table gives to the answer of a run.
-use Rattle.std.proofs.Common.{Bool, cond, ◌≡◌, ◌≢◌, ℕ, List, [], ◌∷◌, Option, None, Some, Result, Ok, Err, IfSome, IfOk, inl, inr, refl, sym, ap, ◌∙◌, subst, lit<, take}
+use Rattle.std.proofs.Common.{Bool, cond, ◌≡◌, ◌≢◌, ℕ, List, [], ◌∷◌, Option, None, Some, Result, Ok, Err, IfSome, IfOk, inl, inr, refl, sym, ap, ◌∙◌, subst, take}
 use Rattle.std.proofs.lemmas.Slice.Eq.{bytes_eq-Decides}
 use Rattle.map_base.specs.declared.memory.NoMemory.{NoMemory}
 use Rattle.table_rows.specs.declared.why.Table.{Table}

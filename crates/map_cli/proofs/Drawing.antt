@@ -15,7 +15,6 @@ use Rattle.gtfs_tables.specs.Feed.{Folder, told_folder, feed_outcome, before, ma
 use Rattle.line_graph.specs.Outcome.{graph_outcome}
 use Rattle.files_door.specs.Fault.{Rose}
 use Rattle.map_cli.specs.declared.answer.Answer.{Answer}
-use Rattle.map_cli.specs.declared.status.Status.TheVariants as ended
 use Rattle.map_cli.specs.Words.{graph, unread}
 use Rattle.map_cli.specs.Answers.{alone, status_of_fault}
 use Rattle.map_cli.specs.Graph.{drawn, graph_answer}
@@ -49,7 +48,7 @@ graph_answered told folder types before now near rose view all (Ok answer) types
   seen.0,
   seen.1,
   inl (said ∙ ap (λ (n : ℕ). drawn (view all) (graph_outcome n (view all))) near_is
-  ∙ sym (ap (graph_answer folder) (ap (λ (ts : List ℕ). feed_outcome ts (told_folder seen.0 folder)) (sym types_are) ∙ seen.2))),
+      ∙ sym (ap (graph_answer folder) (ap (λ (ts : List ℕ). feed_outcome ts (told_folder seen.0 folder)) (sym types_are) ∙ seen.2))),
 )
 
 -- the feed is refused

@@ -1,9 +1,9 @@
 -- What each target holds after the acts of outputs.
-use Rattle.std.proofs.Common.{◌≡◌, ℕ, Bool, true, false, cond, List, [], ◌∷◌, ◌++◌, Option, Some, unwrap_or, refl, sym, ap, ◌∙◌}
+use Rattle.std.proofs.Common.{◌≡◌, ℕ, Bool, true, false, cond, List, [], ◌∷◌, ◌++◌, Option, Some, unwrap_or, refl, ap, ◌∙◌}
 use Rattle.std.specs.Option.{option_map}
 use Rattle.files_door.specs.declared.target.Target.{Target}
 use Rattle.files_door.specs.Targets.{same_target, Written, held_by}
-use Rattle.files_door.specs.Acts.{begin_target, append_to, kept_by, puts, after}
+use Rattle.files_door.specs.Acts.{begin_target, kept_by, after}
 use Rattle.files_door.proofs.Acts.{after-append}
 use Rattle.files_door.proofs.Targets.{after-puts, held_by-append_to, held_by-begin_target}
 use Rattle.map_cli.specs.declared.answer.Output.{Output}

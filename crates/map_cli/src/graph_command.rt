@@ -19,11 +19,7 @@ use std::alloc::Global;
 use transit_feed::Tables;
 
 /// The line graph of the feed in a folder, or why it is refused.
-pub fn answer_graph<F: Files>(
-    alloc: Global,
-    feed: &str,
-    files: &mut F,
-) -> Result<Answer, NoMemory>
+pub fn answer_graph<F: Files>(alloc: Global, feed: &str, files: &mut F) -> Result<Answer, NoMemory>
     ensures answer { IfOk result (IsAnswerTo (graph feed.now) (F.told files.old)
         (Rose (F.faults files.old) (F.faults files.new))) }
     ensures cause { IfOk result (λ answer. IsCaused (graph feed.now)

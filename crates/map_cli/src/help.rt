@@ -54,7 +54,9 @@ fn complaint(alloc: Global, words: &[String]) -> Result<String, NoMemory> {
     }
     if words.len() == 2 {
         let word = words[1].as_str();
-        return Ok(format!(in alloc; "octimap: there is no option {word:?}; a folder of that name is ./{word}\n\n")?);
+        return Ok(format!(in alloc;
+            "octimap: there is no option {word:?}; a folder of that name is ./{word}\n\n"
+        )?);
     }
     Ok(format!(in alloc; "octimap: {command} takes one folder FEED and nothing more\n\n")?)
 }

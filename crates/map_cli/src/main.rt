@@ -10,6 +10,8 @@ mod disk_files;
 mod disk_sinks;
 mod failures;
 mod graph_command;
+#[cfg(test)]
+mod graph_tests;
 mod help;
 mod holding;
 mod line;

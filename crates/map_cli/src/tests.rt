@@ -31,11 +31,16 @@ fn run_counted<F: Files, S: Sinks, L: Ledger>(
     run(alloc, words, files, sinks, &mut steps).number()
 }
 
-fn run_on<F: Files, S: Sinks>(alloc: Global, words: &[String], files: &mut F, sinks: &mut S) -> u8 {
+pub(crate) fn run_on<F: Files, S: Sinks>(
+    alloc: Global,
+    words: &[String],
+    files: &mut F,
+    sinks: &mut S,
+) -> u8 {
     run_counted::<F, S, Brand>(alloc, words, files, sinks, Blank::new(1))
 }
 
-fn words_of(alloc: Global, line: &str) -> Result<Vec<String>, AllocError> {
+pub(crate) fn words_of(alloc: Global, line: &str) -> Result<Vec<String>, AllocError> {
     let mut words = Vec::new(alloc);
     for word in line.split(' ') {
         words.push(String::from_str(alloc, word)?)?;
@@ -144,6 +149,11 @@ fn words_that_are_not_read_get_the_help(rt: HostRuntime) -> Result<(), Fail> {
             "stations",
             "octimap: stations needs the folder FEED\n\noctimap draws",
         ),
+        (
+            "graph -x",
+            "octimap: there is no option \"-x\"; a folder of that name is ./-x\n\noctimap draws",
+        ),
+        ("graph --help", "octimap draws"),
         (
             "stations feed more",
             "octimap: stations takes one folder FEED and nothing more\n\noctimap draws",

@@ -1,5 +1,5 @@
-use Rattle.std.proofs.Common.{◌≡◌, ◌∙◌, ap, ℕ, List, Ok, Err}
-use Rattle.map_base.specs.Settings.{Choices, standard_choices}
+use Rattle.std.proofs.Common.{◌∙◌, ap, Ok, Err}
+use Rattle.map_base.specs.Settings.{Choices}
 use Rattle.transit_feed.specs.Feeds.{Feed}
 use Rattle.map_cli.proofs.Drawing.{seen_tables, graph_answered, graph_refused, drawn_caused, refused_caused}
 use Rattle.map_cli.proofs.graph_command.graph_with.Goals as goal
