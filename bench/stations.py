@@ -12,13 +12,10 @@ The rows are as agencies write them: CR LF, quoted names with commas and doubled
 platforms, and degrees of six places.
 """
 import argparse
-import hashlib
 import os
-import pathlib
-import subprocess
-import sys
 import tempfile
-import time
+
+from measuring import compare
 
 PLATFORMS = 3
 
@@ -43,21 +40,6 @@ def degrees(micro):
     sign = "-" if micro < 0 else ""
     return f"{sign}{abs(micro) // 1000000}.{abs(micro) % 1000000:06d}"
 
-
-def measure(program, folder):
-    """(seconds, peak in KiB, digest of the output) of one run."""
-    started = time.monotonic()
-    child = subprocess.Popen([program, "stations", folder], stdout=subprocess.PIPE)
-    digest = hashlib.sha256()
-    for piece in iter(lambda: child.stdout.read(1 << 20), b""):
-        digest.update(piece)
-    _, status, usage = os.wait4(child.pid, 0)
-    seconds = time.monotonic() - started
-    if status != 0:
-        sys.exit(f"{program} ended with status {os.waitstatus_to_exitcode(status)}")
-    return seconds, usage.ru_maxrss, digest.hexdigest()
-
-
 def main():
     parser = argparse.ArgumentParser(description=__doc__, formatter_class=argparse.RawDescriptionHelpFormatter)
     parser.add_argument("--rows", type=int, default=1000000)
@@ -66,7 +48,6 @@ def main():
     parser.add_argument("programs", nargs="*", metavar="PROGRAM")
     given = parser.parse_args()
 
-    top = pathlib.Path(__file__).resolve().parent.parent
     folder = os.path.join(given.work, f"stops-{given.rows}")
     os.makedirs(folder, exist_ok=True)
     stops = os.path.join(folder, "stops.txt")
@@ -74,23 +55,7 @@ def main():
         write_stops(stops + ".part", given.rows)
         os.replace(stops + ".part", stops)
     print(f"{stops}: {given.rows} rows, {os.path.getsize(stops)} bytes")
-
-    ours = str(top / "octimap")
-    programs = [ours] + given.programs
-    times, peaks, digests = {}, {}, {}
-    for _ in range(given.runs):
-        for program in programs:
-            seconds, peak, digest = measure(program, folder)
-            times[program] = min(seconds, times.get(program, seconds))
-            peaks[program] = max(peak, peaks.get(program, peak))
-            digests[program] = digest
-    for program in programs:
-        same = "same bytes" if digests[program] == digests[ours] else "OTHER BYTES"
-        print(f"{program}: {times[program]:.3f} s, {peaks[program] / 1024:.1f} MiB, {same}")
-    for program in given.programs:
-        time_ratio = times[ours] / times[program]
-        peak_ratio = peaks[ours] / peaks[program]
-        print(f"octimap / {os.path.basename(program)}: {time_ratio:.2f} of the time, {peak_ratio:.2f} of the memory")
+    compare(given.programs, "stations", folder, given.runs)
 
 
 if __name__ == "__main__":
