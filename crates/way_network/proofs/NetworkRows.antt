@@ -1,5 +1,5 @@
 -- What is read from the kept used edges of a network is what the network has.
-use Rattle.std.proofs.Common.{◌≡◌, refl, sym, ◌∙◌, ap, subst, ℕ, zero, suc, ◌+◌, ◌-◌, ◌<◌, Bool, true, false, cond, not, ◌&&◌, ◌||◌, eqb, List, [], ◌∷◌, ◌++◌, Option, Some, None, length, get_or, map, filter, All, eq-eqb, eqb-true, lt-ltb, arith}
+use Rattle.std.proofs.Common.{◌≡◌, refl, sym, ◌∙◌, ap, subst, ℕ, zero, suc, ◌+◌, ◌-◌, ◌<◌, Bool, true, false, cond, not, ◌&&◌, ◌||◌, eqb, List, [], ◌∷◌, ◌++◌, Some, length, get_or, map, filter, All, eq-eqb, eqb-true, lt-ltb, arith}
 use Rattle.std.specs.List.{find, flat_map, list_any, range_with_len}
 use Rattle.std.specs.Option.{unwrap_or}
 use Rattle.std.proofs.lemmas.List.Elements.{All-nil, All-cons, All-head, All-tail, All-append, All-map, All-weaker, All-filter, filter_passes}
@@ -10,7 +10,7 @@ use Rattle.track_net.proofs.Lists.{range_below, list_any-filter}
 use Rattle.way_network.specs.declared.edges.UsedEdge.{UsedEdge}
 use Rattle.way_network.specs.Edges.{is_used}
 use Rattle.way_network.specs.Chains.{Network, used_at, has_node, onward, chain_on, chain_from}
-use Rattle.way_network.specs.Segments.{turns_before, put_in_order, around, last_of, first_of, second_of, chains_from, rising_chains, nodes_of, node_at, segment_chains, ends_of, lines_of, round_of, node_numbered}
+use Rattle.way_network.specs.Segments.{turns_before, put_in_order, around, last_of, first_of, second_of, chains_from, rising_chains, nodes_of, segment_chains, ends_of, lines_of, round_of}
 use Rattle.way_network.specs.Tables.{edge_to, edges_from, edge_table, row_at}
 use Rattle.way_network.specs.Uses.{has_number}
 use Rattle.way_network.proofs.RisingLists.{has_filtered, has_below}

@@ -1,13 +1,13 @@
 -- Numbers of segments: the edges over which a chain leaves its ends, and the first chain of all.
-use Rattle.std.proofs.Common.{◌≡◌, refl, sym, ◌∙◌, ap, subst, ℕ, zero, suc, ◌+◌, ◌-◌, ◌<◌, ◌≤◌, Bool, true, false, cond, ◌||◌, eqb, List, [], ◌∷◌, ◌++◌, Option, Some, None, length, get_or, drop, append-nil, append_assoc, arith}
+use Rattle.std.proofs.Common.{◌≡◌, refl, sym, ◌∙◌, ap, subst, ℕ, ◌+◌, ◌-◌, ◌<◌, ◌≤◌, Bool, true, false, cond, ◌||◌, List, [], ◌∷◌, Option, Some, length, get_or, arith}
 use mathlib.Core.List.{reverse}
-use Rattle.std.specs.List.{position, position_from}
+use Rattle.std.specs.List.{position_from}
 use Rattle.std.specs.Option.{unwrap_or}
 use Rattle.std.specs.Map.{lookup}
 use Rattle.std.specs.HashMap.{get}
 use Rattle.std.proofs.lemmas.List.{get_or-reverse, at_drop_more, at_drop_all, length-reverse}
 use Rattle.std.proofs.lemmas.Iterator.Adapters.{position_from-zero}
-use Rattle.way_network.specs.Segments.{first_of, second_of, reversed, reversed_onto, leaves, segment_at, segment_numbered}
+use Rattle.way_network.specs.Segments.{first_of, second_of, reversed, leaves, segment_numbered}
 use Rattle.way_network.specs.Numbers.{is_edge, EdgeMap, lower_edge_of, upper_edge_of, first_leaving, number_to, AreNumbered}
 
 -- the first two points of a chain, by their places

@@ -1,5 +1,5 @@
 -- Segments and their numbers, by the edges over which they leave their ends.
-use Rattle.std.specs.Prelude.{◌≡◌, ℕ, ◌<◌, ◌^◌, Bool, ◌==◌, ◌&&◌, List, [], map, find, drop, length, slice_index, Option, Some, None, if◌then◌else◌}
+use Rattle.std.specs.Prelude.{◌≡◌, ℕ, ◌<◌, ◌^◌, Bool, ◌==◌, ◌&&◌, List, [], map, find, drop, length, Option, Some, None}
 use Rattle.std.specs.List.{position_from}
 use Rattle.std.specs.HashMap.{get, HashMap}
 use Rattle.std.specs.declared.hash.FoldHasher.{FoldHasher}

@@ -1,6 +1,5 @@
-use Rattle.std.proofs.Common.{◌≡◌, sym, ◌∙◌, subst, ℕ, ◌<◌, List, [], length, All, arith}
+use Rattle.std.proofs.Common.{sym, ◌∙◌, subst, ℕ, ◌<◌, List, [], length, All, arith}
 use Rattle.way_network.specs.declared.edges.UsedEdge.{UsedEdge}
-use Rattle.way_network.specs.Rows.{other_in}
 use Rattle.way_network.proofs.Walking.{walk_step, other_in_known}
 use Rattle.way_network.proofs.chains.chain_from.Goals as goal
 

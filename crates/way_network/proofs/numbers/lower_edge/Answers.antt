@@ -1,4 +1,4 @@
-use Rattle.std.proofs.Common.{ℕ, ◌≤◌, length, arith}
+use Rattle.std.proofs.Common.{arith}
 use Rattle.way_network.proofs.Numbering.{lower_edge_of_one, lower_edge_at}
 use Rattle.way_network.proofs.numbers.lower_edge.Goals as goal
 

@@ -1,4 +1,4 @@
-use Rattle.std.proofs.Common.{◌≡◌, sym, subst, ℕ, List, ◌<◌, get_or, length, All}
+use Rattle.std.proofs.Common.{sym, subst, ℕ, List, ◌<◌, get_or, length, All}
 use Rattle.way_network.specs.declared.edges.UsedEdge.{UsedEdge}
 use Rattle.way_network.specs.Rows.{LeadAway}
 use Rattle.way_network.proofs.rounds.rounds_of.Goals as goal

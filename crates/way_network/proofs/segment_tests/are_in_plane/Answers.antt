@@ -1,4 +1,4 @@
-use Rattle.std.proofs.Common.{subst, ℕ, List, All, pos, arith}
+use Rattle.std.proofs.Common.{subst, List, All, pos, arith}
 use Rattle.std.proofs.lemmas.List.{take_all}
 use Rattle.std.proofs.lemmas.List.Elements.{All-more}
 use Rattle.map_base.specs.declared.point.Point.{Point}

@@ -1,4 +1,4 @@
-use Rattle.std.proofs.Common.{subst, ℕ, List, arith}
+use Rattle.std.proofs.Common.{subst, List, arith}
 use Rattle.std.proofs.lemmas.List.{take_all}
 use Rattle.std.proofs.lemmas.List.Elements.{All-more}
 use Rattle.way_network.specs.declared.edges.UsedEdge.{UsedEdge}

@@ -1,4 +1,4 @@
-use Rattle.std.proofs.Common.{◌≡◌, sym, subst, ℕ, ◌<◌, List, [], length, All, arith}
+use Rattle.std.proofs.Common.{◌≡◌, sym, subst, ◌<◌, List, [], length, All, arith}
 use Rattle.std.proofs.lemmas.List.{get_or_default}
 use Rattle.std.proofs.lemmas.List.Elements.{All-weaker}
 use Rattle.map_base.specs.declared.point.Point.{Point}

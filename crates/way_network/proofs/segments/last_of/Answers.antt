@@ -1,4 +1,4 @@
-use Rattle.std.proofs.Common.{◌≡◌, ◌∙◌, ap, ℕ, get_or, arith}
+use Rattle.std.proofs.Common.{◌∙◌, ap, ℕ, get_or}
 use Rattle.way_network.proofs.Walking.{last_of_at}
 use Rattle.way_network.proofs.segments.last_of.Goals as goal
 
