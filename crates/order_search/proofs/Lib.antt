@@ -1,0 +1,5 @@
+mod Examples
+mod Rooms
+mod Grows
+mod Restored
+mod Accepted

@@ -1,0 +1,34 @@
+use Rattle.std.proofs.Common.{◌≡◌, true, List, sym, ap, subst}
+use Rattle.std.proofs.lemmas.Result.{IfOk-weaker}
+use Rattle.order_model.specs.declared.term.Term.{Term}
+use Rattle.order_trees.specs.PartTerms.{part_terms}
+use Rattle.order_trees.specs.Completions.{none_placed}
+use Rattle.order_trees.specs.Accepting.{question, accepts}
+use Rattle.order_search.specs.Growing.{tree_of}
+use Rattle.order_search.specs.Finding.{Best, best_in, number_order, IsLeast}
+use Rattle.order_search.specs.Progressing.{best_found}
+use Rattle.order_search.proofs.Accepted.{found_accepted, found_least}
+use Rattle.order_search.proofs.part_search.search.Goals as goal
+
+pub returns-clause-least : goal.returns-clause-least
+returns-clause-least g c =
+    let segs = c.args.problem.now.segs in
+    let part = c.args.part.now in
+    let terms : List Term = part_terms c.args.problem.now.terms part in
+    IfOk-weaker c.search_all.result
+    (λ f. best_found f ≡ best_in segs part terms (none_placed segs) (tree_of segs part) (number_order segs part terms))
+    (λ f. IsLeast segs terms f.target)
+    (λ f e. subst (λ n. IsLeast segs terms n) (sym (ap (λ (b : Best). b.cost) e)) (found_least segs part c.args.problem.now.terms c.search_all.ensures.fits.rising c.requires.known))
+    c.search_all.ensures.best
+
+pub returns-clause-accepted : goal.returns-clause-accepted
+returns-clause-accepted g c =
+    let segs = c.args.problem.now.segs in
+    let part = c.args.part.now in
+    let terms : List Term = part_terms c.args.problem.now.terms part in
+    IfOk-weaker c.search_all.result
+    (λ f. best_found f ≡ best_in segs part terms (none_placed segs) (tree_of segs part) (number_order segs part terms))
+    (λ f. accepts (question segs part terms f.target) (none_placed segs) (tree_of segs part) ≡ true)
+    (λ f e. subst (λ n. accepts (question segs part terms n) (none_placed segs) (tree_of segs part) ≡ true) (sym (ap (λ (b : Best). b.cost) e))
+    (found_accepted segs part terms c.search_all.ensures.fits.rising c.requires.known))
+    c.search_all.ensures.best

@@ -1,0 +1,147 @@
+//! The search over a part.
+
+ghost use Rattle.std.specs.Prelude.{◌≡◌, ◌+◌, ◌<◌, ◌≤◌, ◌^◌, true, length, map, All, IfOk, IfErr};
+ghost use Rattle.map_base.specs.declared.ids.SegId.{SegId};
+ghost use Rattle.order_model.specs.Problems.{lines_on, IsProblem};
+ghost use Rattle.order_model.specs.Costs.{IsReadable};
+ghost use Rattle.order_proof.specs.Plain.{plain};
+ghost use Rattle.order_proof.specs.Trees.{splits_of};
+ghost use Rattle.order_trees.specs.PartTerms.{part_terms};
+ghost use Rattle.order_trees.specs.Completions.{none_placed};
+ghost use Rattle.order_trees.specs.Accepting.{question, accepts};
+ghost use Rattle.order_search.specs.Growing.{tree_of};
+ghost use Rattle.order_search.specs.Finding.{best_in, number_order, places_of, most_places, IsSearchFault, IsLeast};
+ghost use Rattle.order_search.specs.Progressing.{best_of, best_found, IsStop};
+
+use crate::found::{Found, SearchFault};
+use crate::grow::grow;
+use crate::left::is_deep;
+use crate::progress::{Progress, copied};
+use map_base::{Limit, LimitKind, LineId, NoMemory, SegId, Sequence, Steps};
+use order_model::{Orders, Prefix, Problem, Term, total_cost};
+use order_trees::{marks_of, part_terms};
+use std::alloc::Global;
+use std::sync::ledger::Ledger;
+
+/// Orders of a part that cost least, and a tree that shows it. The tree is split at each prefix that is not complete,
+/// at the first segment of the part on which a line is left, with a case for each such line by its number. The orders
+/// are those that rise on each segment where these cost least, else the first complete ones that do. The limit is
+/// answered exactly where the part has more than 2,048 places, which are its lines minus 1 summed over its segments;
+/// `Spent` exactly where it has no more and the tree has more splits than the budget. Each split takes one step of the
+/// counter.
+pub fn search<L: Ledger>(
+    alloc: Global,
+    problem: &Problem,
+    part: &[SegId],
+    budget: u32,
+    steps: &mut Steps<L>,
+) -> Result<Found, SearchFault>
+    requires known { All (λ (s : SegId). s.0 < length problem.now.segs) part.now }
+    requires budget { budget + 1 < 2 ^ 32 }
+    ensures places { IfOk result (λ _. places_of problem.now.segs part.now ≤ most_places) }
+    ensures tree { IfOk result (λ f. plain f.tree ≡ tree_of problem.now.segs part.now) }
+    ensures branches { IfOk result (λ f. f.branches ≡ splits_of (tree_of problem.now.segs part.now)) }
+    ensures within { IfOk result (λ f. f.branches ≤ budget) }
+    ensures best { IfOk result (λ f. best_found f ≡ best_in problem.now.segs part.now (part_terms problem.now.terms part.now) (none_placed problem.now.segs)
+        (tree_of problem.now.segs part.now) (number_order problem.now.segs part.now (part_terms problem.now.terms part.now))) }
+    ensures least { IfOk result (λ f. IsLeast problem.now.segs (part_terms problem.now.terms part.now) f.target) }
+    ensures accepted { IfOk result (λ f. accepts (question problem.now.segs part.now (part_terms problem.now.terms part.now) f.target)
+        (none_placed problem.now.segs) (tree_of problem.now.segs part.now) ≡ true) }
+    ensures fault { IfErr result (IsSearchFault problem.now.segs part.now budget) }
+    ensures steps { IfOk result (λ f. steps.new ≡ steps.old + f.branches) }
+    ensures few_steps { IfErr result (λ _. steps.new ≤ steps.old + splits_of (tree_of problem.now.segs part.now)) }
+{
+    if is_deep(problem, part) {
+        return Err(SearchFault::TooDeep(Limit {
+            what: LimitKind::Places,
+            found: 2_049,
+            most: 2_048,
+        }));
+    }
+    search_all(alloc, problem, part, budget, steps)
+}
+
+/// The same of a part that has no more places than are allowed.
+fn search_all<L: Ledger>(
+    alloc: Global,
+    problem: &Problem,
+    part: &[SegId],
+    budget: u32,
+    steps: &mut Steps<L>,
+) -> Result<Found, SearchFault>
+    requires known { All (λ (s : SegId). s.0 < length problem.now.segs) part.now }
+    requires budget { budget + 1 < 2 ^ 32 }
+    ensures fits { IsProblem problem.now }
+    ensures tree { IfOk result (λ f. plain f.tree ≡ tree_of problem.now.segs part.now) }
+    ensures branches { IfOk result (λ f. f.branches ≡ splits_of (tree_of problem.now.segs part.now)) }
+    ensures within { IfOk result (λ f. f.branches ≤ budget) }
+    ensures best { IfOk result (λ f. best_found f ≡ best_in problem.now.segs part.now (part_terms problem.now.terms part.now) (none_placed problem.now.segs)
+        (tree_of problem.now.segs part.now) (number_order problem.now.segs part.now (part_terms problem.now.terms part.now))) }
+    ensures stop { IfErr result (IsStop budget (splits_of (tree_of problem.now.segs part.now))) }
+    ensures steps { IfOk result (λ f. steps.new ≡ steps.old + f.branches) }
+    ensures few_steps { IfErr result (λ _. steps.new ≤ steps.old + splits_of (tree_of problem.now.segs part.now)) }
+{
+    let segs = problem.segs();
+    let marks = marks_of(alloc, part, segs.len())?;
+    let terms = part_terms(alloc, problem, part, marks.as_slice())?;
+    let mut prefix = Prefix::none(alloc, problem)?;
+    let mut progress = begin(alloc, problem, part, terms.as_slice(), budget)?;
+    let tree = grow(
+        alloc,
+        problem,
+        part,
+        terms.as_slice(),
+        &mut prefix,
+        &mut progress,
+        steps,
+    )?;
+    Ok(Found {
+        orders: Orders {
+            lists: Sequence::of(progress.lists),
+        },
+        target: progress.cost,
+        branches: progress.spent,
+        tree,
+    })
+}
+
+/// A search that has taken no split: the best are the orders whose lines rise.
+fn begin(
+    alloc: Global,
+    problem: &Problem,
+    part: &[SegId],
+    terms: &[Term],
+    budget: u32,
+) -> Result<Progress, NoMemory>
+    requires known { All (λ (s : SegId). s.0 < length problem.now.segs) part.now }
+    requires readable { All (IsReadable (length problem.now.segs)) terms.now }
+    requires few { length terms.now ≤ 4000000 }
+    ensures best { IfOk result (λ p. best_of p ≡ number_order problem.now.segs part.now terms.now) }
+    ensures spent { IfOk result (λ p. p.spent ≡ 0) }
+    ensures budget { IfOk result (λ p. p.budget ≡ budget) }
+{
+    let lists = rising_lists(alloc, problem, part)?;
+    Ok(Progress {
+        cost: total_cost(terms, problem.segs()),
+        lists,
+        spent: 0,
+        budget,
+    })
+}
+
+/// The lines of each segment of the part.
+fn rising_lists(
+    alloc: Global,
+    problem: &Problem,
+    part: &[SegId],
+) -> Result<Vec<Sequence<LineId>>, NoMemory>
+    requires { All (λ (s : SegId). s.0 < length problem.now.segs) part.now }
+    ensures { IfOk result (λ lists. lists.items ≡ map (λ s. lines_on problem.now.segs s) part.now) }
+{
+    let segs = problem.segs();
+    let mut lists = Vec::new(alloc);
+    for s in part {
+        lists.push(copied(alloc, segs[s.0 as usize].as_slice())?)?;
+    }
+    Ok(lists)
+}
