@@ -12,18 +12,19 @@ use Rattle.order_model.specs.Problems.{lines_on}
 use Rattle.order_model.specs.Costs.{cost_of}
 use Rattle.order_model.specs.Prefixes.{is_placed, is_unplaced, with_line, ArePlacedLines}
 use Rattle.order_model.proofs.GraphProblem.{few_rising}
-use Rattle.order_model.proofs.PrefixLemmas.{few_apart, placed_with_line}
+use Rattle.order_model.proofs.PrefixLemmas.{placed_with_line}
 use Rattle.order_proof.specs.Plain.{PlainTree, split, close, Cases, no_case, case_of, cases_of}
 use Rattle.order_proof.specs.Trees.{is_among, lines_of}
 use Rattle.order_trees.specs.PartTerms.{is_in, part_terms}
 use Rattle.order_trees.specs.Completions.{placed_more, none_placed}
 use Rattle.order_trees.specs.Accepting.{Question, question, is_full, is_complete, is_closed, is_left, are_those_left, is_split, accepts, accepts_cases}
 use Rattle.order_trees.proofs.Lines.{either_true, same_line}
-use Rattle.order_trees.proofs.Sound.{same_or_other, all_in, rising_at, none_at, accepted_bounds, all_complete_none}
+use Rattle.order_trees.proofs.Sound.{same_or_other, all_in, rising_at, accepted_bounds, all_complete_none}
 use Rattle.order_search.specs.Growing.{is_open, first_open, lines_left, room_of, cases_left, node_at, grown, tree_at, tree_of}
 use Rattle.order_search.specs.Finding.{Best, best_at, better, best_in, best_among, number_order, IsLeast}
 use Rattle.order_search.proofs.Rooms.{found_in, none_in, room_falls, some_room}
 use Rattle.order_search.proofs.Grows.{next_left}
+use Rattle.order_search.proofs.Permuted.{few_apart}
 
 both_hold : (a b : Bool) → a ≡ true → b ≡ true → (a && b) ≡ true
 both_hold true b h g = g
@@ -135,7 +136,7 @@ at_leaf part terms placed b = by_test (nat_lt (cost_of terms placed) b.cost) ref
 abbrev pub IsWell : List (List LineId) → List (List LineId) → Type 0
 IsWell segs placed = (s : ℕ) → s < length segs → ArePlacedLines (get_or segs s []) (get_or placed s [])
 
-well_more : (segs placed : List (List LineId)) (s : SegId) (a : LineId) → length placed ≡ length segs → s.0 < length segs → All AreRising segs → IsWell segs placed
+pub well_more : (segs placed : List (List LineId)) (s : SegId) (a : LineId) → length placed ≡ length segs → s.0 < length segs → All AreRising segs → IsWell segs placed
     → Contains (lines_on segs s) a → is_placed (lines_on placed s) a ≡ false → IsWell segs (placed_more segs placed s a)
 well_more segs placed s a each known rising ok on fresh u u_known = elim (same_or_other u s.0) [
   | inl e ↦ rw (e, get_or-set_same placed s.0 (with_line (lines_on segs s) (lines_on placed s) a) [] (omega (arith, each, known)))
@@ -147,7 +148,7 @@ module _ (segs : List (List LineId)) (part : List SegId) (terms : List Term) (ta
   abbrev q : Question
   q = question segs part terms target
 
-  full_at : (placed : List (List LineId)) (s : SegId) → s.0 < length segs → IsWell segs placed → is_open segs placed s ≡ false → is_full segs placed s ≡ true
+  pub full_at : (placed : List (List LineId)) (s : SegId) → s.0 < length segs → IsWell segs placed → is_open segs placed s ≡ false → is_full segs placed s ≡ true
   full_at placed s s_known ok shut =
       let few = few_apart (lines_on placed s) (lines_on segs s) (ok s.0 s_known).apart (ok s.0 s_known).known in
       eq-eqb (length (lines_on placed s)) (length (lines_on segs s)) (omega (arith, few, ltb-false (length (lines_on placed s)) (length (lines_on segs s)) shut))
@@ -177,7 +178,7 @@ module _ (segs : List (List LineId)) (part : List SegId) (terms : List Term) (ta
       (complete_where placed part known ok (λ s h. none_in (is_open segs placed) part s shut h))
       (le-leb target (cost_of terms placed) (omega (arith, least, at_leaf part terms placed b)))
 
-  no_room_shut : (placed : List (List LineId)) → room_of segs part placed ≤ 0 → first_open segs part placed ≡ None
+  pub no_room_shut : (placed : List (List LineId)) → room_of segs part placed ≤ 0 → first_open segs part placed ≡ None
   no_room_shut placed h = by_open (first_open segs part placed) refl
     where
       by_open : (f : Option SegId) → first_open segs part placed ≡ f → f ≡ None
@@ -238,7 +239,12 @@ tree_accepted segs part terms placed b rising known each ok =
 
 -- From the empty prefix, at the least cost of the number order and of all leaves.
 
-none_well : (segs : List (List LineId)) → IsWell segs (none_placed segs)
+none_at : (segs : List (List LineId)) (n : ℕ) → get_or (none_placed segs) n [] ≡ []
+none_at [] n = refl
+none_at (l ∷ segs) zero = refl
+none_at (l ∷ segs) (suc n) = none_at segs n
+
+pub none_well : (segs : List (List LineId)) → IsWell segs (none_placed segs)
 none_well segs s known =
     let P : List LineId → Type 0 = λ l. ArePlacedLines (get_or segs s []) l in
     subst P (sym (none_at segs s)) (record { known = All-nil (Contains (get_or segs s [])); apart = tt; none_alone = λ e. omega (arith, e) })

@@ -3,3 +3,6 @@ mod Rooms
 mod Grows
 mod Restored
 mod Accepted
+mod Leaves
+mod Attained
+mod Permuted

@@ -1,5 +1,5 @@
 -- What is found in a tree: the least cost, and orders that have it.
-use Rattle.std.specs.Prelude.{◌≡◌, ℕ, ◌+◌, ◌<◌, ◌≤◌, nat_lt, List, map, sum_by, if◌then◌else◌}
+use Rattle.std.specs.Prelude.{◌≡◌, ℕ, ◌+◌, ◌<◌, ◌≤◌, nat_lt, List, [], ◌∷◌, length, map, sum_by, if◌then◌else◌, slice_set}
 use Rattle.map_base.specs.declared.ids.SegId.{SegId}
 use Rattle.map_base.specs.declared.ids.LineId.{LineId}
 use Rattle.map_base.specs.declared.limit.Limit.{Limit}
@@ -64,3 +64,16 @@ IsSearchFault segs part budget fault.NoMemory = Unit {0}
 -- no orders of these segments cost less on the terms
 abbrev pub IsLeast : List (List LineId) → List Term → ℕ → Type 0
 IsLeast segs terms cost = (others : List (List LineId)) → AreOrders segs others → cost ≤ cost_of terms others
+
+-- orders in which the segments of the part have these lists
+abbrev pub with_lists : List SegId → List (List LineId) → List (List LineId) → List (List LineId)
+with_lists [] lists orders = orders
+with_lists (s ∷ part) [] orders = orders
+with_lists (s ∷ part) (order ∷ lists) orders = slice_set (with_lists part lists orders) s.0 order
+
+-- with these lists on the part, and rising lines on the other segments, there are orders of the segments that cost so
+-- much on the terms
+pub record AreAttained (segs : List (List LineId)) (part : List SegId) (terms : List Term) (lists : List (List LineId)) (cost : ℕ) : Type 0 where
+  pub each : length lists ≡ length part
+  pub orders : AreOrders segs (with_lists part lists segs)
+  pub costs : cost_of terms (with_lists part lists segs) ≡ cost

@@ -1,5 +1,5 @@
 -- How far a search is.
-use Rattle.std.specs.Prelude.{◌≡◌, ℕ, ◌+◌, ◌<◌, false, List, length, All}
+use Rattle.std.specs.Prelude.{◌≡◌, ℕ, ◌+◌, ◌<◌, false, List, [], length, All}
 use Rattle.map_base.specs.declared.ids.SegId.{SegId}
 use Rattle.map_base.specs.declared.ids.LineId.{LineId}
 use Rattle.order_model.specs.Problems.{IsOn, lines_on}
@@ -13,6 +13,10 @@ use Rattle.order_search.specs.Finding.{Best}
 -- the best so far
 abbrev pub best_of : Progress → Best
 best_of p = record { cost = p.cost; lists = p.lists.items }
+
+-- nothing is found yet: it costs more than any orders
+abbrev pub nothing_found : Best
+nothing_found = record { cost = 18446744073709551615; lists = [] }
 
 -- the prefix has a list for each segment of the part
 abbrev pub HasLists : List SegId → Placement → Type 0

@@ -1,24 +1,23 @@
 //! The search over a part.
 
-ghost use Rattle.std.specs.Prelude.{◌≡◌, ◌+◌, ◌<◌, ◌≤◌, ◌^◌, true, length, map, All, IfOk, IfErr};
+ghost use Rattle.std.specs.Prelude.{◌≡◌, ◌+◌, ◌<◌, ◌≤◌, ◌^◌, true, length, All, IfOk, IfErr};
 ghost use Rattle.map_base.specs.declared.ids.SegId.{SegId};
-ghost use Rattle.order_model.specs.Problems.{lines_on, IsProblem};
-ghost use Rattle.order_model.specs.Costs.{IsReadable};
+ghost use Rattle.order_model.specs.Problems.{IsProblem};
 ghost use Rattle.order_proof.specs.Plain.{plain};
 ghost use Rattle.order_proof.specs.Trees.{splits_of};
 ghost use Rattle.order_trees.specs.PartTerms.{part_terms};
 ghost use Rattle.order_trees.specs.Completions.{none_placed};
 ghost use Rattle.order_trees.specs.Accepting.{question, accepts};
 ghost use Rattle.order_search.specs.Growing.{tree_of};
-ghost use Rattle.order_search.specs.Finding.{best_in, number_order, places_of, most_places, IsSearchFault, IsLeast};
-ghost use Rattle.order_search.specs.Progressing.{best_of, best_found, IsStop};
+ghost use Rattle.order_search.specs.Finding.{best_in, number_order, places_of, most_places, IsSearchFault, IsLeast, AreAttained};
+ghost use Rattle.order_search.specs.Progressing.{best_of, best_found, nothing_found, IsStop};
 
 use crate::found::{Found, SearchFault};
 use crate::grow::grow;
 use crate::left::is_deep;
-use crate::progress::{Progress, copied};
-use map_base::{Limit, LimitKind, LineId, NoMemory, SegId, Sequence, Steps};
-use order_model::{Orders, Prefix, Problem, Term, total_cost};
+use crate::progress::Progress;
+use map_base::{Limit, LimitKind, SegId, Sequence, Steps};
+use order_model::{Orders, Prefix, Problem};
 use order_trees::{marks_of, part_terms};
 use std::alloc::Global;
 use std::sync::ledger::Ledger;
@@ -44,6 +43,7 @@ pub fn search<L: Ledger>(
     ensures within { IfOk result (λ f. f.branches ≤ budget) }
     ensures best { IfOk result (λ f. best_found f ≡ best_in problem.now.segs part.now (part_terms problem.now.terms part.now) (none_placed problem.now.segs)
         (tree_of problem.now.segs part.now) (number_order problem.now.segs part.now (part_terms problem.now.terms part.now))) }
+    ensures attained { IfOk result (λ f. AreAttained problem.now.segs part.now (part_terms problem.now.terms part.now) f.orders.lists f.target) }
     ensures least { IfOk result (λ f. IsLeast problem.now.segs (part_terms problem.now.terms part.now) f.target) }
     ensures accepted { IfOk result (λ f. accepts (question problem.now.segs part.now (part_terms problem.now.terms part.now) f.target)
         (none_placed problem.now.segs) (tree_of problem.now.segs part.now) ≡ true) }
@@ -85,7 +85,7 @@ fn search_all<L: Ledger>(
     let marks = marks_of(alloc, part, segs.len())?;
     let terms = part_terms(alloc, problem, part, marks.as_slice())?;
     let mut prefix = Prefix::none(alloc, problem)?;
-    let mut progress = begin(alloc, problem, part, terms.as_slice(), budget)?;
+    let mut progress = begin(alloc, budget);
     let tree = grow(
         alloc,
         problem,
@@ -105,43 +105,16 @@ fn search_all<L: Ledger>(
     })
 }
 
-/// A search that has taken no split: the best are the orders whose lines rise.
-fn begin(
-    alloc: Global,
-    problem: &Problem,
-    part: &[SegId],
-    terms: &[Term],
-    budget: u32,
-) -> Result<Progress, NoMemory>
-    requires known { All (λ (s : SegId). s.0 < length problem.now.segs) part.now }
-    requires readable { All (IsReadable (length problem.now.segs)) terms.now }
-    requires few { length terms.now ≤ 4000000 }
-    ensures best { IfOk result (λ p. best_of p ≡ number_order problem.now.segs part.now terms.now) }
-    ensures spent { IfOk result (λ p. p.spent ≡ 0) }
-    ensures budget { IfOk result (λ p. p.budget ≡ budget) }
+/// A search that has taken no split, and has found nothing: any orders of a part cost less.
+fn begin(alloc: Global, budget: u32) -> Progress
+    ensures best { best_of result ≡ nothing_found }
+    ensures spent { result.spent ≡ 0 }
+    ensures budget { result.budget ≡ budget }
 {
-    let lists = rising_lists(alloc, problem, part)?;
-    Ok(Progress {
-        cost: total_cost(terms, problem.segs()),
-        lists,
+    Progress {
+        cost: u64::MAX,
+        lists: Vec::new(alloc),
         spent: 0,
         budget,
-    })
-}
-
-/// The lines of each segment of the part.
-fn rising_lists(
-    alloc: Global,
-    problem: &Problem,
-    part: &[SegId],
-) -> Result<Vec<Sequence<LineId>>, NoMemory>
-    requires { All (λ (s : SegId). s.0 < length problem.now.segs) part.now }
-    ensures { IfOk result (λ lists. lists.items ≡ map (λ s. lines_on problem.now.segs s) part.now) }
-{
-    let segs = problem.segs();
-    let mut lists = Vec::new(alloc);
-    for s in part {
-        lists.push(copied(alloc, segs[s.0 as usize].as_slice())?)?;
     }
-    Ok(lists)
 }

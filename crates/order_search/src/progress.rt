@@ -60,7 +60,7 @@ fn lists_on(
 }
 
 /// A copy of lines.
-pub(crate) fn copied(alloc: Global, lines: &[LineId]) -> Result<Sequence<LineId>, NoMemory>
+fn copied(alloc: Global, lines: &[LineId]) -> Result<Sequence<LineId>, NoMemory>
     ensures { IfOk result (λ copy. copy ≡ lines.now) }
 {
     Ok(Sequence::of(lines.to_vec(alloc)?))

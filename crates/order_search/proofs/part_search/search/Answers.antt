@@ -5,10 +5,22 @@ use Rattle.order_trees.specs.PartTerms.{part_terms}
 use Rattle.order_trees.specs.Completions.{none_placed}
 use Rattle.order_trees.specs.Accepting.{question, accepts}
 use Rattle.order_search.specs.Growing.{tree_of}
-use Rattle.order_search.specs.Finding.{Best, best_in, number_order, IsLeast}
+use Rattle.order_search.specs.Finding.{Best, best_in, number_order, IsLeast, AreAttained}
 use Rattle.order_search.specs.Progressing.{best_found}
 use Rattle.order_search.proofs.Accepted.{found_accepted, found_least}
+use Rattle.order_search.proofs.Attained.{found_attained}
 use Rattle.order_search.proofs.part_search.search.Goals as goal
+
+pub returns-clause-attained : goal.returns-clause-attained
+returns-clause-attained g c =
+    let segs = c.args.problem.now.segs in
+    let part = c.args.part.now in
+    let terms : List Term = part_terms c.args.problem.now.terms part in
+    IfOk-weaker c.search_all.result
+    (λ f. best_found f ≡ best_in segs part terms (none_placed segs) (tree_of segs part) (number_order segs part terms))
+    (λ f. AreAttained segs part terms f.orders.lists f.target)
+    (λ f e. subst (λ (b : Best). AreAttained segs part terms b.lists b.cost) (sym e) (found_attained segs part c.args.problem.now.terms c.search_all.ensures.fits.rising c.requires.known))
+    c.search_all.ensures.best
 
 pub returns-clause-least : goal.returns-clause-least
 returns-clause-least g c =
