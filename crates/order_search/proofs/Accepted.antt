@@ -48,7 +48,7 @@ all_placed (x ∷ xs) placed h = by_test (is_placed placed x) refl h (all_placed
     by_test true e h rest = All-cons (Contains placed) x xs (contains_placed placed x e) (rest h)
     by_test false e h rest = absurd (omega (arith, h))
 
-some_left : (lines placed : List LineId) → AreRising lines → length placed < length lines → 0 < length (lines_left lines placed)
+pub some_left : (lines placed : List LineId) → AreRising lines → length placed < length lines → 0 < length (lines_left lines placed)
 some_left lines placed rising less = by_count (length (lines_left lines placed)) refl
   where
     by_count : (n : ℕ) → length (lines_left lines placed) ≡ n → 0 < n
@@ -97,7 +97,7 @@ those_left lines placed =
     both_hold (list_all (is_left lines placed) (lines_left lines placed)) (list_all (λ b. is_placed placed b || is_among (lines_left lines placed) b) lines)
     (left_are_left lines placed lines (λ a h. h)) (all_left_among placed (lines_left lines placed) lines (λ a h. h))
 
-lines_of_left : (next : List (List LineId) → PlainTree) (segs placed : List (List LineId)) (s : SegId) (lines : List LineId)
+pub lines_of_left : (next : List (List LineId) → PlainTree) (segs placed : List (List LineId)) (s : SegId) (lines : List LineId)
     → lines_of (cases_of (cases_left next segs placed s lines)) ≡ lines
 lines_of_left next segs placed s [] = refl
 lines_of_left next segs placed s (a ∷ lines) = ap (λ l. a ∷ l) (lines_of_left next segs placed s lines)

@@ -6,3 +6,4 @@ mod Accepted
 mod Leaves
 mod Attained
 mod Permuted
+mod Shaped

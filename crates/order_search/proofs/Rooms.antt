@@ -55,7 +55,7 @@ none_in p (t ∷ part) s h in_part = by_test (p t) refl h (none_in p part s)
 
 -- Placing a line takes room.
 
-longer : (lines placed : List LineId) (a : LineId) → length placed < length (with_line lines placed a)
+pub longer : (lines placed : List LineId) (a : LineId) → length placed < length (with_line lines placed a)
 longer lines placed a = by_test (length (placed ++ a ∷ []) + 1 == length lines)
   where
     pushed : length placed < length (placed ++ a ∷ [])
@@ -82,11 +82,11 @@ left_there segs placed s a known open_here =
     get_or-set_same placed s.0 (with_line (lines_on segs s) (lines_on placed s) a) [] known in
     omega (arith, ap length here, longer (lines_on segs s) (lines_on placed s) a, ltb-true (length (lines_on placed s)) (length (lines_on segs s)) open_here)
 
-sum_least : (f g : SegId → ℕ) (part : List SegId) → ((u : SegId) → g u ≤ f u) → sum_by g part ≤ sum_by f part
+pub sum_least : (f g : SegId → ℕ) (part : List SegId) → ((u : SegId) → g u ≤ f u) → sum_by g part ≤ sum_by f part
 sum_least f g [] each = omega arith
 sum_least f g (t ∷ part) each = omega (arith, each t, sum_least f g part each, sum_by-cons f t part, sum_by-cons g t part)
 
-sum_falls : (f g : SegId → ℕ) (part : List SegId) (s : SegId) → ((u : SegId) → g u ≤ f u) → is_in part s ≡ true → g s < f s → sum_by g part < sum_by f part
+pub sum_falls : (f g : SegId → ℕ) (part : List SegId) (s : SegId) → ((u : SegId) → g u ≤ f u) → is_in part s ≡ true → g s < f s → sum_by g part < sum_by f part
 sum_falls f g [] s each h less = absurd (true≢false (sym h))
 sum_falls f g (t ∷ part) s each h less = elim (either_true (t.0 == s.0) (is_in part s) h) [
   | inl here ↦ (let P : ℕ → SegId = λ n. record { 0 = n } in

@@ -1,5 +1,5 @@
 -- What is found in a tree: the least cost, and orders that have it.
-use Rattle.std.specs.Prelude.{◌≡◌, ℕ, ◌+◌, ◌<◌, ◌≤◌, nat_lt, List, [], ◌∷◌, length, map, sum_by, if◌then◌else◌, slice_set}
+use Rattle.std.specs.Prelude.{◌≡◌, ℕ, ◌+◌, ◌<◌, ◌≤◌, nat_lt, List, [], ◌∷◌, length, map, sum_by, if◌then◌else◌, All, IsTrue, slice_set}
 use Rattle.map_base.specs.declared.ids.SegId.{SegId}
 use Rattle.map_base.specs.declared.ids.LineId.{LineId}
 use Rattle.map_base.specs.declared.limit.Limit.{Limit}
@@ -7,6 +7,7 @@ use Rattle.map_base.specs.declared.limit.LimitKind.TheVariants.{Places}
 use Rattle.order_model.specs.declared.term.Term.{Term}
 use Rattle.order_model.specs.Problems.{lines_on, choices}
 use Rattle.order_model.specs.Costs.{cost_of, AreOrders}
+use Rattle.order_model.specs.Parts.{is_wide}
 use Rattle.order_proof.specs.Plain.{PlainTree, split, close, Cases, no_case, case_of}
 use Rattle.order_proof.specs.Trees.{splits_of}
 use Rattle.order_trees.specs.Completions.{placed_more}
@@ -77,3 +78,7 @@ pub record AreAttained (segs : List (List LineId)) (part : List SegId) (terms : 
   pub each : length lists ≡ length part
   pub orders : AreOrders segs (with_lists part lists segs)
   pub costs : cost_of terms (with_lists part lists segs) ≡ cost
+
+-- each segment of the part has at least two lines
+abbrev pub AreWide : List (List LineId) → List SegId → Type 0
+AreWide segs part = All (λ s. IsTrue (is_wide segs s.0)) part

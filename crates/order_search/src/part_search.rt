@@ -4,12 +4,12 @@ ghost use Rattle.std.specs.Prelude.{◌≡◌, ◌+◌, ◌<◌, ◌≤◌, ◌^
 ghost use Rattle.map_base.specs.declared.ids.SegId.{SegId};
 ghost use Rattle.order_model.specs.Problems.{IsProblem};
 ghost use Rattle.order_proof.specs.Plain.{plain};
-ghost use Rattle.order_proof.specs.Trees.{splits_of};
+ghost use Rattle.order_proof.specs.Trees.{splits_of, IsProofTree};
 ghost use Rattle.order_trees.specs.PartTerms.{part_terms};
 ghost use Rattle.order_trees.specs.Completions.{none_placed};
 ghost use Rattle.order_trees.specs.Accepting.{question, accepts};
 ghost use Rattle.order_search.specs.Growing.{tree_of};
-ghost use Rattle.order_search.specs.Finding.{best_in, number_order, places_of, most_places, IsSearchFault, IsLeast, AreAttained};
+ghost use Rattle.order_search.specs.Finding.{best_in, number_order, places_of, most_places, IsSearchFault, IsLeast, AreAttained, AreWide};
 ghost use Rattle.order_search.specs.Progressing.{best_of, best_found, nothing_found, IsStop};
 
 use crate::found::{Found, SearchFault};
@@ -39,6 +39,7 @@ pub fn search<L: Ledger>(
     requires budget { budget + 1 < 2 ^ 32 }
     ensures places { IfOk result (λ _. places_of problem.now.segs part.now ≤ most_places) }
     ensures tree { IfOk result (λ f. plain f.tree ≡ tree_of problem.now.segs part.now) }
+    ensures proof_tree { IfOk result (λ f. AreWide problem.now.segs part.now → IsProofTree (plain f.tree)) }
     ensures branches { IfOk result (λ f. f.branches ≡ splits_of (tree_of problem.now.segs part.now)) }
     ensures within { IfOk result (λ f. f.branches ≤ budget) }
     ensures best { IfOk result (λ f. best_found f ≡ best_in problem.now.segs part.now (part_terms problem.now.terms part.now) (none_placed problem.now.segs)
