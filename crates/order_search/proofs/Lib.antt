@@ -7,3 +7,4 @@ mod Leaves
 mod Attained
 mod Permuted
 mod Shaped
+mod SmallProblems

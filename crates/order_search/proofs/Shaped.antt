@@ -1,5 +1,5 @@
 -- The tree of a part with at least two lines on each segment is one that a proof may have.
-use Rattle.std.proofs.Common.{◌≡◌, ◌≢◌, ℕ, zero, suc, ◌+◌, ◌-◌, ◌<◌, ◌≤◌, ◌==◌, ◌||◌, max, not, Bool, true, false, cond, List, [], ◌∷◌, length, set, get_or, refl, sym, ◌∙◌, ap, subst, arith, inl, inr, Some, None, Option}
+use Rattle.std.proofs.Common.{◌≡◌, ◌≢◌, ℕ, zero, suc, ◌+◌, ◌-◌, ◌<◌, ◌≤◌, ◌==◌, max, Bool, true, false, cond, List, [], ◌∷◌, length, set, get_or, refl, sym, ◌∙◌, ap, subst, arith, inl, inr, Some, None, Option}
 use Rattle.std.specs.Bool.{IsTrue}
 use Rattle.std.specs.List.{All, Contains, filter, sum_by}
 use Rattle.std.proofs.lemmas.Bool.{ltb-true, leb-true}
@@ -12,8 +12,8 @@ use Rattle.graph_core.specs.Consistent.{AreRising}
 use Rattle.order_model.specs.Problems.{lines_on, choices}
 use Rattle.order_model.specs.Parts.{is_wide}
 use Rattle.order_model.specs.Prefixes.{is_placed, is_unplaced, with_line}
-use Rattle.order_proof.specs.Plain.{PlainTree, split, close, Cases, no_case, case_of, cases_of}
-use Rattle.order_proof.specs.Trees.{depth_of, depth_of_cases, count_of, lines_of, is_among, AreDistinct, IsTree, AreTrees, IsProofTree}
+use Rattle.order_proof.specs.Plain.{PlainTree, cases_of}
+use Rattle.order_proof.specs.Trees.{depth_of, depth_of_cases, count_of, is_among, AreDistinct, IsTree, AreTrees, IsProofTree}
 use Rattle.order_trees.specs.PartTerms.{is_in}
 use Rattle.order_trees.specs.Completions.{placed_more, none_placed}
 use Rattle.order_trees.proofs.Lines.{neither}
@@ -90,10 +90,11 @@ module _ (segs : List (List LineId)) (part : List SegId) (rising : All AreRising
       let here = found_in (is_open segs placed) part s e in
       let lines : List LineId = lines_left (lines_on segs s) (lines_on placed s) in
       let some : 0 < length lines = some_left (lines_on segs s) (lines_on placed s) (rising_at segs s.0 rising)
-      (ltb-true (length (lines_on placed s)) (length (lines_on segs s)) here.0) in
-      (omega (arith, some, count_left (grown n segs part) segs placed s lines),
+      (ltb-true (length (lines_on placed s)) (length (lines_on segs s)) here.0) in (
+        omega (arith, some, count_left (grown n segs part) segs placed s lines),
         subst AreDistinct (sym (lines_of_left (grown n segs part) segs placed s lines)) (distinct_kept (is_unplaced (lines_on placed s)) (lines_on segs s) (rising_at segs s.0 rising)),
-        trees_left (grown n segs part) segs placed s lines (λ a. again (placed_more segs placed s a)))
+        trees_left (grown n segs part) segs placed s lines (λ a. again (placed_more segs placed s a)),
+      )
 
   shaped : (n : ℕ) (placed : List (List LineId)) → IsTree (grown n segs part placed)
   shaped zero placed = (tt, tt)
@@ -148,8 +149,11 @@ module _ (segs : List (List LineId)) (part : List SegId) (rising : All AreRising
       let most : ℕ = levels segs part placed - 1 in
       let each_less : (a : LineId) → Contains lines a → depth_of (grown n segs part (placed_more segs placed s a)) ≤ most = λ a c.
       (let fits = All-contains (λ (a : LineId). Contains (lines_on segs s) a × (is_placed (lines_on placed s) a ≡ false)) lines a next c in
-      omega (arith, again (placed_more segs placed s a) (length-set placed s.0 (with_line (lines_on segs s) (lines_on placed s) a) ∙ each) (well_more segs placed s a each s_in rising ok fits.0 fits.1),
-        levels_fall placed s a each ok here.1 here.0)) in
+      omega (
+        arith,
+        again (placed_more segs placed s a) (length-set placed s.0 (with_line (lines_on segs s) (lines_on placed s) a) ∙ each) (well_more segs placed s a each s_in rising ok fits.0 fits.1),
+        levels_fall placed s a each ok here.1 here.0,
+      )) in
       omega (arith, depth_left (grown n segs part) segs placed s most lines each_less, levels_fall placed s d each ok here.1 here.0)
 
   deep : (n : ℕ) → DepthAt n

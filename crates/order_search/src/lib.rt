@@ -6,6 +6,8 @@ mod grow;
 mod left;
 mod part_search;
 mod progress;
+#[cfg(test)]
+mod tests;
 
 pub use found::{Found, SearchFault};
 pub use part_search::search;
