@@ -2,3 +2,4 @@ mod Nodes
 mod Walks
 mod Totals
 mod Verdicts
+mod Crossing

@@ -6,6 +6,8 @@ mod check;
 mod node;
 mod part;
 mod refusal;
+#[cfg(test)]
+mod tests;
 mod total;
 mod walk;
 

@@ -1,0 +1,10 @@
+mod Examples
+mod Rooms
+mod Grows
+mod Restored
+mod Accepted
+mod Leaves
+mod Attained
+mod Permuted
+mod Shaped
+mod SmallProblems

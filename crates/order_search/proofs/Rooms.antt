@@ -1,0 +1,185 @@
+-- How much room a prefix leaves, and the tree of a prefix, node by node.
+use Rattle.std.proofs.Common.{◌≡◌, ℕ, zero, suc, ◌+◌, ◌<◌, ◌≤◌, ◌==◌, ◌||◌, Bool, true, false, cond, List, [], ◌∷◌, ◌++◌, length, map, set, get_or, refl, sym, ◌∙◌, ap, subst, arith, inl, inr, true≢false, eqb-true, eq-eqb, length-append, Some, None, Option}
+use Rattle.std.specs.List.{All, find, sum_by}
+use Rattle.std.specs.Option.{option_to_list}
+use Rattle.std.proofs.lemmas.Bool.{ltb-true}
+use Rattle.std.proofs.lemmas.List.{length-set, get_or-set_same, get_or-set_other}
+use Rattle.std.proofs.lemmas.List.Sums.{sum_by-cons}
+use Rattle.map_base.specs.declared.ids.SegId.{SegId}
+use Rattle.map_base.specs.declared.ids.LineId.{LineId}
+use Rattle.order_model.specs.Problems.{lines_on}
+use Rattle.order_model.specs.Prefixes.{is_unplaced, with_line}
+use Rattle.order_proof.specs.Plain.{PlainTree, split, close, cases_of}
+use Rattle.order_trees.specs.PartTerms.{is_in}
+use Rattle.order_trees.specs.Completions.{placed_more}
+use Rattle.order_trees.proofs.Lines.{either_true}
+use Rattle.order_trees.proofs.Sound.{same_or_other, all_in}
+use Rattle.order_search.specs.Growing.{is_open, first_open, lines_left, left_on, room_of, cases_left, node_at, grown, tree_at}
+
+-- What is found in a part.
+
+some_seg : (s t : SegId) → Some s ≡ Some t → s ≡ t
+some_seg s t h = cc
+
+none_is_some : (s : SegId) → None ≡ Some s → ⊥
+none_is_some s h = cc
+
+pub found_in : (p : SegId → Bool) (part : List SegId) (s : SegId) → find p part ≡ Some s → (p s ≡ true) × (is_in part s ≡ true)
+found_in p [] s h = absurd (none_is_some s h)
+found_in p (t ∷ part) s h = by_test (p t) refl h (found_in p part s)
+  where
+    has_later : (a b : Bool) → b ≡ true → (a || b) ≡ true
+    has_later true b h = refl
+    has_later false b h = h
+
+    by_test : (b : Bool) → p t ≡ b → cond b (Some t) (find p part) ≡ Some s
+        → (find p part ≡ Some s → (p s ≡ true) × (is_in part s ≡ true)) → (p s ≡ true) × (((t.0 == s.0) || is_in part s) ≡ true)
+    by_test true e is rest =
+        let one : t ≡ s = some_seg t s is in
+        (subst (λ u. p u ≡ true) one e, rw (eq-eqb t.0 s.0 (ap (λ (u : SegId). u.0) one)) refl)
+    by_test false e is rest = let later = rest is in (later.0, has_later (t.0 == s.0) (is_in part s) later.1)
+
+pub none_in : (p : SegId → Bool) (part : List SegId) (s : SegId) → find p part ≡ None → is_in part s ≡ true → p s ≡ false
+none_in p [] s h in_part = absurd (true≢false (sym in_part))
+none_in p (t ∷ part) s h in_part = by_test (p t) refl h (none_in p part s)
+  where
+    some_is_none : (t : SegId) → Some t ≡ None → ⊥
+    some_is_none t h = cc
+
+    by_test : (b : Bool) → p t ≡ b → cond b (Some t) (find p part) ≡ None → (find p part ≡ None → is_in part s ≡ true → p s ≡ false) → p s ≡ false
+    by_test true e is rest = absurd (some_is_none t is)
+    by_test false e is rest = elim (either_true (t.0 == s.0) (is_in part s) in_part) [
+      | inl here ↦ (let P : ℕ → SegId = λ n. record { 0 = n } in subst (λ u. p u ≡ false) (ap P (eqb-true t.0 s.0 here)) e)
+      | inr later ↦ rest is later
+    ]
+
+-- Placing a line takes room.
+
+pub longer : (lines placed : List LineId) (a : LineId) → length placed < length (with_line lines placed a)
+longer lines placed a = by_test (length (placed ++ a ∷ []) + 1 == length lines)
+  where
+    pushed : length placed < length (placed ++ a ∷ [])
+    pushed = omega (arith, length-append placed (a ∷ []))
+
+    by_test : (b : Bool) → length placed < length (cond b ((placed ++ a ∷ []) ++ option_to_list (find (is_unplaced (placed ++ a ∷ [])) lines)) (placed ++ a ∷ []))
+    by_test false = pushed
+    by_test true = omega (arith, pushed, length-append (placed ++ a ∷ []) (option_to_list (find (is_unplaced (placed ++ a ∷ [])) lines)))
+
+left_after : (segs placed : List (List LineId)) (s : SegId) (a : LineId) (u : SegId) → s.0 < length placed → left_on segs (placed_more segs placed s a) u ≤ left_on segs placed u
+left_after segs placed s a u known = elim (same_or_other u.0 s.0) [
+  | inl e ↦ (let here : lines_on (placed_more segs placed s a) u ≡ with_line (lines_on segs s) (lines_on placed s) a =
+      ap (λ n. get_or (set placed s.0 (with_line (lines_on segs s) (lines_on placed s) a)) n []) e ∙ get_or-set_same placed s.0 (with_line (lines_on segs s) (lines_on placed s) a) [] known in
+      let was : lines_on placed u ≡ lines_on placed s = ap (λ n. get_or placed n []) e in
+      omega (arith, ap length here, ap length was, longer (lines_on segs s) (lines_on placed s) a))
+  | inr n ↦ (let other : lines_on (placed_more segs placed s a) u ≡ lines_on placed u = get_or-set_other placed s.0 u.0 (with_line (lines_on segs s) (lines_on placed s) a) [] n in
+      omega (arith, ap length other))
+]
+
+left_there : (segs placed : List (List LineId)) (s : SegId) (a : LineId) → s.0 < length placed → is_open segs placed s ≡ true
+    → left_on segs (placed_more segs placed s a) s < left_on segs placed s
+left_there segs placed s a known open_here =
+    let here : lines_on (placed_more segs placed s a) s ≡ with_line (lines_on segs s) (lines_on placed s) a =
+    get_or-set_same placed s.0 (with_line (lines_on segs s) (lines_on placed s) a) [] known in
+    omega (arith, ap length here, longer (lines_on segs s) (lines_on placed s) a, ltb-true (length (lines_on placed s)) (length (lines_on segs s)) open_here)
+
+pub sum_least : (f g : SegId → ℕ) (part : List SegId) → ((u : SegId) → g u ≤ f u) → sum_by g part ≤ sum_by f part
+sum_least f g [] each = omega arith
+sum_least f g (t ∷ part) each = omega (arith, each t, sum_least f g part each, sum_by-cons f t part, sum_by-cons g t part)
+
+pub sum_falls : (f g : SegId → ℕ) (part : List SegId) (s : SegId) → ((u : SegId) → g u ≤ f u) → is_in part s ≡ true → g s < f s → sum_by g part < sum_by f part
+sum_falls f g [] s each h less = absurd (true≢false (sym h))
+sum_falls f g (t ∷ part) s each h less = elim (either_true (t.0 == s.0) (is_in part s) h) [
+  | inl here ↦ (let P : ℕ → SegId = λ n. record { 0 = n } in
+      let one : s ≡ t = sym (ap P (eqb-true t.0 s.0 here)) in
+      omega (arith, subst (λ u. g u < f u) one less, sum_least f g part each, sum_by-cons f t part, sum_by-cons g t part))
+  | inr later ↦ omega (arith, each t, sum_falls f g part s each later less, sum_by-cons f t part, sum_by-cons g t part)
+]
+
+pub room_falls : (segs : List (List LineId)) (part : List SegId) (placed : List (List LineId)) (s : SegId) (a : LineId) → s.0 < length placed
+    → is_in part s ≡ true → is_open segs placed s ≡ true → room_of segs part (placed_more segs placed s a) < room_of segs part placed
+room_falls segs part placed s a known in_part open_here =
+    sum_falls (left_on segs placed) (left_on segs (placed_more segs placed s a)) part s (λ u. left_after segs placed s a u known) in_part (left_there segs placed s a known open_here)
+
+-- without room no segment is open
+no_room : (segs : List (List LineId)) (part : List SegId) (placed : List (List LineId)) → room_of segs part placed ≡ 0 → first_open segs part placed ≡ None
+no_room segs [] placed h = refl
+no_room segs (t ∷ part) placed h = by_test (is_open segs placed t) refl (no_room segs part placed (omega (arith, h, sum_by-cons (left_on segs placed) t part)))
+  where
+    by_test : (b : Bool) → is_open segs placed t ≡ b → first_open segs part placed ≡ None → cond b (Some t) (first_open segs part placed) ≡ None
+    by_test false e rest = rest
+    by_test true e rest =
+        absurd (omega (arith, ltb-true (length (lines_on placed t)) (length (lines_on segs t)) e, h, sum_by-cons (left_on segs placed) t part))
+
+-- The tree of a prefix.
+
+abbrev with_tree : (LineId → PlainTree) → LineId → LineId × PlainTree
+with_tree f a = (a, f a)
+
+map_same : (f g : LineId → PlainTree) (lines : List LineId) → ((a : LineId) → f a ≡ g a) → map (with_tree f) lines ≡ map (with_tree g) lines
+map_same f g [] same = refl
+map_same f g (a ∷ lines) same =
+    let first : PlainTree → List (LineId × PlainTree) = λ t. (a, t) ∷ map (with_tree f) lines in
+    ap first (same a) ∙ ap (λ l. with_tree g a ∷ l) (map_same f g lines same)
+
+module _ (segs : List (List LineId)) (part : List SegId) (known : All (λ (s : SegId). s.0 < length segs) part) where
+  same_node : (next other : List (List LineId) → PlainTree) (placed : List (List LineId)) (s : SegId)
+      → ((a : LineId) → next (placed_more segs placed s a) ≡ other (placed_more segs placed s a))
+      → node_at next segs placed (Some s) ≡ node_at other segs placed (Some s)
+  same_node next other placed s same =
+      ap (λ cs. split s (cases_of cs))
+      (map_same (λ a. next (placed_more segs placed s a)) (λ a. other (placed_more segs placed s a)) (lines_left (lines_on segs s) (lines_on placed s)) same)
+
+  stable : (n m : ℕ) (placed : List (List LineId)) → length placed ≡ length segs → room_of segs part placed ≤ n → room_of segs part placed ≤ m
+      → grown n segs part placed ≡ grown m segs part placed
+  stable zero zero placed each p q = refl
+  stable zero (suc m) placed each p q = sym (ap (node_at (grown m segs part) segs placed) (no_room segs part placed (omega (arith, p))))
+  stable (suc n) zero placed each p q = ap (node_at (grown n segs part) segs placed) (no_room segs part placed (omega (arith, q)))
+  stable (suc n) (suc m) placed each p q = by_open (first_open segs part placed) refl (λ more. stable n m more)
+    where
+      by_open : (f : Option SegId) → first_open segs part placed ≡ f
+          → ((more : List (List LineId)) → length more ≡ length segs → room_of segs part more ≤ n → room_of segs part more ≤ m → grown n segs part more ≡ grown m segs part more)
+          → node_at (grown n segs part) segs placed f ≡ node_at (grown m segs part) segs placed f
+      by_open None e again = refl
+      by_open (Some s) e again =
+          let here = found_in (is_open segs placed) part s e in
+          let s_known : s.0 < length placed = omega (arith, each, all_in (λ (s : SegId). s.0 < length segs) part s known here.1) in
+          same_node (grown n segs part) (grown m segs part) placed s (λ a.
+          let falls = room_falls segs part placed s a s_known here.1 here.0 in
+          again (placed_more segs placed s a) (length-set placed s.0 (with_line (lines_on segs s) (lines_on placed s) a) ∙ each) (omega (arith, falls, p)) (omega (arith, falls, q)))
+
+  pub tree_none : (placed : List (List LineId)) → first_open segs part placed ≡ None → tree_at segs part placed ≡ close []
+  tree_none placed h = by_room (room_of segs part placed)
+    where
+      by_room : (n : ℕ) → grown n segs part placed ≡ close []
+      by_room zero = refl
+      by_room (suc n) = ap (node_at (grown n segs part) segs placed) h
+
+  pub tree_some : (placed : List (List LineId)) (s : SegId) → length placed ≡ length segs → first_open segs part placed ≡ Some s
+      → tree_at segs part placed ≡ split s (cases_of (cases_left (tree_at segs part) segs placed s (lines_left (lines_on segs s) (lines_on placed s))))
+  tree_some placed s each h = by_room (room_of segs part placed) refl
+    where
+      here : (is_open segs placed s ≡ true) × (is_in part s ≡ true)
+      here = found_in (is_open segs placed) part s h
+
+      s_known : s.0 < length placed
+      s_known = omega (arith, each, all_in (λ (s : SegId). s.0 < length segs) part s known here.1)
+
+      by_room : (n : ℕ) → room_of segs part placed ≡ n → grown n segs part placed ≡ node_at (tree_at segs part) segs placed (Some s)
+      by_room zero e = absurd (none_is_some s (sym (no_room segs part placed e) ∙ h))
+      by_room (suc n) e =
+          ap (node_at (grown n segs part) segs placed) h
+          ∙ same_node (grown n segs part) (tree_at segs part) placed s (λ a.
+          let falls = room_falls segs part placed s a s_known here.1 here.0 in
+          stable n (room_of segs part (placed_more segs placed s a)) (placed_more segs placed s a)
+          (length-set placed s.0 (with_line (lines_on segs s) (lines_on placed s) a) ∙ each) (omega (arith, falls, e)) (omega arith))
+
+-- an open segment has room
+pub some_room : (segs : List (List LineId)) (part : List SegId) (placed : List (List LineId)) (s : SegId) → is_in part s ≡ true → is_open segs placed s ≡ true → 0 < room_of segs part placed
+some_room segs [] placed s in_part open_here = absurd (true≢false (sym in_part))
+some_room segs (t ∷ part) placed s in_part open_here = elim (either_true (t.0 == s.0) (is_in part s) in_part) [
+  | inl here ↦ (let P : ℕ → SegId = λ n. record { 0 = n } in
+      let one : s ≡ t = sym (ap P (eqb-true t.0 s.0 here)) in
+      let wide : is_open segs placed t ≡ true = subst (λ u. is_open segs placed u ≡ true) one open_here in
+      omega (arith, ltb-true (length (lines_on placed t)) (length (lines_on segs t)) wide, sum_by-cons (left_on segs placed) t part))
+  | inr later ↦ omega (arith, some_room segs part placed s later open_here, sum_by-cons (left_on segs placed) t part)
+]
