@@ -8,14 +8,18 @@ use map_base::{NoMemory, Settings, Text};
 use std::alloc::{AllocError, Global};
 use std::test::Fail;
 
-/// Two stations 500 metres apart, and two lines between them, of which B bends 40 metres off.
-const TWO_LINES: [&str; 5] = [
-    "route_id,route_type\nA,1\nB,1\n",
-    "stop_id,stop_name,stop_lat,stop_lon\nX,X,0,0\nY,Y,0,0.004492\n",
-    "route_id,service_id,trip_id,shape_id\nA,S,A1,\nB,S,B1,S\n",
-    "shape_id,shape_pt_lat,shape_pt_lon,shape_pt_sequence\nS,0.000360,0,1\nS,0.000360,0.004492,2\n",
-    "trip_id,stop_id,stop_sequence\nA1,X,1\nA1,Y,2\nB1,X,1\nB1,Y,2\n",
-];
+const ROUTES: &str = "route_id,route_type\nA,1\nB,1\n";
+
+/// Two stations 500 metres apart.
+const STOPS: &str = "stop_id,stop_name,stop_lat,stop_lon\nX,X,0,0\nY,Y,0,0.004492\n";
+
+const TRIPS: &str = "route_id,service_id,trip_id,shape_id\nA,S,A1,\nB,S,B1,S\n";
+
+/// B bends 40 metres off.
+const SHAPES: &str =
+    "shape_id,shape_pt_lat,shape_pt_lon,shape_pt_sequence\nS,0.000360,0,1\nS,0.000360,0.004492,2\n";
+
+const STOP_TIMES: &str = "trip_id,stop_id,stop_sequence\nA1,X,1\nA1,Y,2\nB1,X,1\nB1,Y,2\n";
 
 const TWO_LINES_AS_ONE: &str = "\
 graph 2 1
@@ -36,20 +40,31 @@ round 0 0 1
 round 1 0 1
 ";
 
-/// The folder `feed` with these five tables.
-fn feed_of(alloc: Global, tables: &[&str; 5]) -> Result<Vec<(Text, Vec<u8>)>, NoMemory> {
-    let paths = [
-        "feed/routes.txt",
-        "feed/stops.txt",
-        "feed/trips.txt",
-        "feed/shapes.txt",
-        "feed/stop_times.txt",
-    ];
+/// One more file of the folder `feed`.
+fn put_file(
+    alloc: Global,
+    files: &mut Vec<(Text, Vec<u8>)>,
+    path: &str,
+    text: &str,
+) -> Result<(), NoMemory> {
+    let path = Text::of(alloc, path)?;
+    files.push((path, text.as_bytes().to_vec(alloc)?))?;
+    Ok(())
+}
+
+/// The folder `feed` with these tables, over the same stops and shapes.
+fn feed_of(
+    alloc: Global,
+    routes: &str,
+    trips: &str,
+    stop_times: &str,
+) -> Result<Vec<(Text, Vec<u8>)>, NoMemory> {
     let mut files = Vec::new(alloc);
-    for i in 0..5 {
-        let path = Text::of(alloc, paths[i])?;
-        files.push((path, tables[i].as_bytes().to_vec(alloc)?))?;
-    }
+    put_file(alloc, &mut files, "feed/routes.txt", routes)?;
+    put_file(alloc, &mut files, "feed/stops.txt", STOPS)?;
+    put_file(alloc, &mut files, "feed/trips.txt", trips)?;
+    put_file(alloc, &mut files, "feed/shapes.txt", SHAPES)?;
+    put_file(alloc, &mut files, "feed/stop_times.txt", stop_times)?;
     Ok(files)
 }
 
@@ -57,7 +72,7 @@ fn feed_of(alloc: Global, tables: &[&str; 5]) -> Result<Vec<(Text, Vec<u8>)>, No
 fn a_graph_is_printed(rt: HostRuntime) -> Result<(), Fail> {
     let alloc = rt.alloc();
     let words = words_of(alloc, "graph feed")?;
-    let mut files = SteadyFiles::with(feed_of(alloc, &TWO_LINES)?);
+    let mut files = SteadyFiles::with(feed_of(alloc, ROUTES, TRIPS, STOP_TIMES)?);
     let mut sinks = SteadySinks::none(alloc);
     assert_eq!(rt; run_on(alloc, &words, &mut files, &mut sinks), 0);
     let held = sinks.written(&Target::Said).unwrap_or(b"");
@@ -68,7 +83,7 @@ fn a_graph_is_printed(rt: HostRuntime) -> Result<(), Fail> {
 #[test]
 fn a_finer_net_keeps_two_ways_apart(rt: HostRuntime) -> Result<(), Fail> {
     let alloc = rt.alloc();
-    let mut files = SteadyFiles::with(feed_of(alloc, &TWO_LINES)?);
+    let mut files = SteadyFiles::with(feed_of(alloc, ROUTES, TRIPS, STOP_TIMES)?);
     let tables = read_tables(alloc, &mut files, "feed", &[1])?;
     let mut settings = Settings::standard(alloc)?;
     settings.near = 100;
@@ -87,7 +102,7 @@ fn a_fault_of_reading_names_the_table(rt: HostRuntime) -> Result<(), Fail> {
     let words = words_of(alloc, "graph feed")?;
     // Each table is begun, read and read to its end: the seventh call begins the third table.
     let listed = vec![in alloc; 7]?;
-    let mut files = MemoryFiles::with(feed_of(alloc, &TWO_LINES)?, listed);
+    let mut files = MemoryFiles::with(feed_of(alloc, ROUTES, TRIPS, STOP_TIMES)?, listed);
     let mut sinks = SteadySinks::none(alloc);
     assert_eq!(rt; run_on(alloc, &words, &mut files, &mut sinks), 7);
     let held = sinks.written(&Target::Said).unwrap_or(b"");
@@ -95,35 +110,45 @@ fn a_fault_of_reading_names_the_table(rt: HostRuntime) -> Result<(), Fail> {
     Ok(())
 }
 
-/// Tables of 1,001 lines, each from X to Y.
-fn too_many_lines(alloc: Global) -> Result<[String; 3], AllocError> {
-    let mut routes = String::from_str(alloc, "route_id,route_type\n")?;
-    let mut trips = String::from_str(alloc, "route_id,trip_id\n")?;
-    let mut stop_times = String::from_str(alloc, "trip_id,stop_id,stop_sequence\n")?;
+/// The routes of 1,001 lines.
+fn many_routes(alloc: Global) -> Result<String, AllocError> {
+    let mut table = String::from_str(alloc, "route_id,route_type\n")?;
     for n in 0..1_001 {
-        let route = format!(in alloc; "{n},1\n")?;
-        routes.push_str(route.as_str())?;
-        let trip = format!(in alloc; "{n},{n}\n")?;
-        trips.push_str(trip.as_str())?;
-        let times = format!(in alloc; "{n},X,1\n{n},Y,2\n")?;
-        stop_times.push_str(times.as_str())?;
+        let row = format!(in alloc; "{n},1\n")?;
+        table.push_str(row.as_str())?;
     }
-    Ok([routes, trips, stop_times])
+    Ok(table)
+}
+
+/// A trip of each of them.
+fn many_trips(alloc: Global) -> Result<String, AllocError> {
+    let mut table = String::from_str(alloc, "route_id,trip_id\n")?;
+    for n in 0..1_001 {
+        let row = format!(in alloc; "{n},{n}\n")?;
+        table.push_str(row.as_str())?;
+    }
+    Ok(table)
+}
+
+/// Each trip goes from X to Y.
+fn many_stop_times(alloc: Global) -> Result<String, AllocError> {
+    let mut table = String::from_str(alloc, "trip_id,stop_id,stop_sequence\n")?;
+    for n in 0..1_001 {
+        let rows = format!(in alloc; "{n},X,1\n{n},Y,2\n")?;
+        table.push_str(rows.as_str())?;
+    }
+    Ok(table)
 }
 
 #[test]
 fn more_lines_than_are_worked_on(rt: HostRuntime) -> Result<(), Fail> {
     let alloc = rt.alloc();
     let words = words_of(alloc, "graph feed")?;
-    let [routes, trips, stop_times] = too_many_lines(alloc)?;
-    let tables = [
-        routes.as_str(),
-        TWO_LINES[1],
-        trips.as_str(),
-        TWO_LINES[3],
-        stop_times.as_str(),
-    ];
-    let mut files = SteadyFiles::with(feed_of(alloc, &tables)?);
+    let routes = many_routes(alloc)?;
+    let trips = many_trips(alloc)?;
+    let stop_times = many_stop_times(alloc)?;
+    let tables = feed_of(alloc, routes.as_str(), trips.as_str(), stop_times.as_str())?;
+    let mut files = SteadyFiles::with(tables);
     let mut sinks = SteadySinks::none(alloc);
     assert_eq!(rt; run_on(alloc, &words, &mut files, &mut sinks), 6);
     let held = sinks.written(&Target::Said).unwrap_or(b"");
