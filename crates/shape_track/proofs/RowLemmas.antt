@@ -1,6 +1,5 @@
 -- Rows of choices, from the last station to the first, and the snap that they lead to.
-use Rattle.std.proofs.Common.{◌≡◌, refl, sym, ◌∙◌, ap, subst, ℕ, ◌+◌, ◌-◌, ◌<◌, ◌≤◌, Bool, true, List, [], ◌∷◌, ◌++◌, length, get_or, drop, take, Vec, ◌⊎◌, inl, inr, arith, append-nil, append_assoc, length-append}
-use Rattle.std.specs.Global.{Global}
+use Rattle.std.proofs.Common.{◌≡◌, refl, sym, ◌∙◌, ap, subst, ℕ, ◌+◌, ◌-◌, ◌<◌, ◌≤◌, Bool, true, List, [], ◌∷◌, ◌++◌, length, get_or, drop, take, ◌⊎◌, inl, inr, arith, append-nil, append_assoc, length-append}
 use Rattle.std.proofs.Math.ListN.{get_or-append}
 use Rattle.std.proofs.Math.Seq.{get_or-append_seam}
 use Rattle.std.proofs.lemmas.Bool.{cases_lt}
@@ -17,18 +16,18 @@ written_whole xs ys n e f =
     ap (λ zs. take n (xs ++ zs)) (drop_all (length xs) ys (omega arith)) ∙ ap (take n) (append-nil xs) ∙ take_all n xs (omega arith)
 
 -- one more row, of the station before
-pub rows_pushed : (samples stations : List Point) (rows : List (Vec Bool Global)) (r : Vec Bool Global) (n : ℕ) → length rows ≡ n → AreRows samples stations rows →
-    LeadsFirst samples (drop (length stations - 1 - n) stations) r.items → AreRows samples stations (rows ++ r ∷ [])
+pub rows_pushed : (samples stations : List Point) (rows : List (List Bool)) (r : List Bool) (n : ℕ) → length rows ≡ n → AreRows samples stations rows →
+    LeadsFirst samples (drop (length stations - 1 - n) stations) r → AreRows samples stations (rows ++ r ∷ [])
 rows_pushed samples stations rows r n count before this k row below is = by_order (cases_lt k (length rows))
   where
-    by_order : (k < length rows) ⊎ (length rows ≤ k) → LeadsFirst samples (drop (length stations - 1 - k) stations) row.items
+    by_order : (k < length rows) ⊎ (length rows ≤ k) → LeadsFirst samples (drop (length stations - 1 - k) stations) row
     by_order (inl h) = before k row h (is ∙ get_or-append rows (r ∷ []) row k h)
     by_order (inr h) =
         let here : k ≡ length rows = omega (arith, length-append rows (r ∷ [])) in
         let same : row ≡ r = is ∙ ap (λ i. get_or (rows ++ r ∷ []) i row) here ∙ get_or-append_seam rows r [] row in
         let turn : length rows ≡ k = sym here in
-        subst (λ (v : Vec Bool Global). LeadsFirst samples (drop (length stations - 1 - k) stations) v.items) (sym same)
-        (subst (λ (i : ℕ). LeadsFirst samples (drop (length stations - 1 - i) stations) r.items) (sym count ∙ turn) this)
+        subst (λ (v : List Bool). LeadsFirst samples (drop (length stations - 1 - k) stations) v) (sym same)
+        (subst (λ (i : ℕ). LeadsFirst samples (drop (length stations - 1 - i) stations) r) (sym count ∙ turn) this)
 
 -- the station before those that are gone through, and they
 pub one_before : (stations : List Point) (later : ℕ) → later < length stations →
@@ -55,11 +54,11 @@ snap_goes_on samples stations places row index floor place below leads within to
     (whole (place ∷ rest) (subst (λ (ss : List Point). IsSnapFrom floor samples ss (place ∷ rest)) (sym here) begun))
 
 -- the row of a station that is there
-pub row_at : (samples stations : List Point) (rows : List (Vec Bool Global)) (row : Vec Bool Global) (index : ℕ) → index < length stations → length rows ≡ length stations → AreRows samples stations rows →
-    row ≡ get_or rows (length stations - 1 - index) row → LeadsFirst samples (drop index stations) row.items
+pub row_at : (samples stations : List Point) (rows : List (List Bool)) (row : List Bool) (index : ℕ) → index < length stations → length rows ≡ length stations → AreRows samples stations rows →
+    row ≡ get_or rows (length stations - 1 - index) row → LeadsFirst samples (drop index stations) row
 row_at samples stations rows row index below count all is =
     let back : length stations - 1 - (length stations - 1 - index) ≡ index = omega arith in
-    subst (λ (i : ℕ). LeadsFirst samples (drop i stations) row.items) back (all (length stations - 1 - index) row (omega arith) is)
+    subst (λ (i : ℕ). LeadsFirst samples (drop i stations) row) back (all (length stations - 1 - index) row (omega arith) is)
 
 -- it has a choice for each sample, and takes the last
 pub row_whole : (samples stations : List Point) (row : List Bool) (index : ℕ) → index < length stations → LeadsFirst samples (drop index stations) row →

@@ -15,6 +15,7 @@ pub record IsSweptFrom (samples : List Point) (station : Point) (later : ℕ) (r
   pub count : length costs ≡ length samples
   pub row_count : length row ≡ length samples
   pub left : (other : ℕ) → other < place → get_or costs other 0 ≡ get_or rest other 0
+  pub untaken : (other : ℕ) → other < place → taken_at row other ≡ false
   pub swept : IsSweptDown samples station rest costs row place
   pub next_is : IsNext next costs place (length samples)
   pub bounded : (other : ℕ) → place ≤ other → other < length samples → get_or costs other 0 ≤ (later + 1) * 720000000000000000
@@ -28,6 +29,7 @@ one_more samples station later rest costs row next q p here least taken q_is bel
   count = length-set costs p least ∙ s.count;
   row_count = length-set row p taken ∙ s.row_count;
   left = λ other under. let apart : other ≢ p = omega arith in get_or-set_other costs p other least 0 apart ∙ s.left other (omega arith);
+  untaken = λ other under. let apart : other ≢ p = omega arith in get_or-set_other row p other taken false apart ∙ s.untaken other (omega arith);
   swept = record {
     last = λ place above at_end. last place (place_cases place above) at_end;
     last_taken = λ place above at_end. last_taken place (place_cases place above) at_end;

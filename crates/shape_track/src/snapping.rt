@@ -9,6 +9,7 @@ ghost use Rattle.shape_track.specs.Sweeps.{LeadsTo, taken_at};
 ghost use Rattle.shape_track.specs.Rows.{AreRows};
 
 use crate::sweep::swept;
+use bit_flags::Flags;
 use map_base::{NoMemory, Point};
 use std::alloc::Global;
 
@@ -16,7 +17,7 @@ use std::alloc::Global;
 /// before it, so that no other such places have a lesser sum of the squared distances from each station to
 /// its sample; and of those with that sum the first in the order of dictionaries.
 ///
-/// It takes time, and at most a byte, for each station and sample.
+/// It takes time, and a bit, for each station and sample.
 pub fn snap(alloc: Global, samples: &[Point], stations: &[Point]) -> Result<Vec<u32>, NoMemory>
     requires some { 0 < length samples.now }
     requires short { length samples.now < 2 ^ 32 }
@@ -41,7 +42,7 @@ pub fn snap_is_one()
 {}
 
 /// For each station, from the last one to the first, the row that says at which places it is best placed.
-fn rows_of(alloc: Global, samples: &[Point], stations: &[Point]) -> Result<Vec<Vec<bool>>, NoMemory>
+fn rows_of(alloc: Global, samples: &[Point], stations: &[Point]) -> Result<Vec<Flags>, NoMemory>
     requires some { 0 < length samples.now }
     requires samples_in_plane { All IsInPlane samples.now }
     requires stations_in_plane { All IsInPlane stations.now }
@@ -58,14 +59,15 @@ fn rows_of(alloc: Global, samples: &[Point], stations: &[Point]) -> Result<Vec<V
 }
 
 /// The first place from a floor on that a row takes.
-fn first_taken(row: &[bool], floor: usize) -> usize
+fn first_taken(row: &Flags, floor: usize) -> usize
+    requires short { length row.now < 2 ^ 32 }
     requires floor { floor < length row.now }
     requires last { taken_at row.now (length row.now - 1) ≡ true }
     ensures place { result < length row.now }
     ensures leads { LeadsTo row.now floor result }
 {
     let mut place = floor;
-    while !row[place] {
+    while !row.is_raised(place) {
         place += 1;
     }
     place

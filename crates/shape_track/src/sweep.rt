@@ -1,11 +1,12 @@
 //! Least costs of placing stations, from the last station to the first.
 
-ghost use Rattle.std.specs.Prelude.{◌≡◌, ℕ, ◌+◌, ◌-◌, ◌*◌, ◌^◌, ◌<◌, ◌≤◌, min, IfOk, length, All, nat_le, true};
+ghost use Rattle.std.specs.Prelude.{◌≡◌, ℕ, ◌+◌, ◌-◌, ◌*◌, ◌^◌, ◌<◌, ◌≤◌, min, IfOk, length, All, nat_le, slice_set, true, false};
 ghost use Rattle.fixed_plane.specs.Plane.{IsInPlane};
 ghost use Rattle.std.specs.Option.{option_map_or};
 ghost use Rattle.fixed_plane.specs.Measures.{dist2_of};
-ghost use Rattle.shape_track.specs.Sweeps.{AreBounded, IsSweptDown};
+ghost use Rattle.shape_track.specs.Sweeps.{AreBounded, IsSweptDown, taken_at};
 
+use bit_flags::Flags;
 use fixed_plane::dist2;
 use map_base::{NoMemory, Point};
 use std::alloc::Global;
@@ -20,25 +21,36 @@ pub(crate) fn swept(
     station: Point,
     later: usize,
     costs: &mut [u128],
-) -> Result<Vec<bool>, NoMemory>
+) -> Result<Flags, NoMemory>
     requires samples_in_plane { All IsInPlane samples.now }
     requires station_in_plane { IsInPlane station }
     requires count { length costs.old ≡ length samples.now }
     requires bounded { AreBounded later costs.old }
-    ensures count { IfOk result (λ row. length row.items ≡ length samples.now) }
+    ensures count { IfOk result (λ row. length row ≡ length samples.now) }
     ensures bounded { IfOk result (λ _. AreBounded (later + 1) costs.new) }
-    ensures swept { IfOk result (λ row. IsSweptDown samples.now station costs.old costs.new row.items 0) }
+    ensures swept { IfOk result (λ row. IsSweptDown samples.now station costs.old costs.new row 0) }
 {
-    let mut row = vec![in alloc; false; samples.len()]?;
+    let mut row = Flags::none(alloc, samples.len())?;
     let mut next = None;
     for place in (0..samples.len()).rev() {
         let here = cost(station, samples[place], costs[place], later);
         let (least, taken) = lesser(here, next);
         costs[place] = least;
-        row[place] = taken;
+        put(&mut row, place, taken);
         next = Some(least);
     }
     Ok(row)
+}
+
+/// Writes down at a place that is not raised whether it is taken.
+fn put(row: &mut Flags, place: usize, taken: bool)
+    requires within { place < length row.old }
+    requires lowered { taken_at row.old place ≡ false }
+    ensures { row.new ≡ slice_set row.old place taken }
+{
+    if taken {
+        row.raise(place);
+    }
 }
 
 /// What it costs to place a station at a sample, and the later ones for `rest`.

@@ -1,0 +1,2 @@
+-- Flags, one bit each.
+pub mod Bits

@@ -1,0 +1,9 @@
+//! Lists of flags that take one bit each.
+#![tactic(auto)]
+
+mod flags;
+
+pub use flags::Flags;
+
+#[cfg(test)]
+mod tests;
