@@ -1,5 +1,5 @@
 -- The places of lines in orders.
-use Rattle.std.proofs.Common.{◌≡◌, ◌≢◌, ℕ, zero, suc, ◌+◌, ◌<◌, ◌≤◌, ◌==◌, ◌||◌, nat_lt, Bool, true, false, cond, List, [], ◌∷◌, length, set, get_or, refl, sym, ◌∙◌, ap, subst, arith, inl, inr, ◌⊎◌, eqb-true}
+use Rattle.std.proofs.Common.{◌≡◌, ◌≢◌, ℕ, zero, suc, ◌+◌, ◌<◌, ◌≤◌, ◌==◌, ◌-◌, ◌||◌, nat_lt, Bool, true, false, cond, List, [], ◌∷◌, length, set, get_or, refl, sym, ◌∙◌, ap, subst, arith, inl, inr, ◌⊎◌, eqb-true}
 use Rattle.std.specs.Prelude.{IsPermutation}
 use Rattle.std.specs.List.{Contains, sum_by}
 use Rattle.std.proofs.lemmas.Bool.{eqb-false}
@@ -199,6 +199,30 @@ beside_is (x ∷ y ∷ xs) a b h n on_a on_b = elim (same_or_not x.0 a.0) [
 
 at_most_later : (x a : LineId) (xs : List LineId) (m : ℕ) → AreRising (x ∷ xs) → m < length xs → x.0 < (get_or xs m no_line).0
 at_most_later x a xs m rising below = rising_above x xs rising m no_line below
+
+-- from one line to a later one the numbers rise by at least one each
+pub rising_by : (xs : List LineId) (k j : ℕ) → AreRising xs → k ≤ j → j < length xs → (get_or xs k no_line).0 + (j - k) ≤ (get_or xs j no_line).0
+rising_by [] k j rising h below = absurd (omega (arith, below))
+rising_by (x ∷ xs) zero zero rising h below = omega arith
+rising_by (x ∷ []) zero (suc j) rising h below = absurd (omega (arith, below))
+rising_by (x ∷ y ∷ xs) zero (suc j) rising h below =
+    let rest = rising_by (y ∷ xs) zero j rising.1 (omega arith) (omega (arith, below)) in omega (arith, rest, rising.0)
+rising_by (x ∷ xs) (suc k) zero rising h below = absurd (omega (arith, h))
+rising_by (x ∷ xs) (suc k) (suc j) rising h below =
+    let rest = rising_by xs k j (rising_tail x xs rising) (omega (arith, h)) (omega (arith, below)) in omega (arith, rest)
+
+-- the place of a line is bounded by how far its number is from the first
+pub place_at_most : (xs : List LineId) (a : LineId) → AreRising xs → Contains xs a → (get_or xs 0 no_line).0 + place_of xs a ≤ a.0
+place_at_most xs a rising on =
+    let by = rising_by xs 0 (place_of xs a) rising (omega arith) (place_below xs a on) in
+    omega (arith, by, ap (λ (l : LineId). l.0) (line_at_place xs a on))
+
+-- and by how far it is from the last
+pub place_at_least : (xs : List LineId) (a : LineId) (last : ℕ) → AreRising xs → Contains xs a → last + 1 ≡ length xs
+    → a.0 + (last - place_of xs a) ≤ (get_or xs last no_line).0
+place_at_least xs a last rising on e =
+    let by = rising_by xs (place_of xs a) last rising (omega (arith, e, place_below xs a on)) (omega (arith, e)) in
+    omega (arith, by, ap (λ (l : LineId). l.0) (line_at_place xs a on))
 
 -- the line stands at or after a lesser line, or itself
 pub rank_from : (xs : List LineId) (a : LineId) (m : ℕ) → AreRising xs → Contains xs a → m < length xs → (get_or xs m no_line).0 ≤ a.0 → m ≤ place_of xs a

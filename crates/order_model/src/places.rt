@@ -61,8 +61,7 @@ fn rank(lines: &[LineId], line: LineId) -> usize
     ensures place { result ≡ place_of lines.now line }
     ensures within { result < length lines.now }
 {
-    let mut low = 0;
-    let mut high = lines.len();
+    let (mut low, mut high) = range_of(lines, line);
     while high - low > 1 {
         let middle = low + (high - low) / 2;
         if lines[middle].0 <= line.0 {
@@ -72,6 +71,21 @@ fn rank(lines: &[LineId], line: LineId) -> usize
         }
     }
     low
+}
+
+/// Numbers around the count of lines before this one: its least, and one above its most. Lines rise by at least one each,
+/// so where they have no gaps the two are next to each other.
+fn range_of(lines: &[LineId], line: LineId) -> (usize, usize)
+    requires rising { AreRising lines.now }
+    requires among { Contains lines.now line }
+    ensures least { result.0 ≤ place_of lines.now line }
+    ensures most { place_of lines.now line < result.1 }
+    ensures within { result.1 ≤ length lines.now }
+{
+    let last = lines.len() - 1;
+    let before = line.0.saturating_sub(lines[0].0) as usize;
+    let after = lines[last].0.saturating_sub(line.0) as usize;
+    (last.saturating_sub(after), last.min(before) + 1)
 }
 
 /// The sum of what the terms cost by the places of lines.

@@ -1,9 +1,6 @@
 use Rattle.std.proofs.Common.{◌<◌, ℕ, ◌+◌, ◌-◌, ◌/◌, length, arith}
-use Rattle.order_model.proofs.PlaceLemmas.{place_below, rank_from, rank_before}
+use Rattle.order_model.proofs.PlaceLemmas.{rank_from, rank_before}
 use Rattle.order_model.proofs.places.rank.Goals as goal
-
-pub loop-high-init : goal.loop-high-init
-loop-high-init c = (omega arith, place_below c.args.lines.now c.args.line c.requires.among, omega arith)
 
 pub loop-high-preserved-then-lines-middle : goal.loop-high-preserved-then-lines-middle
 loop-high-preserved-then-lines-middle c =
