@@ -53,7 +53,7 @@ fn check_items(
     }
     let proofs = proof.parts.as_slice();
     check_parts(alloc, problem, parts, proofs)?;
-    check_total(proofs, cost(problem, orders))
+    check_total(proofs, cost(alloc, problem, orders)?)
 }
 
 /// Refuses the first part that is not the problem's in its turn, or has a tree that isn't accepted.

@@ -145,14 +145,14 @@ length_without p y (x ∷ xs) h f = elim (contains_cases x y xs h) [
       elim (p x) as (λ b. length (cond b (x ∷ filter p xs) (filter p xs)) < length (x ∷ xs)) [ true ↦ omega arith | false ↦ omega arith ])
 ]
 
-abbrev AreAbove : LineId → List LineId → Type 0
+abbrev pub AreAbove : LineId → List LineId → Type 0
 AreAbove x ys = All (λ (y : LineId). x.0 < y.0) ys
 
-rising_tail : (x : LineId) (xs : List LineId) → AreRising (x ∷ xs) → AreRising xs
+pub rising_tail : (x : LineId) (xs : List LineId) → AreRising (x ∷ xs) → AreRising xs
 rising_tail x [] h = tt
 rising_tail x (y ∷ ys) h = h.1
 
-rising_above : (x : LineId) (xs : List LineId) → AreRising (x ∷ xs) → AreAbove x xs
+pub rising_above : (x : LineId) (xs : List LineId) → AreRising (x ∷ xs) → AreAbove x xs
 rising_above x [] h = All-nil (λ (y : LineId). x.0 < y.0)
 rising_above x (y ∷ ys) h =
     All-cons (λ (z : LineId). x.0 < z.0) y ys h.0 (λ k d below. let up : y.0 < (get_or ys k d).0 = rising_above y ys h.1 k d below in omega (arith, h.0))

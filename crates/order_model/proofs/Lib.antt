@@ -9,5 +9,7 @@ pub mod SmallGraph
 pub mod Classes
 pub mod Pointing
 pub mod Placing
+pub mod PlaceLemmas
+pub mod PlaceCosts
 pub mod PartLemmas
 pub mod PrefixLemmas

@@ -2,6 +2,7 @@ pub mod Problems
 pub mod PriceLists
 pub mod Terms
 pub mod Costs
+pub mod Places
 pub mod Limits
 pub mod Parts
 pub mod Gathering

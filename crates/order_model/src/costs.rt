@@ -1,46 +1,25 @@
 //! What orders cost.
 
-ghost use Rattle.std.specs.Prelude.{◌≡◌, ℕ, ◌<◌, ◌≤◌, length, sum_by, All};
-ghost use Rattle.order_model.specs.Costs.{comes_before, are_these, are_neighbours, seg_of, other_of, is_met_on, weight_of, cost_on, term_cost, cost_of, IsReadable, AreOrders};
+ghost use Rattle.std.specs.Prelude.{◌≡◌, ℕ, ◌<◌, ◌≤◌, IfOk};
+ghost use Rattle.order_model.specs.Costs.{comes_before, are_these, are_neighbours, seg_of, other_of, is_met_on, weight_of, cost_on, cost_of, IsReadable, AreOrders};
 
 use crate::orders::Orders;
+use crate::places::{places_of, total_cost};
 use crate::problem::Problem;
 use crate::term::Term;
-use map_base::{LineId, SegId, Sequence};
+use map_base::{LineId, NoMemory, SegId};
+use std::alloc::Global;
 
 /// What the orders cost: the sum of the weights of all terms that cost something. The orders have one list for each
-/// segment of the problem, with its lines in some order.
-pub fn cost(problem: &Problem, orders: &Orders) -> u64
+/// segment of the problem, with its lines in some order. Errs where the allocator has no room for a table of places.
+pub fn cost(alloc: Global, problem: &Problem, orders: &Orders) -> Result<u64, NoMemory>
     requires { AreOrders problem.now.segs orders.now.lists }
-    ensures { result ≡ cost_of problem.now.terms orders.now.lists }
+    ensures { IfOk result (λ total. total ≡ cost_of problem.now.terms orders.now.lists) }
 {
+    let segs = problem.segs();
     let terms = problem.terms();
-    total_cost(terms, orders.lists.as_slice())
-}
-
-/// The sum of what the terms cost.
-fn total_cost(terms: &[Term], lists: &[Sequence<LineId>]) -> u64
-    requires readable { All (IsReadable (length lists.now)) terms.now }
-    requires few { length terms.now ≤ 4000000 }
-    ensures { result ≡ sum_by (term_cost lists.now) terms.now }
-{
-    let mut total: u64 = 0;
-    for term in terms {
-        total += term_cost(*term, lists);
-    }
-    total
-}
-
-/// What one term costs.
-fn term_cost(term: Term, lists: &[Sequence<LineId>]) -> u64
-    requires { IsReadable (length lists.now) term }
-    ensures value { result ≡ term_cost lists.now term }
-    ensures most { result ≤ 256000 }
-{
-    let (seg, other) = ends_of(term);
-    let here = lists[seg.0 as usize].as_slice();
-    let there = lists[other.0 as usize].as_slice();
-    cost_on(term, here, there)
+    let places = places_of(alloc, segs, orders.lists.as_slice())?;
+    Ok(total_cost(terms, segs, places.as_slice()))
 }
 
 /// The segment of a term and its other segment, or its only one twice.
@@ -71,7 +50,7 @@ pub(crate) fn cost_on(term: Term, here: &[LineId], there: &[LineId]) -> u64
 }
 
 /// The weight of a term.
-fn weight_of(term: Term) -> u32
+pub(crate) fn weight_of(term: Term) -> u32
     ensures { result ≡ weight_of term }
 {
     match term {

@@ -13,6 +13,7 @@ mod labels;
 mod node_terms;
 mod orders;
 mod parts;
+mod places;
 mod prefix;
 mod prices;
 mod problem;
