@@ -55,7 +55,7 @@ segments_of_round ends n round few h = record {
 pub round_of_graph : (g : GraphParts) → IsConsistent g → (n : ℕ) → n < length g.kinds → IsSegmentsOf g.ends (get_or g.rounds n [])
 round_of_graph g ok n below = segments_of_round g.ends n _ ok.few_segments (ok.rounds n (omega (arith, ok.round_each)))
 
-joins_of_graph : (g : GraphParts) → IsConsistent g → (n : ℕ) → n < length g.kinds → All (IsJoin g.lines (get_or g.rounds n [])) (get_or g.joins n [])
+pub joins_of_graph : (g : GraphParts) → IsConsistent g → (n : ℕ) → n < length g.kinds → All (IsJoin g.lines (get_or g.rounds n [])) (get_or g.joins n [])
 joins_of_graph g ok n below = ok.joins n (omega (arith, ok.joins_each))
 
 -- Ways: a line that goes on stands on both segments.

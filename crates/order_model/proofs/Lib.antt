@@ -2,6 +2,7 @@ pub mod Examples
 pub mod OrderLemmas
 pub mod Faults
 pub mod Rounds
+pub mod NodeWays
 pub mod Sorting
 pub mod GraphFacts
 pub mod GraphProblem

@@ -10,6 +10,7 @@ use crate::fault::TermFault;
 use crate::found::MOST_TERMS;
 use crate::node_terms::push_terms_at;
 use crate::problem::{Problem, ProblemParts};
+use crate::round_places::no_places;
 use crate::term::Term;
 use graph_core::LineGraph;
 use map_base::{LineId, NoMemory, NodeId, SegId, Sequence, Weights};
@@ -49,9 +50,19 @@ fn all_terms(
     ensures fits { IsConsistent graph.now }
     ensures limit { IfErr result (IsAbove 4000000 (length (graph_terms graph.now weights.now))) }
 {
+    let nodes = graph.nodes();
+    let mut places = no_places(alloc, graph.segs())?;
     let mut terms = Vec::new(alloc);
-    for n in 0..graph.nodes() {
-        push_terms_at(alloc, graph, weights, NodeId(n), MOST_TERMS, &mut terms)?;
+    for n in 0..nodes {
+        push_terms_at(
+            alloc,
+            graph,
+            weights,
+            places.as_mut_slice(),
+            NodeId(n),
+            MOST_TERMS,
+            &mut terms,
+        )?;
     }
     Ok(terms)
 }

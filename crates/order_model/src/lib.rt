@@ -17,6 +17,7 @@ mod places;
 mod prefix;
 mod prices;
 mod problem;
+mod round_places;
 mod rule;
 mod term;
 mod ways;

@@ -1,65 +1,117 @@
-//! The lines that go on from a segment at a node.
+//! The lines that go on from the segments at a node.
 
-ghost use Rattle.std.specs.Prelude.{◌≡◌, ◌+◌, ◌<◌, ◌≤◌, ◌++◌, length, IfOk, OnOk};
-ghost use Rattle.order_model.specs.Terms.{place_in, turn_of, way, way_by, ways_from};
+ghost use Rattle.std.specs.Prelude.{◌≡◌, ◌<◌, ◌≤◌, ◌++◌, [], ◌∷◌, length, replicate, All, Contains, IfOk, OnOk, slice_index, slice_index_or, slice_set};
+ghost use Rattle.order_model.specs.Terms.{place_in, way};
+ghost use Rattle.order_model.specs.Hubs.{way_lists, with_way, with_ways_by, TellPlaces, IsBetween, AreWays};
 
 use crate::found::Way;
+use crate::round_places::place_told;
 use graph_core::Join;
 use map_base::{LineId, NoMemory, SegId};
 use std::alloc::Global;
 
-/// The ways out of a segment at a node, in the order of the node's joins.
-pub(crate) fn ways_from(
+/// The ways out of each segment of a node's round, by its place there. Those of one segment stand in the order of the
+/// node's joins.
+pub(crate) fn ways_around(
     alloc: Global,
+    places: &[u32],
     round: &[SegId],
     joins: &[Join],
-    e: SegId,
-) -> Result<Vec<Way>, NoMemory>
-    requires some { 0 < length round.now }
+) -> Result<Vec<Vec<Way>>, NoMemory>
+    requires places { TellPlaces round.now places.now }
     requires few { length round.now ≤ 20000 }
-    ensures { IfOk result (λ ways. ways.items ≡ ways_from round.now joins.now e) }
+    requires joins { All (IsBetween round.now) joins.now }
+    ensures { IfOk result (λ lists. AreWays round.now joins.now (way_lists lists.items)) }
 {
-    let mut ways = Vec::new(alloc);
+    let mut lists = no_ways(alloc, round.len())?;
     for join in joins {
-        push_way_by(&mut ways, round, e, *join)?;
+        push_ways_by(&mut lists, places, round, *join)?;
     }
-    Ok(ways)
+    Ok(lists)
 }
 
-/// Adds the way out of a segment that a join gives its line, if it joins the segment.
-fn push_way_by(ways: &mut Vec<Way>, round: &[SegId], e: SegId, join: Join) -> Result<(), NoMemory>
-    requires some { 0 < length round.now }
-    requires few { length round.now ≤ 20000 }
-    ensures { OnOk result (ways.new.items ≡ ways.old.items ++ way_by round.now e join) }
+/// So many lists with no ways.
+fn no_ways(alloc: Global, count: usize) -> Result<Vec<Vec<Way>>, NoMemory>
+    ensures { IfOk result (λ lists. way_lists lists.items ≡ replicate count []) }
 {
-    if join.e == e {
-        ways.push(way(round, e, join.line, join.f))?;
-    } else if join.f == e {
-        ways.push(way(round, e, join.line, join.e))?;
+    let mut lists = Vec::new(alloc);
+    for _ in 0..count {
+        lists.push(Vec::new(alloc))?;
     }
+    Ok(lists)
+}
+
+/// Adds the ways that a join gives its line: out of the one segment on to the other, and back.
+fn push_ways_by(
+    lists: &mut Vec<Vec<Way>>,
+    places: &[u32],
+    round: &[SegId],
+    join: Join,
+) -> Result<(), NoMemory>
+    requires places { TellPlaces round.now places.now }
+    requires few { length round.now ≤ 20000 }
+    requires each { length lists.old.items ≡ length round.now }
+    requires join { IsBetween round.now join }
+    ensures lists { OnOk result (way_lists lists.new.items ≡ with_ways_by round.now join (way_lists lists.old.items)) }
+    ensures each { OnOk result (length lists.new.items ≡ length round.now) }
+{
+    push_way(lists, places, round, join.line, join.e, join.f)?;
+    push_way(lists, places, round, join.line, join.f, join.e)
+}
+
+/// Adds the way of a line out of `e` on to `f`.
+fn push_way(
+    lists: &mut Vec<Vec<Way>>,
+    places: &[u32],
+    round: &[SegId],
+    line: LineId,
+    e: SegId,
+    f: SegId,
+) -> Result<(), NoMemory>
+    requires places { TellPlaces round.now places.now }
+    requires few { length round.now ≤ 20000 }
+    requires each { length lists.old.items ≡ length round.now }
+    requires from { Contains round.now e }
+    requires to { Contains round.now f }
+    ensures lists { OnOk result (way_lists lists.new.items ≡ with_way round.now line e f (way_lists lists.old.items)) }
+    ensures each { OnOk result (length lists.new.items ≡ length round.now) }
+{
+    push_at(
+        lists,
+        place_told(places, e),
+        way(places, round, e, line, f),
+    )
+}
+
+/// Adds a way to the list at a place.
+fn push_at(lists: &mut Vec<Vec<Way>>, place: usize, way: Way) -> Result<(), NoMemory>
+    requires { place < length lists.old.items }
+    ensures lists { OnOk result (way_lists lists.new.items
+        ≡ slice_set (way_lists lists.old.items) place (slice_index_or (way_lists lists.old.items) place [] ++ way ∷ [])) }
+    ensures each { OnOk result (length lists.new.items ≡ length lists.old.items) }
+{
+    let ways = &mut lists[place];
+    ways.push(way)?;
     Ok(())
 }
 
-/// The way of a line out of `e` to `f`.
-fn way(round: &[SegId], e: SegId, line: LineId, f: SegId) -> Way
-    requires some { 0 < length round.now }
+/// The way of a line out of `e` on to `f`.
+fn way(places: &[u32], round: &[SegId], e: SegId, line: LineId, f: SegId) -> Way
+    requires places { TellPlaces round.now places.now }
     requires few { length round.now ≤ 20000 }
+    requires from { Contains round.now e }
+    requires to { Contains round.now f }
     ensures { result ≡ way round.now e line f }
 {
-    let turn = (place_in(round, f) + round.len() - place_in(round, e)) % round.len();
+    let turn = (place_told(places, f) + round.len() - place_told(places, e)) % round.len();
     Way { line, to: f, turn }
 }
 
-/// How many segments stand before this one in a round.
-#[tactic(auto, using(crate::proofs::Rounds::place_in_step))]
-fn place_in(round: &[SegId], s: SegId) -> usize
-    ensures place { result ≡ place_in round.now s }
-    ensures within { result ≤ length round.now }
+/// The list at the place that the table tells of a segment.
+pub(crate) fn ways_of<'a>(lists: &'a [Vec<Way>], places: &[u32], s: SegId) -> &'a [Way]
+    requires known { s.0 < length places.now }
+    requires within { slice_index places.now s.0 < length lists.now }
+    ensures { result.now ≡ slice_index_or (way_lists lists.now) (slice_index places.now s.0) [] }
 {
-    for (i, r) in round.iter().enumerate() {
-        if *r == s {
-            return i;
-        }
-    }
-    round.len()
+    lists[place_told(places, s)].as_slice()
 }
