@@ -17,7 +17,9 @@ mod places;
 mod prefix;
 mod prices;
 mod problem;
+mod ranks;
 mod rule;
+mod segment_lines;
 mod term;
 mod ways;
 

@@ -1,6 +1,6 @@
 use Rattle.std.proofs.Common.{◌<◌, ℕ, ◌+◌, ◌-◌, ◌/◌, length, arith}
 use Rattle.order_model.proofs.PlaceLemmas.{rank_from, rank_before}
-use Rattle.order_model.proofs.places.rank.Goals as goal
+use Rattle.order_model.proofs.ranks.rank.Goals as goal
 
 pub loop-high-preserved-then-lines-middle : goal.loop-high-preserved-then-lines-middle
 loop-high-preserved-then-lines-middle c =

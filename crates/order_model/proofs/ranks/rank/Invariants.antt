@@ -1,6 +1,6 @@
 use Rattle.std.proofs.Common.{◌<◌, ◌≤◌, ◌-◌, length}
 use Rattle.order_model.specs.Places.{place_of}
-use Rattle.order_model.proofs.places.rank.Given as goal
+use Rattle.order_model.proofs.ranks.rank.Given as goal
 
 abbrev pub invariant-loop-high : goal.invariant-loop-high
 invariant-loop-high l = (l.low ≤ place_of l.lines l.line) × (place_of l.lines l.line < l.high) × (l.high ≤ length l.lines)

@@ -1,6 +1,6 @@
 use Rattle.std.proofs.Common.{◌≡◌, ◌-◌, ◌+◌, ℕ, length, arith}
 use Rattle.order_model.proofs.PlaceLemmas.{place_below, place_at_least, place_at_most}
-use Rattle.order_model.proofs.places.range_of.Goals as goal
+use Rattle.order_model.proofs.ranks.range_of.Goals as goal
 
 pub returns-clause-least : goal.returns-clause-least
 returns-clause-least c =
