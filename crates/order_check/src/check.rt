@@ -1,10 +1,12 @@
 //! The check of a whole proof.
 
 ghost use Rattle.std.specs.Prelude.{◌≡◌, [], map, IfOk, IfErr, None};
+ghost use Rattle.std.specs.List.{AllByRecursion};
 ghost use Rattle.order_model.specs.Costs.{AreOrders};
 ghost use Rattle.order_model.specs.Parts.{AreParts};
 ghost use Rattle.order_model.specs.Gathering.{part_lists};
 ghost use Rattle.order_proof.specs.Plain.{plain_part, plain_proof};
+ghost use Rattle.order_proof.specs.Trees.{IsTree};
 ghost use Rattle.order_trees.specs.PartTerms.{AreBest};
 ghost use Rattle.order_check.specs.Verdict.{first_part, first_refused, HasVerdict, IsCause, IsRefusal};
 
@@ -12,8 +14,9 @@ use crate::part::check_part;
 use crate::refusal::{ProofItem, ProofStop};
 use crate::total::check_total;
 use map_base::{SegId, Sequence};
-use order_model::{Orders, Problem, cost, parts_of};
+use order_model::{Orders, Prefix, Problem, cost, parts_of};
 use order_proof::{Part, Proof};
+use order_trees::{numbers_of, terms_by_part};
 use std::alloc::Global;
 
 /// Whether a proof shows that no orders of the problem cost less than these. The items are checked in order: the rules,
@@ -63,16 +66,28 @@ fn check_parts(
     parts: &[Vec<SegId>],
     proofs: &[Part],
 ) -> Result<(), ProofStop>
-    requires { AreParts problem.now.segs problem.now.terms (part_lists parts.now) }
+    requires parts { AreParts problem.now.segs problem.now.terms (part_lists parts.now) }
+    requires trees { AllByRecursion (λ p. IsTree p.tree) (map plain_part proofs.now) }
     ensures accepted { IfOk result (λ _. first_part problem.now.segs problem.now.terms 0 (part_lists parts.now) (map plain_part proofs.now) ≡ None) }
     ensures refused { IfErr result (IsCause (first_part problem.now.segs problem.now.terms 0 (part_lists parts.now) (map plain_part proofs.now))) }
 {
-    let _segs = problem.segs();
+    let numbers = numbers_of(alloc, problem, parts)?;
+    let groups = terms_by_part(alloc, problem, parts, numbers.as_slice())?;
+    let mut prefix = Prefix::none(alloc, problem)?;
     for k in 0..parts.len() {
         if k >= proofs.len() {
             return Err(part_alone(alloc, k as u32));
         }
-        check_part(alloc, problem, k as u32, parts[k].as_slice(), &proofs[k])?;
+        check_part(
+            alloc,
+            problem,
+            k as u32,
+            parts[k].as_slice(),
+            numbers.as_slice(),
+            groups[k].as_slice(),
+            &mut prefix,
+            &proofs[k],
+        )?;
     }
     if proofs.len() > parts.len() {
         return Err(part_alone(alloc, parts.len() as u32));

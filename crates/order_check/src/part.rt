@@ -2,8 +2,11 @@
 
 ghost use Rattle.std.specs.Prelude.{◌≡◌, ◌<◌, length, All, IfOk, IfErr, None};
 ghost use Rattle.map_base.specs.declared.ids.SegId.{SegId};
+ghost use Rattle.order_model.specs.Prefixes.{IsPrefixOf};
 ghost use Rattle.order_proof.specs.Plain.{plain, plain_part};
+ghost use Rattle.order_proof.specs.Trees.{IsTree};
 ghost use Rattle.order_trees.specs.PartTerms.{part_terms};
+ghost use Rattle.order_trees.specs.Numbers.{TellPart};
 ghost use Rattle.order_trees.specs.Completions.{none_placed};
 ghost use Rattle.order_trees.specs.Accepting.{question, failing};
 ghost use Rattle.order_check.specs.Verdict.{are_same, tree_refusal, part_refusal, IsCause};
@@ -11,9 +14,8 @@ ghost use Rattle.order_check.specs.Verdict.{are_same, tree_refusal, part_refusal
 use crate::refusal::{ProofItem, ProofStop};
 use crate::walk::walk;
 use map_base::{SegId, Sequence};
-use order_model::{Prefix, Problem};
+use order_model::{Prefix, Problem, Term};
 use order_proof::{Part, Tree};
-use order_trees::{marks_of, part_terms};
 use std::alloc::Global;
 
 /// Refuses part `k` of a proof where its segments are not those of the problem's part, or its tree isn't accepted.
@@ -22,9 +24,19 @@ pub(crate) fn check_part(
     problem: &Problem,
     k: u32,
     segs: &[SegId],
+    numbers: &[u32],
+    terms: &[Term],
+    prefix: &mut Prefix,
     part: &Part,
 ) -> Result<(), ProofStop>
     requires known { All (λ (s : SegId). s.0 < length problem.now.segs) segs.now }
+    requires numbers { TellPart segs.now k (length problem.now.segs) numbers.now }
+    requires terms { terms.now ≡ part_terms problem.now.terms segs.now }
+    requires fits { IsPrefixOf problem.now.segs prefix.old }
+    requires none { prefix.old.placed ≡ none_placed problem.now.segs }
+    requires tree { IsTree (plain part.now.tree) }
+    ensures fits { IsPrefixOf problem.now.segs prefix.new }
+    ensures kept { prefix.new.placed ≡ prefix.old.placed }
     ensures accepted { IfOk result (λ _. part_refusal problem.now.segs problem.now.terms k segs.now (plain_part part.now) ≡ None) }
     ensures refused { IfErr result (IsCause (part_refusal problem.now.segs problem.now.terms k segs.now (plain_part part.now))) }
 {
@@ -34,7 +46,17 @@ pub(crate) fn check_part(
             after: Sequence::of(Vec::new(alloc)),
         }));
     }
-    check_tree(alloc, problem, k, segs, part.target, &part.tree)
+    check_tree(
+        alloc,
+        problem,
+        k,
+        segs,
+        numbers,
+        terms,
+        prefix,
+        part.target,
+        &part.tree,
+    )
 }
 
 /// Refuses part `k` where its tree isn't accepted from the empty prefix.
@@ -43,28 +65,28 @@ fn check_tree(
     problem: &Problem,
     k: u32,
     segs: &[SegId],
+    numbers: &[u32],
+    terms: &[Term],
+    prefix: &mut Prefix,
     target: u64,
     tree: &Tree,
 ) -> Result<(), ProofStop>
     requires known { All (λ (s : SegId). s.0 < length problem.now.segs) segs.now }
+    requires numbers { TellPart segs.now k (length problem.now.segs) numbers.now }
+    requires terms { terms.now ≡ part_terms problem.now.terms segs.now }
+    requires fits { IsPrefixOf problem.now.segs prefix.old }
+    requires none { prefix.old.placed ≡ none_placed problem.now.segs }
+    requires tree { IsTree (plain tree.now) }
+    ensures fits { IsPrefixOf problem.now.segs prefix.new }
+    ensures kept { prefix.new.placed ≡ prefix.old.placed }
     ensures accepted { IfOk result (λ _. tree_refusal k (failing (question problem.now.segs segs.now (part_terms problem.now.terms segs.now) target)
         (none_placed problem.now.segs) (plain tree.now)) ≡ None) }
     ensures refused { IfErr result (IsCause (tree_refusal k (failing (question problem.now.segs segs.now (part_terms problem.now.terms segs.now) target)
         (none_placed problem.now.segs) (plain tree.now)))) }
 {
-    let marks = marks_of(alloc, segs, problem.segs().len())?;
-    let terms = part_terms(alloc, problem, segs, marks.as_slice())?;
-    let mut prefix = Prefix::none(alloc, problem)?;
     let mut way = Vec::new(alloc);
     let accepted = walk(
-        problem,
-        segs,
-        marks.as_slice(),
-        terms.as_slice(),
-        target,
-        &mut prefix,
-        &mut way,
-        tree,
+        problem, segs, k, numbers, terms, target, prefix, &mut way, tree,
     )?;
     if accepted {
         return Ok(());

@@ -3,11 +3,11 @@
 ghost use Rattle.std.specs.Prelude.{◌≡◌, ◌<◌, ◌≤◌, length, false, All, Contains, IfOk};
 ghost use Rattle.map_base.specs.declared.ids.SegId.{SegId};
 ghost use Rattle.graph_core.specs.Consistent.{AreRising};
-ghost use Rattle.order_model.specs.Costs.{IsReadable};
-ghost use Rattle.order_model.specs.Problems.{lines_on};
+ghost use Rattle.order_model.specs.Problems.{lines_on, IsTerm};
 ghost use Rattle.order_model.specs.Prefixes.{IsPrefixOf, is_placed};
 ghost use Rattle.order_proof.specs.Plain.{split, plain, plain_children};
-ghost use Rattle.order_trees.specs.Marks.{AreMarks};
+ghost use Rattle.order_proof.specs.Trees.{IsTree};
+ghost use Rattle.order_trees.specs.Numbers.{TellPart};
 ghost use Rattle.order_trees.specs.Completions.{placed_more};
 ghost use Rattle.order_trees.specs.Accepting.{question, after_line, failing};
 ghost use Rattle.order_check.specs.Walking.{IsWalked};
@@ -23,7 +23,8 @@ use order_proof::Tree;
 pub(crate) fn walk(
     problem: &Problem,
     part: &[SegId],
-    marks: &[bool],
+    k: u32,
+    numbers: &[u32],
     terms: &[Term],
     target: u64,
     prefix: &mut Prefix,
@@ -31,11 +32,12 @@ pub(crate) fn walk(
     tree: &Tree,
 ) -> Result<bool, NoMemory>
     requires fits { IsPrefixOf problem.now.segs prefix.old }
-    requires marks { AreMarks part.now (length problem.now.segs) marks.now }
+    requires numbers { TellPart part.now k (length problem.now.segs) numbers.now }
     requires known { All (λ (s : SegId). s.0 < length problem.now.segs) part.now }
-    requires readable { All (IsReadable (length problem.now.segs)) terms.now }
+    requires terms { All (IsTerm problem.now.segs) terms.now }
     requires few { length terms.now ≤ 4000000 }
     requires rising { All AreRising problem.now.segs }
+    requires tree { IsTree (plain tree.now) }
     ensures fits { IsPrefixOf problem.now.segs prefix.new }
     ensures placed { prefix.new.placed ≡ prefix.old.placed }
     ensures walked { IfOk result (IsWalked (failing (question problem.now.segs part.now terms.now target) prefix.old.placed (plain tree.now)) way.old.items way.new.items) }
@@ -46,7 +48,7 @@ pub(crate) fn walk(
             walk_split(
                 problem,
                 part,
-                marks,
+                k, numbers,
                 terms,
                 target,
                 prefix,
@@ -63,7 +65,8 @@ pub(crate) fn walk(
 fn walk_split(
     problem: &Problem,
     part: &[SegId],
-    marks: &[bool],
+    k: u32,
+    numbers: &[u32],
     terms: &[Term],
     target: u64,
     prefix: &mut Prefix,
@@ -72,21 +75,22 @@ fn walk_split(
     children: &[(LineId, Tree)],
 ) -> Result<bool, NoMemory>
     requires fits { IsPrefixOf problem.now.segs prefix.old }
-    requires marks { AreMarks part.now (length problem.now.segs) marks.now }
+    requires numbers { TellPart part.now k (length problem.now.segs) numbers.now }
     requires known { All (λ (s : SegId). s.0 < length problem.now.segs) part.now }
-    requires readable { All (IsReadable (length problem.now.segs)) terms.now }
+    requires terms { All (IsTerm problem.now.segs) terms.now }
     requires few { length terms.now ≤ 4000000 }
     requires rising { All AreRising problem.now.segs }
+    requires tree { IsTree (split seg (plain_children children.now)) }
     ensures fits { IsPrefixOf problem.now.segs prefix.new }
     ensures placed { prefix.new.placed ≡ prefix.old.placed }
     ensures walked { IfOk result (IsWalked (failing (question problem.now.segs part.now terms.now target) prefix.old.placed (split seg (plain_children children.now))) way.old.items way.new.items) }
 {
-    if !is_split(problem, part, marks, prefix, seg, children) {
+    if !is_split(problem, part, k, numbers, prefix, seg, children) {
         return Ok(false);
     }
     for child in children {
         if !walk_case(
-            problem, part, marks, terms, target, prefix, way, seg, child.0, &child.1,
+            problem, part, k, numbers, terms, target, prefix, way, seg, child.0, &child.1,
         )? {
             return Ok(false);
         }
@@ -99,7 +103,8 @@ fn walk_split(
 fn walk_case(
     problem: &Problem,
     part: &[SegId],
-    marks: &[bool],
+    k: u32,
+    numbers: &[u32],
     terms: &[Term],
     target: u64,
     prefix: &mut Prefix,
@@ -109,14 +114,15 @@ fn walk_case(
     tree: &Tree,
 ) -> Result<bool, NoMemory>
     requires fits { IsPrefixOf problem.now.segs prefix.old }
-    requires marks { AreMarks part.now (length problem.now.segs) marks.now }
+    requires numbers { TellPart part.now k (length problem.now.segs) numbers.now }
     requires known { All (λ (s : SegId). s.0 < length problem.now.segs) part.now }
-    requires readable { All (IsReadable (length problem.now.segs)) terms.now }
+    requires terms { All (IsTerm problem.now.segs) terms.now }
     requires few { length terms.now ≤ 4000000 }
     requires rising { All AreRising problem.now.segs }
     requires seg { seg.0 < length problem.now.segs }
     requires line { Contains (lines_on problem.now.segs seg) line }
     requires unplaced { is_placed (lines_on prefix.old.placed seg) line ≡ false }
+    requires tree { IsTree (plain tree.now) }
     ensures fits { IsPrefixOf problem.now.segs prefix.new }
     ensures placed { prefix.new.placed ≡ prefix.old.placed }
     ensures walked { IfOk result (IsWalked (after_line line (failing (question problem.now.segs part.now terms.now target)
@@ -124,7 +130,7 @@ fn walk_case(
 {
     way.push(line)?;
     prefix.place(problem, seg, line);
-    let outcome = walk(problem, part, marks, terms, target, prefix, way, tree);
+    let outcome = walk(problem, part, k, numbers, terms, target, prefix, way, tree);
     prefix.take_back(problem, seg);
     if !outcome? {
         return Ok(false);

@@ -2,22 +2,27 @@
 use Rattle.std.specs.Prelude.{◌≡◌, ℕ, ◌+◌, ◌-◌, ◌<◌, ◌≤◌, ◌==◌, nat_le, Bool, false, ◌&&◌, not, List, [], ◌∷◌, ◌++◌, length, map, take, find, All, Contains, if◌then◌else◌, slice_index, slice_index_or}
 use Rattle.std.specs.Prelude.{Vec, vec_capacity}
 use Rattle.std.specs.Global.{Global}
-use Rattle.std.specs.List.{list_any}
 use Rattle.std.specs.Option.{option_to_list}
 use Rattle.map_base.specs.declared.ids.LineId.{LineId}
+use Rattle.order_model.specs.Places.{has_line, ArePlaces, tables_of}
 
--- the lines placed on each segment, and how many each has room for
+-- the lines placed on each segment, how many each has room for, and the place of each line of a segment
 pub record Placement : Type 0 where
   pub placed : List (List LineId)
   pub room : List ℕ
+  pub places : List (List ℕ)
 
 -- the line is among the placed ones
 abbrev pub is_placed : List LineId → LineId → Bool
-is_placed placed a = list_any (λ (b : LineId). b.0 == a.0) placed
+is_placed placed a = has_line placed a
 
 -- the line is not among the placed ones
 abbrev pub is_unplaced : List LineId → LineId → Bool
 is_unplaced placed a = not (is_placed placed a)
+
+-- the line is one of a segment's, and is not placed
+abbrev pub is_left : List LineId → List LineId → LineId → Bool
+is_left lines placed a = has_line lines a && is_unplaced placed a
 
 -- the placed lines of a segment, of these lines, once one more is placed: where one line is left, it is placed too
 abbrev pub with_line : List LineId → List LineId → LineId → List LineId
@@ -44,13 +49,18 @@ pub record ArePlacedLines (lines placed : List LineId) : Type 0 where
   pub apart : AreApart placed
   pub none_alone : length placed + 1 ≡ length lines → length lines ≡ 1
 
--- a prefix of a problem with these segments, with room for all their lines
+-- a prefix of a problem with these segments, with room for all their lines, and the place of each of them
 pub record IsPrefixOf (segs : List (List LineId)) (p : Placement) : Type 0 where
   pub each : length p.placed ≡ length segs
   pub room_each : length p.room ≡ length segs
   pub room : (s : ℕ) → s < length segs → length (slice_index_or segs s []) ≤ slice_index p.room s
   pub lines : (s : ℕ) → s < length segs → ArePlacedLines (slice_index_or segs s []) (slice_index_or p.placed s [])
+  pub places : ArePlaces segs p.placed p.places
 
 -- a prefix as it lies in memory
-abbrev pub placement_of : List (Vec LineId Global) → Placement
-placement_of lists = record { placed = map (λ (v : Vec LineId Global). v.items) lists; room = map (λ (v : Vec LineId Global). vec_capacity v) lists }
+abbrev pub placement_of : List (Vec LineId Global) → List (Vec ℕ Global) → Placement
+placement_of lists places = record {
+  placed = map (λ (v : Vec LineId Global). v.items) lists;
+  room = map (λ (v : Vec LineId Global). vec_capacity v) lists;
+  places = tables_of places;
+}

@@ -17,8 +17,10 @@ mod places;
 mod prefix;
 mod prices;
 mod problem;
+mod ranks;
 mod round_places;
 mod rule;
+mod segment_lines;
 mod term;
 mod ways;
 

@@ -1,24 +1,26 @@
 //! Prefixes of orders: the lines placed so far on each segment of a problem.
 
-ghost use Rattle.std.specs.Prelude.{◌≡◌, ◌+◌, ◌<◌, ◌≤◌, List, [], ◌∷◌, ◌++◌, length, map, find, false, vec_len, vec_capacity, All, Contains, IfOk, slice_set, slice_index_or};
-ghost use Rattle.std.specs.Option.{option_to_list};
+ghost use Rattle.std.specs.Prelude.{◌≡◌, ◌<◌, ◌≤◌, List, [], length, map, false, All, Contains, IfOk, slice_set};
 ghost use Rattle.graph_core.specs.Consistent.{AreRising};
-ghost use Rattle.order_model.specs.Problems.{lines_on};
-ghost use Rattle.order_model.specs.Costs.{IsReadable, term_cost, cost_of};
-ghost use Rattle.order_model.specs.Prefixes.{is_placed, is_unplaced, with_line, last_placed, without_last, ArePlacedLines, IsPrefixOf};
+ghost use Rattle.order_model.specs.Problems.{lines_on, IsTerm};
+ghost use Rattle.order_model.specs.Costs.{cost_of};
+ghost use Rattle.order_model.specs.Prefixes.{is_placed, is_left, with_line, without_last, ArePlacedLines, IsPrefixOf};
 
-use crate::costs::{cost_on, ends_of};
+use crate::costs::total_cost;
+use crate::places::NO_PLACE;
 use crate::problem::Problem;
+use crate::segment_lines::{is_left_on, put_line, take_last};
 use crate::term::Term;
 use map_base::{LineId, NoMemory, SegId};
 use std::alloc::Global;
 use std::marker::Model;
 
-/// On each segment of a problem the lines placed so far, left to right, before all lines that are not. It has room
-/// for all lines, so that placing and taking back take no memory.
+/// On each segment of a problem the lines placed so far, left to right, before all lines that are not; and the place of
+/// each of them in a table. It has room for all lines, so that placing and taking back take no memory.
 #[derive(Debug, Drop)]
 pub struct Prefix {
     lists: Vec<Vec<LineId>>,
+    places: Vec<Vec<u32>>,
 }
 
 impl Model for Prefix {
@@ -26,7 +28,7 @@ impl Model for Prefix {
 
     ghost Value = { Placement };
 
-    ghost view = { λ p. placement_of p.lists.items };
+    ghost view = { λ p. placement_of p.lists.items p.places.items };
 }
 
 impl Prefix {
@@ -36,10 +38,13 @@ impl Prefix {
         ensures fits { IfOk result (IsPrefixOf problem.now.segs) }
     {
         let mut lists = Vec::new(alloc);
+        let mut places = Vec::new(alloc);
         for lines in problem.segs() {
-            lists.push(Vec::with_capacity(alloc, lines.as_slice().len())?)?;
+            let count = lines.as_slice().len();
+            lists.push(Vec::with_capacity(alloc, count)?)?;
+            places.push(vec![in alloc; NO_PLACE; count]?)?;
         }
-        Ok(Prefix { lists })
+        Ok(Prefix { lists, places })
     }
 
     /// Places a line that is not placed yet after the placed lines of a segment. Where one line is then left, it is
@@ -55,7 +60,8 @@ impl Prefix {
         let segs = problem.segs();
         let lines = segs[seg.0 as usize].as_slice();
         let placed = &mut self.lists[seg.0 as usize];
-        put_line(placed, lines, line);
+        let places = self.places[seg.0 as usize].as_mut_slice();
+        put_line(placed, places, lines, line);
     }
 
     /// Takes back what the last placing on a segment placed.
@@ -69,7 +75,8 @@ impl Prefix {
         let segs = problem.segs();
         let lines = segs[seg.0 as usize].as_slice();
         let placed = &mut self.lists[seg.0 as usize];
-        take_last(placed, lines);
+        let places = self.places[seg.0 as usize].as_mut_slice();
+        take_last(placed, places, lines);
     }
 
     /// The placed lines of a segment, left to right.
@@ -80,98 +87,27 @@ impl Prefix {
         self.lists[seg.0 as usize].as_slice()
     }
 
+    /// Whether a line stands on a segment and is not placed there.
+    pub fn is_left(&self, problem: &Problem, seg: SegId, line: LineId) -> bool
+        requires fits { IsPrefixOf problem.now.segs self.now }
+        requires known { seg.0 < length problem.now.segs }
+        ensures { result ≡ is_left (lines_on problem.now.segs seg) (lines_on self.now.placed seg) line }
+    {
+        let segs = problem.segs();
+        let lines = segs[seg.0 as usize].as_slice();
+        let places = self.places[seg.0 as usize].as_slice();
+        is_left_on(lines, places, line)
+    }
+
     /// What these terms of its problem cost, where the placed lines of a segment are its order.
-    pub fn cost(&self, terms: &[Term]) -> u64
-        requires readable { All (IsReadable (length self.now.placed)) terms.now }
+    pub fn cost(&self, problem: &Problem, terms: &[Term]) -> u64
+        requires fits { IsPrefixOf problem.now.segs self.now }
+        requires terms { All (IsTerm problem.now.segs) terms.now }
         requires few { length terms.now ≤ 4000000 }
         ensures { result ≡ cost_of terms.now self.now.placed }
     {
-        let mut total: u64 = 0;
-        for term in terms {
-            total += self.term_cost(*term);
-        }
-        total
+        total_cost(terms, problem.segs(), self.places.as_slice())
     }
-
-    /// What one term costs.
-    fn term_cost(&self, term: Term) -> u64
-        requires { IsReadable (length self.now.placed) term }
-        ensures value { result ≡ term_cost self.now.placed term }
-        ensures most { result ≤ 256000 }
-    {
-        let (seg, other) = ends_of(term);
-        cost_on(term, self.placed(seg), self.placed(other))
-    }
-}
-
-/// Places a line, and the one that is then left.
-fn put_line(placed: &mut Vec<LineId>, lines: &[LineId], line: LineId)
-    requires room { length lines.now ≤ vec_capacity placed.old }
-    requires left { vec_len placed.old < length lines.now }
-    ensures items { placed.new.items ≡ with_line lines.now placed.old.items line }
-    ensures room { length lines.now ≤ vec_capacity placed.new }
-{
-    push_within(placed, line);
-    if placed.len() + 1 == lines.len() {
-        put_first_unplaced(placed, lines);
-    }
-}
-
-/// Places the first line that is not placed.
-fn put_first_unplaced(placed: &mut Vec<LineId>, lines: &[LineId])
-    requires room { vec_len placed.old < vec_capacity placed.old }
-    ensures items { placed.new.items ≡ placed.old.items ++ option_to_list (find (is_unplaced placed.old.items) lines.now) }
-    ensures room { vec_capacity placed.old ≤ vec_capacity placed.new }
-{
-    if let Some(line) = first_unplaced(placed.as_slice(), lines) {
-        push_within(placed, line);
-    }
-}
-
-/// Adds a line to a list that has room for it.
-fn push_within(placed: &mut Vec<LineId>, line: LineId)
-    requires { vec_len placed.old < vec_capacity placed.old }
-    ensures items { placed.new.items ≡ placed.old.items ++ line ∷ [] }
-    ensures room { vec_capacity placed.old ≤ vec_capacity placed.new }
-{
-    let _ = placed.push(line);
-}
-
-/// The first of these lines that is not placed.
-#[tactic(auto, using(std::proofs::lemmas::List::at_drop_more))]
-fn first_unplaced(placed: &[LineId], lines: &[LineId]) -> Option<LineId>
-    ensures { result ≡ find (is_unplaced placed.now) lines.now }
-{
-    for line in lines {
-        if !is_placed(placed, *line) {
-            return Some(*line);
-        }
-    }
-    None
-}
-
-/// Whether a line is among the placed ones.
-#[tactic(auto, using(std::proofs::lemmas::List::at_drop_more))]
-fn is_placed(placed: &[LineId], line: LineId) -> bool
-    ensures { result ≡ is_placed placed.now line }
-{
-    for other in placed {
-        if *other == line {
-            return true;
-        }
-    }
-    false
-}
-
-/// Takes back what the last placing placed.
-fn take_last(placed: &mut Vec<LineId>, lines: &[LineId])
-    requires { 0 < vec_len placed.old }
-    ensures items { placed.new.items ≡ without_last lines.now placed.old.items }
-    ensures room { vec_capacity placed.new ≡ vec_capacity placed.old }
-{
-    let both = lines.len() >= 2 && placed.len() == lines.len();
-    let count = if both { 2 } else { 1 };
-    placed.truncate(placed.len() - count);
 }
 
 /// Taking back undoes the last placing, also where it placed the last two lines.

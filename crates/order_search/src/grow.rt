@@ -3,8 +3,7 @@
 ghost use Rattle.std.specs.Prelude.{◌≡◌, ◌+◌, ◌<◌, ◌≤◌, ◌^◌, length, map, false, Some, All, Contains, IfOk, IfErr, OnOk};
 ghost use Rattle.map_base.specs.declared.ids.SegId.{SegId};
 ghost use Rattle.graph_core.specs.Consistent.{AreRising};
-ghost use Rattle.order_model.specs.Problems.{lines_on};
-ghost use Rattle.order_model.specs.Costs.{IsReadable};
+ghost use Rattle.order_model.specs.Problems.{lines_on, IsTerm};
 ghost use Rattle.order_model.specs.Prefixes.{IsPrefixOf, is_placed};
 ghost use Rattle.order_proof.specs.Plain.{plain, cases_of};
 ghost use Rattle.order_proof.specs.Trees.{splits_of, splits_of_cases};
@@ -36,7 +35,7 @@ pub(crate) fn grow<L: Ledger>(
 ) -> Result<Tree, SearchFault>
     requires fits { IsPrefixOf problem.now.segs prefix.old }
     requires known { All (λ (s : SegId). s.0 < length problem.now.segs) part.now }
-    requires readable { All (IsReadable (length problem.now.segs)) terms.now }
+    requires terms { All (IsTerm problem.now.segs) terms.now }
     requires few { length terms.now ≤ 4000000 }
     requires rising { All AreRising problem.now.segs }
     requires budget { progress.old.budget + 1 < 2 ^ 32 }
@@ -55,7 +54,7 @@ pub(crate) fn grow<L: Ledger>(
 {
     match first_open(problem, part, prefix) {
         None => {
-            compare(alloc, part, terms, prefix, progress)?;
+            compare(alloc, problem, part, terms, prefix, progress)?;
             Ok(Tree::Close {
                 prices: Prices::of(Vec::new(alloc)),
             })
@@ -78,7 +77,7 @@ fn grow_split<L: Ledger>(
 ) -> Result<Tree, SearchFault>
     requires fits { IsPrefixOf problem.now.segs prefix.old }
     requires known { All (λ (s : SegId). s.0 < length problem.now.segs) part.now }
-    requires readable { All (IsReadable (length problem.now.segs)) terms.now }
+    requires terms { All (IsTerm problem.now.segs) terms.now }
     requires few { length terms.now ≤ 4000000 }
     requires rising { All AreRising problem.now.segs }
     requires budget { progress.old.budget + 1 < 2 ^ 32 }
@@ -103,8 +102,7 @@ fn grow_split<L: Ledger>(
     }
     progress.spent += 1;
     steps.tick();
-    let segs = problem.segs();
-    let lines = lines_left(alloc, segs[s.0 as usize].as_slice(), prefix.placed(s))?;
+    let lines = lines_left(alloc, problem, prefix, s)?;
     let children = grow_cases(
         alloc,
         problem,
@@ -134,7 +132,7 @@ fn grow_cases<L: Ledger>(
 ) -> Result<Vec<(LineId, Tree)>, SearchFault>
     requires fits { IsPrefixOf problem.now.segs prefix.old }
     requires known { All (λ (s : SegId). s.0 < length problem.now.segs) part.now }
-    requires readable { All (IsReadable (length problem.now.segs)) terms.now }
+    requires terms { All (IsTerm problem.now.segs) terms.now }
     requires few { length terms.now ≤ 4000000 }
     requires rising { All AreRising problem.now.segs }
     requires budget { progress.old.budget + 1 < 2 ^ 32 }
@@ -182,7 +180,7 @@ fn grow_case<L: Ledger>(
 ) -> Result<Tree, SearchFault>
     requires fits { IsPrefixOf problem.now.segs prefix.old }
     requires known { All (λ (s : SegId). s.0 < length problem.now.segs) part.now }
-    requires readable { All (IsReadable (length problem.now.segs)) terms.now }
+    requires terms { All (IsTerm problem.now.segs) terms.now }
     requires few { length terms.now ≤ 4000000 }
     requires rising { All AreRising problem.now.segs }
     requires budget { progress.old.budget + 1 < 2 ^ 32 }

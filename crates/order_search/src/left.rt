@@ -2,7 +2,8 @@
 
 ghost use Rattle.std.specs.Prelude.{◌≡◌, ◌<◌, nat_lt, length, All, IfOk};
 ghost use Rattle.map_base.specs.declared.ids.SegId.{SegId};
-ghost use Rattle.order_model.specs.Prefixes.{IsPrefixOf, is_unplaced};
+ghost use Rattle.order_model.specs.Problems.{lines_on};
+ghost use Rattle.order_model.specs.Prefixes.{IsPrefixOf};
 ghost use Rattle.order_search.specs.Growing.{is_open, first_open, lines_left};
 ghost use Rattle.order_search.specs.Finding.{places_of};
 
@@ -39,31 +40,22 @@ fn is_open(problem: &Problem, prefix: &Prefix, s: SegId) -> bool
 /// The lines of a segment that are not placed.
 pub(crate) fn lines_left(
     alloc: Global,
-    lines: &[LineId],
-    placed: &[LineId],
+    problem: &Problem,
+    prefix: &Prefix,
+    s: SegId,
 ) -> Result<Vec<LineId>, NoMemory>
-    ensures { IfOk result (λ left. left.items ≡ lines_left lines.now placed.now) }
+    requires fits { IsPrefixOf problem.now.segs prefix.now }
+    requires known { s.0 < length problem.now.segs }
+    ensures { IfOk result (λ left. left.items ≡ lines_left (lines_on problem.now.segs s) (lines_on prefix.now.placed s)) }
 {
+    let segs = problem.segs();
     let mut left = Vec::new(alloc);
-    for line in lines {
-        if is_unplaced(placed, *line) {
+    for line in segs[s.0 as usize].as_slice() {
+        if prefix.is_left(problem, s, *line) {
             left.push(*line)?;
         }
     }
     Ok(left)
-}
-
-/// Whether a line is not placed.
-#[tactic(auto, using(std::proofs::lemmas::List::at_drop_more))]
-fn is_unplaced(placed: &[LineId], line: LineId) -> bool
-    ensures { result ≡ is_unplaced placed.now line }
-{
-    for other in placed {
-        if *other == line {
-            return false;
-        }
-    }
-    true
 }
 
 /// Whether the part has more places than are allowed.

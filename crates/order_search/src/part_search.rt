@@ -3,6 +3,7 @@
 ghost use Rattle.std.specs.Prelude.{◌≡◌, ◌+◌, ◌<◌, ◌≤◌, ◌^◌, true, length, All, IfOk, IfErr};
 ghost use Rattle.map_base.specs.declared.ids.SegId.{SegId};
 ghost use Rattle.order_model.specs.Problems.{IsProblem};
+ghost use Rattle.order_model.specs.Prefixes.{IsPrefixOf};
 ghost use Rattle.order_proof.specs.Plain.{plain};
 ghost use Rattle.order_proof.specs.Trees.{splits_of, IsProofTree};
 ghost use Rattle.order_trees.specs.PartTerms.{part_terms};
@@ -17,12 +18,12 @@ use crate::grow::grow;
 use crate::left::is_deep;
 use crate::progress::Progress;
 use map_base::{Limit, LimitKind, SegId, Sequence, Steps};
-use order_model::{Orders, Prefix, Problem};
-use order_trees::{marks_of, part_terms};
+use order_model::{Orders, Prefix, Problem, Term};
 use std::alloc::Global;
 use std::sync::ledger::Ledger;
 
-/// Orders of a part that cost least, and a tree that shows it. The tree is split at each prefix that is not complete,
+/// Orders of a part that cost least, and a tree that shows it, by the terms of the part, which stand in the order of
+/// the problem's. Lines are placed on a prefix on which none is placed, and taken back from it. The tree is split at each prefix that is not complete,
 /// at the first segment of the part on which a line is left, with a case for each such line by its number. The orders
 /// are those that rise on each segment where these cost least, else the first complete ones that do. The limit is
 /// answered exactly where the part has more than 2,048 places, which are its lines minus 1 summed over its segments;
@@ -32,11 +33,18 @@ pub fn search<L: Ledger>(
     alloc: Global,
     problem: &Problem,
     part: &[SegId],
+    terms: &[Term],
+    prefix: &mut Prefix,
     budget: u32,
     steps: &mut Steps<L>,
 ) -> Result<Found, SearchFault>
     requires known { All (λ (s : SegId). s.0 < length problem.now.segs) part.now }
+    requires terms { terms.now ≡ part_terms problem.now.terms part.now }
+    requires fits { IsPrefixOf problem.now.segs prefix.old }
+    requires none { prefix.old.placed ≡ none_placed problem.now.segs }
     requires budget { budget + 1 < 2 ^ 32 }
+    ensures prefix_fits { IsPrefixOf problem.now.segs prefix.new }
+    ensures prefix_kept { prefix.new.placed ≡ prefix.old.placed }
     ensures places { IfOk result (λ _. places_of problem.now.segs part.now ≤ most_places) }
     ensures tree { IfOk result (λ f. plain f.tree ≡ tree_of problem.now.segs part.now) }
     ensures proof_tree { IfOk result (λ f. AreWide problem.now.segs part.now → IsProofTree (plain f.tree)) }
@@ -59,7 +67,7 @@ pub fn search<L: Ledger>(
             most: 2_048,
         }));
     }
-    search_all(alloc, problem, part, budget, steps)
+    search_all(alloc, problem, part, terms, prefix, budget, steps)
 }
 
 /// The same of a part that has no more places than are allowed.
@@ -67,11 +75,18 @@ fn search_all<L: Ledger>(
     alloc: Global,
     problem: &Problem,
     part: &[SegId],
+    terms: &[Term],
+    prefix: &mut Prefix,
     budget: u32,
     steps: &mut Steps<L>,
 ) -> Result<Found, SearchFault>
     requires known { All (λ (s : SegId). s.0 < length problem.now.segs) part.now }
+    requires terms { terms.now ≡ part_terms problem.now.terms part.now }
+    requires fits { IsPrefixOf problem.now.segs prefix.old }
+    requires none { prefix.old.placed ≡ none_placed problem.now.segs }
     requires budget { budget + 1 < 2 ^ 32 }
+    ensures prefix_fits { IsPrefixOf problem.now.segs prefix.new }
+    ensures prefix_kept { prefix.new.placed ≡ prefix.old.placed }
     ensures fits { IsProblem problem.now }
     ensures tree { IfOk result (λ f. plain f.tree ≡ tree_of problem.now.segs part.now) }
     ensures branches { IfOk result (λ f. f.branches ≡ splits_of (tree_of problem.now.segs part.now)) }
@@ -82,17 +97,13 @@ fn search_all<L: Ledger>(
     ensures steps { IfOk result (λ f. steps.new ≡ steps.old + f.branches) }
     ensures few_steps { IfErr result (λ _. steps.new ≤ steps.old + splits_of (tree_of problem.now.segs part.now)) }
 {
-    let segs = problem.segs();
-    let marks = marks_of(alloc, part, segs.len())?;
-    let terms = part_terms(alloc, problem, part, marks.as_slice())?;
-    let mut prefix = Prefix::none(alloc, problem)?;
     let mut progress = begin(alloc, budget);
     let tree = grow(
         alloc,
         problem,
         part,
-        terms.as_slice(),
-        &mut prefix,
+        terms,
+        prefix,
         &mut progress,
         steps,
     )?;

@@ -6,7 +6,7 @@ use Rattle.map_base.specs.declared.ids.LineId.{LineId}
 use Rattle.order_model.specs.declared.term.Term.{Term}
 use Rattle.order_model.specs.Problems.{lines_on}
 use Rattle.order_model.specs.Costs.{cost_of}
-use Rattle.order_model.specs.Prefixes.{is_placed, is_unplaced}
+use Rattle.order_model.specs.Prefixes.{is_placed, is_left}
 use Rattle.order_proof.specs.Plain.{PlainTree, split, close, Cases, no_case, case_of}
 use Rattle.order_proof.specs.Trees.{is_among, lines_of}
 use Rattle.order_trees.specs.PartTerms.{is_in}
@@ -35,10 +35,6 @@ is_complete segs part placed = list_all (is_full segs placed) part
 abbrev pub is_closed : Question → List (List LineId) → List (ℕ × ℤ) → Bool
 is_closed q placed prices =
     length prices == 0 && (is_complete q.segs q.part placed && nat_le q.target (cost_of q.terms placed))
-
--- the line stands on the segment and is not placed there
-abbrev pub is_left : List LineId → List LineId → LineId → Bool
-is_left lines placed a = is_among lines a && is_unplaced placed a
 
 -- these are exactly the lines of a segment that are not placed
 abbrev pub are_those_left : List LineId → List LineId → List LineId → Bool

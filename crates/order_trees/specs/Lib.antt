@@ -1,4 +1,0 @@
-pub mod PartTerms
-pub mod Completions
-pub mod Accepting
-pub mod Marks

@@ -1,5 +1,7 @@
 -- The terms of a part, and its orders that cost least.
-use Rattle.std.specs.Prelude.{◌≤◌, ◌==◌, Bool, ◌&&◌, List, filter}
+use Rattle.std.specs.Prelude.{◌≤◌, ◌==◌, Bool, ◌&&◌, List, filter, map}
+use Rattle.std.specs.Prelude.{Vec}
+use Rattle.std.specs.Global.{Global}
 use Rattle.std.specs.List.{list_any}
 use Rattle.map_base.specs.declared.ids.SegId.{SegId}
 use Rattle.map_base.specs.declared.ids.LineId.{LineId}
@@ -17,6 +19,10 @@ is_of part t = is_in part (seg_of t) && is_in part (other_of t)
 -- the terms whose segments are of the part
 abbrev pub part_terms : List Term → List SegId → List Term
 part_terms terms part = filter (is_of part) terms
+
+-- lists of terms as they lie in memory
+abbrev pub term_lists : List (Vec Term Global) → List (List Term)
+term_lists groups = map (λ (v : Vec Term Global). v.items) groups
 
 -- no orders of these segments cost less
 abbrev pub AreBest : List (List LineId) → List Term → List (List LineId) → Type 0

@@ -3,9 +3,9 @@
 #![tactic(auto)]
 
 mod laws;
-mod marks;
+mod numbers;
 mod terms;
 
 pub use laws::{accepted_trees_bound_completions, nothing_fails_where_accepted};
-pub use marks::marks_of;
-pub use terms::part_terms;
+pub use numbers::numbers_of;
+pub use terms::terms_by_part;

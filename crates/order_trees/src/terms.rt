@@ -1,51 +1,48 @@
-//! The terms of a part.
+//! The terms of the parts of a problem.
 
-ghost use Rattle.std.specs.Prelude.{◌≡◌, ◌<◌, ◌≤◌, ◌++◌, length, All, IfOk, OnOk};
-ghost use Rattle.map_base.specs.declared.ids.SegId.{SegId};
-ghost use Rattle.order_model.specs.Costs.{IsReadable};
-ghost use Rattle.order_trees.specs.PartTerms.{part_terms};
-ghost use Rattle.order_trees.specs.Marks.{AreMarks, is_marked, where_marked};
+ghost use Rattle.std.specs.Prelude.{◌≡◌, length, map, IfOk};
+ghost use Rattle.order_model.specs.Parts.{AreParts};
+ghost use Rattle.order_model.specs.Gathering.{part_lists};
+ghost use Rattle.order_trees.specs.PartTerms.{part_terms, term_lists};
+ghost use Rattle.order_trees.specs.Numbers.{AreNumbers};
 
 use map_base::{NoMemory, SegId};
 use order_model::{Problem, Term, ends_of};
 use std::alloc::Global;
 
-/// The terms of a problem whose segments are of the part, by its marks.
-pub fn part_terms(
+/// The terms of each part of a problem, in their order, by the numbers of its segments' parts. Each term is of one
+/// part, so this takes time and memory near those of the list of terms, however many parts there are.
+pub fn terms_by_part(
     alloc: Global,
     problem: &Problem,
-    part: &[SegId],
-    marks: &[bool],
-) -> Result<Vec<Term>, NoMemory>
-    requires known { All (λ (s : SegId). s.0 < length problem.now.segs) part.now }
-    requires marks { AreMarks part.now (length problem.now.segs) marks.now }
-    ensures terms { IfOk result (λ ts. ts.items ≡ part_terms problem.now.terms part.now) }
-    ensures readable { IfOk result (λ ts. All (IsReadable (length problem.now.segs)) ts.items) }
-    ensures few { IfOk result (λ ts. length ts.items ≤ 4000000) }
+    parts: &[Vec<SegId>],
+    numbers: &[u32],
+) -> Result<Vec<Vec<Term>>, NoMemory>
+    requires parts { AreParts problem.now.segs problem.now.terms (part_lists parts.now) }
+    requires numbers { AreNumbers (part_lists parts.now) (length problem.now.segs) numbers.now }
+    ensures { IfOk result (λ groups. term_lists groups.items ≡ map (part_terms problem.now.terms) (part_lists parts.now)) }
 {
-    let mut terms = Vec::new(alloc);
+    let mut groups = empty_groups(alloc, parts.len())?;
     for term in problem.terms() {
-        push_marked(&mut terms, marks, *term)?;
+        add_term(&mut groups, numbers, *term)?;
     }
-    Ok(terms)
+    Ok(groups)
 }
 
-/// Adds a term, if its segments are marked.
-fn push_marked(terms: &mut Vec<Term>, marks: &[bool], term: Term) -> Result<(), NoMemory>
-    requires { IsReadable (length marks.now) term }
-    ensures { OnOk result (terms.new.items ≡ terms.old.items ++ where_marked marks.now term) }
-{
-    if is_marked(marks, term) {
-        terms.push(term)?;
+/// So many lists without a term.
+fn empty_groups(alloc: Global, count: usize) -> Result<Vec<Vec<Term>>, NoMemory> {
+    let mut groups = Vec::with_capacity(alloc, count)?;
+    for _ in 0..count {
+        groups.push(Vec::new(alloc))?;
     }
+    Ok(groups)
+}
+
+/// Adds a term to the list of the part that its segments are of.
+fn add_term(groups: &mut Vec<Vec<Term>>, numbers: &[u32], term: Term) -> Result<(), NoMemory> {
+    let (seg, _) = ends_of(term);
+    let k = numbers[seg.0 as usize] as usize;
+    let group = &mut groups[k];
+    group.push(term)?;
     Ok(())
-}
-
-/// Whether the segments of a term are marked.
-fn is_marked(marks: &[bool], term: Term) -> bool
-    requires { IsReadable (length marks.now) term }
-    ensures { result ≡ is_marked marks.now term }
-{
-    let (seg, other) = ends_of(term);
-    marks[seg.0 as usize] && marks[other.0 as usize]
 }

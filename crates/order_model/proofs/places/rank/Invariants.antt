@@ -1,9 +1,0 @@
-use Rattle.std.proofs.Common.{◌<◌, ◌≤◌, ◌-◌, length}
-use Rattle.order_model.specs.Places.{place_of}
-use Rattle.order_model.proofs.places.rank.Given as goal
-
-abbrev pub invariant-loop-high : goal.invariant-loop-high
-invariant-loop-high l = (l.low ≤ place_of l.lines l.line) × (place_of l.lines l.line < l.high) × (l.high ≤ length l.lines)
-
-abbrev pub decreases-loop-high : goal.decreases-loop-high
-decreases-loop-high l = l.high - l.low

@@ -1,0 +1,19 @@
+-- The parts of segments, by number.
+use Rattle.std.specs.Prelude.{◌≡◌, ℕ, ◌+◌, ◌<◌, ◌==◌, Bool, List, [], ◌∷◌, length, if◌then◌else◌, slice_index_or}
+use Rattle.map_base.specs.declared.ids.SegId.{SegId}
+use Rattle.order_trees.specs.PartTerms.{is_in}
+
+-- the number of the first part that has the segment; where none has it, the count of parts
+abbrev pub number_of : List (List SegId) → SegId → ℕ
+number_of [] s = 0
+number_of (p ∷ parts) s = if is_in p s then 0 else 1 + number_of parts s
+
+-- the number of the part of each of so many segments
+pub record AreNumbers (parts : List (List SegId)) (count : ℕ) (numbers : List ℕ) : Type 0 where
+  pub each : length numbers ≡ count
+  pub told : (s : SegId) → s.0 < count → slice_index_or numbers s.0 0 ≡ number_of parts s
+
+-- of so many segments exactly those of this part have number k
+pub record TellPart (part : List SegId) (k count : ℕ) (numbers : List ℕ) : Type 0 where
+  pub each : length numbers ≡ count
+  pub told : (s : SegId) → s.0 < count → (slice_index_or numbers s.0 0 == k) ≡ is_in part s

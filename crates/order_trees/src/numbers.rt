@@ -1,0 +1,33 @@
+//! The part of each segment, by number.
+
+ghost use Rattle.std.specs.Prelude.{◌≡◌, ◌<◌, ◌^◌, length, IfOk};
+ghost use Rattle.order_model.specs.Parts.{AreParts};
+ghost use Rattle.order_model.specs.Gathering.{part_lists};
+ghost use Rattle.order_trees.specs.Numbers.{AreNumbers};
+
+use map_base::{NoMemory, SegId};
+use order_model::Problem;
+use std::alloc::Global;
+
+/// For each segment of a problem the number of its part, from 0; where it is of none, the count of parts.
+pub fn numbers_of(
+    alloc: Global,
+    problem: &Problem,
+    parts: &[Vec<SegId>],
+) -> Result<Vec<u32>, NoMemory>
+    requires parts { AreParts problem.now.segs problem.now.terms (part_lists parts.now) }
+    ensures { IfOk result (λ numbers. AreNumbers (part_lists parts.now) (length problem.now.segs) numbers.items) }
+{
+    let mut numbers = vec![in alloc; parts.len() as u32; problem.segs().len()]?;
+    for (k, part) in parts.iter().enumerate() {
+        set_numbers(numbers.as_mut_slice(), part.as_slice(), k as u32);
+    }
+    Ok(numbers)
+}
+
+/// Gives each of these segments this number.
+fn set_numbers(numbers: &mut [u32], part: &[SegId], k: u32) {
+    for s in part {
+        numbers[s.0 as usize] = k;
+    }
+}
