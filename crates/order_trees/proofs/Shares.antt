@@ -1,5 +1,5 @@
 -- The terms of parts that share no segment cost no more than all terms.
-use Rattle.std.proofs.Common.{◌≡◌, ℕ, zero, suc, ◌+◌, ◌<◌, ◌≤◌, ◌==◌, Bool, true, false, cond, List, [], ◌∷◌, length, refl, sym, ap, arith, inl, inr, true≢false, eqb-true, IsTrue}
+use Rattle.std.proofs.Common.{◌≡◌, ℕ, zero, suc, ◌+◌, ◌<◌, ◌≤◌, ◌==◌, ◌||◌, Bool, true, false, cond, List, [], ◌∷◌, length, refl, sym, ap, arith, inl, inr, true≢false, eqb-true, eq-eqb, IsTrue}
 use Rattle.std.specs.List.{All, Contains, AllByRecursion, sum_by}
 use Rattle.std.proofs.lemmas.List.Elements.{All-contains}
 use Rattle.std.proofs.lemmas.List.Sums.{sum_by-cons}
@@ -14,7 +14,7 @@ use Rattle.order_trees.proofs.Lines.{either_true, both_true}
 
 -- Parts that share no segment.
 
-abbrev ShareNone : List SegId → List SegId → Type 0
+abbrev pub ShareNone : List SegId → List SegId → Type 0
 ShareNone p q = (s : SegId) → is_in p s ≡ true → is_in q s ≡ false
 
 abbrev pub AreApartParts : List (List SegId) → Type 0
@@ -27,6 +27,15 @@ contains_in (t ∷ p) s h = elim (either_true (t.0 == s.0) (is_in p s) h) [
   | inl here ↦ (let P : ℕ → SegId = λ n. record { 0 = n } in (0, omega arith, ap P (eqb-true t.0 s.0 here)))
   | inr later ↦ (let rest = contains_in p s later in (suc rest.0, omega (arith, rest.1), rest.2))
 ]
+
+pub in_contained : (p : List SegId) (s : SegId) → Contains p s → is_in p s ≡ true
+in_contained [] s c = absurd (omega (arith, c.1))
+in_contained (t ∷ p) s (zero, below, is) = rw (eq-eqb t.0 s.0 (ap (λ (u : SegId). u.0) is)) refl
+in_contained (t ∷ p) s (suc k, below, is) = or_later (t.0 == s.0) (is_in p s) (in_contained p s (k, omega (arith, below), is))
+  where
+    or_later : (a b : Bool) → b ≡ true → (a || b) ≡ true
+    or_later true b h = refl
+    or_later false b h = h
 
 rising_least : (p : List SegId) (t : SegId) → IsRisingPart p → Contains p t → least_of p ≤ t.0
 rising_least [] t h c = absurd h
