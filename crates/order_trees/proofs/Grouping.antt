@@ -1,26 +1,40 @@
 -- The terms of each part, after one term more.
-use Rattle.std.proofs.Common.{◌≡◌, ℕ, zero, suc, ◌+◌, ◌<◌, ◌≤◌, ◌&&◌, Bool, true, false, cond, List, [], ◌∷◌, ◌++◌, length, map, set, get_or, refl, sym, ◌∙◌, ap, arith}
+use Rattle.std.proofs.Common.{◌≡◌, ℕ, zero, suc, ◌+◌, ◌<◌, ◌≤◌, ◌&&◌, Bool, true, false, cond, List, [], ◌∷◌, ◌++◌, length, map, set, take, get_or, refl, sym, ◌∙◌, ap, subst, arith}
 use Rattle.std.specs.List.{All, Contains, AllByRecursion}
 use Rattle.std.specs.Prelude.{Vec}
 use Rattle.std.specs.Global.{Global}
 use Rattle.std.proofs.Common.{append-nil}
-use Rattle.std.proofs.lemmas.List.{map-set, get_or-map, length-map}
+use Rattle.std.proofs.lemmas.List.{map-set, get_or-map, map-append, take_more}
+use Rattle.std.proofs.lemmas.List.Elements.{Contains-get_or}
 use Rattle.map_base.specs.declared.ids.SegId.{SegId}
 use Rattle.map_base.specs.declared.ids.LineId.{LineId}
 use Rattle.order_model.specs.declared.term.Term.{Term}
 use Rattle.order_model.specs.Problems.{IsTerm}
 use Rattle.order_model.specs.Costs.{seg_of, other_of}
 use Rattle.order_model.specs.Parts.{AreParts}
+use Rattle.order_model.specs.Gathering.{part_lists}
 use Rattle.order_trees.specs.PartTerms.{is_in, is_of, part_terms, term_lists, no_terms, with_term}
-use Rattle.order_trees.specs.Numbers.{number_of}
+use Rattle.order_trees.specs.Numbers.{number_of, AreNumbers}
 use Rattle.order_trees.proofs.Shares.{ShareNone, AreApartParts, parts_apart}
+use Rattle.order_trees.proofs.PartLists.{part_count}
+use Rattle.order_trees.proofs.KeptTerms.{group_count}
 use Rattle.order_trees.proofs.TermParts.{end_known, end_wide, same_part, number_known}
+
+abbrev items : Vec Term Global → List Term
+items v = v.items
 
 -- Lists without a term.
 
-pub no_terms_push : (n : ℕ) → no_terms n ++ [] ∷ [] ≡ no_terms (suc n)
+no_terms_push : (n : ℕ) → no_terms n ++ [] ∷ [] ≡ no_terms (suc n)
 no_terms_push zero = refl
 no_terms_push (suc n) = ap (λ lists. [] ∷ lists) (no_terms_push n)
+
+pub one_more_empty : (groups after : List (Vec Term Global)) (fresh : Vec Term Global) (n : ℕ) → term_lists groups ≡ no_terms n → fresh.items ≡ []
+    → after ≡ groups ++ fresh ∷ [] → term_lists after ≡ no_terms (n + 1)
+one_more_empty groups after fresh n none empty pushed =
+    let next : suc n ≡ n + 1 = omega arith in
+    ap (map items) pushed ∙ map-append items groups (fresh ∷ []) ∙ ap (λ ls. ls ++ fresh.items ∷ []) none ∙ ap (λ l. no_terms n ++ l ∷ []) empty
+    ∙ no_terms_push n ∙ ap no_terms next
 
 pub no_terms_kept : (parts : List (List SegId)) → no_terms (length parts) ≡ map (part_terms []) parts
 no_terms_kept [] = refl
@@ -102,6 +116,51 @@ one_more_term_grouped segs all parts terms t ok t_in h =
 pub group_grown : (groups : List (Vec Term Global)) (k : ℕ) (old fresh : Vec Term Global) (t : Term) → k < length groups → old ≡ get_or groups k old
     → fresh.items ≡ old.items ++ t ∷ [] → term_lists (set groups k fresh) ≡ with_term k t (term_lists groups)
 group_grown groups k old fresh t below here grown =
-    let items : Vec Term Global → List Term = λ v. v.items in
     let was : old.items ≡ get_or (term_lists groups) k [] = ap items here ∙ sym (get_or-map items groups k old [] below) in
     map-set items groups k fresh ∙ ap (λ l. set (term_lists groups) k l) (grown ∙ ap (λ l. l ++ t ∷ []) was)
+
+pub no_groups_yet : (parts : List (Vec SegId Global)) (groups : List (Vec Term Global)) → term_lists groups ≡ no_terms (length parts)
+    → term_lists groups ≡ map (part_terms []) (part_lists parts)
+no_groups_yet parts groups none =
+    none ∙ ap no_terms (sym (part_count parts)) ∙ no_terms_kept (part_lists parts)
+
+-- what is known of a problem whose terms are put into the lists of their parts, one by one
+pub record AreGroupable (segs : List (List LineId)) (parts : List (List SegId)) (numbers : List ℕ) (terms : List Term) : Type 0 where
+  pub fit : All (IsTerm segs) terms
+  pub are_parts : AreParts segs terms parts
+  pub are_numbers : AreNumbers parts (length segs) numbers
+
+pub groupable : (segs : List (List LineId)) (parts : List (List SegId)) (numbers : List ℕ) (all terms : List Term) → terms ≡ all
+    → All (IsTerm segs) all → AreParts segs all parts → AreNumbers parts (length segs) numbers → AreGroupable segs parts numbers terms
+groupable segs parts numbers all terms is fit ok told =
+    subst (λ ts. AreGroupable segs parts numbers ts) (sym is) (record { fit = fit; are_parts = ok; are_numbers = told })
+
+module _ (segs : List (List LineId)) (parts : List (Vec SegId Global)) (numbers : List ℕ) (terms : List Term)
+    (ok : AreGroupable segs (part_lists parts) numbers terms) (i : ℕ) (d : Term) (below : i < length terms)
+    (groups : List (Vec Term Global)) (done : term_lists groups ≡ map (part_terms (take i terms)) (part_lists parts)) where
+  abbrev t : Term
+  t = get_or terms i d
+
+  t_fits : IsTerm segs t
+  t_fits = ok.fit i d below
+
+  t_number : get_or numbers (seg_of t).0 0 ≡ number_of (part_lists parts) (seg_of t)
+  t_number = ok.are_numbers.told (seg_of t) (end_known segs t t_fits)
+
+  -- the list of the term's part is there
+  pub group_known : get_or numbers (seg_of t).0 0 < length groups
+  group_known = omega (
+    arith,
+    t_number,
+    number_known segs terms (part_lists parts) ok.are_parts (seg_of t) (end_known segs t t_fits) (end_wide segs t t_fits),
+    group_count (take i terms) parts groups done,
+    part_count parts,
+  )
+
+  -- with the term added to it, the lists are those of one term more
+  pub grouped_more : (after : List (Vec Term Global)) → term_lists after ≡ with_term (get_or numbers (seg_of t).0 0) t (term_lists groups)
+      → term_lists after ≡ map (part_terms (take (i + 1) terms)) (part_lists parts)
+  grouped_more after added =
+      added ∙ ap (λ k. with_term k t (term_lists groups)) t_number ∙ ap (λ ls. with_term (number_of (part_lists parts) (seg_of t)) t ls) done
+      ∙ one_more_term_grouped segs terms (part_lists parts) (take i terms) t ok.are_parts (Contains-get_or terms i d below) t_fits
+      ∙ ap (λ ts. map (part_terms ts) (part_lists parts)) (sym (take_more terms i d below))

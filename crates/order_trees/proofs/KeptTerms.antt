@@ -11,6 +11,7 @@ use Rattle.order_model.specs.declared.term.Term.{Term}
 use Rattle.order_model.specs.Problems.{IsTerm}
 use Rattle.order_model.specs.Gathering.{part_lists}
 use Rattle.order_trees.specs.PartTerms.{is_of, part_terms, term_lists}
+use Rattle.order_trees.proofs.PartLists.{part_count, part_at}
 
 few_kept : (part : List SegId) (terms : List Term) → length (part_terms terms part) ≤ length terms
 few_kept part [] = omega arith
@@ -33,24 +34,24 @@ pub group_at : (terms : List Term) (parts : List (List SegId)) (k : ℕ) → k <
     → get_or (map (part_terms terms) parts) k [] ≡ part_terms terms (get_or parts k [])
 group_at terms parts k below = get_or-map (part_terms terms) parts k [] [] below
 
+-- Lists of terms as they lie in memory.
+
+abbrev items : Vec Term Global → List Term
+items v = v.items
+
 -- there are as many lists of terms as parts
 pub group_count : (terms : List Term) (parts : List (Vec SegId Global)) (groups : List (Vec Term Global)) → term_lists groups ≡ map (part_terms terms) (part_lists parts)
     → length groups ≡ length parts
 group_count terms parts groups is =
-    let lists : List (List SegId) = part_lists parts in
-    let term_items : Vec Term Global → List Term = λ v. v.items in
-    let items : Vec SegId Global → List SegId = λ v. v.items in
-    sym (length-map groups term_items) ∙ ap length is ∙ length-map lists (part_terms terms) ∙ length-map parts items
+    sym (length-map groups items) ∙ ap length is ∙ length-map (part_lists parts) (part_terms terms) ∙ part_count parts
 
--- the same of a part and its terms as they lie in memory
+-- the terms of a part stand at its number
 pub group_items : (terms : List Term) (parts : List (Vec SegId Global)) (groups : List (Vec Term Global)) (k : ℕ) (part : Vec SegId Global) (group : Vec Term Global)
     → term_lists groups ≡ map (part_terms terms) (part_lists parts) → k < length parts → part ≡ get_or parts k part → group ≡ get_or groups k group
     → group.items ≡ part_terms terms part.items
 group_items terms parts groups k part group is below here there =
-    let term_items : Vec Term Global → List Term = λ v. v.items in
-    let items : Vec SegId Global → List SegId = λ v. v.items in
-    ap term_items there
-    ∙ sym (get_or-map term_items groups k group [] (omega (arith, below, group_count terms parts groups is)))
+    ap items there
+    ∙ sym (get_or-map items groups k group [] (omega (arith, below, group_count terms parts groups is)))
     ∙ ap (λ lists. get_or lists k []) is
-    ∙ group_at terms (part_lists parts) k (omega (arith, below, length-map parts items))
-    ∙ ap (part_terms terms) (get_or-map items parts k part [] below ∙ ap items (sym here))
+    ∙ group_at terms (part_lists parts) k (omega (arith, below, part_count parts))
+    ∙ ap (part_terms terms) (part_at parts k part below here)

@@ -1,6 +1,7 @@
 pub mod Lines
 pub mod Sound
 pub mod Shares
+pub mod PartLists
 pub mod Failing
 pub mod PartNumbers
 pub mod TermParts

@@ -1,13 +1,21 @@
 -- The numbers of segments, part by part.
-use Rattle.std.proofs.Common.{◌≡◌, ◌≢◌, ℕ, zero, suc, ◌+◌, ◌<◌, ◌≤◌, ◌==◌, ◌||◌, Bool, true, false, cond, List, [], ◌∷◌, ◌++◌, length, set, take, get_or, refl, sym, ◌∙◌, ap, subst, arith, inl, inr, eq-eqb, eqb-true, true≢false, length-append}
+use Rattle.std.proofs.Common.{◌≡◌, ◌≢◌, ℕ, zero, suc, ◌+◌, ◌<◌, ◌≤◌, ◌==◌, ◌||◌, Bool, true, false, cond, List, [], ◌∷◌, ◌++◌, length, set, take, drop, get_or, refl, sym, ◌∙◌, ap, subst, arith, inl, inr, eq-eqb, eqb-true, true≢false, length-append}
 use Rattle.std.specs.List.{All, Contains, AllByRecursion}
+use Rattle.std.specs.Prelude.{Vec}
+use Rattle.std.specs.Global.{Global}
+use Rattle.std.proofs.Math.Seq.{take-append_seam}
 use Rattle.std.proofs.lemmas.Bool.{eqb-false}
-use Rattle.std.proofs.lemmas.List.{length-set, get_or-set_same, get_or-set_other}
+use Rattle.std.proofs.lemmas.List.{length-set, get_or-set_same, get_or-set_other, length-take-le, take_more}
 use Rattle.std.proofs.lemmas.List.Folds.{list_any-append}
 use Rattle.map_base.specs.declared.ids.SegId.{SegId}
+use Rattle.map_base.specs.declared.ids.LineId.{LineId}
+use Rattle.order_model.specs.declared.term.Term.{Term}
+use Rattle.order_model.specs.Parts.{AreParts}
+use Rattle.order_model.specs.Gathering.{part_lists}
 use Rattle.order_trees.specs.PartTerms.{is_in}
 use Rattle.order_trees.specs.Numbers.{number_of, AreNumbers, AreGiven}
-use Rattle.order_trees.proofs.Shares.{ShareNone, AreApartParts}
+use Rattle.order_trees.proofs.PartLists.{part_count, part_at}
+use Rattle.order_trees.proofs.Shares.{ShareNone, AreApartParts, parts_apart}
 use Rattle.order_trees.proofs.Sound.{same_or_other}
 
 -- One segment more is given a number.
@@ -155,3 +163,25 @@ apart_before (p ∷ parts) (suc i) apart below = (at parts i apart.0 (omega (ari
     at [] i all below = absurd (omega (arith, below))
     at (q ∷ later) zero all below = all.0
     at (q ∷ later) (suc i) all below = at later i all.1 (omega (arith, below))
+
+-- a slice of a whole vector, as it is written back
+written_back : (old new : List ℕ) (n : ℕ) → length new ≡ n → take n (new ++ drop (length new) old) ≡ new
+written_back old new n e = ap (λ k. take k (new ++ drop (length new) old)) (sym e) ∙ take-append_seam new (drop (length new) old)
+
+-- the numbers after a part more of a problem, as they are written back
+pub one_part_more : (segs : List (List LineId)) (terms : List Term) (parts : List (Vec SegId Global)) (k n : ℕ) (part : Vec SegId Global) (before after : List ℕ)
+    → AreParts segs terms (part_lists parts) → k < length parts → part ≡ get_or parts k part
+    → AreNumberedSoFar (take k (part_lists parts)) (length parts) (length segs) before → AreGiven part.items k before after → n ≡ length before
+    → AreNumberedSoFar (take (k + 1) (part_lists parts)) (length parts) (length segs) (take n (after ++ drop (length after) before))
+one_part_more segs terms parts k n part before after ok below is done given whole =
+    let lists : List (List SegId) = part_lists parts in
+    let within : k < length lists = omega (arith, below, part_count parts) in
+    let here : get_or lists k [] ≡ part.items = part_at parts k part below is in
+    let front : length (take k lists) ≡ k = length-take-le k lists (omega (arith, within)) in
+    let more : take (k + 1) lists ≡ take k lists ++ part.items ∷ [] = take_more lists k [] within ∙ ap (λ p. take k lists ++ p ∷ []) here in
+    let apart : AllByRecursion (λ q. ShareNone q part.items) (take k lists) =
+    subst (λ p. AllByRecursion (λ q. ShareNone q p) (take k lists)) here (apart_before lists k (parts_apart segs terms lists ok) within) in
+    let numbered = one_more_numbered (take k lists) part.items (length parts) (length segs) before after apart done (subst (λ m. AreGiven part.items m before after) (sym front) given) in
+    let back : take n (after ++ drop (length after) before) ≡ after = written_back before after n (given.each ∙ sym whole) in
+    subst (λ ns. AreNumberedSoFar (take (k + 1) lists) (length parts) (length segs) ns) (sym back)
+    (subst (λ ls. AreNumberedSoFar ls (length parts) (length segs) after) (sym more) numbered)

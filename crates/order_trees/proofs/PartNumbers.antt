@@ -4,7 +4,6 @@ use Rattle.std.specs.List.{Contains, AllByRecursion}
 use Rattle.std.specs.Prelude.{Vec}
 use Rattle.std.specs.Global.{Global}
 use Rattle.std.proofs.lemmas.Bool.Decides.{nat_tests}
-use Rattle.std.proofs.lemmas.List.{get_or-map, length-map}
 use Rattle.map_base.specs.declared.ids.SegId.{SegId}
 use Rattle.map_base.specs.declared.ids.LineId.{LineId}
 use Rattle.order_model.specs.declared.term.Term.{Term}
@@ -12,6 +11,7 @@ use Rattle.order_model.specs.Parts.{AreParts}
 use Rattle.order_model.specs.Gathering.{part_lists}
 use Rattle.order_trees.specs.PartTerms.{is_in}
 use Rattle.order_trees.specs.Numbers.{number_of, AreNumbers, TellPart}
+use Rattle.order_trees.proofs.PartLists.{part_count, part_at}
 use Rattle.order_trees.proofs.Shares.{ShareNone, AreApartParts, parts_apart}
 
 -- no later part has a segment of an earlier one
@@ -74,6 +74,5 @@ pub tell_part_at : (segs : List (List LineId)) (terms : List Term) (parts : List
     → AreParts segs terms (part_lists parts) → AreNumbers (part_lists parts) (length segs) numbers → k < length parts → part ≡ get_or parts k part
     → TellPart part.items k (length segs) numbers
 tell_part_at segs terms parts k part numbers ok told below is =
-    let items : Vec SegId Global → List SegId = λ v. v.items in
-    let here : get_or (part_lists parts) k [] ≡ part.items = get_or-map items parts k part [] below ∙ ap items (sym is) in
-    subst (λ p. TellPart p k (length segs) numbers) here (tell_part segs terms (part_lists parts) k numbers ok told (omega (arith, below, length-map parts items)))
+    subst (λ p. TellPart p k (length segs) numbers) (part_at parts k part below is)
+    (tell_part segs terms (part_lists parts) k numbers ok told (omega (arith, below, part_count parts)))

@@ -43,7 +43,7 @@ rising_least (s ∷ p) t h (zero, below, is) = let same : s.0 ≡ t.0 = ap (λ (
 rising_least (s ∷ []) t h (suc k, below, is) = absurd (omega (arith, below))
 rising_least (s ∷ u ∷ p) t h (suc k, below, is) = omega (arith, h.0, rising_least (u ∷ p) t h.1 (k, omega (arith, below), is))
 
-has_least : (p : List SegId) → IsRisingPart p → Contains p (record { 0 = least_of p })
+pub has_least : (p : List SegId) → IsRisingPart p → Contains p (record { 0 = least_of p })
 has_least [] h = absurd h
 has_least (s ∷ p) h = (0, omega arith, refl)
 

@@ -19,9 +19,10 @@ pub fn numbers_of(
     requires parts { AreParts problem.now.segs problem.now.terms (part_lists parts.now) }
     ensures { IfOk result (λ numbers. AreNumbers (part_lists parts.now) (length problem.now.segs) numbers.items) }
 {
-    let mut numbers = vec![in alloc; parts.len() as u32; problem.segs().len()]?;
-    for (k, part) in parts.iter().enumerate() {
-        set_numbers(numbers.as_mut_slice(), part.as_slice(), k as u32);
+    let count = problem.segs().len();
+    let mut numbers = vec![in alloc; parts.len() as u32; count]?;
+    for k in 0..parts.len() {
+        set_numbers(numbers.as_mut_slice(), parts[k].as_slice(), k as u32);
     }
     Ok(numbers)
 }
