@@ -40,6 +40,12 @@ pub shapes_later : (trips : KnownTrips) (file : Option (List ℕ)) (folder : Fol
 shapes_later trips file folder shapes tables.Shapes is rest = refl
 shapes_later trips file folder shapes other is rest = ap (λ r. r >>= (λ shapes. before_stop_times other)) is ∙ rest
 
+-- three steps, one after the other
+pub then_then : {A B C : Type 0} (first : Result A FeedFault) (second : A → Result B FeedFault) (third : B → Result C FeedFault)
+    → ((first >>= second) >>= third) ≡ (first >>= (λ value. second value >>= third))
+then_then (Ok value) second third = refl
+then_then (Err fault) second third = refl
+
 -- what is known before a table, step by step
 pub before_is : (types : List ℕ) (folder : Folder) (table : Table) → before_any types folder table ≡ before types folder table
 before_is types folder tables.Routes = refl
