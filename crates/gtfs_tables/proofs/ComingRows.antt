@@ -1,5 +1,5 @@
 -- The rows of a table that is read row by row.
-use Rattle.std.proofs.Common.{◌≡◌, ℕ, zero, suc, ◌+◌, ◌-◌, ◌<◌, ◌≤◌, List, [], ◌∷◌, ◌++◌, drop, length, ap, sym, ◌∙◌, subst, refl, arith}
+use Rattle.std.proofs.Common.{◌≡◌, ℕ, zero, suc, ◌+◌, ◌<◌, ◌≤◌, List, [], ◌∷◌, ◌++◌, drop, length, ap, ◌∙◌, refl, arith}
 use Rattle.std.proofs.lemmas.List.{length-drop}
 use Rattle.table_rows.specs.Cells.{Row, row_at}
 

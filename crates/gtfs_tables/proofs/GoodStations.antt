@@ -1,5 +1,5 @@
 -- What `stop_times.txt` without a bad row keeps.
-use Rattle.std.proofs.Common.{◌≡◌, ◌<◌, ◌≤◌, ◌^◌, ◌⊎◌, inl, inr, ℕ, suc, Bool, true, false, not, ◌&&◌, List, [], ◌∷◌, Option, Some, None, Ok, All, is_none, unwrap_or, option_and_then, map, filter, drop, length, get_or, bytes_eq, refl, ap, sym, ◌∙◌, subst, arith, true≢false, option_map, IfSome, Vec}
+use Rattle.std.proofs.Common.{◌≡◌, ◌<◌, ◌≤◌, ◌^◌, ◌⊎◌, inl, inr, ℕ, suc, Bool, true, false, not, ◌&&◌, List, [], ◌∷◌, Option, Some, None, Ok, All, is_none, unwrap_or, option_and_then, drop, length, get_or, bytes_eq, refl, ap, sym, ◌∙◌, subst, arith, true≢false, option_map, IfSome, Vec}
 use Rattle.std.specs.declared.alloc.Global.{Global}
 use Rattle.std.proofs.lemmas.Bool.{cases_lt}
 use Rattle.std.proofs.lemmas.List.{length-map, length-drop, get_or_past, get_or_default}
@@ -14,7 +14,6 @@ use Rattle.table_rows.specs.Cells.{Row, row_at, field_in, ends_early, is_text}
 use Rattle.table_rows.specs.Values.{rows_of}
 use Rattle.table_rows.specs.Reasons.{first_met, first_bad}
 use Rattle.table_rows.proofs.ReasonLemmas.{first_met-none, first_bad-at}
-use Rattle.gtfs_tables.specs.declared.stop_time_columns.StopTimeColumns.{StopTimeColumns}
 use Rattle.gtfs_tables.specs.declared.known.KnownStops.{KnownStops}
 use Rattle.gtfs_tables.specs.declared.known.KnownTrips.{KnownTrips}
 use Rattle.gtfs_tables.specs.Good.{IsBelow, AreServed}

@@ -1,6 +1,5 @@
 -- The five tables of a folder, one after another.
-use Rattle.std.proofs.Common.{◌≡◌, ℕ, List, Option, Some, None, Result, Ok, Err, refl, ap, sym, ◌∙◌}
-use Rattle.map_base.specs.declared.ids.StationId.{StationId}
+use Rattle.std.proofs.Common.{◌≡◌, ℕ, List, Option, Result, Ok, Err, refl, ap, ◌∙◌}
 use Rattle.table_rows.specs.declared.why.Table.{Table}
 use Rattle.table_rows.specs.declared.why.Table.TheVariants as tables
 use Rattle.table_rows.specs.declared.fault.FeedFault.{FeedFault}

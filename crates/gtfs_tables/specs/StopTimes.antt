@@ -1,6 +1,6 @@
 -- `stop_times.txt`: which of its rows is bad, and which stations it gives each trip (GTFS Schedule reference,
 -- stop_times.txt).
-use Rattle.std.specs.Prelude.{ℕ, zero, suc, ◌+◌, Bool, true, false, not, ◌&&◌, List, [], ◌∷◌, drop, filter, map, Option, Some, None, is_none, unwrap_or, Result, codes, bytes_eq}
+use Rattle.std.specs.Prelude.{ℕ, zero, suc, Bool, not, ◌&&◌, List, [], ◌∷◌, drop, filter, map, Option, is_none, unwrap_or, Result, codes, bytes_eq}
 use Rattle.std.specs.List.{list_any}
 use Rattle.map_base.specs.declared.ids.StationId.{StationId}
 use Rattle.table_rows.specs.declared.why.Table.TheVariants as tables

@@ -1,16 +1,14 @@
-use Rattle.std.proofs.Common.{◌∙◌, ◌≡◌, ℕ, List, Option, Some, None, Ok, ap, sym, subst, refl, arith, get_or, option_map, map, filter, drop, IfSome, MatchOption, length, ◌<◌, ◌+◌}
+use Rattle.std.proofs.Common.{◌∙◌, ◌≡◌, ℕ, List, Option, Some, None, Ok, ap, sym, subst, arith, get_or, option_map, map, filter, drop, IfSome, MatchOption, length, ◌<◌}
 use Rattle.ordered_entries.specs.declared.entry.Entry.{Entry}
 use Rattle.ordered_entries.specs.Entries.{AreDistinct, IsFirstRepeat}
 use Rattle.table_rows.specs.declared.why.Why.{Why}
 use Rattle.table_rows.specs.declared.why.Table.TheVariants.{StopTimes}
-use Rattle.table_rows.specs.declared.fault.FeedFault.{FeedFault}
-use Rattle.table_rows.specs.Outcome.{Refuses, never}
-use Rattle.table_rows.specs.Reasons.{unless_bad, first_bad}
+use Rattle.table_rows.specs.Reasons.{unless_bad}
 use Rattle.table_rows.specs.Values.{rows_of}
 use Rattle.table_rows.specs.Cells.{rows_before}
 use Rattle.table_rows.proofs.RowLemmas.{rows_before-all}
 use Rattle.gtfs_tables.specs.Reads.{first_refused}
-use Rattle.gtfs_tables.specs.StopTimes.{stop_time_columns, is_read, station_at, stop_times_reason, trip_stations}
+use Rattle.gtfs_tables.specs.StopTimes.{stop_time_columns, is_read, station_at, trip_stations}
 use Rattle.gtfs_tables.specs.StopTimeReads.{entry_in}
 use Rattle.gtfs_tables.proofs.ReadLemmas.{few_read}
 use Rattle.gtfs_tables.proofs.StopTimeLemmas.{first_bad_is, repeat_within, none_refused, all_read, refused}

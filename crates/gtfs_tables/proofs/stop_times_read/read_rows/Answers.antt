@@ -28,7 +28,7 @@ returns-in-Err c =
       stopped = rw (c.up_to.ensures.stopped, c.up_to.ensures.upto) (
         found.0,
         own_behind trips stops rows place so_far.from ∙ ap (λ cs. own_reason trips stops cs (row_at rows place)) (sym c.requires.columns)
-        ∙ ap (own_reason trips stops columns) (sym same) ∙ c.in-Err.ensures.bad,
+            ∙ ap (own_reason trips stops columns) (sym same) ∙ c.in-Err.ensures.bad,
       );
       entries = rw (c.up_to.ensures.upto, ← c.requires.columns) (c.up_to.ensures.entries ∙ so_far.entries);
       stations = rw (c.up_to.ensures.upto, ← c.requires.columns) (c.up_to.ensures.stations ∙ so_far.stations);

@@ -1,4 +1,4 @@
-use Rattle.std.proofs.Common.{◌≡◌, ◌∙◌, ◌∷◌, ◌++◌, [], List, ap, sym, subst, refl, arith}
+use Rattle.std.proofs.Common.{◌≡◌, ◌∙◌, ◌∷◌, ◌++◌, List, ap, sym, subst, refl, arith}
 use Rattle.gtfs_fields.specs.RowByRow.{rows_to_come}
 use Rattle.table_rows.specs.declared.why.Table.TheVariants.{StopTimes}
 use Rattle.table_rows.specs.Values.{rows_of}

@@ -1,8 +1,7 @@
-use Rattle.std.proofs.Common.{◌≡◌, ◌∙◌, ◌≤◌, ℕ, List, Option, Some, None, Result, Ok, Err, Vec, option_map, length, refl, ap, sym, subst, arith}
+use Rattle.std.proofs.Common.{◌≡◌, ◌≤◌, ℕ, List, Option, Result, Ok, Vec, option_map, length, refl, ap, sym, subst, arith}
 use Rattle.std.specs.declared.alloc.Global.{Global}
 use Rattle.std.proofs.lemmas.Result.{err_from_is_err_and}
 use Rattle.map_base.specs.declared.ids.StationId.{StationId}
-use Rattle.transit_feed.specs.Feeds.{Feed}
 use Rattle.table_rows.specs.declared.why.Table.TheVariants as tables
 use Rattle.table_rows.specs.Outcome.{◌>>=◌, Answers, never}
 use Rattle.table_rows.specs.Folder.{file_outcome, required_rows}
