@@ -1,10 +1,10 @@
 -- Records that were read one after the other to the end of a text are all its records.
-use Rattle.std.proofs.Common.{◌≡◌, ℕ, zero, suc, ◌+◌, ◌-◌, ◌*◌, ◌<◌, ◌≤◌, Bool, true, false, cond, List, [], ◌∷◌, ◌++◌, length, Option, Some, None, unwrap_or, refl, sym, ap, arith}
+use Rattle.std.proofs.Common.{◌≡◌, ℕ, zero, suc, ◌+◌, ◌-◌, ◌*◌, ◌<◌, ◌≤◌, Bool, true, false, cond, List, [], ◌∷◌, ◌++◌, length, Option, Some, None, refl, sym, ap, arith}
 use Rattle.csv.specs.declared.parser.Config.{Config}
 use Rattle.csv.specs.declared.parser.State.{State}
 use Rattle.csv.specs.declared.parser.State.TheVariants as st
 use Rattle.csv.specs.Machine.{Read, next_record, step, is_end, ends_at_end, fields_after, field_after}
-use Rattle.csv.specs.Reading.{Reached, AreRecords, records, records_from}
+use Rattle.csv.specs.Reading.{Reached, records_from}
 
 abbrev some : {A : Type 0} → A → Option A
 some x = Some x
@@ -62,7 +62,7 @@ count-le cfg s s2 (c ∷ xs) ys (r ∷ rows) h =
     let others = count-le cfg h.0.1 s2 h.0.2 ys rows h.3 in
     omega arith
 
-records_from_is : (cfg : Config) (n : ℕ) (s s2 : State) (xs ys : List ℕ) (rows : List (List (List ℕ))) → Reached cfg s xs rows s2 ys → next_record cfg s2 [] [] ys ≡ None → length rows ≤ n
+pub records_from_is : (cfg : Config) (n : ℕ) (s s2 : State) (xs ys : List ℕ) (rows : List (List (List ℕ))) → Reached cfg s xs rows s2 ys → next_record cfg s2 [] [] ys ≡ None → length rows ≤ n
     → records_from cfg n s xs ≡ rows
 unfolding Reached records_from
 records_from_is cfg zero s s2 xs ys [] h end fits = refl
@@ -70,10 +70,6 @@ records_from_is cfg zero s s2 xs ys (r ∷ rows) h end fits = absurd (omega arit
 records_from_is cfg (suc n) s s2 xs ys [] h end fits = rw (h.0, h.1, end) refl
 records_from_is cfg (suc n) s s2 xs ys (r ∷ rows) h end fits =
     rw (h.1, h.2, records_from_is cfg n h.0.1 s2 h.0.2 ys rows h.3 end (omega arith)) refl
-
--- what was read to the end is what `records` gives
-pub records_is : (cfg : Config) (xs : List ℕ) (rows : List (List (List ℕ))) → AreRecords cfg st.StartRecord xs rows → records cfg xs ≡ rows
-records_is cfg xs rows h = records_from_is cfg (length xs + 1) st.StartRecord h.0 xs h.1 rows h.2 h.3 (count-le cfg st.StartRecord h.0 xs h.1 rows h.2)
 
 -- how much is left to read, which each record makes less
 abbrev pub left_of : State → List ℕ → ℕ
@@ -92,8 +88,3 @@ left-lt cfg s s2 (c ∷ xs) ys r h =
     let shorter : length h.0.2 ≤ length (c ∷ xs) - 1 = next-le cfg s [] [] (c ∷ xs) h.0 h.1 in
     let same : length h.0.2 ≡ length ys = ap length h.3.1 in
     omega (arith, flag-le (ends_at_end s2))
-
--- the same of bytes that a reader is known to have left
-pub known_left-lt : (cfg : Config) (s s2 : State) (xs ys : List ℕ) (r : List (List ℕ)) (before after : Option (List ℕ)) → before ≡ Some xs → after ≡ Some ys → Reached cfg s xs (r ∷ []) s2 ys
-    → left_of s2 (unwrap_or after []) < left_of s (unwrap_or before [])
-known_left-lt cfg s s2 xs ys r before after was is h = rw (was, is) (left-lt cfg s s2 xs ys r h)

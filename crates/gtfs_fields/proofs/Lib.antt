@@ -1,5 +1,6 @@
 pub mod Cuts
 pub mod AllRecords
+pub mod LeftLemmas
 pub mod RecordFields
 pub mod SpaceLemmas
 pub mod DigitLemmas

@@ -1,5 +1,7 @@
 pub mod Records
 pub mod Pieces
+pub mod RowsLeft
+pub mod RowByRow
 pub mod Spaces
 pub mod Digits
 pub mod WholeNumber

@@ -1,7 +1,7 @@
 //! Rows and field values of GTFS tables.
 //!
 //! A table's file is read into `Rows`: exactly the records that `csv` defines for its bytes, rows of unequal
-//! width included. `whole`, `micro_degrees` and `colour` read the value of one field, or say that it has none;
+//! width included; or its rows are read one at a time by a `RowReader`, which keeps one of them. `whole`, `micro_degrees` and `colour` read the value of one field, or say that it has none;
 //! they take no memory.
 #![tactic(auto)]
 
@@ -9,6 +9,8 @@ mod degree_text;
 mod digits;
 mod hex_colour;
 mod pieces;
+mod records;
+mod row_reader;
 mod rows;
 mod scaling;
 mod spaces;
@@ -16,6 +18,7 @@ mod whole_number;
 
 pub use degree_text::micro_degrees;
 pub use hex_colour::colour;
+pub use row_reader::RowReader;
 pub use rows::{Rows, read_rows};
 pub use spaces::trim_spaces;
 pub use whole_number::whole;

@@ -2,13 +2,12 @@
 
 ghost use Rattle.std.specs.Prelude.{◌≡◌, ◌==◌, ℕ, ◌<◌, [], ◌∷◌, ◌++◌, List, length, OnOk, IfOk, Some, true, slice_index_or};
 ghost use Rattle.std.specs.Str.{is_utf8};
-ghost use Rattle.csv.specs.Reading.{ReadRecord, Ready, is_flexible, reader_trim};
 ghost use Rattle.csv.specs.Records.{fields_of};
-ghost use Rattle.csv.specs.declared.reader.Trim.TheVariants as trim;
 ghost use Rattle.gtfs_fields.specs.Records.{records_of, width_of, field_of, is_text};
 
 use crate::pieces::{Pieces, bounds_of};
-use csv::{ByteRecord, ErrorKind, Reader, ReaderBuilder};
+use crate::records::{read_next, reader_of};
+use csv::ByteRecord;
 use map_base::NoMemory;
 use std::alloc::Global;
 use std::marker::Model;
@@ -34,6 +33,29 @@ impl Model for Rows {
 }
 
 impl Rows {
+    /// No row.
+    pub(crate) fn new(alloc: Global) -> Rows
+        ensures { result ≡ [] }
+    {
+        Rows {
+            fields: Pieces::new(alloc),
+            ends: Vec::new(alloc),
+        }
+    }
+
+    /// Has a record as its only row, or none where memory is wanting.
+    pub(crate) fn hold(&mut self, row: &ByteRecord) -> Result<(), NoMemory>
+        ensures { OnOk result (self.new ≡ fields_of row.now ∷ []) }
+    {
+        clear(&mut self.fields, &mut self.ends);
+        let width = place_of(row.len())?;
+        if push_fields(&mut self.fields, row).is_err() || self.ends.push(width).is_err() {
+            clear(&mut self.fields, &mut self.ends);
+            return Err(NoMemory);
+        }
+        Ok(())
+    }
+
     /// How many rows there are.
     pub fn len(&self) -> usize
         ensures { result ≡ length self.now }
@@ -98,6 +120,15 @@ impl Rows {
     }
 }
 
+// Takes all fields and all ends away.
+fn clear(fields: &mut Pieces, ends: &mut Vec<u32>)
+    ensures fields { fields.new ≡ [] }
+    ensures ends { ends.new.items ≡ [] }
+{
+    fields.clear();
+    ends.clear();
+}
+
 fn is_utf8(bytes: &[u8]) -> bool
     ensures { result ≡ is_utf8 bytes.now }
 {
@@ -124,25 +155,6 @@ fn place_of(count: usize) -> Result<u32, NoMemory>
     Ok(count as u32)
 }
 
-// Reads the next record, and says whether there was one. Records may differ in width and need not be text, so
-// that nothing but a failure of the reader underneath or want of memory comes in its place.
-fn read_next(reader: &mut Reader<&[u8]>, row: &mut ByteRecord) -> Result<bool, NoMemory>
-    requires untrimmed { reader_trim reader.old ≡ trim.None }
-    requires ready { Ready reader.old }
-    requires flexible { is_flexible reader.old ≡ true }
-    ensures reads { IfOk result (λ found. ReadRecord (λ s. Some s.now) reader.old reader.new found (fields_of row.new)) }
-    ensures ready { OnOk result (Ready reader.new) }
-    ensures flexible { OnOk result (is_flexible reader.new ≡ true) }
-{
-    match reader.read_byte_record(row) {
-        Ok(found) => Ok(found),
-        Err(error) => match error.kind() {
-            ErrorKind::Io(_) | ErrorKind::OutOfMemory => Err(NoMemory),
-            _ => unreachable!(),
-        },
-    }
-}
-
 /// The records that `csv` defines for the bytes, after one byte order mark: commas, fields in double quotes
 /// (RFC 4180), lines that end in LF, CR or CR LF, blank lines passed over, no field trimmed, and no row taken
 /// for a header.
@@ -152,10 +164,7 @@ fn read_next(reader: &mut Reader<&[u8]>, row: &mut ByteRecord) -> Result<bool, N
 pub fn read_rows(alloc: Global, bytes: &[u8]) -> Result<Rows, NoMemory>
     ensures { IfOk result (λ rows. rows ≡ records_of bytes.now) }
 {
-    let mut reader = ReaderBuilder::new()
-        .has_headers(false)
-        .flexible(true)
-        .from_reader(alloc, bytes);
+    let mut reader = reader_of(alloc, bytes);
     let mut row = ByteRecord::new(alloc);
     let mut fields = Pieces::with_room(alloc, bytes.len())?;
     let mut ends = Vec::new(alloc);

@@ -144,3 +144,17 @@ fn rows(rt: HostRuntime) -> Result<(), Fail> {
     assert!(rt; none.is_empty());
     Ok(())
 }
+
+#[test]
+fn rows_one_at_a_time(rt: HostRuntime) -> Result<(), Fail> {
+    let mut reader = RowReader::new(rt.alloc(), b"id,name\r\n\r\n7,\"A, B\"\n");
+    assert!(rt; reader.next().map_err(|_| "memory is there")?);
+    assert_eq!(rt; reader.row().width(0), 2);
+    assert_eq!(rt; reader.row().field(0, 1), b"name".as_slice());
+    assert!(rt; reader.next().map_err(|_| "memory is there")?);
+    assert_eq!(rt; reader.row().len(), 1);
+    assert_eq!(rt; reader.row().width(0), 2);
+    assert_eq!(rt; reader.row().field(0, 1), b"A, B".as_slice());
+    assert!(rt; !reader.next().map_err(|_| "memory is there")?);
+    Ok(())
+}

@@ -1,25 +1,23 @@
 -- The shapes that are kept, and their points.
-use Rattle.std.proofs.Common.{◌≡◌, ℕ, ℤ, pos, zero, suc, ◌+◌, ◌-◌, ◌<◌, ◌≤◌, ◌==◌, ◌&&◌, ◌||◌, ◌⊎◌, inl, inr, not, Bool, true, false, cond, eqb, ltb, nat_le, List, [], ◌∷◌, ◌++◌, length, get_or, map, filter, take, drop, bytes_eq, Option, Some, None, is_some, unwrap_or, refl, sym, ◌∙◌, ap, subst, arith, true≢false, append-nil}
-use Rattle.std.specs.List.{All, list_any}
+use Rattle.std.proofs.Common.{◌≡◌, ℕ, ℤ, pos, suc, ◌+◌, ◌-◌, ◌<◌, ◌≤◌, ◌==◌, ◌&&◌, ◌||◌, ◌⊎◌, inl, inr, Bool, true, false, cond, eqb, ltb, nat_le, List, [], ◌∷◌, ◌++◌, length, get_or, map, filter, take, drop, bytes_eq, Option, Some, unwrap_or, refl, sym, ◌∙◌, ap, arith, true≢false, append-nil}
+use Rattle.std.specs.List.{All}
 use Rattle.std.proofs.lemmas.Bool.{cases_lt}
 use Rattle.std.proofs.lemmas.Bool.Decides.{nat_tests}
 use Rattle.std.proofs.lemmas.List.{length-append, length-map, map-append, take_more, take_all, take-append-le, get_or_append_left, get_or-append_right}
 use Rattle.std.proofs.lemmas.List.Elements.{All-nil, All-cons, All-head, All-tail, All-push, All-filter, filter-append}
 use Rattle.transit_feed.specs.declared.shape.Shape.{Shape}
 use Rattle.ordered_entries.specs.declared.entry.Entry.{Entry}
-use Rattle.ordered_entries.specs.Entries as ordered
 use Rattle.ordered_entries.proofs.Values.{values_in_order}
 use Rattle.table_rows.specs.Ids.{is_among, place_among, noted, sighted, AreSame}
-use Rattle.table_rows.specs.Cells.{Row, field_in, ids_in, rows_before}
+use Rattle.table_rows.specs.Cells.{Row, field_in, ids_in}
 use Rattle.gtfs_tables.specs.declared.shape_columns.ShapeColumns.{ShapeColumns}
 use Rattle.gtfs_tables.specs.declared.known.KnownTrips.{KnownTrips}
 use Rattle.gtfs_tables.specs.declared.known.KnownShapes.{KnownShapes}
 use Rattle.gtfs_tables.specs.Rising.{with_one, by_rising}
 use Rattle.gtfs_tables.specs.Shapes.{shape_columns, sequence_in, point_in, rows_of_shape, points_of_shape, named_shapes, kept_shapes, shape_of, known_shapes}
-use Rattle.gtfs_tables.specs.ShapeReads.{shape_place, is_known, is_read, entry_in, sighted_before}
+use Rattle.gtfs_tables.specs.ShapeReads.{is_known, is_read, entry_in}
 use Rattle.gtfs_tables.specs.KeptShapes.{point_there, places_of_id, shape_at, kept_ids, shapes_of_ids, AreEachNew}
-use Rattle.gtfs_tables.specs.Trips.{is_named}
-use Rattle.gtfs_tables.proofs.PlaceLemmas.{same_bytes, bytes_same, placed_among}
+use Rattle.gtfs_tables.proofs.PlaceLemmas.{same_bytes, bytes_same}
 use Rattle.gtfs_tables.proofs.ShapeLemmas.{known_place, same_id, named_is}
 use Rattle.gtfs_tables.proofs.StationLemmas.{rising_as, filter_both}
 

@@ -1,5 +1,5 @@
 -- How many rows a table has.
-use Rattle.std.proofs.Common.{◌≡◌, ◌≤◌, ◌^◌, ℕ, ◌+◌, Bool, true, false, List, Option, Some, None, Result, Ok, Err, IfOk, length, nat_le, if◌then◌else◌, refl, subst, arith, Vec, option_map, IfSome}
+use Rattle.std.proofs.Common.{◌≡◌, ◌≤◌, ◌^◌, ℕ, Bool, true, false, List, Option, Some, None, Result, Ok, Err, IfOk, length, nat_le, if◌then◌else◌, refl, subst, arith, Vec, option_map, IfSome}
 use Rattle.std.specs.declared.alloc.Global.{Global}
 use Rattle.std.proofs.lemmas.Bool.{leb-true}
 use Rattle.gtfs_fields.proofs.Counts.{records_of-le}

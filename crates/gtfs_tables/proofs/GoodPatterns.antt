@@ -1,5 +1,5 @@
 -- The tables of a feed fit together.
-use Rattle.std.proofs.Common.{◌≡◌, ◌≢◌, ◌<◌, ◌≤◌, ◌^◌, ◌+◌, ℕ, zero, suc, Bool, true, false, cond, ltb, List, [], ◌∷◌, ◌++◌, Option, Some, None, Ok, All, map, length, bytes_eq, nat_eq, nat_le, refl, ap, sym, ◌∙◌, subst, arith, true≢false, if◌then◌else◌}
+use Rattle.std.proofs.Common.{◌≡◌, ◌≢◌, ◌<◌, ◌≤◌, ◌+◌, ℕ, suc, Bool, true, false, cond, List, [], ◌∷◌, ◌++◌, Option, Some, None, All, length, bytes_eq, nat_eq, nat_le, refl, ap, sym, subst, arith, true≢false, if◌then◌else◌}
 use Rattle.std.specs.List.{IsDistinct, list_any, cons_option}
 use Rattle.std.proofs.lemmas.Bool.{leb-true}
 use Rattle.std.proofs.lemmas.Bool.Decides.{nat_tests}
@@ -13,7 +13,7 @@ use Rattle.gtfs_tables.specs.declared.known.KnownShapes.{KnownShapes}
 use Rattle.gtfs_tables.specs.declared.known.FeedRoutes.{FeedRoutes}
 use Rattle.gtfs_tables.specs.declared.known.FeedStops.{FeedStops}
 use Rattle.gtfs_tables.specs.Good.{IsBelow, AreGoodRoutes, AreGoodStops, AreGoodTrips, AreGoodShapes, AreServed}
-use Rattle.gtfs_tables.specs.Patterns.{is_number, apart_after, apart, pattern_of, trip_pattern, trip_patterns, is_same_pattern, with_pattern, once, patterns_of}
+use Rattle.gtfs_tables.specs.Patterns.{is_number, apart_after, apart, trip_pattern, trip_patterns, is_same_pattern, with_pattern, once}
 use Rattle.gtfs_tables.specs.Feed.{feed_of}
 
 -- no station of stations set apart repeats the one before

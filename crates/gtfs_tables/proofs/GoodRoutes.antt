@@ -1,5 +1,5 @@
 -- What `routes.txt` and `trips.txt` without a bad row keep.
-use Rattle.std.proofs.Common.{◌≡◌, ◌<◌, ◌≤◌, ◌^◌, ℕ, suc, ◌+◌, Bool, true, List, [], ◌∷◌, Option, Some, None, Ok, Err, All, map, filter, drop, length, get_or, bytes_eq, refl, ap, sym, ◌∙◌, subst, arith}
+use Rattle.std.proofs.Common.{◌≡◌, ◌<◌, ◌≤◌, ◌^◌, ℕ, ◌+◌, Bool, true, List, [], ◌∷◌, Option, Some, None, Ok, All, map, filter, drop, length, get_or, bytes_eq, refl, ap, sym, ◌∙◌, subst, arith}
 use Rattle.std.specs.List.{IsDistinct}
 use Rattle.std.proofs.lemmas.List.{length-map, length-drop}
 use Rattle.std.proofs.lemmas.List.Elements.{All-map}

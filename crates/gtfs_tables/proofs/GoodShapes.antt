@@ -1,12 +1,11 @@
 -- What `shapes.txt` without a bad row keeps.
-use Rattle.std.proofs.Common.{◌≡◌, ◌<◌, ◌≤◌, ◌^◌, ℕ, suc, cond, Bool, true, false, List, [], ◌∷◌, Option, Some, None, Ok, All, map, filter, drop, length, bytes_eq, nat_le, unwrap_or, refl, ap, sym, ◌∙◌, subst, arith}
+use Rattle.std.proofs.Common.{◌≡◌, ◌<◌, ◌≤◌, ◌^◌, ℕ, suc, cond, Bool, true, false, List, [], ◌∷◌, Option, Some, None, Ok, All, map, filter, drop, length, bytes_eq, nat_le, unwrap_or, refl, sym, ◌∙◌, subst, arith}
 use Rattle.std.proofs.lemmas.Bool.{leb-true}
 use Rattle.std.proofs.lemmas.List.{length-map}
 use Rattle.std.proofs.lemmas.List.Elements.{All-nil, All-map, All-weaker, filter_passes}
-use Rattle.transit_feed.specs.declared.shape.Shape.{Shape}
 use Rattle.transit_feed.specs.Feeds.{ArePlace, IsShape}
 use Rattle.table_rows.specs.declared.why.Table.TheVariants.{Shapes}
-use Rattle.table_rows.specs.Ids.{sighted, place_among}
+use Rattle.table_rows.specs.Ids.{place_among}
 use Rattle.table_rows.specs.Values.{rows_of, degrees_of}
 use Rattle.table_rows.specs.Cells.{Row, field_in, ids_in}
 use Rattle.table_rows.specs.Reasons.{first_bad}
@@ -17,11 +16,11 @@ use Rattle.gtfs_tables.specs.declared.known.KnownShapes.{KnownShapes}
 use Rattle.gtfs_tables.specs.Good.{IsBelow, AreGoodTrips, AreGoodShapes}
 use Rattle.gtfs_tables.specs.Rising.{by_rising}
 use Rattle.gtfs_tables.specs.Trips.{is_named}
-use Rattle.gtfs_tables.specs.Shapes.{shape_columns, shapes_reason, sequence_in, point_in, rows_of_shape, points_of_shape, named_shapes, kept_shapes, shape_of, known_shapes, shapes_of, no_shapes, shapes_of_file}
+use Rattle.gtfs_tables.specs.Shapes.{shape_columns, shapes_reason, sequence_in, point_in, rows_of_shape, points_of_shape, named_shapes, kept_shapes, shape_of, known_shapes, no_shapes, shapes_of_file}
 use Rattle.gtfs_tables.proofs.LeadLemmas.{filter-few}
 use Rattle.gtfs_tables.proofs.PlacedLemmas.{within-bound}
 use Rattle.gtfs_tables.proofs.RisingLemmas.{length-by_rising}
-use Rattle.gtfs_tables.proofs.GoodRoutes.{unless_bad-ok, all_of, all_of_map, is_below-place, few_behind}
+use Rattle.gtfs_tables.proofs.GoodRoutes.{unless_bad-ok, all_of_map, is_below-place, few_behind}
 
 -- the points of rows are places
 point_place : (c : ShapeColumns) (row : Row) → ArePlace (point_in c row).0 (point_in c row).1

@@ -1,5 +1,6 @@
 -- What `stop_times.txt` without a bad row keeps.
-use Rattle.std.proofs.Common.{◌≡◌, ◌<◌, ◌≤◌, ◌^◌, ◌⊎◌, inl, inr, ℕ, suc, Bool, true, false, not, ◌&&◌, List, [], ◌∷◌, Option, Some, None, Ok, All, is_none, unwrap_or, option_and_then, map, filter, drop, length, get_or, bytes_eq, refl, ap, sym, ◌∙◌, subst, arith, true≢false}
+use Rattle.std.proofs.Common.{◌≡◌, ◌<◌, ◌≤◌, ◌^◌, ◌⊎◌, inl, inr, ℕ, suc, Bool, true, false, not, ◌&&◌, List, [], ◌∷◌, Option, Some, None, Ok, All, is_none, unwrap_or, option_and_then, drop, length, get_or, bytes_eq, refl, ap, sym, ◌∙◌, subst, arith, true≢false, option_map, IfSome, Vec}
+use Rattle.std.specs.declared.alloc.Global.{Global}
 use Rattle.std.proofs.lemmas.Bool.{cases_lt}
 use Rattle.std.proofs.lemmas.List.{length-map, length-drop, get_or_past, get_or_default}
 use Rattle.std.proofs.lemmas.List.Elements.{All-map, All-filter, filter_passes}
@@ -10,15 +11,15 @@ use Rattle.table_rows.specs.declared.why.Why.TheVariants.{WrongFields, NotUtf8, 
 use Rattle.table_rows.specs.declared.why.Table.TheVariants.{StopTimes}
 use Rattle.table_rows.specs.Ids.{is_among, place_among}
 use Rattle.table_rows.specs.Cells.{Row, row_at, field_in, ends_early, is_text}
+use Rattle.table_rows.specs.Values.{rows_of}
 use Rattle.table_rows.specs.Reasons.{first_met, first_bad}
 use Rattle.table_rows.proofs.ReasonLemmas.{first_met-none, first_bad-at}
-use Rattle.gtfs_tables.specs.declared.stop_time_columns.StopTimeColumns.{StopTimeColumns}
 use Rattle.gtfs_tables.specs.declared.known.KnownStops.{KnownStops}
 use Rattle.gtfs_tables.specs.declared.known.KnownTrips.{KnownTrips}
 use Rattle.gtfs_tables.specs.Good.{IsBelow, AreServed}
 use Rattle.gtfs_tables.specs.Leads.{station_of_id}
 use Rattle.gtfs_tables.specs.Rising.{by_rising}
-use Rattle.gtfs_tables.specs.StopTimes.{stop_time_columns, required_columns, is_read, sequence_in, station_in, is_repeated, stop_times_reason, rows_of_trip, station_at, stations_of_trip, trip_stations, stop_times_of}
+use Rattle.gtfs_tables.specs.StopTimes.{stop_time_columns, required_columns, is_read, sequence_in, station_in, is_repeated, stop_times_reason, rows_of_trip, station_at, stations_of_trip, trip_stations, stop_times_of, stop_times_of_file}
 use Rattle.gtfs_tables.proofs.LeadLemmas.{filter-few}
 use Rattle.gtfs_tables.proofs.RisingLemmas.{length-by_rising, all-by_rising}
 use Rattle.gtfs_tables.proofs.GoodRoutes.{unless_bad-ok, all_of_map, few_behind}
@@ -123,3 +124,10 @@ pub good_stations : (count : ℕ) (trips : KnownTrips) (stops : KnownStops) (row
 good_stations count trips stops rows stations led few is =
     let both = unless_bad-ok StopTimes (first_bad (stop_times_reason trips stops rows) rows) (trip_stations trips stops rows) stations is in
     subst (AreServed count trips) both.1 (good_known count trips stops led rows few both.0)
+
+-- the same of the table's file
+pub good_stations_of_file : (count : ℕ) (trips : KnownTrips) (stops : KnownStops) (bytes : Option (Vec ℕ Global)) (stations : List (List StationId))
+    → All (IsBelow count) stops.stations → IfSome bytes (λ v. length (rows_of v.items) ≤ 2 ^ 32)
+    → stop_times_of_file trips stops (option_map {T = Vec ℕ Global} {U = List ℕ} (λ v. v.items) bytes) ≡ Ok stations → AreServed count trips stations
+good_stations_of_file count trips stops None stations led few is = cc
+good_stations_of_file count trips stops (Some v) stations led few is = good_stations count trips stops (rows_of v.items) stations led few is

@@ -1,16 +1,16 @@
 -- What `stops.txt` without a bad row keeps.
-use Rattle.std.proofs.Common.{◌≡◌, ◌<◌, ◌≤◌, ◌^◌, ℕ, List, Option, Some, None, Ok, All, map, filter, drop, length, bytes_eq, option_and_then, refl, ap, sym, ◌∙◌, subst, arith}
+use Rattle.std.proofs.Common.{◌≡◌, ◌≤◌, ◌^◌, ℕ, List, Option, Some, None, Ok, filter, drop, length, bytes_eq, option_and_then, ap, sym, subst, arith}
 use Rattle.std.specs.List.{IsDistinct}
 use Rattle.std.proofs.lemmas.List.{length-map}
 use Rattle.transit_feed.specs.declared.station.Station.{Station}
 use Rattle.table_rows.specs.declared.why.Table.TheVariants.{Stops}
 use Rattle.table_rows.specs.Ids.{place_among}
-use Rattle.table_rows.specs.Cells.{Row, field_in, ids_in}
+use Rattle.table_rows.specs.Cells.{Row, field_in}
 use Rattle.table_rows.specs.Reasons.{first_bad}
 use Rattle.table_rows.proofs.DistinctIds.{distinct_ids}
 use Rattle.gtfs_tables.specs.declared.known.FeedStops.{FeedStops}
 use Rattle.gtfs_tables.specs.Good.{IsBelow, AreGoodStops}
-use Rattle.gtfs_tables.specs.Stops.{stop_columns, station_of, stations_of, stops_reason}
+use Rattle.gtfs_tables.specs.Stops.{stop_columns, stations_of, stops_reason}
 use Rattle.gtfs_tables.specs.Leads.{station_ids, station_led, lead_in, known_stops, feed_stops}
 use Rattle.gtfs_tables.proofs.StopLemmas.{stops_new}
 use Rattle.gtfs_tables.proofs.LeadLemmas.{is_station_row, station_ids-rows, filter-few}

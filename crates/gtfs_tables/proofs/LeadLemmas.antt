@@ -1,11 +1,10 @@
 -- The stations to which rows of `stops.txt` lead.
-use Rattle.std.proofs.Common.{◌≡◌, ◌≤◌, ◌<◌, ◌+◌, ℕ, suc, Bool, true, false, List, [], ◌∷◌, Option, Some, None, Ok, refl, ap, sym, ◌∙◌, subst, arith, map, filter, take, drop, length, pos, unwrap_or, option_map, option_and_then, Bor, cond}
+use Rattle.std.proofs.Common.{◌≡◌, ◌≤◌, ◌<◌, ◌+◌, ℕ, suc, Bool, true, false, List, [], ◌∷◌, Option, Some, None, Ok, refl, ap, sym, ◌∙◌, arith, filter, take, drop, length, pos, unwrap_or, cond}
 use Rattle.std.specs.List.{filter_map, cons_option}
 use Rattle.std.proofs.lemmas.List.{length-map, length-drop, length-take}
 use Rattle.transit_feed.specs.declared.station.Station.{Station}
 use Rattle.table_rows.specs.declared.why.Table.TheVariants.{Stops}
-use Rattle.table_rows.specs.Ids.{place_among}
-use Rattle.table_rows.specs.Cells.{Row, row_at, rows_before, field_in, ids_in}
+use Rattle.table_rows.specs.Cells.{Row, rows_before, field_in, ids_in}
 use Rattle.table_rows.specs.Reasons.{first_bad, unless_bad}
 use Rattle.gtfs_tables.specs.declared.stop_columns.StopColumns.{StopColumns}
 use Rattle.gtfs_tables.specs.declared.known.KnownStops.{KnownStops}

@@ -15,6 +15,7 @@ pub mod StepLemmas
 pub mod FewRows
 pub mod StepCases
 pub mod ReadLemmas
+pub mod ComingRows
 pub mod PlaceLemmas
 pub mod StopTimeLemmas
 pub mod StationLemmas

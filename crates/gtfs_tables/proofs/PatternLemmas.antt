@@ -1,7 +1,6 @@
 -- Patterns of trips, one more at a time.
-use Rattle.std.proofs.Common.{◌≡◌, ◌<◌, ◌≤◌, ℕ, zero, suc, ◌+◌, Bool, true, false, List, [], ◌∷◌, ◌++◌, Option, Some, None, option_to_list, refl, ap, sym, ◌∙◌, subst, arith, take, drop, length, get_or, cond, append_assoc}
+use Rattle.std.proofs.Common.{◌≡◌, ◌<◌, ℕ, zero, suc, ◌+◌, Bool, true, false, List, [], ◌∷◌, ◌++◌, Option, Some, None, option_to_list, refl, ap, sym, ◌∙◌, arith, take, drop, length, get_or, cond, append_assoc}
 use Rattle.std.specs.List.{cons_option}
-use Rattle.std.proofs.lemmas.List.{append-nil}
 use Rattle.map_base.specs.declared.ids.StationId.{StationId}
 use Rattle.transit_feed.specs.declared.pattern.Pattern.{Pattern}
 use Rattle.gtfs_tables.specs.Patterns.{is_number, apart, apart_after, trip_pattern, trip_patterns, with_pattern, once}

@@ -1,8 +1,7 @@
 -- The reasons and the lines of `routes.txt`.
-use Rattle.std.proofs.Common.{◌≡◌, ◌≤◌, ◌<◌, ℕ, zero, suc, ◌+◌, Bool, true, false, not, ◌&&◌, List, [], ◌∷◌, ◌++◌, filter, length, Option, Some, None, is_none, Ok, refl, ap, sym, ◌∙◌, arith, if◌then◌else◌, IsUtf8}
+use Rattle.std.proofs.Common.{◌≡◌, ◌≤◌, ◌<◌, ℕ, zero, suc, ◌+◌, true, false, ◌&&◌, List, [], ◌∷◌, ◌++◌, filter, length, None, is_none, Ok, refl, ap, sym, ◌∙◌, arith, if◌then◌else◌, IsUtf8}
 use Rattle.transit_feed.specs.declared.line.Line.{Line}
 use Rattle.table_rows.specs.declared.why.Table.TheVariants.{Routes}
-use Rattle.table_rows.specs.declared.why.Why.{Why}
 use Rattle.table_rows.specs.declared.why.Why.TheVariants.{WrongFields, NotUtf8, EmptyId, RepeatedId, BadType, BadColour}
 use Rattle.table_rows.specs.Ids.{is_among}
 use Rattle.table_rows.specs.Cells.{Row, row_at, rows_before, field_in, ids_in, ends_early, is_text, is_empty}

@@ -1,5 +1,5 @@
 -- The stations of each trip, gathered by the trips' numbers.
-use Rattle.std.proofs.Common.{◌≡◌, ℕ, zero, suc, ◌+◌, ◌<◌, ◌≤◌, ◌==◌, ◌&&◌, Bool, true, false, cond, eqb, ltb, List, [], ◌∷◌, ◌++◌, length, get_or, map, filter, take, drop, bytes_eq, Option, Some, None, unwrap_or, refl, sym, ◌∙◌, ap, subst, arith, true≢false}
+use Rattle.std.proofs.Common.{◌≡◌, ℕ, zero, suc, ◌+◌, ◌<◌, ◌≤◌, ◌==◌, ◌&&◌, Bool, true, false, cond, eqb, ltb, List, [], ◌∷◌, ◌++◌, length, get_or, map, filter, take, drop, bytes_eq, Some, unwrap_or, refl, sym, ◌∙◌, ap, arith, true≢false}
 use Rattle.std.proofs.lemmas.Bool.Decides.{nat_tests}
 use Rattle.std.proofs.lemmas.List.{take_more, take_all, map-append}
 use Rattle.map_base.specs.declared.ids.StationId.{StationId}
@@ -13,7 +13,7 @@ use Rattle.gtfs_tables.specs.declared.known.KnownTrips.{KnownTrips}
 use Rattle.gtfs_tables.specs.Rising.{with_one, by_rising}
 use Rattle.gtfs_tables.specs.StopTimes.{stop_time_columns, is_read, sequence_in, station_at, stations_of_trip, trip_stations}
 use Rattle.gtfs_tables.specs.StopTimeReads.{entry_in, AreNumbered}
-use Rattle.gtfs_tables.specs.StationsOfTrips.{station_there, stations_of_key, stations_by_key}
+use Rattle.gtfs_tables.specs.StationsOfTrips.{stations_of_key, stations_by_key}
 use Rattle.gtfs_tables.specs.Trips.{trip_place}
 use Rattle.gtfs_tables.proofs.PlaceLemmas.{same_bytes, bytes_same, placed_among}
 use Rattle.gtfs_tables.proofs.StopTimeLemmas.{read_place}

@@ -1,6 +1,5 @@
 -- The five tables of a folder, one after another.
-use Rattle.std.proofs.Common.{◌≡◌, ℕ, List, Option, Some, None, Result, Ok, Err, refl, ap, sym, ◌∙◌}
-use Rattle.map_base.specs.declared.ids.StationId.{StationId}
+use Rattle.std.proofs.Common.{◌≡◌, ℕ, List, Option, Result, Ok, Err, refl, ap, ◌∙◌}
 use Rattle.table_rows.specs.declared.why.Table.{Table}
 use Rattle.table_rows.specs.declared.why.Table.TheVariants as tables
 use Rattle.table_rows.specs.declared.fault.FeedFault.{FeedFault}
@@ -39,6 +38,12 @@ pub shapes_later : (trips : KnownTrips) (file : Option (List ℕ)) (folder : Fol
     → (file_outcome file >>= shapes_of_file trips) ≡ Ok shapes → before_stop_times other ≡ Ok tt → before_shapes trips (folder_with tables.Shapes file folder) other ≡ Ok tt
 shapes_later trips file folder shapes tables.Shapes is rest = refl
 shapes_later trips file folder shapes other is rest = ap (λ r. r >>= (λ shapes. before_stop_times other)) is ∙ rest
+
+-- three steps, one after the other
+pub then_then : {A B C : Type 0} (first : Result A FeedFault) (second : A → Result B FeedFault) (third : B → Result C FeedFault)
+    → ((first >>= second) >>= third) ≡ (first >>= (λ value. second value >>= third))
+then_then (Ok value) second third = refl
+then_then (Err fault) second third = refl
 
 -- what is known before a table, step by step
 pub before_is : (types : List ℕ) (folder : Folder) (table : Table) → before_any types folder table ≡ before types folder table

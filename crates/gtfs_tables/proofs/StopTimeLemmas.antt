@@ -1,8 +1,6 @@
 -- The rows of `stop_times.txt`: their reasons, and which of them repeat an earlier one.
-use Rattle.std.proofs.Common.{◌≡◌, ℕ, zero, suc, ◌+◌, ◌-◌, ◌<◌, ◌≤◌, ◌==◌, ◌&&◌, ◌⊎◌, inl, inr, not, Bool, true, false, cond, eqb, List, [], ◌∷◌, ◌++◌, length, get_or, map, filter, take, drop, bytes_eq, Option, Some, None, is_some, is_none, unwrap_or, option_and_then, option_map, option_to_list, MatchOption, IfSome, refl, sym, ◌∙◌, ap, subst, arith, max, true≢false}
-use Rattle.std.proofs.lemmas.Bool.{cases_lt}
+use Rattle.std.proofs.Common.{◌≡◌, ℕ, zero, suc, ◌+◌, ◌<◌, ◌≤◌, ◌&&◌, not, Bool, true, false, cond, eqb, List, [], ◌∷◌, length, get_or, map, filter, bytes_eq, Option, Some, None, is_some, is_none, unwrap_or, option_and_then, option_map, option_to_list, MatchOption, IfSome, refl, sym, ◌∙◌, ap, subst, arith, true≢false}
 use Rattle.std.proofs.lemmas.Bool.Decides.{nat_tests}
-use Rattle.map_base.specs.declared.ids.StationId.{StationId}
 use Rattle.ordered_entries.specs.declared.entry.Entry.{Entry}
 use Rattle.ordered_entries.specs.Entries.{AreDistinct, IsFirstRepeat}
 use Rattle.table_rows.specs.declared.why.Why.{Why}
@@ -11,10 +9,10 @@ use Rattle.table_rows.specs.declared.why.Table.TheVariants.{StopTimes}
 use Rattle.table_rows.specs.declared.fault.FeedFault.{FeedFault}
 use Rattle.table_rows.specs.declared.fault.FeedFault.TheVariants as faults
 use Rattle.table_rows.specs.Outcome.{Refuses, never}
-use Rattle.table_rows.specs.Ids.{is_among, place_among}
+use Rattle.table_rows.specs.Ids.{is_among}
 use Rattle.table_rows.specs.Cells.{Row, row_at, rows_before, field_in, ends_early, is_text, is_empty}
 use Rattle.table_rows.specs.Reasons.{first_met, first_below, first_bad, unless_bad}
-use Rattle.table_rows.proofs.ReasonLemmas.{first_met-none, first_met-front, first_met-back, first_below-none, first_below-found}
+use Rattle.table_rows.proofs.ReasonLemmas.{first_met-none, first_met-front, first_met-back, first_below-none}
 use Rattle.gtfs_tables.specs.declared.stop_time_columns.StopTimeColumns.{StopTimeColumns}
 use Rattle.gtfs_tables.specs.declared.stop_time_reads.StopTimeRead.{StopTimeRead}
 use Rattle.gtfs_tables.specs.declared.stop_time_reads.StopTimeReads.{StopTimeReads}
@@ -22,7 +20,7 @@ use Rattle.gtfs_tables.specs.declared.known.KnownStops.{KnownStops}
 use Rattle.gtfs_tables.specs.declared.known.KnownTrips.{KnownTrips}
 use Rattle.gtfs_tables.specs.Reads.{passes, places_before, first_refused}
 use Rattle.gtfs_tables.specs.Shapes.{is_same_number}
-use Rattle.gtfs_tables.specs.StopTimes.{stop_time_columns, required_columns, sequence_in, station_in, station_at, is_read, is_same_place, is_repeated, stop_time_reason, stop_times_reason, stop_times_of, trip_stations}
+use Rattle.gtfs_tables.specs.StopTimes.{stop_time_columns, required_columns, sequence_in, station_in, station_at, is_read, is_same_place, is_repeated, stop_times_reason, stop_times_of, trip_stations}
 use Rattle.gtfs_tables.specs.StopTimeReads.{own_reason, own_reason_at, entry_in, read_in, FailsInFull, AreReads}
 use Rattle.gtfs_tables.specs.Trips.{trip_place, line_at, is_selected}
 use Rattle.gtfs_tables.proofs.PlaceLemmas.{same_bytes, bytes_same, placed_among, unplaced_among, some_before, before_some}

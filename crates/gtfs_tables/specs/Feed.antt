@@ -1,5 +1,5 @@
 -- What a folder gives as a whole: its feed, or the first refusal.
-use Rattle.std.specs.Prelude.{◌≡◌, ℕ, Bool, List, Option, Result, Ok}
+use Rattle.std.specs.Prelude.{◌≡◌, ℕ, List, Option, Result, Ok}
 use Rattle.map_base.specs.declared.ids.StationId.{StationId}
 use Rattle.files_door.specs.Fault.{Rose}
 use Rattle.transit_feed.specs.Feeds.{Feed}

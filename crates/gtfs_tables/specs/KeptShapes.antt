@@ -1,5 +1,5 @@
 -- The shapes that are kept, gathered by their places among those that trips name.
-use Rattle.std.specs.Prelude.{◌≡◌, ℕ, ℤ, pos, ◌<◌, Bool, false, List, [], filter, map, length, take, unwrap_or, nat_le}
+use Rattle.std.specs.Prelude.{◌≡◌, ℕ, ℤ, pos, ◌<◌, false, List, [], filter, map, length, take, unwrap_or, nat_le}
 use Rattle.std.specs.List.{slice_index_or}
 use Rattle.transit_feed.specs.declared.shape.Shape.{Shape}
 use Rattle.ordered_entries.specs.declared.entry.Entry.{Entry}

@@ -17,3 +17,4 @@ pub mod PatternKeys
 pub mod Feed
 pub mod Good
 pub mod Steps
+pub mod RowsFrom

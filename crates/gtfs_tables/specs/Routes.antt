@@ -1,5 +1,5 @@
 -- `routes.txt`: which of its rows is bad, and which lines it gives (GTFS Schedule reference, routes.txt).
-use Rattle.std.specs.Prelude.{ℕ, zero, suc, ◌+◌, ◌%◌, Bool, false, not, ◌&&◌, List, [], ◌∷◌, drop, filter, Option, Some, None, is_none, unwrap_or, Result, codes, if◌then◌else◌, nat_eq}
+use Rattle.std.specs.Prelude.{ℕ, zero, suc, ◌+◌, ◌%◌, Bool, false, not, ◌&&◌, List, [], ◌∷◌, drop, filter, Option, Some, None, is_none, unwrap_or, Result, codes, nat_eq}
 use Rattle.std.specs.List.{list_any, slice_index_or}
 use Rattle.transit_feed.specs.declared.line.Line.{Line}
 use Rattle.table_rows.specs.declared.why.Table.TheVariants as tables

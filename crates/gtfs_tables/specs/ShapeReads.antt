@@ -1,6 +1,5 @@
 -- What rows of `shapes.txt` say one by one. The ids of the shapes that selected trips name are given as a list.
-use Rattle.std.specs.Prelude.{◌≡◌, true, false, ℕ, ℤ, zero, suc, ◌<◌, ◌≤◌, not, ◌&&◌, Bool, List, [], ◌∷◌, filter, map, length, Option, Some, None, is_some, is_none, unwrap_or, if◌then◌else◌, MatchOption}
-use Rattle.std.specs.List.{slice_index_or}
+use Rattle.std.specs.Prelude.{◌≡◌, true, false, ℕ, zero, suc, ◌<◌, ◌≤◌, not, ◌&&◌, Bool, List, [], ◌∷◌, filter, map, length, Option, Some, None, is_some, is_none, unwrap_or, if◌then◌else◌, MatchOption}
 use Rattle.ordered_entries.specs.declared.entry.Entry.{Entry}
 use Rattle.table_rows.specs.declared.why.Why.{Why}
 use Rattle.table_rows.specs.declared.why.Why.TheVariants.{WrongFields, NotUtf8, BadLatitude, BadLongitude, BadWhole}

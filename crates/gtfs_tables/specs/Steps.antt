@@ -1,6 +1,5 @@
 -- A folder is read table by table: what holds of it is put together step by step.
 use Rattle.std.specs.Prelude.{◌≡◌, ℕ, List, Option, Some, None, Result, Ok}
-use Rattle.map_base.specs.declared.ids.StationId.{StationId}
 use Rattle.files_door.specs.Fault.{Rose}
 use Rattle.transit_feed.specs.Feeds.{Feed}
 use Rattle.table_rows.specs.declared.why.Table.{Table}

@@ -1,6 +1,5 @@
 -- What rows of `stop_times.txt` say one by one.
 use Rattle.std.specs.Prelude.{◌≡◌, true, false, ℕ, zero, suc, ◌<◌, ◌≤◌, ◌^◌, not, ◌&&◌, List, [], ◌∷◌, filter, map, length, Option, Some, None, is_none, unwrap_or, if◌then◌else◌, MatchOption}
-use Rattle.map_base.specs.declared.ids.StationId.{StationId}
 use Rattle.ordered_entries.specs.declared.entry.Entry.{Entry}
 use Rattle.table_rows.specs.declared.why.Why.{Why}
 use Rattle.table_rows.specs.declared.why.Why.TheVariants.{WrongFields, NotUtf8, BadWhole, UnknownTrip, UnknownStop}

@@ -1,12 +1,14 @@
 -- `stop_times.txt`: which of its rows is bad, and which stations it gives each trip (GTFS Schedule reference,
 -- stop_times.txt).
-use Rattle.std.specs.Prelude.{ℕ, zero, suc, ◌+◌, Bool, true, false, not, ◌&&◌, List, [], ◌∷◌, drop, filter, map, Option, Some, None, is_none, unwrap_or, Result, codes, bytes_eq}
+use Rattle.std.specs.Prelude.{ℕ, zero, suc, Bool, not, ◌&&◌, List, [], ◌∷◌, drop, filter, map, Option, is_none, unwrap_or, Result, codes, bytes_eq}
 use Rattle.std.specs.List.{list_any}
 use Rattle.map_base.specs.declared.ids.StationId.{StationId}
 use Rattle.table_rows.specs.declared.why.Table.TheVariants as tables
 use Rattle.table_rows.specs.declared.why.Why.{Why}
 use Rattle.table_rows.specs.declared.why.Why.TheVariants.{WrongFields, NotUtf8, BadWhole, UnknownTrip, UnknownStop, RepeatedSequence}
 use Rattle.table_rows.specs.declared.fault.FeedFault.{FeedFault}
+use Rattle.table_rows.specs.Folder.{required_rows}
+use Rattle.table_rows.specs.Outcome.{◌>>=◌}
 use Rattle.table_rows.specs.Ids.{is_among}
 use Rattle.table_rows.specs.Values.{number_of}
 use Rattle.table_rows.specs.Cells.{Row, row_at, column_of, field_in, rows_before, ends_early, is_empty, is_text}
@@ -87,3 +89,7 @@ trip_stations trips stops rows = map (stations_of_trip trips stops (stop_time_co
 -- the stations of each trip that a table gives, or its first bad row
 abbrev pub stop_times_of : KnownTrips → KnownStops → List Row → Result (List (List StationId)) FeedFault
 stop_times_of trips stops rows = unless_bad tables.StopTimes (first_bad (stop_times_reason trips stops rows) rows) (trip_stations trips stops rows)
+
+-- the same of the table's file, which has to be there
+abbrev pub stop_times_of_file : KnownTrips → KnownStops → Option (List ℕ) → Result (List (List StationId)) FeedFault
+stop_times_of_file trips stops file = required_rows tables.StopTimes file >>= stop_times_of trips stops

@@ -29,38 +29,6 @@ pub(crate) fn stop_time_columns(rows: &Rows) -> StopTimeColumns
     }
 }
 
-/// The id of the trip of the last row, and its place among the trips. Most rows have the trip of the row before.
-#[derive(Clone, Copy)]
-pub(crate) struct LastTrip<'a> {
-    pub(crate) id: &'a [u8],
-    pub(crate) place: Option<usize>,
-}
-
-impl<'a> LastTrip<'a> {
-    /// The trip of an id.
-    pub(crate) fn of(trips: &KnownTrips, id: &'a [u8]) -> LastTrip<'a>
-        ensures id { result.id.now ≡ id.now }
-        ensures place { result.place ≡ trip_place trips.now id.now }
-    {
-        LastTrip {
-            id,
-            place: trips.ids.place_of(id),
-        }
-    }
-
-    /// The trip of an id, told that of the last row.
-    pub(crate) fn next(self, trips: &KnownTrips, id: &'a [u8]) -> LastTrip<'a>
-        requires { self.place ≡ trip_place trips.now self.id.now }
-        ensures id { result.id.now ≡ id.now }
-        ensures place { result.place ≡ trip_place trips.now id.now }
-    {
-        if self.id == id {
-            return self;
-        }
-        LastTrip::of(trips, id)
-    }
-}
-
 /// Whether the trip at a place is selected.
 fn is_line_at(trips: &KnownTrips, place: usize) -> bool
     ensures { result ≡ is_some (line_at trips.now place) }
@@ -98,25 +66,24 @@ fn station_of_id(stops: &KnownStops, id: &[u8]) -> Option<u32>
     }
 }
 
-/// What a row says that is read in full, or why it can't be, told its trip and its stop.
+/// What a row says that is read in full, or why it can't be, told its trip. The row is the first of a table.
 fn read_in_full(
     stops: &KnownStops,
-    rows: &Rows,
-    row: usize,
+    row: &Rows,
     columns: &StopTimeColumns,
     trip: usize,
 ) -> Result<StopTimeRead, Why>
-    requires within { row < length rows.now }
+    requires is_there { 0 < length row.now }
     requires few { trip < 2 ^ 32 }
-    ensures read { IfOk result (λ read. read ≡ record { entry = record { key = trip; sequence = unwrap_or (sequence_in columns.now (row_at rows.now row)) 0 }; station = station_at stops.now columns.now (row_at rows.now row) }) }
-    ensures sequence { IfOk result (λ _. is_none (sequence_in columns.now (row_at rows.now row)) ≡ false) }
-    ensures station { IfOk result (λ _. is_none (station_in stops.now columns.now (row_at rows.now row)) ≡ false) }
-    ensures bad { IfErr result (λ fault. FailsInFull stops.now columns.now (row_at rows.now row) fault) }
+    ensures read { IfOk result (λ read. read ≡ record { entry = record { key = trip; sequence = unwrap_or (sequence_in columns.now (row_at row.now 0)) 0 }; station = station_at stops.now columns.now (row_at row.now 0) }) }
+    ensures sequence { IfOk result (λ _. is_none (sequence_in columns.now (row_at row.now 0)) ≡ false) }
+    ensures station { IfOk result (λ _. is_none (station_in stops.now columns.now (row_at row.now 0)) ≡ false) }
+    ensures bad { IfErr result (λ fault. FailsInFull stops.now columns.now (row_at row.now 0) fault) }
 {
-    let Some(sequence) = number_of(field_in(rows, row, columns.sequence)) else {
+    let Some(sequence) = number_of(field_in(row, 0, columns.sequence)) else {
         return Err(Why::BadWhole);
     };
-    let Some(station) = station_of_id(stops, field_in(rows, row, columns.stop)) else {
+    let Some(station) = station_of_id(stops, field_in(row, 0, columns.stop)) else {
         return Err(Why::UnknownStop);
     };
     Ok(StopTimeRead {
@@ -129,35 +96,34 @@ fn read_in_full(
 }
 
 /// What a row says, where it is read in full, or what is wrong with it by itself. Each of its trip and its stop is
-/// looked up once.
+/// looked up once. The row is the first of a table.
 pub(crate) fn read_row(
     trips: &KnownTrips,
     stops: &KnownStops,
-    rows: &Rows,
-    row: usize,
+    row: &Rows,
     columns: &StopTimeColumns,
     trip: Option<usize>,
 ) -> Result<Option<StopTimeRead>, Why>
-    requires within { row < length rows.now }
-    requires trip { trip ≡ trip_place trips.now (field_in (row_at rows.now row) columns.now.trip) }
+    requires is_there { 0 < length row.now }
+    requires trip { trip ≡ trip_place trips.now (field_in (row_at row.now 0) columns.now.trip) }
     requires few { IfSome trip (λ place. place < 2 ^ 32) }
-    ensures bad { IfErr result (λ fault. own_reason trips.now stops.now columns.now (row_at rows.now row) ≡ Some fault) }
-    ensures good { IfOk result (λ _. own_reason trips.now stops.now columns.now (row_at rows.now row) ≡ None) }
-    ensures read { IfOk result (λ read. read ≡ read_in trips.now stops.now columns.now (row_at rows.now row)) }
+    ensures bad { IfErr result (λ fault. own_reason trips.now stops.now columns.now (row_at row.now 0) ≡ Some fault) }
+    ensures good { IfOk result (λ _. own_reason trips.now stops.now columns.now (row_at row.now 0) ≡ None) }
+    ensures read { IfOk result (λ read. read ≡ read_in trips.now stops.now columns.now (row_at row.now 0)) }
 {
-    if ends_early(rows, row, &[columns.trip, columns.stop, columns.sequence]) {
+    if ends_early(row, 0, &[columns.trip, columns.stop, columns.sequence]) {
         return Err(Why::WrongFields);
     }
-    if !rows.is_text(row) {
+    if !row.is_text(0) {
         return Err(Why::NotUtf8);
     }
     let Some(trip) = trip else {
         return Err(Why::UnknownTrip);
     };
-    if !is_read(trips, trip, field_in(rows, row, columns.stop)) {
+    if !is_read(trips, trip, field_in(row, 0, columns.stop)) {
         return Ok(None);
     }
-    match read_in_full(stops, rows, row, columns, trip) {
+    match read_in_full(stops, row, columns, trip) {
         Ok(read) => Ok(Some(read)),
         Err(why) => Err(why),
     }

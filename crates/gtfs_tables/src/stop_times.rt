@@ -1,21 +1,19 @@
 //! The stations of each trip.
 
-ghost use Rattle.std.specs.Prelude.{◌≡◌, ◌≤◌, ◌<◌, ◌^◌, None, length, map, IfOk, All};
+ghost use Rattle.std.specs.Prelude.{◌≡◌, ◌≤◌, ◌<◌, ◌^◌, length, map, IfOk, All};
+ghost use Rattle.table_rows.specs.Values.{rows_of};
 ghost use Rattle.table_rows.specs.Outcome.{Answers, never};
-ghost use Rattle.gtfs_tables.specs.StopTimes.{stop_time_columns, stop_times_of};
-ghost use Rattle.gtfs_tables.specs.StopTimeReads.{own_reason_at, AreNumbered};
+ghost use Rattle.gtfs_tables.specs.StopTimes.{stop_times_of};
+ghost use Rattle.gtfs_tables.specs.StopTimeReads.{AreNumbered};
 ghost use Rattle.gtfs_tables.specs.StationsOfTrips.{station_there, stations_by_key};
 
 use crate::first_refused::first_refused;
 use crate::known::{KnownStops, KnownTrips};
-use crate::stop_time_columns::StopTimeColumns;
-use crate::stop_time_row::stop_time_columns;
 use crate::stop_times_read::read_stop_times;
-use gtfs_fields::Rows;
 use map_base::{NoMemory, Sequence, StationId};
 use ordered_entries::OrderedEntries;
 use std::alloc::Global;
-use table_rows::{FeedFault, Table, Why, bad_row, header_reason};
+use table_rows::{FeedFault, Table, bad_row};
 
 /// The stations at some places.
 fn stations_at(
@@ -52,22 +50,19 @@ fn stations_by_key(
     Ok(all)
 }
 
-/// The stations of each trip by rising sequence, or the first bad row behind the header.
-fn stations_of_rows(
+/// The stations of each trip by rising sequence, in the order of the trips, or the first bad row of the table. Those
+/// of a trip that is not selected are none. The bytes are let go once they are read.
+pub(crate) fn stop_times_in(
     alloc: Global,
     trips: &KnownTrips,
     stops: &KnownStops,
-    rows: &Rows,
-    columns: &StopTimeColumns,
+    bytes: Vec<u8>,
 ) -> Result<Vec<Sequence<StationId>>, FeedFault>
-    requires header { 0 < length rows.now }
-    requires few { length rows.now ≤ 2 ^ 32 }
+    requires few { length (rows_of bytes.items) ≤ 2 ^ 32 }
     requires numbered { AreNumbered trips.now }
-    requires columns { columns.now ≡ stop_time_columns rows.now }
-    requires good { own_reason_at trips.now stops.now rows.now 0 ≡ None }
-    ensures { Answers never (λ stations. stations.items) result (stop_times_of trips.now stops.now rows.now) }
+    ensures { Answers never (λ stations. stations.items) result (stop_times_of trips.now stops.now (rows_of bytes.items)) }
 {
-    let reads = read_stop_times(alloc, trips, stops, rows, columns)?;
+    let reads = read_stop_times(alloc, trips, stops, bytes)?;
     let ordered = OrderedEntries::of(alloc, reads.entries.into_vec())?;
     let repeat = ordered.first_repeat();
     let places = reads.places.as_slice();
@@ -76,26 +71,4 @@ fn stations_of_rows(
     }
     let count = trips.lines.as_slice().len();
     Ok(stations_by_key(alloc, count, &ordered, reads.stations.as_slice())?)
-}
-
-/// The stations of each trip by rising sequence, in the order of the trips, or the first bad row of the table. Those
-/// of a trip that is not selected are none.
-pub(crate) fn stop_times_in(
-    alloc: Global,
-    trips: &KnownTrips,
-    stops: &KnownStops,
-    rows: &Rows,
-) -> Result<Vec<Sequence<StationId>>, FeedFault>
-    requires few { length rows.now ≤ 2 ^ 32 }
-    requires numbered { AreNumbered trips.now }
-    ensures { Answers never (λ stations. stations.items) result (stop_times_of trips.now stops.now rows.now) }
-{
-    if rows.len() == 0 {
-        return Err(bad_row(Table::StopTimes, 0, Why::MissingColumn));
-    }
-    let columns = stop_time_columns(rows);
-    match header_reason(rows, &[columns.trip, columns.stop, columns.sequence]) {
-        Some(why) => Err(bad_row(Table::StopTimes, 0, why)),
-        None => stations_of_rows(alloc, trips, stops, rows, &columns),
-    }
 }

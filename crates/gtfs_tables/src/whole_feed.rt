@@ -11,7 +11,7 @@ use crate::known::{FeedRoutes, FeedStops, KnownShapes, KnownTrips};
 use crate::patterns::patterns_of;
 use crate::routes::routes_in;
 use crate::shape_file::shapes_in_file;
-use crate::stop_times::stop_times_in;
+use crate::stop_time_file::stop_times_in_file;
 use crate::table_file::{file_in, rows_in};
 use crate::trips::trips_in;
 use files_door::Files;
@@ -65,8 +65,8 @@ fn after_shapes<F: Files>(
     ensures kept { F.told files.new ≡ F.told files.old }
     ensures later { F.faults files.old ≤ F.faults files.new }
 {
-    let rows = rows_in(alloc, files, folder, Table::StopTimes)?;
-    let stations = stop_times_in(alloc, trips, &stops.known, &rows)?;
+    let bytes = file_in(alloc, files, folder, Table::StopTimes)?;
+    let stations = stop_times_in_file(alloc, trips, &stops.known, bytes)?;
     tables_of(alloc, routes, stops, trips, shapes, &stations)
 }
 

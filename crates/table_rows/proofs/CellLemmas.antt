@@ -1,5 +1,5 @@
 -- The first place of a list that passes a test, and texts.
-use Rattle.std.proofs.Common.{◌≡◌, ◌<◌, ◌≤◌, ℕ, Bool, true, false, cond, ltb, List, length, get_or, Option, Some, None, ap, ◌∙◌, refl, sym, arith, position, Result, Ok, Err, is_ok, MatchResult, IsUtf8, [], subst, ◌⊎◌, inl, inr, true≢false}
+use Rattle.std.proofs.Common.{◌≡◌, ◌<◌, ◌≤◌, ℕ, Bool, true, false, cond, ltb, List, length, get_or, Option, Some, None, ap, ◌∙◌, refl, sym, arith, position, IsUtf8, [], subst, ◌⊎◌, inl, inr, true≢false}
 use Rattle.std.proofs.lemmas.List.Sums.{position_or_len_is}
 use Rattle.std.proofs.lemmas.Bool.{lt-ltb, le-ltb, cases_lt}
 use Rattle.std.proofs.lemmas.List.{get_or_past}
@@ -7,7 +7,7 @@ use Rattle.std.proofs.lemmas.List.Folds.{list_all_at}
 use Rattle.table_rows.specs.Cells.{Row, field_in, is_text}
 use Rattle.std.specs.List.{position_or_len}
 use Rattle.std.specs.Str.{is_utf8}
-use Rattle.std.proofs.lemmas.Str.{IsUtf8-from_is_utf8, is_utf8-from_IsUtf8}
+use Rattle.std.proofs.lemmas.Str.{IsUtf8-from_is_utf8}
 
 module _ {X : Type 0} (p : X → Bool) (xs : List X) (d : X) where
   pub position-at : (i : ℕ) → i < length xs → ((k : ℕ) → k < i → p (get_or xs k d) ≡ false) → p (get_or xs i d) ≡ true → position p xs ≡ Some i

@@ -1,9 +1,8 @@
 -- Ids that stand once.
-use Rattle.std.proofs.Common.{◌≡◌, ◌<◌, ◌≤◌, ℕ, zero, suc, ◌+◌, ◌⊎◌, inl, inr, Bool, true, false, ◌||◌, List, [], ◌∷◌, ◌++◌, length, get_or, filter, take, drop, Option, Some, None, cond, ltb, position, bytes_eq, refl, ap, sym, ◌∙◌, subst, arith, true≢false, length-append, if◌then◌else◌}
-use Rattle.std.specs.List.{IsDistinct, list_any, position_or_len, AllByRecursion}
-use Rattle.std.specs.Cmp.{IsEquivalence}
+use Rattle.std.proofs.Common.{◌≡◌, ◌<◌, ◌≤◌, ℕ, zero, suc, ◌+◌, Bool, true, false, ◌||◌, List, [], ◌∷◌, ◌++◌, length, get_or, filter, drop, Option, Some, None, cond, ltb, bytes_eq, refl, sym, ◌∙◌, subst, arith, true≢false, length-append, if◌then◌else◌}
+use Rattle.std.specs.List.{IsDistinct, position_or_len, AllByRecursion}
 use Rattle.std.specs.Cmp.Lexicographic.{nat_list_eq_equiv}
-use Rattle.std.proofs.lemmas.Bool.{cases_lt, ltb-true}
+use Rattle.std.proofs.lemmas.Bool.{ltb-true}
 use Rattle.std.proofs.lemmas.List.Elements.{All-from_recursion}
 use Rattle.table_rows.specs.Ids.{is_among, noted, sighted, place_among}
 use Rattle.table_rows.specs.Cells.{Row, row_at, rows_before, field_in, ids_in}

@@ -39,3 +39,14 @@ pub fn bad_row(table: Table, place: usize, why: Why) -> FeedFault
         why,
     }
 }
+
+/// The fault of a file that has to be there and is missing.
+pub fn missing_file(table: Table) -> FeedFault
+    ensures { result ≡ FeedFault.BadRow table 0 Why.MissingFile }
+{
+    FeedFault::BadRow {
+        table,
+        row: 0,
+        why: Why::MissingFile,
+    }
+}

@@ -6,9 +6,9 @@ ghost use Rattle.table_rows.specs.Outcome.{Answers, rose_at, never};
 ghost use Rattle.table_rows.specs.NotRead.{not_read};
 ghost use Rattle.std.specs.Prelude.{option_map};
 
-use crate::fault::FeedFault;
+use crate::fault::{FeedFault, missing_file};
 use crate::values::rows_of;
-use crate::why::{Table, Why};
+use crate::why::Table;
 use files_door::{DoorFault, Files, read_all};
 use gtfs_fields::Rows;
 use map_base::NoMemory;
@@ -76,11 +76,7 @@ pub fn required_rows(alloc: Global, table: Table, bytes: Option<Vec<u8>>) -> Res
     ensures { Answers never (λ rows. rows) result (required_rows table (option_map (λ v. v.items) bytes)) }
 {
     match bytes {
-        None => Err(FeedFault::BadRow {
-            table,
-            row: 0,
-            why: Why::MissingFile,
-        }),
+        None => Err(missing_file(table)),
         Some(bytes) => Ok(rows_of(alloc, &bytes)?),
     }
 }

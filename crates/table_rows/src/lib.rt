@@ -15,10 +15,10 @@ mod values;
 mod why;
 
 pub use cells::{column_of, ends_early, field_in, header_reason, is_text, lacks_column};
-pub use fault::{FeedFault, bad_row};
+pub use fault::{FeedFault, bad_row, missing_file};
 pub use folder::{bytes_of, required_rows};
 pub use ids::Ids;
 pub use row_ids::{ids_of_rows, note_new};
 pub use text::text_of;
-pub use values::{bare, colour_of, degrees_of, number_of, rows_of};
+pub use values::{bare, colour_of, degrees_of, number_of, row_reader_of, rows_of};
 pub use why::{Table, Why};

@@ -1,9 +1,10 @@
 //! What the bytes of a field, and of a file, are read as.
 
 ghost use Rattle.std.specs.Prelude.{◌≡◌, IfOk};
+ghost use Rattle.gtfs_fields.specs.RowByRow.{IsReading, rows_to_come};
 ghost use Rattle.table_rows.specs.Values.{rows_of, bare, number_of, degrees_of, colour_of};
 
-use gtfs_fields::{Rows, colour, micro_degrees, read_rows, trim_spaces, whole};
+use gtfs_fields::{RowReader, Rows, colour, micro_degrees, read_rows, trim_spaces, whole};
 use map_base::NoMemory;
 use std::alloc::Global;
 
@@ -13,6 +14,15 @@ pub fn rows_of(alloc: Global, bytes: &[u8]) -> Result<Rows, NoMemory>
     ensures { IfOk result (λ rows. rows ≡ rows_of bytes.now) }
 {
     read_rows(alloc, bytes)
+}
+
+/// A reader of the rows of a file, one at a time.
+#[tactic(auto, unfolding(crate::specs::Values::rows_of))]
+pub fn row_reader_of<'a>(alloc: Global, bytes: &'a [u8]) -> RowReader<'a>
+    ensures reading { IsReading result }
+    ensures all { rows_to_come result ≡ rows_of bytes.now }
+{
+    RowReader::new(alloc, bytes)
 }
 
 /// A field without the spaces at both its ends.

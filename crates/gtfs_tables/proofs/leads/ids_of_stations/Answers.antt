@@ -1,9 +1,7 @@
-use Rattle.std.proofs.Common.{◌∙◌, ◌≡◌, ◌++◌, ◌∷◌, [], ap, sym, subst, arith, length, drop, filter, if◌then◌else◌}
+use Rattle.std.proofs.Common.{◌∙◌, ◌++◌, ◌∷◌, [], ap, sym, arith, drop, filter, if◌then◌else◌}
 use Rattle.table_rows.specs.Ids.{is_among}
 use Rattle.table_rows.specs.Cells.{row_at, field_in, rows_before, ids_in}
 use Rattle.table_rows.proofs.RowLemmas.{is_among-unfiltered, ids_filtered_before, rows_before-all}
-use Rattle.gtfs_tables.specs.Leads.{station_ids}
-use Rattle.gtfs_tables.specs.Stops.{stations_of}
 use Rattle.gtfs_tables.proofs.LeadLemmas.{is_station_row, station_ids-rows, ids_of_stations-few}
 use Rattle.gtfs_tables.proofs.leads.ids_of_stations.Goals as goal
 

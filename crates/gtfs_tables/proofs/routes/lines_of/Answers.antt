@@ -1,5 +1,5 @@
-use Rattle.std.proofs.Common.{◌∙◌, ◌++◌, ◌∷◌, [], ap, sym, arith, length, filter, if◌then◌else◌}
-use Rattle.table_rows.specs.Cells.{row_at, rows_before}
+use Rattle.std.proofs.Common.{◌∙◌, ◌++◌, ◌∷◌, [], ap, sym, arith, length, if◌then◌else◌}
+use Rattle.table_rows.specs.Cells.{row_at}
 use Rattle.gtfs_tables.proofs.RouteLemmas.{lines_before, is_text_of_route}
 use Rattle.gtfs_tables.specs.Routes.{is_selected, lines_from}
 use Rattle.gtfs_tables.proofs.routes.lines_of.Goals as goal

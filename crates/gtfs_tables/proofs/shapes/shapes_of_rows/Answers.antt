@@ -1,4 +1,4 @@
-use Rattle.std.proofs.Common.{◌∙◌, ◌≡◌, ℕ, List, Option, Some, None, Ok, ap, sym, subst, refl, arith, get_or, option_map, map, filter, drop, IfSome, MatchOption, length, nat_le, [], ◌<◌, ◌+◌}
+use Rattle.std.proofs.Common.{◌∙◌, ◌≡◌, ℕ, List, Option, Some, None, Ok, ap, sym, subst, arith, get_or, option_map, map, filter, drop, IfSome, MatchOption, length, nat_le, [], ◌<◌}
 use Rattle.ordered_entries.specs.declared.entry.Entry.{Entry}
 use Rattle.ordered_entries.specs.Entries.{AreDistinct, IsFirstRepeat}
 use Rattle.table_rows.specs.declared.why.Why.{Why}
@@ -10,7 +10,7 @@ use Rattle.table_rows.proofs.RowLemmas.{rows_before-all}
 use Rattle.gtfs_tables.specs.Reads.{first_refused}
 use Rattle.gtfs_tables.specs.Shapes.{shape_columns, point_in, known_shapes}
 use Rattle.gtfs_tables.specs.ShapeReads.{entry_in, is_read, is_known, sighted_before}
-use Rattle.gtfs_tables.specs.KeptShapes.{kept_ids, shapes_of_ids, places_of_id, AreEachNew}
+use Rattle.gtfs_tables.specs.KeptShapes.{places_of_id, AreEachNew}
 use Rattle.gtfs_tables.proofs.ReadLemmas.{few_read, length-filtered}
 use Rattle.gtfs_tables.proofs.StopTimeLemmas.{none_refused}
 use Rattle.gtfs_tables.proofs.ShapeLemmas.{first_bad_is, repeat_within, all_read, refused}

@@ -1,5 +1,5 @@
-use Rattle.std.proofs.Common.{◌≡◌, ◌∙◌, ◌&&◌, not, cond, bytes_eq, is_some, ap, sym, subst, arith}
-use Rattle.table_rows.specs.Ids.{noted, is_among}
+use Rattle.std.proofs.Common.{◌≡◌, ◌∙◌, ◌&&◌, not, cond, bytes_eq, is_some, ap, sym, arith}
+use Rattle.table_rows.specs.Ids.{noted}
 use Rattle.table_rows.specs.Cells.{row_at, field_in}
 use Rattle.gtfs_tables.specs.ShapeReads.{shape_place, is_known, sighted_before}
 use Rattle.gtfs_tables.proofs.ShapeLemmas.{sight_is, sight_holds, sight_few, sighted_more}

@@ -1,5 +1,5 @@
-use Rattle.std.proofs.Common.{◌≡◌, ◌∙◌, Option, is_some, ap, sym, arith}
-use Rattle.table_rows.specs.Cells.{row_at, field_in}
+use Rattle.std.proofs.Common.{◌≡◌, ◌∙◌, is_some, ap, sym, arith}
+use Rattle.table_rows.specs.Cells.{row_at}
 use Rattle.table_rows.proofs.ReasonLemmas.{first_below-more}
 use Rattle.gtfs_tables.specs.declared.shape_reads.ShapeRead.{ShapeRead}
 use Rattle.gtfs_tables.specs.Shapes.{point_in}

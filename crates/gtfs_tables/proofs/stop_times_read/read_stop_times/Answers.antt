@@ -1,30 +1,36 @@
-use Rattle.std.proofs.Common.{◌∙◌, ap, sym, arith}
-use Rattle.table_rows.specs.Cells.{row_at}
-use Rattle.table_rows.proofs.ReasonLemmas.{first_below-more}
-use Rattle.gtfs_tables.specs.declared.stop_time_reads.StopTimeRead.{StopTimeRead}
-use Rattle.gtfs_tables.specs.StopTimes.{is_read, station_at}
-use Rattle.gtfs_tables.specs.StopTimeReads.{own_reason, own_reason_at, entry_in, read_in}
-use Rattle.gtfs_tables.specs.Trips.{trip_place}
-use Rattle.gtfs_tables.proofs.ReadLemmas.{read_more, place_more}
-use Rattle.gtfs_tables.proofs.StopTimeLemmas.{entry_says, station_says, read_says, own_behind}
+use Rattle.std.proofs.Common.{◌≡◌, ◌∙◌, ◌∷◌, ◌++◌, List, ap, sym, subst, refl, arith}
+use Rattle.gtfs_fields.specs.RowByRow.{rows_to_come}
+use Rattle.table_rows.specs.declared.why.Table.TheVariants.{StopTimes}
+use Rattle.table_rows.specs.Values.{rows_of}
+use Rattle.table_rows.specs.Cells.{Row, row_at}
+use Rattle.table_rows.specs.Outcome.{Refuses, never}
+use Rattle.table_rows.specs.Reasons.{header_reason}
+use Rattle.table_rows.proofs.ReasonLemmas.{Refuses-bad}
+use Rattle.gtfs_tables.specs.RowsFrom.{rows_from}
+use Rattle.gtfs_tables.specs.StopTimes.{stop_time_columns, stop_times_reason, required_columns, trip_stations, stop_times_of}
+use Rattle.gtfs_tables.specs.StopTimeReads.{AreReads}
 use Rattle.gtfs_tables.proofs.stop_times_read.read_stop_times.Goals as goal
 
-pub loop-row-preserved : goal.loop-row-preserved
-loop-row-preserved c =
+pub returns-in-Some-clause-refused : goal.returns-in-Some-clause-refused
+returns-in-Some-clause-refused c =
     let trips = c.args.trips.now in
     let stops = c.args.stops.now in
-    let columns = c.args.columns.now in
-    let rows = c.args.rows.now in
-    let row = c.loop-row.row in
-    let says = c.in-Ok.ensures.read in
-    record {
-      last = c.next-last.ensures.place ∙ ap (trip_place trips) (sym c.next-last.ensures.id);
-      good = first_below-more (own_reason_at trips stops rows) row c.loop-row.invariant.good
-          (own_behind trips stops rows row c.loop-row.auto.row ∙ ap (λ cs. own_reason trips stops cs (row_at rows row)) (sym c.requires.columns) ∙ c.in-Ok.ensures.good);
-      entries = read_more (is_read trips columns) (entry_in trips columns) (λ (r : StopTimeRead). r.entry) (read_in trips stops columns) rows row c.loop-row.so_far.entries.items c.note.new.self.entries.items c.in-Ok.read
-          (entry_says trips stops columns) c.loop-row.auto.row (omega arith) c.loop-row.invariant.entries says c.in_ok-note-in-Ok.ensures.entries;
-      stations = read_more (is_read trips columns) (station_at stops columns) (λ (r : StopTimeRead). r.station) (read_in trips stops columns) rows row c.loop-row.so_far.stations.items c.note.new.self.stations.items c.in-Ok.read
-          (station_says trips stops columns) c.loop-row.auto.row (omega arith) c.loop-row.invariant.stations says c.in_ok-note-in-Ok.ensures.stations;
-      places = place_more (is_read trips columns) (read_in trips stops columns) rows row c.loop-row.so_far.places.items c.note.new.self.places.items c.in-Ok.read
-          (read_says trips stops columns) c.loop-row.auto.row c.loop-row.invariant.places says c.in_ok-note-in-Ok.ensures.places;
-    }
+    let takes = rw c.if-not-branch.false at c.in_ok-next.ensures.reads in
+    let rest = rows_to_come c.next.new.self in
+    let rows : List Row = takes.0 ∷ rest in
+    let all : rows_of c.args.bytes.items ≡ rows = ap rows_of (sym c.deref.ensures.value) ∙ sym c.row_reader_of-reader.ensures.all ∙ takes.2 in
+    subst (λ (rs : List Row). Refuses never c.bad_row-in-Some.result (stop_times_of trips stops rs)) (sym all)
+    (Refuses-bad StopTimes (stop_times_reason trips stops rows) rows (trip_stations trips stops rows) 0 c.in-Some.why c.bad_row-in-Some.result
+    (omega arith)
+    refl
+    (ap (λ columns. header_reason (required_columns columns) takes.0) (ap stop_time_columns (sym (c.row.ensures ∙ takes.1)) ∙ sym c.stop_time_columns-columns.ensures)
+    ∙ ap (λ rs. header_reason (required_columns c.stop_time_columns-columns.result) (row_at rs 0)) (sym (c.row-2.ensures ∙ takes.1))
+    ∙ sym c.header_reason.ensures ∙ c.in-Some.is)
+    c.bad_row-in-Some.ensures)
+
+pub returns-clause-read : goal.returns-clause-read
+returns-clause-read c =
+    let takes = rw c.if-not-branch.false at c.in_ok-next.ensures.reads in
+    let whole : rows_from c.next.new.self ≡ rows_of c.args.bytes.items =
+    ap (λ (rs : List Row). rs ++ rows_to_come c.next.new.self) takes.1 ∙ sym takes.2 ∙ c.row_reader_of-reader.ensures.all ∙ ap rows_of c.deref.ensures.value in
+    subst (λ (rs : List Row). AreReads c.args.trips.now c.args.stops.now rs c.in_ok-read_rows.field-0) whole c.in_ok-read_rows.ensures

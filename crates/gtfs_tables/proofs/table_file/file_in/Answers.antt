@@ -1,4 +1,4 @@
-use Rattle.std.proofs.Common.{ℕ, List, Option, Vec, option_map}
+use Rattle.std.proofs.Common.{ℕ, List, Vec, option_map}
 use Rattle.std.specs.declared.alloc.Global.{Global}
 use Rattle.table_rows.specs.Folder.{file_outcome}
 use Rattle.table_rows.specs.Outcome.{Answers, rose_at}

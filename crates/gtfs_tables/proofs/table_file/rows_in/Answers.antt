@@ -1,11 +1,11 @@
-use Rattle.std.proofs.Common.{◌≡◌, ℕ, List, Option, Some, Ok, Result, Err, Vec, option_map, ap, sym, subst, ◌∙◌}
+use Rattle.std.proofs.Common.{◌≡◌, ℕ, List, Option, Ok, Result, Err, Vec, option_map, ap, sym, subst, ◌∙◌}
 use Rattle.std.specs.declared.alloc.Global.{Global}
 use Rattle.std.proofs.lemmas.Result.{err_from_is_err_and}
 use Rattle.table_rows.specs.declared.fault.FeedFault.{FeedFault}
 use Rattle.table_rows.specs.Cells.{Row}
 use Rattle.gtfs_tables.specs.Steps.{OfFile}
 use Rattle.table_rows.specs.Folder.{file_outcome, required_rows}
-use Rattle.table_rows.specs.Outcome.{◌>>=◌, Answers, Refuses, rose_at, never}
+use Rattle.table_rows.specs.Outcome.{Answers, Refuses, rose_at, never}
 use Rattle.gtfs_tables.specs.Feed.{table_outcome}
 use Rattle.gtfs_tables.proofs.StepLemmas.{of_file_weaker, refuses_then, answers_after}
 use Rattle.gtfs_tables.proofs.FewRows.{few_rows}

@@ -1,4 +1,4 @@
-use Rattle.std.proofs.Common.{◌∙◌, ◌++◌, ◌∷◌, [], ap, sym, map, arith}
+use Rattle.std.proofs.Common.{◌∙◌, ◌++◌, ◌∷◌, [], ap, sym, arith}
 use Rattle.table_rows.specs.Cells.{row_at}
 use Rattle.table_rows.proofs.RowLemmas.{map_before}
 use Rattle.gtfs_tables.specs.Trips.{shape_in}

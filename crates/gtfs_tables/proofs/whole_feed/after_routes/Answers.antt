@@ -1,17 +1,12 @@
-use Rattle.std.proofs.Common.{◌≡◌, ◌∙◌, ℕ, List, Option, Some, None, Result, Ok, Err, Vec, option_map, length, refl, ap, sym, subst, arith}
-use Rattle.std.specs.declared.alloc.Global.{Global}
+use Rattle.std.proofs.Common.{refl, subst}
 use Rattle.std.proofs.lemmas.Result.{err_from_is_err_and}
 use Rattle.table_rows.specs.declared.why.Table.TheVariants as tables
 use Rattle.table_rows.specs.Outcome.{Answers}
-use Rattle.table_rows.specs.Folder.{file_outcome}
-use Rattle.gtfs_tables.specs.Feed.{table_outcome, feed_of, feed_outcome}
-use Rattle.gtfs_tables.specs.Steps.{OfFolder, FailsAt, feed_after_routes, feed_after_stops, feed_after_trips, feed_after_shapes, before_any, before_stops, before_trips, before_shapes, before_stop_times}
-use Rattle.gtfs_tables.specs.Routes.{feed_routes}
+use Rattle.gtfs_tables.specs.Feed.{table_outcome}
+use Rattle.gtfs_tables.specs.Steps.{OfFolder, FailsAt, feed_after_routes, feed_after_stops, before_stops, before_trips}
 use Rattle.gtfs_tables.specs.Leads.{feed_stops}
-use Rattle.gtfs_tables.specs.Trips.{trips_of}
-use Rattle.gtfs_tables.specs.Shapes.{shapes_of_file}
 use Rattle.gtfs_tables.proofs.StepLemmas.{step_unread, step_refused, step_went_on}
-use Rattle.gtfs_tables.proofs.StepCases.{routes_later, stops_later, trips_later, shapes_later}
+use Rattle.gtfs_tables.proofs.StepCases.{stops_later}
 use Rattle.gtfs_tables.proofs.GoodStops.{good_stops}
 use Rattle.gtfs_tables.proofs.whole_feed.after_routes.Goals as goal
 

@@ -1,7 +1,7 @@
-use Rattle.std.proofs.Common.{◌≡◌, ◌∙◌, Ok, sym, subst, ap}
+use Rattle.std.proofs.Common.{◌∙◌, sym}
 use Rattle.table_rows.specs.Outcome.{Answers}
-use Rattle.gtfs_tables.specs.Feed.{Folder, feed_outcome, may_fail, before}
-use Rattle.gtfs_tables.specs.Steps.{OfFolder, FailsAt, before_any}
+use Rattle.gtfs_tables.specs.Feed.{feed_outcome, may_fail}
+use Rattle.gtfs_tables.specs.Steps.{FailsAt, before_any}
 use Rattle.gtfs_tables.proofs.StepLemmas.{told_whole, answers_weaker, of_folder_weaker}
 use Rattle.gtfs_tables.proofs.StepCases.{before_is}
 use Rattle.gtfs_tables.proofs.whole_feed.read_tables.Goals as goal

@@ -1,0 +1,55 @@
+//! The rows of a table, read one at a time.
+
+ghost use Rattle.std.specs.Prelude.{◌≡◌, OnOk, IfOk};
+ghost use Rattle.gtfs_fields.specs.Records.{records_of};
+ghost use Rattle.gtfs_fields.specs.RowByRow.{IsReading, Reads, row_read, rows_to_come};
+
+use crate::records::{read_next, reader_of};
+use crate::rows::Rows;
+use csv::{ByteRecord, Reader};
+use map_base::NoMemory;
+use std::alloc::Global;
+
+/// Reads the rows of a table one at a time, the header first, and keeps the one that it read last.
+#[derive(Drop)]
+pub struct RowReader<'a> {
+    reader: Reader<&'a [u8]>,
+    buffer: ByteRecord,
+    row: Rows,
+}
+
+impl<'a> RowReader<'a> {
+    /// A reader of all rows of these bytes, which are those that `read_rows` gives.
+    #[tactic(auto, unfolding(crate::specs::RowByRow::IsReading, crate::specs::RowByRow::rows_to_come))]
+    pub fn new(alloc: Global, bytes: &'a [u8]) -> RowReader<'a>
+        ensures reading { IsReading result }
+        ensures all { rows_to_come result ≡ records_of bytes.now }
+    {
+        RowReader {
+            reader: reader_of(alloc, bytes),
+            buffer: ByteRecord::new(alloc),
+            row: Rows::new(alloc),
+        }
+    }
+
+    /// Reads the next row, and says whether there was one. Where memory is wanting, no more can be read.
+    #[tactic(auto, unfolding(crate::specs::RowByRow::IsReading, crate::specs::RowByRow::rows_to_come))]
+    pub fn next(&mut self) -> Result<bool, NoMemory>
+        requires { IsReading self.old }
+        ensures reading { OnOk result (IsReading self.new) }
+        ensures reads { IfOk result (λ found. Reads self.old found self.new) }
+    {
+        let found = read_next(&mut self.reader, &mut self.buffer)?;
+        if found {
+            self.row.hold(&self.buffer)?;
+        }
+        Ok(found)
+    }
+
+    /// The row that was read last, as the only one of a table.
+    pub fn row(&self) -> &Rows
+        ensures { result.now ≡ row_read self.now }
+    {
+        &self.row
+    }
+}
