@@ -10,6 +10,8 @@ pub mod Classes
 pub mod Pointing
 pub mod Placing
 pub mod PlaceLemmas
-pub mod PlaceCosts
 pub mod PartLemmas
 pub mod PrefixLemmas
+pub mod TableLemmas
+pub mod PlaceCosts
+pub mod PrefixMemory

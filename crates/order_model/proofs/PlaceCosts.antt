@@ -1,21 +1,25 @@
 -- What terms cost by the places of lines is what they cost under the orders.
-use Rattle.std.proofs.Common.{◌≡◌, ◌≢◌, ℕ, zero, suc, ◌+◌, ◌<◌, not, cond, List, [], ◌∷◌, length, get_or, refl, sym, ◌∙◌, ap, subst, arith, inl, inr, ◌++◌, length-append}
+use Rattle.std.proofs.Common.{◌≡◌, ◌≢◌, ℕ, zero, suc, ◌+◌, ◌<◌, ◌≤◌, not, cond, List, [], ◌∷◌, length, get_or, refl, sym, ◌∙◌, ap, subst, arith, inl, inr, ◌++◌, length-append}
 use Rattle.std.specs.Prelude.{IsPermutation}
 use Rattle.std.specs.List.{All, Contains, sum_by}
 use Rattle.std.proofs.Math.Seq.{get_or-append_seam}
 use Rattle.std.proofs.lemmas.List.{get_or-map, length-map, get_or_append_left}
-use Rattle.std.proofs.lemmas.List.Elements.{All-head, All-tail}
+use Rattle.std.proofs.lemmas.List.Elements.{All-nil, All-cons, All-head, All-tail}
 use Rattle.std.proofs.lemmas.List.Sums.{sum_by-cons}
-use Rattle.std.proofs.lemmas.List.Sorted.{Contains-permutation}
+use Rattle.std.proofs.lemmas.List.Sorted.{length_permutation}
 use Rattle.map_base.specs.declared.ids.SegId.{SegId}
 use Rattle.map_base.specs.declared.ids.LineId.{LineId}
 use Rattle.graph_core.specs.Consistent.{AreRising}
 use Rattle.order_model.specs.declared.term.Term.{Term}
 use Rattle.order_model.specs.declared.term.Term.TheVariants.{Side, Link, Apart}
-use Rattle.order_model.specs.Problems.{lines_on, IsTerm}
+use Rattle.order_model.specs.declared.problem.ProblemParts.{ProblemParts}
+use Rattle.order_model.specs.Problems.{lines_on, IsTerm, IsProblem, choices}
 use Rattle.order_model.specs.Costs.{AreOrders, comes_before, are_neighbours, same_answer, is_met, term_cost, weight_of}
-use Rattle.order_model.specs.Places.{place_of, places_in, ArePlaces, HavePlaces, place_by, before_by, beside_by, is_met_by, cost_by}
-use Rattle.order_model.proofs.PlaceLemmas.{no_line, same_or_not, AreOnce, order_once, line_at_place, place_below, before_is, beside_is}
+use Rattle.order_model.specs.Places.{place_of, no_place, place_in, places_in, AreShort, ArePlaces, HavePlaces, place_by, before_by, beside_by, is_met_by, cost_by}
+use Rattle.order_model.specs.Prefixes.{Placement, IsPrefixOf}
+use Rattle.order_model.proofs.PlaceLemmas.{no_line, same_or_not, AreOnce, order_once, line_at_place, place_below}
+use Rattle.order_model.proofs.PrefixLemmas.{few_apart}
+use Rattle.order_model.proofs.TableLemmas.{apart_once, before_in, beside_in}
 
 pub order_at : (segs orders : List (List LineId)) (s : ℕ) → AreOrders segs orders → s < length segs → IsPermutation (get_or segs s []) (get_or orders s [])
 order_at [] [] s h below = absurd (omega (arith, below))
@@ -28,7 +32,7 @@ pub have_places : (segs orders : List (List LineId)) (places : List (List ℕ)) 
 have_places segs orders places rising h = record {
   rising = rising;
   each = h.each;
-  lines = λ s below. ap length (h.at s below) ∙ length-map (get_or segs s []) (place_of (get_or orders s []));
+  lines = λ s below. ap length (h.at s below) ∙ length-map (get_or segs s []) (place_in (get_or orders s []));
 }
 
 -- one more segment has its places
@@ -48,28 +52,45 @@ push_table segs orders places fresh s xs lines order each before is made lines_i
       | inr n ↦ get_or_append_left places (xs ∷ []) [] k (omega (arith, each, h, n)) ∙ before k (omega (arith, h, n))
     ]
 
-module _ (segs orders : List (List LineId)) (places : List (List ℕ)) (rising : All AreRising segs) (are : AreOrders segs orders) (made : ArePlaces segs orders places) where
-  place_is : (s : SegId) (a : LineId) → s.0 < length segs → Contains (lines_on segs s) a → place_by segs places s a ≡ place_of (lines_on orders s) a
+-- lists of placed lines of short segments, apart from each other, with the tables of their places
+pub record HaveTables (segs orders : List (List LineId)) (places : List (List ℕ)) : Type 0 where
+  pub once : (s : ℕ) → s < length segs → AreOnce (get_or orders s [])
+  pub short : (s : ℕ) → s < length segs → length (get_or orders s []) < no_place
+  pub made : ArePlaces segs orders places
+
+pub orders_have_tables : (segs orders : List (List LineId)) (places : List (List ℕ)) → All AreRising segs → AreShort segs → AreOrders segs orders
+    → ArePlaces segs orders places → HaveTables segs orders places
+orders_have_tables segs orders places rising short are made = record {
+  once = λ s below. order_once (get_or segs s []) (get_or orders s []) (rising s [] below) (order_at segs orders s are below);
+  short = λ s below. omega (arith, short s [] below, length_permutation (get_or segs s []) (get_or orders s []) (order_at segs orders s are below));
+  made = made;
+}
+
+pub prefix_has_tables : (segs : List (List LineId)) (p : Placement) → AreShort segs → IsPrefixOf segs p → HaveTables segs p.placed p.places
+prefix_has_tables segs p short fits = record {
+  once = λ s below. apart_once (get_or p.placed s []) (fits.lines s below).apart;
+  short = λ s below. omega (arith, short s [] below, few_apart (get_or p.placed s []) (get_or segs s []) (fits.lines s below).apart (fits.lines s below).known);
+  made = fits.places;
+}
+
+module _ (segs orders : List (List LineId)) (places : List (List ℕ)) (have : HaveTables segs orders places) where
+  place_is : (s : SegId) (a : LineId) → s.0 < length segs → Contains (lines_on segs s) a → place_by segs places s a ≡ place_in (lines_on orders s) a
   place_is s a below on =
       let lines : List LineId = lines_on segs s in
       let order : List LineId = lines_on orders s in
-      ap (λ ps. get_or ps (place_of lines a) 0) (made.at s.0 below)
-      ∙ get_or-map (place_of order) lines (place_of lines a) no_line 0 (place_below lines a on)
-      ∙ ap (place_of order) (line_at_place lines a on)
+      ap (λ ps. get_or ps (place_of lines a) 0) (have.made.at s.0 below)
+      ∙ get_or-map (place_in order) lines (place_of lines a) no_line 0 (place_below lines a on)
+      ∙ ap (place_in order) (line_at_place lines a on)
 
   before_same : (s : SegId) (a b : LineId) → s.0 < length segs → a.0 ≢ b.0 → Contains (lines_on segs s) a → Contains (lines_on segs s) b
       → before_by segs places s a b ≡ comes_before (lines_on orders s) a b
-  before_same s a b below differ on_a on_b = rw (place_is s a below on_a, place_is s b below on_b) (sym (before_is (lines_on orders s) a b differ))
+  before_same s a b below differ on_a on_b =
+      rw (place_is s a below on_a, place_is s b below on_b) (sym (before_in (lines_on orders s) a b (have.short s.0 below) differ))
 
   beside_same : (s : SegId) (a b : LineId) → s.0 < length segs → a.0 ≢ b.0 → Contains (lines_on segs s) a → Contains (lines_on segs s) b
       → beside_by segs places s a b ≡ are_neighbours (lines_on orders s) a b
   beside_same s a b below differ on_a on_b =
-      let lines : List LineId = lines_on segs s in
-      let order : List LineId = lines_on orders s in
-      let perm : IsPermutation lines order = order_at segs orders s.0 are below in
-      let apart : AreOnce order = order_once lines order (rising s.0 [] below) perm in
-      rw (place_is s a below on_a, place_is s b below on_b)
-      (sym (beside_is order a b apart differ (Contains-permutation lines order a perm on_a) (Contains-permutation lines order b perm on_b)))
+      rw (place_is s a below on_a, place_is s b below on_b) (sym (beside_in (lines_on orders s) a b (have.once s.0 below) (have.short s.0 below) differ))
 
   met_same : (t : Term) → IsTerm segs t → is_met_by segs places t ≡ is_met orders t
   met_same (Side seg first second w) h = before_same seg second first h.seg_known (λ e. h.differ (sym e)) h.second_on h.first_on
@@ -93,3 +114,13 @@ module _ (segs orders : List (List LineId)) (places : List (List ℕ)) (rising :
       let first = cost_same t (All-head (IsTerm segs) t terms h) in
       let rest = costs_same terms (All-tail (IsTerm segs) t terms h) in
       omega (arith, sum_by-cons (cost_by segs places) t terms, sum_by-cons (term_cost orders) t terms, first, rest)
+
+-- no segment of a problem has too many lines
+pub short_problem : (p : ProblemParts) → IsProblem p → AreShort p.segs
+short_problem p ok = short_each p.segs (omega (arith, ok.few_choices))
+  where
+    short_each : (segs : List (List LineId)) → sum_by choices segs ≤ 20000000 → AreShort segs
+    short_each [] few = All-nil (λ (lines : List LineId). length lines < no_place)
+    short_each (lines ∷ segs) few =
+        let sum = sum_by-cons choices lines segs in
+        All-cons (λ (ls : List LineId). length ls < no_place) lines segs (omega (arith, few, sum)) (short_each segs (omega (arith, few, sum)))

@@ -1,26 +1,19 @@
 -- The places of lines in orders.
-use Rattle.std.proofs.Common.{◌≡◌, ◌≢◌, ℕ, zero, suc, ◌+◌, ◌<◌, ◌≤◌, ◌==◌, ◌-◌, ◌||◌, nat_lt, Bool, true, false, cond, List, [], ◌∷◌, length, set, get_or, refl, sym, ◌∙◌, ap, subst, arith, inl, inr, ◌⊎◌, eqb-true}
+use Rattle.std.proofs.Common.{◌≡◌, ◌≢◌, ℕ, zero, suc, ◌+◌, ◌<◌, ◌≤◌, ◌==◌, ◌-◌, ◌||◌, nat_lt, Bool, true, false, cond, List, [], ◌∷◌, length, get_or, refl, sym, ◌∙◌, ap, arith, inl, inr, ◌⊎◌, eqb-true}
 use Rattle.std.specs.Prelude.{IsPermutation}
 use Rattle.std.specs.List.{Contains, sum_by}
 use Rattle.std.proofs.lemmas.Bool.{eqb-false}
 use Rattle.std.proofs.lemmas.Bool.Decides.{nat_tests}
-use Rattle.std.proofs.lemmas.List.{get_or-map, length-map, length-set, get_or-set_same, get_or-set_other, ext_get_or}
-use Rattle.std.proofs.lemmas.List.Elements.{Contains-get_or}
 use Rattle.std.proofs.lemmas.List.Sums.{sum_by-cons}
-use Rattle.std.proofs.lemmas.List.Sorted.{sum_by-IsPermutation, IsPermutation-sym, Contains-permutation}
+use Rattle.std.proofs.lemmas.List.Sorted.{sum_by-IsPermutation}
 use Rattle.map_base.specs.declared.ids.LineId.{LineId}
 use Rattle.graph_core.specs.Consistent.{AreRising}
 use Rattle.order_model.specs.Costs.{comes_before, are_these, are_neighbours}
-use Rattle.order_model.specs.Places.{place_of, places_in, are_adjacent}
+use Rattle.order_model.specs.Places.{place_of, are_adjacent}
 use Rattle.order_model.proofs.GraphProblem.{contains_cases, rising_tail, rising_above}
 
 abbrev pub no_line : LineId
 no_line = record { 0 = 0 }
-
--- the places of the first i lines of the order are written
-pub record ArePut (lines order : List LineId) (i : ℕ) (places : List ℕ) : Type 0 where
-  pub each : length places ≡ length lines
-  pub at : (k : ℕ) → k < i → get_or places (place_of lines (get_or order k no_line)) 0 ≡ k
 
 -- Lists in which no line stands twice.
 
@@ -34,10 +27,10 @@ times a xs = sum_by (once a) xs
 abbrev pub AreOnce : List LineId → Type 0
 AreOnce xs = (a : LineId) → times a xs ≤ 1
 
-times_here : (a x : LineId) (xs : List LineId) → x.0 ≡ a.0 → times a (x ∷ xs) ≡ 1 + times a xs
+pub times_here : (a x : LineId) (xs : List LineId) → x.0 ≡ a.0 → times a (x ∷ xs) ≡ 1 + times a xs
 times_here a x xs e = let one : once a x ≡ 1 = grind (arith, nat_tests) in omega (arith, sum_by-cons (once a) x xs, one)
 
-times_not_here : (a x : LineId) (xs : List LineId) → x.0 ≢ a.0 → times a (x ∷ xs) ≡ times a xs
+pub times_not_here : (a x : LineId) (xs : List LineId) → x.0 ≢ a.0 → times a (x ∷ xs) ≡ times a xs
 times_not_here a x xs e = let none : once a x ≡ 0 = grind (arith, nat_tests) in omega (arith, sum_by-cons (once a) x xs, none)
 
 pub same_or_not : (m n : ℕ) → (m ≡ n) ⊎ (m ≢ n)
@@ -53,7 +46,7 @@ none_above a x (y ∷ xs) below rising =
     let differ : y.0 ≢ a.0 = omega (arith, rising.0) in
     times_not_here a y xs differ ∙ none_above a y xs (omega (arith, rising.0)) rising.1
 
-rising_once : (xs : List LineId) → AreRising xs → AreOnce xs
+pub rising_once : (xs : List LineId) → AreRising xs → AreOnce xs
 rising_once [] rising a = omega arith
 rising_once (x ∷ xs) rising a = elim (same_or_not x.0 a.0) [
   | inl e ↦ omega (arith, times_here a x xs e, none_above a x xs (omega (arith, e)) rising)
@@ -63,10 +56,10 @@ rising_once (x ∷ xs) rising a = elim (same_or_not x.0 a.0) [
 pub order_once : (lines order : List LineId) → AreRising lines → IsPermutation lines order → AreOnce order
 order_once lines order rising perm a = omega (arith, sum_by-IsPermutation (once a) lines order perm, rising_once lines rising a)
 
-once_head : (x : LineId) (xs : List LineId) → AreOnce (x ∷ xs) → times x xs ≡ 0
+pub once_head : (x : LineId) (xs : List LineId) → AreOnce (x ∷ xs) → times x xs ≡ 0
 once_head x xs h = omega (arith, h x, times_here x x xs refl)
 
-once_tail : (x : LineId) (xs : List LineId) → AreOnce (x ∷ xs) → AreOnce xs
+pub once_tail : (x : LineId) (xs : List LineId) → AreOnce (x ∷ xs) → AreOnce xs
 once_tail x xs h a = elim (same_or_not x.0 a.0) [
   | inl e ↦ omega (arith, h a, times_here a x xs e)
   | inr n ↦ omega (arith, h a, times_not_here a x xs n)
@@ -82,13 +75,13 @@ none_at a (x ∷ xs) (suc k) h below = elim (same_or_not x.0 a.0) [
 
 -- Where a line stands.
 
-place_here : (x a : LineId) (xs : List LineId) → x.0 ≡ a.0 → place_of (x ∷ xs) a ≡ 0
+pub place_here : (x a : LineId) (xs : List LineId) → x.0 ≡ a.0 → place_of (x ∷ xs) a ≡ 0
 place_here x a xs e = grind (arith, nat_tests)
 
-place_later : (x a : LineId) (xs : List LineId) → x.0 ≢ a.0 → place_of (x ∷ xs) a ≡ 1 + place_of xs a
+pub place_later : (x a : LineId) (xs : List LineId) → x.0 ≢ a.0 → place_of (x ∷ xs) a ≡ 1 + place_of xs a
 place_later x a xs n = grind (arith, nat_tests)
 
-line_is : (a b : LineId) → a.0 ≡ b.0 → a ≡ b
+pub line_is : (a b : LineId) → a.0 ≡ b.0 → a ≡ b
 line_is a b e = ap (λ (n : ℕ). let l : LineId = record { 0 = n } in l) e
 
 -- a line of a list that is not its first is one of the others
@@ -144,7 +137,7 @@ these_not_second x y a b m n = grind (arith, nat_tests)
 these_not_first : (x y a b : LineId) → x.0 ≢ a.0 → x.0 ≢ b.0 → are_these x y a b ≡ false
 these_not_first x y a b m n = grind (arith, nat_tests)
 
-not_beside : (xs : List LineId) (a b : LineId) → times a xs ≡ 0 → are_neighbours xs a b ≡ false
+pub not_beside : (xs : List LineId) (a b : LineId) → times a xs ≡ 0 → are_neighbours xs a b ≡ false
 not_beside [] a b h = refl
 not_beside (x ∷ []) a b h = refl
 not_beside (x ∷ y ∷ xs) a b h =
@@ -153,7 +146,7 @@ not_beside (x ∷ y ∷ xs) a b h =
     let later : times a (y ∷ xs) ≡ 0 = sym (times_not_here a x (y ∷ xs) no_x) ∙ h in
     rw (these_not x y a b no_x no_y) (not_beside (y ∷ xs) a b later)
 
-not_beside_second : (xs : List LineId) (a b : LineId) → times b xs ≡ 0 → are_neighbours xs a b ≡ false
+pub not_beside_second : (xs : List LineId) (a b : LineId) → times b xs ≡ 0 → are_neighbours xs a b ≡ false
 not_beside_second [] a b h = refl
 not_beside_second (x ∷ []) a b h = refl
 not_beside_second (x ∷ y ∷ xs) a b h =
@@ -244,53 +237,3 @@ rank_before (x ∷ xs) a (suc m) rising on below h = elim (same_or_not x.0 a.0) 
   | inl e ↦ omega (arith, place_here x a xs e)
   | inr n ↦ omega (arith, place_later x a xs n, rank_before xs a m (rising_tail x xs rising) (later_one x a xs n on) (omega (arith, below)) h)
 ]
-
--- The places written so far.
-
-module _ (lines order : List LineId) (rising : AreRising lines) (perm : IsPermutation lines order) where
-  pub line_known : (k : ℕ) → k < length order → Contains lines (get_or order k no_line)
-  line_known k below = Contains-permutation order lines (get_or order k no_line) (IsPermutation-sym lines order perm) (Contains-get_or order k no_line below)
-
-  order_apart : AreOnce order
-  order_apart = order_once lines order rising perm
-
-  -- different places of the order have lines at different places
-  places_differ : (k i : ℕ) → k < length order → i < length order → place_of lines (get_or order k no_line) ≡ place_of lines (get_or order i no_line) → k ≡ i
-  places_differ k i k_below i_below e =
-      let same : get_or order k no_line ≡ get_or order i no_line =
-      sym (line_at_place lines (get_or order k no_line) (line_known k k_below)) ∙ ap (λ r. get_or lines r no_line) e
-      ∙ line_at_place lines (get_or order i no_line) (line_known i i_below) in
-      sym (place_of_line order k order_apart k_below) ∙ ap (place_of order) same ∙ place_of_line order i order_apart i_below
-
-  abbrev place_at : ℕ → ℕ
-  place_at k = place_of lines (get_or order k no_line)
-
-  pub put_one : (i : ℕ) (places : List ℕ) → i < length order → ArePut lines order i places
-      → ArePut lines order (i + 1) (set places (place_of lines (get_or order i no_line)) i)
-  put_one i places below put = record {
-    each = length-set places (place_of lines (get_or order i no_line)) i ∙ put.each;
-    at = λ k h. elim (same_or_not k i) [
-      | inl e ↦ subst (λ j. get_or (set places (place_at i) i) (place_of lines (get_or order j no_line)) 0 ≡ j) (sym e) (get_or-set_same places (place_at i) i 0 within)
-      | inr n ↦ get_or-set_other places (place_at i) (place_at k) i 0 (λ e. n (places_differ k i (omega (arith, h, below)) below e))
-          ∙ put.at k (omega (arith, h, n))
-    ];
-  }
-    where
-      within : place_at i < length places
-      within = omega (arith, put.each, place_below lines (get_or order i no_line) (line_known i below))
-
-  pub all_put : (places : List ℕ) → ArePut lines order (length order) places → places ≡ places_in lines order
-  all_put places put = ext_get_or 0 places (places_in lines order) (put.each ∙ sym (length-map lines (place_of order))) at
-    where
-      at : (r : ℕ) → r < length places → get_or places r 0 ≡ get_or (places_in lines order) r 0
-      at r below =
-          let within : r < length lines = omega (arith, put.each, below) in
-          let a : LineId = get_or lines r no_line in
-          let on : Contains order a = Contains-permutation lines order a perm (Contains-get_or lines r no_line within) in
-          let back : place_of lines (get_or order (place_of order a) no_line) ≡ r =
-          ap (place_of lines) (line_at_place order a on) ∙ place_of_line lines r (rising_once lines rising) within in
-          ap (λ k. get_or places k 0) (sym back) ∙ put.at (place_of order a) (place_below order a on)
-          ∙ sym (get_or-map (place_of order) lines r no_line 0 within)
-
-pub none_put : (lines order : List LineId) (places : List ℕ) → length places ≡ length lines → ArePut lines order 0 places
-none_put lines order places e = record { each = e; at = λ k h. absurd (omega (arith, h)) }

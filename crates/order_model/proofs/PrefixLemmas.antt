@@ -1,21 +1,19 @@
 -- Placing and taking back keep a prefix of its problem.
-use Rattle.std.proofs.Common.{◌≡◌, ℕ, zero, suc, ◌+◌, ◌-◌, ◌<◌, ◌≤◌, ◌==◌, ◌||◌, ◌&&◌, nat_le, not, Bool, true, false, cond, List, [], ◌∷◌, ◌++◌, length, map, take, set, get_or, refl, sym, ◌∙◌, ap, subst, arith, inl, inr, ◌⊎◌, true≢false, eqb-true, eq-eqb, length-append, Some, None}
+use Rattle.std.proofs.Common.{◌≡◌, ℕ, zero, suc, ◌+◌, ◌-◌, ◌<◌, ◌≤◌, ◌==◌, ◌||◌, ◌&&◌, nat_le, not, Bool, true, false, cond, List, [], ◌∷◌, ◌++◌, length, take, get_or, refl, sym, ◌∙◌, ap, subst, arith, inl, inr, ◌⊎◌, true≢false, eqb-true, eq-eqb, length-append, Some, None}
 use Rattle.std.specs.List.{All, Contains, filter, find}
 use Rattle.std.specs.Option.{option_to_list}
 use Rattle.std.proofs.Common.{append_assoc}
 use Rattle.std.proofs.Math.Seq.{take-append_seam}
 use Rattle.std.proofs.lemmas.Bool.{eqb-false, leb-true, le-leb}
 use Rattle.std.proofs.lemmas.Bool.Decides.{nat_tests}
-use Rattle.std.proofs.lemmas.List.{get_or-map, length-map, map-set, length-set, get_or-set_same, get_or-set_other, length-take-le}
+use Rattle.std.proofs.lemmas.List.{length-take-le}
 use Rattle.std.proofs.lemmas.List.Elements.{All-nil, All-cons, All-head, All-tail, All-push, All-take}
-use Rattle.std.specs.Prelude.{Vec, vec_capacity}
-use Rattle.std.specs.Global.{Global}
 use Rattle.map_base.specs.declared.ids.LineId.{LineId}
 use Rattle.graph_core.specs.Consistent.{AreRising}
-use Rattle.order_model.specs.Prefixes.{Placement, placement_of, is_placed, is_unplaced, with_line, last_placed, without_last, AreApart, ArePlacedLines, IsPrefixOf}
+use Rattle.order_model.specs.Prefixes.{is_placed, is_unplaced, with_line, last_placed, without_last, AreApart, ArePlacedLines}
 use Rattle.order_model.proofs.GraphProblem.{contains_first, contains_later, contains_kept, length_without, few_rising}
 
-neither : (a b : Bool) → (a || b) ≡ false → (a ≡ false) × (b ≡ false)
+pub neither : (a b : Bool) → (a || b) ≡ false → (a ≡ false) × (b ≡ false)
 neither true b h = absurd (true≢false h)
 neither false b h = (refl, h)
 
@@ -33,7 +31,7 @@ none_placed a (x ∷ xs) h =
     let both = neither (x.0 == a.0) (is_placed xs a) h in
     All-cons (λ (b : LineId). (b.0 == a.0) ≡ false) x xs both.0 (none_placed a xs both.1)
 
-few_apart : (xs known : List LineId) → AreApart xs → All (Contains known) xs → length xs ≤ length known
+pub few_apart : (xs known : List LineId) → AreApart xs → All (Contains known) xs → length xs ≤ length known
 few_apart [] known h all = omega arith
 few_apart (x ∷ xs) known h all =
     let kept : List LineId = filter (other_than x) known in
@@ -44,7 +42,7 @@ few_apart (x ∷ xs) known h all =
 
 -- A line that is not placed keeps lines apart.
 
-not_placed_push : (x a : LineId) (xs : List LineId) → is_placed xs x ≡ false → (a.0 == x.0) ≡ false → is_placed (xs ++ a ∷ []) x ≡ false
+pub not_placed_push : (x a : LineId) (xs : List LineId) → is_placed xs x ≡ false → (a.0 == x.0) ≡ false → is_placed (xs ++ a ∷ []) x ≡ false
 not_placed_push x a [] h e = rw e refl
 not_placed_push x a (y ∷ xs) h e =
     let both = neither (y.0 == x.0) (is_placed xs x) h in rw both.0 (not_placed_push x a xs both.1 e)
@@ -52,7 +50,7 @@ not_placed_push x a (y ∷ xs) h e =
 turned : (a b : ℕ) → (a == b) ≡ false → (b == a) ≡ false
 turned a b h = grind (arith, nat_tests)
 
-apart_push : (xs : List LineId) (a : LineId) → AreApart xs → is_placed xs a ≡ false → AreApart (xs ++ a ∷ [])
+pub apart_push : (xs : List LineId) (a : LineId) → AreApart xs → is_placed xs a ≡ false → AreApart (xs ++ a ∷ [])
 apart_push [] a h e = (refl, tt)
 apart_push (x ∷ xs) a h e =
     let both = neither (x.0 == a.0) (is_placed xs a) e in
@@ -64,7 +62,7 @@ not_placed_take (suc k) x [] h = refl
 not_placed_take (suc k) x (y ∷ xs) h =
     let both = neither (y.0 == x.0) (is_placed xs x) h in rw both.0 (not_placed_take k x xs both.1)
 
-apart_take : (k : ℕ) (xs : List LineId) → AreApart xs → AreApart (take k xs)
+pub apart_take : (k : ℕ) (xs : List LineId) → AreApart xs → AreApart (take k xs)
 apart_take zero xs h = tt
 apart_take (suc k) [] h = tt
 apart_take (suc k) (x ∷ xs) h = (not_placed_take k x xs h.0, apart_take k xs h.1)
@@ -77,11 +75,11 @@ placed_here x a xs true e later h =
     subst (λ y. Contains (x ∷ xs) y) same (contains_first x xs)
 placed_here x a xs false e later h = contains_later x a xs (later h)
 
-contains_placed : (xs : List LineId) (a : LineId) → is_placed xs a ≡ true → Contains xs a
+pub contains_placed : (xs : List LineId) (a : LineId) → is_placed xs a ≡ true → Contains xs a
 contains_placed [] a h = absurd (true≢false (sym h))
 contains_placed (x ∷ xs) a h = placed_here x a xs (x.0 == a.0) refl (contains_placed xs a) h
 
-found_one : (p : LineId → Bool) (xs : List LineId) → ((a : LineId) × (find p xs ≡ Some a) × Contains xs a × (p a ≡ true)) ⊎ ((find p xs ≡ None) × All (λ a. p a ≡ false) xs)
+pub found_one : (p : LineId → Bool) (xs : List LineId) → ((a : LineId) × (find p xs ≡ Some a) × Contains xs a × (p a ≡ true)) ⊎ ((find p xs ≡ None) × All (λ a. p a ≡ false) xs)
 found_one p [] = inr (refl, All-nil (λ a. p a ≡ false))
 found_one p (x ∷ xs) = by_test (p x) refl (found_one p xs)
   where
@@ -111,7 +109,7 @@ not_false : (b : Bool) → not b ≡ false → b ≡ true
 not_false true h = refl
 not_false false h = absurd (true≢false h)
 
-last_found : (lines now : List LineId) → AreRising lines → length now + 1 ≡ length lines → All (Contains lines) now → AreApart now
+pub last_found : (lines now : List LineId) → AreRising lines → length now + 1 ≡ length lines → All (Contains lines) now → AreApart now
     → ArePlacedLines lines (now ++ option_to_list (find (is_unplaced now) lines))
 last_found lines now rising e known apart = by_found (found_one (is_unplaced now) lines)
   where
@@ -165,83 +163,12 @@ placed_without_last lines placed ok some = by_tests (nat_le 2 (length lines)) (l
     by_tests true false p q = cut lines placed (length placed - 1) ok (omega arith) (λ f. absurd (eqb-false (length placed) (length lines) q (omega (arith, f, some))))
     by_tests false whole p q = cut lines placed (length placed - 1) ok (omega arith) (λ f. omega (arith, f, below_two (length lines) p))
 
--- The prefix as it lies in memory.
-
-abbrev pub items_of : Vec LineId Global → List LineId
-items_of v = v.items
-
-abbrev pub room_of : Vec LineId Global → ℕ
-room_of v = vec_capacity v
-
-pub prefix_after : (segs : List (List LineId)) (lists : List (Vec LineId Global)) (s : ℕ) (v : Vec LineId Global) → IsPrefixOf segs (placement_of lists)
-    → s < length segs → length (get_or segs s []) ≤ vec_capacity v → ArePlacedLines (get_or segs s []) v.items → IsPrefixOf segs (placement_of (set lists s v))
-prefix_after segs lists s v ok known room placed = record {
-  each = length-map (set lists s v) items_of ∙ length-set lists s v ∙ sym (length-map lists items_of) ∙ ok.each;
-  room_each = length-map (set lists s v) room_of ∙ length-set lists s v ∙ sym (length-map lists room_of) ∙ ok.room_each;
-  room = λ t below. by_room t below (t == s) refl;
-  lines = λ t below. by_lines t below (t == s) refl;
-}
-  where
-    within : s < length (map items_of lists)
-    within = omega (arith, ok.each)
-
-    within_room : s < length (map room_of lists)
-    within_room = omega (arith, ok.room_each)
-
-    by_lines : (t : ℕ) → t < length segs → (b : Bool) → (t == s) ≡ b → ArePlacedLines (get_or segs t []) (get_or (map items_of (set lists s v)) t [])
-    by_lines t below true e =
-        let same : s ≡ t = sym (eqb-true t s e) in
-        let is : get_or (map items_of (set lists s v)) s [] ≡ v.items =
-        ap (λ ls. get_or ls s []) (map-set items_of lists s v) ∙ get_or-set_same (map items_of lists) s v.items [] within in
-        subst (λ k. ArePlacedLines (get_or segs k []) (get_or (map items_of (set lists s v)) k [])) same (rw is placed)
-    by_lines t below false e =
-        let is : get_or (map items_of (set lists s v)) t [] ≡ get_or (map items_of lists) t [] =
-        ap (λ ls. get_or ls t []) (map-set items_of lists s v) ∙ get_or-set_other (map items_of lists) s t v.items [] (eqb-false t s e) in
-        rw is (ok.lines t below)
-
-    by_room : (t : ℕ) → t < length segs → (b : Bool) → (t == s) ≡ b → length (get_or segs t []) ≤ get_or (map room_of (set lists s v)) t 0
-    by_room t below true e =
-        let same : s ≡ t = sym (eqb-true t s e) in
-        let is : get_or (map room_of (set lists s v)) s 0 ≡ vec_capacity v =
-        ap (λ ls. get_or ls s 0) (map-set room_of lists s v) ∙ get_or-set_same (map room_of lists) s (vec_capacity v) 0 within_room in
-        subst (λ k. length (get_or segs k []) ≤ get_or (map room_of (set lists s v)) k 0) same (rw is room)
-    by_room t below false e =
-        let is : get_or (map room_of (set lists s v)) t 0 ≡ get_or (map room_of lists) t 0 =
-        ap (λ ls. get_or ls t 0) (map-set room_of lists s v) ∙ get_or-set_other (map room_of lists) s t (vec_capacity v) 0 (eqb-false t s e) in
-        rw is (ok.room t below)
-
--- the placed lines after a change of one segment's, which f gives of its lines and of those that were placed
-pub lists_after : (f : List LineId → List LineId → List LineId) (segs placed : List (List LineId)) (lists : List (Vec LineId Global)) (s : ℕ)
-    (lines : List LineId) (old fresh : Vec LineId Global) → map items_of lists ≡ placed → lines ≡ get_or segs s [] → old.items ≡ get_or (map items_of lists) s []
-    → fresh.items ≡ f lines old.items → map items_of (set lists s fresh) ≡ set placed s (f (get_or segs s []) (get_or placed s []))
-lists_after f segs placed lists s lines old fresh seen is was made =
-    map-set items_of lists s fresh
-    ∙ ap (λ x. set (map items_of lists) s x) (made ∙ ap (λ l. f l old.items) is ∙ ap (λ o. f (get_or segs s []) o) was)
-    ∙ ap (λ q. set q s (f (get_or segs s []) (get_or q s []))) seen
-
-pub list_at : (lists : List (Vec LineId Global)) (s : ℕ) (old : Vec LineId Global) → s < length lists → old ≡ get_or lists s old → old.items ≡ get_or (map items_of lists) s []
-list_at lists s old below is = ap items_of is ∙ sym (get_or-map items_of lists s old [] below)
-
-pub room_at : (lists : List (Vec LineId Global)) (s : ℕ) (old : Vec LineId Global) → s < length lists → old ≡ get_or lists s old → vec_capacity old ≡ get_or (map room_of lists) s 0
-room_at lists s old below is = ap room_of is ∙ sym (get_or-map room_of lists s old 0 below)
+-- The lines of a segment, as an index reads them.
 
 pub lines_at_segment : (segs : List (List LineId)) (s : ℕ) (lines : List LineId) → s < length segs → lines ≡ get_or segs s lines → lines ≡ get_or segs s []
 lines_at_segment [] s lines below is = absurd (omega arith)
 lines_at_segment (l ∷ segs) zero lines below is = is
 lines_at_segment (l ∷ segs) (suc s) lines below is = lines_at_segment segs s lines (omega arith) is
-
--- no line is placed at first
-pub none_placed_fits : (segs : List (List LineId)) (p : Placement) → p.placed ≡ map (λ _. []) segs → p.room ≡ map length segs → IsPrefixOf segs p
-none_placed_fits segs p placed room = record {
-  each = ap length placed ∙ length-map segs (λ _. []);
-  room_each = ap length room ∙ length-map segs length;
-  room = λ s below. (let is : get_or p.room s 0 ≡ length (get_or segs s []) = ap (λ r. get_or r s 0) room ∙ get_or-map length segs s [] 0 below in omega (arith, is));
-  lines = λ s below. (let is : get_or p.placed s [] ≡ [] = ap (λ q. get_or q s []) placed ∙ get_or-map (λ _. []) segs s [] [] below in
-      rw is (nothing (get_or segs s [])));
-}
-  where
-    nothing : (lines : List LineId) → ArePlacedLines lines []
-    nothing lines = record { known = All-nil (Contains lines); apart = tt; none_alone = λ e. omega (arith, e) }
 
 -- Taking back undoes the last placing.
 

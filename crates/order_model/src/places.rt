@@ -1,6 +1,6 @@
 //! The places of lines in orders.
 
-ghost use Rattle.std.specs.Prelude.{◌≡◌, ◌<◌, length, All, IfOk, IsPermutation};
+ghost use Rattle.std.specs.Prelude.{◌≡◌, ◌<◌, [], length, All, IfOk, IsPermutation};
 ghost use Rattle.graph_core.specs.Consistent.{AreRising};
 ghost use Rattle.order_model.specs.Costs.{AreOrders};
 ghost use Rattle.order_model.specs.Places.{places_in, no_place, ArePlaces, AreShort, tables_of};
@@ -44,9 +44,9 @@ fn places_in(alloc: Global, lines: &[LineId], order: &[LineId]) -> Result<Vec<u3
     Ok(places)
 }
 
-/// Writes the place of each of these lines in an order of them.
+/// Writes into a table with no place yet the place of each of these lines in an order of them.
 fn put_places(places: &mut [u32], lines: &[LineId], order: &[LineId])
-    requires each { length places.old ≡ length lines.now }
+    requires none { places.old ≡ places_in lines.now [] }
     requires rising { AreRising lines.now }
     requires short { length lines.now < no_place }
     requires order { IsPermutation lines.now order.now }

@@ -1,6 +1,6 @@
 //! Prefixes of orders: the lines placed so far on each segment of a problem.
 
-ghost use Rattle.std.specs.Prelude.{◌≡◌, ◌<◌, ◌≤◌, List, [], length, map, false, All, Contains, IfOk, slice_set, slice_index_or};
+ghost use Rattle.std.specs.Prelude.{◌≡◌, ◌<◌, ◌≤◌, List, [], length, map, false, All, Contains, IfOk, slice_set};
 ghost use Rattle.graph_core.specs.Consistent.{AreRising};
 ghost use Rattle.order_model.specs.Problems.{lines_on, IsTerm};
 ghost use Rattle.order_model.specs.Costs.{cost_of};

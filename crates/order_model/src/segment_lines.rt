@@ -1,10 +1,10 @@
 //! Lines placed on one segment, and taken back, with the table of their places.
 
-ghost use Rattle.std.specs.Prelude.{◌≡◌, ◌+◌, ◌<◌, ◌≤◌, List, ◌∷◌, [], ◌++◌, length, find, false, vec_len, vec_capacity, ◌-◌, All, Contains, IfSome, take, slice_index_or};
+ghost use Rattle.std.specs.Prelude.{◌≡◌, ◌+◌, ◌<◌, ◌-◌, ◌≤◌, ◌∷◌, [], ◌++◌, length, take, find, false, vec_len, vec_capacity, All, Contains, slice_index_or};
 ghost use Rattle.std.specs.Option.{option_to_list};
 ghost use Rattle.map_base.specs.declared.ids.LineId.{LineId};
 ghost use Rattle.graph_core.specs.Consistent.{AreRising};
-ghost use Rattle.order_model.specs.Places.{no_place, place_of, places_in, first_without_place, is_left_by};
+ghost use Rattle.order_model.specs.Places.{no_place, places_in, first_without_place, is_left_by};
 ghost use Rattle.order_model.specs.Prefixes.{is_placed, is_unplaced, with_line, without_last, AreApart, ArePlacedLines};
 
 use crate::places::NO_PLACE;
@@ -58,12 +58,12 @@ fn first_unplaced(places: &[u32]) -> Option<usize>
     None
 }
 
-/// Places a line, which has this rank.
+/// Places the line of this rank.
 fn push_at(placed: &mut Vec<LineId>, places: &mut [u32], lines: &[LineId], i: usize, line: LineId)
     requires rising { AreRising lines.now }
     requires short { length lines.now < no_place }
-    requires line { Contains lines.now line }
-    requires rank { i ≡ place_of lines.now line }
+    requires within { i < length lines.now }
+    requires line { line ≡ slice_index_or lines.now i line }
     requires places { places.old ≡ places_in lines.now placed.old.items }
     requires unplaced { is_placed placed.old.items line ≡ false }
     requires left { vec_len placed.old < length lines.now }

@@ -1,59 +1,57 @@
-use Rattle.std.proofs.Common.{◌≡◌, ◌∙◌, ap, sym, subst, get_or, length, map, [], List, Vec, Global, ◌<◌, ◌≤◌, arith}
-use Rattle.std.specs.Prelude.{vec_capacity}
-use Rattle.std.proofs.lemmas.List.{length-map}
+use Rattle.std.proofs.Common.{◌≡◌, ◌∙◌, ◌<◌, List, ap, sym, subst, get_or, length, [], arith}
+use Rattle.std.proofs.lemmas.List.{with_items_is, length-map}
 use Rattle.map_base.specs.declared.ids.LineId.{LineId}
-use Rattle.order_model.specs.Prefixes.{Placement, IsPrefixOf, ArePlacedLines, placement_of, without_last}
-use Rattle.order_model.proofs.PrefixLemmas.{items_of, placed_without_last, prefix_after, lists_after, list_at, lines_at_segment, room_at}
+use Rattle.order_model.specs.Places.{place_in}
+use Rattle.order_model.specs.Prefixes.{ArePlacedLines, without_last}
+use Rattle.order_model.proofs.PrefixLemmas.{placed_without_last, lines_at_segment}
+use Rattle.order_model.proofs.PrefixMemory.{IsAt, at_segment, placed_after, fits_after}
 use Rattle.order_model.proofs.prefix.Prefix.take_back.Goals as goal
+use Rattle.order_model.proofs.prefix.Prefix.take_back.Goals.{After-as_mut_slice-places}
+
+here : (c : After-as_mut_slice-places)
+    → IsAt c.args.problem.now.segs c.args.self.now c.self.inside.lists.items c.self.inside.places.items c.args.seg.0
+    c.as_slice-lines.result.now c.index_mut-placed.result.now c.as_mut_slice-places.result.now
+here c =
+    let lines : c.as_slice-lines.result.now ≡ get_or c.args.problem.now.segs c.args.seg.0 [] =
+    c.as_slice-lines.ensures ∙ lines_at_segment c.args.problem.now.segs c.args.seg.0 c.index-segs-seg.result c.requires.known
+    (c.index-segs-seg.is ∙ ap (λ ls. get_or ls c.args.seg.0 c.index-segs-seg.result) c.segs-segs.ensures.lists) in
+    at_segment c.args.problem.now.segs c.args.self.now c.self.inside.lists.items c.self.inside.places.items c.args.seg.0
+    c.as_slice-lines.result.now c.index_mut-placed.result.now c.index_mut.result.now c.as_mut_slice-places.result.now
+    c.self.view_is c.requires.fits c.requires.known lines c.index_mut-placed.ensures.value c.index_mut.ensures.value c.as_mut_slice-places.ensures.value
 
 pub take_last-requires : goal.take_last-requires
 take_last-requires c =
-    let segs : List (List LineId) = c.args.problem.now.segs in
-    let lists : List (Vec LineId Global) = c.self.inside.lists.items in
-    let fits : IsPrefixOf segs (placement_of lists) = subst (IsPrefixOf segs) (sym c.self.view_is) c.requires.fits in
-    let known : c.args.seg.0 < length lists = omega (arith, fits.each, length-map lists items_of, c.requires.known) in
-    let lines : c.as_slice-lines.result.now ≡ get_or segs c.args.seg.0 [] =
-    c.as_slice-lines.ensures ∙ lines_at_segment segs c.args.seg.0 c.index-segs-seg.result c.requires.known
-    (c.index-segs-seg.is ∙ ap (λ ls. get_or ls c.args.seg.0 c.index-segs-seg.result) c.segs-segs.ensures.lists) in
-    let seen : map items_of lists ≡ c.args.self.now.placed = ap (λ (p : Placement). p.placed) c.self.view_is in
-    let was : c.index_mut-placed.result.now.items ≡ get_or (map items_of lists) c.args.seg.0 [] =
-    list_at lists c.args.seg.0 c.index_mut-placed.result.now known c.index_mut-placed.ensures.value in
-    omega (arith, c.index_mut-placed.result.now.ok.0, ap length was, ap (λ ps. length (get_or ps c.args.seg.0 [])) seen, c.requires.some)
+    let at = here c in record {
+      rising = rw at.lines_are (c.segs-segs.ensures.fits.rising c.args.seg.0 [] c.requires.known);
+      fits = at.placed;
+      places = at.table_is;
+      some = omega (arith, c.index_mut-placed.result.now.ok.0, ap length at.list_is, c.requires.some);
+    }
 
 pub returns-clause-placed : goal.returns-clause-placed
 returns-clause-placed c =
-    let segs : List (List LineId) = c.args.problem.now.segs in
-    let lists : List (Vec LineId Global) = c.self.inside.lists.items in
-    let fits : IsPrefixOf segs (placement_of lists) = subst (IsPrefixOf segs) (sym c.self.view_is) c.requires.fits in
-    let known : c.args.seg.0 < length lists = omega (arith, fits.each, length-map lists items_of, c.requires.known) in
-    let lines : c.as_slice-lines.result.now ≡ get_or segs c.args.seg.0 [] =
-    c.as_slice-lines.ensures ∙ lines_at_segment segs c.args.seg.0 c.index-segs-seg.result c.requires.known
-    (c.index-segs-seg.is ∙ ap (λ ls. get_or ls c.args.seg.0 c.index-segs-seg.result) c.segs-segs.ensures.lists) in
-    let seen : map items_of lists ≡ c.args.self.now.placed = ap (λ (p : Placement). p.placed) c.self.view_is in
-    let was : c.index_mut-placed.result.now.items ≡ get_or (map items_of lists) c.args.seg.0 [] =
-    list_at lists c.args.seg.0 c.index_mut-placed.result.now known c.index_mut-placed.ensures.value in
-    lists_after without_last segs c.args.self.now.placed lists c.args.seg.0 c.as_slice-lines.result.now
-    c.index_mut-placed.result.now c.take_last.new.placed seen lines was c.take_last.ensures.items
+    let at = here (goal.at.returns-clause-placed c).After-as_mut_slice-places in
+    placed_after without_last c.args.problem.now.segs c.args.self.now c.self.inside.lists.items c.self.inside.places.items c.args.seg.0
+    c.as_slice-lines.result.now c.index_mut-placed.result.now c.as_mut_slice-places.result.now c.take_last.new.placed c.self.view_is at c.take_last.ensures.items
 
 pub returns-clause-fits : goal.returns-clause-fits
 returns-clause-fits c =
-    let segs : List (List LineId) = c.args.problem.now.segs in
-    let lists : List (Vec LineId Global) = c.self.inside.lists.items in
-    let fits : IsPrefixOf segs (placement_of lists) = subst (IsPrefixOf segs) (sym c.self.view_is) c.requires.fits in
-    let known : c.args.seg.0 < length lists = omega (arith, fits.each, length-map lists items_of, c.requires.known) in
-    let lines : c.as_slice-lines.result.now ≡ get_or segs c.args.seg.0 [] =
-    c.as_slice-lines.ensures ∙ lines_at_segment segs c.args.seg.0 c.index-segs-seg.result c.requires.known
-    (c.index-segs-seg.is ∙ ap (λ ls. get_or ls c.args.seg.0 c.index-segs-seg.result) c.segs-segs.ensures.lists) in
-    let seen : map items_of lists ≡ c.args.self.now.placed = ap (λ (p : Placement). p.placed) c.self.view_is in
-    let was : c.index_mut-placed.result.now.items ≡ get_or (map items_of lists) c.args.seg.0 [] =
-    list_at lists c.args.seg.0 c.index_mut-placed.result.now known c.index_mut-placed.ensures.value in
-    let made : c.take_last.new.placed.items ≡ without_last (get_or segs c.args.seg.0 []) (get_or (map items_of lists) c.args.seg.0 []) =
-    c.take_last.ensures.items ∙ ap (λ ls. without_last ls c.index_mut-placed.result.now.items) lines
-    ∙ ap (λ ps. without_last (get_or segs c.args.seg.0 []) ps) was in
-    let some : 0 < length (get_or (map items_of lists) c.args.seg.0 []) = omega (arith, ap (λ ps. length (get_or ps c.args.seg.0 [])) seen, c.requires.some) in
-    let placed : ArePlacedLines (get_or segs c.args.seg.0 []) c.take_last.new.placed.items =
-    subst (ArePlacedLines (get_or segs c.args.seg.0 [])) (sym made)
-    (placed_without_last (get_or segs c.args.seg.0 []) (get_or (map items_of lists) c.args.seg.0 []) (fits.lines c.args.seg.0 c.requires.known) some) in
-    let room : length (get_or segs c.args.seg.0 []) ≤ vec_capacity c.take_last.new.placed =
-    omega (arith, c.take_last.ensures.room, fits.room c.args.seg.0 c.requires.known, room_at lists c.args.seg.0 c.index_mut-placed.result.now known c.index_mut-placed.ensures.value) in
-    prefix_after segs lists c.args.seg.0 c.take_last.new.placed fits c.requires.known room placed
+    let at = here (goal.at.returns-clause-fits c).After-as_mut_slice-places in
+    let lines : List LineId = c.as_slice-lines.result.now in
+    let some : 0 < length c.index_mut-placed.result.now.items = omega (arith, ap length at.list_is, c.requires.some) in
+    let placed : ArePlacedLines lines c.take_last.new.placed.items =
+    subst (ArePlacedLines lines) (sym c.take_last.ensures.items) (placed_without_last lines c.index_mut-placed.result.now.items at.placed some) in
+    let count : length c.take_last.new.places ≡ c.index_mut.result.now.len =
+    omega (
+      arith,
+      c.index_mut.result.now.ok.0,
+      ap length c.as_mut_slice-places.ensures.value,
+      ap length at.table_is,
+      length-map lines (place_in c.index_mut-placed.result.now.items),
+      ap length c.take_last.ensures.places,
+      length-map lines (place_in c.take_last.new.placed.items),
+    ) in
+    fits_after c.args.problem.now.segs c.args.self.now c.self.inside.lists.items c.self.inside.places.items c.args.seg.0
+    lines c.index_mut-placed.result.now c.as_mut_slice-places.result.now c.take_last.new.placed _ at
+    (omega (arith, at.room, c.take_last.ensures.room)) placed
+    (with_items_is c.index_mut.result.now c.take_last.new.places count ∙ c.take_last.ensures.places)

@@ -1,7 +1,0 @@
-use Rattle.std.proofs.Common.{◌≡◌, ◌*◌, ◌≤◌, take}
-use Rattle.std.specs.List.{sum_by}
-use Rattle.order_model.specs.Costs.{term_cost}
-use Rattle.order_model.proofs.prefix.Prefix.cost.Given as goal
-
-abbrev pub invariant-loop-term : goal.invariant-loop-term
-invariant-loop-term l = (l.total ≡ sum_by (term_cost l.self.placed) (take l.term-index l.terms)) × (l.total ≤ 256000 * l.term-index)
