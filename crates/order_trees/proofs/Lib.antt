@@ -1,5 +1,11 @@
 pub mod Lines
 pub mod Sound
 pub mod Shares
+pub mod PartLists
 pub mod Failing
-pub mod Marking
+pub mod PartNumbers
+pub mod TermParts
+pub mod KeptTerms
+pub mod LeftCounts
+pub mod Numbering
+pub mod Grouping

@@ -1,5 +1,5 @@
 -- The terms of parts that share no segment cost no more than all terms.
-use Rattle.std.proofs.Common.{◌≡◌, ℕ, zero, suc, ◌+◌, ◌<◌, ◌≤◌, ◌==◌, Bool, true, false, cond, List, [], ◌∷◌, length, refl, sym, ap, arith, inl, inr, true≢false, eqb-true, IsTrue}
+use Rattle.std.proofs.Common.{◌≡◌, ℕ, zero, suc, ◌+◌, ◌<◌, ◌≤◌, ◌==◌, ◌||◌, Bool, true, false, cond, List, [], ◌∷◌, length, refl, sym, ap, arith, inl, inr, true≢false, eqb-true, eq-eqb, IsTrue}
 use Rattle.std.specs.List.{All, Contains, AllByRecursion, sum_by}
 use Rattle.std.proofs.lemmas.List.Elements.{All-contains}
 use Rattle.std.proofs.lemmas.List.Sums.{sum_by-cons}
@@ -14,7 +14,7 @@ use Rattle.order_trees.proofs.Lines.{either_true, both_true}
 
 -- Parts that share no segment.
 
-abbrev ShareNone : List SegId → List SegId → Type 0
+abbrev pub ShareNone : List SegId → List SegId → Type 0
 ShareNone p q = (s : SegId) → is_in p s ≡ true → is_in q s ≡ false
 
 abbrev pub AreApartParts : List (List SegId) → Type 0
@@ -28,13 +28,22 @@ contains_in (t ∷ p) s h = elim (either_true (t.0 == s.0) (is_in p s) h) [
   | inr later ↦ (let rest = contains_in p s later in (suc rest.0, omega (arith, rest.1), rest.2))
 ]
 
+pub in_contained : (p : List SegId) (s : SegId) → Contains p s → is_in p s ≡ true
+in_contained [] s c = absurd (omega (arith, c.1))
+in_contained (t ∷ p) s (zero, below, is) = rw (eq-eqb t.0 s.0 (ap (λ (u : SegId). u.0) is)) refl
+in_contained (t ∷ p) s (suc k, below, is) = or_later (t.0 == s.0) (is_in p s) (in_contained p s (k, omega (arith, below), is))
+  where
+    or_later : (a b : Bool) → b ≡ true → (a || b) ≡ true
+    or_later true b h = refl
+    or_later false b h = h
+
 rising_least : (p : List SegId) (t : SegId) → IsRisingPart p → Contains p t → least_of p ≤ t.0
 rising_least [] t h c = absurd h
 rising_least (s ∷ p) t h (zero, below, is) = let same : s.0 ≡ t.0 = ap (λ (u : SegId). u.0) is in omega (arith, same)
 rising_least (s ∷ []) t h (suc k, below, is) = absurd (omega (arith, below))
 rising_least (s ∷ u ∷ p) t h (suc k, below, is) = omega (arith, h.0, rising_least (u ∷ p) t h.1 (k, omega (arith, below), is))
 
-has_least : (p : List SegId) → IsRisingPart p → Contains p (record { 0 = least_of p })
+pub has_least : (p : List SegId) → IsRisingPart p → Contains p (record { 0 = least_of p })
 has_least [] h = absurd h
 has_least (s ∷ p) h = (0, omega arith, refl)
 

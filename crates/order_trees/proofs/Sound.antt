@@ -13,12 +13,12 @@ use Rattle.graph_core.specs.Consistent.{AreRising}
 use Rattle.order_model.specs.declared.term.Term.{Term}
 use Rattle.order_model.specs.Problems.{lines_on}
 use Rattle.order_model.specs.Costs.{seg_of, other_of, cost_on, term_cost, cost_of, AreOrders}
-use Rattle.order_model.specs.Prefixes.{is_placed, is_unplaced, with_line}
+use Rattle.order_model.specs.Prefixes.{is_placed, is_unplaced, is_left, with_line}
 use Rattle.order_proof.specs.Plain.{PlainTree, split, close, Cases, no_case, case_of}
 use Rattle.order_proof.specs.Trees.{is_among, lines_of}
 use Rattle.order_trees.specs.PartTerms.{is_in, is_of, part_terms}
 use Rattle.order_trees.specs.Completions.{BeginsWith, Completes, BoundsCompletions, placed_more, none_placed}
-use Rattle.order_trees.specs.Accepting.{Question, is_full, is_complete, is_left, are_those_left, is_split, accepts, accepts_cases}
+use Rattle.order_trees.specs.Accepting.{Question, is_full, is_complete, are_those_left, is_split, accepts, accepts_cases}
 use Rattle.order_trees.proofs.Lines.{both_true, either_true, not_true, same_line, all_has, has_append, has_permutation, order_distinct, not_before, begins_with_line}
 
 pub same_or_other : (i j : ℕ) → (i ≡ j) ⊎ (i ≢ j)

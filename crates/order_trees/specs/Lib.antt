@@ -1,0 +1,4 @@
+pub mod PartTerms
+pub mod Numbers
+pub mod Completions
+pub mod Accepting

@@ -17,3 +17,8 @@ pub record AreNumbers (parts : List (List SegId)) (count : ℕ) (numbers : List 
 pub record TellPart (part : List SegId) (k count : ℕ) (numbers : List ℕ) : Type 0 where
   pub each : length numbers ≡ count
   pub told : (s : SegId) → s.0 < count → (slice_index_or numbers s.0 0 == k) ≡ is_in part s
+
+-- these segments have been given number k, and all others keep theirs
+pub record AreGiven (part : List SegId) (k : ℕ) (before after : List ℕ) : Type 0 where
+  pub each : length after ≡ length before
+  pub told : (s : SegId) → s.0 < length before → slice_index_or after s.0 0 ≡ (if is_in part s then k else slice_index_or before s.0 0)

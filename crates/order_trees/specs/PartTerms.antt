@@ -1,5 +1,5 @@
 -- The terms of a part, and its orders that cost least.
-use Rattle.std.specs.Prelude.{◌≤◌, ◌==◌, Bool, ◌&&◌, List, filter, map}
+use Rattle.std.specs.Prelude.{ℕ, zero, suc, ◌≤◌, ◌==◌, Bool, ◌&&◌, List, [], ◌∷◌, ◌++◌, filter, map, slice_index_or, slice_set}
 use Rattle.std.specs.Prelude.{Vec}
 use Rattle.std.specs.Global.{Global}
 use Rattle.std.specs.List.{list_any}
@@ -23,6 +23,15 @@ part_terms terms part = filter (is_of part) terms
 -- lists of terms as they lie in memory
 abbrev pub term_lists : List (Vec Term Global) → List (List Term)
 term_lists groups = map (λ (v : Vec Term Global). v.items) groups
+
+-- so many lists without a term
+abbrev pub no_terms : ℕ → List (List Term)
+no_terms zero = []
+no_terms (suc n) = [] ∷ no_terms n
+
+-- the term is added to one of the lists
+abbrev pub with_term : ℕ → Term → List (List Term) → List (List Term)
+with_term k t lists = slice_set lists k (slice_index_or lists k [] ++ t ∷ [])
 
 -- no orders of these segments cost less
 abbrev pub AreBest : List (List LineId) → List Term → List (List LineId) → Type 0

@@ -1,9 +1,10 @@
 //! The part of each segment, by number.
 
-ghost use Rattle.std.specs.Prelude.{◌≡◌, ◌<◌, ◌^◌, length, IfOk};
+ghost use Rattle.std.specs.Prelude.{◌≡◌, ◌<◌, length, All, IfOk, slice_set};
+ghost use Rattle.map_base.specs.declared.ids.SegId.{SegId};
 ghost use Rattle.order_model.specs.Parts.{AreParts};
 ghost use Rattle.order_model.specs.Gathering.{part_lists};
-ghost use Rattle.order_trees.specs.Numbers.{AreNumbers};
+ghost use Rattle.order_trees.specs.Numbers.{AreNumbers, AreGiven};
 
 use map_base::{NoMemory, SegId};
 use order_model::Problem;
@@ -18,16 +19,28 @@ pub fn numbers_of(
     requires parts { AreParts problem.now.segs problem.now.terms (part_lists parts.now) }
     ensures { IfOk result (λ numbers. AreNumbers (part_lists parts.now) (length problem.now.segs) numbers.items) }
 {
-    let mut numbers = vec![in alloc; parts.len() as u32; problem.segs().len()]?;
-    for (k, part) in parts.iter().enumerate() {
-        set_numbers(numbers.as_mut_slice(), part.as_slice(), k as u32);
+    let count = problem.segs().len();
+    let mut numbers = vec![in alloc; parts.len() as u32; count]?;
+    for k in 0..parts.len() {
+        set_numbers(numbers.as_mut_slice(), parts[k].as_slice(), k as u32);
     }
     Ok(numbers)
 }
 
 /// Gives each of these segments this number.
-fn set_numbers(numbers: &mut [u32], part: &[SegId], k: u32) {
+fn set_numbers(numbers: &mut [u32], part: &[SegId], k: u32)
+    requires { All (λ (s : SegId). s.0 < length numbers.old) part.now }
+    ensures { AreGiven part.now k numbers.old numbers.new }
+{
     for s in part {
-        numbers[s.0 as usize] = k;
+        set_number(numbers, *s, k);
     }
+}
+
+/// Gives a segment this number.
+fn set_number(numbers: &mut [u32], s: SegId, k: u32)
+    requires { s.0 < length numbers.old }
+    ensures { numbers.new ≡ slice_set numbers.old s.0 k }
+{
+    numbers[s.0 as usize] = k;
 }

@@ -1,9 +1,10 @@
 //! The terms of the parts of a problem.
 
-ghost use Rattle.std.specs.Prelude.{◌≡◌, length, map, IfOk};
+ghost use Rattle.std.specs.Prelude.{◌≡◌, ◌<◌, length, map, IfOk, OnOk, slice_index_or};
+ghost use Rattle.order_model.specs.Costs.{seg_of, IsReadable};
 ghost use Rattle.order_model.specs.Parts.{AreParts};
 ghost use Rattle.order_model.specs.Gathering.{part_lists};
-ghost use Rattle.order_trees.specs.PartTerms.{part_terms, term_lists};
+ghost use Rattle.order_trees.specs.PartTerms.{part_terms, term_lists, no_terms, with_term};
 ghost use Rattle.order_trees.specs.Numbers.{AreNumbers};
 
 use map_base::{NoMemory, SegId};
@@ -30,7 +31,9 @@ pub fn terms_by_part(
 }
 
 /// So many lists without a term.
-fn empty_groups(alloc: Global, count: usize) -> Result<Vec<Vec<Term>>, NoMemory> {
+fn empty_groups(alloc: Global, count: usize) -> Result<Vec<Vec<Term>>, NoMemory>
+    ensures { IfOk result (λ groups. term_lists groups.items ≡ no_terms count) }
+{
     let mut groups = Vec::with_capacity(alloc, count)?;
     for _ in 0..count {
         groups.push(Vec::new(alloc))?;
@@ -39,9 +42,20 @@ fn empty_groups(alloc: Global, count: usize) -> Result<Vec<Vec<Term>>, NoMemory>
 }
 
 /// Adds a term to the list of the part that its segments are of.
-fn add_term(groups: &mut Vec<Vec<Term>>, numbers: &[u32], term: Term) -> Result<(), NoMemory> {
+fn add_term(groups: &mut Vec<Vec<Term>>, numbers: &[u32], term: Term) -> Result<(), NoMemory>
+    requires readable { IsReadable (length numbers.now) term }
+    requires known { slice_index_or numbers.now (seg_of term).0 0 < length groups.old.items }
+    ensures { OnOk result (term_lists groups.new.items ≡ with_term (slice_index_or numbers.now (seg_of term).0 0) term (term_lists groups.old.items)) }
+{
     let (seg, _) = ends_of(term);
-    let k = numbers[seg.0 as usize] as usize;
+    push_at(groups, numbers[seg.0 as usize] as usize, term)
+}
+
+/// Adds a term to one of the lists.
+fn push_at(groups: &mut Vec<Vec<Term>>, k: usize, term: Term) -> Result<(), NoMemory>
+    requires { k < length groups.old.items }
+    ensures { OnOk result (term_lists groups.new.items ≡ with_term k term (term_lists groups.old.items)) }
+{
     let group = &mut groups[k];
     group.push(term)?;
     Ok(())
