@@ -4,8 +4,8 @@ use Rattle.std.specs.Prelude.{IsPermutation}
 use Rattle.std.specs.List.{All, Contains}
 use Rattle.std.proofs.lemmas.Bool.{ltb-true, lt-ltb, ltb-false}
 use Rattle.std.proofs.lemmas.List.{append-nil, length-set, length-map, get_or-set_same, get_or-set_other}
-use Rattle.std.proofs.lemmas.List.Elements.{All-head, All-tail, All-filter}
-use Rattle.std.proofs.lemmas.List.Sums.{sum_by-cons, length-filter, count_by-le-length}
+use Rattle.std.proofs.lemmas.List.Elements.{All-head, All-tail}
+use Rattle.std.proofs.lemmas.List.Sums.{sum_by-cons}
 use Rattle.std.proofs.lemmas.List.Sorted.{IsPermutation-refl}
 use Rattle.map_base.specs.declared.ids.SegId.{SegId}
 use Rattle.map_base.specs.declared.ids.LineId.{LineId}
@@ -17,23 +17,16 @@ use Rattle.order_model.specs.Costs.{seg_of, other_of, is_met_on, weight_of, cost
 use Rattle.order_model.specs.Prefixes.{is_placed, is_unplaced, with_line}
 use Rattle.order_model.proofs.OrderLemmas.{readable_term}
 use Rattle.order_proof.specs.Plain.{cases_of}
-use Rattle.order_trees.specs.PartTerms.{is_in, is_of, part_terms}
+use Rattle.order_trees.specs.PartTerms.{is_in, part_terms}
 use Rattle.order_trees.specs.Completions.{BeginsWith, Completes, placed_more, none_placed}
 use Rattle.order_trees.proofs.Lines.{both_true, order_distinct, not_before, begins_with_line}
 use Rattle.order_trees.proofs.Sound.{same_or_other, all_in, all_of_part, rising_at, all_complete_none}
+use Rattle.order_trees.proofs.KeptTerms.{part_terms_few, part_terms_fit}
 use Rattle.order_search.specs.Growing.{is_open, first_open, lines_left, room_of, cases_left, node_at, grown, tree_at, tree_of}
 use Rattle.order_search.specs.Finding.{Best, best_at, better, best_in, best_among, number_order}
 use Rattle.order_search.specs.Progressing.{nothing_found}
 use Rattle.order_search.proofs.Rooms.{found_in, none_in, room_falls}
 use Rattle.order_search.proofs.Accepted.{no_room_shut}
-
--- The terms of a part.
-
-pub terms_kept : (segs : List (List LineId)) (part : List SegId) (terms : List Term) → All (IsTerm segs) terms → All (IsTerm segs) (part_terms terms part)
-terms_kept segs part terms ok = All-filter (is_of part) (IsTerm segs) terms ok
-
-pub few_kept : (part : List SegId) (terms : List Term) → length (part_terms terms part) ≤ length terms
-few_kept part terms = omega (arith, length-filter (is_of part) terms, count_by-le-length (is_of part) terms)
 
 -- What terms cost at most.
 
@@ -239,7 +232,7 @@ module _ (segs : List (List LineId)) (part : List SegId) (all_terms : List Term)
       (omega (arith, cost_most (length segs) segs terms readable, few))
 
   readable : All (IsTerm segs) all_terms → All (IsReadable (length segs)) terms
-  readable ok k d below = readable_term segs (get_or terms k d) (terms_kept segs part all_terms ok k d below)
+  readable ok k d below = readable_term segs (get_or terms k d) (part_terms_fit segs part all_terms terms refl ok k d below)
 
   pub from_start : (placed : List (List LineId)) (ts : List Term) (start last : Best) → placed ≡ none_placed segs → ts ≡ terms → start ≡ nothing_found
       → All (IsTerm segs) all_terms → length all_terms ≤ 4000000 → last ≡ best_in segs part ts placed (tree_at segs part placed) start
@@ -248,4 +241,4 @@ module _ (segs : List (List LineId)) (part : List SegId) (all_terms : List Term)
       is ∙ ap (λ x. best_in segs part x placed (tree_at segs part placed) start) t
       ∙ ap (λ x. best_in segs part terms x (tree_at segs part x) start) p
       ∙ ap (λ x. best_in segs part terms (none_placed segs) (tree_of segs part) x) s
-      ∙ from_nothing (readable ok) (omega (arith, few, few_kept part all_terms))
+      ∙ from_nothing (readable ok) (omega (arith, few, part_terms_few part all_terms terms refl))

@@ -4,20 +4,20 @@ use Rattle.std.proofs.lemmas.Result.{err_from_is_err_and}
 use Rattle.order_model.specs.declared.term.Term.{Term}
 use Rattle.order_model.specs.Problems.{IsTerm}
 use Rattle.order_proof.specs.Trees.{splits_of}
+use Rattle.order_trees.proofs.KeptTerms.{part_terms_few, part_terms_fit}
 use Rattle.order_search.specs.Growing.{tree_of}
 use Rattle.order_search.specs.Progressing.{best_of}
 use Rattle.order_search.proofs.Grows.{stop_later}
-use Rattle.order_search.proofs.Leaves.{terms_kept, few_kept, from_start}
+use Rattle.order_search.proofs.Leaves.{from_start}
 use Rattle.order_search.proofs.part_search.search_all.Goals as goal
 
 pub grow-requires-clause-terms : goal.grow-requires-clause-terms
 grow-requires-clause-terms g c =
-    let segs = c.args.problem.now.segs in
-    rw c.requires.terms (terms_kept segs c.args.part.now c.args.problem.now.terms c.requires.problem.terms)
+    part_terms_fit c.args.problem.now.segs c.args.part.now c.args.problem.now.terms c.args.terms.now c.requires.terms c.requires.problem.terms
 
 pub grow-requires-clause-few : goal.grow-requires-clause-few
 grow-requires-clause-few g c =
-    rw c.requires.terms (omega (arith, few_kept c.args.part.now c.args.problem.now.terms, c.requires.problem.few_terms))
+    omega (arith, part_terms_few c.args.part.now c.args.problem.now.terms c.args.terms.now c.requires.terms, c.requires.problem.few_terms)
 
 pub returns-in_err-tree-clause-stop : goal.returns-in_err-tree-clause-stop
 returns-in_err-tree-clause-stop g c =
