@@ -2,6 +2,7 @@
 
 ghost use Rattle.std.specs.Prelude.{◌≡◌, ◌<◌, length, All, IfOk, IfErr, None};
 ghost use Rattle.map_base.specs.declared.ids.SegId.{SegId};
+ghost use Rattle.order_model.specs.Problems.{IsProblem};
 ghost use Rattle.order_model.specs.Prefixes.{IsPrefixOf};
 ghost use Rattle.order_proof.specs.Plain.{plain, plain_part};
 ghost use Rattle.order_proof.specs.Trees.{IsTree};
@@ -29,6 +30,7 @@ pub(crate) fn check_part(
     prefix: &mut Prefix,
     part: &Part,
 ) -> Result<(), ProofStop>
+    requires problem { IsProblem problem.now }
     requires known { All (λ (s : SegId). s.0 < length problem.now.segs) segs.now }
     requires numbers { TellPart segs.now k (length problem.now.segs) numbers.now }
     requires terms { terms.now ≡ part_terms problem.now.terms segs.now }
@@ -71,6 +73,7 @@ fn check_tree(
     target: u64,
     tree: &Tree,
 ) -> Result<(), ProofStop>
+    requires problem { IsProblem problem.now }
     requires known { All (λ (s : SegId). s.0 < length problem.now.segs) segs.now }
     requires numbers { TellPart segs.now k (length problem.now.segs) numbers.now }
     requires terms { terms.now ≡ part_terms problem.now.terms segs.now }
