@@ -1,5 +1,5 @@
 -- The first item that is refused, part by part, and what it shows that there is none.
-use Rattle.std.proofs.Common.{◌≡◌, ℕ, zero, suc, ◌+◌, ◌<◌, ◌≤◌, ◌==◌, Bool, true, false, cond, List, [], ◌∷◌, length, map, drop, get_or, Vec, Global, refl, sym, ◌∙◌, ap, subst, arith, Some, None, Option, eqb-true}
+use Rattle.std.proofs.Common.{◌≡◌, ℕ, zero, suc, ◌+◌, ◌<◌, ◌≤◌, ◌==◌, Bool, true, false, cond, List, [], ◌∷◌, length, map, drop, get_or, refl, sym, ◌∙◌, ap, subst, arith, Some, None, Option, eqb-true}
 use Rattle.std.specs.List.{All, AllByRecursion, sum_by}
 use Rattle.std.proofs.lemmas.List.{at_drop_more, drop_all, get_or-map, length-map}
 use Rattle.std.proofs.lemmas.List.Elements.{All-head, All-tail}
@@ -10,7 +10,6 @@ use Rattle.graph_core.specs.Consistent.{AreRising}
 use Rattle.order_model.specs.declared.term.Term.{Term}
 use Rattle.order_model.specs.Costs.{cost_of, AreOrders}
 use Rattle.order_model.specs.Parts.{AreParts}
-use Rattle.order_model.specs.Gathering.{part_lists}
 use Rattle.order_proof.specs.declared.proof.Part.{Part}
 use Rattle.order_proof.specs.Plain.{PlainPart, PlainProof, close, plain, plain_part}
 use Rattle.order_proof.specs.Trees.{IsTree}

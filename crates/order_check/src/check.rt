@@ -61,7 +61,8 @@ fn check_items(
     check_total(proofs, cost(alloc, problem, orders)?)
 }
 
-/// Refuses the first part that is not the problem's in its turn, or has a tree that isn't accepted.
+/// Refuses the first part that is not the problem's in its turn, or has a tree that isn't accepted. The numbers and the
+/// terms of all parts, and one prefix, are made once.
 fn check_parts(
     alloc: Global,
     problem: &Problem,

@@ -19,7 +19,9 @@ use order_model::{Prefix, Problem, Term};
 use order_proof::{Part, Tree};
 use std::alloc::Global;
 
-/// Refuses part `k` of a proof where its segments are not those of the problem's part, or its tree isn't accepted.
+/// Refuses part `k` of a proof where its segments are not those of the problem's part, or its tree isn't accepted. Of
+/// the numbers of segments those of this part are `k`, and the terms are this part's. Lines are placed on a prefix on
+/// which none is placed, and taken back from it.
 pub(crate) fn check_part(
     alloc: Global,
     problem: &Problem,

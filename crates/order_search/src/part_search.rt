@@ -98,15 +98,7 @@ fn search_all<L: Ledger>(
     ensures few_steps { IfErr result (λ _. steps.new ≤ steps.old + splits_of (tree_of problem.now.segs part.now)) }
 {
     let mut progress = begin(alloc, budget);
-    let tree = grow(
-        alloc,
-        problem,
-        part,
-        terms,
-        prefix,
-        &mut progress,
-        steps,
-    )?;
+    let tree = grow(alloc, problem, part, terms, prefix, &mut progress, steps)?;
     Ok(Found {
         orders: Orders {
             lists: Sequence::of(progress.lists),

@@ -203,12 +203,7 @@ fn found_in(
 }
 
 /// The text of a proof of a part.
-fn text_of(
-    alloc: Global,
-    part: &[SegId],
-    target: u64,
-    tree: Tree,
-) -> Result<Vec<u8>, NoMemory>
+fn text_of(alloc: Global, part: &[SegId], target: u64, tree: Tree) -> Result<Vec<u8>, NoMemory>
     requires { IsProofTree (plain tree) }
 {
     let segs = Sequence::of(part.to_vec(alloc)?);

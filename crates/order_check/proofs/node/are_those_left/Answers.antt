@@ -1,6 +1,4 @@
-use Rattle.std.proofs.Common.{◌≡◌, ◌∙◌, List, length, ap, arith}
-use Rattle.map_base.specs.declared.ids.LineId.{LineId}
-use Rattle.order_model.specs.Problems.{lines_on}
+use Rattle.std.proofs.Common.{◌∙◌, length, ap, arith}
 use Rattle.order_check.proofs.Nodes.{lines_read, as_many_left, not_as_many}
 use Rattle.order_check.proofs.node.are_those_left.Goals as goal
 

@@ -1,8 +1,5 @@
-use Rattle.std.proofs.Common.{◌+◌, ℕ, subst, sym, arith, rules}
-use Rattle.std.specs.List.{All}
+use Rattle.std.proofs.Common.{◌+◌, ℕ, arith, rules}
 use Rattle.std.proofs.lemmas.Result.{err_from_is_err_and}
-use Rattle.order_model.specs.declared.term.Term.{Term}
-use Rattle.order_model.specs.Problems.{IsTerm}
 use Rattle.order_proof.specs.Trees.{splits_of}
 use Rattle.order_trees.proofs.KeptTerms.{part_terms_few, part_terms_fit}
 use Rattle.order_search.specs.Growing.{tree_of}
