@@ -1,5 +1,5 @@
 -- The terms of each part, after one term more.
-use Rattle.std.proofs.Common.{◌≡◌, ℕ, zero, suc, ◌+◌, ◌<◌, ◌≤◌, ◌&&◌, Bool, true, false, cond, List, [], ◌∷◌, ◌++◌, length, map, set, take, get_or, refl, sym, ◌∙◌, ap, subst, arith}
+use Rattle.std.proofs.Common.{◌≡◌, ℕ, zero, suc, ◌+◌, ◌<◌, Bool, true, false, cond, List, [], ◌∷◌, ◌++◌, length, map, set, take, get_or, refl, sym, ◌∙◌, ap, subst, arith}
 use Rattle.std.specs.List.{All, Contains, AllByRecursion}
 use Rattle.std.specs.Prelude.{Vec}
 use Rattle.std.specs.Global.{Global}
@@ -13,10 +13,10 @@ use Rattle.order_model.specs.Problems.{IsTerm}
 use Rattle.order_model.specs.Costs.{seg_of, other_of}
 use Rattle.order_model.specs.Parts.{AreParts}
 use Rattle.order_model.specs.Gathering.{part_lists}
+use Rattle.order_model.proofs.Placing.{length-part_lists}
 use Rattle.order_trees.specs.PartTerms.{is_in, is_of, part_terms, term_lists, no_terms, with_term}
 use Rattle.order_trees.specs.Numbers.{number_of, AreNumbers}
 use Rattle.order_trees.proofs.Shares.{ShareNone, AreApartParts, parts_apart}
-use Rattle.order_trees.proofs.PartLists.{part_count}
 use Rattle.order_trees.proofs.KeptTerms.{group_count}
 use Rattle.order_trees.proofs.TermParts.{end_known, end_wide, same_part, number_known}
 
@@ -82,7 +82,7 @@ one_more_grouped (p ∷ parts) terms t apart within below = by_test (is_in p (se
     by_test : (b : Bool) → is_in p (seg_of t) ≡ b → cond b 0 (1 + number_of parts (seg_of t)) < suc (length parts)
         → (number_of parts (seg_of t) < length parts → with_term (number_of parts (seg_of t)) t (map (part_terms terms) parts) ≡ map (part_terms (terms ++ t ∷ [])) parts)
         → with_term (cond b 0 (1 + number_of parts (seg_of t))) t (part_terms terms p ∷ map (part_terms terms) parts)
-            ≡ part_terms (terms ++ t ∷ []) p ∷ map (part_terms (terms ++ t ∷ [])) parts
+        ≡ part_terms (terms ++ t ∷ []) p ∷ map (part_terms (terms ++ t ∷ [])) parts
     by_test true e below rest =
         let both : is_of p t ≡ true = rw (e, sym within.0 ∙ e) refl in
         ap (λ l. l ∷ map (part_terms terms) parts) (kept_one p terms t both)
@@ -122,7 +122,7 @@ group_grown groups k old fresh t below here grown =
 pub no_groups_yet : (parts : List (Vec SegId Global)) (groups : List (Vec Term Global)) → term_lists groups ≡ no_terms (length parts)
     → term_lists groups ≡ map (part_terms []) (part_lists parts)
 no_groups_yet parts groups none =
-    none ∙ ap no_terms (sym (part_count parts)) ∙ no_terms_kept (part_lists parts)
+    none ∙ ap no_terms (sym (length-part_lists parts)) ∙ no_terms_kept (part_lists parts)
 
 -- what is known of a problem whose terms are put into the lists of their parts, one by one
 pub record AreGroupable (segs : List (List LineId)) (parts : List (List SegId)) (numbers : List ℕ) (terms : List Term) : Type 0 where
@@ -154,7 +154,7 @@ module _ (segs : List (List LineId)) (parts : List (Vec SegId Global)) (numbers 
     t_number,
     number_known segs terms (part_lists parts) ok.are_parts (seg_of t) (end_known segs t t_fits) (end_wide segs t t_fits),
     group_count (take i terms) parts groups done,
-    part_count parts,
+    length-part_lists parts,
   )
 
   -- with the term added to it, the lists are those of one term more

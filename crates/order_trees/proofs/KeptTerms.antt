@@ -10,8 +10,9 @@ use Rattle.map_base.specs.declared.ids.LineId.{LineId}
 use Rattle.order_model.specs.declared.term.Term.{Term}
 use Rattle.order_model.specs.Problems.{IsTerm}
 use Rattle.order_model.specs.Gathering.{part_lists}
+use Rattle.order_model.proofs.Placing.{length-part_lists}
 use Rattle.order_trees.specs.PartTerms.{is_of, part_terms, term_lists}
-use Rattle.order_trees.proofs.PartLists.{part_count, part_at}
+use Rattle.order_trees.proofs.PartLists.{part_at}
 
 few_kept : (part : List SegId) (terms : List Term) → length (part_terms terms part) ≤ length terms
 few_kept part [] = omega arith
@@ -43,7 +44,7 @@ items v = v.items
 pub group_count : (terms : List Term) (parts : List (Vec SegId Global)) (groups : List (Vec Term Global)) → term_lists groups ≡ map (part_terms terms) (part_lists parts)
     → length groups ≡ length parts
 group_count terms parts groups is =
-    sym (length-map groups items) ∙ ap length is ∙ length-map (part_lists parts) (part_terms terms) ∙ part_count parts
+    sym (length-map groups items) ∙ ap length is ∙ length-map (part_lists parts) (part_terms terms) ∙ length-part_lists parts
 
 -- the terms of a part stand at its number
 pub group_items : (terms : List Term) (parts : List (Vec SegId Global)) (groups : List (Vec Term Global)) (k : ℕ) (part : Vec SegId Global) (group : Vec Term Global)
@@ -53,5 +54,5 @@ group_items terms parts groups k part group is below here there =
     ap items there
     ∙ sym (get_or-map items groups k group [] (omega (arith, below, group_count terms parts groups is)))
     ∙ ap (λ lists. get_or lists k []) is
-    ∙ group_at terms (part_lists parts) k (omega (arith, below, part_count parts))
+    ∙ group_at terms (part_lists parts) k (omega (arith, below, length-part_lists parts))
     ∙ ap (part_terms terms) (part_at parts k part below here)

@@ -1,47 +1,17 @@
 -- Lines of which none stands twice are exactly those left where each of them is left and there are as many.
-use Rattle.std.proofs.Common.{◌≡◌, ℕ, zero, suc, ◌+◌, ◌<◌, ◌≤◌, ◌==◌, ◌||◌, ◌&&◌, not, Bool, true, false, List, [], ◌∷◌, ◌++◌, length, get_or, refl, sym, ◌∙◌, ap, subst, arith, inl, inr, true≢false, eq-eqb, eqb-true, length-append}
-use Rattle.std.specs.List.{All, Contains, filter, list_all}
-use Rattle.std.proofs.lemmas.Bool.Decides.{nat_tests}
+use Rattle.std.proofs.Common.{◌≡◌, ℕ, zero, suc, ◌+◌, ◌<◌, ◌≤◌, ◌==◌, ◌||◌, ◌&&◌, Bool, true, false, List, [], ◌∷◌, ◌++◌, length, get_or, refl, sym, ◌∙◌, ap, arith, true≢false, eq-eqb, eqb-true, length-append}
+use Rattle.std.specs.List.{All, Contains, list_all}
 use Rattle.std.proofs.lemmas.List.Elements.{All-nil, All-cons, All-head, All-tail, All-append}
 use Rattle.map_base.specs.declared.ids.LineId.{LineId}
 use Rattle.graph_core.specs.Consistent.{AreRising}
 use Rattle.order_model.specs.Prefixes.{is_placed, is_unplaced, is_left, AreApart, ArePlacedLines}
-use Rattle.order_model.proofs.GraphProblem.{contains_first, contains_later, contains_kept, length_without, few_rising}
+use Rattle.order_model.proofs.GraphProblem.{few_rising}
+use Rattle.order_model.proofs.PrefixLemmas.{few_apart, contains_placed}
 use Rattle.order_proof.specs.Trees.{is_among, AreDistinct}
 use Rattle.order_trees.specs.Accepting.{are_those_left}
-use Rattle.order_trees.proofs.Lines.{both_true, either_true, neither, not_true, same_line, all_has, has_append}
-
--- Lines of which none stands twice, and which are all known, are no more than the known ones.
-
-abbrev other_than : LineId → LineId → Bool
-other_than x y = not (y.0 == x.0)
-
-not_other_than : (x : LineId) → other_than x x ≡ false
-not_other_than x = grind (arith, nat_tests)
-
-none_among : (a : LineId) (xs : List LineId) → is_placed xs a ≡ false → All (λ (b : LineId). (b.0 == a.0) ≡ false) xs
-none_among a [] h = All-nil (λ (b : LineId). (b.0 == a.0) ≡ false)
-none_among a (x ∷ xs) h =
-    let both = neither (x.0 == a.0) (is_placed xs a) h in
-    All-cons (λ (b : LineId). (b.0 == a.0) ≡ false) x xs both.0 (none_among a xs both.1)
-
-few_apart : (xs known : List LineId) → AreApart xs → All (Contains known) xs → length xs ≤ length known
-few_apart [] known h all = omega arith
-few_apart (x ∷ xs) known h all =
-    let kept : List LineId = filter (other_than x) known in
-    let fewer : length kept < length known = length_without (other_than x) x known (All-head (Contains known) x xs all) (not_other_than x) in
-    let rest : length xs ≤ length kept = few_apart xs kept h.1
-    (λ k d below. contains_kept (other_than x) (get_or xs k d) known (All-tail (Contains known) x xs all k d below) (ap not (none_among x xs h.0 k d below))) in
-    omega arith
+use Rattle.order_trees.proofs.Lines.{both_true, neither, not_true, all_has, has_append}
 
 -- Placed lines, and after them lines that are left.
-
-contains_line : (xs : List LineId) (a : LineId) → is_placed xs a ≡ true → Contains xs a
-contains_line [] a h = absurd (true≢false (sym h))
-contains_line (x ∷ xs) a h = elim (either_true (x.0 == a.0) (is_placed xs a) h) [
-  | inl here ↦ subst (λ b. Contains (x ∷ xs) b) (same_line x a here) (contains_first x xs)
-  | inr later ↦ contains_later x a xs (contains_line xs a later)
-]
 
 -- what a test tells of each line that passes it
 all_of : (P : LineId → Type 0) (p : LineId → Bool) (xs : List LineId) → ((a : LineId) → p a ≡ true → P a) → list_all p xs ≡ true → All P xs
@@ -70,7 +40,7 @@ module _ (lines placed these : List LineId) (rising : AreRising lines) (ok : Are
 
   known : All (Contains lines) both
   known = All-append (Contains lines) placed these ok.known (all_of (Contains lines) (is_left lines placed) these (λ a h.
-      contains_line lines a (both_true (is_placed lines a) (is_unplaced placed a) h).0) left)
+      contains_placed lines a (both_true (is_placed lines a) (is_unplaced placed a) h).0) left)
 
   apart : AreApart both
   apart = apart_append placed these ok.apart (distinct_apart these distinct) (λ a h.
@@ -86,7 +56,7 @@ module _ (lines placed these : List LineId) (rising : AreRising lines) (ok : Are
   pub as_many : list_all is_met lines ≡ true → (length these + length placed == length lines) ≡ true
   as_many all =
       let within : length lines ≤ length both = few_rising lines both rising (all_of (Contains both) is_met lines (λ a h.
-      contains_line both a (has_append placed these a ∙ h)) all) in
+      contains_placed both a (has_append placed these a ∙ h)) all) in
       eq-eqb (length these + length placed) (length lines) (omega (arith, few, within, length-append placed these))
 
   -- where there are as many, each line is met: else there would be more apart than there are

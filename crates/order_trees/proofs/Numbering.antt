@@ -1,34 +1,21 @@
 -- The numbers of segments, part by part.
-use Rattle.std.proofs.Common.{◌≡◌, ◌≢◌, ℕ, zero, suc, ◌+◌, ◌<◌, ◌≤◌, ◌==◌, ◌||◌, Bool, true, false, cond, List, [], ◌∷◌, ◌++◌, length, set, take, drop, get_or, refl, sym, ◌∙◌, ap, subst, arith, inl, inr, eq-eqb, eqb-true, true≢false, length-append}
-use Rattle.std.specs.List.{All, Contains, AllByRecursion}
+use Rattle.std.proofs.Common.{◌≡◌, ◌≢◌, ℕ, zero, suc, ◌+◌, ◌<◌, ◌≤◌, ◌==◌, Bool, true, false, cond, List, [], ◌∷◌, ◌++◌, length, take, drop, get_or, refl, sym, ◌∙◌, ap, subst, arith, eq-eqb, eqb-true, true≢false, length-append}
+use Rattle.std.specs.List.{AllByRecursion}
 use Rattle.std.specs.Prelude.{Vec}
 use Rattle.std.specs.Global.{Global}
 use Rattle.std.proofs.Math.Seq.{take-append_seam}
 use Rattle.std.proofs.lemmas.Bool.{eqb-false}
-use Rattle.std.proofs.lemmas.List.{length-set, get_or-set_same, get_or-set_other, length-take-le, take_more}
-use Rattle.std.proofs.lemmas.List.Folds.{list_any-append}
+use Rattle.std.proofs.lemmas.List.{length-take-le, take_more}
 use Rattle.map_base.specs.declared.ids.SegId.{SegId}
 use Rattle.map_base.specs.declared.ids.LineId.{LineId}
 use Rattle.order_model.specs.declared.term.Term.{Term}
 use Rattle.order_model.specs.Parts.{AreParts}
 use Rattle.order_model.specs.Gathering.{part_lists}
+use Rattle.order_model.proofs.Placing.{length-part_lists}
 use Rattle.order_trees.specs.PartTerms.{is_in}
-use Rattle.order_trees.specs.Numbers.{number_of, AreNumbers, AreGiven}
-use Rattle.order_trees.proofs.PartLists.{part_count, part_at}
+use Rattle.order_trees.specs.Numbers.{number_of, AreGiven}
+use Rattle.order_trees.proofs.PartLists.{part_at}
 use Rattle.order_trees.proofs.Shares.{ShareNone, AreApartParts, parts_apart}
-use Rattle.order_trees.proofs.Sound.{same_or_other}
-
--- One segment more is given a number.
-
-pub none_given : (k : ℕ) (numbers : List ℕ) → AreGiven [] k numbers numbers
-none_given k numbers = record { each = refl; told = λ s known. refl }
-
-in_more : (part : List SegId) (t s : SegId) → is_in (part ++ t ∷ []) s ≡ (is_in part s || (t.0 == s.0))
-in_more part t s = list_any-append (λ (u : SegId). u.0 == s.0) part (t ∷ []) ∙ ap (λ b. is_in part s || b) (last (t.0 == s.0))
-  where
-    last : (b : Bool) → (b || false) ≡ b
-    last true = refl
-    last false = refl
 
 differs : (a b : ℕ) → b ≢ a → (a == b) ≡ false
 differs a b n = by_test (a == b) refl
@@ -36,28 +23,6 @@ differs a b n = by_test (a == b) refl
     by_test : (t : Bool) → (a == b) ≡ t → t ≡ false
     by_test false e = refl
     by_test true e = absurd (n (sym (eqb-true a b e)))
-
-or_last : (a b : Bool) → b ≡ true → (a || b) ≡ true
-or_last true b h = refl
-or_last false b h = h
-
-or_none : (a b : Bool) → b ≡ false → (a || b) ≡ a
-or_none true b h = refl
-or_none false b h = h
-
-pub one_more_given : (part : List SegId) (k : ℕ) (before after : List ℕ) (t : SegId) → t.0 < length before → AreGiven part k before after
-    → AreGiven (part ++ t ∷ []) k before (set after t.0 k)
-one_more_given part k before after t known ok = record {
-  each = length-set after t.0 k ∙ ok.each;
-  told = λ s below. elim (same_or_other s.0 t.0) [
-    | inl e ↦ ap (λ i. get_or (set after t.0 k) i 0) e ∙ get_or-set_same after t.0 k 0 (omega (arith, known, ok.each))
-        ∙ sym (ap (λ b. cond b k (get_or before s.0 0)) (in_more part t s ∙ or_last (is_in part s) (t.0 == s.0) (eq-eqb t.0 s.0 (sym e))))
-    | inr n ↦ get_or-set_other after t.0 s.0 k 0 n ∙ ok.told s below
-        ∙ sym (ap (λ b. cond b k (get_or before s.0 0)) (in_more part t s ∙ or_none (is_in part s) (t.0 == s.0) (differs t.0 s.0 n)))
-  ];
-}
-
--- One part more is numbered.
 
 -- the number of the part among these, and where it is of none, this one
 abbrev number_so_far : List (List SegId) → ℕ → SegId → ℕ
@@ -139,20 +104,6 @@ one_more_numbered done p absent count before after apart ok given = record {
       given.told s (omega (arith, below, ok.each)) ∙ ap (λ n. cond (is_in p s) (length done) n) (ok.told s below) ∙ so_far_more done p absent s apart;
 }
 
-pub none_numbered : (absent count : ℕ) (numbers : List ℕ) → length numbers ≡ count → ((i : ℕ) → i < count → get_or numbers i 0 ≡ absent)
-    → AreNumberedSoFar [] absent count numbers
-none_numbered absent count numbers each all = record { each = each; told = λ s below. all s.0 below }
-
-pub all_numbered : (parts : List (List SegId)) (count : ℕ) (numbers : List ℕ) → AreNumberedSoFar parts (length parts) count numbers → AreNumbers parts count numbers
-all_numbered parts count numbers ok = record {
-  each = ok.each;
-  told = λ s below. ok.told s below ∙ by_test s (number_of parts s == length parts) refl;
-}
-  where
-    by_test : (s : SegId) (b : Bool) → (number_of parts s == length parts) ≡ b → cond b (length parts) (number_of parts s) ≡ number_of parts s
-    by_test s true e = sym (eqb-true (number_of parts s) (length parts) e)
-    by_test s false e = refl
-
 -- parts share no segment with those before them
 pub apart_before : (parts : List (List SegId)) (i : ℕ) → AreApartParts parts → i < length parts → AllByRecursion (λ q. ShareNone q (get_or parts i [])) (take i parts)
 apart_before [] i apart below = absurd (omega (arith, below))
@@ -175,7 +126,7 @@ pub one_part_more : (segs : List (List LineId)) (terms : List Term) (parts : Lis
     → AreNumberedSoFar (take (k + 1) (part_lists parts)) (length parts) (length segs) (take n (after ++ drop (length after) before))
 one_part_more segs terms parts k n part before after ok below is done given whole =
     let lists : List (List SegId) = part_lists parts in
-    let within : k < length lists = omega (arith, below, part_count parts) in
+    let within : k < length lists = omega (arith, below, length-part_lists parts) in
     let here : get_or lists k [] ≡ part.items = part_at parts k part below is in
     let front : length (take k lists) ≡ k = length-take-le k lists (omega (arith, within)) in
     let more : take (k + 1) lists ≡ take k lists ++ part.items ∷ [] = take_more lists k [] within ∙ ap (λ p. take k lists ++ p ∷ []) here in

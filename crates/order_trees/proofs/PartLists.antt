@@ -1,15 +1,16 @@
 -- How many parts there are, and where each lies in memory.
-use Rattle.std.proofs.Common.{◌≡◌, ℕ, ◌+◌, ◌<◌, ◌≤◌, List, [], ◌∷◌, length, map, get_or, sym, ◌∙◌, ap, subst, arith}
+use Rattle.std.proofs.Common.{◌≡◌, ℕ, ◌+◌, ◌<◌, ◌≤◌, List, [], ◌∷◌, length, get_or, sym, ◌∙◌, ap, subst, arith}
 use Rattle.std.specs.List.{All}
 use Rattle.std.specs.Prelude.{Vec}
 use Rattle.std.specs.Global.{Global}
-use Rattle.std.proofs.lemmas.List.{get_or-map, length-map}
+use Rattle.std.proofs.lemmas.List.{get_or-map}
 use Rattle.std.proofs.lemmas.List.Elements.{All-head, All-tail, All-contains}
 use Rattle.map_base.specs.declared.ids.SegId.{SegId}
 use Rattle.map_base.specs.declared.ids.LineId.{LineId}
 use Rattle.order_model.specs.declared.term.Term.{Term}
 use Rattle.order_model.specs.Parts.{AreParts, AreByLeast, IsRisingPart, least_of}
 use Rattle.order_model.specs.Gathering.{part_lists}
+use Rattle.order_model.proofs.Placing.{length-part_lists}
 use Rattle.order_trees.proofs.Shares.{has_least}
 
 -- Parts by least segment are no more than there are segments.
@@ -40,9 +41,6 @@ module _ (segs : List (List LineId)) (terms : List Term) (parts : List (List Seg
 abbrev items : Vec SegId Global → List SegId
 items v = v.items
 
-pub part_count : (parts : List (Vec SegId Global)) → length (part_lists parts) ≡ length parts
-part_count parts = length-map parts items
-
 pub part_at : (parts : List (Vec SegId Global)) (k : ℕ) (part : Vec SegId Global) → k < length parts → part ≡ get_or parts k part
     → get_or (part_lists parts) k [] ≡ part.items
 part_at parts k part below is = get_or-map items parts k part [] below ∙ ap items (sym is)
@@ -51,7 +49,7 @@ pub part_known_at : (segs : List (List LineId)) (terms : List Term) (parts : Lis
     → k < length parts → part ≡ get_or parts k part → All (λ (s : SegId). s.0 < length segs) part.items
 part_known_at segs terms parts k part ok below is =
     subst (λ p. All (λ (s : SegId). s.0 < length segs) p) (part_at parts k part below is)
-    (part_known segs terms (part_lists parts) ok k [] (omega (arith, below, part_count parts)))
+    (part_known segs terms (part_lists parts) ok k [] (omega (arith, below, length-part_lists parts)))
 
 pub parts_few_at : (segs : List (List LineId)) (terms : List Term) (parts : List (Vec SegId Global)) → AreParts segs terms (part_lists parts) → length parts ≤ length segs
-parts_few_at segs terms parts ok = omega (arith, parts_few segs terms (part_lists parts) ok, part_count parts)
+parts_few_at segs terms parts ok = omega (arith, parts_few segs terms (part_lists parts) ok, length-part_lists parts)

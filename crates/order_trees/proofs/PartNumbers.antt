@@ -1,6 +1,6 @@
 -- What the numbers of segments tell of parts.
-use Rattle.std.proofs.Common.{◌≡◌, ℕ, zero, suc, ◌+◌, ◌<◌, ◌≤◌, ◌==◌, Bool, true, false, cond, List, [], ◌∷◌, length, map, get_or, refl, sym, ◌∙◌, ap, subst, arith, true≢false}
-use Rattle.std.specs.List.{Contains, AllByRecursion}
+use Rattle.std.proofs.Common.{◌≡◌, ℕ, zero, suc, ◌+◌, ◌<◌, ◌≤◌, ◌==◌, Bool, true, false, cond, List, [], ◌∷◌, length, get_or, refl, sym, ◌∙◌, ap, subst, arith}
+use Rattle.std.specs.List.{AllByRecursion}
 use Rattle.std.specs.Prelude.{Vec}
 use Rattle.std.specs.Global.{Global}
 use Rattle.std.proofs.lemmas.Bool.Decides.{nat_tests}
@@ -9,9 +9,10 @@ use Rattle.map_base.specs.declared.ids.LineId.{LineId}
 use Rattle.order_model.specs.declared.term.Term.{Term}
 use Rattle.order_model.specs.Parts.{AreParts}
 use Rattle.order_model.specs.Gathering.{part_lists}
+use Rattle.order_model.proofs.Placing.{length-part_lists}
 use Rattle.order_trees.specs.PartTerms.{is_in}
 use Rattle.order_trees.specs.Numbers.{number_of, AreNumbers, TellPart}
-use Rattle.order_trees.proofs.PartLists.{part_count, part_at}
+use Rattle.order_trees.proofs.PartLists.{part_at}
 use Rattle.order_trees.proofs.Shares.{ShareNone, AreApartParts, parts_apart}
 
 -- no later part has a segment of an earlier one
@@ -75,4 +76,4 @@ pub tell_part_at : (segs : List (List LineId)) (terms : List Term) (parts : List
     → TellPart part.items k (length segs) numbers
 tell_part_at segs terms parts k part numbers ok told below is =
     subst (λ p. TellPart p k (length segs) numbers) (part_at parts k part below is)
-    (tell_part segs terms (part_lists parts) k numbers ok told (omega (arith, below, part_count parts)))
+    (tell_part segs terms (part_lists parts) k numbers ok told (omega (arith, below, length-part_lists parts)))

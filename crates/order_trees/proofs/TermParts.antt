@@ -1,15 +1,15 @@
 -- Both segments of a term of a problem are of one part.
-use Rattle.std.proofs.Common.{◌≡◌, ◌≢◌, ℕ, zero, suc, ◌<◌, ◌≤◌, ◌==◌, ◌&&◌, ◌||◌, Bool, true, false, List, [], ◌∷◌, length, get_or, refl, sym, ◌∙◌, ap, subst, arith, inl, inr, eq-eqb, IsTrue}
+use Rattle.std.proofs.Common.{◌≡◌, ◌≢◌, ℕ, zero, suc, ◌<◌, ◌==◌, ◌&&◌, ◌||◌, Bool, true, false, List, [], ◌∷◌, length, get_or, refl, sym, ◌∙◌, ap, arith, inl, inr, eq-eqb, IsTrue}
 use Rattle.std.specs.List.{All, Contains}
 use Rattle.std.proofs.lemmas.Bool.{cases_lt, le-leb}
-use Rattle.std.proofs.lemmas.List.Elements.{All-nil, All-cons, All-contains}
+use Rattle.std.proofs.lemmas.List.Elements.{All-nil, All-cons}
 use Rattle.map_base.specs.declared.ids.SegId.{SegId}
 use Rattle.map_base.specs.declared.ids.LineId.{LineId}
 use Rattle.order_model.specs.declared.term.Term.{Term}
 use Rattle.order_model.specs.declared.term.Term.TheVariants.{Side, Link, Apart}
-use Rattle.order_model.specs.Problems.{IsOn, IsTerm, IsSide, IsPair}
+use Rattle.order_model.specs.Problems.{IsOn, IsTerm, IsPair}
 use Rattle.order_model.specs.Costs.{seg_of, other_of}
-use Rattle.order_model.specs.Parts.{are_ends, is_between, Reaches, is_wide, AreParts}
+use Rattle.order_model.specs.Parts.{are_ends, is_between, is_wide, AreParts}
 use Rattle.order_model.specs.Parts.Reaches.{itself, onward}
 use Rattle.order_model.proofs.GraphProblem.{few_rising}
 use Rattle.order_trees.specs.PartTerms.{is_in}

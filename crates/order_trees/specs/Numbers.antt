@@ -1,5 +1,5 @@
 -- The parts of segments, by number.
-use Rattle.std.specs.Prelude.{◌≡◌, ℕ, ◌+◌, ◌<◌, ◌==◌, Bool, List, [], ◌∷◌, length, if◌then◌else◌, slice_index_or}
+use Rattle.std.specs.Prelude.{◌≡◌, ℕ, ◌+◌, ◌<◌, ◌==◌, List, [], ◌∷◌, length, if◌then◌else◌, slice_index_or}
 use Rattle.map_base.specs.declared.ids.SegId.{SegId}
 use Rattle.order_trees.specs.PartTerms.{is_in}
 

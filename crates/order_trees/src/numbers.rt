@@ -20,7 +20,8 @@ pub fn numbers_of(
     ensures { IfOk result (λ numbers. AreNumbers (part_lists parts.now) (length problem.now.segs) numbers.items) }
 {
     let count = problem.segs().len();
-    let mut numbers = vec![in alloc; parts.len() as u32; count]?;
+    let absent = parts.len() as u32;
+    let mut numbers = vec![in alloc; absent; count]?;
     for k in 0..parts.len() {
         set_numbers(numbers.as_mut_slice(), parts[k].as_slice(), k as u32);
     }

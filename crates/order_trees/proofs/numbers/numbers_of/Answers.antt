@@ -6,8 +6,8 @@ use Rattle.order_trees.proofs.PartLists.{parts_few_at, part_known_at}
 use Rattle.order_trees.proofs.Numbering.{one_part_more}
 use Rattle.order_trees.proofs.numbers.numbers_of.Goals as goal
 
-pub overflow_cast-parts : goal.overflow_cast-parts
-overflow_cast-parts c =
+pub overflow_cast-absent : goal.overflow_cast-absent
+overflow_cast-absent c =
     let few = parts_few_at c.args.problem.now.segs c.args.problem.now.terms c.args.parts.now c.requires.parts in
     let below : length c.args.parts.now < 2 ^ 32 = omega (arith, few, c.segs-count.ensures.fits.few_choices) in
     search rules

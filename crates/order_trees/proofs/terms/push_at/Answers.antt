@@ -1,4 +1,3 @@
-use Rattle.std.proofs.Common.{sym}
 use Rattle.order_trees.proofs.Grouping.{group_grown}
 use Rattle.order_trees.proofs.terms.push_at.Goals as goal
 
