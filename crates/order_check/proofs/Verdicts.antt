@@ -1,6 +1,6 @@
 -- The first item that is refused, part by part, and what it shows that there is none.
-use Rattle.std.proofs.Common.{◌≡◌, ℕ, suc, ◌+◌, ◌<◌, ◌≤◌, ◌==◌, Bool, true, false, cond, List, [], ◌∷◌, length, map, drop, get_or, Vec, Global, refl, sym, ◌∙◌, ap, arith, Some, None, Option, eqb-true}
-use Rattle.std.specs.List.{All, sum_by}
+use Rattle.std.proofs.Common.{◌≡◌, ℕ, zero, suc, ◌+◌, ◌<◌, ◌≤◌, ◌==◌, Bool, true, false, cond, List, [], ◌∷◌, length, map, drop, get_or, refl, sym, ◌∙◌, ap, subst, arith, Some, None, Option, eqb-true}
+use Rattle.std.specs.List.{All, AllByRecursion, sum_by}
 use Rattle.std.proofs.lemmas.List.{at_drop_more, drop_all, get_or-map, length-map}
 use Rattle.std.proofs.lemmas.List.Elements.{All-head, All-tail}
 use Rattle.std.proofs.lemmas.List.Sums.{sum_by-cons}
@@ -9,10 +9,10 @@ use Rattle.map_base.specs.declared.ids.LineId.{LineId}
 use Rattle.graph_core.specs.Consistent.{AreRising}
 use Rattle.order_model.specs.declared.term.Term.{Term}
 use Rattle.order_model.specs.Costs.{cost_of, AreOrders}
-use Rattle.order_model.specs.Parts.{AreParts, AreByLeast, IsRisingPart, least_of}
-use Rattle.order_model.specs.Gathering.{part_lists}
+use Rattle.order_model.specs.Parts.{AreParts}
 use Rattle.order_proof.specs.declared.proof.Part.{Part}
-use Rattle.order_proof.specs.Plain.{PlainPart, PlainProof, close, plain_part}
+use Rattle.order_proof.specs.Plain.{PlainPart, PlainProof, close, plain, plain_part}
+use Rattle.order_proof.specs.Trees.{IsTree}
 use Rattle.order_trees.specs.PartTerms.{part_terms, AreBest}
 use Rattle.order_trees.specs.Completions.{none_placed}
 use Rattle.order_trees.specs.Accepting.{question, failing}
@@ -69,28 +69,6 @@ module _ (segs : List (List LineId)) (terms : List Term) (parts : List (List Seg
   part_refused k d e (stop.Refuted i) below below_too h some =
       sym (at_part k d e below below_too h) ∙ ap (λ f. first_item f (first_part segs terms (k + 1) (drop (k + 1) parts) (drop (k + 1) proofs))) some
   part_refused k d e stop.NoMemory below below_too h some = tt
-
--- Parts are no more than segments.
-
-count_up : (parts : List (List SegId)) (n m : ℕ) → AreByLeast parts → All (λ (p : List SegId). least_of p < n) parts → m ≤ n
-    → ((p : List SegId) (rest : List (List SegId)) → parts ≡ p ∷ rest → m ≤ least_of p) → m + length parts ≤ n
-count_up [] n m h below least from = omega (arith, least)
-count_up (p ∷ []) n m h below least from =
-    omega (arith, from p [] refl, All-head (λ (p : List SegId). least_of p < n) p [] below)
-count_up (p ∷ q ∷ parts) n m h below least from =
-    let first : m ≤ least_of p = from p (q ∷ parts) refl in
-    let here : least_of p < n = All-head (λ (p : List SegId). least_of p < n) p (q ∷ parts) below in
-    let rest : suc m + length (q ∷ parts) ≤ n =
-    count_up (q ∷ parts) n (suc m) h.1 (All-tail (λ (p : List SegId). least_of p < n) p (q ∷ parts) below) (omega (arith, first, here))
-    (λ r others e. next r others e) in
-    omega (arith, rest)
-  where
-    next : (r : List SegId) (others : List (List SegId)) → (q ∷ parts) ≡ r ∷ others → suc m ≤ least_of r
-    next r others e = let same : least_of q ≡ least_of r = ap first_least e in omega (arith, same, h.0, from p (q ∷ parts) refl)
-      where
-        first_least : List (List SegId) → ℕ
-        first_least [] = 0
-        first_least (p ∷ rest) = least_of p
 
 -- Items of a whole proof.
 
@@ -170,29 +148,18 @@ best_of segs terms parts orders proof rising ok none others are =
     let fit = targets_fit segs terms 0 parts proof.parts others rising known are both.0 in
     omega (arith, total, fit, shares_fit parts terms others (parts_apart segs terms parts ok))
 
--- The parts of a problem.
+-- The parts of a proof.
 
-least_known : (n : ℕ) (p : List SegId) → IsRisingPart p → All (λ (s : SegId). s.0 < n) p → least_of p < n
-least_known n [] h all = absurd h
-least_known n (s ∷ p) h all = All-head (λ (s : SegId). s.0 < n) s p all
-
-pub known_part : (segs : List (List LineId)) (terms : List Term) (parts : List (List SegId)) (k : ℕ) → AreParts segs terms parts → k < length parts
-    → All (λ (s : SegId). s.0 < length segs) (get_or parts k [])
-known_part segs terms parts k ok below j e under = (ok.wide k [] below j e under).0
-
-pub few_parts : (segs : List (List LineId)) (terms : List Term) (parts : List (List SegId)) → AreParts segs terms parts → length parts ≤ length segs
-few_parts segs terms parts ok =
-    omega (
-      arith,
-      count_up parts (length segs) 0 ok.by_least
-          (λ k d below. least_known (length segs) (get_or parts k d) (ok.rising k d below) (λ j e under. (ok.wide k d below j e under).0))
-          (omega arith) (λ p rest e. omega arith),
-    )
-
--- a part of the problem, and its part of the proof, as they lie in memory
-pub part_at : (parts : List (Vec SegId Global)) (k : ℕ) (v : Vec SegId Global) (list : List SegId) → k < length parts → v ≡ get_or parts k v → list ≡ v.items
-    → list ≡ get_or (part_lists parts) k []
-part_at parts k v list below is e = e ∙ ap (λ (w : Vec SegId Global). w.items) is ∙ sym (get_or-map (λ (w : Vec SegId Global). w.items) parts k v [] below)
-
+-- a part of the proof, as it lies in memory
 pub proof_at : (proofs : List Part) (k : ℕ) (p : Part) → k < length proofs → p ≡ get_or proofs k p → plain_part p ≡ get_or (map plain_part proofs) k (plain_part p)
 proof_at proofs k p below is = ap plain_part is ∙ sym (get_or-map plain_part proofs k p (plain_part p) below)
+
+-- the tree of each part of a proof
+pub tree_at : (proofs : List Part) (k : ℕ) (p : Part) → AllByRecursion (λ (q : PlainPart). IsTree q.tree) (map plain_part proofs) → k < length proofs → p ≡ get_or proofs k p
+    → IsTree (plain p.tree)
+tree_at proofs k p trees below is = subst (λ (q : Part). IsTree (plain q.tree)) (sym is) (at proofs k trees below)
+  where
+    at : (proofs : List Part) (k : ℕ) → AllByRecursion (λ (q : PlainPart). IsTree q.tree) (map plain_part proofs) → k < length proofs → IsTree (plain (get_or proofs k p).tree)
+    at [] k trees below = absurd (omega (arith, below))
+    at (q ∷ proofs) zero trees below = trees.0
+    at (q ∷ proofs) (suc k) trees below = at proofs k trees.1 (omega (arith, below))

@@ -9,14 +9,14 @@ use Rattle.map_base.specs.declared.ids.SegId.{SegId}
 use Rattle.map_base.specs.declared.ids.LineId.{LineId}
 use Rattle.graph_core.specs.Consistent.{AreRising}
 use Rattle.order_model.specs.Problems.{lines_on}
-use Rattle.order_model.specs.Prefixes.{is_placed, is_unplaced, with_line, without_last, ArePlacedLines}
+use Rattle.order_model.specs.Prefixes.{is_placed, is_unplaced, is_left, with_line, without_last, ArePlacedLines}
 use Rattle.order_model.proofs.PrefixLemmas.{undone}
 use Rattle.order_proof.specs.declared.tree.Tree.{Tree, Split, Close, the_lemmas}
 use Rattle.order_proof.specs.Plain.{split, close, plain, plain_children}
-use Rattle.order_proof.specs.Trees.{is_among, lines_of}
+use Rattle.order_proof.specs.Trees.{is_among, lines_of, AreDistinct, IsTree, AreTrees}
 use Rattle.order_trees.specs.PartTerms.{is_in}
 use Rattle.order_trees.specs.Completions.{placed_more}
-use Rattle.order_trees.specs.Accepting.{Question, is_closed, is_left, are_those_left, is_split, after_line, first_of, failing, failing_case}
+use Rattle.order_trees.specs.Accepting.{Question, is_closed, are_those_left, is_split, after_line, first_of, failing, failing_case}
 use Rattle.order_trees.proofs.Lines.{both_true, either_true, not_true, same_line}
 use Rattle.order_check.specs.Children.{child_lines}
 use Rattle.order_check.specs.Walking.{IsWalked}
@@ -32,6 +32,20 @@ plain-Split seg children = search (rules, the_lemmas)
 pub lines_of_children : (children : List (LineId × Tree)) → lines_of (plain_children children) ≡ child_lines children
 lines_of_children [] = refl
 lines_of_children (c ∷ rest) = ap (λ l. c.0 ∷ l) (lines_of_children rest)
+
+-- The lines of a split's children differ, and each child is a tree.
+
+pub distinct_children : (seg : SegId) (children : List (LineId × Tree)) → IsTree (split seg (plain_children children)) → AreDistinct (child_lines children)
+distinct_children seg children h = subst AreDistinct (lines_of_children children) h.1
+
+child_at : (children : List (LineId × Tree)) (i : ℕ) (d : LineId × Tree) → AreTrees (plain_children children) → i < length children → IsTree (plain (get_or children i d).1)
+child_at [] i d h below = absurd (omega (arith, below))
+child_at (c ∷ children) zero d h below = h.0
+child_at (c ∷ children) (suc i) d h below = child_at children i d h.1 (omega (arith, below))
+
+pub child_is_tree : (seg : SegId) (children : List (LineId × Tree)) (i : ℕ) (child : LineId × Tree) → IsTree (split seg (plain_children children)) → i < length children
+    → child ≡ get_or children i child → IsTree (plain child.1)
+child_is_tree seg children i child h below is = subst (λ (c : LineId × Tree). IsTree (plain c.1)) (sym is) (child_at children i child h.2 below)
 
 -- A node.
 

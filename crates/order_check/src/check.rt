@@ -2,6 +2,7 @@
 
 ghost use Rattle.std.specs.Prelude.{◌≡◌, [], map, IfOk, IfErr, None};
 ghost use Rattle.std.specs.List.{AllByRecursion};
+ghost use Rattle.order_model.specs.Problems.{IsProblem};
 ghost use Rattle.order_model.specs.Costs.{AreOrders};
 ghost use Rattle.order_model.specs.Parts.{AreParts};
 ghost use Rattle.order_model.specs.Gathering.{part_lists};
@@ -45,6 +46,7 @@ fn check_items(
     orders: &Orders,
     proof: &Proof,
 ) -> Result<(), ProofStop>
+    requires problem { IsProblem problem.now }
     requires orders { AreOrders problem.now.segs orders.now.lists }
     requires parts { AreParts problem.now.segs problem.now.terms (part_lists parts.now) }
     ensures accepted { IfOk result (λ _. first_refused problem.now.segs problem.now.terms (part_lists parts.now) orders.now.lists (plain_proof proof.now) ≡ None) }
@@ -59,13 +61,15 @@ fn check_items(
     check_total(proofs, cost(alloc, problem, orders)?)
 }
 
-/// Refuses the first part that is not the problem's in its turn, or has a tree that isn't accepted.
+/// Refuses the first part that is not the problem's in its turn, or has a tree that isn't accepted. The numbers and the
+/// terms of all parts, and one prefix, are made once.
 fn check_parts(
     alloc: Global,
     problem: &Problem,
     parts: &[Vec<SegId>],
     proofs: &[Part],
 ) -> Result<(), ProofStop>
+    requires problem { IsProblem problem.now }
     requires parts { AreParts problem.now.segs problem.now.terms (part_lists parts.now) }
     requires trees { AllByRecursion (λ p. IsTree p.tree) (map plain_part proofs.now) }
     ensures accepted { IfOk result (λ _. first_part problem.now.segs problem.now.terms 0 (part_lists parts.now) (map plain_part proofs.now) ≡ None) }

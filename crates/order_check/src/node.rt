@@ -98,12 +98,7 @@ pub(crate) fn is_split(
 
 /// Whether the lines of the children, no two of which are the same, are exactly those of a segment that are not placed:
 /// each is one of them, and there are as many.
-fn are_those_left(
-    problem: &Problem,
-    prefix: &Prefix,
-    s: SegId,
-    children: &[(LineId, Tree)],
-) -> bool
+fn are_those_left(problem: &Problem, prefix: &Prefix, s: SegId, children: &[(LineId, Tree)]) -> bool
     requires fits { IsPrefixOf problem.now.segs prefix.now }
     requires known { s.0 < length problem.now.segs }
     requires distinct { AreDistinct (child_lines children.now) }
@@ -119,12 +114,7 @@ fn are_those_left(
 
 /// Whether each line of the children stands on the segment and is not placed.
 #[tactic(auto, using(std::proofs::lemmas::List::at_drop_more))]
-fn are_all_left(
-    problem: &Problem,
-    prefix: &Prefix,
-    s: SegId,
-    children: &[(LineId, Tree)],
-) -> bool
+fn are_all_left(problem: &Problem, prefix: &Prefix, s: SegId, children: &[(LineId, Tree)]) -> bool
     requires fits { IsPrefixOf problem.now.segs prefix.now }
     requires known { s.0 < length problem.now.segs }
     ensures { result ≡ list_all (is_left (lines_on problem.now.segs s) (lines_on prefix.now.placed s)) (child_lines children.now) }

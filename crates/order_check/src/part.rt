@@ -2,6 +2,7 @@
 
 ghost use Rattle.std.specs.Prelude.{◌≡◌, ◌<◌, length, All, IfOk, IfErr, None};
 ghost use Rattle.map_base.specs.declared.ids.SegId.{SegId};
+ghost use Rattle.order_model.specs.Problems.{IsProblem};
 ghost use Rattle.order_model.specs.Prefixes.{IsPrefixOf};
 ghost use Rattle.order_proof.specs.Plain.{plain, plain_part};
 ghost use Rattle.order_proof.specs.Trees.{IsTree};
@@ -18,7 +19,9 @@ use order_model::{Prefix, Problem, Term};
 use order_proof::{Part, Tree};
 use std::alloc::Global;
 
-/// Refuses part `k` of a proof where its segments are not those of the problem's part, or its tree isn't accepted.
+/// Refuses part `k` of a proof where its segments are not those of the problem's part, or its tree isn't accepted. Of
+/// the numbers of segments those of this part are `k`, and the terms are this part's. Lines are placed on a prefix on
+/// which none is placed, and taken back from it.
 pub(crate) fn check_part(
     alloc: Global,
     problem: &Problem,
@@ -29,6 +32,7 @@ pub(crate) fn check_part(
     prefix: &mut Prefix,
     part: &Part,
 ) -> Result<(), ProofStop>
+    requires problem { IsProblem problem.now }
     requires known { All (λ (s : SegId). s.0 < length problem.now.segs) segs.now }
     requires numbers { TellPart segs.now k (length problem.now.segs) numbers.now }
     requires terms { terms.now ≡ part_terms problem.now.terms segs.now }
@@ -71,6 +75,7 @@ fn check_tree(
     target: u64,
     tree: &Tree,
 ) -> Result<(), ProofStop>
+    requires problem { IsProblem problem.now }
     requires known { All (λ (s : SegId). s.0 < length problem.now.segs) segs.now }
     requires numbers { TellPart segs.now k (length problem.now.segs) numbers.now }
     requires terms { terms.now ≡ part_terms problem.now.terms segs.now }

@@ -48,7 +48,8 @@ pub(crate) fn walk(
             walk_split(
                 problem,
                 part,
-                k, numbers,
+                k,
+                numbers,
                 terms,
                 target,
                 prefix,

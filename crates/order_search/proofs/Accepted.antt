@@ -10,14 +10,14 @@ use Rattle.graph_core.specs.Consistent.{AreRising}
 use Rattle.order_model.specs.declared.term.Term.{Term}
 use Rattle.order_model.specs.Problems.{lines_on}
 use Rattle.order_model.specs.Costs.{cost_of}
-use Rattle.order_model.specs.Prefixes.{is_placed, is_unplaced, with_line, ArePlacedLines}
+use Rattle.order_model.specs.Prefixes.{is_placed, is_unplaced, is_left, with_line, ArePlacedLines}
 use Rattle.order_model.proofs.GraphProblem.{few_rising}
 use Rattle.order_model.proofs.PrefixLemmas.{placed_with_line}
 use Rattle.order_proof.specs.Plain.{PlainTree, split, close, Cases, no_case, case_of, cases_of}
 use Rattle.order_proof.specs.Trees.{is_among, lines_of}
 use Rattle.order_trees.specs.PartTerms.{is_in, part_terms}
 use Rattle.order_trees.specs.Completions.{placed_more, none_placed}
-use Rattle.order_trees.specs.Accepting.{Question, question, is_full, is_complete, is_closed, is_left, are_those_left, is_split, accepts, accepts_cases}
+use Rattle.order_trees.specs.Accepting.{Question, question, is_full, is_complete, is_closed, are_those_left, is_split, accepts, accepts_cases}
 use Rattle.order_trees.proofs.Lines.{either_true, same_line}
 use Rattle.order_trees.proofs.Sound.{same_or_other, all_in, rising_at, accepted_bounds, all_complete_none}
 use Rattle.order_search.specs.Growing.{is_open, first_open, lines_left, room_of, cases_left, node_at, grown, tree_at, tree_of}

@@ -20,7 +20,6 @@ use Rattle.order_search.specs.Finding.{Best, best_in, best_among}
 use Rattle.order_search.specs.Progressing.{AreNext, IsStop}
 use Rattle.order_search.specs.declared.found.SearchFault.{SearchFault}
 use Rattle.order_search.specs.declared.found.SearchFault.TheVariants as fault
-use Rattle.order_model.proofs.PrefixLemmas.{lines_at_segment}
 use Rattle.order_search.proofs.Rooms.{found_in, tree_some}
 
 pub plain-Close : (prices : List (ℕ × ℤ)) → plain (Close prices) ≡ close prices
@@ -153,10 +152,3 @@ children_grown segs part placed s old new lines i d t below so_far is grown =
     let last : PlainTree → List (LineId × PlainTree) = λ p. cases_left (tree_at segs part) segs placed s (take i lines) ++ (get_or lines i d, p) ∷ [] in
     ap (map plain_case) is ∙ map_more old (get_or lines i d, t) ∙ ap (λ l. l ++ plain_case (get_or lines i d, t) ∷ []) so_far ∙ ap last grown
     ∙ sym (cases_grown segs part placed s lines i d below)
-
--- The lines that a split is made of, as the code gets them.
-pub lines_are : (segs placed read : List (List LineId)) (s : SegId) (item lines there left found : List LineId) → s.0 < length segs → read ≡ segs → item ≡ get_or read s.0 item
-    → lines ≡ item → there ≡ lines_on placed s → left ≡ lines_left lines there → found ≡ left → found ≡ lines_left (lines_on segs s) (lines_on placed s)
-lines_are segs placed read s item lines there left found known same is e p l f =
-    let at : item ≡ get_or segs s.0 item = is ∙ ap (λ xs. get_or xs s.0 item) same in
-    f ∙ l ∙ ap (λ xs. lines_left xs there) (e ∙ lines_at_segment segs s.0 item known at) ∙ ap (lines_left (lines_on segs s)) p

@@ -12,14 +12,16 @@ use Rattle.map_base.specs.declared.ids.LineId.{LineId}
 use Rattle.graph_core.specs.Consistent.{AreRising}
 use Rattle.order_model.specs.declared.term.Term.{Term}
 use Rattle.order_model.specs.declared.term.Term.TheVariants.{Side, Link, Apart}
-use Rattle.order_model.specs.Problems.{lines_on}
+use Rattle.order_model.specs.Problems.{lines_on, IsTerm}
 use Rattle.order_model.specs.Costs.{seg_of, other_of, is_met_on, weight_of, cost_on, term_cost, cost_of, IsReadable, AreOrders}
 use Rattle.order_model.specs.Prefixes.{is_placed, is_unplaced, with_line}
+use Rattle.order_model.proofs.OrderLemmas.{readable_term}
 use Rattle.order_proof.specs.Plain.{cases_of}
 use Rattle.order_trees.specs.PartTerms.{is_in, part_terms}
 use Rattle.order_trees.specs.Completions.{BeginsWith, Completes, placed_more, none_placed}
 use Rattle.order_trees.proofs.Lines.{both_true, order_distinct, not_before, begins_with_line}
 use Rattle.order_trees.proofs.Sound.{same_or_other, all_in, all_of_part, rising_at, all_complete_none}
+use Rattle.order_trees.proofs.KeptTerms.{part_terms_few, part_terms_fit}
 use Rattle.order_search.specs.Growing.{is_open, first_open, lines_left, room_of, cases_left, node_at, grown, tree_at, tree_of}
 use Rattle.order_search.specs.Finding.{Best, best_at, better, best_in, best_among, number_order}
 use Rattle.order_search.specs.Progressing.{nothing_found}
@@ -229,11 +231,14 @@ module _ (segs : List (List LineId)) (part : List SegId) (all_terms : List Term)
       begins (room_of segs part (none_placed segs)) (none_placed segs) nothing_found (length-map segs (λ _. [])) (all_complete_none segs part segs) (omega arith)
       (omega (arith, cost_most (length segs) segs terms readable, few))
 
-  pub from_start : (placed : List (List LineId)) (kept ts : List Term) (start last : Best) → placed ≡ none_placed segs → ts ≡ kept → kept ≡ terms → start ≡ nothing_found
-      → All (IsReadable (length segs)) kept → length kept ≤ 4000000 → last ≡ best_in segs part ts placed (tree_at segs part placed) start
+  readable : All (IsTerm segs) all_terms → All (IsReadable (length segs)) terms
+  readable ok k d below = readable_term segs (get_or terms k d) (part_terms_fit segs part all_terms terms refl ok k d below)
+
+  pub from_start : (placed : List (List LineId)) (ts : List Term) (start last : Best) → placed ≡ none_placed segs → ts ≡ terms → start ≡ nothing_found
+      → All (IsTerm segs) all_terms → length all_terms ≤ 4000000 → last ≡ best_in segs part ts placed (tree_at segs part placed) start
       → last ≡ best_in segs part terms (none_placed segs) (tree_of segs part) (number_order segs part terms)
-  from_start placed kept ts start last p v t s readable few is =
-      is ∙ ap (λ x. best_in segs part x placed (tree_at segs part placed) start) (v ∙ t)
+  from_start placed ts start last p t s ok few is =
+      is ∙ ap (λ x. best_in segs part x placed (tree_at segs part placed) start) t
       ∙ ap (λ x. best_in segs part terms x (tree_at segs part x) start) p
       ∙ ap (λ x. best_in segs part terms (none_placed segs) (tree_of segs part) x) s
-      ∙ from_nothing (subst (λ x. All (IsReadable (length segs)) x) t readable) (omega (arith, few, ap length t))
+      ∙ from_nothing (readable ok) (omega (arith, few, part_terms_few part all_terms terms refl))

@@ -2,7 +2,7 @@
 
 ghost use Rattle.std.specs.Prelude.{◌≡◌, ◌<◌, nat_lt, length, All, IfOk};
 ghost use Rattle.map_base.specs.declared.ids.SegId.{SegId};
-ghost use Rattle.order_model.specs.Problems.{lines_on};
+ghost use Rattle.order_model.specs.Problems.{lines_on, IsProblem};
 ghost use Rattle.order_model.specs.Prefixes.{IsPrefixOf};
 ghost use Rattle.order_search.specs.Growing.{is_open, first_open, lines_left};
 ghost use Rattle.order_search.specs.Finding.{places_of};
@@ -49,8 +49,9 @@ pub(crate) fn lines_left(
     ensures { IfOk result (λ left. left.items ≡ lines_left (lines_on problem.now.segs s) (lines_on prefix.now.placed s)) }
 {
     let segs = problem.segs();
+    let lines = segs[s.0 as usize].as_slice();
     let mut left = Vec::new(alloc);
-    for line in segs[s.0 as usize].as_slice() {
+    for line in lines {
         if prefix.is_left(problem, s, *line) {
             left.push(*line)?;
         }
@@ -61,7 +62,8 @@ pub(crate) fn lines_left(
 /// Whether the part has more places than are allowed.
 pub(crate) fn is_deep(problem: &Problem, part: &[SegId]) -> bool
     requires { All (λ (s : SegId). s.0 < length problem.now.segs) part.now }
-    ensures { result ≡ nat_lt 2048 (places_of problem.now.segs part.now) }
+    ensures deep { result ≡ nat_lt 2048 (places_of problem.now.segs part.now) }
+    ensures fits { IsProblem problem.now }
 {
     let segs = problem.segs();
     let mut left: usize = 2048;

@@ -23,12 +23,12 @@ use std::alloc::Global;
 use std::sync::ledger::Ledger;
 
 /// Orders of a part that cost least, and a tree that shows it, by the terms of the part, which stand in the order of
-/// the problem's. Lines are placed on a prefix on which none is placed, and taken back from it. The tree is split at each prefix that is not complete,
-/// at the first segment of the part on which a line is left, with a case for each such line by its number. The orders
-/// are those that rise on each segment where these cost least, else the first complete ones that do. The limit is
-/// answered exactly where the part has more than 2,048 places, which are its lines minus 1 summed over its segments;
-/// `Spent` exactly where it has no more and the tree has more splits than the budget. Each split takes one step of the
-/// counter.
+/// the problem's. Lines are placed on a prefix on which none is placed, and taken back from it, also where the search
+/// stops. The tree is split at each prefix that is not complete, at the first segment of the part on which a line is
+/// left, with a case for each such line by its number. The orders are those that rise on each segment where these cost
+/// least, else the first complete ones that do. The limit is answered exactly where the part has more than 2,048
+/// places, which are its lines minus 1 summed over its segments; `Spent` exactly where it has no more and the tree has
+/// more splits than the budget. Each split takes one step of the counter.
 pub fn search<L: Ledger>(
     alloc: Global,
     problem: &Problem,
@@ -80,6 +80,7 @@ fn search_all<L: Ledger>(
     budget: u32,
     steps: &mut Steps<L>,
 ) -> Result<Found, SearchFault>
+    requires problem { IsProblem problem.now }
     requires known { All (λ (s : SegId). s.0 < length problem.now.segs) part.now }
     requires terms { terms.now ≡ part_terms problem.now.terms part.now }
     requires fits { IsPrefixOf problem.now.segs prefix.old }
@@ -87,7 +88,6 @@ fn search_all<L: Ledger>(
     requires budget { budget + 1 < 2 ^ 32 }
     ensures prefix_fits { IsPrefixOf problem.now.segs prefix.new }
     ensures prefix_kept { prefix.new.placed ≡ prefix.old.placed }
-    ensures fits { IsProblem problem.now }
     ensures tree { IfOk result (λ f. plain f.tree ≡ tree_of problem.now.segs part.now) }
     ensures branches { IfOk result (λ f. f.branches ≡ splits_of (tree_of problem.now.segs part.now)) }
     ensures within { IfOk result (λ f. f.branches ≤ budget) }
@@ -98,15 +98,7 @@ fn search_all<L: Ledger>(
     ensures few_steps { IfErr result (λ _. steps.new ≤ steps.old + splits_of (tree_of problem.now.segs part.now)) }
 {
     let mut progress = begin(alloc, budget);
-    let tree = grow(
-        alloc,
-        problem,
-        part,
-        terms,
-        prefix,
-        &mut progress,
-        steps,
-    )?;
+    let tree = grow(alloc, problem, part, terms, prefix, &mut progress, steps)?;
     Ok(Found {
         orders: Orders {
             lists: Sequence::of(progress.lists),

@@ -3,14 +3,17 @@
 ghost use Rattle.std.specs.Prelude.{◌≡◌, ◌<◌, ◌≤◌, true, [], ◌∷◌, length, All, IfOk};
 ghost use Rattle.map_base.specs.declared.ids.SegId.{SegId};
 ghost use Rattle.order_model.specs.Problems.{IsProblem};
+ghost use Rattle.order_model.specs.Prefixes.{IsPrefixOf};
 ghost use Rattle.order_proof.specs.Plain.{plain};
 ghost use Rattle.order_proof.specs.Trees.{IsProofTree};
+ghost use Rattle.order_trees.specs.PartTerms.{is_of, part_terms};
+ghost use Rattle.order_trees.specs.Completions.{none_placed};
 ghost use Rattle.order_search.specs.Finding.{AreWide};
 
 use super::*;
 use map_base::{LineId, NoMemory, SegId, Sequence, Steps};
-use order_model::{Problem, ProblemParts, Term};
-use order_proof::{Part, Proof, write_proof};
+use order_model::{Orders, Prefix, Problem, ProblemParts, Term, ends_of};
+use order_proof::{Part, Proof, Tree, write_proof};
 use std::alloc::{AllocError, Global};
 use std::marker::Brand;
 use std::sync::ledger::{Blank, Ledger};
@@ -97,27 +100,94 @@ fn is_part(problem: &Problem, part: &[SegId]) -> bool
     true
 }
 
+/// Whether the segments of a term are all of the part.
+fn is_of(part: &[SegId], term: Term) -> bool
+    ensures { result ≡ is_of part.now term }
+{
+    let (seg, other) = ends_of(term);
+    if !part.contains(&seg) {
+        return false;
+    }
+    part.contains(&other)
+}
+
+/// The terms of a part, which need not be one of the problem's parts.
+fn terms_of(alloc: Global, problem: &Problem, part: &[SegId]) -> Result<Vec<Term>, NoMemory>
+    ensures { IfOk result (λ terms. terms.items ≡ part_terms problem.now.terms part.now) }
+{
+    let mut terms = Vec::new(alloc);
+    for term in problem.terms() {
+        if is_of(part, *term) {
+            terms.push(*term)?;
+        }
+    }
+    Ok(terms)
+}
+
 /// What is found in a part, and the text of a proof that has its tree alone.
+#[derive(Drop)]
+struct Shown {
+    target: u64,
+    branches: u32,
+    orders: Orders,
+    text: Vec<u8>,
+}
+
+/// What is found in a part over a prefix.
 fn found_counted<L: Ledger>(
     alloc: Global,
     problem: &Problem,
     part: &[SegId],
+    prefix: &mut Prefix,
     budget: u32,
     blank: Blank,
-) -> Result<(u64, u32, Vec<u8>), SearchFault>
+) -> Result<Shown, SearchFault>
     requires name { blank.name ≡ L.name }
     requires parts { blank.parts ≡ L.parts }
     requires some_part { 0 < blank.parts }
+    requires fits { IsPrefixOf problem.now.segs prefix.old }
+    requires none { prefix.old.placed ≡ none_placed problem.now.segs }
     requires budget { budget ≤ 1000 }
+    ensures fits { IsPrefixOf problem.now.segs prefix.new }
+    ensures kept { prefix.new.placed ≡ prefix.old.placed }
 {
     if !is_part(problem, part) {
         return Err(SearchFault::NoMemory);
     }
+    let terms = terms_of(alloc, problem, part)?;
     let mut steps = Steps::<L>::open(blank);
-    let found = search(alloc, problem, part, budget, &mut steps)?;
-    let (target, branches) = (found.target, found.branches);
-    let text = text_of(alloc, part, found)?;
-    Ok((target, branches, text))
+    let found = search(
+        alloc,
+        problem,
+        part,
+        terms.as_slice(),
+        prefix,
+        budget,
+        &mut steps,
+    )?;
+    let text = text_of(alloc, part, found.target, found.tree)?;
+    Ok(Shown {
+        target: found.target,
+        branches: found.branches,
+        orders: found.orders,
+        text,
+    })
+}
+
+fn found_over(
+    alloc: Global,
+    problem: &Problem,
+    part: &[SegId],
+    prefix: &mut Prefix,
+    budget: u32,
+) -> Result<Shown, SearchFault>
+    requires fits { IsPrefixOf problem.now.segs prefix.old }
+    requires none { prefix.old.placed ≡ none_placed problem.now.segs }
+    requires budget { budget ≤ 1000 }
+    ensures fits { IsPrefixOf problem.now.segs prefix.new }
+    ensures kept { prefix.new.placed ≡ prefix.old.placed }
+{
+    found_counted::<Brand>(alloc, problem, part, prefix, budget, Blank::new(1))
 }
 
 fn found_in(
@@ -125,22 +195,19 @@ fn found_in(
     problem: &Problem,
     part: &[SegId],
     budget: u32,
-) -> Result<(u64, u32, Vec<u8>), SearchFault>
+) -> Result<Shown, SearchFault>
     requires { budget ≤ 1000 }
 {
-    found_counted::<Brand>(alloc, problem, part, budget, Blank::new(1))
+    let mut prefix = Prefix::none(alloc, problem)?;
+    found_over(alloc, problem, part, &mut prefix, budget)
 }
 
 /// The text of a proof of a part.
-fn text_of(alloc: Global, part: &[SegId], found: Found) -> Result<Vec<u8>, NoMemory>
-    requires { IsProofTree (plain found.tree) }
+fn text_of(alloc: Global, part: &[SegId], target: u64, tree: Tree) -> Result<Vec<u8>, NoMemory>
+    requires { IsProofTree (plain tree) }
 {
     let segs = Sequence::of(part.to_vec(alloc)?);
-    let part = Part {
-        segs,
-        target: found.target,
-        tree: found.tree,
-    };
+    let part = Part { segs, target, tree };
     let parts = vec![in alloc; part]?;
     let proof = Proof {
         rules: Sequence::of(Vec::new(alloc)),
@@ -153,25 +220,59 @@ fn text_of(alloc: Global, part: &[SegId], found: Found) -> Result<Vec<u8>, NoMem
 const TREE: &[u8] =
     b"rules 0\nparts 1\npart 1 1 3\nsplit 1 2\ntake 0\nsplit 3 2\ntake 0\nclose 0\ntake 1\nclose 0\ntake 1\nsplit 3 2\ntake 0\nclose 0\ntake 1\nclose 0\n";
 
+/// Whether this is what two lines cost that cross between the two segments, with their orders and their tree.
+fn is_crossing(found: Result<Shown, SearchFault>) -> bool {
+    match found {
+        Ok(shown) => {
+            let lists = shown.orders.lists.as_slice();
+            shown.target == 1
+                && shown.branches == 3
+                && lists.len() == 2
+                && lists[0].as_slice() == [LineId(0), LineId(1)].as_slice()
+                && lists[1].as_slice() == [LineId(1), LineId(0)].as_slice()
+                && shown.text.as_slice() == TREE
+        }
+        Err(_) => false,
+    }
+}
+
+/// Whether a search stopped at so many splits.
+fn is_spent(found: Result<Shown, SearchFault>, splits: u32) -> bool {
+    match found {
+        Err(SearchFault::Spent { branches }) => branches == splits,
+        _ => false,
+    }
+}
+
 #[test]
 fn two_lines_cross_where_it_costs_least(rt: HostRuntime) -> Result<(), Fail> {
     let problem = Problem::new(crossing(rt.alloc())?);
     let part = [SegId(1), SegId(3)];
-    match found_in(rt.alloc(), &problem, &part, 3) {
-        Ok((target, branches, text)) => {
-            assert_eq!(rt; target, 1);
-            assert_eq!(rt; branches, 3);
-            let shown = text.as_slice();
-            assert_eq!(rt; shown, TREE);
-        }
-        Err(_) => return Err(Fail::from("nothing found")),
-    }
+    assert!(rt; is_crossing(found_in(rt.alloc(), &problem, &part, 3)));
     assert!(rt;
         matches!(
             found_in(rt.alloc(), &problem, &part, 2),
             Err(SearchFault::Spent { branches: 3 })
         )
     );
+    Ok(())
+}
+
+#[test]
+fn a_prefix_serves_again(rt: HostRuntime) -> Result<(), Fail> {
+    let problem = Problem::new(crossing(rt.alloc())?);
+    let part = [SegId(1), SegId(3)];
+    let mut prefix = Prefix::none(rt.alloc(), &problem)?;
+    for _ in 0..2 {
+        let found = found_over(rt.alloc(), &problem, &part, &mut prefix, 3);
+        assert!(rt; is_crossing(found));
+    }
+    for budget in 0..3 {
+        let stopped = found_over(rt.alloc(), &problem, &part, &mut prefix, budget);
+        assert!(rt; is_spent(stopped, budget + 1));
+        let found = found_over(rt.alloc(), &problem, &part, &mut prefix, 3);
+        assert!(rt; is_crossing(found));
+    }
     Ok(())
 }
 
@@ -334,16 +435,6 @@ fn cost_of(term: Term, lists: &Lists) -> u64 {
     if met { u64::from(weight) } else { 0 }
 }
 
-/// Whether the segments of a term are all of the part.
-fn is_of(term: Term, part: &[SegId]) -> bool {
-    match term {
-        Term::Side { seg, .. } => part.contains(&seg),
-        Term::Link { seg, other, .. } | Term::Apart { seg, other, .. } => {
-            part.contains(&seg) && part.contains(&other)
-        }
-    }
-}
-
 const THREE: [[u32; 3]; 6] = [
     [0, 1, 2],
     [0, 2, 1],
@@ -359,7 +450,7 @@ const TWO: [[u32; 2]; 2] = [[0, 1], [1, 0]];
 fn total_of(terms: &[Term], part: &[SegId], lists: &Lists) -> u64 {
     let mut total: u64 = 0;
     for term in terms {
-        if is_of(*term, part) {
+        if is_of(part, *term) {
             total = total.saturating_add(cost_of(*term, lists));
         }
     }
@@ -410,7 +501,7 @@ fn no_orders_cost_less(rt: HostRuntime) -> Result<(), Fail> {
         for part in PARTS {
             let least = least_of(problem.terms(), part);
             match found_in(rt.alloc(), &problem, part, 1000) {
-                Ok((target, _, _)) => assert_eq!(rt; target, least),
+                Ok(shown) => assert_eq!(rt; shown.target, least),
                 Err(_) => return Err(Fail::from("nothing found")),
             }
         }

@@ -11,7 +11,7 @@ use Rattle.order_trees.specs.Accepting.{Question, question, failing}
 use Rattle.order_trees.proofs.Sound.{rising_at, all_in}
 use Rattle.order_check.specs.Children.{child_lines}
 use Rattle.order_check.specs.Walking.{IsWalked}
-use Rattle.order_check.proofs.Walks.{split_walked, not_split_walked, split_test, case_next, of_part, case_refused, cases_passed, case_restored}
+use Rattle.order_check.proofs.Walks.{distinct_children, child_is_tree, split_walked, not_split_walked, split_test, case_next, of_part, case_refused, cases_passed, case_restored}
 use Rattle.order_check.proofs.walk.+walk.Goals as goal
 
 pub walk-returns-in-Split-clause-walked : goal.walk-returns-in-Split-clause-walked
@@ -52,6 +52,9 @@ walk_split-returns-then-not-is_split-clause-walked t c =
     not_split_walked (question c.args.problem.now.segs c.args.part.now c.args.terms.now c.args.target) c.args.prefix.now.placed c.args.seg c.args.children.now c.args.way.now.items
     (sym c.is_split.ensures ∙ c.if-not-is_split.true)
 
+pub walk_split-is_split-requires-clause-distinct : goal.walk_split-is_split-requires-clause-distinct
+walk_split-is_split-requires-clause-distinct t c = distinct_children c.args.seg c.args.children.now c.requires.tree
+
 pub walk_split-walk_case-requires : goal.walk_split-walk_case-requires
 walk_split-walk_case-requires t c =
     let q : Question = question c.args.problem.now.segs c.args.part.now c.args.terms.now c.args.target in
@@ -60,23 +63,24 @@ walk_split-walk_case-requires t c =
     let child = c.child-item.result in
     let on = subst (λ (x : LineId × Tree). Contains (lines_on c.args.problem.now.segs c.args.seg) x.0) (sym c.child-item.is) next.on in
     let fresh = subst (λ (x : LineId × Tree). is_placed (lines_on c.args.prefix.now.placed c.args.seg) x.0 ≡ false) (sym c.child-item.is) next.fresh in
-    let part = of_part q c.args.prefix.now.placed c.args.seg (child_lines c.args.children.now) holds in (
+    let part = of_part q c.args.prefix.now.placed c.args.seg (child_lines c.args.children.now) holds in
+    let tree = child_is_tree c.args.seg c.args.children.now c.loop-child.child-index child c.requires.tree c.loop-child-test.true c.child-item.is in (
       search (rules, the_lemmas),
       (
         c.loop-child.invariant.0,
         (
-          c.requires.marks,
+          c.requires.numbers,
           (
             c.requires.known,
             (
-              c.requires.readable,
+              c.requires.terms,
               (
                 c.requires.few,
                 (
                   c.requires.rising,
                   (
                     all_in (λ (s : SegId). s.0 < length c.args.problem.now.segs) c.args.part.now c.args.seg c.requires.known part,
-                    (on, rw c.loop-child.invariant.1 fresh),
+                    (on, (rw c.loop-child.invariant.1 fresh, tree)),
                   ),
                 ),
               ),

@@ -10,7 +10,7 @@ use Rattle.order_search.specs.Growing.{room_of, cases_left, tree_at, lines_left}
 use Rattle.order_search.specs.Finding.{best_in}
 use Rattle.order_search.specs.Progressing.{best_of, AreNext}
 use Rattle.order_search.proofs.Rooms.{room_falls}
-use Rattle.order_search.proofs.Grows.{are_next, seg_known, seg_in, seg_open, splits_are, some_splits, best_is, split_is, best_grown, splits_grown, splits_upto, stop_later, children_grown, lines_are}
+use Rattle.order_search.proofs.Grows.{are_next, seg_known, seg_in, seg_open, splits_are, some_splits, best_is, split_is, best_grown, splits_grown, splits_upto, stop_later, children_grown}
 use Rattle.order_search.proofs.Restored.{placed_some, case_restored}
 use Rattle.order_search.proofs.grow.+grow.Goals as goal
 
@@ -113,13 +113,9 @@ grow_split-returns-then-progress-clause-stop g t c =
     let some = some_splits c.args.problem.now.segs c.args.part.now c.requires.known c.args.prefix.now.placed c.args.s c.requires.fits.each c.requires.seg in
     (omega (arith, some, c.if-progress.true), refl)
 
-pub grow_split-bounds-segs-s : goal.grow_split-bounds-segs-s
-grow_split-bounds-segs-s g t c =
-    rw c.segs-segs.ensures.lists (seg_known c.args.problem.now.segs c.args.part.now c.requires.known c.args.prefix.now.placed c.args.s c.requires.fits.each c.requires.seg)
-
-pub grow_split-placed-requires : goal.grow_split-placed-requires
-grow_split-placed-requires g t c =
-    omega (arith, seg_known c.args.problem.now.segs c.args.part.now c.requires.known c.args.prefix.now.placed c.args.s c.requires.fits.each c.requires.seg, c.requires.fits.each)
+pub grow_split-lines_left-requires-clause-known : goal.grow_split-lines_left-requires-clause-known
+grow_split-lines_left-requires-clause-known g t c =
+    seg_known c.args.problem.now.segs c.args.part.now c.requires.known c.args.prefix.now.placed c.args.s c.requires.fits.each c.requires.seg
 
 pub grow_split-returns-in_err-lines-clause-most : goal.grow_split-returns-in_err-lines-clause-most
 grow_split-returns-in_err-lines-clause-most g t c =
@@ -132,11 +128,9 @@ grow_split-grow_cases-requires g t c =
     let part = c.args.part.now in
     let placed = c.args.prefix.now.placed in
     let s = c.args.s in
-    let lines : List LineId = c.as_slice-2.result.now in
+    let lines : List LineId = c.as_slice.result.now in
     let s_known : s.0 < length segs = seg_known segs part c.requires.known placed s c.requires.fits.each c.requires.seg in
-    let is : lines ≡ lines_left (lines_on segs s) (lines_on placed s) =
-    lines_are segs placed c.segs-segs.result.now s c.index-segs-s.result c.as_slice.result.now c.placed.result.now c.in_ok-lines.lines.items lines s_known
-    c.segs-segs.ensures.lists c.index-segs-s.is c.as_slice.ensures c.placed.ensures c.in_ok-lines.ensures c.as_slice-2.ensures.value in
+    let is : lines ≡ lines_left (lines_on segs s) (lines_on placed s) = c.as_slice.ensures.value ∙ c.in_ok-lines.ensures in
     let next : AreNext segs placed s lines = are_next segs placed s lines is in
     search rules
 
@@ -146,11 +140,9 @@ grow_split-returns-in_err-children-clause-most g t c =
     let part = c.args.part.now in
     let placed = c.args.prefix.now.placed in
     let s = c.args.s in
-    let lines : List LineId = c.as_slice-2.result.now in
+    let lines : List LineId = c.as_slice.result.now in
     let s_known : s.0 < length segs = seg_known segs part c.requires.known placed s c.requires.fits.each c.requires.seg in
-    let is : lines ≡ lines_left (lines_on segs s) (lines_on placed s) =
-    lines_are segs placed c.segs-segs.result.now s c.index-segs-s.result c.as_slice.result.now c.placed.result.now c.in_ok-lines.lines.items lines s_known
-    c.segs-segs.ensures.lists c.index-segs-s.is c.as_slice.ensures c.placed.ensures c.in_ok-lines.ensures c.as_slice-2.ensures.value in
+    let is : lines ≡ lines_left (lines_on segs s) (lines_on placed s) = c.as_slice.ensures.value ∙ c.in_ok-lines.ensures in
     let splits = splits_are segs part c.requires.known placed s c.requires.fits.each c.requires.seg lines is in
     omega (arith, splits, c.grow_cases.ensures.most)
 
@@ -160,11 +152,9 @@ grow_split-returns-in_err-children-clause-stop g t c =
     let part = c.args.part.now in
     let placed = c.args.prefix.now.placed in
     let s = c.args.s in
-    let lines : List LineId = c.as_slice-2.result.now in
+    let lines : List LineId = c.as_slice.result.now in
     let s_known : s.0 < length segs = seg_known segs part c.requires.known placed s c.requires.fits.each c.requires.seg in
-    let is : lines ≡ lines_left (lines_on segs s) (lines_on placed s) =
-    lines_are segs placed c.segs-segs.result.now s c.index-segs-s.result c.as_slice.result.now c.placed.result.now c.in_ok-lines.lines.items lines s_known
-    c.segs-segs.ensures.lists c.index-segs-s.is c.as_slice.ensures c.placed.ensures c.in_ok-lines.ensures c.as_slice-2.ensures.value in
+    let is : lines ≡ lines_left (lines_on segs s) (lines_on placed s) = c.as_slice.ensures.value ∙ c.in_ok-lines.ensures in
     let splits = splits_are segs part c.requires.known placed s c.requires.fits.each c.requires.seg lines is in
     let p = err_from_is_err_and c.from_residual-in_err-children.result c.from_residual-in_err-children.ensures.1 in
     rw (p.1, p.2)
@@ -177,11 +167,9 @@ grow_split-returns-clause-tree g t c =
     let part = c.args.part.now in
     let placed = c.args.prefix.now.placed in
     let s = c.args.s in
-    let lines : List LineId = c.as_slice-2.result.now in
+    let lines : List LineId = c.as_slice.result.now in
     let s_known : s.0 < length segs = seg_known segs part c.requires.known placed s c.requires.fits.each c.requires.seg in
-    let is : lines ≡ lines_left (lines_on segs s) (lines_on placed s) =
-    lines_are segs placed c.segs-segs.result.now s c.index-segs-s.result c.as_slice.result.now c.placed.result.now c.in_ok-lines.lines.items lines s_known
-    c.segs-segs.ensures.lists c.index-segs-s.is c.as_slice.ensures c.placed.ensures c.in_ok-lines.ensures c.as_slice-2.ensures.value in
+    let is : lines ≡ lines_left (lines_on segs s) (lines_on placed s) = c.as_slice.ensures.value ∙ c.in_ok-lines.ensures in
     split_is segs part c.requires.known placed s c.requires.fits.each c.requires.seg lines c.in_ok-children.children is c.in_ok-children.ensures.children
 
 pub grow_split-returns-clause-best : goal.grow_split-returns-clause-best
@@ -190,11 +178,9 @@ grow_split-returns-clause-best g t c =
     let part = c.args.part.now in
     let placed = c.args.prefix.now.placed in
     let s = c.args.s in
-    let lines : List LineId = c.as_slice-2.result.now in
+    let lines : List LineId = c.as_slice.result.now in
     let s_known : s.0 < length segs = seg_known segs part c.requires.known placed s c.requires.fits.each c.requires.seg in
-    let is : lines ≡ lines_left (lines_on segs s) (lines_on placed s) =
-    lines_are segs placed c.segs-segs.result.now s c.index-segs-s.result c.as_slice.result.now c.placed.result.now c.in_ok-lines.lines.items lines s_known
-    c.segs-segs.ensures.lists c.index-segs-s.is c.as_slice.ensures c.placed.ensures c.in_ok-lines.ensures c.as_slice-2.ensures.value in
+    let is : lines ≡ lines_left (lines_on segs s) (lines_on placed s) = c.as_slice.ensures.value ∙ c.in_ok-lines.ensures in
     c.in_ok-children.ensures.best ∙ sym (best_is segs part c.requires.known placed s c.requires.fits.each c.requires.seg c.args.terms.now (best_of c.args.progress.now) lines is)
 
 pub grow_split-returns-clause-counted : goal.grow_split-returns-clause-counted
@@ -203,11 +189,9 @@ grow_split-returns-clause-counted g t c =
     let part = c.args.part.now in
     let placed = c.args.prefix.now.placed in
     let s = c.args.s in
-    let lines : List LineId = c.as_slice-2.result.now in
+    let lines : List LineId = c.as_slice.result.now in
     let s_known : s.0 < length segs = seg_known segs part c.requires.known placed s c.requires.fits.each c.requires.seg in
-    let is : lines ≡ lines_left (lines_on segs s) (lines_on placed s) =
-    lines_are segs placed c.segs-segs.result.now s c.index-segs-s.result c.as_slice.result.now c.placed.result.now c.in_ok-lines.lines.items lines s_known
-    c.segs-segs.ensures.lists c.index-segs-s.is c.as_slice.ensures c.placed.ensures c.in_ok-lines.ensures c.as_slice-2.ensures.value in
+    let is : lines ≡ lines_left (lines_on segs s) (lines_on placed s) = c.as_slice.ensures.value ∙ c.in_ok-lines.ensures in
     let splits = splits_are segs part c.requires.known placed s c.requires.fits.each c.requires.seg lines is in
     omega (arith, splits, c.in_ok-children.ensures.counted)
 
@@ -217,10 +201,8 @@ grow_split-returns-clause-most g t c =
     let part = c.args.part.now in
     let placed = c.args.prefix.now.placed in
     let s = c.args.s in
-    let lines : List LineId = c.as_slice-2.result.now in
+    let lines : List LineId = c.as_slice.result.now in
     let s_known : s.0 < length segs = seg_known segs part c.requires.known placed s c.requires.fits.each c.requires.seg in
-    let is : lines ≡ lines_left (lines_on segs s) (lines_on placed s) =
-    lines_are segs placed c.segs-segs.result.now s c.index-segs-s.result c.as_slice.result.now c.placed.result.now c.in_ok-lines.lines.items lines s_known
-    c.segs-segs.ensures.lists c.index-segs-s.is c.as_slice.ensures c.placed.ensures c.in_ok-lines.ensures c.as_slice-2.ensures.value in
+    let is : lines ≡ lines_left (lines_on segs s) (lines_on placed s) = c.as_slice.ensures.value ∙ c.in_ok-lines.ensures in
     let splits = splits_are segs part c.requires.known placed s c.requires.fits.each c.requires.seg lines is in
     omega (arith, splits, c.in_ok-children.ensures.counted)

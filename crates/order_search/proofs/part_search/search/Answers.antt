@@ -23,7 +23,7 @@ returns-clause-attained g c =
     IfOk-weaker c.search_all.result
     (λ f. best_found f ≡ best_in segs part terms (none_placed segs) (tree_of segs part) (number_order segs part terms))
     (λ f. AreAttained segs part terms f.orders.lists f.target)
-    (λ f e. subst (λ (b : Best). AreAttained segs part terms b.lists b.cost) (sym e) (found_attained segs part c.args.problem.now.terms c.search_all.ensures.fits.rising c.requires.known))
+    (λ f e. subst (λ (b : Best). AreAttained segs part terms b.lists b.cost) (sym e) (found_attained segs part c.args.problem.now.terms c.is_deep.ensures.fits.rising c.requires.known))
     c.search_all.ensures.best
 
 pub returns-clause-least : goal.returns-clause-least
@@ -34,7 +34,7 @@ returns-clause-least g c =
     IfOk-weaker c.search_all.result
     (λ f. best_found f ≡ best_in segs part terms (none_placed segs) (tree_of segs part) (number_order segs part terms))
     (λ f. IsLeast segs terms f.target)
-    (λ f e. subst (λ n. IsLeast segs terms n) (sym (ap (λ (b : Best). b.cost) e)) (found_least segs part c.args.problem.now.terms c.search_all.ensures.fits.rising c.requires.known))
+    (λ f e. subst (λ n. IsLeast segs terms n) (sym (ap (λ (b : Best). b.cost) e)) (found_least segs part c.args.problem.now.terms c.is_deep.ensures.fits.rising c.requires.known))
     c.search_all.ensures.best
 
 pub returns-clause-accepted : goal.returns-clause-accepted
@@ -46,16 +46,16 @@ returns-clause-accepted g c =
     (λ f. best_found f ≡ best_in segs part terms (none_placed segs) (tree_of segs part) (number_order segs part terms))
     (λ f. accepts (question segs part terms f.target) (none_placed segs) (tree_of segs part) ≡ true)
     (λ f e. subst (λ n. accepts (question segs part terms n) (none_placed segs) (tree_of segs part) ≡ true) (sym (ap (λ (b : Best). b.cost) e))
-    (found_accepted segs part terms c.search_all.ensures.fits.rising c.requires.known))
+    (found_accepted segs part terms c.is_deep.ensures.fits.rising c.requires.known))
     c.search_all.ensures.best
 
 pub returns-clause-proof_tree : goal.returns-clause-proof_tree
 returns-clause-proof_tree g c =
     let segs = c.args.problem.now.segs in
     let part = c.args.part.now in
-    let few : places_of segs part ≤ most_places = ltb-false 2048 (places_of segs part) (sym c.is_deep.ensures ∙ c.if-is_deep.false) in
+    let few : places_of segs part ≤ most_places = ltb-false 2048 (places_of segs part) (sym c.is_deep.ensures.deep ∙ c.if-is_deep.false) in
     IfOk-weaker c.search_all.result
     (λ f. plain f.tree ≡ tree_of segs part)
     (λ f. AreWide segs part → IsProofTree (plain f.tree))
-    (λ f e wide. subst IsProofTree (sym e) (is_proof_tree segs part c.search_all.ensures.fits.rising c.requires.known wide few))
+    (λ f e wide. subst IsProofTree (sym e) (is_proof_tree segs part c.is_deep.ensures.fits.rising c.requires.known wide few))
     c.search_all.ensures.tree
