@@ -21,13 +21,20 @@ pub(crate) fn parts(distance2: u64, near: u32) -> u64
     root_above(squares.saturating_sub(1))
 }
 
-/// The least number whose square is above this one.
+/// The least number whose square is above this one. Few are above 7, so these are tried first.
 fn root_above(square: u64) -> u64
     ensures some { 0 < result }
     ensures fits { result ≤ 2 ^ 32 }
     ensures above { square < result * result }
     ensures least { (result - 1) * (result - 1) ≤ square }
 {
+    let mut root = 1;
+    while root < 8 {
+        if square < root * root {
+            return root;
+        }
+        root += 1;
+    }
     square.isqrt() + 1
 }
 
