@@ -8,6 +8,6 @@ mod Served
 mod HopsAlong
 mod CourseLemmas
 mod SumLemmas
-mod WholeLemmas
+pub mod WholeLemmas
 mod FeedLemmas
 pub mod ServedStations

@@ -46,10 +46,10 @@ stations_are now feed shown read count numbers read_is same count_is is =
 
 -- ---- limits
 
-within-next : {A : Type 0} (kind : LimitKind) (count : ℕ) (next : Result A Limit) → count ≤ limit_most kind → unless_above kind count next ≡ next
+pub within-next : {A : Type 0} (kind : LimitKind) (count : ℕ) (next : Result A Limit) → count ≤ limit_most kind → unless_above kind count next ≡ next
 within-next kind count next within = ap (λ b. cond b next (Err (limit_of kind))) (le-leb count (limit_most kind) within)
 
-above-limit : {A : Type 0} (kind : LimitKind) (count : ℕ) (next : Result A Limit) → limit_most kind < count → unless_above kind count next ≡ Err (limit_of kind)
+pub above-limit : {A : Type 0} (kind : LimitKind) (count : ℕ) (next : Result A Limit) → limit_most kind < count → unless_above kind count next ≡ Err (limit_of kind)
 above-limit kind count next above = ap (λ b. cond b next (Err (limit_of kind))) (lt-leb count (limit_most kind) above)
 
 pub too_many_lines : (near : ℕ) (feed : Feed) → 1000 < length (shown_lines feed) → courses_outcome near feed ≡ Err (limit_of Lines)

@@ -22,6 +22,7 @@ use Rattle.feed_courses.specs.declared.fault.CourseFault.TheVariants as courses
 use Rattle.feed_courses.specs.Faults.{HasCause as HasCourseCause}
 use Rattle.feed_courses.specs.Outcome.{courses_outcome}
 use Rattle.feed_courses.proofs.ServedStations.{are_known}
+use Rattle.feed_courses.proofs.WholeLemmas.{within-next, above-limit}
 use Rattle.way_network.specs.Graphs.{kind_of, kind_at, graph_over, graph_within}
 use Rattle.way_network.specs.Segments.{nodes_of}
 use Rattle.line_graph.specs.declared.fault.BuildFault.{BuildFault}
@@ -29,25 +30,17 @@ use Rattle.line_graph.specs.Outcome.{net_of_courses, network_of, all_passages, g
 use Rattle.line_graph.specs.Faults.{of_courses, of_net, HasCause}
 use Rattle.line_graph.specs.Text.{IsKnown}
 
--- ---- limits
-
-is_within-next : {A : Type 0} (kind : LimitKind) (count : ℕ) (next : Result A Limit) → count ≤ limit_most kind → unless_above kind count next ≡ next
-is_within-next kind count next within = ap (λ b. cond b next (Err (limit_of kind))) (le-leb count (limit_most kind) within)
-
-is_above-limit : {A : Type 0} (kind : LimitKind) (count : ℕ) (next : Result A Limit) → limit_most kind < count → unless_above kind count next ≡ Err (limit_of kind)
-is_above-limit kind count next above = ap (λ b. cond b next (Err (limit_of kind))) (lt-leb count (limit_most kind) above)
-
 -- ---- the net
 
 -- a net of too many points is refused
 pub net_refused : (near lines : ℕ) (all : Courses) (over : NetParts) (fault : NetFault) → HasNetCause (length over.points) fault → HasCause (graph_over_net near lines all over) (of_net fault)
-net_refused near lines all over (net.Limit limit) cause = is_above-limit NetPoints (length over.points) _ cause.1 ∙ sym (ap Err cause.0)
+net_refused near lines all over (net.Limit limit) cause = above-limit NetPoints (length over.points) _ cause.1 ∙ sym (ap Err cause.0)
 net_refused near lines all over net.NoMemory cause = tt
 
 -- else the outcome is that of the graph over it
 pub net_fits : (near lines : ℕ) (all : Courses) (over : NetParts) → length over.points ≤ 100000 →
     graph_over_net near lines all over ≡ graph_within (graph_over all.stations over.points (network_of near lines all over) (all_passages near all over))
-net_fits near lines all over few = is_within-next NetPoints (length over.points) _ few
+net_fits near lines all over few = within-next NetPoints (length over.points) _ few
 
 -- ---- courses
 

@@ -28,8 +28,8 @@ pub(crate) struct Traced {
     pub(crate) passages: Vec<Passage>,
 }
 
-/// The ways of courses over the net of their samples, and all passages, with the points of the net. `near` is in decimetres, and there are
-/// `lines` lines.
+/// The ways of courses over the net of their samples, and all passages, with the points of the net. `near` is in
+/// decimetres, and there are `lines` lines.
 pub(crate) fn network(
     alloc: Global,
     courses: &Courses,
