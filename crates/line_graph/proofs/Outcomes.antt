@@ -1,14 +1,11 @@
 -- From what each step gives to the outcome of a feed.
 use Rattle.std.proofs.Common.{◌≡◌, sym, ◌∙◌, ap, subst, ℕ, ◌<◌, ◌≤◌, ◌⊎◌, inl, inr, Bool, true, false, cond, leb, List, length, get_or, All, Option, Some, None, Result, Ok, Err, IfOk}
 use Rattle.std.specs.List.{slice_get}
-use Rattle.std.proofs.lemmas.Bool.{le-leb, lt-leb}
 use Rattle.std.proofs.lemmas.List.Elements.{All-map}
 use Rattle.std.proofs.lemmas.Option.{slice_get_cases}
 use Rattle.map_base.specs.declared.ids.StationId.{StationId}
 use Rattle.map_base.specs.declared.limit.Limit.{Limit}
-use Rattle.map_base.specs.declared.limit.LimitKind.{LimitKind}
 use Rattle.map_base.specs.declared.limit.LimitKind.TheVariants.{NetPoints}
-use Rattle.map_base.specs.Limits.{limit_most, limit_of, unless_above}
 use Rattle.transit_feed.specs.declared.station.Station.{Station}
 use Rattle.transit_feed.specs.Feeds.{Feed}
 use Rattle.graph_core.specs.declared.parts.GraphParts.{GraphParts}
