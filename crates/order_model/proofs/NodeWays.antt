@@ -1,8 +1,8 @@
 -- The ways out of the segments of a round, by their places: one join more.
-use Rattle.std.proofs.Common.{◌≡◌, ◌≢◌, ℕ, ◌+◌, ◌<◌, ◌==◌, Bool, true, false, cond, List, [], ◌∷◌, ◌++◌, length, map, replicate, get_or, set, take, refl, sym, ◌∙◌, ap, subst, arith, eqb-true, append-nil}
+use Rattle.std.proofs.Common.{◌≡◌, ◌≢◌, ℕ, ◌+◌, ◌<◌, ◌==◌, Bool, true, false, cond, List, [], ◌∷◌, ◌++◌, length, get_or, set, take, refl, sym, ◌∙◌, ap, subst, arith, eqb-true, append-nil}
 use Rattle.std.specs.List.{All, Contains, flat_map}
 use Rattle.std.proofs.lemmas.Bool.{eqb-false}
-use Rattle.std.proofs.lemmas.List.{length-set, length-map, length-replicate, map-set, map-append, get_or-map, get_or-replicate, get_or-set_same, get_or-set_other, replicate-append-replicate, take_more}
+use Rattle.std.proofs.lemmas.List.{length-set, length-map, map-set, get_or-map, get_or-set_same, get_or-set_other, take_more}
 use Rattle.std.proofs.lemmas.List.Concat.{flat_map-append}
 use Rattle.std.proofs.lemmas.List.Elements.{All-get_or, All-contains, Contains-get_or}
 use Rattle.std.specs.Prelude.{Vec}
@@ -14,11 +14,8 @@ use Rattle.graph_core.specs.Consistent.{IsJoin}
 use Rattle.order_model.specs.declared.found.Way.{Way}
 use Rattle.order_model.specs.declared.found.Found.{Found}
 use Rattle.order_model.specs.Terms.{place_in, way, way_by, ways_from}
-use Rattle.order_model.specs.Hubs.{way_lists, with_way, with_ways_by, TellPlaces, IsBetween, AreWays}
+use Rattle.order_model.specs.WaysByPlace.{way_lists, with_way, with_ways_by, TellPlaces, IsBetween, AreWays}
 use Rattle.order_model.proofs.Rounds.{seg_of, place_within, same_place, told_at}
-
-abbrev pub no_join : Join
-no_join = record { e = seg_of 0; f = seg_of 0; line = record { 0 = 0 } }
 
 -- One way more in one list.
 
@@ -37,7 +34,7 @@ way_elsewhere round line e f s lists there differ =
 
 way_at : (round : List SegId) (line : LineId) (e f s : SegId) (lists : List (List Way)) → length lists ≡ length round → Contains round e → Contains round s
     → get_or (with_way round line e f lists) (place_in round s) []
-      ≡ cond (e.0 == s.0) (get_or lists (place_in round s) [] ++ way round s line f ∷ []) (get_or lists (place_in round s) [])
+    ≡ cond (e.0 == s.0) (get_or lists (place_in round s) [] ++ way round s line f ∷ []) (get_or lists (place_in round s) [])
 way_at round line e f s lists each here there = by_test (e.0 == s.0) refl
   where
     by_test : (b : Bool) → (e.0 == s.0) ≡ b → get_or (with_way round line e f lists) (place_in round s) []
@@ -82,27 +79,12 @@ pub next_join : (round : List SegId) (joins : List Join) (i : ℕ) (d : Join) (o
 next_join round joins i d old new below between ok is =
     rw (take_more joins i d below, is) (one_join_more round (take i joins) (get_or joins i d) old ok (All-get_or (IsBetween round) joins i d below between))
 
--- no joins make no ways
-pub no_joins : (round : List SegId) (n : ℕ) (lists : List (List Way)) → lists ≡ replicate n [] → n ≡ length round → AreWays round [] lists
-no_joins round n lists is all = rw is (record {
-  each = length-replicate n [] ∙ all;
-  at = λ k d below. get_or-replicate n (place_in round (get_or round k d)) [] []
-      (omega (arith, place_within round (get_or round k d) (Contains-get_or round k d below)));
-})
-
 -- Lists of ways.
 
-pub length-way_lists : (lists : List (Vec Way Global)) → length (way_lists lists) ≡ length lists
+length-way_lists : (lists : List (Vec Way Global)) → length (way_lists lists) ≡ length lists
 length-way_lists lists = length-map lists (λ (ways : Vec Way Global). ways.items)
 
-pub one_list_more : (lists : List (Vec Way Global)) (n : ℕ) (none : Vec Way Global) → way_lists lists ≡ replicate n [] → none.items ≡ [] → way_lists (lists ++ none ∷ []) ≡ replicate (n + 1) []
-one_list_more lists n none is empty =
-    map-append (λ (ways : Vec Way Global). ways.items) lists (none ∷ [])
-    ∙ ap (λ (xs : List (List Way)). xs ++ none.items ∷ []) is
-    ∙ ap (λ (x : List Way). replicate n [] ++ x ∷ []) empty
-    ∙ replicate-append-replicate n 1 []
-
-pub list_at : (lists : List (Vec Way Global)) (i : ℕ) (ways : Vec Way Global) → i < length lists → get_or lists i ways ≡ ways → get_or (way_lists lists) i [] ≡ ways.items
+list_at : (lists : List (Vec Way Global)) (i : ℕ) (ways : Vec Way Global) → i < length lists → get_or lists i ways ≡ ways → get_or (way_lists lists) i [] ≡ ways.items
 list_at lists i ways below is = get_or-map (λ (w : Vec Way Global). w.items) lists i ways [] below ∙ ap (λ (w : Vec Way Global). w.items) is
 
 -- one list grows

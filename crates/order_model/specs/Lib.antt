@@ -1,7 +1,7 @@
 pub mod Problems
 pub mod PriceLists
 pub mod Terms
-pub mod Hubs
+pub mod WaysByPlace
 pub mod Costs
 pub mod Places
 pub mod Limits

@@ -1,7 +1,7 @@
 //! The places of segments in the round of a node, by a table with an entry for each segment of the graph.
 
 ghost use Rattle.std.specs.Prelude.{◌≡◌, ◌<◌, ◌≤◌, length, All, IfOk, slice_index};
-ghost use Rattle.order_model.specs.Hubs.{TellPlaces};
+ghost use Rattle.order_model.specs.WaysByPlace.{TellPlaces};
 
 use map_base::{NoMemory, SegId};
 use std::alloc::Global;
@@ -14,7 +14,7 @@ pub(crate) fn no_places(alloc: Global, count: u32) -> Result<Vec<u32>, NoMemory>
     Ok(table)
 }
 
-/// Writes the place of each segment of a round into the table. What it tells of others means nothing then.
+/// Writes the place of each segment of a round into the table, whose other entries mean nothing from then on.
 pub(crate) fn set_places(table: &mut [u32], round: &[SegId])
     requires known { All (λ s. s.0 < length table.old) round.now }
     requires few { length round.now ≤ 20000 }

@@ -2,7 +2,7 @@
 
 ghost use Rattle.std.specs.Prelude.{◌≡◌, ◌<◌, ◌≤◌, ◌++◌, [], ◌∷◌, length, replicate, All, Contains, IfOk, OnOk, slice_index, slice_index_or, slice_set};
 ghost use Rattle.order_model.specs.Terms.{place_in, way};
-ghost use Rattle.order_model.specs.Hubs.{way_lists, with_way, with_ways_by, TellPlaces, IsBetween, AreWays};
+ghost use Rattle.order_model.specs.WaysByPlace.{way_lists, with_way, with_ways_by, TellPlaces, IsBetween, AreWays};
 
 use crate::found::Way;
 use crate::round_places::place_told;
@@ -11,7 +11,7 @@ use map_base::{LineId, NoMemory, SegId};
 use std::alloc::Global;
 
 /// The ways out of each segment of a node's round, by its place there. Those of one segment stand in the order of the
-/// node's joins.
+/// node's joins. It looks at each join once, and never searches the round, since a node may have very many of both.
 pub(crate) fn ways_around(
     alloc: Global,
     places: &[u32],
@@ -76,11 +76,7 @@ fn push_way(
     ensures lists { OnOk result (way_lists lists.new.items ≡ with_way round.now line e f (way_lists lists.old.items)) }
     ensures each { OnOk result (length lists.new.items ≡ length round.now) }
 {
-    push_at(
-        lists,
-        place_told(places, e),
-        way(places, round, e, line, f),
-    )
+    push_at(lists, place_told(places, e), way(places, round, e, line, f))
 }
 
 /// Adds a way to the list at a place.

@@ -1,5 +1,5 @@
 use Rattle.std.proofs.Common.{◌≡◌, [], replicate}
-use Rattle.order_model.specs.Hubs.{way_lists}
+use Rattle.order_model.specs.WaysByPlace.{way_lists}
 use Rattle.order_model.proofs.ways.no_ways.Given as goal
 
 abbrev pub invariant-loop : goal.invariant-loop

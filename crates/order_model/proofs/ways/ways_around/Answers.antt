@@ -1,4 +1,4 @@
-use Rattle.order_model.specs.Hubs.{way_lists}
+use Rattle.order_model.specs.WaysByPlace.{way_lists}
 use Rattle.order_model.proofs.NodeWays.{next_join}
 use Rattle.order_model.proofs.ways.ways_around.Goals as goal
 

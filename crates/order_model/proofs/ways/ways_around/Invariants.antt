@@ -1,5 +1,5 @@
-use Rattle.std.proofs.Common.{◌≡◌, length, take}
-use Rattle.order_model.specs.Hubs.{way_lists, AreWays}
+use Rattle.std.proofs.Common.{take}
+use Rattle.order_model.specs.WaysByPlace.{way_lists, AreWays}
 use Rattle.order_model.proofs.ways.ways_around.Given as goal
 
 abbrev pub invariant-loop-join : goal.invariant-loop-join

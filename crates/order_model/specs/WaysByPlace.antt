@@ -1,4 +1,4 @@
--- A table of places in a round, and the ways out of each segment of a round by its place.
+-- A table of places in a round, and the ways out of the segments of a round by their places.
 use Rattle.std.specs.Prelude.{◌≡◌, ◌≢◌, ℕ, ◌<◌, List, [], ◌∷◌, ◌++◌, length, map, All, Contains, slice_index, slice_index_or, slice_set}
 use Rattle.std.specs.Prelude.{Vec}
 use Rattle.std.specs.Global.{Global}
