@@ -1,15 +1,16 @@
 -- Placing a line and taking it back leaves a prefix as it was.
 use Rattle.std.proofs.Common.{◌≡◌, ℕ, zero, suc, ◌+◌, ◌<◌, ◌==◌, Bool, true, false, cond, List, [], ◌∷◌, ◌++◌, length, set, refl, ◌∙◌, ap, arith, length-append}
-use Rattle.std.specs.List.{find}
+use Rattle.std.specs.List.{All, find}
 use Rattle.std.specs.Option.{option_to_list}
 use Rattle.std.proofs.lemmas.List.{get_or-set_same, set-get_or}
 use Rattle.map_base.specs.declared.ids.SegId.{SegId}
 use Rattle.map_base.specs.declared.ids.LineId.{LineId}
 use Rattle.graph_core.specs.Consistent.{AreRising}
 use Rattle.order_model.specs.Problems.{lines_on}
-use Rattle.order_model.specs.Prefixes.{is_unplaced, with_line, without_last, ArePlacedLines}
+use Rattle.order_model.specs.Prefixes.{Placement, IsPrefixOf, is_unplaced, with_line, without_last, ArePlacedLines}
 use Rattle.order_model.proofs.PrefixLemmas.{undone}
 use Rattle.order_trees.specs.Completions.{placed_more}
+use Rattle.order_trees.proofs.Sound.{rising_at}
 
 with_some : (lines placed : List LineId) (a : LineId) → 0 < length (with_line lines placed a)
 with_some lines placed a = by_test (length (placed ++ a ∷ []) + 1 == length lines)
@@ -38,9 +39,10 @@ taken_back segs placed s a known rising ok =
     ∙ ap (λ l. set placed s.0 l) (ap (without_last (lines_on segs s)) here ∙ undone (lines_on segs s) (lines_on placed s) a rising ok)
     ∙ set-get_or placed s.0 []
 
-pub case_restored : (segs : List (List LineId)) (before placed walked after : List (List LineId)) (s : SegId) (a : LineId) → s.0 < length before
-    → AreRising (lines_on segs s) → ArePlacedLines (lines_on segs s) (lines_on before s)
-    → placed ≡ placed_more segs before s a → walked ≡ placed → after ≡ set walked s.0 (without_last (lines_on segs s) (lines_on walked s)) → after ≡ before
-case_restored segs before placed walked after s a known rising ok p w t =
-    let is : walked ≡ placed_more segs before s a = w ∙ p in
-    t ∙ ap (λ l. set l s.0 (without_last (lines_on segs s) (lines_on l s))) is ∙ taken_back segs before s a known rising ok
+pub case_restored : (segs : List (List LineId)) (before : Placement) (placed walked after : List (List LineId)) (s : SegId) (a : LineId) → IsPrefixOf segs before → s.0 < length segs
+    → All AreRising segs → placed ≡ placed_more segs before.placed s a → walked ≡ placed → after ≡ set walked s.0 (without_last (lines_on segs s) (lines_on walked s))
+    → after ≡ before.placed
+case_restored segs before placed walked after s a fits known rising p w t =
+    let is : walked ≡ placed_more segs before.placed s a = w ∙ p in
+    t ∙ ap (λ l. set l s.0 (without_last (lines_on segs s) (lines_on l s))) is
+    ∙ taken_back segs before.placed s a (omega (arith, fits.each, known)) (rising_at segs s.0 rising) (fits.lines s.0 known)

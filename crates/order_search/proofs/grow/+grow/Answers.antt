@@ -5,7 +5,6 @@ use Rattle.order_model.specs.Problems.{lines_on}
 use Rattle.order_proof.specs.Plain.{cases_of}
 use Rattle.order_proof.specs.Trees.{splits_of, splits_of_cases}
 use Rattle.order_trees.specs.Completions.{placed_more}
-use Rattle.order_trees.proofs.Sound.{rising_at}
 use Rattle.order_search.specs.Growing.{room_of, cases_left, tree_at, lines_left}
 use Rattle.order_search.specs.Finding.{best_in}
 use Rattle.order_search.specs.Progressing.{best_of, AreNext}
@@ -33,10 +32,8 @@ grow_case-take_back-requires-clause-some g t c =
 
 pub grow_case-returns-clause-placed : goal.grow_case-returns-clause-placed
 grow_case-returns-clause-placed g t c =
-    let s = c.args.s in
-    case_restored c.args.problem.now.segs c.args.prefix.now.placed c.place.new.self.placed c.grow-outcome.new.prefix.placed c.take_back.new.self.placed s c.args.line
-    (omega (arith, c.requires.seg_known, c.requires.fits.each)) (rising_at c.args.problem.now.segs s.0 c.requires.rising) (c.requires.fits.lines s.0 c.requires.seg_known)
-    c.place.ensures.placed c.grow-outcome.ensures.placed c.take_back.ensures.placed
+    case_restored c.args.problem.now.segs c.args.prefix.now c.place.new.self.placed c.grow-outcome.new.prefix.placed c.take_back.new.self.placed c.args.s c.args.line
+    c.requires.fits c.requires.seg_known c.requires.rising c.place.ensures.placed c.grow-outcome.ensures.placed c.take_back.ensures.placed
 
 pub grow_case-returns-clause-stop : goal.grow_case-returns-clause-stop
 grow_case-returns-clause-stop g t c = rw (c.place.ensures.placed) at c.grow-outcome.ensures.stop
