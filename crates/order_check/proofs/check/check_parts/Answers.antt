@@ -5,10 +5,11 @@ use Rattle.std.proofs.lemmas.Result.{err_from_is_err_and}
 use Rattle.map_base.specs.declared.ids.SegId.{SegId}
 use Rattle.order_model.specs.declared.term.Term.{Term}
 use Rattle.order_model.specs.Gathering.{part_lists}
+use Rattle.order_model.proofs.Placing.{length-part_lists}
 use Rattle.order_proof.specs.Plain.{plain_part}
 use Rattle.order_trees.specs.PartTerms.{part_terms}
 use Rattle.order_trees.specs.Numbers.{TellPart}
-use Rattle.order_trees.proofs.PartLists.{part_at, part_count, part_known_at, parts_few_at}
+use Rattle.order_trees.proofs.PartLists.{part_at, part_known_at, parts_few_at}
 use Rattle.order_trees.proofs.PartNumbers.{tell_part_at}
 use Rattle.order_trees.proofs.KeptTerms.{group_items}
 use Rattle.order_check.specs.Verdict.{part_refusal, IsCause}
@@ -37,14 +38,14 @@ pub returns-then-k-proofs-clause-refused : goal.returns-then-k-proofs-clause-ref
 returns-then-k-proofs-clause-refused c =
     rw c.part_alone.ensures
     (part_missing c.args.problem.now.segs c.args.problem.now.terms (part_lists c.args.parts.now) (map plain_part c.args.proofs.now) c.loop-k.k []
-    (omega (arith, part_count c.args.parts.now, c.loop-k-test.true)) (omega (arith, length-map c.args.proofs.now plain_part, c.if-k-proofs.true)) c.loop-k.invariant.1)
+    (omega (arith, length-part_lists c.args.parts.now, c.loop-k-test.true)) (omega (arith, length-map c.args.proofs.now plain_part, c.if-k-proofs.true)) c.loop-k.invariant.1)
 
 pub returns-then-proofs-parts-clause-refused : goal.returns-then-proofs-parts-clause-refused
 returns-then-proofs-parts-clause-refused c =
     let k : c.loop-k.k ≡ length c.args.parts.now = omega (arith, c.loop-k-test.false, c.loop-k.auto.k-end) in
     rw (c.part_alone-then-proofs-parts.ensures, sym k)
     (part_left_over c.args.problem.now.segs c.args.problem.now.terms (part_lists c.args.parts.now) (map plain_part c.args.proofs.now) c.loop-k.k
-    (omega (arith, part_count c.args.parts.now, c.loop-k-test.false)) (omega (arith, length-map c.args.proofs.now plain_part, k, c.if-proofs-parts.true)) c.loop-k.invariant.1)
+    (omega (arith, length-part_lists c.args.parts.now, c.loop-k-test.false)) (omega (arith, length-map c.args.proofs.now plain_part, k, c.if-proofs-parts.true)) c.loop-k.invariant.1)
 
 pub check_part-requires-clause-known : goal.check_part-requires-clause-known
 check_part-requires-clause-known c =
@@ -76,7 +77,7 @@ loop-k-preserved c =
     let terms = c.args.problem.now.terms in
     let k : ℕ = c.loop-k.k in
     let proof = plain_part c.index-proofs-k.result in
-    let below : k < length (part_lists c.args.parts.now) = omega (arith, part_count c.args.parts.now, c.loop-k-test.true) in
+    let below : k < length (part_lists c.args.parts.now) = omega (arith, length-part_lists c.args.parts.now, c.loop-k-test.true) in
     let here : c.as_slice-in-loop-k.result.now ≡ get_or (part_lists c.args.parts.now) k [] =
     c.as_slice-in-loop-k.ensures.value ∙ sym (part_at c.args.parts.now k c.index-parts-k.result c.loop-k-test.true c.index-parts-k.is) in
     let there = proof_at c.args.proofs.now k c.index-proofs-k.result (omega (arith, c.if-k-proofs.false)) c.index-proofs-k.is in
@@ -96,7 +97,7 @@ returns-in_err-check_part-clause-refused c =
     let terms = c.args.problem.now.terms in
     let k : ℕ = c.loop-k.k in
     let proof = plain_part c.index-proofs-k.result in
-    let below : k < length (part_lists c.args.parts.now) = omega (arith, part_count c.args.parts.now, c.loop-k-test.true) in
+    let below : k < length (part_lists c.args.parts.now) = omega (arith, length-part_lists c.args.parts.now, c.loop-k-test.true) in
     let here : c.as_slice-in-loop-k.result.now ≡ get_or (part_lists c.args.parts.now) k [] =
     c.as_slice-in-loop-k.ensures.value ∙ sym (part_at c.args.parts.now k c.index-parts-k.result c.loop-k-test.true c.index-parts-k.is) in
     let there = proof_at c.args.proofs.now k c.index-proofs-k.result (omega (arith, c.if-k-proofs.false)) c.index-proofs-k.is in
