@@ -3,6 +3,8 @@
 
 mod found;
 mod grow;
+#[cfg(test)]
+mod least_tests;
 mod left;
 mod part_search;
 mod progress;

@@ -1,6 +1,6 @@
 use Rattle.std.proofs.Common.{get_or, false}
 use Rattle.order_search.proofs.SmallProblems.{small_fits}
-use Rattle.order_search.proofs.tests.small.Goals as goal
+use Rattle.order_search.proofs.least_tests.small.Goals as goal
 
 pub returns : goal.returns
 returns c =
