@@ -4,6 +4,7 @@ use Rattle.map_base.specs.declared.ids.SegId.{SegId}
 use Rattle.map_base.specs.declared.ids.LineId.{LineId}
 use Rattle.map_base.specs.declared.limit.Limit.{Limit}
 use Rattle.map_base.specs.declared.limit.LimitKind.TheVariants.{Places}
+use Rattle.map_base.specs.Limits.{limit_of}
 use Rattle.order_model.specs.declared.term.Term.{Term}
 use Rattle.order_model.specs.Problems.{lines_on, choices}
 use Rattle.order_model.specs.Costs.{cost_of, AreOrders}
@@ -53,7 +54,7 @@ most_places = 2048
 
 -- what is reported above that
 abbrev pub places_limit : Limit
-places_limit = record { what = Places; found = 2049; most = 2048 }
+places_limit = limit_of Places
 
 -- the fault is the limit, exactly above it; or else that the tree has more splits than the budget; or want of memory
 abbrev pub IsSearchFault : List (List LineId) → List SegId → ℕ → SearchFault → Type 0

@@ -1,22 +1,22 @@
 //! The tree of a prefix, grown depth first.
 
-ghost use Rattle.std.specs.Prelude.{◌≡◌, ◌+◌, ◌<◌, ◌≤◌, ◌^◌, length, map, false, Some, All, Contains, IfOk, IfErr, OnOk};
-ghost use Rattle.map_base.specs.declared.ids.SegId.{SegId};
-ghost use Rattle.graph_core.specs.Consistent.{AreRising};
-ghost use Rattle.order_model.specs.Problems.{lines_on, IsTerm};
+ghost use Rattle.std.specs.Prelude.{◌≡◌, ◌+◌, ◌<◌, ◌≤◌, ◌^◌, length, map, false, Some, Contains, IfOk, IfErr, OnOk};
+ghost use Rattle.order_model.specs.Problems.{lines_on};
 ghost use Rattle.order_model.specs.Prefixes.{IsPrefixOf, is_placed};
 ghost use Rattle.order_proof.specs.Plain.{plain, cases_of};
 ghost use Rattle.order_proof.specs.Trees.{splits_of, splits_of_cases};
 ghost use Rattle.order_trees.specs.Completions.{placed_more};
 ghost use Rattle.order_search.specs.Growing.{first_open, lines_left, cases_left, tree_at};
 ghost use Rattle.order_search.specs.Finding.{best_in, best_among};
+ghost use Rattle.order_search.specs.Searching.{segs_of, part_of, terms_in, IsSearched};
 ghost use Rattle.order_search.specs.Progressing.{best_of, IsStop, AreNext};
 
 use crate::found::SearchFault;
 use crate::left::{first_open, lines_left};
 use crate::progress::{Progress, compare};
+use crate::searched::Searched;
 use map_base::{LineId, SegId, Steps};
-use order_model::{Prefix, Prices, Problem, Term};
+use order_model::{Prefix, Prices};
 use order_proof::Tree;
 use std::alloc::Global;
 use std::sync::ledger::Ledger;
@@ -26,40 +26,35 @@ use std::sync::ledger::Ledger;
 #[cycle(grow)]
 pub(crate) fn grow<L: Ledger>(
     alloc: Global,
-    problem: &Problem,
-    part: &[SegId],
-    terms: &[Term],
+    searched: &Searched,
     prefix: &mut Prefix,
     progress: &mut Progress,
     steps: &mut Steps<L>,
 ) -> Result<Tree, SearchFault>
-    requires fits { IsPrefixOf problem.now.segs prefix.old }
-    requires known { All (λ (s : SegId). s.0 < length problem.now.segs) part.now }
-    requires terms { All (IsTerm problem.now.segs) terms.now }
-    requires few { length terms.now ≤ 4000000 }
-    requires rising { All AreRising problem.now.segs }
+    requires searched { IsSearched searched.now }
+    requires fits { IsPrefixOf (segs_of searched.now) prefix.old }
     requires budget { progress.old.budget + 1 < 2 ^ 32 }
     requires spent { progress.old.spent ≤ progress.old.budget }
-    ensures fits { IsPrefixOf problem.now.segs prefix.new }
+    ensures fits { IsPrefixOf (segs_of searched.now) prefix.new }
     ensures placed { prefix.new.placed ≡ prefix.old.placed }
     ensures budget { progress.new.budget ≡ progress.old.budget }
     ensures spent { progress.new.spent ≤ progress.old.budget }
     ensures steps { steps.new + progress.old.spent ≡ steps.old + progress.new.spent }
-    ensures tree { IfOk result (λ t. plain t ≡ tree_at problem.now.segs part.now prefix.old.placed) }
+    ensures tree { IfOk result (λ t. plain t ≡ tree_at (segs_of searched.now) (part_of searched.now) prefix.old.placed) }
     ensures best { OnOk result (best_of progress.new
-        ≡ best_in problem.now.segs part.now terms.now prefix.old.placed (tree_at problem.now.segs part.now prefix.old.placed) (best_of progress.old)) }
-    ensures counted { OnOk result (progress.new.spent ≡ progress.old.spent + splits_of (tree_at problem.now.segs part.now prefix.old.placed)) }
-    ensures most { progress.new.spent ≤ progress.old.spent + splits_of (tree_at problem.now.segs part.now prefix.old.placed) }
-    ensures stop { IfErr result (IsStop progress.old.budget (progress.old.spent + splits_of (tree_at problem.now.segs part.now prefix.old.placed))) }
+        ≡ best_in (segs_of searched.now) (part_of searched.now) (terms_in searched.now) prefix.old.placed (tree_at (segs_of searched.now) (part_of searched.now) prefix.old.placed) (best_of progress.old)) }
+    ensures counted { OnOk result (progress.new.spent ≡ progress.old.spent + splits_of (tree_at (segs_of searched.now) (part_of searched.now) prefix.old.placed)) }
+    ensures most { progress.new.spent ≤ progress.old.spent + splits_of (tree_at (segs_of searched.now) (part_of searched.now) prefix.old.placed) }
+    ensures stop { IfErr result (IsStop progress.old.budget (progress.old.spent + splits_of (tree_at (segs_of searched.now) (part_of searched.now) prefix.old.placed))) }
 {
-    match first_open(problem, part, prefix) {
+    match first_open(searched.problem, searched.part, prefix) {
         None => {
-            compare(alloc, problem, part, terms, prefix, progress)?;
+            compare(alloc, searched, prefix, progress)?;
             Ok(Tree::Close {
                 prices: Prices::of(Vec::new(alloc)),
             })
         }
-        Some(s) => grow_split(alloc, problem, part, terms, prefix, progress, steps, s),
+        Some(s) => grow_split(alloc, searched, prefix, progress, steps, s),
     }
 }
 
@@ -67,33 +62,28 @@ pub(crate) fn grow<L: Ledger>(
 #[cycle(grow)]
 fn grow_split<L: Ledger>(
     alloc: Global,
-    problem: &Problem,
-    part: &[SegId],
-    terms: &[Term],
+    searched: &Searched,
     prefix: &mut Prefix,
     progress: &mut Progress,
     steps: &mut Steps<L>,
     s: SegId,
 ) -> Result<Tree, SearchFault>
-    requires fits { IsPrefixOf problem.now.segs prefix.old }
-    requires known { All (λ (s : SegId). s.0 < length problem.now.segs) part.now }
-    requires terms { All (IsTerm problem.now.segs) terms.now }
-    requires few { length terms.now ≤ 4000000 }
-    requires rising { All AreRising problem.now.segs }
+    requires searched { IsSearched searched.now }
+    requires fits { IsPrefixOf (segs_of searched.now) prefix.old }
     requires budget { progress.old.budget + 1 < 2 ^ 32 }
     requires spent { progress.old.spent ≤ progress.old.budget }
-    requires seg { first_open problem.now.segs part.now prefix.old.placed ≡ Some s }
-    ensures fits { IsPrefixOf problem.now.segs prefix.new }
+    requires seg { first_open (segs_of searched.now) (part_of searched.now) prefix.old.placed ≡ Some s }
+    ensures fits { IsPrefixOf (segs_of searched.now) prefix.new }
     ensures placed { prefix.new.placed ≡ prefix.old.placed }
     ensures budget { progress.new.budget ≡ progress.old.budget }
     ensures spent { progress.new.spent ≤ progress.old.budget }
     ensures steps { steps.new + progress.old.spent ≡ steps.old + progress.new.spent }
-    ensures tree { IfOk result (λ t. plain t ≡ tree_at problem.now.segs part.now prefix.old.placed) }
+    ensures tree { IfOk result (λ t. plain t ≡ tree_at (segs_of searched.now) (part_of searched.now) prefix.old.placed) }
     ensures best { OnOk result (best_of progress.new
-        ≡ best_in problem.now.segs part.now terms.now prefix.old.placed (tree_at problem.now.segs part.now prefix.old.placed) (best_of progress.old)) }
-    ensures counted { OnOk result (progress.new.spent ≡ progress.old.spent + splits_of (tree_at problem.now.segs part.now prefix.old.placed)) }
-    ensures most { progress.new.spent ≤ progress.old.spent + splits_of (tree_at problem.now.segs part.now prefix.old.placed) }
-    ensures stop { IfErr result (IsStop progress.old.budget (progress.old.spent + splits_of (tree_at problem.now.segs part.now prefix.old.placed))) }
+        ≡ best_in (segs_of searched.now) (part_of searched.now) (terms_in searched.now) prefix.old.placed (tree_at (segs_of searched.now) (part_of searched.now) prefix.old.placed) (best_of progress.old)) }
+    ensures counted { OnOk result (progress.new.spent ≡ progress.old.spent + splits_of (tree_at (segs_of searched.now) (part_of searched.now) prefix.old.placed)) }
+    ensures most { progress.new.spent ≤ progress.old.spent + splits_of (tree_at (segs_of searched.now) (part_of searched.now) prefix.old.placed) }
+    ensures stop { IfErr result (IsStop progress.old.budget (progress.old.spent + splits_of (tree_at (segs_of searched.now) (part_of searched.now) prefix.old.placed))) }
 {
     if progress.spent == progress.budget {
         return Err(SearchFault::Spent {
@@ -102,12 +92,10 @@ fn grow_split<L: Ledger>(
     }
     progress.spent += 1;
     steps.tick();
-    let lines = lines_left(alloc, problem, prefix, s)?;
+    let lines = lines_left(alloc, searched.problem, prefix, s)?;
     let children = grow_cases(
         alloc,
-        problem,
-        part,
-        terms,
+        searched,
         prefix,
         progress,
         steps,
@@ -121,45 +109,38 @@ fn grow_split<L: Ledger>(
 #[cycle(grow)]
 fn grow_cases<L: Ledger>(
     alloc: Global,
-    problem: &Problem,
-    part: &[SegId],
-    terms: &[Term],
+    searched: &Searched,
     prefix: &mut Prefix,
     progress: &mut Progress,
     steps: &mut Steps<L>,
     s: SegId,
     lines: &[LineId],
 ) -> Result<Vec<(LineId, Tree)>, SearchFault>
-    requires fits { IsPrefixOf problem.now.segs prefix.old }
-    requires known { All (λ (s : SegId). s.0 < length problem.now.segs) part.now }
-    requires terms { All (IsTerm problem.now.segs) terms.now }
-    requires few { length terms.now ≤ 4000000 }
-    requires rising { All AreRising problem.now.segs }
+    requires searched { IsSearched searched.now }
+    requires fits { IsPrefixOf (segs_of searched.now) prefix.old }
     requires budget { progress.old.budget + 1 < 2 ^ 32 }
     requires spent { progress.old.spent ≤ progress.old.budget }
-    requires seg { first_open problem.now.segs part.now prefix.old.placed ≡ Some s }
-    requires lines { AreNext problem.now.segs prefix.old.placed s lines.now }
-    ensures fits { IsPrefixOf problem.now.segs prefix.new }
+    requires seg { first_open (segs_of searched.now) (part_of searched.now) prefix.old.placed ≡ Some s }
+    requires lines { AreNext (segs_of searched.now) prefix.old.placed s lines.now }
+    ensures fits { IsPrefixOf (segs_of searched.now) prefix.new }
     ensures placed { prefix.new.placed ≡ prefix.old.placed }
     ensures budget { progress.new.budget ≡ progress.old.budget }
     ensures spent { progress.new.spent ≤ progress.old.budget }
     ensures steps { steps.new + progress.old.spent ≡ steps.old + progress.new.spent }
     ensures children { IfOk result (λ v. map (λ c. (c.0, plain c.1)) v.items
-        ≡ cases_left (tree_at problem.now.segs part.now) problem.now.segs prefix.old.placed s lines.now) }
-    ensures best { OnOk result (best_of progress.new ≡ best_among problem.now.segs part.now terms.now prefix.old.placed s
-        (cases_of (cases_left (tree_at problem.now.segs part.now) problem.now.segs prefix.old.placed s lines.now)) (best_of progress.old)) }
+        ≡ cases_left (tree_at (segs_of searched.now) (part_of searched.now)) (segs_of searched.now) prefix.old.placed s lines.now) }
+    ensures best { OnOk result (best_of progress.new ≡ best_among (segs_of searched.now) (part_of searched.now) (terms_in searched.now) prefix.old.placed s
+        (cases_of (cases_left (tree_at (segs_of searched.now) (part_of searched.now)) (segs_of searched.now) prefix.old.placed s lines.now)) (best_of progress.old)) }
     ensures counted { OnOk result (progress.new.spent ≡ progress.old.spent
-        + splits_of_cases (cases_of (cases_left (tree_at problem.now.segs part.now) problem.now.segs prefix.old.placed s lines.now))) }
+        + splits_of_cases (cases_of (cases_left (tree_at (segs_of searched.now) (part_of searched.now)) (segs_of searched.now) prefix.old.placed s lines.now))) }
     ensures most { progress.new.spent ≤ progress.old.spent
-        + splits_of_cases (cases_of (cases_left (tree_at problem.now.segs part.now) problem.now.segs prefix.old.placed s lines.now)) }
+        + splits_of_cases (cases_of (cases_left (tree_at (segs_of searched.now) (part_of searched.now)) (segs_of searched.now) prefix.old.placed s lines.now)) }
     ensures stop { IfErr result (IsStop progress.old.budget (progress.old.spent
-        + splits_of_cases (cases_of (cases_left (tree_at problem.now.segs part.now) problem.now.segs prefix.old.placed s lines.now)))) }
+        + splits_of_cases (cases_of (cases_left (tree_at (segs_of searched.now) (part_of searched.now)) (segs_of searched.now) prefix.old.placed s lines.now)))) }
 {
     let mut children = Vec::new(alloc);
     for line in lines {
-        let tree = grow_case(
-            alloc, problem, part, terms, prefix, progress, steps, s, *line,
-        )?;
+        let tree = grow_case(alloc, searched, prefix, progress, steps, s, *line)?;
         children.push((*line, tree))?;
     }
     Ok(children)
@@ -169,43 +150,38 @@ fn grow_cases<L: Ledger>(
 #[cycle(grow)]
 fn grow_case<L: Ledger>(
     alloc: Global,
-    problem: &Problem,
-    part: &[SegId],
-    terms: &[Term],
+    searched: &Searched,
     prefix: &mut Prefix,
     progress: &mut Progress,
     steps: &mut Steps<L>,
     s: SegId,
     line: LineId,
 ) -> Result<Tree, SearchFault>
-    requires fits { IsPrefixOf problem.now.segs prefix.old }
-    requires known { All (λ (s : SegId). s.0 < length problem.now.segs) part.now }
-    requires terms { All (IsTerm problem.now.segs) terms.now }
-    requires few { length terms.now ≤ 4000000 }
-    requires rising { All AreRising problem.now.segs }
+    requires searched { IsSearched searched.now }
+    requires fits { IsPrefixOf (segs_of searched.now) prefix.old }
     requires budget { progress.old.budget + 1 < 2 ^ 32 }
     requires spent { progress.old.spent ≤ progress.old.budget }
-    requires seg { first_open problem.now.segs part.now prefix.old.placed ≡ Some s }
-    requires seg_known { s.0 < length problem.now.segs }
-    requires line { Contains (lines_on problem.now.segs s) line }
+    requires seg { first_open (segs_of searched.now) (part_of searched.now) prefix.old.placed ≡ Some s }
+    requires seg_known { s.0 < length (segs_of searched.now) }
+    requires line { Contains (lines_on (segs_of searched.now) s) line }
     requires unplaced { is_placed (lines_on prefix.old.placed s) line ≡ false }
-    ensures fits { IsPrefixOf problem.now.segs prefix.new }
+    ensures fits { IsPrefixOf (segs_of searched.now) prefix.new }
     ensures placed { prefix.new.placed ≡ prefix.old.placed }
     ensures budget { progress.new.budget ≡ progress.old.budget }
     ensures spent { progress.new.spent ≤ progress.old.budget }
     ensures steps { steps.new + progress.old.spent ≡ steps.old + progress.new.spent }
-    ensures tree { IfOk result (λ t. plain t ≡ tree_at problem.now.segs part.now (placed_more problem.now.segs prefix.old.placed s line)) }
-    ensures best { OnOk result (best_of progress.new ≡ best_in problem.now.segs part.now terms.now (placed_more problem.now.segs prefix.old.placed s line)
-        (tree_at problem.now.segs part.now (placed_more problem.now.segs prefix.old.placed s line)) (best_of progress.old)) }
+    ensures tree { IfOk result (λ t. plain t ≡ tree_at (segs_of searched.now) (part_of searched.now) (placed_more (segs_of searched.now) prefix.old.placed s line)) }
+    ensures best { OnOk result (best_of progress.new ≡ best_in (segs_of searched.now) (part_of searched.now) (terms_in searched.now) (placed_more (segs_of searched.now) prefix.old.placed s line)
+        (tree_at (segs_of searched.now) (part_of searched.now) (placed_more (segs_of searched.now) prefix.old.placed s line)) (best_of progress.old)) }
     ensures counted { OnOk result (progress.new.spent ≡ progress.old.spent
-        + splits_of (tree_at problem.now.segs part.now (placed_more problem.now.segs prefix.old.placed s line))) }
+        + splits_of (tree_at (segs_of searched.now) (part_of searched.now) (placed_more (segs_of searched.now) prefix.old.placed s line))) }
     ensures most { progress.new.spent ≤ progress.old.spent
-        + splits_of (tree_at problem.now.segs part.now (placed_more problem.now.segs prefix.old.placed s line)) }
+        + splits_of (tree_at (segs_of searched.now) (part_of searched.now) (placed_more (segs_of searched.now) prefix.old.placed s line)) }
     ensures stop { IfErr result (IsStop progress.old.budget (progress.old.spent
-        + splits_of (tree_at problem.now.segs part.now (placed_more problem.now.segs prefix.old.placed s line)))) }
+        + splits_of (tree_at (segs_of searched.now) (part_of searched.now) (placed_more (segs_of searched.now) prefix.old.placed s line)))) }
 {
-    prefix.place(problem, s, line);
-    let outcome = grow(alloc, problem, part, terms, prefix, progress, steps);
-    prefix.take_back(problem, s);
+    prefix.place(searched.problem, s, line);
+    let outcome = grow(alloc, searched, prefix, progress, steps);
+    prefix.take_back(searched.problem, s);
     outcome
 }

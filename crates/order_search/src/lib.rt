@@ -8,6 +8,7 @@ mod least_tests;
 mod left;
 mod part_search;
 mod progress;
+mod searched;
 #[cfg(test)]
 mod tests;
 

@@ -17,6 +17,7 @@ use crate::found::{Found, SearchFault};
 use crate::grow::grow;
 use crate::left::is_deep;
 use crate::progress::Progress;
+use crate::searched::Searched;
 use map_base::{Limit, LimitKind, SegId, Sequence, Steps};
 use order_model::{Orders, Prefix, Problem, Term};
 use std::alloc::Global;
@@ -61,11 +62,7 @@ pub fn search<L: Ledger>(
     ensures few_steps { IfErr result (λ _. steps.new ≤ steps.old + splits_of (tree_of problem.now.segs part.now)) }
 {
     if is_deep(problem, part) {
-        return Err(SearchFault::TooDeep(Limit {
-            what: LimitKind::Places,
-            found: 2_049,
-            most: 2_048,
-        }));
+        return Err(SearchFault::TooDeep(Limit::above(LimitKind::Places)));
     }
     search_all(alloc, problem, part, terms, prefix, budget, steps)
 }
@@ -98,7 +95,12 @@ fn search_all<L: Ledger>(
     ensures few_steps { IfErr result (λ _. steps.new ≤ steps.old + splits_of (tree_of problem.now.segs part.now)) }
 {
     let mut progress = begin(alloc, budget);
-    let tree = grow(alloc, problem, part, terms, prefix, &mut progress, steps)?;
+    let searched = Searched {
+        problem,
+        part,
+        terms,
+    };
+    let tree = grow(alloc, &searched, prefix, &mut progress, steps)?;
     Ok(Found {
         orders: Orders {
             lists: Sequence::of(progress.lists),

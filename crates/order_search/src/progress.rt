@@ -1,13 +1,15 @@
 //! How far a search is.
 
-ghost use Rattle.std.specs.Prelude.{◌≡◌, ◌≤◌, length, map, All, IfOk, OnOk};
-ghost use Rattle.order_model.specs.Problems.{lines_on, IsTerm};
+ghost use Rattle.std.specs.Prelude.{◌≡◌, map, IfOk, OnOk};
+ghost use Rattle.order_model.specs.Problems.{lines_on};
 ghost use Rattle.order_model.specs.Prefixes.{IsPrefixOf};
 ghost use Rattle.order_search.specs.Finding.{better};
+ghost use Rattle.order_search.specs.Searching.{segs_of, part_of, terms_in, IsSearched};
 ghost use Rattle.order_search.specs.Progressing.{best_of, HasLists};
 
+use crate::searched::Searched;
 use map_base::{LineId, NoMemory, SegId, Sequence};
-use order_model::{Prefix, Problem, Term};
+use order_model::Prefix;
 use std::alloc::Global;
 
 /// The least cost so far, the orders of the part's segments that have it, and how many splits were made of how many
@@ -23,23 +25,20 @@ pub(crate) struct Progress {
 /// Takes the placed lines as the best orders, if they cost less than the best so far.
 pub(crate) fn compare(
     alloc: Global,
-    problem: &Problem,
-    part: &[SegId],
-    terms: &[Term],
+    searched: &Searched,
     prefix: &Prefix,
     progress: &mut Progress,
 ) -> Result<(), NoMemory>
-    requires fits { IsPrefixOf problem.now.segs prefix.now }
-    requires known { HasLists part.now prefix.now }
-    requires terms { All (IsTerm problem.now.segs) terms.now }
-    requires few { length terms.now ≤ 4000000 }
-    ensures best { OnOk result (best_of progress.new ≡ better part.now terms.now prefix.now.placed (best_of progress.old)) }
+    requires searched { IsSearched searched.now }
+    requires fits { IsPrefixOf (segs_of searched.now) prefix.now }
+    requires known { HasLists (part_of searched.now) prefix.now }
+    ensures best { OnOk result (best_of progress.new ≡ better (part_of searched.now) (terms_in searched.now) prefix.now.placed (best_of progress.old)) }
     ensures spent { progress.new.spent ≡ progress.old.spent }
     ensures budget { progress.new.budget ≡ progress.old.budget }
 {
-    let cost = prefix.cost(problem, terms);
+    let cost = prefix.cost(searched.problem, searched.terms);
     if cost < progress.cost {
-        progress.lists = lists_on(alloc, part, prefix)?;
+        progress.lists = lists_on(alloc, searched.part, prefix)?;
         progress.cost = cost;
     }
     Ok(())

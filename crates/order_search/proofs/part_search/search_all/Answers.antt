@@ -8,13 +8,13 @@ use Rattle.order_search.proofs.Grows.{stop_later}
 use Rattle.order_search.proofs.Leaves.{from_start}
 use Rattle.order_search.proofs.part_search.search_all.Goals as goal
 
-pub grow-requires-clause-terms : goal.grow-requires-clause-terms
-grow-requires-clause-terms g c =
-    part_terms_fit c.args.problem.now.segs c.args.part.now c.args.problem.now.terms c.args.terms.now c.requires.terms c.requires.problem.terms
-
-pub grow-requires-clause-few : goal.grow-requires-clause-few
-grow-requires-clause-few g c =
-    omega (arith, part_terms_few c.args.part.now c.args.problem.now.terms c.args.terms.now c.requires.terms, c.requires.problem.few_terms)
+pub grow-requires-clause-searched : goal.grow-requires-clause-searched
+grow-requires-clause-searched g c = record {
+  known = c.requires.known;
+  terms = part_terms_fit c.args.problem.now.segs c.args.part.now c.args.problem.now.terms c.args.terms.now c.requires.terms c.requires.problem.terms;
+  few = omega (arith, part_terms_few c.args.part.now c.args.problem.now.terms c.args.terms.now c.requires.terms, c.requires.problem.few_terms);
+  rising = c.requires.problem.rising;
+}
 
 pub returns-in_err-tree-clause-stop : goal.returns-in_err-tree-clause-stop
 returns-in_err-tree-clause-stop g c =
