@@ -1,3 +1,4 @@
+pub mod Asking
 pub mod Children
 pub mod Walking
 pub mod Verdict

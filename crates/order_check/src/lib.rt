@@ -2,6 +2,7 @@
 //! yes, no orders of the problem cost less.
 #![tactic(auto)]
 
+mod asked;
 mod check;
 mod node;
 mod part;

@@ -1,43 +1,35 @@
 //! Whether a node of a tree holds for a prefix.
 
-ghost use Rattle.std.specs.Prelude.{◌≡◌, ◌<◌, ◌≤◌, ◌&&◌, nat_lt, length, All};
+ghost use Rattle.std.specs.Prelude.{◌≡◌, ◌<◌, ◌&&◌, nat_lt, length, All};
 ghost use Rattle.std.specs.List.{list_all};
 ghost use Rattle.map_base.specs.declared.ids.SegId.{SegId};
-ghost use Rattle.order_model.specs.Problems.{lines_on, IsTerm};
+ghost use Rattle.order_model.specs.Problems.{lines_on};
 ghost use Rattle.order_model.specs.Prefixes.{IsPrefixOf, is_left};
 ghost use Rattle.order_proof.specs.Trees.{AreDistinct};
 ghost use Rattle.order_trees.specs.PartTerms.{is_in};
-ghost use Rattle.order_trees.specs.Numbers.{TellPart};
-ghost use Rattle.order_trees.specs.Accepting.{question, is_full, is_complete, is_closed, are_those_left};
+ghost use Rattle.order_trees.specs.Accepting.{is_full, is_complete, is_closed, are_those_left};
+ghost use Rattle.order_check.specs.Asking.{question_of, IsAsked};
 ghost use Rattle.order_check.specs.Children.{child_lines};
 
+use crate::asked::Asked;
 use map_base::{LineId, SegId};
-use order_model::{Prefix, Prices, Problem, Term};
+use order_model::{Prefix, Prices, Problem};
 use order_proof::Tree;
 
 /// Whether a Close holds: it has no prices, the prefix is complete on the part, and costs at least the target.
-pub(crate) fn is_closed(
-    problem: &Problem,
-    part: &[SegId],
-    terms: &[Term],
-    target: u64,
-    prefix: &Prefix,
-    prices: &Prices,
-) -> bool
-    requires fits { IsPrefixOf problem.now.segs prefix.now }
-    requires known { All (λ (s : SegId). s.0 < length problem.now.segs) part.now }
-    requires terms { All (IsTerm problem.now.segs) terms.now }
-    requires few { length terms.now ≤ 4000000 }
-    ensures { result ≡ is_closed (question problem.now.segs part.now terms.now target) prefix.now.placed prices.now }
+pub(crate) fn is_closed(asked: &Asked, prefix: &Prefix, prices: &Prices) -> bool
+    requires asked { IsAsked asked.now }
+    requires fits { IsPrefixOf asked.now.problem.now.segs prefix.now }
+    ensures { result ≡ is_closed (question_of asked.now) prefix.now.placed prices.now }
 {
     let priced = prices.as_slice();
     if !priced.is_empty() {
         return false;
     }
-    if !is_complete(problem, part, prefix) {
+    if !is_complete(asked.problem, asked.part, prefix) {
         return false;
     }
-    target <= prefix.cost(problem, terms)
+    asked.target <= prefix.cost(asked.problem, asked.terms)
 }
 
 /// Whether all lines are placed on all segments of the part.
@@ -69,31 +61,27 @@ fn is_full(problem: &Problem, prefix: &Prefix, s: SegId) -> bool
 /// Whether a Split holds: its segment is of the part, and its lines, no two of which are the same, are those that are not
 /// placed, one at least.
 pub(crate) fn is_split(
-    problem: &Problem,
-    part: &[SegId],
-    k: u32,
-    numbers: &[u32],
+    asked: &Asked,
     prefix: &Prefix,
     s: SegId,
     children: &[(LineId, Tree)],
 ) -> bool
-    requires fits { IsPrefixOf problem.now.segs prefix.now }
-    requires numbers { TellPart part.now k (length problem.now.segs) numbers.now }
-    requires known { All (λ (s : SegId). s.0 < length problem.now.segs) part.now }
+    requires asked { IsAsked asked.now }
+    requires fits { IsPrefixOf asked.now.problem.now.segs prefix.now }
     requires distinct { AreDistinct (child_lines children.now) }
-    ensures { result ≡ is_in part.now s && (nat_lt 0 (length (child_lines children.now))
-        && are_those_left (lines_on problem.now.segs s) (lines_on prefix.now.placed s) (child_lines children.now)) }
+    ensures { result ≡ is_in asked.now.part.now s && (nat_lt 0 (length (child_lines children.now))
+        && are_those_left (lines_on asked.now.problem.now.segs s) (lines_on prefix.now.placed s) (child_lines children.now)) }
 {
-    if s.0 as usize >= numbers.len() {
+    if s.0 as usize >= asked.numbers.len() {
         return false;
     }
-    if numbers[s.0 as usize] != k {
+    if asked.numbers[s.0 as usize] != asked.k {
         return false;
     }
     if children.is_empty() {
         return false;
     }
-    are_those_left(problem, prefix, s, children)
+    are_those_left(asked.problem, prefix, s, children)
 }
 
 /// Whether the lines of the children, no two of which are the same, are exactly those of a segment that are not placed:

@@ -9,9 +9,11 @@ ghost use Rattle.order_proof.specs.Trees.{IsTree};
 ghost use Rattle.order_trees.specs.PartTerms.{part_terms};
 ghost use Rattle.order_trees.specs.Numbers.{TellPart};
 ghost use Rattle.order_trees.specs.Completions.{none_placed};
-ghost use Rattle.order_trees.specs.Accepting.{question, failing};
+ghost use Rattle.order_trees.specs.Accepting.{failing};
+ghost use Rattle.order_check.specs.Asking.{question_of, IsAsked};
 ghost use Rattle.order_check.specs.Verdict.{are_same, tree_refusal, part_refusal, IsCause};
 
+use crate::asked::Asked;
 use crate::refusal::{ProofItem, ProofStop};
 use crate::walk::walk;
 use map_base::{SegId, Sequence};
@@ -50,54 +52,39 @@ pub(crate) fn check_part(
             after: Sequence::of(Vec::new(alloc)),
         }));
     }
-    check_tree(
-        alloc,
+    let asked = Asked {
         problem,
+        part: segs,
         k,
-        segs,
         numbers,
         terms,
-        prefix,
-        part.target,
-        &part.tree,
-    )
+        target: part.target,
+    };
+    check_tree(alloc, &asked, prefix, &part.tree)
 }
 
-/// Refuses part `k` where its tree isn't accepted from the empty prefix.
+/// Refuses the part where its tree isn't accepted from the empty prefix.
 fn check_tree(
     alloc: Global,
-    problem: &Problem,
-    k: u32,
-    segs: &[SegId],
-    numbers: &[u32],
-    terms: &[Term],
+    asked: &Asked,
     prefix: &mut Prefix,
-    target: u64,
     tree: &Tree,
 ) -> Result<(), ProofStop>
-    requires problem { IsProblem problem.now }
-    requires known { All (λ (s : SegId). s.0 < length problem.now.segs) segs.now }
-    requires numbers { TellPart segs.now k (length problem.now.segs) numbers.now }
-    requires terms { terms.now ≡ part_terms problem.now.terms segs.now }
-    requires fits { IsPrefixOf problem.now.segs prefix.old }
-    requires none { prefix.old.placed ≡ none_placed problem.now.segs }
+    requires asked { IsAsked asked.now }
+    requires fits { IsPrefixOf asked.now.problem.now.segs prefix.old }
+    requires none { prefix.old.placed ≡ none_placed asked.now.problem.now.segs }
     requires tree { IsTree (plain tree.now) }
-    ensures fits { IsPrefixOf problem.now.segs prefix.new }
+    ensures fits { IsPrefixOf asked.now.problem.now.segs prefix.new }
     ensures kept { prefix.new.placed ≡ prefix.old.placed }
-    ensures accepted { IfOk result (λ _. tree_refusal k (failing (question problem.now.segs segs.now (part_terms problem.now.terms segs.now) target)
-        (none_placed problem.now.segs) (plain tree.now)) ≡ None) }
-    ensures refused { IfErr result (IsCause (tree_refusal k (failing (question problem.now.segs segs.now (part_terms problem.now.terms segs.now) target)
-        (none_placed problem.now.segs) (plain tree.now)))) }
+    ensures accepted { IfOk result (λ _. tree_refusal asked.now.k (failing (question_of asked.now) (none_placed asked.now.problem.now.segs) (plain tree.now)) ≡ None) }
+    ensures refused { IfErr result (IsCause (tree_refusal asked.now.k (failing (question_of asked.now) (none_placed asked.now.problem.now.segs) (plain tree.now)))) }
 {
     let mut way = Vec::new(alloc);
-    let accepted = walk(
-        problem, segs, k, numbers, terms, target, prefix, &mut way, tree,
-    )?;
-    if accepted {
+    if walk(asked, prefix, &mut way, tree)? {
         return Ok(());
     }
     Err(ProofStop::Refuted(ProofItem::Part {
-        index: k,
+        index: asked.k,
         after: Sequence::of(way),
     }))
 }

@@ -7,8 +7,9 @@ use Rattle.order_model.specs.Problems.{lines_on}
 use Rattle.order_model.specs.Prefixes.{is_placed}
 use Rattle.order_proof.specs.declared.tree.Tree.{Tree, the_lemmas}
 use Rattle.order_proof.specs.Plain.{split, plain, plain_children}
-use Rattle.order_trees.specs.Accepting.{Question, question, failing}
+use Rattle.order_trees.specs.Accepting.{Question, failing}
 use Rattle.order_trees.proofs.Sound.{rising_at, all_in}
+use Rattle.order_check.specs.Asking.{question_of}
 use Rattle.order_check.specs.Children.{child_lines}
 use Rattle.order_check.specs.Walking.{IsWalked}
 use Rattle.order_check.proofs.Walks.{distinct_children, child_is_tree, split_walked, not_split_walked, split_test, case_next, of_part, case_refused, cases_passed, case_restored}
@@ -16,7 +17,7 @@ use Rattle.order_check.proofs.walk.+walk.Goals as goal
 
 pub walk-returns-in-Split-clause-walked : goal.walk-returns-in-Split-clause-walked
 walk-returns-in-Split-clause-walked t c =
-    let q : Question = question c.args.problem.now.segs c.args.part.now c.args.terms.now c.args.target in
+    let q : Question = question_of c.args.asked.now in
     let placed : List (List LineId) = c.args.prefix.now.placed in
     let way : List LineId = c.args.way.now.items in
     let after : List LineId = c.walk_split.new.way.items in
@@ -29,27 +30,27 @@ walk-returns-in-Split-clause-walked t c =
 pub walk_case-returns-in_err-outcome-clause-placed : goal.walk_case-returns-in_err-outcome-clause-placed
 walk_case-returns-in_err-outcome-clause-placed t c =
     let s = c.args.seg in
-    case_restored c.args.problem.now.segs c.args.prefix.now.placed c.place.new.self.placed c.walk-outcome.new.prefix.placed c.take_back.new.self.placed s c.args.line
-    (omega (arith, c.requires.seg, c.requires.fits.each)) (rising_at c.args.problem.now.segs s.0 c.requires.rising) (c.requires.fits.lines s.0 c.requires.seg)
+    case_restored c.args.asked.now.problem.now.segs c.args.prefix.now.placed c.place.new.self.placed c.walk-outcome.new.prefix.placed c.take_back.new.self.placed s c.args.line
+    (omega (arith, c.requires.seg, c.requires.fits.each)) (rising_at c.args.asked.now.problem.now.segs s.0 c.requires.asked.rising) (c.requires.fits.lines s.0 c.requires.seg)
     c.place.ensures.placed c.walk-outcome.ensures.placed c.take_back.ensures.placed
 
 pub walk_case-returns-then-not-branch-clause-placed : goal.walk_case-returns-then-not-branch-clause-placed
 walk_case-returns-then-not-branch-clause-placed t c =
     let s = c.args.seg in
-    case_restored c.args.problem.now.segs c.args.prefix.now.placed c.place.new.self.placed c.walk-outcome.new.prefix.placed c.take_back.new.self.placed s c.args.line
-    (omega (arith, c.requires.seg, c.requires.fits.each)) (rising_at c.args.problem.now.segs s.0 c.requires.rising) (c.requires.fits.lines s.0 c.requires.seg)
+    case_restored c.args.asked.now.problem.now.segs c.args.prefix.now.placed c.place.new.self.placed c.walk-outcome.new.prefix.placed c.take_back.new.self.placed s c.args.line
+    (omega (arith, c.requires.seg, c.requires.fits.each)) (rising_at c.args.asked.now.problem.now.segs s.0 c.requires.asked.rising) (c.requires.fits.lines s.0 c.requires.seg)
     c.place.ensures.placed c.walk-outcome.ensures.placed c.take_back.ensures.placed
 
 pub walk_case-returns-clause-placed : goal.walk_case-returns-clause-placed
 walk_case-returns-clause-placed t c =
     let s = c.args.seg in
-    case_restored c.args.problem.now.segs c.args.prefix.now.placed c.place.new.self.placed c.walk-outcome.new.prefix.placed c.take_back.new.self.placed s c.args.line
-    (omega (arith, c.requires.seg, c.requires.fits.each)) (rising_at c.args.problem.now.segs s.0 c.requires.rising) (c.requires.fits.lines s.0 c.requires.seg)
+    case_restored c.args.asked.now.problem.now.segs c.args.prefix.now.placed c.place.new.self.placed c.walk-outcome.new.prefix.placed c.take_back.new.self.placed s c.args.line
+    (omega (arith, c.requires.seg, c.requires.fits.each)) (rising_at c.args.asked.now.problem.now.segs s.0 c.requires.asked.rising) (c.requires.fits.lines s.0 c.requires.seg)
     c.place.ensures.placed c.walk-outcome.ensures.placed c.take_back.ensures.placed
 
 pub walk_split-returns-then-not-is_split-clause-walked : goal.walk_split-returns-then-not-is_split-clause-walked
 walk_split-returns-then-not-is_split-clause-walked t c =
-    not_split_walked (question c.args.problem.now.segs c.args.part.now c.args.terms.now c.args.target) c.args.prefix.now.placed c.args.seg c.args.children.now c.args.way.now.items
+    not_split_walked (question_of c.args.asked.now) c.args.prefix.now.placed c.args.seg c.args.children.now c.args.way.now.items
     (sym c.is_split.ensures ∙ c.if-not-is_split.true)
 
 pub walk_split-is_split-requires-clause-distinct : goal.walk_split-is_split-requires-clause-distinct
@@ -57,34 +58,22 @@ walk_split-is_split-requires-clause-distinct t c = distinct_children c.args.seg 
 
 pub walk_split-walk_case-requires : goal.walk_split-walk_case-requires
 walk_split-walk_case-requires t c =
-    let q : Question = question c.args.problem.now.segs c.args.part.now c.args.terms.now c.args.target in
+    let q : Question = question_of c.args.asked.now in
     let holds : split_test q c.args.prefix.now.placed c.args.seg (child_lines c.args.children.now) ≡ true = sym c.is_split.ensures ∙ c.if-not-is_split.false in
     let next = case_next q c.args.prefix.now.placed c.args.seg c.args.children.now c.loop-child.child-index c.child-item.result holds c.loop-child-test.true in
     let child = c.child-item.result in
-    let on = subst (λ (x : LineId × Tree). Contains (lines_on c.args.problem.now.segs c.args.seg) x.0) (sym c.child-item.is) next.on in
+    let on = subst (λ (x : LineId × Tree). Contains (lines_on c.args.asked.now.problem.now.segs c.args.seg) x.0) (sym c.child-item.is) next.on in
     let fresh = subst (λ (x : LineId × Tree). is_placed (lines_on c.args.prefix.now.placed c.args.seg) x.0 ≡ false) (sym c.child-item.is) next.fresh in
     let part = of_part q c.args.prefix.now.placed c.args.seg (child_lines c.args.children.now) holds in
     let tree = child_is_tree c.args.seg c.args.children.now c.loop-child.child-index child c.requires.tree c.loop-child-test.true c.child-item.is in (
       search (rules, the_lemmas),
       (
-        c.loop-child.invariant.0,
+        c.requires.asked,
         (
-          c.requires.numbers,
+          c.loop-child.invariant.0,
           (
-            c.requires.known,
-            (
-              c.requires.terms,
-              (
-                c.requires.few,
-                (
-                  c.requires.rising,
-                  (
-                    all_in (λ (s : SegId). s.0 < length c.args.problem.now.segs) c.args.part.now c.args.seg c.requires.known part,
-                    (on, (rw c.loop-child.invariant.1 fresh, tree)),
-                  ),
-                ),
-              ),
-            ),
+            all_in (λ (s : SegId). s.0 < length c.args.asked.now.problem.now.segs) c.args.asked.now.part.now c.args.seg c.requires.asked.known part,
+            (on, (rw c.loop-child.invariant.1 fresh, tree)),
           ),
         ),
       ),
@@ -92,7 +81,7 @@ walk_split-walk_case-requires t c =
 
 pub walk_split-returns-then-not-branch-clause-walked : goal.walk_split-returns-then-not-branch-clause-walked
 walk_split-returns-then-not-branch-clause-walked t c =
-    let q : Question = question c.args.problem.now.segs c.args.part.now c.args.terms.now c.args.target in
+    let q : Question = question_of c.args.asked.now in
     let holds : split_test q c.args.prefix.now.placed c.args.seg (child_lines c.args.children.now) ≡ true = sym c.is_split.ensures ∙ c.if-not-is_split.false in
     case_refused q c.args.prefix.now.placed c.loop-child.prefix.placed c.args.seg c.args.children.now c.loop-child.child-index c.child-item.result
     c.args.way.now.items c.loop-child.way.items c.walk_case.new.way.items c.in_ok-walk_case.field-0
@@ -101,7 +90,7 @@ walk_split-returns-then-not-branch-clause-walked t c =
 
 pub walk_split-returns-clause-walked : goal.walk_split-returns-clause-walked
 walk_split-returns-clause-walked t c =
-    let q : Question = question c.args.problem.now.segs c.args.part.now c.args.terms.now c.args.target in
+    let q : Question = question_of c.args.asked.now in
     let holds : split_test q c.args.prefix.now.placed c.args.seg (child_lines c.args.children.now) ≡ true = sym c.is_split.ensures ∙ c.if-not-is_split.false in
     let way : IsWalked (failing q c.args.prefix.now.placed (split c.args.seg (plain_children c.args.children.now))) c.args.way.now.items c.args.way.now.items true =
     cases_passed q c.args.prefix.now.placed c.args.seg c.args.children.now c.loop-child.child-index c.args.way.now.items

@@ -1,0 +1,21 @@
+//! What is asked of a tree.
+
+use map_base::SegId;
+use order_model::{Problem, Term};
+
+/// What a tree is asked to show of a part: that its orders cost at least the target on its terms.
+#[derive(Clone, Copy)]
+pub(crate) struct Asked<'a> {
+    /// The problem.
+    pub(crate) problem: &'a Problem,
+    /// The segments of the part.
+    pub(crate) part: &'a [SegId],
+    /// The number of the part.
+    pub(crate) k: u32,
+    /// The number of the part of each segment of the problem.
+    pub(crate) numbers: &'a [u32],
+    /// The terms of the part.
+    pub(crate) terms: &'a [Term],
+    /// What the orders are to cost at least.
+    pub(crate) target: u64,
+}
