@@ -8,7 +8,7 @@ returns-then-children-placed c =
     let s = c.args.s in
     let lines = lines_read segs c.segs-segs.result.now s c.index-segs-s.result c.as_slice-lines.result.now c.requires.known c.segs-segs.ensures.lists c.index-segs-s.is c.as_slice-lines.ensures in
     not_as_many segs c.args.prefix.now.placed s c.args.children.now c.segs-segs.ensures.fits.rising c.requires.known (c.requires.fits.lines s.0 c.requires.known) c.requires.distinct
-    (λ h. c.if-children-placed.true (omega (arith, h, ap length lines, ap length c.placed.ensures)))
+    (λ h. omega (arith, h, c.if-children-placed.true, ap length lines, ap length c.placed.ensures))
 
 pub returns : goal.returns
 returns c =
