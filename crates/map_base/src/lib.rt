@@ -4,6 +4,7 @@
 
 mod ids;
 mod limit;
+mod limit_fault;
 mod memory;
 mod point;
 mod sequence;
@@ -14,6 +15,7 @@ mod weights;
 
 pub use ids::{LineId, NodeId, SegId, StationId};
 pub use limit::{Limit, LimitKind};
+pub use limit_fault::LimitFault;
 pub use memory::NoMemory;
 pub use point::Point;
 pub use sequence::Sequence;

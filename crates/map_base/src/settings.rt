@@ -4,6 +4,7 @@ ghost use Rattle.std.specs.Prelude.{IfOk, ◌≡◌};
 
 use crate::memory::NoMemory;
 use crate::sequence::Sequence;
+use crate::text::Text;
 use crate::weights::Weights;
 use std::alloc::Global;
 use std::marker::Model;
@@ -21,6 +22,9 @@ pub struct Settings {
     pub types: Sequence<u32>,
     /// The weights at a junction, and those at a station.
     pub weights: [Weights; 2],
+    /// How much a crossing of a line counts: pairs of a route id and a number from 1 to 16, by rising bytes of the
+    /// id, each id once. A line without a pair counts 1, and an id that no route has is without effect.
+    pub importance: Sequence<(Text, u32)>,
 }
 
 impl Model for Settings {
@@ -34,6 +38,7 @@ impl Model for Settings {
       budget = s.budget;
       types = s.types;
       weights = s.weights;
+      importance = s.importance;
     } };
 
     ghost invariant = { λ s. AreInRange (record {
@@ -42,6 +47,7 @@ impl Model for Settings {
       budget = s.budget;
       types = s.types;
       weights = s.weights;
+      importance = s.importance;
     }) };
 }
 
@@ -70,6 +76,7 @@ impl Settings {
                     sep: 9,
                 },
             ],
+            importance: Sequence::of(Vec::new(alloc)),
         })
     }
 }
@@ -85,6 +92,7 @@ mod tests {
         assert_eq!(rt; settings.near, 500);
         let types = settings.types.as_slice();
         assert_eq!(rt; types, [0, 1, 2, 5, 6, 7, 12].as_slice());
+        assert_eq!(rt; settings.importance.as_slice().len(), 0);
         Ok(())
     }
 }
