@@ -13,7 +13,8 @@ ghost use Rattle.order_check.specs.Children.{child_lines};
 
 use crate::asked::Asked;
 use map_base::{LineId, SegId};
-use order_model::{Prefix, Prices, Problem};
+use order_model::{Prefix, Problem};
+use order_values::Prices;
 use order_proof::Tree;
 
 /// Whether a Close holds: it has no prices, the prefix is complete on the part, and costs at least the target.

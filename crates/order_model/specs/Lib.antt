@@ -1,5 +1,4 @@
 pub mod Problems
-pub mod PriceLists
 pub mod Terms
 pub mod WaysByPlace
 pub mod Costs

@@ -2,8 +2,8 @@
 use Rattle.std.proofs.Common.{◌≡◌, ◌≢◌, ℕ, zero, suc, ℤ, pos, negsuc, List, [], ◌∷◌, ◌++◌, length, Some, None, Result, Ok, Err, ap, sym, ◌∙◌, append_assoc, arith}
 use Rattle.std.specs.List.{AllByRecursion}
 use Rattle.std.proofs.lemmas.List.{append-nil}
-use Rattle.order_model.specs.declared.rule.Rule.{Rule}
-use Rattle.order_model.specs.PriceLists.{AreRisingPrices}
+use Rattle.order_values.specs.declared.rule.Rule.{Rule}
+use Rattle.order_values.specs.PriceLists.{AreRisingPrices}
 use Rattle.order_proof.specs.Plain.{PlainTree, split, close, Cases, no_case, case_of, PlainPart, PlainProof}
 use Rattle.order_proof.specs.Trees.{AreNotZero, IsTree, AreTrees, IsProofTree, HasTrees}
 use Rattle.order_proof.specs.Lines.{line_text, rules_line, parts_line}

@@ -2,7 +2,7 @@
 use Rattle.std.proofs.Common.{◌≡◌, ℕ, suc, ◌+◌, ◌^◌, ◌<◌, ◌≤◌, ℤ, pos, List, [], ◌∷◌, ◌++◌, length, get_or, drop, Option, Some, None, option_map, refl, ap, subst, sym, ◌∙◌, append_assoc, arith}
 use Rattle.std.proofs.lemmas.List.{append-nil}
 use Rattle.std.specs.Option.{option_and_then}
-use Rattle.order_model.specs.PriceLists.{AreRisingPrices}
+use Rattle.order_values.specs.PriceLists.{AreRisingPrices}
 use Rattle.order_proof.specs.Forms.{priced_term, prices_from}
 
 -- things before others, where those are there

@@ -3,7 +3,7 @@ use Rattle.std.proofs.Common.{◌≡◌, ℕ, suc, ◌-◌, ◌≤◌, List, [],
 use Rattle.std.specs.List.{AllByRecursion}
 use Rattle.std.proofs.lemmas.List.{append-nil}
 use Rattle.map_base.specs.declared.ids.LineId.{LineId}
-use Rattle.order_model.specs.declared.rule.Rule.{Rule}
+use Rattle.order_values.specs.declared.rule.Rule.{Rule}
 use Rattle.order_proof.specs.declared.node_line.NodeLine.TheVariants as nodes
 use Rattle.order_proof.specs.Plain.{PlainTree, split, close, Cases, no_case, case_of, PlainPart, PlainProof}
 use Rattle.order_proof.specs.Trees.{depth_of, depth_of_cases, count_of, lines_of, AreDistinct, most_depth}

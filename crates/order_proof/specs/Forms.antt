@@ -3,8 +3,8 @@ use Rattle.std.specs.Prelude.{ℕ, zero, suc, ◌^◌, ◌-◌, ◌==◌, ℤ, p
 use Rattle.std.specs.Option.{option_and_then}
 use Rattle.map_base.specs.declared.ids.SegId.{SegId}
 use Rattle.map_base.specs.declared.ids.LineId.{LineId}
-use Rattle.order_model.specs.declared.rule.Rule.{Rule}
-use Rattle.order_model.specs.declared.rule.Rule.TheVariants.{Merge as merge_rule, Divide as divide_rule}
+use Rattle.order_values.specs.declared.rule.Rule.{Rule}
+use Rattle.order_values.specs.declared.rule.Rule.TheVariants.{Merge as merge_rule, Divide as divide_rule}
 use Rattle.order_proof.specs.declared.line_word.LineWord.{LineWord}
 use Rattle.order_proof.specs.declared.line_word.LineWord.TheVariants.{Rules, Merge, Divide, Parts, Part, Split, Take, Close}
 use Rattle.order_proof.specs.declared.node_line.NodeLine.{NodeLine}

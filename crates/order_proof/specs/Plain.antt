@@ -2,7 +2,7 @@
 use Rattle.std.specs.Prelude.{ℕ, ℤ, List, [], ◌∷◌, map}
 use Rattle.map_base.specs.declared.ids.SegId.{SegId}
 use Rattle.map_base.specs.declared.ids.LineId.{LineId}
-use Rattle.order_model.specs.declared.rule.Rule.{Rule}
+use Rattle.order_values.specs.declared.rule.Rule.{Rule}
 use Rattle.order_proof.specs.declared.proof.Part.{Part}
 use Rattle.order_proof.specs.declared.tree.Tree.{Tree, fold-Tree}
 use Rattle.order_proof.specs.declared.tree.Tree.TheOpen.{Tree-F}

@@ -3,8 +3,8 @@ use Rattle.std.specs.Prelude.{◌≤◌, ◌<◌, ℕ, suc, ℤ, pos, negsuc, Li
 use Rattle.std.specs.List.{AllByRecursion}
 use Rattle.map_base.specs.declared.ids.SegId.{SegId}
 use Rattle.map_base.specs.declared.ids.LineId.{LineId}
-use Rattle.order_model.specs.declared.rule.Rule.{Rule}
-use Rattle.order_model.specs.declared.rule.Rule.TheVariants.{Merge, Divide}
+use Rattle.order_values.specs.declared.rule.Rule.{Rule}
+use Rattle.order_values.specs.declared.rule.Rule.TheVariants.{Merge, Divide}
 use Rattle.order_proof.specs.Plain.{PlainTree, split, close, Cases, no_case, case_of, PlainPart, PlainProof}
 use Rattle.order_proof.specs.Trees.{count_of, lines_of, AreDistinct, depth_of, most_depth}
 use Rattle.order_proof.specs.Forms.{most_items, most_id, most_cases, most_target, most_price}

@@ -1,7 +1,7 @@
 -- What readers answer: a value and what stands behind its text, or where they stopped.
 use Rattle.std.specs.Prelude.{◌≡◌, ◌≤◌, ◌-◌, ℕ, List, ◌++◌, length, take, Option, Some, None, Result, Ok, Err}
 use Rattle.std.specs.List.{AllByRecursion}
-use Rattle.order_model.specs.declared.rule.Rule.{Rule}
+use Rattle.order_values.specs.declared.rule.Rule.{Rule}
 use Rattle.order_proof.specs.declared.fault.BadText.{BadText}
 use Rattle.order_proof.specs.declared.fault.BadText.TheVariants as bad
 use Rattle.order_proof.specs.declared.fault.Stop.{Stop}

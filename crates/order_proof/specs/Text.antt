@@ -1,6 +1,6 @@
 -- The one text of each proof.
 use Rattle.std.specs.Prelude.{ℕ, List, [], ◌∷◌, ◌++◌, length}
-use Rattle.order_model.specs.declared.rule.Rule.{Rule}
+use Rattle.order_values.specs.declared.rule.Rule.{Rule}
 use Rattle.order_proof.specs.Plain.{PlainTree, split, close, Cases, no_case, case_of, PlainPart, PlainProof}
 use Rattle.order_proof.specs.Trees.{count_of}
 use Rattle.order_proof.specs.Lines.{line_text, rules_line, rule_line, parts_line, part_line, split_line, take_line, close_line}

@@ -1,7 +1,7 @@
 //! The forms that lines may have.
 
 ghost use Rattle.std.specs.Prelude.{◌≡◌, ◌≤◌, ◌<◌, ◌^◌, ◌-◌, ◌∷◌, pos, length, slice_index_or, option_map, IfOk, IfSome};
-ghost use Rattle.order_model.specs.PriceLists.{AreRisingPrices};
+ghost use Rattle.order_values.specs.PriceLists.{AreRisingPrices};
 ghost use Rattle.order_proof.specs.Trees.{is_among};
 ghost use Rattle.order_proof.specs.declared.line_word.LineWord.TheVariants.{Divide, Close};
 ghost use Rattle.order_proof.specs.Forms.{natural_within, seg, line_id, from_to, rising, price_of, priced_term, prices_from, counts, flag_of, rules_in, merge_with, split_with, rule_in, parts_in, part_in, node_in, take_in};
@@ -9,7 +9,7 @@ ghost use Rattle.order_proof.specs.Forms.{natural_within, seg, line_id, from_to,
 use crate::line_word::LineWord;
 use crate::node_line::NodeLine;
 use map_base::{LineId, NoMemory, SegId, Sequence};
-use order_model::{Prices, Rule};
+use order_values::{Prices, Rule};
 use std::alloc::Global;
 
 /// A number that is not negative and at most `most`.

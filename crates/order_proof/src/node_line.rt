@@ -1,7 +1,7 @@
 //! The line of a node of a tree.
 
 use map_base::SegId;
-use order_model::Prices;
+use order_values::Prices;
 
 /// What the line of a node says.
 #[derive(Debug, Drop)]

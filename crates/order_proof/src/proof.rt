@@ -2,7 +2,7 @@
 
 use crate::tree::Tree;
 use map_base::{SegId, Sequence};
-use order_model::Rule;
+use order_values::Rule;
 use std::marker::Model;
 
 /// What is proved of one part of a problem.

@@ -15,7 +15,7 @@ use crate::node_line::NodeLine;
 use crate::proof::{Part, Proof};
 use crate::tree::Tree;
 use map_base::{LineId, SegId, Sequence};
-use order_model::Rule;
+use order_values::Rule;
 use std::alloc::Global;
 
 /// How many splits may stand on a way to a leaf.

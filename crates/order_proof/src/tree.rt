@@ -1,7 +1,7 @@
 //! Trees of cases.
 
 use map_base::{LineId, SegId};
-use order_model::Prices;
+use order_values::Prices;
 
 /// How the orders of a part are told apart, until each case is closed.
 #[derive(Debug, Drop)]

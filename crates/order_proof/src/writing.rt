@@ -11,7 +11,7 @@ use crate::proof::{Part, Proof};
 use crate::tree::Tree;
 use itoa::Buffer;
 use map_base::{LineId, NoMemory, SegId};
-use order_model::Rule;
+use order_values::Rule;
 use std::alloc::Global;
 
 /// The one text of a proof.

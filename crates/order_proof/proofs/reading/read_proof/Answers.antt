@@ -1,5 +1,5 @@
 use Rattle.std.proofs.Common.{◌-◌, List, [], ◌∷◌, length, subst, sym}
-use Rattle.order_model.specs.declared.rule.Rule.{Rule}
+use Rattle.order_values.specs.declared.rule.Rule.{Rule}
 use Rattle.order_proof.specs.declared.proof.Part.{Part}
 use Rattle.order_proof.specs.Plain.{plain_proof}
 use Rattle.order_proof.specs.Trees.{HasTrees}

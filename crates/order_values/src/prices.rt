@@ -15,7 +15,7 @@ impl Model for Prices {
 
     ghost Value = { List (ℕ × ℤ) };
 
-    ghost use Rattle.order_model.specs.PriceLists.{AreRisingPrices};
+    ghost use Rattle.order_values.specs.PriceLists.{AreRisingPrices};
 
     ghost view = { λ p. p.list.items };
 
@@ -23,7 +23,7 @@ impl Model for Prices {
 }
 
 impl Prices {
-    ghost use Rattle.order_model.specs.PriceLists.{AreRisingPrices};
+    ghost use Rattle.order_values.specs.PriceLists.{AreRisingPrices};
 
     /// The prices of this list.
     pub fn of(list: Vec<(u32, i64)>) -> Prices
