@@ -1,0 +1,59 @@
+//! How a run ended.
+
+ghost use Rattle.std.specs.Prelude.{◌≡◌};
+
+use crate::refusal::Refusal;
+use map_base::{Limit, Text};
+use table_rows::{Table, Why};
+
+/// How a run of the program ended.
+#[derive(Debug, Drop)]
+pub enum Status {
+    /// The work is done.
+    Done,
+    /// The words of the command line are not read.
+    Usage,
+    /// This is the feed's first bad row, with its least reason. The header is row 1; a file that is missing
+    /// has row 0.
+    BadRow { table: Table, row: u64, why: Why },
+    /// This is the first counted quantity above its greatest allowed number.
+    Limit(Limit),
+    /// The file at this path could not be read.
+    ReadFault { path: Text },
+    /// The output could not be written.
+    WriteFault,
+    /// The allocator had no room.
+    NoMemory,
+}
+
+impl Status {
+    ghost use Rattle.command_run.specs.Lines.{status_number};
+
+    /// The number that the process ends with.
+    pub fn number(&self) -> u8
+        ensures { result ≡ status_number self.now }
+    {
+        match self {
+            Status::Done => 0,
+            Status::Usage => 2,
+            Status::BadRow { .. } => 3,
+            Status::Limit(_) => 6,
+            Status::ReadFault { .. } => 7,
+            Status::WriteFault => 8,
+            Status::NoMemory => 9,
+        }
+    }
+}
+
+impl From<Refusal> for Status {
+    ghost use Rattle.command_run.specs.Answers.{status_of};
+
+    ghost from_gives = { λ refusal status. status ≡ status_of refusal };
+
+    fn from(refusal: Refusal) -> Status {
+        match refusal {
+            Refusal::BadRow { table, row, why } => Status::BadRow { table, row, why },
+            Refusal::Limit(limit) => Status::Limit(limit),
+        }
+    }
+}
