@@ -1,14 +1,22 @@
 -- What each target holds after the acts of outputs.
-use Rattle.std.proofs.Common.{◌≡◌, ℕ, Bool, true, false, cond, List, [], ◌∷◌, ◌++◌, Option, Some, unwrap_or, refl, ap, ◌∙◌}
+use Rattle.std.proofs.Common.{◌≡◌, ◌≢◌, ℕ, zero, suc, ◌+◌, ◌-◌, ◌<◌, ◌≤◌, ◌⊎◌, inl, inr, Bool, true, false, cond, List, [], ◌∷◌, ◌++◌, length, take, map, Option, Some, unwrap_or, refl, sym, ap, ◌∙◌, arith}
+use Rattle.std.proofs.Math.Seq.{take-append-add}
+use Rattle.std.proofs.lemmas.Bool.{cases_lt}
+use Rattle.std.proofs.lemmas.List.{append-nil, take-append-le, take-map, length-map}
+use Rattle.std.proofs.lemmas.Grind.{flat_map-append}
 use Rattle.std.specs.Option.{option_map}
 use Rattle.files_door.specs.declared.target.Target.{Target}
+use Rattle.files_door.specs.declared.target.Target.TheVariants.{Said}
 use Rattle.files_door.specs.Targets.{same_target, Written, held_by}
-use Rattle.files_door.specs.Acts.{begin_target, kept_by, after}
+use Rattle.files_door.specs.Acts.{Act, begun, put, puts, begin_target, kept_by, after, Does}
 use Rattle.files_door.proofs.Acts.{after-append}
 use Rattle.files_door.proofs.Targets.{after-puts, held_by-append_to, held_by-begin_target}
+use Rattle.command_run.specs.declared.answer.Answer.{Answer}
 use Rattle.command_run.specs.declared.answer.Output.{Output}
-use Rattle.command_run.specs.Ending.{target_acts, outputs_acts}
-use Rattle.command_run.specs.Held.{held_after}
+use Rattle.command_run.specs.declared.status.Status.TheVariants as status
+use Rattle.command_run.specs.Lines.{no_memory_line}
+use Rattle.command_run.specs.Ending.{target_acts, output_acts, outputs_acts, line_acts, IsDelivered}
+use Rattle.command_run.specs.Held.{held_after, line_outputs, IsBeginning}
 
 -- a target is begun and gets bytes
 held_by-target_acts : (to target : Target) (bytes : List ℕ) (written : Written) → held_by target (after (target_acts to bytes) written) ≡ cond (same_target to target) (Some (kept_by to (unwrap_or (held_by target written) []) ++ bytes)) (held_by target written)
@@ -31,3 +39,89 @@ held_by-outputs (output ∷ outputs) target written =
     ap (held_by target) (after-append (target_acts output.to output.bytes) (outputs_acts outputs) written)
     ∙ held_by-outputs outputs target first
     ∙ ap (held_after target outputs) (held_by-target_acts output.to target output.bytes written)
+
+-- the first acts of an output and of others behind it
+inside : (to : Target) (bytes : List ℕ) (rest : List Act) (n : ℕ) → n ≤ length bytes → take n (puts (Some to) bytes ++ rest) ≡ puts (Some to) (take n bytes) ++ []
+inside to bytes rest n within =
+    take-append-le n (map (put to) bytes) rest (omega (arith, within, length-map bytes (put to))) ∙ take-map (put to) n bytes ∙ sym (append-nil (map (put to) (take n bytes)))
+
+past : (to : Target) (bytes : List ℕ) (rest : List Act) (n : ℕ) → length bytes < n → take n (puts (Some to) bytes ++ rest) ≡ puts (Some to) bytes ++ take (n - length bytes) rest
+past to bytes rest n longer =
+    let acts : List Act = map (put to) bytes in
+    let is : n ≡ length acts + (n - length bytes) = omega (arith, longer, length-map bytes (put to)) in
+    ap (λ (i : ℕ). take i (acts ++ rest)) is ∙ take-append-add acts rest (n - length bytes)
+
+-- the first acts of outputs are those of a beginning of the outputs
+abbrev Cut : List Output → ℕ → Type 0
+Cut outputs n = (front : List Output) × IsBeginning front outputs × (take n (outputs_acts outputs) ≡ outputs_acts front)
+
+cut_one : (output : Output) (outputs : List Output) (n : ℕ) → Cut outputs (n - length output.bytes) → (length output.bytes < n) ⊎ (n ≤ length output.bytes) → Cut (output ∷ outputs) (suc n)
+cut_one output outputs n rest (inr within) =
+    let front : Output = record { to = output.to; bytes = take n output.bytes } in (
+      front ∷ [],
+      (refl, inr (n, refl, refl)),
+      ap (λ (more : List Act). begun output.to ∷ more) (inside output.to output.bytes (outputs_acts outputs) n within),
+    )
+cut_one output outputs n rest (inl longer) = (
+  output ∷ rest.0,
+  (refl, inl (refl, rest.1)),
+  ap (λ (more : List Act). begun output.to ∷ more)
+      (past output.to output.bytes (outputs_acts outputs) n longer ∙ ap (λ (more : List Act). puts (Some output.to) output.bytes ++ more) rest.2),
+)
+
+pub cut_of : (outputs : List Output) (n : ℕ) → Cut outputs n
+cut_of [] zero = ([], tt, refl)
+cut_of [] (suc n) = ([], tt, refl)
+cut_of (output ∷ outputs) zero = ([], tt, refl)
+cut_of (output ∷ outputs) (suc n) = cut_one output outputs n (cut_of outputs (n - length output.bytes)) (cases_lt (length output.bytes) n)
+
+-- what a target holds after acts that are those of outputs
+pub held_by-Does : (acts : List Act) (front : List Output) (old new : Written) → Does acts (Some old) (Some new) → acts ≡ outputs_acts front
+    → (target : Target) → held_by target new ≡ held_after target front (held_by target old)
+held_by-Does acts front old new does are target =
+    let whole : new ≡ after acts old = cc in
+    ap (held_by target) (whole ∙ ap (λ (a : List Act). after a old) are) ∙ held_by-outputs front target old
+
+-- the acts of a line are those of an output, or of none
+pub line_as_outputs : (line : List ℕ) → line_acts line ≡ outputs_acts (line_outputs line)
+line_as_outputs [] = refl
+line_as_outputs (byte ∷ bytes) = sym (append-nil (target_acts Said (byte ∷ bytes)))
+
+-- a fault of writing
+pub held_at_fault : (answer : Answer) (line : List ℕ) (rose : Type 0) (old new : Written) → answer.status ≢ status.WriteFault
+    → IsDelivered answer line rose (Some old) (Some new) status.WriteFault
+    → (front : List Output) × IsBeginning front answer.outputs × ((target : Target) → held_by target new ≡ held_after target front (held_by target old))
+held_at_fault answer line rose old new other (inl whole) = absurd (other (sym whole.1))
+held_at_fault answer line rose old new other (inr (inl short)) =
+    let cut = cut_of answer.outputs short.0 in
+    (cut.0, cut.1, held_by-Does (take short.0 (outputs_acts answer.outputs)) cut.0 old new short.4 cut.2)
+held_at_fault answer line rose old new other (inr (inr out)) =
+    let same : status.WriteFault ≡ status.NoMemory = out.2 in
+    absurd (cc)
+
+-- want of memory
+pub held_without_memory : (answer : Answer) (line : List ℕ) (rose : Type 0) (old new : Written) → answer.status ≢ status.NoMemory
+    → IsDelivered answer line rose (Some old) (Some new) status.NoMemory
+    → (front : List Output) × (last : List Output) × IsBeginning front (answer.outputs ++ line_outputs line) × IsBeginning last (line_outputs no_memory_line)
+        × ((target : Target) → held_by target new ≡ held_after target (front ++ last) (held_by target old))
+held_without_memory answer line rose old new other (inl whole) = absurd (other (sym whole.1))
+held_without_memory answer line rose old new other (inr (inl short)) =
+    let same : status.NoMemory ≡ status.WriteFault = short.1 in
+    absurd (cc)
+held_without_memory answer line rose old new other (inr (inr out)) =
+    let front = cut_of (answer.outputs ++ line_outputs line) out.0 in
+    let last = cut_of (line_outputs no_memory_line) out.1 in
+    let whole : outputs_acts answer.outputs ++ line_acts line ≡ outputs_acts (answer.outputs ++ line_outputs line) =
+    ap (λ (a : List Act). outputs_acts answer.outputs ++ a) (line_as_outputs line) ∙ sym (flat_map-append output_acts answer.outputs (line_outputs line)) in
+    let both : take out.0 (outputs_acts answer.outputs ++ line_acts line) ++ take out.1 (line_acts no_memory_line) ≡ outputs_acts (front.0 ++ last.0) =
+    ap (λ (a : List Act). take out.0 a ++ take out.1 (line_acts no_memory_line)) whole
+    ∙ ap (λ (a : List Act). take out.0 (outputs_acts (answer.outputs ++ line_outputs line)) ++ take out.1 a) (line_as_outputs no_memory_line)
+    ∙ ap (λ (a : List Act). a ++ take out.1 (outputs_acts (line_outputs no_memory_line))) front.2
+    ∙ ap (λ (a : List Act). outputs_acts front.0 ++ a) last.2
+    ∙ sym (flat_map-append output_acts front.0 last.0) in (
+      front.0,
+      last.0,
+      front.1,
+      last.1,
+      held_by-Does (take out.0 (outputs_acts answer.outputs ++ line_acts line) ++ take out.1 (line_acts no_memory_line)) (front.0 ++ last.0) old new out.3 both,
+    )

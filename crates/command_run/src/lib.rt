@@ -13,6 +13,7 @@ mod input;
 mod line;
 mod refusal;
 mod status;
+mod told;
 
 pub use answer::{Answer, Output, end_with, print};
 pub use delivery::{deliver, out_of_memory};
@@ -24,3 +25,4 @@ pub use input::Input;
 pub use line::{file_name, line_of};
 pub use refusal::Refusal;
 pub use status::Status;
+pub use told::told_files_decide_the_answer;
