@@ -1,5 +1,5 @@
 -- Acts that are done up to a place, put together.
-use Rattle.std.proofs.Common.{None, IfSome, inl, inr, append_assoc, ◌≡◌, ℕ, suc, ◌+◌, ◌<◌, List, [], ◌∷◌, ◌++◌, length, take, drop, map, get_or, Option, Some, Result, Ok, Err, refl, sym, ap, ◌∙◌, subst, arith}
+use Rattle.std.proofs.Common.{append_assoc, ◌≡◌, ℕ, suc, ◌+◌, ◌<◌, List, [], ◌∷◌, ◌++◌, length, take, drop, map, get_or, Option, Some, Result, Ok, Err, sym, ap, ◌∙◌, subst, arith}
 use Rattle.std.proofs.Math.Seq.{take-append-add, take-length, drop-cons}
 use Rattle.std.proofs.lemmas.List.{append-nil, take-append-le, take-append-drop, take-map, take_more, length-append, length-map}
 use Rattle.std.proofs.lemmas.Grind.{flat_map-append}
@@ -7,12 +7,10 @@ use Rattle.files_door.specs.declared.target.Target.{Target}
 use Rattle.files_door.specs.Targets.{Written}
 use Rattle.files_door.specs.Acts.{Act, begun, put, puts, Does}
 use Rattle.files_door.proofs.Acts.{Does-append, Does-nil}
-use Rattle.command_run.specs.declared.answer.Answer.{Answer}
-use Rattle.command_run.specs.declared.answer.Output.{Output}
-use Rattle.command_run.specs.declared.status.Status.{Status}
-use Rattle.command_run.specs.declared.status.Status.TheVariants as ended
-use Rattle.command_run.specs.Lines.{status_line, no_memory_line}
-use Rattle.command_run.specs.Ending.{target_acts, output_acts, outputs_acts, line_acts, IsLineOf, IsEnded, IsDelivered}
+use Rattle.command_run.specs.declared.output.Output.{Output}
+use Rattle.command_run.specs.declared.delivery.Ending.{Ending}
+use Rattle.command_run.specs.declared.delivery.Ending.TheVariants.{Whole, CutShort, OutOfMemory}
+use Rattle.command_run.specs.Delivered.{target_acts, output_acts, outputs_acts, line_acts, no_memory_line, IsSaid, IsDelivered}
 use Rattle.command_run.specs.Writing.{DoesSome}
 
 -- some of the acts are done, all of them counting as some
@@ -71,49 +69,43 @@ outputs_more outputs i output old mid new is within first second =
     ap outputs_acts taken ∙ flat_map-append output_acts (take i outputs) (output ∷ []) ∙ ap (λ (a : List Act). outputs_acts (take i outputs) ++ a) (append-nil acts) in
     subst (λ (a : List Act). Does a old new) (sym split) (Does-append (outputs_acts (take i outputs)) acts old mid new first second)
 
--- a status has a line
-pub some_line : (status : Status) → (line : List ℕ) × IsLineOf status line
-some_line status = line_from (status_line status)
-  where
-    line_from : (o : Option (List ℕ)) → (line : List ℕ) × IfSome o (λ defined. line ≡ defined)
-    line_from None = ([], tt)
-    line_from (Some line) = (line, refl)
-
--- the line of a status is whole
-pub ended_whole : (status : Status) (rose : Type 0) (line : List ℕ) (old new : Option Written) → Does (line_acts line) old new → IsEnded status line rose old new status
-ended_whole status rose line old new does =
-    inl (
-      length (line_acts line),
-      refl,
-      λ less. absurd (omega (arith, less)),
-      subst (λ (a : List Act). Does a old new) (sym (take-length (line_acts line))) does,
-    )
+-- a line is whole
+pub said_whole : (line : List ℕ) (rose : Type 0) (old new : Option Written) → Does (line_acts line) old new → IsSaid line rose old new Whole
+said_whole line rose old new does = (
+  length (line_acts line),
+  λ less. absurd (omega (arith, less)),
+  subst (λ (a : List Act). Does a old new) (sym (take-length (line_acts line))) does,
+)
 
 -- memory runs out while a line is written
-pub ended_out : (status result : Status) (rose : Type 0) (line : List ℕ) (n m : ℕ) (old mid new : Option Written) → result ≡ ended.NoMemory → Does (take n (line_acts line)) old mid → Does (take m (line_acts no_memory_line)) mid new → IsEnded status line rose old new result
-ended_out status result rose line n m old mid new out first second =
-    inr (n, m, out, Does-append (take n (line_acts line)) (take m (line_acts no_memory_line)) old mid new first second)
+pub said_out : (line : List ℕ) (rose : Type 0) (n m : ℕ) (old mid new : Option Written) (ending : Ending) → ending ≡ OutOfMemory → Does (take n (line_acts line)) old mid → Does (take m (line_acts no_memory_line)) mid new → IsSaid line rose old new ending
+said_out line rose n m old mid new ending out first second =
+    subst (λ (e : Ending). IsSaid line rose old new e) (sym out) (n, m, Does-append (take n (line_acts line)) (take m (line_acts no_memory_line)) old mid new first second)
 
--- outputs are whole, and then the status ends
-pub delivered_whole : (answer : Answer) (line : List ℕ) (rose_first rose : Type 0) (old mid new : Option Written) (result : Status) → (rose_first → rose) → Does (outputs_acts answer.outputs) old mid → IsEnded answer.status line rose_first mid new result → IsDelivered answer line rose old new result
-delivered_whole answer line rose_first rose old mid new result widen first (inl e) =
-    inl (e.0, e.1, λ less. widen (e.2 less), Does-append (outputs_acts answer.outputs) (take e.0 (line_acts line)) old mid new first e.3)
-delivered_whole answer line rose_first rose old mid new result widen first (inr e) =
-    let outs : List Act = outputs_acts answer.outputs in
-    let acts : List Act = take e.0 (line_acts line) in
-    let last : List Act = take e.1 (line_acts no_memory_line) in
-    let whole : take (length outs + e.0) (outs ++ line_acts line) ≡ outs ++ acts = take-append-add outs (line_acts line) e.0 in
-    let order : take (length outs + e.0) (outs ++ line_acts line) ++ last ≡ outs ++ (acts ++ last) = ap (λ (a : List Act). a ++ last) whole ∙ append_assoc outs acts last in
-    inr (inr (length outs + e.0, e.1, e.2, subst (λ (a : List Act). Does a old new) (sym order) (Does-append outs (acts ++ last) old mid new first e.3)))
+-- outputs are whole, and then a line follows
+pub delivered_whole : (outputs : List Output) (line : List ℕ) (rose_first rose : Type 0) (old mid new : Option Written) (ending : Ending) → (rose_first → rose) → Does (outputs_acts outputs) old mid → IsSaid line rose_first mid new ending → IsDelivered outputs line rose old new ending
+delivered_whole outputs line rose_first rose old mid new Whole widen first said =
+    (said.0, λ less. widen (said.1 less), Does-append (outputs_acts outputs) (take said.0 (line_acts line)) old mid new first said.2)
+delivered_whole outputs line rose_first rose old mid new CutShort widen first said = absurd said
+delivered_whole outputs line rose_first rose old mid new OutOfMemory widen first said =
+    let outs : List Act = outputs_acts outputs in
+    let acts : List Act = take said.0 (line_acts line) in
+    let last : List Act = take said.1 (line_acts no_memory_line) in
+    let whole : take (length outs + said.0) (outs ++ line_acts line) ≡ outs ++ acts = take-append-add outs (line_acts line) said.0 in
+    let order : take (length outs + said.0) (outs ++ line_acts line) ++ last ≡ outs ++ (acts ++ last) = ap (λ (a : List Act). a ++ last) whole ∙ append_assoc outs acts last in
+    (length outs + said.0, said.1, subst (λ (a : List Act). Does a old new) (sym order) (Does-append outs (acts ++ last) old mid new first said.2))
 
 -- memory runs out while outputs are written
-pub delivered_out : (answer : Answer) (line : List ℕ) (rose : Type 0) (n m : ℕ) (old mid new : Option Written) (result : Status) → result ≡ ended.NoMemory → n < length (outputs_acts answer.outputs) → Does (take n (outputs_acts answer.outputs)) old mid → Does (take m (line_acts no_memory_line)) mid new → IsDelivered answer line rose old new result
-delivered_out answer line rose n m old mid new result out fewer first second =
-    let outs : List Act = outputs_acts answer.outputs in
+pub delivered_out : (outputs : List Output) (line : List ℕ) (rose : Type 0) (n m : ℕ) (old mid new : Option Written) (ending : Ending) → ending ≡ OutOfMemory → n < length (outputs_acts outputs) → Does (take n (outputs_acts outputs)) old mid → Does (take m (line_acts no_memory_line)) mid new → IsDelivered outputs line rose old new ending
+delivered_out outputs line rose n m old mid new ending out fewer first second =
+    let outs : List Act = outputs_acts outputs in
     let front : take n (outs ++ line_acts line) ≡ take n outs = take-append-le n outs (line_acts line) (omega (arith, fewer)) in
-    inr (inr (
+    subst (λ (e : Ending). IsDelivered outputs line rose old new e) (sym out) (
       n,
       m,
-      out,
       subst (λ (a : List Act). Does (a ++ take m (line_acts no_memory_line)) old new) (sym front) (Does-append (take n outs) (take m (line_acts no_memory_line)) old mid new first second),
-    ))
+    )
+
+-- memory ran out before anything was written
+pub delivered_nothing : (outputs : List Output) (line : List ℕ) (rose : Type 0) (m : ℕ) (old new : Option Written) → Does (take m (line_acts no_memory_line)) old new → IsDelivered outputs line rose old new OutOfMemory
+delivered_nothing outputs line rose m old new does = (0, m, does)

@@ -1,5 +1,5 @@
 -- What each target holds after the acts of outputs.
-use Rattle.std.proofs.Common.{◌≡◌, ◌≢◌, ℕ, zero, suc, ◌+◌, ◌-◌, ◌<◌, ◌≤◌, ◌⊎◌, inl, inr, Bool, true, false, cond, List, [], ◌∷◌, ◌++◌, length, take, map, Option, Some, unwrap_or, refl, sym, ap, ◌∙◌, arith}
+use Rattle.std.proofs.Common.{◌≡◌, ℕ, zero, suc, ◌+◌, ◌-◌, ◌<◌, ◌≤◌, ◌⊎◌, inl, inr, Bool, true, false, cond, List, [], ◌∷◌, ◌++◌, length, take, map, Option, Some, unwrap_or, refl, sym, ap, ◌∙◌, arith}
 use Rattle.std.proofs.Math.Seq.{take-append-add}
 use Rattle.std.proofs.lemmas.Bool.{cases_lt}
 use Rattle.std.proofs.lemmas.List.{append-nil, take-append-le, take-map, length-map}
@@ -11,11 +11,9 @@ use Rattle.files_door.specs.Targets.{same_target, Written, held_by}
 use Rattle.files_door.specs.Acts.{Act, begun, put, puts, begin_target, kept_by, after, Does}
 use Rattle.files_door.proofs.Acts.{after-append}
 use Rattle.files_door.proofs.Targets.{after-puts, held_by-append_to, held_by-begin_target}
-use Rattle.command_run.specs.declared.answer.Answer.{Answer}
-use Rattle.command_run.specs.declared.answer.Output.{Output}
-use Rattle.command_run.specs.declared.status.Status.TheVariants as status
-use Rattle.command_run.specs.Lines.{no_memory_line}
-use Rattle.command_run.specs.Ending.{target_acts, output_acts, outputs_acts, line_acts, IsDelivered}
+use Rattle.command_run.specs.declared.output.Output.{Output}
+use Rattle.command_run.specs.declared.delivery.Ending.TheVariants as ending
+use Rattle.command_run.specs.Delivered.{target_acts, output_acts, outputs_acts, line_acts, no_memory_line, IsDelivered}
 use Rattle.command_run.specs.Held.{held_after, line_outputs, IsBeginning}
 
 -- a target is begun and gets bytes
@@ -88,34 +86,26 @@ line_as_outputs [] = refl
 line_as_outputs (byte ∷ bytes) = sym (append-nil (target_acts Said (byte ∷ bytes)))
 
 -- a fault of writing
-pub held_at_fault : (answer : Answer) (line : List ℕ) (rose : Type 0) (old new : Written) → answer.status ≢ status.WriteFault
-    → IsDelivered answer line rose (Some old) (Some new) status.WriteFault
-    → (front : List Output) × IsBeginning front answer.outputs × ((target : Target) → held_by target new ≡ held_after target front (held_by target old))
-held_at_fault answer line rose old new other (inl whole) = absurd (other (sym whole.1))
-held_at_fault answer line rose old new other (inr (inl short)) =
-    let cut = cut_of answer.outputs short.0 in
-    (cut.0, cut.1, held_by-Does (take short.0 (outputs_acts answer.outputs)) cut.0 old new short.4 cut.2)
-held_at_fault answer line rose old new other (inr (inr out)) =
-    let same : status.WriteFault ≡ status.NoMemory = out.2 in
-    absurd (cc)
+pub held_at_fault : (outputs : List Output) (line : List ℕ) (rose : Type 0) (old new : Written)
+    → IsDelivered outputs line rose (Some old) (Some new) ending.CutShort
+    → (front : List Output) × IsBeginning front outputs × ((target : Target) → held_by target new ≡ held_after target front (held_by target old))
+held_at_fault outputs line rose old new short =
+    let cut = cut_of outputs short.0 in
+    (cut.0, cut.1, held_by-Does (take short.0 (outputs_acts outputs)) cut.0 old new short.3 cut.2)
 
 -- want of memory
-pub held_without_memory : (answer : Answer) (line : List ℕ) (rose : Type 0) (old new : Written) → answer.status ≢ status.NoMemory
-    → IsDelivered answer line rose (Some old) (Some new) status.NoMemory
-    → (front : List Output) × (last : List Output) × IsBeginning front (answer.outputs ++ line_outputs line) × IsBeginning last (line_outputs no_memory_line)
-        × ((target : Target) → held_by target new ≡ held_after target (front ++ last) (held_by target old))
-held_without_memory answer line rose old new other (inl whole) = absurd (other (sym whole.1))
-held_without_memory answer line rose old new other (inr (inl short)) =
-    let same : status.NoMemory ≡ status.WriteFault = short.1 in
-    absurd (cc)
-held_without_memory answer line rose old new other (inr (inr out)) =
-    let front = cut_of (answer.outputs ++ line_outputs line) out.0 in
+pub held_without_memory : (outputs : List Output) (line : List ℕ) (rose : Type 0) (old new : Written)
+    → IsDelivered outputs line rose (Some old) (Some new) ending.OutOfMemory
+    → (front : List Output) × (last : List Output) × IsBeginning front (outputs ++ line_outputs line) × IsBeginning last (line_outputs no_memory_line)
+    × ((target : Target) → held_by target new ≡ held_after target (front ++ last) (held_by target old))
+held_without_memory outputs line rose old new out =
+    let front = cut_of (outputs ++ line_outputs line) out.0 in
     let last = cut_of (line_outputs no_memory_line) out.1 in
-    let whole : outputs_acts answer.outputs ++ line_acts line ≡ outputs_acts (answer.outputs ++ line_outputs line) =
-    ap (λ (a : List Act). outputs_acts answer.outputs ++ a) (line_as_outputs line) ∙ sym (flat_map-append output_acts answer.outputs (line_outputs line)) in
-    let both : take out.0 (outputs_acts answer.outputs ++ line_acts line) ++ take out.1 (line_acts no_memory_line) ≡ outputs_acts (front.0 ++ last.0) =
+    let whole : outputs_acts outputs ++ line_acts line ≡ outputs_acts (outputs ++ line_outputs line) =
+    ap (λ (a : List Act). outputs_acts outputs ++ a) (line_as_outputs line) ∙ sym (flat_map-append output_acts outputs (line_outputs line)) in
+    let both : take out.0 (outputs_acts outputs ++ line_acts line) ++ take out.1 (line_acts no_memory_line) ≡ outputs_acts (front.0 ++ last.0) =
     ap (λ (a : List Act). take out.0 a ++ take out.1 (line_acts no_memory_line)) whole
-    ∙ ap (λ (a : List Act). take out.0 (outputs_acts (answer.outputs ++ line_outputs line)) ++ take out.1 a) (line_as_outputs no_memory_line)
+    ∙ ap (λ (a : List Act). take out.0 (outputs_acts (outputs ++ line_outputs line)) ++ take out.1 a) (line_as_outputs no_memory_line)
     ∙ ap (λ (a : List Act). a ++ take out.1 (outputs_acts (line_outputs no_memory_line))) front.2
     ∙ ap (λ (a : List Act). outputs_acts front.0 ++ a) last.2
     ∙ sym (flat_map-append output_acts front.0 last.0) in (
@@ -123,5 +113,5 @@ held_without_memory answer line rose old new other (inr (inr out)) =
       last.0,
       front.1,
       last.1,
-      held_by-Does (take out.0 (outputs_acts answer.outputs ++ line_acts line) ++ take out.1 (line_acts no_memory_line)) (front.0 ++ last.0) old new out.3 both,
+      held_by-Does (take out.0 (outputs_acts outputs ++ line_acts line) ++ take out.1 (line_acts no_memory_line)) (front.0 ++ last.0) old new out.2 both,
     )

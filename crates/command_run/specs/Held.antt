@@ -4,7 +4,7 @@ use Rattle.files_door.specs.declared.target.Target.{Target}
 use Rattle.files_door.specs.declared.target.Target.TheVariants.{Said}
 use Rattle.files_door.specs.Targets.{same_target}
 use Rattle.files_door.specs.Acts.{kept_by}
-use Rattle.command_run.specs.declared.answer.Output.{Output}
+use Rattle.command_run.specs.declared.output.Output.{Output}
 
 -- What a target holds after outputs are written whole, where it held that before: each output to it begins it,
 -- which empties a file and leaves standard output as it is, and appends its bytes. Other outputs change nothing.

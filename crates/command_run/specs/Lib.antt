@@ -1,7 +1,5 @@
 pub mod Work
 pub mod Told
-pub mod Lines
-pub mod Answers
 pub mod Writing
-pub mod Ending
+pub mod Delivered
 pub mod Held

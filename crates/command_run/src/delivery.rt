@@ -1,53 +1,63 @@
-//! Writing an answer to its targets.
+//! Writing outputs to their targets.
 
 ghost use Rattle.std.specs.Prelude.{◌≡◌, ℕ, ◌≤◌, take};
 ghost use Rattle.files_door.specs.Fault.{HasCause, Rose};
 ghost use Rattle.files_door.specs.Acts.{Does};
-ghost use Rattle.command_run.specs.Lines.{no_memory_line};
 ghost use Rattle.command_run.specs.Writing.{DoesSome};
-ghost use Rattle.command_run.specs.Ending.{IsDelivered, IsEnded, line_acts, output_acts, outputs_acts, target_acts};
+ghost use Rattle.command_run.specs.Delivered.{IsDelivered, IsSaid, line_acts, no_memory_line, output_acts, outputs_acts, target_acts};
 
-use crate::answer::{Answer, Output};
-use crate::line::NO_MEMORY;
-use crate::status::Status;
+use crate::output::Output;
 use files_door::{Sinks, Stop, Target, WriteStop, write_all};
 
-/// Writes an answer's outputs, and then the line of its status. A fault cuts the outputs short, and then
-/// the status is that of a fault; it may cut the line short too, and the status stays.
-pub fn deliver<S: Sinks>(answer: Answer, line: &str, sinks: &mut S) -> Status
-    ensures delivered { IsDelivered answer line.now (Rose (S.faults sinks.old) (S.faults sinks.new))
+/// How a delivery ended.
+#[derive(Clone, Copy, Debug, PartialEq, Eq)]
+pub enum Ending {
+    /// All outputs are whole.
+    Whole,
+    /// Writing failed, and the outputs are cut short.
+    CutShort,
+    /// Memory ran out.
+    OutOfMemory,
+}
+
+/// The line for want of memory, which takes none.
+const NO_MEMORY: &str = "no memory\n";
+
+/// Writes outputs, one after another, and then a line to standard output. A fault of writing cuts the outputs
+/// short; it may cut the line short too, and then they are whole all the same.
+pub fn deliver<S: Sinks>(outputs: &[Output], line: &str, sinks: &mut S) -> Ending
+    ensures delivered { IsDelivered outputs.now line.now (Rose (S.faults sinks.old) (S.faults sinks.new))
         (S.written sinks.old) (S.written sinks.new) result }
     ensures later { S.faults sinks.old ≤ S.faults sinks.new }
 {
-    let Answer { status, outputs } = answer;
-    match write_outputs(sinks, outputs.as_slice()) {
-        Ok(()) => end(status, line, sinks),
-        Err(Stop::Failed) => Status::WriteFault,
+    match write_outputs(sinks, outputs) {
+        Ok(()) => finish(line, sinks),
+        Err(Stop::Failed) => Ending::CutShort,
         Err(Stop::NoMemory) => out_of_memory(sinks),
     }
 }
 
-/// Ends with a status, whose line is written.
-fn end<S: Sinks>(status: Status, line: &str, sinks: &mut S) -> Status
-    ensures ended { IsEnded status line.now (Rose (S.faults sinks.old) (S.faults sinks.new))
+/// Ends with a line.
+fn finish<S: Sinks>(line: &str, sinks: &mut S) -> Ending
+    ensures said { IsSaid line.now (Rose (S.faults sinks.old) (S.faults sinks.new))
         (S.written sinks.old) (S.written sinks.new) result }
     ensures later { S.faults sinks.old ≤ S.faults sinks.new }
 {
     match say(sinks, line) {
-        Ok(()) => status,
-        Err(Stop::Failed) => status,
+        Ok(()) => Ending::Whole,
+        Err(Stop::Failed) => Ending::Whole,
         Err(Stop::NoMemory) => out_of_memory(sinks),
     }
 }
 
 /// Ends for want of memory. Its line takes none; where it can't be written whole, a beginning stands.
-pub fn out_of_memory<S: Sinks>(sinks: &mut S) -> Status
-    ensures status { result ≡ Status.NoMemory }
+pub fn out_of_memory<S: Sinks>(sinks: &mut S) -> Ending
+    ensures ending { result ≡ Ending.OutOfMemory }
     ensures line { (n : ℕ) × Does (take n (line_acts no_memory_line)) (S.written sinks.old) (S.written sinks.new) }
     ensures later { S.faults sinks.old ≤ S.faults sinks.new }
 {
     let _cut_short = say(sinks, NO_MEMORY);
-    Status::NoMemory
+    Ending::OutOfMemory
 }
 
 /// Writes outputs, one after another.

@@ -1,37 +1,14 @@
-//! A feed that is refused.
+//! Why a command's input is refused.
 
-ghost use Rattle.std.specs.Prelude.{◌≡◌, ◌≢◌, IfOk};
-ghost use Rattle.table_rows.specs.Folder.{path_in};
-ghost use Rattle.map_cli.specs.Answers.{alone, status_of_fault};
+use map_base::Limit;
+use table_rows::{Table, Why};
 
-use crate::answer::{Answer, end_with};
-use crate::line::name_of;
-use crate::status::Status;
-use gtfs_tables::{FeedFault, Table};
-use map_base::{NoMemory, Text};
-use std::alloc::Global;
-
-/// The feed in a folder is refused.
-pub fn refuse(alloc: Global, folder: &str, fault: FeedFault) -> Result<Answer, NoMemory>
-    ensures answer { IfOk result (λ answer. answer ≡ alone (status_of_fault folder.now fault)) }
-    ensures memory { IfOk result (λ _. fault ≢ FeedFault.NoMemory) }
-{
-    let status = match fault {
-        FeedFault::BadRow { table, row, why } => Status::BadRow { table, row, why },
-        FeedFault::Limit(limit) => Status::Limit(limit),
-        FeedFault::ReadFault { table } => Status::ReadFault {
-            path: path_of(alloc, folder, table)?,
-        },
-        FeedFault::NoMemory => return Err(NoMemory),
-    };
-    Ok(end_with(alloc, status))
-}
-
-/// The path of a table's file.
-fn path_of(alloc: Global, folder: &str, table: Table) -> Result<Text, NoMemory>
-    ensures { IfOk result (λ path. path ≡ path_in folder.now table) }
-{
-    let name = name_of(table);
-    let path = format!(in alloc; "{folder}/{name}")?;
-    Text::of(alloc, path.as_str())
+/// Why a command comes to no result, by what its inputs hold.
+#[derive(Clone, Copy, Debug, PartialEq, Eq)]
+pub enum Refusal {
+    /// This is the feed's first bad row, with its least reason. The header is row 1; a file that is missing
+    /// has row 0.
+    BadRow { table: Table, row: u64, why: Why },
+    /// This is the first counted quantity above its greatest allowed number.
+    Limit(Limit),
 }

@@ -1,5 +1,5 @@
-use Rattle.command_run.specs.Lines.{no_memory_line}
-use Rattle.command_run.specs.Ending.{line_acts}
+use Rattle.command_run.specs.Delivered.{no_memory_line}
+use Rattle.command_run.specs.Delivered.{line_acts}
 use Rattle.command_run.proofs.ActLemmas.{some_done}
 use Rattle.command_run.proofs.delivery.out_of_memory.Goals as goal
 

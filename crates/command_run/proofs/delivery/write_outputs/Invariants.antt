@@ -1,6 +1,6 @@
 use Rattle.std.proofs.Common.{◌≤◌, take}
 use Rattle.files_door.specs.Acts.{Does}
-use Rattle.command_run.specs.Ending.{outputs_acts}
+use Rattle.command_run.specs.Delivered.{outputs_acts}
 use Rattle.command_run.proofs.delivery.write_outputs.Given as goal
 
 abbrev pub invariant-loop-output : goal.invariant-loop-output

@@ -3,4 +3,4 @@ use Rattle.command_run.proofs.HeldLemmas.{held_at_fault}
 use Rattle.command_run.proofs.held.a_fault_of_writing_leaves_a_beginning.Goals as goal
 
 pub returns : goal.returns
-returns c = λ answer line before now old new other is. held_at_fault answer line (Rose before now) old new other is
+returns c = λ outputs line before now old new is. held_at_fault outputs line (Rose before now) old new is
