@@ -1,5 +1,3 @@
-pub mod Delivery
-pub mod Answering
-pub mod HoldingLaw
-pub mod FolderFiles
-pub mod Drawing
+pub mod FollowLemmas
+pub mod TableLemmas
+pub mod EndingLemmas

@@ -1,34 +1,34 @@
 -- Answers of a run: a status, and outputs in the order in which their targets are begun.
-use Rattle.std.specs.Prelude.{◌≡◌, ℕ, List, [], ◌∷◌, Option, Result, Ok, Err}
+use Rattle.std.specs.Prelude.{ℕ, List, [], ◌∷◌, Result, Ok, Err}
 use Rattle.files_door.specs.declared.target.Target.TheVariants.{Said}
-use Rattle.command_run.specs.declared.input.Input.{Input}
-use Rattle.command_run.specs.declared.answer.Answer.{Answer}
-use Rattle.command_run.specs.declared.refusal.Refusal.{Refusal}
-use Rattle.command_run.specs.declared.refusal.Refusal.TheVariants as refusal
-use Rattle.command_run.specs.declared.status.Status.{Status}
-use Rattle.command_run.specs.declared.status.Status.TheVariants as status
-use Rattle.command_run.specs.Work.{Work, Came, ended, unread}
-use Rattle.command_run.specs.Told.{IsRun}
+use Rattle.command_run.specs.declared.output.Output.{Output}
+use Rattle.map_cli.specs.declared.answer.Answer.{Answer}
+use Rattle.map_cli.specs.declared.input.Input.{Input}
+use Rattle.map_cli.specs.declared.refusal.Refusal.{Refusal}
+use Rattle.map_cli.specs.declared.refusal.Refusal.TheVariants as refused
+use Rattle.map_cli.specs.declared.status.Status.{Status}
+use Rattle.map_cli.specs.declared.status.Status.TheVariants as status
+
+-- a text that goes to standard output
+abbrev pub said : List ℕ → List Output
+said text = record { to = Said; bytes = text } ∷ []
 
 -- a status with nothing but its line
 abbrev pub alone : Status → Answer
 alone why = record { status = why; outputs = [] }
 
--- the work is done, and this text goes to standard output
-abbrev pub printed : List ℕ → Answer
-printed text = record { status = status.Done; outputs = record { to = Said; bytes = text } ∷ [] }
+-- the work is done, and these are its outputs
+abbrev pub done : List Output → Answer
+done outputs = record { status = status.Done; outputs = outputs }
 
--- the status of a refusal
-abbrev pub status_of : Refusal → Status
-status_of (refusal.BadRow table row why) = status.BadRow table row why
-status_of (refusal.Limit limit) = status.Limit limit
+-- the status of a refusal; an input that can't be read is named by its path
+abbrev pub status_of : (Input → List ℕ) → Refusal → Status
+status_of paths (refused.BadRow table row why) = status.BadRow table row why
+status_of paths (refused.Limit limit) = status.Limit limit
+status_of paths (refused.ReadFault input) = status.ReadFault (paths input)
+status_of paths refused.NoMemory = status.NoMemory
 
--- the answer of a command by how far its work came
-abbrev pub answer_by : (Input → List ℕ) → Came Answer → Answer
-answer_by paths (ended (Ok answer)) = answer
-answer_by paths (ended (Err why)) = alone (status_of why)
-answer_by paths (unread input) = alone (status.ReadFault (paths input))
-
--- the answer that the work of a command comes to over the files
-abbrev pub IsAnswerOf : Option (List (List ℕ × List ℕ)) → (Input → List ℕ) → Type 0 → Work Answer → Answer → Type 0
-IsAnswerOf told paths rose work answer = (came : Came Answer) × IsRun told paths rose work came × (answer ≡ answer_by paths came)
+-- the answer of a command by what its work came to
+abbrev pub answer_by : (Input → List ℕ) → Result (List Output) Refusal → Answer
+answer_by paths (Ok outputs) = done outputs
+answer_by paths (Err why) = alone (status_of paths why)

@@ -5,8 +5,9 @@ use Rattle.map_base.specs.Limits.{limit_name}
 use Rattle.table_rows.specs.Folder.{file_name}
 use Rattle.table_rows.specs.declared.why.Why.{Why}
 use Rattle.table_rows.specs.declared.why.Why.TheVariants.{MissingFile, MissingColumn, WrongFields, NotUtf8, EmptyId, RepeatedId, BadLatitude, BadLongitude, BadType, BadColour, BadWhole, UnknownParent, UnknownRoute, UnknownTrip, UnknownStop, RepeatedSequence}
-use Rattle.command_run.specs.declared.status.Status.{Status}
-use Rattle.command_run.specs.declared.status.Status.TheVariants as status
+use Rattle.command_run.specs.Delivered.{no_memory_line}
+use Rattle.map_cli.specs.declared.status.Status.{Status}
+use Rattle.map_cli.specs.declared.status.Status.TheVariants as status
 
 -- a reason in words
 abbrev pub reason_text : Why → List ℕ
@@ -36,10 +37,6 @@ status_number (status.Limit limit) = 6
 status_number (status.ReadFault path) = 7
 status_number status.WriteFault = 8
 status_number status.NoMemory = 9
-
--- `no memory`, a line
-abbrev pub no_memory_line : List ℕ
-no_memory_line = codes "no memory\n"
 
 -- the line that a status prints on standard output, empty for those that print none; the text for words that
 -- are not read is left open

@@ -2,8 +2,9 @@
 
 ghost use Rattle.std.specs.Prelude.{◌≡◌, IfOk, IfSome, string_bytes};
 ghost use Rattle.table_rows.specs.Folder.{file_name};
-ghost use Rattle.command_run.specs.Lines.{status_line, reason_text};
+ghost use Rattle.map_cli.specs.Lines.{status_line, reason_text};
 
+use crate::help::usage_text;
 use crate::status::Status;
 use map_base::NoMemory;
 use std::alloc::Global;
@@ -11,12 +12,12 @@ use table_rows::{Table, Why};
 
 /// The line that standard output gets for a status, empty where there is none. For words that are not read
 /// it is the help.
-pub fn line_of(alloc: Global, status: &Status, help: &str) -> Result<String, NoMemory>
+pub fn line_of(alloc: Global, status: &Status, words: &[String]) -> Result<String, NoMemory>
     ensures { IfOk result (λ line. IfSome (status_line status.now) (λ defined. string_bytes line ≡ defined)) }
 {
     match status {
         Status::Done => Ok(String::new(alloc)),
-        Status::Usage => Ok(String::from_str(alloc, help)?),
+        Status::Usage => usage_text(alloc, words),
         Status::BadRow { table, row, why } => {
             let name = file_name(*table);
             let reason = reason_text(*why);
@@ -33,12 +34,9 @@ pub fn line_of(alloc: Global, status: &Status, help: &str) -> Result<String, NoM
             Ok(format!(in alloc; "read fault: {path}\n")?)
         }
         Status::WriteFault => Ok(String::new(alloc)),
-        Status::NoMemory => Ok(String::from_str(alloc, NO_MEMORY)?),
+        Status::NoMemory => Ok(String::from_str(alloc, "no memory\n")?),
     }
 }
-
-/// The line for want of memory, which takes none.
-pub(crate) const NO_MEMORY: &str = "no memory\n";
 
 /// The name of a table's file.
 pub fn file_name(table: Table) -> &'static str

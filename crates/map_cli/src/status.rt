@@ -2,7 +2,6 @@
 
 ghost use Rattle.std.specs.Prelude.{◌≡◌};
 
-use crate::refusal::Refusal;
 use map_base::{Limit, Text};
 use table_rows::{Table, Why};
 
@@ -27,7 +26,7 @@ pub enum Status {
 }
 
 impl Status {
-    ghost use Rattle.command_run.specs.Lines.{status_number};
+    ghost use Rattle.map_cli.specs.Lines.{status_number};
 
     /// The number that the process ends with.
     pub fn number(&self) -> u8
@@ -41,19 +40,6 @@ impl Status {
             Status::ReadFault { .. } => 7,
             Status::WriteFault => 8,
             Status::NoMemory => 9,
-        }
-    }
-}
-
-impl From<Refusal> for Status {
-    ghost use Rattle.command_run.specs.Answers.{status_of};
-
-    ghost from_gives = { λ refusal status. status ≡ status_of refusal };
-
-    fn from(refusal: Refusal) -> Status {
-        match refusal {
-            Refusal::BadRow { table, row, why } => Status::BadRow { table, row, why },
-            Refusal::Limit(limit) => Status::Limit(limit),
         }
     }
 }

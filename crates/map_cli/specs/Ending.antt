@@ -1,0 +1,71 @@
+-- How a run ends: what its targets hold then, and which status it has.
+use Rattle.std.specs.Prelude.{◌≡◌, ◌≢◌, ℕ, ◌⊎◌, List, take, Option, None, Some, Result, Err, IfSome, ⊤}
+use Rattle.files_door.specs.Targets.{Written}
+use Rattle.files_door.specs.Acts.{Does}
+use Rattle.command_run.specs.declared.output.Output.{Output}
+use Rattle.command_run.specs.declared.delivery.Ending.{Ending}
+use Rattle.command_run.specs.declared.delivery.Ending.TheVariants.{Whole, CutShort, OutOfMemory}
+use Rattle.command_run.specs.Work.{Seen, Runs}
+use Rattle.command_run.specs.Delivered.{IsDelivered, line_acts, no_memory_line}
+use Rattle.map_cli.specs.declared.answer.Answer.{Answer}
+use Rattle.map_cli.specs.declared.input.Input.{Input}
+use Rattle.map_cli.specs.declared.refusal.Refusal.{Refusal}
+use Rattle.map_cli.specs.declared.refusal.Refusal.TheVariants as refused
+use Rattle.map_cli.specs.declared.status.Status.{Status}
+use Rattle.map_cli.specs.declared.status.Status.TheVariants as status
+use Rattle.map_cli.specs.Lines.{status_line}
+use Rattle.map_cli.specs.Words.{Asked}
+use Rattle.map_cli.specs.Inputs.{input_path}
+use Rattle.map_cli.specs.Answers.{alone, answer_by}
+use Rattle.map_cli.specs.Commands.{work}
+use Rattle.map_cli.specs.Following.{ComesTo}
+
+-- The answer to what the words ask for: that of a result that the command's work comes to over the files. Where they
+-- ask for nothing that is read, it is the help.
+abbrev pub IsAnswerTo : Option Asked → Option (List (List ℕ × List ℕ)) → Type 0 → Answer → Type 0
+IsAnswerTo None told rose answer = answer ≡ alone status.Usage
+IsAnswerTo (Some asked) told rose answer =
+    (result : Result (List Output) Refusal) × ComesTo told (input_path asked) rose (work asked) result × (answer ≡ answer_by (input_path asked) result)
+
+-- a line that the status may print
+abbrev pub IsLineOf : Status → List ℕ → Type 0
+IsLineOf ended line = IfSome (status_line ended) (λ defined. line ≡ defined)
+
+-- the status of a run by its answer, and by how the delivery of its outputs ended
+abbrev pub status_after : Status → Ending → Status
+status_after ended Whole = ended
+status_after ended CutShort = status.WriteFault
+status_after ended OutOfMemory = status.NoMemory
+
+-- how an answer is written, with the line of its status
+abbrev pub IsWritten : Answer → Type 0 → Option Written → Option Written → Status → Type 0
+IsWritten answer rose old new ended =
+    (line : List ℕ) × (ending : Ending) × IsLineOf answer.status line × IsDelivered answer.outputs line rose old new ending × (ended ≡ status_after answer.status ending)
+
+-- memory ran out before there was anything to write: a beginning of `no memory` stands there
+abbrev pub IsOutOfMemory : Option Written → Option Written → Status → Type 0
+IsOutOfMemory old new ended = (n : ℕ) × (ended ≡ status.NoMemory) × Does (take n (line_acts no_memory_line)) old new
+
+-- How a run ends, by what the words ask for and the files: an answer to it is written, unless memory runs out first.
+abbrev pub Ends : Option Asked → Option (List (List ℕ × List ℕ)) → Type 0 → Type 0 → Option Written → Option Written → Status → Type 0
+Ends asked told files_rose sinks_rose old new ended =
+    ((answer : Answer) × IsAnswerTo asked told files_rose answer × IsWritten answer sinks_rose old new ended) ⊎ IsOutOfMemory old new ended
+
+-- an input that the command comes to read, where the inputs before it give something
+abbrev pub Reads : Asked → Input → Type 0
+Reads asked input = (seen : List (Seen Input)) × Runs refused.ReadFault (work asked) seen (Err (refused.ReadFault input))
+
+-- a status has its cause
+abbrev pub IsCaused : Option Asked → Type 0 → Type 0 → Status → Type 0
+-- words that are not read, and no others, end with the help
+IsCaused asked files_rose sinks_rose status.Usage = asked ≡ None
+-- a fault of reading or writing comes only where its count rose, and that of reading at an input
+IsCaused asked files_rose sinks_rose (status.ReadFault path) =
+    files_rose × ((command : Asked) × (input : Input) × (asked ≡ Some command) × (path ≡ input_path command input) × Reads command input)
+IsCaused asked files_rose sinks_rose status.WriteFault = sinks_rose
+-- a feed is refused or worked on only where the words name one
+IsCaused asked files_rose sinks_rose status.Done = asked ≢ None
+IsCaused asked files_rose sinks_rose (status.BadRow table row why) = asked ≢ None
+IsCaused asked files_rose sinks_rose (status.Limit limit) = asked ≢ None
+-- want of memory is free
+IsCaused asked files_rose sinks_rose status.NoMemory = ⊤
