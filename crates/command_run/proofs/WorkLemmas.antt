@@ -48,7 +48,7 @@ module _ {Input Refusal : Type 0} (unread : Input → Refusal) where
   trace_runs (ends defined) given = refl
   trace_runs (reads input rest) given = (refl, trace_runs (rest (given input)) given)
 
-  trace_agrees : {A : Type 0} (work : Work Input Refusal A) (given : Input → Option (List ℕ)) → Agree given (trace work given)
+  pub trace_agrees : {A : Type 0} (work : Work Input Refusal A) (given : Input → Option (List ℕ)) → Agree given (trace work given)
   trace_agrees (ends defined) given = tt
   trace_agrees (reads input rest) given = (refl, trace_agrees (rest (given input)) given)
 

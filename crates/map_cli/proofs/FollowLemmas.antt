@@ -6,6 +6,10 @@ use Rattle.command_run.proofs.WorkLemmas.{then_run, refused_run, ends_run}
 use Rattle.map_cli.specs.declared.input.Input.{Input}
 use Rattle.map_cli.specs.declared.refusal.Refusal.{Refusal}
 use Rattle.map_cli.specs.declared.refusal.Refusal.TheVariants as refused
+use Rattle.map_base.specs.Settings.{Choices, standard_choices}
+use Rattle.transit_feed.specs.Feeds.{Feed}
+use Rattle.map_cli.specs.declared.loaded.Loaded.{Loaded}
+use Rattle.map_cli.specs.Commands.{tables_work, load_work}
 use Rattle.map_cli.specs.Following.{HasCause, ComesTo, Follows, Gives}
 
 abbrev Told : Type 0
@@ -74,3 +78,24 @@ comes_to told paths rose view work refused.NoMemory free follows = absurd (free 
 comes_to told paths rose view work (refused.ReadFault input) free follows = follows
 comes_to told paths rose view work (refused.BadRow table row why) free follows = follows
 comes_to told paths rose view work (refused.Limit limit) free follows = follows
+
+-- a refusal of one piece of work
+pub follows_as : {A B : Type 0} (told : Told) (paths : Input → List ℕ) (rose : Type 0) (view : A → B) (work : Work Input Refusal B) (why : Refusal) (result : Result A Refusal)
+    → IsRefusedAs why result → Follows told paths rose view work (Err why) → Follows told paths rose view work result
+follows_as told paths rose view work why result is first = subst (λ r. Follows told paths rose view work r) (sym (refused_as why result is)) first
+
+-- a piece of work that came to a value, and what is given by it
+pub follows_value : {A B C D : Type 0} (told : Told) (paths : Input → List ℕ) (rose : Type 0) (first_view : A → B) (view : C → D) (work : Work Input Refusal B) (defined : B → Result D Refusal) (value : A) (result : Result C Refusal)
+    → Follows told paths rose first_view work (Ok value) → Gives view result (defined (first_view value)) → Follows told paths rose view (work >>= (λ b. ends (defined b))) result
+follows_value told paths rose first_view view work defined value result first gives =
+    follows_then told paths rose rose rose first_view view work (λ b. ends (defined b)) value result (λ r. r) first (gives_follows told paths rose view (defined (first_view value)) result gives)
+
+-- the settings, and the tables by them
+abbrev pub loaded_by : Choices → Feed → Loaded
+loaded_by choices feed = record { settings = choices; tables = feed }
+
+pub follows_loaded : (told : Told) (paths : Input → List ℕ) (rose : Type 0) (choices : Choices) (feed : Feed) → choices ≡ standard_choices
+    → Follows told paths rose (λ (f : Feed). f) (tables_work standard_choices.types) (Ok feed) → Follows told paths rose (λ (l : Loaded). l) load_work (Ok (loaded_by choices feed))
+follows_loaded told paths rose choices feed are first =
+    let loaded : Choices → Result Loaded Refusal = λ s. Ok (loaded_by s feed) in
+    follows_value told paths rose (λ (f : Feed). f) (λ (l : Loaded). l) (tables_work standard_choices.types) (λ f. Ok (loaded_by standard_choices f)) feed (Ok (loaded_by choices feed)) first (ap loaded (sym are))

@@ -155,9 +155,9 @@ module _ (told : Told) (paths : Input → List ℕ) (given : Input → Option (L
   tables_follow_given types old now view result answers = tables_follow types old now view result answers
 
 -- inputs of which the tables alone give something
-by_tables : Folder → Input → Option (List ℕ)
-by_tables folder (input.Table table) = folder table
-by_tables folder other = None
+abbrev by_tables : Folder → Input → Option (List ℕ)
+by_tables tables (input.Table table) = tables table
+by_tables tables other = None
 
 -- one table of a folder, told or not
 pub read_follows : {A B : Type 0} (told : Told) (asked : Asked) (path : List ℕ) (table : Table) (gives : Option (List ℕ) → Result B FeedFault) (old now : ℕ) (view : A → B) (result : Result A FeedFault)
@@ -172,13 +172,15 @@ read_follows {A} {B} (Some all) asked path table gives old now view result is to
     table_follows (Some all) (input_path asked) (file_of all (input_path asked)) (λ seen agree. agree) table gives old now view result here
 
 -- all tables of a folder, told or not
-pub reads_follow : {A : Type 0} (told : Told) (asked : Asked) (path : List ℕ) (types : List ℕ) (old now : ℕ) (view : A → Feed) (result : Result A FeedFault)
-    → path ≡ feed_of asked
+pub reads_follow : {A : Type 0} (told : Told) (asked : Asked) (path types wanted : List ℕ) (old now : ℕ) (view : A → Feed) (result : Result A FeedFault)
+    → path ≡ feed_of asked → types ≡ wanted
     → IfSome told (λ all. Answers (may_fail types (told_folder all path) old now) view result (feed_outcome types (told_folder all path)))
     → (f : Folder) × Answers (may_fail types f old now) view result (feed_outcome types f)
-    → Follows told (input_path asked) (Rose old now) view (tables_work types) (refusing result)
-reads_follow None asked path types old now view result is told untold =
-    tables_follow_given None (input_path asked) (by_tables untold.0) (λ seen agree. tt) types old now view result untold.1
-reads_follow (Some all) asked path types old now view result is told untold =
+    → Follows told (input_path asked) (Rose old now) view (tables_work wanted) (refusing result)
+reads_follow {A} None asked path types wanted old now view result is same told untold =
+    subst (λ (ts : List ℕ). Follows None (input_path asked) (Rose old now) view (tables_work ts) (refusing result)) same
+    (tables_follow_given None (input_path asked) (by_tables untold.0) (λ seen agree. tt) types old now view result untold.1)
+reads_follow {A} (Some all) asked path types wanted old now view result is same told untold =
     let here = subst (λ (p : List ℕ). Answers (may_fail types (told_folder all p) old now) view result (feed_outcome types (told_folder all p))) is told in
-    tables_follow_given (Some all) (input_path asked) (file_of all (input_path asked)) (λ seen agree. agree) types old now view result here
+    subst (λ (ts : List ℕ). Follows (Some all) (input_path asked) (Rose old now) view (tables_work ts) (refusing result)) same
+    (tables_follow_given (Some all) (input_path asked) (file_of all (input_path asked)) (λ seen agree. agree) types old now view result here)
