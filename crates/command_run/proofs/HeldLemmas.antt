@@ -2,7 +2,7 @@
 use Rattle.std.proofs.Common.{◌≡◌, ℕ, zero, suc, ◌+◌, ◌-◌, ◌<◌, ◌≤◌, ◌⊎◌, inl, inr, Bool, true, false, cond, List, [], ◌∷◌, ◌++◌, length, take, map, Option, Some, unwrap_or, refl, sym, ap, ◌∙◌, arith}
 use Rattle.std.proofs.Math.Seq.{take-append-add}
 use Rattle.std.proofs.lemmas.Bool.{cases_lt}
-use Rattle.std.proofs.lemmas.List.{append-nil, take-append-le, take-map, length-map}
+use Rattle.std.proofs.lemmas.List.{append-nil, take-append-le, take-map, take_all, length-map}
 use Rattle.std.proofs.lemmas.Grind.{flat_map-append}
 use Rattle.std.specs.Option.{option_map}
 use Rattle.files_door.specs.declared.target.Target.{Target}
@@ -12,9 +12,10 @@ use Rattle.files_door.specs.Acts.{Act, begun, put, puts, begin_target, kept_by, 
 use Rattle.files_door.proofs.Acts.{after-append}
 use Rattle.files_door.proofs.Targets.{after-puts, held_by-append_to, held_by-begin_target}
 use Rattle.command_run.specs.declared.output.Output.{Output}
-use Rattle.command_run.specs.declared.delivery.Ending.TheVariants as ending
+use Rattle.command_run.specs.declared.delivery.Ending.{Ending}
+use Rattle.command_run.specs.declared.delivery.Ending.TheVariants.{Whole, CutShort, OutOfMemory}
 use Rattle.command_run.specs.Delivered.{target_acts, output_acts, outputs_acts, line_acts, no_memory_line, IsDelivered}
-use Rattle.command_run.specs.Held.{held_after, line_outputs, IsBeginning}
+use Rattle.command_run.specs.Held.{held_after, line_outputs, IsBeginning, Stands}
 
 -- a target is begun and gets bytes
 held_by-target_acts : (to target : Target) (bytes : List ℕ) (written : Written) → held_by target (after (target_acts to bytes) written) ≡ cond (same_target to target) (Some (kept_by to (unwrap_or (held_by target written) []) ++ bytes)) (held_by target written)
@@ -85,33 +86,54 @@ pub line_as_outputs : (line : List ℕ) → line_acts line ≡ outputs_acts (lin
 line_as_outputs [] = refl
 line_as_outputs (byte ∷ bytes) = sym (append-nil (target_acts Said (byte ∷ bytes)))
 
--- a fault of writing
-pub held_at_fault : (outputs : List Output) (line : List ℕ) (rose : Type 0) (old new : Written)
-    → IsDelivered outputs line rose (Some old) (Some new) ending.CutShort
-    → (front : List Output) × IsBeginning front outputs × ((target : Target) → held_by target new ≡ held_after target front (held_by target old))
-held_at_fault outputs line rose old new short =
-    let cut = cut_of outputs short.0 in
-    (cut.0, cut.1, held_by-Does (take short.0 (outputs_acts outputs)) cut.0 old new short.3 cut.2)
+all_begin : (outputs : List Output) → IsBeginning outputs outputs
+all_begin [] = tt
+all_begin (output ∷ outputs) = (refl, inl (refl, all_begin outputs))
 
--- want of memory
-pub held_without_memory : (outputs : List Output) (line : List ℕ) (rose : Type 0) (old new : Written)
-    → IsDelivered outputs line rose (Some old) (Some new) ending.OutOfMemory
-    → (front : List Output) × (last : List Output) × IsBeginning front (outputs ++ line_outputs line) × IsBeginning last (line_outputs no_memory_line)
-    × ((target : Target) → held_by target new ≡ held_after target (front ++ last) (held_by target old))
-held_without_memory outputs line rose old new out =
-    let front = cut_of (outputs ++ line_outputs line) out.0 in
-    let last = cut_of (line_outputs no_memory_line) out.1 in
+-- outputs are whole, and then comes the line, or its beginning
+held_whole : (outputs : List Output) (line : List ℕ) (rose : Type 0) (old new : Written) (n : ℕ) (front : List Output) → Does (outputs_acts outputs ++ take n (line_acts line)) (Some old) (Some new)
+    → take n (line_acts line) ≡ outputs_acts front → (target : Target) → held_by target new ≡ held_after target (outputs ++ front) (held_by target old)
+held_whole outputs line rose old new n front does are =
+    held_by-Does (outputs_acts outputs ++ take n (line_acts line)) (outputs ++ front) old new does
+    (ap (λ (a : List Act). outputs_acts outputs ++ a) are ∙ sym (flat_map-append output_acts outputs front))
+
+abbrev Standing : List Output → List ℕ → Type 0 → Written → Written → Ending → Type 0
+Standing outputs line rose old new ending =
+    (standing : List Output) × Stands outputs line rose ending standing × ((target : Target) → held_by target new ≡ held_after target standing (held_by target old))
+
+standing_whole : (outputs : List Output) (line : List ℕ) (rose : Type 0) (old new : Written) (n : ℕ) → (n < length (line_acts line) → rose) → Does (outputs_acts outputs ++ take n (line_acts line)) (Some old) (Some new)
+    → (n < length (line_acts line)) ⊎ (length (line_acts line) ≤ n) → Standing outputs line rose old new Whole
+standing_whole outputs line rose old new n cause does (inl cut) =
+    let front = cut_of (line_outputs line) n in
+    let are : take n (line_acts line) ≡ outputs_acts front.0 = ap (take n) (line_as_outputs line) ∙ front.2 in
+    (outputs ++ front.0, (front.0, refl, front.1, inr (cause cut)), held_whole outputs line rose old new n front.0 does are)
+standing_whole outputs line rose old new n cause does (inr whole) =
+    let are : take n (line_acts line) ≡ outputs_acts (line_outputs line) = take_all n (line_acts line) whole ∙ line_as_outputs line in
+    (outputs ++ line_outputs line, (line_outputs line, refl, all_begin (line_outputs line), inl refl), held_whole outputs line rose old new n (line_outputs line) does are)
+
+standing_out : (outputs : List Output) (line : List ℕ) (rose : Type 0) (old new : Written) (n m : ℕ) → Does (take n (outputs_acts outputs ++ line_acts line) ++ take m (line_acts no_memory_line)) (Some old) (Some new)
+    → Standing outputs line rose old new OutOfMemory
+standing_out outputs line rose old new n m does =
+    let front = cut_of (outputs ++ line_outputs line) n in
+    let last = cut_of (line_outputs no_memory_line) m in
     let whole : outputs_acts outputs ++ line_acts line ≡ outputs_acts (outputs ++ line_outputs line) =
     ap (λ (a : List Act). outputs_acts outputs ++ a) (line_as_outputs line) ∙ sym (flat_map-append output_acts outputs (line_outputs line)) in
-    let both : take out.0 (outputs_acts outputs ++ line_acts line) ++ take out.1 (line_acts no_memory_line) ≡ outputs_acts (front.0 ++ last.0) =
-    ap (λ (a : List Act). take out.0 a ++ take out.1 (line_acts no_memory_line)) whole
-    ∙ ap (λ (a : List Act). take out.0 (outputs_acts (outputs ++ line_outputs line)) ++ take out.1 a) (line_as_outputs no_memory_line)
-    ∙ ap (λ (a : List Act). a ++ take out.1 (outputs_acts (line_outputs no_memory_line))) front.2
+    let both : take n (outputs_acts outputs ++ line_acts line) ++ take m (line_acts no_memory_line) ≡ outputs_acts (front.0 ++ last.0) =
+    ap (λ (a : List Act). take n a ++ take m (line_acts no_memory_line)) whole
+    ∙ ap (λ (a : List Act). take n (outputs_acts (outputs ++ line_outputs line)) ++ take m a) (line_as_outputs no_memory_line)
+    ∙ ap (λ (a : List Act). a ++ take m (outputs_acts (line_outputs no_memory_line))) front.2
     ∙ ap (λ (a : List Act). outputs_acts front.0 ++ a) last.2
     ∙ sym (flat_map-append output_acts front.0 last.0) in (
-      front.0,
-      last.0,
-      front.1,
-      last.1,
-      held_by-Does (take out.0 (outputs_acts outputs ++ line_acts line) ++ take out.1 (line_acts no_memory_line)) (front.0 ++ last.0) old new out.2 both,
+      front.0 ++ last.0,
+      (front.0, last.0, refl, front.1, last.1),
+      held_by-Does (take n (outputs_acts outputs ++ line_acts line) ++ take m (line_acts no_memory_line)) (front.0 ++ last.0) old new does both,
     )
+
+-- however outputs are delivered
+pub standing_of : (outputs : List Output) (line : List ℕ) (rose : Type 0) (old new : Written) (ending : Ending) → IsDelivered outputs line rose (Some old) (Some new) ending → Standing outputs line rose old new ending
+standing_of outputs line rose old new Whole delivered =
+    standing_whole outputs line rose old new delivered.0 delivered.1 delivered.2 (cases_lt delivered.0 (length (line_acts line)))
+standing_of outputs line rose old new CutShort delivered =
+    let cut = cut_of outputs delivered.0 in
+    (cut.0, (delivered.1, cut.1), held_by-Does (take delivered.0 (outputs_acts outputs)) cut.0 old new delivered.3 cut.2)
+standing_of outputs line rose old new OutOfMemory delivered = standing_out outputs line rose old new delivered.0 delivered.1 delivered.2

@@ -11,8 +11,5 @@ mod held;
 mod output;
 
 pub use delivery::{Ending, deliver, out_of_memory};
-pub use held::{
-    a_fault_of_writing_leaves_a_beginning, outputs_reach_their_targets,
-    want_of_memory_leaves_two_beginnings,
-};
+pub use held::{each_target_holds_what_stands, outputs_reach_their_targets};
 pub use output::Output;
