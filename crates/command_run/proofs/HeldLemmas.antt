@@ -51,7 +51,7 @@ past to bytes rest n longer =
     ap (λ (i : ℕ). take i (acts ++ rest)) is ∙ take-append-add acts rest (n - length bytes)
 
 -- the first acts of outputs are those of a beginning of the outputs
-abbrev Cut : List Output → ℕ → Type 0
+abbrev pub Cut : List Output → ℕ → Type 0
 Cut outputs n = (front : List Output) × IsBeginning front outputs × (take n (outputs_acts outputs) ≡ outputs_acts front)
 
 cut_one : (output : Output) (outputs : List Output) (n : ℕ) → Cut outputs (n - length output.bytes) → (length output.bytes < n) ⊎ (n ≤ length output.bytes) → Cut (output ∷ outputs) (suc n)
@@ -86,7 +86,7 @@ pub line_as_outputs : (line : List ℕ) → line_acts line ≡ outputs_acts (lin
 line_as_outputs [] = refl
 line_as_outputs (byte ∷ bytes) = sym (append-nil (target_acts Said (byte ∷ bytes)))
 
-all_begin : (outputs : List Output) → IsBeginning outputs outputs
+pub all_begin : (outputs : List Output) → IsBeginning outputs outputs
 all_begin [] = tt
 all_begin (output ∷ outputs) = (refl, inl (refl, all_begin outputs))
 
@@ -97,7 +97,7 @@ held_whole outputs line rose old new n front does are =
     held_by-Does (outputs_acts outputs ++ take n (line_acts line)) (outputs ++ front) old new does
     (ap (λ (a : List Act). outputs_acts outputs ++ a) are ∙ sym (flat_map-append output_acts outputs front))
 
-abbrev Standing : List Output → List ℕ → Type 0 → Written → Written → Ending → Type 0
+abbrev pub Standing : List Output → List ℕ → Type 0 → Written → Written → Ending → Type 0
 Standing outputs line rose old new ending =
     (standing : List Output) × Stands outputs line rose ending standing × ((target : Target) → held_by target new ≡ held_after target standing (held_by target old))
 
@@ -137,3 +137,8 @@ standing_of outputs line rose old new CutShort delivered =
     let cut = cut_of outputs delivered.0 in
     (cut.0, (delivered.1, cut.1), held_by-Does (take delivered.0 (outputs_acts outputs)) cut.0 old new delivered.3 cut.2)
 standing_of outputs line rose old new OutOfMemory delivered = standing_out outputs line rose old new delivered.0 delivered.1 delivered.2
+
+-- a beginning of later outputs, behind whole ones
+pub begin-append : (outputs front more : List Output) → IsBeginning front more → IsBeginning (outputs ++ front) (outputs ++ more)
+begin-append [] front more begins = begins
+begin-append (output ∷ outputs) front more begins = (refl, inl (refl, begin-append outputs front more begins))

@@ -1,3 +1,4 @@
 pub mod FollowLemmas
 pub mod TableLemmas
 pub mod EndingLemmas
+pub mod LawLemmas

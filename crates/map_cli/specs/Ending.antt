@@ -1,5 +1,5 @@
 -- How a run ends: what its targets hold then, and which status it has.
-use Rattle.std.specs.Prelude.{◌≡◌, ◌≢◌, ℕ, ◌⊎◌, List, take, Option, None, Some, Result, Err, IfSome, ⊤}
+use Rattle.std.specs.Prelude.{◌≡◌, ◌≢◌, ℕ, ◌⊎◌, List, [], ◌++◌, take, Option, None, Some, Result, Err, IfSome, ⊤}
 use Rattle.files_door.specs.Targets.{Written}
 use Rattle.files_door.specs.Acts.{Does}
 use Rattle.command_run.specs.declared.output.Output.{Output}
@@ -7,6 +7,7 @@ use Rattle.command_run.specs.declared.delivery.Ending.{Ending}
 use Rattle.command_run.specs.declared.delivery.Ending.TheVariants.{Whole, CutShort, OutOfMemory}
 use Rattle.command_run.specs.Work.{Seen, Runs}
 use Rattle.command_run.specs.Delivered.{IsDelivered, line_acts, no_memory_line}
+use Rattle.command_run.specs.Held.{line_outputs}
 use Rattle.map_cli.specs.declared.answer.Answer.{Answer}
 use Rattle.map_cli.specs.declared.input.Input.{Input}
 use Rattle.map_cli.specs.declared.refusal.Refusal.{Refusal}
@@ -50,6 +51,12 @@ IsOutOfMemory old new ended = (n : ℕ) × (ended ≡ status.NoMemory) × Does (
 abbrev pub Ends : Option Asked → Option (List (List ℕ × List ℕ)) → Type 0 → Type 0 → Option Written → Option Written → Status → Type 0
 Ends asked told files_rose sinks_rose old new ended =
     ((answer : Answer) × IsAnswerTo asked told files_rose answer × IsWritten answer sinks_rose old new ended) ⊎ IsOutOfMemory old new ended
+
+-- what a run has to write: the outputs of an answer and the line of its status; nothing, where memory runs out before
+abbrev pub IsToBeWritten : Option Asked → Option (List (List ℕ × List ℕ)) → Type 0 → List Output → Type 0
+IsToBeWritten asked told files_rose outputs =
+    (outputs ≡ [])
+    ⊎ ((answer : Answer) × (line : List ℕ) × IsAnswerTo asked told files_rose answer × IsLineOf answer.status line × (outputs ≡ answer.outputs ++ line_outputs line))
 
 -- an input that the command comes to read, where the inputs before it give something
 abbrev pub Reads : Asked → Input → Type 0

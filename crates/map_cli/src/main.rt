@@ -13,6 +13,7 @@ mod graph_command;
 mod graph_tests;
 mod help;
 mod input;
+mod laws;
 mod line;
 mod loaded;
 mod refusal;
