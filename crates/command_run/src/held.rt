@@ -22,5 +22,5 @@ pub fn each_target_holds_what_stands()
     ensures { (outputs : List Output) (line : List ℕ) (before now : ℕ) (old new : Written) (ending : Ending)
         → IsDelivered outputs line (Rose before now) (Some old) (Some new) ending
         → (standing : List Output) × Stands outputs line (Rose before now) ending standing
-            × ((target : Target) → held_by target new ≡ held_after target standing (held_by target old)) }
+        × ((target : Target) → held_by target new ≡ held_after target standing (held_by target old)) }
 {}

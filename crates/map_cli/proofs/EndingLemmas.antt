@@ -1,13 +1,12 @@
 -- From the answer of a command to how a run ends, and to the cause of its status.
-use Rattle.std.proofs.Common.{◌≡◌, ◌≢◌, ℕ, ◌<◌, ◌⊎◌, inl, inr, List, [], length, take, Option, None, Some, Result, Ok, Err, IfSome, refl, sym, ap, ◌∙◌, subst, arith}
+use Rattle.std.proofs.Common.{◌≡◌, ◌≢◌, ℕ, ◌⊎◌, inl, inr, List, [], length, Option, None, Some, Result, Ok, Err, IfSome, refl, sym, ap, ◌∙◌, subst, arith}
 use Rattle.files_door.specs.Targets.{Written}
-use Rattle.files_door.specs.Acts.{Act, Does}
 use Rattle.command_run.specs.declared.output.Output.{Output}
 use Rattle.command_run.specs.declared.delivery.Ending.{Ending}
 use Rattle.command_run.specs.declared.delivery.Ending.TheVariants.{Whole, CutShort, OutOfMemory}
-use Rattle.command_run.specs.Delivered.{IsDelivered, outputs_acts, line_acts, no_memory_line}
+use Rattle.command_run.specs.Delivered.{IsDelivered, outputs_acts}
 use Rattle.command_run.specs.Work.{outcome}
-use Rattle.command_run.specs.Told.{file_of, IsRun}
+use Rattle.command_run.specs.Told.{file_of}
 use Rattle.command_run.proofs.WorkLemmas.{told_outcome}
 use Rattle.map_cli.specs.declared.answer.Answer.{Answer}
 use Rattle.map_cli.specs.declared.input.Input.{Input}

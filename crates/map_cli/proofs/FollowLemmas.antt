@@ -1,7 +1,7 @@
 -- Calls that do pieces of work, one after another.
-use Rattle.std.proofs.Common.{◌≡◌, ◌≢◌, ℕ, List, [], ◌∷◌, Option, None, Some, Result, Ok, Err, refl, sym, ap, ◌∙◌, subst}
-use Rattle.command_run.specs.Work.{Work, ends, reads, ◌>>=◌, Runs}
-use Rattle.command_run.specs.Told.{AreTold, IsRun}
+use Rattle.std.proofs.Common.{◌≡◌, ◌≢◌, ℕ, List, Option, Result, Ok, Err, refl, sym, ap, ◌∙◌, subst}
+use Rattle.command_run.specs.Work.{Work, ends, ◌>>=◌}
+use Rattle.command_run.specs.Told.{IsRun}
 use Rattle.command_run.proofs.WorkLemmas.{then_run, refused_run, ends_run}
 use Rattle.map_cli.specs.declared.input.Input.{Input}
 use Rattle.map_cli.specs.declared.refusal.Refusal.{Refusal}
@@ -10,7 +10,7 @@ use Rattle.map_base.specs.Settings.{Choices, standard_choices}
 use Rattle.transit_feed.specs.Feeds.{Feed}
 use Rattle.map_cli.specs.declared.loaded.Loaded.{Loaded}
 use Rattle.map_cli.specs.Commands.{tables_work, load_work}
-use Rattle.map_cli.specs.Following.{HasCause, ComesTo, Follows, Gives}
+use Rattle.map_cli.specs.Following.{ComesTo, Follows, Gives}
 
 abbrev Told : Type 0
 Told = Option (List (List ℕ × List ℕ))

@@ -3,7 +3,6 @@ use Rattle.std.proofs.Common.{◌≡◌, ◌≢◌, ℕ, ◌⊎◌, inl, inr, Li
 use Rattle.std.proofs.lemmas.List.{append-nil}
 use Rattle.files_door.specs.declared.target.Target.{Target}
 use Rattle.files_door.specs.Targets.{Written, held_by}
-use Rattle.files_door.specs.Acts.{Act, Does}
 use Rattle.command_run.specs.declared.output.Output.{Output}
 use Rattle.command_run.specs.declared.delivery.Ending.{Ending}
 use Rattle.command_run.specs.declared.delivery.Ending.TheVariants.{Whole, CutShort, OutOfMemory}
@@ -17,7 +16,7 @@ use Rattle.map_cli.specs.declared.status.Status.{Status}
 use Rattle.map_cli.specs.declared.status.Status.TheVariants as status
 use Rattle.map_cli.specs.Words.{Asked}
 use Rattle.map_cli.specs.Inputs.{input_path}
-use Rattle.map_cli.specs.Answers.{alone, answer_by}
+use Rattle.map_cli.specs.Answers.{answer_by}
 use Rattle.map_cli.specs.Ending.{IsAnswerTo, IsLineOf, IsToBeWritten, Ends, status_after}
 
 abbrev Told : Type 0

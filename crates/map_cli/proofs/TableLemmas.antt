@@ -9,7 +9,7 @@ use Rattle.table_rows.specs.Folder.{table_file}
 use Rattle.table_rows.specs.Outcome.{Answers, rose_at, ◌>>=◌ as ◌>>>◌}
 use Rattle.transit_feed.specs.Feeds.{Feed}
 use Rattle.gtfs_tables.specs.Feed.{Folder, told_folder, feed_outcome, before, may_fail, routes_outcome, stops_table_outcome, trips_outcome, shapes_outcome, stop_times_outcome}
-use Rattle.command_run.specs.Work.{Work, ends, reads, ◌>>=◌, outcome, Seen, Runs}
+use Rattle.command_run.specs.Work.{Work, ◌>>=◌, outcome, Seen, Runs}
 use Rattle.command_run.specs.Told.{file_of, Agree, AreTold, IsRun}
 use Rattle.command_run.proofs.WorkLemmas.{trace, trace_runs, trace_agrees}
 use Rattle.map_cli.specs.declared.input.Input.{Input}
@@ -20,7 +20,7 @@ use Rattle.map_cli.specs.Words.{Asked}
 use Rattle.map_cli.specs.Inputs.{feed_of, input_path}
 use Rattle.map_cli.specs.Refusals.{of_feed}
 use Rattle.map_cli.specs.Commands.{given_by, table_work, tables_work}
-use Rattle.map_cli.specs.Following.{ComesTo, Follows}
+use Rattle.map_cli.specs.Following.{Follows}
 
 abbrev Told : Type 0
 Told = Option (List (List ℕ × List ℕ))
@@ -109,8 +109,7 @@ module _ (told : Told) (paths : Input → List ℕ) (given : Input → Option (L
       (seen_at Routes ∷ [], (refl, tt), (refl, past (routes_outcome types folder) _ routes.0 [] _ routes.1 refl))
   reads_table types Trips known =
       let routes = bind_ok (routes_outcome types folder) _ tt known in
-      let stops = bind_ok (stops_table_outcome folder) _ tt routes.2 in
-      (
+      let stops = bind_ok (stops_table_outcome folder) _ tt routes.2 in (
         seen_at Routes ∷ seen_at Stops ∷ [],
         (refl, (refl, tt)),
         (refl, past (routes_outcome types folder) _ routes.0 _ _ routes.1 (refl, past (stops_table_outcome folder) _ stops.0 [] _ stops.1 refl)),
@@ -118,23 +117,33 @@ module _ (told : Told) (paths : Input → List ℕ) (given : Input → Option (L
   reads_table types Shapes known =
       let routes = bind_ok (routes_outcome types folder) _ tt known in
       let stops = bind_ok (stops_table_outcome folder) _ tt routes.2 in
-      let trips = bind_ok (trips_outcome routes.0.known folder) _ tt stops.2 in
-      (
+      let trips = bind_ok (trips_outcome routes.0.known folder) _ tt stops.2 in (
         seen_at Routes ∷ seen_at Stops ∷ seen_at Trips ∷ [],
         (refl, (refl, (refl, tt))),
-        (refl, past (routes_outcome types folder) _ routes.0 _ _ routes.1 (refl, past (stops_table_outcome folder) _ stops.0 _ _ stops.1
-        (refl, past (trips_outcome routes.0.known folder) _ trips.0 [] _ trips.1 refl))),
+        (
+          refl,
+          past (routes_outcome types folder) _ routes.0 _ _ routes.1 (
+            refl,
+            past (stops_table_outcome folder) _ stops.0 _ _ stops.1
+                (refl, past (trips_outcome routes.0.known folder) _ trips.0 [] _ trips.1 refl),
+          ),
+        ),
       )
   reads_table types StopTimes known =
       let routes = bind_ok (routes_outcome types folder) _ tt known in
       let stops = bind_ok (stops_table_outcome folder) _ tt routes.2 in
       let trips = bind_ok (trips_outcome routes.0.known folder) _ tt stops.2 in
-      let shapes = bind_ok (shapes_outcome trips.0 folder) _ tt trips.2 in
-      (
+      let shapes = bind_ok (shapes_outcome trips.0 folder) _ tt trips.2 in (
         seen_at Routes ∷ seen_at Stops ∷ seen_at Trips ∷ seen_at Shapes ∷ [],
         (refl, (refl, (refl, (refl, tt)))),
-        (refl, past (routes_outcome types folder) _ routes.0 _ _ routes.1 (refl, past (stops_table_outcome folder) _ stops.0 _ _ stops.1
-        (refl, past (trips_outcome routes.0.known folder) _ trips.0 _ _ trips.1 (refl, past (shapes_outcome trips.0 folder) _ shapes.0 [] _ shapes.1 refl)))),
+        (
+          refl,
+          past (routes_outcome types folder) _ routes.0 _ _ routes.1 (
+            refl,
+            past (stops_table_outcome folder) _ stops.0 _ _ stops.1
+                (refl, past (trips_outcome routes.0.known folder) _ trips.0 _ _ trips.1 (refl, past (shapes_outcome trips.0 folder) _ shapes.0 [] _ shapes.1 refl)),
+          ),
+        ),
       )
 
   -- all tables

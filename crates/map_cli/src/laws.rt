@@ -25,7 +25,7 @@ pub fn told_files_decide_the_answer()
     ensures { (asked : Asked) (files : List (List ℕ × List ℕ)) (before now : ℕ) (answer : Answer)
         → IsAnswerTo (Some asked) (Some files) (Rose before now) answer
         → (answer ≡ answer_by (input_path asked) (outcome (work asked) (file_of files (input_path asked))))
-            ⊎ ((input : Input) × Rose before now × (answer ≡ alone (status.ReadFault (input_path asked input)))) }
+        ⊎ ((input : Input) × Rose before now × (answer ≡ alone (status.ReadFault (input_path asked input)))) }
 {}
 
 /// A run that ends with the status of its answer leaves in each target what its outputs and the line of the status
@@ -35,8 +35,8 @@ pub fn other_statuses_leave_whole_outputs()
         → Ends asked told (Rose files_before files_now) (Rose before now) (Some old) (Some new) ended
         → ended ≢ status.WriteFault → ended ≢ status.NoMemory
         → (answer : Answer) × (line : List ℕ) × (front : List Output) × IsAnswerTo asked told (Rose files_before files_now) answer
-            × (ended ≡ answer.status) × IsLineOf ended line × IsBeginning front (line_outputs line) × ((front ≡ line_outputs line) ⊎ Rose before now)
-            × ((target : Target) → held_by target new ≡ held_after target (answer.outputs ++ front) (held_by target old)) }
+        × (ended ≡ answer.status) × IsLineOf ended line × IsBeginning front (line_outputs line) × ((front ≡ line_outputs line) ⊎ Rose before now)
+        × ((target : Target) → held_by target new ≡ held_after target (answer.outputs ++ front) (held_by target old)) }
 {}
 
 /// A run that ends with a fault of writing leaves in each target what a beginning of its outputs leaves: of all
@@ -45,7 +45,7 @@ pub fn a_fault_of_writing_leaves_a_beginning()
     ensures { (asked : Option Asked) (told : Option (List (List ℕ × List ℕ))) (files_before files_now before now : ℕ) (old new : Written)
         → Ends asked told (Rose files_before files_now) (Rose before now) (Some old) (Some new) status.WriteFault
         → (answer : Answer) × (front : List Output) × IsAnswerTo asked told (Rose files_before files_now) answer × IsBeginning front answer.outputs
-            × ((target : Target) → held_by target new ≡ held_after target front (held_by target old)) }
+        × ((target : Target) → held_by target new ≡ held_after target front (held_by target old)) }
 {}
 
 /// A run that memory ran out for leaves in each target what a beginning of its outputs and of the line of its status
@@ -54,6 +54,6 @@ pub fn want_of_memory_leaves_two_beginnings()
     ensures { (asked : Option Asked) (told : Option (List (List ℕ × List ℕ))) (files_before files_now before now : ℕ) (old new : Written)
         → Ends asked told (Rose files_before files_now) (Rose before now) (Some old) (Some new) status.NoMemory
         → (outputs : List Output) × (front : List Output) × (last : List Output) × IsToBeWritten asked told (Rose files_before files_now) outputs
-            × IsBeginning front outputs × IsBeginning last (line_outputs no_memory_line)
-            × ((target : Target) → held_by target new ≡ held_after target (front ++ last) (held_by target old)) }
+        × IsBeginning front outputs × IsBeginning last (line_outputs no_memory_line)
+        × ((target : Target) → held_by target new ≡ held_after target (front ++ last) (held_by target old)) }
 {}

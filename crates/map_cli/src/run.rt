@@ -74,12 +74,7 @@ fn ended_run<F: Files, S: Sinks>(
 }
 
 /// Writes an answer, and the line of its status.
-fn write_answer<S: Sinks>(
-    alloc: Global,
-    answer: Answer,
-    words: &[String],
-    sinks: &mut S,
-) -> Status
+fn write_answer<S: Sinks>(alloc: Global, answer: Answer, words: &[String], sinks: &mut S) -> Status
     ensures written { IsWritten answer (Rose (S.faults sinks.old) (S.faults sinks.new))
         (S.written sinks.old) (S.written sinks.new) result }
 {

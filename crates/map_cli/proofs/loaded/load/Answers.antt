@@ -1,4 +1,4 @@
-use Rattle.std.proofs.Common.{Ok, Err, ap, subst}
+use Rattle.std.proofs.Common.{Ok, Err, subst}
 use Rattle.std.proofs.lemmas.Result.{err_from_is_err_and}
 use Rattle.map_base.specs.Settings.{Choices, standard_choices}
 use Rattle.transit_feed.specs.Feeds.{Feed}

@@ -1,4 +1,3 @@
-use Rattle.std.proofs.Common.{refl}
 use Rattle.map_cli.proofs.EndingLemmas.{unwritten}
 use Rattle.map_cli.proofs.run.write_answer.Goals as goal
 

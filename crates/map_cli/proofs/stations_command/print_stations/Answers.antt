@@ -1,4 +1,4 @@
-use Rattle.std.proofs.Common.{◌≡◌, List, Result, Ok, Err, Vec, ◌∙◌, ap, sym}
+use Rattle.std.proofs.Common.{List, Result, Ok, Err, Vec, ◌∙◌, ap, sym}
 use Rattle.std.proofs.lemmas.Result.{err_from_is_err_and}
 use Rattle.std.specs.declared.alloc.Global.{Global}
 use Rattle.table_rows.specs.declared.why.Table.TheVariants.{Stops}
