@@ -1,5 +1,4 @@
-pub mod Delivery
-pub mod Answering
-pub mod HoldingLaw
-pub mod FolderFiles
-pub mod Drawing
+pub mod FollowLemmas
+pub mod TableLemmas
+pub mod EndingLemmas
+pub mod LawLemmas

@@ -1,24 +1,34 @@
--- Answers of a run: a text that is printed, or a status alone.
-use Rattle.std.specs.Prelude.{ℕ, List, [], ◌∷◌}
+-- Answers of a run: a status, and outputs in the order in which their targets are begun.
+use Rattle.std.specs.Prelude.{ℕ, List, [], ◌∷◌, Result, Ok, Err}
 use Rattle.files_door.specs.declared.target.Target.TheVariants.{Said}
-use Rattle.table_rows.specs.declared.fault.FeedFault.{FeedFault}
-use Rattle.table_rows.specs.declared.fault.FeedFault.TheVariants as fault
-use Rattle.table_rows.specs.Folder.{path_in}
+use Rattle.command_run.specs.declared.output.Output.{Output}
 use Rattle.map_cli.specs.declared.answer.Answer.{Answer}
+use Rattle.map_cli.specs.declared.input.Input.{Input}
+use Rattle.map_cli.specs.declared.refusal.Refusal.{Refusal}
+use Rattle.map_cli.specs.declared.refusal.Refusal.TheVariants as refused
 use Rattle.map_cli.specs.declared.status.Status.{Status}
-use Rattle.map_cli.specs.declared.status.Status.TheVariants as ended
+use Rattle.map_cli.specs.declared.status.Status.TheVariants as status
+
+-- a text that goes to standard output
+abbrev pub said : List ℕ → List Output
+said text = record { to = Said; bytes = text } ∷ []
 
 -- a status with nothing but its line
 abbrev pub alone : Status → Answer
-alone status = record { status = status; outputs = [] }
+alone why = record { status = why; outputs = [] }
 
--- the work is done, and this text goes to standard output
-abbrev pub printed : List ℕ → Answer
-printed text = record { status = ended.Done; outputs = record { to = Said; bytes = text } ∷ [] }
+-- the work is done, and these are its outputs
+abbrev pub done : List Output → Answer
+done outputs = record { status = status.Done; outputs = outputs }
 
--- the status for a refused feed in this folder
-abbrev pub status_of_fault : List ℕ → FeedFault → Status
-status_of_fault folder (fault.BadRow table row why) = ended.BadRow table row why
-status_of_fault folder (fault.Limit limit) = ended.Limit limit
-status_of_fault folder (fault.ReadFault table) = ended.ReadFault (path_in folder table)
-status_of_fault folder fault.NoMemory = ended.NoMemory
+-- the status of a refusal; an input that can't be read is named by its path
+abbrev pub status_of : (Input → List ℕ) → Refusal → Status
+status_of paths (refused.BadRow table row why) = status.BadRow table row why
+status_of paths (refused.Limit limit) = status.Limit limit
+status_of paths (refused.ReadFault input) = status.ReadFault (paths input)
+status_of paths refused.NoMemory = status.NoMemory
+
+-- the answer of a command by what its work came to
+abbrev pub answer_by : (Input → List ℕ) → Result (List Output) Refusal → Answer
+answer_by paths (Ok outputs) = done outputs
+answer_by paths (Err why) = alone (status_of paths why)

@@ -1,10 +1,10 @@
 pub mod Words
+pub mod Inputs
+pub mod Refusals
 pub mod Lines
-pub mod Stations
 pub mod Answers
-pub mod Graph
-pub mod Outcome
+pub mod Stations
+pub mod Commands
+pub mod Following
 pub mod Ending
 pub mod Places
-pub mod Writing
-pub mod Holding

@@ -5,8 +5,9 @@ use Rattle.map_base.specs.Limits.{limit_name}
 use Rattle.table_rows.specs.Folder.{file_name}
 use Rattle.table_rows.specs.declared.why.Why.{Why}
 use Rattle.table_rows.specs.declared.why.Why.TheVariants.{MissingFile, MissingColumn, WrongFields, NotUtf8, EmptyId, RepeatedId, BadLatitude, BadLongitude, BadType, BadColour, BadWhole, UnknownParent, UnknownRoute, UnknownTrip, UnknownStop, RepeatedSequence}
+use Rattle.command_run.specs.Delivered.{no_memory_line}
 use Rattle.map_cli.specs.declared.status.Status.{Status}
-use Rattle.map_cli.specs.declared.status.Status.TheVariants as ended
+use Rattle.map_cli.specs.declared.status.Status.TheVariants as status
 
 -- a reason in words
 abbrev pub reason_text : Why → List ℕ
@@ -29,25 +30,21 @@ reason_text RepeatedSequence = codes "repeated sequence"
 
 -- the number that the process ends with
 abbrev pub status_number : Status → ℕ
-status_number ended.Done = 0
-status_number ended.Usage = 2
-status_number (ended.BadRow table row why) = 3
-status_number (ended.Limit limit) = 6
-status_number (ended.ReadFault path) = 7
-status_number ended.WriteFault = 8
-status_number ended.NoMemory = 9
-
--- `no memory`, a line
-abbrev pub no_memory_line : List ℕ
-no_memory_line = codes "no memory\n"
+status_number status.Done = 0
+status_number status.Usage = 2
+status_number (status.BadRow table row why) = 3
+status_number (status.Limit limit) = 6
+status_number (status.ReadFault path) = 7
+status_number status.WriteFault = 8
+status_number status.NoMemory = 9
 
 -- the line that a status prints on standard output, empty for those that print none; the text for words that
 -- are not read is left open
 abbrev pub status_line : Status → Option (List ℕ)
-status_line ended.Done = Some []
-status_line ended.Usage = None
-status_line (ended.BadRow table row why) = Some (codes "bad row: " ++ (file_name table ++ (codes " " ++ (decimal row ++ (codes " " ++ (reason_text why ++ codes "\n"))))))
-status_line (ended.Limit limit) = Some (codes "limit: " ++ (limit_name limit.what ++ (codes " " ++ (decimal limit.found ++ (codes " " ++ (decimal limit.most ++ codes "\n"))))))
-status_line (ended.ReadFault path) = Some (codes "read fault: " ++ (path ++ codes "\n"))
-status_line ended.WriteFault = Some []
-status_line ended.NoMemory = Some no_memory_line
+status_line status.Done = Some []
+status_line status.Usage = None
+status_line (status.BadRow table row why) = Some (codes "bad row: " ++ (file_name table ++ (codes " " ++ (decimal row ++ (codes " " ++ (reason_text why ++ codes "\n"))))))
+status_line (status.Limit limit) = Some (codes "limit: " ++ (limit_name limit.what ++ (codes " " ++ (decimal limit.found ++ (codes " " ++ (decimal limit.most ++ codes "\n"))))))
+status_line (status.ReadFault path) = Some (codes "read fault: " ++ (path ++ codes "\n"))
+status_line status.WriteFault = Some []
+status_line status.NoMemory = Some no_memory_line

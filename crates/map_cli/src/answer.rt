@@ -1,19 +1,17 @@
 //! What a run is to do.
 
 ghost use Rattle.std.specs.Prelude.{◌≡◌, IfOk};
-ghost use Rattle.map_cli.specs.Answers.{alone, printed};
+ghost use Rattle.map_cli.specs.Answers.{alone, answer_by, done, said};
+ghost use Rattle.map_cli.specs.Inputs.{input_path};
+ghost use Rattle.map_cli.specs.Words.{asked_by};
 
+use crate::refusal::Refusal;
 use crate::status::Status;
+use crate::words::Command;
+use command_run::Output;
 use files_door::Target;
 use map_base::{NoMemory, Sequence};
 use std::alloc::Global;
-
-/// A target and the bytes that it is to get.
-#[derive(Debug, Drop)]
-pub struct Output {
-    pub to: Target,
-    pub bytes: Sequence<u8>,
-}
 
 /// A status, and the outputs in the order in which their targets are begun.
 #[derive(Debug, Drop)]
@@ -22,19 +20,26 @@ pub struct Answer {
     pub outputs: Sequence<Output>,
 }
 
-/// The work is done, and a text goes to standard output.
-pub fn print(alloc: Global, text: Vec<u8>) -> Result<Answer, NoMemory>
-    ensures { IfOk result (λ answer. answer ≡ printed text.items) }
+/// The one output of a text to standard output.
+pub fn say(alloc: Global, text: Vec<u8>) -> Result<Sequence<Output>, NoMemory>
+    ensures { IfOk result (λ outputs. outputs ≡ said text.items) }
 {
     let mut outputs = Vec::new(alloc);
     outputs.push(Output {
         to: Target::Said,
         bytes: Sequence::of(text),
     })?;
-    Ok(Answer {
+    Ok(Sequence::of(outputs))
+}
+
+/// The work is done, and these are its outputs.
+pub fn finished(outputs: Sequence<Output>) -> Answer
+    ensures { result ≡ done outputs }
+{
+    Answer {
         status: Status::Done,
-        outputs: Sequence::of(outputs),
-    })
+        outputs,
+    }
 }
 
 /// A status with nothing but its line.

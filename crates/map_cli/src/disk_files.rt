@@ -1,12 +1,12 @@
 //! Real files, to be read.
 
-ghost use Rattle.std.specs.Prelude.{◌≡◌, None};
+ghost use Rattle.std.specs.Prelude.{◌≡◌, [], Some};
 
-use crate::failures::stop_of;
+use crate::failures::{stop_of, unopened};
 use files_door::{Files, Stop};
 use std::fs::File;
-use std::io::{ErrorKind, Read};
-use std::{io, rt};
+use std::io::Read;
+use std::rt;
 
 /// The files of the disk. Nothing is told of what they hold. The count rises at each error of the system
 /// that is answered as a failure.
@@ -20,8 +20,8 @@ pub struct DiskFiles<R: rt::Files> {
 impl<R: rt::Files> DiskFiles<R> {
     /// The files that `rt` reaches; none is begun, and the count is 0.
     pub fn new(rt: R) -> DiskFiles<R>
-        ensures none_begun { result.begun ≡ None }
-        ensures count { result.failures ≡ 0 }
+        ensures none_begun { ⟦<DiskFiles<R> as Files>⟧.rest result ≡ Some [] }
+        ensures count { ⟦<DiskFiles<R> as Files>⟧.faults result ≡ 0 }
     {
         DiskFiles {
             rt,
@@ -47,13 +47,7 @@ impl<R: rt::Files> Files for DiskFiles<R> {
                 self.begun = Some(file);
                 Ok(true)
             }
-            Err(error) => {
-                if is_absent(&error) {
-                    Ok(false)
-                } else {
-                    Err(stop_of(&mut self.failures, &error))
-                }
-            }
+            Err(error) => unopened(&mut self.failures, &error),
         }
     }
 
@@ -69,10 +63,4 @@ impl<R: rt::Files> Files for DiskFiles<R> {
             }
         }
     }
-}
-
-/// Whether an error says that there is no such file.
-fn is_absent(error: &io::Error) -> bool {
-    let kind = error.kind();
-    kind == ErrorKind::NotFound || kind == ErrorKind::NotADirectory
 }

@@ -4,7 +4,6 @@ ghost use Rattle.std.specs.Prelude.{◌≡◌, ◌≤◌, None, Some, IfOk, IsEr
 ghost use Rattle.files_door.specs.Fault.{Rose};
 ghost use Rattle.files_door.specs.declared.target.Target.TheVariants.{Path};
 ghost use Rattle.map_cli.specs.Places.{target_of};
-ghost use Rattle.map_cli.specs.declared.disk_sinks.Place.TheVariants as place;
 
 use crate::failures::stop_of;
 use files_door::{Sinks, Stop, Target};
@@ -38,8 +37,8 @@ pub struct DiskSinks<R: rt::Files + Print> {
 impl<R: rt::Files + Print> DiskSinks<R> {
     /// The targets that `rt` reaches; none is current, and the count is 0.
     pub fn new(rt: R, alloc: Global) -> DiskSinks<R>
-        ensures nowhere { result.place ≡ place.Nowhere }
-        ensures count { result.failures ≡ 0 }
+        ensures nowhere { ⟦<DiskSinks<R> as Sinks>⟧.current result ≡ None }
+        ensures count { ⟦<DiskSinks<R> as Sinks>⟧.faults result ≡ 0 }
     {
         DiskSinks {
             rt,

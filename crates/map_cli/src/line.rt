@@ -6,9 +6,9 @@ ghost use Rattle.map_cli.specs.Lines.{status_line, reason_text};
 
 use crate::help::usage_text;
 use crate::status::Status;
-use gtfs_tables::{Table, Why};
 use map_base::NoMemory;
 use std::alloc::Global;
+use table_rows::{Table, Why};
 
 /// The line that standard output gets for a status, empty where there is none. For words that are not read
 /// it is the help.
@@ -19,8 +19,8 @@ pub fn line_of(alloc: Global, status: &Status, words: &[String]) -> Result<Strin
         Status::Done => Ok(String::new(alloc)),
         Status::Usage => usage_text(alloc, words),
         Status::BadRow { table, row, why } => {
-            let name = name_of(*table);
-            let reason = text_of(*why);
+            let name = file_name(*table);
+            let reason = reason_text(*why);
             Ok(format!(in alloc; "bad row: {name} {row} {reason}\n")?)
         }
         Status::Limit(limit) => {
@@ -34,15 +34,12 @@ pub fn line_of(alloc: Global, status: &Status, words: &[String]) -> Result<Strin
             Ok(format!(in alloc; "read fault: {path}\n")?)
         }
         Status::WriteFault => Ok(String::new(alloc)),
-        Status::NoMemory => Ok(String::from_str(alloc, NO_MEMORY)?),
+        Status::NoMemory => Ok(String::from_str(alloc, "no memory\n")?),
     }
 }
 
-/// The line for want of memory, which takes none.
-pub const NO_MEMORY: &str = "no memory\n";
-
-/// The file of a table.
-pub fn name_of(table: Table) -> &'static str
+/// The name of a table's file.
+pub fn file_name(table: Table) -> &'static str
     ensures { result.now ≡ file_name table }
 {
     match table {
@@ -55,7 +52,7 @@ pub fn name_of(table: Table) -> &'static str
 }
 
 /// A reason in words.
-fn text_of(why: Why) -> &'static str
+fn reason_text(why: Why) -> &'static str
     ensures { result.now ≡ reason_text why }
 {
     match why {

@@ -5,7 +5,6 @@
 ghost use Rattle.std.specs.Prelude.{◌≡◌, ◌<◌};
 
 mod answer;
-mod deliver;
 mod disk_files;
 mod disk_sinks;
 mod failures;
@@ -13,8 +12,10 @@ mod graph_command;
 #[cfg(test)]
 mod graph_tests;
 mod help;
-mod holding;
+mod input;
+mod laws;
 mod line;
+mod loaded;
 mod refusal;
 mod run;
 mod stations;

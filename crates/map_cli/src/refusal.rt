@@ -1,37 +1,58 @@
-//! A feed that is refused.
+//! Why a command came to no result.
 
-ghost use Rattle.std.specs.Prelude.{◌≡◌, ◌≢◌, IfOk};
-ghost use Rattle.table_rows.specs.Folder.{path_in};
-ghost use Rattle.map_cli.specs.Answers.{alone, status_of_fault};
+ghost use Rattle.std.specs.Prelude.{◌≡◌};
+ghost use Rattle.map_cli.specs.declared.refusal.Refusal.TheVariants as refused;
+ghost use Rattle.map_cli.specs.Refusals.{of_build, of_feed};
 
-use crate::answer::{Answer, end_with};
-use crate::line::name_of;
-use crate::status::Status;
-use gtfs_tables::{FeedFault, Table};
-use map_base::{NoMemory, Text};
-use std::alloc::Global;
+use crate::input::Input;
+use line_graph::BuildFault;
+use map_base::{Limit, NoMemory};
+use table_rows::{FeedFault, Table, Why};
 
-/// The feed in a folder is refused.
-pub fn refuse(alloc: Global, folder: &str, fault: FeedFault) -> Result<Answer, NoMemory>
-    ensures answer { IfOk result (λ answer. answer ≡ alone (status_of_fault folder.now fault)) }
-    ensures memory { IfOk result (λ _. fault ≢ FeedFault.NoMemory) }
-{
-    let status = match fault {
-        FeedFault::BadRow { table, row, why } => Status::BadRow { table, row, why },
-        FeedFault::Limit(limit) => Status::Limit(limit),
-        FeedFault::ReadFault { table } => Status::ReadFault {
-            path: path_of(alloc, folder, table)?,
-        },
-        FeedFault::NoMemory => return Err(NoMemory),
-    };
-    Ok(end_with(alloc, status))
+/// Why a command came to no result.
+#[derive(Clone, Copy, Debug, PartialEq, Eq)]
+pub enum Refusal {
+    /// This is the feed's first bad row, with its least reason. The header is row 1; a file that is missing
+    /// has row 0.
+    BadRow { table: Table, row: u64, why: Why },
+    /// This is the first counted quantity above its greatest allowed number.
+    Limit(Limit),
+    /// This input could not be read.
+    ReadFault { input: Input },
+    /// The allocator had no room.
+    NoMemory,
 }
 
-/// The path of a table's file.
-fn path_of(alloc: Global, folder: &str, table: Table) -> Result<Text, NoMemory>
-    ensures { IfOk result (λ path. path ≡ path_in folder.now table) }
-{
-    let name = name_of(table);
-    let path = format!(in alloc; "{folder}/{name}")?;
-    Text::of(alloc, path.as_str())
+impl From<NoMemory> for Refusal {
+    ghost from_gives = { λ _ refusal. refusal ≡ refused.NoMemory };
+
+    fn from(_refused: NoMemory) -> Refusal {
+        Refusal::NoMemory
+    }
+}
+
+impl From<FeedFault> for Refusal {
+    ghost from_gives = { λ fault refusal. refusal ≡ of_feed fault };
+
+    fn from(fault: FeedFault) -> Refusal {
+        match fault {
+            FeedFault::BadRow { table, row, why } => Refusal::BadRow { table, row, why },
+            FeedFault::Limit(limit) => Refusal::Limit(limit),
+            FeedFault::ReadFault { table } => Refusal::ReadFault {
+                input: Input::Table(table),
+            },
+            FeedFault::NoMemory => Refusal::NoMemory,
+        }
+    }
+}
+
+impl From<BuildFault> for Refusal {
+    ghost from_gives = { λ fault refusal. refusal ≡ of_build fault };
+
+    fn from(fault: BuildFault) -> Refusal {
+        match fault {
+            BuildFault::Limit(limit) => Refusal::Limit(limit),
+            BuildFault::NoMemory => Refusal::NoMemory,
+        }
+    }
 }

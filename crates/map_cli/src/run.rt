@@ -1,19 +1,24 @@
 //! All that the program does, over any files and sinks.
 
-ghost use Rattle.std.specs.Prelude.{◌≡◌, ◌⊎◌, IfOk};
+ghost use Rattle.std.specs.Prelude.{◌≡◌, ◌≢◌, ◌⊎◌, None, Some, IfOk};
 ghost use Rattle.files_door.specs.Fault.{Rose};
-ghost use Rattle.map_cli.specs.Words.{asked_in, unread};
-ghost use Rattle.map_cli.specs.Answers.{alone};
-ghost use Rattle.map_cli.specs.Ending.{Ends, IsCaused, IsAnswerTo};
+ghost use Rattle.map_cli.specs.Words.{asked_by, asked_in};
+ghost use Rattle.map_cli.specs.Inputs.{input_path};
+ghost use Rattle.map_cli.specs.Answers.{alone, status_of};
+ghost use Rattle.map_cli.specs.Commands.{work};
+ghost use Rattle.map_cli.specs.Following.{Follows};
+ghost use Rattle.map_cli.specs.Ending.{Ends, IsAnswerTo, IsCaused, IsOutOfMemory, IsWritten};
 
-use crate::answer::{Answer, end_with};
-use crate::deliver::{deliver, out_of_memory};
-use crate::graph_command::answer_graph;
-use crate::stations_command::answer_stations;
+use crate::answer::{Answer, end_with, finished};
+use crate::graph_command::print_line_graph;
+use crate::line::line_of;
+use crate::refusal::Refusal;
+use crate::stations_command::print_stations;
 use crate::status::Status;
-use crate::words::{Request, request_of};
+use crate::words::{Command, command_of};
+use command_run::{Ending, Output, deliver, out_of_memory};
 use files_door::{Files, Sinks};
-use map_base::{NoMemory, Steps};
+use map_base::{NoMemory, Sequence, Steps};
 use std::alloc::Global;
 use std::sync::ledger::Ledger;
 
@@ -31,7 +36,8 @@ pub fn run<F: Files, S: Sinks, L: Ledger>(
     sinks: &mut S,
     steps: &mut Steps<L>,
 ) -> Status
-    // The run ends as its outcome says, by the files or, where they are not told, by some files.
+    // An answer to the words is written: by the files or, where they are not told, by what each one gave as it
+    // was read.
     ensures ends { Ends (asked_in words.now) (F.told files.old)
         (Rose (F.faults files.old) (F.faults files.new))
         (Rose (S.faults sinks.old) (S.faults sinks.new))
@@ -41,28 +47,109 @@ pub fn run<F: Files, S: Sinks, L: Ledger>(
     ensures cause { IsCaused (asked_in words.now)
         (Rose (F.faults files.old) (F.faults files.new))
         (Rose (S.faults sinks.old) (S.faults sinks.new)) result }
-    ensures usage { asked_in words.now ≡ unread → (result ≡ Status.Usage) ⊎ (result ≡ Status.NoMemory) }
+    ensures usage { asked_in words.now ≡ None → (result ≡ Status.Usage) ⊎ (result ≡ Status.NoMemory) }
 
     // No step is taken.
     ensures steps { steps.new ≡ steps.old }
 {
+    ended_run(alloc, words, files, sinks)
+}
+
+/// The run itself: an answer is made in memory, and then written.
+fn ended_run<F: Files, S: Sinks>(
+    alloc: Global,
+    words: &[String],
+    files: &mut F,
+    sinks: &mut S,
+) -> Status
+    ensures ends { Ends (asked_in words.now) (F.told files.old)
+        (Rose (F.faults files.old) (F.faults files.new))
+        (Rose (S.faults sinks.old) (S.faults sinks.new))
+        (S.written sinks.old) (S.written sinks.new) result }
+{
     match answer_of(alloc, words, files) {
-        Ok(answer) => deliver(alloc, answer, words, sinks),
-        Err(NoMemory) => out_of_memory(sinks),
+        Ok(answer) => write_answer(alloc, answer, words, sinks),
+        Err(NoMemory) => end_without_memory(sinks),
     }
+}
+
+/// Writes an answer, and the line of its status.
+fn write_answer<S: Sinks>(alloc: Global, answer: Answer, words: &[String], sinks: &mut S) -> Status
+    ensures written { IsWritten answer (Rose (S.faults sinks.old) (S.faults sinks.new))
+        (S.written sinks.old) (S.written sinks.new) result }
+{
+    let Ok(line) = line_of(alloc, &answer.status, words) else {
+        return end_without_memory(sinks);
+    };
+    let Answer { status, outputs } = answer;
+    match deliver(outputs.as_slice(), line.as_str(), sinks) {
+        Ending::Whole => status,
+        Ending::CutShort => Status::WriteFault,
+        Ending::OutOfMemory => Status::NoMemory,
+    }
+}
+
+/// Memory ran out before there was anything to write.
+fn end_without_memory<S: Sinks>(sinks: &mut S) -> Status
+    ensures { IsOutOfMemory (S.written sinks.old) (S.written sinks.new) result }
+{
+    let _ending = out_of_memory(sinks);
+    Status::NoMemory
 }
 
 /// What the words ask for, worked out over the files.
 fn answer_of<F: Files>(alloc: Global, words: &[String], files: &mut F) -> Result<Answer, NoMemory>
     ensures answer { IfOk result (IsAnswerTo (asked_in words.now) (F.told files.old)
         (Rose (F.faults files.old) (F.faults files.new))) }
-    ensures cause { IfOk result (λ answer. IsCaused (asked_in words.now)
-        (Rose (F.faults files.old) (F.faults files.new)) ⊥ answer.status) }
-    ensures usage { asked_in words.now ≡ unread → IfOk result (λ answer. answer ≡ alone Status.Usage) }
 {
-    match request_of(words) {
-        Request::Stations(feed) => answer_stations(alloc, feed, files),
-        Request::Graph(feed) => answer_graph(alloc, feed, files),
-        Request::Unread => Ok(end_with(alloc, Status::Usage)),
+    match command_of(words) {
+        Some(command) => answer_to(alloc, &command, files),
+        None => Ok(end_with(alloc, Status::Usage)),
     }
+}
+
+/// What a command comes to over the files.
+fn answer_to<F: Files>(
+    alloc: Global,
+    command: &Command<'_>,
+    files: &mut F,
+) -> Result<Answer, NoMemory>
+    ensures answer { IfOk result (IsAnswerTo (Some (asked_by command.now)) (F.told files.old)
+        (Rose (F.faults files.old) (F.faults files.new))) }
+{
+    match carry_out(alloc, command, files) {
+        Ok(outputs) => Ok(finished(outputs)),
+        Err(refusal) => refuse(alloc, command, refusal),
+    }
+}
+
+/// Does the work of a command.
+fn carry_out<F: Files>(
+    alloc: Global,
+    command: &Command<'_>,
+    files: &mut F,
+) -> Result<Sequence<Output>, Refusal>
+    ensures follows { Follows (F.told files.old) (input_path (asked_by command.now))
+        (Rose (F.faults files.old) (F.faults files.new)) (λ outputs. outputs) (work (asked_by command.now)) result }
+{
+    match command {
+        Command::Stations(_) => print_stations(alloc, command, files),
+        Command::Graph(_) => print_line_graph(alloc, command, files),
+    }
+}
+
+/// A command is refused.
+fn refuse(alloc: Global, command: &Command<'_>, refusal: Refusal) -> Result<Answer, NoMemory>
+    ensures answer { IfOk result (λ answer. answer ≡ alone (status_of (input_path (asked_by command.now)) refusal)) }
+    ensures memory { IfOk result (λ _. refusal ≢ Refusal.NoMemory) }
+{
+    let status = match refusal {
+        Refusal::BadRow { table, row, why } => Status::BadRow { table, row, why },
+        Refusal::Limit(limit) => Status::Limit(limit),
+        Refusal::ReadFault { input } => Status::ReadFault {
+            path: command.path_of(alloc, input)?,
+        },
+        Refusal::NoMemory => return Err(NoMemory),
+    };
+    Ok(end_with(alloc, status))
 }

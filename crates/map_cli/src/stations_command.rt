@@ -1,32 +1,32 @@
 //! The command `stations`.
 
-ghost use Rattle.std.specs.Prelude.{◌≤◌, IfOk};
+ghost use Rattle.std.specs.Prelude.{◌≡◌, IfOk};
 ghost use Rattle.files_door.specs.Fault.{Rose};
-ghost use Rattle.map_cli.specs.Words.{stations};
-ghost use Rattle.map_cli.specs.Ending.{IsCaused, IsAnswerTo};
+ghost use Rattle.map_cli.specs.Words.{asked_by};
+ghost use Rattle.map_cli.specs.Inputs.{input_path};
+ghost use Rattle.map_cli.specs.Commands.{stations_work};
+ghost use Rattle.map_cli.specs.Following.{Follows};
 
-use crate::answer::{Answer, print};
-use crate::refusal::refuse;
+use crate::answer::say;
+use crate::refusal::Refusal;
 use crate::stations::text_of_stations;
+use crate::words::Command;
+use command_run::Output;
 use files_door::Files;
 use gtfs_tables::read_stations;
-use map_base::NoMemory;
+use map_base::Sequence;
 use std::alloc::Global;
 
-/// The stations of the feed in a folder, or why it is refused.
-pub fn answer_stations<F: Files>(
+/// Prints the stations of a command's feed.
+pub fn print_stations<F: Files>(
     alloc: Global,
-    feed: &str,
+    command: &Command<'_>,
     files: &mut F,
-) -> Result<Answer, NoMemory>
-    ensures answer { IfOk result (IsAnswerTo (stations feed.now) (F.told files.old)
-        (Rose (F.faults files.old) (F.faults files.new))) }
-    ensures cause { IfOk result (λ answer. IsCaused (stations feed.now)
-        (Rose (F.faults files.old) (F.faults files.new)) ⊥ answer.status) }
-    ensures later { F.faults files.old ≤ F.faults files.new }
+) -> Result<Sequence<Output>, Refusal>
+    ensures follows { Follows (F.told files.old) (input_path (asked_by command.now))
+        (Rose (F.faults files.old) (F.faults files.new)) (λ outputs. outputs) stations_work result }
 {
-    match read_stations(alloc, files, feed) {
-        Ok(all) => print(alloc, text_of_stations(alloc, &all)?),
-        Err(fault) => refuse(alloc, feed, fault),
-    }
+    let stations = read_stations(alloc, files, command.feed())?;
+    let text = text_of_stations(alloc, &stations)?;
+    Ok(say(alloc, text)?)
 }

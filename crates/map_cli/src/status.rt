@@ -2,8 +2,8 @@
 
 ghost use Rattle.std.specs.Prelude.{◌≡◌};
 
-use gtfs_tables::{Table, Why};
 use map_base::{Limit, Text};
+use table_rows::{Table, Why};
 
 /// How a run of the program ended.
 #[derive(Debug, Drop)]

@@ -6,7 +6,8 @@ use crate::disk_files::DiskFiles;
 use crate::disk_sinks::DiskSinks;
 use crate::run::run;
 use files_door::{
-    Files, MemoryFiles, MemorySinks, Sinks, SteadyFiles, SteadySinks, Target, read_all, write_all,
+    DoorFault, Files, MemoryFiles, MemorySinks, Sinks, SteadyFiles, SteadySinks, Stop, Target,
+    read_all, write_all,
 };
 use map_base::{NoMemory, Steps, Text};
 use std::alloc::{AllocError, Global};
@@ -176,10 +177,24 @@ fn files_of_the_disk_are_read(rt: HostRuntime) -> Result<(), Fail> {
     fs::write(&rt, "octimap-test-stops.txt", "stop_id\r\n")?;
     let mut files = DiskFiles::new(&rt);
     let bytes = read_all(alloc, &mut files, "octimap-test-stops.txt", 100);
+    let below = read_all(alloc, &mut files, "octimap-test-stops.txt/stops.txt", 100);
     fs::remove_file(&rt, "octimap-test-stops.txt")?;
+    let missing = read_all(alloc, &mut files, "octimap-test-stops.txt", 100);
+    let folder = read_all(alloc, &mut files, ".", 100);
     assert_eq!(rt; bytes?.as_slice(), b"stop_id\r\n".as_slice());
-    let absent = read_all(alloc, &mut files, "octimap-test-stops.txt/stops.txt", 100);
-    assert!(rt; absent.is_err());
+    // A part of the path that is a file, and no file at the path.
+    assert_eq!(rt; below.err(), Some(DoorFault::Absent));
+    assert_eq!(rt; missing.err(), Some(DoorFault::Absent));
+    assert_eq!(rt; folder.err(), Some(DoorFault::ReadFault));
+    Ok(())
+}
+
+#[test]
+fn a_file_in_no_folder_is_not_written(rt: HostRuntime) -> Result<(), Fail> {
+    let alloc = rt.alloc();
+    let target = Target::Path(Text::of(alloc, "octimap-test-missing/map.svg")?);
+    let mut sinks = DiskSinks::new(&rt, alloc);
+    assert_eq!(rt; sinks.begin(&target).err(), Some(Stop::Failed));
     Ok(())
 }
 

@@ -1,41 +1,73 @@
 //! The words of the command line.
 
-ghost use Rattle.std.specs.Prelude.{◌≡◌};
-ghost use Rattle.map_cli.specs.Words.{asked_in, asked_by, asked_of, is_option};
+ghost use Rattle.std.specs.Prelude.{◌≡◌, option_map, IfOk};
+ghost use Rattle.map_cli.specs.Words.{asked_by, asked_in, asked_of, is_option};
+ghost use Rattle.map_cli.specs.Inputs.{feed_of, input_path};
 
-/// What the words ask for.
+use crate::input::Input;
+use crate::line::file_name;
+use map_base::{NoMemory, Text};
+use std::alloc::Global;
+
+/// A command with what it works on.
 #[derive(Clone, Copy, Debug)]
-pub enum Request<'a> {
+pub enum Command<'a> {
     /// The stations of the feed in this folder.
     Stations(&'a str),
     /// The line graph of the feed in this folder.
     Graph(&'a str),
-    /// The words are no command.
-    Unread,
 }
 
-/// Reads the words after the program's name.
-pub fn request_of(words: &[String]) -> Request<'_>
-    ensures { asked_by result ≡ asked_in words.now }
+impl<'a> Command<'a> {
+    /// The folder of the feed.
+    pub fn feed(&self) -> &'a str
+        ensures { result.now ≡ feed_of (asked_by self.now) }
+    {
+        match self {
+            Command::Stations(feed) => feed,
+            Command::Graph(feed) => feed,
+        }
+    }
+
+    /// Where an input lies: a table in the folder of the feed, and empty where the command has no such input.
+    pub fn path_of(&self, alloc: Global, input: Input) -> Result<Text, NoMemory>
+        ensures { IfOk result (λ path. path ≡ input_path (asked_by self.now) input) }
+    {
+        match input {
+            Input::Table(table) => {
+                let folder = self.feed();
+                let name = file_name(table);
+                let path = format!(in alloc; "{folder}/{name}")?;
+                Text::of(alloc, path.as_str())
+            }
+            Input::Certificate => Text::of(alloc, ""),
+            Input::Picture => Text::of(alloc, ""),
+        }
+    }
+}
+
+/// Reads the words after the program's name; none where they are no command.
+pub fn command_of(words: &[String]) -> Option<Command<'_>>
+    ensures { option_map asked_by result ≡ asked_in words.now }
 {
     match words {
-        [command, feed] => request_for(command.as_str(), feed.as_str()),
-        _ => Request::Unread,
+        [command, feed] => command_for(command.as_str(), feed.as_str()),
+        _ => None,
     }
 }
 
 /// What a command that takes one folder asks for.
-fn request_for<'a>(command: &str, feed: &'a str) -> Request<'a>
-    ensures { asked_by result ≡ asked_of command.now feed.now }
+fn command_for<'a>(command: &str, feed: &'a str) -> Option<Command<'a>>
+    ensures { option_map asked_by result ≡ asked_of command.now feed.now }
 {
     if is_option(feed) {
-        Request::Unread
+        None
     } else if command == "stations" {
-        Request::Stations(feed)
+        Some(Command::Stations(feed))
     } else if command == "graph" {
-        Request::Graph(feed)
+        Some(Command::Graph(feed))
     } else {
-        Request::Unread
+        None
     }
 }
 

@@ -1,0 +1,4 @@
+pub mod WorkLemmas
+pub mod ActLemmas
+pub mod HeldLemmas
+mod Examples

@@ -1,0 +1,5 @@
+pub mod Work
+pub mod Told
+pub mod Writing
+pub mod Delivered
+pub mod Held

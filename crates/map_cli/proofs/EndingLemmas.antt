@@ -1,0 +1,109 @@
+-- From the answer of a command to how a run ends, and to the cause of its status.
+use Rattle.std.proofs.Common.{◌≡◌, ◌≢◌, ℕ, ◌⊎◌, inl, inr, List, [], length, Option, None, Some, Result, Ok, Err, IfSome, refl, sym, ap, ◌∙◌, subst, arith}
+use Rattle.files_door.specs.Targets.{Written}
+use Rattle.command_run.specs.declared.output.Output.{Output}
+use Rattle.command_run.specs.declared.delivery.Ending.{Ending}
+use Rattle.command_run.specs.declared.delivery.Ending.TheVariants.{Whole, CutShort, OutOfMemory}
+use Rattle.command_run.specs.Delivered.{IsDelivered, outputs_acts}
+use Rattle.command_run.specs.Work.{outcome}
+use Rattle.command_run.specs.Told.{file_of}
+use Rattle.command_run.proofs.WorkLemmas.{told_outcome}
+use Rattle.map_cli.specs.declared.answer.Answer.{Answer}
+use Rattle.map_cli.specs.declared.input.Input.{Input}
+use Rattle.map_cli.specs.declared.refusal.Refusal.{Refusal}
+use Rattle.map_cli.specs.declared.refusal.Refusal.TheVariants as refused
+use Rattle.map_cli.specs.declared.status.Status.{Status}
+use Rattle.map_cli.specs.declared.status.Status.TheVariants as status
+use Rattle.map_cli.specs.Lines.{status_line}
+use Rattle.map_cli.specs.Words.{Asked}
+use Rattle.map_cli.specs.Inputs.{input_path}
+use Rattle.map_cli.specs.Answers.{alone, done, status_of, answer_by}
+use Rattle.map_cli.specs.Commands.{work}
+use Rattle.map_cli.specs.Following.{HasCause, ComesTo, Follows}
+use Rattle.map_cli.specs.Ending.{IsAnswerTo, IsLineOf, IsWritten, IsOutOfMemory, Ends, IsCaused, status_after}
+use Rattle.map_cli.proofs.FollowLemmas.{comes_to}
+
+abbrev Told : Type 0
+Told = Option (List (List ℕ × List ℕ))
+
+-- outputs that a command came to are its answer
+pub finished_answer : (told : Told) (asked : Asked) (rose : Type 0) (outputs : List Output) (answer : Answer) → Follows told (input_path asked) rose (λ o. o) (work asked) (Ok outputs) → answer ≡ done outputs → IsAnswerTo (Some asked) told rose answer
+finished_answer told asked rose outputs answer follows is = (Ok outputs, follows, is)
+
+-- and so is the status of its refusal
+pub refused_answer : (told : Told) (asked : Asked) (rose : Type 0) (why : Refusal) (answer : Answer) → Follows told (input_path asked) rose (λ (o : List Output). o) (work asked) (Err why)
+    → answer ≡ alone (status_of (input_path asked) why) → why ≢ refused.NoMemory → IsAnswerTo (Some asked) told rose answer
+refused_answer told asked rose why answer follows is free = (Err why, comes_to told (input_path asked) rose (λ (o : List Output). o) (work asked) why free follows, is)
+
+-- a status has a line
+some_line : (ended : Status) → (line : List ℕ) × IsLineOf ended line
+some_line ended = line_from (status_line ended)
+  where
+    line_from : (o : Option (List ℕ)) → (line : List ℕ) × IfSome o (λ defined. line ≡ defined)
+    line_from None = ([], tt)
+    line_from (Some line) = (line, refl)
+
+-- memory ran out before an answer was written
+pub unwritten : (answer : Answer) (rose : Type 0) (old new : Option Written) (ended : Status) → IsOutOfMemory old new ended → IsWritten answer rose old new ended
+unwritten answer rose old new ended out =
+    let line = some_line answer.status in
+    (line.0, OutOfMemory, line.1, (0, out.0, out.2), out.1)
+
+-- the cause of the status of an answer
+answer_caused : (asked : Option Asked) (told : Told) (files_rose sinks_rose : Type 0) (answer : Answer) → IsAnswerTo asked told files_rose answer → IsCaused asked files_rose sinks_rose answer.status
+answer_caused None told files_rose sinks_rose answer is = subst (λ (a : Answer). IsCaused None files_rose sinks_rose a.status) (sym is) refl
+answer_caused (Some asked) told files_rose sinks_rose answer (result, comes, is) =
+    subst (λ (a : Answer). IsCaused (Some asked) files_rose sinks_rose a.status) (sym is) (by_result result comes)
+  where
+    read : Some asked ≢ None
+    read same = cc
+
+    by_result : (r : Result (List Output) Refusal) → ComesTo told (input_path asked) files_rose (work asked) r → IsCaused (Some asked) files_rose sinks_rose (answer_by (input_path asked) r).status
+    by_result (Ok outputs) comes = read
+    by_result (Err (refused.BadRow table row why)) comes = read
+    by_result (Err (refused.Limit limit)) comes = read
+    by_result (Err (refused.ReadFault input)) comes = (comes.0, (asked, input, refl, refl, (comes.1.seen, comes.1.runs)))
+    by_result (Err refused.NoMemory) comes = tt
+
+after_caused : (asked : Option Asked) (told : Told) (files_rose sinks_rose : Type 0) (answer : Answer) (line : List ℕ) (old new : Option Written) (ending : Ending)
+    → IsAnswerTo asked told files_rose answer → IsDelivered answer.outputs line sinks_rose old new ending → IsCaused asked files_rose sinks_rose (status_after answer.status ending)
+after_caused asked told files_rose sinks_rose answer line old new Whole is delivered = answer_caused asked told files_rose sinks_rose answer is
+after_caused asked told files_rose sinks_rose answer line old new CutShort is delivered = delivered.1
+after_caused asked told files_rose sinks_rose answer line old new OutOfMemory is delivered = tt
+
+-- a run that ends so has a status with its cause
+pub caused : (asked : Option Asked) (told : Told) (files_rose sinks_rose : Type 0) (old new : Option Written) (ended : Status) → Ends asked told files_rose sinks_rose old new ended → IsCaused asked files_rose sinks_rose ended
+caused asked told files_rose sinks_rose old new ended (inl (answer, is, written)) =
+    subst (λ (s : Status). IsCaused asked files_rose sinks_rose s) (sym written.4) (after_caused asked told files_rose sinks_rose answer written.0 old new written.1 is written.3)
+caused asked told files_rose sinks_rose old new ended (inr out) = subst (λ (s : Status). IsCaused asked files_rose sinks_rose s) (sym out.1) tt
+
+-- words that are not read end with the help, or want of memory
+after_usage : (answer : Answer) (line : List ℕ) (rose : Type 0) (old new : Option Written) (ending : Ending) → answer ≡ alone status.Usage → IsDelivered answer.outputs line rose old new ending
+    → (status_after answer.status ending ≡ status.Usage) ⊎ (status_after answer.status ending ≡ status.NoMemory)
+after_usage answer line rose old new Whole is delivered = inl (ap (λ (a : Answer). a.status) is)
+after_usage answer line rose old new CutShort is delivered =
+    let none : length (outputs_acts answer.outputs) ≡ 0 = ap (λ (a : Answer). length (outputs_acts a.outputs)) is in
+    absurd (omega (arith, none, delivered.2))
+after_usage answer line rose old new OutOfMemory is delivered = inr refl
+
+pub unread_usage : (asked : Option Asked) (told : Told) (files_rose sinks_rose : Type 0) (old new : Option Written) (ended : Status) → asked ≡ None → Ends asked told files_rose sinks_rose old new ended
+    → (ended ≡ status.Usage) ⊎ (ended ≡ status.NoMemory)
+unread_usage asked told files_rose sinks_rose old new ended none (inl (answer, is, written)) =
+    let help : answer ≡ alone status.Usage = subst (λ (a : Option Asked). IsAnswerTo a told files_rose answer) none is in
+    subst (λ (s : Status). (s ≡ status.Usage) ⊎ (s ≡ status.NoMemory)) (sym written.4) (after_usage answer written.0 sinks_rose old new written.1 help written.3)
+unread_usage asked told files_rose sinks_rose old new ended none (inr out) = inr out.1
+
+-- over files that are told the answer is the defined one, or names an input that was left unread
+pub told_answer : (asked : Asked) (files : List (List ℕ × List ℕ)) (rose : Type 0) (answer : Answer) → IsAnswerTo (Some asked) (Some files) rose answer
+    → (answer ≡ answer_by (input_path asked) (outcome (work asked) (file_of files (input_path asked)))) ⊎ ((input : Input) × rose × (answer ≡ alone (status.ReadFault (input_path asked input))))
+told_answer asked files rose answer (result, comes, is) =
+    by_case (told_outcome refused.ReadFault (work asked) (file_of files (input_path asked)) comes.1.seen result comes.1.are_told comes.1.runs)
+  where
+    by_case : (result ≡ outcome (work asked) (file_of files (input_path asked))) ⊎ ((input : Input) × (result ≡ Err (refused.ReadFault input)))
+        → (answer ≡ answer_by (input_path asked) (outcome (work asked) (file_of files (input_path asked)))) ⊎ ((input : Input) × rose × (answer ≡ alone (status.ReadFault (input_path asked input))))
+    by_case (inl defined) = inl (is ∙ ap (answer_by (input_path asked)) defined)
+    by_case (inr (input, left)) = inr (
+      input,
+      subst (λ (r : Result (List Output) Refusal). HasCause rose r) left comes.0,
+      is ∙ ap (answer_by (input_path asked)) left,
+    )

@@ -1,0 +1,138 @@
+-- What each target holds after a run.
+use Rattle.std.proofs.Common.{◌≡◌, ◌≢◌, ℕ, ◌⊎◌, inl, inr, List, [], ◌++◌, take, Option, None, Some, Result, Ok, Err, refl, sym, ap, ◌∙◌, subst}
+use Rattle.std.proofs.lemmas.List.{append-nil}
+use Rattle.files_door.specs.declared.target.Target.{Target}
+use Rattle.files_door.specs.Targets.{Written, held_by}
+use Rattle.command_run.specs.declared.output.Output.{Output}
+use Rattle.command_run.specs.declared.delivery.Ending.{Ending}
+use Rattle.command_run.specs.declared.delivery.Ending.TheVariants.{Whole, CutShort, OutOfMemory}
+use Rattle.command_run.specs.Delivered.{IsDelivered, outputs_acts, line_acts, no_memory_line}
+use Rattle.command_run.specs.Held.{held_after, line_outputs, IsBeginning}
+use Rattle.command_run.proofs.HeldLemmas.{standing_of, cut_of, line_as_outputs, held_by-Does, begin-append}
+use Rattle.map_cli.specs.declared.answer.Answer.{Answer}
+use Rattle.map_cli.specs.declared.refusal.Refusal.{Refusal}
+use Rattle.map_cli.specs.declared.refusal.Refusal.TheVariants as refused
+use Rattle.map_cli.specs.declared.status.Status.{Status}
+use Rattle.map_cli.specs.declared.status.Status.TheVariants as status
+use Rattle.map_cli.specs.Words.{Asked}
+use Rattle.map_cli.specs.Inputs.{input_path}
+use Rattle.map_cli.specs.Answers.{answer_by}
+use Rattle.map_cli.specs.Ending.{IsAnswerTo, IsLineOf, IsToBeWritten, Ends, status_after}
+
+abbrev Told : Type 0
+Told = Option (List (List ℕ × List ℕ))
+
+-- the outputs stand in the targets
+abbrev Holds : List Output → Written → Written → Type 0
+Holds outputs old new = (target : Target) → held_by target new ≡ held_after target outputs (held_by target old)
+
+-- no answer has the status of a fault of writing
+result_no_fault : (asked : Asked) (result : Result (List Output) Refusal) → (answer_by (input_path asked) result).status ≡ status.WriteFault → ⊥
+result_no_fault asked (Ok outputs) same = cc
+result_no_fault asked (Err (refused.BadRow table row why)) same = cc
+result_no_fault asked (Err (refused.Limit limit)) same = cc
+result_no_fault asked (Err (refused.ReadFault input)) same = cc
+result_no_fault asked (Err refused.NoMemory) same = cc
+
+answer_no_fault : (asked : Option Asked) (told : Told) (rose : Type 0) (answer : Answer) → IsAnswerTo asked told rose answer → answer.status ≢ status.WriteFault
+answer_no_fault None told rose answer is same =
+    let usage : status.Usage ≡ status.WriteFault = ap (λ (a : Answer). a.status) (sym is) ∙ same in
+    cc
+answer_no_fault (Some asked) told rose answer (result, comes, is) same = result_no_fault asked result (ap (λ (a : Answer). a.status) (sym is) ∙ same)
+
+-- a status of the answer
+abbrev LeavesWhole : Option Asked → Told → Type 0 → Type 0 → Written → Written → Status → Type 0
+LeavesWhole asked told files_rose rose old new ended =
+    (answer : Answer) × (line : List ℕ) × (front : List Output) × IsAnswerTo asked told files_rose answer
+    × (ended ≡ answer.status) × IsLineOf ended line × IsBeginning front (line_outputs line) × ((front ≡ line_outputs line) ⊎ rose) × Holds (answer.outputs ++ front) old new
+
+whole_by : (asked : Option Asked) (told : Told) (files_rose rose : Type 0) (old new : Written) (ended : Status) (answer : Answer) (line : List ℕ) (ending : Ending)
+    → IsAnswerTo asked told files_rose answer → IsLineOf answer.status line → IsDelivered answer.outputs line rose (Some old) (Some new) ending
+    → ended ≡ status_after answer.status ending → ended ≢ status.WriteFault → ended ≢ status.NoMemory → LeavesWhole asked told files_rose rose old new ended
+whole_by asked told files_rose rose old new ended answer line Whole is is_line delivered same no_fault memory =
+    let standing = standing_of answer.outputs line rose old new Whole delivered in
+    let by = standing.1 in (
+      answer,
+      line,
+      by.0,
+      is,
+      same,
+      subst (λ (s : Status). IsLineOf s line) (sym same) is_line,
+      by.2,
+      by.3,
+      subst (λ (outputs : List Output). Holds outputs old new) by.1 standing.2,
+    )
+whole_by asked told files_rose rose old new ended answer line CutShort is is_line delivered same no_fault memory = absurd (no_fault same)
+whole_by asked told files_rose rose old new ended answer line OutOfMemory is is_line delivered same no_fault memory = absurd (memory same)
+
+pub leaves_whole : (asked : Option Asked) (told : Told) (files_rose rose : Type 0) (old new : Written) (ended : Status) → Ends asked told files_rose rose (Some old) (Some new) ended
+    → ended ≢ status.WriteFault → ended ≢ status.NoMemory → LeavesWhole asked told files_rose rose old new ended
+leaves_whole asked told files_rose rose old new ended (inl (answer, is, written)) no_fault memory =
+    whole_by asked told files_rose rose old new ended answer written.0 written.1 is written.2 written.3 written.4 no_fault memory
+leaves_whole asked told files_rose rose old new ended (inr out) no_fault memory = absurd (memory out.1)
+
+-- a fault of writing
+abbrev LeavesBeginning : Option Asked → Told → Type 0 → Written → Written → Type 0
+LeavesBeginning asked told files_rose old new =
+    (answer : Answer) × (front : List Output) × IsAnswerTo asked told files_rose answer × IsBeginning front answer.outputs × Holds front old new
+
+beginning_by : (asked : Option Asked) (told : Told) (files_rose rose : Type 0) (old new : Written) (answer : Answer) (line : List ℕ) (ending : Ending)
+    → IsAnswerTo asked told files_rose answer → IsDelivered answer.outputs line rose (Some old) (Some new) ending
+    → status.WriteFault ≡ status_after answer.status ending → LeavesBeginning asked told files_rose old new
+beginning_by asked told files_rose rose old new answer line Whole is delivered same = absurd (answer_no_fault asked told files_rose answer is (sym same))
+beginning_by asked told files_rose rose old new answer line CutShort is delivered same =
+    let standing = standing_of answer.outputs line rose old new CutShort delivered in
+    (answer, standing.0, is, standing.1.1, standing.2)
+beginning_by asked told files_rose rose old new answer line OutOfMemory is delivered same =
+    let other : status.WriteFault ≡ status.NoMemory = same in
+    absurd (cc)
+
+pub leaves_beginning : (asked : Option Asked) (told : Told) (files_rose rose : Type 0) (old new : Written) → Ends asked told files_rose rose (Some old) (Some new) status.WriteFault → LeavesBeginning asked told files_rose old new
+leaves_beginning asked told files_rose rose old new (inl (answer, is, written)) =
+    beginning_by asked told files_rose rose old new answer written.0 written.1 is written.3 written.4
+leaves_beginning asked told files_rose rose old new (inr out) =
+    let other : status.WriteFault ≡ status.NoMemory = out.1 in
+    absurd (cc)
+
+-- want of memory
+abbrev LeavesTwo : Option Asked → Told → Type 0 → Written → Written → Type 0
+LeavesTwo asked told files_rose old new =
+    (outputs : List Output) × (front : List Output) × (last : List Output) × IsToBeWritten asked told files_rose outputs
+    × IsBeginning front outputs × IsBeginning last (line_outputs no_memory_line) × Holds (front ++ last) old new
+
+two_by : (asked : Option Asked) (told : Told) (files_rose rose : Type 0) (old new : Written) (answer : Answer) (line : List ℕ) (ending : Ending)
+    → IsAnswerTo asked told files_rose answer → IsLineOf answer.status line → IsDelivered answer.outputs line rose (Some old) (Some new) ending
+    → status.NoMemory ≡ status_after answer.status ending → LeavesTwo asked told files_rose old new
+two_by asked told files_rose rose old new answer line Whole is is_line delivered same =
+    let standing = standing_of answer.outputs line rose old new Whole delivered in
+    let by = standing.1 in (
+      answer.outputs ++ line_outputs line,
+      answer.outputs ++ by.0,
+      [],
+      inr (answer, line, is, is_line, refl),
+      begin-append answer.outputs by.0 (line_outputs line) by.2,
+      tt,
+      subst (λ (outputs : List Output). Holds outputs old new) (by.1 ∙ sym (append-nil (answer.outputs ++ by.0))) standing.2,
+    )
+two_by asked told files_rose rose old new answer line CutShort is is_line delivered same =
+    let other : status.NoMemory ≡ status.WriteFault = same in
+    absurd (cc)
+two_by asked told files_rose rose old new answer line OutOfMemory is is_line delivered same =
+    let standing = standing_of answer.outputs line rose old new OutOfMemory delivered in
+    let by = standing.1 in (
+      answer.outputs ++ line_outputs line,
+      by.0,
+      by.1,
+      inr (answer, line, is, is_line, refl),
+      by.3,
+      by.4,
+      subst (λ (outputs : List Output). Holds outputs old new) by.2 standing.2,
+    )
+
+pub leaves_two : (asked : Option Asked) (told : Told) (files_rose rose : Type 0) (old new : Written) → Ends asked told files_rose rose (Some old) (Some new) status.NoMemory → LeavesTwo asked told files_rose old new
+leaves_two asked told files_rose rose old new (inl (answer, is, written)) =
+    two_by asked told files_rose rose old new answer written.0 written.1 is written.2 written.3 written.4
+leaves_two asked told files_rose rose old new (inr out) =
+    let last = cut_of (line_outputs no_memory_line) out.0 in
+    let are : take out.0 (line_acts no_memory_line) ≡ outputs_acts last.0 = ap (take out.0) (line_as_outputs no_memory_line) ∙ last.2 in
+    ([], [], last.0, inl refl, tt, last.1, held_by-Does (take out.0 (line_acts no_memory_line)) last.0 old new out.2 are)

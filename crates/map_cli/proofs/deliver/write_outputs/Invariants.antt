@@ -1,9 +1,0 @@
-use Rattle.std.proofs.Common.{◌≤◌, take}
-use Rattle.files_door.specs.Acts.{Does}
-use Rattle.map_cli.specs.Ending.{outputs_acts}
-use Rattle.map_cli.proofs.deliver.write_outputs.Given as goal
-
-abbrev pub invariant-loop-output : goal.invariant-loop-output
-invariant-loop-output g l =
-    Does (outputs_acts (take l.output-index l.outputs)) (g.S.Sinks.written l.fn.sinks) (g.S.Sinks.written l.sinks)
-    × (g.S.Sinks.faults l.fn.sinks ≤ g.S.Sinks.faults l.sinks)

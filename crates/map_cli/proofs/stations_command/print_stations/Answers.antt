@@ -1,0 +1,48 @@
+use Rattle.std.proofs.Common.{List, Result, Ok, Err, Vec, ◌∙◌, ap, sym}
+use Rattle.std.proofs.lemmas.Result.{err_from_is_err_and}
+use Rattle.std.specs.declared.alloc.Global.{Global}
+use Rattle.table_rows.specs.declared.why.Table.TheVariants.{Stops}
+use Rattle.transit_feed.specs.declared.station.Station.{Station}
+use Rattle.gtfs_tables.specs.Stops.{stops_outcome}
+use Rattle.files_door.specs.Fault.{Rose}
+use Rattle.command_run.specs.declared.output.Output.{Output}
+use Rattle.command_run.specs.Work.{ends}
+use Rattle.map_cli.specs.declared.refusal.Refusal.{Refusal}
+use Rattle.map_cli.specs.Words.{asked_by}
+use Rattle.map_cli.specs.Inputs.{input_path}
+use Rattle.map_cli.specs.Refusals.{of_feed}
+use Rattle.map_cli.specs.Answers.{said}
+use Rattle.map_cli.specs.Stations.{stations_text}
+use Rattle.map_cli.specs.Commands.{table_work}
+use Rattle.map_cli.proofs.FollowLemmas.{follows_refused, follows_value}
+use Rattle.map_cli.proofs.TableLemmas.{read_follows}
+use Rattle.map_cli.proofs.stations_command.print_stations.Goals as goal
+
+pub returns-in_err-stations : goal.returns-in_err-stations
+returns-in_err-stations g c =
+    let told = g.F.Files.told c.args.files.now in
+    let old = g.F.Files.faults c.args.files.now in
+    let now = g.F.Files.faults c.read_stations.new.files in
+    let asked = asked_by c.args.command.now in
+    let fault = c.in_err-stations.field-0.0 in
+    let items = λ (all : Vec Station Global). all.items in
+    record {
+      follows = follows_refused told (input_path asked) (Rose old now) items (λ (o : List Output). o) (table_work Stops stops_outcome) (λ all. ends (Ok (said (stations_text all)))) (of_feed fault) c.from_residual.result
+          (err_from_is_err_and c.from_residual.result c.from_residual.ensures.1)
+          (read_follows told asked c.feed.result.now Stops stops_outcome old now items (Err fault) c.feed.ensures c.in_err-stations.ensures.told c.in_err-stations.ensures.untold);
+    }
+
+pub returns : goal.returns
+returns g c =
+    let told = g.F.Files.told c.args.files.now in
+    let old = g.F.Files.faults c.args.files.now in
+    let now = g.F.Files.faults c.read_stations.new.files in
+    let asked = asked_by c.args.command.now in
+    let items = λ (all : Vec Station Global). all.items in
+    let printed : List Output → Result (List Output) Refusal = λ o. Ok o in
+    let text = c.in_ok-text.ensures ∙ ap stations_text c.deref.ensures.value in
+    record {
+      follows = follows_value told (input_path asked) (Rose old now) items (λ (o : List Output). o) (table_work Stops stops_outcome) (λ all. Ok (said (stations_text all))) c.in_ok-stations.stations (Ok c.in_ok-say.field-0)
+          (read_follows told asked c.feed.result.now Stops stops_outcome old now items (Ok c.in_ok-stations.stations) c.feed.ensures c.in_ok-stations.ensures.told c.in_ok-stations.ensures.untold)
+          (ap printed (ap said (sym text) ∙ sym c.in_ok-say.ensures));
+    }

@@ -1,0 +1,14 @@
+//! What commands read.
+
+use table_rows::Table;
+
+/// A file that a command reads, by its role. Two of them may lie at one path.
+#[derive(Clone, Copy, Debug, PartialEq, Eq)]
+pub enum Input {
+    /// A table of the feed.
+    Table(Table),
+    /// The certificate that is checked.
+    Certificate,
+    /// The picture that is checked.
+    Picture,
+}

@@ -1,0 +1,59 @@
+//! Laws that the ending of a run is read by: what told files decide, and what each target holds then.
+
+ghost use Rattle.std.specs.Prelude.{◌≡◌, ◌≢◌, ◌⊎◌, ◌++◌, ℕ, List, Option, Some};
+ghost use Rattle.files_door.specs.declared.target.Target.{Target};
+ghost use Rattle.files_door.specs.Fault.{Rose};
+ghost use Rattle.files_door.specs.Targets.{Written, held_by};
+ghost use Rattle.command_run.specs.declared.output.Output.{Output};
+ghost use Rattle.command_run.specs.Delivered.{no_memory_line};
+ghost use Rattle.command_run.specs.Held.{held_after, line_outputs, IsBeginning};
+ghost use Rattle.command_run.specs.Work.{outcome};
+ghost use Rattle.command_run.specs.Told.{file_of};
+ghost use Rattle.map_cli.specs.declared.answer.Answer.{Answer};
+ghost use Rattle.map_cli.specs.declared.input.Input.{Input};
+ghost use Rattle.map_cli.specs.declared.status.Status.{Status};
+ghost use Rattle.map_cli.specs.declared.status.Status.TheVariants as status;
+ghost use Rattle.map_cli.specs.Words.{Asked};
+ghost use Rattle.map_cli.specs.Inputs.{input_path};
+ghost use Rattle.map_cli.specs.Answers.{alone, answer_by};
+ghost use Rattle.map_cli.specs.Commands.{work};
+ghost use Rattle.map_cli.specs.Ending.{Ends, IsAnswerTo, IsLineOf, IsToBeWritten};
+
+/// Over files that are told, the answer to a command is the one that they define, or it names the path of an input,
+/// and the files' count of faults rose.
+pub fn told_files_decide_the_answer()
+    ensures { (asked : Asked) (files : List (List ℕ × List ℕ)) (before now : ℕ) (answer : Answer)
+        → IsAnswerTo (Some asked) (Some files) (Rose before now) answer
+        → (answer ≡ answer_by (input_path asked) (outcome (work asked) (file_of files (input_path asked))))
+        ⊎ ((input : Input) × Rose before now × (answer ≡ alone (status.ReadFault (input_path asked input)))) }
+{}
+
+/// A run that ends with the status of its answer leaves in each target what its outputs and the line of the status
+/// leave; of the line only a beginning may stand where the sinks' count of faults rose.
+pub fn other_statuses_leave_whole_outputs()
+    ensures { (asked : Option Asked) (told : Option (List (List ℕ × List ℕ))) (files_before files_now before now : ℕ) (old new : Written) (ended : Status)
+        → Ends asked told (Rose files_before files_now) (Rose before now) (Some old) (Some new) ended
+        → ended ≢ status.WriteFault → ended ≢ status.NoMemory
+        → (answer : Answer) × (line : List ℕ) × (front : List Output) × IsAnswerTo asked told (Rose files_before files_now) answer
+        × (ended ≡ answer.status) × IsLineOf ended line × IsBeginning front (line_outputs line) × ((front ≡ line_outputs line) ⊎ Rose before now)
+        × ((target : Target) → held_by target new ≡ held_after target (answer.outputs ++ front) (held_by target old)) }
+{}
+
+/// A run that ends with a fault of writing leaves in each target what a beginning of its outputs leaves: of all
+/// outputs before some one all bytes, of this one a beginning, and no later one is begun.
+pub fn a_fault_of_writing_leaves_a_beginning()
+    ensures { (asked : Option Asked) (told : Option (List (List ℕ × List ℕ))) (files_before files_now before now : ℕ) (old new : Written)
+        → Ends asked told (Rose files_before files_now) (Rose before now) (Some old) (Some new) status.WriteFault
+        → (answer : Answer) × (front : List Output) × IsAnswerTo asked told (Rose files_before files_now) answer × IsBeginning front answer.outputs
+        × ((target : Target) → held_by target new ≡ held_after target front (held_by target old)) }
+{}
+
+/// A run that memory ran out for leaves in each target what a beginning of its outputs and of the line of its status
+/// leaves, and behind it on standard output a beginning of `no memory`.
+pub fn want_of_memory_leaves_two_beginnings()
+    ensures { (asked : Option Asked) (told : Option (List (List ℕ × List ℕ))) (files_before files_now before now : ℕ) (old new : Written)
+        → Ends asked told (Rose files_before files_now) (Rose before now) (Some old) (Some new) status.NoMemory
+        → (outputs : List Output) × (front : List Output) × (last : List Output) × IsToBeWritten asked told (Rose files_before files_now) outputs
+        × IsBeginning front outputs × IsBeginning last (line_outputs no_memory_line)
+        × ((target : Target) → held_by target new ≡ held_after target (front ++ last) (held_by target old)) }
+{}
