@@ -1,0 +1,6 @@
+pub mod Boards
+pub mod Seats
+pub mod Routes
+pub mod Reaching
+pub mod Spots
+pub mod Moves
