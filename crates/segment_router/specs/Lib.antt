@@ -1,0 +1,6 @@
+pub mod Cells
+pub mod Homes
+pub mod Ports
+pub mod Orders
+pub mod Routes
+pub mod Routing

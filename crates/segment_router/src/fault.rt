@@ -1,0 +1,14 @@
+//! Why a line graph has no drawing.
+
+use map_base::{Limit, SegId};
+
+/// Why routing stops.
+#[derive(Clone, Copy, Debug, PartialEq, Eq)]
+pub enum RouteFault {
+    /// On no grid has every segment a free walk; on the last one this is the first segment without.
+    NoRoute { seg: SegId },
+    /// The finest grid under an explicit cell has too many cells.
+    Limit(Limit),
+    /// Memory ran out.
+    NoMemory,
+}
