@@ -1,5 +1,5 @@
 -- The points of a way, step by step and run by run.
-use Rattle.std.proofs.Common.{◌≡◌, ℕ, zero, suc, ◌≤◌, ◌<◌, Bool, true, false, ◌&&◌, cond, ℤ, pos, negsuc, ◌+ℤ◌, ◌-ℤ◌, unsigned_abs, List, [], ◌∷◌, ◌++◌, replicate, Some, None, sym, refl, ap, ◌∙◌, subst, arith, ◌⊎◌, inl, inr, lit≤}
+use Rattle.std.proofs.Common.{◌≡◌, ℕ, zero, suc, ◌+◌, ◌≤◌, ◌<◌, Bool, true, false, ◌&&◌, cond, ℤ, pos, negsuc, ◌+ℤ◌, ◌-ℤ◌, unsigned_abs, List, [], ◌∷◌, ◌++◌, replicate, Some, None, sym, refl, ap, ◌∙◌, subst, arith, ◌⊎◌, inl, inr, lit≤}
 use Rattle.std.proofs.lemmas.Int.{ints}
 use Rattle.std.proofs.lemmas.Bool.{leb-true, le-leb, and_parts, and_from, false_from_ne_true, false≢true, and_left}
 use Rattle.std.specs.List.{list_all, AllByRecursion}
@@ -195,3 +195,7 @@ from_end_none p ds e = chosen_none _ _ e
 
 pub from_end_some : (p : GridPoint) (ds : List Dir) (q : GridPoint) → end_within p ds ≡ Some q → (list_all is_within (points_from p ds) ≡ true) × (after p ds ≡ q)
 from_end_some p ds q e = chosen_some _ _ _ e
+
+-- a step goes one further at most
+pub reach : (x e : ℤ) (b n : ℕ) → unsigned_abs x ≤ b + n → unsigned_abs e ≤ 1 → unsigned_abs (x +ℤ e) ≤ b + (n + 1)
+reach x e b n h k = omega (arith, ints)

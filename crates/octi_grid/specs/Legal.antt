@@ -1,5 +1,5 @@
 -- When the walks of a drawing are legal.
-use Rattle.std.specs.Prelude.{ℕ, ◌≡◌, ◌+◌, ◌%◌, ◌==◌, ◌&&◌, ◌||◌, nat_lt, not, Bool, true, false, List, [], ◌∷◌, ◌++◌, length, map, if◌then◌else◌, Option, Some, None, slice_get, unsigned_abs, is_none}
+use Rattle.std.specs.Prelude.{ℕ, ◌≡◌, ◌+◌, ◌%◌, ◌==◌, ◌&&◌, ◌||◌, nat_lt, not, Bool, true, List, [], ◌∷◌, ◌++◌, length, map, if◌then◌else◌, Option, Some, None, slice_get, unsigned_abs, is_none}
 use Rattle.std.specs.List.{list_all, list_any, flat_map, filter_map, zip}
 use Rattle.map_base.specs.declared.ids.NodeId.{NodeId}
 use Rattle.map_base.specs.declared.ids.SegId.{SegId}
@@ -139,8 +139,3 @@ first_illegal graph walks = first_illegal_after graph.rounds [] (legs_of graph.e
 abbrev pub IsCause : Option (SegId × DrawWhy) → DrawingStop → Type 0
 IsCause outcome (stop.Bad seg why) = outcome ≡ Some (seg, why)
 IsCause outcome stop.NoMemory = Unit {0}
-
--- a check that stops at a walk has not seen a legal drawing
-abbrev pub IsStopOf : Bool → DrawingStop → Type 0
-IsStopOf legal (stop.Bad seg why) = legal ≡ false
-IsStopOf legal stop.NoMemory = Unit {0}

@@ -3,3 +3,5 @@ pub mod Costs
 pub mod Runs
 pub mod Walks
 pub mod Legal
+pub mod Taking
+pub mod Sweeps

@@ -86,6 +86,11 @@ pub record IsWithin (p : GridPoint) : Type 0 where
   pub across : unsigned_abs p.x ≤ 10000
   pub along : unsigned_abs p.y ≤ 10000
 
+-- the point may be a doubled one: it lies within 20,000 either way
+pub record IsDoubled (p : GridPoint) : Type 0 where
+  pub across : unsigned_abs p.x ≤ 20000
+  pub along : unsigned_abs p.y ≤ 20000
+
 -- a step from the point stays in range
 pub record CanStep (p : GridPoint) : Type 0 where
   pub across : unsigned_abs p.x ≤ 100000000

@@ -1,7 +1,7 @@
 //! Drawings of a line graph.
 
 use crate::walk::Walk;
-use map_base::{SegId, Sequence};
+use map_base::{NoMemory, SegId, Sequence};
 
 /// A drawing: one walk for each segment, in the order of their numbers.
 #[derive(Debug, Drop)]
@@ -27,4 +27,15 @@ pub enum DrawingStop {
     Bad { seg: SegId, why: DrawWhy },
     /// Memory ran out.
     NoMemory,
+}
+
+impl From<NoMemory> for DrawingStop {
+    ghost use Rattle.std.specs.Prelude.{◌≡◌};
+    ghost use Rattle.octi_grid.specs.declared.drawing.DrawingStop.TheVariants.{NoMemory as WantOfMemory};
+
+    ghost from_gives = { λ _ e. e ≡ WantOfMemory };
+
+    fn from(_refused: NoMemory) -> DrawingStop {
+        DrawingStop::NoMemory
+    }
 }

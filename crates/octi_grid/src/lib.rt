@@ -2,13 +2,17 @@
 //! and drawings of a line graph, one walk for each segment, with the check that a drawing is legal.
 #![tactic(auto)]
 
+mod check;
 mod cost;
 mod dir;
 mod drawing;
 mod point;
+mod ports;
 mod runs;
+mod taken;
 mod walk;
 
+pub use check::check_drawing;
 pub use cost::{end_of, step_cost, turn_cost, walk_cost};
 pub use dir::Dir;
 pub use drawing::{DrawWhy, Drawing, DrawingStop};
