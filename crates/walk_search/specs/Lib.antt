@@ -1,4 +1,5 @@
 pub mod Boards
+pub mod Frames
 pub mod Seats
 pub mod Routes
 pub mod Reaching

@@ -96,10 +96,10 @@ move_of q (Some s) l = stepped q s l
 
 -- the same by numbers
 pub record IsMove (q : Question) (n l m c : ℕ) : Type 0 where
-  pub from_spot : n < spots_of q.board + 1
+  pub from_spot : n < spots_of q.board.bounds + 1
   pub landing : Spot
-  pub goes : move_of q (spot_of q.board n) l ≡ Some (landing, c)
-  pub lands : m ≡ number_of_spot q.board landing
+  pub goes : move_of q (spot_of q.board.bounds n) l ≡ Some (landing, c)
+  pub lands : m ≡ number_of_spot q.board.bounds landing
 
 -- what it costs at least to come to a spot
 abbrev pub spot_ahead : Question → Option Spot → ℕ
@@ -110,8 +110,8 @@ spot_ahead q (Some s) = reach_of q.from.at s.at
 abbrev pub space_of : Question → Space
 space_of q = record {
   step = IsMove q;
-  goal = λ n. if nat_lt n (spots_of q.board + 1) then end_cost q (spot_of q.board n) else None;
-  ahead = λ n. spot_ahead q (spot_of q.board n);
-  count = spots_of q.board + 1;
+  goal = λ n. if nat_lt n (spots_of q.board.bounds + 1) then end_cost q (spot_of q.board.bounds n) else None;
+  ahead = λ n. spot_ahead q (spot_of q.board.bounds n);
+  count = spots_of q.board.bounds + 1;
   dearest = 21;
 }

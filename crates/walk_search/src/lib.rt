@@ -2,7 +2,9 @@
 //! of the other, by least cost with a tie rule.
 #![tactic(auto)]
 
+mod bounds;
 mod ends;
 mod spots;
 
+pub use bounds::Bounds;
 pub use ends::End;
