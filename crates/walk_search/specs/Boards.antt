@@ -1,5 +1,5 @@
 -- Boards: a part of the grid, the points of nodes, and the doubled points that walks have taken.
-use Rattle.std.specs.Prelude.{◌≡◌, ℕ, ◌+◌, ◌*◌, ◌/◌, ◌%◌, ◌≤◌, ◌<◌, ◌==◌, ◌||◌, ◌&&◌, Bool, true, false, not, ℤ, pos, negsuc, ◌+ℤ◌, ◌-ℤ◌, ◌≤ℤ◌, int_le, unsigned_abs, List, slice_index_or}
+use Rattle.std.specs.Prelude.{◌≡◌, ℕ, ◌+◌, ◌*◌, ◌/◌, ◌%◌, ◌≤◌, ◌<◌, ◌==◌, ◌||◌, ◌&&◌, Bool, true, false, not, ℤ, pos, negsuc, ◌+ℤ◌, ◌-ℤ◌, ◌≤ℤ◌, int_le, unsigned_abs, List, length, slice_index_or}
 use Rattle.octi_grid.specs.declared.dir.Dir.{Dir}
 use Rattle.octi_grid.specs.declared.point.GridPoint.{GridPoint}
 use Rattle.octi_grid.specs.Ways.{are_one, doubled, step_from}
@@ -87,3 +87,13 @@ doubled_bounds b = record { left = b.left +ℤ b.left; right = b.right +ℤ b.ri
 -- flags by the numbers of points, as a test of points
 abbrev pub is_marked : Bounds → List Bool → GridPoint → Bool
 is_marked b flags p = contains b p && slice_index_or flags (cell_of b p) false
+
+-- a board by the flags of its points and of its doubled points
+abbrev pub board_of : Bounds → List Bool → List Bool → BoardParts
+board_of b nodes taken = record { bounds = b; is_node = is_marked b nodes; is_taken = is_marked (doubled_bounds b) taken }
+
+-- there is a flag for each point and for each doubled point
+pub record IsKept (b : Bounds) (nodes taken : List Bool) : Type 0 where
+  pub points : length nodes ≡ cells_of b
+  pub doubled_points : length taken ≡ cells_of (doubled_bounds b)
+  pub board : IsBoard (board_of b nodes taken)

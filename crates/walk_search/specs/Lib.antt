@@ -5,3 +5,5 @@ pub mod Routes
 pub mod Reaching
 pub mod Spots
 pub mod Moves
+pub mod Offers
+pub mod Walked
