@@ -3,11 +3,11 @@ use Rattle.std.proofs.Common.{◌≡◌, ◌≢◌, refl, sym, ◌∙◌, ap, ap
 use Rattle.std.specs.Prelude.{int_le, unsigned_abs}
 use Rattle.std.proofs.lemmas.Int.{ints}
 use Rattle.std.proofs.lemmas.Bool.{and_parts, and_from, cases_lt, cases_order}
-use Rattle.std.proofs.Math.Nat.{mul-le-mul_right}
+use Rattle.std.proofs.Math.Nat.{mul-le-mul_right, mul-le-mul_left}
 use Rattle.std.proofs.lemmas.Nat.{div-add-mod'}
 use Rattle.octi_grid.specs.declared.point.GridPoint.{GridPoint}
 use Rattle.walk_search.specs.declared.bounds.Bounds.{Bounds}
-use Rattle.walk_search.specs.Boards.{is_between, contains, extent, cells_of, cell_of, point_of}
+use Rattle.walk_search.specs.Boards.{AreBounds, is_between, contains, extent, cells_of, cell_of, point_of}
 use Rattle.walk_search.specs.Frames.{IsFrame}
 
 -- the point lies within bounds
@@ -145,3 +145,27 @@ row_small b f n width below is =
     let few : extent b.bottom b.top ≤ 8001 = extent_small b.bottom b.top f.bottom f.top f.upwards in
     let same : n / width ≡ n / extent b.left b.right = ap (λ m. n / m) is in
     omega arith
+
+extent_few : (low high : ℤ) → negsuc 1999 ≤ℤ low → high ≤ℤ pos 2000 → low ≤ℤ high → extent low high ≤ 4001
+extent_few low high h k l = omega (arith, ints)
+
+product_few : (rows columns most : ℕ) → rows ≤ most → columns ≤ most → rows * columns ≤ most * most
+product_few rows columns most h k =
+    let first : rows * columns ≤ most * columns = mul-le-mul_right columns h in
+    let second : most * columns ≤ most * most = mul-le-mul_left most k in
+    omega arith
+
+-- a board has no more than 4001 points times 4001
+pub few_cells : (b : Bounds) → AreBounds b → cells_of b ≤ 16008001
+few_cells b h =
+    product_few (extent b.bottom b.top) (extent b.left b.right) 4001 (extent_few b.bottom b.top h.bottom.low h.top.high h.upwards) (extent_few b.left b.right h.left.low h.right.high h.across)
+
+pub frame_of : (b : Bounds) → AreBounds b → IsFrame b
+frame_of b h = record {
+  left = omega (arith, ints, h.left.low);
+  right = omega (arith, ints, h.right.high);
+  bottom = omega (arith, ints, h.bottom.low);
+  top = omega (arith, ints, h.top.high);
+  across = h.across;
+  upwards = h.upwards;
+}

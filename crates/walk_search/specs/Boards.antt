@@ -8,7 +8,7 @@ use Rattle.octi_grid.specs.Walks.{PlainWalk, doubled_of}
 use Rattle.octi_grid.specs.Legal.{is_among, is_even}
 use Rattle.walk_search.specs.declared.bounds.Bounds.{Bounds}
 
--- a board, as contracts see it: its bounds, which points are those of nodes, and which doubled points are taken
+-- a board, by what it shows: its bounds, which points are those of nodes, and which doubled points are taken
 pub record BoardParts : Type 0 where
   pub bounds : Bounds
   pub is_node : GridPoint → Bool
@@ -88,12 +88,18 @@ doubled_bounds b = record { left = b.left +ℤ b.left; right = b.right +ℤ b.ri
 abbrev pub is_marked : Bounds → List Bool → GridPoint → Bool
 is_marked b flags p = contains b p && slice_index_or flags (cell_of b p) false
 
--- a board by the flags of its points and of its doubled points
-abbrev pub board_of : Bounds → List Bool → List Bool → BoardParts
-board_of b nodes taken = record { bounds = b; is_node = is_marked b nodes; is_taken = is_marked (doubled_bounds b) taken }
+-- what a board holds: its bounds, and flags for its points and for its doubled points, row by row
+pub record BoardFlags : Type 0 where
+  pub bounds : Bounds
+  pub nodes : List Bool
+  pub taken : List Bool
+
+-- what a board shows: a point is a node's, and a doubled point taken, where its flag is raised
+unfoldable pub parts_of : BoardFlags → BoardParts
+parts_of b = record { bounds = b.bounds; is_node = is_marked b.bounds b.nodes; is_taken = is_marked (doubled_bounds b.bounds) b.taken }
 
 -- there is a flag for each point and for each doubled point
-pub record IsKept (b : Bounds) (nodes taken : List Bool) : Type 0 where
-  pub points : length nodes ≡ cells_of b
-  pub doubled_points : length taken ≡ cells_of (doubled_bounds b)
-  pub board : IsBoard (board_of b nodes taken)
+pub record IsKept (b : BoardFlags) : Type 0 where
+  pub points : length b.nodes ≡ cells_of b.bounds
+  pub doubled_points : length b.taken ≡ cells_of (doubled_bounds b.bounds)
+  pub board : IsBoard (parts_of b)

@@ -1,5 +1,6 @@
 pub mod Boards
 pub mod Frames
+pub mod Taking
 pub mod Seats
 pub mod Routes
 pub mod Reaching

@@ -9,7 +9,7 @@ use Rattle.octi_grid.specs.Legal.{is_among}
 use Rattle.state_search.specs.Goals.{Space}
 use Rattle.walk_search.specs.declared.ends.End.{End}
 use Rattle.walk_search.specs.declared.spots.Spot.{Spot}
-use Rattle.walk_search.specs.Boards.{BoardParts, IsBoard, is_inside}
+use Rattle.walk_search.specs.Boards.{BoardParts, BoardFlags, IsBoard, is_inside, parts_of}
 use Rattle.walk_search.specs.Seats.{seats_of, seat_cost}
 use Rattle.walk_search.specs.Routes.{allows, directions}
 use Rattle.walk_search.specs.Reaching.{reach_of}
@@ -20,6 +20,15 @@ pub record Question : Type 0 where
   pub board : BoardParts
   pub from : End
   pub to : End
+
+-- the same, with what the board holds
+pub record AskedParts : Type 0 where
+  pub board : BoardFlags
+  pub from : End
+  pub to : End
+
+unfoldable pub question : AskedParts → Question
+question a = record { board = parts_of a.board; from = a.from; to = a.to }
 
 abbrev pub starts_of : Question → List GridPoint
 starts_of q = seats_of q.board q.from

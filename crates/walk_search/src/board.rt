@@ -5,12 +5,13 @@ ghost use Rattle.std.specs.List.{list_all};
 ghost use Rattle.octi_grid.specs.Ways.{doubled};
 ghost use Rattle.octi_grid.specs.Walks.{points_of};
 ghost use Rattle.octi_grid.specs.Legal.{is_even};
-ghost use Rattle.walk_search.specs.Boards.{contains, doubled_bounds, empty_board, is_inside, with_node, with_node_moved, with_walk, AreBounds, IsBoard, IsBound};
+ghost use Rattle.walk_search.specs.Boards.{contains, doubled_bounds, empty_board, is_inside, parts_of, with_node, with_node_moved, with_walk, AreBounds, IsBoard, IsBound};
 
 use crate::bounds::Bounds;
+use crate::taking::take_walk;
 use bit_flags::Flags;
 use map_base::NoMemory;
-use octi_grid::{GridPoint, Run, Walk};
+use octi_grid::{GridPoint, Walk};
 use std::alloc::Global;
 use std::marker::Model;
 
@@ -23,13 +24,13 @@ pub struct Board {
 }
 
 impl Model for Board {
-    ghost use Rattle.walk_search.specs.Boards.{BoardParts, IsKept, board_of};
+    ghost use Rattle.walk_search.specs.Boards.{BoardFlags, IsKept};
 
-    ghost Value = { BoardParts };
+    ghost Value = { BoardFlags };
 
-    ghost view = { λ b. board_of b.bounds b.nodes.items b.taken };
+    ghost view = { λ b. record { bounds = b.bounds; nodes = b.nodes.items; taken = b.taken } };
 
-    ghost invariant = { λ b. IsKept b.bounds b.nodes.items b.taken };
+    ghost invariant = { λ b. IsKept (record { bounds = b.bounds; nodes = b.nodes.items; taken = b.taken }) };
 }
 
 impl Board {
@@ -47,7 +48,7 @@ impl Board {
         requires top { IsBound top }
         requires across { left ≤ℤ right }
         requires upwards { bottom ≤ℤ top }
-        ensures { IfOk result (λ board. board ≡ empty_board (record { left = left; right = right; bottom = bottom; top = top })) }
+        ensures { IfOk result (λ board. parts_of board ≡ empty_board (record { left = left; right = right; bottom = bottom; top = top })) }
     {
         let bounds = Bounds {
             left,
@@ -61,7 +62,7 @@ impl Board {
     /// The same within bounds.
     fn within(alloc: Global, bounds: Bounds) -> Result<Board, NoMemory>
         requires { AreBounds bounds }
-        ensures { IfOk result (λ board. board ≡ empty_board bounds) }
+        ensures { IfOk result (λ board. parts_of board ≡ empty_board bounds) }
     {
         let nodes = vec![in alloc; false; bounds.cells() as usize]?;
         let taken = Flags::none(alloc, bounds.doubled().cells() as usize)?;
@@ -74,9 +75,9 @@ impl Board {
 
     /// Puts a node on a point.
     pub fn add_node(&mut self, at: GridPoint)
-        requires inside { is_inside self.old at ≡ true }
+        requires inside { is_inside (parts_of self.old) at ≡ true }
         requires even { is_even at ≡ true }
-        ensures { self.new ≡ with_node self.old at }
+        ensures { parts_of self.new ≡ with_node (parts_of self.old) at }
     {
         let cell = self.bounds.cell_of(at) as usize;
         self.nodes[cell] = true;
@@ -84,10 +85,10 @@ impl Board {
 
     /// Moves a node from one point to another.
     pub fn move_node(&mut self, from: GridPoint, to: GridPoint)
-        requires from_inside { is_inside self.old from ≡ true }
-        requires to_inside { is_inside self.old to ≡ true }
+        requires from_inside { is_inside (parts_of self.old) from ≡ true }
+        requires to_inside { is_inside (parts_of self.old) to ≡ true }
         requires even { is_even to ≡ true }
-        ensures { self.new ≡ with_node_moved self.old from to }
+        ensures { parts_of self.new ≡ with_node_moved (parts_of self.old) from to }
     {
         let old = self.bounds.cell_of(from) as usize;
         self.nodes[old] = false;
@@ -97,53 +98,32 @@ impl Board {
 
     /// Takes the doubled points of a walk.
     pub fn add_walk(&mut self, walk: &Walk)
-        requires { list_all (is_inside self.old) (points_of walk.now) ≡ true }
-        ensures { self.new ≡ with_walk self.old walk.now }
+        requires { list_all (is_inside (parts_of self.old)) (points_of walk.now) ≡ true }
+        ensures { parts_of self.new ≡ with_walk (parts_of self.old) walk.now }
     {
-        let mut at = walk.start();
-        self.take(at.doubled());
-        for run in walk.runs() {
-            at = self.take_run(at, *run);
-        }
-    }
-
-    /// Takes the doubled points of a run behind its start, and tells where it ends.
-    fn take_run(&mut self, start: GridPoint, run: Run) -> GridPoint {
-        let mut at = start;
-        for _ in 0..run.count {
-            self.take(at.doubled().step(run.dir));
-            at = at.step(run.dir);
-            self.take(at.doubled());
-        }
-        at
-    }
-
-    /// Takes a doubled point.
-    fn take(&mut self, at: GridPoint) {
-        let cell = self.bounds.doubled().cell_of(at) as usize;
-        self.taken.raise(cell);
+        take_walk(&mut self.taken, self.bounds, walk);
     }
 
     /// The bounds of the board.
     pub fn bounds(&self) -> Bounds
-        ensures value { result ≡ self.now.bounds }
-        ensures kept { IsBoard self.now }
+        ensures value { result ≡ (parts_of self.now).bounds }
+        ensures kept { IsBoard (parts_of self.now) }
     {
         self.bounds
     }
 
     /// Whether a point is that of a node.
     pub fn is_node(&self, at: GridPoint) -> bool
-        requires { is_inside self.now at ≡ true }
-        ensures { result ≡ self.now.is_node at }
+        requires { is_inside (parts_of self.now) at ≡ true }
+        ensures { result ≡ (parts_of self.now).is_node at }
     {
         self.nodes[self.bounds.cell_of(at) as usize]
     }
 
     /// Whether a doubled point is that of a walk.
     pub fn is_taken(&self, at: GridPoint) -> bool
-        requires { contains (doubled_bounds self.now.bounds) at ≡ true }
-        ensures { result ≡ self.now.is_taken at }
+        requires { contains (doubled_bounds (parts_of self.now).bounds) at ≡ true }
+        ensures { result ≡ (parts_of self.now).is_taken at }
     {
         let cell = self.bounds.doubled().cell_of(at) as usize;
         self.taken.is_raised(cell)

@@ -4,7 +4,8 @@ ghost use Rattle.std.specs.Prelude.{◌≡◌, ◌≢◌, ◌⊎◌, IfOk, IfSom
 ghost use Rattle.octi_grid.specs.Legal.{are_distinct};
 ghost use Rattle.octi_grid.specs.Walks.{doubled_of};
 ghost use Rattle.walk_search.specs.Routes.{route};
-ghost use Rattle.walk_search.specs.Moves.{IsQuestion};
+ghost use Rattle.walk_search.specs.Boards.{parts_of};
+ghost use Rattle.walk_search.specs.Moves.{IsQuestion, question};
 
 use crate::asked::Asked;
 use crate::board::Board;
@@ -27,10 +28,10 @@ pub fn least_walk(
     to: GridPoint,
     to_ports: u8,
 ) -> Result<Option<Walk>, NoMemory>
-    requires from { board.now.is_node from ≡ true }
-    requires to { board.now.is_node to ≡ true }
+    requires from { (parts_of board.now).is_node from ≡ true }
+    requires to { (parts_of board.now).is_node to ≡ true }
     requires apart { from ≢ to }
-    ensures { IfOk result (λ walk. walk ≡ route board.now (record { at = from; is_free = false; ports = from_ports }) (record { at = to; is_free = false; ports = to_ports })) }
+    ensures { IfOk result (λ walk. walk ≡ route (parts_of board.now) (record { at = from; is_free = false; ports = from_ports }) (record { at = to; is_free = false; ports = to_ports })) }
 {
     least_settled_walk(alloc, board, from, false, from_ports, to, false, to_ports)
 }
@@ -47,12 +48,12 @@ pub fn least_settled_walk(
     to_free: bool,
     to_ports: u8,
 ) -> Result<Option<Walk>, NoMemory>
-    requires from { board.now.is_node from ≡ true }
-    requires to { board.now.is_node to ≡ true }
+    requires from { (parts_of board.now).is_node from ≡ true }
+    requires to { (parts_of board.now).is_node to ≡ true }
     requires apart { from ≢ to }
     requires from_mask { from_free ≡ true → (from_ports ≡ 0) ⊎ (from_ports ≡ 255) }
     requires to_mask { to_free ≡ true → (to_ports ≡ 0) ⊎ (to_ports ≡ 255) }
-    ensures { IfOk result (λ walk. walk ≡ route board.now (record { at = from; is_free = from_free; ports = from_ports }) (record { at = to; is_free = to_free; ports = to_ports })) }
+    ensures { IfOk result (λ walk. walk ≡ route (parts_of board.now) (record { at = from; is_free = from_free; ports = from_ports }) (record { at = to; is_free = to_free; ports = to_ports })) }
 {
     let from = End {
         at: from,
@@ -74,8 +75,8 @@ fn least_between(
     from: End,
     to: End,
 ) -> Result<Option<Walk>, NoMemory>
-    requires { IsQuestion (record { board = board.now; from = from; to = to }) }
-    ensures { IfOk result (λ walk. walk ≡ route board.now from to) }
+    requires { IsQuestion (question (record { board = board.now; from = from; to = to })) }
+    ensures { IfOk result (λ walk. walk ≡ route (parts_of board.now) from to) }
 {
     let asked = Asked::new(alloc, board, from, to)?;
     let states = spots_of(asked.bounds()) as usize + 1;

@@ -14,14 +14,15 @@ mod known;
 mod least;
 mod offers;
 mod queue;
-mod reach;
+mod reaching;
 mod search;
 mod seats;
 mod spots;
+mod taking;
 mod walk;
 
 pub use board::Board;
 pub use bounds::Bounds;
 pub use ends::End;
 pub use least::{least_settled_walk, least_walk};
-pub use reach::reach;
+pub use reaching::reach;

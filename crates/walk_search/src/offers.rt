@@ -6,7 +6,7 @@ ghost use Rattle.octi_grid.specs.Ways.{CanStep};
 ghost use Rattle.state_search.specs.Searching.{AreLowered, IsLowered, queue_cmp};
 ghost use Rattle.walk_search.specs.Boards.{is_inside};
 ghost use Rattle.walk_search.specs.Spots.{number_of_spot, spot_of, spots_of};
-ghost use Rattle.walk_search.specs.Moves.{ends_of, space_of, starts_of};
+ghost use Rattle.walk_search.specs.Moves.{question, ends_of, space_of, starts_of};
 ghost use Rattle.walk_search.specs.Offers.{arrival_offers, back_offers, end_offer, end_offers, end_spot, passing_offers, seat_offer, seat_offers, spot_offers, start_offers};
 
 use crate::asked::{Asked, START, turn_from};
@@ -25,15 +25,15 @@ fn offer(
     known: &mut Known,
     queue: &mut Queue,
 ) -> Result<(), NoMemory>
-    requires inside { is_inside asked.now.board spot.at ≡ true }
+    requires inside { is_inside (question asked.now).board spot.at ≡ true }
     requires arrival { spot.arrival < 9 }
     requires group { spot.group < 10 }
     requires cost { cost < 2 ^ 40 }
-    requires each { length known.old ≡ spots_of asked.now.board.bounds + 1 }
+    requires each { length known.old ≡ spots_of (question asked.now).board.bounds + 1 }
     requires order { IsHeap queue_cmp (heap_items queue.old) }
     ensures order { OnOk result (IsHeap queue_cmp (heap_items queue.new)) }
-    ensures each { OnOk result (length known.new ≡ spots_of asked.now.board.bounds + 1) }
-    ensures lowered { OnOk result (IsLowered ((space_of asked.now).ahead (number_of_spot asked.now.board.bounds spot)) known.old known.new (heap_items queue.old) (heap_items queue.new) (number_of_spot asked.now.board.bounds spot) cost) }
+    ensures each { OnOk result (length known.new ≡ spots_of (question asked.now).board.bounds + 1) }
+    ensures lowered { OnOk result (IsLowered ((space_of (question asked.now)).ahead (number_of_spot (question asked.now).board.bounds spot)) known.old known.new (heap_items queue.old) (heap_items queue.new) (number_of_spot (question asked.now).board.bounds spot) cost) }
 {
     let number = number_of_spot(asked.bounds(), spot);
     lower(known, queue, number, cost, asked.ahead_of(spot.at))
@@ -45,11 +45,11 @@ pub(crate) fn offer_ends(
     known: &mut Known,
     queue: &mut Queue,
 ) -> Result<(), NoMemory>
-    requires each { length known.old ≡ spots_of asked.now.board.bounds + 1 }
+    requires each { length known.old ≡ spots_of (question asked.now).board.bounds + 1 }
     requires order { IsHeap queue_cmp (heap_items queue.old) }
     ensures order { OnOk result (IsHeap queue_cmp (heap_items queue.new)) }
-    ensures each { OnOk result (length known.new ≡ spots_of asked.now.board.bounds + 1) }
-    ensures lowered { OnOk result (AreLowered (space_of asked.now).ahead known.old known.new (heap_items queue.old) (heap_items queue.new) (end_offers asked.now (80 * length (ends_of asked.now)))) }
+    ensures each { OnOk result (length known.new ≡ spots_of (question asked.now).board.bounds + 1) }
+    ensures lowered { OnOk result (AreLowered (space_of (question asked.now)).ahead known.old known.new (heap_items queue.old) (heap_items queue.new) (end_offers (question asked.now) (80 * length (ends_of (question asked.now))))) }
 {
     for k in 0..80 * u16::from(asked.end_count()) {
         offer_end(asked, k, known, queue)?;
@@ -64,12 +64,12 @@ fn offer_end(
     known: &mut Known,
     queue: &mut Queue,
 ) -> Result<(), NoMemory>
-    requires k { k < 80 * length (ends_of asked.now) }
-    requires each { length known.old ≡ spots_of asked.now.board.bounds + 1 }
+    requires k { k < 80 * length (ends_of (question asked.now)) }
+    requires each { length known.old ≡ spots_of (question asked.now).board.bounds + 1 }
     requires order { IsHeap queue_cmp (heap_items queue.old) }
     ensures order { OnOk result (IsHeap queue_cmp (heap_items queue.new)) }
-    ensures each { OnOk result (length known.new ≡ spots_of asked.now.board.bounds + 1) }
-    ensures lowered { OnOk result (AreLowered (space_of asked.now).ahead known.old known.new (heap_items queue.old) (heap_items queue.new) (end_offer asked.now k)) }
+    ensures each { OnOk result (length known.new ≡ spots_of (question asked.now).board.bounds + 1) }
+    ensures lowered { OnOk result (AreLowered (space_of (question asked.now)).ahead known.old known.new (heap_items queue.old) (heap_items queue.new) (end_offer (question asked.now) k)) }
 {
     let spot = Spot {
         at: asked.end((k / 80) as u8),
@@ -90,13 +90,13 @@ pub(crate) fn offer_back(
     known: &mut Known,
     queue: &mut Queue,
 ) -> Result<(), NoMemory>
-    requires at { at < spots_of asked.now.board.bounds + 1 }
+    requires at { at < spots_of (question asked.now).board.bounds + 1 }
     requires cost { cost < 2 ^ 39 }
-    requires each { length known.old ≡ spots_of asked.now.board.bounds + 1 }
+    requires each { length known.old ≡ spots_of (question asked.now).board.bounds + 1 }
     requires order { IsHeap queue_cmp (heap_items queue.old) }
     ensures order { OnOk result (IsHeap queue_cmp (heap_items queue.new)) }
-    ensures each { OnOk result (length known.new ≡ spots_of asked.now.board.bounds + 1) }
-    ensures lowered { OnOk result (AreLowered (space_of asked.now).ahead known.old known.new (heap_items queue.old) (heap_items queue.new) (spot_offers asked.now (spot_of asked.now.board.bounds at) cost)) }
+    ensures each { OnOk result (length known.new ≡ spots_of (question asked.now).board.bounds + 1) }
+    ensures lowered { OnOk result (AreLowered (space_of (question asked.now)).ahead known.old known.new (heap_items queue.old) (heap_items queue.new) (spot_offers (question asked.now) (spot_of (question asked.now).board.bounds at) cost)) }
 {
     match spot_of(asked.bounds(), at) {
         None => Ok(()),
@@ -112,15 +112,15 @@ fn offer_from(
     known: &mut Known,
     queue: &mut Queue,
 ) -> Result<(), NoMemory>
-    requires inside { is_inside asked.now.board spot.at ≡ true }
+    requires inside { is_inside (question asked.now).board spot.at ≡ true }
     requires arrival { spot.arrival < 9 }
     requires group { spot.group < 10 }
     requires cost { cost < 2 ^ 39 }
-    requires each { length known.old ≡ spots_of asked.now.board.bounds + 1 }
+    requires each { length known.old ≡ spots_of (question asked.now).board.bounds + 1 }
     requires order { IsHeap queue_cmp (heap_items queue.old) }
     ensures order { OnOk result (IsHeap queue_cmp (heap_items queue.new)) }
-    ensures each { OnOk result (length known.new ≡ spots_of asked.now.board.bounds + 1) }
-    ensures lowered { OnOk result (AreLowered (space_of asked.now).ahead known.old known.new (heap_items queue.old) (heap_items queue.new) (spot_offers asked.now (Some spot) cost)) }
+    ensures each { OnOk result (length known.new ≡ spots_of (question asked.now).board.bounds + 1) }
+    ensures lowered { OnOk result (AreLowered (space_of (question asked.now)).ahead known.old known.new (heap_items queue.old) (heap_items queue.new) (spot_offers (question asked.now) (Some spot) cost)) }
 {
     if spot.arrival == START {
         return offer_seats(asked, spot, cost, known, queue);
@@ -139,11 +139,11 @@ fn offer_seats(
     queue: &mut Queue,
 ) -> Result<(), NoMemory>
     requires cost { cost < 2 ^ 39 }
-    requires each { length known.old ≡ spots_of asked.now.board.bounds + 1 }
+    requires each { length known.old ≡ spots_of (question asked.now).board.bounds + 1 }
     requires order { IsHeap queue_cmp (heap_items queue.old) }
     ensures order { OnOk result (IsHeap queue_cmp (heap_items queue.new)) }
-    ensures each { OnOk result (length known.new ≡ spots_of asked.now.board.bounds + 1) }
-    ensures lowered { OnOk result (AreLowered (space_of asked.now).ahead known.old known.new (heap_items queue.old) (heap_items queue.new) (seat_offers asked.now spot cost (length (starts_of asked.now)))) }
+    ensures each { OnOk result (length known.new ≡ spots_of (question asked.now).board.bounds + 1) }
+    ensures lowered { OnOk result (AreLowered (space_of (question asked.now)).ahead known.old known.new (heap_items queue.old) (heap_items queue.new) (seat_offers (question asked.now) spot cost (length (starts_of (question asked.now))))) }
 {
     for i in 0..asked.start_count() {
         offer_seat(asked, spot, cost, i, known, queue)?;
@@ -160,13 +160,13 @@ fn offer_seat(
     known: &mut Known,
     queue: &mut Queue,
 ) -> Result<(), NoMemory>
-    requires i { i < length (starts_of asked.now) }
+    requires i { i < length (starts_of (question asked.now)) }
     requires cost { cost < 2 ^ 39 }
-    requires each { length known.old ≡ spots_of asked.now.board.bounds + 1 }
+    requires each { length known.old ≡ spots_of (question asked.now).board.bounds + 1 }
     requires order { IsHeap queue_cmp (heap_items queue.old) }
     ensures order { OnOk result (IsHeap queue_cmp (heap_items queue.new)) }
-    ensures each { OnOk result (length known.new ≡ spots_of asked.now.board.bounds + 1) }
-    ensures lowered { OnOk result (AreLowered (space_of asked.now).ahead known.old known.new (heap_items queue.old) (heap_items queue.new) (seat_offer asked.now spot cost i)) }
+    ensures each { OnOk result (length known.new ≡ spots_of (question asked.now).board.bounds + 1) }
+    ensures lowered { OnOk result (AreLowered (space_of (question asked.now)).ahead known.old known.new (heap_items queue.old) (heap_items queue.new) (seat_offer (question asked.now) spot cost i)) }
 {
     if asked.start(i) != spot.at || asked.group_of(i) != spot.group {
         return Ok(());
@@ -188,11 +188,11 @@ fn offer_step(
     requires p { CanStep p }
     requires group { group < 10 }
     requires cost { cost < 2 ^ 39 }
-    requires each { length known.old ≡ spots_of asked.now.board.bounds + 1 }
+    requires each { length known.old ≡ spots_of (question asked.now).board.bounds + 1 }
     requires order { IsHeap queue_cmp (heap_items queue.old) }
     ensures order { OnOk result (IsHeap queue_cmp (heap_items queue.new)) }
-    ensures each { OnOk result (length known.new ≡ spots_of asked.now.board.bounds + 1) }
-    ensures lowered { OnOk result (AreLowered (space_of asked.now).ahead known.old known.new (heap_items queue.old) (heap_items queue.new) (back_offers asked.now p group dir cost)) }
+    ensures each { OnOk result (length known.new ≡ spots_of (question asked.now).board.bounds + 1) }
+    ensures lowered { OnOk result (AreLowered (space_of (question asked.now)).ahead known.old known.new (heap_items queue.old) (heap_items queue.new) (back_offers (question asked.now) p group dir cost)) }
 {
     if !asked.is_open(p, dir) {
         return Ok(());
@@ -211,14 +211,14 @@ fn offer_passing(
     known: &mut Known,
     queue: &mut Queue,
 ) -> Result<(), NoMemory>
-    requires inside { is_inside asked.now.board p ≡ true }
+    requires inside { is_inside (question asked.now).board p ≡ true }
     requires group { group < 10 }
     requires cost { cost < 2 ^ 39 }
-    requires each { length known.old ≡ spots_of asked.now.board.bounds + 1 }
+    requires each { length known.old ≡ spots_of (question asked.now).board.bounds + 1 }
     requires order { IsHeap queue_cmp (heap_items queue.old) }
     ensures order { OnOk result (IsHeap queue_cmp (heap_items queue.new)) }
-    ensures each { OnOk result (length known.new ≡ spots_of asked.now.board.bounds + 1) }
-    ensures lowered { OnOk result (AreLowered (space_of asked.now).ahead known.old known.new (heap_items queue.old) (heap_items queue.new) (passing_offers asked.now p group dir cost)) }
+    ensures each { OnOk result (length known.new ≡ spots_of (question asked.now).board.bounds + 1) }
+    ensures lowered { OnOk result (AreLowered (space_of (question asked.now)).ahead known.old known.new (heap_items queue.old) (heap_items queue.new) (passing_offers (question asked.now) p group dir cost)) }
 {
     if !asked.is_passable(p) {
         return Ok(());
@@ -236,14 +236,14 @@ fn offer_arrivals(
     known: &mut Known,
     queue: &mut Queue,
 ) -> Result<(), NoMemory>
-    requires inside { is_inside asked.now.board p ≡ true }
+    requires inside { is_inside (question asked.now).board p ≡ true }
     requires group { group < 10 }
     requires cost { cost < 2 ^ 39 }
-    requires each { length known.old ≡ spots_of asked.now.board.bounds + 1 }
+    requires each { length known.old ≡ spots_of (question asked.now).board.bounds + 1 }
     requires order { IsHeap queue_cmp (heap_items queue.old) }
     ensures order { OnOk result (IsHeap queue_cmp (heap_items queue.new)) }
-    ensures each { OnOk result (length known.new ≡ spots_of asked.now.board.bounds + 1) }
-    ensures lowered { OnOk result (AreLowered (space_of asked.now).ahead known.old known.new (heap_items queue.old) (heap_items queue.new) (arrival_offers asked.now p group dir cost 8)) }
+    ensures each { OnOk result (length known.new ≡ spots_of (question asked.now).board.bounds + 1) }
+    ensures lowered { OnOk result (AreLowered (space_of (question asked.now)).ahead known.old known.new (heap_items queue.old) (heap_items queue.new) (arrival_offers (question asked.now) p group dir cost 8)) }
 {
     for arrival in 0..START {
         let spot = Spot {
@@ -267,14 +267,14 @@ fn offer_start(
     known: &mut Known,
     queue: &mut Queue,
 ) -> Result<(), NoMemory>
-    requires inside { is_inside asked.now.board p ≡ true }
+    requires inside { is_inside (question asked.now).board p ≡ true }
     requires group { group < 10 }
     requires cost { cost < 2 ^ 39 }
-    requires each { length known.old ≡ spots_of asked.now.board.bounds + 1 }
+    requires each { length known.old ≡ spots_of (question asked.now).board.bounds + 1 }
     requires order { IsHeap queue_cmp (heap_items queue.old) }
     ensures order { OnOk result (IsHeap queue_cmp (heap_items queue.new)) }
-    ensures each { OnOk result (length known.new ≡ spots_of asked.now.board.bounds + 1) }
-    ensures lowered { OnOk result (AreLowered (space_of asked.now).ahead known.old known.new (heap_items queue.old) (heap_items queue.new) (start_offers asked.now p group dir cost)) }
+    ensures each { OnOk result (length known.new ≡ spots_of (question asked.now).board.bounds + 1) }
+    ensures lowered { OnOk result (AreLowered (space_of (question asked.now)).ahead known.old known.new (heap_items queue.old) (heap_items queue.new) (start_offers (question asked.now) p group dir cost)) }
 {
     if !asked.allows_start(p, group, dir) {
         return Ok(());

@@ -4,7 +4,7 @@ ghost use Rattle.std.specs.Prelude.{◌≡◌, ℕ, ◌+◌, ◌<◌, ◌↔◌,
 ghost use Rattle.std.specs.BinaryHeap.{IsHeap, heap_items};
 ghost use Rattle.state_search.specs.Searching.{IsSearched, known_at, queue_cmp};
 ghost use Rattle.walk_search.specs.Spots.{spots_of};
-ghost use Rattle.walk_search.specs.Moves.{space_of};
+ghost use Rattle.walk_search.specs.Moves.{question, space_of};
 
 use crate::asked::Asked;
 use crate::known::Known;
@@ -17,8 +17,8 @@ use std::alloc::Global;
 /// Notes, where nothing is known, the least costs at which the ends can be reached, as far as they can lie on a walk
 /// no dearer than the least. The search goes from the ends backwards and ends where what waits can only be dearer.
 pub(crate) fn note_costs(alloc: Global, asked: &Asked, known: &mut Known) -> Result<(), NoMemory>
-    requires { known.old ≡ replicate (spots_of asked.now.board.bounds + 1) None }
-    ensures { OnOk result (IsSearched (space_of asked.now) (spots_of asked.now.board.bounds) known.new) }
+    requires { known.old ≡ replicate (spots_of (question asked.now).board.bounds + 1) None }
+    ensures { OnOk result (IsSearched (space_of (question asked.now)) (spots_of (question asked.now).board.bounds) known.new) }
 {
     let mut queue = Queue::new(alloc);
     search(asked, known, &mut queue)
@@ -26,10 +26,10 @@ pub(crate) fn note_costs(alloc: Global, asked: &Asked, known: &mut Known) -> Res
 
 /// The same, with a queue in which nothing waits.
 fn search(asked: &Asked, known: &mut Known, queue: &mut Queue) -> Result<(), NoMemory>
-    requires nothing_known { known.old ≡ replicate (spots_of asked.now.board.bounds + 1) None }
+    requires nothing_known { known.old ≡ replicate (spots_of (question asked.now).board.bounds + 1) None }
     requires nothing_waits { heap_items queue.old ≡ [] }
     requires order { IsHeap queue_cmp (heap_items queue.old) }
-    ensures { OnOk result (IsSearched (space_of asked.now) (spots_of asked.now.board.bounds) known.new) }
+    ensures { OnOk result (IsSearched (space_of (question asked.now)) (spots_of (question asked.now).board.bounds) known.new) }
 {
     let before = spots_of(asked.bounds());
     offer_ends(asked, known, queue)?;
@@ -43,10 +43,10 @@ fn search(asked: &Asked, known: &mut Known, queue: &mut Queue) -> Result<(), NoM
 
 /// The known cost of a spot, if it makes this estimate.
 fn fresh_cost(asked: &Asked, known: &Known, estimate: u64, at: u32) -> Option<u64>
-    requires at { at < spots_of asked.now.board.bounds + 1 }
-    requires each { length known.now ≡ spots_of asked.now.board.bounds + 1 }
-    ensures some { IfSome result (λ cost. (known_at known.now at ≡ Some cost) × (estimate ≡ cost + (space_of asked.now).ahead at)) }
-    ensures none { IfNone result ((k : ℕ) → known_at known.now at ≡ Some k → estimate ≡ k + (space_of asked.now).ahead at → ⊥) }
+    requires at { at < spots_of (question asked.now).board.bounds + 1 }
+    requires each { length known.now ≡ spots_of (question asked.now).board.bounds + 1 }
+    ensures some { IfSome result (λ cost. (known_at known.now at ≡ Some cost) × (estimate ≡ cost + (space_of (question asked.now)).ahead at)) }
+    ensures none { IfNone result ((k : ℕ) → known_at known.now at ≡ Some k → estimate ≡ k + (space_of (question asked.now)).ahead at → ⊥) }
 {
     let cost = known.of(at)?;
     if is_sum(estimate, cost, ahead_of(asked, at)) {
@@ -58,8 +58,8 @@ fn fresh_cost(asked: &Asked, known: &Known, estimate: u64, at: u32) -> Option<u6
 
 /// What it costs at least to come to the spot of a number.
 fn ahead_of(asked: &Asked, at: u32) -> u64
-    requires at { at < spots_of asked.now.board.bounds + 1 }
-    ensures { result ≡ (space_of asked.now).ahead at }
+    requires at { at < spots_of (question asked.now).board.bounds + 1 }
+    ensures { result ≡ (space_of (question asked.now)).ahead at }
 {
     match spot_of(asked.bounds(), at) {
         None => 0,

@@ -1,7 +1,7 @@
 //! The seats of an end.
 
 ghost use Rattle.std.specs.Prelude.{◌≡◌, ◌<◌, ◌≤◌, ◌^◌, IfOk, true, length};
-ghost use Rattle.walk_search.specs.Boards.{IsBound};
+ghost use Rattle.walk_search.specs.Boards.{parts_of};
 ghost use Rattle.walk_search.specs.Seats.{is_free_seat, seat_cost, seats_of};
 ghost use Rattle.octi_grid.specs.Ways.{IsWithin};
 
@@ -27,7 +27,7 @@ const SHIFTS: [(i32, i32); 9] = [
 /// The seats of an end: its point, where it is settled, else the points near its home where it may be put.
 pub(crate) fn seats_of(alloc: Global, board: &Board, end: End) -> Result<Vec<GridPoint>, NoMemory>
     requires { IsWithin end.at }
-    ensures { IfOk result (λ seats. seats.items ≡ seats_of board.now end) }
+    ensures { IfOk result (λ seats. seats.items ≡ seats_of (parts_of board.now) end) }
 {
     if !end.is_free {
         return Ok(vec![in alloc; end.at; 1]?);
@@ -49,7 +49,7 @@ pub(crate) fn seats_of(alloc: Global, board: &Board, end: End) -> Result<Vec<Gri
 /// of no walk.
 fn is_free_seat(board: &Board, home: GridPoint, p: GridPoint) -> bool
     requires { IsWithin home }
-    ensures { result ≡ is_free_seat board.now home p }
+    ensures { result ≡ is_free_seat (parts_of board.now) home p }
 {
     if !board.bounds().contains(p) {
         return false;

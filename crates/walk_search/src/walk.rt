@@ -3,7 +3,7 @@
 ghost use Rattle.std.specs.Prelude.{◌≡◌, ℕ, ◌+◌, ◌<◌, ◌≤◌, ◌↔◌, Some, IsTrue, IfOk, IfSome, IfNone, length};
 ghost use Rattle.walk_search.specs.Spots.{spot_of, spots_of};
 ghost use Rattle.state_search.specs.Searching.{IsSearched, known_at};
-ghost use Rattle.walk_search.specs.Moves.{IsMove, move_of, space_of};
+ghost use Rattle.walk_search.specs.Moves.{question, IsMove, move_of, space_of};
 ghost use Rattle.walk_search.specs.Walked.{AreLabels, DifferBy, EndsAt, IsAnswer, IsLeastMove, IsPath, KeepsCost, StopsAt, walk_of_labels};
 
 use crate::asked::Asked;
@@ -26,8 +26,8 @@ pub(crate) struct Move {
 /// The walk along the known costs: each time by the least label that keeps to them, until it may end, first to a seat and
 /// then step by step. None where no cost is known before a seat is chosen.
 pub(crate) fn walk(alloc: Global, asked: &Asked, known: &Known) -> Result<Option<Walk>, NoMemory>
-    requires { IsSearched (space_of asked.now) (spots_of asked.now.board.bounds) known.now }
-    ensures { IfOk result (IsAnswer asked.now) }
+    requires { IsSearched (space_of (question asked.now)) (spots_of (question asked.now).board.bounds) known.now }
+    ensures { IfOk result (IsAnswer (question asked.now)) }
 {
     let labels = labels_along(alloc, asked, known)?;
     if labels.len() < 2 {
@@ -38,8 +38,8 @@ pub(crate) fn walk(alloc: Global, asked: &Asked, known: &Known) -> Result<Option
 
 /// The labels of the moves along the known costs.
 fn labels_along(alloc: Global, asked: &Asked, known: &Known) -> Result<Vec<u8>, NoMemory>
-    requires { IsSearched (space_of asked.now) (spots_of asked.now.board.bounds) known.now }
-    ensures { IfOk result (λ labels. AreLabels asked.now known.now labels.items) }
+    requires { IsSearched (space_of (question asked.now)) (spots_of (question asked.now).board.bounds) known.now }
+    ensures { IfOk result (λ labels. AreLabels (question asked.now) known.now labels.items) }
 {
     let mut labels = Vec::new(alloc);
     let mut at = spots_of(asked.bounds());
@@ -52,10 +52,10 @@ fn labels_along(alloc: Global, asked: &Asked, known: &Known) -> Result<Vec<u8>, 
 
 /// The move by the least label that keeps to the known costs; none where the walk may end or no move keeps to them.
 fn next_move(asked: &Asked, known: &Known, at: u32) -> Option<Move>
-    requires at { at < spots_of asked.now.board.bounds + 1 }
-    requires each { length known.now ≡ spots_of asked.now.board.bounds + 1 }
-    ensures least { IfSome result (λ step. IsLeastMove asked.now known.now at step.label step.to) }
-    ensures none { IfNone result (StopsAt asked.now known.now at) }
+    requires at { at < spots_of (question asked.now).board.bounds + 1 }
+    requires each { length known.now ≡ spots_of (question asked.now).board.bounds + 1 }
+    ensures least { IfSome result (λ step. IsLeastMove (question asked.now) known.now at step.label step.to) }
+    ensures none { IfNone result (StopsAt (question asked.now) known.now at) }
 {
     if ends_at(asked, known, at) {
         return None;
@@ -70,9 +70,9 @@ fn next_move(asked: &Asked, known: &Known, at: u32) -> Option<Move>
 
 /// Whether the walk ends at a spot: its known cost is what it costs to end there.
 fn ends_at(asked: &Asked, known: &Known, at: u32) -> bool
-    requires at { at < spots_of asked.now.board.bounds + 1 }
-    requires each { length known.now ≡ spots_of asked.now.board.bounds + 1 }
-    ensures { IsTrue result ↔ EndsAt asked.now known.now at }
+    requires at { at < spots_of (question asked.now).board.bounds + 1 }
+    requires each { length known.now ≡ spots_of (question asked.now).board.bounds + 1 }
+    ensures { IsTrue result ↔ EndsAt (question asked.now) known.now at }
 {
     match spot_of(asked.bounds(), at) {
         None => false,
@@ -92,10 +92,10 @@ fn are_known(a: Option<u64>, b: Option<u64>) -> bool
 
 /// The move by a label, if it keeps to the known costs.
 fn kept_move(asked: &Asked, known: &Known, at: u32, label: u8) -> Option<Move>
-    requires at { at < spots_of asked.now.board.bounds + 1 }
-    requires each { length known.now ≡ spots_of asked.now.board.bounds + 1 }
-    ensures some { IfSome result (λ step. (step.label ≡ label) × KeepsCost asked.now known.now at label step.to) }
-    ensures none { IfNone result ((to : ℕ) → KeepsCost asked.now known.now at label to → ⊥) }
+    requires at { at < spots_of (question asked.now).board.bounds + 1 }
+    requires each { length known.now ≡ spots_of (question asked.now).board.bounds + 1 }
+    ensures some { IfSome result (λ step. (step.label ≡ label) × KeepsCost (question asked.now) known.now at label step.to) }
+    ensures none { IfNone result ((to : ℕ) → KeepsCost (question asked.now) known.now at label to → ⊥) }
 {
     let step = move_by(asked, at, label)?;
     if differ_by(known.of(at), known.of(step.to), step.cost) {
@@ -107,10 +107,10 @@ fn kept_move(asked: &Asked, known: &Known, at: u32, label: u8) -> Option<Move>
 
 /// The move by a label.
 fn move_by(asked: &Asked, at: u32, label: u8) -> Option<Move>
-    requires at { at < spots_of asked.now.board.bounds + 1 }
-    ensures some { IfSome result (λ step. (step.label ≡ label) × IsMove asked.now at label step.to step.cost) }
-    ensures within { IfSome result (λ step. step.to < spots_of asked.now.board.bounds + 1) }
-    ensures none { IfNone result ((to cost : ℕ) → IsMove asked.now at label to cost → ⊥) }
+    requires at { at < spots_of (question asked.now).board.bounds + 1 }
+    ensures some { IfSome result (λ step. (step.label ≡ label) × IsMove (question asked.now) at label step.to step.cost) }
+    ensures within { IfSome result (λ step. step.to < spots_of (question asked.now).board.bounds + 1) }
+    ensures none { IfNone result ((to cost : ℕ) → IsMove (question asked.now) at label to cost → ⊥) }
 {
     let (landing, cost) = landing_of(asked, at, label)?;
     Some(Move {
@@ -122,8 +122,8 @@ fn move_by(asked: &Asked, at: u32, label: u8) -> Option<Move>
 
 /// Where a label leads to from the spot of a number, and at what cost.
 fn landing_of(asked: &Asked, at: u32, label: u8) -> Option<(Spot, u64)>
-    requires at { at < spots_of asked.now.board.bounds + 1 }
-    ensures { result ≡ move_of asked.now (spot_of asked.now.board.bounds at) label }
+    requires at { at < spots_of (question asked.now).board.bounds + 1 }
+    ensures { result ≡ move_of (question asked.now) (spot_of (question asked.now).board.bounds at) label }
 {
     match spot_of(asked.bounds(), at) {
         None => asked.chosen_seat(label),
@@ -146,9 +146,9 @@ fn differ_by(greater: Option<u64>, lesser: Option<u64>, by: u64) -> bool
 
 /// The walk of the labels of a path: the place of its start in the list of starts, and the numbers of its directions.
 fn walk_by(alloc: Global, asked: &Asked, labels: &[u8]) -> Result<Walk, NoMemory>
-    requires path { IsPath asked.now labels.now }
+    requires path { IsPath (question asked.now) labels.now }
     requires long { 2 ≤ length labels.now }
-    ensures { IfOk result (λ walk. walk ≡ walk_of_labels asked.now labels.now) }
+    ensures { IfOk result (λ walk. walk ≡ walk_of_labels (question asked.now) labels.now) }
 {
     let start = asked.start(labels[0]);
     let mut walk = Walk::of_step(alloc, start, direction(labels[1]))?;
