@@ -5,6 +5,7 @@ use Rattle.octi_grid.specs.declared.dir.Dir.TheVariants as dir
 use Rattle.octi_grid.specs.declared.point.GridPoint.{GridPoint}
 use Rattle.octi_grid.specs.Walks.{PlainWalk}
 use Rattle.walk_search.specs.declared.ends.End.{End}
+use Rattle.walk_search.specs.declared.bounds.Bounds.{Bounds}
 use Rattle.walk_search.specs.Boards.{BoardParts, empty_board, with_node, with_walk}
 use Rattle.walk_search.specs.Seats.{seats_of}
 use Rattle.walk_search.specs.Routes.{is_free, total_of, is_no_worse}
@@ -22,8 +23,14 @@ loose p = record { at = p; is_free = true; ports = 255 }
 abbrev walk : GridPoint → List Dir → PlainWalk
 walk start steps = record { start = start; steps = steps }
 
+abbrev small : Bounds
+small = record { left = negsuc 5; right = pos 8; bottom = negsuc 5; top = pos 8 }
+
+abbrev large : Bounds
+large = record { left = negsuc 7; right = pos 24; bottom = negsuc 7; top = pos 24 }
+
 abbrev two_nodes : BoardParts
-two_nodes = with_node (with_node (empty_board (negsuc 5) (pos 8) (negsuc 5) (pos 8)) (at (pos 0) (pos 0))) (at (pos 4) (pos 0))
+two_nodes = with_node (with_node (empty_board small) (at (pos 0) (pos 0))) (at (pos 4) (pos 0))
 
 abbrev from : End
 from = settled (at (pos 0) (pos 0))
@@ -77,7 +84,7 @@ ends_elsewhere = refl
 abbrev corners : BoardParts
 corners =
     with_walk
-    (with_node (with_node (with_node (with_node (empty_board (negsuc 5) (pos 8) (negsuc 5) (pos 8)) (at (pos 0) (pos 0))) (at (pos 2) (pos 2))) (at (pos 2) (pos 0))) (at (pos 0) (pos 2)))
+    (with_node (with_node (with_node (with_node (empty_board small) (at (pos 0) (pos 0))) (at (pos 2) (pos 2))) (at (pos 2) (pos 0))) (at (pos 0) (pos 2)))
     (walk (at (pos 0) (pos 0)) (dir.NE ∷ dir.NE ∷ []))
 
 abbrev right : End
@@ -91,7 +98,7 @@ crossing_is_not_free = refl
 
 abbrev between : BoardParts
 between =
-    with_walk (with_node (with_node (empty_board (negsuc 5) (pos 8) (negsuc 5) (pos 8)) (at (pos 2) (pos 0))) (at (pos 0) (pos 2))) (walk (at (pos 1) (pos 1)) (dir.NE ∷ []))
+    with_walk (with_node (with_node (empty_board small) (at (pos 2) (pos 0))) (at (pos 0) (pos 2))) (walk (at (pos 1) (pos 1)) (dir.NE ∷ []))
 
 crossing_in_a_middle : is_free between right upper (walk (at (pos 2) (pos 0)) (dir.N ∷ dir.NW ∷ dir.W ∷ [])) ≡ false
 crossing_in_a_middle = refl
@@ -130,7 +137,7 @@ past_its_home = refl
 
 -- two ends that may both be moved stay at their homes
 abbrev wide : BoardParts
-wide = with_node (with_node (empty_board (negsuc 7) (pos 24) (negsuc 7) (pos 24)) (at (pos 0) (pos 0))) (at (pos 16) (pos 2))
+wide = with_node (with_node (empty_board large) (at (pos 0) (pos 0))) (at (pos 16) (pos 2))
 
 homes_are_free : is_free wide (loose (at (pos 0) (pos 0))) (loose (at (pos 16) (pos 2))) (walk (at (pos 0) (pos 0)) (dir.NE ∷ dir.NE ∷ replicate 14 dir.E)) ≡ true
 homes_are_free = refl

@@ -1,5 +1,5 @@
 -- How walks go on from spot to spot, and where they may end.
-use Rattle.std.specs.Prelude.{◌≡◌, ℕ, ◌+◌, ◌-◌, ◌*◌, ◌<◌, ◌==◌, ◌||◌, ◌&&◌, nat_lt, nat_le, Bool, true, false, not, List, [], ◌∷◌, length, if◌then◌else◌, Option, Some, None, slice_index_or}
+use Rattle.std.specs.Prelude.{◌≡◌, ◌≢◌, ◌⊎◌, ℕ, ◌+◌, ◌-◌, ◌*◌, ◌<◌, ◌==◌, ◌||◌, ◌&&◌, nat_lt, nat_le, Bool, true, false, not, List, [], ◌∷◌, length, if◌then◌else◌, Option, Some, None, slice_index_or}
 use Rattle.octi_grid.specs.declared.dir.Dir.{Dir}
 use Rattle.octi_grid.specs.declared.dir.Dir.TheVariants as dir
 use Rattle.octi_grid.specs.declared.point.GridPoint.{GridPoint}
@@ -9,7 +9,7 @@ use Rattle.octi_grid.specs.Legal.{is_among}
 use Rattle.state_search.specs.Goals.{Space}
 use Rattle.walk_search.specs.declared.ends.End.{End}
 use Rattle.walk_search.specs.declared.spots.Spot.{Spot}
-use Rattle.walk_search.specs.Boards.{BoardParts, is_inside}
+use Rattle.walk_search.specs.Boards.{BoardParts, BoardFlags, IsBoard, is_inside, parts_of}
 use Rattle.walk_search.specs.Seats.{seats_of, seat_cost}
 use Rattle.walk_search.specs.Routes.{allows, directions}
 use Rattle.walk_search.specs.Reaching.{reach_of}
@@ -21,6 +21,15 @@ pub record Question : Type 0 where
   pub from : End
   pub to : End
 
+-- the same, with what the board holds
+pub record AskedParts : Type 0 where
+  pub board : BoardFlags
+  pub from : End
+  pub to : End
+
+unfoldable pub question : AskedParts → Question
+question a = record { board = parts_of a.board; from = a.from; to = a.to }
+
 abbrev pub starts_of : Question → List GridPoint
 starts_of q = seats_of q.board q.from
 
@@ -30,6 +39,25 @@ ends_of q = seats_of q.board q.to
 -- a start's place in the list of starts
 abbrev pub start_at : Question → ℕ → GridPoint
 start_at q i = slice_index_or (starts_of q) i q.from.at
+
+-- an end's place in the list of ends
+abbrev pub end_at : Question → ℕ → GridPoint
+end_at q i = slice_index_or (ends_of q) i q.to.at
+
+-- what may be asked: two different nodes of a board; where an end is free, all its ports are allowed or none
+pub record IsQuestion (q : Question) : Type 0 where
+  pub board : IsBoard q.board
+  pub from_node : q.board.is_node q.from.at ≡ true
+  pub to_node : q.board.is_node q.to.at ≡ true
+  pub apart : q.from.at ≢ q.to.at
+  pub from_ports : q.from.is_free ≡ true → (q.from.ports ≡ 0) ⊎ (q.from.ports ≡ 255)
+  pub to_ports : q.to.is_free ≡ true → (q.to.ports ≡ 0) ⊎ (q.to.ports ≡ 255)
+
+-- the seats are those of both ends
+pub record IsAsked (q : Question) (starts ends : List GridPoint) : Type 0 where
+  pub asked : IsQuestion q
+  pub starts_are : starts ≡ starts_of q
+  pub ends_are : ends ≡ ends_of q
 
 -- the direction of a number
 abbrev pub direction : ℕ → Dir
@@ -96,10 +124,10 @@ move_of q (Some s) l = stepped q s l
 
 -- the same by numbers
 pub record IsMove (q : Question) (n l m c : ℕ) : Type 0 where
-  pub from_spot : n < spots_of q.board + 1
+  pub from_spot : n < spots_of q.board.bounds + 1
   pub landing : Spot
-  pub goes : move_of q (spot_of q.board n) l ≡ Some (landing, c)
-  pub lands : m ≡ number_of_spot q.board landing
+  pub goes : move_of q (spot_of q.board.bounds n) l ≡ Some (landing, c)
+  pub lands : m ≡ number_of_spot q.board.bounds landing
 
 -- what it costs at least to come to a spot
 abbrev pub spot_ahead : Question → Option Spot → ℕ
@@ -110,8 +138,8 @@ spot_ahead q (Some s) = reach_of q.from.at s.at
 abbrev pub space_of : Question → Space
 space_of q = record {
   step = IsMove q;
-  goal = λ n. if nat_lt n (spots_of q.board + 1) then end_cost q (spot_of q.board n) else None;
-  ahead = λ n. spot_ahead q (spot_of q.board n);
-  count = spots_of q.board + 1;
+  goal = λ n. if nat_lt n (spots_of q.board.bounds + 1) then end_cost q (spot_of q.board.bounds n) else None;
+  ahead = λ n. spot_ahead q (spot_of q.board.bounds n);
+  count = spots_of q.board.bounds + 1;
   dearest = 21;
 }

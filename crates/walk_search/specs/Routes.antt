@@ -68,7 +68,7 @@ lists_upto (suc n) = [] ∷ flat_map (λ d. map (λ (ds : List Dir). d ∷ ds) (
 
 -- more steps than a walk has that is the least: it comes to no point twice by the same direction
 abbrev pub most_steps : BoardParts → ℕ
-most_steps board = 90 * cells_of board + 1
+most_steps board = 90 * cells_of board.bounds + 1
 
 -- the walks of at most so many steps from a seat
 abbrev pub walks_from : ℕ → GridPoint → List PlainWalk
