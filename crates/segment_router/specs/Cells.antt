@@ -56,6 +56,11 @@ offset_of ps p = record {
 abbrev pub offsets_of : List Point → List Offset
 offsets_of ps = map (offset_of ps) ps
 
+-- an offset within the extents
+pub record IsOffset (ps : List Point) (o : Offset) : Type 0 where
+  pub east : o.east ≤ width_of ps
+  pub north : o.north ≤ height_of ps
+
 -- the least number whose square is no less
 abbrev pub root_up : ℕ → ℕ
 root_up n = unwrap_or (find (λ m. nat_le n (m * m)) (range_with_len 0 (n + 1))) 0

@@ -1,6 +1,6 @@
 //! Why a line graph has no drawing.
 
-use map_base::{Limit, SegId};
+use map_base::{Limit, NoMemory, SegId};
 
 /// Why routing stops.
 #[derive(Clone, Copy, Debug, PartialEq, Eq)]
@@ -11,4 +11,15 @@ pub enum RouteFault {
     Limit(Limit),
     /// Memory ran out.
     NoMemory,
+}
+
+impl From<NoMemory> for RouteFault {
+    ghost use Rattle.std.specs.Prelude.{◌≡◌};
+    ghost use Rattle.segment_router.specs.declared.fault.RouteFault.TheVariants.{NoMemory as WantOfMemory};
+
+    ghost from_gives = { λ _ e. e ≡ WantOfMemory };
+
+    fn from(_refused: NoMemory) -> RouteFault {
+        RouteFault::NoMemory
+    }
 }
