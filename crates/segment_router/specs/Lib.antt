@@ -4,3 +4,4 @@ pub mod Ports
 pub mod Orders
 pub mod Routes
 pub mod Routing
+pub mod Tours

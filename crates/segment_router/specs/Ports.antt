@@ -1,5 +1,5 @@
 -- Which ports of a node a segment may have.
-use Rattle.std.specs.Prelude.{ℕ, ◌+◌, ◌-◌, ◌^◌, ◌%◌, ◌==◌, ◌&&◌, nat_le, Bool, List, [], ◌∷◌, length, map, sum, sum_by, if◌then◌else◌, Option, Some, None}
+use Rattle.std.specs.Prelude.{ℕ, ◌+◌, ◌-◌, ◌^◌, ◌%◌, ◌==◌, ◌&&◌, nat_le, Bool, List, [], ◌∷◌, length, map, sum, if◌then◌else◌, Option, Some, None}
 use Rattle.std.specs.List.{list_all}
 use Rattle.map_base.specs.declared.ids.SegId.{SegId}
 use Rattle.octi_grid.specs.declared.dir.Dir.{Dir}
@@ -24,9 +24,14 @@ abbrev pub gaps_of : ℕ → List Stop → List (ℕ × ℕ)
 gaps_of count [] = []
 gaps_of count (s ∷ ss) = gaps_to count s s ss
 
+-- how far clockwise the gaps go together
+abbrev pub turned_over : List (ℕ × ℕ) → ℕ
+turned_over [] = 0
+turned_over (g ∷ gs) = g.0 + turned_over gs
+
 -- the ports go once round, and from each to the next there is room for the segments between
 abbrev pub are_spaced : ℕ → List Stop → Bool
-are_spaced count stops = (sum_by (λ g. g.0) (gaps_of count stops) == 8) && list_all (λ g. nat_le g.1 g.0) (gaps_of count stops)
+are_spaced count stops = (turned_over (gaps_of count stops) == 8) && list_all (λ g. nat_le g.1 g.0) (gaps_of count stops)
 
 -- the same place with its port, and the stops after it
 abbrev pub with_stop : ℕ → Option Dir → List Stop → List Stop
