@@ -1,0 +1,12 @@
+pub mod WayLemmas
+pub mod RunLemmas
+pub mod CostLemmas
+pub mod Members
+pub mod TakingLemmas
+pub mod LegalLemmas
+pub mod MeetsLemmas
+mod SweepLemmas
+mod CheckLemmas
+mod CheckSteps
+pub mod PortsLemmas
+mod Examples

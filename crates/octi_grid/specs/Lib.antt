@@ -1,0 +1,7 @@
+pub mod Ways
+pub mod Costs
+pub mod Runs
+pub mod Walks
+pub mod Legal
+pub mod Taking
+pub mod Sweeps

@@ -1,0 +1,3 @@
+pub mod TourLemmas
+mod OrderLemmas
+mod Examples

@@ -1,0 +1,19 @@
+//! The drawing of a line graph on the octilinear grid: homes of nodes on even grid points, allowed ports, and routes of
+//! segments one after another, on finer and finer grids. A drawing that it makes is legal.
+#![tactic(auto)]
+
+mod attempts;
+mod cells;
+mod fault;
+mod homes;
+mod order;
+mod placing;
+mod ports;
+
+mod routing;
+
+pub use attempts::{Attempt, route};
+pub use fault::RouteFault;
+pub use placing::{Offset, Placing, place, place_at};
+pub use ports::allowed_ports;
+

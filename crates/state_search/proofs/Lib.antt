@@ -1,0 +1,7 @@
+pub mod Paths
+pub mod Tables
+pub mod CostTables
+pub mod Searches
+pub mod Lowering
+pub mod Walks
+pub mod Visiting

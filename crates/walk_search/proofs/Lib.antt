@@ -1,0 +1,5 @@
+mod Examples
+pub mod Within
+pub mod Marks
+pub mod Ways
+pub mod OnBoards

@@ -1,0 +1,28 @@
+use Rattle.std.proofs.Common.{◌≡◌, sym, ◌∙◌, ap, ap₂, subst, true, false, set, get_or, List, Bool, replicate}
+use Rattle.octi_grid.specs.declared.point.GridPoint.{GridPoint}
+use Rattle.walk_search.specs.declared.bounds.Bounds.{Bounds}
+use Rattle.walk_search.specs.Boards.{BoardFlags, IsKept, cell_of, cells_of, contains, doubled_bounds, is_inside, parts_of, with_node, with_node_moved, with_walk}
+use Rattle.walk_search.specs.Taking.{raised}
+use Rattle.octi_grid.specs.Walks.{doubled_of, points_of}
+use Rattle.walk_search.proofs.Within.{frame_of}
+use Rattle.walk_search.proofs.OnBoards.{kept_bounds, kept_empty, kept_moved, kept_node, kept_walk, seen_all_inside, seen_inside, shown_bounds, shown_empty, shown_is_node, shown_is_taken, shown_moved, shown_node, shown_walk}
+use Rattle.walk_search.proofs.board.Board.is_taken.Goals as goal
+
+pub doubled-requires : goal.doubled-requires
+doubled-requires c =
+    let b : BoardFlags = record { bounds = c.self.inside.bounds; nodes = c.self.inside.nodes.items; taken = c.self.inside.taken } in
+    kept_bounds b c.self.invariant
+
+pub cell_of-cell-requires-clause-inside : goal.cell_of-cell-requires-clause-inside
+cell_of-cell-requires-clause-inside c =
+    let b : BoardFlags = record { bounds = c.self.inside.bounds; nodes = c.self.inside.nodes.items; taken = c.self.inside.taken } in
+    subst (λ (d : Bounds). contains d c.args.at ≡ true) (sym c.doubled.ensures.value)
+    (subst (λ (d : Bounds). contains (doubled_bounds d) c.args.at ≡ true) (shown_bounds b) (subst (λ (x : BoardFlags). contains (doubled_bounds (parts_of x).bounds) c.args.at ≡ true) (sym c.self.view_is) c.requires))
+
+pub returns : goal.returns
+returns c =
+    let b : BoardFlags = record { bounds = c.self.inside.bounds; nodes = c.self.inside.nodes.items; taken = c.self.inside.taken } in
+    c.is_raised.ensures
+    ∙ ap (λ n. get_or b.taken n false) (c.cell_of-cell.ensures.value ∙ ap (λ (d : Bounds). cell_of d c.args.at) c.doubled.ensures.value)
+    ∙ sym (shown_is_taken b c.args.at (subst (λ (d : Bounds). contains (doubled_bounds d) c.args.at ≡ true) (shown_bounds b) (subst (λ (x : BoardFlags). contains (doubled_bounds (parts_of x).bounds) c.args.at ≡ true) (sym c.self.view_is) c.requires)))
+    ∙ ap (λ (x : BoardFlags). (parts_of x).is_taken c.args.at) c.self.view_is

@@ -1,0 +1,24 @@
+use Rattle.std.proofs.Common.{◌≡◌, sym, ◌∙◌, ap, ap₂, subst, true, false, set, get_or, List, Bool, replicate}
+use Rattle.octi_grid.specs.declared.point.GridPoint.{GridPoint}
+use Rattle.walk_search.specs.declared.bounds.Bounds.{Bounds}
+use Rattle.walk_search.specs.Boards.{BoardFlags, IsKept, cell_of, cells_of, contains, doubled_bounds, is_inside, parts_of, with_node, with_node_moved, with_walk}
+use Rattle.walk_search.specs.Taking.{raised}
+use Rattle.octi_grid.specs.Walks.{doubled_of, points_of}
+use Rattle.walk_search.proofs.Within.{frame_of}
+use Rattle.walk_search.proofs.OnBoards.{kept_bounds, kept_empty, kept_moved, kept_node, kept_walk, seen_all_inside, seen_inside, shown_bounds, shown_empty, shown_is_node, shown_is_taken, shown_moved, shown_node, shown_walk}
+use Rattle.walk_search.proofs.board.Board.within.Goals as goal
+
+pub invariant_of-result : goal.invariant_of-result
+invariant_of-result c =
+    let nodes : c.in_ok-nodes.nodes.items ≡ replicate (cells_of c.args.bounds) false = c.in_ok-nodes.ensures.items_if_clones_equal (λ y e. e) ∙ ap (λ n. replicate n false) c.cells.ensures.value in
+    let taken : c.in_ok-taken.taken ≡ replicate (cells_of (doubled_bounds c.args.bounds)) false =
+    c.in_ok-taken.ensures tt ∙ ap (λ n. replicate n false) (c.cells-2.ensures.value ∙ ap cells_of c.doubled.ensures.value) in
+    subst (λ (ns : List Bool). IsKept (record { bounds = c.args.bounds; nodes = ns; taken = c.in_ok-taken.taken })) (sym nodes)
+    (subst (λ (ts : List Bool). IsKept (record { bounds = c.args.bounds; nodes = replicate (cells_of c.args.bounds) false; taken = ts })) (sym taken) (kept_empty c.args.bounds c.requires))
+
+pub returns : goal.returns
+returns c =
+    let nodes : c.in_ok-nodes.nodes.items ≡ replicate c.cells.result false = c.in_ok-nodes.ensures.items_if_clones_equal (λ y e. e) in
+    let taken : c.in_ok-taken.taken ≡ replicate c.cells-2.result false = c.in_ok-taken.ensures tt in
+    ap₂ (λ (ns ts : List Bool). parts_of (record { bounds = c.args.bounds; nodes = ns; taken = ts })) nodes taken
+    ∙ shown_empty c.args.bounds c.cells.result c.cells-2.result

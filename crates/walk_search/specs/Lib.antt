@@ -1,0 +1,10 @@
+pub mod Boards
+pub mod Frames
+pub mod Taking
+pub mod Seats
+pub mod Routes
+pub mod Reaching
+pub mod Spots
+pub mod Moves
+pub mod Offers
+pub mod Walked

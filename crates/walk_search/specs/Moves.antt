@@ -1,0 +1,145 @@
+-- How walks go on from spot to spot, and where they may end.
+use Rattle.std.specs.Prelude.{◌≡◌, ◌≢◌, ◌⊎◌, ℕ, ◌+◌, ◌-◌, ◌*◌, ◌<◌, ◌==◌, ◌||◌, ◌&&◌, nat_lt, nat_le, Bool, true, false, not, List, [], ◌∷◌, length, if◌then◌else◌, Option, Some, None, slice_index_or}
+use Rattle.octi_grid.specs.declared.dir.Dir.{Dir}
+use Rattle.octi_grid.specs.declared.dir.Dir.TheVariants as dir
+use Rattle.octi_grid.specs.declared.point.GridPoint.{GridPoint}
+use Rattle.octi_grid.specs.Ways.{are_one, doubled, step_from, reverse_of, number_of}
+use Rattle.octi_grid.specs.Costs.{step_cost, turn_between}
+use Rattle.octi_grid.specs.Legal.{is_among}
+use Rattle.state_search.specs.Goals.{Space}
+use Rattle.walk_search.specs.declared.ends.End.{End}
+use Rattle.walk_search.specs.declared.spots.Spot.{Spot}
+use Rattle.walk_search.specs.Boards.{BoardParts, BoardFlags, IsBoard, is_inside, parts_of}
+use Rattle.walk_search.specs.Seats.{seats_of, seat_cost}
+use Rattle.walk_search.specs.Routes.{allows, directions}
+use Rattle.walk_search.specs.Reaching.{reach_of}
+use Rattle.walk_search.specs.Spots.{spots_of, spot_of, number_of_spot}
+
+-- what is asked: the least free walk on a board between two ends
+pub record Question : Type 0 where
+  pub board : BoardParts
+  pub from : End
+  pub to : End
+
+-- the same, with what the board holds
+pub record AskedParts : Type 0 where
+  pub board : BoardFlags
+  pub from : End
+  pub to : End
+
+unfoldable pub question : AskedParts → Question
+question a = record { board = parts_of a.board; from = a.from; to = a.to }
+
+abbrev pub starts_of : Question → List GridPoint
+starts_of q = seats_of q.board q.from
+
+abbrev pub ends_of : Question → List GridPoint
+ends_of q = seats_of q.board q.to
+
+-- a start's place in the list of starts
+abbrev pub start_at : Question → ℕ → GridPoint
+start_at q i = slice_index_or (starts_of q) i q.from.at
+
+-- an end's place in the list of ends
+abbrev pub end_at : Question → ℕ → GridPoint
+end_at q i = slice_index_or (ends_of q) i q.to.at
+
+-- what may be asked: two different nodes of a board; where an end is free, all its ports are allowed or none
+pub record IsQuestion (q : Question) : Type 0 where
+  pub board : IsBoard q.board
+  pub from_node : q.board.is_node q.from.at ≡ true
+  pub to_node : q.board.is_node q.to.at ≡ true
+  pub apart : q.from.at ≢ q.to.at
+  pub from_ports : q.from.is_free ≡ true → (q.from.ports ≡ 0) ⊎ (q.from.ports ≡ 255)
+  pub to_ports : q.to.is_free ≡ true → (q.to.ports ≡ 0) ⊎ (q.to.ports ≡ 255)
+
+-- the seats are those of both ends
+pub record IsAsked (q : Question) (starts ends : List GridPoint) : Type 0 where
+  pub asked : IsQuestion q
+  pub starts_are : starts ≡ starts_of q
+  pub ends_are : ends ≡ ends_of q
+
+-- the direction of a number
+abbrev pub direction : ℕ → Dir
+direction n = slice_index_or directions n dir.N
+
+-- walks from a start that is a seat of the other end too are in a group of their own, since they must not end there;
+-- all other walks are in group 0
+abbrev pub group_of : Question → ℕ → ℕ
+group_of q i = if is_among (ends_of q) (start_at q i) then i + 1 else 0
+
+-- the walks of a group may start at a point
+abbrev pub is_start : Question → GridPoint → ℕ → Bool
+is_start q p group =
+    if group == 0 then is_among (starts_of q) p && not (is_among (ends_of q) p)
+    else nat_le group (length (starts_of q)) && are_one (start_at q (group - 1)) p && is_among (ends_of q) p
+
+-- there are walks of a group, and they may end at a point
+abbrev pub is_end : Question → GridPoint → ℕ → Bool
+is_end q p group =
+    is_among (ends_of q) p
+    && (group == 0 || (nat_le group (length (starts_of q)) && is_among (ends_of q) (start_at q (group - 1)) && not (are_one (start_at q (group - 1)) p)))
+
+-- what a walk that stands at a spot pays to end there, where it may
+abbrev pub end_cost : Question → Option Spot → Option ℕ
+end_cost q None = None
+end_cost q (Some s) =
+    if nat_lt s.arrival 8 && is_end q s.at s.group && allows q.to.ports (Some (reverse_of (direction s.arrival)))
+    then Some (seat_cost q.to.at s.at) else None
+
+-- a walk may go on from the point: it is no node's, and of no walk
+abbrev pub is_passable : BoardParts → GridPoint → Bool
+is_passable board p = not (board.is_node p) && not (board.is_taken (doubled p))
+
+-- a step from a point stays on the board, and no walk has its middle
+abbrev pub is_open : BoardParts → GridPoint → Dir → Bool
+is_open board p d = is_inside board p && is_inside board (step_from p d) && not (board.is_taken (step_from (doubled p) d))
+
+-- a walk may leave a spot in a direction: at its start by an allowed port, and elsewhere where it may go on
+abbrev pub may_leave : Question → Spot → Dir → Bool
+may_leave q s d = if s.arrival == 8 then is_start q s.at s.group && allows q.from.ports (Some d) else is_passable q.board s.at
+
+-- the turn from the direction of arrival; at a start there is none
+abbrev pub turn_from : ℕ → Dir → ℕ
+turn_from arrival d = if arrival == 8 then 0 else turn_between (direction arrival) d
+
+-- a seat is chosen by its place in the list, at what it costs and 1 more
+abbrev pub chosen_seat : Question → ℕ → Option (Spot × ℕ)
+chosen_seat q i =
+    if nat_lt i (length (starts_of q))
+    then Some (record { at = start_at q i; arrival = 8; group = group_of q i }, seat_cost q.from.at (start_at q i) + 1)
+    else None
+
+-- a step is made by the number of its direction
+abbrev pub stepped : Question → Spot → ℕ → Option (Spot × ℕ)
+stepped q s l =
+    if nat_lt l 8 && may_leave q s (direction l) && is_open q.board s.at (direction l)
+    then Some (record { at = step_from s.at (direction l); arrival = l; group = s.group }, step_cost (direction l) + turn_from s.arrival (direction l))
+    else None
+
+-- where a label leads to, and at what cost
+abbrev pub move_of : Question → Option Spot → ℕ → Option (Spot × ℕ)
+move_of q None l = chosen_seat q l
+move_of q (Some s) l = stepped q s l
+
+-- the same by numbers
+pub record IsMove (q : Question) (n l m c : ℕ) : Type 0 where
+  pub from_spot : n < spots_of q.board.bounds + 1
+  pub landing : Spot
+  pub goes : move_of q (spot_of q.board.bounds n) l ≡ Some (landing, c)
+  pub lands : m ≡ number_of_spot q.board.bounds landing
+
+-- what it costs at least to come to a spot
+abbrev pub spot_ahead : Question → Option Spot → ℕ
+spot_ahead q None = 0
+spot_ahead q (Some s) = reach_of q.from.at s.at
+
+-- the spots as states of a search
+abbrev pub space_of : Question → Space
+space_of q = record {
+  step = IsMove q;
+  goal = λ n. if nat_lt n (spots_of q.board.bounds + 1) then end_cost q (spot_of q.board.bounds n) else None;
+  ahead = λ n. spot_ahead q (spot_of q.board.bounds n);
+  count = spots_of q.board.bounds + 1;
+  dearest = 21;
+}

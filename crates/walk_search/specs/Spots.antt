@@ -1,0 +1,19 @@
+-- Where a walk under way stands, and the numbers of these spots.
+use Rattle.std.specs.Prelude.{ℕ, ◌+◌, ◌*◌, ◌/◌, ◌%◌, ◌==◌, if◌then◌else◌, Option, Some, None}
+use Rattle.walk_search.specs.declared.spots.Spot.{Spot}
+use Rattle.walk_search.specs.declared.bounds.Bounds.{Bounds}
+use Rattle.walk_search.specs.Boards.{cells_of, cell_of, point_of}
+
+-- the number of a spot within bounds
+abbrev pub number_of_spot : Bounds → Spot → ℕ
+number_of_spot b s = (cell_of b s.at * 9 + s.arrival) * 10 + s.group
+
+-- how many spots there are, which is also the number of what comes before every spot: no seat is chosen yet
+abbrev pub spots_of : Bounds → ℕ
+spots_of b = 90 * cells_of b
+
+-- the spot of a number, and none before a seat is chosen
+abbrev pub spot_of : Bounds → ℕ → Option Spot
+spot_of b n =
+    if n == spots_of b then None
+    else Some (record { at = point_of b (n / 90); arrival = n / 10 % 9; group = n % 10 })

@@ -1,0 +1,276 @@
+//! What is asked of a search, and the steps of walks from spot to spot.
+
+ghost use Rattle.std.specs.Prelude.{◌≡◌, ℕ, ◌+◌, ◌<◌, ◌≤◌, ◌&&◌, IfOk, Some, true, length, option_map};
+ghost use Rattle.octi_grid.specs.Ways.{CanStep};
+ghost use Rattle.walk_search.specs.Reaching.{reach_of};
+ghost use Rattle.walk_search.specs.Routes.{allows};
+ghost use Rattle.walk_search.specs.Seats.{seat_cost};
+ghost use Rattle.walk_search.specs.Boards.{contains, is_inside};
+ghost use Rattle.walk_search.specs.Moves.{question, IsQuestion, chosen_seat, direction, end_at, end_cost, ends_of, group_of, is_end, is_open, is_passable, is_start, may_leave, start_at, starts_of, stepped, turn_from};
+
+use crate::board::Board;
+use crate::bounds::Bounds;
+use crate::directions::{allows, direction};
+use crate::ends::End;
+use crate::reaching::reach;
+use crate::seats::{seat_cost, seats_of};
+use crate::spots::Spot;
+use map_base::NoMemory;
+use octi_grid::{Dir, GridPoint, step_cost, turn_cost};
+use std::alloc::Global;
+use std::marker::Model;
+
+/// The number of the arrival of a walk at its start.
+pub(crate) const START: u8 = 8;
+
+/// What is asked: the least free walk on a board between two ends, with the seats of both.
+#[derive(Drop)]
+pub(crate) struct Asked<'a> {
+    board: &'a Board,
+    from: End,
+    to: End,
+    starts: Vec<GridPoint>,
+    ends: Vec<GridPoint>,
+}
+
+impl<'a> Model for Asked<'a> {
+    ghost use Rattle.std.specs.Prelude.{◌≡◌};
+    ghost use Rattle.walk_search.specs.Moves.{AskedParts, IsAsked, question};
+
+    ghost Value = { AskedParts };
+
+    ghost view = { λ a. record { board = a.board.now; from = a.from; to = a.to } };
+
+    ghost invariant = { λ a. IsAsked (question (record { board = a.board.now; from = a.from; to = a.to })) a.starts.items a.ends.items };
+}
+
+impl<'a> Asked<'a> {
+    /// The question of the least walk between two ends.
+    pub(crate) fn new(
+        alloc: Global,
+        board: &'a Board,
+        from: End,
+        to: End,
+    ) -> Result<Asked<'a>, NoMemory>
+        requires { IsQuestion (question (record { board = board.now; from = from; to = to })) }
+        ensures { IfOk result (λ asked. asked ≡ record { board = board.now; from = from; to = to }) }
+    {
+        let starts = seats_of(alloc, board, from)?;
+        let ends = seats_of(alloc, board, to)?;
+        Ok(Asked {
+            board,
+            from,
+            to,
+            starts,
+            ends,
+        })
+    }
+
+    /// The bounds of the board.
+    pub(crate) fn bounds(&self) -> Bounds
+        ensures value { result ≡ (question self.now).board.bounds }
+        ensures kept { IsQuestion (question self.now) }
+    {
+        self.board.bounds()
+    }
+
+    /// How many seats the start has.
+    pub(crate) fn start_count(&self) -> u8
+        ensures value { result ≡ length (starts_of (question self.now)) }
+        ensures within { result ≤ 9 }
+    {
+        self.starts.len() as u8
+    }
+
+    /// How many seats the end has.
+    pub(crate) fn end_count(&self) -> u8
+        ensures value { result ≡ length (ends_of (question self.now)) }
+        ensures within { result ≤ 9 }
+    {
+        self.ends.len() as u8
+    }
+
+    /// A seat of the start.
+    pub(crate) fn start(&self, i: u8) -> GridPoint
+        requires { i < length (starts_of (question self.now)) }
+        ensures value { result ≡ start_at (question self.now) i }
+        ensures inside { is_inside (question self.now).board result ≡ true }
+    {
+        self.starts[usize::from(i)]
+    }
+
+    /// A seat of the end.
+    pub(crate) fn end(&self, i: u8) -> GridPoint
+        requires { i < length (ends_of (question self.now)) }
+        ensures value { result ≡ end_at (question self.now) i }
+        ensures inside { is_inside (question self.now).board result ≡ true }
+    {
+        self.ends[usize::from(i)]
+    }
+
+    /// The group of the walks from a seat: one of its own where it is a seat of the end too.
+    pub(crate) fn group_of(&self, i: u8) -> u8
+        requires { i < length (starts_of (question self.now)) }
+        ensures value { result ≡ group_of (question self.now) i }
+        ensures within { result ≤ 9 }
+    {
+        if self.ends.contains(&self.start(i)) {
+            i + 1
+        } else {
+            0
+        }
+    }
+
+    /// Whether the walks of a group may start at a point.
+    pub(crate) fn is_start(&self, p: GridPoint, group: u8) -> bool
+        ensures { result ≡ is_start (question self.now) p group }
+    {
+        if group == 0 {
+            return self.starts.contains(&p) && !self.ends.contains(&p);
+        }
+        if self.start_count() < group || self.start(group - 1) != p {
+            return false;
+        }
+        self.ends.contains(&p)
+    }
+
+    /// Whether there are walks of a group, and they may end at a point.
+    fn is_end(&self, p: GridPoint, group: u8) -> bool
+        ensures { result ≡ is_end (question self.now) p group }
+    {
+        if !self.ends.contains(&p) {
+            return false;
+        }
+        if group == 0 {
+            return true;
+        }
+        if self.start_count() < group {
+            return false;
+        }
+        let start = self.start(group - 1);
+        self.ends.contains(&start) && start != p
+    }
+
+    /// What a walk that stands at a spot pays to end there, where it may.
+    pub(crate) fn end_cost(&self, spot: Spot) -> Option<u64>
+        ensures value { result ≡ end_cost (question self.now) (Some spot) }
+    {
+        if spot.arrival >= START || !self.is_end(spot.at, spot.group) {
+            return None;
+        }
+        if !allows(self.to.ports, direction(spot.arrival).reverse()) {
+            return None;
+        }
+        Some(seat_cost(self.to.at, spot.at))
+    }
+
+    /// Whether a walk may go on from a point: it is no node's, and of no walk.
+    pub(crate) fn is_passable(&self, p: GridPoint) -> bool
+        requires { is_inside (question self.now).board p ≡ true }
+        ensures { result ≡ is_passable (question self.now).board p }
+    {
+        if self.board.is_node(p) {
+            return false;
+        }
+        !self.board.is_taken(p.doubled())
+    }
+
+    /// Whether a step from a point stays on the board, and no walk has its middle.
+    pub(crate) fn is_open(&self, p: GridPoint, dir: Dir) -> bool
+        requires { CanStep p }
+        ensures { result ≡ is_open (question self.now).board p dir }
+    {
+        let bounds = self.board.bounds();
+        if !bounds.contains(p) || !bounds.contains(p.step(dir)) {
+            return false;
+        }
+        !self.board.is_taken(p.doubled().step(dir))
+    }
+
+    /// Whether a walk may leave its start by a port.
+    pub(crate) fn allows_start(&self, p: GridPoint, group: u8, dir: Dir) -> bool
+        ensures { result ≡ is_start (question self.now) p group && allows (question self.now).from.ports (Some dir) }
+    {
+        if !allows(self.from.ports, dir) {
+            return false;
+        }
+        self.is_start(p, group)
+    }
+
+    /// Whether a walk may leave a spot in a direction: at its start by an allowed port, elsewhere where it may go on.
+    fn may_leave(&self, spot: Spot, dir: Dir) -> bool
+        requires { is_inside (question self.now).board spot.at ≡ true }
+        ensures { result ≡ may_leave (question self.now) spot dir }
+    {
+        if spot.arrival == START {
+            self.allows_start(spot.at, spot.group, dir)
+        } else {
+            self.is_passable(spot.at)
+        }
+    }
+
+    /// What a seat of the start costs.
+    pub(crate) fn start_cost(&self, i: u8) -> u64
+        requires { i < length (starts_of (question self.now)) }
+        ensures value { result ≡ seat_cost (question self.now).from.at (start_at (question self.now) i) }
+        ensures within { result ≤ 20 }
+    {
+        seat_cost(self.from.at, self.start(i))
+    }
+
+    /// The spot of a seat of the start, and what it costs, with 1 more.
+    pub(crate) fn chosen_seat(&self, i: u8) -> Option<(Spot, u64)>
+        ensures { result ≡ chosen_seat (question self.now) i }
+    {
+        if i >= self.start_count() {
+            return None;
+        }
+        let at = self.start(i);
+        let spot = Spot {
+            at,
+            arrival: START,
+            group: self.group_of(i),
+        };
+        Some((spot, self.start_cost(i) + 1))
+    }
+
+    /// The spot that a step leads to, by the number of its direction, and what it costs.
+    pub(crate) fn stepped(&self, spot: Spot, label: u8) -> Option<(Spot, u64)>
+        requires inside { is_inside (question self.now).board spot.at ≡ true }
+        requires arrival { spot.arrival < 9 }
+        ensures { result ≡ stepped (question self.now) spot label }
+    {
+        if label >= START {
+            return None;
+        }
+        let dir = direction(label);
+        if !self.may_leave(spot, dir) || !self.is_open(spot.at, dir) {
+            return None;
+        }
+        let next = Spot {
+            at: spot.at.step(dir),
+            arrival: label,
+            group: spot.group,
+        };
+        Some((next, u64::from(step_cost(dir)) + turn_from(spot.arrival, dir)))
+    }
+
+    /// What it costs at least to come to a point from the home of the start.
+    pub(crate) fn ahead_of(&self, p: GridPoint) -> u64
+        ensures { result ≡ reach_of (question self.now).from.at p }
+    {
+        reach(self.from.at, p)
+    }
+}
+
+/// What the turn from a direction of arrival costs; at a start there is none.
+pub(crate) fn turn_from(arrival: u8, dir: Dir) -> u64
+    requires { arrival < 9 }
+    ensures value { result ≡ turn_from arrival dir }
+    ensures within { result ≤ 4 }
+{
+    if arrival == START {
+        return 0;
+    }
+    u64::from(turn_cost(direction(arrival), dir))
+}

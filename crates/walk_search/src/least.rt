@@ -1,0 +1,86 @@
+//! The least free walk between two ends.
+
+ghost use Rattle.std.specs.Prelude.{◌≡◌, ◌≢◌, ◌⊎◌, IfOk, IfSome, true, false};
+ghost use Rattle.octi_grid.specs.Legal.{are_distinct};
+ghost use Rattle.octi_grid.specs.Walks.{doubled_of};
+ghost use Rattle.walk_search.specs.Routes.{route};
+ghost use Rattle.walk_search.specs.Boards.{parts_of};
+ghost use Rattle.walk_search.specs.Moves.{IsQuestion, question};
+
+use crate::asked::Asked;
+use crate::board::Board;
+use crate::ends::End;
+use crate::known::Known;
+use crate::search::note_costs;
+use crate::spots::spots_of;
+use crate::walk::walk;
+use map_base::NoMemory;
+use octi_grid::{GridPoint, Walk};
+use std::alloc::Global;
+
+/// The least free walk between two nodes of a board that are both settled: it leaves the one and comes to the other by
+/// allowed ports, where bit `d` of a mask allows the port of direction `d`. None where no free walk is.
+pub fn least_walk(
+    alloc: Global,
+    board: &Board,
+    from: GridPoint,
+    from_ports: u8,
+    to: GridPoint,
+    to_ports: u8,
+) -> Result<Option<Walk>, NoMemory>
+    requires from { (parts_of board.now).is_node from ≡ true }
+    requires to { (parts_of board.now).is_node to ≡ true }
+    requires apart { from ≢ to }
+    ensures { IfOk result (λ walk. walk ≡ route (parts_of board.now) (record { at = from; is_free = false; ports = from_ports }) (record { at = to; is_free = false; ports = to_ports })) }
+{
+    least_settled_walk(alloc, board, from, false, from_ports, to, false, to_ports)
+}
+
+/// The least free walk between seats of two nodes of a board: an end that is free may still be put on a seat beside its
+/// home, at a cost, and has the mask 0 or 255. None where no free walk is.
+pub fn least_settled_walk(
+    alloc: Global,
+    board: &Board,
+    from: GridPoint,
+    from_free: bool,
+    from_ports: u8,
+    to: GridPoint,
+    to_free: bool,
+    to_ports: u8,
+) -> Result<Option<Walk>, NoMemory>
+    requires from { (parts_of board.now).is_node from ≡ true }
+    requires to { (parts_of board.now).is_node to ≡ true }
+    requires apart { from ≢ to }
+    requires from_mask { from_free ≡ true → (from_ports ≡ 0) ⊎ (from_ports ≡ 255) }
+    requires to_mask { to_free ≡ true → (to_ports ≡ 0) ⊎ (to_ports ≡ 255) }
+    ensures { IfOk result (λ walk. walk ≡ route (parts_of board.now) (record { at = from; is_free = from_free; ports = from_ports }) (record { at = to; is_free = to_free; ports = to_ports })) }
+{
+    let from = End {
+        at: from,
+        is_free: from_free,
+        ports: from_ports,
+    };
+    let to = End {
+        at: to,
+        is_free: to_free,
+        ports: to_ports,
+    };
+    least_between(alloc, board, from, to)
+}
+
+/// The same for two ends.
+fn least_between(
+    alloc: Global,
+    board: &Board,
+    from: End,
+    to: End,
+) -> Result<Option<Walk>, NoMemory>
+    requires { IsQuestion (question (record { board = board.now; from = from; to = to })) }
+    ensures { IfOk result (λ walk. walk ≡ route (parts_of board.now) from to) }
+{
+    let asked = Asked::new(alloc, board, from, to)?;
+    let states = spots_of(asked.bounds()) as usize + 1;
+    let mut known = Known::none(alloc, states);
+    note_costs(alloc, &asked, &mut known)?;
+    walk(alloc, &asked, &known)
+}

@@ -1,0 +1,289 @@
+//! Costs that are offered to the spots from which others are reached.
+
+ghost use Rattle.std.specs.Prelude.{◌≡◌, ◌+◌, ◌*◌, ◌<◌, ◌≤◌, ◌^◌, OnOk, Some, true, length};
+ghost use Rattle.std.specs.BinaryHeap.{IsHeap, heap_items};
+ghost use Rattle.octi_grid.specs.Ways.{CanStep};
+ghost use Rattle.state_search.specs.Searching.{AreLowered, IsLowered, queue_cmp};
+ghost use Rattle.walk_search.specs.Boards.{is_inside};
+ghost use Rattle.walk_search.specs.Spots.{number_of_spot, spot_of, spots_of};
+ghost use Rattle.walk_search.specs.Moves.{question, ends_of, space_of, starts_of};
+ghost use Rattle.walk_search.specs.Offers.{arrival_offers, back_offers, end_offer, end_offers, end_spot, passing_offers, seat_offer, seat_offers, spot_offers, start_offers};
+
+use crate::asked::{Asked, START, turn_from};
+use crate::directions::direction;
+use crate::known::Known;
+use crate::queue::{Queue, lower};
+use crate::spots::{Spot, number_of_spot, spot_of, spots_of};
+use map_base::NoMemory;
+use octi_grid::{Dir, GridPoint, step_cost};
+
+/// A cost is offered to a spot.
+fn offer(
+    asked: &Asked,
+    spot: Spot,
+    cost: u64,
+    known: &mut Known,
+    queue: &mut Queue,
+) -> Result<(), NoMemory>
+    requires inside { is_inside (question asked.now).board spot.at ≡ true }
+    requires arrival { spot.arrival < 9 }
+    requires group { spot.group < 10 }
+    requires cost { cost < 2 ^ 40 }
+    requires each { length known.old ≡ spots_of (question asked.now).board.bounds + 1 }
+    requires order { IsHeap queue_cmp (heap_items queue.old) }
+    ensures order { OnOk result (IsHeap queue_cmp (heap_items queue.new)) }
+    ensures each { OnOk result (length known.new ≡ spots_of (question asked.now).board.bounds + 1) }
+    ensures lowered { OnOk result (IsLowered ((space_of (question asked.now)).ahead (number_of_spot (question asked.now).board.bounds spot)) known.old known.new (heap_items queue.old) (heap_items queue.new) (number_of_spot (question asked.now).board.bounds spot) cost) }
+{
+    let number = number_of_spot(asked.bounds(), spot);
+    lower(known, queue, number, cost, asked.ahead_of(spot.at))
+}
+
+/// Offers to each spot where a walk may end what it costs to end there.
+pub(crate) fn offer_ends(
+    asked: &Asked,
+    known: &mut Known,
+    queue: &mut Queue,
+) -> Result<(), NoMemory>
+    requires each { length known.old ≡ spots_of (question asked.now).board.bounds + 1 }
+    requires order { IsHeap queue_cmp (heap_items queue.old) }
+    ensures order { OnOk result (IsHeap queue_cmp (heap_items queue.new)) }
+    ensures each { OnOk result (length known.new ≡ spots_of (question asked.now).board.bounds + 1) }
+    ensures lowered { OnOk result (AreLowered (space_of (question asked.now)).ahead known.old known.new (heap_items queue.old) (heap_items queue.new) (end_offers (question asked.now) (80 * length (ends_of (question asked.now))))) }
+{
+    for k in 0..80 * u16::from(asked.end_count()) {
+        offer_end(asked, k, known, queue)?;
+    }
+    Ok(())
+}
+
+/// The same for one of these spots, if a walk may end there.
+fn offer_end(
+    asked: &Asked,
+    k: u16,
+    known: &mut Known,
+    queue: &mut Queue,
+) -> Result<(), NoMemory>
+    requires k { k < 80 * length (ends_of (question asked.now)) }
+    requires each { length known.old ≡ spots_of (question asked.now).board.bounds + 1 }
+    requires order { IsHeap queue_cmp (heap_items queue.old) }
+    ensures order { OnOk result (IsHeap queue_cmp (heap_items queue.new)) }
+    ensures each { OnOk result (length known.new ≡ spots_of (question asked.now).board.bounds + 1) }
+    ensures lowered { OnOk result (AreLowered (space_of (question asked.now)).ahead known.old known.new (heap_items queue.old) (heap_items queue.new) (end_offer (question asked.now) k)) }
+{
+    let spot = Spot {
+        at: asked.end((k / 80) as u8),
+        arrival: (k / 10 % 8) as u8,
+        group: (k % 10) as u8,
+    };
+    match asked.end_cost(spot) {
+        None => Ok(()),
+        Some(cost) => offer(asked, spot, cost, known, queue),
+    }
+}
+
+/// Offers to each spot from which a step or the choice of a seat leads to a spot what it costs by that step.
+pub(crate) fn offer_back(
+    asked: &Asked,
+    at: u32,
+    cost: u64,
+    known: &mut Known,
+    queue: &mut Queue,
+) -> Result<(), NoMemory>
+    requires at { at < spots_of (question asked.now).board.bounds + 1 }
+    requires cost { cost < 2 ^ 39 }
+    requires each { length known.old ≡ spots_of (question asked.now).board.bounds + 1 }
+    requires order { IsHeap queue_cmp (heap_items queue.old) }
+    ensures order { OnOk result (IsHeap queue_cmp (heap_items queue.new)) }
+    ensures each { OnOk result (length known.new ≡ spots_of (question asked.now).board.bounds + 1) }
+    ensures lowered { OnOk result (AreLowered (space_of (question asked.now)).ahead known.old known.new (heap_items queue.old) (heap_items queue.new) (spot_offers (question asked.now) (spot_of (question asked.now).board.bounds at) cost)) }
+{
+    match spot_of(asked.bounds(), at) {
+        None => Ok(()),
+        Some(spot) => offer_from(asked, spot, cost, known, queue),
+    }
+}
+
+/// The same for a spot.
+fn offer_from(
+    asked: &Asked,
+    spot: Spot,
+    cost: u64,
+    known: &mut Known,
+    queue: &mut Queue,
+) -> Result<(), NoMemory>
+    requires inside { is_inside (question asked.now).board spot.at ≡ true }
+    requires arrival { spot.arrival < 9 }
+    requires group { spot.group < 10 }
+    requires cost { cost < 2 ^ 39 }
+    requires each { length known.old ≡ spots_of (question asked.now).board.bounds + 1 }
+    requires order { IsHeap queue_cmp (heap_items queue.old) }
+    ensures order { OnOk result (IsHeap queue_cmp (heap_items queue.new)) }
+    ensures each { OnOk result (length known.new ≡ spots_of (question asked.now).board.bounds + 1) }
+    ensures lowered { OnOk result (AreLowered (space_of (question asked.now)).ahead known.old known.new (heap_items queue.old) (heap_items queue.new) (spot_offers (question asked.now) (Some spot) cost)) }
+{
+    if spot.arrival == START {
+        return offer_seats(asked, spot, cost, known, queue);
+    }
+    let dir = direction(spot.arrival);
+    let back = spot.at.step(dir.reverse());
+    offer_step(asked, back, spot.group, dir, cost, known, queue)
+}
+
+/// Offers to what comes before the choice of a seat what a spot at a start costs with its seat.
+fn offer_seats(
+    asked: &Asked,
+    spot: Spot,
+    cost: u64,
+    known: &mut Known,
+    queue: &mut Queue,
+) -> Result<(), NoMemory>
+    requires cost { cost < 2 ^ 39 }
+    requires each { length known.old ≡ spots_of (question asked.now).board.bounds + 1 }
+    requires order { IsHeap queue_cmp (heap_items queue.old) }
+    ensures order { OnOk result (IsHeap queue_cmp (heap_items queue.new)) }
+    ensures each { OnOk result (length known.new ≡ spots_of (question asked.now).board.bounds + 1) }
+    ensures lowered { OnOk result (AreLowered (space_of (question asked.now)).ahead known.old known.new (heap_items queue.old) (heap_items queue.new) (seat_offers (question asked.now) spot cost (length (starts_of (question asked.now))))) }
+{
+    for i in 0..asked.start_count() {
+        offer_seat(asked, spot, cost, i, known, queue)?;
+    }
+    Ok(())
+}
+
+/// The same for one seat, if the spot is at that seat.
+fn offer_seat(
+    asked: &Asked,
+    spot: Spot,
+    cost: u64,
+    i: u8,
+    known: &mut Known,
+    queue: &mut Queue,
+) -> Result<(), NoMemory>
+    requires i { i < length (starts_of (question asked.now)) }
+    requires cost { cost < 2 ^ 39 }
+    requires each { length known.old ≡ spots_of (question asked.now).board.bounds + 1 }
+    requires order { IsHeap queue_cmp (heap_items queue.old) }
+    ensures order { OnOk result (IsHeap queue_cmp (heap_items queue.new)) }
+    ensures each { OnOk result (length known.new ≡ spots_of (question asked.now).board.bounds + 1) }
+    ensures lowered { OnOk result (AreLowered (space_of (question asked.now)).ahead known.old known.new (heap_items queue.old) (heap_items queue.new) (seat_offer (question asked.now) spot cost i)) }
+{
+    if asked.start(i) != spot.at || asked.group_of(i) != spot.group {
+        return Ok(());
+    }
+    let before = spots_of(asked.bounds());
+    lower(known, queue, before, cost + asked.start_cost(i) + 1, 0)
+}
+
+/// Offers to the spots at a point what it costs to go on by a step, if a step may be made there.
+fn offer_step(
+    asked: &Asked,
+    p: GridPoint,
+    group: u8,
+    dir: Dir,
+    cost: u64,
+    known: &mut Known,
+    queue: &mut Queue,
+) -> Result<(), NoMemory>
+    requires p { CanStep p }
+    requires group { group < 10 }
+    requires cost { cost < 2 ^ 39 }
+    requires each { length known.old ≡ spots_of (question asked.now).board.bounds + 1 }
+    requires order { IsHeap queue_cmp (heap_items queue.old) }
+    ensures order { OnOk result (IsHeap queue_cmp (heap_items queue.new)) }
+    ensures each { OnOk result (length known.new ≡ spots_of (question asked.now).board.bounds + 1) }
+    ensures lowered { OnOk result (AreLowered (space_of (question asked.now)).ahead known.old known.new (heap_items queue.old) (heap_items queue.new) (back_offers (question asked.now) p group dir cost)) }
+{
+    if !asked.is_open(p, dir) {
+        return Ok(());
+    }
+    offer_passing(asked, p, group, dir, cost, known, queue)?;
+    offer_start(asked, p, group, dir, cost, known, queue)
+}
+
+/// Offers to the spots at a point, by each direction of arrival, if a walk may go on there.
+fn offer_passing(
+    asked: &Asked,
+    p: GridPoint,
+    group: u8,
+    dir: Dir,
+    cost: u64,
+    known: &mut Known,
+    queue: &mut Queue,
+) -> Result<(), NoMemory>
+    requires inside { is_inside (question asked.now).board p ≡ true }
+    requires group { group < 10 }
+    requires cost { cost < 2 ^ 39 }
+    requires each { length known.old ≡ spots_of (question asked.now).board.bounds + 1 }
+    requires order { IsHeap queue_cmp (heap_items queue.old) }
+    ensures order { OnOk result (IsHeap queue_cmp (heap_items queue.new)) }
+    ensures each { OnOk result (length known.new ≡ spots_of (question asked.now).board.bounds + 1) }
+    ensures lowered { OnOk result (AreLowered (space_of (question asked.now)).ahead known.old known.new (heap_items queue.old) (heap_items queue.new) (passing_offers (question asked.now) p group dir cost)) }
+{
+    if !asked.is_passable(p) {
+        return Ok(());
+    }
+    offer_arrivals(asked, p, group, dir, cost, known, queue)
+}
+
+/// The same where a walk may go on.
+fn offer_arrivals(
+    asked: &Asked,
+    p: GridPoint,
+    group: u8,
+    dir: Dir,
+    cost: u64,
+    known: &mut Known,
+    queue: &mut Queue,
+) -> Result<(), NoMemory>
+    requires inside { is_inside (question asked.now).board p ≡ true }
+    requires group { group < 10 }
+    requires cost { cost < 2 ^ 39 }
+    requires each { length known.old ≡ spots_of (question asked.now).board.bounds + 1 }
+    requires order { IsHeap queue_cmp (heap_items queue.old) }
+    ensures order { OnOk result (IsHeap queue_cmp (heap_items queue.new)) }
+    ensures each { OnOk result (length known.new ≡ spots_of (question asked.now).board.bounds + 1) }
+    ensures lowered { OnOk result (AreLowered (space_of (question asked.now)).ahead known.old known.new (heap_items queue.old) (heap_items queue.new) (arrival_offers (question asked.now) p group dir cost 8)) }
+{
+    for arrival in 0..START {
+        let spot = Spot {
+            at: p,
+            arrival,
+            group,
+        };
+        let whole = cost + (u64::from(step_cost(dir)) + turn_from(arrival, dir));
+        offer(asked, spot, whole, known, queue)?;
+    }
+    Ok(())
+}
+
+/// Offers to the spot of a walk that starts at a point, if one may start there by this port.
+fn offer_start(
+    asked: &Asked,
+    p: GridPoint,
+    group: u8,
+    dir: Dir,
+    cost: u64,
+    known: &mut Known,
+    queue: &mut Queue,
+) -> Result<(), NoMemory>
+    requires inside { is_inside (question asked.now).board p ≡ true }
+    requires group { group < 10 }
+    requires cost { cost < 2 ^ 39 }
+    requires each { length known.old ≡ spots_of (question asked.now).board.bounds + 1 }
+    requires order { IsHeap queue_cmp (heap_items queue.old) }
+    ensures order { OnOk result (IsHeap queue_cmp (heap_items queue.new)) }
+    ensures each { OnOk result (length known.new ≡ spots_of (question asked.now).board.bounds + 1) }
+    ensures lowered { OnOk result (AreLowered (space_of (question asked.now)).ahead known.old known.new (heap_items queue.old) (heap_items queue.new) (start_offers (question asked.now) p group dir cost)) }
+{
+    if !asked.allows_start(p, group, dir) {
+        return Ok(());
+    }
+    let spot = Spot {
+        at: p,
+        arrival: START,
+        group,
+    };
+    let whole = cost + (u64::from(step_cost(dir)) + turn_from(START, dir));
+    offer(asked, spot, whole, known, queue)
+}

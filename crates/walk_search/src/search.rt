@@ -1,0 +1,78 @@
+//! The search for the least costs to the ends.
+
+ghost use Rattle.std.specs.Prelude.{◌≡◌, ℕ, ◌+◌, ◌<◌, ◌↔◌, [], Some, None, IsTrue, IfSome, IfNone, OnOk, length, replicate};
+ghost use Rattle.std.specs.BinaryHeap.{IsHeap, heap_items};
+ghost use Rattle.state_search.specs.Searching.{IsSearched, known_at, queue_cmp};
+ghost use Rattle.walk_search.specs.Spots.{spots_of};
+ghost use Rattle.walk_search.specs.Moves.{question, space_of};
+
+use crate::asked::Asked;
+use crate::known::Known;
+use crate::offers::{offer_back, offer_ends};
+use crate::queue::{Queue, next};
+use crate::spots::{spot_of, spots_of};
+use map_base::NoMemory;
+use std::alloc::Global;
+
+/// Notes, where nothing is known, the least costs at which the ends can be reached, as far as they can lie on a walk
+/// no dearer than the least. The search goes from the ends backwards and ends where what waits can only be dearer.
+pub(crate) fn note_costs(alloc: Global, asked: &Asked, known: &mut Known) -> Result<(), NoMemory>
+    requires { known.old ≡ replicate (spots_of (question asked.now).board.bounds + 1) None }
+    ensures { OnOk result (IsSearched (space_of (question asked.now)) (spots_of (question asked.now).board.bounds) known.new) }
+{
+    let mut queue = Queue::new(alloc);
+    search(asked, known, &mut queue)
+}
+
+/// The same, with a queue in which nothing waits.
+fn search(asked: &Asked, known: &mut Known, queue: &mut Queue) -> Result<(), NoMemory>
+    requires nothing_known { known.old ≡ replicate (spots_of (question asked.now).board.bounds + 1) None }
+    requires nothing_waits { heap_items queue.old ≡ [] }
+    requires order { IsHeap queue_cmp (heap_items queue.old) }
+    ensures { OnOk result (IsSearched (space_of (question asked.now)) (spots_of (question asked.now).board.bounds) known.new) }
+{
+    let before = spots_of(asked.bounds());
+    offer_ends(asked, known, queue)?;
+    while let Some((estimate, at)) = next(queue, known.of(before)) {
+        if let Some(cost) = fresh_cost(asked, known, estimate, at) {
+            offer_back(asked, at, cost, known, queue)?;
+        }
+    }
+    Ok(())
+}
+
+/// The known cost of a spot, if it makes this estimate.
+fn fresh_cost(asked: &Asked, known: &Known, estimate: u64, at: u32) -> Option<u64>
+    requires at { at < spots_of (question asked.now).board.bounds + 1 }
+    requires each { length known.now ≡ spots_of (question asked.now).board.bounds + 1 }
+    ensures some { IfSome result (λ cost. (known_at known.now at ≡ Some cost) × (estimate ≡ cost + (space_of (question asked.now)).ahead at)) }
+    ensures none { IfNone result ((k : ℕ) → known_at known.now at ≡ Some k → estimate ≡ k + (space_of (question asked.now)).ahead at → ⊥) }
+{
+    let cost = known.of(at)?;
+    if is_sum(estimate, cost, ahead_of(asked, at)) {
+        Some(cost)
+    } else {
+        None
+    }
+}
+
+/// What it costs at least to come to the spot of a number.
+fn ahead_of(asked: &Asked, at: u32) -> u64
+    requires at { at < spots_of (question asked.now).board.bounds + 1 }
+    ensures { result ≡ (space_of (question asked.now)).ahead at }
+{
+    match spot_of(asked.bounds(), at) {
+        None => 0,
+        Some(spot) => asked.ahead_of(spot.at),
+    }
+}
+
+/// Whether a number is the sum of two others.
+pub(crate) fn is_sum(whole: u64, first: u64, second: u64) -> bool
+    ensures { IsTrue result ↔ (whole ≡ first + second) }
+{
+    if whole < first {
+        return false;
+    }
+    whole - first == second
+}

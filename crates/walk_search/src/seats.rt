@@ -1,0 +1,70 @@
+//! The seats of an end.
+
+ghost use Rattle.std.specs.Prelude.{◌≡◌, ◌<◌, ◌≤◌, ◌^◌, IfOk, true, length};
+ghost use Rattle.walk_search.specs.Boards.{parts_of};
+ghost use Rattle.walk_search.specs.Seats.{is_free_seat, seat_cost, seats_of};
+ghost use Rattle.octi_grid.specs.Ways.{IsWithin};
+
+use crate::board::Board;
+use crate::ends::End;
+use map_base::NoMemory;
+use octi_grid::GridPoint;
+use std::alloc::Global;
+
+/// How far a seat may lie from its home, east and north, by the least y and then the least x.
+const SHIFTS: [(i32, i32); 9] = [
+    (-2, -2),
+    (0, -2),
+    (2, -2),
+    (-2, 0),
+    (0, 0),
+    (2, 0),
+    (-2, 2),
+    (0, 2),
+    (2, 2),
+];
+
+/// The seats of an end: its point, where it is settled, else the points near its home where it may be put.
+pub(crate) fn seats_of(alloc: Global, board: &Board, end: End) -> Result<Vec<GridPoint>, NoMemory>
+    requires { IsWithin end.at }
+    ensures { IfOk result (λ seats. seats.items ≡ seats_of (parts_of board.now) end) }
+{
+    if !end.is_free {
+        return Ok(vec![in alloc; end.at; 1]?);
+    }
+    let mut seats = Vec::new(alloc);
+    for (east, north) in SHIFTS {
+        let seat = GridPoint {
+            x: end.at.x + east,
+            y: end.at.y + north,
+        };
+        if is_free_seat(board, end.at, seat) {
+            seats.push(seat)?;
+        }
+    }
+    Ok(seats)
+}
+
+/// Whether an end that is not settled may be put on a point: one of the board that is its home or no node's point, and
+/// of no walk.
+fn is_free_seat(board: &Board, home: GridPoint, p: GridPoint) -> bool
+    requires { IsWithin home }
+    ensures { result ≡ is_free_seat (parts_of board.now) home p }
+{
+    if !board.bounds().contains(p) {
+        return false;
+    }
+    if p != home && board.is_node(p) {
+        return false;
+    }
+    !board.is_taken(p.doubled())
+}
+
+/// What a seat costs: 5 times the sum of its differences from the home.
+pub(crate) fn seat_cost(home: GridPoint, p: GridPoint) -> u64
+    requires home { IsWithin home }
+    requires p { IsWithin p }
+    ensures { result ≡ seat_cost home p }
+{
+    5 * (u64::from(home.x.abs_diff(p.x)) + u64::from(home.y.abs_diff(p.y)))
+}
