@@ -5,3 +5,4 @@ pub mod Searches
 pub mod Lowering
 pub mod Walks
 pub mod Visiting
+pub mod Standing

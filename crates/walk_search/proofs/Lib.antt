@@ -3,3 +3,8 @@ pub mod Within
 pub mod Marks
 pub mod Ways
 pub mod OnBoards
+pub mod Turning
+pub mod LeastReach
+pub mod Numbered
+pub mod SeatFacts
+pub mod Moving

@@ -5,7 +5,7 @@ ghost use Rattle.octi_grid.specs.Legal.{are_distinct};
 ghost use Rattle.octi_grid.specs.Walks.{doubled_of};
 ghost use Rattle.walk_search.specs.Routes.{route};
 ghost use Rattle.walk_search.specs.Boards.{parts_of};
-ghost use Rattle.walk_search.specs.Moves.{IsQuestion, question};
+ghost use Rattle.walk_search.specs.Moves.{IsQuestion};
 
 use crate::asked::Asked;
 use crate::board::Board;
@@ -75,7 +75,7 @@ fn least_between(
     from: End,
     to: End,
 ) -> Result<Option<Walk>, NoMemory>
-    requires { IsQuestion (question (record { board = board.now; from = from; to = to })) }
+    requires { IsQuestion (record { board = parts_of board.now; from = from; to = to }) }
     ensures { IfOk result (λ walk. walk ≡ route (parts_of board.now) from to) }
 {
     let asked = Asked::new(alloc, board, from, to)?;

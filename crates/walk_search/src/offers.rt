@@ -6,7 +6,8 @@ ghost use Rattle.octi_grid.specs.Ways.{CanStep};
 ghost use Rattle.state_search.specs.Searching.{AreLowered, IsLowered, queue_cmp};
 ghost use Rattle.walk_search.specs.Boards.{is_inside};
 ghost use Rattle.walk_search.specs.Spots.{number_of_spot, spot_of, spots_of};
-ghost use Rattle.walk_search.specs.Moves.{question, ends_of, space_of, starts_of};
+ghost use Rattle.walk_search.specs.Asking.{question};
+ghost use Rattle.walk_search.specs.Moves.{ends_of, space_of, starts_of};
 ghost use Rattle.walk_search.specs.Offers.{arrival_offers, back_offers, end_offer, end_offers, end_spot, passing_offers, seat_offer, seat_offers, spot_offers, start_offers};
 
 use crate::asked::{Asked, START, turn_from};

@@ -4,7 +4,8 @@ ghost use Rattle.std.specs.Prelude.{◌≡◌, ℕ, ◌+◌, ◌<◌, ◌↔◌,
 ghost use Rattle.std.specs.BinaryHeap.{IsHeap, heap_items};
 ghost use Rattle.state_search.specs.Searching.{IsSearched, known_at, queue_cmp};
 ghost use Rattle.walk_search.specs.Spots.{spots_of};
-ghost use Rattle.walk_search.specs.Moves.{question, space_of};
+ghost use Rattle.walk_search.specs.Asking.{question};
+ghost use Rattle.walk_search.specs.Moves.{space_of};
 
 use crate::asked::Asked;
 use crate::known::Known;

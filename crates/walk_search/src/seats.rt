@@ -3,7 +3,8 @@
 ghost use Rattle.std.specs.Prelude.{◌≡◌, ◌<◌, ◌≤◌, ◌^◌, IfOk, true, length};
 ghost use Rattle.walk_search.specs.Boards.{parts_of};
 ghost use Rattle.walk_search.specs.Seats.{is_free_seat, seat_cost, seats_of};
-ghost use Rattle.octi_grid.specs.Ways.{IsWithin};
+ghost use Rattle.octi_grid.specs.Ways.{IsWithin, are_one};
+ghost use Rattle.octi_grid.specs.Legal.{is_among};
 
 use crate::board::Board;
 use crate::ends::End;
@@ -54,10 +55,32 @@ fn is_free_seat(board: &Board, home: GridPoint, p: GridPoint) -> bool
     if !board.bounds().contains(p) {
         return false;
     }
-    if p != home && board.is_node(p) {
+    if !are_one(home, p) && board.is_node(p) {
         return false;
     }
     !board.is_taken(p.doubled())
+}
+
+/// Whether a point is one of these.
+pub(crate) fn is_among(points: &[GridPoint], p: GridPoint) -> bool
+    ensures { result ≡ is_among points.now p }
+{
+    for point in points {
+        if are_one(p, *point) {
+            return true;
+        }
+    }
+    false
+}
+
+/// Whether two points are the same.
+pub(crate) fn are_one(p: GridPoint, q: GridPoint) -> bool
+    ensures { result ≡ are_one p q }
+{
+    if p.x != q.x {
+        return false;
+    }
+    p.y == q.y
 }
 
 /// What a seat costs: 5 times the sum of its differences from the home.

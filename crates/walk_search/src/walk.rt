@@ -3,7 +3,8 @@
 ghost use Rattle.std.specs.Prelude.{◌≡◌, ℕ, ◌+◌, ◌<◌, ◌≤◌, ◌↔◌, Some, IsTrue, IfOk, IfSome, IfNone, length};
 ghost use Rattle.walk_search.specs.Spots.{spot_of, spots_of};
 ghost use Rattle.state_search.specs.Searching.{IsSearched, known_at};
-ghost use Rattle.walk_search.specs.Moves.{question, IsMove, move_of, space_of};
+ghost use Rattle.walk_search.specs.Asking.{question};
+ghost use Rattle.walk_search.specs.Moves.{IsMove, move_of, space_of};
 ghost use Rattle.walk_search.specs.Walked.{AreLabels, DifferBy, EndsAt, IsAnswer, IsLeastMove, IsPath, KeepsCost, StopsAt, walk_of_labels};
 
 use crate::asked::Asked;

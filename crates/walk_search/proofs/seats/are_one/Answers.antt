@@ -1,0 +1,1 @@
+use Rattle.walk_search.proofs.Moving.{is_space}
