@@ -8,3 +8,4 @@ pub mod LeastReach
 pub mod Numbered
 pub mod SeatFacts
 pub mod Moving
+pub mod Offering

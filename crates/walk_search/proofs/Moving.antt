@@ -14,9 +14,9 @@ use Rattle.walk_search.specs.Boards.{is_inside}
 use Rattle.walk_search.specs.Seats.{seat_cost}
 use Rattle.walk_search.specs.Routes.{allows}
 use Rattle.walk_search.specs.Reaching.{reach_of}
-use Rattle.walk_search.specs.Spots.{number_of_spot, spots_of, spot_of}
+use Rattle.walk_search.specs.Spots.{IsSpot, number_of_spot, spots_of, spot_of}
 use Rattle.walk_search.specs.Moves.{Question, IsQuestion, IsMove, chosen_seat, direction, end_cost, ends_of, group_of, is_end, is_open, is_other_end, may_end, may_leave, move_of, space_of, spot_ahead, start_at, starts_of, stepped, turn_from}
-use Rattle.walk_search.proofs.Numbered.{IsSpot, IsSpotOf, number_below_spots, spot_of-number, spot_of-is, none_is_last}
+use Rattle.walk_search.proofs.Numbered.{IsSpotOf, number_below_spots, spot_of-number, spot_of-is, none_is_last}
 use Rattle.walk_search.proofs.LeastReach.{reach_seat, reach_step}
 use Rattle.walk_search.proofs.Turning.{step_cost_from}
 use Rattle.walk_search.proofs.SeatFacts.{all_index, among_stands, place_of, seats_cheap, seats_few, seats_inside}

@@ -5,14 +5,8 @@ use Rattle.octi_grid.specs.declared.point.GridPoint.{GridPoint}
 use Rattle.walk_search.specs.declared.bounds.Bounds.{Bounds}
 use Rattle.walk_search.specs.declared.spots.Spot.{Spot}
 use Rattle.walk_search.specs.Boards.{AreBounds, contains, cells_of, cell_of, point_of}
-use Rattle.walk_search.specs.Spots.{number_of_spot, spots_of, spot_of}
+use Rattle.walk_search.specs.Spots.{IsSpot, number_of_spot, spots_of, spot_of}
 use Rattle.walk_search.proofs.Within.{IsInside, inside_facts, inside_test, point_below, point_inside, point_of-cell, cell_of-point, frame_of}
-
--- a spot on the board
-pub record IsSpot (b : Bounds) (s : Spot) : Type 0 where
-  pub inside : contains b s.at ≡ true
-  pub arrival : s.arrival < 9
-  pub group : s.group < 10
 
 parts : (cell a g : ℕ) → a < 9 → g < 10 → ((((cell * 9 + a) * 10 + g) / 90) ≡ cell) × (((((cell * 9 + a) * 10 + g) / 10) % 9) ≡ a) × ((((cell * 9 + a) * 10 + g) % 10) ≡ g)
 parts cell a g h k = (omega arith, omega arith, omega arith)

@@ -35,14 +35,18 @@ start_at q i = slice_index_or (starts_of q) i q.from.at
 abbrev pub end_at : Question → ℕ → GridPoint
 end_at q i = slice_index_or (ends_of q) i q.to.at
 
+-- the mask allows all ports or none
+abbrev pub is_all_or_none : ℕ → Bool
+is_all_or_none mask = mask == 0 || mask == 255
+
 -- what may be asked: two different nodes of a board; where an end is free, all its ports are allowed or none
 pub record IsQuestion (q : Question) : Type 0 where
   pub board : IsBoard q.board
   pub from_node : q.board.is_node q.from.at ≡ true
   pub to_node : q.board.is_node q.to.at ≡ true
   pub apart : q.from.at ≢ q.to.at
-  pub from_ports : q.from.is_free ≡ true → (q.from.ports ≡ 0) ⊎ (q.from.ports ≡ 255)
-  pub to_ports : q.to.is_free ≡ true → (q.to.ports ≡ 0) ⊎ (q.to.ports ≡ 255)
+  pub from_ports : q.from.is_free ≡ true → is_all_or_none q.from.ports ≡ true
+  pub to_ports : q.to.is_free ≡ true → is_all_or_none q.to.ports ≡ true
 
 -- the seats are those of both ends
 pub record IsAsked (q : Question) (starts ends : List GridPoint) : Type 0 where

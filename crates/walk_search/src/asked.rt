@@ -1,20 +1,20 @@
 //! What is asked of a search, and the steps of walks from spot to spot.
 
-ghost use Rattle.std.specs.Prelude.{◌≡◌, ℕ, ◌+◌, ◌<◌, ◌≤◌, ◌&&◌, not, IfOk, Some, true, length, option_map};
+ghost use Rattle.std.specs.Prelude.{◌≡◌, ℕ, ◌+◌, ◌<◌, ◌≤◌, ◌&&◌, not, IfOk, IfSome, Some, true, length, option_map};
 ghost use Rattle.octi_grid.specs.Ways.{CanStep, doubled, step_from};
 ghost use Rattle.walk_search.specs.Reaching.{reach_of};
 ghost use Rattle.walk_search.specs.Routes.{allows};
 ghost use Rattle.walk_search.specs.Seats.{seat_cost};
 ghost use Rattle.walk_search.specs.Boards.{is_inside, parts_of};
+ghost use Rattle.walk_search.specs.Spots.{IsSpot, number_of_spot, spot_of, spots_of};
 ghost use Rattle.walk_search.specs.Moves.{IsAsked, IsQuestion, chosen_seat, direction, end_at, end_cost, ends_of, group_of, is_end, is_open, is_other_end, is_own_start, is_passable, is_shared_start, is_start, may_end, may_leave, start_at, starts_of, stepped, turn_from};
 
 use crate::board::Board;
-use crate::bounds::Bounds;
 use crate::directions::{allows, direction};
 use crate::ends::End;
 use crate::reaching::reach;
 use crate::seats::{are_one, is_among, seat_cost, seats_of};
-use crate::spots::Spot;
+use crate::spots::{Spot, number_of_spot, spot_of, spots_of};
 use map_base::NoMemory;
 use octi_grid::{Dir, GridPoint, step_cost, turn_cost};
 use std::alloc::Global;
@@ -57,12 +57,31 @@ impl<'a> Asked<'a> {
         })
     }
 
-    /// The bounds of the board.
-    pub(crate) fn bounds(&self) -> Bounds
-        ensures value { result ≡ (question self.now).board.bounds }
-        ensures kept { IsQuestion (question self.now) }
+    /// The number of what comes before every spot, which is how many spots there are.
+    pub(crate) fn before(&self) -> u32
+        ensures value { result ≡ spots_of (question self.now).board.bounds }
+        ensures asked { IsQuestion (question self.now) }
+        ensures within { result ≤ 1440720090 }
     {
-        self.board.bounds()
+        spots_of(self.board.bounds())
+    }
+
+    /// The number of a spot.
+    pub(crate) fn number_of(&self, spot: Spot) -> u32
+        requires { IsSpot (question self.now).board.bounds spot }
+        ensures value { result ≡ number_of_spot (question self.now).board.bounds spot }
+        ensures within { result < spots_of (question self.now).board.bounds }
+    {
+        number_of_spot(self.board.bounds(), spot)
+    }
+
+    /// The spot of a number, and none before a seat is chosen.
+    pub(crate) fn spot_of(&self, n: u32) -> Option<Spot>
+        requires { n < spots_of (question self.now).board.bounds + 1 }
+        ensures value { result ≡ spot_of (question self.now).board.bounds n }
+        ensures on_board { IfSome result (IsSpot (question self.now).board.bounds) }
+    {
+        spot_of(self.board.bounds(), n)
     }
 
     /// How many seats the start has.

@@ -1,1 +1,1 @@
-use Rattle.walk_search.proofs.Moving.{is_space}
+use Rattle.walk_search.proofs.Offering.{steps_are_offered}
