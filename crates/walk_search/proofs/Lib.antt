@@ -9,3 +9,7 @@ pub mod Numbered
 pub mod SeatFacts
 pub mod Moving
 pub mod Offering
+pub mod Rounds
+pub mod Walking
+pub mod FreeWays
+pub mod FreePaths

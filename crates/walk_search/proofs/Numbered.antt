@@ -1,5 +1,6 @@
 -- Spots and their numbers.
 use Rattle.std.proofs.Common.{◌≡◌, ◌≢◌, refl, sym, ◌∙◌, ap, ap₂, subst, ℕ, zero, suc, ◌+◌, ◌*◌, ◌/◌, ◌%◌, ◌<◌, ◌≤◌, ◌⊎◌, inl, inr, Bool, true, false, cond, eqb, Option, Some, None, arith}
+use Rattle.std.specs.Prelude.{IfSome}
 use Rattle.std.proofs.lemmas.Bool.{ne_eqb, eq-eqb, eqb-true, cases_eq}
 use Rattle.octi_grid.specs.declared.point.GridPoint.{GridPoint}
 use Rattle.walk_search.specs.declared.bounds.Bounds.{Bounds}
@@ -79,3 +80,8 @@ none_is_last b n e = of_test (eqb n (spots_of b)) refl
     of_test : (t : Bool) → eqb n (spots_of b) ≡ t → n ≡ spots_of b
     of_test true h = eqb-true n (spots_of b) h
     of_test false h = let clash : Some spot_at ≡ None = sym (ap (λ t. cond t None (Some spot_at)) h) ∙ e in absurd (let no : ⊥ = cc in no)
+
+-- the spot of a number stands on the board
+pub spots_on_board : (b : Bounds) (n : ℕ) → AreBounds b → n < spots_of b + 1 → (o : Option Spot) → o ≡ spot_of b n → IfSome o (IsSpot b)
+spots_on_board b n h below None e = tt
+spots_on_board b n h below (Some s) e = (spot_of-is b n s h below (sym e)).spot

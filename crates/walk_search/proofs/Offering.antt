@@ -30,7 +30,7 @@ end_inside q h i below = all_index (λ p. is_inside q.board p ≡ true) (ends_of
 end_is_spot : (q : Question) → IsQuestion q → (k : ℕ) → k < 80 * length (ends_of q) → IsSpot q.board.bounds (end_spot q k)
 end_is_spot q h k below = record { inside = end_inside q h (k / 80) (omega arith); arrival = omega arith; group = omega arith }
 
-goal_of_spot : (q : Question) (s : Spot) → IsSpot q.board.bounds s → (space_of q).goal (number_of_spot q.board.bounds s) ≡ end_cost q (Some s)
+pub goal_of_spot : (q : Question) (s : Spot) → IsSpot q.board.bounds s → (space_of q).goal (number_of_spot q.board.bounds s) ≡ end_cost q (Some s)
 goal_of_spot q s h =
     let below : number_of_spot q.board.bounds s < spots_of q.board.bounds = number_below_spots q.board.bounds s h in
     ap (λ t. cond t (end_cost q (spot_of q.board.bounds (number_of_spot q.board.bounds s))) None) (lt-ltb (number_of_spot q.board.bounds s) (spots_of q.board.bounds + 1) (omega arith))
@@ -103,7 +103,7 @@ seat_move q h n s is arrival i below at group = record {
     same : record { at = start_at q i; arrival = 8; group = group_of q i } ≡ s
     same = ap₂ (λ (p : GridPoint) (g : ℕ). record { at = p; arrival = 8; group = g }) at group ∙ ap (λ (a : ℕ). record { at = s.at; arrival = a; group = s.group }) (sym arrival)
 
-step_move : (q : Question) (x : Spot) (l n : ℕ) (s : Spot) → IsSpot q.board.bounds x → l < 8 → may_leave q x (direction l) ≡ true → is_open q.board x.at (direction l) ≡ true →
+pub step_move : (q : Question) (x : Spot) (l n : ℕ) (s : Spot) → IsSpot q.board.bounds x → l < 8 → may_leave q x (direction l) ≡ true → is_open q.board x.at (direction l) ≡ true →
     s ≡ record { at = step_from x.at (direction l); arrival = l; group = x.group } → n ≡ number_of_spot q.board.bounds s →
     IsMove q (number_of_spot q.board.bounds x) l n (step_cost (direction l) + turn_from x.arrival (direction l))
 step_move q x l n s h below leaves free lands is = record {

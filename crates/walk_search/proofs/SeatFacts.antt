@@ -135,3 +135,10 @@ seats_few board end = of_free end.is_free
     of_free : (t : Bool) → length (cond t (filter (is_free_seat board end.at) (map (shifted end.at) shifts)) (end.at ∷ [])) ≤ 9
     of_free true = filter_few (is_free_seat board end.at) (map (shifted end.at) shifts)
     of_free false = omega arith
+
+-- a seat that is kept at a place lies on the board
+pub seat_is_inside : (board : BoardParts) (end : End) (seats : List GridPoint) (i : ℕ) (p : GridPoint) → is_inside board end.at ≡ true → seats ≡ seats_of board end → i < length (seats_of board end) →
+    p ≡ get_or seats i p → is_inside board p ≡ true
+seat_is_inside board end seats i p inside are below is =
+    subst (λ (r : GridPoint). is_inside board r ≡ true) (ap (λ (xs : List GridPoint). get_or xs i p) (sym are) ∙ sym is)
+    (all_index (λ r. is_inside board r ≡ true) (seats_of board end) (seats_inside board end inside) i p below)

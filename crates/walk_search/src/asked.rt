@@ -13,7 +13,7 @@ use crate::board::Board;
 use crate::directions::{allows, direction};
 use crate::ends::End;
 use crate::reaching::reach;
-use crate::seats::{are_one, is_among, seat_cost, seats_of};
+use crate::seats::{are_one, doubled_within, is_among, is_clear, seat_cost, seats_of};
 use crate::spots::{Spot, number_of_spot, spot_of, spots_of};
 use map_base::NoMemory;
 use octi_grid::{Dir, GridPoint, step_cost, turn_cost};
@@ -235,7 +235,7 @@ impl<'a> Asked<'a> {
         if self.board.is_node(p) {
             return false;
         }
-        !self.board.is_taken(p.doubled())
+        is_clear(self.board, p)
     }
 
     /// Whether a step from a point stays on the board, and no walk has its middle.
@@ -257,7 +257,17 @@ impl<'a> Asked<'a> {
         if !self.board.bounds().contains(p.step(dir)) {
             return false;
         }
-        !self.board.is_taken(p.doubled().step(dir))
+        self.is_middle_clear(p, dir)
+    }
+
+    /// Whether no walk has the middle of a step between points of the board.
+    fn is_middle_clear(&self, p: GridPoint, dir: Dir) -> bool
+        requires p { is_inside (question self.now).board p ≡ true }
+        requires next { is_inside (question self.now).board (step_from p dir) ≡ true }
+        ensures { result ≡ not ((question self.now).board.is_taken (step_from (doubled p) dir)) }
+    {
+        let middle = doubled_within(self.board.bounds(), p).step(dir);
+        !self.board.is_taken(middle)
     }
 
     /// Whether a walk may leave its start by a port.
