@@ -6,3 +6,4 @@ pub mod Lowering
 pub mod Walks
 pub mod Visiting
 pub mod Standing
+pub mod Dictionaries

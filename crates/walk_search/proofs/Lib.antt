@@ -13,3 +13,6 @@ pub mod Rounds
 pub mod Walking
 pub mod FreeWays
 pub mod FreePaths
+pub mod FreeWalks
+pub mod Routing
+pub mod Offered

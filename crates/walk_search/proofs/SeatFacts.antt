@@ -1,8 +1,9 @@
 -- Seats lie on the board, cost little, and are few.
-use Rattle.std.proofs.Common.{◌≡◌, refl, sym, ◌∙◌, ap, subst, ℕ, zero, suc, ◌+◌, ◌*◌, ◌<◌, ◌≤◌, ◌⊎◌, inl, inr, Bool, true, false, cond, not, ◌&&◌, ◌||◌, List, [], ◌∷◌, length, get_or, map, filter, ℤ, pos, negsuc, ◌+ℤ◌, ◌-ℤ◌, arith}
+use Rattle.std.proofs.Common.{◌≡◌, refl, sym, ◌∙◌, ap, subst, ℕ, zero, suc, ◌+◌, ◌*◌, ◌<◌, ◌≤◌, ◌⊎◌, inl, inr, Bool, true, false, cond, not, ◌&&◌, ◌||◌, List, [], ◌∷◌, ◌++◌, length, get_or, drop, map, filter, append_assoc, ℤ, pos, negsuc, ◌+ℤ◌, ◌-ℤ◌, arith}
 use Rattle.std.specs.Prelude.{unsigned_abs}
 use Rattle.std.specs.List.{list_any}
 use Rattle.std.proofs.lemmas.Int.{ints}
+use Rattle.std.proofs.lemmas.List.{drop_more}
 use Rattle.std.proofs.lemmas.Bool.{and_parts, and_from}
 use Rattle.least_path.proofs.Chosen.{StandsIn, AllAre, all-at}
 use Rattle.octi_grid.specs.declared.point.GridPoint.{GridPoint}
@@ -10,7 +11,7 @@ use Rattle.octi_grid.specs.Ways.{are_one, doubled}
 use Rattle.octi_grid.specs.Legal.{is_among}
 use Rattle.walk_search.specs.declared.ends.End.{End}
 use Rattle.walk_search.specs.Boards.{BoardParts, IsBoard, is_inside}
-use Rattle.walk_search.specs.Seats.{is_free_seat, seat_cost, seats_of, shifted, shifts}
+use Rattle.walk_search.specs.Seats.{is_free_seat, kept_seat, seat_cost, seats_of, shifted, shifts}
 use Rattle.walk_search.proofs.Marks.{one_true, one_same, one_is}
 
 all_filter : {X : Type 0} (test : X → Bool) (P : X → Type 0) (xs : List X) → AllAre P xs → AllAre P (filter test xs)
@@ -142,3 +143,23 @@ pub seat_is_inside : (board : BoardParts) (end : End) (seats : List GridPoint) (
 seat_is_inside board end seats i p inside are below is =
     subst (λ (r : GridPoint). is_inside board r ≡ true) (ap (λ (xs : List GridPoint). get_or xs i p) (sym are) ∙ sym is)
     (all_index (λ r. is_inside board r ≡ true) (seats_of board end) (seats_inside board end inside) i p below)
+
+-- one more seat
+pub seats_more : (board : BoardParts) (home : GridPoint) (now new whole : List GridPoint) (i : ℕ) (d : ℤ × ℤ) → i < length shifts → new ≡ now ++ kept_seat board home (shifted home (get_or shifts i d)) →
+    now ++ filter (is_free_seat board home) (map (shifted home) (drop i shifts)) ≡ whole → new ++ filter (is_free_seat board home) (map (shifted home) (drop (i + 1) shifts)) ≡ whole
+seats_more board home now new whole i d below added before =
+    ap (λ xs. xs ++ rest) added
+    ∙ append_assoc now (kept_seat board home p) rest
+    ∙ ap (λ xs. now ++ xs) (of_test (is_free_seat board home p))
+    ∙ ap (λ (bys : List (ℤ × ℤ)). now ++ filter (is_free_seat board home) (map (shifted home) bys)) (sym (drop_more shifts i d below))
+    ∙ before
+  where
+    p : GridPoint
+    p = shifted home (get_or shifts i d)
+
+    rest : List GridPoint
+    rest = filter (is_free_seat board home) (map (shifted home) (drop (i + 1) shifts))
+
+    of_test : (t : Bool) → cond t (p ∷ []) [] ++ rest ≡ cond t (p ∷ rest) rest
+    of_test true = refl
+    of_test false = refl

@@ -1,6 +1,6 @@
 //! What is asked of a search, and the steps of walks from spot to spot.
 
-ghost use Rattle.std.specs.Prelude.{◌≡◌, ℕ, ◌+◌, ◌<◌, ◌≤◌, ◌&&◌, not, IfOk, IfSome, Some, true, length, option_map};
+ghost use Rattle.std.specs.Prelude.{◌≡◌, ℕ, ◌+◌, ◌^◌, ◌<◌, ◌≤◌, ◌&&◌, not, IfOk, IfSome, Some, true, length, option_map};
 ghost use Rattle.octi_grid.specs.Ways.{CanStep, doubled, step_from};
 ghost use Rattle.walk_search.specs.Reaching.{reach_of};
 ghost use Rattle.walk_search.specs.Routes.{allows};
@@ -208,7 +208,8 @@ impl<'a> Asked<'a> {
     /// What a walk that stands at a spot pays to end there, where it may.
     pub(crate) fn end_cost(&self, spot: Spot) -> Option<u64>
         requires { is_inside (question self.now).board spot.at ≡ true }
-        ensures { result ≡ end_cost (question self.now) (Some spot) }
+        ensures value { result ≡ end_cost (question self.now) (Some spot) }
+        ensures within { IfSome result (λ cost. cost ≤ 20) }
     {
         if spot.arrival >= START {
             return None;
@@ -351,7 +352,8 @@ impl<'a> Asked<'a> {
 
     /// What it costs at least to come to a point from the home of the start.
     pub(crate) fn ahead_of(&self, p: GridPoint) -> u64
-        ensures { result ≡ reach_of (question self.now).from.at p }
+        ensures value { result ≡ reach_of (question self.now).from.at p }
+        ensures within { result < 2 ^ 40 }
     {
         reach(self.from.at, p)
     }

@@ -1,19 +1,20 @@
 //! Costs that are offered to the spots from which others are reached.
 
-ghost use Rattle.std.specs.Prelude.{◌≡◌, ◌+◌, ◌*◌, ◌<◌, ◌≤◌, ◌^◌, OnOk, Some, true, length};
+ghost use Rattle.std.specs.Prelude.{◌≡◌, ◌+◌, ◌*◌, ◌<◌, ◌≤◌, ◌^◌, ◌==◌, ◌&&◌, OnOk, Some, true, length};
 ghost use Rattle.std.specs.BinaryHeap.{IsHeap, heap_items};
-ghost use Rattle.octi_grid.specs.Ways.{CanStep};
+ghost use Rattle.octi_grid.specs.Ways.{CanStep, are_one};
 ghost use Rattle.state_search.specs.Searching.{AreLowered, IsLowered, queue_cmp};
 ghost use Rattle.walk_search.specs.Boards.{is_inside};
 ghost use Rattle.walk_search.specs.Spots.{IsSpot, number_of_spot, spot_of, spots_of};
 ghost use Rattle.walk_search.specs.Asking.{question};
-ghost use Rattle.walk_search.specs.Moves.{ends_of, space_of, starts_of};
+ghost use Rattle.walk_search.specs.Moves.{ends_of, group_of, space_of, start_at, starts_of};
 ghost use Rattle.walk_search.specs.Offers.{arrival_offers, back_offers, end_offer, end_offers, end_spot, passing_offers, seat_offer, seat_offers, spot_offers, start_offers};
 
 use crate::asked::{Asked, START, turn_from};
 use crate::directions::direction;
 use crate::known::Known;
 use crate::queue::{Queue, lower};
+use crate::seats::are_one;
 use crate::spots::Spot;
 use map_base::NoMemory;
 use octi_grid::{Dir, GridPoint, step_cost};
@@ -174,10 +175,21 @@ fn offer_seat(
     ensures each { OnOk result (length known.new ≡ spots_of (question asked.now).board.bounds + 1) }
     ensures lowered { OnOk result (AreLowered (space_of (question asked.now)).ahead known.old known.new (heap_items queue.old) (heap_items queue.new) (seat_offer (question asked.now) spot cost i)) }
 {
-    if asked.start(i) != spot.at || asked.group_of(i) != spot.group {
+    if !starts_at(asked, spot, i) {
         return Ok(());
     }
     lower(known, queue, asked.before(), cost + (asked.start_cost(i) + 1), 0)
+}
+
+/// Whether a spot is that of a seat.
+fn starts_at(asked: &Asked, spot: Spot, i: u8) -> bool
+    requires { i < length (starts_of (question asked.now)) }
+    ensures { result ≡ (are_one (start_at (question asked.now) i) spot.at && group_of (question asked.now) i == spot.group) }
+{
+    if !are_one(asked.start(i), spot.at) {
+        return false;
+    }
+    asked.group_of(i) == spot.group
 }
 
 /// Offers to the spots at a point what it costs to go on by a step, if a step may be made there.

@@ -1,8 +1,8 @@
 //! The seats of an end.
 
-ghost use Rattle.std.specs.Prelude.{◌≡◌, ◌<◌, ◌≤◌, ◌^◌, ◌||◌, not, IfOk, true, length};
+ghost use Rattle.std.specs.Prelude.{◌≡◌, ◌<◌, ◌≤◌, ◌^◌, ◌||◌, ◌++◌, not, IfOk, OnOk, true, length};
 ghost use Rattle.walk_search.specs.Boards.{AreBounds, contains, doubled_bounds, is_inside, parts_of};
-ghost use Rattle.walk_search.specs.Seats.{is_free_seat, seat_cost, seats_of};
+ghost use Rattle.walk_search.specs.Seats.{is_free_seat, kept_seat, seat_cost, seats_of};
 ghost use Rattle.octi_grid.specs.Ways.{CanStep, IsWithin, are_one, doubled};
 ghost use Rattle.octi_grid.specs.Legal.{is_among};
 
@@ -40,11 +40,24 @@ pub(crate) fn seats_of(alloc: Global, board: &Board, end: End) -> Result<Vec<Gri
             x: end.at.x + east,
             y: end.at.y + north,
         };
-        if is_free_seat(board, end.at, seat) {
-            seats.push(seat)?;
-        }
+        add_seat(board, end.at, seat, &mut seats)?;
     }
     Ok(seats)
+}
+
+/// Adds a point to the seats, if the end may be put there.
+fn add_seat(
+    board: &Board,
+    home: GridPoint,
+    p: GridPoint,
+    seats: &mut Vec<GridPoint>,
+) -> Result<(), NoMemory>
+    ensures { OnOk result (seats.new.items ≡ seats.old.items ++ kept_seat (parts_of board.now) home p) }
+{
+    if is_free_seat(board, home, p) {
+        seats.push(p)?;
+    }
+    Ok(())
 }
 
 /// Whether an end that is not settled may be put on a point: one of the board that is its home or no node's point, and

@@ -1,3 +1,2 @@
-use Rattle.walk_search.proofs.FreePaths.{path_of_onward}
-use Rattle.walk_search.proofs.Walking.{path_labels}
+use Rattle.walk_search.proofs.Routing.{answer_is_route}
 use Rattle.walk_search.proofs.Rounds.{round_more}
