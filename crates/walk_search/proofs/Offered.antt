@@ -17,7 +17,7 @@ use Rattle.walk_search.specs.Seats.{seat_cost}
 use Rattle.walk_search.specs.Routes.{allows}
 use Rattle.walk_search.specs.Reaching.{reach_of}
 use Rattle.walk_search.specs.Spots.{IsSpot, number_of_spot, spots_of, spot_of}
-use Rattle.walk_search.specs.Moves.{Question, direction, end_cost, ends_of, group_of, is_open, is_start, space_of, spot_ahead, start_at, starts_of}
+use Rattle.walk_search.specs.Moves.{Question, direction, end_cost, ends_of, group_of, is_open, is_start, may_end, space_of, spot_ahead, start_at, starts_of}
 use Rattle.walk_search.specs.Offers.{arrival_offer, back_offers, end_offer, end_spot, offer_where, passing_offers, seat_offer, seat_offers, spot_offers, start_offers}
 use Rattle.walk_search.proofs.Within.{inside_facts}
 use Rattle.walk_search.proofs.Numbered.{spot_of-none, spot_of-number}
@@ -48,6 +48,9 @@ offered_end q k s cost old new queue longer is pays h =
     subst (λ (x : Spot). AreLowered (space_of q).ahead old new queue longer (offer_where q x (end_cost q (Some x)))) is
     (subst (λ (o : Option ℕ). AreLowered (space_of q).ahead old new queue longer (offer_where q s o)) pays
     (lowered_one (space_of q).ahead old new queue longer (number_of_spot q.board.bounds s) cost h))
+
+pub may_end_cheap : (q : Question) (s : Spot) → may_end q s ≡ true → seat_cost q.to.at s.at ≤ 20
+may_end_cheap q s e = all-at (λ p. seat_cost q.to.at p ≤ 20) s.at (ends_of q) (seats_cheap q.board q.to) (among_stands s.at (ends_of q) (end_among q s e))
 
 pub end_cost_small : (q : Question) (s : Spot) (k : ℕ) → end_cost q (Some s) ≡ Some k → k ≤ 20
 end_cost_small q s k e =

@@ -88,7 +88,7 @@ cond_same : {X : Type 0} (x y : X) (t : Bool) → t ≡ true → cond t x y ≡ 
 cond_same x y true e = refl
 cond_same x y false e = let no : ⊥ = cc in absurd no
 
-seat_move : (q : Question) → IsQuestion q → (n : ℕ) (s : Spot) → n ≡ number_of_spot q.board.bounds s → s.arrival ≡ 8 → (i : ℕ) → i < length (starts_of q) → start_at q i ≡ s.at → group_of q i ≡ s.group →
+pub seat_move : (q : Question) → IsQuestion q → (n : ℕ) (s : Spot) → n ≡ number_of_spot q.board.bounds s → s.arrival ≡ 8 → (i : ℕ) → i < length (starts_of q) → start_at q i ≡ s.at → group_of q i ≡ s.group →
     IsMove q (spots_of q.board.bounds) i n (seat_cost q.from.at (start_at q i) + 1)
 seat_move q h n s is arrival i below at group = record {
   from_spot = omega arith;

@@ -19,7 +19,7 @@ use Rattle.walk_search.proofs.Moving.{IsChosen, IsStepped, goal_parts, is_space,
 abbrev pub before : Question → ℕ
 before q = spots_of q.board.bounds
 
-nothing_ahead : (q : Question) → (space_of q).ahead (before q) ≡ 0
+pub nothing_ahead : (q : Question) → (space_of q).ahead (before q) ≡ 0
 nothing_ahead q = ap (spot_ahead q) (spot_of-none q.board.bounds)
 
 -- a walk on its way

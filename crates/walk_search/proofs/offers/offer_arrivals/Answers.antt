@@ -22,7 +22,7 @@ loop-arrival-preserved c = record {
       offer_more (space_of (question c.args.asked.now)).ahead c.args.known.now c.loop-arrival.known c.offer.new.known (heap_items c.args.queue.now) (heap_items c.loop-arrival.queue) (heap_items c.offer.new.queue)
       (arrival_offer (question c.args.asked.now) c.args.p c.args.group c.args.dir c.args.cost) c.loop-arrival.arrival c.loop-arrival.invariant.lowered
       (subst (λ (n : ℕ). IsLowered ((space_of (question c.args.asked.now)).ahead (arrival_offer (question c.args.asked.now) c.args.p c.args.group c.args.dir c.args.cost c.loop-arrival.arrival).0) c.loop-arrival.known c.offer.new.known (heap_items c.loop-arrival.queue) (heap_items c.offer.new.queue) (arrival_offer (question c.args.asked.now) c.args.p c.args.group c.args.dir c.args.cost c.loop-arrival.arrival).0 n)
-      (ap₂ (λ (x y : ℕ). c.args.cost + (x + y)) c.step_cost.ensures.cost c.turn_from.ensures.value) c.in_ok-offer.ensures.lowered);
+      (ap₂ (λ (x y : ℕ). c.args.cost + (x + y)) (c.from.ensures ∙ c.step_cost.ensures.cost) c.turn_from.ensures.value) c.in_ok-offer.ensures.lowered);
 }
 
 pub returns-clause-lowered : goal.returns-clause-lowered

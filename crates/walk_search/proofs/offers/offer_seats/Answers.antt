@@ -25,5 +25,5 @@ loop-i-preserved c = record {
 
 pub returns-clause-lowered : goal.returns-clause-lowered
 returns-clause-lowered c =
-    let same : c.loop-i.i ≡ length (starts_of (question c.args.asked.now)) = omega (arith, c.start_count.ensures.value) in
+    let same : c.loop-i.i ≡ length (starts_of (question c.args.asked.now)) = omega (arith, c.start_count-i-end.ensures.value) in
     subst (λ (n : ℕ). AreLowered (space_of (question c.args.asked.now)).ahead c.args.known.now c.loop-i.known (heap_items c.args.queue.now) (heap_items c.loop-i.queue) (seat_offers (question c.args.asked.now) c.args.spot c.args.cost n)) same c.loop-i.invariant.lowered
