@@ -56,6 +56,7 @@ fn next_move(asked: &Asked, known: &Known, at: u32) -> Option<Move>
     requires at { at < spots_of (question asked.now).board.bounds + 1 }
     requires each { length known.now ≡ spots_of (question asked.now).board.bounds + 1 }
     ensures least { IfSome result (λ step. IsLeastMove (question asked.now) known.now at step.label step.to) }
+    ensures within { IfSome result (λ step. step.to < spots_of (question asked.now).board.bounds + 1) }
     ensures none { IfNone result (StopsAt (question asked.now) known.now at) }
 {
     if ends_at(asked, known, at) {
@@ -96,6 +97,7 @@ fn kept_move(asked: &Asked, known: &Known, at: u32, label: u8) -> Option<Move>
     requires at { at < spots_of (question asked.now).board.bounds + 1 }
     requires each { length known.now ≡ spots_of (question asked.now).board.bounds + 1 }
     ensures some { IfSome result (λ step. (step.label ≡ label) × KeepsCost (question asked.now) known.now at label step.to) }
+    ensures within { IfSome result (λ step. step.to < spots_of (question asked.now).board.bounds + 1) }
     ensures none { IfNone result ((to : ℕ) → KeepsCost (question asked.now) known.now at label to → ⊥) }
 {
     let step = move_by(asked, at, label)?;
