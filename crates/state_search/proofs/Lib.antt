@@ -5,3 +5,5 @@ pub mod Searches
 pub mod Lowering
 pub mod Walks
 pub mod Visiting
+pub mod Standing
+pub mod Dictionaries

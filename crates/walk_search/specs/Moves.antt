@@ -9,7 +9,7 @@ use Rattle.octi_grid.specs.Legal.{is_among}
 use Rattle.state_search.specs.Goals.{Space}
 use Rattle.walk_search.specs.declared.ends.End.{End}
 use Rattle.walk_search.specs.declared.spots.Spot.{Spot}
-use Rattle.walk_search.specs.Boards.{BoardParts, BoardFlags, IsBoard, is_inside, parts_of}
+use Rattle.walk_search.specs.Boards.{BoardParts, IsBoard, is_inside}
 use Rattle.walk_search.specs.Seats.{seats_of, seat_cost}
 use Rattle.walk_search.specs.Routes.{allows, directions}
 use Rattle.walk_search.specs.Reaching.{reach_of}
@@ -20,15 +20,6 @@ pub record Question : Type 0 where
   pub board : BoardParts
   pub from : End
   pub to : End
-
--- the same, with what the board holds
-pub record AskedParts : Type 0 where
-  pub board : BoardFlags
-  pub from : End
-  pub to : End
-
-unfoldable pub question : AskedParts → Question
-question a = record { board = parts_of a.board; from = a.from; to = a.to }
 
 abbrev pub starts_of : Question → List GridPoint
 starts_of q = seats_of q.board q.from
@@ -44,14 +35,18 @@ start_at q i = slice_index_or (starts_of q) i q.from.at
 abbrev pub end_at : Question → ℕ → GridPoint
 end_at q i = slice_index_or (ends_of q) i q.to.at
 
+-- the mask allows all ports or none
+abbrev pub is_all_or_none : ℕ → Bool
+is_all_or_none mask = mask == 0 || mask == 255
+
 -- what may be asked: two different nodes of a board; where an end is free, all its ports are allowed or none
 pub record IsQuestion (q : Question) : Type 0 where
   pub board : IsBoard q.board
   pub from_node : q.board.is_node q.from.at ≡ true
   pub to_node : q.board.is_node q.to.at ≡ true
   pub apart : q.from.at ≢ q.to.at
-  pub from_ports : q.from.is_free ≡ true → (q.from.ports ≡ 0) ⊎ (q.from.ports ≡ 255)
-  pub to_ports : q.to.is_free ≡ true → (q.to.ports ≡ 0) ⊎ (q.to.ports ≡ 255)
+  pub from_ports : q.from.is_free ≡ true → is_all_or_none q.from.ports ≡ true
+  pub to_ports : q.to.is_free ≡ true → is_all_or_none q.to.ports ≡ true
 
 -- the seats are those of both ends
 pub record IsAsked (q : Question) (starts ends : List GridPoint) : Type 0 where
@@ -68,23 +63,36 @@ direction n = slice_index_or directions n dir.N
 abbrev pub group_of : Question → ℕ → ℕ
 group_of q i = if is_among (ends_of q) (start_at q i) then i + 1 else 0
 
+-- walks of group 0 may start at a point: it is a seat of the start alone
+abbrev pub is_own_start : Question → GridPoint → Bool
+is_own_start q p = is_among (starts_of q) p && not (is_among (ends_of q) p)
+
+-- walks of another group may start at a point: it is the group's seat, and one of the end too
+abbrev pub is_shared_start : Question → GridPoint → ℕ → Bool
+is_shared_start q p group = nat_le group (length (starts_of q)) && are_one (start_at q (group - 1)) p && is_among (ends_of q) p
+
 -- the walks of a group may start at a point
 abbrev pub is_start : Question → GridPoint → ℕ → Bool
-is_start q p group =
-    if group == 0 then is_among (starts_of q) p && not (is_among (ends_of q) p)
-    else nat_le group (length (starts_of q)) && are_one (start_at q (group - 1)) p && is_among (ends_of q) p
+is_start q p group = if group == 0 then is_own_start q p else is_shared_start q p group
+
+-- the walks of a group other than 0 may end at a seat: their start is a seat of the end too, and another point
+abbrev pub is_other_end : Question → GridPoint → ℕ → Bool
+is_other_end q p group =
+    nat_le group (length (starts_of q)) && is_among (ends_of q) (start_at q (group - 1)) && not (are_one (start_at q (group - 1)) p)
 
 -- there are walks of a group, and they may end at a point
 abbrev pub is_end : Question → GridPoint → ℕ → Bool
-is_end q p group =
-    is_among (ends_of q) p
-    && (group == 0 || (nat_le group (length (starts_of q)) && is_among (ends_of q) (start_at q (group - 1)) && not (are_one (start_at q (group - 1)) p)))
+is_end q p group = is_among (ends_of q) p && (group == 0 || is_other_end q p group)
+
+-- a walk that stands at a spot may end there
+abbrev pub may_end : Question → Spot → Bool
+may_end q s = is_end q s.at s.group && allows q.to.ports (Some (reverse_of (direction s.arrival)))
 
 -- what a walk that stands at a spot pays to end there, where it may
 abbrev pub end_cost : Question → Option Spot → Option ℕ
 end_cost q None = None
 end_cost q (Some s) =
-    if nat_lt s.arrival 8 && is_end q s.at s.group && allows q.to.ports (Some (reverse_of (direction s.arrival)))
+    if nat_lt s.arrival 8 && may_end q s
     then Some (seat_cost q.to.at s.at) else None
 
 -- a walk may go on from the point: it is no node's, and of no walk
@@ -93,7 +101,7 @@ is_passable board p = not (board.is_node p) && not (board.is_taken (doubled p))
 
 -- a step from a point stays on the board, and no walk has its middle
 abbrev pub is_open : BoardParts → GridPoint → Dir → Bool
-is_open board p d = is_inside board p && is_inside board (step_from p d) && not (board.is_taken (step_from (doubled p) d))
+is_open board p d = is_inside board p && (is_inside board (step_from p d) && not (board.is_taken (step_from (doubled p) d)))
 
 -- a walk may leave a spot in a direction: at its start by an allowed port, and elsewhere where it may go on
 abbrev pub may_leave : Question → Spot → Dir → Bool
@@ -113,7 +121,7 @@ chosen_seat q i =
 -- a step is made by the number of its direction
 abbrev pub stepped : Question → Spot → ℕ → Option (Spot × ℕ)
 stepped q s l =
-    if nat_lt l 8 && may_leave q s (direction l) && is_open q.board s.at (direction l)
+    if nat_lt l 8 && (may_leave q s (direction l) && is_open q.board s.at (direction l))
     then Some (record { at = step_from s.at (direction l); arrival = l; group = s.group }, step_cost (direction l) + turn_from s.arrival (direction l))
     else None
 

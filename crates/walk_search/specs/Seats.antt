@@ -20,6 +20,10 @@ shifts =
 abbrev pub is_free_seat : BoardParts → GridPoint → GridPoint → Bool
 is_free_seat board home p = is_inside board p && (are_one home p || not (board.is_node p)) && not (board.is_taken (doubled p))
 
+-- the point, if an end may be put there
+abbrev pub kept_seat : BoardParts → GridPoint → GridPoint → List GridPoint
+kept_seat board home p = if is_free_seat board home p then p ∷ [] else []
+
 -- the seats of an end, by the least y and then the least x: its point, where it is settled, else the points near its
 -- home where it may be put
 abbrev pub seats_of : BoardParts → End → List GridPoint

@@ -37,7 +37,7 @@ IsPath q labels = (k : ℕ) × PathTo (space_of q) (spots_of q.board.bounds) lab
 -- the labels are those of the least path, if there is a path; else there are none
 abbrev pub AreLabelsOf : Question → List ℕ → Option ℕ → Type 0
 AreLabelsOf q labels None = labels ≡ []
-AreLabelsOf q labels (Some k) = IsLeastPathTo (space_of q) (spots_of q.board.bounds) labels k
+AreLabelsOf q labels (Some known) = (k : ℕ) × IsLeastPathTo (space_of q) (spots_of q.board.bounds) labels k
 
 abbrev pub AreLabels : Question → List (Option ℕ) → List ℕ → Type 0
 AreLabels q table labels = AreLabelsOf q labels (known_at table (spots_of q.board.bounds))

@@ -1,24 +1,23 @@
 //! What is asked of a search, and the steps of walks from spot to spot.
 
-ghost use Rattle.std.specs.Prelude.{◌≡◌, ℕ, ◌+◌, ◌<◌, ◌≤◌, ◌&&◌, IfOk, Some, true, length, option_map};
-ghost use Rattle.octi_grid.specs.Ways.{CanStep};
+ghost use Rattle.std.specs.Prelude.{◌≡◌, ℕ, ◌+◌, ◌^◌, ◌<◌, ◌≤◌, ◌&&◌, not, IfOk, IfSome, Some, true, length, option_map};
+ghost use Rattle.octi_grid.specs.Ways.{CanStep, doubled, step_from};
 ghost use Rattle.walk_search.specs.Reaching.{reach_of};
 ghost use Rattle.walk_search.specs.Routes.{allows};
 ghost use Rattle.walk_search.specs.Seats.{seat_cost};
-ghost use Rattle.walk_search.specs.Boards.{contains, is_inside};
-ghost use Rattle.walk_search.specs.Moves.{question, IsQuestion, chosen_seat, direction, end_at, end_cost, ends_of, group_of, is_end, is_open, is_passable, is_start, may_leave, start_at, starts_of, stepped, turn_from};
+ghost use Rattle.walk_search.specs.Boards.{is_inside, parts_of};
+ghost use Rattle.walk_search.specs.Spots.{IsSpot, number_of_spot, spot_of, spots_of};
+ghost use Rattle.walk_search.specs.Moves.{IsAsked, IsQuestion, chosen_seat, direction, end_at, end_cost, ends_of, group_of, is_end, is_open, is_other_end, is_own_start, is_passable, is_shared_start, is_start, may_end, may_leave, start_at, starts_of, stepped, turn_from};
 
 use crate::board::Board;
-use crate::bounds::Bounds;
 use crate::directions::{allows, direction};
 use crate::ends::End;
 use crate::reaching::reach;
-use crate::seats::{seat_cost, seats_of};
-use crate::spots::Spot;
+use crate::seats::{are_one, doubled_within, is_among, is_clear, seat_cost, seats_of};
+use crate::spots::{Spot, number_of_spot, spot_of, spots_of};
 use map_base::NoMemory;
 use octi_grid::{Dir, GridPoint, step_cost, turn_cost};
 use std::alloc::Global;
-use std::marker::Model;
 
 /// The number of the arrival of a walk at its start.
 pub(crate) const START: u8 = 8;
@@ -31,20 +30,12 @@ pub(crate) struct Asked<'a> {
     to: End,
     starts: Vec<GridPoint>,
     ends: Vec<GridPoint>,
-}
-
-impl<'a> Model for Asked<'a> {
-    ghost use Rattle.std.specs.Prelude.{◌≡◌};
-    ghost use Rattle.walk_search.specs.Moves.{AskedParts, IsAsked, question};
-
-    ghost Value = { AskedParts };
-
-    ghost view = { λ a. record { board = a.board.now; from = a.from; to = a.to } };
-
-    ghost invariant = { λ a. IsAsked (question (record { board = a.board.now; from = a.from; to = a.to })) a.starts.items a.ends.items };
+    ghost asked: { IsAsked (record { board = parts_of board.now; from = from; to = to }) starts.items ends.items },
 }
 
 impl<'a> Asked<'a> {
+    ghost use Rattle.walk_search.specs.Asking.{question};
+
     /// The question of the least walk between two ends.
     pub(crate) fn new(
         alloc: Global,
@@ -52,8 +43,8 @@ impl<'a> Asked<'a> {
         from: End,
         to: End,
     ) -> Result<Asked<'a>, NoMemory>
-        requires { IsQuestion (question (record { board = board.now; from = from; to = to })) }
-        ensures { IfOk result (λ asked. asked ≡ record { board = board.now; from = from; to = to }) }
+        requires { IsQuestion (record { board = parts_of board.now; from = from; to = to }) }
+        ensures { IfOk result (λ asked. question asked ≡ record { board = parts_of board.now; from = from; to = to }) }
     {
         let starts = seats_of(alloc, board, from)?;
         let ends = seats_of(alloc, board, to)?;
@@ -66,12 +57,31 @@ impl<'a> Asked<'a> {
         })
     }
 
-    /// The bounds of the board.
-    pub(crate) fn bounds(&self) -> Bounds
-        ensures value { result ≡ (question self.now).board.bounds }
-        ensures kept { IsQuestion (question self.now) }
+    /// The number of what comes before every spot, which is how many spots there are.
+    pub(crate) fn before(&self) -> u32
+        ensures value { result ≡ spots_of (question self.now).board.bounds }
+        ensures asked { IsQuestion (question self.now) }
+        ensures within { result ≤ 1440720090 }
     {
-        self.board.bounds()
+        spots_of(self.board.bounds())
+    }
+
+    /// The number of a spot.
+    pub(crate) fn number_of(&self, spot: Spot) -> u32
+        requires { IsSpot (question self.now).board.bounds spot }
+        ensures value { result ≡ number_of_spot (question self.now).board.bounds spot }
+        ensures within { result < spots_of (question self.now).board.bounds }
+    {
+        number_of_spot(self.board.bounds(), spot)
+    }
+
+    /// The spot of a number, and none before a seat is chosen.
+    pub(crate) fn spot_of(&self, n: u32) -> Option<Spot>
+        requires { n < spots_of (question self.now).board.bounds + 1 }
+        ensures value { result ≡ spot_of (question self.now).board.bounds n }
+        ensures on_board { IfSome result (IsSpot (question self.now).board.bounds) }
+    {
+        spot_of(self.board.bounds(), n)
     }
 
     /// How many seats the start has.
@@ -111,57 +121,111 @@ impl<'a> Asked<'a> {
     /// The group of the walks from a seat: one of its own where it is a seat of the end too.
     pub(crate) fn group_of(&self, i: u8) -> u8
         requires { i < length (starts_of (question self.now)) }
-        ensures value { result ≡ group_of (question self.now) i }
-        ensures within { result ≤ 9 }
+        ensures { result ≡ group_of (question self.now) i }
     {
-        if self.ends.contains(&self.start(i)) {
+        if is_among(&self.ends, self.start(i)) {
             i + 1
         } else {
             0
         }
     }
 
+    /// Whether walks of group 0 may start at a point: it is a seat of the start alone.
+    fn is_own_start(&self, p: GridPoint) -> bool
+        ensures { result ≡ is_own_start (question self.now) p }
+    {
+        if !is_among(&self.starts, p) {
+            return false;
+        }
+        !is_among(&self.ends, p)
+    }
+
+    /// Whether walks of another group may start at a point: it is the group's seat, and one of the end too.
+    fn is_shared_start(&self, p: GridPoint, group: u8) -> bool
+        requires { 0 < group }
+        ensures { result ≡ is_shared_start (question self.now) p group }
+    {
+        if self.start_count() < group {
+            return false;
+        }
+        if !are_one(self.start(group - 1), p) {
+            return false;
+        }
+        is_among(&self.ends, p)
+    }
+
     /// Whether the walks of a group may start at a point.
-    pub(crate) fn is_start(&self, p: GridPoint, group: u8) -> bool
+    fn is_start(&self, p: GridPoint, group: u8) -> bool
         ensures { result ≡ is_start (question self.now) p group }
     {
         if group == 0 {
-            return self.starts.contains(&p) && !self.ends.contains(&p);
+            self.is_own_start(p)
+        } else {
+            self.is_shared_start(p, group)
         }
-        if self.start_count() < group || self.start(group - 1) != p {
+    }
+
+    /// Whether the walks of a group other than 0 may end at a seat: their start is a seat of the end too, and another
+    /// point.
+    fn is_other_end(&self, p: GridPoint, group: u8) -> bool
+        requires { 0 < group }
+        ensures { result ≡ is_other_end (question self.now) p group }
+    {
+        if self.start_count() < group {
             return false;
         }
-        self.ends.contains(&p)
+        let start = self.start(group - 1);
+        if !is_among(&self.ends, start) {
+            return false;
+        }
+        !are_one(start, p)
     }
 
     /// Whether there are walks of a group, and they may end at a point.
     fn is_end(&self, p: GridPoint, group: u8) -> bool
         ensures { result ≡ is_end (question self.now) p group }
     {
-        if !self.ends.contains(&p) {
+        if !is_among(&self.ends, p) {
             return false;
         }
         if group == 0 {
             return true;
         }
-        if self.start_count() < group {
+        self.is_other_end(p, group)
+    }
+
+    /// Whether a walk that stands at a spot may end there.
+    fn may_end(&self, spot: Spot) -> bool
+        requires { spot.arrival < 8 }
+        ensures { result ≡ may_end (question self.now) spot }
+    {
+        if !self.is_end(spot.at, spot.group) {
             return false;
         }
-        let start = self.start(group - 1);
-        self.ends.contains(&start) && start != p
+        allows(self.to.ports, direction(spot.arrival).reverse())
     }
 
     /// What a walk that stands at a spot pays to end there, where it may.
     pub(crate) fn end_cost(&self, spot: Spot) -> Option<u64>
+        requires { is_inside (question self.now).board spot.at ≡ true }
         ensures value { result ≡ end_cost (question self.now) (Some spot) }
+        ensures within { IfSome result (λ cost. cost ≤ 20) }
     {
-        if spot.arrival >= START || !self.is_end(spot.at, spot.group) {
+        if spot.arrival >= START {
             return None;
         }
-        if !allows(self.to.ports, direction(spot.arrival).reverse()) {
+        if !self.may_end(spot) {
             return None;
         }
-        Some(seat_cost(self.to.at, spot.at))
+        Some(self.to_cost(spot.at))
+    }
+
+    /// What a seat of the end costs.
+    fn to_cost(&self, p: GridPoint) -> u64
+        requires { is_inside (question self.now).board p ≡ true }
+        ensures { result ≡ seat_cost (question self.now).to.at p }
+    {
+        seat_cost(self.to.at, p)
     }
 
     /// Whether a walk may go on from a point: it is no node's, and of no walk.
@@ -172,7 +236,7 @@ impl<'a> Asked<'a> {
         if self.board.is_node(p) {
             return false;
         }
-        !self.board.is_taken(p.doubled())
+        is_clear(self.board, p)
     }
 
     /// Whether a step from a point stays on the board, and no walk has its middle.
@@ -180,21 +244,41 @@ impl<'a> Asked<'a> {
         requires { CanStep p }
         ensures { result ≡ is_open (question self.now).board p dir }
     {
-        let bounds = self.board.bounds();
-        if !bounds.contains(p) || !bounds.contains(p.step(dir)) {
+        if !self.board.bounds().contains(p) {
             return false;
         }
-        !self.board.is_taken(p.doubled().step(dir))
+        self.is_open_from(p, dir)
+    }
+
+    /// The same from a point of the board.
+    fn is_open_from(&self, p: GridPoint, dir: Dir) -> bool
+        requires { is_inside (question self.now).board p ≡ true }
+        ensures { result ≡ (is_inside (question self.now).board (step_from p dir) && not ((question self.now).board.is_taken (step_from (doubled p) dir))) }
+    {
+        if !self.board.bounds().contains(p.step(dir)) {
+            return false;
+        }
+        self.is_middle_clear(p, dir)
+    }
+
+    /// Whether no walk has the middle of a step between points of the board.
+    fn is_middle_clear(&self, p: GridPoint, dir: Dir) -> bool
+        requires p { is_inside (question self.now).board p ≡ true }
+        requires next { is_inside (question self.now).board (step_from p dir) ≡ true }
+        ensures { result ≡ not ((question self.now).board.is_taken (step_from (doubled p) dir)) }
+    {
+        let middle = doubled_within(self.board.bounds(), p).step(dir);
+        !self.board.is_taken(middle)
     }
 
     /// Whether a walk may leave its start by a port.
     pub(crate) fn allows_start(&self, p: GridPoint, group: u8, dir: Dir) -> bool
-        ensures { result ≡ is_start (question self.now) p group && allows (question self.now).from.ports (Some dir) }
+        ensures { result ≡ (is_start (question self.now) p group && allows (question self.now).from.ports (Some dir)) }
     {
-        if !allows(self.from.ports, dir) {
+        if !self.is_start(p, group) {
             return false;
         }
-        self.is_start(p, group)
+        allows(self.from.ports, dir)
     }
 
     /// Whether a walk may leave a spot in a direction: at its start by an allowed port, elsewhere where it may go on.
@@ -207,6 +291,17 @@ impl<'a> Asked<'a> {
         } else {
             self.is_passable(spot.at)
         }
+    }
+
+    /// Whether a walk may leave a spot in a direction, and the step is open.
+    fn may_step(&self, spot: Spot, dir: Dir) -> bool
+        requires { is_inside (question self.now).board spot.at ≡ true }
+        ensures { result ≡ (may_leave (question self.now) spot dir && is_open (question self.now).board spot.at dir) }
+    {
+        if !self.may_leave(spot, dir) {
+            return false;
+        }
+        self.is_open(spot.at, dir)
     }
 
     /// What a seat of the start costs.
@@ -244,7 +339,7 @@ impl<'a> Asked<'a> {
             return None;
         }
         let dir = direction(label);
-        if !self.may_leave(spot, dir) || !self.is_open(spot.at, dir) {
+        if !self.may_step(spot, dir) {
             return None;
         }
         let next = Spot {
@@ -257,7 +352,8 @@ impl<'a> Asked<'a> {
 
     /// What it costs at least to come to a point from the home of the start.
     pub(crate) fn ahead_of(&self, p: GridPoint) -> u64
-        ensures { result ≡ reach_of (question self.now).from.at p }
+        ensures value { result ≡ reach_of (question self.now).from.at p }
+        ensures within { result < 2 ^ 40 }
     {
         reach(self.from.at, p)
     }

@@ -107,6 +107,7 @@ impl Board {
     /// The bounds of the board.
     pub fn bounds(&self) -> Bounds
         ensures value { result ≡ (parts_of self.now).bounds }
+        ensures in_range { AreBounds result }
         ensures kept { IsBoard (parts_of self.now) }
     {
         self.bounds

@@ -1,18 +1,17 @@
 //! The least free walk between two ends.
 
-ghost use Rattle.std.specs.Prelude.{◌≡◌, ◌≢◌, ◌⊎◌, IfOk, IfSome, true, false};
+ghost use Rattle.std.specs.Prelude.{◌≡◌, ◌≢◌, IfOk, IfSome, true, false};
 ghost use Rattle.octi_grid.specs.Legal.{are_distinct};
 ghost use Rattle.octi_grid.specs.Walks.{doubled_of};
 ghost use Rattle.walk_search.specs.Routes.{route};
 ghost use Rattle.walk_search.specs.Boards.{parts_of};
-ghost use Rattle.walk_search.specs.Moves.{IsQuestion, question};
+ghost use Rattle.walk_search.specs.Moves.{IsQuestion, is_all_or_none};
 
 use crate::asked::Asked;
 use crate::board::Board;
 use crate::ends::End;
 use crate::known::Known;
 use crate::search::note_costs;
-use crate::spots::spots_of;
 use crate::walk::walk;
 use map_base::NoMemory;
 use octi_grid::{GridPoint, Walk};
@@ -51,8 +50,8 @@ pub fn least_settled_walk(
     requires from { (parts_of board.now).is_node from ≡ true }
     requires to { (parts_of board.now).is_node to ≡ true }
     requires apart { from ≢ to }
-    requires from_mask { from_free ≡ true → (from_ports ≡ 0) ⊎ (from_ports ≡ 255) }
-    requires to_mask { to_free ≡ true → (to_ports ≡ 0) ⊎ (to_ports ≡ 255) }
+    requires from_mask { from_free ≡ true → is_all_or_none from_ports ≡ true }
+    requires to_mask { to_free ≡ true → is_all_or_none to_ports ≡ true }
     ensures { IfOk result (λ walk. walk ≡ route (parts_of board.now) (record { at = from; is_free = from_free; ports = from_ports }) (record { at = to; is_free = to_free; ports = to_ports })) }
 {
     let from = End {
@@ -75,11 +74,11 @@ fn least_between(
     from: End,
     to: End,
 ) -> Result<Option<Walk>, NoMemory>
-    requires { IsQuestion (question (record { board = board.now; from = from; to = to })) }
+    requires { IsQuestion (record { board = parts_of board.now; from = from; to = to }) }
     ensures { IfOk result (λ walk. walk ≡ route (parts_of board.now) from to) }
 {
     let asked = Asked::new(alloc, board, from, to)?;
-    let states = spots_of(asked.bounds()) as usize + 1;
+    let states = asked.before() as usize + 1;
     let mut known = Known::none(alloc, states);
     note_costs(alloc, &asked, &mut known)?;
     walk(alloc, &asked, &known)

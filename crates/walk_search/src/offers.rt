@@ -1,19 +1,21 @@
 //! Costs that are offered to the spots from which others are reached.
 
-ghost use Rattle.std.specs.Prelude.{◌≡◌, ◌+◌, ◌*◌, ◌<◌, ◌≤◌, ◌^◌, OnOk, Some, true, length};
+ghost use Rattle.std.specs.Prelude.{◌≡◌, ◌+◌, ◌*◌, ◌<◌, ◌≤◌, ◌^◌, ◌==◌, ◌&&◌, OnOk, Some, true, length};
 ghost use Rattle.std.specs.BinaryHeap.{IsHeap, heap_items};
-ghost use Rattle.octi_grid.specs.Ways.{CanStep};
+ghost use Rattle.octi_grid.specs.Ways.{CanStep, are_one};
 ghost use Rattle.state_search.specs.Searching.{AreLowered, IsLowered, queue_cmp};
 ghost use Rattle.walk_search.specs.Boards.{is_inside};
-ghost use Rattle.walk_search.specs.Spots.{number_of_spot, spot_of, spots_of};
-ghost use Rattle.walk_search.specs.Moves.{question, ends_of, space_of, starts_of};
+ghost use Rattle.walk_search.specs.Spots.{IsSpot, number_of_spot, spot_of, spots_of};
+ghost use Rattle.walk_search.specs.Asking.{question};
+ghost use Rattle.walk_search.specs.Moves.{ends_of, group_of, space_of, start_at, starts_of};
 ghost use Rattle.walk_search.specs.Offers.{arrival_offers, back_offers, end_offer, end_offers, end_spot, passing_offers, seat_offer, seat_offers, spot_offers, start_offers};
 
 use crate::asked::{Asked, START, turn_from};
 use crate::directions::direction;
 use crate::known::Known;
 use crate::queue::{Queue, lower};
-use crate::spots::{Spot, number_of_spot, spot_of, spots_of};
+use crate::seats::are_one;
+use crate::spots::Spot;
 use map_base::NoMemory;
 use octi_grid::{Dir, GridPoint, step_cost};
 
@@ -25,9 +27,7 @@ fn offer(
     known: &mut Known,
     queue: &mut Queue,
 ) -> Result<(), NoMemory>
-    requires inside { is_inside (question asked.now).board spot.at ≡ true }
-    requires arrival { spot.arrival < 9 }
-    requires group { spot.group < 10 }
+    requires spot { IsSpot (question asked.now).board.bounds spot }
     requires cost { cost < 2 ^ 40 }
     requires each { length known.old ≡ spots_of (question asked.now).board.bounds + 1 }
     requires order { IsHeap queue_cmp (heap_items queue.old) }
@@ -35,7 +35,7 @@ fn offer(
     ensures each { OnOk result (length known.new ≡ spots_of (question asked.now).board.bounds + 1) }
     ensures lowered { OnOk result (IsLowered ((space_of (question asked.now)).ahead (number_of_spot (question asked.now).board.bounds spot)) known.old known.new (heap_items queue.old) (heap_items queue.new) (number_of_spot (question asked.now).board.bounds spot) cost) }
 {
-    let number = number_of_spot(asked.bounds(), spot);
+    let number = asked.number_of(spot);
     lower(known, queue, number, cost, asked.ahead_of(spot.at))
 }
 
@@ -71,14 +71,23 @@ fn offer_end(
     ensures each { OnOk result (length known.new ≡ spots_of (question asked.now).board.bounds + 1) }
     ensures lowered { OnOk result (AreLowered (space_of (question asked.now)).ahead known.old known.new (heap_items queue.old) (heap_items queue.new) (end_offer (question asked.now) k)) }
 {
-    let spot = Spot {
-        at: asked.end((k / 80) as u8),
-        arrival: (k / 10 % 8) as u8,
-        group: (k % 10) as u8,
-    };
+    let spot = end_spot(asked, k);
     match asked.end_cost(spot) {
         None => Ok(()),
         Some(cost) => offer(asked, spot, cost, known, queue),
+    }
+}
+
+/// One of the spots at which a walk may end, by a count through seats, arrivals and groups.
+fn end_spot(asked: &Asked, k: u16) -> Spot
+    requires { k < 80 * length (ends_of (question asked.now)) }
+    ensures value { result ≡ end_spot (question asked.now) k }
+    ensures on_board { IsSpot (question asked.now).board.bounds result }
+{
+    Spot {
+        at: asked.end((k / 80) as u8),
+        arrival: (k / 10 % 8) as u8,
+        group: (k % 10) as u8,
     }
 }
 
@@ -98,7 +107,7 @@ pub(crate) fn offer_back(
     ensures each { OnOk result (length known.new ≡ spots_of (question asked.now).board.bounds + 1) }
     ensures lowered { OnOk result (AreLowered (space_of (question asked.now)).ahead known.old known.new (heap_items queue.old) (heap_items queue.new) (spot_offers (question asked.now) (spot_of (question asked.now).board.bounds at) cost)) }
 {
-    match spot_of(asked.bounds(), at) {
+    match asked.spot_of(at) {
         None => Ok(()),
         Some(spot) => offer_from(asked, spot, cost, known, queue),
     }
@@ -112,9 +121,7 @@ fn offer_from(
     known: &mut Known,
     queue: &mut Queue,
 ) -> Result<(), NoMemory>
-    requires inside { is_inside (question asked.now).board spot.at ≡ true }
-    requires arrival { spot.arrival < 9 }
-    requires group { spot.group < 10 }
+    requires spot { IsSpot (question asked.now).board.bounds spot }
     requires cost { cost < 2 ^ 39 }
     requires each { length known.old ≡ spots_of (question asked.now).board.bounds + 1 }
     requires order { IsHeap queue_cmp (heap_items queue.old) }
@@ -168,11 +175,21 @@ fn offer_seat(
     ensures each { OnOk result (length known.new ≡ spots_of (question asked.now).board.bounds + 1) }
     ensures lowered { OnOk result (AreLowered (space_of (question asked.now)).ahead known.old known.new (heap_items queue.old) (heap_items queue.new) (seat_offer (question asked.now) spot cost i)) }
 {
-    if asked.start(i) != spot.at || asked.group_of(i) != spot.group {
+    if !starts_at(asked, spot, i) {
         return Ok(());
     }
-    let before = spots_of(asked.bounds());
-    lower(known, queue, before, cost + asked.start_cost(i) + 1, 0)
+    lower(known, queue, asked.before(), cost + (asked.start_cost(i) + 1), 0)
+}
+
+/// Whether a spot is that of a seat.
+fn starts_at(asked: &Asked, spot: Spot, i: u8) -> bool
+    requires { i < length (starts_of (question asked.now)) }
+    ensures { result ≡ (are_one (start_at (question asked.now) i) spot.at && group_of (question asked.now) i == spot.group) }
+{
+    if !are_one(asked.start(i), spot.at) {
+        return false;
+    }
+    asked.group_of(i) == spot.group
 }
 
 /// Offers to the spots at a point what it costs to go on by a step, if a step may be made there.

@@ -9,7 +9,8 @@ use octi_grid::GridPoint;
 /// What it costs at least to come from one point to another: with `m` the greater and `n` the lesser of the two
 /// differences of coordinates, `4 * (m - n) + 5 * n`. No walk costs less.
 pub fn reach(a: GridPoint, b: GridPoint) -> u64
-    ensures { result ≡ reach_of a b }
+    ensures value { result ≡ reach_of a b }
+    ensures within { result < 2 ^ 40 }
 {
     across(difference(a.x, b.x), difference(a.y, b.y))
 }
@@ -26,7 +27,8 @@ fn difference(a: i32, b: i32) -> u64
 fn across(m: u64, n: u64) -> u64
     requires m { m < 2 ^ 33 }
     requires n { n < 2 ^ 33 }
-    ensures { result ≡ across m n }
+    ensures value { result ≡ across m n }
+    ensures within { result < 2 ^ 40 }
 {
     4 * (m.max(n) - m.min(n)) + 5 * m.min(n)
 }

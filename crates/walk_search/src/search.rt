@@ -4,13 +4,13 @@ ghost use Rattle.std.specs.Prelude.{◌≡◌, ℕ, ◌+◌, ◌<◌, ◌↔◌,
 ghost use Rattle.std.specs.BinaryHeap.{IsHeap, heap_items};
 ghost use Rattle.state_search.specs.Searching.{IsSearched, known_at, queue_cmp};
 ghost use Rattle.walk_search.specs.Spots.{spots_of};
-ghost use Rattle.walk_search.specs.Moves.{question, space_of};
+ghost use Rattle.walk_search.specs.Asking.{question};
+ghost use Rattle.walk_search.specs.Moves.{space_of};
 
 use crate::asked::Asked;
 use crate::known::Known;
 use crate::offers::{offer_back, offer_ends};
 use crate::queue::{Queue, next};
-use crate::spots::{spot_of, spots_of};
 use map_base::NoMemory;
 use std::alloc::Global;
 
@@ -31,7 +31,7 @@ fn search(asked: &Asked, known: &mut Known, queue: &mut Queue) -> Result<(), NoM
     requires order { IsHeap queue_cmp (heap_items queue.old) }
     ensures { OnOk result (IsSearched (space_of (question asked.now)) (spots_of (question asked.now).board.bounds) known.new) }
 {
-    let before = spots_of(asked.bounds());
+    let before = asked.before();
     offer_ends(asked, known, queue)?;
     while let Some((estimate, at)) = next(queue, known.of(before)) {
         if let Some(cost) = fresh_cost(asked, known, estimate, at) {
@@ -61,7 +61,7 @@ fn ahead_of(asked: &Asked, at: u32) -> u64
     requires at { at < spots_of (question asked.now).board.bounds + 1 }
     ensures { result ≡ (space_of (question asked.now)).ahead at }
 {
-    match spot_of(asked.bounds(), at) {
+    match asked.spot_of(at) {
         None => 0,
         Some(spot) => asked.ahead_of(spot.at),
     }

@@ -1,11 +1,13 @@
 //! The seats of an end.
 
-ghost use Rattle.std.specs.Prelude.{◌≡◌, ◌<◌, ◌≤◌, ◌^◌, IfOk, true, length};
-ghost use Rattle.walk_search.specs.Boards.{parts_of};
-ghost use Rattle.walk_search.specs.Seats.{is_free_seat, seat_cost, seats_of};
-ghost use Rattle.octi_grid.specs.Ways.{IsWithin};
+ghost use Rattle.std.specs.Prelude.{◌≡◌, ◌<◌, ◌≤◌, ◌^◌, ◌||◌, ◌++◌, not, IfOk, OnOk, true, length};
+ghost use Rattle.walk_search.specs.Boards.{AreBounds, contains, doubled_bounds, is_inside, parts_of};
+ghost use Rattle.walk_search.specs.Seats.{is_free_seat, kept_seat, seat_cost, seats_of};
+ghost use Rattle.octi_grid.specs.Ways.{CanStep, IsWithin, are_one, doubled};
+ghost use Rattle.octi_grid.specs.Legal.{is_among};
 
 use crate::board::Board;
+use crate::bounds::Bounds;
 use crate::ends::End;
 use map_base::NoMemory;
 use octi_grid::GridPoint;
@@ -38,26 +40,91 @@ pub(crate) fn seats_of(alloc: Global, board: &Board, end: End) -> Result<Vec<Gri
             x: end.at.x + east,
             y: end.at.y + north,
         };
-        if is_free_seat(board, end.at, seat) {
-            seats.push(seat)?;
-        }
+        add_seat(board, end.at, seat, &mut seats)?;
     }
     Ok(seats)
+}
+
+/// Adds a point to the seats, if the end may be put there.
+fn add_seat(
+    board: &Board,
+    home: GridPoint,
+    p: GridPoint,
+    seats: &mut Vec<GridPoint>,
+) -> Result<(), NoMemory>
+    ensures { OnOk result (seats.new.items ≡ seats.old.items ++ kept_seat (parts_of board.now) home p) }
+{
+    if is_free_seat(board, home, p) {
+        seats.push(p)?;
+    }
+    Ok(())
 }
 
 /// Whether an end that is not settled may be put on a point: one of the board that is its home or no node's point, and
 /// of no walk.
 fn is_free_seat(board: &Board, home: GridPoint, p: GridPoint) -> bool
-    requires { IsWithin home }
     ensures { result ≡ is_free_seat (parts_of board.now) home p }
 {
     if !board.bounds().contains(p) {
         return false;
     }
-    if p != home && board.is_node(p) {
+    if !may_stand(board, home, p) {
         return false;
     }
-    !board.is_taken(p.doubled())
+    is_clear(board, p)
+}
+
+/// Whether a point of the board is the home or no node's point.
+fn may_stand(board: &Board, home: GridPoint, p: GridPoint) -> bool
+    requires { is_inside (parts_of board.now) p ≡ true }
+    ensures { result ≡ (are_one home p || not ((parts_of board.now).is_node p)) }
+{
+    if are_one(home, p) {
+        return true;
+    }
+    !board.is_node(p)
+}
+
+/// Whether no walk has a point of the board.
+pub(crate) fn is_clear(board: &Board, p: GridPoint) -> bool
+    requires { is_inside (parts_of board.now) p ≡ true }
+    ensures { result ≡ not ((parts_of board.now).is_taken (doubled p)) }
+{
+    let bounds = board.bounds();
+    !board.is_taken(doubled_within(bounds, p))
+}
+
+/// A point of the board, doubled.
+pub(crate) fn doubled_within(bounds: Bounds, p: GridPoint) -> GridPoint
+    requires bounds { AreBounds bounds }
+    requires inside { contains bounds p ≡ true }
+    ensures value { result ≡ doubled p }
+    ensures inside { contains (doubled_bounds bounds) result ≡ true }
+    ensures can_step { CanStep result }
+{
+    p.doubled()
+}
+
+/// Whether a point is one of these.
+pub(crate) fn is_among(points: &[GridPoint], p: GridPoint) -> bool
+    ensures { result ≡ is_among points.now p }
+{
+    for point in points {
+        if are_one(p, *point) {
+            return true;
+        }
+    }
+    false
+}
+
+/// Whether two points are the same.
+pub(crate) fn are_one(p: GridPoint, q: GridPoint) -> bool
+    ensures { result ≡ are_one p q }
+{
+    if p.x != q.x {
+        return false;
+    }
+    p.y == q.y
 }
 
 /// What a seat costs: 5 times the sum of its differences from the home.

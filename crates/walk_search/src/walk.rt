@@ -3,14 +3,15 @@
 ghost use Rattle.std.specs.Prelude.{◌≡◌, ℕ, ◌+◌, ◌<◌, ◌≤◌, ◌↔◌, Some, IsTrue, IfOk, IfSome, IfNone, length};
 ghost use Rattle.walk_search.specs.Spots.{spot_of, spots_of};
 ghost use Rattle.state_search.specs.Searching.{IsSearched, known_at};
-ghost use Rattle.walk_search.specs.Moves.{question, IsMove, move_of, space_of};
+ghost use Rattle.walk_search.specs.Asking.{question};
+ghost use Rattle.walk_search.specs.Moves.{IsMove, move_of, space_of};
 ghost use Rattle.walk_search.specs.Walked.{AreLabels, DifferBy, EndsAt, IsAnswer, IsLeastMove, IsPath, KeepsCost, StopsAt, walk_of_labels};
 
 use crate::asked::Asked;
 use crate::directions::direction;
 use crate::known::Known;
 use crate::search::is_sum;
-use crate::spots::{Spot, number_of_spot, spot_of, spots_of};
+use crate::spots::Spot;
 use map_base::NoMemory;
 use octi_grid::Walk;
 use std::alloc::Global;
@@ -42,7 +43,7 @@ fn labels_along(alloc: Global, asked: &Asked, known: &Known) -> Result<Vec<u8>, 
     ensures { IfOk result (λ labels. AreLabels (question asked.now) known.now labels.items) }
 {
     let mut labels = Vec::new(alloc);
-    let mut at = spots_of(asked.bounds());
+    let mut at = asked.before();
     while let Some(step) = next_move(asked, known, at) {
         labels.push(step.label)?;
         at = step.to;
@@ -55,6 +56,7 @@ fn next_move(asked: &Asked, known: &Known, at: u32) -> Option<Move>
     requires at { at < spots_of (question asked.now).board.bounds + 1 }
     requires each { length known.now ≡ spots_of (question asked.now).board.bounds + 1 }
     ensures least { IfSome result (λ step. IsLeastMove (question asked.now) known.now at step.label step.to) }
+    ensures within { IfSome result (λ step. step.to < spots_of (question asked.now).board.bounds + 1) }
     ensures none { IfNone result (StopsAt (question asked.now) known.now at) }
 {
     if ends_at(asked, known, at) {
@@ -74,7 +76,7 @@ fn ends_at(asked: &Asked, known: &Known, at: u32) -> bool
     requires each { length known.now ≡ spots_of (question asked.now).board.bounds + 1 }
     ensures { IsTrue result ↔ EndsAt (question asked.now) known.now at }
 {
-    match spot_of(asked.bounds(), at) {
+    match asked.spot_of(at) {
         None => false,
         Some(spot) => are_known(known.of(at), asked.end_cost(spot)),
     }
@@ -95,6 +97,7 @@ fn kept_move(asked: &Asked, known: &Known, at: u32, label: u8) -> Option<Move>
     requires at { at < spots_of (question asked.now).board.bounds + 1 }
     requires each { length known.now ≡ spots_of (question asked.now).board.bounds + 1 }
     ensures some { IfSome result (λ step. (step.label ≡ label) × KeepsCost (question asked.now) known.now at label step.to) }
+    ensures within { IfSome result (λ step. step.to < spots_of (question asked.now).board.bounds + 1) }
     ensures none { IfNone result ((to : ℕ) → KeepsCost (question asked.now) known.now at label to → ⊥) }
 {
     let step = move_by(asked, at, label)?;
@@ -115,7 +118,7 @@ fn move_by(asked: &Asked, at: u32, label: u8) -> Option<Move>
     let (landing, cost) = landing_of(asked, at, label)?;
     Some(Move {
         label,
-        to: number_of_spot(asked.bounds(), landing),
+        to: asked.number_of(landing),
         cost,
     })
 }
@@ -125,7 +128,7 @@ fn landing_of(asked: &Asked, at: u32, label: u8) -> Option<(Spot, u64)>
     requires at { at < spots_of (question asked.now).board.bounds + 1 }
     ensures { result ≡ move_of (question asked.now) (spot_of (question asked.now).board.bounds at) label }
 {
-    match spot_of(asked.bounds(), at) {
+    match asked.spot_of(at) {
         None => asked.chosen_seat(label),
         Some(spot) => asked.stepped(spot, label),
     }

@@ -1,0 +1,149 @@
+-- Paths from spot to spot are walks along open steps, and the other way round.
+use Rattle.std.proofs.Common.{◌≡◌, ◌≢◌, refl, sym, ◌∙◌, ap, ap₂, subst, ℕ, zero, suc, ◌+◌, ◌<◌, ◌≤◌, ◌⊎◌, inl, inr, Bool, true, false, cond, eqb, ltb, not, ◌&&◌, ◌||◌, List, [], ◌∷◌, map, length, Option, Some, None, arith}
+use Rattle.std.specs.Prelude.{option_map}
+use Rattle.std.proofs.lemmas.Bool.{and_parts, and_from, lt-ltb, ne_eqb, eq-eqb}
+use Rattle.octi_grid.specs.declared.dir.Dir.{Dir}
+use Rattle.octi_grid.specs.declared.point.GridPoint.{GridPoint}
+use Rattle.octi_grid.specs.Ways.{after, number_of, reverse_of, step_from}
+use Rattle.octi_grid.specs.Costs.{step_cost, turn_between, way_cost}
+use Rattle.octi_grid.specs.Walks.{last_of}
+use Rattle.state_search.specs.Goals.{PathTo}
+use Rattle.walk_search.specs.declared.spots.Spot.{Spot}
+use Rattle.walk_search.specs.Boards.{is_inside}
+use Rattle.walk_search.specs.Seats.{seat_cost}
+use Rattle.walk_search.specs.Routes.{allows}
+use Rattle.walk_search.specs.Spots.{IsSpot, number_of_spot, spots_of, spot_of}
+use Rattle.walk_search.specs.Moves.{Question, IsQuestion, IsMove, direction, end_cost, is_end, is_open, is_passable, is_start, may_end, may_leave, move_of, space_of, stepped, turn_from}
+use Rattle.walk_search.proofs.FreeWays.{Along, first_open, open_parts}
+use Rattle.walk_search.proofs.Numbered.{IsSpotOf, number_below_spots, spot_of-number, spot_of-is}
+use Rattle.walk_search.proofs.Turning.{direction-number_of, number_below}
+use Rattle.walk_search.proofs.Moving.{IsChosen, IsGoal, IsStepped, goal_parts, move_cases, moved, some_same}
+use Rattle.walk_search.proofs.Offering.{goal_of_spot, step_move}
+
+-- a walk goes on from a spot along open steps, and may end where it comes to
+pub record IsOnward (q : Question) (s : Spot) (d : Dir) (ds : List Dir) (k : ℕ) : Type 0 where
+  pub leaves : may_leave q s d ≡ true
+  pub along : Along q.board s.at (d ∷ ds)
+  pub ends : is_end q (after s.at (d ∷ ds)) s.group ≡ true
+  pub port : allows q.to.ports (option_map reverse_of (last_of (d ∷ ds))) ≡ true
+  pub cost : k ≡ turn_from s.arrival d + way_cost (d ∷ ds) + seat_cost q.to.at (after s.at (d ∷ ds))
+
+passes : (q : Question) (s : Spot) (d : Dir) → s.arrival < 8 → may_leave q s d ≡ is_passable q.board s.at
+passes q s d small = ap (λ t. cond t (is_start q s.at s.group && allows q.from.ports (Some d)) (is_passable q.board s.at)) (ne_eqb s.arrival 8 (λ e. absurd (omega arith)))
+
+turns : (a : ℕ) (d : Dir) → a < 8 → turn_from a d ≡ turn_between (direction a) d
+turns a d small = ap (λ t. cond t 0 (turn_between (direction a) d)) (ne_eqb a 8 (λ e. absurd (omega arith)))
+
+pub onward_of_path : (q : Question) → IsQuestion q → (n : ℕ) (s : Spot) (l : ℕ) (ls : List ℕ) (k : ℕ) → spot_of q.board.bounds n ≡ Some s → PathTo (space_of q) n (l ∷ ls) k →
+    IsOnward q s (direction l) (map direction ls) k
+onward_of_path q h n s l [] k e p = of_case (move_cases q (spot_of q.board.bounds n) l m.landing p.1 m.goes)
+  where
+    m : IsMove q n l p.0 p.1
+    m = p.3
+
+    there : spot_of q.board.bounds p.0 ≡ Some m.landing
+    there = ap (spot_of q.board.bounds) m.lands ∙ spot_of-number q.board.bounds m.landing (moved q h n l p.1 m.landing m.from_spot m.goes).spot
+
+    at_end : IsStepped q s l m.landing p.1 → (g : Spot) → IsGoal q p.0 p.2 g → IsOnward q s (direction l) [] k
+    at_end c g goal =
+        let same : g ≡ record { at = step_from s.at (direction l); arrival = l; group = s.group } = some_same g m.landing (sym goal.spot ∙ there) ∙ c.lands in
+        let ends : may_end q (record { at = step_from s.at (direction l); arrival = l; group = s.group }) ≡ true = subst (λ (x : Spot). may_end q x ≡ true) same goal.ends in
+        let parts = and_parts (is_end q (step_from s.at (direction l)) s.group) (allows q.to.ports (Some (reverse_of (direction l)))) ends in
+        let seat : p.2 ≡ seat_cost q.to.at (step_from s.at (direction l)) = goal.cost ∙ ap (λ (x : Spot). seat_cost q.to.at x.at) same in
+        record {
+          leaves = c.leaves;
+          along = c.is_free;
+          ends = parts.0;
+          port = parts.1;
+          cost = sums (step_cost (direction l)) (turn_from s.arrival (direction l)) p.1 p.2 (seat_cost q.to.at (step_from s.at (direction l))) c.cost seat p.5;
+        }
+      where
+        sums : (a t c r z : ℕ) → c ≡ a + t → r ≡ z → k ≡ c + r → k ≡ t + a + z
+        sums a t c r z x y w = omega arith
+
+    of_case : ((spot_of q.board.bounds n ≡ None) × IsChosen q l m.landing p.1) ⊎ ((x : Spot) × (spot_of q.board.bounds n ≡ Some x) × IsStepped q x l m.landing p.1) → IsOnward q s (direction l) [] k
+    of_case (inl c) = let clash : None ≡ Some s = sym c.0 ∙ e in absurd (let no : ⊥ = cc in no)
+    of_case (inr c) =
+        let same : c.0 ≡ s = some_same c.0 s (sym c.1 ∙ e) in
+        let g = goal_parts q p.0 p.2 p.4 in
+        at_end (subst (λ (x : Spot). IsStepped q x l m.landing p.1) same c.2) g.0 g.1
+onward_of_path q h n s l (m ∷ ms) k e p = of_case (move_cases q (spot_of q.board.bounds n) l move.landing p.1 move.goes) (λ x there. onward_of_path q h p.0 x m ms p.2 there p.4)
+  where
+    move : IsMove q n l p.0 p.1
+    move = p.3
+
+    there : spot_of q.board.bounds p.0 ≡ Some move.landing
+    there = ap (spot_of q.board.bounds) move.lands ∙ spot_of-number q.board.bounds move.landing (moved q h n l p.1 move.landing move.from_spot move.goes).spot
+
+    go_on : IsStepped q s l move.landing p.1 → IsOnward q (record { at = step_from s.at (direction l); arrival = l; group = s.group }) (direction m) (map direction ms) p.2 → IsOnward q s (direction l) (map direction (m ∷ ms)) k
+    go_on c o = record {
+      leaves = c.leaves;
+      along = (c.is_free, sym (passes q (record { at = step_from s.at (direction l); arrival = l; group = s.group }) (direction m) c.below) ∙ o.leaves, o.along);
+      ends = o.ends;
+      port = o.port;
+      cost = sums (step_cost (direction l)) (turn_from s.arrival (direction l)) p.1 p.2 (turn_from l (direction m)) (turn_between (direction l) (direction m)) (way_cost (direction m ∷ map direction ms))
+          (seat_cost q.to.at (after (step_from s.at (direction l)) (direction m ∷ map direction ms))) c.cost (turns l (direction m) c.below) o.cost p.5;
+    }
+      where
+        sums : (a t c r f g w z : ℕ) → c ≡ a + t → f ≡ g → r ≡ f + w + z → k ≡ c + r → k ≡ t + (a + g + w) + z
+        sums a t c r f g w z x y u v = omega arith
+
+    of_case : ((spot_of q.board.bounds n ≡ None) × IsChosen q l move.landing p.1) ⊎ ((x : Spot) × (spot_of q.board.bounds n ≡ Some x) × IsStepped q x l move.landing p.1) →
+        ((x : Spot) → spot_of q.board.bounds p.0 ≡ Some x → IsOnward q x (direction m) (map direction ms) p.2) → IsOnward q s (direction l) (map direction (m ∷ ms)) k
+    of_case (inl c) later = let clash : None ≡ Some s = sym c.0 ∙ e in absurd (let no : ⊥ = cc in no)
+    of_case (inr c) later =
+        let same : c.0 ≡ s = some_same c.0 s (sym c.1 ∙ e) in
+        let step : IsStepped q s l move.landing p.1 = subst (λ (x : Spot). IsStepped q x l move.landing p.1) same c.2 in
+        go_on step (subst (λ (x : Spot). IsOnward q x (direction m) (map direction ms) p.2) step.lands (later move.landing there))
+
+-- the spot that a step leads to
+abbrev led : Spot → Dir → Spot
+led s d = record { at = step_from s.at d; arrival = number_of d; group = s.group }
+
+led_spot : (q : Question) (s : Spot) (d : Dir) → IsSpot q.board.bounds s → is_open q.board s.at d ≡ true → IsSpot q.board.bounds (led s d)
+led_spot q s d h free = record { inside = (open_parts q.board s.at d free).there; arrival = omega (arith, number_below d); group = h.group }
+
+led_move : (q : Question) (s : Spot) (d : Dir) → IsSpot q.board.bounds s → may_leave q s d ≡ true → is_open q.board s.at d ≡ true →
+    IsMove q (number_of_spot q.board.bounds s) (number_of d) (number_of_spot q.board.bounds (led s d)) (step_cost d + turn_from s.arrival d)
+led_move q s d h leaves free =
+    subst (λ (e : Dir). IsMove q (number_of_spot q.board.bounds s) (number_of d) (number_of_spot q.board.bounds (led s d)) (step_cost e + turn_from s.arrival e)) (direction-number_of d)
+    (step_move q s (number_of d) (number_of_spot q.board.bounds (led s d)) (led s d) h (number_below d)
+    (subst (λ (e : Dir). may_leave q s e ≡ true) (sym (direction-number_of d)) leaves) (subst (λ (e : Dir). is_open q.board s.at e ≡ true) (sym (direction-number_of d)) free)
+    (ap (λ (e : Dir). record { at = step_from s.at e; arrival = number_of d; group = s.group }) (sym (direction-number_of d))) refl)
+
+pub path_of_onward : (q : Question) → IsQuestion q → (s : Spot) (d : Dir) (ds : List Dir) (k : ℕ) → IsSpot q.board.bounds s → IsOnward q s d ds k →
+    PathTo (space_of q) (number_of_spot q.board.bounds s) (number_of d ∷ map number_of ds) k
+path_of_onward q h s d [] k on o =
+    (number_of_spot q.board.bounds (led s d), step_cost d + turn_from s.arrival d, seat_cost q.to.at (step_from s.at d), led_move q s d on o.leaves o.along,
+    goal_of_spot q (led s d) (led_spot q s d on o.along) ∙ ends,
+    sums (step_cost d) (turn_from s.arrival d) (seat_cost q.to.at (step_from s.at d)) o.cost)
+  where
+    sums : (a t z : ℕ) → k ≡ t + a + z → k ≡ a + t + z
+    sums a t z x = omega arith
+
+    cond_same : (x y : Option ℕ) (t : Bool) → t ≡ true → cond t x y ≡ x
+    cond_same x y true e = refl
+    cond_same x y false e = let no : ⊥ = cc in absurd no
+
+    ends : end_cost q (Some (led s d)) ≡ Some (seat_cost q.to.at (step_from s.at d))
+    ends =
+        cond_same (Some (seat_cost q.to.at (step_from s.at d))) None (ltb (number_of d) 8 && may_end q (led s d))
+        (and_from (ltb (number_of d) 8) (may_end q (led s d)) (lt-ltb (number_of d) 8 (number_below d))
+        (and_from (is_end q (step_from s.at d) s.group) (allows q.to.ports (Some (reverse_of (direction (number_of d))))) o.ends
+        (subst (λ (e : Dir). allows q.to.ports (Some (reverse_of e)) ≡ true) (sym (direction-number_of d)) o.port)))
+path_of_onward q h s d (e ∷ ds) k on o =
+    (number_of_spot q.board.bounds (led s d), step_cost d + turn_from s.arrival d, rest, led_move q s d on o.leaves o.along.0,
+    path_of_onward q h (led s d) e ds rest (led_spot q s d on o.along.0) onward,
+    sums (step_cost d) (turn_from s.arrival d) (turn_from (number_of d) e) (turn_between d e) (way_cost (e ∷ ds)) (seat_cost q.to.at (after (step_from s.at d) (e ∷ ds))) turn o.cost)
+  where
+    rest : ℕ
+    rest = turn_from (number_of d) e + way_cost (e ∷ ds) + seat_cost q.to.at (after (step_from s.at d) (e ∷ ds))
+
+    turn : turn_from (number_of d) e ≡ turn_between d e
+    turn = turns (number_of d) e (number_below d) ∙ ap (λ (x : Dir). turn_between x e) (direction-number_of d)
+
+    onward : IsOnward q (led s d) e ds rest
+    onward = record { leaves = passes q (led s d) e (number_below d) ∙ o.along.1; along = o.along.2; ends = o.ends; port = o.port; cost = refl }
+
+    sums : (a t f g w z : ℕ) → f ≡ g → k ≡ t + (a + g + w) + z → k ≡ a + t + (f + w + z)
+    sums a t f g w z x y = omega arith

@@ -1,0 +1,225 @@
+-- Moves from spot to spot are steps that a search may rest on.
+use Rattle.std.proofs.Common.{◌≡◌, ◌≢◌, refl, sym, ◌∙◌, ap, ap₂, subst, ℕ, zero, suc, ◌+◌, ◌*◌, ◌<◌, ◌≤◌, ◌⊎◌, inl, inr, Bool, true, false, cond, eqb, ltb, not, ◌&&◌, ◌||◌, List, length, Option, Some, None, arith}
+use Rattle.std.proofs.lemmas.Bool.{and_parts, and_from, ltb-true, lt-ltb, eqb-true, ne_eqb, eq-eqb, cases_eq}
+use Rattle.least_path.proofs.Chosen.{StandsIn, AllAre, all-at}
+use Rattle.octi_grid.specs.declared.dir.Dir.{Dir}
+use Rattle.octi_grid.specs.declared.point.GridPoint.{GridPoint}
+use Rattle.octi_grid.specs.Ways.{are_one, reverse_of, step_from}
+use Rattle.octi_grid.specs.Costs.{step_cost, turn_between}
+use Rattle.octi_grid.specs.Legal.{is_among}
+use Rattle.octi_grid.proofs.CostLemmas.{step_cost_small, turn_small}
+use Rattle.state_search.specs.Goals.{IsSpace}
+use Rattle.walk_search.specs.declared.spots.Spot.{Spot}
+use Rattle.walk_search.specs.Boards.{is_inside}
+use Rattle.walk_search.specs.Seats.{seat_cost}
+use Rattle.walk_search.specs.Routes.{allows}
+use Rattle.walk_search.specs.Reaching.{reach_of}
+use Rattle.walk_search.specs.Spots.{IsSpot, number_of_spot, spots_of, spot_of}
+use Rattle.walk_search.specs.Moves.{Question, IsQuestion, IsMove, chosen_seat, direction, end_cost, ends_of, group_of, is_end, is_open, is_other_end, may_end, may_leave, move_of, space_of, spot_ahead, start_at, starts_of, stepped, turn_from}
+use Rattle.walk_search.proofs.Numbered.{IsSpotOf, number_below_spots, spot_of-number, spot_of-is, none_is_last}
+use Rattle.walk_search.proofs.LeastReach.{reach_seat, reach_step}
+use Rattle.walk_search.proofs.Turning.{step_cost_from}
+use Rattle.walk_search.proofs.SeatFacts.{all_index, among_stands, place_of, seats_cheap, seats_few, seats_inside}
+
+pub some_same : {X : Type 0} (x y : X) → Some x ≡ Some y → x ≡ y
+some_same x y e = cc
+
+pub cond_some : {X : Type 0} (t : Bool) (x y : X) → cond t (Some x) None ≡ Some y → (t ≡ true) × (x ≡ y)
+cond_some true x y e = (refl, some_same x y e)
+cond_some {X = X} false x y e = let no : ⊥ = cc in absurd no
+
+-- a seat was chosen
+pub record IsChosen (q : Question) (i : ℕ) (landing : Spot) (c : ℕ) : Type 0 where
+  pub below : i < length (starts_of q)
+  pub lands : landing ≡ record { at = start_at q i; arrival = 8; group = group_of q i }
+  pub cost : c ≡ seat_cost q.from.at (start_at q i) + 1
+
+pub chosen_parts : (q : Question) (i : ℕ) (landing : Spot) (c : ℕ) → chosen_seat q i ≡ Some (landing, c) → IsChosen q i landing c
+chosen_parts q i landing c e =
+    let found = cond_some (ltb i (length (starts_of q))) (let s : Spot × ℕ = (record { at = start_at q i; arrival = 8; group = group_of q i }, seat_cost q.from.at (start_at q i) + 1) in s) (landing, c) e in
+    record {
+      below = ltb-true i (length (starts_of q)) found.0;
+      lands = sym (ap (λ (s : Spot × ℕ). s.0) found.1);
+      cost = sym (ap (λ (s : Spot × ℕ). s.1) found.1);
+    }
+
+-- a step was made
+pub record IsStepped (q : Question) (s : Spot) (l : ℕ) (landing : Spot) (c : ℕ) : Type 0 where
+  pub below : l < 8
+  pub leaves : may_leave q s (direction l) ≡ true
+  pub is_free : is_open q.board s.at (direction l) ≡ true
+  pub lands : landing ≡ record { at = step_from s.at (direction l); arrival = l; group = s.group }
+  pub cost : c ≡ step_cost (direction l) + turn_from s.arrival (direction l)
+
+pub stepped_parts : (q : Question) (s : Spot) (l : ℕ) (landing : Spot) (c : ℕ) → stepped q s l ≡ Some (landing, c) → IsStepped q s l landing c
+stepped_parts q s l landing c e =
+    let goes : Bool = may_leave q s (direction l) && is_open q.board s.at (direction l) in
+    let found = cond_some (ltb l 8 && goes) (let m : Spot × ℕ = (record { at = step_from s.at (direction l); arrival = l; group = s.group }, step_cost (direction l) + turn_from s.arrival (direction l)) in m) (landing, c) e in
+    let first = and_parts (ltb l 8) goes found.0 in
+    let second = and_parts (may_leave q s (direction l)) (is_open q.board s.at (direction l)) first.1 in
+    record {
+      below = ltb-true l 8 first.0;
+      leaves = second.0;
+      is_free = second.1;
+      lands = sym (ap (λ (m : Spot × ℕ). m.0) found.1);
+      cost = sym (ap (λ (m : Spot × ℕ). m.1) found.1);
+    }
+
+pub move_cases : (q : Question) (o : Option Spot) (l : ℕ) (landing : Spot) (c : ℕ) → move_of q o l ≡ Some (landing, c) →
+    ((o ≡ None) × IsChosen q l landing c) ⊎ ((s : Spot) × (o ≡ Some s) × IsStepped q s l landing c)
+move_cases q None l landing c e = inl (refl, chosen_parts q l landing c e)
+move_cases q (Some s) l landing c e = inr (s, refl, stepped_parts q s l landing c e)
+
+-- the home of the start lies on the board
+pub from_inside : (q : Question) → IsQuestion q → is_inside q.board q.from.at ≡ true
+from_inside q h = h.board.nodes_inside q.from.at h.from_node
+
+pub to_inside : (q : Question) → IsQuestion q → is_inside q.board q.to.at ≡ true
+to_inside q h = h.board.nodes_inside q.to.at h.to_node
+
+pub start_inside : (q : Question) → IsQuestion q → (i : ℕ) → i < length (starts_of q) → is_inside q.board (start_at q i) ≡ true
+start_inside q h i below = all_index (λ p. is_inside q.board p ≡ true) (starts_of q) (seats_inside q.board q.from (from_inside q h)) i q.from.at below
+
+pub start_cheap : (q : Question) (i : ℕ) → i < length (starts_of q) → seat_cost q.from.at (start_at q i) ≤ 20
+start_cheap q i below = all_index (λ p. seat_cost q.from.at p ≤ 20) (starts_of q) (seats_cheap q.board q.from) i q.from.at below
+
+pub group_small : (q : Question) (i : ℕ) → i < length (starts_of q) → group_of q i < 10
+group_small q i below = of_test (is_among (ends_of q) (start_at q i))
+  where
+    few : length (starts_of q) ≤ 9
+    few = seats_few q.board q.from
+
+    of_test : (t : Bool) → cond t (i + 1) 0 < 10
+    of_test true = let small : length (starts_of q) ≤ 9 = few in omega arith
+    of_test false = omega arith
+
+pub chosen_spot : (q : Question) → IsQuestion q → (i : ℕ) (landing : Spot) (c : ℕ) → IsChosen q i landing c → IsSpot q.board.bounds landing
+chosen_spot q h i landing c m =
+    subst (λ (s : Spot). IsSpot q.board.bounds s) (sym m.lands) (record { inside = start_inside q h i m.below; arrival = omega arith; group = group_small q i m.below })
+
+pub stepped_spot : (q : Question) (s : Spot) (l : ℕ) (landing : Spot) (c : ℕ) → IsSpot q.board.bounds s → IsStepped q s l landing c → IsSpot q.board.bounds landing
+stepped_spot q s l landing c h m =
+    let parts = and_parts (is_inside q.board s.at) _ m.is_free in
+    subst (λ (x : Spot). IsSpot q.board.bounds x) (sym m.lands)
+    (record { inside = (and_parts (is_inside q.board (step_from s.at (direction l))) _ parts.1).0; arrival = omega (arith, m.below); group = h.group })
+
+pub turn_from_small : (a : ℕ) (d : Dir) → turn_from a d ≤ 4
+turn_from_small a d = of_test (eqb a 8)
+  where
+    of_test : (t : Bool) → cond t 0 (turn_between (direction a) d) ≤ 4
+    of_test true = omega arith
+    of_test false = turn_small (direction a) d
+
+-- what a move by numbers is
+pub record IsMoved (q : Question) (a l c : ℕ) (landing : Spot) : Type 0 where
+  pub spot : IsSpot q.board.bounds landing
+  pub cost_from : 1 ≤ c
+  pub cost_to : c ≤ 21
+  pub rises : reach_of q.from.at landing.at ≤ spot_ahead q (spot_of q.board.bounds a) + c
+
+pub moved : (q : Question) → IsQuestion q → (a l c : ℕ) (landing : Spot) → a < spots_of q.board.bounds + 1 → move_of q (spot_of q.board.bounds a) l ≡ Some (landing, c) → IsMoved q a l c landing
+moved q h a l c landing below goes = of_case (move_cases q (spot_of q.board.bounds a) l landing c goes)
+  where
+    of_chosen : spot_of q.board.bounds a ≡ None → IsChosen q l landing c → IsMoved q a l c landing
+    of_chosen e m = record {
+      spot = chosen_spot q h l landing c m;
+      cost_from = omega (arith, m.cost);
+      cost_to = omega (arith, m.cost, start_cheap q l m.below);
+      rises =
+          let reach : reach_of q.from.at landing.at ≤ seat_cost q.from.at (start_at q l) =
+          subst (λ (s : Spot). reach_of q.from.at s.at ≤ seat_cost q.from.at (start_at q l)) (sym m.lands) (reach_seat q.from.at (start_at q l)) in
+          let cost : c ≡ seat_cost q.from.at (start_at q l) + 1 = m.cost in
+          above (reach_of q.from.at landing.at) (seat_cost q.from.at (start_at q l)) (spot_ahead q (spot_of q.board.bounds a)) reach cost;
+    }
+      where
+        above : (r k o : ℕ) → r ≤ k → c ≡ k + 1 → r ≤ o + c
+        above r k o x y = omega arith
+
+    of_stepped : (s : Spot) → spot_of q.board.bounds a ≡ Some s → IsStepped q s l landing c → IsMoved q a l c landing
+    of_stepped s e m =
+        let of = spot_of-is q.board.bounds a s h.board.in_range below e in
+        record {
+          spot = stepped_spot q s l landing c of.spot m;
+          cost_from = omega (arith, m.cost, step_cost_from (direction l));
+          cost_to = omega (arith, m.cost, step_cost_small (direction l), turn_from_small s.arrival (direction l));
+          rises =
+              subst (λ (o : Option Spot). reach_of q.from.at landing.at ≤ spot_ahead q o + c) (sym e)
+              (above (reach_of q.from.at landing.at) (reach_of q.from.at (step_from s.at (direction l))) (reach_of q.from.at s.at) (step_cost (direction l)) (turn_from s.arrival (direction l))
+              (ap (λ (x : Spot). reach_of q.from.at x.at) m.lands) (reach_step q.from.at s.at (direction l)) m.cost);
+        }
+      where
+        above : (r k o e t : ℕ) → r ≡ k → k ≤ o + e → c ≡ e + t → r ≤ o + c
+        above r k o e t x y z = omega arith
+
+    of_case : ((spot_of q.board.bounds a ≡ None) × IsChosen q l landing c) ⊎ ((s : Spot) × (spot_of q.board.bounds a ≡ Some s) × IsStepped q s l landing c) → IsMoved q a l c landing
+    of_case (inl m) = of_chosen m.0 m.1
+    of_case (inr m) = of_stepped m.0 m.1 m.2
+
+-- where a walk may end
+pub record IsGoal (q : Question) (n k : ℕ) (s : Spot) : Type 0 where
+  pub below : n < spots_of q.board.bounds + 1
+  pub spot : spot_of q.board.bounds n ≡ Some s
+  pub arrival : s.arrival < 8
+  pub ends : may_end q s ≡ true
+  pub cost : k ≡ seat_cost q.to.at s.at
+
+cond_option : {X : Type 0} (t : Bool) (o : Option X) (y : X) → cond t o None ≡ Some y → (t ≡ true) × (o ≡ Some y)
+cond_option true o y e = (refl, e)
+cond_option {X = X} false o y e = let no : ⊥ = cc in absurd no
+
+pub end_cost_parts : (q : Question) (s : Spot) (k : ℕ) → end_cost q (Some s) ≡ Some k → (s.arrival < 8) × (may_end q s ≡ true) × (k ≡ seat_cost q.to.at s.at)
+end_cost_parts q s k e =
+    let found = cond_some (ltb s.arrival 8 && may_end q s) (seat_cost q.to.at s.at) k e in
+    let parts = and_parts (ltb s.arrival 8) (may_end q s) found.0 in
+    (ltb-true s.arrival 8 parts.0, parts.1, sym found.1)
+
+pub goal_parts : (q : Question) (n k : ℕ) → (space_of q).goal n ≡ Some k → (s : Spot) × IsGoal q n k s
+goal_parts q n k e = of_spot (spot_of q.board.bounds n) refl
+  where
+    found : (ltb n (spots_of q.board.bounds + 1) ≡ true) × (end_cost q (spot_of q.board.bounds n) ≡ Some k)
+    found = cond_option (ltb n (spots_of q.board.bounds + 1)) (end_cost q (spot_of q.board.bounds n)) k e
+
+    of_spot : (o : Option Spot) → spot_of q.board.bounds n ≡ o → (s : Spot) × IsGoal q n k s
+    of_spot None h = let clash : None ≡ Some k = sym (ap (end_cost q) h) ∙ found.1 in absurd (let no : ⊥ = cc in no)
+    of_spot (Some s) h =
+        let parts = end_cost_parts q s k (sym (ap (end_cost q) h) ∙ found.1) in
+        (s, record { below = ltb-true n (spots_of q.board.bounds + 1) found.0; spot = h; arrival = parts.0; ends = parts.1; cost = parts.2 })
+
+pub end_among : (q : Question) (s : Spot) → may_end q s ≡ true → is_among (ends_of q) s.at ≡ true
+end_among q s e =
+    (and_parts (is_among (ends_of q) s.at) (eqb s.group 0 || is_other_end q s.at s.group) ((and_parts (is_end q s.at s.group) (allows q.to.ports (Some (reverse_of (direction s.arrival)))) e).0)).0
+
+-- so the spots are states of a search
+pub is_space : (q : Question) → IsQuestion q → IsSpace (space_of q)
+is_space q h = record {
+  one_state = λ a l s t c d m n. m.lands ∙ ap (number_of_spot q.board.bounds) (landing_same a l s t c d m n) ∙ sym n.lands;
+  one_cost = λ a l s t c d m n. ap (λ (x : Spot × ℕ). x.1) (some_same (m.landing, c) (n.landing, d) (sym m.goes ∙ n.goes));
+  not_free = λ a l s c m. (moved q h a l c m.landing m.from_spot m.goes).cost_from;
+  cheap = λ a l s c m. (moved q h a l c m.landing m.from_spot m.goes).cost_to;
+  from_state = λ a l s c m. m.from_spot;
+  to_state = λ a l s c m. in_range a l s c m;
+  end_state = λ a k e. (goal_parts q a k e).1.below;
+  cheap_end = λ a k e. cheap_goal a k (goal_parts q a k e).0 (goal_parts q a k e).1;
+  consistent = λ a l s c m. rises a l s c m;
+}
+  where
+    landing_same : (a l s t c d : ℕ) (m : IsMove q a l s c) (n : IsMove q a l t d) → m.landing ≡ n.landing
+    landing_same a l s t c d m n = ap (λ (x : Spot × ℕ). x.0) (some_same (m.landing, c) (n.landing, d) (sym m.goes ∙ n.goes))
+
+    in_range : (a l s c : ℕ) (m : IsMove q a l s c) → s < spots_of q.board.bounds + 1
+    in_range a l s c m =
+        let below : number_of_spot q.board.bounds m.landing < spots_of q.board.bounds = number_below_spots q.board.bounds m.landing (moved q h a l c m.landing m.from_spot m.goes).spot in
+        let is : s ≡ number_of_spot q.board.bounds m.landing = m.lands in
+        omega arith
+
+    cheap_goal : (a k : ℕ) (s : Spot) → IsGoal q a k s → k ≤ 21
+    cheap_goal a k s g =
+        let cheap : seat_cost q.to.at s.at ≤ 20 = all-at (λ p. seat_cost q.to.at p ≤ 20) s.at (ends_of q) (seats_cheap q.board q.to) (among_stands s.at (ends_of q) (end_among q s g.ends)) in
+        let is : k ≡ seat_cost q.to.at s.at = g.cost in
+        omega arith
+
+    rises : (a l s c : ℕ) (m : IsMove q a l s c) → spot_ahead q (spot_of q.board.bounds s) ≤ spot_ahead q (spot_of q.board.bounds a) + c
+    rises a l s c m =
+        let is = moved q h a l c m.landing m.from_spot m.goes in
+        let spot : spot_of q.board.bounds s ≡ Some m.landing = ap (spot_of q.board.bounds) m.lands ∙ spot_of-number q.board.bounds m.landing is.spot in
+        subst (λ (o : Option Spot). spot_ahead q o ≤ spot_ahead q (spot_of q.board.bounds a) + c) (sym spot) is.rises

@@ -1,0 +1,102 @@
+-- What was looked at, as offers by their definitions.
+use Rattle.std.proofs.Common.{◌≡◌, refl, sym, ◌∙◌, ap, subst, ℕ, ◌+◌, ◌*◌, ◌<◌, ◌≤◌, Bool, true, false, cond, not, eqb, ◌&&◌, List, [], ◌∷◌, ◌++◌, length, Option, Some, None, arith}
+use Rattle.std.specs.declared.cmp.Reverse.{Reverse}
+use Rattle.std.proofs.lemmas.Int.{ints}
+use Rattle.std.proofs.lemmas.Bool.{ne_eqb}
+use Rattle.least_path.proofs.Chosen.{all-at}
+use Rattle.octi_grid.specs.declared.dir.Dir.{Dir}
+use Rattle.octi_grid.specs.declared.point.GridPoint.{GridPoint}
+use Rattle.octi_grid.specs.Ways.{CanStep, are_one, east_of, north_of, reverse_of, step_from}
+use Rattle.octi_grid.proofs.WayLemmas.{east_small, north_small}
+use Rattle.state_search.specs.Searching.{AreLowered, IsLowered}
+use Rattle.state_search.proofs.Lowering.{lowered_both}
+use Rattle.walk_search.specs.declared.bounds.Bounds.{Bounds}
+use Rattle.walk_search.specs.declared.spots.Spot.{Spot}
+use Rattle.walk_search.specs.Boards.{AreBounds, contains}
+use Rattle.walk_search.specs.Seats.{seat_cost}
+use Rattle.walk_search.specs.Routes.{allows}
+use Rattle.walk_search.specs.Reaching.{reach_of}
+use Rattle.walk_search.specs.Spots.{IsSpot, number_of_spot, spots_of, spot_of}
+use Rattle.walk_search.specs.Moves.{Question, direction, end_cost, ends_of, group_of, is_open, is_start, may_end, space_of, spot_ahead, start_at, starts_of}
+use Rattle.walk_search.specs.Offers.{arrival_offer, back_offers, end_offer, end_spot, offer_where, passing_offers, seat_offer, seat_offers, spot_offers, start_offers}
+use Rattle.walk_search.proofs.Within.{inside_facts}
+use Rattle.walk_search.proofs.Numbered.{spot_of-none, spot_of-number}
+use Rattle.walk_search.proofs.SeatFacts.{among_stands, seats_cheap}
+use Rattle.walk_search.proofs.Moving.{end_among, end_cost_parts}
+
+abbrev Table : Type 0
+Table = List (Option ℕ)
+
+abbrev Waiting : Type 0
+Waiting = List (Reverse (ℕ × ℕ))
+
+-- one state
+pub lowered_one : (ahead : ℕ → ℕ) (old new : Table) (queue longer : Waiting) (at cost : ℕ) → IsLowered (ahead at) old new queue longer at cost → AreLowered ahead old new queue longer ((at, cost) ∷ [])
+lowered_one ahead old new queue longer at cost h = (new, longer, h, (refl, refl))
+
+-- a spot, by its number and by what lies ahead of its point
+pub offered_spot : (q : Question) (s : Spot) (old new : Table) (queue longer : Waiting) (ahead at cost : ℕ) → IsSpot q.board.bounds s → ahead ≡ reach_of q.from.at s.at → at ≡ number_of_spot q.board.bounds s →
+    IsLowered ahead old new queue longer at cost → IsLowered ((space_of q).ahead (number_of_spot q.board.bounds s)) old new queue longer (number_of_spot q.board.bounds s) cost
+offered_spot q s old new queue longer ahead at cost on is number h =
+    let same : ahead ≡ (space_of q).ahead (number_of_spot q.board.bounds s) = is ∙ sym (ap (spot_ahead q) (spot_of-number q.board.bounds s on)) in
+    subst (λ (m : ℕ). IsLowered m old new queue longer (number_of_spot q.board.bounds s) cost) same (subst (λ (n : ℕ). IsLowered ahead old new queue longer n cost) number h)
+
+-- where a walk may end
+pub offered_end : (q : Question) (k : ℕ) (s : Spot) (cost : ℕ) (old new : Table) (queue longer : Waiting) → s ≡ end_spot q k → Some cost ≡ end_cost q (Some s) →
+    IsLowered ((space_of q).ahead (number_of_spot q.board.bounds s)) old new queue longer (number_of_spot q.board.bounds s) cost → AreLowered (space_of q).ahead old new queue longer (end_offer q k)
+offered_end q k s cost old new queue longer is pays h =
+    subst (λ (x : Spot). AreLowered (space_of q).ahead old new queue longer (offer_where q x (end_cost q (Some x)))) is
+    (subst (λ (o : Option ℕ). AreLowered (space_of q).ahead old new queue longer (offer_where q s o)) pays
+    (lowered_one (space_of q).ahead old new queue longer (number_of_spot q.board.bounds s) cost h))
+
+pub may_end_cheap : (q : Question) (s : Spot) → may_end q s ≡ true → seat_cost q.to.at s.at ≤ 20
+may_end_cheap q s e = all-at (λ p. seat_cost q.to.at p ≤ 20) s.at (ends_of q) (seats_cheap q.board q.to) (among_stands s.at (ends_of q) (end_among q s e))
+
+pub end_cost_small : (q : Question) (s : Spot) (k : ℕ) → end_cost q (Some s) ≡ Some k → k ≤ 20
+end_cost_small q s k e =
+    let parts = end_cost_parts q s k e in
+    let cheap : seat_cost q.to.at s.at ≤ 20 = all-at (λ p. seat_cost q.to.at p ≤ 20) s.at (ends_of q) (seats_cheap q.board q.to) (among_stands s.at (ends_of q) (end_among q s parts.1)) in
+    let is : k ≡ seat_cost q.to.at s.at = parts.2 in
+    omega arith
+
+-- before the choice of a seat
+pub offered_seat : (q : Question) (s : Spot) (cost i : ℕ) (old new : Table) (queue longer : Waiting) (at pays : ℕ) → (are_one (start_at q i) s.at && eqb (group_of q i) s.group) ≡ true → at ≡ spots_of q.board.bounds →
+    pays ≡ cost + (seat_cost q.from.at (start_at q i) + 1) → IsLowered 0 old new queue longer at pays → AreLowered (space_of q).ahead old new queue longer (seat_offer q s cost i)
+offered_seat q s cost i old new queue longer at pays here is sum h =
+    subst (λ (t : Bool). AreLowered (space_of q).ahead old new queue longer (cond t ((spots_of q.board.bounds, cost + (seat_cost q.from.at (start_at q i) + 1)) ∷ []) [])) (sym here)
+    (lowered_one (space_of q).ahead old new queue longer (spots_of q.board.bounds) (cost + (seat_cost q.from.at (start_at q i) + 1))
+    (subst (λ (m : ℕ). IsLowered m old new queue longer (spots_of q.board.bounds) (cost + (seat_cost q.from.at (start_at q i) + 1))) (sym (ap (spot_ahead q) (spot_of-none q.board.bounds)))
+    (subst (λ (n : ℕ). IsLowered 0 old new queue longer n (cost + (seat_cost q.from.at (start_at q i) + 1))) is (subst (λ (c : ℕ). IsLowered 0 old new queue longer at c) sum h))))
+
+-- a step
+pub offered_start : (q : Question) (p : GridPoint) (group : ℕ) (d : Dir) (cost whole : ℕ) (old new : Table) (queue longer : Waiting) → (is_start q p group && allows q.from.ports (Some d)) ≡ true →
+    whole ≡ (arrival_offer q p group d cost 8).1 →
+    IsLowered ((space_of q).ahead (arrival_offer q p group d cost 8).0) old new queue longer (arrival_offer q p group d cost 8).0 whole → AreLowered (space_of q).ahead old new queue longer (start_offers q p group d cost)
+offered_start q p group d cost whole old new queue longer starts sum h =
+    subst (λ (t : Bool). AreLowered (space_of q).ahead old new queue longer (cond t (arrival_offer q p group d cost 8 ∷ []) [])) (sym starts)
+    (lowered_one (space_of q).ahead old new queue longer (arrival_offer q p group d cost 8).0 (arrival_offer q p group d cost 8).1
+    (subst (λ (c : ℕ). IsLowered ((space_of q).ahead (arrival_offer q p group d cost 8).0) old new queue longer (arrival_offer q p group d cost 8).0 c) sum h))
+
+pub offered_back : (q : Question) (p : GridPoint) (group : ℕ) (d : Dir) (cost : ℕ) (old mid new : Table) (queue more longer : Waiting) → is_open q.board p d ≡ true →
+    AreLowered (space_of q).ahead old mid queue more (passing_offers q p group d cost) → AreLowered (space_of q).ahead mid new more longer (start_offers q p group d cost) →
+    AreLowered (space_of q).ahead old new queue longer (back_offers q p group d cost)
+offered_back q p group d cost old mid new queue more longer free h k =
+    subst (λ (t : Bool). AreLowered (space_of q).ahead old new queue longer (cond t (passing_offers q p group d cost ++ start_offers q p group d cost) [])) (sym free)
+    (lowered_both (space_of q).ahead old mid new queue more longer (passing_offers q p group d cost) (start_offers q p group d cost) h k)
+
+pub offered_step : (q : Question) (s : Spot) (cost : ℕ) (back : GridPoint) (d : Dir) (old new : Table) (queue longer : Waiting) → (s.arrival ≡ 8 → ⊥) → d ≡ direction s.arrival → back ≡ step_from s.at (reverse_of d) →
+    AreLowered (space_of q).ahead old new queue longer (back_offers q back s.group d cost) → AreLowered (space_of q).ahead old new queue longer (spot_offers q (Some s) cost)
+offered_step q s cost back d old new queue longer apart is here h =
+    subst (λ (t : Bool). AreLowered (space_of q).ahead old new queue longer (cond t (seat_offers q s cost (length (starts_of q))) (back_offers q (step_from s.at (reverse_of (direction s.arrival))) s.group (direction s.arrival) cost))) (sym (ne_eqb s.arrival 8 apart))
+    (subst (λ (e : Dir). AreLowered (space_of q).ahead old new queue longer (back_offers q (step_from s.at (reverse_of e)) s.group e cost)) is
+    (subst (λ (p : GridPoint). AreLowered (space_of q).ahead old new queue longer (back_offers q p s.group d cost)) here h))
+
+-- a point beside the board
+pub can_step_beside : (b : Bounds) (p : GridPoint) (d : Dir) → AreBounds b → contains b p ≡ true → CanStep (step_from p d)
+can_step_beside b p d h e =
+    let f = inside_facts b p e in
+    record { across = omega (arith, ints, f.west, f.east, h.left.low, h.right.high, east_small d); along = omega (arith, ints, f.south, f.north, h.bottom.low, h.top.high, north_small d) }
+
+pub not_false : (b : Bool) → not b ≡ false → b ≡ true
+not_false true e = refl
+not_false false e = let no : ⊥ = cc in absurd no

@@ -1,0 +1,158 @@
+-- The walk along known costs is the least path.
+use Rattle.std.proofs.Common.{◌≡◌, ◌≢◌, refl, sym, ◌∙◌, ap, ap₂, subst, ℕ, zero, suc, ◌+◌, ◌<◌, ◌≤◌, ◌⊎◌, inl, inr, Bool, true, false, ◌&&◌, List, [], ◌∷◌, ◌++◌, map, length, drop, Option, Some, None, arith}
+use Rattle.std.proofs.lemmas.Bool.{and_parts}
+use Rattle.octi_grid.specs.declared.dir.Dir.{Dir}
+use Rattle.octi_grid.specs.declared.point.GridPoint.{GridPoint}
+use Rattle.octi_grid.specs.Ways.{step_from}
+use Rattle.state_search.specs.Goals.{PathTo, IsLeastPathTo, AreLeastCostsTo}
+use Rattle.state_search.specs.Searching.{IsFound, IsSearched, known_at}
+use Rattle.state_search.proofs.Walks.{IsLed, IsNext, ends_or_goes_on, next_is_nearer, walk_begins, walk_ends, walk_goes_on}
+use Rattle.walk_search.specs.declared.spots.Spot.{Spot}
+use Rattle.walk_search.specs.Boards.{is_inside}
+use Rattle.walk_search.specs.Spots.{IsSpot, spots_of, spot_of}
+use Rattle.walk_search.specs.Moves.{Question, IsQuestion, IsMove, direction, end_cost, space_of, spot_ahead, starts_of, start_at}
+use Rattle.walk_search.specs.Walked.{AreLabelsOf, EndsAt, IsLeastMove, KeepsCost, StopsAt}
+use Rattle.walk_search.proofs.Numbered.{spot_of-none, spot_of-number}
+use Rattle.walk_search.proofs.Moving.{IsChosen, IsStepped, goal_parts, is_space, move_cases, moved, some_same, start_inside}
+
+-- what comes before every spot
+abbrev pub before : Question → ℕ
+before q = spots_of q.board.bounds
+
+pub nothing_ahead : (q : Question) → (space_of q).ahead (before q) ≡ 0
+nothing_ahead q = ap (spot_ahead q) (spot_of-none q.board.bounds)
+
+-- a walk on its way
+abbrev pub IsWalkingOf : Question → List (Option ℕ) → List ℕ → ℕ → Option ℕ → Type 0
+IsWalkingOf q table labels at None = (labels ≡ []) × (at ≡ before q)
+IsWalkingOf q table labels at (Some limit) = (spent : ℕ) × (rest : ℕ) × IsLed (space_of q) (before q) limit (known_at table) labels spent at rest
+
+abbrev pub IsWalking : Question → List (Option ℕ) → List ℕ → ℕ → Type 0
+IsWalking q table labels at = IsWalkingOf q table labels at (known_at table (before q))
+
+pub walking_begins : (q : Question) (table : List (Option ℕ)) → IsWalking q table [] (before q)
+walking_begins q table = of_known (known_at table (before q)) refl
+  where
+    of_known : (o : Option ℕ) → known_at table (before q) ≡ o → IsWalkingOf q table [] (before q) o
+    of_known None e = (refl, refl)
+    of_known (Some limit) e = (0, limit, walk_begins (space_of q) (before q) limit (known_at table) (nothing_ahead q) e)
+
+next_of : (q : Question) (table : List (Option ℕ)) (at label to : ℕ) (keeps : KeepsCost q table at label to) → IsNext (space_of q) (known_at table) at label to keeps.cost keeps.differ.0
+next_of q table at label to keeps = record { goes = keeps.goes; rest = keeps.differ.1; whole = keeps.differ.2 }
+
+keeps_of : (q : Question) (table : List (Option ℕ)) (at l s c r : ℕ) → IsNext (space_of q) (known_at table) at l s c r → KeepsCost q table at l s
+keeps_of q table at l s c r n = record { cost = c; goes = n.goes; differ = (r, n.rest, n.whole) }
+
+pub walking_goes_on : (q : Question) → IsQuestion q → (table : List (Option ℕ)) → IsSearched (space_of q) (before q) table → (labels : List ℕ) (at label to : ℕ) →
+    IsWalking q table labels at → IsLeastMove q table at label to → IsWalking q table (labels ++ label ∷ []) to
+walking_goes_on q h table searched labels at label to walking step = of_known (known_at table (before q)) refl searched.1 walking
+  where
+    of_known : (o : Option ℕ) → known_at table (before q) ≡ o → IsFound (space_of q) (before q) table o → IsWalkingOf q table labels at o → IsWalkingOf q table (labels ++ label ∷ []) to o
+    of_known None e found w =
+        let clash : None ≡ Some (step.keeps.cost + step.keeps.differ.0) = sym e ∙ sym (ap (known_at table) w.1) ∙ step.keeps.differ.2 in
+        absurd (let no : ⊥ = cc in no)
+    of_known (Some limit) e found w =
+        (w.0 + step.keeps.cost, step.keeps.differ.0,
+        walk_goes_on (space_of q) (is_space q h) (before q) limit (known_at table) found labels w.0 at w.1 w.2
+        (λ end. step.goes_on (w.1, w.2.known_here, end)) label to step.keeps.cost step.keeps.differ.0 (next_of q table at label to step.keeps)
+        (λ m t d r n. step.least m t (keeps_of q table at m t d r n)))
+
+pub walking_ends : (q : Question) → IsQuestion q → (table : List (Option ℕ)) → IsSearched (space_of q) (before q) table → (labels : List ℕ) (at : ℕ) →
+    IsWalking q table labels at → StopsAt q table at → AreLabelsOf q labels (known_at table (before q))
+walking_ends q h table searched labels at walking stops = of_known (known_at table (before q)) refl searched.1 walking
+  where
+    of_known : (o : Option ℕ) → known_at table (before q) ≡ o → IsFound (space_of q) (before q) table o → IsWalkingOf q table labels at o → AreLabelsOf q labels o
+    of_known None e found w = w.0
+    of_known (Some limit) e found w = (w.0 + w.1, walk_ends (space_of q) (before q) limit (known_at table) found labels w.0 at w.1 w.2 (at_goal stops))
+      where
+        at_goal : StopsAt q table at → (space_of q).goal at ≡ Some w.1
+        at_goal (inl ends) = ends.2 ∙ (sym ends.1 ∙ w.2.known_here)
+        at_goal (inr none) = of_case (ends_or_goes_on (space_of q) (is_space q h) limit (known_at table) found at w.1 w.2.within w.2.known_here)
+          where
+            of_case : ((space_of q).goal at ≡ Some w.1) ⊎ ((l : ℕ) × (s : ℕ) × (c : ℕ) × (r : ℕ) × IsNext (space_of q) (known_at table) at l s c r) → (space_of q).goal at ≡ Some w.1
+            of_case (inl e) = e
+            of_case (inr n) = absurd (none n.0 n.1 (keeps_of q table at n.0 n.1 n.2 n.3 n.4))
+
+-- what is left to walk falls with each step
+abbrev pub cost_or_none : Option ℕ → ℕ
+cost_or_none None = 0
+cost_or_none (Some k) = k
+
+pub nearer : (q : Question) → IsQuestion q → (table : List (Option ℕ)) (at label to : ℕ) → IsLeastMove q table at label to → cost_or_none (known_at table to) < cost_or_none (known_at table at)
+nearer q h table at label to step =
+    let r : ℕ = step.keeps.differ.0 in
+    let whole : ℕ = step.keeps.cost + r in
+    let less : r < whole = next_is_nearer (space_of q) (known_at table) (is_space q h) at label to step.keeps.cost r whole (next_of q table at label to step.keeps) step.keeps.differ.2 in
+    subst (λ (o : Option ℕ). cost_or_none o < cost_or_none (known_at table at)) (sym step.keeps.differ.1)
+    (subst (λ (o : Option ℕ). r < cost_or_none o) (sym step.keeps.differ.2) less)
+
+-- a path has a seat and a step at least
+goal_before : (q : Question) (k : ℕ) → (space_of q).goal (before q) ≡ Some k → ⊥
+goal_before q k e =
+    let g = goal_parts q (before q) k e in
+    let clash : None ≡ Some g.0 = sym (spot_of-none q.board.bounds) ∙ g.1.spot in
+    cc
+
+-- the steps of labels from a point stay on the board
+abbrev pub AreSteps : Question → GridPoint → List ℕ → Type 0
+AreSteps q p [] = Unit {0}
+AreSteps q p (l ∷ ls) = (l < 8) × (is_inside q.board (step_from p (direction l)) ≡ true) × AreSteps q (step_from p (direction l)) ls
+
+pub steps_of_path : (q : Question) → IsQuestion q → (n : ℕ) (s : Spot) (ls : List ℕ) (k : ℕ) → spot_of q.board.bounds n ≡ Some s → PathTo (space_of q) n ls k → AreSteps q s.at ls
+steps_of_path q h n s [] k e p = tt
+steps_of_path q h n s (l ∷ ls) k e p = of_case (move_cases q (spot_of q.board.bounds n) l m.landing p.1 m.goes) (λ x there. steps_of_path q h p.0 x ls p.2 there p.4)
+  where
+    m : IsMove q n l p.0 p.1
+    m = p.3
+
+    there : spot_of q.board.bounds p.0 ≡ Some m.landing
+    there = ap (spot_of q.board.bounds) m.lands ∙ spot_of-number q.board.bounds m.landing (moved q h n l p.1 m.landing m.from_spot m.goes).spot
+
+    of_case : ((spot_of q.board.bounds n ≡ None) × IsChosen q l m.landing p.1) ⊎ ((x : Spot) × (spot_of q.board.bounds n ≡ Some x) × IsStepped q x l m.landing p.1) →
+        ((x : Spot) → spot_of q.board.bounds p.0 ≡ Some x → AreSteps q x.at ls) → AreSteps q s.at (l ∷ ls)
+    of_case (inl c) later = let clash : None ≡ Some s = sym c.0 ∙ e in absurd (let no : ⊥ = cc in no)
+    of_case (inr c) later =
+        let same : c.0 ≡ s = some_same c.0 s (sym c.1 ∙ e) in
+        let free = (and_parts (is_inside q.board c.0.at) _ c.2.is_free).1 in
+        let inside : is_inside q.board (step_from c.0.at (direction l)) ≡ true = (and_parts (is_inside q.board (step_from c.0.at (direction l))) _ free).0 in
+        let rest : AreSteps q (step_from c.0.at (direction l)) ls = subst (λ (x : Spot). AreSteps q x.at ls) c.2.lands (later m.landing there) in
+        subst (λ (x : Spot). AreSteps q x.at (l ∷ ls)) same (c.2.below, inside, rest)
+
+-- what the labels of a path are
+pub record AreLabelsOfWalk (q : Question) (labels : List ℕ) : Type 0 where
+  pub seat : ℕ
+  pub first : ℕ
+  pub others : List ℕ
+  pub is : labels ≡ seat ∷ first ∷ others
+  pub below : seat < length (starts_of q)
+  pub steps : AreSteps q (start_at q seat) (first ∷ others)
+
+pub path_labels : (q : Question) → IsQuestion q → (labels : List ℕ) (k : ℕ) → PathTo (space_of q) (before q) labels k → AreLabelsOfWalk q labels
+path_labels q h [] k p = absurd (goal_before q k p)
+path_labels q h (i ∷ ls) k p = of_case (move_cases q (spot_of q.board.bounds (before q)) i m.landing p.1 m.goes)
+  where
+    m : IsMove q (before q) i p.0 p.1
+    m = p.3
+
+    there : spot_of q.board.bounds p.0 ≡ Some m.landing
+    there = ap (spot_of q.board.bounds) m.lands ∙ spot_of-number q.board.bounds m.landing (moved q h (before q) i p.1 m.landing m.from_spot m.goes).spot
+
+    of_rest : (rest : List ℕ) → PathTo (space_of q) p.0 rest p.2 → IsChosen q i m.landing p.1 → AreLabelsOfWalk q (i ∷ rest)
+    of_rest [] r c =
+        let g = goal_parts q p.0 p.2 r in
+        let same : g.0 ≡ m.landing = some_same g.0 m.landing (sym g.1.spot ∙ there) in
+        let eight : g.0.arrival ≡ 8 = ap (λ (x : Spot). x.arrival) (same ∙ c.lands) in
+        let small : g.0.arrival < 8 = g.1.arrival in
+        absurd (omega arith)
+    of_rest (l ∷ others) r c = record {
+      seat = i;
+      first = l;
+      others = others;
+      is = refl;
+      below = c.below;
+      steps = subst (λ (x : Spot). AreSteps q x.at (l ∷ others)) c.lands (steps_of_path q h p.0 m.landing (l ∷ others) p.2 there r);
+    }
+
+    of_case : ((spot_of q.board.bounds (before q) ≡ None) × IsChosen q i m.landing p.1) ⊎ ((x : Spot) × (spot_of q.board.bounds (before q) ≡ Some x) × IsStepped q x i m.landing p.1) → AreLabelsOfWalk q (i ∷ ls)
+    of_case (inl c) = of_rest ls p.4 c.1
+    of_case (inr c) = let clash : None ≡ Some c.0 = sym (spot_of-none q.board.bounds) ∙ c.1 in absurd (let no : ⊥ = cc in no)

@@ -1,0 +1,13 @@
+use Rattle.std.proofs.Common.{◌≡◌, refl, sym, ◌∙◌, ap, subst, ℕ, ◌+◌, ◌<◌, ◌≤◌, true, false, length, get_or, List, arith}
+use Rattle.octi_grid.specs.Ways.{doubled, step_from, CanStep, IsWithin}
+use Rattle.walk_search.specs.Boards.{contains, is_inside, parts_of}
+use Rattle.walk_search.specs.Seats.{seats_of}
+use Rattle.walk_search.proofs.Ways.{can_step, within_board}
+use Rattle.walk_search.proofs.SeatFacts.{seats_few}
+use Rattle.walk_search.proofs.asked.Asked.group_of.Goals as goal
+
+pub overflow_add-result : goal.overflow_add-result
+overflow_add-result c =
+    let few : length (seats_of (parts_of c.args.self.now.board.now) c.args.self.now.from) ≤ 9 = seats_few (parts_of c.args.self.now.board.now) c.args.self.now.from in
+    let below : c.args.i < length (seats_of (parts_of c.args.self.now.board.now) c.args.self.now.from) = c.requires in
+    omega arith

@@ -1,0 +1,13 @@
+use Rattle.std.proofs.Common.{◌≡◌, refl, sym, ◌∙◌, ap, subst, ℕ, ◌+◌, ◌<◌, ◌≤◌, true, false, length, get_or, List, arith}
+use Rattle.octi_grid.specs.Ways.{doubled, step_from, CanStep, IsWithin}
+use Rattle.walk_search.specs.Boards.{contains, is_inside, parts_of}
+use Rattle.walk_search.specs.Seats.{seats_of}
+use Rattle.walk_search.proofs.Ways.{can_step, within_board}
+use Rattle.walk_search.proofs.SeatFacts.{seats_few}
+use Rattle.walk_search.proofs.asked.Asked.new.Goals as goal
+
+pub seats_of-requires : goal.seats_of-requires
+seats_of-requires c = within_board (parts_of c.args.board.now).bounds c.args.from.at c.requires.board.in_range (c.requires.board.nodes_inside c.args.from.at c.requires.from_node)
+
+pub seats_of-requires-2 : goal.seats_of-requires-2
+seats_of-requires-2 c = within_board (parts_of c.args.board.now).bounds c.args.to.at c.requires.board.in_range (c.requires.board.nodes_inside c.args.to.at c.requires.to_node)

@@ -1,0 +1,21 @@
+use Rattle.std.proofs.Common.{◌≡◌, refl, sym, ◌∙◌, ap, subst, ℕ, ◌+◌, ◌<◌, ◌≤◌, true, false, length, get_or, List, arith}
+use Rattle.octi_grid.specs.declared.point.GridPoint.{GridPoint}
+use Rattle.octi_grid.specs.Ways.{doubled, step_from, CanStep, IsWithin}
+use Rattle.walk_search.specs.declared.bounds.Bounds.{Bounds}
+use Rattle.walk_search.specs.Boards.{contains, doubled_bounds, is_inside, parts_of}
+use Rattle.walk_search.specs.Seats.{seats_of}
+use Rattle.walk_search.proofs.Ways.{can_step, doubled_can_step, doubled_inside, middle_inside, within_board}
+use Rattle.walk_search.proofs.SeatFacts.{seat_is_inside, seats_few}
+use Rattle.walk_search.proofs.asked.Asked.start_count.Goals as goal
+
+pub overflow_cast-result : goal.overflow_cast-result
+overflow_cast-result c =
+    let few : length (seats_of (parts_of c.args.self.now.board.now) c.args.self.now.from) ≤ 9 = seats_few (parts_of c.args.self.now.board.now) c.args.self.now.from in
+    let same : length c.args.self.now.starts.items ≡ length (seats_of (parts_of c.args.self.now.board.now) c.args.self.now.from) = ap length c.args.self.now.asked.starts_are in
+    omega (arith, c.len.ensures)
+
+pub returns-clause-within : goal.returns-clause-within
+returns-clause-within c =
+    let few : length (seats_of (parts_of c.args.self.now.board.now) c.args.self.now.from) ≤ 9 = seats_few (parts_of c.args.self.now.board.now) c.args.self.now.from in
+    let same : length c.args.self.now.starts.items ≡ length (seats_of (parts_of c.args.self.now.board.now) c.args.self.now.from) = ap length c.args.self.now.asked.starts_are in
+    omega (arith, c.len.ensures)
