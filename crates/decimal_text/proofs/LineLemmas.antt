@@ -97,7 +97,7 @@ unfolding first_line
 first_line_is text line rest e = by (ltb (position_or_len is_line_end text) (length text)) refl e
   where
     by : (b : Bool) → ltb (position_or_len is_line_end text) (length text) ≡ b
-        → cond b (some (before_first is_line_end text, after_first is_line_end text)) None ≡ some (line, rest) → IsFirst text line rest
+        → cond b (some {A = List ℕ × List ℕ} (before_first is_line_end text, after_first is_line_end text)) None ≡ some {A = List ℕ × List ℕ} (line, rest) → IsFirst text line rest
     by true within e = record {
       within = ltb-true (position_or_len is_line_end text) (length text) within;
       line_is = cc;
@@ -270,15 +270,15 @@ in_front_is (Some z) (Some rest) zs e = (z, rest, refl, refl, cc)
 pub numbers_are : (ws : List (List ℕ)) (zs : List ℤ) → numbers_of ws ≡ Some zs → (ws ≡ numerals zs) × AreNumbers zs
 numbers_are [] [] e = (refl, tt)
 numbers_are [] (z ∷ zs) e = absurd cc
-numbers_are (w ∷ ws) zs e = by zs (in_front_is (number_of w) (numbers_of ws) zs e)
+numbers_are (w ∷ ws) zs e = by (numbers_are ws) zs (in_front_is (number_of w) (numbers_of ws) zs e)
   where
-    by : (zs : List ℤ) → (z : ℤ) × (rest : List ℤ) × (number_of w ≡ Some z) × (numbers_of ws ≡ Some rest) × (z ∷ rest ≡ zs) → (w ∷ ws ≡ numerals zs) × AreNumbers zs
-    by [] parts = absurd cc
-    by (y ∷ ys) parts =
+    by : ((more : List ℤ) → numbers_of ws ≡ Some more → (ws ≡ numerals more) × AreNumbers more) → (zs : List ℤ) → (z : ℤ) × (rest : List ℤ) × (number_of w ≡ Some z) × (numbers_of ws ≡ Some rest) × (z ∷ rest ≡ zs) → (w ∷ ws ≡ numerals zs) × AreNumbers zs
+    by again [] parts = absurd cc
+    by again (y ∷ ys) parts =
         let z : some parts.0 ≡ some y = cc in
         let rest : some parts.1 ≡ some ys = cc in
         let first = number_is w y (parts.2 ∙ z) in
-        let later = numbers_are ws ys (parts.3 ∙ rest) in
+        let later = again ys (parts.3 ∙ rest) in
         (ap (λ (x : List ℕ). x ∷ ws) first.0 ∙ ap (λ (xs : List (List ℕ)). signed_decimal y ∷ xs) later.0, (first.1, later.1))
 
 -- a line of a word and numbers is at the front of its text, whatever stands behind it

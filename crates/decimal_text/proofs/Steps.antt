@@ -12,7 +12,7 @@ After D = D → List (List ℕ) → Option (List D)
 enough : {D : Type 0} (after : After D) (m n : ℕ) (due : List D) (text : List ℕ) → length text ≤ m → length text ≤ n → read_lines after m due text ≡ read_lines after n due text
 enough {D} after m n [] text a b = both m n
   where
-    both : (m n : ℕ) → read_lines {D} after m [] text ≡ read_lines after n [] text
+    both : (m n : ℕ) → read_lines {D = D} after m [] text ≡ read_lines after n [] text
     both m n = refl
 enough after zero zero (d ∷ later) text a b = refl
 enough {D} after zero (suc n) (d ∷ later) text a b = sym (ap (λ (o : Option (List D × List ℕ)). go_on o text (λ more rest. read_lines after n (more ++ later) rest)) (front_empty (after d) text (omega arith)))

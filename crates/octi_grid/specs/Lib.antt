@@ -1,0 +1,5 @@
+pub mod Ways
+pub mod Costs
+pub mod Runs
+pub mod Walks
+pub mod Legal

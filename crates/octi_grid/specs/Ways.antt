@@ -1,0 +1,85 @@
+-- Directions of the grid, and the points of a way.
+use Rattle.std.specs.Prelude.{ℕ, ◌≡◌, ◌&&◌, Bool, ℤ, pos, negsuc, ◌+ℤ◌, ◌≤ℤ◌, int_le, List, [], ◌∷◌}
+use Rattle.std.specs.Ordering.{int_eq}
+use Rattle.octi_grid.specs.declared.dir.Dir.{Dir}
+use Rattle.octi_grid.specs.declared.dir.Dir.TheVariants as dir
+use Rattle.octi_grid.specs.declared.point.GridPoint.{GridPoint}
+
+-- the number of a direction, clockwise from north
+abbrev pub number_of : Dir → ℕ
+number_of dir.N = 0
+number_of dir.NE = 1
+number_of dir.E = 2
+number_of dir.SE = 3
+number_of dir.S = 4
+number_of dir.SW = 5
+number_of dir.W = 6
+number_of dir.NW = 7
+
+-- the opposite direction
+abbrev pub reverse_of : Dir → Dir
+reverse_of dir.N = dir.S
+reverse_of dir.NE = dir.SW
+reverse_of dir.E = dir.W
+reverse_of dir.SE = dir.NW
+reverse_of dir.S = dir.N
+reverse_of dir.SW = dir.NE
+reverse_of dir.W = dir.E
+reverse_of dir.NW = dir.SE
+
+-- how far east a step goes
+abbrev pub east_of : Dir → ℤ
+east_of dir.N = pos 0
+east_of dir.NE = pos 1
+east_of dir.E = pos 1
+east_of dir.SE = pos 1
+east_of dir.S = pos 0
+east_of dir.SW = negsuc 0
+east_of dir.W = negsuc 0
+east_of dir.NW = negsuc 0
+
+-- how far north a step goes
+abbrev pub north_of : Dir → ℤ
+north_of dir.N = pos 1
+north_of dir.NE = pos 1
+north_of dir.E = pos 0
+north_of dir.SE = negsuc 0
+north_of dir.S = negsuc 0
+north_of dir.SW = negsuc 0
+north_of dir.W = pos 0
+north_of dir.NW = pos 1
+
+-- the point that one step leads to
+abbrev pub step_from : GridPoint → Dir → GridPoint
+step_from p d = record { x = p.x +ℤ east_of d; y = p.y +ℤ north_of d }
+
+-- the point that steps lead to
+abbrev pub after : GridPoint → List Dir → GridPoint
+after p [] = p
+after p (d ∷ ds) = after (step_from p d) ds
+
+-- the points of a way, in order
+abbrev pub points_from : GridPoint → List Dir → List GridPoint
+points_from p [] = p ∷ []
+points_from p (d ∷ ds) = p ∷ points_from (step_from p d) ds
+
+-- a point as it is doubled
+abbrev pub doubled : GridPoint → GridPoint
+doubled p = record { x = p.x +ℤ p.x; y = p.y +ℤ p.y }
+
+-- the doubled points of a way, in order: twice each point, and between two points their sum
+abbrev pub doubled_from : GridPoint → List Dir → List GridPoint
+doubled_from p [] = doubled p ∷ []
+doubled_from p (d ∷ ds) = doubled p ∷ step_from (doubled p) d ∷ doubled_from (step_from p d) ds
+
+-- the same point
+abbrev pub are_one : GridPoint → GridPoint → Bool
+are_one p q = int_eq p.x q.x && int_eq p.y q.y
+
+-- the point lies within 10,000 either way
+abbrev pub is_within : GridPoint → Bool
+is_within p = int_le (negsuc 9999) p.x && int_le p.x (pos 10000) && int_le (negsuc 9999) p.y && int_le p.y (pos 10000)
+
+-- the same as a fact
+abbrev pub IsWithin : GridPoint → Type 0
+IsWithin p = (negsuc 9999 ≤ℤ p.x) × (p.x ≤ℤ pos 10000) × (negsuc 9999 ≤ℤ p.y) × (p.y ≤ℤ pos 10000)

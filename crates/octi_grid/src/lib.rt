@@ -1,0 +1,13 @@
+//! The octilinear grid: its eight directions, walks from grid point to grid point with their doubled points and costs,
+//! and drawings of a line graph, one walk for each segment, with the check that a drawing is legal.
+#![tactic(auto)]
+
+mod dir;
+mod drawing;
+mod point;
+mod walk;
+
+pub use dir::Dir;
+pub use drawing::{DrawWhy, Drawing, DrawingStop};
+pub use point::GridPoint;
+pub use walk::{Run, Walk};
