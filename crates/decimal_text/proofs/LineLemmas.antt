@@ -92,17 +92,25 @@ record IsFirst (text line rest : List ℕ) : Type 0 where
   line_is : line ≡ before_first is_line_end text
   rest_is : rest ≡ after_first is_line_end text
 
+some_is : {A : Type 0} (x y : A) → some x ≡ some y → x ≡ y
+some_is x y e = cc
+
+abbrev Front : Type 0
+Front = List ℕ × List ℕ
+
 first_line_is : (text line rest : List ℕ) → first_line text ≡ Some (line, rest) → IsFirst text line rest
 unfolding first_line
 first_line_is text line rest e = by (ltb (position_or_len is_line_end text) (length text)) refl e
   where
     by : (b : Bool) → ltb (position_or_len is_line_end text) (length text) ≡ b
-        → cond b (some {A = List ℕ × List ℕ} (before_first is_line_end text, after_first is_line_end text)) None ≡ some {A = List ℕ × List ℕ} (line, rest) → IsFirst text line rest
-    by true within e = record {
-      within = ltb-true (position_or_len is_line_end text) (length text) within;
-      line_is = cc;
-      rest_is = cc;
-    }
+        → cond b (some {A = Front} (before_first is_line_end text, after_first is_line_end text)) None ≡ some {A = Front} (line, rest) → IsFirst text line rest
+    by true within e =
+        let same : (before_first is_line_end text, after_first is_line_end text) ≡ (line, rest) = some_is {A = Front} (before_first is_line_end text, after_first is_line_end text) (line, rest) e in
+        record {
+          within = ltb-true (position_or_len is_line_end text) (length text) within;
+          line_is = sym (ap (λ (p : Front). p.0) same);
+          rest_is = sym (ap (λ (p : Front). p.1) same);
+        }
     by false within e = absurd cc
 
 pub first_line_shorter : (text line rest : List ℕ) → first_line text ≡ Some (line, rest) → length rest < length text
