@@ -1,0 +1,29 @@
+-- The path of a line beside a walk.
+use Rattle.std.specs.Prelude.{ℕ, ◌==◌, Bool, ℤ, List, [], ◌∷◌, if◌then◌else◌}
+use Rattle.octi_grid.specs.declared.dir.Dir.{Dir}
+use Rattle.octi_grid.specs.declared.point.GridPoint.{GridPoint}
+use Rattle.octi_grid.specs.Ways.{number_of, step_from}
+use Rattle.octi_grid.specs.Walks.{PlainWalk}
+use Rattle.line_offsets.specs.declared.corner.Corner.{Corner}
+use Rattle.line_offsets.specs.Shifts.{moved, foot_of, turn_of}
+
+-- behind its start: where the shifted lines meet at each change of direction, and the shifted end
+abbrev pub corners_from : ℤ → GridPoint → List Dir → List Corner
+corners_from k p [] = []
+corners_from k p (d ∷ []) = moved (step_from p d) k (foot_of d) ∷ []
+corners_from k p (d ∷ e ∷ ds) =
+    if number_of d == number_of e then corners_from k (step_from p d) (e ∷ ds)
+    else moved (step_from p d) k (turn_of d e) ∷ corners_from k (step_from p d) (e ∷ ds)
+
+-- the shifted start of steps
+abbrev pub start_from : ℤ → GridPoint → List Dir → List Corner
+start_from k p [] = []
+start_from k p (d ∷ ds) = moved p k (foot_of d) ∷ []
+
+-- the shifted start of a walk, where shifted lines meet at its turns, and its shifted end
+abbrev pub line_path : PlainWalk → ℤ → List Corner
+line_path w k = path_from k w.start w.steps
+  where
+    path_from : ℤ → GridPoint → List Dir → List Corner
+    path_from k p [] = []
+    path_from k p (d ∷ ds) = moved p k (foot_of d) ∷ corners_from k p (d ∷ ds)
