@@ -1,9 +1,8 @@
 -- Lines beside a walk, as it is drawn: x grows to the right, y downwards, and one grid step is 100 units.
-use Rattle.std.specs.Prelude.{◌≡◌, ℕ, ◌%◌, ◌==◌, Bool, ℤ, pos, negsuc, ◌+ℤ◌, ◌-ℤ◌, ◌*ℤ◌, int_div}
+use Rattle.std.specs.Prelude.{◌≡◌, Bool, true, false, ℤ, pos, negsuc, ◌+ℤ◌, ◌-ℤ◌, ◌*ℤ◌, int_div}
 use Rattle.octi_grid.specs.declared.dir.Dir.{Dir}
 use Rattle.octi_grid.specs.declared.dir.Dir.TheVariants as dir
 use Rattle.octi_grid.specs.declared.point.GridPoint.{GridPoint}
-use Rattle.octi_grid.specs.Ways.{number_of}
 use Rattle.line_offsets.specs.declared.corner.Corner.{Corner}
 use Rattle.line_offsets.specs.declared.corner.Kept.{Kept}
 use Rattle.line_offsets.specs.declared.corner.Kept.TheVariants.{X, Y, Sum, Difference}
@@ -83,9 +82,17 @@ meet Difference a Difference b = (pos 0, pos 0)
 abbrev pub turn_of : Dir → Dir → ℤ × ℤ
 turn_of d e = meet (kept_by d) (shift_of d) (kept_by e) (shift_of e)
 
--- two directions are one, or opposite
+-- whether two things are one
+abbrev pub are_one : Kept → Kept → Bool
+are_one X X = true
+are_one Y Y = true
+are_one Sum Sum = true
+are_one Difference Difference = true
+are_one a b = false
+
+-- lines of two directions keep one thing: the directions are one, or opposite
 abbrev pub are_parallel : Dir → Dir → Bool
-are_parallel d e = number_of d % 4 == number_of e % 4
+are_parallel d e = are_one (kept_by d) (kept_by e)
 
 -- a point lies on the line of a direction through a grid point that is shifted k places to the right
 abbrev pub IsOnShifted : Dir → GridPoint → ℤ → Corner → Type 0

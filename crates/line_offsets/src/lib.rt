@@ -3,6 +3,8 @@
 #![tactic(auto)]
 
 mod corner;
+mod laws;
 mod shift;
 
 pub use corner::Corner;
+pub use laws::{a_corner_is_where_both_lines_meet, an_end_is_on_its_line};
