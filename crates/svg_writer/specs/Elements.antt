@@ -1,0 +1,75 @@
+-- The elements of a picture, and the text of each (SVG 1.1).
+use Rattle.std.specs.Prelude.{ℕ, ℤ, pos, ◌+ℤ◌, ◌-ℤ◌, ◌/◌, ◌%◌, List, [], ◌∷◌, ◌++◌, codes}
+use Rattle.std.specs.List.{flat_map}
+use Rattle.std.specs.Fmt.{decimal, signed_decimal}
+use Rattle.std.specs.Char.{digit_char}
+use Rattle.line_offsets.specs.declared.corner.Corner.{Corner}
+use Rattle.svg_writer.specs.Escaping.{escaped}
+
+-- the least box that holds what is drawn
+pub record Box : Type 0 where
+  pub left : ℤ
+  pub right : ℤ
+  pub top : ℤ
+  pub bottom : ℤ
+
+-- The head; a line on a segment, with its name; a line from one segment to another at a node; the marker of a station,
+-- and its name; and the end. A colour is three bytes: red, green and blue.
+pub data Element : Type 0 where
+  Head : (box : Box) → Element
+  OnSegment : (seg line : ℕ) (path : List Corner) (colour name : List ℕ) → Element
+  AtNode : (node line : ℕ) (start end : Corner) (colour : List ℕ) → Element
+  Marker : (centre : Corner) (radius : ℕ) → Element
+  Label : (place : Corner) (name : List ℕ) → Element
+  Tail : Element
+
+-- `#` and six digits
+abbrev pub hex_byte : ℕ → List ℕ
+hex_byte b = digit_char (b / 16) ∷ digit_char (b % 16) ∷ []
+
+abbrev pub colour_text : List ℕ → List ℕ
+colour_text colour = 35 ∷ flat_map hex_byte colour
+
+-- `x y`
+abbrev pub corner_text : Corner → List ℕ
+corner_text c = signed_decimal c.x ++ (32 ∷ signed_decimal c.y)
+
+-- ` L x y`
+abbrev pub next_text : Corner → List ℕ
+next_text c = codes " L " ++ corner_text c
+
+-- `M x y L x y ..`
+abbrev pub path_text : List Corner → List ℕ
+path_text [] = []
+path_text (c ∷ cs) = codes "M " ++ (corner_text c ++ flat_map next_text cs)
+
+-- how lines are drawn, in a colour
+abbrev pub stroke_text : List ℕ → List ℕ
+stroke_text colour = codes "\" fill=\"none\" stroke=\"" ++ (colour_text colour ++ codes "\" stroke-width=\"12\"")
+
+-- what the picture shows, 200 units wider on each side than the box: left, top, width and height
+abbrev pub view_text : Box → List ℕ
+view_text b =
+    signed_decimal (b.left -ℤ pos 200) ++ (32 ∷ (signed_decimal (b.top -ℤ pos 200) ++ (32 ∷ (signed_decimal ((b.right -ℤ b.left) +ℤ pos 400)
+    ++ (32 ∷ signed_decimal ((b.bottom -ℤ b.top) +ℤ pos 400))))))
+
+-- the text of an element, a line
+abbrev pub element_text : Element → List ℕ
+element_text (Head box) = codes "<svg xmlns=\"http://www.w3.org/2000/svg\" version=\"1.1\" viewBox=\"" ++ (view_text box ++ codes "\">\n")
+element_text (OnSegment seg line path colour name) =
+    codes "<path class=\"s" ++ (decimal seg ++ (codes " l" ++ (decimal line ++ (codes "\" d=\"" ++ (path_text path
+    ++ (stroke_text colour ++ (codes "><title>" ++ (escaped name ++ codes "</title></path>\n"))))))))
+element_text (AtNode node line start end colour) =
+    codes "<path class=\"n" ++ (decimal node ++ (codes " l" ++ (decimal line ++ (codes "\" d=\"" ++ (path_text (start ∷ end ∷ [])
+    ++ (stroke_text colour ++ codes "/>\n"))))))
+element_text (Marker centre radius) =
+    codes "<circle cx=\"" ++ (signed_decimal centre.x ++ (codes "\" cy=\"" ++ (signed_decimal centre.y ++ (codes "\" r=\"" ++ (decimal radius
+    ++ codes "\" fill=\"#ffffff\" stroke=\"#000000\" stroke-width=\"4\"/>\n")))))
+element_text (Label place name) =
+    codes "<text x=\"" ++ (signed_decimal place.x ++ (codes "\" y=\"" ++ (signed_decimal place.y ++ (codes "\" font-size=\"20\">"
+    ++ (escaped name ++ codes "</text>\n")))))
+element_text Tail = codes "</svg>\n"
+
+-- the text of elements in order
+abbrev pub texts : List Element → List ℕ
+texts elements = flat_map element_text elements

@@ -1,0 +1,8 @@
+//! The picture of a drawn line graph as SVG 1.1: each line of each segment as a path beside the segment's walk, each
+//! connection at a node, and each station with its name. The bytes are exactly those of the picture's definition, a
+//! list of elements.
+#![tactic(auto)]
+
+mod names;
+
+pub use names::Names;
