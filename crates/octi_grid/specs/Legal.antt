@@ -1,5 +1,5 @@
 -- When the walks of a drawing are legal.
-use Rattle.std.specs.Prelude.{ℕ, ◌≡◌, ◌+◌, ◌%◌, ◌==◌, ◌&&◌, ◌||◌, nat_lt, not, Bool, true, false, List, [], ◌∷◌, ◌++◌, length, map, if◌then◌else◌, Option, Some, None, slice_get, unsigned_abs}
+use Rattle.std.specs.Prelude.{ℕ, ◌≡◌, ◌+◌, ◌%◌, ◌==◌, ◌&&◌, ◌||◌, nat_lt, not, Bool, true, false, List, [], ◌∷◌, ◌++◌, length, map, if◌then◌else◌, Option, Some, None, slice_get, unsigned_abs, is_none}
 use Rattle.std.specs.List.{list_all, list_any, flat_map, filter_map, zip}
 use Rattle.map_base.specs.declared.ids.NodeId.{NodeId}
 use Rattle.map_base.specs.declared.ids.SegId.{SegId}
@@ -8,6 +8,8 @@ use Rattle.octi_grid.specs.declared.dir.Dir.{Dir}
 use Rattle.octi_grid.specs.declared.point.GridPoint.{GridPoint}
 use Rattle.octi_grid.specs.declared.drawing.DrawWhy.{DrawWhy}
 use Rattle.octi_grid.specs.declared.drawing.DrawWhy.TheVariants as why
+use Rattle.octi_grid.specs.declared.drawing.DrawingStop.{DrawingStop}
+use Rattle.octi_grid.specs.declared.drawing.DrawingStop.TheVariants as stop
 use Rattle.octi_grid.specs.Ways.{are_one, doubled}
 use Rattle.octi_grid.specs.Costs.{clockwise_from}
 use Rattle.octi_grid.specs.Walks.{PlainWalk, end_point, doubled_of, start_port, end_port}
@@ -114,9 +116,9 @@ why_illegal rounds legs =
     else if not (ports_hold rounds legs) then Some why.Ports
     else None
 
--- the walks are legal
-abbrev pub legal : List (NodeId × NodeId) → List (List SegId) → List PlainWalk → Bool
-legal ends rounds walks = ends_hold (legs_of ends walks) && meets_hold (legs_of ends walks) && ports_hold rounds (legs_of ends walks)
+-- walks of the first segments of a graph are legal
+abbrev pub legal : GraphParts → List PlainWalk → Bool
+legal graph walks = is_none (why_illegal graph.rounds (legs_of graph.ends walks))
 
 -- walk k with this reason, or what comes after
 abbrev pub illegal_at : ℕ → Option DrawWhy → Option (SegId × DrawWhy) → Option (SegId × DrawWhy)
@@ -132,3 +134,13 @@ first_illegal_after rounds before (l ∷ ls) =
 -- the first walk of a drawing that with its predecessors is not legal, and why
 abbrev pub first_illegal : GraphParts → List PlainWalk → Option (SegId × DrawWhy)
 first_illegal graph walks = first_illegal_after graph.rounds [] (legs_of graph.ends walks)
+
+-- the check stops at this walk with this reason; want of memory is free
+abbrev pub IsCause : Option (SegId × DrawWhy) → DrawingStop → Type 0
+IsCause outcome (stop.Bad seg why) = outcome ≡ Some (seg, why)
+IsCause outcome stop.NoMemory = Unit {0}
+
+-- a check that stops at a walk has not seen a legal drawing
+abbrev pub IsStopOf : Bool → DrawingStop → Type 0
+IsStopOf legal (stop.Bad seg why) = legal ≡ false
+IsStopOf legal stop.NoMemory = Unit {0}

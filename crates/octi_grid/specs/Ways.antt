@@ -1,5 +1,6 @@
 -- Directions of the grid, and the points of a way.
-use Rattle.std.specs.Prelude.{ℕ, ◌≡◌, ◌&&◌, Bool, ℤ, pos, negsuc, ◌+ℤ◌, ◌≤ℤ◌, int_le, List, [], ◌∷◌}
+use Rattle.std.specs.Prelude.{ℕ, ◌≤◌, ◌&&◌, Bool, nat_le, ℤ, pos, negsuc, ◌+ℤ◌, ◌-ℤ◌, int_lt, unsigned_abs, List, [], ◌∷◌, if◌then◌else◌, Option, Some, None}
+use Rattle.std.specs.List.{list_all}
 use Rattle.std.specs.Ordering.{int_eq}
 use Rattle.octi_grid.specs.declared.dir.Dir.{Dir}
 use Rattle.octi_grid.specs.declared.dir.Dir.TheVariants as dir
@@ -78,8 +79,22 @@ are_one p q = int_eq p.x q.x && int_eq p.y q.y
 
 -- the point lies within 10,000 either way
 abbrev pub is_within : GridPoint → Bool
-is_within p = int_le (negsuc 9999) p.x && int_le p.x (pos 10000) && int_le (negsuc 9999) p.y && int_le p.y (pos 10000)
+is_within p = nat_le (unsigned_abs p.x) 10000 && nat_le (unsigned_abs p.y) 10000
 
 -- the same as a fact
-abbrev pub IsWithin : GridPoint → Type 0
-IsWithin p = (negsuc 9999 ≤ℤ p.x) × (p.x ≤ℤ pos 10000) × (negsuc 9999 ≤ℤ p.y) × (p.y ≤ℤ pos 10000)
+pub record IsWithin (p : GridPoint) : Type 0 where
+  pub across : unsigned_abs p.x ≤ 10000
+  pub along : unsigned_abs p.y ≤ 10000
+
+-- a step from the point stays in range
+pub record CanStep (p : GridPoint) : Type 0 where
+  pub across : unsigned_abs p.x ≤ 100000000
+  pub along : unsigned_abs p.y ≤ 100000000
+
+-- where steps lead to, if each point of the way lies within 10,000 either way
+abbrev pub end_within : GridPoint → List Dir → Option GridPoint
+end_within p ds = if list_all is_within (points_from p ds) then Some (after p ds) else None
+
+-- a coordinate after so many steps, each of which changes it by 1 in this sense
+abbrev pub moved : ℤ → ℤ → ℤ → ℤ
+moved from sense count = if int_lt (pos 0) sense then from +ℤ count else if int_lt sense (pos 0) then from -ℤ count else from

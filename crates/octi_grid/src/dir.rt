@@ -1,7 +1,7 @@
 //! The eight directions of the grid.
 
-ghost use Rattle.std.specs.Prelude.{◌≡◌};
-ghost use Rattle.octi_grid.specs.Ways.{number_of, reverse_of};
+ghost use Rattle.std.specs.Prelude.{◌≡◌, ◌<◌};
+ghost use Rattle.octi_grid.specs.Ways.{east_of, north_of, number_of, reverse_of};
 
 /// A direction of the grid, clockwise from north, which is number 0.
 #[derive(Clone, Copy, Debug, PartialEq, Eq, PartialOrd, Ord, Hash)]
@@ -19,7 +19,8 @@ pub enum Dir {
 impl Dir {
     /// Its number, from 0 to 7.
     pub fn index(self) -> u8
-        ensures { result ≡ number_of self }
+        ensures number { result ≡ number_of self }
+        ensures below { result < 8 }
     {
         match self {
             Dir::N => 0,
@@ -46,6 +47,28 @@ impl Dir {
             Dir::SW => Dir::NE,
             Dir::W => Dir::E,
             Dir::NW => Dir::SE,
+        }
+    }
+
+    /// How far east a step goes.
+    pub fn east(self) -> i32
+        ensures { result ≡ east_of self }
+    {
+        match self {
+            Dir::N | Dir::S => 0,
+            Dir::NE | Dir::E | Dir::SE => 1,
+            Dir::SW | Dir::W | Dir::NW => -1,
+        }
+    }
+
+    /// How far north a step goes.
+    pub fn north(self) -> i32
+        ensures { result ≡ north_of self }
+    {
+        match self {
+            Dir::E | Dir::W => 0,
+            Dir::N | Dir::NE | Dir::NW => 1,
+            Dir::SE | Dir::S | Dir::SW => -1,
         }
     }
 }

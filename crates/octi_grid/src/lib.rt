@@ -2,11 +2,14 @@
 //! and drawings of a line graph, one walk for each segment, with the check that a drawing is legal.
 #![tactic(auto)]
 
+mod cost;
 mod dir;
 mod drawing;
 mod point;
+mod runs;
 mod walk;
 
+pub use cost::{end_of, step_cost, turn_cost, walk_cost};
 pub use dir::Dir;
 pub use drawing::{DrawWhy, Drawing, DrawingStop};
 pub use point::GridPoint;

@@ -1,0 +1,4 @@
+pub mod WayLemmas
+pub mod RunLemmas
+pub mod CostLemmas
+mod Examples
