@@ -1,2 +1,3 @@
 mod Examples
+pub mod Paths
 pub mod Meeting

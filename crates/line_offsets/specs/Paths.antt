@@ -2,6 +2,7 @@
 use Rattle.std.specs.Prelude.{ℕ, ◌==◌, ℤ, List, [], ◌∷◌, if◌then◌else◌}
 use Rattle.octi_grid.specs.declared.dir.Dir.{Dir}
 use Rattle.octi_grid.specs.declared.point.GridPoint.{GridPoint}
+use Rattle.octi_grid.specs.declared.walk.Run.{Run}
 use Rattle.octi_grid.specs.Ways.{number_of, step_from}
 use Rattle.octi_grid.specs.Walks.{PlainWalk}
 use Rattle.line_offsets.specs.declared.corner.Corner.{Corner}
@@ -40,3 +41,9 @@ path_start w k = start_from k w.start w.steps
 
 abbrev pub path_end : PlainWalk → ℤ → Corner
 path_end w k = end_from k w.start w.steps
+
+-- the corner to which the first of runs leads, which ends at p: where it meets the next, or the end
+abbrev pub corner_behind : ℤ → GridPoint → List Run → Corner
+corner_behind k p [] = drawn p
+corner_behind k p (r ∷ []) = moved p k (foot_of r.dir)
+corner_behind k p (r ∷ s ∷ rs) = moved p k (turn_of r.dir s.dir)
