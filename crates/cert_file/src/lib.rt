@@ -1,0 +1,7 @@
+//! Certificates as text, both ways: each certificate in range has one text, which is read again, and a text that is no
+//! certificate's is refused at the first line that has not the form due there.
+#![tactic(auto)]
+
+mod certificate;
+
+pub use certificate::Certificate;
