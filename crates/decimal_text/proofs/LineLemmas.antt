@@ -315,3 +315,17 @@ numbered_text text line rest e =
           ∙ ap (λ (bytes : List ℕ). (line.word ++ bytes) ++ rest) (numerals_text line.numbers),
       is.2,
     )
+
+-- what is read of what a first reading of the line at the front says
+pub front_then : {A B : Type 0} (f : A → Option B) (reading : List (List ℕ) → Option A) (text : List ℕ)
+    → front (λ ws. option_and_then f (reading ws)) text ≡ option_and_then (λ x. option_map (paired x.1) (f x.0)) (front reading text)
+unfolding front
+front_then {A} {B} f reading text = by (first_line text)
+  where
+    inner : (rest : List ℕ) (o : Option A) → option_map (paired rest) (option_and_then f o) ≡ option_and_then (λ (x : A × List ℕ). option_map (paired x.1) (f x.0)) (option_map (paired rest) o)
+    inner rest None = refl
+    inner rest (Some a) = refl
+
+    by : (o : Option (List ℕ × List ℕ)) → option_and_then (said (λ ws. option_and_then f (reading ws))) o ≡ option_and_then (λ (x : A × List ℕ). option_map (paired x.1) (f x.0)) (option_and_then (said reading) o)
+    by None = refl
+    by (Some x) = inner x.1 (reading (words x.0))

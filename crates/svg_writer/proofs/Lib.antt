@@ -1,1 +1,3 @@
 mod Examples
+pub mod Appends
+pub mod Names

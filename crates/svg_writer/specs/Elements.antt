@@ -1,22 +1,16 @@
 -- The elements of a picture, and the text of each (SVG 1.1).
-use Rattle.std.specs.Prelude.{ℕ, ℤ, pos, ◌+ℤ◌, ◌-ℤ◌, ◌/◌, ◌%◌, List, [], ◌∷◌, ◌++◌, codes}
+use Rattle.std.specs.Prelude.{ℕ, ◌≤◌, ℤ, pos, ◌+ℤ◌, ◌-ℤ◌, ◌/◌, ◌%◌, unsigned_abs, List, [], ◌∷◌, ◌++◌, codes}
 use Rattle.std.specs.List.{flat_map}
 use Rattle.std.specs.Fmt.{decimal, signed_decimal}
 use Rattle.std.specs.Char.{digit_char}
 use Rattle.line_offsets.specs.declared.corner.Corner.{Corner}
+use Rattle.svg_writer.specs.declared.bounds.Bounds.{Bounds}
 use Rattle.svg_writer.specs.Escaping.{escaped}
-
--- the least box that holds what is drawn
-pub record Box : Type 0 where
-  pub left : ℤ
-  pub right : ℤ
-  pub top : ℤ
-  pub bottom : ℤ
 
 -- The head; a line on a segment, with its name; a line from one segment to another at a node; the marker of a station,
 -- and its name; and the end. A colour is three bytes: red, green and blue.
 pub data Element : Type 0 where
-  Head : (box : Box) → Element
+  Head : (bounds : Bounds) → Element
   OnSegment : (seg line : ℕ) (path : List Corner) (colour name : List ℕ) → Element
   AtNode : (node line : ℕ) (start end : Corner) (colour : List ℕ) → Element
   Marker : (centre : Corner) (radius : ℕ) → Element
@@ -47,29 +41,48 @@ path_text (c ∷ cs) = codes "M " ++ (corner_text c ++ flat_map next_text cs)
 abbrev pub stroke_text : List ℕ → List ℕ
 stroke_text colour = codes "\" fill=\"none\" stroke=\"" ++ (colour_text colour ++ codes "\" stroke-width=\"12\"")
 
--- what the picture shows, 200 units wider on each side than the box: left, top, width and height
-abbrev pub view_text : Box → List ℕ
+-- what the picture shows, 200 units wider on each side than the bounds: left, top, width and height
+abbrev pub view_text : Bounds → List ℕ
 view_text b =
-    signed_decimal (b.left -ℤ pos 200) ++ (32 ∷ (signed_decimal (b.top -ℤ pos 200) ++ (32 ∷ (signed_decimal ((b.right -ℤ b.left) +ℤ pos 400)
-    ++ (32 ∷ signed_decimal ((b.bottom -ℤ b.top) +ℤ pos 400))))))
+    corner_text (record { x = b.left -ℤ pos 200; y = b.top -ℤ pos 200 })
+    ++ (32 ∷ corner_text (record { x = (b.right -ℤ b.left) +ℤ pos 400; y = (b.bottom -ℤ b.top) +ℤ pos 400 }))
+
+-- two numbers in the class of a path, to the beginning of its corners
+abbrev pub ids_text : ℕ → ℕ → List ℕ
+ids_text n line = decimal n ++ (codes " l" ++ (decimal line ++ codes "\" d=\""))
+
+-- the name of a line, to the end of its path
+abbrev pub title_text : List ℕ → List ℕ
+title_text name = codes "><title>" ++ (escaped name ++ codes "</title></path>\n")
+
+-- the radius of a marker, and how it is drawn
+abbrev pub circle_text : ℕ → List ℕ
+circle_text radius = codes "\" r=\"" ++ (decimal radius ++ codes "\" fill=\"#ffffff\" stroke=\"#000000\" stroke-width=\"4\"/>\n")
+
+-- the name of a station, and how it is written
+abbrev pub label_text : List ℕ → List ℕ
+label_text name = codes "\" font-size=\"20\">" ++ (escaped name ++ codes "</text>\n")
 
 -- the text of an element, a line
 abbrev pub element_text : Element → List ℕ
-element_text (Head box) = codes "<svg xmlns=\"http://www.w3.org/2000/svg\" version=\"1.1\" viewBox=\"" ++ (view_text box ++ codes "\">\n")
+element_text (Head bounds) = codes "<svg xmlns=\"http://www.w3.org/2000/svg\" version=\"1.1\" viewBox=\"" ++ (view_text bounds ++ codes "\">\n")
 element_text (OnSegment seg line path colour name) =
-    codes "<path class=\"s" ++ (decimal seg ++ (codes " l" ++ (decimal line ++ (codes "\" d=\"" ++ (path_text path
-    ++ (stroke_text colour ++ (codes "><title>" ++ (escaped name ++ codes "</title></path>\n"))))))))
+    codes "<path class=\"s" ++ (ids_text seg line ++ (path_text path ++ (stroke_text colour ++ title_text name)))
 element_text (AtNode node line start end colour) =
-    codes "<path class=\"n" ++ (decimal node ++ (codes " l" ++ (decimal line ++ (codes "\" d=\"" ++ (path_text (start ∷ end ∷ [])
-    ++ (stroke_text colour ++ codes "/>\n"))))))
+    codes "<path class=\"n" ++ (ids_text node line ++ (path_text (start ∷ end ∷ []) ++ (stroke_text colour ++ codes "/>\n")))
 element_text (Marker centre radius) =
-    codes "<circle cx=\"" ++ (signed_decimal centre.x ++ (codes "\" cy=\"" ++ (signed_decimal centre.y ++ (codes "\" r=\"" ++ (decimal radius
-    ++ codes "\" fill=\"#ffffff\" stroke=\"#000000\" stroke-width=\"4\"/>\n")))))
+    codes "<circle cx=\"" ++ (signed_decimal centre.x ++ (codes "\" cy=\"" ++ (signed_decimal centre.y ++ circle_text radius)))
 element_text (Label place name) =
-    codes "<text x=\"" ++ (signed_decimal place.x ++ (codes "\" y=\"" ++ (signed_decimal place.y ++ (codes "\" font-size=\"20\">"
-    ++ (escaped name ++ codes "</text>\n")))))
+    codes "<text x=\"" ++ (signed_decimal place.x ++ (codes "\" y=\"" ++ (signed_decimal place.y ++ label_text name)))
 element_text Tail = codes "</svg>\n"
 
 -- the text of elements in order
 abbrev pub texts : List Element → List ℕ
 texts elements = flat_map element_text elements
+
+-- bounds of a drawing of the grid
+pub record AreBounds (b : Bounds) : Type 0 where
+  pub left : unsigned_abs b.left ≤ 1000000
+  pub right : unsigned_abs b.right ≤ 1000000
+  pub top : unsigned_abs b.top ≤ 1000000
+  pub bottom : unsigned_abs b.bottom ≤ 1000000

@@ -1,5 +1,5 @@
 -- The picture of a drawn line graph: its elements in order.
-use Rattle.std.specs.Prelude.{ℕ, suc, ◌+◌, ◌*◌, ◌==◌, ◌&&◌, Bool, ℤ, pos, ◌+ℤ◌, ◌-ℤ◌, max, List, [], ◌∷◌, ◌++◌, length, map, fold, if◌then◌else◌, slice_get, unwrap_or, Option, Some, None}
+use Rattle.std.specs.Prelude.{ℕ, suc, ◌+◌, ◌*◌, ◌==◌, ◌&&◌, Bool, ℤ, pos, ◌+ℤ◌, ◌-ℤ◌, max, List, [], ◌∷◌, ◌++◌, length, fold, if◌then◌else◌, slice_get, unwrap_or, Option, Some, None}
 use Rattle.std.specs.List.{flat_map, range_with_len, position_or_len}
 use Rattle.std.specs.Int.{int_min, int_max}
 use Rattle.std.specs.Ordering.{int_eq}
@@ -15,28 +15,29 @@ use Rattle.octi_grid.specs.Walks.{PlainWalk, end_point, points_of}
 use Rattle.line_offsets.specs.declared.corner.Corner.{Corner}
 use Rattle.line_offsets.specs.Shifts.{drawn}
 use Rattle.line_offsets.specs.Paths.{line_path, path_start, path_end}
+use Rattle.svg_writer.specs.declared.bounds.Bounds.{Bounds}
 use Rattle.svg_writer.specs.declared.names.Names.{Names}
-use Rattle.svg_writer.specs.Elements.{Box, Element, Head, OnSegment, AtNode, Marker, Label, Tail, texts}
+use Rattle.svg_writer.specs.Elements.{Element, Head, OnSegment, AtNode, Marker, Label, Tail, element_text, texts}
 
--- ---- the box
+-- ---- the bounds
 
-abbrev pub box_at : Corner → Box
-box_at c = record { left = c.x; right = c.x; top = c.y; bottom = c.y }
+abbrev pub bounds_at : Corner → Bounds
+bounds_at c = record { left = c.x; right = c.x; top = c.y; bottom = c.y }
 
--- a box, widened to hold a point
-abbrev pub widened : Box → Corner → Box
+-- bounds, widened to hold a point
+abbrev pub widened : Bounds → Corner → Bounds
 widened b c = record { left = int_min b.left c.x; right = int_max b.right c.x; top = int_min b.top c.y; bottom = int_max b.bottom c.y }
 
-abbrev pub box_with : Option Box → GridPoint → Option Box
-box_with None p = Some (box_at (drawn p))
-box_with (Some b) p = Some (widened b (drawn p))
+abbrev pub bounds_with : Option Bounds → GridPoint → Option Bounds
+bounds_with None p = Some (bounds_at (drawn p))
+bounds_with (Some b) p = Some (widened b (drawn p))
 
 abbrev pub origin : Corner
 origin = record { x = pos 0; y = pos 0 }
 
--- the box of all grid points of walks, that of the origin where there is none
-abbrev pub box_of : List PlainWalk → Box
-box_of walks = unwrap_or (fold box_with None (flat_map points_of walks)) (box_at origin)
+-- the bounds of all grid points of walks, those of the origin where there is none
+abbrev pub bounds_of : List PlainWalk → Bounds
+bounds_of walks = unwrap_or (fold bounds_with None (flat_map points_of walks)) (bounds_at origin)
 
 -- ---- what there is of each thing
 
@@ -83,6 +84,14 @@ abbrev pub line_elements : Names → PlainWalk → ℕ → ℕ → ℕ → List 
 line_elements names walk s n i [] = []
 line_elements names walk s n i (l ∷ rest) =
     OnSegment s l.0 (line_path walk (gauge n i)) (colour_of names l) (name_of names l) ∷ line_elements names walk s n (i + 1) rest
+
+-- what reads past an order fall back on
+abbrev pub no_line : LineId
+no_line = record { 0 = 0 }
+
+-- the text of line i of n of a segment
+abbrev pub line_text : Names → PlainWalk → ℕ → ℕ → ℕ → LineId → List ℕ
+line_text names walk s n i l = element_text (OnSegment s l.0 (line_path walk (gauge n i)) (colour_of names l) (name_of names l))
 
 -- the lines of segment s
 abbrev pub segment_elements : Names → List PlainWalk → List (List LineId) → ℕ → List Element
@@ -135,7 +144,7 @@ centre_of g walks n = drawn (put_at n (ends_at g.ends (first_of (round_at g.roun
 
 -- how many lines the segment with the most has, of a round
 abbrev pub most_lines : List (List LineId) → List SegId → ℕ
-most_lines lines round = fold max 0 (map (λ (s : SegId). length (lines_at lines s.0)) round)
+most_lines lines round = fold (λ most (s : SegId). max most (length (lines_at lines s.0))) 0 round
 
 abbrev pub radius_of : GraphParts → ℕ → ℕ
 radius_of g n = 7 * most_lines g.lines (round_at g.rounds n) + 3
@@ -172,7 +181,7 @@ all_labels names g walks = flat_map (λ n. label names g walks n (kind_at g.kind
 -- there already; the markers of stations, and their names; the end.
 abbrev pub elements : Names → GraphParts → List PlainWalk → List (List LineId) → List Element
 elements names g walks orders =
-    Head (box_of walks) ∷ (all_lines names g walks orders ++ (all_joins names g walks orders ++ (all_markers g walks ++ (all_labels names g walks ++ Tail ∷ []))))
+    Head (bounds_of walks) ∷ (all_lines names g walks orders ++ (all_joins names g walks orders ++ (all_markers g walks ++ (all_labels names g walks ++ Tail ∷ []))))
 
 -- the picture's text
 abbrev pub picture_text : Names → GraphParts → List PlainWalk → List (List LineId) → List ℕ

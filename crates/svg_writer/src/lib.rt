@@ -3,6 +3,17 @@
 //! list of elements.
 #![tactic(auto)]
 
+mod bounds;
+mod elements;
+mod escaping;
+mod lines;
 mod names;
+mod picture;
+mod pieces;
+mod scene;
+mod stations;
+mod walked;
 
+pub use escaping::escape;
 pub use names::Names;
+pub use picture::picture;

@@ -1,0 +1,65 @@
+//! The bounds of all grid points of walks.
+
+ghost use Rattle.std.specs.Prelude.{◌≡◌, Some, fold, IfSome};
+ghost use Rattle.octi_grid.specs.Ways.{IsWithin};
+ghost use Rattle.octi_grid.specs.Walks.{points_of};
+ghost use Rattle.svg_writer.specs.Elements.{AreBounds};
+ghost use Rattle.svg_writer.specs.Picture.{bounds_with, bounds_of, widened};
+
+use crate::bounds::Bounds;
+use crate::scene::drawn;
+use octi_grid::{GridPoint, Walk, run_end};
+
+/// The bounds of all grid points of walks, those of the origin where there is none.
+pub(crate) fn bounds_of(walks: &[Walk]) -> Bounds
+    ensures value { result ≡ bounds_of walks.now }
+    ensures small { AreBounds result }
+{
+    let mut bounds = None;
+    for walk in walks {
+        bounds = Some(with_walk(bounds, walk));
+    }
+    match bounds {
+        Some(bounds) => bounds,
+        None => Bounds { left: 0, right: 0, top: 0, bottom: 0 },
+    }
+}
+
+/// Bounds, widened to hold each grid point of a walk.
+fn with_walk(bounds: Option<Bounds>, walk: &Walk) -> Bounds
+    requires { IfSome bounds AreBounds }
+    ensures value { Some result ≡ fold bounds_with bounds (points_of walk.now) }
+    ensures small { AreBounds result }
+{
+    let mut at = walk.start();
+    let mut bounds = with_point(bounds, at);
+    for run in walk.runs() {
+        at = run_end(at, *run);
+        bounds = with_point(Some(bounds), at);
+    }
+    bounds
+}
+
+/// Bounds, widened to hold a grid point.
+fn with_point(bounds: Option<Bounds>, p: GridPoint) -> Bounds
+    requires bounds { IfSome bounds AreBounds }
+    requires point { IsWithin p }
+    ensures value { Some result ≡ bounds_with bounds p }
+    ensures small { AreBounds result }
+{
+    let corner = drawn(p);
+    match bounds {
+        None => Bounds {
+            left: corner.x,
+            right: corner.x,
+            top: corner.y,
+            bottom: corner.y,
+        },
+        Some(held) => Bounds {
+            left: held.left.min(corner.x),
+            right: held.right.max(corner.x),
+            top: held.top.min(corner.y),
+            bottom: held.bottom.max(corner.y),
+        },
+    }
+}
