@@ -1,3 +1,5 @@
 mod Examples
 pub mod Appends
-pub mod Names
+pub mod Written
+pub mod Ranges
+pub mod Hulls

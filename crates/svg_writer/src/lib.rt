@@ -8,12 +8,12 @@ mod elements;
 mod escaping;
 mod lines;
 mod names;
-mod picture;
 mod pieces;
 mod scene;
 mod stations;
 mod walked;
+mod whole;
 
 pub use escaping::escape;
 pub use names::Names;
-pub use picture::picture;
+pub use whole::picture;

@@ -13,6 +13,7 @@ use octi_grid::{Drawing, GridPoint, Walk, end_of};
 use order_model::Orders;
 
 /// A line graph with what is drawn of it.
+#[derive(Drop)]
 pub(crate) struct Scene<'a> {
     pub graph: &'a LineGraph,
     pub names: &'a Names,
@@ -159,7 +160,7 @@ pub(crate) fn drawn(p: GridPoint) -> Corner
 {
     Corner {
         x: hundred(p.x),
-        y: -hundred(p.y),
+        y: 0 - hundred(p.y),
     }
 }
 

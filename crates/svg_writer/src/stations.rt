@@ -110,7 +110,7 @@ fn most_lines(graph: &LineGraph, round: &[SegId]) -> usize
 {
     let mut most = 0;
     for s in round {
-        most = lines_of(graph, s.0).len().max(most);
+        most = most.max(lines_of(graph, s.0).len());
     }
     most
 }

@@ -5,7 +5,7 @@ use Rattle.std.proofs.lemmas.Iterator.{YieldsList-from_chars}
 use Rattle.std.proofs.lemmas.Iterator.Consumers.{YieldsList-turn, YieldsList-end}
 use Rattle.std.proofs.lemmas.List.{length_push}
 use Rattle.svg_writer.specs.Escaping.{escaped_char, escaped}
-use Rattle.svg_writer.proofs.Names.{written_more, written_all}
+use Rattle.svg_writer.proofs.Written.{written_more, written_all}
 use Rattle.svg_writer.proofs.escaping.push_escaped.Goals as goal
 
 pub loop-c-preserved : goal.loop-c-preserved
