@@ -6,8 +6,9 @@ use Rattle.std.specs.List.{list_any}
 use Rattle.map_base.specs.declared.ids.LineId.{LineId}
 use Rattle.octi_grid.specs.declared.walk.Run.{Run}
 use Rattle.octi_grid.specs.Walks.{PlainWalk, walk_by}
-use Rattle.decimal_text.specs.Numbers.{natural_within, from_to, numbers_of}
-use Rattle.decimal_text.specs.Lines.{Line, numbered}
+use Rattle.decimal_text.specs.Numbers.{natural_within, from_to, number_of}
+use Rattle.decimal_text.specs.Lines.{Line, numbered, front}
+use Rattle.cert_file.specs.declared.counts.Counts.{Counts}
 use Rattle.cert_file.specs.RunWords.{runs_in}
 
 -- the greatest number of a line
@@ -42,17 +43,16 @@ spoken word form line = if bytes_eq line.word word then form line.numbers else N
 abbrev pub with_word : {A : Type 0} → List ℕ → (List ℤ → Option A) → List (List ℕ) → Option A
 with_word word form words = option_and_then (spoken word form) (numbered words)
 
+-- the same of the line at the front of a text, and what stands behind it
+unfoldable pub spoken_front : {A : Type 0} → List ℕ → (List ℤ → Option A) → List ℕ → Option (A × List ℕ)
+spoken_front word form text = option_and_then (λ x. option_map (λ a. (a, x.1)) (spoken word form x.0)) (front numbered text)
+
 -- `octimap VERSION`
 abbrev pub version_of : List ℤ → Option ℕ
 version_of (v ∷ []) = from_to 1 2 v
 version_of numbers = None
 
--- three numbers, where all are there
-pub record Counts : Type 0 where
-  pub nodes : ℕ
-  pub segs : ℕ
-  pub lines : ℕ
-
+-- the three counts, where all are there
 abbrev pub counts_with : Option ℕ → Option ℕ → Option ℕ → Option Counts
 counts_with (Some nodes) (Some segs) (Some lines) = Some (record { nodes = nodes; segs = segs; lines = lines })
 counts_with nodes segs lines = None
@@ -89,14 +89,17 @@ is_number n (pos m) = n == m
 is_number n (negsuc m) = false
 
 -- `walk S X Y RUN ..` of segment s: the start, and at least one run
-abbrev pub walk_with : ℕ → Option (List ℤ) → Option (List Run) → Option PlainWalk
-walk_with s (Some (n ∷ x ∷ y ∷ [])) (Some runs) = if is_number s n then walk_by (record { x = x; y = y }) runs else None
-walk_with s numbers runs = None
+abbrev pub walk_with : ℕ → Option ℤ → Option ℤ → Option ℤ → Option (List Run) → Option PlainWalk
+walk_with s (Some n) (Some x) (Some y) (Some runs) = if is_number s n then walk_by (record { x = x; y = y }) runs else None
+walk_with s n x y runs = None
+
+abbrev pub walk_of : ℕ → List (List ℕ) → Option PlainWalk
+walk_of s (n ∷ x ∷ y ∷ runs) = walk_with s (number_of n) (number_of x) (number_of y) (runs_in runs)
+walk_of s words = None
 
 abbrev pub walk_in : ℕ → List (List ℕ) → Option PlainWalk
-walk_in s (word ∷ n ∷ x ∷ y ∷ runs) =
-    if bytes_eq word (codes "walk") then walk_with s (numbers_of (n ∷ x ∷ y ∷ [])) (runs_in runs) else None
-walk_in s words = None
+walk_in s [] = None
+walk_in s (word ∷ rest) = if bytes_eq word (codes "walk") then walk_of s rest else None
 
 -- the line is one of these
 abbrev pub is_among : List LineId → LineId → Bool
@@ -107,15 +110,24 @@ abbrev pub are_distinct : List LineId → Bool
 are_distinct [] = true
 are_distinct (l ∷ rest) = not (is_among rest l) && are_distinct rest
 
+-- the numbers of lines
+abbrev pub numbers_of_lines : List LineId → List ℕ
+numbers_of_lines [] = []
+numbers_of_lines (l ∷ rest) = l.0 ∷ numbers_of_lines rest
+
 -- lines by their numbers
 abbrev pub lines_in : List ℤ → Option (List LineId)
 lines_in [] = Some []
 lines_in (z ∷ rest) = option_and_then (λ n. option_map (λ more. line_id n ∷ more) (lines_in rest)) (natural_within most_id z)
 
+-- lines, where each is there once
+abbrev pub distinct : List LineId → Option (List LineId)
+distinct lines = if are_distinct lines then Some lines else None
+
 -- an order: at least one line, and each once
 abbrev pub order_in : List ℤ → Option (List LineId)
 order_in [] = None
-order_in (z ∷ rest) = option_and_then (λ lines. if are_distinct lines then Some lines else None) (lines_in (z ∷ rest))
+order_in (z ∷ rest) = option_and_then distinct (lines_in (z ∷ rest))
 
 -- `order S LINE ..` of segment s
 abbrev pub order_of : ℕ → List ℤ → Option (List LineId)

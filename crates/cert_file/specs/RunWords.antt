@@ -1,5 +1,5 @@
 -- Steps as words: a direction and how many steps go that way, as `NE12`.
-use Rattle.std.specs.Prelude.{ℕ, suc, ◌==◌, List, [], ◌∷◌, ◌++◌, take, drop, codes, Option, Some, None, if◌then◌else◌}
+use Rattle.std.specs.Prelude.{ℕ, suc, ◌==◌, List, [], ◌∷◌, ◌++◌, take, drop, codes, Option, Some, None, option_map, if◌then◌else◌}
 use Rattle.std.specs.Option.{option_and_then}
 use Rattle.std.specs.Char.{is_ascii_digit}
 use Rattle.std.specs.Str.{bytes_eq}
@@ -82,3 +82,7 @@ run_before (Some r) (Some rest) = Some (r ∷ rest)
 abbrev pub runs_in : List (List ℕ) → Option (List Run)
 runs_in [] = Some []
 runs_in (word ∷ rest) = run_before (run_of word) (runs_in rest)
+
+-- runs, and behind them those that words write, where each word writes one
+abbrev pub runs_behind : List Run → List (List ℕ) → Option (List Run)
+runs_behind runs words = option_map (λ more. runs ++ more) (runs_in words)

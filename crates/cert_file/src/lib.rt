@@ -3,5 +3,11 @@
 #![tactic(auto)]
 
 mod certificate;
+mod counts;
+mod distinct;
+mod forms;
+mod reading;
+mod run_words;
+mod walk_line;
 
 pub use certificate::Certificate;

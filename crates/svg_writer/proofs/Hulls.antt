@@ -24,10 +24,10 @@ pub record Holds (b : Bounds) (c : Corner) : Type 0 where
   pub top : b.top ≤ℤ c.y
   pub bottom : c.y ≤ℤ b.bottom
 
-abbrev bounds : ℤ → ℤ → ℤ → ℤ → Bounds
+abbrev pub bounds : ℤ → ℤ → ℤ → ℤ → Bounds
 bounds l r t b = record { left = l; right = r; top = t; bottom = b }
 
-same_bounds : (a b c d e f g h : ℤ) → a ≡ e → b ≡ f → c ≡ g → d ≡ h → bounds a b c d ≡ bounds e f g h
+pub same_bounds : (a b c d e f g h : ℤ) → a ≡ e → b ≡ f → c ≡ g → d ≡ h → bounds a b c d ≡ bounds e f g h
 same_bounds a b c d e f g h p q r s = ap (λ (z : ℤ). bounds z b c d) p ∙ ap (λ (z : ℤ). bounds e z c d) q ∙ ap (λ (z : ℤ). bounds e f z d) r ∙ ap (bounds e f g) s
 
 pub widened_holds : (b : Bounds) (c : Corner) → Holds (widened b c) c
@@ -75,14 +75,14 @@ abbrev Passes : GridPoint → GridPoint → GridPoint → Type 0
 Passes p q r = IsBetween (pos 100 *ℤ p.x) (pos 100 *ℤ q.x) (pos 100 *ℤ r.x) × IsBetween (pos 100 *ℤ p.y) (pos 100 *ℤ q.y) (pos 100 *ℤ r.y)
 
 passes_to : (d : Dir) (p : GridPoint) (n : ℕ) → Passes p (step_from p d) (record { x = moved (step_from p d).x (east_of d) (pos n); y = moved (step_from p d).y (north_of d) (pos n) })
-passes_to dir.N p n = (stays _ _ _ refl refl, rises _ _ _ n refl refl)
-passes_to dir.NE p n = (rises _ _ _ n refl refl, rises _ _ _ n refl refl)
-passes_to dir.E p n = (rises _ _ _ n refl refl, stays _ _ _ refl refl)
-passes_to dir.SE p n = (rises _ _ _ n refl refl, falls _ _ _ n refl refl)
-passes_to dir.S p n = (stays _ _ _ refl refl, falls _ _ _ n refl refl)
-passes_to dir.SW p n = (falls _ _ _ n refl refl, falls _ _ _ n refl refl)
-passes_to dir.W p n = (falls _ _ _ n refl refl, stays _ _ _ refl refl)
-passes_to dir.NW p n = (falls _ _ _ n refl refl, rises _ _ _ n refl refl)
+passes_to dir.N p n = (stays p.x (p.x +ℤ east_of dir.N) (moved (p.x +ℤ east_of dir.N) (east_of dir.N) (pos n)) refl refl, rises p.y (p.y +ℤ north_of dir.N) (moved (p.y +ℤ north_of dir.N) (north_of dir.N) (pos n)) n refl refl)
+passes_to dir.NE p n = (rises p.x (p.x +ℤ east_of dir.NE) (moved (p.x +ℤ east_of dir.NE) (east_of dir.NE) (pos n)) n refl refl, rises p.y (p.y +ℤ north_of dir.NE) (moved (p.y +ℤ north_of dir.NE) (north_of dir.NE) (pos n)) n refl refl)
+passes_to dir.E p n = (rises p.x (p.x +ℤ east_of dir.E) (moved (p.x +ℤ east_of dir.E) (east_of dir.E) (pos n)) n refl refl, stays p.y (p.y +ℤ north_of dir.E) (moved (p.y +ℤ north_of dir.E) (north_of dir.E) (pos n)) refl refl)
+passes_to dir.SE p n = (rises p.x (p.x +ℤ east_of dir.SE) (moved (p.x +ℤ east_of dir.SE) (east_of dir.SE) (pos n)) n refl refl, falls p.y (p.y +ℤ north_of dir.SE) (moved (p.y +ℤ north_of dir.SE) (north_of dir.SE) (pos n)) n refl refl)
+passes_to dir.S p n = (stays p.x (p.x +ℤ east_of dir.S) (moved (p.x +ℤ east_of dir.S) (east_of dir.S) (pos n)) refl refl, falls p.y (p.y +ℤ north_of dir.S) (moved (p.y +ℤ north_of dir.S) (north_of dir.S) (pos n)) n refl refl)
+passes_to dir.SW p n = (falls p.x (p.x +ℤ east_of dir.SW) (moved (p.x +ℤ east_of dir.SW) (east_of dir.SW) (pos n)) n refl refl, falls p.y (p.y +ℤ north_of dir.SW) (moved (p.y +ℤ north_of dir.SW) (north_of dir.SW) (pos n)) n refl refl)
+passes_to dir.W p n = (falls p.x (p.x +ℤ east_of dir.W) (moved (p.x +ℤ east_of dir.W) (east_of dir.W) (pos n)) n refl refl, stays p.y (p.y +ℤ north_of dir.W) (moved (p.y +ℤ north_of dir.W) (north_of dir.W) (pos n)) refl refl)
+passes_to dir.NW p n = (falls p.x (p.x +ℤ east_of dir.NW) (moved (p.x +ℤ east_of dir.NW) (east_of dir.NW) (pos n)) n refl refl, rises p.y (p.y +ℤ north_of dir.NW) (moved (p.y +ℤ north_of dir.NW) (north_of dir.NW) (pos n)) n refl refl)
 
 passes : (d : Dir) (p : GridPoint) (n : ℕ) → Passes p (step_from p d) (after (step_from p d) (replicate n d))
 passes d p n = subst (Passes p (step_from p d)) (sym (after-replicate (step_from p d) n d)) (passes_to d p n)
@@ -106,7 +106,7 @@ over_run (suc n) d ds b p holds =
     ap (λ (c : Bounds). hull (Some c) (points_from q (replicate n d ++ ds))) (widened_same b (drawn p) holds)
     ∙ head_again b q (replicate n d ++ ds)
     ∙ over_run n d ds (widened b (drawn q)) q (widened_holds b (drawn q))
-    ∙ ap (λ (c : Bounds). hull (Some c) (points_from r ds)) (skip b (drawn p) (drawn q) (drawn r) holds way.0 (turned _ _ _ way.1))
+    ∙ ap (λ (c : Bounds). hull (Some c) (points_from r ds)) (skip b (drawn p) (drawn q) (drawn r) holds way.0 (turned (pos 100 *ℤ p.y) (pos 100 *ℤ q.y) (pos 100 *ℤ r.y) way.1))
 
 -- bounds with a point hold it
 pub holds_with : (o : Option Bounds) (b : Bounds) (p : GridPoint) → Some b ≡ bounds_with o p → Holds b (drawn p)

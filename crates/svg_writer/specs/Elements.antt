@@ -42,10 +42,14 @@ abbrev pub stroke_text : List ℕ → List ℕ
 stroke_text colour = codes "\" fill=\"none\" stroke=\"" ++ (colour_text colour ++ codes "\" stroke-width=\"12\"")
 
 -- what the picture shows, 200 units wider on each side than the bounds: left, top, width and height
+abbrev pub view_place : Bounds → Corner
+view_place b = record { x = b.left -ℤ pos 200; y = b.top -ℤ pos 200 }
+
+abbrev pub view_size : Bounds → Corner
+view_size b = record { x = (b.right -ℤ b.left) +ℤ pos 400; y = (b.bottom -ℤ b.top) +ℤ pos 400 }
+
 abbrev pub view_text : Bounds → List ℕ
-view_text b =
-    corner_text (record { x = b.left -ℤ pos 200; y = b.top -ℤ pos 200 })
-    ++ (32 ∷ corner_text (record { x = (b.right -ℤ b.left) +ℤ pos 400; y = (b.bottom -ℤ b.top) +ℤ pos 400 }))
+view_text b = corner_text (view_place b) ++ (32 ∷ corner_text (view_size b))
 
 -- two numbers in the class of a path, to the beginning of its corners
 abbrev pub ids_text : ℕ → ℕ → List ℕ
@@ -54,6 +58,13 @@ ids_text n line = decimal n ++ (codes " l" ++ (decimal line ++ codes "\" d=\""))
 -- the name of a line, to the end of its path
 abbrev pub title_text : List ℕ → List ℕ
 title_text name = codes "><title>" ++ (escaped name ++ codes "</title></path>\n")
+
+-- where the centre of a marker is, and where a name begins
+abbrev pub centre_text : Corner → List ℕ
+centre_text c = signed_decimal c.x ++ (codes "\" cy=\"" ++ signed_decimal c.y)
+
+abbrev pub place_text : Corner → List ℕ
+place_text c = signed_decimal c.x ++ (codes "\" y=\"" ++ signed_decimal c.y)
 
 -- the radius of a marker, and how it is drawn
 abbrev pub circle_text : ℕ → List ℕ
@@ -70,10 +81,8 @@ element_text (OnSegment seg line path colour name) =
     codes "<path class=\"s" ++ (ids_text seg line ++ (path_text path ++ (stroke_text colour ++ title_text name)))
 element_text (AtNode node line start end colour) =
     codes "<path class=\"n" ++ (ids_text node line ++ (path_text (start ∷ end ∷ []) ++ (stroke_text colour ++ codes "/>\n")))
-element_text (Marker centre radius) =
-    codes "<circle cx=\"" ++ (signed_decimal centre.x ++ (codes "\" cy=\"" ++ (signed_decimal centre.y ++ circle_text radius)))
-element_text (Label place name) =
-    codes "<text x=\"" ++ (signed_decimal place.x ++ (codes "\" y=\"" ++ (signed_decimal place.y ++ label_text name)))
+element_text (Marker centre radius) = codes "<circle cx=\"" ++ (centre_text centre ++ circle_text radius)
+element_text (Label place name) = codes "<text x=\"" ++ (place_text place ++ label_text name)
 element_text Tail = codes "</svg>\n"
 
 -- the text of elements in order

@@ -5,7 +5,9 @@ ghost use Rattle.svg_writer.specs.Elements.{element_text, circle_text, label_tex
 
 use crate::bounds::Bounds;
 use crate::escaping::push_escaped;
-use crate::pieces::{push_ids, push_integer, push_natural, push_path, push_stroke, push_title, push_view};
+use crate::pieces::{
+    push_centre, push_ids, push_natural, push_path, push_place, push_stroke, push_title, push_view,
+};
 use line_offsets::Corner;
 use map_base::NoMemory;
 
@@ -64,9 +66,7 @@ pub(crate) fn push_marker(text: &mut String, centre: Corner, radius: u64) -> Res
     ensures { OnOk result (string_bytes text.new ≡ string_bytes text.old ++ element_text (Marker centre radius)) }
 {
     text.push_str("<circle cx=\"")?;
-    push_integer(text, centre.x)?;
-    text.push_str("\" cy=\"")?;
-    push_integer(text, centre.y)?;
+    push_centre(text, centre)?;
     push_circle(text, radius)?;
     Ok(())
 }
@@ -86,9 +86,7 @@ pub(crate) fn push_label(text: &mut String, place: Corner, name: &str) -> Result
     ensures { OnOk result (string_bytes text.new ≡ string_bytes text.old ++ element_text (Label place name.now)) }
 {
     text.push_str("<text x=\"")?;
-    push_integer(text, place.x)?;
-    text.push_str("\" y=\"")?;
-    push_integer(text, place.y)?;
+    push_place(text, place)?;
     push_name(text, name)?;
     Ok(())
 }

@@ -74,7 +74,8 @@ fn push_line(
         path.as_slice(),
         colour_of(scene.names, line),
         name_of(scene.names, line),
-    )
+    )?;
+    Ok(())
 }
 
 /// Appends each line from one segment to another at each node.
@@ -104,7 +105,8 @@ fn push_join(text: &mut String, scene: &Scene, n: u32, join: Join) -> Result<(),
 {
     let start = line_end(scene, n, join.e, join.line)?;
     let end = line_end(scene, n, join.f, join.line)?;
-    push_between(text, n, join.line, start, end, colour_of(scene.names, join.line))
+    push_between(text, n, join.line, start, end, colour_of(scene.names, join.line))?;
+    Ok(())
 }
 
 /// Appends a line between its two ends at a node, where they differ.

@@ -1,9 +1,9 @@
 //! What elements are made of.
 
-ghost use Rattle.std.specs.Prelude.{◌≡◌, ◌++◌, ◌<◌, OnOk, string_bytes};
+ghost use Rattle.std.specs.Prelude.{◌≡◌, ◌++◌, ◌<◌, ◌≤◌, ◌+ℤ◌, ◌-ℤ◌, pos, unsigned_abs, OnOk, string_bytes};
 ghost use Rattle.std.specs.Fmt.{decimal, signed_decimal};
 ghost use Rattle.std.specs.List.{flat_map};
-ghost use Rattle.svg_writer.specs.Elements.{hex_byte, colour_text, corner_text, next_text, path_text, stroke_text, view_text, ids_text, title_text, AreBounds};
+ghost use Rattle.svg_writer.specs.Elements.{hex_byte, colour_text, corner_text, next_text, path_text, stroke_text, view_place, view_size, view_text, centre_text, place_text, ids_text, title_text, AreBounds};
 ghost use Rattle.std.specs.Char.{digit_char};
 
 use crate::bounds::Bounds;
@@ -139,16 +139,57 @@ pub(crate) fn push_view(text: &mut String, bounds: Bounds) -> Result<(), NoMemor
     requires { AreBounds bounds }
     ensures { OnOk result (string_bytes text.new ≡ string_bytes text.old ++ view_text bounds) }
 {
-    let place = Corner {
+    push_corner(text, view_place(bounds))?;
+    text.push_str(" ")?;
+    push_corner(text, view_size(bounds))?;
+    Ok(())
+}
+
+/// The upper left corner of what the picture shows.
+fn view_place(bounds: Bounds) -> Corner
+    requires { AreBounds bounds }
+    ensures { result ≡ view_place bounds }
+{
+    Corner {
         x: bounds.left - 200,
         y: bounds.top - 200,
-    };
-    let size = Corner {
-        x: bounds.right - bounds.left + 400,
-        y: bounds.bottom - bounds.top + 400,
-    };
-    push_corner(text, place)?;
-    text.push_str(" ")?;
-    push_corner(text, size)?;
-    Ok(())
+    }
+}
+
+/// Its width and height.
+fn view_size(bounds: Bounds) -> Corner
+    requires { AreBounds bounds }
+    ensures { result ≡ view_size bounds }
+{
+    Corner {
+        x: wider(bounds.left, bounds.right),
+        y: wider(bounds.top, bounds.bottom),
+    }
+}
+
+/// How far it is from one coordinate to a greater one, with 200 units more on each side.
+fn wider(low: i64, high: i64) -> i64
+    requires low { unsigned_abs low ≤ 1000000 }
+    requires high { unsigned_abs high ≤ 1000000 }
+    ensures { result ≡ (high -ℤ low) +ℤ pos 400 }
+{
+    high - low + 400
+}
+
+/// Appends where the centre of a marker is.
+pub(crate) fn push_centre(text: &mut String, centre: Corner) -> Result<(), NoMemory>
+    ensures { OnOk result (string_bytes text.new ≡ string_bytes text.old ++ centre_text centre) }
+{
+    push_integer(text, centre.x)?;
+    text.push_str("\" cy=\"")?;
+    push_integer(text, centre.y)
+}
+
+/// Appends where a name begins.
+pub(crate) fn push_place(text: &mut String, place: Corner) -> Result<(), NoMemory>
+    ensures { OnOk result (string_bytes text.new ≡ string_bytes text.old ++ place_text place) }
+{
+    push_integer(text, place.x)?;
+    text.push_str("\" y=\"")?;
+    push_integer(text, place.y)
 }

@@ -1,6 +1,6 @@
 //! What is drawn, and what there is of each thing.
 
-ghost use Rattle.std.specs.Prelude.{◌≡◌, ◌≤◌, ◌*ℤ◌, pos, unsigned_abs, IfOk, OnOk};
+ghost use Rattle.std.specs.Prelude.{◌≡◌, ◌≤◌, ◌*ℤ◌, pos, length, slice_get, option_map, unsigned_abs, IfOk, OnOk};
 ghost use Rattle.line_offsets.specs.Paths.{line_path};
 ghost use Rattle.line_offsets.specs.Shifts.{drawn};
 ghost use Rattle.svg_writer.specs.Picture.{order_at, walk_at, ends_at, lines_at, name_of, colour_of, station_name, end_at, put_at, first_of};
@@ -43,6 +43,7 @@ pub(crate) fn order_of<'a>(orders: &'a Orders, s: u32) -> &'a [LineId]
 
 /// The lines of a segment.
 pub(crate) fn lines_of<'a>(graph: &'a LineGraph, s: u32) -> &'a [LineId]
+    requires { length graph.now.lines ≡ length graph.now.ends }
     ensures { result.now ≡ lines_at graph.now.lines s }
 {
     if s < graph.segs() {
@@ -78,7 +79,10 @@ pub(crate) fn colour_of<'a>(names: &'a Names, line: LineId) -> &'a [u8]
     ensures { result.now ≡ colour_of names.now line }
 {
     match names.lines.as_slice().get(line.0 as usize) {
-        Some((_, colour)) => colour,
+        Some(entry) => {
+            let colour = &entry.1;
+            &colour[..]
+        }
         None => &[],
     }
 }
@@ -116,15 +120,27 @@ pub(crate) fn put_line(
 pub(crate) fn end_at(walks: &Sequence<Walk>, ends: (NodeId, NodeId), n: u32, s: u32, k: i32) -> Corner
     ensures { result ≡ end_at n ends (walk_at walks.now s) k }
 {
-    match walks.as_slice().get(s as usize) {
-        Some(walk) => {
-            if ends.0.0 == n {
-                path_start(walk, k)
-            } else {
-                path_end(walk, k)
-            }
-        }
+    match walk_of(walks, s) {
+        Some(walk) => end_of_line(walk, ends, n, k),
         None => Corner { x: 0, y: 0 },
+    }
+}
+
+/// The walk of a segment.
+fn walk_of(walks: &Sequence<Walk>, s: u32) -> Option<&Walk>
+    ensures { slice_get walks.now s ≡ option_map (λ w. w.now) result }
+{
+    walks.as_slice().get(s as usize)
+}
+
+/// Where a line that is shifted k places beside the walk between these ends ends at node n.
+fn end_of_line(walk: &Walk, ends: (NodeId, NodeId), n: u32, k: i32) -> Corner
+    ensures { result ≡ end_at n ends walk.now k }
+{
+    if ends.0.0 == n {
+        path_start(walk, k)
+    } else {
+        path_end(walk, k)
     }
 }
 

@@ -15,19 +15,29 @@ pub(crate) fn push_all_markers(text: &mut String, scene: &Scene) -> Result<(), N
     ensures { OnOk result (string_bytes text.new ≡ string_bytes text.old ++ texts (all_markers scene.now.graph.now scene.now.drawing.now.walks)) }
 {
     for n in 0..scene.graph.nodes() {
-        push_marker_of(text, scene, n, scene.graph.kind(NodeId(n)))?;
+        push_marker_at(text, scene, n)?;
     }
     Ok(())
 }
 
-/// Appends the marker of a node, where it is a station.
+/// Appends the marker of node n, where it is a station.
+fn push_marker_at(text: &mut String, scene: &Scene, n: u32) -> Result<(), NoMemory>
+    requires node { n < length scene.now.graph.now.kinds }
+    requires lines { length scene.now.graph.now.lines ≡ length scene.now.graph.now.ends }
+    ensures { OnOk result (string_bytes text.new ≡ string_bytes text.old ++ texts (marker scene.now.graph.now scene.now.drawing.now.walks n (kind_at scene.now.graph.now.kinds n))) }
+{
+    push_marker_of(text, scene, n, scene.graph.kind(NodeId(n)))
+}
+
+/// Appends the marker of a node of this kind, where that is a station.
 fn push_marker_of(
     text: &mut String,
     scene: &Scene,
     n: u32,
     kind: NodeKind,
 ) -> Result<(), NoMemory>
-    requires { n < length scene.now.graph.now.kinds }
+    requires node { n < length scene.now.graph.now.kinds }
+    requires lines { length scene.now.graph.now.lines ≡ length scene.now.graph.now.ends }
     ensures { OnOk result (string_bytes text.new ≡ string_bytes text.old ++ texts (marker scene.now.graph.now scene.now.drawing.now.walks n kind)) }
 {
     match kind {
@@ -45,19 +55,29 @@ pub(crate) fn push_all_labels(text: &mut String, scene: &Scene) -> Result<(), No
     ensures { OnOk result (string_bytes text.new ≡ string_bytes text.old ++ texts (all_labels scene.now.names.now scene.now.graph.now scene.now.drawing.now.walks)) }
 {
     for n in 0..scene.graph.nodes() {
-        push_label_of(text, scene, n, scene.graph.kind(NodeId(n)))?;
+        push_label_at(text, scene, n)?;
     }
     Ok(())
 }
 
-/// Appends the name of a node, where it is a station.
+/// Appends the name of node n, where it is a station.
+fn push_label_at(text: &mut String, scene: &Scene, n: u32) -> Result<(), NoMemory>
+    requires node { n < length scene.now.graph.now.kinds }
+    requires lines { length scene.now.graph.now.lines ≡ length scene.now.graph.now.ends }
+    ensures { OnOk result (string_bytes text.new ≡ string_bytes text.old ++ texts (label scene.now.names.now scene.now.graph.now scene.now.drawing.now.walks n (kind_at scene.now.graph.now.kinds n))) }
+{
+    push_label_of(text, scene, n, scene.graph.kind(NodeId(n)))
+}
+
+/// Appends the name of a node of this kind, where that is a station.
 fn push_label_of(
     text: &mut String,
     scene: &Scene,
     n: u32,
     kind: NodeKind,
 ) -> Result<(), NoMemory>
-    requires { n < length scene.now.graph.now.kinds }
+    requires node { n < length scene.now.graph.now.kinds }
+    requires lines { length scene.now.graph.now.lines ≡ length scene.now.graph.now.ends }
     ensures { OnOk result (string_bytes text.new ≡ string_bytes text.old ++ texts (label scene.now.names.now scene.now.graph.now scene.now.drawing.now.walks n kind)) }
 {
     match kind {
@@ -97,7 +117,8 @@ fn beside(centre: Corner, radius: u32) -> Corner
 
 /// The radius of the marker of a node: seven units for each line of the segment there with the most, and three.
 fn radius_of(graph: &LineGraph, n: u32) -> Result<u32, NoMemory>
-    requires { n < length graph.now.kinds }
+    requires node { n < length graph.now.kinds }
+    requires lines { length graph.now.lines ≡ length graph.now.ends }
     ensures { IfOk result (λ r. r ≡ radius_of graph.now n) }
 {
     let most = small_count(most_lines(graph, graph.round(NodeId(n))))?;
@@ -106,6 +127,7 @@ fn radius_of(graph: &LineGraph, n: u32) -> Result<u32, NoMemory>
 
 /// How many lines the segment with the most has, of a round.
 fn most_lines(graph: &LineGraph, round: &[SegId]) -> usize
+    requires { length graph.now.lines ≡ length graph.now.ends }
     ensures { result ≡ most_lines graph.now.lines round.now }
 {
     let mut most = 0;

@@ -1,6 +1,7 @@
 //! The bounds of all grid points of walks.
 
-ghost use Rattle.std.specs.Prelude.{◌≡◌, Some, fold, IfSome};
+ghost use Rattle.std.specs.Prelude.{◌≡◌, ◌≤◌, Some, fold, unsigned_abs, IfSome};
+ghost use Rattle.std.specs.Int.{int_min, int_max};
 ghost use Rattle.octi_grid.specs.Ways.{IsWithin};
 ghost use Rattle.octi_grid.specs.Walks.{points_of};
 ghost use Rattle.svg_writer.specs.Elements.{AreBounds};
@@ -8,6 +9,7 @@ ghost use Rattle.svg_writer.specs.Picture.{bounds_with, bounds_of, widened};
 
 use crate::bounds::Bounds;
 use crate::scene::drawn;
+use line_offsets::Corner;
 use octi_grid::{GridPoint, Walk, run_end};
 
 /// The bounds of all grid points of walks, those of the origin where there is none.
@@ -31,9 +33,10 @@ fn with_walk(bounds: Option<Bounds>, walk: &Walk) -> Bounds
     ensures value { Some result ≡ fold bounds_with bounds (points_of walk.now) }
     ensures small { AreBounds result }
 {
+    let runs = walk.runs();
     let mut at = walk.start();
     let mut bounds = with_point(bounds, at);
-    for run in walk.runs() {
+    for run in runs {
         at = run_end(at, *run);
         bounds = with_point(Some(bounds), at);
     }
@@ -55,11 +58,42 @@ fn with_point(bounds: Option<Bounds>, p: GridPoint) -> Bounds
             top: corner.y,
             bottom: corner.y,
         },
-        Some(held) => Bounds {
-            left: held.left.min(corner.x),
-            right: held.right.max(corner.x),
-            top: held.top.min(corner.y),
-            bottom: held.bottom.max(corner.y),
-        },
+        Some(held) => widened(held, corner),
     }
+}
+
+/// Bounds, widened to hold a point.
+fn widened(held: Bounds, corner: Corner) -> Bounds
+    requires held { AreBounds held }
+    requires x { unsigned_abs corner.x ≤ 1000000 }
+    requires y { unsigned_abs corner.y ≤ 1000000 }
+    ensures value { result ≡ widened held corner }
+    ensures small { AreBounds result }
+{
+    Bounds {
+        left: least(held.left, corner.x),
+        right: greatest(held.right, corner.x),
+        top: least(held.top, corner.y),
+        bottom: greatest(held.bottom, corner.y),
+    }
+}
+
+/// The lesser of two coordinates.
+fn least(a: i64, b: i64) -> i64
+    requires a { unsigned_abs a ≤ 1000000 }
+    requires b { unsigned_abs b ≤ 1000000 }
+    ensures value { result ≡ int_min a b }
+    ensures small { unsigned_abs result ≤ 1000000 }
+{
+    a.min(b)
+}
+
+/// The greater of two coordinates.
+fn greatest(a: i64, b: i64) -> i64
+    requires a { unsigned_abs a ≤ 1000000 }
+    requires b { unsigned_abs b ≤ 1000000 }
+    ensures value { result ≡ int_max a b }
+    ensures small { unsigned_abs result ≤ 1000000 }
+{
+    a.max(b)
 }

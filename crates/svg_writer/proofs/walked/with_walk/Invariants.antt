@@ -12,8 +12,8 @@ use Rattle.svg_writer.proofs.walked.with_walk.Given as goal
 -- the bounds so far, widened to hold what is left, are those of the walk
 abbrev pub invariant-loop-run : goal.invariant-loop-run
 invariant-loop-run l = record {
-  whole : fold bounds_with (Some l.bounds) (points_from l.at (steps_of (drop l.run-index l.run-items))) ≡ fold bounds_with l.fn.bounds (points_of l.walk);
+  whole : fold bounds_with (Some l.bounds) (points_from l.at (steps_of (drop l.run-index l.runs))) ≡ fold bounds_with l.fn.bounds (points_of l.walk);
   holds : Holds l.bounds (drawn l.at);
   small : AreBounds l.bounds;
-  within : AllByRecursion IsWithin (points_from l.at (steps_of (drop l.run-index l.run-items)));
+  within : AllByRecursion IsWithin (points_from l.at (steps_of (drop l.run-index l.runs)));
 }
