@@ -1,1 +1,9 @@
 mod Examples
+pub mod Appends
+pub mod Pairs
+pub mod Distinct
+pub mod Runs
+pub mod Walks
+pub mod FormLemmas
+pub mod WalkLemmas
+pub mod Bodies

@@ -4,3 +4,4 @@ pub mod Text
 pub mod Forms
 pub mod Ranges
 pub mod Reading
+pub mod Readers

@@ -2,6 +2,7 @@
 //! certificate's is refused at the first line that has not the form due there.
 #![tactic(auto)]
 
+mod body;
 mod certificate;
 mod counts;
 mod distinct;

@@ -9,7 +9,7 @@ use crate::counts::Counts;
 use crate::forms::{cost_in, counts_in, importance_in, order_in, version_in};
 use crate::walk_line::walk_in;
 use decimal_text::{Stop, first_line, front_line};
-use map_base::LineId;
+use map_base::{LineId, Sequence};
 use octi_grid::Walk;
 use std::alloc::Global;
 

@@ -1,6 +1,6 @@
 //! The lines on segments, and those from segment to segment.
 
-ghost use Rattle.std.specs.Prelude.{◌≡◌, ◌++◌, ◌≤◌, ◌<◌, length, slice_index_or, IfOk, OnOk, string_bytes};
+ghost use Rattle.std.specs.Prelude.{◌≡◌, ◌++◌, ◌≤◌, ◌<◌, length, slice_index_or, unsigned_abs, IfOk, OnOk, string_bytes};
 ghost use Rattle.svg_writer.specs.Elements.{texts};
 ghost use Rattle.svg_writer.specs.Picture.{gauge, segment_elements, walk_at, no_line, line_text, place_in, line_end, are_one, between, join_elements, node_joins, all_lines, all_joins};
 
@@ -14,7 +14,8 @@ use std::alloc::Global;
 /// How many places line i of n stands to the right of the middle, doubled.
 fn gauge(n: usize, i: usize) -> Result<i32, NoMemory>
     requires { i ≤ n }
-    ensures { IfOk result (λ k. k ≡ gauge n i) }
+    ensures value { IfOk result (λ k. k ≡ gauge n i) }
+    ensures small { IfOk result (λ k. unsigned_abs k ≤ 200000001) }
 {
     let n = small_count(n)?;
     let i = i as i32;

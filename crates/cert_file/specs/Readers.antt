@@ -1,0 +1,41 @@
+-- What readers of parts of a certificate answer.
+use Rattle.std.specs.Prelude.{◌≡◌, ℕ, ◌≤◌, List, ◌++◌, length}
+use Rattle.std.specs.List.{AllByRecursion}
+use Rattle.map_base.specs.declared.ids.LineId.{LineId}
+use Rattle.octi_grid.specs.Walks.{PlainWalk, IsWalk}
+use Rattle.cert_file.specs.Forms.{most_cost}
+use Rattle.cert_file.specs.Text.{version_of, importance_text, walks_text, orders_text, cost_text}
+use Rattle.cert_file.specs.Ranges.{ArePairs, IsOrder}
+
+-- the importance that a version has stands at the front of a text, and the rest behind it
+pub record AreImportanceOf (version : ℕ) (pairs : List (LineId × ℕ)) (text rest : List ℕ) : Type 0 where
+  pub version_is : version_of pairs ≡ version
+  pub range : ArePairs 0 pairs
+  pub front : text ≡ importance_text pairs ++ rest
+
+-- so many walks
+pub record AreWalksOf (count : ℕ) (walks : List PlainWalk) (text rest : List ℕ) : Type 0 where
+  pub counted : length walks ≡ count
+  pub range : AllByRecursion IsWalk walks
+  pub front : text ≡ walks_text 0 walks ++ rest
+
+-- so many orders
+pub record AreOrdersOf (count : ℕ) (orders : List (List LineId)) (text rest : List ℕ) : Type 0 where
+  pub counted : length orders ≡ count
+  pub range : AllByRecursion IsOrder orders
+  pub front : text ≡ orders_text 0 orders ++ rest
+
+-- what stands between the counts and the proof
+pub record IsBodyOf (version segs : ℕ) (importance : List (LineId × ℕ)) (walks : List PlainWalk) (orders : List (List LineId)) (cost : ℕ) (text rest : List ℕ) : Type 0 where
+  pub version_is : version_of importance ≡ version
+  pub importance : ArePairs 0 importance
+  pub walks_each : length walks ≡ segs
+  pub walks : AllByRecursion IsWalk walks
+  pub orders_each : length orders ≡ segs
+  pub orders : AllByRecursion IsOrder orders
+  pub cost : cost ≤ most_cost
+  pub front : text ≡ importance_text importance ++ (walks_text 0 walks ++ (orders_text 0 orders ++ (cost_text cost ++ rest)))
+
+-- a version: 1 or 2
+abbrev pub IsVersion : ℕ → Type 0
+IsVersion version = (1 ≤ version) × (version ≤ 2)
