@@ -12,3 +12,6 @@ grew4 o s t u v a b c d e f g h = grew2 o s v a (b ++ (c ++ d)) e (grew3 s t u v
 
 pub grew5 : (o s t u v w : List ℕ) (a b c d x : List ℕ) → s ≡ o ++ a → t ≡ s ++ b → u ≡ t ++ c → v ≡ u ++ d → w ≡ v ++ x → w ≡ o ++ (a ++ (b ++ (c ++ (d ++ x))))
 grew5 o s t u v w a b c d x e f g h i = grew2 o s w a (b ++ (c ++ (d ++ x))) e (grew4 s t u v w b c d x f g h i)
+
+pub grew6 : (o s t u v w x : List ℕ) (a b c d y z : List ℕ) → s ≡ o ++ a → t ≡ s ++ b → u ≡ t ++ c → v ≡ u ++ d → w ≡ v ++ y → x ≡ w ++ z → x ≡ o ++ (a ++ (b ++ (c ++ (d ++ (y ++ z)))))
+grew6 o s t u v w x a b c d y z e f g h i j = grew2 o s x a (b ++ (c ++ (d ++ (y ++ z)))) e (grew5 s t u v w x b c d y z f g h i j)
