@@ -1,7 +1,7 @@
 mod Examples
 pub mod Appends
 pub mod Pairs
-pub mod Distinct
+pub mod DistinctLines
 pub mod Runs
 pub mod Walks
 pub mod FormLemmas

@@ -28,12 +28,12 @@ pub record AreOrdersOf (count : ℕ) (orders : List (List LineId)) (text rest : 
 -- what stands between the counts and the proof
 pub record IsBodyOf (version segs : ℕ) (importance : List (LineId × ℕ)) (walks : List PlainWalk) (orders : List (List LineId)) (cost : ℕ) (text rest : List ℕ) : Type 0 where
   pub version_is : version_of importance ≡ version
-  pub importance : ArePairs 0 importance
+  pub pairs : ArePairs 0 importance
   pub walks_each : length walks ≡ segs
-  pub walks : AllByRecursion IsWalk walks
+  pub each_walk : AllByRecursion IsWalk walks
   pub orders_each : length orders ≡ segs
-  pub orders : AllByRecursion IsOrder orders
-  pub cost : cost ≤ most_cost
+  pub each_order : AllByRecursion IsOrder orders
+  pub small : cost ≤ most_cost
   pub front : text ≡ importance_text importance ++ (walks_text 0 walks ++ (orders_text 0 orders ++ (cost_text cost ++ rest)))
 
 -- a version: 1 or 2

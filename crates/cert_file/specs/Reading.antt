@@ -2,7 +2,7 @@
 use Rattle.std.specs.Prelude.{ℕ, zero, suc, ◌+◌, ◌-◌, ◌==◌, List, [], ◌∷◌, ◌++◌, length, Option, Some, None, option_map, Result, Ok, Err, if◌then◌else◌}
 use Rattle.decimal_text.specs.Reading.{reading}
 use Rattle.order_proof.specs.Reading.{proof_end}
-use Rattle.cert_file.specs.Forms.{Counts, version_in, counts_in, importance_in, walk_in, orders_in, cost_in}
+use Rattle.cert_file.specs.Forms.{version_in, counts_in, importance_in, walk_in, orders_in, cost_in}
 
 -- What may be due before the proof: the version; the counts of a version; the importance of lines; the walk of segment
 -- s, and those of so many more; the order of segment s, and those of so many more; the cost.

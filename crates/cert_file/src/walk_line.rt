@@ -65,7 +65,10 @@ fn walk_with(
 fn walk_from(x: i64, y: i64, runs: Vec<Run>) -> Option<Walk>
     ensures { result ≡ walk_by (record { x = x; y = y }) runs.items }
 {
-    if x.unsigned_abs() > 10_000 || y.unsigned_abs() > 10_000 {
+    if x.unsigned_abs() > 10_000 {
+        return None;
+    }
+    if y.unsigned_abs() > 10_000 {
         return None;
     }
     let start = GridPoint {
