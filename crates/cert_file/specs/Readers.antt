@@ -3,8 +3,9 @@ use Rattle.std.specs.Prelude.{◌≡◌, ℕ, ◌≤◌, List, ◌++◌, length}
 use Rattle.std.specs.List.{AllByRecursion}
 use Rattle.map_base.specs.declared.ids.LineId.{LineId}
 use Rattle.octi_grid.specs.Walks.{PlainWalk, IsWalk}
-use Rattle.cert_file.specs.Forms.{most_cost}
-use Rattle.cert_file.specs.Text.{version_of, importance_text, walks_text, orders_text, cost_text}
+use Rattle.cert_file.specs.declared.counts.Counts.{Counts}
+use Rattle.cert_file.specs.Forms.{most_nodes, most_segs, most_lines, most_cost}
+use Rattle.cert_file.specs.Text.{version_of, version_text, counts_text, importance_text, walks_text, orders_text, cost_text}
 use Rattle.cert_file.specs.Ranges.{ArePairs, IsOrder}
 
 -- the importance that a version has stands at the front of a text, and the rest behind it
@@ -39,3 +40,16 @@ pub record IsBodyOf (version segs : ℕ) (importance : List (LineId × ℕ)) (wa
 -- a version: 1 or 2
 abbrev pub IsVersion : ℕ → Type 0
 IsVersion version = (1 ≤ version) × (version ≤ 2)
+
+-- what stands before the proof
+pub record IsHeadOf (n : Counts) (importance : List (LineId × ℕ)) (walks : List PlainWalk) (orders : List (List LineId)) (cost : ℕ) (text rest : List ℕ) : Type 0 where
+  pub few_nodes : n.nodes ≤ most_nodes
+  pub few_segs : n.segs ≤ most_segs
+  pub few_lines : n.lines ≤ most_lines
+  pub pairs : ArePairs 0 importance
+  pub walks_each : length walks ≡ n.segs
+  pub each_walk : AllByRecursion IsWalk walks
+  pub orders_each : length orders ≡ n.segs
+  pub each_order : AllByRecursion IsOrder orders
+  pub small : cost ≤ most_cost
+  pub front : text ≡ version_text importance ++ (counts_text n.nodes n.segs n.lines ++ (importance_text importance ++ (walks_text 0 walks ++ (orders_text 0 orders ++ (cost_text cost ++ rest)))))
