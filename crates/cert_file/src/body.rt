@@ -23,11 +23,11 @@ fn importance_of<'a>(
     ensures follows { Follows (λ x. x.1.now) result (reading after (importance_due version) text.now) }
     ensures importance { IfOk result (λ x. AreImportanceOf version x.0.items text.now x.1.now) }
 {
-    if version == 2 {
-        read_importance(alloc, text, numbers)
-    } else {
-        Ok((Vec::new(alloc), text))
+    if version != 2 {
+        return Ok((Vec::new(alloc), text));
     }
+    let (importance, rest) = read_importance(alloc, text, numbers)?;
+    Ok((importance, rest))
 }
 
 /// The walks of so many segments.

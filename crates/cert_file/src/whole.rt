@@ -1,6 +1,6 @@
 //! Reading a certificate.
 
-ghost use Rattle.std.specs.Prelude.{◌≡◌, ◌×◌, ◌∷◌, [], length, IfOk};
+ghost use Rattle.std.specs.Prelude.{◌≡◌, ◌∷◌, [], length, IfOk};
 ghost use Rattle.decimal_text.specs.Reading.{reading};
 ghost use Rattle.decimal_text.specs.Readers.{Follows, EndsAs};
 ghost use Rattle.cert_file.specs.Plain.{plain};

@@ -1,15 +1,17 @@
-use Rattle.std.proofs.Common.{arith}
+use Rattle.std.proofs.Common.{List, subst, sym, arith}
 use Rattle.std.proofs.lemmas.Result.{err_from_is_err_and}
+use Rattle.map_base.specs.declared.ids.LineId.{LineId}
+use Rattle.octi_grid.specs.Walks.{PlainWalk}
 use Rattle.decimal_text.specs.Lines.{front}
 use Rattle.decimal_text.specs.Reading.{reading}
 use Rattle.decimal_text.proofs.Stops.{line_stops}
 use Rattle.cert_file.specs.Forms.{walk_in, order_of, spoken_front}
 use Rattle.cert_file.specs.Reading.{after, walks_due}
-use Rattle.cert_file.proofs.Bodies.{walks_begin, walk_taken, walk_stops, walks_end}
+use Rattle.cert_file.proofs.Bodies.{AreWalksSoFar, walks_begin, walk_taken, walk_stops, walks_end}
 use Rattle.cert_file.proofs.body.walks_of.Goals as goal
 
 pub loop-s-init : goal.loop-s-init
-loop-s-init c = walks_begin c.args.segs c.args.text.now
+loop-s-init c = subst (λ (xs : List PlainWalk). AreWalksSoFar c.args.segs 0 xs c.args.text.now c.args.text.now) (sym c.new-walks.ensures.items) (walks_begin c.args.segs c.args.text.now)
 
 pub returns-in_err-walk-clause-follows : goal.returns-in_err-walk-clause-follows
 returns-in_err-walk-clause-follows c =
