@@ -7,3 +7,4 @@ pub mod Walks
 pub mod FormLemmas
 pub mod WalkLemmas
 pub mod Bodies
+pub mod Heads

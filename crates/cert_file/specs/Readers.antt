@@ -5,8 +5,12 @@ use Rattle.map_base.specs.declared.ids.LineId.{LineId}
 use Rattle.octi_grid.specs.Walks.{PlainWalk, IsWalk}
 use Rattle.cert_file.specs.declared.counts.Counts.{Counts}
 use Rattle.cert_file.specs.Forms.{most_nodes, most_segs, most_lines, most_cost}
-use Rattle.cert_file.specs.Text.{version_of, version_text, counts_text, importance_text, walks_text, orders_text, cost_text}
-use Rattle.cert_file.specs.Ranges.{ArePairs, IsOrder}
+use Rattle.cert_file.specs.Text.{version_of, version_text, counts_text, importance_text, walks_text, orders_text, cost_text, certificate_text}
+use Rattle.order_proof.specs.Plain.{PlainProof}
+use Rattle.order_proof.specs.Text.{proof_text}
+use Rattle.order_proof.specs.Ranges as proofs
+use Rattle.cert_file.specs.Plain.{PlainCertificate}
+use Rattle.cert_file.specs.Ranges.{ArePairs, IsOrder, IsInRange}
 
 -- the importance that a version has stands at the front of a text, and the rest behind it
 pub record AreImportanceOf (version : ℕ) (pairs : List (LineId × ℕ)) (text rest : List ℕ) : Type 0 where
@@ -53,3 +57,26 @@ pub record IsHeadOf (n : Counts) (importance : List (LineId × ℕ)) (walks : Li
   pub each_order : AllByRecursion IsOrder orders
   pub small : cost ≤ most_cost
   pub front : text ≡ version_text importance ++ (counts_text n.nodes n.segs n.lines ++ (importance_text importance ++ (walks_text 0 walks ++ (orders_text 0 orders ++ (cost_text cost ++ rest)))))
+
+-- bytes are the text of a proof in range
+pub record IsWholeProof (p : PlainProof) (bytes : List ℕ) : Type 0 where
+  pub range : proofs.IsInRange p
+  pub text : bytes ≡ proof_text p
+
+-- bytes are the text of a certificate in range
+pub record IsTextOf (c : PlainCertificate) (bytes : List ℕ) : Type 0 where
+  pub range : IsInRange c
+  pub text : bytes ≡ certificate_text c
+
+-- the certificate of these parts
+abbrev pub certificate_with : Counts → List (LineId × ℕ) → List PlainWalk → List (List LineId) → ℕ → PlainProof → PlainCertificate
+certificate_with n importance walks orders cost proof = record {
+  nodes = n.nodes;
+  segs = n.segs;
+  lines = n.lines;
+  importance = importance;
+  walks = walks;
+  orders = orders;
+  cost = cost;
+  proof = proof;
+}

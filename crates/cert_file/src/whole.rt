@@ -1,13 +1,13 @@
 //! Reading a certificate.
 
-ghost use Rattle.std.specs.Prelude.{◌≡◌, ◌∷◌, [], length, IfOk};
+ghost use Rattle.std.specs.Prelude.{◌≡◌, ◌<◌, ◌+◌, ◌^◌, ◌∷◌, [], length, IfOk};
 ghost use Rattle.decimal_text.specs.Reading.{reading};
 ghost use Rattle.decimal_text.specs.Readers.{Follows, EndsAs};
 ghost use Rattle.cert_file.specs.Plain.{plain};
-ghost use Rattle.cert_file.specs.Text.{certificate_text};
-ghost use Rattle.cert_file.specs.Ranges.{IsInRange};
-ghost use Rattle.cert_file.specs.Reading.{after, Version, certificate_end};
-ghost use Rattle.cert_file.specs.Readers.{IsHeadOf};
+ghost use Rattle.order_proof.specs.Plain.{plain_proof};
+ghost use Rattle.order_proof.specs.Reading.{proof_end};
+ghost use Rattle.cert_file.specs.Reading.{after, Version, proof_place, certificate_end};
+ghost use Rattle.cert_file.specs.Readers.{IsHeadOf, IsWholeProof, IsTextOf, certificate_with};
 
 use crate::body::{Body, read_body};
 use crate::certificate::Certificate;
@@ -36,33 +36,34 @@ fn read_head<'a>(
 
 /// The certificate whose text these bytes are.
 pub fn read_certificate(alloc: Global, bytes: &[u8]) -> Result<Certificate, BadText>
-    ensures certificate { IfOk result (λ c. IsInRange (plain c) × (bytes.now ≡ certificate_text (plain c))) }
+    ensures certificate { IfOk result (λ c. IsTextOf (plain c) bytes.now) }
     ensures end { EndsAs (λ _. length bytes.now) result (certificate_end bytes.now) }
 {
     let mut numbers = Vec::new(alloc);
     match read_head(alloc, bytes, &mut numbers) {
-        Ok((counts, body, rest)) => with_proof(alloc, bytes.len() - rest.len(), counts, body, rest),
+        Ok((counts, body, rest)) => {
+            let proof = proof_alone(alloc, bytes.len() - rest.len(), rest)?;
+            Ok(certificate_of(counts, body, proof))
+        }
         Err(stop) => Err(bad_text(bytes.len(), stop)),
     }
 }
 
-/// The certificate of this head, whose proof stands alone at a place.
-fn with_proof(
-    alloc: Global,
-    place: usize,
-    counts: Counts,
-    body: Body,
-    rest: &[u8],
-) -> Result<Certificate, BadText>
+/// The proof whose text these bytes are, which stand at a place of a longer text.
+fn proof_alone(alloc: Global, place: usize, bytes: &[u8]) -> Result<Proof, BadText>
+    requires { place + length bytes.now < 2 ^ 64 }
+    ensures proof { IfOk result (λ p. IsWholeProof (plain_proof p) bytes.now) }
+    ensures end { EndsAs (λ _. place + length bytes.now) result (proof_place place (length bytes.now) (proof_end bytes.now)) }
 {
-    match read_proof(alloc, rest) {
+    match read_proof(alloc, bytes) {
         Ok((proof, used)) => {
-            if used < rest.len() {
-                return Err(BadText::At {
+            if used == bytes.len() {
+                Ok(proof)
+            } else {
+                Err(BadText::At {
                     at: (place + used) as u64,
-                });
+                })
             }
-            Ok(certificate_of(counts, body, proof))
         }
         Err(BadText::At { at }) => Err(BadText::At {
             at: place as u64 + at,
@@ -72,7 +73,9 @@ fn with_proof(
 }
 
 /// The certificate of these parts.
-fn certificate_of(counts: Counts, body: Body, proof: Proof) -> Certificate {
+fn certificate_of(counts: Counts, body: Body, proof: Proof) -> Certificate
+    ensures { plain result ≡ certificate_with counts body.importance.items body.walks.items body.orders.items body.cost (plain_proof proof) }
+{
     let Body {
         importance,
         walks,
