@@ -8,3 +8,4 @@ pub mod FormLemmas
 pub mod WalkLemmas
 pub mod Bodies
 pub mod Heads
+pub mod Wholes

@@ -2,6 +2,7 @@
 use Rattle.std.specs.Prelude.{ℕ, suc, ℤ, pos, List, [], ◌∷◌, ◌++◌, codes}
 use Rattle.std.specs.Fmt.{decimal, signed_decimal}
 use Rattle.map_base.specs.declared.ids.LineId.{LineId}
+use Rattle.octi_grid.specs.declared.point.GridPoint.{GridPoint}
 use Rattle.octi_grid.specs.Walks.{PlainWalk}
 use Rattle.order_proof.specs.Text.{proof_text}
 use Rattle.decimal_text.specs.Lines.{words_text, numbers_text}
@@ -30,6 +31,10 @@ pair_numbers (p ∷ rest) = pos p.0.0 ∷ pos p.1 ∷ pair_numbers rest
 abbrev pub importance_text : List (LineId × ℕ) → List ℕ
 importance_text [] = []
 importance_text (p ∷ rest) = codes "importance" ++ numbers_text (pair_numbers (p ∷ rest))
+
+-- the start of a walk, a space before each coordinate
+abbrev pub start_text : GridPoint → List ℕ
+start_text p = 32 ∷ (signed_decimal p.x ++ (32 ∷ signed_decimal p.y))
 
 -- `walk S X Y RUN ..`
 abbrev pub walk_words : ℕ → PlainWalk → List (List ℕ)

@@ -4,13 +4,13 @@ ghost use Rattle.std.specs.Prelude.{◌≡◌, ◌++◌, ◌∷◌, IfOk, OnOk};
 ghost use Rattle.decimal_text.specs.Lines.{words_text, numbers_text};
 ghost use Rattle.cert_file.specs.Plain.{plain};
 ghost use Rattle.cert_file.specs.RunWords.{run_word, run_words};
-ghost use Rattle.cert_file.specs.Text.{version_of, version_text, counts_text, pair_numbers, importance_text, walk_text, walks_text, line_numbers, order_text, orders_text, cost_text, head_text, certificate_text};
+ghost use Rattle.cert_file.specs.Text.{version_of, version_text, counts_text, pair_numbers, importance_text, start_text, walk_text, walks_text, line_numbers, order_text, orders_text, cost_text, head_text, certificate_text};
 
 use crate::certificate::Certificate;
 use crate::run_words::dir_text;
 use decimal_text::{end_line, push_natural, push_next_integer, push_next_natural};
 use map_base::{LineId, NoMemory, Sequence};
-use octi_grid::{Run, Walk};
+use octi_grid::{GridPoint, Run, Walk};
 use order_proof::write_proof;
 use std::alloc::Global;
 
@@ -106,13 +106,19 @@ fn push_walks(text: &mut Vec<u8>, walks: &[Walk]) -> Result<(), NoMemory>
 fn push_walk(text: &mut Vec<u8>, s: usize, walk: &Walk) -> Result<(), NoMemory>
     ensures { OnOk result (text.new.items ≡ text.old.items ++ walk_text s walk.now) }
 {
-    let start = walk.start();
     text.extend_from_slice(b"walk")?;
     push_next_natural(text, s as u64)?;
-    push_next_integer(text, i64::from(start.x))?;
-    push_next_integer(text, i64::from(start.y))?;
+    push_start(text, walk.start())?;
     push_runs(text, walk.runs())?;
     Ok(())
+}
+
+/// Appends the start of a walk.
+fn push_start(text: &mut Vec<u8>, start: GridPoint) -> Result<(), NoMemory>
+    ensures { OnOk result (text.new.items ≡ text.old.items ++ start_text start) }
+{
+    push_next_integer(text, i64::from(start.x))?;
+    push_next_integer(text, i64::from(start.y))
 }
 
 /// Appends runs, and the end of the line.
