@@ -17,4 +17,5 @@ pub use cost::{end_of, step_cost, turn_cost, walk_cost};
 pub use dir::Dir;
 pub use drawing::{DrawWhy, Drawing, DrawingStop};
 pub use point::GridPoint;
+pub use runs::run_end;
 pub use walk::{Run, Walk};

@@ -70,7 +70,7 @@ fn end_within(at: GridPoint, run: Run) -> Option<GridPoint>
 }
 
 /// Where a run from a point ends.
-pub(crate) fn run_end(at: GridPoint, run: Run) -> GridPoint
+pub fn run_end(at: GridPoint, run: Run) -> GridPoint
     requires at { IsWithin at }
     requires count { run.count ≤ 20000 }
     ensures { result ≡ after at (replicate run.count run.dir) }

@@ -1,16 +1,17 @@
 -- Where reading ends within a text.
 use Rattle.std.proofs.Common.{◌≡◌, ℕ, zero, suc, ◌-◌, ◌+◌, ◌≤◌, List, [], ◌∷◌, ◌++◌, length, take, Option, Some, None, Result, Ok, Err, refl, ap, sym, ◌∙◌, length-append, arith}
 use Rattle.std.proofs.lemmas.List.{take_at}
-use Rattle.order_proof.specs.declared.fault.Stop.{Stop}
-use Rattle.order_proof.specs.declared.fault.Stop.TheVariants as stops
+use Rattle.decimal_text.specs.declared.fault.Stop.{Stop}
+use Rattle.decimal_text.specs.declared.fault.Stop.TheVariants as stops
 use Rattle.order_proof.specs.Plain.{PlainProof}
 use Rattle.order_proof.specs.Text.{proof_text}
 use Rattle.order_proof.specs.FrontLine.{front}
 use Rattle.order_proof.specs.Reading.{Due, after, go_on, reading}
-use Rattle.order_proof.specs.Readers.{left_of, IsProofOf, IsTextOf, IsStopWithin}
+use Rattle.decimal_text.specs.Readers.{left_of, IsStopWithin}
+use Rattle.order_proof.specs.Readers.{IsProofOf, IsTextOf}
 use Rattle.order_proof.proofs.Fronts.{front_shorter, front_empty}
 use Rattle.order_proof.proofs.Steps.{reading_nothing, reading_line}
-use Rattle.order_proof.proofs.Stops.{StopsIn}
+use Rattle.decimal_text.proofs.Stops.{StopsIn}
 
 abbrev lines_behind : List Due → List Due → List ℕ → Result (List ℕ) (List ℕ)
 lines_behind later more rest = reading (more ++ later) rest

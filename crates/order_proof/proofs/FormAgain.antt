@@ -10,19 +10,18 @@ use Rattle.order_proof.specs.declared.line_word.LineWord.{LineWord}
 use Rattle.order_proof.specs.declared.node_line.NodeLine.{NodeLine}
 use Rattle.order_proof.specs.declared.node_line.NodeLine.TheVariants as nodes
 use Rattle.order_proof.specs.Lines.{Line, line_text, bit, segment_numbers, line_numbers, price_numbers, rules_line, rule_line, parts_line, part_line, take_line}
-use Rattle.order_proof.specs.Numbers.{up_to}
+use Rattle.decimal_text.specs.Numbers.{up_to, natural_within, from_to}
 use Rattle.order_proof.specs.FrontLine.{front}
-use Rattle.order_proof.specs.Forms.{most_items, most_id, most_cases, most_target, most_price, natural_within, seg, line_id, from_to, rising, price_of, term_with, priced_term, prices_from, counts, flag_of, rules_in, merge_with, rule_in, parts_in, part_in, split_with, node_in, take_in}
+use Rattle.order_proof.specs.Forms.{most_items, most_id, most_cases, most_target, most_price, seg, line_id, rising, price_of, term_with, priced_term, prices_from, counts, flag_of, rules_in, merge_with, rule_in, parts_in, part_in, split_with, node_in, take_in}
 use Rattle.order_proof.specs.Trees.{is_among}
 use Rattle.order_proof.specs.Ranges.{AreRisingLines, AreRisingSegments, IsPrice, ArePrices, IsRuleInRange}
-use Rattle.order_proof.proofs.NumberLemmas.{IsNumber, up_to_within}
-use Rattle.order_proof.proofs.Fronts.{paired, said}
-use Rattle.order_proof.proofs.LineLemmas.{AreNumbers}
-use Rattle.order_proof.proofs.LineAgain.{front_line_again}
+use Rattle.decimal_text.proofs.NumberLemmas.{IsNumber, up_to_within}
+use Rattle.decimal_text.proofs.LineLemmas.{paired}
+use Rattle.order_proof.proofs.Fronts.{said}
+use Rattle.decimal_text.proofs.RangeLemmas.{from_to_again}
+use Rattle.decimal_text.proofs.LineLemmas.{AreNumbers}
+use Rattle.order_proof.proofs.LineLemmas.{front_line_again}
 use Rattle.order_proof.proofs.FormLemmas.{node_line, IsNodeWithin}
-
-from_to_again : (least most n : ℕ) → least ≤ n → n ≤ most → from_to least most (pos n) ≡ Some n
-from_to_again least most n low high = ap (λ (b : Bool). cond b (up_to most n) None) (le-leb least n low) ∙ up_to_within most n high
 
 lines_again : (least : ℕ) (lines : List LineId) → AreRisingLines least lines → rising line_id least (line_numbers lines) ≡ Some lines
 lines_again least [] are = refl

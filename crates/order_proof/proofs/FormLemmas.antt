@@ -11,12 +11,13 @@ use Rattle.order_proof.specs.declared.line_word.LineWord.TheVariants.{Rules, Mer
 use Rattle.order_proof.specs.declared.node_line.NodeLine.{NodeLine}
 use Rattle.order_proof.specs.declared.node_line.NodeLine.TheVariants as nodes
 use Rattle.order_proof.specs.Lines.{Line, line_text, bit, segment_numbers, line_numbers, price_numbers, rules_line, rule_line, parts_line, part_line, split_line, take_line, close_line}
-use Rattle.order_proof.specs.Numbers.{up_to}
+use Rattle.decimal_text.specs.Numbers.{up_to, natural_within, from_to}
 use Rattle.order_proof.specs.FrontLine.{front}
-use Rattle.order_proof.specs.Forms.{most_items, most_id, most_cases, most_target, most_price, natural_within, seg, line_id, from_to, rising, price_of, term_with, priced_term, prices_from, counts, flag_of, rules_in, merge_with, rule_in, parts_in, part_in, split_with, node_in, take_in}
+use Rattle.order_proof.specs.Forms.{most_items, most_id, most_cases, most_target, most_price, seg, line_id, rising, price_of, term_with, priced_term, prices_from, counts, flag_of, rules_in, merge_with, rule_in, parts_in, part_in, split_with, node_in, take_in}
 use Rattle.order_proof.specs.Trees.{is_among}
 use Rattle.order_proof.specs.Ranges.{AreRisingLines, AreRisingSegments, IsPrice, ArePrices, IsRuleInRange}
-use Rattle.order_proof.proofs.DigitLemmas.{up_to_some}
+use Rattle.decimal_text.proofs.DigitLemmas.{up_to_some}
+use Rattle.decimal_text.proofs.RangeLemmas.{within_is, from_to_is}
 use Rattle.order_proof.proofs.Fronts.{front_is}
 use Rattle.order_proof.proofs.LineLemmas.{front_line_text}
 
@@ -25,20 +26,6 @@ some x = Some x
 
 some_is : {A : Type 0} (x y : A) → some x ≡ some y → x ≡ y
 some_is x y e = cc
-
-within_is : (most : ℕ) (z : ℤ) (n : ℕ) → natural_within most z ≡ Some n → (z ≡ pos n) × (n ≤ most)
-within_is most (pos m) n e = let is = up_to_some most m n (sym e) in (ap pos (sym is.0), omega (arith, is.0, is.1))
-within_is most (negsuc m) n e = absurd cc
-
-from_to_is : (least most : ℕ) (z : ℤ) (n : ℕ) → from_to least most z ≡ Some n → (z ≡ pos n) × (least ≤ n) × (n ≤ most)
-from_to_is least most (pos m) n e = by (leb least m) refl e
-  where
-    by : (b : Bool) → leb least m ≡ b → cond b (up_to most m) None ≡ some n → (pos m ≡ pos n) × (least ≤ n) × (n ≤ most)
-    by true low e =
-        let is = up_to_some most m n (sym e) in
-        (ap pos (sym is.0), omega (arith, leb-true least m low, is.0), omega (arith, is.0, is.1))
-    by false low e = absurd cc
-from_to_is least most (negsuc m) n e = absurd cc
 
 and_then_is : {A B : Type 0} (f : A → Option B) (o : Option A) (b : B) → option_and_then f o ≡ Some b → (a : A) × (o ≡ Some a) × (f a ≡ Some b)
 and_then_is f None b e = absurd cc

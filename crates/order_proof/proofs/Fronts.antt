@@ -1,49 +1,23 @@
 -- What stands at the front of a text.
 use Rattle.std.proofs.Common.{◌≡◌, ℕ, ◌+◌, ◌<◌, ℤ, Bool, true, false, cond, ltb, List, length, Option, Some, None, option_map, refl, ap, sym, ◌∙◌, length-drop, arith}
 use Rattle.std.specs.Option.{option_and_then}
-use Rattle.std.specs.List.{position_or_len, before_first, after_first}
-use Rattle.std.proofs.lemmas.Bool.{ltb-true}
+use Rattle.decimal_text.specs.Lines as texts
+use Rattle.decimal_text.proofs.LineLemmas.{paired, changed, front_then, front_shorter as front_shorter_by}
 use Rattle.order_proof.specs.declared.line_word.LineWord.{LineWord}
 use Rattle.order_proof.specs.Lines.{Line}
-use Rattle.order_proof.specs.FrontLine.{is_line_end, line_of, front_line, front}
+use Rattle.order_proof.specs.FrontLine.{known, line_in, front_line, front}
 
 abbrev some : {A : Type 0} → A → Option A
 some x = Some x
-
--- a value with what stands behind its text
-abbrev pub paired : {A : Type 0} → List ℕ → A → A × List ℕ
-paired rest a = (a, rest)
-
--- the line at the front, and how it was found
-pub record IsFront (text : List ℕ) (line : Line) (rest : List ℕ) : Type 0 where
-  pub within : position_or_len is_line_end text < length text
-  pub line_is : line_of (before_first is_line_end text) ≡ Some line
-  pub rest_is : rest ≡ after_first is_line_end text
 
 map_some : {A B : Type 0} (f : A → B) (o : Option A) (b : B) → option_map f o ≡ Some b → (a : A) × (o ≡ Some a) × (f a ≡ b)
 map_some f None b e = absurd cc
 map_some f (Some a) b e = (a, refl, cc)
 
-pub front_line_is : (text : List ℕ) (line : Line) (rest : List ℕ) → front_line text ≡ Some (line, rest) → IsFront text line rest
-unfolding front_line
-front_line_is text line rest e = by (ltb (position_or_len is_line_end text) (length text)) refl e
-  where
-    by : (b : Bool) → ltb (position_or_len is_line_end text) (length text) ≡ b
-        → cond b (option_map (paired (after_first is_line_end text)) (line_of (before_first is_line_end text))) None ≡ some (line, rest) → IsFront text line rest
-    by true within e =
-        let m = map_some (paired (after_first is_line_end text)) (line_of (before_first is_line_end text)) (line, rest) e in
-        record {
-          within = ltb-true (position_or_len is_line_end text) (length text) within;
-          line_is = m.1 ∙ ap (λ (p : Line × List ℕ). some p.0) m.2;
-          rest_is = sym (ap (λ (p : Line × List ℕ). p.1) m.2);
-        }
-    by false within e = absurd cc
-
 -- a line takes a byte at least
-pub front_line_shorter : (text : List ℕ) (line : Line) (rest : List ℕ) → front_line text ≡ Some (line, rest) → length rest < length text
-front_line_shorter text line rest e =
-    let is = front_line_is text line rest e in
-    omega (arith, is.within, ap length is.rest_is, length-drop (position_or_len is_line_end text + 1) text)
+front_line_shorter : (text : List ℕ) (line : Line) (rest : List ℕ) → front_line text ≡ Some (line, rest) → length rest < length text
+unfolding front_line
+front_line_shorter text line rest e = front_shorter_by line_in text line rest e
 
 -- what a line at the front says is what is read of its word and numbers
 pub record IsSaid {A : Type 0} (reading : LineWord → List ℤ → Option A) (text : List ℕ) (a : A) (rest : List ℕ) : Type 0 where
@@ -54,10 +28,6 @@ pub record IsSaid {A : Type 0} (reading : LineWord → List ℤ → Option A) (t
 -- what a line says, with what stands behind it
 abbrev pub said : {A : Type 0} → (LineWord → List ℤ → Option A) → Line × List ℕ → Option (A × List ℕ)
 said reading x = option_map (paired x.1) (reading x.0.word x.0.numbers)
-
--- a value changed, with what stands behind it
-abbrev pub changed : {A B : Type 0} → (A → B) → A × List ℕ → B × List ℕ
-changed f x = (f x.0, x.1)
 
 pub front_is : {A : Type 0} (reading : LineWord → List ℤ → Option A) (text : List ℕ) (a : A) (rest : List ℕ) → front reading text ≡ Some (a, rest) → IsSaid reading text a rest
 unfolding front
@@ -96,3 +66,8 @@ front_map {A} {B} f reading text = by (front_line text)
     by : (o : Option (Line × List ℕ)) → option_and_then (said (λ word numbers. option_map f (reading word numbers))) o ≡ option_map (changed f) (option_and_then (said reading) o)
     by None = refl
     by (Some x) = inner x.1 (reading x.0.word x.0.numbers)
+
+-- the line at the front, from its word and numbers
+pub front_line_known : (text : List ℕ) (o : Option (texts.Line × List ℕ)) → o ≡ texts.front texts.numbered text → option_and_then (λ (x : texts.Line × List ℕ). option_map (paired x.1) (known x.0)) o ≡ front_line text
+unfolding front_line
+front_line_known text o e = ap (option_and_then (λ (x : texts.Line × List ℕ). option_map (paired x.1) (known x.0))) e ∙ sym (front_then known texts.numbered text)

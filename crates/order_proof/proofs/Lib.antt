@@ -1,13 +1,9 @@
 pub mod Views
 pub mod Written
-pub mod Words
 pub mod Fronts
 pub mod Steps
-pub mod NumberLemmas
 pub mod LineLemmas
-pub mod LineAgain
 pub mod FormLemmas
-pub mod Stops
 pub mod ReadRules
 pub mod Children
 pub mod ReadTrees
@@ -18,4 +14,3 @@ pub mod FormAgain
 pub mod TextAgain
 pub mod OneSpelling
 pub mod Rising
-pub mod DigitLemmas

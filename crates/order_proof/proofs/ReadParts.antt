@@ -13,7 +13,8 @@ use Rattle.order_proof.specs.Ranges.{IsPartInRange}
 use Rattle.order_proof.specs.Reading.{Due, ATree, APart, parts_due, reading}
 use Rattle.order_proof.specs.Readers.{IsTreeOf, IsPartOf, ArePartsOf}
 use Rattle.order_proof.proofs.Fronts.{front_map, front_is}
-use Rattle.order_proof.proofs.Steps.{then_read, goes_on, stops, reading_nothing, reading_after}
+use Rattle.decimal_text.proofs.Steps.{then_read}
+use Rattle.order_proof.proofs.Steps.{goes_on, stops, reading_nothing, reading_after}
 use Rattle.order_proof.proofs.FormLemmas.{part_is, front_text}
 use Rattle.order_proof.proofs.ReadRules.{all-append}
 

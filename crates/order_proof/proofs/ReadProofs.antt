@@ -14,7 +14,8 @@ use Rattle.order_proof.specs.Ranges.{IsPrice, ArePrices, IsTreeInRange, AreCases
 use Rattle.order_proof.specs.Reading.{Due, RuleCount, PartCount, rules_due, parts_due, reading}
 use Rattle.order_proof.specs.Readers.{AreRulesOf, ArePartsOf, IsProofOf}
 use Rattle.order_proof.proofs.Fronts.{front_map, front_is}
-use Rattle.order_proof.proofs.Steps.{then_read, goes_on, stops, reading_after}
+use Rattle.decimal_text.proofs.Steps.{then_read}
+use Rattle.order_proof.proofs.Steps.{goes_on, stops, reading_after}
 use Rattle.order_proof.proofs.FormLemmas.{rules_is, parts_is, front_text}
 
 pub rules_count_stops : (text : List ℕ) → front rules_in text ≡ None → reading (RuleCount ∷ []) text ≡ Err text

@@ -15,7 +15,8 @@ use Rattle.order_proof.specs.Text.{tree_text, cases_text}
 use Rattle.order_proof.specs.Reading.{Due, ATree, ACase, cases_due, node_due, reading}
 use Rattle.order_proof.specs.Readers.{IsTreeOf, AreCasesOf}
 use Rattle.order_proof.proofs.Fronts.{front_map, front_is}
-use Rattle.order_proof.proofs.Steps.{then_read, goes_on, stops, reading_nothing, reading_after}
+use Rattle.decimal_text.proofs.Steps.{then_read}
+use Rattle.order_proof.proofs.Steps.{goes_on, stops, reading_nothing, reading_after}
 use Rattle.order_proof.proofs.FormLemmas.{node_is, node_line, IsNodeWithin, take_is, front_text}
 use Rattle.order_proof.proofs.Children.{Child, count_push, lines_push, text_push, range_push, depth_push, distinct_push}
 

@@ -3,7 +3,9 @@ use Rattle.std.proofs.Common.{◌≡◌, ℕ, zero, suc, ◌≤◌, ℤ, List, [
 use Rattle.order_proof.specs.declared.line_word.LineWord.{LineWord}
 use Rattle.order_proof.specs.FrontLine.{front}
 use Rattle.order_proof.specs.Reading.{Due, after, go_on, read_lines, reading}
-use Rattle.order_proof.proofs.Fronts.{changed, front_shorter, front_empty}
+use Rattle.decimal_text.proofs.Steps.{then_read}
+use Rattle.decimal_text.proofs.LineLemmas.{changed}
+use Rattle.order_proof.proofs.Fronts.{front_shorter, front_empty}
 
 -- a bound that is great enough is as good as another
 enough : (m n : ℕ) (due : List Due) (text : List ℕ) → length text ≤ m → length text ≤ n → read_lines m due text ≡ read_lines n due text
@@ -38,11 +40,6 @@ reading_line d later text = by (length text) refl
     by : (n : ℕ) → n ≡ length text → read_lines n (d ∷ later) text ≡ go_on (front (after d) text) text (λ more rest. read_lines (length rest) (more ++ later) rest)
     by zero len = sym (ap (λ (o : Option (List Due × List ℕ)). go_on o text (λ more rest. read_lines (length rest) (more ++ later) rest)) (front_empty (after d) text (sym len)))
     by (suc n) len = next n (front (after d) text) len refl
-
--- goes on with what is left
-abbrev pub then_read : Result (List ℕ) (List ℕ) → (List ℕ → Result (List ℕ) (List ℕ)) → Result (List ℕ) (List ℕ)
-then_read (Ok rest) next = next rest
-then_read (Err rest) next = Err rest
 
 -- what is due first, and then the rest
 pub reading_both : (most : ℕ) (first later : List Due) (text : List ℕ) → length text ≤ most → reading (first ++ later) text ≡ then_read (reading first text) (reading later)

@@ -14,7 +14,8 @@ use Rattle.order_proof.specs.Text.{tree_text, cases_text, rules_text, part_text,
 use Rattle.order_proof.specs.Ranges.{IsRuleInRange, IsTreeInRange, AreCasesInRange, IsPartInRange, IsInRange}
 use Rattle.order_proof.specs.Reading.{Due, RuleCount, ARule, ATree, rules_due, parts_due, cases_due, place_of, reading, proof_end}
 use Rattle.order_proof.proofs.Fronts.{front_map}
-use Rattle.order_proof.proofs.Steps.{then_read, goes_on, reading_nothing}
+use Rattle.decimal_text.proofs.Steps.{then_read}
+use Rattle.order_proof.proofs.Steps.{goes_on, reading_nothing}
 use Rattle.order_proof.proofs.Children.{distinct_middle}
 use Rattle.order_proof.proofs.FormLemmas.{IsNodeWithin}
 use Rattle.order_proof.proofs.ReadTrees.{node_goes_on, close_read, take_step}

@@ -8,7 +8,7 @@ use Rattle.order_values.specs.declared.rule.Rule.TheVariants.{Merge as merge_rul
 use Rattle.order_proof.specs.declared.line_word.LineWord.{LineWord}
 use Rattle.order_proof.specs.declared.line_word.LineWord.TheVariants.{Rules, Merge, Divide, Parts, Part, Split, Take, Close}
 use Rattle.order_proof.specs.declared.node_line.NodeLine.{NodeLine}
-use Rattle.order_proof.specs.Numbers.{up_to}
+use Rattle.decimal_text.specs.Numbers.{up_to, natural_within, from_to}
 use Rattle.order_proof.specs.Trees.{is_among}
 
 -- how many rules, and how many parts, a proof may have
@@ -31,22 +31,12 @@ most_target = 10 ^ 15
 abbrev pub most_price : ℕ
 most_price = 10 ^ 9
 
--- a number that is not negative and at most `most`
-abbrev pub natural_within : ℕ → ℤ → Option ℕ
-natural_within most (pos n) = up_to most n
-natural_within most (negsuc n) = None
-
 -- the segment, and the line, of a number
 abbrev pub seg : ℕ → SegId
 seg n = record { 0 = n }
 
 abbrev pub line_id : ℕ → LineId
 line_id n = record { 0 = n }
-
--- a number of at least `least` and at most `most`
-abbrev pub from_to : ℕ → ℕ → ℤ → Option ℕ
-from_to least most (pos n) = if nat_le least n then up_to most n else None
-from_to least most (negsuc n) = None
 
 -- things by their numbers, which rise strictly, the first of them at least `least`
 abbrev pub rising : {A : Type 0} → (ℕ → A) → ℕ → List ℤ → Option (List A)

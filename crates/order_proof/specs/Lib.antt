@@ -2,7 +2,6 @@ pub mod Plain
 pub mod Trees
 pub mod Lines
 pub mod Text
-pub mod Numbers
 pub mod FrontLine
 pub mod Forms
 pub mod Reading

@@ -1,6 +1,6 @@
 -- The lines of a proof's text: a word, numbers behind it, and how they are written.
 use Rattle.std.specs.Prelude.{ℕ, ℤ, pos, Bool, List, [], ◌∷◌, ◌++◌, length, codes, if◌then◌else◌}
-use Rattle.std.specs.Fmt.{signed_decimal}
+use Rattle.decimal_text.specs.Lines.{numbers_text}
 use Rattle.map_base.specs.declared.ids.SegId.{SegId}
 use Rattle.map_base.specs.declared.ids.LineId.{LineId}
 use Rattle.order_values.specs.declared.rule.Rule.{Rule}
@@ -23,11 +23,6 @@ word_text Part = codes "part"
 word_text Split = codes "split"
 word_text Take = codes "take"
 word_text Close = codes "close"
-
--- numbers, a space before each, and the end of the line behind them
-abbrev pub numbers_text : List ℤ → List ℕ
-numbers_text [] = 10 ∷ []
-numbers_text (z ∷ rest) = 32 ∷ (signed_decimal z ++ numbers_text rest)
 
 -- a line as it is written
 abbrev pub line_text : Line → List ℕ

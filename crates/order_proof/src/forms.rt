@@ -1,41 +1,18 @@
 //! The forms that lines may have.
 
 ghost use Rattle.std.specs.Prelude.{◌≡◌, ◌≤◌, ◌<◌, ◌^◌, ◌-◌, ◌∷◌, pos, length, slice_index_or, option_map, IfOk, IfSome};
+ghost use Rattle.decimal_text.specs.Numbers.{natural_within, from_to};
 ghost use Rattle.order_values.specs.PriceLists.{AreRisingPrices};
 ghost use Rattle.order_proof.specs.Trees.{is_among};
 ghost use Rattle.order_proof.specs.declared.line_word.LineWord.TheVariants.{Divide, Close};
-ghost use Rattle.order_proof.specs.Forms.{natural_within, seg, line_id, from_to, rising, price_of, priced_term, prices_from, counts, flag_of, rules_in, merge_with, split_with, rule_in, parts_in, part_in, node_in, take_in};
+ghost use Rattle.order_proof.specs.Forms.{seg, line_id, rising, price_of, priced_term, prices_from, counts, flag_of, rules_in, merge_with, split_with, rule_in, parts_in, part_in, node_in, take_in};
 
 use crate::line_word::LineWord;
 use crate::node_line::NodeLine;
+use decimal_text::{from_to, natural_within};
 use map_base::{LineId, NoMemory, SegId, Sequence};
 use order_values::{Prices, Rule};
 use std::alloc::Global;
-
-/// A number that is not negative and at most `most`.
-fn natural_within(most: u64, number: i64) -> Option<u64>
-    ensures { result ≡ natural_within most number }
-{
-    if number < 0 {
-        return None;
-    }
-    let number = number as u64;
-    if number > most { None } else { Some(number) }
-}
-
-/// A number of at least `least` and at most `most`.
-fn from_to(least: u64, most: u64, number: i64) -> Option<u64>
-    ensures { result ≡ from_to least most number }
-{
-    if number < 0 {
-        return None;
-    }
-    let number = number as u64;
-    if number < least || number > most {
-        return None;
-    }
-    Some(number)
-}
 
 /// A price: not 0, and at most 1,000,000,000 either way.
 fn price_of(number: i64) -> Option<i64>

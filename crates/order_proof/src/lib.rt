@@ -1,19 +1,17 @@
 //! Proofs that orders of lines cost least: their form, and their text both ways.
 #![tactic(auto)]
 
-mod fault;
 mod forms;
 mod front_line;
 mod laws;
 mod line_word;
 mod node_line;
-mod numbers;
 mod proof;
 mod reading;
 mod tree;
 mod writing;
 
-pub use fault::BadText;
+pub use decimal_text::BadText;
 pub use laws::{
     every_proof_has_one_spelling, no_proof_where_reading_stops, what_is_written_is_read,
 };

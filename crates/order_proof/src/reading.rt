@@ -5,15 +5,16 @@ ghost use Rattle.order_proof.specs.Plain.{plain, plain_children, plain_part, pla
 ghost use Rattle.order_proof.specs.FrontLine.{front_line, front};
 ghost use Rattle.order_proof.specs.Forms.{rules_in, rule_in, parts_in, part_in, node_in, take_in};
 ghost use Rattle.order_proof.specs.Reading.{RuleCount, ATree, APart, rules_due, cases_due, parts_due, reading, proof_end};
-ghost use Rattle.order_proof.specs.Readers.{IsRead, Follows, AreRulesOf, IsTreeOf, AreCasesOf, IsPartOf, ArePartsOf, IsProofOf, IsTextOf, EndsAs, IsStopWithin, IsBadText};
+ghost use Rattle.decimal_text.specs.Readers.{IsRead, Follows, EndsAs};
+ghost use Rattle.order_proof.specs.Readers.{AreRulesOf, IsTreeOf, AreCasesOf, IsPartOf, ArePartsOf, IsProofOf, IsTextOf};
 
-use crate::fault::{BadText, Stop};
 use crate::forms::{node_in, part_in, parts_in, rule_in, rules_in, take_in};
 use crate::front_line::front_line;
 use crate::line_word::LineWord;
 use crate::node_line::NodeLine;
 use crate::proof::{Part, Proof};
 use crate::tree::Tree;
+use decimal_text::{BadText, Stop, bad_text};
 use map_base::{LineId, SegId, Sequence};
 use order_values::Rule;
 use std::alloc::Global;
@@ -251,18 +252,5 @@ pub fn read_proof(alloc: Global, bytes: &[u8]) -> Result<(Proof, usize), BadText
             Ok((Proof { rules, parts }, bytes.len() - rest.len()))
         }
         Err(stop) => Err(bad_text(bytes.len(), stop)),
-    }
-}
-
-/// Why no proof was read, where reading stopped in a text of so many bytes.
-fn bad_text(len: usize, stop: Stop) -> BadText
-    requires { IsStopWithin len stop }
-    ensures { IsBadText len stop result }
-{
-    match stop {
-        Stop::Wrong(left) => BadText::At {
-            at: (len - left) as u64,
-        },
-        Stop::Memory => BadText::NoMemory,
     }
 }

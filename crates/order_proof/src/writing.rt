@@ -1,15 +1,15 @@
 //! The text of a proof.
 
 ghost use Rattle.std.specs.Prelude.{◌≡◌, List, [], ◌∷◌, ◌++◌, length, map, IfOk, OnOk, pos};
-ghost use Rattle.std.specs.Fmt.{decimal, signed_decimal};
+ghost use Rattle.decimal_text.specs.Lines.{numbers_text};
 ghost use Rattle.order_proof.specs.Plain.{plain, plain_part, plain_children, plain_proof};
-ghost use Rattle.order_proof.specs.Lines.{word_text, numbers_text, line_text, segment_numbers, line_numbers, price_numbers, rules_line, rule_line, parts_line, part_line, split_line, take_line, close_line};
+ghost use Rattle.order_proof.specs.Lines.{word_text, line_text, segment_numbers, line_numbers, price_numbers, rules_line, rule_line, parts_line, part_line, split_line, take_line, close_line};
 ghost use Rattle.order_proof.specs.Text.{tree_text, cases_text, rules_text, part_text, parts_text, proof_text};
 
 use crate::line_word::LineWord;
 use crate::proof::{Part, Proof};
 use crate::tree::Tree;
-use itoa::Buffer;
+use decimal_text::{end_line, push_next_integer, push_next_natural};
 use map_base::{LineId, NoMemory, SegId};
 use order_values::Rule;
 use std::alloc::Global;
@@ -28,34 +28,6 @@ pub fn write_proof(alloc: Global, proof: &Proof) -> Result<Vec<u8>, NoMemory>
     Ok(out)
 }
 
-/// Appends a space and a number.
-fn put_number(out: &mut Vec<u8>, number: u64) -> Result<(), NoMemory>
-    ensures { OnOk result (out.new.items ≡ out.old.items ++ 32 ∷ decimal number) }
-{
-    let mut digits = Buffer::new();
-    out.push(b' ')?;
-    out.extend_from_slice(digits.format(number).as_bytes())?;
-    Ok(())
-}
-
-/// Appends a space and a price.
-fn put_price(out: &mut Vec<u8>, price: i64) -> Result<(), NoMemory>
-    ensures { OnOk result (out.new.items ≡ out.old.items ++ 32 ∷ signed_decimal price) }
-{
-    let mut digits = Buffer::new();
-    out.push(b' ')?;
-    out.extend_from_slice(digits.format(price).as_bytes())?;
-    Ok(())
-}
-
-/// Appends the end of a line.
-fn end_line(out: &mut Vec<u8>) -> Result<(), NoMemory>
-    ensures { OnOk result (out.new.items ≡ out.old.items ++ numbers_text []) }
-{
-    out.push(b'\n')?;
-    Ok(())
-}
-
 /// Appends a word.
 fn put_word(out: &mut Vec<u8>, word: LineWord) -> Result<(), NoMemory>
     ensures { OnOk result (out.new.items ≡ out.old.items ++ word_text word) }
@@ -69,7 +41,7 @@ fn put_count(out: &mut Vec<u8>, word: LineWord, count: usize) -> Result<(), NoMe
     ensures { OnOk result (out.new.items ≡ out.old.items ++ line_text (record { word = word; numbers = pos count ∷ [] })) }
 {
     put_word(out, word)?;
-    put_number(out, count as u64)?;
+    push_next_natural(out, count as u64)?;
     end_line(out)
 }
 
@@ -78,7 +50,7 @@ fn put_lines(out: &mut Vec<u8>, lines: &[LineId]) -> Result<(), NoMemory>
     ensures { OnOk result (out.new.items ≡ out.old.items ++ numbers_text (line_numbers lines.now)) }
 {
     for line in lines {
-        put_number(out, u64::from(line.0))?;
+        push_next_natural(out, u64::from(line.0))?;
     }
     end_line(out)
 }
@@ -88,7 +60,7 @@ fn put_segments(out: &mut Vec<u8>, segs: &[SegId]) -> Result<(), NoMemory>
     ensures { OnOk result (out.new.items ≡ out.old.items ++ numbers_text (segment_numbers segs.now)) }
 {
     for seg in segs {
-        put_number(out, u64::from(seg.0))?;
+        push_next_natural(out, u64::from(seg.0))?;
     }
     end_line(out)
 }
@@ -98,8 +70,8 @@ fn put_prices(out: &mut Vec<u8>, prices: &[(u32, i64)]) -> Result<(), NoMemory>
     ensures { OnOk result (out.new.items ≡ out.old.items ++ numbers_text (price_numbers prices.now)) }
 {
     for (term, price) in prices {
-        put_number(out, u64::from(*term))?;
-        put_price(out, *price)?;
+        push_next_natural(out, u64::from(*term))?;
+        push_next_integer(out, *price)?;
     }
     end_line(out)
 }
@@ -111,14 +83,14 @@ fn put_rule(out: &mut Vec<u8>, rule: &Rule) -> Result<(), NoMemory>
     match rule {
         Rule::Merge { into, from, flip } => {
             put_word(out, LineWord::Merge)?;
-            put_number(out, u64::from(into.0))?;
-            put_number(out, u64::from(from.0))?;
-            put_number(out, u64::from(*flip))?;
+            push_next_natural(out, u64::from(into.0))?;
+            push_next_natural(out, u64::from(from.0))?;
+            push_next_natural(out, u64::from(*flip))?;
             end_line(out)
         }
         Rule::Divide { seg, first } => {
             put_word(out, LineWord::Divide)?;
-            put_number(out, u64::from(seg.0))?;
+            push_next_natural(out, u64::from(seg.0))?;
             put_lines(out, first.as_slice())
         }
     }
@@ -139,8 +111,8 @@ fn put_split(out: &mut Vec<u8>, seg: SegId, count: usize) -> Result<(), NoMemory
     ensures { OnOk result (out.new.items ≡ out.old.items ++ line_text (split_line seg count)) }
 {
     put_word(out, LineWord::Split)?;
-    put_number(out, u64::from(seg.0))?;
-    put_number(out, count as u64)?;
+    push_next_natural(out, u64::from(seg.0))?;
+    push_next_natural(out, count as u64)?;
     end_line(out)
 }
 
@@ -149,7 +121,7 @@ fn put_take(out: &mut Vec<u8>, line: LineId) -> Result<(), NoMemory>
     ensures { OnOk result (out.new.items ≡ out.old.items ++ line_text (take_line line)) }
 {
     put_word(out, LineWord::Take)?;
-    put_number(out, u64::from(line.0))?;
+    push_next_natural(out, u64::from(line.0))?;
     end_line(out)
 }
 
@@ -158,7 +130,7 @@ fn put_close(out: &mut Vec<u8>, prices: &[(u32, i64)]) -> Result<(), NoMemory>
     ensures { OnOk result (out.new.items ≡ out.old.items ++ line_text (close_line prices.now)) }
 {
     put_word(out, LineWord::Close)?;
-    put_number(out, prices.len() as u64)?;
+    push_next_natural(out, prices.len() as u64)?;
     put_prices(out, prices)
 }
 
@@ -184,7 +156,7 @@ fn put_part(out: &mut Vec<u8>, part: &Part) -> Result<(), NoMemory>
     ensures { OnOk result (out.new.items ≡ out.old.items ++ part_text (plain_part part.now)) }
 {
     put_word(out, LineWord::Part)?;
-    put_number(out, part.target)?;
+    push_next_natural(out, part.target)?;
     put_segments(out, part.segs.as_slice())?;
     put_tree(out, &part.tree)
 }

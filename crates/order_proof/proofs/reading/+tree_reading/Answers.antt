@@ -8,7 +8,7 @@ use Rattle.order_proof.specs.Forms.{node_in, take_in}
 use Rattle.order_proof.specs.FrontLine.{front}
 use Rattle.order_proof.specs.Reading.{ATree, cases_due, reading}
 use Rattle.order_proof.specs.Readers.{IsTreeOf}
-use Rattle.order_proof.proofs.Stops.{line_stops, part_stops, rest_stops}
+use Rattle.decimal_text.proofs.Stops.{line_stops, part_stops, rest_stops}
 use Rattle.order_proof.proofs.Views.{plain-Split, plain-Close}
 use Rattle.order_proof.proofs.ReadTrees.{node_stops, node_goes_on, node_within, close_tree, close_read, split_tree, take_stops, case_due, case_taken, cases_end}
 use Rattle.order_proof.proofs.reading.+tree_reading.Goals as goal

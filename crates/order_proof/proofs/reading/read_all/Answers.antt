@@ -4,7 +4,7 @@ use Rattle.order_proof.specs.Plain.{plain_part}
 use Rattle.order_proof.specs.FrontLine.{front}
 use Rattle.order_proof.specs.Forms.{rules_in, parts_in}
 use Rattle.order_proof.specs.Reading.{RuleCount, PartCount, rules_due, parts_due, reading}
-use Rattle.order_proof.proofs.Stops.{line_stops, part_stops, rest_stops}
+use Rattle.decimal_text.proofs.Stops.{line_stops, part_stops, rest_stops}
 use Rattle.order_proof.proofs.ReadProofs.{rules_count_stops, rules_count_goes_on, rules_done, parts_count_stops, parts_count_goes_on, proof_read}
 use Rattle.order_proof.proofs.reading.read_all.Goals as goal
 

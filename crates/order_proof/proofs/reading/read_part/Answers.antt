@@ -7,7 +7,7 @@ use Rattle.order_proof.specs.FrontLine.{front}
 use Rattle.order_proof.specs.Forms.{part_in}
 use Rattle.order_proof.specs.Reading.{ATree, parts_due, reading}
 use Rattle.order_proof.specs.Readers.{IsPartOf}
-use Rattle.order_proof.proofs.Stops.{line_stops, rest_stops}
+use Rattle.decimal_text.proofs.Stops.{line_stops, rest_stops}
 use Rattle.order_proof.proofs.ReadParts.{head_stops, head_goes_on, part_read}
 use Rattle.order_proof.proofs.reading.read_part.Goals as goal
 

@@ -1,7 +1,7 @@
 use Rattle.std.proofs.Common.{◌+◌, ◌-◌, arith}
 use Rattle.std.proofs.lemmas.Result.{err_from_is_err_and}
 use Rattle.order_proof.specs.Reading.{parts_due, reading}
-use Rattle.order_proof.proofs.Stops.{part_stops}
+use Rattle.decimal_text.proofs.Stops.{part_stops}
 use Rattle.order_proof.proofs.ReadParts.{part_next, part_taken, parts_end}
 use Rattle.order_proof.proofs.reading.read_parts.Goals as goal
 

@@ -3,7 +3,7 @@ use Rattle.std.proofs.lemmas.Result.{err_from_is_err_and}
 use Rattle.order_proof.specs.Forms.{rule_in}
 use Rattle.order_proof.specs.FrontLine.{front}
 use Rattle.order_proof.specs.Reading.{rules_due, reading}
-use Rattle.order_proof.proofs.Stops.{line_stops}
+use Rattle.decimal_text.proofs.Stops.{line_stops}
 use Rattle.order_proof.proofs.ReadRules.{rule_taken, rule_stops, rules_end}
 use Rattle.order_proof.proofs.reading.read_rules.Goals as goal
 

@@ -1,5 +1,6 @@
 use Rattle.std.proofs.Common.{◌≡◌, ◌++◌, drop}
-use Rattle.order_proof.specs.Lines.{numbers_text, line_numbers}
+use Rattle.decimal_text.specs.Lines.{numbers_text}
+use Rattle.order_proof.specs.Lines.{line_numbers}
 use Rattle.order_proof.proofs.writing.put_lines.Given as goal
 
 -- what is written and what is left are the whole

@@ -1,5 +1,6 @@
 use Rattle.std.proofs.Common.{◌≡◌, ◌++◌, drop}
-use Rattle.order_proof.specs.Lines.{numbers_text, price_numbers}
+use Rattle.decimal_text.specs.Lines.{numbers_text}
+use Rattle.order_proof.specs.Lines.{price_numbers}
 use Rattle.order_proof.proofs.writing.put_prices.Given as goal
 
 -- what is written and what is left are the whole

@@ -1,0 +1,77 @@
+-- Runs of steps, and the words that write them.
+use Rattle.std.proofs.Common.{◌≡◌, ℕ, zero, suc, ◌+◌, ◌<◌, ◌≤◌, ℤ, pos, Bool, true, false, cond, not, ◌&&◌, eqb, ltb, List, [], ◌∷◌, ◌++◌, length, replicate, Option, Some, None, option_map, refl, ap, subst, sym, ◌∙◌, append_assoc, arith}
+use Rattle.std.specs.Option.{option_and_then}
+use Rattle.std.proofs.lemmas.Bool.{eq-eqb, eqb-true}
+use Rattle.std.proofs.lemmas.List.{append-nil}
+use Rattle.octi_grid.specs.declared.dir.Dir.{Dir}
+use Rattle.octi_grid.specs.declared.walk.Run.{Run}
+use Rattle.octi_grid.specs.Ways.{number_of}
+use Rattle.octi_grid.specs.Runs.{steps_of, are_runs, turns_next}
+use Rattle.octi_grid.proofs.RunLemmas.{first_count, rest_are_runs, same_direction}
+use Rattle.decimal_text.specs.Lines.{words_behind}
+use Rattle.cert_file.specs.RunWords.{with_step, runs_of, run_of, run_before, runs_in, runs_behind}
+
+joined : (done : List Run) (r : Run) (more : Option (List Run)) → option_map (λ rest. done ++ rest) (run_before (Some r) more) ≡ option_map (λ rest. (done ++ r ∷ []) ++ rest) more
+joined done r None = refl
+joined done r (Some rest) = ap (λ (rs : List Run). Some rs) (sym (append_assoc done (r ∷ []) rest))
+
+-- a word is taken that writes a run
+pub run_taken : (done new : List Run) (r : Run) (rest word left : List ℕ) (total : Option (List Run)) → words_behind rest ≡ word ∷ words_behind left → Some r ≡ run_of word → new ≡ done ++ r ∷ []
+    → runs_behind done (words_behind rest) ≡ total → runs_behind new (words_behind left) ≡ total
+run_taken done new r rest word left total cut is pushed whole =
+    ap (λ (rs : List Run). runs_behind rs (words_behind left)) pushed
+    ∙ sym (joined done r (runs_in (words_behind left)))
+    ∙ ap (λ (o : Option Run). option_map (λ rest. done ++ rest) (run_before o (runs_in (words_behind left)))) is
+    ∙ sym (ap (runs_behind done) cut) ∙ whole
+
+-- a word that writes no run
+pub run_refused : (done : List Run) (rest word left : List ℕ) (total : Option (List Run)) → words_behind rest ≡ word ∷ words_behind left → None ≡ run_of word
+    → runs_behind done (words_behind rest) ≡ total → None ≡ total
+run_refused done rest word left total cut is whole =
+    ap (λ (o : Option Run). option_map (λ rest. done ++ rest) (run_before o (runs_in (words_behind left)))) is ∙ sym (ap (runs_behind done) cut) ∙ whole
+
+-- no word is left
+pub runs_end : (done : List Run) (rest : List ℕ) (total : Option (List Run)) → words_behind rest ≡ [] → runs_behind done (words_behind rest) ≡ total → Some done ≡ total
+runs_end done rest total none whole = ap (λ (rs : List Run). Some rs) (sym (append-nil done)) ∙ sym (ap (runs_behind done) none) ∙ whole
+
+-- ---- steps and runs
+
+abbrev run : Dir → ℕ → Run
+run d n = record { dir = d; count = n }
+
+-- a step before a run that goes its way
+same_way : (d : Dir) (n : ℕ) (rs : List Run) → with_step d (run d n ∷ rs) ≡ run d (suc n) ∷ rs
+same_way d n rs = ap (λ (b : Bool). cond b (run d (suc n) ∷ rs) (run d 1 ∷ run d n ∷ rs)) (eq-eqb (number_of d) (number_of d) refl)
+
+-- steps of one way before runs that turn
+abbrev TurnsTo : Dir → List Run → Type 0
+TurnsTo d rs = turns_next d rs ≡ true
+
+not_true : (b : Bool) → not b ≡ true → b ≡ false
+not_true true e = absurd cc
+not_true false e = refl
+
+other_way : (d : Dir) (rs : List Run) → TurnsTo d rs → with_step d rs ≡ run d 1 ∷ rs
+other_way d [] turns = refl
+other_way d (r ∷ rs) turns = ap (λ (b : Bool). cond b (run r.dir (suc r.count) ∷ rs) (run d 1 ∷ r ∷ rs)) (not_true (eqb (number_of d) (number_of r.dir)) turns)
+
+grouped : (d : Dir) (n : ℕ) (ds : List Dir) (rs : List Run) → runs_of ds ≡ rs → TurnsTo d rs → runs_of (replicate (suc n) d ++ ds) ≡ run d (suc n) ∷ rs
+grouped d zero ds rs are turns = ap (with_step d) are ∙ other_way d rs turns
+grouped d (suc n) ds rs are turns = ap (with_step d) (grouped d n ds rs are turns) ∙ same_way d (suc n) rs
+
+and_left : (a b : Bool) → (a && b) ≡ true → a ≡ true
+and_left true b e = refl
+and_left false b e = absurd cc
+
+and_right : (a b : Bool) → (a && b) ≡ true → b ≡ true
+and_right true b e = e
+and_right false b e = absurd cc
+
+-- the runs of steps are the runs that the steps are kept as
+pub runs_again : (rs : List Run) → are_runs rs ≡ true → runs_of (steps_of rs) ≡ rs
+runs_again [] are = refl
+runs_again (r ∷ rs) are = by r.count r.dir (first_count r rs are) (and_right (ltb 0 r.count) (turns_next r.dir rs) (and_left (ltb 0 r.count && turns_next r.dir rs) (are_runs rs) are)) (runs_again rs (rest_are_runs r rs are))
+  where
+    by : (n : ℕ) (d : Dir) → 0 < n → TurnsTo d rs → runs_of (steps_of rs) ≡ rs → runs_of (replicate n d ++ steps_of rs) ≡ run d n ∷ rs
+    by zero d some turns later = absurd (omega arith)
+    by (suc n) d some turns later = grouped d n (steps_of rs) rs later turns

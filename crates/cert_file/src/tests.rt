@@ -1,0 +1,56 @@
+use super::*;
+use decimal_text::BadText;
+use std::test::Fail;
+
+/// Texts of certificates.
+const TEXTS: [&[u8]; 5] = [
+    b"octimap 1\ngraph 2 1 1\nwalk 0 0 0 E50\norder 0 0\ncost 0\nrules 0\nparts 0\n",
+    b"octimap 1\ngraph 0 0 0\ncost 0\nrules 0\nparts 0\n",
+    b"octimap 1\ngraph 7 6 2\nwalk 0 0 2 N2\nwalk 1 0 2 E2\nwalk 2 0 2 S2\nwalk 3 2 2 E2\nwalk 4 4 2 N2\nwalk 5 4 2 S2\norder 0 0\norder 1 0 1\norder 2 1\norder 3 0 1\norder 4 0\norder 5 1\ncost 0\nrules 2\nmerge 1 3 0\ndivide 1 0\nparts 0\n",
+    b"octimap 1\ngraph 7 6 2\nwalk 0 0 2 N2\nwalk 1 0 2 E2\nwalk 2 0 2 S2\nwalk 3 2 2 E2\nwalk 4 4 2 N2\nwalk 5 4 2 S2\norder 0 0\norder 1 0 1\norder 2 1\norder 3 1 0\norder 4 1\norder 5 0\ncost 1\nrules 0\nparts 1\npart 1 1 3\nsplit 1 2\ntake 0\nsplit 3 2\ntake 1\nclose 0\ntake 0\nclose 0\ntake 1\nclose 0\n",
+    b"octimap 2\ngraph 7 1 2\nimportance 1 2 4294967295 16\nwalk 0 -10000 2 NE3 E1 SW2\norder 0 4294967295 1\ncost 1000000000000000\nrules 0\nparts 0\n",
+];
+
+#[test]
+fn reads_and_writes(rt: HostRuntime) -> Result<(), Fail> {
+    let alloc = rt.alloc();
+    for text in TEXTS {
+        let certificate = read_certificate(alloc, text).ok().ok_or("a certificate")?;
+        let written = write_certificate(alloc, &certificate)?;
+        let shown = written.as_slice();
+        assert_eq!(rt; shown, text);
+    }
+    Ok(())
+}
+
+/// Texts that are no certificate's, and where the first line begins that has not the form due there.
+const WRONG: [(&[u8], u64); 19] = [
+    (b"", 0),
+    (b"octimap 1\r\ngraph 2 1 1\nwalk 0 0 0 E50\norder 0 0\ncost 0\nrules 0\nparts 0\n", 0),
+    (b"octimap 3\ngraph 0 0 0\ncost 0\nrules 0\nparts 0\n", 0),
+    (b"octimap 1\ngraph 2 1 99999999999999999999\nwalk 0 0 0 E50\norder 0 0\ncost 0\nrules 0\nparts 0\n", 10),
+    (b"octimap 1\ngraph 10001 1 1\n", 10),
+    (b"octimap 1\ngraph 2 1 1\nwalk 0 0 0 E00\norder 0 0\ncost 0\nrules 0\nparts 0\n", 22),
+    (b"octimap 1\ngraph 2 1 1\nwalk 0 0 0 E25 E25\norder 0 0\ncost 0\nrules 0\nparts 0\n", 22),
+    (b"octimap 1\ngraph 2 1 1\nwalk 0 0 0\norder 0 0\ncost 0\nrules 0\nparts 0\n", 22),
+    (b"octimap 1\ngraph 2 1 1\nwalk 0 0 0 E050\norder 0 0\ncost 0\nrules 0\nparts 0\n", 22),
+    (b"octimap 1\ngraph 2 1 1\nwalk 0 0 0 E10001\norder 0 0\ncost 0\nrules 0\nparts 0\n", 22),
+    (b"octimap 1\ngraph 2 1 1\nwalk 1 0 0 E50\norder 0 0\ncost 0\nrules 0\nparts 0\n", 22),
+    (b"octimap 1\ngraph 2 1 1\nwalk 0 0 0 E50\norder 0 4294967296\ncost 0\nrules 0\nparts 0\n", 37),
+    (b"octimap 1\ngraph 2 1 1\nwalk 0 0 0 E50\norder 0 3 1 3\ncost 0\nrules 0\nparts 0\n", 37),
+    (b"octimap 1\ngraph 2 1 1\nwalk 0 0 0 E50\norder 0 0\ncost -0\nrules 0\nparts 0\n", 47),
+    (b"octimap 1\ngraph 2 1 1\nwalk 0 0 0 E50\norder 0 0\ncost 0\nrules 20000001\nparts 0\n", 54),
+    (b"octimap 1\ngraph 2 1 1\nwalk 0 0 0 E50\norder 0 0\ncost 0\nrules 0\nparts 1\n", 70),
+    (b"octimap 1\ngraph 2 1 1\nwalk 0 0 0 E50\norder 0 0\ncost 0\nrules 0\nparts 0\n\n", 70),
+    (b"octimap 2\ngraph 2 1 1\nwalk 0 0 0 E50\norder 0 0\ncost 0\nrules 0\nparts 0\n", 22),
+    (b"octimap 2\ngraph 2 1 1\nimportance 0 1\nwalk 0 0 0 E50\norder 0 0\ncost 0\nrules 0\nparts 0\n", 22),
+];
+
+#[test]
+fn finds_the_first_wrong_line(rt: HostRuntime) {
+    for (text, at) in WRONG {
+        assert!(rt;
+            matches!(read_certificate(rt.alloc(), text), Err(BadText::At { at: found }) if found == at)
+        );
+    }
+}

@@ -1,6 +1,0 @@
-use Rattle.std.proofs.Common.{◌≡◌, ◌≤◌, drop}
-use Rattle.order_proof.specs.Numbers.{with_digits, most_number}
-use Rattle.order_proof.proofs.numbers.digits_of.Given as goal
-
-abbrev pub invariant-loop-byte : goal.invariant-loop-byte
-invariant-loop-byte l = (with_digits most_number l.number (drop l.byte-index l.text) ≡ with_digits most_number 0 l.text) × (l.number ≤ most_number)

@@ -1,0 +1,5 @@
+mod Examples
+pub mod Appends
+pub mod Written
+pub mod Ranges
+pub mod Hulls

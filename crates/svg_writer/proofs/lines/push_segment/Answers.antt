@@ -1,0 +1,26 @@
+use Rattle.std.proofs.Common.{◌≡◌, ℕ, List, ◌++◌, length, drop, string_bytes, ap, sym, ◌∙◌, append-nil, arith}
+use Rattle.std.proofs.lemmas.List.{at_drop_all}
+use Rattle.map_base.specs.declared.ids.LineId.{LineId}
+use Rattle.svg_writer.specs.Elements.{texts}
+use Rattle.svg_writer.specs.Picture.{walk_at, line_elements, segment_elements}
+use Rattle.svg_writer.proofs.Written.{line_more}
+use Rattle.svg_writer.proofs.lines.push_segment.Goals as goal
+
+pub loop-i-init : goal.loop-i-init
+loop-i-init c =
+    let walk = walk_at c.args.scene.now.drawing.now.walks c.args.s in
+    ap (λ (order : List LineId). string_bytes c.args.text.now ++ texts (line_elements c.args.scene.now.names.now walk c.args.s (length order) 0 order)) c.order_of-order.ensures
+
+pub loop-i-preserved : goal.loop-i-preserved
+loop-i-preserved c =
+    let order = c.order_of-order.result.now in
+    line_more c.args.scene.now.names.now (walk_at c.args.scene.now.drawing.now.walks c.args.s) c.args.s (length order) c.loop-i.i order (string_bytes c.loop-i.text) (string_bytes c.push_line.new.text) _
+    c.loop-i-test.true c.in_ok-push_line.ensures c.loop-i.invariant
+
+pub returns : goal.returns
+returns c =
+    let order = c.order_of-order.result.now in
+    let walk = walk_at c.args.scene.now.drawing.now.walks c.args.s in
+    sym (append-nil (string_bytes c.loop-i.text))
+    ∙ sym (at_drop_all (λ (ls : List LineId). string_bytes c.loop-i.text ++ texts (line_elements c.args.scene.now.names.now walk c.args.s (length order) c.loop-i.i ls)) order c.loop-i.i (omega arith))
+    ∙ c.loop-i.invariant

@@ -1,0 +1,7 @@
+use Rattle.std.proofs.Common.{string_bytes}
+use Rattle.svg_writer.specs.Picture.{marker, kind_at}
+use Rattle.svg_writer.proofs.Ranges.{numbered_more}
+use Rattle.svg_writer.proofs.stations.push_all_markers.Goals as goal
+
+pub loop-n-preserved : goal.loop-n-preserved
+loop-n-preserved c = numbered_more (λ n. marker c.args.scene.now.graph.now c.args.scene.now.drawing.now.walks n (kind_at c.args.scene.now.graph.now.kinds n)) c.loop-n.n (string_bytes c.args.text.now) (string_bytes c.loop-n.text) (string_bytes c.push_marker_at.new.text) c.loop-n.invariant c.in_ok-push_marker_at.ensures

@@ -1,0 +1,97 @@
+-- The elements of a picture, and the text of each (SVG 1.1).
+use Rattle.std.specs.Prelude.{ℕ, ◌≤◌, ℤ, pos, ◌+ℤ◌, ◌-ℤ◌, ◌/◌, ◌%◌, unsigned_abs, List, [], ◌∷◌, ◌++◌, codes}
+use Rattle.std.specs.List.{flat_map}
+use Rattle.std.specs.Fmt.{decimal, signed_decimal}
+use Rattle.std.specs.Char.{digit_char}
+use Rattle.line_offsets.specs.declared.corner.Corner.{Corner}
+use Rattle.svg_writer.specs.declared.bounds.Bounds.{Bounds}
+use Rattle.svg_writer.specs.Escaping.{escaped}
+
+-- The head; a line on a segment, with its name; a line from one segment to another at a node; the marker of a station,
+-- and its name; and the end. A colour is three bytes: red, green and blue.
+pub data Element : Type 0 where
+  Head : (bounds : Bounds) → Element
+  OnSegment : (seg line : ℕ) (path : List Corner) (colour name : List ℕ) → Element
+  AtNode : (node line : ℕ) (start end : Corner) (colour : List ℕ) → Element
+  Marker : (centre : Corner) (radius : ℕ) → Element
+  Label : (place : Corner) (name : List ℕ) → Element
+  Tail : Element
+
+-- `#` and six digits
+abbrev pub hex_byte : ℕ → List ℕ
+hex_byte b = digit_char (b / 16) ∷ digit_char (b % 16) ∷ []
+
+abbrev pub colour_text : List ℕ → List ℕ
+colour_text colour = 35 ∷ flat_map hex_byte colour
+
+-- `x y`
+abbrev pub corner_text : Corner → List ℕ
+corner_text c = signed_decimal c.x ++ (32 ∷ signed_decimal c.y)
+
+-- ` L x y`
+abbrev pub next_text : Corner → List ℕ
+next_text c = codes " L " ++ corner_text c
+
+-- `M x y L x y ..`
+abbrev pub path_text : List Corner → List ℕ
+path_text [] = []
+path_text (c ∷ cs) = codes "M " ++ (corner_text c ++ flat_map next_text cs)
+
+-- how lines are drawn, in a colour
+abbrev pub stroke_text : List ℕ → List ℕ
+stroke_text colour = codes "\" fill=\"none\" stroke=\"" ++ (colour_text colour ++ codes "\" stroke-width=\"12\"")
+
+-- what the picture shows, 200 units wider on each side than the bounds: left, top, width and height
+abbrev pub view_place : Bounds → Corner
+view_place b = record { x = b.left -ℤ pos 200; y = b.top -ℤ pos 200 }
+
+abbrev pub view_size : Bounds → Corner
+view_size b = record { x = (b.right -ℤ b.left) +ℤ pos 400; y = (b.bottom -ℤ b.top) +ℤ pos 400 }
+
+abbrev pub view_text : Bounds → List ℕ
+view_text b = corner_text (view_place b) ++ (32 ∷ corner_text (view_size b))
+
+-- two numbers in the class of a path, to the beginning of its corners
+abbrev pub ids_text : ℕ → ℕ → List ℕ
+ids_text n line = decimal n ++ (codes " l" ++ (decimal line ++ codes "\" d=\""))
+
+-- the name of a line, to the end of its path
+abbrev pub title_text : List ℕ → List ℕ
+title_text name = codes "><title>" ++ (escaped name ++ codes "</title></path>\n")
+
+-- where the centre of a marker is, and where a name begins
+abbrev pub centre_text : Corner → List ℕ
+centre_text c = signed_decimal c.x ++ (codes "\" cy=\"" ++ signed_decimal c.y)
+
+abbrev pub place_text : Corner → List ℕ
+place_text c = signed_decimal c.x ++ (codes "\" y=\"" ++ signed_decimal c.y)
+
+-- the radius of a marker, and how it is drawn
+abbrev pub circle_text : ℕ → List ℕ
+circle_text radius = codes "\" r=\"" ++ (decimal radius ++ codes "\" fill=\"#ffffff\" stroke=\"#000000\" stroke-width=\"4\"/>\n")
+
+-- the name of a station, and how it is written
+abbrev pub label_text : List ℕ → List ℕ
+label_text name = codes "\" font-size=\"20\">" ++ (escaped name ++ codes "</text>\n")
+
+-- the text of an element, a line
+abbrev pub element_text : Element → List ℕ
+element_text (Head bounds) = codes "<svg xmlns=\"http://www.w3.org/2000/svg\" version=\"1.1\" viewBox=\"" ++ (view_text bounds ++ codes "\">\n")
+element_text (OnSegment seg line path colour name) =
+    codes "<path class=\"s" ++ (ids_text seg line ++ (path_text path ++ (stroke_text colour ++ title_text name)))
+element_text (AtNode node line start end colour) =
+    codes "<path class=\"n" ++ (ids_text node line ++ (path_text (start ∷ end ∷ []) ++ (stroke_text colour ++ codes "/>\n")))
+element_text (Marker centre radius) = codes "<circle cx=\"" ++ (centre_text centre ++ circle_text radius)
+element_text (Label place name) = codes "<text x=\"" ++ (place_text place ++ label_text name)
+element_text Tail = codes "</svg>\n"
+
+-- the text of elements in order
+abbrev pub texts : List Element → List ℕ
+texts elements = flat_map element_text elements
+
+-- bounds of a drawing of the grid
+pub record AreBounds (b : Bounds) : Type 0 where
+  pub left : unsigned_abs b.left ≤ 1000000
+  pub right : unsigned_abs b.right ≤ 1000000
+  pub top : unsigned_abs b.top ≤ 1000000
+  pub bottom : unsigned_abs b.bottom ≤ 1000000

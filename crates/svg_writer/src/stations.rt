@@ -1,0 +1,138 @@
+//! The markers of stations, and their names.
+
+ghost use Rattle.std.specs.Prelude.{◌≡◌, ◌++◌, ◌≤◌, ◌<◌, length, unsigned_abs, IfOk, OnOk, string_bytes};
+ghost use Rattle.svg_writer.specs.Elements.{texts};
+ghost use Rattle.svg_writer.specs.Picture.{centre_of, most_lines, radius_of, beside, marker, label, kind_at, all_markers, all_labels};
+
+use crate::elements::{push_label, push_marker};
+use crate::scene::{Scene, drawn, ends_of, first_of, lines_of, put_at, small_count, station_name};
+use graph_core::{LineGraph, NodeKind};
+use line_offsets::Corner;
+use map_base::{NoMemory, NodeId, SegId};
+
+/// Appends the marker of each station.
+pub(crate) fn push_all_markers(text: &mut String, scene: &Scene) -> Result<(), NoMemory>
+    ensures { OnOk result (string_bytes text.new ≡ string_bytes text.old ++ texts (all_markers scene.now.graph.now scene.now.drawing.now.walks)) }
+{
+    for n in 0..scene.graph.nodes() {
+        push_marker_at(text, scene, n)?;
+    }
+    Ok(())
+}
+
+/// Appends the marker of node n, where it is a station.
+fn push_marker_at(text: &mut String, scene: &Scene, n: u32) -> Result<(), NoMemory>
+    requires node { n < length scene.now.graph.now.kinds }
+    requires lines { length scene.now.graph.now.lines ≡ length scene.now.graph.now.ends }
+    ensures { OnOk result (string_bytes text.new ≡ string_bytes text.old ++ texts (marker scene.now.graph.now scene.now.drawing.now.walks n (kind_at scene.now.graph.now.kinds n))) }
+{
+    push_marker_of(text, scene, n, scene.graph.kind(NodeId(n)))
+}
+
+/// Appends the marker of a node of this kind, where that is a station.
+fn push_marker_of(
+    text: &mut String,
+    scene: &Scene,
+    n: u32,
+    kind: NodeKind,
+) -> Result<(), NoMemory>
+    requires node { n < length scene.now.graph.now.kinds }
+    requires lines { length scene.now.graph.now.lines ≡ length scene.now.graph.now.ends }
+    ensures { OnOk result (string_bytes text.new ≡ string_bytes text.old ++ texts (marker scene.now.graph.now scene.now.drawing.now.walks n kind)) }
+{
+    match kind {
+        NodeKind::Station(_) => {
+            let radius = radius_of(scene.graph, n)?;
+            push_marker(text, centre_of(scene, n), u64::from(radius))?;
+            Ok(())
+        }
+        NodeKind::Junction => Ok(()),
+    }
+}
+
+/// Appends the name of each station.
+pub(crate) fn push_all_labels(text: &mut String, scene: &Scene) -> Result<(), NoMemory>
+    ensures { OnOk result (string_bytes text.new ≡ string_bytes text.old ++ texts (all_labels scene.now.names.now scene.now.graph.now scene.now.drawing.now.walks)) }
+{
+    for n in 0..scene.graph.nodes() {
+        push_label_at(text, scene, n)?;
+    }
+    Ok(())
+}
+
+/// Appends the name of node n, where it is a station.
+fn push_label_at(text: &mut String, scene: &Scene, n: u32) -> Result<(), NoMemory>
+    requires node { n < length scene.now.graph.now.kinds }
+    requires lines { length scene.now.graph.now.lines ≡ length scene.now.graph.now.ends }
+    ensures { OnOk result (string_bytes text.new ≡ string_bytes text.old ++ texts (label scene.now.names.now scene.now.graph.now scene.now.drawing.now.walks n (kind_at scene.now.graph.now.kinds n))) }
+{
+    push_label_of(text, scene, n, scene.graph.kind(NodeId(n)))
+}
+
+/// Appends the name of a node of this kind, where that is a station.
+fn push_label_of(
+    text: &mut String,
+    scene: &Scene,
+    n: u32,
+    kind: NodeKind,
+) -> Result<(), NoMemory>
+    requires node { n < length scene.now.graph.now.kinds }
+    requires lines { length scene.now.graph.now.lines ≡ length scene.now.graph.now.ends }
+    ensures { OnOk result (string_bytes text.new ≡ string_bytes text.old ++ texts (label scene.now.names.now scene.now.graph.now scene.now.drawing.now.walks n kind)) }
+{
+    match kind {
+        NodeKind::Station(station) => {
+            let radius = radius_of(scene.graph, n)?;
+            let place = beside(centre_of(scene, n), radius);
+            push_label(text, place, station_name(scene.names, station.0))?;
+            Ok(())
+        }
+        NodeKind::Junction => Ok(()),
+    }
+}
+
+/// Where a node is drawn.
+fn centre_of(scene: &Scene, n: u32) -> Corner
+    requires { n < length scene.now.graph.now.kinds }
+    ensures value { result ≡ centre_of scene.now.graph.now scene.now.drawing.now.walks n }
+    ensures x { unsigned_abs result.x ≤ 214748364800 }
+    ensures y { unsigned_abs result.y ≤ 214748364800 }
+{
+    let first = first_of(scene.graph.round(NodeId(n)));
+    drawn(put_at(&scene.drawing.walks, ends_of(scene.graph, first), n, first))
+}
+
+/// To the right of a marker, and above it.
+fn beside(centre: Corner, radius: u32) -> Corner
+    requires x { unsigned_abs centre.x ≤ 214748364800 }
+    requires y { unsigned_abs centre.y ≤ 214748364800 }
+    ensures { result ≡ beside centre radius }
+{
+    let away = i64::from(radius) + 4;
+    Corner {
+        x: centre.x + away,
+        y: centre.y - away,
+    }
+}
+
+/// The radius of the marker of a node: seven units for each line of the segment there with the most, and three.
+fn radius_of(graph: &LineGraph, n: u32) -> Result<u32, NoMemory>
+    requires node { n < length graph.now.kinds }
+    requires lines { length graph.now.lines ≡ length graph.now.ends }
+    ensures { IfOk result (λ r. r ≡ radius_of graph.now n) }
+{
+    let most = small_count(most_lines(graph, graph.round(NodeId(n))))?;
+    Ok(7 * most as u32 + 3)
+}
+
+/// How many lines the segment with the most has, of a round.
+fn most_lines(graph: &LineGraph, round: &[SegId]) -> usize
+    requires { length graph.now.lines ≡ length graph.now.ends }
+    ensures { result ≡ most_lines graph.now.lines round.now }
+{
+    let mut most = 0;
+    for s in round {
+        most = most.max(lines_of(graph, s.0).len());
+    }
+    most
+}
