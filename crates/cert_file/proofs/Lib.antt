@@ -9,3 +9,5 @@ pub mod WalkLemmas
 pub mod Bodies
 pub mod Heads
 pub mod Wholes
+pub mod Again
+pub mod LawLemmas

@@ -7,6 +7,7 @@ mod certificate;
 mod counts;
 mod distinct;
 mod forms;
+mod laws;
 mod reading;
 mod run_words;
 mod walk_line;
@@ -14,6 +15,7 @@ mod whole;
 mod writing;
 
 pub use certificate::Certificate;
+pub use laws::{every_certificate_has_one_spelling, no_certificate_where_reading_stops, what_is_written_is_read};
 pub use whole::read_certificate;
 pub use writing::write_certificate;
 
