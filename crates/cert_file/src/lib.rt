@@ -15,7 +15,9 @@ mod whole;
 mod writing;
 
 pub use certificate::Certificate;
-pub use laws::{every_certificate_has_one_spelling, no_certificate_where_reading_stops, what_is_written_is_read};
+pub use laws::{
+    every_certificate_has_one_spelling, no_certificate_where_reading_stops, what_is_written_is_read,
+};
 pub use whole::read_certificate;
 pub use writing::write_certificate;
 

@@ -102,10 +102,7 @@ pub(crate) fn read_order<'a>(
 
 /// The line of the cost.
 #[tactic(auto, unfolding(crate::specs::Forms::spoken_front))]
-pub(crate) fn read_cost<'a>(
-    text: &'a [u8],
-    numbers: &mut Vec<i64>,
-) -> Result<(u64, &'a [u8]), Stop>
+pub(crate) fn read_cost<'a>(text: &'a [u8], numbers: &mut Vec<i64>) -> Result<(u64, &'a [u8]), Stop>
     ensures { IsRead (λ x. (x.0, x.1.now)) result text.now (spoken_front (codes "cost") cost_of text.now) }
 {
     let (word, rest) = read_line(text, numbers)?;

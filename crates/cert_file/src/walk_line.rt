@@ -43,13 +43,7 @@ fn walk_of(alloc: Global, s: u32, words: &[u8]) -> Result<Option<Walk>, NoMemory
 }
 
 /// The walk of segment s, where a word names this segment.
-fn walk_with(
-    s: u32,
-    n: Option<i64>,
-    x: Option<i64>,
-    y: Option<i64>,
-    runs: Vec<Run>,
-) -> Option<Walk>
+fn walk_with(s: u32, n: Option<i64>, x: Option<i64>, y: Option<i64>, runs: Vec<Run>) -> Option<Walk>
     ensures { result ≡ walk_with s n x y (Some runs.items) }
 {
     let n = n?;

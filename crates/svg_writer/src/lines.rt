@@ -106,7 +106,14 @@ fn push_join(text: &mut String, scene: &Scene, n: u32, join: Join) -> Result<(),
 {
     let start = line_end(scene, n, join.e, join.line)?;
     let end = line_end(scene, n, join.f, join.line)?;
-    push_between(text, n, join.line, start, end, colour_of(scene.names, join.line))?;
+    push_between(
+        text,
+        n,
+        join.line,
+        start,
+        end,
+        colour_of(scene.names, join.line),
+    )?;
     Ok(())
 }
 

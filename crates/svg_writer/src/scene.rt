@@ -117,7 +117,13 @@ pub(crate) fn put_line(
 }
 
 /// Where a line that is shifted k places beside the walk of a segment ends at node n.
-pub(crate) fn end_at(walks: &Sequence<Walk>, ends: (NodeId, NodeId), n: u32, s: u32, k: i32) -> Corner
+pub(crate) fn end_at(
+    walks: &Sequence<Walk>,
+    ends: (NodeId, NodeId),
+    n: u32,
+    s: u32,
+    k: i32,
+) -> Corner
     ensures { result ≡ end_at n ends (walk_at walks.now s) k }
 {
     match walk_of(walks, s) {

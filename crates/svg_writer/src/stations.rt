@@ -30,12 +30,7 @@ fn push_marker_at(text: &mut String, scene: &Scene, n: u32) -> Result<(), NoMemo
 }
 
 /// Appends the marker of a node of this kind, where that is a station.
-fn push_marker_of(
-    text: &mut String,
-    scene: &Scene,
-    n: u32,
-    kind: NodeKind,
-) -> Result<(), NoMemory>
+fn push_marker_of(text: &mut String, scene: &Scene, n: u32, kind: NodeKind) -> Result<(), NoMemory>
     requires node { n < length scene.now.graph.now.kinds }
     requires lines { length scene.now.graph.now.lines ≡ length scene.now.graph.now.ends }
     ensures { OnOk result (string_bytes text.new ≡ string_bytes text.old ++ texts (marker scene.now.graph.now scene.now.drawing.now.walks n kind)) }
@@ -70,12 +65,7 @@ fn push_label_at(text: &mut String, scene: &Scene, n: u32) -> Result<(), NoMemor
 }
 
 /// Appends the name of a node of this kind, where that is a station.
-fn push_label_of(
-    text: &mut String,
-    scene: &Scene,
-    n: u32,
-    kind: NodeKind,
-) -> Result<(), NoMemory>
+fn push_label_of(text: &mut String, scene: &Scene, n: u32, kind: NodeKind) -> Result<(), NoMemory>
     requires node { n < length scene.now.graph.now.kinds }
     requires lines { length scene.now.graph.now.lines ≡ length scene.now.graph.now.ends }
     ensures { OnOk result (string_bytes text.new ≡ string_bytes text.old ++ texts (label scene.now.names.now scene.now.graph.now scene.now.drawing.now.walks n kind)) }

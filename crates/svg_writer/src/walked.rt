@@ -23,7 +23,12 @@ pub(crate) fn bounds_of(walks: &[Walk]) -> Bounds
     }
     match bounds {
         Some(bounds) => bounds,
-        None => Bounds { left: 0, right: 0, top: 0, bottom: 0 },
+        None => Bounds {
+            left: 0,
+            right: 0,
+            top: 0,
+            bottom: 0,
+        },
     }
 }
 
