@@ -14,8 +14,8 @@ ghost use Rattle.order_check.specs.Children.{child_lines};
 use crate::asked::Asked;
 use map_base::{LineId, SegId};
 use order_model::{Prefix, Problem};
-use order_values::Prices;
 use order_proof::Tree;
+use order_values::Prices;
 
 /// Whether a Close holds: it has no prices, the prefix is complete on the part, and costs at least the target.
 pub(crate) fn is_closed(asked: &Asked, prefix: &Prefix, prices: &Prices) -> bool

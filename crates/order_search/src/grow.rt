@@ -17,8 +17,8 @@ use crate::progress::{Progress, compare};
 use crate::searched::Searched;
 use map_base::{LineId, SegId, Steps};
 use order_model::Prefix;
-use order_values::Prices;
 use order_proof::Tree;
+use order_values::Prices;
 use std::alloc::Global;
 use std::sync::ledger::Ledger;
 

@@ -50,11 +50,11 @@ stop_more count t s rest = by_room (cases_Bool (leb (s.place - t.last.place) (di
     by_room (inl room) (inl once) =
         goes_on t.turned (distance_to t.last.port s.port) (s.place - t.last.place) (gaps_to count (stop_of t.first) (stop_of s) rest) room
         ∙ sym (ap (λ b. may_end_well count rest (as_tour (cond (b && leb (t.turned + distance_to t.last.port s.port) 8) (Some (record { first = t.first; last = s; turned = t.turned + distance_to t.last.port s.port })) None))) room
-          ∙ ap (λ b. may_end_well count rest (as_tour (cond b (Some (record { first = t.first; last = s; turned = t.turned + distance_to t.last.port s.port })) None))) once)
+        ∙ ap (λ b. may_end_well count rest (as_tour (cond b (Some (record { first = t.first; last = s; turned = t.turned + distance_to t.last.port s.port })) None))) once)
     by_room (inl room) (inr far) =
         too_far t.turned (distance_to t.last.port s.port) (s.place - t.last.place) (gaps_to count (stop_of t.first) (stop_of s) rest) far
         ∙ sym (ap (λ b. may_end_well count rest (as_tour (cond (b && leb (t.turned + distance_to t.last.port s.port) 8) (Some (record { first = t.first; last = s; turned = t.turned + distance_to t.last.port s.port })) None))) room
-          ∙ ap (λ b. may_end_well count rest (as_tour (cond b (Some (record { first = t.first; last = s; turned = t.turned + distance_to t.last.port s.port })) None))) far)
+        ∙ ap (λ b. may_end_well count rest (as_tour (cond b (Some (record { first = t.first; last = s; turned = t.turned + distance_to t.last.port s.port })) None))) far)
     by_room (inr none) far =
         no_room t.turned (distance_to t.last.port s.port) (s.place - t.last.place) (gaps_to count (stop_of t.first) (stop_of s) rest) none
         ∙ sym (ap (λ b. may_end_well count rest (as_tour (cond (b && leb (t.turned + distance_to t.last.port s.port) 8) (Some (record { first = t.first; last = s; turned = t.turned + distance_to t.last.port s.port })) None))) none)
@@ -96,7 +96,7 @@ within_chosen count t s next h fit e = by_room (cases_Bool (leb (s.place - t.las
         ⊎ ((leb (s.place - t.last.place) (distance_to t.last.port s.port) && leb (t.turned + distance_to t.last.port s.port) 8) ≡ false) → IfSome next (IsWithinTour count)
     by_room (inl room) =
         let is : Some (let o : Option Tour = Some (record { first = t.first; last = s; turned = t.turned + distance_to t.last.port s.port }) in o) ≡ Some next =
-          sym (ap (λ b. as_tour (cond b (Some (record { first = t.first; last = s; turned = t.turned + distance_to t.last.port s.port })) None)) room) ∙ e in
+        sym (ap (λ b. as_tour (cond b (Some (record { first = t.first; last = s; turned = t.turned + distance_to t.last.port s.port })) None)) room) ∙ e in
         let same : (let o : Option Tour = Some (record { first = t.first; last = s; turned = t.turned + distance_to t.last.port s.port }) in o) ≡ next = cc in
         subst (λ (o : Option Tour). IfSome o (IsWithinTour count)) same (record { turned = leb-true _ _ (and_parts _ _ room).1; first = fit.first; last = h })
     by_room (inr none) =

@@ -53,7 +53,9 @@ fn home_of(grid: Bounds, spot: Spot, used: &HashSet<GridPoint>) -> GridPoint {
     let mut reach = 4;
     while reach < 4096 {
         let found = nearest_in(window_around(grid, spot, reach), spot, used);
-        if let Some(home) = found && is_sure(spot, home, reach) {
+        if let Some(home) = found
+            && is_sure(spot, home, reach)
+        {
             return home;
         }
         reach *= 4;
@@ -148,7 +150,11 @@ fn even_points(b: Bounds) -> Window {
 
 /// The least even number that is no less.
 fn even_from(line: i32) -> i32 {
-    if line.unsigned_abs() % 2 == 0 { line } else { line + 1 }
+    if line.unsigned_abs() % 2 == 0 {
+        line
+    } else {
+        line + 1
+    }
 }
 
 /// How many even numbers lie from one to another.

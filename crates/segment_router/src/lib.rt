@@ -9,11 +9,9 @@ mod homes;
 mod order;
 mod placing;
 mod ports;
-
 mod routing;
 
 pub use attempts::{Attempt, route};
 pub use fault::RouteFault;
 pub use placing::{Offset, Placing, place, place_at};
 pub use ports::allowed_ports;
-

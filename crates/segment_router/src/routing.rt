@@ -90,13 +90,7 @@ impl Routing {
     }
 
     /// Keeps the walk of a segment, and settles its nodes at the ends of it.
-    fn keep(
-        &mut self,
-        seg: SegId,
-        low: NodeId,
-        up: NodeId,
-        walk: Walk,
-    ) -> Result<(), NoMemory> {
+    fn keep(&mut self, seg: SegId, low: NodeId, up: NodeId, walk: Walk) -> Result<(), NoMemory> {
         let start_port = walk.start_port();
         let end_port = walk.end_port();
         self.ports[low.0 as usize].push((seg, start_port))?;

@@ -39,4 +39,3 @@ same_lists_both (l ∷ ls) (m ∷ ms) h e = of_cases h (by_head l m (is_not_afte
     of_cases (inl p) (inr q) rest = let same : l ≡ m = q.0 in absurd (omega arith)
     of_cases (inr p) (inl q) rest = let same : m ≡ l = p.0 in absurd (omega arith)
     of_cases (inr p) (inr q) rest = ap (λ x. x ∷ ls) q.0 ∙ ap (λ xs. m ∷ xs) (rest p.1 q.1)
-

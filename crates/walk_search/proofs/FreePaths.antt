@@ -113,10 +113,14 @@ led_move q s d h leaves free =
 
 pub path_of_onward : (q : Question) → IsQuestion q → (s : Spot) (d : Dir) (ds : List Dir) (k : ℕ) → IsSpot q.board.bounds s → IsOnward q s d ds k →
     PathTo (space_of q) (number_of_spot q.board.bounds s) (number_of d ∷ map number_of ds) k
-path_of_onward q h s d [] k on o =
-    (number_of_spot q.board.bounds (led s d), step_cost d + turn_from s.arrival d, seat_cost q.to.at (step_from s.at d), led_move q s d on o.leaves o.along,
-    goal_of_spot q (led s d) (led_spot q s d on o.along) ∙ ends,
-    sums (step_cost d) (turn_from s.arrival d) (seat_cost q.to.at (step_from s.at d)) o.cost)
+path_of_onward q h s d [] k on o = (
+  number_of_spot q.board.bounds (led s d),
+  step_cost d + turn_from s.arrival d,
+  seat_cost q.to.at (step_from s.at d),
+  led_move q s d on o.leaves o.along,
+  goal_of_spot q (led s d) (led_spot q s d on o.along) ∙ ends,
+  sums (step_cost d) (turn_from s.arrival d) (seat_cost q.to.at (step_from s.at d)) o.cost,
+)
   where
     sums : (a t z : ℕ) → k ≡ t + a + z → k ≡ a + t + z
     sums a t z x = omega arith
@@ -131,10 +135,14 @@ path_of_onward q h s d [] k on o =
         (and_from (ltb (number_of d) 8) (may_end q (led s d)) (lt-ltb (number_of d) 8 (number_below d))
         (and_from (is_end q (step_from s.at d) s.group) (allows q.to.ports (Some (reverse_of (direction (number_of d))))) o.ends
         (subst (λ (e : Dir). allows q.to.ports (Some (reverse_of e)) ≡ true) (sym (direction-number_of d)) o.port)))
-path_of_onward q h s d (e ∷ ds) k on o =
-    (number_of_spot q.board.bounds (led s d), step_cost d + turn_from s.arrival d, rest, led_move q s d on o.leaves o.along.0,
-    path_of_onward q h (led s d) e ds rest (led_spot q s d on o.along.0) onward,
-    sums (step_cost d) (turn_from s.arrival d) (turn_from (number_of d) e) (turn_between d e) (way_cost (e ∷ ds)) (seat_cost q.to.at (after (step_from s.at d) (e ∷ ds))) turn o.cost)
+path_of_onward q h s d (e ∷ ds) k on o = (
+  number_of_spot q.board.bounds (led s d),
+  step_cost d + turn_from s.arrival d,
+  rest,
+  led_move q s d on o.leaves o.along.0,
+  path_of_onward q h (led s d) e ds rest (led_spot q s d on o.along.0) onward,
+  sums (step_cost d) (turn_from s.arrival d) (turn_from (number_of d) e) (turn_between d e) (way_cost (e ∷ ds)) (seat_cost q.to.at (after (step_from s.at d) (e ∷ ds))) turn o.cost,
+)
   where
     rest : ℕ
     rest = turn_from (number_of d) e + way_cost (e ∷ ds) + seat_cost q.to.at (after (step_from s.at d) (e ∷ ds))

@@ -421,12 +421,15 @@ path_of_walk q h start (d ∷ ds) free = at_place (place_of (starts_of q) start 
       place = here.place;
       below = here.below;
       starts = here.is;
-      path =
-          (number_of_spot q.board.bounds spot, seat_cost q.from.at (start_at q here.place) + 1, rest,
-          seat_move q h (number_of_spot q.board.bounds spot) spot refl refl here.place here.below refl refl,
-          path_of_onward q h spot d ds rest on onward,
-          subst (λ (p : GridPoint). total_of q.from q.to (record { start = p; steps = d ∷ ds }) + 1 ≡ seat_cost q.from.at (start_at q here.place) + 1 + rest) here.is
-          (sums (seat_cost q.from.at (start_at q here.place)) (way_cost (d ∷ ds)) (seat_cost q.to.at (after (start_at q here.place) (d ∷ ds)))));
+      path = (
+        number_of_spot q.board.bounds spot,
+        seat_cost q.from.at (start_at q here.place) + 1,
+        rest,
+        seat_move q h (number_of_spot q.board.bounds spot) spot refl refl here.place here.below refl refl,
+        path_of_onward q h spot d ds rest on onward,
+        subst (λ (p : GridPoint). total_of q.from q.to (record { start = p; steps = d ∷ ds }) + 1 ≡ seat_cost q.from.at (start_at q here.place) + 1 + rest) here.is
+            (sums (seat_cost q.from.at (start_at q here.place)) (way_cost (d ∷ ds)) (seat_cost q.to.at (after (start_at q here.place) (d ∷ ds)))),
+      );
     }
       where
         spot : Spot

@@ -125,10 +125,11 @@ along_from board test p d (e ∷ ds) middles points inside inner clear =
     let i = and_parts (is_inside board p) (list_all (is_inside board) (points_from (step_from p d) (e ∷ ds))) inside in
     let c = and_parts (test (doubled p)) (test (step_from (doubled p) d) && list_all test (doubled_from (step_from p d) (e ∷ ds))) clear in
     let m = and_parts (test (step_from (doubled p) d)) (list_all test (doubled_from (step_from p d) (e ∷ ds))) c.1 in
-    let none = neither (board.is_node (step_from p d)) (list_any board.is_node (inner_from (step_from p d) (e ∷ ds))) inner in
-    (open_from board p d (record { here = i.0; there = first_inside (step_from p d) (e ∷ ds) i.1; clear = middles p d m.0 }),
-    passable_from board (step_from p d) none.0 (points (step_from p d) none.0 (first_test (step_from p d) (e ∷ ds) m.1)),
-    along_from board test (step_from p d) e ds middles points i.1 none.1 m.1)
+    let none = neither (board.is_node (step_from p d)) (list_any board.is_node (inner_from (step_from p d) (e ∷ ds))) inner in (
+      open_from board p d (record { here = i.0; there = first_inside (step_from p d) (e ∷ ds) i.1; clear = middles p d m.0 }),
+      passable_from board (step_from p d) none.0 (points (step_from p d) none.0 (first_test (step_from p d) (e ∷ ds) m.1)),
+      along_from board test (step_from p d) e ds middles points i.1 none.1 m.1,
+    )
   where
     neither : (s t : Bool) → (s || t) ≡ false → (s ≡ false) × (t ≡ false)
     neither true t e = let no : ⊥ = cc in absurd no

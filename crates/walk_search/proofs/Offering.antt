@@ -130,9 +130,15 @@ seats_offer q h n cost s of arrival =
         of_test : (t : Bool) → (are_one (start_at q i) s.at && eqb (group_of q i) s.group) ≡ t →
             AllAre (IsStepOffer (space_of q) n cost) (cond t ((spots_of q.board.bounds, cost + (seat_cost q.from.at (start_at q i) + 1)) ∷ []) [])
         of_test true e =
-            let parts = and_parts (are_one (start_at q i) s.at) (eqb (group_of q i) s.group) e in
-            ((i, seat_cost q.from.at (start_at q i) + 1,
-            seat_move q h n s of.number arrival i below (one_true (start_at q i) s.at parts.0) (eqb-true (group_of q i) s.group parts.1), refl), tt)
+            let parts = and_parts (are_one (start_at q i) s.at) (eqb (group_of q i) s.group) e in (
+              (
+                i,
+                seat_cost q.from.at (start_at q i) + 1,
+                seat_move q h n s of.number arrival i below (one_true (start_at q i) s.at parts.0) (eqb-true (group_of q i) s.group parts.1),
+                refl,
+              ),
+              tt,
+            )
         of_test false e = tt
 
 same_numbers : (q : Question) (x s : Spot) → IsSpot q.board.bounds x → IsSpot q.board.bounds s → number_of_spot q.board.bounds x ≡ number_of_spot q.board.bounds s → x ≡ s
@@ -187,9 +193,12 @@ backs_offer q h n cost s of small = of_open (is_open q.board (back_of s) (came s
 
     one : is_open q.board (back_of s) (came s) ≡ true → (arrival : ℕ) → arrival < 9 → may_leave q (record { at = back_of s; arrival = arrival; group = s.group }) (came s) ≡ true →
         IsStepOffer (space_of q) n cost (arrival_offer q (back_of s) s.group (came s) cost arrival)
-    one free arrival below leaves =
-        (s.arrival, step_cost (came s) + turn_from arrival (came s),
-        step_move q (record { at = back_of s; arrival = arrival; group = s.group }) s.arrival n s (spot_behind q s arrival free below of.spot.group) small leaves free (behind_lands s) of.number, refl)
+    one free arrival below leaves = (
+      s.arrival,
+      step_cost (came s) + turn_from arrival (came s),
+      step_move q (record { at = back_of s; arrival = arrival; group = s.group }) s.arrival n s (spot_behind q s arrival free below of.spot.group) small leaves free (behind_lands s) of.number,
+      refl,
+    )
 
     passing : is_open q.board (back_of s) (came s) ≡ true → AllAre (IsStepOffer (space_of q) n cost) (passing_offers q (back_of s) s.group (came s) cost)
     passing free = of_passable (is_passable q.board (back_of s)) refl

@@ -88,16 +88,31 @@ mid_high : pos 0 <ℤ pos 2
 mid_high = omega (arith, ints)
 
 shifts_rise : (home : GridPoint) → Rises (map (shifted home) shifts)
-shifts_rise home =
-    ((lower_beside home (negsuc 1) (negsuc 1) (pos 0) low_mid, (lower_beside home (negsuc 1) (negsuc 1) (pos 2) low_high, (row1 (negsuc 1) (negsuc 1), (row1 (negsuc 1) (pos 0), (row1 (negsuc 1) (pos 2), (row2 (negsuc 1) (negsuc 1), (row2 (negsuc 1) (pos 0), (row2 (negsuc 1) (pos 2), tt)))))))),
-    ((lower_beside home (pos 0) (negsuc 1) (pos 2) mid_high, (row1 (pos 0) (negsuc 1), (row1 (pos 0) (pos 0), (row1 (pos 0) (pos 2), (row2 (pos 0) (negsuc 1), (row2 (pos 0) (pos 0), (row2 (pos 0) (pos 2), tt))))))),
-    ((row1 (pos 2) (negsuc 1), (row1 (pos 2) (pos 0), (row1 (pos 2) (pos 2), (row2 (pos 2) (negsuc 1), (row2 (pos 2) (pos 0), (row2 (pos 2) (pos 2), tt)))))),
-    ((lower_beside home (negsuc 1) (pos 0) (pos 0) low_mid, (lower_beside home (negsuc 1) (pos 0) (pos 2) low_high, (row3 (negsuc 1) (negsuc 1), (row3 (negsuc 1) (pos 0), (row3 (negsuc 1) (pos 2), tt))))),
-    ((lower_beside home (pos 0) (pos 0) (pos 2) mid_high, (row3 (pos 0) (negsuc 1), (row3 (pos 0) (pos 0), (row3 (pos 0) (pos 2), tt)))),
-    ((row3 (pos 2) (negsuc 1), (row3 (pos 2) (pos 0), (row3 (pos 2) (pos 2), tt))),
-    ((lower_beside home (negsuc 1) (pos 2) (pos 0) low_mid, (lower_beside home (negsuc 1) (pos 2) (pos 2) low_high, tt)),
-    ((lower_beside home (pos 0) (pos 2) (pos 2) mid_high, tt),
-    (tt, tt)))))))))
+shifts_rise home = (
+  (lower_beside home (negsuc 1) (negsuc 1) (pos 0) low_mid, (lower_beside home (negsuc 1) (negsuc 1) (pos 2) low_high, (row1 (negsuc 1) (negsuc 1), (row1 (negsuc 1) (pos 0), (row1 (negsuc 1) (pos 2), (row2 (negsuc 1) (negsuc 1), (row2 (negsuc 1) (pos 0), (row2 (negsuc 1) (pos 2), tt)))))))),
+  (
+    (lower_beside home (pos 0) (negsuc 1) (pos 2) mid_high, (row1 (pos 0) (negsuc 1), (row1 (pos 0) (pos 0), (row1 (pos 0) (pos 2), (row2 (pos 0) (negsuc 1), (row2 (pos 0) (pos 0), (row2 (pos 0) (pos 2), tt))))))),
+    (
+      (row1 (pos 2) (negsuc 1), (row1 (pos 2) (pos 0), (row1 (pos 2) (pos 2), (row2 (pos 2) (negsuc 1), (row2 (pos 2) (pos 0), (row2 (pos 2) (pos 2), tt)))))),
+      (
+        (lower_beside home (negsuc 1) (pos 0) (pos 0) low_mid, (lower_beside home (negsuc 1) (pos 0) (pos 2) low_high, (row3 (negsuc 1) (negsuc 1), (row3 (negsuc 1) (pos 0), (row3 (negsuc 1) (pos 2), tt))))),
+        (
+          (lower_beside home (pos 0) (pos 0) (pos 2) mid_high, (row3 (pos 0) (negsuc 1), (row3 (pos 0) (pos 0), (row3 (pos 0) (pos 2), tt)))),
+          (
+            (row3 (pos 2) (negsuc 1), (row3 (pos 2) (pos 0), (row3 (pos 2) (pos 2), tt))),
+            (
+              (lower_beside home (negsuc 1) (pos 2) (pos 0) low_mid, (lower_beside home (negsuc 1) (pos 2) (pos 2) low_high, tt)),
+              (
+                (lower_beside home (pos 0) (pos 2) (pos 2) mid_high, tt),
+                (tt, tt),
+              ),
+            ),
+          ),
+        ),
+      ),
+    ),
+  ),
+)
   where
     row1 : (a c : ℤ) → is_lower (shifted home (a, negsuc 1)) (shifted home (c, pos 0)) ≡ true
     row1 a c = lower_row home a (negsuc 1) c (pos 0) low_mid

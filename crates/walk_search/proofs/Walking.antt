@@ -51,11 +51,13 @@ walking_goes_on q h table searched labels at label to walking step = of_known (k
     of_known None e found w =
         let clash : None ≡ Some (step.keeps.cost + step.keeps.differ.0) = sym e ∙ sym (ap (known_at table) w.1) ∙ step.keeps.differ.2 in
         absurd (let no : ⊥ = cc in no)
-    of_known (Some limit) e found w =
-        (w.0 + step.keeps.cost, step.keeps.differ.0,
-        walk_goes_on (space_of q) (is_space q h) (before q) limit (known_at table) found labels w.0 at w.1 w.2
-        (λ end. step.goes_on (w.1, w.2.known_here, end)) label to step.keeps.cost step.keeps.differ.0 (next_of q table at label to step.keeps)
-        (λ m t d r n. step.least m t (keeps_of q table at m t d r n)))
+    of_known (Some limit) e found w = (
+      w.0 + step.keeps.cost,
+      step.keeps.differ.0,
+      walk_goes_on (space_of q) (is_space q h) (before q) limit (known_at table) found labels w.0 at w.1 w.2
+          (λ end. step.goes_on (w.1, w.2.known_here, end)) label to step.keeps.cost step.keeps.differ.0 (next_of q table at label to step.keeps)
+          (λ m t d r n. step.least m t (keeps_of q table at m t d r n)),
+    )
 
 pub walking_ends : (q : Question) → IsQuestion q → (table : List (Option ℕ)) → IsSearched (space_of q) (before q) table → (labels : List ℕ) (at : ℕ) →
     IsWalking q table labels at → StopsAt q table at → AreLabelsOf q labels (known_at table (before q))

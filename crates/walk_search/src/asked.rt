@@ -347,7 +347,10 @@ impl<'a> Asked<'a> {
             arrival: label,
             group: spot.group,
         };
-        Some((next, u64::from(step_cost(dir)) + turn_from(spot.arrival, dir)))
+        Some((
+            next,
+            u64::from(step_cost(dir)) + turn_from(spot.arrival, dir),
+        ))
     }
 
     /// What it costs at least to come to a point from the home of the start.

@@ -68,12 +68,7 @@ pub fn least_settled_walk(
 }
 
 /// The same for two ends.
-fn least_between(
-    alloc: Global,
-    board: &Board,
-    from: End,
-    to: End,
-) -> Result<Option<Walk>, NoMemory>
+fn least_between(alloc: Global, board: &Board, from: End, to: End) -> Result<Option<Walk>, NoMemory>
     requires { IsQuestion (record { board = parts_of board.now; from = from; to = to }) }
     ensures { IfOk result (λ walk. walk ≡ route (parts_of board.now) from to) }
 {

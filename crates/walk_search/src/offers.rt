@@ -58,12 +58,7 @@ pub(crate) fn offer_ends(
 }
 
 /// The same for one of these spots, if a walk may end there.
-fn offer_end(
-    asked: &Asked,
-    k: u16,
-    known: &mut Known,
-    queue: &mut Queue,
-) -> Result<(), NoMemory>
+fn offer_end(asked: &Asked, k: u16, known: &mut Known, queue: &mut Queue) -> Result<(), NoMemory>
     requires k { k < 80 * length (ends_of (question asked.now)) }
     requires each { length known.old ≡ spots_of (question asked.now).board.bounds + 1 }
     requires order { IsHeap queue_cmp (heap_items queue.old) }
@@ -178,7 +173,13 @@ fn offer_seat(
     if !starts_at(asked, spot, i) {
         return Ok(());
     }
-    lower(known, queue, asked.before(), cost + (asked.start_cost(i) + 1), 0)
+    lower(
+        known,
+        queue,
+        asked.before(),
+        cost + (asked.start_cost(i) + 1),
+        0,
+    )
 }
 
 /// Whether a spot is that of a seat.

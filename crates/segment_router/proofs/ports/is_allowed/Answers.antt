@@ -23,7 +23,7 @@ loop-place-preserved c =
     let rest = stops_from (c.loop-place.place + 1) port (drop (c.loop-place.place + 1) c.args.round.now) in
     record {
       rest = ap (may_end_well (length c.args.round.now) rest) (sym c.in-Some.is ∙ c.goes_on.ensures.tour ∙ ap (tour_on c.loop-place.tour c.loop-place.place) c.port_with.ensures)
-        ∙ sym (tour_more (length c.args.round.now) port c.args.round.now c.loop-place.place _ c.loop-place.tour c.loop-place-test.true)
-        ∙ c.loop-place.invariant.rest;
+          ∙ sym (tour_more (length c.args.round.now) port c.args.round.now c.loop-place.place _ c.loop-place.tour c.loop-place-test.true)
+          ∙ c.loop-place.invariant.rest;
       within = within_more (length c.args.round.now) c.loop-place.tour c.loop-place.place c.port_with.result c.in-Some.next c.loop-place-test.true c.loop-place.invariant.within (sym c.goes_on.ensures.tour ∙ c.in-Some.is);
     }
