@@ -1,6 +1,7 @@
 -- The walk along known costs is the least path.
-use Rattle.std.proofs.Common.{◌≡◌, ◌≢◌, refl, sym, ◌∙◌, ap, ap₂, subst, ℕ, zero, suc, ◌+◌, ◌<◌, ◌≤◌, ◌⊎◌, inl, inr, Bool, true, false, ◌&&◌, List, [], ◌∷◌, ◌++◌, map, length, drop, Option, Some, None, arith}
-use Rattle.std.proofs.lemmas.Bool.{and_parts}
+use Rattle.std.proofs.Common.{◌≡◌, ◌≢◌, refl, sym, ◌∙◌, ap, ap₂, subst, ℕ, zero, suc, ◌+◌, ◌<◌, ◌≤◌, ◌⊎◌, inl, inr, Bool, true, false, cond, ◌&&◌, List, [], ◌∷◌, ◌++◌, map, length, drop, Option, Some, None, arith}
+use Rattle.std.specs.Prelude.{IfNone}
+use Rattle.std.proofs.lemmas.Bool.{and_parts, lt-ltb}
 use Rattle.octi_grid.specs.declared.dir.Dir.{Dir}
 use Rattle.octi_grid.specs.declared.point.GridPoint.{GridPoint}
 use Rattle.octi_grid.specs.Ways.{step_from}
@@ -13,6 +14,7 @@ use Rattle.walk_search.specs.Spots.{IsSpot, spots_of, spot_of}
 use Rattle.walk_search.specs.Moves.{Question, IsQuestion, IsMove, direction, end_cost, space_of, spot_ahead, starts_of, start_at}
 use Rattle.walk_search.specs.Walked.{AreLabelsOf, EndsAt, IsLeastMove, KeepsCost, StopsAt}
 use Rattle.walk_search.proofs.Numbered.{spot_of-none, spot_of-number}
+use Rattle.walk_search.proofs.SeatFacts.{seats_few}
 use Rattle.walk_search.proofs.Moving.{IsChosen, IsStepped, goal_parts, is_space, move_cases, moved, some_same, start_inside}
 
 -- what comes before every spot
@@ -156,3 +158,41 @@ path_labels q h (i ∷ ls) k p = of_case (move_cases q (spot_of q.board.bounds (
     of_case : ((spot_of q.board.bounds (before q) ≡ None) × IsChosen q i m.landing p.1) ⊎ ((x : Spot) × (spot_of q.board.bounds (before q) ≡ Some x) × IsStepped q x i m.landing p.1) → AreLabelsOfWalk q (i ∷ ls)
     of_case (inl c) = of_rest ls p.4 c.1
     of_case (inr c) = let clash : None ≡ Some c.0 = sym (spot_of-none q.board.bounds) ∙ c.1 in absurd (let no : ⊥ = cc in no)
+
+-- labels of which there are fewer than two are those where there is no path
+pub no_path_where_short : (q : Question) → IsQuestion q → (table : List (Option ℕ)) (labels : List ℕ) → IsSearched (space_of q) (before q) table → AreLabelsOf q labels (known_at table (before q)) → length labels < 2 →
+    (others : List ℕ) (k : ℕ) → PathTo (space_of q) (before q) others k → ⊥
+no_path_where_short q h table labels searched are short = of_known (known_at table (before q)) searched.1 are
+  where
+    of_known : (o : Option ℕ) → IsFound (space_of q) (before q) table o → AreLabelsOf q labels o → (others : List ℕ) (k : ℕ) → PathTo (space_of q) (before q) others k → ⊥
+    of_known None found a = found
+    of_known (Some limit) found a = λ others k p.
+        let w = path_labels q h labels a.0 a.1.path in
+        let many : length labels ≡ length (w.seat ∷ w.first ∷ w.others) = ap length w.is in
+        omega arith
+
+pub least_where_long : (q : Question) (table : List (Option ℕ)) (labels : List ℕ) → AreLabelsOf q labels (known_at table (before q)) → 2 ≤ length labels → (k : ℕ) × IsLeastPathTo (space_of q) (before q) labels k
+least_where_long q table labels are long = of_known (known_at table (before q)) are
+  where
+    of_known : (o : Option ℕ) → AreLabelsOf q labels o → (k : ℕ) × IsLeastPathTo (space_of q) (before q) labels k
+    of_known None a = let none : length labels ≡ 0 = ap length a in absurd (omega arith)
+    of_known (Some limit) a = a
+
+-- what it costs to end at the spot of a number
+pub goal_is : (q : Question) (n : ℕ) (s : Spot) → n < before q + 1 → Some s ≡ spot_of q.board.bounds n → (space_of q).goal n ≡ end_cost q (Some s)
+goal_is q n s below e = ap (λ t. cond t (end_cost q (spot_of q.board.bounds n)) None) (lt-ltb n (before q + 1) below) ∙ ap (end_cost q) (sym e)
+
+-- no label of a move is as great as 9
+pub label_small : (q : Question) (at label to c : ℕ) → IsMove q at label to c → label < 9
+label_small q at label to c m = of_case (move_cases q (spot_of q.board.bounds at) label m.landing c m.goes)
+  where
+    of_case : ((spot_of q.board.bounds at ≡ None) × IsChosen q label m.landing c) ⊎ ((x : Spot) × (spot_of q.board.bounds at ≡ Some x) × IsStepped q x label m.landing c) → label < 9
+    of_case (inl k) =
+        let few : length (starts_of q) ≤ 9 = seats_few q.board q.from in
+        let below : label < length (starts_of q) = k.1.below in
+        omega arith
+    of_case (inr k) = let below : label < 8 = k.2.below in omega arith
+
+pub if_none : {X : Type 0} (o : Option X) (P : Type 0) → P → IfNone o P
+if_none None P p = p
+if_none (Some x) P p = tt
