@@ -1,10 +1,13 @@
 -- The walk along known costs is the least path.
-use Rattle.std.proofs.Common.{◌≡◌, ◌≢◌, refl, sym, ◌∙◌, ap, ap₂, subst, ℕ, zero, suc, ◌+◌, ◌<◌, ◌≤◌, ◌⊎◌, inl, inr, Bool, true, false, cond, ◌&&◌, List, [], ◌∷◌, ◌++◌, map, length, drop, Option, Some, None, arith}
+use Rattle.std.proofs.Common.{◌≡◌, ◌≢◌, refl, sym, ◌∙◌, ap, ap₂, subst, ℕ, zero, suc, ◌+◌, ◌-◌, ◌<◌, ◌≤◌, ◌⊎◌, inl, inr, Bool, true, false, cond, ◌&&◌, List, [], ◌∷◌, ◌++◌, map, length, get_or, take, drop, append_assoc, Option, Some, None, arith}
 use Rattle.std.specs.Prelude.{IfNone}
 use Rattle.std.proofs.lemmas.Bool.{and_parts, lt-ltb}
 use Rattle.octi_grid.specs.declared.dir.Dir.{Dir}
 use Rattle.octi_grid.specs.declared.point.GridPoint.{GridPoint}
-use Rattle.octi_grid.specs.Ways.{step_from}
+use Rattle.std.proofs.lemmas.List.{drop_more}
+use Rattle.octi_grid.specs.Ways.{after, step_from}
+use Rattle.octi_grid.specs.Walks.{PlainWalk}
+use Rattle.octi_grid.proofs.WayLemmas.{after-append}
 use Rattle.state_search.specs.Goals.{PathTo, IsLeastPathTo, AreLeastCostsTo}
 use Rattle.state_search.specs.Searching.{IsFound, IsSearched, known_at}
 use Rattle.state_search.proofs.Walks.{IsLed, IsNext, ends_or_goes_on, next_is_nearer, walk_begins, walk_ends, walk_goes_on}
@@ -12,7 +15,7 @@ use Rattle.walk_search.specs.declared.spots.Spot.{Spot}
 use Rattle.walk_search.specs.Boards.{is_inside}
 use Rattle.walk_search.specs.Spots.{IsSpot, spots_of, spot_of}
 use Rattle.walk_search.specs.Moves.{Question, IsQuestion, IsMove, direction, end_cost, space_of, spot_ahead, starts_of, start_at}
-use Rattle.walk_search.specs.Walked.{AreLabelsOf, EndsAt, IsLeastMove, KeepsCost, StopsAt}
+use Rattle.walk_search.specs.Walked.{AreLabelsOf, AreSteps, EndsAt, IsLeastMove, KeepsCost, StopsAt}
 use Rattle.walk_search.proofs.Numbered.{spot_of-none, spot_of-number}
 use Rattle.walk_search.proofs.SeatFacts.{seats_few}
 use Rattle.walk_search.proofs.Moving.{IsChosen, IsStepped, goal_parts, is_space, move_cases, moved, some_same, start_inside}
@@ -94,11 +97,6 @@ goal_before q k e =
     let g = goal_parts q (before q) k e in
     let clash : None ≡ Some g.0 = sym (spot_of-none q.board.bounds) ∙ g.1.spot in
     cc
-
--- the steps of labels from a point stay on the board
-abbrev pub AreSteps : Question → GridPoint → List ℕ → Type 0
-AreSteps q p [] = Unit {0}
-AreSteps q p (l ∷ ls) = (l < 8) × (is_inside q.board (step_from p (direction l)) ≡ true) × AreSteps q (step_from p (direction l)) ls
 
 pub steps_of_path : (q : Question) → IsQuestion q → (n : ℕ) (s : Spot) (ls : List ℕ) (k : ℕ) → spot_of q.board.bounds n ≡ Some s → PathTo (space_of q) n ls k → AreSteps q s.at ls
 steps_of_path q h n s [] k e p = tt
@@ -196,3 +194,31 @@ label_small q at label to c m = of_case (move_cases q (spot_of q.board.bounds at
 pub if_none : {X : Type 0} (o : Option X) (P : Type 0) → P → IfNone o P
 if_none None P p = p
 if_none (Some x) P p = tt
+
+-- the labels of a walk, one by one
+take_two : (others : List ℕ) (n : ℕ) → n ≡ length others → take n others ≡ others
+take_two [] zero e = refl
+take_two [] (suc n) e = refl
+take_two (l ∷ ls) zero e = absurd (omega arith)
+take_two (l ∷ ls) (suc n) e = ap (λ xs. l ∷ xs) (take_two ls n (omega arith))
+
+pub others_of : (labels : List ℕ) (seat first : ℕ) (others : List ℕ) → labels ≡ seat ∷ first ∷ others → take (length labels - 2) (drop 2 labels) ≡ others
+others_of labels seat first others e =
+    let many : length labels ≡ length (seat ∷ first ∷ others) = ap length e in
+    let fewer : length labels - 2 ≡ length others = omega arith in
+    ap (λ (ls : List ℕ). take (length labels - 2) (drop 2 ls)) e ∙ take_two others (length labels - 2) fewer
+
+pub after_last : (p : GridPoint) (ds : List Dir) (d : Dir) → after p (ds ++ d ∷ []) ≡ step_from (after p ds) d
+after_last p ds d = after-append p ds (d ∷ [])
+
+pub steps_left : (q : Question) (p : GridPoint) (ls : List ℕ) (i : ℕ) (d : ℕ) → i < length ls → AreSteps q p (drop i ls) →
+    (get_or ls i d < 8) × (is_inside q.board (step_from p (direction (get_or ls i d))) ≡ true) × AreSteps q (step_from p (direction (get_or ls i d))) (drop (i + 1) ls)
+steps_left q p ls i d below h = subst (λ (xs : List ℕ). AreSteps q p xs) (drop_more ls i d below) h
+
+pub walk_left : (q : Question) (start : GridPoint) (steps more : List Dir) (ls : List ℕ) (i d : ℕ) (whole : PlainWalk) → i < length ls → more ≡ steps ++ direction (get_or ls i d) ∷ [] →
+    (let w : PlainWalk = record { start = start; steps = steps ++ map direction (drop i ls) } in w) ≡ whole → (let w : PlainWalk = record { start = start; steps = more ++ map direction (drop (i + 1) ls) } in w) ≡ whole
+walk_left q start steps more ls i d whole below is before =
+    ap (λ (ds : List Dir). (let w : PlainWalk = record { start = start; steps = ds } in w))
+    (ap (λ ds. ds ++ map direction (drop (i + 1) ls)) is ∙ append_assoc steps (direction (get_or ls i d) ∷ []) (map direction (drop (i + 1) ls))
+    ∙ ap (λ (xs : List ℕ). steps ++ map direction xs) (sym (drop_more ls i d below)))
+    ∙ before
