@@ -15,7 +15,7 @@ use Rattle.walk_search.specs.declared.spots.Spot.{Spot}
 use Rattle.walk_search.specs.Boards.{is_inside}
 use Rattle.walk_search.specs.Spots.{IsSpot, spots_of, spot_of}
 use Rattle.walk_search.specs.Moves.{Question, IsQuestion, IsMove, direction, end_cost, space_of, spot_ahead, starts_of, start_at}
-use Rattle.walk_search.specs.Walked.{AreLabelsOf, AreSteps, EndsAt, IsLeastMove, KeepsCost, StopsAt}
+use Rattle.walk_search.specs.Walked.{AreLabelsOf, AreSteps, EndsAt, IsLeastMove, KeepsCost, StopsAt, walk_of_labels}
 use Rattle.walk_search.proofs.Numbered.{spot_of-none, spot_of-number}
 use Rattle.walk_search.proofs.SeatFacts.{seats_few}
 use Rattle.walk_search.proofs.Moving.{IsChosen, IsStepped, goal_parts, is_space, move_cases, moved, some_same, start_inside}
@@ -222,3 +222,33 @@ walk_left q start steps more ls i d whole below is before =
     (ap (λ ds. ds ++ map direction (drop (i + 1) ls)) is ∙ append_assoc steps (direction (get_or ls i d) ∷ []) (map direction (drop (i + 1) ls))
     ∙ ap (λ (xs : List ℕ). steps ++ map direction xs) (sym (drop_more ls i d below)))
     ∙ before
+
+pub record AreFirst (q : Question) (labels : List ℕ) (w : AreLabelsOfWalk q labels) : Type 0 where
+  pub seat : get_or labels 0 0 ≡ w.seat
+  pub first : get_or labels 1 0 ≡ w.first
+  pub others : take (length labels - 2) (drop 2 labels) ≡ w.others
+
+pub first_labels : (q : Question) (labels : List ℕ) (w : AreLabelsOfWalk q labels) → AreFirst q labels w
+first_labels q labels w = record {
+  seat = ap (λ (ls : List ℕ). get_or ls 0 0) w.is;
+  first = ap (λ (ls : List ℕ). get_or ls 1 0) w.is;
+  others = others_of labels w.seat w.first w.others w.is;
+}
+
+pub seat_of_labels : (q : Question) (labels : List ℕ) (w : AreLabelsOfWalk q labels) → get_or labels 0 0 < length (starts_of q)
+seat_of_labels q labels w = subst (λ (n : ℕ). n < length (starts_of q)) (sym (first_labels q labels w).seat) w.below
+
+pub steps_of_labels : (q : Question) (labels : List ℕ) (w : AreLabelsOfWalk q labels) (start : GridPoint) → start ≡ start_at q (get_or labels 0 0) →
+    AreSteps q start (get_or labels 1 0 ∷ take (length labels - 2) (drop 2 labels))
+steps_of_labels q labels w start is =
+    let f = first_labels q labels w in
+    subst (λ (p : GridPoint). AreSteps q p (get_or labels 1 0 ∷ take (length labels - 2) (drop 2 labels))) (sym (is ∙ ap (start_at q) f.seat))
+    (subst (λ (l : ℕ). AreSteps q (start_at q w.seat) (l ∷ take (length labels - 2) (drop 2 labels))) (sym f.first)
+    (subst (λ (ls : List ℕ). AreSteps q (start_at q w.seat) (w.first ∷ ls)) (sym f.others) w.steps))
+
+pub walk_of_parts : (q : Question) (labels : List ℕ) (w : AreLabelsOfWalk q labels) (start : GridPoint) → start ≡ start_at q (get_or labels 0 0) →
+    (let v : PlainWalk = record { start = start; steps = map direction (get_or labels 1 0 ∷ take (length labels - 2) (drop 2 labels)) } in v) ≡ walk_of_labels q labels
+walk_of_parts q labels w start is =
+    let f = first_labels q labels w in
+    ap₂ (λ (p : GridPoint) (ls : List ℕ). (let v : PlainWalk = record { start = p; steps = map direction ls } in v)) (is ∙ ap (start_at q) f.seat) (ap₂ (λ (l : ℕ) (ls : List ℕ). l ∷ ls) f.first f.others)
+    ∙ sym (ap (walk_of_labels q) w.is)
