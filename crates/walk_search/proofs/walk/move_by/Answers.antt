@@ -10,4 +10,4 @@ use Rattle.walk_search.proofs.walk.move_by.Goals as goal
 
 pub number_of-requires : goal.number_of-requires
 number_of-requires c =
-    (moved (question c.args.asked.now) c.args.asked.now.asked.asked c.args.at c.args.label c.in_ok-landing.cost c.in_ok-landing.landing c.requires (sym c.in_ok-landing.ensures)).spot
+    (moved (question c.args.asked.now) c.args.asked.now.asked.asked c.args.at c.args.label c.in_ok-landing.cost c.in_ok-landing.landing c.requires.at (sym c.in_ok-landing.ensures)).spot
