@@ -1,6 +1,6 @@
 //! The least free walk between two ends.
 
-ghost use Rattle.std.specs.Prelude.{◌≡◌, ◌≢◌, IfOk, true};
+ghost use Rattle.std.specs.Prelude.{◌≡◌, ◌≢◌, IfOk, true, false};
 ghost use Rattle.walk_search.specs.Routes.{route};
 ghost use Rattle.walk_search.specs.Boards.{parts_of};
 ghost use Rattle.walk_search.specs.Moves.{is_all_or_none};
