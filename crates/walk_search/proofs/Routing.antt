@@ -23,12 +23,12 @@ use Rattle.walk_search.specs.Seats.{is_free_seat, seats_of, shifted, shifts}
 use Rattle.walk_search.specs.Routes.{best_of, directions, free_walks, is_first, is_free, is_lower, is_no_worse, lists_upto, most_steps, route, total_of, walks_from}
 use Rattle.walk_search.specs.Spots.{spots_of}
 use Rattle.walk_search.specs.Moves.{Question, IsQuestion, direction, space_of, start_at, starts_of}
-use Rattle.walk_search.specs.Walked.{IsAnswer, IsLeastWalk, walk_of_labels}
+use Rattle.walk_search.specs.Walked.{AreSteps, IsAnswer, IsLeastWalk, walk_of_labels}
 use Rattle.walk_search.proofs.Marks.{one_is, one_same, one_true}
 use Rattle.walk_search.proofs.Turning.{direction-number_of, number_of-direction}
 use Rattle.walk_search.proofs.SeatFacts.{all_index, place_stands}
 use Rattle.walk_search.proofs.Moving.{is_space, some_same}
-use Rattle.walk_search.proofs.Walking.{AreLabelsOfWalk, AreSteps, path_labels}
+use Rattle.walk_search.proofs.Walking.{AreLabelsOfWalk, path_labels}
 use Rattle.walk_search.proofs.FreeWalks.{HasPath, IsPathWalk, path_of_walk, walk_of_path}
 
 -- seats rise: each is lower than the later ones

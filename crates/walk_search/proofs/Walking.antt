@@ -1,9 +1,13 @@
 -- The walk along known costs is the least path.
-use Rattle.std.proofs.Common.{◌≡◌, ◌≢◌, refl, sym, ◌∙◌, ap, ap₂, subst, ℕ, zero, suc, ◌+◌, ◌<◌, ◌≤◌, ◌⊎◌, inl, inr, Bool, true, false, ◌&&◌, List, [], ◌∷◌, ◌++◌, map, length, drop, Option, Some, None, arith}
-use Rattle.std.proofs.lemmas.Bool.{and_parts}
+use Rattle.std.proofs.Common.{◌≡◌, ◌≢◌, refl, sym, ◌∙◌, ap, ap₂, subst, ℕ, zero, suc, ◌+◌, ◌-◌, ◌<◌, ◌≤◌, ◌⊎◌, inl, inr, Bool, true, false, cond, ◌&&◌, List, [], ◌∷◌, ◌++◌, map, length, get_or, take, drop, append_assoc, Option, Some, None, arith}
+use Rattle.std.specs.Prelude.{IfNone}
+use Rattle.std.proofs.lemmas.Bool.{and_parts, lt-ltb}
 use Rattle.octi_grid.specs.declared.dir.Dir.{Dir}
 use Rattle.octi_grid.specs.declared.point.GridPoint.{GridPoint}
-use Rattle.octi_grid.specs.Ways.{step_from}
+use Rattle.std.proofs.lemmas.List.{drop_more}
+use Rattle.octi_grid.specs.Ways.{after, step_from}
+use Rattle.octi_grid.specs.Walks.{PlainWalk}
+use Rattle.octi_grid.proofs.WayLemmas.{after-append}
 use Rattle.state_search.specs.Goals.{PathTo, IsLeastPathTo, AreLeastCostsTo}
 use Rattle.state_search.specs.Searching.{IsFound, IsSearched, known_at}
 use Rattle.state_search.proofs.Walks.{IsLed, IsNext, ends_or_goes_on, next_is_nearer, walk_begins, walk_ends, walk_goes_on}
@@ -11,8 +15,9 @@ use Rattle.walk_search.specs.declared.spots.Spot.{Spot}
 use Rattle.walk_search.specs.Boards.{is_inside}
 use Rattle.walk_search.specs.Spots.{IsSpot, spots_of, spot_of}
 use Rattle.walk_search.specs.Moves.{Question, IsQuestion, IsMove, direction, end_cost, space_of, spot_ahead, starts_of, start_at}
-use Rattle.walk_search.specs.Walked.{AreLabelsOf, EndsAt, IsLeastMove, KeepsCost, StopsAt}
+use Rattle.walk_search.specs.Walked.{AreLabelsOf, AreSteps, EndsAt, IsLeastMove, KeepsCost, StopsAt, walk_of_labels}
 use Rattle.walk_search.proofs.Numbered.{spot_of-none, spot_of-number}
+use Rattle.walk_search.proofs.SeatFacts.{seats_few}
 use Rattle.walk_search.proofs.Moving.{IsChosen, IsStepped, goal_parts, is_space, move_cases, moved, some_same, start_inside}
 
 -- what comes before every spot
@@ -95,11 +100,6 @@ goal_before q k e =
     let clash : None ≡ Some g.0 = sym (spot_of-none q.board.bounds) ∙ g.1.spot in
     cc
 
--- the steps of labels from a point stay on the board
-abbrev pub AreSteps : Question → GridPoint → List ℕ → Type 0
-AreSteps q p [] = Unit {0}
-AreSteps q p (l ∷ ls) = (l < 8) × (is_inside q.board (step_from p (direction l)) ≡ true) × AreSteps q (step_from p (direction l)) ls
-
 pub steps_of_path : (q : Question) → IsQuestion q → (n : ℕ) (s : Spot) (ls : List ℕ) (k : ℕ) → spot_of q.board.bounds n ≡ Some s → PathTo (space_of q) n ls k → AreSteps q s.at ls
 steps_of_path q h n s [] k e p = tt
 steps_of_path q h n s (l ∷ ls) k e p = of_case (move_cases q (spot_of q.board.bounds n) l m.landing p.1 m.goes) (λ x there. steps_of_path q h p.0 x ls p.2 there p.4)
@@ -158,3 +158,99 @@ path_labels q h (i ∷ ls) k p = of_case (move_cases q (spot_of q.board.bounds (
     of_case : ((spot_of q.board.bounds (before q) ≡ None) × IsChosen q i m.landing p.1) ⊎ ((x : Spot) × (spot_of q.board.bounds (before q) ≡ Some x) × IsStepped q x i m.landing p.1) → AreLabelsOfWalk q (i ∷ ls)
     of_case (inl c) = of_rest ls p.4 c.1
     of_case (inr c) = let clash : None ≡ Some c.0 = sym (spot_of-none q.board.bounds) ∙ c.1 in absurd (let no : ⊥ = cc in no)
+
+-- labels of which there are fewer than two are those where there is no path
+pub no_path_where_short : (q : Question) → IsQuestion q → (table : List (Option ℕ)) (labels : List ℕ) → IsSearched (space_of q) (before q) table → AreLabelsOf q labels (known_at table (before q)) → length labels < 2 →
+    (others : List ℕ) (k : ℕ) → PathTo (space_of q) (before q) others k → ⊥
+no_path_where_short q h table labels searched are short = of_known (known_at table (before q)) searched.1 are
+  where
+    of_known : (o : Option ℕ) → IsFound (space_of q) (before q) table o → AreLabelsOf q labels o → (others : List ℕ) (k : ℕ) → PathTo (space_of q) (before q) others k → ⊥
+    of_known None found a = found
+    of_known (Some limit) found a = λ others k p.
+        let w = path_labels q h labels a.0 a.1.path in
+        let many : length labels ≡ length (w.seat ∷ w.first ∷ w.others) = ap length w.is in
+        omega arith
+
+pub least_where_long : (q : Question) (table : List (Option ℕ)) (labels : List ℕ) → AreLabelsOf q labels (known_at table (before q)) → 2 ≤ length labels → (k : ℕ) × IsLeastPathTo (space_of q) (before q) labels k
+least_where_long q table labels are long = of_known (known_at table (before q)) are
+  where
+    of_known : (o : Option ℕ) → AreLabelsOf q labels o → (k : ℕ) × IsLeastPathTo (space_of q) (before q) labels k
+    of_known None a = let none : length labels ≡ 0 = ap length a in absurd (omega arith)
+    of_known (Some limit) a = a
+
+-- what it costs to end at the spot of a number
+pub goal_is : (q : Question) (n : ℕ) (s : Spot) → n < before q + 1 → Some s ≡ spot_of q.board.bounds n → (space_of q).goal n ≡ end_cost q (Some s)
+goal_is q n s below e = ap (λ t. cond t (end_cost q (spot_of q.board.bounds n)) None) (lt-ltb n (before q + 1) below) ∙ ap (end_cost q) (sym e)
+
+-- no label of a move is as great as 9
+pub label_small : (q : Question) (at label to c : ℕ) → IsMove q at label to c → label < 9
+label_small q at label to c m = of_case (move_cases q (spot_of q.board.bounds at) label m.landing c m.goes)
+  where
+    of_case : ((spot_of q.board.bounds at ≡ None) × IsChosen q label m.landing c) ⊎ ((x : Spot) × (spot_of q.board.bounds at ≡ Some x) × IsStepped q x label m.landing c) → label < 9
+    of_case (inl k) =
+        let few : length (starts_of q) ≤ 9 = seats_few q.board q.from in
+        let below : label < length (starts_of q) = k.1.below in
+        omega arith
+    of_case (inr k) = let below : label < 8 = k.2.below in omega arith
+
+pub if_none : {X : Type 0} (o : Option X) (P : Type 0) → P → IfNone o P
+if_none None P p = p
+if_none (Some x) P p = tt
+
+-- the labels of a walk, one by one
+take_two : (others : List ℕ) (n : ℕ) → n ≡ length others → take n others ≡ others
+take_two [] zero e = refl
+take_two [] (suc n) e = refl
+take_two (l ∷ ls) zero e = absurd (omega arith)
+take_two (l ∷ ls) (suc n) e = ap (λ xs. l ∷ xs) (take_two ls n (omega arith))
+
+pub others_of : (labels : List ℕ) (seat first : ℕ) (others : List ℕ) → labels ≡ seat ∷ first ∷ others → take (length labels - 2) (drop 2 labels) ≡ others
+others_of labels seat first others e =
+    let many : length labels ≡ length (seat ∷ first ∷ others) = ap length e in
+    let fewer : length labels - 2 ≡ length others = omega arith in
+    ap (λ (ls : List ℕ). take (length labels - 2) (drop 2 ls)) e ∙ take_two others (length labels - 2) fewer
+
+pub after_last : (p : GridPoint) (ds : List Dir) (d : Dir) → after p (ds ++ d ∷ []) ≡ step_from (after p ds) d
+after_last p ds d = after-append p ds (d ∷ [])
+
+pub steps_left : (q : Question) (p : GridPoint) (ls : List ℕ) (i : ℕ) (d : ℕ) → i < length ls → AreSteps q p (drop i ls) →
+    (get_or ls i d < 8) × (is_inside q.board (step_from p (direction (get_or ls i d))) ≡ true) × AreSteps q (step_from p (direction (get_or ls i d))) (drop (i + 1) ls)
+steps_left q p ls i d below h = subst (λ (xs : List ℕ). AreSteps q p xs) (drop_more ls i d below) h
+
+pub walk_left : (q : Question) (start : GridPoint) (steps more : List Dir) (ls : List ℕ) (i d : ℕ) (whole : PlainWalk) → i < length ls → more ≡ steps ++ direction (get_or ls i d) ∷ [] →
+    (let w : PlainWalk = record { start = start; steps = steps ++ map direction (drop i ls) } in w) ≡ whole → (let w : PlainWalk = record { start = start; steps = more ++ map direction (drop (i + 1) ls) } in w) ≡ whole
+walk_left q start steps more ls i d whole below is before =
+    ap (λ (ds : List Dir). (let w : PlainWalk = record { start = start; steps = ds } in w))
+    (ap (λ ds. ds ++ map direction (drop (i + 1) ls)) is ∙ append_assoc steps (direction (get_or ls i d) ∷ []) (map direction (drop (i + 1) ls))
+    ∙ ap (λ (xs : List ℕ). steps ++ map direction xs) (sym (drop_more ls i d below)))
+    ∙ before
+
+pub record AreFirst (q : Question) (labels : List ℕ) (w : AreLabelsOfWalk q labels) : Type 0 where
+  pub seat : get_or labels 0 0 ≡ w.seat
+  pub first : get_or labels 1 0 ≡ w.first
+  pub others : take (length labels - 2) (drop 2 labels) ≡ w.others
+
+pub first_labels : (q : Question) (labels : List ℕ) (w : AreLabelsOfWalk q labels) → AreFirst q labels w
+first_labels q labels w = record {
+  seat = ap (λ (ls : List ℕ). get_or ls 0 0) w.is;
+  first = ap (λ (ls : List ℕ). get_or ls 1 0) w.is;
+  others = others_of labels w.seat w.first w.others w.is;
+}
+
+pub seat_of_labels : (q : Question) (labels : List ℕ) (w : AreLabelsOfWalk q labels) → get_or labels 0 0 < length (starts_of q)
+seat_of_labels q labels w = subst (λ (n : ℕ). n < length (starts_of q)) (sym (first_labels q labels w).seat) w.below
+
+pub steps_of_labels : (q : Question) (labels : List ℕ) (w : AreLabelsOfWalk q labels) (start : GridPoint) → start ≡ start_at q (get_or labels 0 0) →
+    AreSteps q start (get_or labels 1 0 ∷ take (length labels - 2) (drop 2 labels))
+steps_of_labels q labels w start is =
+    let f = first_labels q labels w in
+    subst (λ (p : GridPoint). AreSteps q p (get_or labels 1 0 ∷ take (length labels - 2) (drop 2 labels))) (sym (is ∙ ap (start_at q) f.seat))
+    (subst (λ (l : ℕ). AreSteps q (start_at q w.seat) (l ∷ take (length labels - 2) (drop 2 labels))) (sym f.first)
+    (subst (λ (ls : List ℕ). AreSteps q (start_at q w.seat) (w.first ∷ ls)) (sym f.others) w.steps))
+
+pub walk_of_parts : (q : Question) (labels : List ℕ) (w : AreLabelsOfWalk q labels) (start : GridPoint) → start ≡ start_at q (get_or labels 0 0) →
+    (let v : PlainWalk = record { start = start; steps = map direction (get_or labels 1 0 ∷ take (length labels - 2) (drop 2 labels)) } in v) ≡ walk_of_labels q labels
+walk_of_parts q labels w start is =
+    let f = first_labels q labels w in
+    ap₂ (λ (p : GridPoint) (ls : List ℕ). (let v : PlainWalk = record { start = p; steps = map direction ls } in v)) (is ∙ ap (start_at q) f.seat) (ap₂ (λ (l : ℕ) (ls : List ℕ). l ∷ ls) f.first f.others)
+    ∙ sym (ap (walk_of_labels q) w.is)

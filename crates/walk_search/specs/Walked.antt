@@ -1,8 +1,11 @@
 -- The walk along known costs.
-use Rattle.std.specs.Prelude.{◌≡◌, ◌⊎◌, ℕ, ◌+◌, ◌≤◌, List, [], ◌∷◌, map, Option, Some, None}
+use Rattle.std.specs.Prelude.{◌≡◌, ◌⊎◌, ℕ, ◌+◌, ◌<◌, ◌≤◌, true, List, [], ◌∷◌, map, Option, Some, None}
+use Rattle.octi_grid.specs.declared.point.GridPoint.{GridPoint}
+use Rattle.octi_grid.specs.Ways.{step_from}
 use Rattle.octi_grid.specs.Walks.{PlainWalk}
 use Rattle.state_search.specs.Goals.{PathTo, IsLeastPathTo}
 use Rattle.state_search.specs.Searching.{known_at, IsSearched}
+use Rattle.walk_search.specs.Boards.{is_inside}
 use Rattle.walk_search.specs.Spots.{spots_of}
 use Rattle.walk_search.specs.Moves.{Question, IsMove, direction, start_at, space_of}
 
@@ -29,6 +32,11 @@ pub record IsLeastMove (q : Question) (table : List (Option ℕ)) (at label to :
 -- the walk ends at a spot, or no move from there keeps to the known costs
 abbrev pub StopsAt : Question → List (Option ℕ) → ℕ → Type 0
 StopsAt q table at = EndsAt q table at ⊎ ((label to : ℕ) → KeepsCost q table at label to → ⊥)
+
+-- the steps of labels from a point stay on the board
+abbrev pub AreSteps : Question → GridPoint → List ℕ → Type 0
+AreSteps q p [] = Unit {0}
+AreSteps q p (l ∷ ls) = (l < 8) × (is_inside q.board (step_from p (direction l)) ≡ true) × AreSteps q (step_from p (direction l)) ls
 
 -- the labels lead from before the choice of a seat to an end
 abbrev pub IsPath : Question → List ℕ → Type 0

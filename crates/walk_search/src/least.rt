@@ -1,17 +1,16 @@
 //! The least free walk between two ends.
 
-ghost use Rattle.std.specs.Prelude.{◌≡◌, ◌≢◌, IfOk, IfSome, true, false};
-ghost use Rattle.octi_grid.specs.Legal.{are_distinct};
-ghost use Rattle.octi_grid.specs.Walks.{doubled_of};
+ghost use Rattle.std.specs.Prelude.{◌≡◌, ◌≢◌, IfOk, true, false};
 ghost use Rattle.walk_search.specs.Routes.{route};
 ghost use Rattle.walk_search.specs.Boards.{parts_of};
-ghost use Rattle.walk_search.specs.Moves.{IsQuestion, is_all_or_none};
+ghost use Rattle.walk_search.specs.Moves.{is_all_or_none};
 
 use crate::asked::Asked;
 use crate::board::Board;
 use crate::ends::End;
 use crate::known::Known;
 use crate::search::note_costs;
+use crate::spots::spots_of;
 use crate::walk::walk;
 use map_base::NoMemory;
 use octi_grid::{GridPoint, Walk};
@@ -68,13 +67,27 @@ pub fn least_settled_walk(
 }
 
 /// The same for two ends.
+<<<<<<< HEAD
 fn least_between(alloc: Global, board: &Board, from: End, to: End) -> Result<Option<Walk>, NoMemory>
     requires { IsQuestion (record { board = parts_of board.now; from = from; to = to }) }
+=======
+fn least_between(
+    alloc: Global,
+    board: &Board,
+    from: End,
+    to: End,
+) -> Result<Option<Walk>, NoMemory>
+    requires from { (parts_of board.now).is_node from.at ≡ true }
+    requires to { (parts_of board.now).is_node to.at ≡ true }
+    requires apart { from.at ≢ to.at }
+    requires from_mask { from.is_free ≡ true → is_all_or_none from.ports ≡ true }
+    requires to_mask { to.is_free ≡ true → is_all_or_none to.ports ≡ true }
+>>>>>>> 8c72dfb97535f8a5db388b451928eb2b92ccaa8d
     ensures { IfOk result (λ walk. walk ≡ route (parts_of board.now) from to) }
 {
-    let asked = Asked::new(alloc, board, from, to)?;
-    let states = asked.before() as usize + 1;
+    let states = spots_of(board.bounds()) as usize + 1;
     let mut known = Known::none(alloc, states);
+    let asked = Asked::new(alloc, board, from, to)?;
     note_costs(alloc, &asked, &mut known)?;
     walk(alloc, &asked, &known)
 }

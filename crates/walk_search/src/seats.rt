@@ -1,8 +1,8 @@
 //! The seats of an end.
 
-ghost use Rattle.std.specs.Prelude.{◌≡◌, ◌<◌, ◌≤◌, ◌^◌, ◌||◌, ◌++◌, not, IfOk, OnOk, true, length};
+ghost use Rattle.std.specs.Prelude.{◌≡◌, ◌<◌, ◌≤◌, ◌^◌, ◌||◌, ◌++◌, not, unsigned_abs, IfOk, OnOk, true, length};
 ghost use Rattle.walk_search.specs.Boards.{AreBounds, contains, doubled_bounds, is_inside, parts_of};
-ghost use Rattle.walk_search.specs.Seats.{is_free_seat, kept_seat, seat_cost, seats_of};
+ghost use Rattle.walk_search.specs.Seats.{is_free_seat, kept_seat, seat_cost, seats_of, shifted};
 ghost use Rattle.octi_grid.specs.Ways.{CanStep, IsWithin, are_one, doubled};
 ghost use Rattle.octi_grid.specs.Legal.{is_among};
 
@@ -35,14 +35,23 @@ pub(crate) fn seats_of(alloc: Global, board: &Board, end: End) -> Result<Vec<Gri
         return Ok(vec![in alloc; end.at; 1]?);
     }
     let mut seats = Vec::new(alloc);
-    for (east, north) in SHIFTS {
-        let seat = GridPoint {
-            x: end.at.x + east,
-            y: end.at.y + north,
-        };
-        add_seat(board, end.at, seat, &mut seats)?;
+    for shift in SHIFTS {
+        add_seat(board, end.at, shifted(end.at, shift), &mut seats)?;
     }
     Ok(seats)
+}
+
+/// The point so far east and north of another.
+fn shifted(p: GridPoint, by: (i32, i32)) -> GridPoint
+    requires p { IsWithin p }
+    requires east { unsigned_abs by.0 ≤ 2 }
+    requires north { unsigned_abs by.1 ≤ 2 }
+    ensures { result ≡ shifted p by }
+{
+    GridPoint {
+        x: p.x + by.0,
+        y: p.y + by.1,
+    }
 }
 
 /// Adds a point to the seats, if the end may be put there.

@@ -1,11 +1,12 @@
 //! The walk along known costs.
 
-ghost use Rattle.std.specs.Prelude.{◌≡◌, ℕ, ◌+◌, ◌<◌, ◌≤◌, ◌↔◌, Some, IsTrue, IfOk, IfSome, IfNone, length};
+ghost use Rattle.std.specs.Prelude.{◌≡◌, ℕ, ◌+◌, ◌<◌, ◌≤◌, ◌↔◌, ◌∷◌, map, true, Some, IsTrue, IfOk, IfSome, IfNone, length};
+ghost use Rattle.walk_search.specs.Boards.{is_inside};
 ghost use Rattle.walk_search.specs.Spots.{spot_of, spots_of};
 ghost use Rattle.state_search.specs.Searching.{IsSearched, known_at};
 ghost use Rattle.walk_search.specs.Asking.{question};
-ghost use Rattle.walk_search.specs.Moves.{IsMove, move_of, space_of};
-ghost use Rattle.walk_search.specs.Walked.{AreLabels, DifferBy, EndsAt, IsAnswer, IsLeastMove, IsPath, KeepsCost, StopsAt, walk_of_labels};
+ghost use Rattle.walk_search.specs.Moves.{IsMove, direction, move_of, space_of};
+ghost use Rattle.walk_search.specs.Walked.{AreLabels, AreSteps, DifferBy, EndsAt, IsAnswer, IsLeastMove, IsPath, KeepsCost, StopsAt, walk_of_labels};
 
 use crate::asked::Asked;
 use crate::directions::direction;
@@ -13,7 +14,7 @@ use crate::known::Known;
 use crate::search::is_sum;
 use crate::spots::Spot;
 use map_base::NoMemory;
-use octi_grid::Walk;
+use octi_grid::{GridPoint, Walk};
 use std::alloc::Global;
 
 /// A move: its label, the number of the spot that it leads to, and what it costs.
@@ -154,8 +155,23 @@ fn walk_by(alloc: Global, asked: &Asked, labels: &[u8]) -> Result<Walk, NoMemory
     ensures { IfOk result (λ walk. walk ≡ walk_of_labels (question asked.now) labels.now) }
 {
     let start = asked.start(labels[0]);
-    let mut walk = Walk::of_step(alloc, start, direction(labels[1]))?;
-    for label in &labels[2..] {
+    walk_from(alloc, asked, start, labels[1], &labels[2..])
+}
+
+/// The walk from a point by the numbers of its directions.
+fn walk_from(
+    alloc: Global,
+    asked: &Asked,
+    start: GridPoint,
+    first: u8,
+    rest: &[u8],
+) -> Result<Walk, NoMemory>
+    requires start { is_inside (question asked.now).board start ≡ true }
+    requires steps { AreSteps (question asked.now) start (first ∷ rest.now) }
+    ensures { IfOk result (λ walk. walk ≡ record { start = start; steps = map direction (first ∷ rest.now) }) }
+{
+    let mut walk = Walk::of_step(alloc, start, direction(first))?;
+    for label in rest {
         walk.push(direction(*label))?;
     }
     Ok(walk)

@@ -1,3 +1,0 @@
-pub mod TourLemmas
-mod OrderLemmas
-mod Examples

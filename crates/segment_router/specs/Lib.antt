@@ -1,7 +1,0 @@
-pub mod Cells
-pub mod Homes
-pub mod Ports
-pub mod Orders
-pub mod Routes
-pub mod Routing
-pub mod Tours

@@ -1,0 +1,32 @@
+use Rattle.std.proofs.Common.{◌≡◌, sym, ◌∙◌, ap, ℕ, ◌+◌, Option, None, replicate}
+use Rattle.std.proofs.lemmas.Result.{IfOk-weaker}
+use Rattle.octi_grid.specs.Walks.{PlainWalk}
+use Rattle.walk_search.specs.declared.bounds.Bounds.{Bounds}
+use Rattle.walk_search.specs.Boards.{parts_of}
+use Rattle.walk_search.specs.Asking.{question}
+use Rattle.walk_search.specs.Routes.{route}
+use Rattle.walk_search.specs.Spots.{spots_of}
+use Rattle.walk_search.specs.Moves.{Question}
+use Rattle.walk_search.specs.Walked.{IsAnswer}
+use Rattle.walk_search.proofs.Routing.{answer_is_route}
+use Rattle.walk_search.proofs.least.least_between.Goals as goal
+
+pub new-requires : goal.new-requires
+new-requires c = record {
+  board = c.bounds.ensures.kept;
+  from_node = c.requires.from;
+  to_node = c.requires.to;
+  apart = c.requires.apart;
+  from_ports = c.requires.from_mask;
+  to_ports = c.requires.to_mask;
+}
+
+pub note_costs-requires : goal.note_costs-requires
+note_costs-requires c =
+    c.none-known.ensures
+    ∙ ap (λ (n : ℕ). replicate (n + 1) None) (c.spots_of.ensures.value ∙ ap (λ (b : Bounds). spots_of b) c.bounds.ensures.value ∙ sym (ap (λ (x : Question). spots_of x.board.bounds) c.in_ok-asked.ensures))
+
+pub returns : goal.returns
+returns c =
+    IfOk-weaker c.walk.result (IsAnswer (question c.in_ok-asked.asked)) (λ (o : Option PlainWalk). o ≡ route (parts_of c.args.board.now) c.args.from c.args.to)
+    (λ o a. answer_is_route (question c.in_ok-asked.asked) c.in_ok-asked.asked.asked.asked o a ∙ ap (λ (x : Question). route x.board x.from x.to) c.in_ok-asked.ensures) c.walk.ensures

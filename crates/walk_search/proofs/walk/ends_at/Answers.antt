@@ -1,0 +1,15 @@
+use Rattle.std.proofs.Common.{◌≡◌, sym, ◌∙◌, ap, subst, ℕ, ◌+◌, ◌<◌, ◌≤◌, ◌⊎◌, inl, inr, Option, Some, None, length, arith}
+use Rattle.std.proofs.lemmas.Bool.{cases_lt, iff_false}
+use Rattle.walk_search.specs.Asking.{question}
+use Rattle.walk_search.specs.Spots.{IsSpot, spots_of, spot_of}
+use Rattle.walk_search.specs.Moves.{end_cost, space_of}
+use Rattle.walk_search.specs.Walked.{KeepsCost}
+use Rattle.walk_search.proofs.Moving.{moved}
+use Rattle.walk_search.proofs.Walking.{goal_is, if_none, label_small, least_where_long, no_path_where_short}
+use Rattle.walk_search.proofs.walk.ends_at.Goals as goal
+
+pub returns-in-Some : goal.returns-in-Some
+returns-in-Some c =
+    let q = question c.args.asked.now in
+    let pays : (space_of q).goal c.args.at ≡ c.end_cost.result = goal_is q c.args.at c.in-Some.spot c.requires.at c.in-Some.ensures.value ∙ sym c.end_cost.ensures.value in
+    (λ t. let k = c.are_known.ensures.0 t in (k.0, sym c.of.ensures ∙ k.1, pays ∙ k.2), λ e. c.are_known.ensures.1 (e.0, c.of.ensures ∙ e.1, sym pays ∙ e.2))
