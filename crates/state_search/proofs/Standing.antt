@@ -1,5 +1,5 @@
 -- Offers that stand in a list.
-use Rattle.std.proofs.Common.{◌≡◌, refl, sym, ap, subst, ℕ, zero, suc, ◌+◌, ◌<◌, ◌⊎◌, inl, inr, List, [], ◌∷◌, length, get_or, Option, Some, Contains, arith}
+use Rattle.std.proofs.Common.{◌≡◌, subst, ℕ, zero, suc, ◌+◌, ◌<◌, inl, inr, List, [], ◌∷◌, length, get_or, Some, Contains, arith}
 use Rattle.least_path.proofs.Chosen.{StandsIn, AllAre, all-at}
 use Rattle.state_search.specs.Goals.{Space}
 use Rattle.state_search.specs.Searching.{OfferGoals, OfferSteps}

@@ -1,5 +1,5 @@
 -- Boards from -6 to 8 both ways, and one from -8 to 24, with walks that are free or not, and their costs.
-use Rattle.std.proofs.Common.{◌≡◌, refl, ℕ, Bool, true, false, ℤ, pos, negsuc, List, [], ◌∷◌, ◌++◌, replicate}
+use Rattle.std.proofs.Common.{◌≡◌, refl, true, false, ℤ, pos, negsuc, List, [], ◌∷◌, replicate}
 use Rattle.octi_grid.specs.declared.dir.Dir.{Dir}
 use Rattle.octi_grid.specs.declared.dir.Dir.TheVariants as dir
 use Rattle.octi_grid.specs.declared.point.GridPoint.{GridPoint}

@@ -1,21 +1,19 @@
 -- Paths from spot to spot are walks along open steps, and the other way round.
-use Rattle.std.proofs.Common.{◌≡◌, ◌≢◌, refl, sym, ◌∙◌, ap, ap₂, subst, ℕ, zero, suc, ◌+◌, ◌<◌, ◌≤◌, ◌⊎◌, inl, inr, Bool, true, false, cond, eqb, ltb, not, ◌&&◌, ◌||◌, List, [], ◌∷◌, map, length, Option, Some, None, arith}
+use Rattle.std.proofs.Common.{◌≡◌, refl, sym, ◌∙◌, ap, subst, ℕ, ◌+◌, ◌<◌, ◌⊎◌, inl, inr, Bool, true, false, cond, ltb, ◌&&◌, List, [], ◌∷◌, map, Option, Some, None, arith}
 use Rattle.std.specs.Prelude.{option_map}
-use Rattle.std.proofs.lemmas.Bool.{and_parts, and_from, lt-ltb, ne_eqb, eq-eqb}
+use Rattle.std.proofs.lemmas.Bool.{and_parts, and_from, lt-ltb, ne_eqb}
 use Rattle.octi_grid.specs.declared.dir.Dir.{Dir}
-use Rattle.octi_grid.specs.declared.point.GridPoint.{GridPoint}
 use Rattle.octi_grid.specs.Ways.{after, number_of, reverse_of, step_from}
 use Rattle.octi_grid.specs.Costs.{step_cost, turn_between, way_cost}
 use Rattle.octi_grid.specs.Walks.{last_of}
 use Rattle.state_search.specs.Goals.{PathTo}
 use Rattle.walk_search.specs.declared.spots.Spot.{Spot}
-use Rattle.walk_search.specs.Boards.{is_inside}
 use Rattle.walk_search.specs.Seats.{seat_cost}
 use Rattle.walk_search.specs.Routes.{allows}
-use Rattle.walk_search.specs.Spots.{IsSpot, number_of_spot, spots_of, spot_of}
-use Rattle.walk_search.specs.Moves.{Question, IsQuestion, IsMove, direction, end_cost, is_end, is_open, is_passable, is_start, may_end, may_leave, move_of, space_of, stepped, turn_from}
-use Rattle.walk_search.proofs.FreeWays.{Along, first_open, open_parts}
-use Rattle.walk_search.proofs.Numbered.{IsSpotOf, number_below_spots, spot_of-number, spot_of-is}
+use Rattle.walk_search.specs.Spots.{IsSpot, number_of_spot, spot_of}
+use Rattle.walk_search.specs.Moves.{Question, IsQuestion, IsMove, direction, end_cost, is_end, is_open, is_passable, is_start, may_end, may_leave, space_of, turn_from}
+use Rattle.walk_search.proofs.FreeWays.{Along, open_parts}
+use Rattle.walk_search.proofs.Numbered.{spot_of-number}
 use Rattle.walk_search.proofs.Turning.{direction-number_of, number_below}
 use Rattle.walk_search.proofs.Moving.{IsChosen, IsGoal, IsStepped, goal_parts, move_cases, moved, some_same}
 use Rattle.walk_search.proofs.Offering.{goal_of_spot, step_move}

@@ -1,16 +1,16 @@
 -- Free walks are the walks of paths, and the other way round.
-use Rattle.std.proofs.Common.{◌≡◌, ◌≢◌, refl, sym, ◌∙◌, ap, ap₂, subst, ℕ, zero, suc, ◌+◌, ◌-◌, ◌<◌, ◌≤◌, ◌⊎◌, inl, inr, Bool, true, false, cond, eqb, leb, ltb, not, ◌&&◌, ◌||◌, List, [], ◌∷◌, map, filter, length, get_or, Option, Some, None, slice_get, ℤ, pos, negsuc, ◌+ℤ◌, arith}
+use Rattle.std.proofs.Common.{◌≡◌, ◌≢◌, refl, sym, ◌∙◌, ap, ap₂, subst, ℕ, ◌+◌, ◌-◌, ◌<◌, ◌≤◌, ◌⊎◌, inl, inr, Bool, true, false, cond, eqb, leb, not, ◌&&◌, ◌||◌, List, [], ◌∷◌, map, filter, length, Some, None, ℤ, pos, negsuc, ◌+ℤ◌, arith}
 use Rattle.std.specs.Prelude.{option_map}
 use Rattle.std.specs.List.{list_all, list_any}
 use Rattle.std.proofs.lemmas.Int.{ints}
-use Rattle.std.proofs.lemmas.Bool.{and_parts, and_from, eqb-true, eq-eqb, ne_eqb}
+use Rattle.std.proofs.lemmas.Bool.{and_parts, and_from, ne_eqb}
 use Rattle.least_path.proofs.Chosen.{StandsIn, AllAre, all-at}
 use Rattle.octi_grid.specs.declared.dir.Dir.{Dir}
 use Rattle.octi_grid.specs.declared.dir.Dir.TheVariants as dir
 use Rattle.octi_grid.specs.declared.point.GridPoint.{GridPoint}
-use Rattle.octi_grid.specs.Ways.{after, are_one, doubled, doubled_from, east_of, north_of, number_of, points_from, reverse_of, step_from}
+use Rattle.octi_grid.specs.Ways.{after, are_one, doubled, east_of, north_of, number_of, reverse_of, step_from}
 use Rattle.octi_grid.specs.Costs.{way_cost}
-use Rattle.octi_grid.specs.Walks.{PlainWalk, cost_of, doubled_of, end_point, end_port, last_of, points_of, start_port}
+use Rattle.octi_grid.specs.Walks.{PlainWalk, doubled_of, end_point, end_port, last_of, points_of, start_port}
 use Rattle.octi_grid.specs.Legal.{is_among}
 use Rattle.state_search.specs.Goals.{PathTo}
 use Rattle.walk_search.specs.declared.ends.End.{End}
@@ -19,13 +19,13 @@ use Rattle.walk_search.specs.Boards.{BoardParts, is_inside}
 use Rattle.walk_search.specs.Seats.{is_free_seat, seat_cost, seats_of, shifted, shifts}
 use Rattle.walk_search.specs.Routes.{allows, inner_points, is_free, is_settled_end, total_of}
 use Rattle.walk_search.specs.Spots.{IsSpot, number_of_spot, spots_of, spot_of}
-use Rattle.walk_search.specs.Moves.{Question, IsQuestion, IsMove, direction, ends_of, group_of, is_end, is_other_end, is_own_start, is_shared_start, is_start, may_leave, space_of, start_at, starts_of}
-use Rattle.walk_search.proofs.Marks.{one_is, one_same, one_true}
-use Rattle.walk_search.proofs.FreeWays.{Along, along_clear, along_from, along_inner, along_inside, inner_from, inner_is}
+use Rattle.walk_search.specs.Moves.{Question, IsQuestion, IsMove, direction, ends_of, group_of, is_end, is_other_end, is_own_start, is_shared_start, is_start, space_of, start_at, starts_of}
+use Rattle.walk_search.proofs.Marks.{one_same, one_true}
+use Rattle.walk_search.proofs.FreeWays.{Along, along_clear, along_from, along_inner, along_inside, inner_is}
 use Rattle.walk_search.proofs.FreePaths.{IsOnward, onward_of_path, path_of_onward}
 use Rattle.walk_search.proofs.Numbered.{spot_of-none, spot_of-number}
-use Rattle.walk_search.proofs.SeatFacts.{HasPlace, among_stands, place_of, place_stands, seats_few, stands_among}
-use Rattle.walk_search.proofs.Moving.{IsChosen, IsStepped, chosen_spot, group_small, move_cases, moved, some_same, start_inside}
+use Rattle.walk_search.proofs.SeatFacts.{HasPlace, among_stands, place_of, place_stands, stands_among}
+use Rattle.walk_search.proofs.Moving.{IsChosen, IsStepped, group_small, move_cases, moved, start_inside}
 use Rattle.walk_search.proofs.Offering.{seat_move}
 
 -- a seat of a free end is of no walk, and that of a settled end is its point

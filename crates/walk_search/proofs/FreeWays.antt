@@ -1,15 +1,13 @@
 -- A walk goes on from a point: a recursion along its steps that says the same as the tests of a free walk.
-use Rattle.std.proofs.Common.{◌≡◌, ◌≢◌, refl, sym, ◌∙◌, ap, ap₂, subst, ℕ, zero, suc, ◌+◌, ◌-◌, ◌<◌, ◌≤◌, ◌⊎◌, inl, inr, Bool, true, false, cond, eqb, not, ◌&&◌, ◌||◌, List, [], ◌∷◌, ◌++◌, map, length, take, drop, Option, Some, None, ℤ, pos, negsuc, ◌+ℤ◌, arith}
+use Rattle.std.proofs.Common.{◌≡◌, refl, ◌∙◌, ap, ◌+◌, Bool, true, false, not, ◌&&◌, ◌||◌, List, [], ◌∷◌, length, take, drop, arith}
 use Rattle.std.specs.List.{list_all, list_any}
 use Rattle.std.proofs.lemmas.Bool.{and_parts, and_from}
 use Rattle.octi_grid.specs.declared.dir.Dir.{Dir}
 use Rattle.octi_grid.specs.declared.point.GridPoint.{GridPoint}
-use Rattle.octi_grid.specs.Ways.{after, are_one, doubled, doubled_from, number_of, points_from, reverse_of, step_from}
-use Rattle.octi_grid.specs.Walks.{PlainWalk, doubled_of, end_point, end_port, last_of, points_of, start_port}
-use Rattle.octi_grid.specs.Legal.{is_among}
-use Rattle.walk_search.specs.declared.ends.End.{End}
+use Rattle.octi_grid.specs.Ways.{after, doubled, doubled_from, points_from, step_from}
+use Rattle.octi_grid.specs.Walks.{PlainWalk}
 use Rattle.walk_search.specs.Boards.{BoardParts, is_inside}
-use Rattle.walk_search.specs.Routes.{allows, inner_points, is_free, is_settled_end}
+use Rattle.walk_search.specs.Routes.{inner_points}
 use Rattle.walk_search.specs.Moves.{is_open, is_passable}
 
 -- the points of a way behind its start and before its end

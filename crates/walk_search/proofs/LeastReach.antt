@@ -1,12 +1,12 @@
 -- What it costs at least rises by no more than a step costs.
-use Rattle.std.proofs.Common.{◌≡◌, refl, sym, ◌∙◌, ap, ap₂, subst, ℕ, zero, suc, ◌+◌, ◌*◌, ◌-◌, ◌<◌, ◌≤◌, ◌⊎◌, inl, inr, max, min, ℤ, pos, negsuc, ◌+ℤ◌, ◌-ℤ◌, ◌≤ℤ◌, List, [], ◌∷◌, arith}
+use Rattle.std.proofs.Common.{◌≡◌, sym, ap₂, subst, ℕ, ◌+◌, ◌*◌, ◌≤◌, ℤ, pos, negsuc, ◌+ℤ◌, ◌-ℤ◌, ◌≤ℤ◌, List, [], ◌∷◌, arith}
 use Rattle.std.specs.Prelude.{unsigned_abs}
 use Rattle.std.proofs.lemmas.Int.{ints}
 use Rattle.octi_grid.specs.declared.dir.Dir.{Dir}
 use Rattle.octi_grid.specs.declared.dir.Dir.TheVariants as dir
 use Rattle.octi_grid.specs.declared.point.GridPoint.{GridPoint}
-use Rattle.octi_grid.specs.Ways.{after, east_of, north_of, step_from}
-use Rattle.octi_grid.specs.Costs.{step_cost, turn_between, way_cost}
+use Rattle.octi_grid.specs.Ways.{after, step_from}
+use Rattle.octi_grid.specs.Costs.{step_cost, way_cost}
 use Rattle.walk_search.specs.Reaching.{across, reach_of}
 use Rattle.walk_search.specs.Seats.{seat_cost}
 

@@ -1,17 +1,13 @@
 -- Flags by the numbers of points, where some are raised or lowered.
-use Rattle.std.proofs.Common.{◌≡◌, ◌≢◌, refl, sym, ◌∙◌, ap, ap₂, subst, ℕ, zero, suc, ◌+◌, ◌<◌, ◌⊎◌, inl, inr, Bool, true, false, cond, ◌&&◌, ◌||◌, List, [], ◌∷◌, ◌++◌, length, get_or, set, replicate, ℤ, pos, negsuc, ◌+ℤ◌, ◌≤ℤ◌, arith, length-set, get_or-set_same, get_or-set_other}
-use Rattle.std.specs.List.{list_any, list_all}
+use Rattle.std.proofs.Common.{◌≡◌, refl, sym, ◌∙◌, ap, ap₂, subst, ℕ, ◌<◌, Bool, true, false, cond, ◌&&◌, ◌||◌, List, [], ◌∷◌, ◌++◌, length, get_or, set, ℤ, arith, length-set, get_or-set_same, get_or-set_other}
 use Rattle.std.specs.Ordering.{int_eq}
 use Rattle.std.proofs.lemmas.Int.{ints}
 use Rattle.std.proofs.lemmas.Bool.{and_parts, and_from}
-use Rattle.octi_grid.specs.declared.dir.Dir.{Dir}
 use Rattle.octi_grid.specs.declared.point.GridPoint.{GridPoint}
-use Rattle.octi_grid.specs.Ways.{are_one, after, doubled, doubled_from, points_from, step_from}
-use Rattle.octi_grid.specs.Legal.{is_among}
+use Rattle.octi_grid.specs.Ways.{are_one}
 use Rattle.walk_search.specs.declared.bounds.Bounds.{Bounds}
-use Rattle.walk_search.specs.Boards.{AreBounds, contains, cells_of, cell_of, point_of, doubled_bounds, is_marked}
-use Rattle.walk_search.specs.Frames.{IsFrame}
-use Rattle.walk_search.specs.Taking.{behind, raised}
+use Rattle.walk_search.specs.Boards.{contains, cells_of, cell_of, point_of, is_marked}
+use Rattle.walk_search.specs.Taking.{raised}
 use Rattle.walk_search.proofs.Within.{IsInside, inside_facts, inside_test, point_below, point_of-cell}
 
 -- the test of one point

@@ -1,10 +1,9 @@
 -- Moves from spot to spot are steps that a search may rest on.
-use Rattle.std.proofs.Common.{◌≡◌, ◌≢◌, refl, sym, ◌∙◌, ap, ap₂, subst, ℕ, zero, suc, ◌+◌, ◌*◌, ◌<◌, ◌≤◌, ◌⊎◌, inl, inr, Bool, true, false, cond, eqb, ltb, not, ◌&&◌, ◌||◌, List, length, Option, Some, None, arith}
-use Rattle.std.proofs.lemmas.Bool.{and_parts, and_from, ltb-true, lt-ltb, eqb-true, ne_eqb, eq-eqb, cases_eq}
-use Rattle.least_path.proofs.Chosen.{StandsIn, AllAre, all-at}
+use Rattle.std.proofs.Common.{◌≡◌, refl, sym, ◌∙◌, ap, subst, ℕ, ◌+◌, ◌<◌, ◌≤◌, ◌⊎◌, inl, inr, Bool, true, false, cond, eqb, ltb, ◌&&◌, ◌||◌, length, Option, Some, None, arith}
+use Rattle.std.proofs.lemmas.Bool.{and_parts, ltb-true}
+use Rattle.least_path.proofs.Chosen.{all-at}
 use Rattle.octi_grid.specs.declared.dir.Dir.{Dir}
-use Rattle.octi_grid.specs.declared.point.GridPoint.{GridPoint}
-use Rattle.octi_grid.specs.Ways.{are_one, reverse_of, step_from}
+use Rattle.octi_grid.specs.Ways.{reverse_of, step_from}
 use Rattle.octi_grid.specs.Costs.{step_cost, turn_between}
 use Rattle.octi_grid.specs.Legal.{is_among}
 use Rattle.octi_grid.proofs.CostLemmas.{step_cost_small, turn_small}
@@ -16,10 +15,10 @@ use Rattle.walk_search.specs.Routes.{allows}
 use Rattle.walk_search.specs.Reaching.{reach_of}
 use Rattle.walk_search.specs.Spots.{IsSpot, number_of_spot, spots_of, spot_of}
 use Rattle.walk_search.specs.Moves.{Question, IsQuestion, IsMove, chosen_seat, direction, end_cost, ends_of, group_of, is_end, is_open, is_other_end, may_end, may_leave, move_of, space_of, spot_ahead, start_at, starts_of, stepped, turn_from}
-use Rattle.walk_search.proofs.Numbered.{IsSpotOf, number_below_spots, spot_of-number, spot_of-is, none_is_last}
+use Rattle.walk_search.proofs.Numbered.{number_below_spots, spot_of-number, spot_of-is}
 use Rattle.walk_search.proofs.LeastReach.{reach_seat, reach_step}
 use Rattle.walk_search.proofs.Turning.{step_cost_from}
-use Rattle.walk_search.proofs.SeatFacts.{all_index, among_stands, place_of, seats_cheap, seats_few, seats_inside}
+use Rattle.walk_search.proofs.SeatFacts.{all_index, among_stands, seats_cheap, seats_few, seats_inside}
 
 pub some_same : {X : Type 0} (x y : X) → Some x ≡ Some y → x ≡ y
 some_same x y e = cc

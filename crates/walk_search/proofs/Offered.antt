@@ -1,12 +1,12 @@
 -- What was looked at, as offers by their definitions.
-use Rattle.std.proofs.Common.{◌≡◌, refl, sym, ◌∙◌, ap, subst, ℕ, ◌+◌, ◌*◌, ◌<◌, ◌≤◌, Bool, true, false, cond, not, eqb, ◌&&◌, List, [], ◌∷◌, ◌++◌, length, Option, Some, None, arith}
+use Rattle.std.proofs.Common.{◌≡◌, refl, sym, ◌∙◌, ap, subst, ℕ, ◌+◌, ◌≤◌, Bool, true, false, cond, not, eqb, ◌&&◌, List, [], ◌∷◌, ◌++◌, length, Option, Some, arith}
 use Rattle.std.specs.declared.cmp.Reverse.{Reverse}
 use Rattle.std.proofs.lemmas.Int.{ints}
 use Rattle.std.proofs.lemmas.Bool.{ne_eqb}
 use Rattle.least_path.proofs.Chosen.{all-at}
 use Rattle.octi_grid.specs.declared.dir.Dir.{Dir}
 use Rattle.octi_grid.specs.declared.point.GridPoint.{GridPoint}
-use Rattle.octi_grid.specs.Ways.{CanStep, are_one, east_of, north_of, reverse_of, step_from}
+use Rattle.octi_grid.specs.Ways.{CanStep, are_one, reverse_of, step_from}
 use Rattle.octi_grid.proofs.WayLemmas.{east_small, north_small}
 use Rattle.state_search.specs.Searching.{AreLowered, IsLowered}
 use Rattle.state_search.proofs.Lowering.{lowered_both}
@@ -16,7 +16,7 @@ use Rattle.walk_search.specs.Boards.{AreBounds, contains}
 use Rattle.walk_search.specs.Seats.{seat_cost}
 use Rattle.walk_search.specs.Routes.{allows}
 use Rattle.walk_search.specs.Reaching.{reach_of}
-use Rattle.walk_search.specs.Spots.{IsSpot, number_of_spot, spots_of, spot_of}
+use Rattle.walk_search.specs.Spots.{IsSpot, number_of_spot, spots_of}
 use Rattle.walk_search.specs.Moves.{Question, direction, end_cost, ends_of, group_of, is_open, is_start, may_end, space_of, spot_ahead, start_at, starts_of}
 use Rattle.walk_search.specs.Offers.{arrival_offer, back_offers, end_offer, end_spot, offer_where, passing_offers, seat_offer, seat_offers, spot_offers, start_offers}
 use Rattle.walk_search.proofs.Within.{inside_facts}

@@ -1,13 +1,12 @@
 -- What is offered is offered to the goals, and to each spot from which a step leads on.
-use Rattle.std.proofs.Common.{◌≡◌, ◌≢◌, refl, sym, ◌∙◌, ap, ap₂, subst, ℕ, zero, suc, ◌+◌, ◌*◌, ◌/◌, ◌%◌, ◌<◌, ◌≤◌, ◌⊎◌, inl, inr, Bool, true, false, cond, eqb, ltb, not, ◌&&◌, ◌||◌, List, [], ◌∷◌, ◌++◌, map, length, get_or, Option, Some, None, arith}
-use Rattle.std.specs.List.{flat_map, range_with_len}
-use Rattle.std.proofs.lemmas.Bool.{and_parts, and_from, ltb-true, lt-ltb, eqb-true, ne_eqb, eq-eqb, cases_eq, cases_lt}
-use Rattle.least_path.proofs.Chosen.{StandsIn, AllAre, all-at, all-append, all-map, all-flat_map, all-range, stands-left, stands-right, stands-map, stands-flat_map, stands-range}
+use Rattle.std.proofs.Common.{◌≡◌, refl, sym, ◌∙◌, ap, ap₂, subst, ℕ, ◌+◌, ◌*◌, ◌/◌, ◌%◌, ◌<◌, ◌⊎◌, inl, inr, Bool, true, false, cond, eqb, ltb, ◌&&◌, [], ◌∷◌, ◌++◌, length, Option, Some, None, arith}
+use Rattle.std.specs.List.{range_with_len}
+use Rattle.std.proofs.lemmas.Bool.{and_parts, and_from, ltb-true, lt-ltb, eqb-true, ne_eqb, eq-eqb, cases_eq}
+use Rattle.least_path.proofs.Chosen.{StandsIn, AllAre, all-append, all-map, all-flat_map, all-range, stands-left, stands-right, stands-map, stands-flat_map, stands-range}
 use Rattle.octi_grid.specs.declared.dir.Dir.{Dir}
 use Rattle.octi_grid.specs.declared.point.GridPoint.{GridPoint}
 use Rattle.octi_grid.specs.Ways.{are_one, reverse_of, step_from}
 use Rattle.octi_grid.specs.Costs.{step_cost}
-use Rattle.octi_grid.specs.Legal.{is_among}
 use Rattle.state_search.specs.Searching.{OfferGoals, OfferSteps}
 use Rattle.state_search.proofs.Standing.{IsStepOffer, goals_stand, steps_stand}
 use Rattle.walk_search.specs.declared.spots.Spot.{Spot}
@@ -15,13 +14,13 @@ use Rattle.walk_search.specs.Boards.{is_inside}
 use Rattle.walk_search.specs.Seats.{seat_cost}
 use Rattle.walk_search.specs.Routes.{allows}
 use Rattle.walk_search.specs.Spots.{IsSpot, number_of_spot, spots_of, spot_of}
-use Rattle.walk_search.specs.Moves.{Question, IsQuestion, IsMove, direction, end_at, end_cost, ends_of, group_of, is_open, is_passable, is_start, may_end, may_leave, move_of, space_of, start_at, starts_of, stepped, turn_from}
-use Rattle.walk_search.specs.Offers.{arrival_offer, arrival_offers, back_offers, end_offer, end_offers, end_spot, offer_where, offered, passing_offers, seat_offer, seat_offers, spot_offers, start_offers}
+use Rattle.walk_search.specs.Moves.{Question, IsQuestion, IsMove, direction, end_at, end_cost, ends_of, group_of, is_open, is_passable, is_start, may_leave, move_of, space_of, start_at, starts_of, turn_from}
+use Rattle.walk_search.specs.Offers.{arrival_offer, arrival_offers, back_offers, end_offer, end_offers, end_spot, offer_where, passing_offers, seat_offer, seat_offers, spot_offers, start_offers}
 use Rattle.walk_search.proofs.Marks.{one_same, one_true}
 use Rattle.walk_search.proofs.Numbered.{IsSpotOf, number_below_spots, spot_of-number, spot_of-is, spot_of-none, none_is_last}
 use Rattle.walk_search.proofs.Turning.{step_back, step_there}
-use Rattle.walk_search.proofs.SeatFacts.{HasPlace, all_index, among_stands, place_of, seats_few, seats_inside}
-use Rattle.walk_search.proofs.Moving.{IsChosen, IsGoal, IsStepped, chosen_spot, end_among, goal_parts, move_cases, moved, some_same, start_inside, to_inside}
+use Rattle.walk_search.proofs.SeatFacts.{all_index, among_stands, place_of, seats_inside}
+use Rattle.walk_search.proofs.Moving.{IsChosen, IsGoal, IsStepped, end_among, goal_parts, move_cases, moved, some_same, to_inside}
 
 -- a spot at which a walk may end
 end_inside : (q : Question) → IsQuestion q → (i : ℕ) → i < length (ends_of q) → is_inside q.board (end_at q i) ≡ true

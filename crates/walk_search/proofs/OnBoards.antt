@@ -1,7 +1,6 @@
 -- What a board shows after a change, and that it stays a board.
-use Rattle.std.proofs.Common.{◌≡◌, ◌≢◌, refl, sym, ◌∙◌, ap, ap₂, subst, ℕ, zero, suc, ◌+◌, ◌<◌, ◌≤◌, ◌⊎◌, inl, inr, Bool, true, false, cond, not, ◌&&◌, ◌||◌, List, [], ◌∷◌, ◌++◌, length, get_or, set, replicate, ℤ, pos, negsuc, ◌+ℤ◌, ◌≤ℤ◌, arith, length-set}
-use Rattle.std.specs.Prelude.{unsigned_abs}
-use Rattle.std.specs.List.{list_any, list_all}
+use Rattle.std.proofs.Common.{◌≡◌, ◌≢◌, refl, sym, ◌∙◌, ap, ap₂, subst, ℕ, zero, suc, ◌⊎◌, inl, inr, Bool, true, false, cond, not, ◌&&◌, ◌||◌, List, [], ◌∷◌, length, get_or, set, replicate, ℤ, pos, negsuc, ◌+ℤ◌, ◌≤ℤ◌, arith, length-set}
+use Rattle.std.specs.List.{list_all}
 use Rattle.std.specs.Ordering.{int_eq}
 use Rattle.std.proofs.lemmas.Int.{ints}
 use Rattle.std.proofs.lemmas.Bool.{and_parts, and_from}
@@ -17,7 +16,7 @@ use Rattle.octi_grid.proofs.WayLemmas.{east_small, north_small}
 use Rattle.walk_search.specs.declared.bounds.Bounds.{Bounds}
 use Rattle.walk_search.specs.Boards.{BoardParts, BoardFlags, AreBounds, IsBoard, IsKept, contains, cells_of, cell_of, doubled_bounds, empty_board, is_inside, is_marked, parts_of, with_node, with_node_moved, with_walk}
 use Rattle.walk_search.specs.Taking.{raised}
-use Rattle.walk_search.proofs.Within.{IsInside, inside_facts}
+use Rattle.walk_search.proofs.Within.{inside_facts}
 use Rattle.walk_search.proofs.Marks.{cond_or, length-raised, marked_set, one_same, one_true}
 use Rattle.walk_search.proofs.Ways.{doubled_inside, first_holds, middle_inside, rest_holds}
 

@@ -1,33 +1,32 @@
 -- The walk of the least path is the route.
-use Rattle.std.proofs.Common.{◌≡◌, ◌≢◌, refl, sym, ◌∙◌, ap, ap₂, subst, ℕ, zero, suc, ◌+◌, ◌<◌, ◌≤◌, ◌⊎◌, inl, inr, Bool, true, false, cond, eqb, ltb, nat_lt, ◌==◌, not, ◌&&◌, ◌||◌, List, [], ◌∷◌, ◌++◌, map, filter, length, get_or, Option, Some, None, ℤ, pos, negsuc, ◌+ℤ◌, ◌<ℤ◌, arith}
+use Rattle.std.proofs.Common.{◌≡◌, refl, sym, ◌∙◌, ap, ap₂, subst, ℕ, zero, suc, ◌+◌, ◌<◌, ◌≤◌, ◌⊎◌, inl, inr, Bool, true, false, cond, nat_lt, ◌==◌, ◌&&◌, ◌||◌, List, [], ◌∷◌, map, filter, length, get_or, Option, Some, None, ℤ, pos, negsuc, ◌+ℤ◌, ◌<ℤ◌, arith}
 use Rattle.std.specs.Prelude.{int_lt}
 use Rattle.std.specs.List.{flat_map}
 use Rattle.std.specs.Ordering.{int_eq}
 use Rattle.std.proofs.lemmas.Int.{ints}
-use Rattle.std.proofs.lemmas.Bool.{and_parts, and_from, lt-ltb, ltb-true, eq-eqb, eqb-true, cases_order, cases_lt}
+use Rattle.std.proofs.lemmas.Bool.{and_parts, and_from, lt-ltb, eq-eqb, cases_order}
 use Rattle.least_path.specs.Orders.{LexLe}
-use Rattle.least_path.specs.Least.{is_not_after, least_by}
-use Rattle.least_path.proofs.Chosen.{StandsIn, AllAre, IsBetter, all-at, least-is, stands-map, stands-flat_map}
+use Rattle.least_path.specs.Least.{is_not_after}
+use Rattle.least_path.proofs.Chosen.{StandsIn, AllAre, IsBetter, least-is, stands-map, stands-flat_map}
 use Rattle.octi_grid.specs.declared.dir.Dir.{Dir}
 use Rattle.octi_grid.specs.declared.dir.Dir.TheVariants as dir
 use Rattle.octi_grid.specs.declared.point.GridPoint.{GridPoint}
 use Rattle.octi_grid.specs.Ways.{are_one, number_of}
 use Rattle.octi_grid.specs.Walks.{PlainWalk}
-use Rattle.octi_grid.specs.Legal.{is_among}
 use Rattle.state_search.specs.Goals.{PathTo, IsLeastPathTo}
 use Rattle.state_search.proofs.Dictionaries.{by_head, not_after, same_lists_both}
 use Rattle.state_search.proofs.Visiting.{short_enough}
 use Rattle.walk_search.specs.declared.ends.End.{End}
-use Rattle.walk_search.specs.Boards.{BoardParts, cells_of}
+use Rattle.walk_search.specs.Boards.{BoardParts}
 use Rattle.walk_search.specs.Seats.{is_free_seat, seats_of, shifted, shifts}
 use Rattle.walk_search.specs.Routes.{best_of, directions, free_walks, is_first, is_free, is_lower, is_no_worse, lists_upto, most_steps, route, total_of, walks_from}
 use Rattle.walk_search.specs.Spots.{spots_of}
 use Rattle.walk_search.specs.Moves.{Question, IsQuestion, direction, space_of, start_at, starts_of}
-use Rattle.walk_search.specs.Walked.{AreSteps, IsAnswer, IsLeastWalk, walk_of_labels}
-use Rattle.walk_search.proofs.Marks.{one_is, one_same, one_true}
+use Rattle.walk_search.specs.Walked.{AreSteps, IsAnswer, walk_of_labels}
+use Rattle.walk_search.proofs.Marks.{one_is, one_true}
 use Rattle.walk_search.proofs.Turning.{direction-number_of, number_of-direction}
 use Rattle.walk_search.proofs.SeatFacts.{all_index, place_stands}
-use Rattle.walk_search.proofs.Moving.{is_space, some_same}
+use Rattle.walk_search.proofs.Moving.{is_space}
 use Rattle.walk_search.proofs.Walking.{AreLabelsOfWalk, path_labels}
 use Rattle.walk_search.proofs.FreeWalks.{HasPath, IsPathWalk, path_of_walk, walk_of_path}
 

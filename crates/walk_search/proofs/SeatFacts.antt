@@ -1,18 +1,17 @@
 -- Seats lie on the board, cost little, and are few.
-use Rattle.std.proofs.Common.{◌≡◌, refl, sym, ◌∙◌, ap, subst, ℕ, zero, suc, ◌+◌, ◌*◌, ◌<◌, ◌≤◌, ◌⊎◌, inl, inr, Bool, true, false, cond, not, ◌&&◌, ◌||◌, List, [], ◌∷◌, ◌++◌, length, get_or, drop, map, filter, append_assoc, ℤ, pos, negsuc, ◌+ℤ◌, ◌-ℤ◌, arith}
+use Rattle.std.proofs.Common.{◌≡◌, refl, sym, ◌∙◌, ap, subst, ℕ, zero, suc, ◌+◌, ◌<◌, ◌≤◌, ◌⊎◌, inl, inr, Bool, true, false, cond, not, ◌&&◌, ◌||◌, List, [], ◌∷◌, ◌++◌, length, get_or, drop, map, filter, append_assoc, ℤ, pos, negsuc, ◌+ℤ◌, ◌-ℤ◌, arith}
 use Rattle.std.specs.Prelude.{unsigned_abs}
-use Rattle.std.specs.List.{list_any}
 use Rattle.std.proofs.lemmas.Int.{ints}
 use Rattle.std.proofs.lemmas.List.{drop_more}
-use Rattle.std.proofs.lemmas.Bool.{and_parts, and_from}
-use Rattle.least_path.proofs.Chosen.{StandsIn, AllAre, all-at}
+use Rattle.std.proofs.lemmas.Bool.{and_parts}
+use Rattle.least_path.proofs.Chosen.{StandsIn, AllAre}
 use Rattle.octi_grid.specs.declared.point.GridPoint.{GridPoint}
 use Rattle.octi_grid.specs.Ways.{are_one, doubled}
 use Rattle.octi_grid.specs.Legal.{is_among}
 use Rattle.walk_search.specs.declared.ends.End.{End}
-use Rattle.walk_search.specs.Boards.{BoardParts, IsBoard, is_inside}
+use Rattle.walk_search.specs.Boards.{BoardParts, is_inside}
 use Rattle.walk_search.specs.Seats.{is_free_seat, kept_seat, seat_cost, seats_of, shifted, shifts}
-use Rattle.walk_search.proofs.Marks.{one_true, one_same, one_is}
+use Rattle.walk_search.proofs.Marks.{one_true, one_is}
 
 all_filter : {X : Type 0} (test : X → Bool) (P : X → Type 0) (xs : List X) → AllAre P xs → AllAre P (filter test xs)
 all_filter test P [] all = tt

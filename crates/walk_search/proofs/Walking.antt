@@ -1,5 +1,5 @@
 -- The walk along known costs is the least path.
-use Rattle.std.proofs.Common.{◌≡◌, ◌≢◌, refl, sym, ◌∙◌, ap, ap₂, subst, ℕ, zero, suc, ◌+◌, ◌-◌, ◌<◌, ◌≤◌, ◌⊎◌, inl, inr, Bool, true, false, cond, ◌&&◌, List, [], ◌∷◌, ◌++◌, map, length, get_or, take, drop, append_assoc, Option, Some, None, arith}
+use Rattle.std.proofs.Common.{◌≡◌, refl, sym, ◌∙◌, ap, ap₂, subst, ℕ, zero, suc, ◌+◌, ◌-◌, ◌<◌, ◌≤◌, ◌⊎◌, inl, inr, true, cond, List, [], ◌∷◌, ◌++◌, map, length, get_or, take, drop, append_assoc, Option, Some, None, arith}
 use Rattle.std.specs.Prelude.{IfNone}
 use Rattle.std.proofs.lemmas.Bool.{and_parts, lt-ltb}
 use Rattle.octi_grid.specs.declared.dir.Dir.{Dir}
@@ -8,17 +8,17 @@ use Rattle.std.proofs.lemmas.List.{drop_more}
 use Rattle.octi_grid.specs.Ways.{after, step_from}
 use Rattle.octi_grid.specs.Walks.{PlainWalk}
 use Rattle.octi_grid.proofs.WayLemmas.{after-append}
-use Rattle.state_search.specs.Goals.{PathTo, IsLeastPathTo, AreLeastCostsTo}
+use Rattle.state_search.specs.Goals.{PathTo, IsLeastPathTo}
 use Rattle.state_search.specs.Searching.{IsFound, IsSearched, known_at}
 use Rattle.state_search.proofs.Walks.{IsLed, IsNext, ends_or_goes_on, next_is_nearer, walk_begins, walk_ends, walk_goes_on}
 use Rattle.walk_search.specs.declared.spots.Spot.{Spot}
 use Rattle.walk_search.specs.Boards.{is_inside}
-use Rattle.walk_search.specs.Spots.{IsSpot, spots_of, spot_of}
+use Rattle.walk_search.specs.Spots.{spots_of, spot_of}
 use Rattle.walk_search.specs.Moves.{Question, IsQuestion, IsMove, direction, end_cost, space_of, spot_ahead, starts_of, start_at}
-use Rattle.walk_search.specs.Walked.{AreLabelsOf, AreSteps, EndsAt, IsLeastMove, KeepsCost, StopsAt, walk_of_labels}
+use Rattle.walk_search.specs.Walked.{AreLabelsOf, AreSteps, IsLeastMove, KeepsCost, StopsAt, walk_of_labels}
 use Rattle.walk_search.proofs.Numbered.{spot_of-none, spot_of-number}
 use Rattle.walk_search.proofs.SeatFacts.{seats_few}
-use Rattle.walk_search.proofs.Moving.{IsChosen, IsStepped, goal_parts, is_space, move_cases, moved, some_same, start_inside}
+use Rattle.walk_search.proofs.Moving.{IsChosen, IsStepped, goal_parts, is_space, move_cases, moved, some_same}
 
 -- what comes before every spot
 abbrev pub before : Question → ℕ

@@ -1,8 +1,8 @@
 -- Points of ways on a board, and the doubled points that they take.
-use Rattle.std.proofs.Common.{◌≡◌, refl, sym, ◌∙◌, ap, subst, ℕ, zero, suc, ◌+◌, ◌<◌, ◌≤◌, Bool, true, false, ◌&&◌, ℤ, pos, negsuc, ◌+ℤ◌, ◌≤ℤ◌, List, [], ◌∷◌, ◌++◌, length, get_or, drop, replicate, arith}
+use Rattle.std.proofs.Common.{◌≡◌, refl, sym, ◌∙◌, ap, ℕ, zero, suc, ◌+◌, ◌<◌, ◌≤◌, Bool, true, ℤ, ◌+ℤ◌, ◌≤ℤ◌, List, [], ◌∷◌, ◌++◌, length, get_or, drop, replicate, arith}
 use Rattle.std.specs.List.{list_all}
 use Rattle.std.proofs.lemmas.Int.{ints}
-use Rattle.std.proofs.lemmas.Bool.{and_parts, and_from}
+use Rattle.std.proofs.lemmas.Bool.{and_parts}
 use Rattle.std.proofs.lemmas.List.{replicate_more}
 use Rattle.octi_grid.specs.declared.dir.Dir.{Dir}
 use Rattle.octi_grid.specs.declared.walk.Run.{Run}
@@ -10,12 +10,12 @@ use Rattle.octi_grid.specs.declared.point.GridPoint.{GridPoint}
 use Rattle.octi_grid.specs.Ways.{after, doubled, doubled_from, east_of, north_of, points_from, step_from, CanStep, IsWithin}
 use Rattle.octi_grid.specs.Runs.{steps_of}
 use Rattle.octi_grid.proofs.WayLemmas.{after-append}
-use Rattle.octi_grid.proofs.RunLemmas.{after-drop, list_all-drop, no_run, steps_of-drop}
+use Rattle.octi_grid.proofs.RunLemmas.{list_all-drop, no_run, steps_of-drop}
 use Rattle.walk_search.specs.declared.bounds.Bounds.{Bounds}
 use Rattle.walk_search.specs.Boards.{AreBounds, contains, doubled_bounds}
 use Rattle.walk_search.specs.Taking.{behind, raised}
-use Rattle.walk_search.proofs.Within.{IsInside, inside_facts, inside_test}
-use Rattle.walk_search.proofs.Marks.{length-raised, raised-append}
+use Rattle.walk_search.proofs.Within.{inside_facts, inside_test}
+use Rattle.walk_search.proofs.Marks.{raised-append}
 
 -- a point of a board lies within what a step or a doubled point needs
 pub within_board : (b : Bounds) (p : GridPoint) → AreBounds b → contains b p ≡ true → IsWithin p

@@ -1,5 +1,5 @@
 -- Bounds of points that may be doubled.
-use Rattle.std.specs.Prelude.{ℤ, pos, negsuc, ◌≤ℤ◌}
+use Rattle.std.specs.Prelude.{pos, negsuc, ◌≤ℤ◌}
 use Rattle.walk_search.specs.declared.bounds.Bounds.{Bounds}
 
 -- bounds that lie within 4,000 either way and are in order

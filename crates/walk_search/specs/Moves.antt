@@ -1,9 +1,9 @@
 -- How walks go on from spot to spot, and where they may end.
-use Rattle.std.specs.Prelude.{◌≡◌, ◌≢◌, ◌⊎◌, ℕ, ◌+◌, ◌-◌, ◌*◌, ◌<◌, ◌==◌, ◌||◌, ◌&&◌, nat_lt, nat_le, Bool, true, false, not, List, [], ◌∷◌, length, if◌then◌else◌, Option, Some, None, slice_index_or}
+use Rattle.std.specs.Prelude.{◌≡◌, ◌≢◌, ℕ, ◌+◌, ◌-◌, ◌<◌, ◌==◌, ◌||◌, ◌&&◌, nat_lt, nat_le, Bool, true, not, List, length, if◌then◌else◌, Option, Some, None, slice_index_or}
 use Rattle.octi_grid.specs.declared.dir.Dir.{Dir}
 use Rattle.octi_grid.specs.declared.dir.Dir.TheVariants as dir
 use Rattle.octi_grid.specs.declared.point.GridPoint.{GridPoint}
-use Rattle.octi_grid.specs.Ways.{are_one, doubled, step_from, reverse_of, number_of}
+use Rattle.octi_grid.specs.Ways.{are_one, doubled, step_from, reverse_of}
 use Rattle.octi_grid.specs.Costs.{step_cost, turn_between}
 use Rattle.octi_grid.specs.Legal.{is_among}
 use Rattle.state_search.specs.Goals.{Space}

@@ -1,5 +1,5 @@
 -- What a search offers to the spots from which others are reached.
-use Rattle.std.specs.Prelude.{◌≡◌, ℕ, ◌+◌, ◌*◌, ◌/◌, ◌%◌, ◌==◌, ◌&&◌, Bool, List, [], ◌∷◌, ◌++◌, length, map, if◌then◌else◌, Option, Some, None}
+use Rattle.std.specs.Prelude.{ℕ, ◌+◌, ◌/◌, ◌%◌, ◌==◌, ◌&&◌, List, [], ◌∷◌, ◌++◌, length, map, if◌then◌else◌, Option, Some, None}
 use Rattle.std.specs.List.{flat_map, range_with_len}
 use Rattle.octi_grid.specs.declared.dir.Dir.{Dir}
 use Rattle.octi_grid.specs.declared.point.GridPoint.{GridPoint}
@@ -8,8 +8,8 @@ use Rattle.octi_grid.specs.Costs.{step_cost}
 use Rattle.walk_search.specs.declared.spots.Spot.{Spot}
 use Rattle.walk_search.specs.Routes.{allows}
 use Rattle.walk_search.specs.Seats.{seat_cost}
-use Rattle.walk_search.specs.Spots.{spots_of, spot_of, number_of_spot}
-use Rattle.walk_search.specs.Moves.{Question, start_at, starts_of, end_at, ends_of, direction, group_of, is_start, end_cost, is_passable, is_open, turn_from}
+use Rattle.walk_search.specs.Spots.{spots_of, number_of_spot}
+use Rattle.walk_search.specs.Moves.{Question, start_at, starts_of, end_at, direction, group_of, is_start, end_cost, is_passable, is_open, turn_from}
 
 -- a cost is offered to a spot
 abbrev pub offered : Question → Spot → ℕ → ℕ × ℕ

@@ -67,22 +67,12 @@ pub fn least_settled_walk(
 }
 
 /// The same for two ends.
-<<<<<<< HEAD
 fn least_between(alloc: Global, board: &Board, from: End, to: End) -> Result<Option<Walk>, NoMemory>
-    requires { IsQuestion (record { board = parts_of board.now; from = from; to = to }) }
-=======
-fn least_between(
-    alloc: Global,
-    board: &Board,
-    from: End,
-    to: End,
-) -> Result<Option<Walk>, NoMemory>
     requires from { (parts_of board.now).is_node from.at ≡ true }
     requires to { (parts_of board.now).is_node to.at ≡ true }
     requires apart { from.at ≢ to.at }
     requires from_mask { from.is_free ≡ true → is_all_or_none from.ports ≡ true }
     requires to_mask { to.is_free ≡ true → is_all_or_none to.ports ≡ true }
->>>>>>> 8c72dfb97535f8a5db388b451928eb2b92ccaa8d
     ensures { IfOk result (λ walk. walk ≡ route (parts_of board.now) from to) }
 {
     let states = spots_of(board.bounds()) as usize + 1;

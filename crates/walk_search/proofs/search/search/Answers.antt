@@ -1,4 +1,4 @@
-use Rattle.std.proofs.Common.{◌≡◌, refl, sym, ◌∙◌, ap, subst, ℕ, ◌+◌, ◌*◌, ◌<◌, ◌≤◌, List, [], Option, Some, None, replicate, length, arith}
+use Rattle.std.proofs.Common.{◌∙◌, ap, subst, ℕ, ◌+◌, ◌*◌, ◌<◌, List, [], Option, None, replicate, length}
 use Rattle.std.specs.declared.cmp.Reverse.{Reverse}
 use Rattle.std.specs.BinaryHeap.{heap_items}
 use Rattle.state_search.specs.Searching.{AreLowered, IsBeyond, known_at}

@@ -1,11 +1,8 @@
-use Rattle.std.proofs.Common.{◌≡◌, refl, sym, ◌∙◌, ap, subst, ℕ, ◌+◌, ◌<◌, ◌≤◌, true, false, length, get_or, List, arith}
+use Rattle.std.proofs.Common.{◌≡◌, sym, subst, true}
 use Rattle.octi_grid.specs.declared.point.GridPoint.{GridPoint}
-use Rattle.octi_grid.specs.Ways.{doubled, step_from, CanStep, IsWithin}
-use Rattle.walk_search.specs.declared.bounds.Bounds.{Bounds}
-use Rattle.walk_search.specs.Boards.{contains, doubled_bounds, is_inside, parts_of}
-use Rattle.walk_search.specs.Seats.{seats_of}
-use Rattle.walk_search.proofs.Ways.{can_step, doubled_can_step, doubled_inside, middle_inside, within_board}
-use Rattle.walk_search.proofs.SeatFacts.{seat_is_inside, seats_few}
+use Rattle.octi_grid.specs.Ways.{CanStep}
+use Rattle.walk_search.specs.Boards.{contains, doubled_bounds}
+use Rattle.walk_search.proofs.Ways.{can_step, doubled_can_step, doubled_inside}
 use Rattle.walk_search.proofs.seats.doubled_within.Goals as goal
 
 pub doubled-requires : goal.doubled-requires

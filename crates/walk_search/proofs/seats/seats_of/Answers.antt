@@ -1,4 +1,4 @@
-use Rattle.std.proofs.Common.{◌≡◌, sym, ◌∙◌, ap, ◌++◌, filter, map, List, ℤ, pos}
+use Rattle.std.proofs.Common.{◌∙◌, ap, ◌++◌, filter, map, pos}
 use Rattle.octi_grid.specs.declared.point.GridPoint.{GridPoint}
 use Rattle.walk_search.specs.Boards.{parts_of}
 use Rattle.walk_search.specs.Seats.{is_free_seat, kept_seat, shifted, shifts}

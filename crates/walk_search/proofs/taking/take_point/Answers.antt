@@ -1,6 +1,5 @@
 use Rattle.std.proofs.Common.{◌≡◌, sym, subst, true}
 use Rattle.octi_grid.specs.declared.point.GridPoint.{GridPoint}
-use Rattle.octi_grid.specs.Ways.{doubled}
 use Rattle.walk_search.specs.declared.bounds.Bounds.{Bounds}
 use Rattle.walk_search.specs.Boards.{contains, doubled_bounds}
 use Rattle.walk_search.proofs.Ways.{can_step, doubled_inside}

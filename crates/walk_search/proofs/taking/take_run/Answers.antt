@@ -1,6 +1,6 @@
-use Rattle.std.proofs.Common.{◌≡◌, sym, ◌∙◌, ap, subst, ℕ, ◌+◌, true, length, replicate, [], ◌∷◌, arith}
+use Rattle.std.proofs.Common.{◌≡◌, sym, ◌∙◌, ap, subst, ◌+◌, true, length, [], ◌∷◌, arith}
 use Rattle.octi_grid.specs.declared.point.GridPoint.{GridPoint}
-use Rattle.octi_grid.specs.Ways.{after, step_from}
+use Rattle.octi_grid.specs.Ways.{step_from}
 use Rattle.walk_search.specs.Boards.{contains, doubled_bounds}
 use Rattle.walk_search.specs.Taking.{behind}
 use Rattle.walk_search.proofs.Marks.{length-raised}

@@ -1,4 +1,4 @@
-use Rattle.std.proofs.Common.{◌≡◌, ℕ, length, replicate}
+use Rattle.std.proofs.Common.{◌≡◌, length, replicate}
 use Rattle.octi_grid.specs.Ways.{after}
 use Rattle.walk_search.specs.Boards.{cells_of, doubled_bounds}
 use Rattle.walk_search.specs.Taking.{behind, raised}

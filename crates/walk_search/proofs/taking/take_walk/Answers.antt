@@ -1,8 +1,8 @@
-use Rattle.std.proofs.Common.{◌≡◌, sym, ◌∙◌, ap, subst, ℕ, ◌+◌, true, drop, get_or, length, replicate, List, [], ◌∷◌, arith}
+use Rattle.std.proofs.Common.{◌≡◌, sym, ◌∙◌, ap, subst, ◌+◌, true, drop, get_or, length, replicate, List, [], ◌∷◌}
 use Rattle.std.specs.List.{list_all}
 use Rattle.octi_grid.specs.declared.dir.Dir.{Dir}
 use Rattle.octi_grid.specs.declared.point.GridPoint.{GridPoint}
-use Rattle.octi_grid.specs.Ways.{after, doubled, doubled_from, points_from}
+use Rattle.octi_grid.specs.Ways.{doubled, points_from}
 use Rattle.octi_grid.specs.Runs.{steps_of}
 use Rattle.octi_grid.proofs.RunLemmas.{no_run}
 use Rattle.walk_search.specs.Boards.{contains, doubled_bounds}

@@ -1,4 +1,4 @@
-use Rattle.std.proofs.Common.{◌≡◌, ℕ, true, drop, length}
+use Rattle.std.proofs.Common.{◌≡◌, true, drop, length}
 use Rattle.std.specs.List.{list_all}
 use Rattle.octi_grid.specs.Ways.{points_from}
 use Rattle.octi_grid.specs.Walks.{doubled_of}

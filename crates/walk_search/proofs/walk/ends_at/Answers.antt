@@ -1,11 +1,7 @@
-use Rattle.std.proofs.Common.{◌≡◌, sym, ◌∙◌, ap, subst, ℕ, ◌+◌, ◌<◌, ◌≤◌, ◌⊎◌, inl, inr, Option, Some, None, length, arith}
-use Rattle.std.proofs.lemmas.Bool.{cases_lt, iff_false}
+use Rattle.std.proofs.Common.{◌≡◌, sym, ◌∙◌}
 use Rattle.walk_search.specs.Asking.{question}
-use Rattle.walk_search.specs.Spots.{IsSpot, spots_of, spot_of}
-use Rattle.walk_search.specs.Moves.{end_cost, space_of}
-use Rattle.walk_search.specs.Walked.{KeepsCost}
-use Rattle.walk_search.proofs.Moving.{moved}
-use Rattle.walk_search.proofs.Walking.{goal_is, if_none, label_small, least_where_long, no_path_where_short}
+use Rattle.walk_search.specs.Moves.{space_of}
+use Rattle.walk_search.proofs.Walking.{goal_is}
 use Rattle.walk_search.proofs.walk.ends_at.Goals as goal
 
 pub returns-in-Some : goal.returns-in-Some

@@ -1,4 +1,4 @@
-use Rattle.std.proofs.Common.{◌≡◌, sym, ◌∙◌, ap, subst, ℕ, ◌+◌, ◌<◌, List, [], ◌∷◌, ◌++◌, arith}
+use Rattle.std.proofs.Common.{sym, subst, ℕ, List, arith}
 use Rattle.walk_search.specs.Asking.{question}
 use Rattle.walk_search.specs.Spots.{spots_of}
 use Rattle.walk_search.proofs.Walking.{IsWalking, nearer, walking_begins, walking_ends, walking_goes_on}

@@ -1,11 +1,8 @@
-use Rattle.std.proofs.Common.{◌≡◌, sym, ◌∙◌, ap, subst, ℕ, ◌+◌, ◌<◌, ◌≤◌, ◌⊎◌, inl, inr, Option, Some, None, length, arith}
+use Rattle.std.proofs.Common.{◌≡◌, sym, subst, ℕ, ◌+◌, ◌<◌, ◌≤◌, ◌⊎◌, inl, inr, arith}
 use Rattle.std.proofs.lemmas.Bool.{cases_lt, iff_false}
 use Rattle.walk_search.specs.Asking.{question}
-use Rattle.walk_search.specs.Spots.{IsSpot, spots_of, spot_of}
-use Rattle.walk_search.specs.Moves.{end_cost, space_of}
 use Rattle.walk_search.specs.Walked.{KeepsCost}
-use Rattle.walk_search.proofs.Moving.{moved}
-use Rattle.walk_search.proofs.Walking.{goal_is, if_none, label_small, least_where_long, no_path_where_short}
+use Rattle.walk_search.proofs.Walking.{label_small}
 use Rattle.walk_search.proofs.walk.next_move.Goals as goal
 
 pub returns-in-Some-clause-least : goal.returns-in-Some-clause-least

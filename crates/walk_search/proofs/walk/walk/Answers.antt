@@ -1,4 +1,4 @@
-use Rattle.std.proofs.Common.{◌≡◌, sym, ◌∙◌, ap, subst, ℕ, ◌<◌, ◌≤◌, List, length, arith}
+use Rattle.std.proofs.Common.{sym, ◌∙◌, ap, subst, ℕ, ◌<◌, ◌≤◌, List, length, arith}
 use Rattle.state_search.specs.Goals.{PathTo}
 use Rattle.walk_search.specs.Asking.{question}
 use Rattle.walk_search.specs.Spots.{spots_of}

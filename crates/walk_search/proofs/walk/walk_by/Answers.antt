@@ -1,8 +1,7 @@
-use Rattle.std.proofs.Common.{◌≡◌, sym, ◌∙◌, ap, subst, ℕ, ◌-◌, ◌<◌, List, ◌∷◌, get_or, take, drop, map, length}
+use Rattle.std.proofs.Common.{◌≡◌, ◌∙◌}
 use Rattle.std.proofs.lemmas.Result.{IfOk-weaker}
 use Rattle.octi_grid.specs.Walks.{PlainWalk}
 use Rattle.walk_search.specs.Asking.{question}
-use Rattle.walk_search.specs.Moves.{direction}
 use Rattle.walk_search.specs.Walked.{walk_of_labels}
 use Rattle.walk_search.proofs.Walking.{path_labels, seat_of_labels, steps_of_labels, walk_of_parts}
 use Rattle.walk_search.proofs.walk.walk_by.Goals as goal

@@ -1,14 +1,13 @@
-use Rattle.std.proofs.Common.{◌≡◌, refl, sym, ◌∙◌, ap, subst, ℕ, ◌+◌, ◌-◌, ◌<◌, ◌≤◌, true, List, [], ◌∷◌, ◌++◌, get_or, take, drop, map, length, arith}
+use Rattle.std.proofs.Common.{◌≡◌, refl, sym, ◌∙◌, ap, subst, ℕ, ◌+◌, [], ◌∷◌, ◌++◌, get_or, drop, map}
 use Rattle.octi_grid.specs.declared.dir.Dir.{Dir}
 use Rattle.octi_grid.specs.declared.point.GridPoint.{GridPoint}
-use Rattle.octi_grid.specs.Ways.{IsWithin, after, step_from}
+use Rattle.octi_grid.specs.Ways.{IsWithin, step_from}
 use Rattle.octi_grid.specs.Walks.{PlainWalk, end_point}
-use Rattle.walk_search.specs.Boards.{is_inside}
 use Rattle.walk_search.specs.Asking.{question}
-use Rattle.walk_search.specs.Moves.{direction, start_at, starts_of}
-use Rattle.walk_search.specs.Walked.{AreSteps, walk_of_labels}
+use Rattle.walk_search.specs.Moves.{direction}
+use Rattle.walk_search.specs.Walked.{AreSteps}
 use Rattle.walk_search.proofs.Ways.{within_board}
-use Rattle.walk_search.proofs.Walking.{AreLabelsOfWalk, after_last, others_of, path_labels, steps_left, walk_left}
+use Rattle.walk_search.proofs.Walking.{after_last, steps_left, walk_left}
 use Rattle.walk_search.proofs.walk.walk_from.Goals as goal
 
 pub of_step-requires-clause-start : goal.of_step-requires-clause-start

@@ -1,4 +1,4 @@
-use Rattle.std.proofs.Common.{◌≡◌, ◌∷◌, ◌++◌, drop, map, true}
+use Rattle.std.proofs.Common.{◌≡◌, ◌∷◌, ◌++◌, drop, map}
 use Rattle.octi_grid.specs.Walks.{PlainWalk, end_point}
 use Rattle.walk_search.specs.Asking.{question}
 use Rattle.walk_search.specs.Moves.{direction}

@@ -1,4 +1,4 @@
-use Rattle.std.proofs.Common.{◌≡◌, sym, ◌∙◌, subst, ℕ, ◌≤◌, true}
+use Rattle.std.proofs.Common.{sym, ◌∙◌, subst, ℕ, ◌≤◌}
 use Rattle.walk_search.specs.Asking.{question}
 use Rattle.walk_search.proofs.Offered.{may_end_cheap}
 use Rattle.walk_search.proofs.asked.Asked.end_cost.Goals as goal

@@ -1,9 +1,5 @@
-use Rattle.std.proofs.Common.{◌≡◌, refl, sym, ◌∙◌, ap, subst, ℕ, ◌+◌, ◌<◌, ◌≤◌, true, false, length, get_or, List, arith}
-use Rattle.octi_grid.specs.Ways.{doubled, step_from, CanStep, IsWithin}
-use Rattle.walk_search.specs.Boards.{contains, is_inside, parts_of}
-use Rattle.walk_search.specs.Seats.{seats_of}
-use Rattle.walk_search.proofs.Ways.{can_step, within_board}
-use Rattle.walk_search.proofs.SeatFacts.{seats_few}
+use Rattle.walk_search.specs.Boards.{parts_of}
+use Rattle.walk_search.proofs.Ways.{can_step}
 use Rattle.walk_search.proofs.asked.Asked.may_step.Goals as goal
 
 pub is_open-requires : goal.is_open-requires

@@ -1,11 +1,7 @@
-use Rattle.std.proofs.Common.{◌≡◌, sym, ◌∙◌, ap, ap₂, subst, true, false, set, get_or, List, Bool, replicate}
-use Rattle.octi_grid.specs.declared.point.GridPoint.{GridPoint}
+use Rattle.std.proofs.Common.{◌≡◌, sym, ◌∙◌, ap, subst, true, false, get_or}
 use Rattle.walk_search.specs.declared.bounds.Bounds.{Bounds}
-use Rattle.walk_search.specs.Boards.{BoardFlags, IsKept, cell_of, cells_of, contains, doubled_bounds, is_inside, parts_of, with_node, with_node_moved, with_walk}
-use Rattle.walk_search.specs.Taking.{raised}
-use Rattle.octi_grid.specs.Walks.{doubled_of, points_of}
-use Rattle.walk_search.proofs.Within.{frame_of}
-use Rattle.walk_search.proofs.OnBoards.{kept_bounds, kept_empty, kept_moved, kept_node, kept_walk, seen_all_inside, seen_inside, shown_bounds, shown_empty, shown_is_node, shown_is_taken, shown_moved, shown_node, shown_walk}
+use Rattle.walk_search.specs.Boards.{BoardFlags, cell_of, contains, doubled_bounds, parts_of}
+use Rattle.walk_search.proofs.OnBoards.{kept_bounds, shown_bounds, shown_is_taken}
 use Rattle.walk_search.proofs.board.Board.is_taken.Goals as goal
 
 pub doubled-requires : goal.doubled-requires

@@ -1,7 +1,7 @@
-use Rattle.std.proofs.Common.{◌≡◌, ap₂, sym, ℕ, ◌/◌, ◌%◌, ◌<◌, ◌+ℤ◌, ℤ, pos, true, subst, arith, to_z, of_z, w32, rules}
+use Rattle.std.proofs.Common.{◌≡◌, sym, true, subst, to_z, of_z, w32, rules}
 use Rattle.std.proofs.lemmas.Int.{ints}
 use Rattle.octi_grid.specs.declared.point.GridPoint.{GridPoint}
-use Rattle.walk_search.specs.Boards.{contains, extent, point_of}
+use Rattle.walk_search.specs.Boards.{contains, point_of}
 use Rattle.walk_search.proofs.Within.{inside_test, point_inside, row_small}
 use Rattle.walk_search.proofs.bounds.Bounds.point_of.Goals as goal
 
