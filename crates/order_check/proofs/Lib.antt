@@ -1,5 +1,12 @@
+pub mod SlotSums
+pub mod TableSteps
+pub mod SlotValues
+pub mod ChargeLemmas
+pub mod SignedSums
+pub mod Charging
+pub mod PriceLemmas
+mod Closing
 mod Nodes
 mod Walks
 mod Totals
 mod Verdicts
-mod Crossing

@@ -10,10 +10,10 @@ use Rattle.order_model.specs.Prefixes.{is_left, ArePlacedLines}
 use Rattle.order_model.proofs.PrefixLemmas.{lines_at_segment}
 use Rattle.order_proof.specs.declared.tree.Tree.{Tree}
 use Rattle.order_proof.specs.Trees.{AreDistinct}
-use Rattle.order_trees.specs.PartTerms.{is_in}
-use Rattle.order_trees.specs.Accepting.{are_those_left}
-use Rattle.order_trees.proofs.Sound.{all_in, rising_at}
-use Rattle.order_trees.proofs.LeftCounts.{those_left_by_count}
+use Rattle.order_model.specs.PartTerms.{is_in}
+use Rattle.order_bound.specs.Accepting.{are_those_left}
+use Rattle.order_bound.proofs.Sound.{all_in, rising_at}
+use Rattle.order_bound.proofs.LeftCounts.{those_left_by_count}
 use Rattle.order_check.specs.Children.{child_lines}
 use Rattle.order_check.specs.Verdict.{are_same}
 

@@ -13,17 +13,22 @@ use Rattle.order_model.specs.Parts.{AreParts}
 use Rattle.order_proof.specs.declared.proof.Part.{Part}
 use Rattle.order_proof.specs.Plain.{PlainPart, PlainProof, close, plain, plain_part}
 use Rattle.order_proof.specs.Trees.{IsTree}
-use Rattle.order_trees.specs.PartTerms.{part_terms, AreBest}
-use Rattle.order_trees.specs.Completions.{none_placed}
-use Rattle.order_trees.specs.Accepting.{question, failing}
-use Rattle.order_trees.proofs.Sound.{accepted_bounds, all_complete_none}
-use Rattle.order_trees.proofs.Failing.{accepted_where_none}
-use Rattle.order_trees.proofs.Shares.{parts_apart, shares_fit}
+use Rattle.order_model.specs.Costs.{AreBest}
+use Rattle.order_model.specs.Problems.{IsTerm}
+use Rattle.order_model.specs.Parts.{IsRisingPart}
+use Rattle.order_model.specs.PartTerms.{part_terms, plain_terms}
+use Rattle.order_model.proofs.KeptTerms.{plain_kept}
+use Rattle.order_model.specs.Prefixes.{first_placed, none_placed}
+use Rattle.order_bound.specs.Accepting.{question, failing}
+use Rattle.order_bound.proofs.Sound.{all_complete_none}
+use Rattle.order_bound.proofs.Accepted.{accepted_part_bounds}
+use Rattle.order_bound.proofs.Failing.{accepted_where_none}
+use Rattle.order_model.proofs.Shares.{part_cost, parts_apart, shares_fit}
 use Rattle.order_check.specs.declared.refusal.ProofItem.{ProofItem}
 use Rattle.order_check.specs.declared.refusal.ProofItem.TheVariants as item
 use Rattle.order_check.specs.declared.refusal.ProofStop.{ProofStop}
 use Rattle.order_check.specs.declared.refusal.ProofStop.TheVariants as stop
-use Rattle.order_check.specs.Verdict.{are_same, first_item, tree_refusal, part_refusal, first_part, targets, total_refusal, first_refused, IsCause, IsRefusal}
+use Rattle.order_check.specs.Verdict.{are_same, first_item, tree_refusal, part_refusal, first_part, targets, total_refusal, first_refused, IsCause}
 
 -- Part by part.
 
@@ -89,11 +94,6 @@ pub accepted_whole : (cost : ℕ) (first : Option ProofItem) (proofs : List Plai
 accepted_whole cost first proofs rules e f h =
     ap (λ b. cond b (first_item first (total_refusal proofs cost)) (Some (item.Rule 0))) e ∙ ap (λ g. first_item g (total_refusal proofs cost)) f ∙ h
 
-pub refusal_of : (segs : List (List LineId)) (terms : List Term) (parts : List (List SegId)) (orders : List (List LineId)) (proof : PlainProof) (stop : ProofStop)
-    → AreParts segs terms parts → IsCause (first_refused segs terms parts orders proof) stop → IsRefusal segs terms orders proof stop
-refusal_of segs terms parts orders proof (stop.Refuted i) ok h = (parts, ok, h)
-refusal_of segs terms parts orders proof stop.NoMemory ok h = tt
-
 -- Where nothing is refused, the orders are best.
 
 some_item : (i : ProofItem) → Some i ≡ None → ⊥
@@ -116,36 +116,38 @@ none_tree k None h = refl
 none_tree k (Some way) h = absurd (some_item (item.Part k way) h)
 
 none_length : (segs : List (List LineId)) → length (none_placed segs) ≡ length segs
-none_length segs = length-map segs (λ _. [])
+none_length segs = length-map segs first_placed
 
 abbrev IsKnown : List (List LineId) → List SegId → Type 0
 IsKnown segs part = All (λ (s : SegId). s.0 < length segs) part
 
 targets_fit : (segs : List (List LineId)) (terms : List Term) (k : ℕ) (parts : List (List SegId)) (proofs : List PlainPart) (others : List (List LineId))
-    → All AreRising segs → All (IsKnown segs) parts → AreOrders segs others → first_part segs terms k parts proofs ≡ None
-    → targets proofs ≤ sum_by (λ p. cost_of (part_terms terms p) others) parts
-targets_fit segs terms k [] [] others rising known are none = omega arith
-targets_fit segs terms k [] (r ∷ proofs) others rising known are none = absurd (some_item (item.Part k []) none)
-targets_fit segs terms k (p ∷ parts) [] others rising known are none = absurd (some_item (item.Part k []) none)
-targets_fit segs terms k (p ∷ parts) (r ∷ proofs) others rising known are none =
+    → All AreRising segs → All (IsTerm segs) terms → All IsRisingPart parts → All (IsKnown segs) parts → AreOrders segs others → first_part segs terms k parts proofs ≡ None
+    → targets proofs ≤ sum_by (part_cost terms others) parts
+targets_fit segs terms k [] [] others rising fit part_rises known are none = omega arith
+targets_fit segs terms k [] (r ∷ proofs) others rising fit part_rises known are none = absurd (some_item (item.Part k []) none)
+targets_fit segs terms k (p ∷ parts) [] others rising fit part_rises known are none = absurd (some_item (item.Part k []) none)
+targets_fit segs terms k (p ∷ parts) (r ∷ proofs) others rising fit part_rises known are none =
     let both = none_first (part_refusal segs terms k p r) (first_part segs terms (k + 1) parts proofs) none in
     let tree = none_if (are_same p r.segs) (tree_refusal k (failing (question segs p (part_terms terms p) r.target) (none_placed segs) r.tree)) (item.Part k []) both.0 in
     let accepted = accepted_where_none (question segs p (part_terms terms p) r.target) (none_placed segs) r.tree
     (none_tree k (failing (question segs p (part_terms terms p) r.target) (none_placed segs) r.tree) tree.1) in
-    let here : r.target ≤ cost_of (part_terms terms p) others =
-    accepted_bounds segs p terms r.target (none_placed segs) r.tree rising (All-head (IsKnown segs) p parts known) (none_length segs) accepted others are (all_complete_none segs p others) in
-    let rest = targets_fit segs terms (k + 1) parts proofs others rising (All-tail (IsKnown segs) p parts known) are both.1 in
-    omega (arith, here, rest, sum_by-cons (λ (p : PlainPart). p.target) r proofs, sum_by-cons (λ p. cost_of (part_terms terms p) others) p parts)
+    let bound : r.target ≤ cost_of (plain_terms (part_terms terms p)) others =
+    accepted_part_bounds segs p terms r.target (none_placed segs) r.tree rising fit (All-head IsRisingPart p parts part_rises) (All-head (IsKnown segs) p parts known) (none_length segs) accepted
+    others are (all_complete_none segs p others are) in
+    let here : r.target ≤ part_cost terms others p = subst (λ (ts : List Term). r.target ≤ cost_of ts others) (plain_kept p terms) bound in
+    let rest = targets_fit segs terms (k + 1) parts proofs others rising fit (All-tail IsRisingPart p parts part_rises) (All-tail (IsKnown segs) p parts known) are both.1 in
+    omega (arith, here, rest, sum_by-cons (λ (p : PlainPart). p.target) r proofs, sum_by-cons (part_cost terms others) p parts)
 
 pub best_of : (segs : List (List LineId)) (terms : List Term) (parts : List (List SegId)) (orders : List (List LineId)) (proof : PlainProof)
-    → All AreRising segs → AreParts segs terms parts → first_refused segs terms parts orders proof ≡ None → AreBest segs terms orders
-best_of segs terms parts orders proof rising ok none others are =
+    → All AreRising segs → All (IsTerm segs) terms → AreParts segs terms parts → first_refused segs terms parts orders proof ≡ None → AreBest segs terms orders
+best_of segs terms parts orders proof rising terms_fit ok none others are =
     let rules = none_if (length proof.rules == 0) (first_item (first_part segs terms 0 parts proof.parts) (total_refusal proof.parts (cost_of terms orders))) (item.Rule 0) none in
     let both = none_first (first_part segs terms 0 parts proof.parts) (total_refusal proof.parts (cost_of terms orders)) rules.1 in
     let total : targets proof.parts ≡ cost_of terms orders =
     eqb-true (targets proof.parts) (cost_of terms orders) (none_total (targets proof.parts == cost_of terms orders) item.Total both.1) in
     let known : All (IsKnown segs) parts = λ k d below j e under. (ok.wide k d below j e under).0 in
-    let fit = targets_fit segs terms 0 parts proof.parts others rising known are both.0 in
+    let fit = targets_fit segs terms 0 parts proof.parts others rising terms_fit ok.rising known are both.0 in
     omega (arith, total, fit, shares_fit parts terms others (parts_apart segs terms parts ok))
 
 -- The parts of a proof.

@@ -9,15 +9,15 @@ use Rattle.map_base.specs.declared.ids.SegId.{SegId}
 use Rattle.map_base.specs.declared.ids.LineId.{LineId}
 use Rattle.graph_core.specs.Consistent.{AreRising}
 use Rattle.order_model.specs.Problems.{lines_on}
-use Rattle.order_model.specs.Prefixes.{is_placed, is_unplaced, is_left, with_line, without_last, ArePlacedLines}
-use Rattle.order_model.proofs.PrefixLemmas.{undone}
+use Rattle.order_model.specs.Prefixes.{is_placed, is_unplaced, is_left, with_last, first_placed, with_line, without_last, ArePlacedLines}
+use Rattle.order_model.proofs.PrefixLemmas.{undone, room_left, with_last_not}
 use Rattle.order_proof.specs.declared.tree.Tree.{Tree, Split, Close, the_lemmas}
 use Rattle.order_proof.specs.Plain.{split, close, plain, plain_children}
 use Rattle.order_proof.specs.Trees.{is_among, lines_of, AreDistinct, IsTree, AreTrees}
-use Rattle.order_trees.specs.PartTerms.{is_in}
-use Rattle.order_trees.specs.Completions.{placed_more}
-use Rattle.order_trees.specs.Accepting.{Question, is_closed, are_those_left, is_split, after_line, first_of, failing, failing_case}
-use Rattle.order_trees.proofs.Lines.{both_true, either_true, not_true, same_line}
+use Rattle.order_model.specs.PartTerms.{is_in}
+use Rattle.order_model.specs.Completions.{placed_more}
+use Rattle.order_bound.specs.Accepting.{Question, is_closed, are_those_left, is_split, after_line, first_of, failing, failing_case}
+use Rattle.order_model.proofs.Lines.{both_true, either_true, not_true, same_line}
 use Rattle.order_check.specs.Children.{child_lines}
 use Rattle.order_check.specs.Walking.{IsWalked}
 
@@ -223,3 +223,28 @@ case_done f a before after shorter h short = (
   ap (after_line a) h.0,
   short ∙ ap (λ l. take (length l - 1) l) h.1 ∙ ap (λ n. take n (before ++ a ∷ [])) (omega (arith, length-append before (a ∷ []))) ∙ take-append_seam before (a ∷ []),
 )
+
+-- After a line is placed there is a placing to take back.
+
+longer : (lines now : List LineId) → length now ≤ length (with_last lines now)
+longer lines now = by_test (length now + 1 == length lines)
+  where
+    by_test : (b : Bool) → length now ≤ length (let l : List LineId = cond b (now ++ option_to_list (find (is_unplaced now) lines)) now in l)
+    by_test true = omega (arith, length-append now (option_to_list (find (is_unplaced now) lines)))
+    by_test false = omega arith
+
+chosen_after : (lines placed : List LineId) (line : LineId) → ArePlacedLines lines placed → Contains lines line → is_placed placed line ≡ false
+    → length (first_placed lines) < length (with_line lines placed line)
+chosen_after lines placed line ok on free =
+    let room : length placed < length lines = room_left lines placed line ok on free in
+    let alone = ok.none_alone in
+    let none : first_placed lines ≡ [] = with_last_not lines [] (λ e. alone (omega (arith, e, room))) in
+    omega (arith, ap length none, longer lines (placed ++ line ∷ []), length-append placed (line ∷ []))
+
+pub chosen_walked : (segs before placed walked : List (List LineId)) (s : SegId) (line : LineId) → s.0 < length before → ArePlacedLines (lines_on segs s) (lines_on before s)
+    → Contains (lines_on segs s) line → is_placed (lines_on before s) line ≡ false → placed ≡ set before s.0 (with_line (lines_on segs s) (lines_on before s) line) → walked ≡ placed
+    → length (first_placed (lines_on segs s)) < length (lines_on walked s)
+chosen_walked segs before placed walked s line known ok on free is same =
+    let there : lines_on walked s ≡ with_line (lines_on segs s) (lines_on before s) line =
+    ap (λ p. lines_on p s) (same ∙ is) ∙ get_or-set_same before s.0 (with_line (lines_on segs s) (lines_on before s) line) [] known in
+    rw there (chosen_after (lines_on segs s) (lines_on before s) line ok on free)

@@ -1,20 +1,29 @@
 -- What a tree is asked to show.
-use Rattle.std.specs.Prelude.{◌<◌, ◌≤◌, length, All}
+use Rattle.std.specs.Prelude.{◌≡◌, ℤ, ◌<◌, List, length, map, All}
 use Rattle.map_base.specs.declared.ids.SegId.{SegId}
-use Rattle.graph_core.specs.Consistent.{AreRising}
-use Rattle.order_model.specs.Problems.{IsTerm}
-use Rattle.order_trees.specs.Numbers.{TellPart}
-use Rattle.order_trees.specs.Accepting.{Question, question}
+use Rattle.order_model.specs.Problems.{IsProblem}
+use Rattle.order_model.specs.Parts.{IsRisingPart}
+use Rattle.order_model.specs.PartTerms.{part_terms, part_numbers}
+use Rattle.order_model.specs.Numbers.{TellPart}
+use Rattle.order_bound.specs.Accepting.{Question, question}
+use Rattle.order_check.specs.PartTables.{IsPartTable}
+use Rattle.order_check.specs.declared.slot.SlotCost.{SlotCost}
 use Rattle.order_check.specs.declared.asked.Asked.{Asked}
 
 -- the question that a tree is to answer
 abbrev pub question_of : Asked → Question
-question_of asked = question asked.problem.now.segs asked.part.now asked.terms.now asked.target
+question_of asked = question asked.problem.now.segs asked.part.now (part_terms asked.problem.now.terms asked.part.now) asked.target
 
--- the numbers tell the segments of the part, which are the problem's, and the terms fit
+-- the segments and the numbers are those of a part of the problem, and the table is that of its terms
 pub record IsAsked (asked : Asked) : Type 0 where
-  pub rising : All AreRising asked.problem.now.segs
+  pub problem : IsProblem asked.problem.now
+  pub rising : IsRisingPart asked.part.now
   pub known : All (λ (s : SegId). s.0 < length asked.problem.now.segs) asked.part.now
   pub numbers : TellPart asked.part.now asked.k (length asked.problem.now.segs) asked.numbers.now
-  pub terms : All (IsTerm asked.problem.now.segs) asked.terms.now
-  pub few : length asked.terms.now ≤ 4000000
+  pub terms : asked.terms.now ≡ part_numbers asked.problem.now.terms asked.part.now
+  pub table : IsPartTable (part_terms asked.problem.now.terms asked.part.now) asked.table.now.terms.items asked.table.now.slots.keys
+
+-- tables with a place for each term and for each slot of the part
+pub record HaveTables (asked : Asked) (shares : List ℤ) (costs : List SlotCost) : Type 0 where
+  pub each_term : length shares ≡ length asked.table.now.terms.items
+  pub each_slot : length costs ≡ length asked.table.now.slots.keys

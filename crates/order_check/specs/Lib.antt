@@ -1,3 +1,8 @@
+pub mod Slots
+pub mod PartTables
+pub mod Charges
+pub mod Charging
+pub mod Prices
 pub mod Asking
 pub mod Children
 pub mod Walking

@@ -4,11 +4,11 @@ use Rattle.map_base.specs.declared.ids.SegId.{SegId}
 use Rattle.map_base.specs.declared.ids.LineId.{LineId}
 use Rattle.order_model.specs.declared.term.Term.{Term}
 use Rattle.order_model.specs.Costs.{cost_of}
-use Rattle.order_model.specs.Parts.{AreParts}
+use Rattle.order_model.specs.Gathering.{problem_parts}
 use Rattle.order_proof.specs.Plain.{PlainPart, PlainProof}
-use Rattle.order_trees.specs.PartTerms.{part_terms}
-use Rattle.order_trees.specs.Completions.{none_placed}
-use Rattle.order_trees.specs.Accepting.{question, failing}
+use Rattle.order_model.specs.PartTerms.{part_terms}
+use Rattle.order_model.specs.Prefixes.{none_placed}
+use Rattle.order_bound.specs.Accepting.{question, failing}
 use Rattle.order_check.specs.declared.refusal.ProofItem.{ProofItem}
 use Rattle.order_check.specs.declared.refusal.ProofItem.TheVariants as item
 use Rattle.order_check.specs.declared.refusal.ProofStop.{ProofStop}
@@ -58,16 +58,11 @@ first_refused segs terms parts orders proof =
     if length proof.rules == 0 then first_item (first_part segs terms 0 parts proof.parts) (total_refusal proof.parts (cost_of terms orders))
     else Some (item.Rule 0)
 
--- what is refused first, by the parts of the problem
-abbrev pub HasVerdict : List (List LineId) → List Term → List (List LineId) → PlainProof → Option ProofItem → Type 0
-HasVerdict segs terms orders proof verdict = (parts : List (List SegId)) × AreParts segs terms parts × (first_refused segs terms parts orders proof ≡ verdict)
+-- the verdict on a whole proof, by the parts of the problem
+abbrev pub verdict : List (List LineId) → List Term → List (List LineId) → PlainProof → Option ProofItem
+verdict segs terms orders proof = first_refused segs terms (problem_parts segs terms) orders proof
 
 -- the stop names this item; want of memory is free
 abbrev pub IsCause : Option ProofItem → ProofStop → Type 0
 IsCause outcome (stop.Refuted i) = outcome ≡ Some i
 IsCause outcome stop.NoMemory = Unit {0}
-
--- the same of a whole proof
-abbrev pub IsRefusal : List (List LineId) → List Term → List (List LineId) → PlainProof → ProofStop → Type 0
-IsRefusal segs terms orders proof (stop.Refuted i) = HasVerdict segs terms orders proof (Some i)
-IsRefusal segs terms orders proof stop.NoMemory = Unit {0}

@@ -1,7 +1,8 @@
 //! What is asked of a tree.
 
+use crate::part_table::PartTable;
 use map_base::SegId;
-use order_model::{Problem, Term};
+use order_model::Problem;
 
 /// What a tree is asked to show of a part: that its orders cost at least the target on its terms.
 #[derive(Clone, Copy)]
@@ -14,8 +15,10 @@ pub(crate) struct Asked<'a> {
     pub(crate) k: u32,
     /// The number of the part of each segment of the problem.
     pub(crate) numbers: &'a [u32],
-    /// The terms of the part.
-    pub(crate) terms: &'a [Term],
+    /// The numbers of the part's terms, rising.
+    pub(crate) terms: &'a [u32],
+    /// The part's terms, with their slots.
+    pub(crate) table: &'a PartTable,
     /// What the orders are to cost at least.
     pub(crate) target: u64,
 }

@@ -3,21 +3,19 @@
 ghost use Rattle.std.specs.Prelude.{◌≡◌, [], map, IfOk, IfErr, None};
 ghost use Rattle.std.specs.List.{AllByRecursion};
 ghost use Rattle.order_model.specs.Problems.{IsProblem};
-ghost use Rattle.order_model.specs.Costs.{AreOrders};
+ghost use Rattle.order_model.specs.Costs.{AreBest, AreOrders};
 ghost use Rattle.order_model.specs.Parts.{AreParts};
 ghost use Rattle.order_model.specs.Gathering.{part_lists};
 ghost use Rattle.order_proof.specs.Plain.{plain_part, plain_proof};
 ghost use Rattle.order_proof.specs.Trees.{IsTree};
-ghost use Rattle.order_trees.specs.PartTerms.{AreBest};
-ghost use Rattle.order_check.specs.Verdict.{first_part, first_refused, HasVerdict, IsCause, IsRefusal};
+ghost use Rattle.order_check.specs.Verdict.{first_part, first_refused, verdict, IsCause};
 
 use crate::part::check_part;
 use crate::refusal::{ProofItem, ProofStop};
 use crate::total::check_total;
 use map_base::{SegId, Sequence};
-use order_model::{Orders, Prefix, Problem, cost, parts_of};
+use order_model::{Orders, Prefix, Problem, cost_by_tables, numbers_of, parts_of, terms_by_part};
 use order_proof::{Part, Proof};
-use order_trees::{numbers_of, terms_by_part};
 use std::alloc::Global;
 
 /// Whether a proof shows that no orders of the problem cost less than these. The items are checked in order: the rules,
@@ -30,8 +28,8 @@ pub fn check_proof(
     proof: &Proof,
 ) -> Result<(), ProofStop>
     requires { AreOrders problem.segs orders.now.lists }
-    ensures accepted { IfOk result (λ _. HasVerdict problem.segs problem.terms orders.now.lists (plain_proof proof.now) None) }
-    ensures refused { IfErr result (IsRefusal problem.segs problem.terms orders.now.lists (plain_proof proof.now)) }
+    ensures accepted { IfOk result (λ _. verdict problem.segs problem.terms orders.now.lists (plain_proof proof.now) ≡ None) }
+    ensures refused { IfErr result (IsCause (verdict problem.segs problem.terms orders.now.lists (plain_proof proof.now))) }
     ensures best { IfOk result (λ _. AreBest problem.segs problem.terms orders.now.lists) }
 {
     let parts = parts_of(alloc, &problem)?;
@@ -58,7 +56,7 @@ fn check_items(
     }
     let proofs = proof.parts.as_slice();
     check_parts(alloc, problem, parts, proofs)?;
-    check_total(proofs, cost(alloc, problem, orders)?)
+    check_total(proofs, cost_by_tables(alloc, problem, orders)?)
 }
 
 /// Refuses the first part that is not the problem's in its turn, or has a tree that isn't accepted. The numbers and the

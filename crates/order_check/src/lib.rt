@@ -3,12 +3,16 @@
 #![tactic(auto)]
 
 mod asked;
+mod charges;
 mod check;
+mod close;
 mod node;
 mod part;
+mod part_table;
 mod refusal;
-#[cfg(test)]
-mod tests;
+mod slot;
+mod slot_costs;
+mod term_prices;
 mod total;
 mod walk;
 

@@ -1,63 +1,19 @@
 //! Whether a node of a tree holds for a prefix.
 
-ghost use Rattle.std.specs.Prelude.{◌≡◌, ◌<◌, ◌&&◌, nat_lt, length, All};
+ghost use Rattle.std.specs.Prelude.{◌≡◌, ◌<◌, ◌&&◌, nat_lt, length};
 ghost use Rattle.std.specs.List.{list_all};
-ghost use Rattle.map_base.specs.declared.ids.SegId.{SegId};
 ghost use Rattle.order_model.specs.Problems.{lines_on};
 ghost use Rattle.order_model.specs.Prefixes.{IsPrefixOf, is_left};
 ghost use Rattle.order_proof.specs.Trees.{AreDistinct};
-ghost use Rattle.order_trees.specs.PartTerms.{is_in};
-ghost use Rattle.order_trees.specs.Accepting.{is_full, is_complete, is_closed, are_those_left};
-ghost use Rattle.order_check.specs.Asking.{question_of, IsAsked};
+ghost use Rattle.order_model.specs.PartTerms.{is_in};
+ghost use Rattle.order_bound.specs.Accepting.{are_those_left};
+ghost use Rattle.order_check.specs.Asking.{IsAsked};
 ghost use Rattle.order_check.specs.Children.{child_lines};
 
 use crate::asked::Asked;
 use map_base::{LineId, SegId};
 use order_model::{Prefix, Problem};
 use order_proof::Tree;
-use order_values::Prices;
-
-/// Whether a Close holds: it has no prices, the prefix is complete on the part, and costs at least the target.
-pub(crate) fn is_closed(asked: &Asked, prefix: &Prefix, prices: &Prices) -> bool
-    requires asked { IsAsked asked.now }
-    requires fits { IsPrefixOf asked.now.problem.now.segs prefix.now }
-    ensures { result ≡ is_closed (question_of asked.now) prefix.now.placed prices.now }
-{
-    let priced = prices.as_slice();
-    if !priced.is_empty() {
-        return false;
-    }
-    if !is_complete(asked.problem, asked.part, prefix) {
-        return false;
-    }
-    asked.target <= prefix.cost(asked.problem, asked.terms)
-}
-
-/// Whether all lines are placed on all segments of the part.
-#[tactic(auto, using(std::proofs::lemmas::List::at_drop_more))]
-fn is_complete(problem: &Problem, part: &[SegId], prefix: &Prefix) -> bool
-    requires fits { IsPrefixOf problem.now.segs prefix.now }
-    requires known { All (λ (s : SegId). s.0 < length problem.now.segs) part.now }
-    ensures { result ≡ is_complete problem.now.segs part.now prefix.now.placed }
-{
-    for s in part {
-        if !is_full(problem, prefix, *s) {
-            return false;
-        }
-    }
-    true
-}
-
-/// Whether all lines are placed on a segment.
-fn is_full(problem: &Problem, prefix: &Prefix, s: SegId) -> bool
-    requires fits { IsPrefixOf problem.now.segs prefix.now }
-    requires known { s.0 < length problem.now.segs }
-    ensures { result ≡ is_full problem.now.segs prefix.now.placed s }
-{
-    let segs = problem.segs();
-    let lines = segs[s.0 as usize].as_slice();
-    prefix.placed(s).len() == lines.len()
-}
 
 /// Whether a Split holds: its segment is of the part, and its lines, no two of which are the same, are those that are not
 /// placed, one at least.

@@ -6,23 +6,26 @@ ghost use Rattle.order_model.specs.Problems.{IsProblem};
 ghost use Rattle.order_model.specs.Prefixes.{IsPrefixOf};
 ghost use Rattle.order_proof.specs.Plain.{plain, plain_part};
 ghost use Rattle.order_proof.specs.Trees.{IsTree};
-ghost use Rattle.order_trees.specs.PartTerms.{part_terms};
-ghost use Rattle.order_trees.specs.Numbers.{TellPart};
-ghost use Rattle.order_trees.specs.Completions.{none_placed};
-ghost use Rattle.order_trees.specs.Accepting.{failing};
+ghost use Rattle.order_model.specs.Parts.{IsRisingPart};
+ghost use Rattle.order_model.specs.PartTerms.{part_numbers};
+ghost use Rattle.order_model.specs.Numbers.{TellPart};
+ghost use Rattle.order_model.specs.Prefixes.{none_placed};
+ghost use Rattle.order_bound.specs.Accepting.{failing};
 ghost use Rattle.order_check.specs.Asking.{question_of, IsAsked};
 ghost use Rattle.order_check.specs.Verdict.{are_same, tree_refusal, part_refusal, IsCause};
 
 use crate::asked::Asked;
+use crate::part_table::part_table;
 use crate::refusal::{ProofItem, ProofStop};
+use crate::slot::SlotCost;
 use crate::walk::walk;
 use map_base::{SegId, Sequence};
-use order_model::{Prefix, Problem, Term};
+use order_model::{Prefix, Problem};
 use order_proof::{Part, Tree};
 use std::alloc::Global;
 
 /// Refuses part `k` of a proof where its segments are not those of the problem's part, or its tree isn't accepted. Of
-/// the numbers of segments those of this part are `k`, and the terms are this part's. Lines are placed on a prefix on
+/// the numbers of segments those of this part are `k`, and the terms are this part's, by number. Lines are placed on a prefix on
 /// which none is placed, and taken back from it.
 pub(crate) fn check_part(
     alloc: Global,
@@ -30,14 +33,15 @@ pub(crate) fn check_part(
     k: u32,
     segs: &[SegId],
     numbers: &[u32],
-    terms: &[Term],
+    terms: &[u32],
     prefix: &mut Prefix,
     part: &Part,
 ) -> Result<(), ProofStop>
     requires problem { IsProblem problem.now }
     requires known { All (λ (s : SegId). s.0 < length problem.now.segs) segs.now }
     requires numbers { TellPart segs.now k (length problem.now.segs) numbers.now }
-    requires terms { terms.now ≡ part_terms problem.now.terms segs.now }
+    requires rising { IsRisingPart segs.now }
+    requires terms { terms.now ≡ part_numbers problem.now.terms segs.now }
     requires fits { IsPrefixOf problem.now.segs prefix.old }
     requires none { prefix.old.placed ≡ none_placed problem.now.segs }
     requires tree { IsTree (plain part.now.tree) }
@@ -52,18 +56,21 @@ pub(crate) fn check_part(
             after: Sequence::of(Vec::new(alloc)),
         }));
     }
+    let table = part_table(alloc, problem, terms)?;
     let asked = Asked {
         problem,
         part: segs,
         k,
         numbers,
         terms,
+        table: &table,
         target: part.target,
     };
     check_tree(alloc, &asked, prefix, &part.tree)
 }
 
-/// Refuses the part where its tree isn't accepted from the empty prefix.
+/// Refuses the part where its tree isn't accepted from the prefix in which no line is chosen. The tables that a Close
+/// needs are made once.
 fn check_tree(
     alloc: Global,
     asked: &Asked,
@@ -79,8 +86,16 @@ fn check_tree(
     ensures accepted { IfOk result (λ _. tree_refusal asked.now.k (failing (question_of asked.now) (none_placed asked.now.problem.now.segs) (plain tree.now)) ≡ None) }
     ensures refused { IfErr result (IsCause (tree_refusal asked.now.k (failing (question_of asked.now) (none_placed asked.now.problem.now.segs) (plain tree.now)))) }
 {
+    let nothing = SlotCost {
+        lesser_first: 0,
+        greater_first: 0,
+    };
+    let mut shares = vec![in alloc; 0_i64; asked.table.terms.len()]?;
+    let mut costs = vec![in alloc; nothing; asked.table.slots.len()]?;
     let mut way = Vec::new(alloc);
-    if walk(asked, prefix, &mut way, tree)? {
+    let shares = shares.as_mut_slice();
+    let costs = costs.as_mut_slice();
+    if walk(asked, prefix, shares, costs, &mut way, tree)? {
         return Ok(());
     }
     Err(ProofStop::Refuted(ProofItem::Part {

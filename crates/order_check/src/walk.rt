@@ -5,37 +5,42 @@ ghost use Rattle.order_model.specs.Problems.{lines_on};
 ghost use Rattle.order_model.specs.Prefixes.{IsPrefixOf, is_placed};
 ghost use Rattle.order_proof.specs.Plain.{split, plain, plain_children};
 ghost use Rattle.order_proof.specs.Trees.{IsTree};
-ghost use Rattle.order_trees.specs.Completions.{placed_more};
-ghost use Rattle.order_trees.specs.Accepting.{after_line, failing};
-ghost use Rattle.order_check.specs.Asking.{question_of, IsAsked};
+ghost use Rattle.order_model.specs.Completions.{placed_more};
+ghost use Rattle.order_bound.specs.Accepting.{after_line, failing};
+ghost use Rattle.order_check.specs.Asking.{question_of, IsAsked, HaveTables};
 ghost use Rattle.order_check.specs.Walking.{IsWalked};
 
 use crate::asked::Asked;
-use crate::node::{is_closed, is_split};
+use crate::close::is_closed;
+use crate::node::is_split;
+use crate::slot::SlotCost;
 use map_base::{LineId, NoMemory, SegId};
 use order_model::Prefix;
 use order_proof::Tree;
 
 /// Whether a tree is accepted for a prefix. Where it is not, the lines on the way to the first node that fails are
-/// added to `way`. The prefix is left as it was.
+/// added to `way`. The prefix is left as it was; the tables have a place for each term and for each slot of the part.
 #[cycle(walk)]
 pub(crate) fn walk(
     asked: &Asked,
     prefix: &mut Prefix,
+    shares: &mut [i64],
+    costs: &mut [SlotCost],
     way: &mut Vec<LineId>,
     tree: &Tree,
 ) -> Result<bool, NoMemory>
     requires asked { IsAsked asked.now }
     requires fits { IsPrefixOf asked.now.problem.now.segs prefix.old }
     requires tree { IsTree (plain tree.now) }
+    requires tables { HaveTables asked.now shares.old costs.old }
     ensures fits { IsPrefixOf asked.now.problem.now.segs prefix.new }
     ensures placed { prefix.new.placed ≡ prefix.old.placed }
     ensures walked { IfOk result (IsWalked (failing (question_of asked.now) prefix.old.placed (plain tree.now)) way.old.items way.new.items) }
 {
     match tree {
-        Tree::Close { prices } => Ok(is_closed(asked, prefix, prices)),
+        Tree::Close { prices } => Ok(is_closed(asked, prefix, shares, costs, prices)),
         Tree::Split { seg, children } => {
-            walk_split(asked, prefix, way, *seg, children.as_slice())
+            walk_split(asked, prefix, shares, costs, way, *seg, children.as_slice())
         }
     }
 }
@@ -45,6 +50,8 @@ pub(crate) fn walk(
 fn walk_split(
     asked: &Asked,
     prefix: &mut Prefix,
+    shares: &mut [i64],
+    costs: &mut [SlotCost],
     way: &mut Vec<LineId>,
     seg: SegId,
     children: &[(LineId, Tree)],
@@ -52,6 +59,7 @@ fn walk_split(
     requires asked { IsAsked asked.now }
     requires fits { IsPrefixOf asked.now.problem.now.segs prefix.old }
     requires tree { IsTree (split seg (plain_children children.now)) }
+    requires tables { HaveTables asked.now shares.old costs.old }
     ensures fits { IsPrefixOf asked.now.problem.now.segs prefix.new }
     ensures placed { prefix.new.placed ≡ prefix.old.placed }
     ensures walked { IfOk result (IsWalked (failing (question_of asked.now) prefix.old.placed (split seg (plain_children children.now))) way.old.items way.new.items) }
@@ -60,7 +68,7 @@ fn walk_split(
         return Ok(false);
     }
     for child in children {
-        if !walk_case(asked, prefix, way, seg, child.0, &child.1)? {
+        if !walk_case(asked, prefix, shares, costs, way, seg, child.0, &child.1)? {
             return Ok(false);
         }
     }
@@ -72,6 +80,8 @@ fn walk_split(
 fn walk_case(
     asked: &Asked,
     prefix: &mut Prefix,
+    shares: &mut [i64],
+    costs: &mut [SlotCost],
     way: &mut Vec<LineId>,
     seg: SegId,
     line: LineId,
@@ -83,6 +93,7 @@ fn walk_case(
     requires line { Contains (lines_on asked.now.problem.now.segs seg) line }
     requires unplaced { is_placed (lines_on prefix.old.placed seg) line ≡ false }
     requires tree { IsTree (plain tree.now) }
+    requires tables { HaveTables asked.now shares.old costs.old }
     ensures fits { IsPrefixOf asked.now.problem.now.segs prefix.new }
     ensures placed { prefix.new.placed ≡ prefix.old.placed }
     ensures walked { IfOk result (IsWalked (after_line line (failing (question_of asked.now)
@@ -90,7 +101,7 @@ fn walk_case(
 {
     way.push(line)?;
     prefix.place(asked.problem, seg, line);
-    let outcome = walk(asked, prefix, way, tree);
+    let outcome = walk(asked, prefix, shares, costs, way, tree);
     prefix.take_back(asked.problem, seg);
     if !outcome? {
         return Ok(false);

@@ -1,12 +1,6 @@
 pub mod Examples
+pub mod RisingLines
 pub mod OrderLemmas
-pub mod Faults
-pub mod Rounds
-pub mod NodeWays
-pub mod Sorting
-pub mod GraphFacts
-pub mod GraphProblem
-pub mod SmallGraph
 pub mod Classes
 pub mod Pointing
 pub mod Placing
@@ -16,3 +10,13 @@ pub mod PrefixLemmas
 pub mod TableLemmas
 pub mod PlaceCosts
 pub mod PrefixMemory
+pub mod LookLemmas
+pub mod Lines
+pub mod Shares
+pub mod OneParts
+pub mod PartLists
+pub mod PartNumbers
+pub mod TermParts
+pub mod KeptTerms
+pub mod Numbering
+pub mod Grouping

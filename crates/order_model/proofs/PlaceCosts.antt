@@ -16,10 +16,8 @@ use Rattle.order_model.specs.declared.problem.ProblemParts.{ProblemParts}
 use Rattle.order_model.specs.Problems.{lines_on, IsTerm, IsProblem, choices}
 use Rattle.order_model.specs.Costs.{AreOrders, comes_before, are_neighbours, same_answer, is_met, term_cost, weight_of}
 use Rattle.order_model.specs.Places.{place_of, no_place, place_in, places_in, AreShort, ArePlaces, HavePlaces, place_by, before_by, beside_by, is_met_by, cost_by}
-use Rattle.order_model.specs.Prefixes.{Placement, IsPrefixOf}
 use Rattle.order_model.proofs.PlaceLemmas.{no_line, same_or_not, AreOnce, order_once, line_at_place, place_below}
-use Rattle.order_model.proofs.PrefixLemmas.{few_apart}
-use Rattle.order_model.proofs.TableLemmas.{apart_once, before_in, beside_in}
+use Rattle.order_model.proofs.TableLemmas.{before_in, beside_in}
 
 pub order_at : (segs orders : List (List LineId)) (s : ℕ) → AreOrders segs orders → s < length segs → IsPermutation (get_or segs s []) (get_or orders s [])
 order_at [] [] s h below = absurd (omega (arith, below))
@@ -64,13 +62,6 @@ orders_have_tables segs orders places rising short are made = record {
   once = λ s below. order_once (get_or segs s []) (get_or orders s []) (rising s [] below) (order_at segs orders s are below);
   short = λ s below. omega (arith, short s [] below, length_permutation (get_or segs s []) (get_or orders s []) (order_at segs orders s are below));
   made = made;
-}
-
-pub prefix_has_tables : (segs : List (List LineId)) (p : Placement) → AreShort segs → IsPrefixOf segs p → HaveTables segs p.placed p.places
-prefix_has_tables segs p short fits = record {
-  once = λ s below. apart_once (get_or p.placed s []) (fits.lines s below).apart;
-  short = λ s below. omega (arith, short s [] below, few_apart (get_or p.placed s []) (get_or segs s []) (fits.lines s below).apart (fits.lines s below).known);
-  made = fits.places;
 }
 
 module _ (segs orders : List (List LineId)) (places : List (List ℕ)) (have : HaveTables segs orders places) where

@@ -10,7 +10,7 @@ use Rattle.map_base.specs.declared.ids.LineId.{LineId}
 use Rattle.graph_core.specs.Consistent.{AreRising}
 use Rattle.order_model.specs.Costs.{comes_before, are_these, are_neighbours}
 use Rattle.order_model.specs.Places.{place_of, are_adjacent}
-use Rattle.order_model.proofs.GraphProblem.{contains_cases, rising_tail, rising_above}
+use Rattle.order_model.proofs.RisingLines.{contains_cases, rising_tail, rising_above}
 
 abbrev pub no_line : LineId
 no_line = record { 0 = 0 }

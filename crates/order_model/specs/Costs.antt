@@ -80,3 +80,7 @@ AreOrders [] [] = Unit {0}
 AreOrders (lines ∷ segs) (order ∷ orders) = IsPermutation lines order × AreOrders segs orders
 AreOrders [] (order ∷ orders) = ⊥
 AreOrders (lines ∷ segs) [] = ⊥
+
+-- no orders of these segments cost less
+abbrev pub AreBest : List (List LineId) → List Term → List (List LineId) → Type 0
+AreBest segs terms orders = (others : List (List LineId)) → AreOrders segs others → cost_of terms orders ≤ cost_of terms others

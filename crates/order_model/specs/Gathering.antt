@@ -4,7 +4,8 @@ use Rattle.std.specs.Prelude.{Vec}
 use Rattle.std.specs.Global.{Global}
 use Rattle.map_base.specs.declared.ids.SegId.{SegId}
 use Rattle.map_base.specs.declared.ids.LineId.{LineId}
-use Rattle.order_model.specs.Parts.{is_wide, least_of}
+use Rattle.order_model.specs.declared.term.Term.{Term}
+use Rattle.order_model.specs.Parts.{is_wide, least_of, first_labels, class_labels}
 
 -- the segments of each part
 abbrev pub part_lists : List (Vec SegId Global) → List (List SegId)
@@ -34,6 +35,10 @@ places_after segs labels s count places = if is_wide segs s then with_place (sli
 abbrev pub gathered : List (List LineId) → List ℕ → ℕ → List (List SegId)
 gathered segs labels zero = []
 gathered segs labels (suc s) = after_segment segs labels s (gathered segs labels s)
+
+-- the parts of a problem: its segments with at least two lines by class, where Links and Aparts join classes
+abbrev pub problem_parts : List (List LineId) → List Term → List (List SegId)
+problem_parts segs terms = gathered segs (class_labels (first_labels (length segs)) terms) (length segs)
 
 -- the part at this place, and no other, has this least segment
 pub record IsOnlyAt (parts : List (List SegId)) (place label : ℕ) : Type 0 where

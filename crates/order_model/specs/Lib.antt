@@ -1,9 +1,10 @@
 pub mod Problems
-pub mod Terms
-pub mod WaysByPlace
 pub mod Costs
 pub mod Places
-pub mod Limits
 pub mod Parts
 pub mod Gathering
 pub mod Prefixes
+pub mod PartTerms
+pub mod Numbers
+pub mod Completions
+pub mod Looks

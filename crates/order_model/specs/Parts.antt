@@ -1,5 +1,5 @@
 -- The parts of a problem.
-use Rattle.std.specs.Prelude.{◌≡◌, ℕ, ◌<◌, ◌≤◌, ◌↔◌, ◌==◌, nat_le, Bool, true, false, ◌&&◌, ◌||◌, List, [], ◌∷◌, length, map, All, Contains, IsTrue, if◌then◌else◌, min, max, slice_index, slice_index_or}
+use Rattle.std.specs.Prelude.{◌≡◌, ℕ, zero, suc, ◌<◌, ◌≤◌, ◌↔◌, ◌==◌, nat_le, Bool, true, false, ◌&&◌, ◌||◌, List, [], ◌∷◌, ◌++◌, length, map, All, Contains, IsTrue, if◌then◌else◌, min, max, slice_index, slice_index_or}
 use Rattle.map_base.specs.declared.ids.SegId.{SegId}
 use Rattle.map_base.specs.declared.ids.LineId.{LineId}
 use Rattle.order_model.specs.declared.term.Term.{Term}
@@ -66,6 +66,16 @@ abbrev pub joined_by : List ℕ → Term → List ℕ
 joined_by labels (Side seg first second w) = labels
 joined_by labels (Link seg other flip a b w) = joined labels (slice_index labels seg.0) (slice_index labels other.0)
 joined_by labels (Apart seg other a b w) = joined labels (slice_index labels seg.0) (slice_index labels other.0)
+
+-- the labels at first
+abbrev pub first_labels : ℕ → List ℕ
+first_labels zero = []
+first_labels (suc n) = first_labels n ++ n ∷ []
+
+-- the labels after these terms, one by one
+abbrev pub class_labels : List ℕ → List Term → List ℕ
+class_labels labels [] = labels
+class_labels labels (t ∷ terms) = class_labels (joined_by labels t) terms
 
 -- the labels tell the classes, and the label of a class is its least segment
 pub record AreLabels (terms : List Term) (n : ℕ) (labels : List ℕ) : Type 0 where

@@ -1,16 +1,14 @@
 -- Prefixes: on each segment the lines placed so far, left to right, before all lines that are not.
-use Rattle.std.specs.Prelude.{◌≡◌, ℕ, ◌+◌, ◌-◌, ◌<◌, ◌≤◌, ◌==◌, nat_le, Bool, false, ◌&&◌, not, List, [], ◌∷◌, ◌++◌, length, map, take, find, All, Contains, if◌then◌else◌, slice_index, slice_index_or}
-use Rattle.std.specs.Prelude.{Vec, vec_capacity}
-use Rattle.std.specs.Global.{Global}
+use Rattle.std.specs.Prelude.{◌≡◌, ◌≢◌, ℕ, ◌+◌, ◌-◌, ◌<◌, ◌≤◌, ◌==◌, Bool, false, ◌&&◌, not, List, [], ◌∷◌, ◌++◌, length, map, take, find, All, Contains, if◌then◌else◌, slice_index_or}
 use Rattle.std.specs.Option.{option_to_list}
 use Rattle.map_base.specs.declared.ids.LineId.{LineId}
-use Rattle.order_model.specs.Places.{has_line, ArePlaces, tables_of}
+use Rattle.graph_core.specs.Consistent.{AreRising}
+use Rattle.order_model.specs.Places.{has_line, no_place, places_in}
 
--- the lines placed on each segment, how many each has room for, and the place of each line of a segment
+-- a prefix: the lines of each segment, rising, and those of them that are placed, left to right
 pub record Placement : Type 0 where
+  pub segs : List (List LineId)
   pub placed : List (List LineId)
-  pub room : List ℕ
-  pub places : List (List ℕ)
 
 -- the line is among the placed ones
 abbrev pub is_placed : List LineId → LineId → Bool
@@ -24,15 +22,25 @@ is_unplaced placed a = not (is_placed placed a)
 abbrev pub is_left : List LineId → List LineId → LineId → Bool
 is_left lines placed a = has_line lines a && is_unplaced placed a
 
--- the placed lines of a segment, of these lines, once one more is placed: where one line is left, it is placed too
+-- where just one of a segment's lines is not placed, it is placed too
+abbrev pub with_last : List LineId → List LineId → List LineId
+with_last lines placed = if length placed + 1 == length lines then placed ++ option_to_list (find (is_unplaced placed) lines) else placed
+
+-- what is placed on a segment before any line is chosen: nothing, but for a lone line
+abbrev pub first_placed : List LineId → List LineId
+first_placed lines = with_last lines []
+
+-- the same on all segments
+abbrev pub none_placed : List (List LineId) → List (List LineId)
+none_placed segs = map first_placed segs
+
+-- the placed lines of a segment, of these lines, once one more is placed
 abbrev pub with_line : List LineId → List LineId → LineId → List LineId
-with_line lines placed line =
-    let now : List LineId = placed ++ line ∷ [] in
-    if length now + 1 == length lines then now ++ option_to_list (find (is_unplaced now) lines) else now
+with_line lines placed line = with_last lines (placed ++ line ∷ [])
 
 -- how many lines the last placing placed: two where it placed the last two
 abbrev pub last_placed : List LineId → List LineId → ℕ
-last_placed lines placed = if nat_le 2 (length lines) && length placed == length lines then 2 else 1
+last_placed lines placed = if length placed == length lines then 2 else 1
 
 -- the placed lines of a segment before the last placing
 abbrev pub without_last : List LineId → List LineId → List LineId
@@ -43,24 +51,43 @@ abbrev pub AreApart : List LineId → Type 0
 AreApart [] = Unit {0}
 AreApart (a ∷ rest) = (is_placed rest a ≡ false) × AreApart rest
 
--- lines of the segment, each once, and never all but one, unless the segment has one line alone
+-- lines of the segment, each once, and never all but one
 pub record ArePlacedLines (lines placed : List LineId) : Type 0 where
   pub known : All (Contains lines) placed
   pub apart : AreApart placed
-  pub none_alone : length placed + 1 ≡ length lines → length lines ≡ 1
+  pub none_alone : length placed + 1 ≢ length lines
 
--- a prefix of a problem with these segments, with room for all their lines, and the place of each of them
+-- a prefix of a problem with these segments
 pub record IsPrefixOf (segs : List (List LineId)) (p : Placement) : Type 0 where
+  pub of_problem : p.segs ≡ segs
   pub each : length p.placed ≡ length segs
-  pub room_each : length p.room ≡ length segs
-  pub room : (s : ℕ) → s < length segs → length (slice_index_or segs s []) ≤ slice_index p.room s
   pub lines : (s : ℕ) → s < length segs → ArePlacedLines (slice_index_or segs s []) (slice_index_or p.placed s [])
-  pub places : ArePlaces segs p.placed p.places
 
--- a prefix as it lies in memory
-abbrev pub placement_of : List (Vec LineId Global) → List (Vec ℕ Global) → Placement
-placement_of lists places = record {
-  placed = map (λ (v : Vec LineId Global). v.items) lists;
-  room = map (λ (v : Vec LineId Global). vec_capacity v) lists;
-  places = tables_of places;
+-- How a prefix is kept: segment by segment.
+
+-- the lines of one segment, rising, and those of them that are placed, left to right
+pub record SegmentPlacement : Type 0 where
+  pub lines : List LineId
+  pub placed : List LineId
+
+abbrev pub segment_placement : List LineId → List LineId → SegmentPlacement
+segment_placement lines placed = record { lines = lines; placed = placed }
+
+-- a segment as nothing is chosen on it yet
+abbrev pub unchosen : List LineId → SegmentPlacement
+unchosen lines = segment_placement lines (first_placed lines)
+
+-- the prefix of all segments
+abbrev pub placement_of : List SegmentPlacement → Placement
+placement_of parts = record {
+  segs = map (λ (p : SegmentPlacement). p.lines) parts;
+  placed = map (λ (p : SegmentPlacement). p.placed) parts;
 }
+
+-- rising lines, those that are placed, how many lines there is room for, and the place of each line
+pub record IsKept (lines placed : List LineId) (capacity : ℕ) (table : List ℕ) : Type 0 where
+  pub rising : AreRising lines
+  pub short : length lines < no_place
+  pub fits : ArePlacedLines lines placed
+  pub room : length lines ≤ capacity
+  pub places : table ≡ places_in lines placed

@@ -1,28 +1,105 @@
 //! What orders cost.
 
-ghost use Rattle.std.specs.Prelude.{◌≡◌, ℕ, ◌<◌, ◌≤◌, length, sum_by, All, IfOk};
-ghost use Rattle.order_model.specs.Problems.{IsOn, IsTerm};
-ghost use Rattle.order_model.specs.Costs.{seg_of, other_of, weight_of, cost_of, IsReadable, AreOrders};
-ghost use Rattle.order_model.specs.Places.{HavePlaces, place_by, are_adjacent, before_by, beside_by, is_met_by, cost_by, tables_of};
+ghost use Rattle.std.specs.Prelude.{◌≡◌, ℕ, ◌<◌, ◌≤◌, length, sum_by, All};
+ghost use Rattle.order_model.specs.Costs.{comes_before, are_these, are_neighbours, is_met_on, seg_of, other_of, weight_of, term_cost, cost_of, IsReadable, AreOrders};
 
 use crate::orders::Orders;
-use crate::places::places_of;
 use crate::problem::Problem;
-use crate::ranks::rank;
 use crate::term::Term;
-use map_base::{LineId, NoMemory, SegId, Sequence};
-use std::alloc::Global;
+use map_base::{LineId, SegId, Sequence};
 
 /// What the orders cost: the sum of the weights of all terms that cost something. The orders have one list for each
-/// segment of the problem, with its lines in some order. Errs where the allocator has no room for a table of places.
-pub fn cost(alloc: Global, problem: &Problem, orders: &Orders) -> Result<u64, NoMemory>
+/// segment of the problem, with its lines in some order.
+pub fn cost(problem: &Problem, orders: &Orders) -> u64
     requires { AreOrders problem.now.segs orders.now.lists }
-    ensures { IfOk result (λ total. total ≡ cost_of problem.now.terms orders.now.lists) }
+    ensures { result ≡ cost_of problem.now.terms orders.now.lists }
 {
-    let segs = problem.segs();
-    let terms = problem.terms();
-    let places = places_of(alloc, segs, orders.lists.as_slice())?;
-    Ok(total_cost(terms, segs, places.as_slice()))
+    total_cost(problem.terms(), orders.lists.as_slice())
+}
+
+/// The sum of what the terms cost under the orders.
+fn total_cost(terms: &[Term], orders: &[Sequence<LineId>]) -> u64
+    requires terms { All (IsReadable (length orders.now)) terms.now }
+    requires few { length terms.now ≤ 4000000 }
+    ensures { result ≡ sum_by (term_cost orders.now) terms.now }
+{
+    let mut total: u64 = 0;
+    for term in terms {
+        total += term_cost(orders, *term);
+    }
+    total
+}
+
+/// What one term costs under the orders.
+fn term_cost(orders: &[Sequence<LineId>], term: Term) -> u64
+    requires term { IsReadable (length orders.now) term }
+    ensures value { result ≡ term_cost orders.now term }
+    ensures most { result ≤ 256000 }
+{
+    let (seg, other) = ends_of(term);
+    let here = orders[seg.0 as usize].as_slice();
+    let there = orders[other.0 as usize].as_slice();
+    if is_met_on(here, there, term) {
+        u64::from(weight_of(term))
+    } else {
+        0
+    }
+}
+
+/// Whether a term costs something where these are the orders of its segments.
+pub fn is_met_on(here: &[LineId], there: &[LineId], term: Term) -> bool
+    ensures { result ≡ is_met_on here.now there.now term }
+{
+    match term {
+        Term::Side { first, second, .. } => comes_before(here, second, first),
+        Term::Link { flip, a, b, .. } => {
+            let before = comes_before(here, a, b);
+            let before_too = comes_before(there, a, b);
+            flip == (before == before_too)
+        }
+        Term::Apart { a, b, .. } => {
+            let together = are_neighbours(here, a, b);
+            let together_too = are_neighbours(there, a, b);
+            together != together_too
+        }
+    }
+}
+
+/// Whether of two lines the first comes first in an order.
+pub fn comes_before(order: &[LineId], a: LineId, b: LineId) -> bool
+    ensures { result ≡ comes_before order.now a b }
+{
+    for line in order {
+        if *line == a {
+            return true;
+        }
+        if *line == b {
+            return false;
+        }
+    }
+    false
+}
+
+/// Whether two lines stand next to each other in an order.
+pub fn are_neighbours(order: &[LineId], a: LineId, b: LineId) -> bool
+    ensures { result ≡ are_neighbours order.now a b }
+{
+    for i in 1..order.len() {
+        if are_these(order[i - 1], order[i], a, b) {
+            return true;
+        }
+    }
+    false
+}
+
+/// Whether two lines are these two, either way.
+fn are_these(x: LineId, y: LineId, a: LineId, b: LineId) -> bool
+    ensures { result ≡ are_these x y a b }
+{
+    if x == a {
+        return y == b;
+    }
+    if x == b { y == a } else { false }
 }
 
 /// The segment of a term and its other segment, or its only one twice.
@@ -39,131 +116,8 @@ pub fn ends_of(term: Term) -> (SegId, SegId)
     }
 }
 
-/// The sum of what the terms cost by the places of lines.
-pub(crate) fn total_cost(terms: &[Term], segs: &[Sequence<LineId>], places: &[Vec<u32>]) -> u64
-    requires terms { All (IsTerm segs.now) terms.now }
-    requires places { HavePlaces segs.now (tables_of places.now) }
-    requires few { length terms.now ≤ 4000000 }
-    ensures { result ≡ sum_by (cost_by segs.now (tables_of places.now)) terms.now }
-{
-    let mut total: u64 = 0;
-    for term in terms {
-        total += cost_by(segs, places, *term);
-    }
-    total
-}
-
-/// What one term costs by the places of lines.
-fn cost_by(segs: &[Sequence<LineId>], places: &[Vec<u32>], term: Term) -> u64
-    requires term { IsTerm segs.now term }
-    requires places { HavePlaces segs.now (tables_of places.now) }
-    ensures value { result ≡ cost_by segs.now (tables_of places.now) term }
-    ensures most { result ≤ 256000 }
-{
-    if is_met_by(segs, places, term) {
-        u64::from(weight_of(term))
-    } else {
-        0
-    }
-}
-
-/// Whether a term costs something by the places of lines.
-fn is_met_by(segs: &[Sequence<LineId>], places: &[Vec<u32>], term: Term) -> bool
-    requires term { IsTerm segs.now term }
-    requires places { HavePlaces segs.now (tables_of places.now) }
-    ensures { result ≡ is_met_by segs.now (tables_of places.now) term }
-{
-    match term {
-        Term::Side {
-            seg,
-            first,
-            second,
-            ..
-        } => before_by(segs, places, seg, second, first),
-        Term::Link {
-            seg,
-            other,
-            flip,
-            a,
-            b,
-            ..
-        } => {
-            let before = before_by(segs, places, seg, a, b);
-            let before_too = before_by(segs, places, other, a, b);
-            flip == (before == before_too)
-        }
-        Term::Apart {
-            seg,
-            other,
-            a,
-            b,
-            ..
-        } => {
-            let together = beside_by(segs, places, seg, a, b);
-            let together_too = beside_by(segs, places, other, a, b);
-            together != together_too
-        }
-    }
-}
-
-/// Whether by the places of lines one stands before another.
-fn before_by(
-    segs: &[Sequence<LineId>],
-    places: &[Vec<u32>],
-    seg: SegId,
-    a: LineId,
-    b: LineId,
-) -> bool
-    requires places { HavePlaces segs.now (tables_of places.now) }
-    requires known { seg.0 < length segs.now }
-    requires a_on { IsOn segs.now seg a }
-    requires b_on { IsOn segs.now seg b }
-    ensures { result ≡ before_by segs.now (tables_of places.now) seg a b }
-{
-    place_by(segs, places, seg, a) < place_by(segs, places, seg, b)
-}
-
-/// Whether by the places of lines two stand next to each other.
-fn beside_by(
-    segs: &[Sequence<LineId>],
-    places: &[Vec<u32>],
-    seg: SegId,
-    a: LineId,
-    b: LineId,
-) -> bool
-    requires places { HavePlaces segs.now (tables_of places.now) }
-    requires known { seg.0 < length segs.now }
-    requires a_on { IsOn segs.now seg a }
-    requires b_on { IsOn segs.now seg b }
-    ensures { result ≡ beside_by segs.now (tables_of places.now) seg a b }
-{
-    are_adjacent(
-        place_by(segs, places, seg, a),
-        place_by(segs, places, seg, b),
-    )
-}
-
-/// Whether two places stand next to each other.
-fn are_adjacent(i: u32, j: u32) -> bool
-    ensures { result ≡ are_adjacent i j }
-{
-    if i < j { j - i == 1 } else { i - j == 1 }
-}
-
-/// The place of a line of a segment in the segment's order.
-fn place_by(segs: &[Sequence<LineId>], places: &[Vec<u32>], seg: SegId, line: LineId) -> u32
-    requires places { HavePlaces segs.now (tables_of places.now) }
-    requires known { seg.0 < length segs.now }
-    requires on { IsOn segs.now seg line }
-    ensures { result ≡ place_by segs.now (tables_of places.now) seg line }
-{
-    let lines = segs[seg.0 as usize].as_slice();
-    let found = places[seg.0 as usize].as_slice();
-    found[rank(lines, line)]
-}
-
 /// The weight of a term.
-pub(crate) fn weight_of(term: Term) -> u32
+pub fn weight_of(term: Term) -> u32
     ensures { result ≡ weight_of term }
 {
     match term {

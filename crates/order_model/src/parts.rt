@@ -1,8 +1,12 @@
 //! The parts of a problem.
 
-ghost use Rattle.std.specs.Prelude.{◌≡◌, ◌≢◌, ◌<◌, ◌^◌, [], ◌∷◌, ◌++◌, length, IfOk, OnOk, slice_index, slice_index_or, slice_set};
+ghost use Rattle.std.specs.Prelude.{◌≡◌, ◌≢◌, ◌<◌, ◌↔◌, ◌^◌, List, [], ◌∷◌, ◌++◌, length, All, IfOk, OnOk, slice_index, slice_index_or, slice_set};
+ghost use Rattle.map_base.specs.declared.ids.SegId.{SegId};
+ghost use Rattle.map_base.specs.declared.ids.LineId.{LineId};
+ghost use Rattle.order_model.specs.declared.term.Term.{Term};
+ghost use Rattle.order_model.specs.Problems.{IsTerm};
 ghost use Rattle.order_model.specs.Parts.{AreParts};
-ghost use Rattle.order_model.specs.Gathering.{part_lists, with_member, with_place, after_segment, places_after, gathered, IsOnlyAt, ArePlaced, AreGatherable};
+ghost use Rattle.order_model.specs.Gathering.{part_lists, with_member, with_place, after_segment, places_after, gathered, problem_parts, IsOnlyAt, ArePlaced, AreGatherable};
 
 use crate::labels::labels_of;
 use crate::problem::Problem;
@@ -12,7 +16,8 @@ use std::alloc::Global;
 /// The parts of a problem: its segments with at least two lines, in classes that no `Link` and no `Apart` leaves.
 /// The segments of a part rise, and parts stand by least segment.
 pub fn parts_of(alloc: Global, problem: &Problem) -> Result<Vec<Vec<SegId>>, NoMemory>
-    ensures { IfOk result (λ parts. AreParts problem.now.segs problem.now.terms (part_lists parts.items)) }
+    ensures list { IfOk result (λ parts. part_lists parts.items ≡ problem_parts problem.now.segs problem.now.terms) }
+    ensures classes { IfOk result (λ parts. AreParts problem.now.segs problem.now.terms (part_lists parts.items)) }
 {
     let segs = problem.segs();
     let labels = labels_of(alloc, problem.terms(), segs.len() as u32)?;
@@ -101,3 +106,9 @@ fn join_part(parts: &mut Vec<Vec<SegId>>, place: usize, s: SegId) -> Result<(), 
     part.push(s)?;
     Ok(())
 }
+
+/// The lists of parts that a problem's classes can be are one list.
+pub fn a_problem_has_one_list_of_parts()
+    ensures { (segs : List (List LineId)) (terms : List Term) (parts : List (List SegId)) → All (IsTerm segs) terms
+        → (AreParts segs terms parts ↔ parts ≡ problem_parts segs terms) }
+{}

@@ -1,7 +1,7 @@
 -- What is written of each form is read again.
 use Rattle.std.proofs.Common.{◌≡◌, ℕ, zero, suc, ◌+◌, ◌≤◌, ℤ, pos, negsuc, Bool, true, false, cond, List, [], ◌∷◌, ◌++◌, length, Option, Some, None, option_map, refl, ap, ◌∙◌, lt-ltb, arith}
 use Rattle.std.specs.Option.{option_and_then}
-use Rattle.std.proofs.lemmas.Bool.{eq-eqb, le-leb}
+use Rattle.std.proofs.lemmas.Bool.{eq-eqb}
 use Rattle.map_base.specs.declared.ids.SegId.{SegId}
 use Rattle.map_base.specs.declared.ids.LineId.{LineId}
 use Rattle.order_values.specs.declared.rule.Rule.{Rule}
@@ -10,7 +10,7 @@ use Rattle.order_proof.specs.declared.line_word.LineWord.{LineWord}
 use Rattle.order_proof.specs.declared.node_line.NodeLine.{NodeLine}
 use Rattle.order_proof.specs.declared.node_line.NodeLine.TheVariants as nodes
 use Rattle.order_proof.specs.Lines.{Line, line_text, bit, segment_numbers, line_numbers, price_numbers, rules_line, rule_line, parts_line, part_line, take_line}
-use Rattle.decimal_text.specs.Numbers.{up_to, natural_within, from_to}
+use Rattle.decimal_text.specs.Numbers.{natural_within, from_to}
 use Rattle.order_proof.specs.FrontLine.{front}
 use Rattle.order_proof.specs.Forms.{most_items, most_id, most_cases, most_target, most_price, seg, line_id, rising, price_of, term_with, priced_term, prices_from, counts, flag_of, rules_in, merge_with, rule_in, parts_in, part_in, split_with, node_in, take_in}
 use Rattle.order_proof.specs.Trees.{is_among}

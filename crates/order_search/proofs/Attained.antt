@@ -2,29 +2,30 @@
 use Rattle.std.proofs.Common.{◌≡◌, ℕ, zero, suc, ◌<◌, ◌≤◌, ◌==◌, ◌||◌, nat_lt, Bool, true, false, cond, List, [], ◌∷◌, length, map, set, get_or, refl, sym, ◌∙◌, ap, subst, arith, inl, inr, true≢false, eqb-true, Some, None, Option}
 use Rattle.std.specs.Prelude.{IsPermutation}
 use Rattle.std.specs.List.{All, Contains}
-use Rattle.std.proofs.lemmas.Bool.{eqb-false}
+use Rattle.std.proofs.lemmas.Bool.{eqb-false, ltb-false}
 use Rattle.std.proofs.lemmas.List.{length-set, length-map, get_or-set_same, get_or-set_other}
 use Rattle.std.proofs.lemmas.List.Elements.{All-head, All-tail}
 use Rattle.std.proofs.lemmas.List.Sorted.{IsPermutation-refl}
 use Rattle.map_base.specs.declared.ids.SegId.{SegId}
 use Rattle.map_base.specs.declared.ids.LineId.{LineId}
 use Rattle.graph_core.specs.Consistent.{AreRising}
-use Rattle.order_model.specs.declared.term.Term.{Term}
 use Rattle.order_model.specs.Problems.{lines_on}
-use Rattle.order_model.specs.Costs.{cost_of, AreOrders}
-use Rattle.order_model.specs.Prefixes.{is_placed, with_line}
-use Rattle.order_proof.specs.Plain.{cases_of}
-use Rattle.order_trees.specs.PartTerms.{is_in, part_terms}
-use Rattle.order_trees.specs.Completions.{placed_more, none_placed}
-use Rattle.order_trees.proofs.Lines.{either_true}
-use Rattle.order_trees.proofs.Sound.{same_or_other, all_in}
-use Rattle.order_search.specs.Growing.{is_open, first_open, lines_left, room_of, cases_left, node_at, grown, tree_of}
-use Rattle.order_search.specs.Finding.{Best, best_at, better, best_in, best_among, number_order, with_lists, AreAttained}
-use Rattle.order_search.proofs.Rooms.{found_in, none_in, room_falls}
-use Rattle.order_search.proofs.Grows.{next_left}
-use Rattle.order_search.proofs.Accepted.{IsWell, full_at, well_more, no_room_shut, none_well}
+use Rattle.order_model.specs.Costs.{AreOrders}
+use Rattle.order_model.specs.Prefixes.{is_placed}
+use Rattle.order_model.specs.PartTerms.{is_in}
+use Rattle.order_model.specs.Completions.{placed_more}
+use Rattle.order_model.proofs.Lines.{either_true}
+use Rattle.order_bound.proofs.Sound.{same_or_other, all_in}
+use Rattle.part_bounds.specs.PartStates.{IsWell}
+use Rattle.order_search.specs.Left.{is_open, first_open, room_of, AreNext}
+use Rattle.order_search.specs.LiveTrees.{BoundedPart, Best, best_at, better, number_order, next_lines, grow_cases, split_with, closed_with, live_node, live_within, live_at}
+use Rattle.order_search.specs.Finding.{with_lists, AreAttained}
+use Rattle.order_search.proofs.Rooms.{none_in, no_room_shut}
+use Rattle.order_search.proofs.Nodes.{fewer_left}
+use Rattle.order_search.proofs.NextLines.{are_next}
+use Rattle.order_search.proofs.Accepted.{well_more, seg_known}
+use Rattle.order_model.proofs.PrefixLemmas.{few_apart}
 use Rattle.order_search.proofs.Permuted.{apart_order}
-use Rattle.order_search.proofs.Leaves.{same_on_part}
 
 -- Lists put at the segments of a part.
 
@@ -74,75 +75,72 @@ orders_where (l ∷ segs) [] e each = absurd (omega (arith, e))
 
 -- The best is that of orders.
 
-module _ (segs : List (List LineId)) (part : List SegId) (all_terms : List Term) (rising : All AreRising segs) (known : All (λ (s : SegId). s.0 < length segs) part) where
-  abbrev terms : List Term
-  terms = part_terms all_terms part
+-- what orders cost on the part is told by their lists there
+abbrev pub IsCostOnPart : BoundedPart → Type 0
+IsCostOnPart q = (xs ys : List (List LineId)) → ((s : SegId) → is_in q.part s ≡ true → lines_on xs s ≡ lines_on ys s) → q.cost xs ≡ q.cost ys
 
+module _ (q : BoundedPart) (rising : All AreRising q.segs) (known : All (λ (s : SegId). s.0 < length q.segs) q.part) (told : IsCostOnPart q) where
   abbrev ArePermuted : List (List LineId) → Type 0
-  ArePermuted xs = (s : SegId) → is_in part s ≡ true → IsPermutation (lines_on segs s) (lines_on xs s)
+  ArePermuted xs = (s : SegId) → is_in q.part s ≡ true → IsPermutation (lines_on q.segs s) (lines_on xs s)
 
   abbrev IsOfOrders : Best → Type 0
-  IsOfOrders b = (xs : List (List LineId)) × ArePermuted xs × (b ≡ best_at part terms xs)
+  IsOfOrders b = (xs : List (List LineId)) × ArePermuted xs × (b ≡ best_at q xs)
 
-  of_orders : (b : Best) → IsOfOrders b → AreAttained segs part terms b.lists b.cost
+  of_orders : (b : Best) → IsOfOrders b → AreAttained q b.lists b.cost
   of_orders b h =
-      let P : Best → Type 0 = λ c. AreAttained segs part terms c.lists c.cost in
-      let whole : P (best_at part terms h.0) = record {
-        each = length-map part (λ s. lines_on h.0 s);
-        orders = orders_where segs (put part h.0 segs) (put_length part h.0 segs) (put_at part h.0 segs known h.1);
-        costs = same_on_part segs part all_terms rising known (put part h.0 segs) h.0 (λ s g. put_in part h.0 segs s known g);
+      let P : Best → Type 0 = λ c. AreAttained q c.lists c.cost in
+      let whole : P (best_at q h.0) = record {
+        each = length-map q.part (λ s. lines_on h.0 s);
+        orders = orders_where q.segs (put q.part h.0 q.segs) (put_length q.part h.0 q.segs) (put_at q.part h.0 q.segs known h.1);
+        costs = told (put q.part h.0 q.segs) h.0 (λ s g. put_in q.part h.0 q.segs s known g);
       } in subst P (sym h.2) whole
 
-  permuted : (placed : List (List LineId)) → IsWell segs placed → first_open segs part placed ≡ None → ArePermuted placed
+  permuted : (placed : List (List LineId)) → IsWell q.segs placed → first_open q.segs q.part placed ≡ None → ArePermuted placed
   permuted placed ok shut s h =
-      let s_known : s.0 < length segs = all_in (λ (s : SegId). s.0 < length segs) part s known h in
-      let full = full_at segs part terms 0 rising known placed s s_known ok (none_in (is_open segs placed) part s shut h) in
-      let lines = ok s.0 s_known in
-      apart_order (lines_on placed s) (lines_on segs s) lines.apart lines.known (eqb-true (length (lines_on placed s)) (length (lines_on segs s)) full)
+      let s_known : s.0 < length q.segs = all_in (λ (s : SegId). s.0 < length q.segs) q.part s known h in
+      let lines = ok.lines s.0 s_known in
+      let few = few_apart (lines_on placed s) (lines_on q.segs s) lines.apart lines.known in
+      let open_not = ltb-false (length (lines_on placed s)) (length (lines_on q.segs s)) (none_in (is_open q.segs placed) q.part s shut h) in
+      apart_order (lines_on placed s) (lines_on q.segs s) lines.apart lines.known (omega (arith, few, open_not))
 
-  at_leaf : (placed : List (List LineId)) (b : Best) → IsWell segs placed → first_open segs part placed ≡ None → IsOfOrders b → IsOfOrders (better part terms placed b)
-  at_leaf placed b ok shut h = by_test (nat_lt (cost_of terms placed) b.cost)
+  at_leaf : (placed : List (List LineId)) (b : Best) → IsWell q.segs placed → first_open q.segs q.part placed ≡ None → IsOfOrders b → IsOfOrders (better q placed b)
+  at_leaf placed b ok shut h = by_test (nat_lt (q.cost placed) b.cost)
     where
-      by_test : (t : Bool) → IsOfOrders (cond t (best_at part terms placed) b)
+      by_test : (t : Bool) → IsOfOrders (cond t (best_at q placed) b)
       by_test true = (placed, permuted placed ok shut, refl)
       by_test false = h
 
   abbrev FoundAt : ℕ → Type 0
-  FoundAt n = (placed : List (List LineId)) (b : Best) → length placed ≡ length segs → IsWell segs placed → room_of segs part placed ≤ n
-      → IsOfOrders b → IsOfOrders (best_in segs part terms placed (grown n segs part placed) b)
+  FoundAt n = (placed : List (List LineId)) (b : Best) → IsWell q.segs placed → room_of q.segs q.part placed ≤ n → IsOfOrders b → IsOfOrders (live_within n q placed b).best
 
-  found_cases : (n : ℕ) → FoundAt n → (placed : List (List LineId)) (b : Best) → length placed ≡ length segs → IsWell segs placed → room_of segs part placed ≤ suc n
-      → (s : SegId) → is_in part s ≡ true → is_open segs placed s ≡ true → (lines : List LineId)
-      → All (λ (a : LineId). Contains (lines_on segs s) a × (is_placed (lines_on placed s) a ≡ false)) lines
-      → IsOfOrders b → IsOfOrders (best_among segs part terms placed s (cases_of (cases_left (grown n segs part) segs placed s lines)) b)
-  found_cases n again placed b each ok room s in_part open_here [] next h = h
-  found_cases n again placed b each ok room s in_part open_here (a ∷ lines) next h =
-      let s_known : s.0 < length segs = all_in (λ (s : SegId). s.0 < length segs) part s known in_part in
-      let more : List (List LineId) = placed_more segs placed s a in
-      let first = All-head (λ (a : LineId). Contains (lines_on segs s) a × (is_placed (lines_on placed s) a ≡ false)) a lines next in
-      let rest = All-tail (λ (a : LineId). Contains (lines_on segs s) a × (is_placed (lines_on placed s) a ≡ false)) a lines next in
-      let falls = room_falls segs part placed s a (omega (arith, each, s_known)) in_part open_here in
-      found_cases n again placed (best_in segs part terms more (grown n segs part more) b) each ok room s in_part open_here lines rest
-      (again more b (length-set placed s.0 (with_line (lines_on segs s) (lines_on placed s) a) ∙ each)
-      (well_more segs placed s a each s_known rising ok first.0 first.1) (omega (arith, falls, room)) h)
+  found_cases : (n : ℕ) → FoundAt n → (placed : List (List LineId)) (b : Best) → IsWell q.segs placed → room_of q.segs q.part placed ≤ suc n
+      → (s : SegId) → first_open q.segs q.part placed ≡ Some s → (lines : List LineId) → AreNext q.segs placed s lines
+      → IsOfOrders b → IsOfOrders (grow_cases (live_within n q) q placed s lines b).best
+  found_cases n again placed b ok room s e [] next h = h
+  found_cases n again placed b ok room s e (a ∷ lines) next h =
+      let P : LineId → Type 0 = λ (a : LineId). Contains (lines_on q.segs s) a × (is_placed (lines_on placed s) a ≡ false) in
+      let more : List (List LineId) = placed_more q.segs placed s a in
+      let here = All-head P a lines next in
+      let falls = fewer_left q known placed s a ok.each e in
+      found_cases n again placed (live_within n q more b).best ok room s e lines (All-tail P a lines next)
+      (again more b (well_more q rising known placed s a ok (seg_known q rising known placed s e) here.0 here.1) (omega (arith, falls, room)) h)
 
-  found_node : (n : ℕ) → FoundAt n → (placed : List (List LineId)) (b : Best) → length placed ≡ length segs → IsWell segs placed → room_of segs part placed ≤ suc n
-      → (f : Option SegId) → first_open segs part placed ≡ f
-      → IsOfOrders b → IsOfOrders (best_in segs part terms placed (node_at (grown n segs part) segs placed f) b)
-  found_node n again placed b each ok room None e h = at_leaf placed b ok e h
-  found_node n again placed b each ok room (Some s) e h =
-      let here = found_in (is_open segs placed) part s e in
-      found_cases n again placed b each ok room s here.1 here.0 (lines_left (lines_on segs s) (lines_on placed s))
-      (next_left (lines_on segs s) (lines_on placed s) (lines_on segs s) (λ a h. h)) h
+  found_node : (n : ℕ) → FoundAt n → (placed : List (List LineId)) (b : Best) → IsWell q.segs placed → room_of q.segs q.part placed ≤ suc n
+      → (f : Option SegId) → first_open q.segs q.part placed ≡ f → IsOfOrders b → IsOfOrders (live_node (live_within n q) q placed f b).best
+  found_node n again placed b ok room None e h = at_leaf placed b ok e h
+  found_node n again placed b ok room (Some s) e h = by_test (nat_lt (q.bound placed) b.cost)
+    where
+      by_test : (t : Bool) → IsOfOrders (cond t (split_with s (grow_cases (live_within n q) q placed s (next_lines q placed s) b)) (closed_with q placed b)).best
+      by_test true = found_cases n again placed b ok room s e (next_lines q placed s) (are_next q placed s) h
+      by_test false = h
 
   found_at : (n : ℕ) → FoundAt n
-  found_at zero placed b each ok room h = at_leaf placed b ok (no_room_shut segs part terms 0 rising known placed room) h
-  found_at (suc n) placed b each ok room h = found_node n (found_at n) placed b each ok room (first_open segs part placed) refl h
+  found_at zero placed b ok room h = at_leaf placed b ok (no_room_shut q.segs q.part placed room) h
+  found_at (suc n) placed b ok room h = found_node n (found_at n) placed b ok room (first_open q.segs q.part placed) refl h
 
-  abbrev pub found_best : Best
-  found_best = best_in segs part terms (none_placed segs) (tree_of segs part) (number_order segs part terms)
-
-  pub found_attained : AreAttained segs part terms found_best.lists found_best.cost
-  found_attained =
-      of_orders found_best (found_at (room_of segs part (none_placed segs)) (none_placed segs) (number_order segs part terms) (length-map segs (λ _. [])) (none_well segs) (omega arith)
-      (segs, λ s h. IsPermutation-refl (lines_on segs s), refl))
+  -- from the number order on
+  pub live_attained : (placed : List (List LineId)) → IsWell q.segs placed
+      → AreAttained q (live_at q placed (number_order q)).best.lists (live_at q placed (number_order q)).best.cost
+  live_attained placed ok =
+      of_orders (live_at q placed (number_order q)).best
+      (found_at (room_of q.segs q.part placed) placed (number_order q) ok (omega arith) (q.segs, λ s h. IsPermutation-refl (lines_on q.segs s), refl))

@@ -1,5 +1,5 @@
 -- Lines of a segment, none twice: as many as it has are one of its orders.
-use Rattle.std.proofs.Common.{◌≡◌, zero, suc, ◌≤◌, ◌==◌, false, List, [], ◌∷◌, ◌++◌, length, get_or, sym, ap, subst, arith}
+use Rattle.std.proofs.Common.{◌≡◌, zero, suc, ◌==◌, false, List, [], ◌∷◌, ◌++◌, length, get_or, sym, ap, subst, arith}
 use Rattle.std.specs.Prelude.{IsPermutation}
 use Rattle.std.specs.List.{All, Contains}
 use Rattle.std.proofs.lemmas.Bool.{eqb-false}
@@ -7,7 +7,7 @@ use Rattle.std.proofs.lemmas.List.Elements.{All-nil, All-cons, All-head, All-tai
 use Rattle.std.proofs.lemmas.List.Sorted.{IsPermutation-refl, IsPermutation-cons, IsPermutation-middle, IsPermutation-trans, Contains-permutation, length_permutation}
 use Rattle.map_base.specs.declared.ids.LineId.{LineId}
 use Rattle.order_model.specs.Prefixes.{is_placed, AreApart}
-use Rattle.order_trees.proofs.Lines.{neither}
+use Rattle.order_model.proofs.Lines.{neither}
 
 parted : (xs : List LineId) (a : LineId) → Contains xs a → (pre : List LineId) × (post : List LineId) × (xs ≡ pre ++ a ∷ post)
 parted [] a (k, below, is) = absurd (omega (arith, below))
@@ -37,16 +37,6 @@ without lines x here =
 known_without : (lines : List LineId) (x : LineId) (xs : List LineId) (w : Without lines x) → is_placed xs x ≡ false → All (Contains lines) xs → All (Contains w.0) xs
 known_without lines x xs w fresh all k d below =
     kept_after x (get_or xs k d) w.0 (Contains-permutation lines (x ∷ w.0) (get_or xs k d) w.1 (all k d below)) (none_same x xs fresh k d below)
-
-pub few_apart : (xs known : List LineId) → AreApart xs → All (Contains known) xs → length xs ≤ length known
-few_apart [] known h all = omega arith
-few_apart (x ∷ xs) known h all =
-    let w = without known x (All-head (Contains known) x xs all) in
-    omega (
-      arith,
-      few_apart xs w.0 h.1 (known_without known x xs w h.0 (All-tail (Contains known) x xs all)),
-      length_permutation known (x ∷ w.0) w.1,
-    )
 
 pub apart_order : (xs lines : List LineId) → AreApart xs → All (Contains lines) xs → length xs ≡ length lines → IsPermutation lines xs
 apart_order [] [] h all e = IsPermutation-refl []

@@ -1,27 +1,26 @@
--- How much room a prefix leaves, and the tree of a prefix, node by node.
-use Rattle.std.proofs.Common.{◌≡◌, ℕ, zero, suc, ◌+◌, ◌<◌, ◌≤◌, ◌==◌, ◌||◌, Bool, true, false, cond, List, [], ◌∷◌, ◌++◌, length, map, set, get_or, refl, sym, ◌∙◌, ap, subst, arith, inl, inr, true≢false, eqb-true, eq-eqb, length-append, Some, None, Option}
-use Rattle.std.specs.List.{All, find, sum_by}
+-- How much room a prefix leaves.
+use Rattle.std.proofs.Common.{◌≡◌, ℕ, ◌+◌, ◌<◌, ◌≤◌, ◌==◌, ◌||◌, Bool, true, false, cond, List, [], ◌∷◌, ◌++◌, length, set, get_or, refl, sym, ◌∙◌, ap, subst, arith, inl, inr, true≢false, eqb-true, eq-eqb, length-append, Some, None}
+use Rattle.std.specs.List.{find, sum_by}
 use Rattle.std.specs.Option.{option_to_list}
 use Rattle.std.proofs.lemmas.Bool.{ltb-true}
-use Rattle.std.proofs.lemmas.List.{length-set, get_or-set_same, get_or-set_other}
+use Rattle.std.proofs.lemmas.List.{get_or-set_same, get_or-set_other}
 use Rattle.std.proofs.lemmas.List.Sums.{sum_by-cons}
 use Rattle.map_base.specs.declared.ids.SegId.{SegId}
 use Rattle.map_base.specs.declared.ids.LineId.{LineId}
 use Rattle.order_model.specs.Problems.{lines_on}
 use Rattle.order_model.specs.Prefixes.{is_unplaced, with_line}
-use Rattle.order_proof.specs.Plain.{PlainTree, split, close, cases_of}
-use Rattle.order_trees.specs.PartTerms.{is_in}
-use Rattle.order_trees.specs.Completions.{placed_more}
-use Rattle.order_trees.proofs.Lines.{either_true}
-use Rattle.order_trees.proofs.Sound.{same_or_other, all_in}
-use Rattle.order_search.specs.Growing.{is_open, first_open, lines_left, left_on, room_of, cases_left, node_at, grown, tree_at}
+use Rattle.order_model.specs.PartTerms.{is_in}
+use Rattle.order_model.specs.Completions.{placed_more}
+use Rattle.order_model.proofs.Lines.{either_true}
+use Rattle.order_bound.proofs.Sound.{same_or_other}
+use Rattle.order_search.specs.Left.{is_open, first_open, left_on, room_of}
 
 -- What is found in a part.
 
 some_seg : (s t : SegId) → Some s ≡ Some t → s ≡ t
 some_seg s t h = cc
 
-none_is_some : (s : SegId) → None ≡ Some s → ⊥
+pub none_is_some : (s : SegId) → None ≡ Some s → ⊥
 none_is_some s h = cc
 
 pub found_in : (p : SegId → Bool) (part : List SegId) (s : SegId) → find p part ≡ Some s → (p s ≡ true) × (is_in part s ≡ true)
@@ -65,7 +64,7 @@ longer lines placed a = by_test (length (placed ++ a ∷ []) + 1 == length lines
     by_test false = pushed
     by_test true = omega (arith, pushed, length-append (placed ++ a ∷ []) (option_to_list (find (is_unplaced (placed ++ a ∷ [])) lines)))
 
-left_after : (segs placed : List (List LineId)) (s : SegId) (a : LineId) (u : SegId) → s.0 < length placed → left_on segs (placed_more segs placed s a) u ≤ left_on segs placed u
+pub left_after : (segs placed : List (List LineId)) (s : SegId) (a : LineId) (u : SegId) → s.0 < length placed → left_on segs (placed_more segs placed s a) u ≤ left_on segs placed u
 left_after segs placed s a u known = elim (same_or_other u.0 s.0) [
   | inl e ↦ (let here : lines_on (placed_more segs placed s a) u ≡ with_line (lines_on segs s) (lines_on placed s) a =
       ap (λ n. get_or (set placed s.0 (with_line (lines_on segs s) (lines_on placed s) a)) n []) e ∙ get_or-set_same placed s.0 (with_line (lines_on segs s) (lines_on placed s) a) [] known in
@@ -101,7 +100,7 @@ room_falls segs part placed s a known in_part open_here =
     sum_falls (left_on segs placed) (left_on segs (placed_more segs placed s a)) part s (λ u. left_after segs placed s a u known) in_part (left_there segs placed s a known open_here)
 
 -- without room no segment is open
-no_room : (segs : List (List LineId)) (part : List SegId) (placed : List (List LineId)) → room_of segs part placed ≡ 0 → first_open segs part placed ≡ None
+pub no_room : (segs : List (List LineId)) (part : List SegId) (placed : List (List LineId)) → room_of segs part placed ≡ 0 → first_open segs part placed ≡ None
 no_room segs [] placed h = refl
 no_room segs (t ∷ part) placed h = by_test (is_open segs placed t) refl (no_room segs part placed (omega (arith, h, sum_by-cons (left_on segs placed) t part)))
   where
@@ -109,69 +108,6 @@ no_room segs (t ∷ part) placed h = by_test (is_open segs placed t) refl (no_ro
     by_test false e rest = rest
     by_test true e rest =
         absurd (omega (arith, ltb-true (length (lines_on placed t)) (length (lines_on segs t)) e, h, sum_by-cons (left_on segs placed) t part))
-
--- The tree of a prefix.
-
-abbrev with_tree : (LineId → PlainTree) → LineId → LineId × PlainTree
-with_tree f a = (a, f a)
-
-map_same : (f g : LineId → PlainTree) (lines : List LineId) → ((a : LineId) → f a ≡ g a) → map (with_tree f) lines ≡ map (with_tree g) lines
-map_same f g [] same = refl
-map_same f g (a ∷ lines) same =
-    let first : PlainTree → List (LineId × PlainTree) = λ t. (a, t) ∷ map (with_tree f) lines in
-    ap first (same a) ∙ ap (λ l. with_tree g a ∷ l) (map_same f g lines same)
-
-module _ (segs : List (List LineId)) (part : List SegId) (known : All (λ (s : SegId). s.0 < length segs) part) where
-  same_node : (next other : List (List LineId) → PlainTree) (placed : List (List LineId)) (s : SegId)
-      → ((a : LineId) → next (placed_more segs placed s a) ≡ other (placed_more segs placed s a))
-      → node_at next segs placed (Some s) ≡ node_at other segs placed (Some s)
-  same_node next other placed s same =
-      ap (λ cs. split s (cases_of cs))
-      (map_same (λ a. next (placed_more segs placed s a)) (λ a. other (placed_more segs placed s a)) (lines_left (lines_on segs s) (lines_on placed s)) same)
-
-  stable : (n m : ℕ) (placed : List (List LineId)) → length placed ≡ length segs → room_of segs part placed ≤ n → room_of segs part placed ≤ m
-      → grown n segs part placed ≡ grown m segs part placed
-  stable zero zero placed each p q = refl
-  stable zero (suc m) placed each p q = sym (ap (node_at (grown m segs part) segs placed) (no_room segs part placed (omega (arith, p))))
-  stable (suc n) zero placed each p q = ap (node_at (grown n segs part) segs placed) (no_room segs part placed (omega (arith, q)))
-  stable (suc n) (suc m) placed each p q = by_open (first_open segs part placed) refl (λ more. stable n m more)
-    where
-      by_open : (f : Option SegId) → first_open segs part placed ≡ f
-          → ((more : List (List LineId)) → length more ≡ length segs → room_of segs part more ≤ n → room_of segs part more ≤ m → grown n segs part more ≡ grown m segs part more)
-          → node_at (grown n segs part) segs placed f ≡ node_at (grown m segs part) segs placed f
-      by_open None e again = refl
-      by_open (Some s) e again =
-          let here = found_in (is_open segs placed) part s e in
-          let s_known : s.0 < length placed = omega (arith, each, all_in (λ (s : SegId). s.0 < length segs) part s known here.1) in
-          same_node (grown n segs part) (grown m segs part) placed s (λ a.
-          let falls = room_falls segs part placed s a s_known here.1 here.0 in
-          again (placed_more segs placed s a) (length-set placed s.0 (with_line (lines_on segs s) (lines_on placed s) a) ∙ each) (omega (arith, falls, p)) (omega (arith, falls, q)))
-
-  pub tree_none : (placed : List (List LineId)) → first_open segs part placed ≡ None → tree_at segs part placed ≡ close []
-  tree_none placed h = by_room (room_of segs part placed)
-    where
-      by_room : (n : ℕ) → grown n segs part placed ≡ close []
-      by_room zero = refl
-      by_room (suc n) = ap (node_at (grown n segs part) segs placed) h
-
-  pub tree_some : (placed : List (List LineId)) (s : SegId) → length placed ≡ length segs → first_open segs part placed ≡ Some s
-      → tree_at segs part placed ≡ split s (cases_of (cases_left (tree_at segs part) segs placed s (lines_left (lines_on segs s) (lines_on placed s))))
-  tree_some placed s each h = by_room (room_of segs part placed) refl
-    where
-      here : (is_open segs placed s ≡ true) × (is_in part s ≡ true)
-      here = found_in (is_open segs placed) part s h
-
-      s_known : s.0 < length placed
-      s_known = omega (arith, each, all_in (λ (s : SegId). s.0 < length segs) part s known here.1)
-
-      by_room : (n : ℕ) → room_of segs part placed ≡ n → grown n segs part placed ≡ node_at (tree_at segs part) segs placed (Some s)
-      by_room zero e = absurd (none_is_some s (sym (no_room segs part placed e) ∙ h))
-      by_room (suc n) e =
-          ap (node_at (grown n segs part) segs placed) h
-          ∙ same_node (grown n segs part) (tree_at segs part) placed s (λ a.
-          let falls = room_falls segs part placed s a s_known here.1 here.0 in
-          stable n (room_of segs part (placed_more segs placed s a)) (placed_more segs placed s a)
-          (length-set placed s.0 (with_line (lines_on segs s) (lines_on placed s) a) ∙ each) (omega (arith, falls, e)) (omega arith))
 
 -- an open segment has room
 pub some_room : (segs : List (List LineId)) (part : List SegId) (placed : List (List LineId)) (s : SegId) → is_in part s ≡ true → is_open segs placed s ≡ true → 0 < room_of segs part placed
@@ -183,3 +119,6 @@ some_room segs (t ∷ part) placed s in_part open_here = elim (either_true (t.0 
       omega (arith, ltb-true (length (lines_on placed t)) (length (lines_on segs t)) wide, sum_by-cons (left_on segs placed) t part))
   | inr later ↦ omega (arith, some_room segs part placed s later open_here, sum_by-cons (left_on segs placed) t part)
 ]
+
+pub no_room_shut : (segs : List (List LineId)) (part : List SegId) (placed : List (List LineId)) → room_of segs part placed ≤ 0 → first_open segs part placed ≡ None
+no_room_shut segs part placed h = no_room segs part placed (omega (arith, h))

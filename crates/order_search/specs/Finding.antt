@@ -1,50 +1,18 @@
--- What is found in a tree: the least cost, and orders that have it.
-use Rattle.std.specs.Prelude.{◌≡◌, ℕ, ◌+◌, ◌<◌, ◌≤◌, nat_lt, List, [], ◌∷◌, length, map, sum_by, if◌then◌else◌, All, IsTrue, slice_set}
+-- What a search finds, and why it finds nothing.
+use Rattle.std.specs.Prelude.{◌≡◌, ℕ, zero, suc, ◌+◌, ◌-◌, ◌*◌, ◌<◌, ◌≤◌, List, [], ◌∷◌, length, sum_by, slice_set}
 use Rattle.map_base.specs.declared.ids.SegId.{SegId}
 use Rattle.map_base.specs.declared.ids.LineId.{LineId}
 use Rattle.map_base.specs.declared.limit.Limit.{Limit}
 use Rattle.map_base.specs.declared.limit.LimitKind.TheVariants.{Places}
 use Rattle.map_base.specs.Limits.{limit_of}
-use Rattle.order_model.specs.declared.term.Term.{Term}
 use Rattle.order_model.specs.Problems.{lines_on, choices}
-use Rattle.order_model.specs.Costs.{cost_of, AreOrders}
-use Rattle.order_model.specs.Parts.{is_wide}
-use Rattle.order_proof.specs.Plain.{PlainTree, split, close, Cases, no_case, case_of}
-use Rattle.order_proof.specs.Trees.{splits_of}
-use Rattle.order_trees.specs.Completions.{placed_more}
-use Rattle.order_search.specs.Growing.{tree_of}
+use Rattle.order_model.specs.Costs.{AreOrders}
 use Rattle.order_search.specs.declared.found.SearchFault.{SearchFault}
 use Rattle.order_search.specs.declared.found.SearchFault.TheVariants as fault
+use Rattle.order_search.specs.declared.found.Found.{Found}
+use Rattle.order_search.specs.LiveTrees.{BoundedPart, Best}
 
--- the least cost so far, and orders of the part's segments that have it
-pub record Best : Type 0 where
-  pub cost : ℕ
-  pub lists : List (List LineId)
-
--- what these orders cost, and their lists on the part
-abbrev pub best_at : List SegId → List Term → List (List LineId) → Best
-best_at part terms orders = record { cost = cost_of terms orders; lists = map (λ s. lines_on orders s) part }
-
--- orders that cost less are better
-abbrev pub better : List SegId → List Term → List (List LineId) → Best → Best
-better part terms orders b = if nat_lt (cost_of terms orders) b.cost then best_at part terms orders else b
-
--- the best so far after the leaves of a tree, one after the other
-abbrev mutual
-  pub best_in : List (List LineId) → List SegId → List Term → List (List LineId) → PlainTree → Best → Best
-  best_in segs part terms placed (close prices) b = better part terms placed b
-  best_in segs part terms placed (split s cases) b = best_among segs part terms placed s cases b
-
-  pub best_among : List (List LineId) → List SegId → List Term → List (List LineId) → SegId → Cases → Best → Best
-  best_among segs part terms placed s no_case b = b
-  best_among segs part terms placed s (case_of a tree rest) b =
-      best_among segs part terms placed s rest (best_in segs part terms (placed_more segs placed s a) tree b)
-
--- the number order is the best at first: lines rise on each segment
-abbrev pub number_order : List (List LineId) → List SegId → List Term → Best
-number_order segs part terms = best_at part terms segs
-
--- the choices of a part: lines minus 1, summed over its segments
+-- the places of a part: lines minus 1, summed over its segments
 abbrev pub places_of : List (List LineId) → List SegId → ℕ
 places_of segs part = sum_by (λ s. choices (lines_on segs s)) part
 
@@ -56,16 +24,26 @@ most_places = 2048
 abbrev pub places_limit : Limit
 places_limit = limit_of Places
 
--- the fault is the limit, exactly above it; or else that the tree has more splits than the budget; or want of memory
-abbrev pub IsSearchFault : List (List LineId) → List SegId → ℕ → SearchFault → Type 0
-IsSearchFault segs part budget (fault.TooDeep l) = (most_places < places_of segs part) × (l ≡ places_limit)
-IsSearchFault segs part budget (fault.Spent branches) =
-    (places_of segs part ≤ most_places) × (budget < splits_of (tree_of segs part)) × (branches ≡ budget + 1)
-IsSearchFault segs part budget fault.NoMemory = Unit {0}
+-- the fault is the limit, exactly above it; or else that the tree has more branch nodes than the budget; or want of
+-- memory
+abbrev pub IsSearchFault : ℕ → ℕ → ℕ → SearchFault → Type 0
+IsSearchFault places branches budget (fault.TooDeep l) = (most_places < places) × (l ≡ places_limit)
+IsSearchFault places branches budget (fault.Spent n) = (places ≤ most_places) × (budget < branches) × (n ≡ budget + 1)
+IsSearchFault places branches budget fault.NoMemory = Unit {0}
 
--- no orders of these segments cost less on the terms
-abbrev pub IsLeast : List (List LineId) → List Term → ℕ → Type 0
-IsLeast segs terms cost = (others : List (List LineId)) → AreOrders segs others → cost ≤ cost_of terms others
+-- a search that is given so much is not spent
+abbrev pub IsNotSpent : SearchFault → Type 0
+IsNotSpent (fault.TooDeep l) = Unit {0}
+IsNotSpent (fault.Spent n) = ⊥
+IsNotSpent fault.NoMemory = Unit {0}
+
+-- the orders that were found, with what they cost
+abbrev pub best_found : Found → Best
+best_found f = record { cost = f.target; lists = f.orders.lists }
+
+-- no orders of the segments cost less on the part
+abbrev pub IsLeast : BoundedPart → ℕ → Type 0
+IsLeast q cost = (orders : List (List LineId)) → AreOrders q.segs orders → cost ≤ q.cost orders
 
 -- orders in which the segments of the part have these lists
 abbrev pub with_lists : List SegId → List (List LineId) → List (List LineId) → List (List LineId)
@@ -73,13 +51,30 @@ with_lists [] lists orders = orders
 with_lists (s ∷ part) [] orders = orders
 with_lists (s ∷ part) (order ∷ lists) orders = slice_set (with_lists part lists orders) s.0 order
 
--- with these lists on the part, and rising lines on the other segments, there are orders of the segments that cost so
--- much on the terms
-pub record AreAttained (segs : List (List LineId)) (part : List SegId) (terms : List Term) (lists : List (List LineId)) (cost : ℕ) : Type 0 where
-  pub each : length lists ≡ length part
-  pub orders : AreOrders segs (with_lists part lists segs)
-  pub costs : cost_of terms (with_lists part lists segs) ≡ cost
+-- with these lists on the part, and rising lines on the other segments, there are orders that cost so much on the part
+pub record AreAttained (q : BoundedPart) (lists : List (List LineId)) (cost : ℕ) : Type 0 where
+  pub each : length lists ≡ length q.part
+  pub orders : AreOrders q.segs (with_lists q.part lists q.segs)
+  pub costs : q.cost (with_lists q.part lists q.segs) ≡ cost
 
--- each segment of the part has at least two lines
-abbrev pub AreWide : List (List LineId) → List SegId → Type 0
-AreWide segs part = All (λ s. IsTrue (is_wide segs s.0)) part
+-- how many orders so many lines have
+abbrev pub orders_of : ℕ → ℕ
+orders_of zero = 1
+orders_of (suc n) = suc n * orders_of n
+
+-- how many prefixes so many lines have: none of them is placed, or one of them is placed first; the last line is placed
+-- with the one before it
+abbrev pub prefixes_of : ℕ → ℕ
+prefixes_of zero = 1
+prefixes_of (suc zero) = 1
+prefixes_of (suc (suc n)) = 1 + suc (suc n) * prefixes_of (suc n)
+
+-- the product over the segments of a part
+abbrev pub product : (SegId → ℕ) → List SegId → ℕ
+product f [] = 1
+product f (s ∷ part) = f s * product f part
+
+-- how many prefixes of a part are not complete: those with some lines placed on each segment, but for those with all
+abbrev pub incomplete_in : List (List LineId) → List SegId → ℕ
+incomplete_in segs part =
+    product (λ s. prefixes_of (length (lines_on segs s))) part - product (λ s. orders_of (length (lines_on segs s))) part

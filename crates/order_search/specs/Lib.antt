@@ -1,4 +1,11 @@
-pub mod Growing
+pub mod Left
+pub mod Children
+pub mod LiveTrees
+pub mod Living
+pub mod Pricing
 pub mod Finding
-pub mod Progressing
+pub mod Bounded
+pub mod FoundParts
+pub mod ByItself
+pub mod Members
 pub mod Searching

@@ -1,188 +1,166 @@
 //! The tree of a prefix, grown depth first.
 
-ghost use Rattle.std.specs.Prelude.{◌≡◌, ◌+◌, ◌<◌, ◌≤◌, ◌^◌, length, map, false, Some, Contains, IfOk, IfErr, OnOk};
+ghost use Rattle.std.specs.Prelude.{◌≡◌, ◌+◌, ◌<◌, ◌≤◌, [], length, map, drop, false, Contains, IfOk, IfErr, OnOk};
 ghost use Rattle.order_model.specs.Problems.{lines_on};
-ghost use Rattle.order_model.specs.Prefixes.{IsPrefixOf, is_placed};
-ghost use Rattle.order_proof.specs.Plain.{plain, cases_of};
+ghost use Rattle.order_model.specs.Prefixes.{is_placed};
+ghost use Rattle.order_proof.specs.Plain.{plain, close, cases_of};
 ghost use Rattle.order_proof.specs.Trees.{splits_of, splits_of_cases};
-ghost use Rattle.order_trees.specs.Completions.{placed_more};
-ghost use Rattle.order_search.specs.Growing.{first_open, lines_left, cases_left, tree_at};
-ghost use Rattle.order_search.specs.Finding.{best_in, best_among};
-ghost use Rattle.order_search.specs.Searching.{segs_of, part_of, terms_in, IsSearched};
-ghost use Rattle.order_search.specs.Progressing.{best_of, IsStop, AreNext};
+ghost use Rattle.order_search.specs.Left.{AreNext};
+ghost use Rattle.order_search.specs.Children.{lines_in};
+ghost use Rattle.order_search.specs.Searching.{part_of, due, due_case, due_cases, seg_at, IsUnderWay, AreShut, IsOpenAt, HasGrown, IsStop};
 
+use crate::best::compare;
+use crate::children::push_children;
 use crate::found::SearchFault;
-use crate::left::{first_open, lines_left};
-use crate::progress::{Progress, compare};
-use crate::searched::Searched;
-use map_base::{LineId, SegId, Steps};
-use order_model::Prefix;
+use crate::search_state::{Search, next_open};
+use map_base::{LineId, Steps};
 use order_proof::Tree;
 use order_values::Prices;
 use std::alloc::Global;
 use std::sync::ledger::Ledger;
 
-/// The tree of a prefix, which is left as it was. The best so far is that of all leaves up to its last. Each split
-/// takes one step of the counter.
+/// The tree of a prefix, yet without prices, where no line is left on the first `at` segments of the part. Each branch
+/// node takes one step of the counter.
 #[cycle(grow)]
 pub(crate) fn grow<L: Ledger>(
     alloc: Global,
-    searched: &Searched,
-    prefix: &mut Prefix,
-    progress: &mut Progress,
+    search: &mut Search,
+    at: usize,
     steps: &mut Steps<L>,
 ) -> Result<Tree, SearchFault>
-    requires searched { IsSearched searched.now }
-    requires fits { IsPrefixOf (segs_of searched.now) prefix.old }
-    requires budget { progress.old.budget + 1 < 2 ^ 32 }
-    requires spent { progress.old.spent ≤ progress.old.budget }
-    ensures fits { IsPrefixOf (segs_of searched.now) prefix.new }
-    ensures placed { prefix.new.placed ≡ prefix.old.placed }
-    ensures budget { progress.new.budget ≡ progress.old.budget }
-    ensures spent { progress.new.spent ≤ progress.old.budget }
-    ensures steps { steps.new + progress.old.spent ≡ steps.old + progress.new.spent }
-    ensures tree { IfOk result (λ t. plain t ≡ tree_at (segs_of searched.now) (part_of searched.now) prefix.old.placed) }
-    ensures best { OnOk result (best_of progress.new
-        ≡ best_in (segs_of searched.now) (part_of searched.now) (terms_in searched.now) prefix.old.placed (tree_at (segs_of searched.now) (part_of searched.now) prefix.old.placed) (best_of progress.old)) }
-    ensures counted { OnOk result (progress.new.spent ≡ progress.old.spent + splits_of (tree_at (segs_of searched.now) (part_of searched.now) prefix.old.placed)) }
-    ensures most { progress.new.spent ≤ progress.old.spent + splits_of (tree_at (segs_of searched.now) (part_of searched.now) prefix.old.placed) }
-    ensures stop { IfErr result (IsStop progress.old.budget (progress.old.spent + splits_of (tree_at (segs_of searched.now) (part_of searched.now) prefix.old.placed))) }
+    requires under_way { IsUnderWay search.old }
+    requires shut { AreShut at search.old }
+    ensures steps { steps.new + search.old.spent ≡ steps.old + search.new.spent }
+    ensures most { search.new.spent ≤ search.old.spent + splits_of (due search.old).tree }
+    ensures tree { IfOk result (λ t. plain t ≡ (due search.old).tree) }
+    ensures grown { OnOk result (HasGrown search.old search.new (due search.old).best (splits_of (due search.old).tree)) }
+    ensures stop { IfErr result (IsStop search.old.budget (search.old.spent + splits_of (due search.old).tree)) }
 {
-    match first_open(searched.problem, searched.part, prefix) {
+    match next_open(search, at) {
         None => {
-            compare(alloc, searched, prefix, progress)?;
-            Ok(Tree::Close {
-                prices: Prices::of(Vec::new(alloc)),
-            })
+            compare(alloc, search)?;
+            Ok(closed(alloc))
         }
-        Some(s) => grow_split(alloc, searched, prefix, progress, steps, s),
+        Some(at) => grow_open(alloc, search, at, steps),
     }
 }
 
-/// The same where a line is left on a segment of the part, and on none before it.
+/// A Close without prices.
+fn closed(alloc: Global) -> Tree
+    ensures { plain result ≡ close [] }
+{
+    Tree::Close {
+        prices: Prices::of(Vec::new(alloc)),
+    }
+}
+
+/// The tree of a prefix where a line is left on this segment of the part, and none on those before it.
+#[cycle(grow)]
+fn grow_open<L: Ledger>(
+    alloc: Global,
+    search: &mut Search,
+    at: usize,
+    steps: &mut Steps<L>,
+) -> Result<Tree, SearchFault>
+    requires under_way { IsUnderWay search.old }
+    requires first { IsOpenAt at search.old }
+    ensures steps { steps.new + search.old.spent ≡ steps.old + search.new.spent }
+    ensures most { search.new.spent ≤ search.old.spent + splits_of (due search.old).tree }
+    ensures tree { IfOk result (λ t. plain t ≡ (due search.old).tree) }
+    ensures grown { OnOk result (HasGrown search.old search.new (due search.old).best (splits_of (due search.old).tree)) }
+    ensures stop { IfErr result (IsStop search.old.budget (search.old.spent + splits_of (due search.old).tree)) }
+{
+    let bound = search.bounds.bound();
+    if bound < search.cost {
+        grow_split(alloc, search, at, steps)
+    } else {
+        Ok(closed(alloc))
+    }
+}
+
+/// The tree of a prefix that is split.
 #[cycle(grow)]
 fn grow_split<L: Ledger>(
     alloc: Global,
-    searched: &Searched,
-    prefix: &mut Prefix,
-    progress: &mut Progress,
+    search: &mut Search,
+    at: usize,
     steps: &mut Steps<L>,
-    s: SegId,
 ) -> Result<Tree, SearchFault>
-    requires searched { IsSearched searched.now }
-    requires fits { IsPrefixOf (segs_of searched.now) prefix.old }
-    requires budget { progress.old.budget + 1 < 2 ^ 32 }
-    requires spent { progress.old.spent ≤ progress.old.budget }
-    requires seg { first_open (segs_of searched.now) (part_of searched.now) prefix.old.placed ≡ Some s }
-    ensures fits { IsPrefixOf (segs_of searched.now) prefix.new }
-    ensures placed { prefix.new.placed ≡ prefix.old.placed }
-    ensures budget { progress.new.budget ≡ progress.old.budget }
-    ensures spent { progress.new.spent ≤ progress.old.budget }
-    ensures steps { steps.new + progress.old.spent ≡ steps.old + progress.new.spent }
-    ensures tree { IfOk result (λ t. plain t ≡ tree_at (segs_of searched.now) (part_of searched.now) prefix.old.placed) }
-    ensures best { OnOk result (best_of progress.new
-        ≡ best_in (segs_of searched.now) (part_of searched.now) (terms_in searched.now) prefix.old.placed (tree_at (segs_of searched.now) (part_of searched.now) prefix.old.placed) (best_of progress.old)) }
-    ensures counted { OnOk result (progress.new.spent ≡ progress.old.spent + splits_of (tree_at (segs_of searched.now) (part_of searched.now) prefix.old.placed)) }
-    ensures most { progress.new.spent ≤ progress.old.spent + splits_of (tree_at (segs_of searched.now) (part_of searched.now) prefix.old.placed) }
-    ensures stop { IfErr result (IsStop progress.old.budget (progress.old.spent + splits_of (tree_at (segs_of searched.now) (part_of searched.now) prefix.old.placed))) }
+    requires under_way { IsUnderWay search.old }
+    requires first { IsOpenAt at search.old }
+    requires below { (part_of search.old.bounds).bound search.old.bounds.placed < search.old.cost }
+    ensures steps { steps.new + search.old.spent ≡ steps.old + search.new.spent }
+    ensures most { search.new.spent ≤ search.old.spent + splits_of (due search.old).tree }
+    ensures tree { IfOk result (λ t. plain t ≡ (due search.old).tree) }
+    ensures grown { OnOk result (HasGrown search.old search.new (due search.old).best (splits_of (due search.old).tree)) }
+    ensures stop { IfErr result (IsStop search.old.budget (search.old.spent + splits_of (due search.old).tree)) }
 {
-    if progress.spent == progress.budget {
+    if search.spent == search.budget {
         return Err(SearchFault::Spent {
-            branches: progress.budget + 1,
+            branches: search.budget + 1,
         });
     }
-    progress.spent += 1;
+    search.spent += 1;
     steps.tick();
-    let lines = lines_left(alloc, searched.problem, prefix, s)?;
-    let children = grow_cases(
-        alloc,
-        searched,
-        prefix,
-        progress,
-        steps,
-        s,
-        lines.as_slice(),
-    )?;
-    Ok(Tree::Split { seg: s, children })
+    let seg = search.part[at];
+    let start = search.children.len();
+    push_children(search, seg)?;
+    let children = grow_cases(alloc, search, at, start, steps)?;
+    search.children.truncate(start);
+    Ok(Tree::Split { seg, children })
 }
 
-/// The cases of a split: the tree of each of these lines, placed next on the segment.
+/// The cases of a split: the tree of each child from `start` on, placed next on the segment.
 #[cycle(grow)]
 fn grow_cases<L: Ledger>(
     alloc: Global,
-    searched: &Searched,
-    prefix: &mut Prefix,
-    progress: &mut Progress,
+    search: &mut Search,
+    at: usize,
+    start: usize,
     steps: &mut Steps<L>,
-    s: SegId,
-    lines: &[LineId],
 ) -> Result<Vec<(LineId, Tree)>, SearchFault>
-    requires searched { IsSearched searched.now }
-    requires fits { IsPrefixOf (segs_of searched.now) prefix.old }
-    requires budget { progress.old.budget + 1 < 2 ^ 32 }
-    requires spent { progress.old.spent ≤ progress.old.budget }
-    requires seg { first_open (segs_of searched.now) (part_of searched.now) prefix.old.placed ≡ Some s }
-    requires lines { AreNext (segs_of searched.now) prefix.old.placed s lines.now }
-    ensures fits { IsPrefixOf (segs_of searched.now) prefix.new }
-    ensures placed { prefix.new.placed ≡ prefix.old.placed }
-    ensures budget { progress.new.budget ≡ progress.old.budget }
-    ensures spent { progress.new.spent ≤ progress.old.budget }
-    ensures steps { steps.new + progress.old.spent ≡ steps.old + progress.new.spent }
-    ensures children { IfOk result (λ v. map (λ c. (c.0, plain c.1)) v.items
-        ≡ cases_left (tree_at (segs_of searched.now) (part_of searched.now)) (segs_of searched.now) prefix.old.placed s lines.now) }
-    ensures best { OnOk result (best_of progress.new ≡ best_among (segs_of searched.now) (part_of searched.now) (terms_in searched.now) prefix.old.placed s
-        (cases_of (cases_left (tree_at (segs_of searched.now) (part_of searched.now)) (segs_of searched.now) prefix.old.placed s lines.now)) (best_of progress.old)) }
-    ensures counted { OnOk result (progress.new.spent ≡ progress.old.spent
-        + splits_of_cases (cases_of (cases_left (tree_at (segs_of searched.now) (part_of searched.now)) (segs_of searched.now) prefix.old.placed s lines.now))) }
-    ensures most { progress.new.spent ≤ progress.old.spent
-        + splits_of_cases (cases_of (cases_left (tree_at (segs_of searched.now) (part_of searched.now)) (segs_of searched.now) prefix.old.placed s lines.now)) }
-    ensures stop { IfErr result (IsStop progress.old.budget (progress.old.spent
-        + splits_of_cases (cases_of (cases_left (tree_at (segs_of searched.now) (part_of searched.now)) (segs_of searched.now) prefix.old.placed s lines.now)))) }
+    requires under_way { IsUnderWay search.old }
+    requires first { IsOpenAt at search.old }
+    requires start { start ≤ length search.old.children.items }
+    requires next { AreNext search.old.bounds.segs search.old.bounds.placed (seg_at at search.old) (lines_in (drop start search.old.children.items)) }
+    ensures steps { steps.new + search.old.spent ≡ steps.old + search.new.spent }
+    ensures most { search.new.spent ≤ search.old.spent + splits_of_cases (cases_of (due_cases at start search.old).cases) }
+    ensures cases { IfOk result (λ v. map (λ c. (c.0, plain c.1)) v.items ≡ (due_cases at start search.old).cases) }
+    ensures grown { OnOk result (HasGrown search.old search.new (due_cases at start search.old).best (splits_of_cases (cases_of (due_cases at start search.old).cases))) }
+    ensures stop { IfErr result (IsStop search.old.budget (search.old.spent + splits_of_cases (cases_of (due_cases at start search.old).cases))) }
 {
-    let mut children = Vec::new(alloc);
-    for line in lines {
-        let tree = grow_case(alloc, searched, prefix, progress, steps, s, *line)?;
-        children.push((*line, tree))?;
+    let count = search.children.len() - start;
+    let mut cases = Vec::with_capacity(alloc, count)?;
+    for k in 0..count {
+        let line = search.children[start + k].line;
+        let tree = grow_case(alloc, search, at, line, steps)?;
+        cases.push((line, tree))?;
     }
-    Ok(children)
+    Ok(cases)
 }
 
 /// The tree of a case, whose line is placed while it grows.
 #[cycle(grow)]
 fn grow_case<L: Ledger>(
     alloc: Global,
-    searched: &Searched,
-    prefix: &mut Prefix,
-    progress: &mut Progress,
-    steps: &mut Steps<L>,
-    s: SegId,
+    search: &mut Search,
+    at: usize,
     line: LineId,
+    steps: &mut Steps<L>,
 ) -> Result<Tree, SearchFault>
-    requires searched { IsSearched searched.now }
-    requires fits { IsPrefixOf (segs_of searched.now) prefix.old }
-    requires budget { progress.old.budget + 1 < 2 ^ 32 }
-    requires spent { progress.old.spent ≤ progress.old.budget }
-    requires seg { first_open (segs_of searched.now) (part_of searched.now) prefix.old.placed ≡ Some s }
-    requires seg_known { s.0 < length (segs_of searched.now) }
-    requires line { Contains (lines_on (segs_of searched.now) s) line }
-    requires unplaced { is_placed (lines_on prefix.old.placed s) line ≡ false }
-    ensures fits { IsPrefixOf (segs_of searched.now) prefix.new }
-    ensures placed { prefix.new.placed ≡ prefix.old.placed }
-    ensures budget { progress.new.budget ≡ progress.old.budget }
-    ensures spent { progress.new.spent ≤ progress.old.budget }
-    ensures steps { steps.new + progress.old.spent ≡ steps.old + progress.new.spent }
-    ensures tree { IfOk result (λ t. plain t ≡ tree_at (segs_of searched.now) (part_of searched.now) (placed_more (segs_of searched.now) prefix.old.placed s line)) }
-    ensures best { OnOk result (best_of progress.new ≡ best_in (segs_of searched.now) (part_of searched.now) (terms_in searched.now) (placed_more (segs_of searched.now) prefix.old.placed s line)
-        (tree_at (segs_of searched.now) (part_of searched.now) (placed_more (segs_of searched.now) prefix.old.placed s line)) (best_of progress.old)) }
-    ensures counted { OnOk result (progress.new.spent ≡ progress.old.spent
-        + splits_of (tree_at (segs_of searched.now) (part_of searched.now) (placed_more (segs_of searched.now) prefix.old.placed s line))) }
-    ensures most { progress.new.spent ≤ progress.old.spent
-        + splits_of (tree_at (segs_of searched.now) (part_of searched.now) (placed_more (segs_of searched.now) prefix.old.placed s line)) }
-    ensures stop { IfErr result (IsStop progress.old.budget (progress.old.spent
-        + splits_of (tree_at (segs_of searched.now) (part_of searched.now) (placed_more (segs_of searched.now) prefix.old.placed s line)))) }
+    requires under_way { IsUnderWay search.old }
+    requires first { IsOpenAt at search.old }
+    requires line { Contains (lines_on search.old.bounds.segs (seg_at at search.old)) line }
+    requires unplaced { is_placed (lines_on search.old.bounds.placed (seg_at at search.old)) line ≡ false }
+    ensures steps { steps.new + search.old.spent ≡ steps.old + search.new.spent }
+    ensures most { search.new.spent ≤ search.old.spent + splits_of (due_case at line search.old).tree }
+    ensures tree { IfOk result (λ t. plain t ≡ (due_case at line search.old).tree) }
+    ensures grown { OnOk result (HasGrown search.old search.new (due_case at line search.old).best (splits_of (due_case at line search.old).tree)) }
+    ensures stop { IfErr result (IsStop search.old.budget (search.old.spent + splits_of (due_case at line search.old).tree)) }
 {
-    prefix.place(searched.problem, s, line);
-    let outcome = grow(alloc, searched, prefix, progress, steps);
-    prefix.take_back(searched.problem, s);
-    outcome
+    let seg = search.part[at];
+    search.bounds.place(seg, line);
+    let tree = grow(alloc, search, at, steps)?;
+    search.bounds.take_back(seg);
+    Ok(tree)
 }

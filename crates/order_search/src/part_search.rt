@@ -1,126 +1,224 @@
 //! The search over a part.
 
-ghost use Rattle.std.specs.Prelude.{◌≡◌, ◌+◌, ◌<◌, ◌≤◌, ◌^◌, true, length, All, IfOk, IfErr};
+ghost use Rattle.std.specs.Prelude.{◌≡◌, ◌+◌, ◌<◌, ◌≤◌, ◌^◌, nat_lt, length, map, sum_by, All, IfOk, IfErr};
 ghost use Rattle.map_base.specs.declared.ids.SegId.{SegId};
-ghost use Rattle.order_model.specs.Problems.{IsProblem};
-ghost use Rattle.order_model.specs.Prefixes.{IsPrefixOf};
+ghost use Rattle.order_model.specs.Problems.{lines_on, IsTerm, IsProblem};
+ghost use Rattle.order_model.specs.Costs.{term_cost};
+ghost use Rattle.order_model.specs.Parts.{IsRisingPart};
+ghost use Rattle.order_model.specs.PartTerms.{part_terms, part_numbers};
 ghost use Rattle.order_proof.specs.Plain.{plain};
-ghost use Rattle.order_proof.specs.Trees.{splits_of, IsProofTree};
-ghost use Rattle.order_trees.specs.PartTerms.{part_terms};
-ghost use Rattle.order_trees.specs.Completions.{none_placed};
-ghost use Rattle.order_trees.specs.Accepting.{question, accepts};
-ghost use Rattle.order_search.specs.Growing.{tree_of};
-ghost use Rattle.order_search.specs.Finding.{best_in, number_order, places_of, most_places, IsSearchFault, IsLeast, AreAttained, AreWide};
-ghost use Rattle.order_search.specs.Progressing.{best_of, best_found, nothing_found, IsStop};
+ghost use Rattle.order_search.specs.LiveTrees.{live_tree};
+ghost use Rattle.order_search.specs.Finding.{best_found, places_of, incomplete_in, IsSearchFault, IsNotSpent};
+ghost use Rattle.order_search.specs.FoundParts.{part_in, branches_in, cost_of_number, IsFoundIn};
+ghost use Rattle.order_search.specs.Pricing.{with_prices, IsOver};
+ghost use Rattle.order_search.specs.Searching.{part_of, best_of, IsUnderWay, IsBegun, IsStop};
 
 use crate::found::{Found, SearchFault};
 use crate::grow::grow;
-use crate::left::is_deep;
-use crate::progress::Progress;
-use crate::searched::Searched;
-use map_base::{Limit, LimitKind, SegId, Sequence, Steps};
-use order_model::{Orders, Prefix, Problem, Term};
+use crate::part_numbers::numbers_of_part;
+use crate::priced::priced;
+use crate::search_state::Search;
+use map_base::{Limit, LimitKind, LineId, NoMemory, SegId, Sequence, Steps};
+use order_model::{Orders, Problem, Term, ends_of, is_met_on, weight_of};
+use order_proof::Tree;
+use part_bounds::PartBounds;
 use std::alloc::Global;
 use std::sync::ledger::Ledger;
 
-/// Orders of a part that cost least, and a tree that shows it, by the terms of the part, which stand in the order of
-/// the problem's. Lines are placed on a prefix on which none is placed, and taken back from it, also where the search
-/// stops. The tree is split at each prefix that is not complete, at the first segment of the part on which a line is
-/// left, with a case for each such line by its number. The orders are those that rise on each segment where these cost
-/// least, else the first complete ones that do. The limit is answered exactly where the part has more than 2,048
-/// places, which are its lines minus 1 summed over its segments; `Spent` exactly where it has no more and the tree has
-/// more splits than the budget. Each split takes one step of the counter.
+/// Orders of a part that cost least, and the live tree that shows it. The part is one of the problem's: its segments
+/// rise. A prefix is split where it is not complete and its bound is below the best so far, which is the least cost of
+/// the number order and of all complete prefixes before, at the first segment of the part with a line that is left; its
+/// children stand by bound, then by line. All other prefixes are closed with their canonical prices. The orders are the
+/// number order where it costs least, else the first complete prefix that does. The limit is answered exactly where the
+/// part has more than 2,048 places, which are its lines minus 1 summed over its segments; `Spent` exactly where it has no
+/// more, and the tree has more branch nodes than the budget. Each branch node takes one step of the counter.
 pub fn search<L: Ledger>(
     alloc: Global,
     problem: &Problem,
     part: &[SegId],
-    terms: &[Term],
-    prefix: &mut Prefix,
     budget: u32,
     steps: &mut Steps<L>,
 ) -> Result<Found, SearchFault>
     requires known { All (λ (s : SegId). s.0 < length problem.now.segs) part.now }
-    requires terms { terms.now ≡ part_terms problem.now.terms part.now }
-    requires fits { IsPrefixOf problem.now.segs prefix.old }
-    requires none { prefix.old.placed ≡ none_placed problem.now.segs }
+    requires rising { IsRisingPart part.now }
     requires budget { budget + 1 < 2 ^ 32 }
-    ensures prefix_fits { IsPrefixOf problem.now.segs prefix.new }
-    ensures prefix_kept { prefix.new.placed ≡ prefix.old.placed }
-    ensures places { IfOk result (λ _. places_of problem.now.segs part.now ≤ most_places) }
-    ensures tree { IfOk result (λ f. plain f.tree ≡ tree_of problem.now.segs part.now) }
-    ensures proof_tree { IfOk result (λ f. AreWide problem.now.segs part.now → IsProofTree (plain f.tree)) }
-    ensures branches { IfOk result (λ f. f.branches ≡ splits_of (tree_of problem.now.segs part.now)) }
+    ensures found { IfOk result (IsFoundIn problem.now part.now) }
     ensures within { IfOk result (λ f. f.branches ≤ budget) }
-    ensures best { IfOk result (λ f. best_found f ≡ best_in problem.now.segs part.now (part_terms problem.now.terms part.now) (none_placed problem.now.segs)
-        (tree_of problem.now.segs part.now) (number_order problem.now.segs part.now (part_terms problem.now.terms part.now))) }
-    ensures attained { IfOk result (λ f. AreAttained problem.now.segs part.now (part_terms problem.now.terms part.now) f.orders.lists f.target) }
-    ensures least { IfOk result (λ f. IsLeast problem.now.segs (part_terms problem.now.terms part.now) f.target) }
-    ensures accepted { IfOk result (λ f. accepts (question problem.now.segs part.now (part_terms problem.now.terms part.now) f.target)
-        (none_placed problem.now.segs) (tree_of problem.now.segs part.now) ≡ true) }
-    ensures fault { IfErr result (IsSearchFault problem.now.segs part.now budget) }
     ensures steps { IfOk result (λ f. steps.new ≡ steps.old + f.branches) }
-    ensures few_steps { IfErr result (λ _. steps.new ≤ steps.old + splits_of (tree_of problem.now.segs part.now)) }
+    ensures fault { IfErr result (IsSearchFault (places_of problem.now.segs part.now) (branches_in problem.now part.now) budget) }
+    ensures few_steps { IfErr result (λ _. steps.new ≤ steps.old + branches_in problem.now part.now) }
+    ensures suffices { incomplete_in problem.now.segs part.now ≤ budget → IfErr result IsNotSpent }
+{
+    let numbers = numbers_of_part(alloc, problem, part)?;
+    search_part(alloc, problem, part, numbers.as_slice(), budget, steps)
+}
+
+/// The same by the numbers of the part's terms in the problem, which a caller with many parts knows.
+pub fn search_part<L: Ledger>(
+    alloc: Global,
+    problem: &Problem,
+    part: &[SegId],
+    numbers: &[u32],
+    budget: u32,
+    steps: &mut Steps<L>,
+) -> Result<Found, SearchFault>
+    requires known { All (λ (s : SegId). s.0 < length problem.now.segs) part.now }
+    requires rising { IsRisingPart part.now }
+    requires numbers { numbers.now ≡ part_numbers problem.now.terms part.now }
+    requires budget { budget + 1 < 2 ^ 32 }
+    ensures found { IfOk result (IsFoundIn problem.now part.now) }
+    ensures within { IfOk result (λ f. f.branches ≤ budget) }
+    ensures steps { IfOk result (λ f. steps.new ≡ steps.old + f.branches) }
+    ensures fault { IfErr result (IsSearchFault (places_of problem.now.segs part.now) (branches_in problem.now part.now) budget) }
+    ensures few_steps { IfErr result (λ _. steps.new ≤ steps.old + branches_in problem.now part.now) }
+    ensures suffices { incomplete_in problem.now.segs part.now ≤ budget → IfErr result IsNotSpent }
 {
     if is_deep(problem, part) {
         return Err(SearchFault::TooDeep(Limit::above(LimitKind::Places)));
     }
-    search_all(alloc, problem, part, terms, prefix, budget, steps)
+    live_search(alloc, problem, part, numbers, budget, steps)
 }
 
-/// The same of a part that has no more places than are allowed.
-fn search_all<L: Ledger>(
+/// The search for the live tree of a part that has no more places than are allowed.
+fn live_search<L: Ledger>(
     alloc: Global,
     problem: &Problem,
     part: &[SegId],
-    terms: &[Term],
-    prefix: &mut Prefix,
+    numbers: &[u32],
     budget: u32,
     steps: &mut Steps<L>,
 ) -> Result<Found, SearchFault>
     requires problem { IsProblem problem.now }
     requires known { All (λ (s : SegId). s.0 < length problem.now.segs) part.now }
-    requires terms { terms.now ≡ part_terms problem.now.terms part.now }
-    requires fits { IsPrefixOf problem.now.segs prefix.old }
-    requires none { prefix.old.placed ≡ none_placed problem.now.segs }
+    requires rising { IsRisingPart part.now }
+    requires numbers { numbers.now ≡ part_numbers problem.now.terms part.now }
     requires budget { budget + 1 < 2 ^ 32 }
-    ensures prefix_fits { IsPrefixOf problem.now.segs prefix.new }
-    ensures prefix_kept { prefix.new.placed ≡ prefix.old.placed }
-    ensures tree { IfOk result (λ f. plain f.tree ≡ tree_of problem.now.segs part.now) }
-    ensures branches { IfOk result (λ f. f.branches ≡ splits_of (tree_of problem.now.segs part.now)) }
+    ensures tree { IfOk result (λ f. plain f.tree ≡ (live_tree (part_in problem.now part.now)).tree) }
+    ensures best { IfOk result (λ f. best_found f ≡ (live_tree (part_in problem.now part.now)).best) }
+    ensures branches { IfOk result (λ f. f.branches ≡ branches_in problem.now part.now) }
     ensures within { IfOk result (λ f. f.branches ≤ budget) }
-    ensures best { IfOk result (λ f. best_found f ≡ best_in problem.now.segs part.now (part_terms problem.now.terms part.now) (none_placed problem.now.segs)
-        (tree_of problem.now.segs part.now) (number_order problem.now.segs part.now (part_terms problem.now.terms part.now))) }
-    ensures stop { IfErr result (IsStop budget (splits_of (tree_of problem.now.segs part.now))) }
     ensures steps { IfOk result (λ f. steps.new ≡ steps.old + f.branches) }
-    ensures few_steps { IfErr result (λ _. steps.new ≤ steps.old + splits_of (tree_of problem.now.segs part.now)) }
+    ensures stop { IfErr result (IsStop budget (branches_in problem.now part.now)) }
+    ensures few_steps { IfErr result (λ _. steps.new ≤ steps.old + branches_in problem.now part.now) }
 {
-    let mut progress = begin(alloc, budget);
-    let searched = Searched {
+    let mut search = begin(alloc, problem, part, numbers, budget)?;
+    let tree = grow(alloc, &mut search, 0, steps)?;
+    Ok(found(alloc, search, &tree)?)
+}
+
+/// A search in which nothing is placed, and the number order is the best so far.
+fn begin<'a>(
+    alloc: Global,
+    problem: &'a Problem,
+    part: &'a [SegId],
+    numbers: &'a [u32],
+    budget: u32,
+) -> Result<Search<'a>, NoMemory>
+    requires problem { IsProblem problem.now }
+    requires known { All (λ (s : SegId). s.0 < length problem.now.segs) part.now }
+    requires rising { IsRisingPart part.now }
+    requires numbers { numbers.now ≡ part_numbers problem.now.terms part.now }
+    requires budget { budget + 1 < 2 ^ 32 }
+    ensures { IfOk result (IsBegun problem.now.segs part.now (part_terms problem.now.terms part.now) budget) }
+{
+    let bounds = PartBounds::new(alloc, problem, part, numbers)?;
+    let cost = number_cost(problem, numbers);
+    let lists = number_lists(alloc, problem, part)?;
+    let children = Vec::new(alloc);
+    Ok(Search {
         problem,
         part,
-        terms,
-    };
-    let tree = grow(alloc, &searched, prefix, &mut progress, steps)?;
+        bounds,
+        children,
+        cost,
+        lists,
+        spent: 0,
+        budget,
+    })
+}
+
+/// What the terms of these numbers cost under the number order.
+fn number_cost(problem: &Problem, numbers: &[u32]) -> u64
+    requires known { All (λ n. n < length problem.now.terms) numbers.now }
+    requires few { length numbers.now ≤ 4000000 }
+    ensures { result ≡ sum_by (cost_of_number problem.now) numbers.now }
+{
+    let terms = problem.terms();
+    let mut total: u64 = 0;
+    for n in numbers {
+        total += number_cost_of(problem, terms[*n as usize]);
+    }
+    total
+}
+
+/// What a term costs under the number order.
+fn number_cost_of(problem: &Problem, term: Term) -> u64
+    requires { IsTerm problem.now.segs term }
+    ensures value { result ≡ term_cost problem.now.segs term }
+    ensures most { result ≤ 256000 }
+{
+    let segs = problem.segs();
+    let (seg, other) = ends_of(term);
+    let here = segs[seg.0 as usize].as_slice();
+    let there = segs[other.0 as usize].as_slice();
+    if is_met_on(here, there, term) {
+        u64::from(weight_of(term))
+    } else {
+        0
+    }
+}
+
+/// The lines of each segment of the part, by number.
+fn number_lists(
+    alloc: Global,
+    problem: &Problem,
+    part: &[SegId],
+) -> Result<Vec<Sequence<LineId>>, NoMemory>
+    requires { All (λ (s : SegId). s.0 < length problem.now.segs) part.now }
+    ensures { IfOk result (λ lists. lists.items ≡ map (λ s. lines_on problem.now.segs s) part.now) }
+{
+    let segs = problem.segs();
+    let mut lists = Vec::with_capacity(alloc, part.len())?;
+    for s in part {
+        let lines = segs[s.0 as usize].as_slice().to_vec(alloc)?;
+        lists.push(Sequence::of(lines))?;
+    }
+    Ok(lists)
+}
+
+/// What a search has found, with the prices of its tree.
+fn found(alloc: Global, mut search: Search, tree: &Tree) -> Result<Found, NoMemory>
+    requires under_way { IsUnderWay search }
+    requires over { IsOver search.bounds.segs search.bounds.placed (plain tree.now) }
+    ensures tree { IfOk result (λ f. plain f.tree ≡ with_prices (part_of search.entry.bounds) search.entry.bounds.placed (plain tree.now)) }
+    ensures best { IfOk result (λ f. best_found f ≡ best_of search.entry) }
+    ensures branches { IfOk result (λ f. f.branches ≡ search.entry.spent) }
+{
+    let tree = priced(alloc, &mut search.bounds, tree)?;
     Ok(Found {
         orders: Orders {
-            lists: Sequence::of(progress.lists),
+            lists: Sequence::of(search.lists),
         },
-        target: progress.cost,
-        branches: progress.spent,
+        target: search.cost,
+        branches: search.spent,
         tree,
     })
 }
 
-/// A search that has taken no split, and has found nothing: any orders of a part cost less.
-fn begin(alloc: Global, budget: u32) -> Progress
-    ensures best { best_of result ≡ nothing_found }
-    ensures spent { result.spent ≡ 0 }
-    ensures budget { result.budget ≡ budget }
+/// Whether the part has more places than are allowed.
+fn is_deep(problem: &Problem, part: &[SegId]) -> bool
+    requires { All (λ (s : SegId). s.0 < length problem.now.segs) part.now }
+    ensures deep { result ≡ nat_lt 2048 (places_of problem.now.segs part.now) }
+    ensures fits { IsProblem problem.now }
 {
-    Progress {
-        cost: u64::MAX,
-        lists: Vec::new(alloc),
-        spent: 0,
-        budget,
+    let segs = problem.segs();
+    let mut left: usize = 2048;
+    for s in part {
+        let places = segs[s.0 as usize].as_slice().len().saturating_sub(1);
+        if places > left {
+            return true;
+        }
+        left -= places;
     }
+    false
 }

@@ -7,11 +7,12 @@ use Rattle.order_model.specs.declared.term.Term.{Term}
 use Rattle.order_model.specs.Gathering.{part_lists}
 use Rattle.order_model.proofs.Placing.{length-part_lists}
 use Rattle.order_proof.specs.Plain.{plain_part}
-use Rattle.order_trees.specs.PartTerms.{part_terms}
-use Rattle.order_trees.specs.Numbers.{TellPart}
-use Rattle.order_trees.proofs.PartLists.{part_at, part_known_at, parts_few_at}
-use Rattle.order_trees.proofs.PartNumbers.{tell_part_at}
-use Rattle.order_trees.proofs.KeptTerms.{group_items}
+use Rattle.order_model.specs.PartTerms.{part_numbers}
+use Rattle.order_model.specs.Parts.{IsRisingPart}
+use Rattle.order_model.specs.Numbers.{TellPart}
+use Rattle.order_model.proofs.PartLists.{part_at, part_known_at, parts_few_at}
+use Rattle.order_model.proofs.PartNumbers.{tell_part_at}
+use Rattle.order_model.proofs.KeptTerms.{group_items}
 use Rattle.order_check.specs.Verdict.{part_refusal, IsCause}
 use Rattle.order_check.proofs.Verdicts.{proof_at, tree_at, part_missing, part_left_over, part_passed, part_refused}
 use Rattle.order_check.proofs.check.check_parts.Goals as goal
@@ -65,7 +66,7 @@ check_part-requires-clause-terms c =
     let terms : List Term = c.args.problem.now.terms in
     c.as_slice-in-loop-k-3.ensures.value
     ∙ group_items terms c.args.parts.now c.in_ok-groups.groups.items c.loop-k.k c.index-parts-k.result c.index.result.now c.in_ok-groups.ensures c.loop-k-test.true c.index-parts-k.is c.index.ensures
-    ∙ sym (ap (part_terms terms) c.as_slice-in-loop-k.ensures.value)
+    ∙ sym (ap (part_numbers terms) c.as_slice-in-loop-k.ensures.value)
 
 pub check_part-requires-clause-tree : goal.check_part-requires-clause-tree
 check_part-requires-clause-tree c =
@@ -108,3 +109,8 @@ returns-in_err-check_part-clause-refused c =
     rw (p.1, p.2)
     (part_refused segs terms (part_lists c.args.parts.now) (map plain_part c.args.proofs.now) k [] proof c.in_err-check_part.field-0.0 below
     (omega (arith, length-map c.args.proofs.now plain_part, c.if-k-proofs.false)) c.loop-k.invariant.1 some_there)
+
+pub check_part-requires-clause-rising : goal.check_part-requires-clause-rising
+check_part-requires-clause-rising c =
+    subst IsRisingPart (part_at c.args.parts.now c.loop-k.k c.index-parts-k.result c.loop-k-test.true c.index-parts-k.is ∙ sym c.as_slice-in-loop-k.ensures.value)
+    (c.requires.parts.rising c.loop-k.k [] (omega (arith, length-part_lists c.args.parts.now, c.loop-k-test.true)))

@@ -2,7 +2,7 @@ use Rattle.std.proofs.Common.{◌≡◌, ◌≤◌, length, map}
 use Rattle.order_model.specs.Gathering.{part_lists}
 use Rattle.order_model.specs.Prefixes.{IsPrefixOf}
 use Rattle.order_proof.specs.Plain.{plain_part}
-use Rattle.order_trees.specs.Completions.{none_placed}
+use Rattle.order_model.specs.Prefixes.{none_placed}
 use Rattle.order_check.proofs.Verdicts.{FirstFrom}
 use Rattle.order_check.proofs.check.check_parts.Given as goal
 

@@ -7,12 +7,12 @@ use Rattle.order_model.specs.Problems.{lines_on}
 use Rattle.order_model.specs.Prefixes.{is_placed}
 use Rattle.order_proof.specs.declared.tree.Tree.{Tree, the_lemmas}
 use Rattle.order_proof.specs.Plain.{split, plain, plain_children}
-use Rattle.order_trees.specs.Accepting.{Question, failing}
-use Rattle.order_trees.proofs.Sound.{rising_at, all_in}
+use Rattle.order_bound.specs.Accepting.{Question, failing}
+use Rattle.order_bound.proofs.Sound.{rising_at, all_in}
 use Rattle.order_check.specs.Asking.{question_of}
 use Rattle.order_check.specs.Children.{child_lines}
 use Rattle.order_check.specs.Walking.{IsWalked}
-use Rattle.order_check.proofs.Walks.{distinct_children, child_is_tree, split_walked, not_split_walked, split_test, case_next, of_part, case_refused, cases_passed, case_restored}
+use Rattle.order_check.proofs.Walks.{distinct_children, child_is_tree, split_walked, not_split_walked, split_test, case_next, of_part, case_refused, cases_passed, case_restored, chosen_walked}
 use Rattle.order_check.proofs.walk.+walk.Goals as goal
 
 pub walk-returns-in-Split-clause-walked : goal.walk-returns-in-Split-clause-walked
@@ -31,21 +31,21 @@ pub walk_case-returns-in_err-outcome-clause-placed : goal.walk_case-returns-in_e
 walk_case-returns-in_err-outcome-clause-placed t c =
     let s = c.args.seg in
     case_restored c.args.asked.now.problem.now.segs c.args.prefix.now.placed c.place.new.self.placed c.walk-outcome.new.prefix.placed c.take_back.new.self.placed s c.args.line
-    (omega (arith, c.requires.seg, c.requires.fits.each)) (rising_at c.args.asked.now.problem.now.segs s.0 c.requires.asked.rising) (c.requires.fits.lines s.0 c.requires.seg)
+    (omega (arith, c.requires.seg, c.requires.fits.each)) (rising_at c.args.asked.now.problem.now.segs s.0 c.requires.asked.problem.rising) (c.requires.fits.lines s.0 c.requires.seg)
     c.place.ensures.placed c.walk-outcome.ensures.placed c.take_back.ensures.placed
 
 pub walk_case-returns-then-not-branch-clause-placed : goal.walk_case-returns-then-not-branch-clause-placed
 walk_case-returns-then-not-branch-clause-placed t c =
     let s = c.args.seg in
     case_restored c.args.asked.now.problem.now.segs c.args.prefix.now.placed c.place.new.self.placed c.walk-outcome.new.prefix.placed c.take_back.new.self.placed s c.args.line
-    (omega (arith, c.requires.seg, c.requires.fits.each)) (rising_at c.args.asked.now.problem.now.segs s.0 c.requires.asked.rising) (c.requires.fits.lines s.0 c.requires.seg)
+    (omega (arith, c.requires.seg, c.requires.fits.each)) (rising_at c.args.asked.now.problem.now.segs s.0 c.requires.asked.problem.rising) (c.requires.fits.lines s.0 c.requires.seg)
     c.place.ensures.placed c.walk-outcome.ensures.placed c.take_back.ensures.placed
 
 pub walk_case-returns-clause-placed : goal.walk_case-returns-clause-placed
 walk_case-returns-clause-placed t c =
     let s = c.args.seg in
     case_restored c.args.asked.now.problem.now.segs c.args.prefix.now.placed c.place.new.self.placed c.walk-outcome.new.prefix.placed c.take_back.new.self.placed s c.args.line
-    (omega (arith, c.requires.seg, c.requires.fits.each)) (rising_at c.args.asked.now.problem.now.segs s.0 c.requires.asked.rising) (c.requires.fits.lines s.0 c.requires.seg)
+    (omega (arith, c.requires.seg, c.requires.fits.each)) (rising_at c.args.asked.now.problem.now.segs s.0 c.requires.asked.problem.rising) (c.requires.fits.lines s.0 c.requires.seg)
     c.place.ensures.placed c.walk-outcome.ensures.placed c.take_back.ensures.placed
 
 pub walk_split-returns-then-not-is_split-clause-walked : goal.walk_split-returns-then-not-is_split-clause-walked
@@ -73,7 +73,7 @@ walk_split-walk_case-requires t c =
           c.loop-child.invariant.0,
           (
             all_in (λ (s : SegId). s.0 < length c.args.asked.now.problem.now.segs) c.args.asked.now.part.now c.args.seg c.requires.asked.known part,
-            (on, (rw c.loop-child.invariant.1 fresh, tree)),
+            (on, (rw c.loop-child.invariant.1 fresh, (tree, c.loop-child.invariant.4))),
           ),
         ),
       ),
@@ -96,3 +96,9 @@ walk_split-returns-clause-walked t c =
     cases_passed q c.args.prefix.now.placed c.args.seg c.args.children.now c.loop-child.child-index c.args.way.now.items
     (omega (arith, c.loop-child-test.false)) holds c.loop-child.invariant.3 in
     (way.0, c.loop-child.invariant.2)
+
+pub walk_case-take_back-requires-clause-some : goal.walk_case-take_back-requires-clause-some
+walk_case-take_back-requires-clause-some t c =
+    let s = c.args.seg in
+    chosen_walked c.args.asked.now.problem.now.segs c.args.prefix.now.placed c.place.new.self.placed c.walk-outcome.new.prefix.placed s c.args.line
+    (omega (arith, c.requires.seg, c.requires.fits.each)) (c.requires.fits.lines s.0 c.requires.seg) c.requires.line c.requires.unplaced c.place.ensures.placed c.walk-outcome.ensures.placed

@@ -1,5 +1,4 @@
-use Rattle.std.proofs.Common.{◌≡◌, ℤ, List, Option, Some, None, option_map, ap, sym, ◌∙◌}
-use Rattle.decimal_text.specs.Lines as texts
+use Rattle.std.proofs.Common.{ℤ, List, Option, Some, None, option_map, ap, ◌∙◌}
 use Rattle.decimal_text.proofs.LineLemmas.{paired}
 use Rattle.order_proof.specs.declared.line_word.LineWord.{LineWord}
 use Rattle.order_proof.specs.Lines.{Line}

@@ -1,6 +1,0 @@
-use Rattle.std.proofs.Common.{◌≡◌, [], replicate}
-use Rattle.order_model.specs.WaysByPlace.{way_lists}
-use Rattle.order_model.proofs.ways.no_ways.Given as goal
-
-abbrev pub invariant-loop : goal.invariant-loop
-invariant-loop l = way_lists l.lists.items ≡ replicate l.counter []

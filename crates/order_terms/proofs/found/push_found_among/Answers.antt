@@ -1,0 +1,12 @@
+use Rattle.std.proofs.lemmas.Result.{err_from_is_err_and}
+use Rattle.std.specs.List.{flat_map}
+use Rattle.order_terms.specs.Terms.{found_by}
+use Rattle.order_terms.proofs.Faults.{above_in_loop}
+use Rattle.order_terms.proofs.found.push_found_among.Goals as goal
+
+pub returns-in_err-push_found_with-clause-err : goal.returns-in_err-push_found_with-clause-err
+returns-in_err-push_found_with-clause-err c =
+    let p = err_from_is_err_and c.from_residual.result c.from_residual.ensures.1 in
+    rw (p.1, p.2)
+    (above_in_loop (λ u. flat_map (found_by c.args.end.weights c.args.end.at_lower c.args.end.seg u) c.args.ways.now) c.args.ways.now c.loop-u.u-index
+    _ _ c.args.found.now c.loop-u.found _ c.loop-u-test.true c.loop-u.invariant.0 c.in_err-push_found_with.ensures.err)

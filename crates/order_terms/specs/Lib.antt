@@ -1,0 +1,3 @@
+pub mod Terms
+pub mod WaysByPlace
+pub mod Limits

@@ -1,0 +1,110 @@
+//! Proofs that the checker accepts and refuses.
+
+use crate::small::crossing;
+use map_base::LineId;
+use order_check::{ProofItem, ProofStop, check_proof};
+use order_model::Problem;
+use order_proof::read_proof;
+use std::alloc::Global;
+use std::test::Fail;
+
+/// What the checker says of the text of a proof.
+fn checked(alloc: Global, text: &[u8]) -> Result<(), ProofStop> {
+    let (parts, orders) = crossing(alloc)?;
+    let proof = match read_proof(alloc, text) {
+        Ok((proof, _)) => proof,
+        Err(_) => return Err(ProofStop::NoMemory),
+    };
+    check_proof(alloc, Problem::new(parts), &orders, &proof)
+}
+
+/// The tree of all orders, without prices.
+const WHOLE: &[u8] =
+    b"rules 0\nparts 1\npart 1 1 3\nsplit 1 2\ntake 0\nsplit 3 2\ntake 0\nclose 0\ntake 1\nclose 0\ntake 1\nsplit 3 2\ntake 0\nclose 0\ntake 1\nclose 0\n";
+
+/// A price of 1 on the Link: the second segment costs 0 or 4, and the fourth 5 or 1.
+const PRICED: &[u8] = b"rules 0\nparts 1\npart 1 1 3\nclose 1 1 1\n";
+
+/// The half-decided Link needs no price.
+const HALF: &[u8] = b"rules 0\nparts 1\npart 1 1 3\nsplit 1 2\ntake 0\nclose 0\ntake 1\nclose 0\n";
+
+#[test]
+fn accepts_all_orders_and_prices(rt: HostRuntime) {
+    assert!(rt; matches!(checked(rt.alloc(), WHOLE), Ok(())));
+    assert!(rt; matches!(checked(rt.alloc(), PRICED), Ok(())));
+    assert!(rt; matches!(checked(rt.alloc(), HALF), Ok(())));
+}
+
+/// A target without the price; a price above its weight, on a Side, and on no term; the wrong way.
+const DEAR: [&[u8]; 5] = [
+    b"rules 0\nparts 1\npart 1 1 3\nclose 0\n",
+    b"rules 0\nparts 1\npart 1 1 3\nclose 1 1 2\n",
+    b"rules 0\nparts 1\npart 1 1 3\nclose 1 0 1\n",
+    b"rules 0\nparts 1\npart 1 1 3\nclose 1 3 1\n",
+    b"rules 0\nparts 1\npart 1 1 3\nclose 1 1 -1\n",
+];
+
+#[test]
+fn refuses_prices_that_are_not_allowed_or_too_low(rt: HostRuntime) {
+    for text in DEAR {
+        assert!(rt;
+            matches!(
+                checked(rt.alloc(), text),
+                Err(ProofStop::Refuted(ProofItem::Part { index: 0, .. }))
+            )
+        );
+    }
+}
+
+/// A price on the Link where it is decided on one segment, below line 0.
+const DECIDED: &[u8] =
+    b"rules 0\nparts 1\npart 1 1 3\nsplit 1 2\ntake 0\nclose 1 1 1\ntake 1\nclose 0\n";
+
+#[test]
+fn names_the_lines_on_the_way_to_the_node_that_fails(rt: HostRuntime) -> Result<(), Fail> {
+    match checked(rt.alloc(), DECIDED) {
+        Err(ProofStop::Refuted(ProofItem::Part { index, after })) => {
+            assert_eq!(rt; index, 0);
+            let way = after.as_slice();
+            assert_eq!(rt; way, [LineId(0)].as_slice());
+            Ok(())
+        }
+        _ => Err(Fail::from("another item")),
+    }
+}
+
+/// Items that are refused before any node.
+const REFUSED: [&[u8]; 4] = [
+    b"rules 1\nmerge 1 3 0\nparts 0\n",
+    b"rules 0\nparts 0\n",
+    b"rules 0\nparts 1\npart 1 1\nclose 0\n",
+    b"rules 0\nparts 1\npart 0 1 3\nclose 0\n",
+];
+
+#[test]
+fn refuses_rules_other_parts_and_totals(rt: HostRuntime) {
+    assert!(rt;
+        matches!(
+            checked(rt.alloc(), REFUSED[0]),
+            Err(ProofStop::Refuted(ProofItem::Rule { index: 0 }))
+        )
+    );
+    assert!(rt;
+        matches!(
+            checked(rt.alloc(), REFUSED[1]),
+            Err(ProofStop::Refuted(ProofItem::Part { index: 0, .. }))
+        )
+    );
+    assert!(rt;
+        matches!(
+            checked(rt.alloc(), REFUSED[2]),
+            Err(ProofStop::Refuted(ProofItem::Part { index: 0, .. }))
+        )
+    );
+    assert!(rt;
+        matches!(
+            checked(rt.alloc(), REFUSED[3]),
+            Err(ProofStop::Refuted(ProofItem::Total))
+        )
+    );
+}

@@ -1,8 +1,0 @@
-use Rattle.order_trees.proofs.Grouping.{group_grown}
-use Rattle.order_trees.proofs.terms.push_at.Goals as goal
-
-pub returns : goal.returns
-returns c =
-    group_grown c.args.groups.now.items c.args.k c.index_mut-group.result.now c.push.new.self c.args.term c.requires
-    c.index_mut-group.ensures.value
-    c.in_ok-push.ensures.items

@@ -1,4 +1,0 @@
-pub mod PartTerms
-pub mod Numbers
-pub mod Completions
-pub mod Accepting

@@ -1,0 +1,53 @@
+use Rattle.std.proofs.Common.{◌≡◌, ◌≤◌, refl, ap, sym, subst, ◌∙◌, ℕ, ◌<◌, List, map, length, arith}
+use Rattle.std.specs.Prelude.{sum_by, vec_capacity}
+use Rattle.std.specs.List.{All}
+use Rattle.order_model.specs.PartTerms.{terms_by_number, part_terms, part_numbers}
+use Rattle.order_model.specs.declared.term.Term.{Term}
+use Rattle.map_base.specs.declared.ids.SegId.{SegId}
+use Rattle.order_model.proofs.KeptTerms.{part_numbers_known, part_terms_by_number}
+use Rattle.order_bound.proofs.Parts.{rising_apart}
+use Rattle.part_bounds.specs.declared.pair_terms.PairTerms.{PairTerms}
+use Rattle.part_bounds.specs.PairGroups.{Group, KnowsOwn, terms_in, groups_of, groups_in, share_of, IsGroup}
+use Rattle.part_bounds.proofs.KeptUp.{begun, part_groups, part_few, each_few, room_for}
+use Rattle.part_bounds.proofs.part_bounds.PartBounds.new.Goals as goal
+
+grouped : (terms : List Term) (part : List SegId) (numbers : List ℕ) (pairs slice : List PairTerms) → numbers ≡ part_numbers terms part → groups_in pairs ≡ groups_of (terms_by_number terms numbers) → slice ≡ pairs
+    → groups_in slice ≡ groups_of (part_terms terms part)
+grouped terms part numbers pairs slice e1 e2 e3 = ap groups_in e3 ∙ (e2 ∙ ap groups_of (ap (terms_by_number terms) e1 ∙ part_terms_by_number part terms))
+
+pub pairs_of-requires : goal.pairs_of-requires
+pairs_of-requires c = subst (All (λ n. n < length c.args.problem.now.terms)) (sym c.requires.numbers) (part_numbers_known c.args.part.now c.args.problem.now.terms)
+
+pub most_terms-requires : goal.most_terms-requires
+most_terms-requires c =
+    each_few (groups_in c.as_slice.result.now) (subst (λ gs. sum_by terms_in gs ≤ 4000000) (sym (grouped c.args.problem.now.terms c.args.part.now c.args.numbers.now c.find_segments.new.pairs.items c.as_slice.result.now c.requires.numbers (c.find_segments.ensures.same ∙ c.in_ok-pairs.ensures.grouped) c.as_slice.ensures.value)) (part_few c.args.problem.now c.args.part.now c.pairs_of.ensures.fits))
+
+pub fill_shares-total-requires-clause-apart : goal.fill_shares-total-requires-clause-apart
+fill_shares-total-requires-clause-apart c = rising_apart c.args.part.now c.requires.rising
+
+pub fill_shares-total-requires-clause-groups : goal.fill_shares-total-requires-clause-groups
+fill_shares-total-requires-clause-groups c =
+    subst (All (IsGroup c.args.problem.now.segs c.args.part.now)) (sym (grouped c.args.problem.now.terms c.args.part.now c.args.numbers.now c.find_segments.new.pairs.items c.as_slice-2.result.now c.requires.numbers (c.find_segments.ensures.same ∙ c.in_ok-pairs.ensures.grouped) c.as_slice-2.ensures.value)) (part_groups c.args.problem.now c.args.part.now c.pairs_of.ensures.fits c.requires.rising)
+
+pub fill_shares-total-requires-clause-few : goal.fill_shares-total-requires-clause-few
+fill_shares-total-requires-clause-few c =
+    subst (λ gs. sum_by terms_in gs ≤ 4000000) (sym (grouped c.args.problem.now.terms c.args.part.now c.args.numbers.now c.find_segments.new.pairs.items c.as_slice-2.result.now c.requires.numbers (c.find_segments.ensures.same ∙ c.in_ok-pairs.ensures.grouped) c.as_slice-2.ensures.value)) (part_few c.args.problem.now c.args.part.now c.pairs_of.ensures.fits)
+
+pub fill_shares-total-requires-clause-room : goal.fill_shares-total-requires-clause-room
+fill_shares-total-requires-clause-room c =
+    room_for c.args.part.now (groups_in c.as_slice-2.result.now) c.most_terms.result c.in_ok-room.room
+    (subst (λ (l : List PairTerms). All (λ (g : Group). terms_in g ≤ c.most_terms.result) (groups_in l)) (c.as_slice.ensures.value ∙ sym c.as_slice-2.ensures.value) c.most_terms.ensures.each) c.in_ok-room.ensures
+
+pub fill_shares-total-requires-clause-own : goal.fill_shares-total-requires-clause-own
+fill_shares-total-requires-clause-own c = subst (All (KnowsOwn c.args.part.now)) (sym c.as_slice-2.ensures.value) c.in_ok-find_segments.ensures.own
+
+pub invariant_of-result : goal.invariant_of-result
+invariant_of-result c =
+    let f = share_of c.args.problem.now.segs c.args.part.now c.in_ok-prefix.prefix.placed in
+    begun c.args.problem.now c.args.part.now c.args.numbers.now c.in_ok-prefix.prefix c.find_segments.new.pairs.items c.fill_shares-total.new.shares.items (vec_capacity c.in_ok-shares.shares) (vec_capacity c.fill_shares-total.new.shares)
+    c.fill_shares-total.result c.most_terms.result c.in_ok-room.room c.fill_shares-total.new.room c.in_ok-prefix.ensures.fits c.requires.known c.requires.rising c.pairs_of.ensures.fits c.requires.numbers
+    (grouped c.args.problem.now.terms c.args.part.now c.args.numbers.now c.find_segments.new.pairs.items c.find_segments.new.pairs.items c.requires.numbers (c.find_segments.ensures.same ∙ c.in_ok-pairs.ensures.grouped) refl)
+    (c.fill_shares-total.ensures.shares ∙ ap (λ l. map f (groups_in l)) c.as_slice-2.ensures.value) (c.fill_shares-total.ensures.total ∙ ap (λ l. sum_by f (groups_in l)) c.as_slice-2.ensures.value)
+    c.in_ok-find_segments.ensures.own
+    (omega (arith, c.in_ok-shares.ensures.exact, c.len.ensures, c.find_segments.new.pairs.ok.0)) c.fill_shares-total.ensures.places
+    (subst (λ (l : List PairTerms). All (λ (g : Group). terms_in g ≤ c.most_terms.result) (groups_in l)) c.as_slice.ensures.value c.most_terms.ensures.each) c.in_ok-room.ensures c.fill_shares-total.ensures.room

@@ -1,0 +1,39 @@
+use Rattle.std.proofs.Common.{◌≡◌, ap, sym, subst, ◌∙◌, List, map}
+use Rattle.std.specs.Prelude.{sum_by}
+use Rattle.std.specs.Vec.{vec_capacity}
+use Rattle.order_bound.proofs.Parts.{rising_apart}
+use Rattle.part_bounds.specs.declared.pair_terms.PairTerms.{PairTerms}
+use Rattle.part_bounds.specs.PairGroups.{KnowsOwn, groups_in, share_of, IsGroup}
+use Rattle.part_bounds.specs.Shares.{HasRoomFor}
+use Rattle.std.specs.List.{All}
+use Rattle.part_bounds.proofs.KeptUp.{kept_up}
+use Rattle.part_bounds.proofs.Renewed.{moved_on, stale_on}
+use Rattle.part_bounds.proofs.part_bounds.PartBounds.place.Goals as goal
+
+pub renew_shares-self-inside-requires-clause-apart : goal.renew_shares-self-inside-requires-clause-apart
+renew_shares-self-inside-requires-clause-apart c = rising_apart c.self.inside.part.now c.self.invariant.rises
+
+pub renew_shares-self-inside-requires-clause-room : goal.renew_shares-self-inside-requires-clause-room
+renew_shares-self-inside-requires-clause-room c =
+    subst (λ (l : List PairTerms). HasRoomFor c.self.inside.part.now (groups_in l) c.self.inside.room) (sym c.as_slice.ensures.value) c.self.invariant.has_room
+
+pub renew_shares-self-inside-requires-clause-stale : goal.renew_shares-self-inside-requires-clause-stale
+renew_shares-self-inside-requires-clause-stale c =
+    let f = share_of c.self.inside.problem.now.segs c.self.inside.part.now c.self.inside.prefix.placed in
+    let slice : c.as_slice.result.now ≡ c.self.inside.pairs.items = c.as_slice.ensures.value in
+    stale_on c.self.inside.problem.now.segs c.self.inside.prefix.placed c.place.new.self.placed c.self.inside.part.now c.args.seg (groups_in c.as_slice.result.now) c.self.inside.shares.items c.self.inside.total
+    (rising_apart c.self.inside.part.now c.self.invariant.rises)
+    (subst (λ (l : List PairTerms). All (IsGroup c.self.inside.problem.now.segs c.self.inside.part.now) (groups_in l)) (sym slice) c.self.invariant.groups)
+    (moved_on c.self.inside.prefix.placed c.place.new.self.placed c.args.seg _ c.place.ensures.placed)
+    (c.self.invariant.shares_are ∙ ap (λ l. map f (groups_in l)) (sym slice)) (c.self.invariant.total_is ∙ ap (λ l. sum_by f (groups_in l)) (sym slice))
+
+pub renew_shares-self-inside-requires-clause-own : goal.renew_shares-self-inside-requires-clause-own
+renew_shares-self-inside-requires-clause-own c = subst (All (KnowsOwn c.self.inside.part.now)) (sym c.as_slice.ensures.value) c.self.invariant.own
+
+pub invariant_of-self : goal.invariant_of-self
+invariant_of-self c =
+    let f = share_of c.self.inside.problem.now.segs c.self.inside.part.now c.place.new.self.placed in
+    kept_up c.self.inside.problem.now c.self.inside.part.now c.self.inside.numbers.now c.self.inside.prefix c.place.new.self c.self.inside.pairs.items c.self.inside.shares.items c.renew_shares-self-inside.new.shares.items
+    (vec_capacity c.self.inside.shares) (vec_capacity c.renew_shares-self-inside.new.shares) c.self.inside.total c.renew_shares-self-inside.result c.self.inside.room c.renew_shares-self-inside.new.room
+    c.self.invariant c.place.ensures.fits (c.renew_shares-self-inside.ensures.shares ∙ ap (λ l. map f (groups_in l)) c.as_slice.ensures.value)
+    (c.renew_shares-self-inside.ensures.total ∙ ap (λ l. sum_by f (groups_in l)) c.as_slice.ensures.value) c.renew_shares-self-inside.ensures.places c.renew_shares-self-inside.ensures.room

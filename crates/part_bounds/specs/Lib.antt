@@ -1,0 +1,6 @@
+pub mod PartStates
+pub mod TermLooks
+pub mod Slots
+pub mod PairGroups
+pub mod Shares
+pub mod PriceNotes

@@ -1,0 +1,30 @@
+-- Prices noted by the number of their Link.
+use Rattle.std.specs.Prelude.{ℕ, ◌==◌, ℤ, pos, nat_eq, List, [], ◌∷◌, ◌++◌, if◌then◌else◌}
+use Rattle.std.specs.Option.{unwrap_or}
+use Rattle.std.specs.declared.hash.FoldHasher.{FoldHasher}
+use Rattle.std.specs.declared.hash.BuildHasherDefault.{BuildHasherDefault}
+use Rattle.std.specs.HashMap.{get, HashMap}
+use Rattle.order_bound.specs.declared.pairs.OpenLink.{OpenLink}
+use Rattle.order_bound.specs.declared.pairs.ChildLink.{ChildLink}
+use Rattle.order_bound.specs.CanonicalPrices.{price_for, listed}
+use Rattle.part_bounds.specs.declared.slots.Slot.{Slot}
+use Rattle.part_bounds.specs.Slots.{rise_in, with_children}
+
+-- the price that is noted for a number, 0 where there is none
+abbrev pub price_noted : HashMap ℕ ℤ (BuildHasherDefault FoldHasher) → ℕ → ℤ
+price_noted prices k = unwrap_or (get nat_eq prices k) (pos 0)
+
+-- the price of the first of these Links that has this number; another price where none has it
+abbrev pub price_over : List (OpenLink × ℤ) → ℤ → ℕ → ℤ
+price_over [] y k = y
+price_over (q ∷ priced) y k = if q.0.number == k then q.1 else price_over priced y k
+
+-- the Links to children with their prices, set from the last child to the first, by the slots before
+abbrev pub priced_in : List ChildLink → List Slot → List (OpenLink × ℤ)
+priced_in [] slots = []
+priced_in (c ∷ later) slots = (c.link, price_for c (rise_in (with_children later slots) c.child)) ∷ priced_in later slots
+
+-- the prices of these numbers but for those that are 0
+abbrev pub listed_all : (ℕ → ℤ) → List ℕ → List (ℕ × ℤ)
+listed_all price [] = []
+listed_all price (n ∷ numbers) = listed n (price n) ++ listed_all price numbers

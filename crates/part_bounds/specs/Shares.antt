@@ -1,0 +1,39 @@
+-- What a part is kept with while lines are placed.
+use Rattle.std.specs.Prelude.{◌≡◌, ℕ, ◌*◌, ◌<◌, ◌≤◌, false, sum, slice_index, slice_index_or, List, length, map, sum_by, All}
+use Rattle.map_base.specs.declared.ids.SegId.{SegId}
+use Rattle.order_model.specs.declared.problem.ProblemParts.{ProblemParts}
+use Rattle.order_model.specs.PartTerms.{part_terms, part_numbers}
+use Rattle.order_model.specs.Parts.{IsRisingPart}
+use Rattle.order_model.specs.Prefixes.{Placement, IsPrefixOf}
+use Rattle.part_bounds.specs.declared.one_pair.Room.{Room}
+use Rattle.part_bounds.specs.declared.pair_terms.PairTerms.{PairTerms}
+use Rattle.part_bounds.specs.PairGroups.{Group, KnowsOwn, groups_of, groups_in, no_group, meets, terms_in, share_of, IsGroup}
+use Rattle.part_bounds.specs.Slots.{HasRoom}
+
+-- there is room for each of these pairs
+abbrev pub HasRoomFor : List SegId → List Group → Room → Type 0
+HasRoomFor part groups room = All (λ (g : Group). HasRoom (length part) (terms_in g) room) groups
+
+-- shares of groups, each at most so much a term, with their sum. Each of the first so many, and each of a group without a
+-- term on the segment, is what is due
+pub record AreSharesBut (due : Group → ℕ) (s : SegId) (count : ℕ) (groups : List Group) (shares : List ℕ) (total : ℕ) : Type 0 where
+  pub each : length shares ≡ length groups
+  pub early : (k : ℕ) → k < count → k < length groups → slice_index shares k ≡ due (slice_index_or groups k no_group)
+  pub beside : (k : ℕ) → k < length groups → meets (slice_index_or groups k no_group).1 s ≡ false → slice_index shares k ≡ due (slice_index_or groups k no_group)
+  pub small : (k : ℕ) → k < length groups → slice_index shares k ≤ 1024000 * terms_in (slice_index_or groups k no_group)
+  pub total_is : total ≡ sum shares
+
+-- the numbers of a part's terms, and its pairs with what each adds to the bound of a prefix, and the sum; with room for so many shares
+pub record IsKeptUp (problem : ProblemParts) (part : List SegId) (numbers : List ℕ) (prefix : Placement) (pairs : List PairTerms) (shares : List ℕ) (places total : ℕ) (room : Room) : Type 0 where
+  pub fits : IsPrefixOf problem.segs prefix
+  pub known : All (λ (s : SegId). s.0 < length problem.segs) part
+  pub rises : IsRisingPart part
+  pub numbers_are : numbers ≡ part_numbers problem.terms part
+  pub grouped : groups_in pairs ≡ groups_of (part_terms problem.terms part)
+  pub groups : All (IsGroup problem.segs part) (groups_in pairs)
+  pub few : sum_by terms_in (groups_in pairs) ≤ 4000000
+  pub own : All (KnowsOwn part) pairs
+  pub shares_are : shares ≡ map (share_of problem.segs part prefix.placed) (groups_in pairs)
+  pub total_is : total ≡ sum_by (share_of problem.segs part prefix.placed) (groups_in pairs)
+  pub enough : length pairs ≤ places
+  pub has_room : HasRoomFor part (groups_in pairs) room

@@ -1,0 +1,176 @@
+//! A part of a problem with the lines placed so far, its bound and its prices.
+
+ghost use Rattle.std.specs.Prelude.{◌≡◌, ◌<◌, length, All, false, Contains, IfOk, slice_set};
+ghost use Rattle.map_base.specs.declared.ids.SegId.{SegId};
+ghost use Rattle.order_model.specs.Problems.{lines_on};
+ghost use Rattle.order_model.specs.Parts.{IsRisingPart};
+ghost use Rattle.order_model.specs.PartTerms.{part_terms, part_numbers};
+ghost use Rattle.order_model.specs.Prefixes.{is_placed, is_left, first_placed, none_placed, without_last};
+ghost use Rattle.order_bound.specs.Bounds.{bound_of};
+ghost use Rattle.order_bound.specs.CanonicalPrices.{prices_for};
+ghost use Rattle.part_bounds.specs.PartStates.{state_more, with_placed, IsWell};
+
+use crate::one_pair::Room;
+use crate::pair_terms::{PairTerms, find_segments, most_terms, pairs_of};
+use crate::prices::prices_of;
+use crate::shares::{fill_shares, renew_shares};
+use map_base::{LineId, NoMemory, SegId};
+use order_model::{Prefix, Problem};
+use order_values::Prices;
+use std::alloc::Global;
+use std::marker::Model;
+
+/// A part of a problem with the lines placed so far, its bound and its prices. It is seen as the lines of the problem's
+/// segments, the part, the part's terms behind their numbers in the problem, and the placed lines of each segment.
+#[derive(Drop)]
+pub struct PartBounds<'a> {
+    problem: &'a Problem,
+    part: &'a [SegId],
+    /// The numbers of the part's terms.
+    numbers: &'a [u32],
+    prefix: Prefix,
+    /// The pairs of lines of the part's terms.
+    pairs: Vec<PairTerms>,
+    /// What each pair adds to the bound.
+    shares: Vec<u64>,
+    /// The bound.
+    total: u64,
+    room: Room,
+}
+
+impl<'a> Model for PartBounds<'a> {
+    ghost use Rattle.std.specs.Vec.{vec_capacity};
+    ghost use Rattle.order_model.specs.PartTerms.{part_terms};
+    ghost use Rattle.part_bounds.specs.PartStates.{PartState};
+    ghost use Rattle.part_bounds.specs.Shares.{IsKeptUp};
+
+    ghost Value = { PartState };
+
+    ghost view = { λ b. record { segs = b.problem.now.segs; part = b.part.now; terms = part_terms b.problem.now.terms b.part.now; placed = b.prefix.placed } };
+
+    ghost invariant = { λ b. IsKeptUp b.problem.now b.part.now b.numbers.now b.prefix b.pairs.items b.shares.items (vec_capacity b.shares) b.total b.room };
+}
+
+impl<'a> PartBounds<'a> {
+    /// A part of the problem before any line is chosen: its segments, rising, and the numbers of its terms.
+    pub fn new(
+        alloc: Global,
+        problem: &'a Problem,
+        part: &'a [SegId],
+        numbers: &'a [u32],
+    ) -> Result<PartBounds<'a>, NoMemory>
+        requires known { All (λ (s : SegId). s.0 < length problem.now.segs) part.now }
+        requires rising { IsRisingPart part.now }
+        requires numbers { numbers.now ≡ part_numbers problem.now.terms part.now }
+        ensures segs { IfOk result (λ b. b.segs ≡ problem.now.segs) }
+        ensures part { IfOk result (λ b. b.part ≡ part.now) }
+        ensures terms { IfOk result (λ b. b.terms ≡ part_terms problem.now.terms part.now) }
+        ensures placed { IfOk result (λ b. b.placed ≡ none_placed problem.now.segs) }
+        ensures well { IfOk result (λ b. IsWell b.segs b.placed) }
+    {
+        let prefix = Prefix::none(alloc, problem)?;
+        let mut pairs = pairs_of(alloc, problem, numbers)?;
+        find_segments(alloc, part, &mut pairs)?;
+        let mut shares = Vec::with_capacity(alloc, pairs.len())?;
+        let mut room = Room::with_capacity(alloc, part.len(), most_terms(pairs.as_slice()))?;
+        let total = fill_shares(
+            problem,
+            &prefix,
+            part,
+            pairs.as_slice(),
+            &mut shares,
+            &mut room,
+        );
+        Ok(PartBounds {
+            problem,
+            part,
+            numbers,
+            prefix,
+            pairs,
+            shares,
+            total,
+            room,
+        })
+    }
+
+    /// The bound of the placed lines: what each completion costs on the part at least.
+    pub fn bound(&self) -> u64
+        ensures { result ≡ bound_of self.now.segs self.now.part self.now.terms self.now.placed }
+    {
+        self.total
+    }
+
+    /// The canonical prices of the placed lines, by the numbers of their terms in the problem.
+    pub fn prices(&self, alloc: Global) -> Result<Prices, NoMemory>
+        ensures { IfOk result (λ p. p ≡ prices_for self.now.segs self.now.part self.now.terms self.now.placed) }
+    {
+        prices_of(
+            alloc,
+            self.problem,
+            &self.prefix,
+            self.part,
+            self.pairs.as_slice(),
+            self.numbers,
+        )
+    }
+
+    /// The placed lines of a segment, left to right.
+    pub fn placed(&self, seg: SegId) -> &[LineId]
+        requires { seg.0 < length self.now.placed }
+        ensures { result.now ≡ lines_on self.now.placed seg }
+    {
+        self.prefix.placed(seg)
+    }
+
+    /// Whether a line stands on a segment and is not placed there.
+    pub fn is_left(&self, seg: SegId, line: LineId) -> bool
+        requires well { IsWell self.now.segs self.now.placed }
+        requires known { seg.0 < length self.now.segs }
+        ensures { result ≡ is_left (lines_on self.now.segs seg) (lines_on self.now.placed seg) line }
+    {
+        self.prefix.is_left(self.problem, seg, line)
+    }
+
+    /// Places a line of a segment next, and the one that is then left there alone.
+    pub fn place(&mut self, seg: SegId, line: LineId)
+        requires well { IsWell self.old.segs self.old.placed }
+        requires known { seg.0 < length self.old.segs }
+        requires line { Contains (lines_on self.old.segs seg) line }
+        requires unplaced { is_placed (lines_on self.old.placed seg) line ≡ false }
+        ensures state { self.new ≡ state_more self.old seg line }
+        ensures well { IsWell self.new.segs self.new.placed }
+    {
+        self.prefix.place(self.problem, seg, line);
+        self.total = renew_shares(
+            self.problem,
+            &self.prefix,
+            self.part,
+            seg,
+            self.pairs.as_slice(),
+            &mut self.shares,
+            self.total,
+            &mut self.room,
+        );
+    }
+
+    /// Takes back what the last placing on a segment placed. There is one that was not taken back.
+    pub fn take_back(&mut self, seg: SegId)
+        requires well { IsWell self.old.segs self.old.placed }
+        requires known { seg.0 < length self.old.segs }
+        requires some { length (first_placed (lines_on self.old.segs seg)) < length (lines_on self.old.placed seg) }
+        ensures state { self.new ≡ with_placed self.old (slice_set self.old.placed seg.0 (without_last (lines_on self.old.segs seg) (lines_on self.old.placed seg))) }
+        ensures well { IsWell self.new.segs self.new.placed }
+    {
+        self.prefix.take_back(self.problem, seg);
+        self.total = renew_shares(
+            self.problem,
+            &self.prefix,
+            self.part,
+            seg,
+            self.pairs.as_slice(),
+            &mut self.shares,
+            self.total,
+            &mut self.room,
+        );
+    }
+}
