@@ -1,15 +1,14 @@
 -- The path of a line, run by run.
-use Rattle.std.proofs.Common.{◌≡◌, ℕ, zero, suc, ◌+◌, ◌<◌, ℤ, Bool, true, false, cond, not, ◌&&◌, eqb, List, [], ◌∷◌, ◌++◌, length, get_or, drop, replicate, Option, Some, None, option_map, slice_get, refl, ap, sym, ◌∙◌, subst, append_assoc, arith}
+use Rattle.std.proofs.Common.{◌≡◌, ℕ, zero, suc, ◌+◌, ◌<◌, ℤ, Bool, true, false, cond, not, ◌&&◌, eqb, List, [], ◌∷◌, ◌++◌, length, get_or, drop, replicate, Option, Some, None, option_map, slice_get, refl, ap, sym, ◌∙◌, append_assoc, arith}
 use Rattle.std.proofs.lemmas.Bool.{eq-eqb}
-use Rattle.std.proofs.lemmas.List.{append-nil, drop_more}
+use Rattle.std.proofs.lemmas.List.{drop_more}
 use Rattle.octi_grid.specs.declared.dir.Dir.{Dir}
 use Rattle.octi_grid.specs.declared.dir.Dir.TheVariants as dir
 use Rattle.octi_grid.specs.declared.point.GridPoint.{GridPoint}
 use Rattle.octi_grid.specs.declared.walk.Run.{Run}
 use Rattle.octi_grid.specs.Ways.{number_of, reverse_of, step_from, after}
-use Rattle.octi_grid.specs.Runs.{are_runs, turns_next, steps_of}
+use Rattle.octi_grid.specs.Runs.{are_runs, steps_of}
 use Rattle.octi_grid.specs.Walks.{last_of}
-use Rattle.octi_grid.proofs.WayLemmas.{after-append}
 use Rattle.octi_grid.proofs.RunLemmas.{first_count, rest_are_runs, no_run}
 use Rattle.line_offsets.specs.declared.corner.Corner.{Corner}
 use Rattle.line_offsets.specs.Shifts.{moved, foot_of, turn_of}

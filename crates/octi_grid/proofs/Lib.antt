@@ -10,3 +10,4 @@ mod CheckLemmas
 mod CheckSteps
 pub mod PortsLemmas
 mod Examples
+mod Fronts

@@ -5,8 +5,8 @@ use Rattle.octi_grid.specs.declared.dir.Dir.TheVariants as dir
 use Rattle.octi_grid.specs.declared.point.GridPoint.{GridPoint}
 use Rattle.octi_grid.specs.Walks.{PlainWalk}
 use Rattle.walk_search.specs.declared.ends.End.{End}
-use Rattle.walk_search.specs.declared.bounds.Bounds.{Bounds}
-use Rattle.walk_search.specs.Boards.{BoardParts, empty_board, with_node, with_walk}
+use Rattle.grid_board.specs.declared.bounds.Bounds.{Bounds}
+use Rattle.grid_board.specs.Boards.{BoardParts, empty_board, with_node, with_walk}
 use Rattle.walk_search.specs.Seats.{seats_of}
 use Rattle.walk_search.specs.Routes.{is_free, total_of, is_no_worse}
 use Rattle.walk_search.specs.Reaching.{reach_of}

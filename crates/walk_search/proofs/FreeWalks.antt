@@ -4,7 +4,7 @@ use Rattle.std.specs.Prelude.{option_map}
 use Rattle.std.specs.List.{list_all, list_any}
 use Rattle.std.proofs.lemmas.Int.{ints}
 use Rattle.std.proofs.lemmas.Bool.{and_parts, and_from, ne_eqb}
-use Rattle.least_path.proofs.Chosen.{StandsIn, AllAre, all-at}
+use Rattle.least_path.proofs.Chosen.{StandsIn, all-at}
 use Rattle.octi_grid.specs.declared.dir.Dir.{Dir}
 use Rattle.octi_grid.specs.declared.dir.Dir.TheVariants as dir
 use Rattle.octi_grid.specs.declared.point.GridPoint.{GridPoint}
@@ -15,27 +15,18 @@ use Rattle.octi_grid.specs.Legal.{is_among}
 use Rattle.state_search.specs.Goals.{PathTo}
 use Rattle.walk_search.specs.declared.ends.End.{End}
 use Rattle.walk_search.specs.declared.spots.Spot.{Spot}
-use Rattle.walk_search.specs.Boards.{BoardParts, is_inside}
+use Rattle.grid_board.specs.Boards.{BoardParts, is_inside}
 use Rattle.walk_search.specs.Seats.{is_free_seat, seat_cost, seats_of, shifted, shifts}
 use Rattle.walk_search.specs.Routes.{allows, inner_points, is_free, is_settled_end, total_of}
 use Rattle.walk_search.specs.Spots.{IsSpot, number_of_spot, spots_of, spot_of}
 use Rattle.walk_search.specs.Moves.{Question, IsQuestion, IsMove, direction, ends_of, group_of, is_end, is_other_end, is_own_start, is_shared_start, is_start, space_of, start_at, starts_of}
-use Rattle.walk_search.proofs.Marks.{one_same, one_true}
+use Rattle.grid_board.proofs.Marks.{one_same, one_true}
 use Rattle.walk_search.proofs.FreeWays.{Along, along_clear, along_from, along_inner, along_inside, inner_is}
 use Rattle.walk_search.proofs.FreePaths.{IsOnward, onward_of_path, path_of_onward}
 use Rattle.walk_search.proofs.Numbered.{spot_of-none, spot_of-number}
-use Rattle.walk_search.proofs.SeatFacts.{HasPlace, among_stands, place_of, place_stands, stands_among}
+use Rattle.walk_search.proofs.SeatFacts.{HasPlace, all_passed, among_stands, place_of, place_stands, stands_among}
 use Rattle.walk_search.proofs.Moving.{IsChosen, IsStepped, group_small, move_cases, moved, start_inside}
 use Rattle.walk_search.proofs.Offering.{seat_move}
-
--- a seat of a free end is of no walk, and that of a settled end is its point
-passed_seats : {X : Type 0} (test : X → Bool) (P : X → Type 0) (xs : List X) → ((x : X) → test x ≡ true → P x) → AllAre P (filter test xs)
-passed_seats test P [] passed = tt
-passed_seats {X = X} test P (x ∷ xs) passed = of_test (test x) refl (passed_seats test P xs passed)
-  where
-    of_test : (t : Bool) → test x ≡ t → AllAre P (filter test xs) → AllAre P (cond t (x ∷ filter test xs) (filter test xs))
-    of_test true e rest = (passed x e, rest)
-    of_test false e rest = rest
 
 not_true : (t : Bool) → not t ≡ true → t ≡ false
 not_true true e = let no : ⊥ = cc in absurd no
@@ -45,15 +36,16 @@ true_not : (t : Bool) → t ≡ false → not t ≡ true
 true_not true e = let no : ⊥ = cc in absurd no
 true_not false e = refl
 
-free_clear : (board : BoardParts) (end : End) (p : GridPoint) → end.is_free ≡ true → is_among (seats_of board end) p ≡ true → board.is_taken (doubled p) ≡ false
+-- a seat of a free end is of no walk, and that of a settled end is its point
+pub free_clear : (board : BoardParts) (end : End) (p : GridPoint) → end.is_free ≡ true → is_among (seats_of board end) p ≡ true → board.is_taken (doubled p) ≡ false
 free_clear board end p free among =
     all-at (λ r. board.is_taken (doubled r) ≡ false) p (filter (is_free_seat board end.at) (map (shifted end.at) shifts))
-    (passed_seats (is_free_seat board end.at) (λ r. board.is_taken (doubled r) ≡ false) (map (shifted end.at) shifts)
+    (all_passed (is_free_seat board end.at) (λ r. board.is_taken (doubled r) ≡ false) (map (shifted end.at) shifts)
     (λ r e. not_true (board.is_taken (doubled r)) (and_parts (is_inside board r && (are_one end.at r || not (board.is_node r))) (not (board.is_taken (doubled r))) e).1))
     (among_stands p (filter (is_free_seat board end.at) (map (shifted end.at) shifts))
     (subst (λ (t : Bool). is_among (cond t (filter (is_free_seat board end.at) (map (shifted end.at) shifts)) (end.at ∷ [])) p ≡ true) free among))
 
-settled_at : (board : BoardParts) (end : End) (p : GridPoint) → end.is_free ≡ false → is_among (seats_of board end) p ≡ true → p ≡ end.at
+pub settled_at : (board : BoardParts) (end : End) (p : GridPoint) → end.is_free ≡ false → is_among (seats_of board end) p ≡ true → p ≡ end.at
 settled_at board end p settled among =
     of_first (among_stands p (end.at ∷ []) (subst (λ (t : Bool). is_among (cond t (filter (is_free_seat board end.at) (map (shifted end.at) shifts)) (end.at ∷ [])) p ≡ true) settled among))
   where
@@ -105,7 +97,7 @@ clear_end board from to w among = of_free (bool_cases to.is_free)
         (and_from (not to.is_free) (are_one (doubled (end_point w)) (doubled (end_point w))) (true_not to.is_free settled) (one_same (doubled (end_point w)))))
 
 -- no middle is a doubled point
-odd_part : (d : Dir) → (east_of d ≢ pos 0) ⊎ (north_of d ≢ pos 0)
+pub odd_part : (d : Dir) → (east_of d ≢ pos 0) ⊎ (north_of d ≢ pos 0)
 odd_part dir.N = inr (λ h. cc)
 odd_part dir.NE = inr (λ h. cc)
 odd_part dir.E = inl (λ h. cc)
@@ -115,12 +107,12 @@ odd_part dir.SW = inr (λ h. cc)
 odd_part dir.W = inl (λ h. cc)
 odd_part dir.NW = inr (λ h. cc)
 
-data IsUnit : ℤ → Type 0 where
+pub data IsUnit : ℤ → Type 0 where
   none : IsUnit (pos 0)
   more : IsUnit (pos 1)
   less : IsUnit (negsuc 0)
 
-east_unit : (d : Dir) → IsUnit (east_of d)
+pub east_unit : (d : Dir) → IsUnit (east_of d)
 east_unit dir.N = none
 east_unit dir.NE = more
 east_unit dir.E = more
@@ -130,7 +122,7 @@ east_unit dir.SW = less
 east_unit dir.W = less
 east_unit dir.NW = less
 
-north_unit : (d : Dir) → IsUnit (north_of d)
+pub north_unit : (d : Dir) → IsUnit (north_of d)
 north_unit dir.N = more
 north_unit dir.NE = more
 north_unit dir.E = none

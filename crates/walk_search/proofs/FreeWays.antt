@@ -6,7 +6,7 @@ use Rattle.octi_grid.specs.declared.dir.Dir.{Dir}
 use Rattle.octi_grid.specs.declared.point.GridPoint.{GridPoint}
 use Rattle.octi_grid.specs.Ways.{after, doubled, doubled_from, points_from, step_from}
 use Rattle.octi_grid.specs.Walks.{PlainWalk}
-use Rattle.walk_search.specs.Boards.{BoardParts, is_inside}
+use Rattle.grid_board.specs.Boards.{BoardParts, is_inside}
 use Rattle.walk_search.specs.Routes.{inner_points}
 use Rattle.walk_search.specs.Moves.{is_open, is_passable}
 

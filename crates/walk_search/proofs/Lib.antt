@@ -1,8 +1,4 @@
 mod Examples
-pub mod Within
-pub mod Marks
-pub mod Ways
-pub mod OnBoards
 pub mod Turning
 pub mod LeastReach
 pub mod Numbered
@@ -16,3 +12,7 @@ pub mod FreePaths
 pub mod FreeWalks
 pub mod Routing
 pub mod Offered
+pub mod Best
+pub mod Crossing
+pub mod Cutting
+pub mod Once

@@ -9,7 +9,7 @@ use Rattle.octi_grid.specs.Legal.{is_among}
 use Rattle.octi_grid.proofs.CostLemmas.{step_cost_small, turn_small}
 use Rattle.state_search.specs.Goals.{IsSpace}
 use Rattle.walk_search.specs.declared.spots.Spot.{Spot}
-use Rattle.walk_search.specs.Boards.{is_inside}
+use Rattle.grid_board.specs.Boards.{is_inside}
 use Rattle.walk_search.specs.Seats.{seat_cost}
 use Rattle.walk_search.specs.Routes.{allows}
 use Rattle.walk_search.specs.Reaching.{reach_of}

@@ -3,11 +3,11 @@ use Rattle.std.proofs.Common.{◌≡◌, ◌≢◌, refl, sym, ◌∙◌, ap, ap
 use Rattle.std.specs.Prelude.{IfSome}
 use Rattle.std.proofs.lemmas.Bool.{ne_eqb, eq-eqb, eqb-true, cases_eq}
 use Rattle.octi_grid.specs.declared.point.GridPoint.{GridPoint}
-use Rattle.walk_search.specs.declared.bounds.Bounds.{Bounds}
+use Rattle.grid_board.specs.declared.bounds.Bounds.{Bounds}
 use Rattle.walk_search.specs.declared.spots.Spot.{Spot}
-use Rattle.walk_search.specs.Boards.{AreBounds, cells_of, cell_of, point_of}
+use Rattle.grid_board.specs.Boards.{AreBounds, cells_of, cell_of, point_of}
 use Rattle.walk_search.specs.Spots.{IsSpot, number_of_spot, spots_of, spot_of}
-use Rattle.walk_search.proofs.Within.{inside_facts, inside_test, point_below, point_inside, point_of-cell, cell_of-point, frame_of}
+use Rattle.grid_board.proofs.Within.{inside_facts, inside_test, point_below, point_inside, point_of-cell, cell_of-point, frame_of}
 
 parts : (cell a g : ℕ) → a < 9 → g < 10 → ((((cell * 9 + a) * 10 + g) / 90) ≡ cell) × (((((cell * 9 + a) * 10 + g) / 10) % 9) ≡ a) × ((((cell * 9 + a) * 10 + g) % 10) ≡ g)
 parts cell a g h k = (omega arith, omega arith, omega arith)

@@ -10,16 +10,16 @@ use Rattle.octi_grid.specs.Ways.{CanStep, are_one, reverse_of, step_from}
 use Rattle.octi_grid.proofs.WayLemmas.{east_small, north_small}
 use Rattle.state_search.specs.Searching.{AreLowered, IsLowered}
 use Rattle.state_search.proofs.Lowering.{lowered_both}
-use Rattle.walk_search.specs.declared.bounds.Bounds.{Bounds}
+use Rattle.grid_board.specs.declared.bounds.Bounds.{Bounds}
 use Rattle.walk_search.specs.declared.spots.Spot.{Spot}
-use Rattle.walk_search.specs.Boards.{AreBounds, contains}
+use Rattle.grid_board.specs.Boards.{AreBounds, contains}
 use Rattle.walk_search.specs.Seats.{seat_cost}
 use Rattle.walk_search.specs.Routes.{allows}
 use Rattle.walk_search.specs.Reaching.{reach_of}
 use Rattle.walk_search.specs.Spots.{IsSpot, number_of_spot, spots_of}
 use Rattle.walk_search.specs.Moves.{Question, direction, end_cost, ends_of, group_of, is_open, is_start, may_end, space_of, spot_ahead, start_at, starts_of}
 use Rattle.walk_search.specs.Offers.{arrival_offer, back_offers, end_offer, end_spot, offer_where, passing_offers, seat_offer, seat_offers, spot_offers, start_offers}
-use Rattle.walk_search.proofs.Within.{inside_facts}
+use Rattle.grid_board.proofs.Within.{inside_facts}
 use Rattle.walk_search.proofs.Numbered.{spot_of-none, spot_of-number}
 use Rattle.walk_search.proofs.SeatFacts.{among_stands, seats_cheap}
 use Rattle.walk_search.proofs.Moving.{end_among, end_cost_parts}

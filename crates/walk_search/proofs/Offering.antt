@@ -10,13 +10,13 @@ use Rattle.octi_grid.specs.Costs.{step_cost}
 use Rattle.state_search.specs.Searching.{OfferGoals, OfferSteps}
 use Rattle.state_search.proofs.Standing.{IsStepOffer, goals_stand, steps_stand}
 use Rattle.walk_search.specs.declared.spots.Spot.{Spot}
-use Rattle.walk_search.specs.Boards.{is_inside}
+use Rattle.grid_board.specs.Boards.{is_inside}
 use Rattle.walk_search.specs.Seats.{seat_cost}
 use Rattle.walk_search.specs.Routes.{allows}
 use Rattle.walk_search.specs.Spots.{IsSpot, number_of_spot, spots_of, spot_of}
 use Rattle.walk_search.specs.Moves.{Question, IsQuestion, IsMove, direction, end_at, end_cost, ends_of, group_of, is_open, is_passable, is_start, may_leave, move_of, space_of, start_at, starts_of, turn_from}
 use Rattle.walk_search.specs.Offers.{arrival_offer, arrival_offers, back_offers, end_offer, end_offers, end_spot, offer_where, passing_offers, seat_offer, seat_offers, spot_offers, start_offers}
-use Rattle.walk_search.proofs.Marks.{one_same, one_true}
+use Rattle.grid_board.proofs.Marks.{one_same, one_true}
 use Rattle.walk_search.proofs.Numbered.{IsSpotOf, number_below_spots, spot_of-number, spot_of-is, spot_of-none, none_is_last}
 use Rattle.walk_search.proofs.Turning.{step_back, step_there}
 use Rattle.walk_search.proofs.SeatFacts.{all_index, among_stands, place_of, seats_inside}

@@ -8,7 +8,7 @@ use Rattle.state_search.specs.Searching.{AreLowered, IsLowered, IsSearch, known_
 use Rattle.state_search.proofs.Lowering.{lowered_both, lowered_more}
 use Rattle.walk_search.specs.Spots.{spots_of}
 use Rattle.walk_search.specs.Moves.{Question, IsQuestion, space_of}
-use Rattle.walk_search.proofs.Within.{few_cells}
+use Rattle.grid_board.proofs.Within.{few_cells}
 
 range_more : (a n : ℕ) → range_with_len a (suc n) ≡ range_with_len a n ++ (a + n) ∷ []
 range_more a zero = let same : a ≡ a + 0 = omega arith in ap (λ x. x ∷ []) same

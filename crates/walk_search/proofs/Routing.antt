@@ -17,15 +17,15 @@ use Rattle.state_search.specs.Goals.{PathTo, IsLeastPathTo}
 use Rattle.state_search.proofs.Dictionaries.{by_head, not_after, same_lists_both}
 use Rattle.state_search.proofs.Visiting.{short_enough}
 use Rattle.walk_search.specs.declared.ends.End.{End}
-use Rattle.walk_search.specs.Boards.{BoardParts}
+use Rattle.grid_board.specs.Boards.{BoardParts}
 use Rattle.walk_search.specs.Seats.{is_free_seat, seats_of, shifted, shifts}
 use Rattle.walk_search.specs.Routes.{best_of, directions, free_walks, is_first, is_free, is_lower, is_no_worse, lists_upto, most_steps, route, total_of, walks_from}
 use Rattle.walk_search.specs.Spots.{spots_of}
 use Rattle.walk_search.specs.Moves.{Question, IsQuestion, direction, space_of, start_at, starts_of}
 use Rattle.walk_search.specs.Walked.{AreSteps, IsAnswer, walk_of_labels}
-use Rattle.walk_search.proofs.Marks.{one_is, one_true}
+use Rattle.grid_board.proofs.Marks.{one_is, one_true}
 use Rattle.walk_search.proofs.Turning.{direction-number_of, number_of-direction}
-use Rattle.walk_search.proofs.SeatFacts.{all_index, place_stands}
+use Rattle.walk_search.proofs.SeatFacts.{all_index, all_passed, place_stands}
 use Rattle.walk_search.proofs.Moving.{is_space}
 use Rattle.walk_search.proofs.Walking.{AreLabelsOfWalk, path_labels}
 use Rattle.walk_search.proofs.FreeWalks.{HasPath, IsPathWalk, path_of_walk, walk_of_path}
@@ -156,7 +156,7 @@ numbers_back : (ls : List ℕ) (q : Question) (p : GridPoint) → AreSteps q p l
 numbers_back [] q p h = refl
 numbers_back (l ∷ ls) q p h = ap₂ (λ (x : ℕ) (xs : List ℕ). x ∷ xs) (number_of-direction l h.0) (numbers_back ls q _ h.2)
 
-directions_back : (ds : List Dir) → map direction (map number_of ds) ≡ ds
+pub directions_back : (ds : List Dir) → map direction (map number_of ds) ≡ ds
 directions_back [] = refl
 directions_back (d ∷ ds) = ap₂ (λ (x : Dir) (xs : List Dir). x ∷ xs) (direction-number_of d) (directions_back ds)
 
@@ -250,7 +250,7 @@ better q h i l ls k below steps least v free = record { no_worse = no_worse (cas
     alone (inr tie) = of_tie (first (sym tie.0)) (or_cases (is_lower v.start w.start) (are_one v.start w.start && is_not_after (map number_of v.steps) (map number_of w.steps)) tie.1)
 
 -- and is one of the free walks that are looked at
-a_direction : (d : Dir) → StandsIn d directions
+pub a_direction : (d : Dir) → StandsIn d directions
 a_direction dir.N = inl refl
 a_direction dir.NE = inr (inl refl)
 a_direction dir.E = inr (inr (inl refl))
@@ -277,15 +277,7 @@ stands_passed test w (v ∷ vs) e (inr h) = of_test (test v) (stands_passed test
     of_test true later = inr later
     of_test false later = later
 
-all_passed : (test : PlainWalk → Bool) (P : PlainWalk → Type 0) (ws : List PlainWalk) → ((w : PlainWalk) → test w ≡ true → P w) → AllAre P (filter test ws)
-all_passed test P [] passed = tt
-all_passed test P (v ∷ vs) passed = of_test (test v) refl (all_passed test P vs passed)
-  where
-    of_test : (t : Bool) → test v ≡ t → AllAre P (filter test vs) → AllAre P (cond t (v ∷ filter test vs) (filter test vs))
-    of_test true e rest = (passed v e, rest)
-    of_test false e rest = rest
-
-length-directions : (ls : List ℕ) → length (map direction ls) ≡ length ls
+pub length-directions : (ls : List ℕ) → length (map direction ls) ≡ length ls
 length-directions [] = refl
 length-directions (l ∷ ls) = ap suc (length-directions ls)
 

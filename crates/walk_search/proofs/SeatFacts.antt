@@ -1,19 +1,19 @@
 -- Seats lie on the board, cost little, and are few.
-use Rattle.std.proofs.Common.{◌≡◌, refl, sym, ◌∙◌, ap, subst, ℕ, zero, suc, ◌+◌, ◌<◌, ◌≤◌, ◌⊎◌, inl, inr, Bool, true, false, cond, not, ◌&&◌, ◌||◌, List, [], ◌∷◌, ◌++◌, length, get_or, drop, map, filter, append_assoc, ℤ, pos, negsuc, ◌+ℤ◌, ◌-ℤ◌, arith}
+use Rattle.std.proofs.Common.{◌≡◌, refl, sym, ◌∙◌, ap, subst, ℕ, zero, suc, ◌+◌, ◌%◌, ◌<◌, ◌≤◌, ◌⊎◌, inl, inr, Bool, true, false, cond, eqb, not, ◌&&◌, ◌||◌, List, [], ◌∷◌, ◌++◌, length, get_or, drop, map, filter, append_assoc, ℤ, pos, negsuc, ◌+ℤ◌, ◌-ℤ◌, arith}
 use Rattle.std.specs.Prelude.{unsigned_abs}
 use Rattle.std.proofs.lemmas.Int.{ints}
 use Rattle.std.proofs.lemmas.List.{drop_more}
-use Rattle.std.proofs.lemmas.Bool.{and_parts}
-use Rattle.least_path.proofs.Chosen.{StandsIn, AllAre}
+use Rattle.std.proofs.lemmas.Bool.{and_from, and_parts, eq-eqb, eqb-true}
+use Rattle.least_path.proofs.Chosen.{StandsIn, AllAre, all-at}
 use Rattle.octi_grid.specs.declared.point.GridPoint.{GridPoint}
 use Rattle.octi_grid.specs.Ways.{are_one, doubled}
-use Rattle.octi_grid.specs.Legal.{is_among}
+use Rattle.octi_grid.specs.Legal.{is_among, is_even}
 use Rattle.walk_search.specs.declared.ends.End.{End}
-use Rattle.walk_search.specs.Boards.{BoardParts, is_inside}
+use Rattle.grid_board.specs.Boards.{BoardParts, IsBoard, is_inside}
 use Rattle.walk_search.specs.Seats.{is_free_seat, kept_seat, seat_cost, seats_of, shifted, shifts}
-use Rattle.walk_search.proofs.Marks.{one_true, one_is}
+use Rattle.grid_board.proofs.Marks.{one_true, one_is}
 
-all_filter : {X : Type 0} (test : X → Bool) (P : X → Type 0) (xs : List X) → AllAre P xs → AllAre P (filter test xs)
+pub all_filter : {X : Type 0} (test : X → Bool) (P : X → Type 0) (xs : List X) → AllAre P xs → AllAre P (filter test xs)
 all_filter test P [] all = tt
 all_filter {X = X} test P (x ∷ xs) all = of_test (test x) (all_filter test P xs all.1)
   where
@@ -21,7 +21,7 @@ all_filter {X = X} test P (x ∷ xs) all = of_test (test x) (all_filter test P x
     of_test true rest = (all.0, rest)
     of_test false rest = rest
 
-all_passed : {X : Type 0} (test : X → Bool) (P : X → Type 0) (xs : List X) → ((x : X) → test x ≡ true → P x) → AllAre P (filter test xs)
+pub all_passed : {X : Type 0} (test : X → Bool) (P : X → Type 0) (xs : List X) → ((x : X) → test x ≡ true → P x) → AllAre P (filter test xs)
 all_passed test P [] passed = tt
 all_passed {X = X} test P (x ∷ xs) passed = of_test (test x) refl (all_passed test P xs passed)
   where
@@ -135,6 +135,33 @@ seats_few board end = of_free end.is_free
     of_free : (t : Bool) → length (cond t (filter (is_free_seat board end.at) (map (shifted end.at) shifts)) (end.at ∷ [])) ≤ 9
     of_free true = filter_few (is_free_seat board end.at) (map (shifted end.at) shifts)
     of_free false = omega arith
+
+-- each seat is even, as the nodes of a board are
+even_shift : (home : GridPoint) (a b : ℤ) → is_even home ≡ true → unsigned_abs a % 2 ≡ 0 → unsigned_abs b % 2 ≡ 0 → is_even (shifted home (a, b)) ≡ true
+even_shift home a b e f g =
+    let both = and_parts (eqb (unsigned_abs home.x % 2) 0) (eqb (unsigned_abs home.y % 2) 0) e in
+    and_from (eqb (unsigned_abs (home.x +ℤ a) % 2) 0) (eqb (unsigned_abs (home.y +ℤ b) % 2) 0)
+    (eq-eqb (unsigned_abs (home.x +ℤ a) % 2) 0 (even_sum home.x a (eqb-true (unsigned_abs home.x % 2) 0 both.0) f))
+    (eq-eqb (unsigned_abs (home.y +ℤ b) % 2) 0 (even_sum home.y b (eqb-true (unsigned_abs home.y % 2) 0 both.1) g))
+  where
+    even_sum : (y z : ℤ) → unsigned_abs y % 2 ≡ 0 → unsigned_abs z % 2 ≡ 0 → unsigned_abs (y +ℤ z) % 2 ≡ 0
+    even_sum y z h k = omega (arith, ints)
+
+seats_even : (board : BoardParts) (end : End) → is_even end.at ≡ true → AllAre (λ p. is_even p ≡ true) (seats_of board end)
+seats_even board end e = of_free end.is_free
+  where
+    shift : (a b : ℤ) → unsigned_abs a % 2 ≡ 0 → unsigned_abs b % 2 ≡ 0 → is_even (shifted end.at (a, b)) ≡ true
+    shift a b f g = even_shift end.at a b e f g
+
+    of_free : (t : Bool) → AllAre (λ p. is_even p ≡ true) (cond t (filter (is_free_seat board end.at) (map (shifted end.at) shifts)) (end.at ∷ []))
+    of_free true =
+        all_filter (is_free_seat board end.at) (λ p. is_even p ≡ true) (map (shifted end.at) shifts)
+        (shift (negsuc 1) (negsuc 1) refl refl, (shift (pos 0) (negsuc 1) refl refl, (shift (pos 2) (negsuc 1) refl refl, (shift (negsuc 1) (pos 0) refl refl, (shift (pos 0) (pos 0) refl refl, (shift (pos 2) (pos 0) refl refl, (shift (negsuc 1) (pos 2) refl refl, (shift (pos 0) (pos 2) refl refl, (shift (pos 2) (pos 2) refl refl, tt)))))))))
+    of_free false = (e, tt)
+
+pub among_even : (board : BoardParts) (end : End) (p : GridPoint) → IsBoard board → board.is_node end.at ≡ true → is_among (seats_of board end) p ≡ true → is_even p ≡ true
+among_even board end p h node among =
+    all-at (λ r. is_even r ≡ true) p (seats_of board end) (seats_even board end (h.nodes_even end.at node)) (among_stands p (seats_of board end) among)
 
 -- a seat that is kept at a place lies on the board
 pub seat_is_inside : (board : BoardParts) (end : End) (seats : List GridPoint) (i : ℕ) (p : GridPoint) → is_inside board end.at ≡ true → seats ≡ seats_of board end → i < length (seats_of board end) →

@@ -12,7 +12,7 @@ use Rattle.state_search.specs.Goals.{PathTo, IsLeastPathTo}
 use Rattle.state_search.specs.Searching.{IsFound, IsSearched, known_at}
 use Rattle.state_search.proofs.Walks.{IsLed, IsNext, ends_or_goes_on, next_is_nearer, walk_begins, walk_ends, walk_goes_on}
 use Rattle.walk_search.specs.declared.spots.Spot.{Spot}
-use Rattle.walk_search.specs.Boards.{is_inside}
+use Rattle.grid_board.specs.Boards.{is_inside}
 use Rattle.walk_search.specs.Spots.{spots_of, spot_of}
 use Rattle.walk_search.specs.Moves.{Question, IsQuestion, IsMove, direction, end_cost, space_of, spot_ahead, starts_of, start_at}
 use Rattle.walk_search.specs.Walked.{AreLabelsOf, AreSteps, IsLeastMove, KeepsCost, StopsAt, walk_of_labels}

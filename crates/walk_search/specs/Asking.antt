@@ -1,6 +1,6 @@
 -- What is asked of a search, as it is kept.
 use Rattle.walk_search.specs.declared.asked.Asked.{Asked}
-use Rattle.walk_search.specs.Boards.{parts_of}
+use Rattle.grid_board.specs.Boards.{parts_of}
 use Rattle.walk_search.specs.Moves.{Question}
 
 -- the question that is kept

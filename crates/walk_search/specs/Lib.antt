@@ -1,6 +1,3 @@
-pub mod Boards
-pub mod Frames
-pub mod Taking
 pub mod Seats
 pub mod Routes
 pub mod Reaching

@@ -9,7 +9,7 @@ use Rattle.octi_grid.specs.Legal.{is_among}
 use Rattle.state_search.specs.Goals.{Space}
 use Rattle.walk_search.specs.declared.ends.End.{End}
 use Rattle.walk_search.specs.declared.spots.Spot.{Spot}
-use Rattle.walk_search.specs.Boards.{BoardParts, IsBoard, is_inside}
+use Rattle.grid_board.specs.Boards.{BoardParts, IsBoard, is_inside}
 use Rattle.walk_search.specs.Seats.{seats_of, seat_cost}
 use Rattle.walk_search.specs.Routes.{allows, directions}
 use Rattle.walk_search.specs.Reaching.{reach_of}

@@ -11,7 +11,7 @@ use Rattle.octi_grid.specs.Ways.{are_one, doubled, number_of}
 use Rattle.octi_grid.specs.Walks.{PlainWalk, points_of, doubled_of, end_point, start_port, end_port, cost_of}
 use Rattle.octi_grid.specs.Legal.{is_among}
 use Rattle.walk_search.specs.declared.ends.End.{End}
-use Rattle.walk_search.specs.Boards.{BoardParts, is_inside, cells_of}
+use Rattle.grid_board.specs.Boards.{BoardParts, is_inside, cells_of}
 use Rattle.walk_search.specs.Seats.{seats_of, seat_cost}
 
 -- there is a port, and the mask allows it by the bit of its direction

@@ -3,7 +3,7 @@ use Rattle.std.specs.Prelude.{ℕ, ◌+◌, ◌*◌, ◌||◌, ◌&&◌, Bool, n
 use Rattle.octi_grid.specs.declared.point.GridPoint.{GridPoint}
 use Rattle.octi_grid.specs.Ways.{are_one, doubled}
 use Rattle.walk_search.specs.declared.ends.End.{End}
-use Rattle.walk_search.specs.Boards.{BoardParts, is_inside}
+use Rattle.grid_board.specs.Boards.{BoardParts, is_inside}
 
 -- a point so far east and north of another
 abbrev pub shifted : GridPoint → ℤ × ℤ → GridPoint

@@ -1,8 +1,8 @@
 -- Where a walk under way stands, and the numbers of these spots.
 use Rattle.std.specs.Prelude.{◌≡◌, ℕ, ◌+◌, ◌*◌, ◌/◌, ◌%◌, ◌<◌, ◌==◌, true, if◌then◌else◌, Option, Some, None}
 use Rattle.walk_search.specs.declared.spots.Spot.{Spot}
-use Rattle.walk_search.specs.declared.bounds.Bounds.{Bounds}
-use Rattle.walk_search.specs.Boards.{cells_of, cell_of, contains, point_of}
+use Rattle.grid_board.specs.declared.bounds.Bounds.{Bounds}
+use Rattle.grid_board.specs.Boards.{cells_of, cell_of, contains, point_of}
 
 -- a spot lies on the board, and has a direction of arrival or 8, and one of ten groups
 pub record IsSpot (b : Bounds) (s : Spot) : Type 0 where

@@ -5,7 +5,7 @@ use Rattle.octi_grid.specs.Ways.{step_from}
 use Rattle.octi_grid.specs.Walks.{PlainWalk}
 use Rattle.state_search.specs.Goals.{PathTo, IsLeastPathTo}
 use Rattle.state_search.specs.Searching.{known_at}
-use Rattle.walk_search.specs.Boards.{is_inside}
+use Rattle.grid_board.specs.Boards.{is_inside}
 use Rattle.walk_search.specs.Spots.{spots_of}
 use Rattle.walk_search.specs.Moves.{Question, IsMove, direction, start_at, space_of}
 

@@ -5,16 +5,16 @@ ghost use Rattle.octi_grid.specs.Ways.{CanStep, doubled, step_from};
 ghost use Rattle.walk_search.specs.Reaching.{reach_of};
 ghost use Rattle.walk_search.specs.Routes.{allows};
 ghost use Rattle.walk_search.specs.Seats.{seat_cost};
-ghost use Rattle.walk_search.specs.Boards.{is_inside, parts_of};
+ghost use Rattle.grid_board.specs.Boards.{is_inside, parts_of};
 ghost use Rattle.walk_search.specs.Spots.{IsSpot, number_of_spot, spot_of, spots_of};
 ghost use Rattle.walk_search.specs.Moves.{IsAsked, IsQuestion, chosen_seat, direction, end_at, end_cost, ends_of, group_of, is_end, is_open, is_other_end, is_own_start, is_passable, is_shared_start, is_start, may_end, may_leave, start_at, starts_of, stepped, turn_from};
 
-use crate::board::Board;
 use crate::directions::{allows, direction};
 use crate::ends::End;
 use crate::reaching::reach;
 use crate::seats::{are_one, doubled_within, is_among, is_clear, seat_cost, seats_of};
 use crate::spots::{Spot, number_of_spot, spot_of, spots_of};
+use grid_board::Board;
 use map_base::NoMemory;
 use octi_grid::{Dir, GridPoint, step_cost, turn_cost};
 use std::alloc::Global;

@@ -2,16 +2,16 @@
 
 ghost use Rattle.std.specs.Prelude.{◌≡◌, ◌≢◌, IfOk, true, false};
 ghost use Rattle.walk_search.specs.Routes.{route};
-ghost use Rattle.walk_search.specs.Boards.{parts_of};
+ghost use Rattle.grid_board.specs.Boards.{parts_of};
 ghost use Rattle.walk_search.specs.Moves.{is_all_or_none};
 
 use crate::asked::Asked;
-use crate::board::Board;
 use crate::ends::End;
 use crate::known::Known;
 use crate::search::note_costs;
 use crate::spots::spots_of;
 use crate::walk::walk;
+use grid_board::Board;
 use map_base::NoMemory;
 use octi_grid::{GridPoint, Walk};
 use std::alloc::Global;

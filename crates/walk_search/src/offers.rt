@@ -4,7 +4,7 @@ ghost use Rattle.std.specs.Prelude.{◌≡◌, ◌+◌, ◌*◌, ◌<◌, ◌≤
 ghost use Rattle.std.specs.BinaryHeap.{IsHeap, heap_items};
 ghost use Rattle.octi_grid.specs.Ways.{CanStep, are_one};
 ghost use Rattle.state_search.specs.Searching.{AreLowered, IsLowered, queue_cmp};
-ghost use Rattle.walk_search.specs.Boards.{is_inside};
+ghost use Rattle.grid_board.specs.Boards.{is_inside};
 ghost use Rattle.walk_search.specs.Spots.{IsSpot, number_of_spot, spot_of, spots_of};
 ghost use Rattle.walk_search.specs.Asking.{question};
 ghost use Rattle.walk_search.specs.Moves.{ends_of, group_of, space_of, start_at, starts_of};

@@ -1,14 +1,13 @@
 //! The seats of an end.
 
 ghost use Rattle.std.specs.Prelude.{◌≡◌, ◌<◌, ◌≤◌, ◌^◌, ◌||◌, ◌++◌, not, unsigned_abs, IfOk, OnOk, true, length};
-ghost use Rattle.walk_search.specs.Boards.{AreBounds, contains, doubled_bounds, is_inside, parts_of};
+ghost use Rattle.grid_board.specs.Boards.{AreBounds, contains, doubled_bounds, is_inside, parts_of};
 ghost use Rattle.walk_search.specs.Seats.{is_free_seat, kept_seat, seat_cost, seats_of, shifted};
 ghost use Rattle.octi_grid.specs.Ways.{CanStep, IsWithin, are_one, doubled};
 ghost use Rattle.octi_grid.specs.Legal.{is_among};
 
-use crate::board::Board;
-use crate::bounds::Bounds;
 use crate::ends::End;
+use grid_board::{Board, Bounds};
 use map_base::NoMemory;
 use octi_grid::GridPoint;
 use std::alloc::Global;

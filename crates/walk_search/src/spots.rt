@@ -1,10 +1,10 @@
 //! Where a walk under way stands, and the numbers of these spots.
 
 ghost use Rattle.std.specs.Prelude.{◌≡◌, ◌+◌, ◌<◌, ◌≤◌, true};
-ghost use Rattle.walk_search.specs.Boards.{contains, AreBounds};
+ghost use Rattle.grid_board.specs.Boards.{contains, AreBounds};
 ghost use Rattle.walk_search.specs.Spots.{number_of_spot, spot_of, spots_of};
 
-use crate::bounds::Bounds;
+use grid_board::Bounds;
 use octi_grid::GridPoint;
 
 /// Where a walk under way stands: its point; the number of the direction in which it came there, and 8 at its start;

@@ -1,7 +1,7 @@
 //! The walk along known costs.
 
 ghost use Rattle.std.specs.Prelude.{◌≡◌, ℕ, ◌+◌, ◌<◌, ◌≤◌, ◌↔◌, ◌∷◌, map, true, Some, IsTrue, IfOk, IfSome, IfNone, length};
-ghost use Rattle.walk_search.specs.Boards.{is_inside};
+ghost use Rattle.grid_board.specs.Boards.{is_inside};
 ghost use Rattle.walk_search.specs.Spots.{spot_of, spots_of};
 ghost use Rattle.state_search.specs.Searching.{IsSearched, known_at};
 ghost use Rattle.walk_search.specs.Asking.{question};

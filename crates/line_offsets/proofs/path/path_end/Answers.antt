@@ -1,7 +1,6 @@
-use Rattle.std.proofs.Common.{◌≡◌, w32, to_z, of_z, ap, sym, ◌∙◌}
+use Rattle.std.proofs.Common.{w32, to_z, of_z, ap, ◌∙◌}
 use Rattle.std.proofs.lemmas.Int.{to_z-of_z}
 use Rattle.octi_grid.specs.Walks.{last_of}
-use Rattle.octi_grid.specs.declared.dir.Dir.{Dir}
 use Rattle.octi_grid.specs.declared.point.GridPoint.{GridPoint}
 use Rattle.line_offsets.specs.Shifts.{moved, foot_of}
 use Rattle.line_offsets.specs.Paths.{path_end}

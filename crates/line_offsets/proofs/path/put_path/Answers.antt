@@ -1,17 +1,15 @@
-use Rattle.std.proofs.Common.{◌≡◌, ◌+◌, ◌++◌, drop, ap, sym, ◌∙◌, subst, List, [], ◌∷◌, append-nil, w32, to_z, of_z, arith}
+use Rattle.std.proofs.Common.{◌+◌, ◌++◌, drop, ap, sym, ◌∙◌, subst, List, append-nil, w32, to_z, of_z, arith}
 use Rattle.std.proofs.lemmas.List.{at_drop_all}
 use Rattle.std.proofs.lemmas.Int.{to_z-of_z}
 use Rattle.octi_grid.specs.declared.walk.Run.{Run}
 use Rattle.std.specs.List.{AllByRecursion}
-use Rattle.octi_grid.specs.declared.dir.Dir.{Dir}
 use Rattle.octi_grid.specs.declared.point.GridPoint.{GridPoint}
 use Rattle.octi_grid.specs.Ways.{points_from, IsWithin}
-use Rattle.octi_grid.specs.Runs.{are_runs, steps_of}
+use Rattle.octi_grid.specs.Runs.{steps_of}
 use Rattle.octi_grid.proofs.WayLemmas.{first_of-points, run_short}
 use Rattle.octi_grid.proofs.RunLemmas.{points_of_rest, points_of_run}
-use Rattle.line_offsets.specs.declared.corner.Corner.{Corner}
 use Rattle.line_offsets.specs.Paths.{corners_from, line_path}
-use Rattle.line_offsets.proofs.Paths.{corner_more, path_begins}
+use Rattle.line_offsets.proofs.Paths.{corner_more}
 use Rattle.line_offsets.proofs.path.put_path.Goals as goal
 
 pub run_end-at-requires-clause-at : goal.run_end-at-requires-clause-at

@@ -1,5 +1,5 @@
 use Rattle.std.proofs.Common.{◌≡◌, ℤ, ◌+ℤ◌, ◌-ℤ◌, w64, to_z, of_z, ap, ◌∙◌, arith}
-use Rattle.std.proofs.lemmas.Int.{ints, to_z-of_z}
+use Rattle.std.proofs.lemmas.Int.{ints}
 use Rattle.line_offsets.specs.Shifts.{half}
 use Rattle.line_offsets.proofs.shift.diagonals_meet.Goals as goal
 

@@ -1,8 +1,8 @@
 use Rattle.std.proofs.Common.{◌≡◌, sym, ◌∙◌, ap, ℕ, ◌+◌, Option, None, replicate}
 use Rattle.std.proofs.lemmas.Result.{IfOk-weaker}
 use Rattle.octi_grid.specs.Walks.{PlainWalk}
-use Rattle.walk_search.specs.declared.bounds.Bounds.{Bounds}
-use Rattle.walk_search.specs.Boards.{parts_of}
+use Rattle.grid_board.specs.declared.bounds.Bounds.{Bounds}
+use Rattle.grid_board.specs.Boards.{parts_of}
 use Rattle.walk_search.specs.Asking.{question}
 use Rattle.walk_search.specs.Routes.{route}
 use Rattle.walk_search.specs.Spots.{spots_of}

@@ -4,7 +4,7 @@ use Rattle.std.proofs.lemmas.Result.{on_ok_weaker}
 use Rattle.octi_grid.specs.declared.point.GridPoint.{GridPoint}
 use Rattle.octi_grid.specs.Ways.{CanStep, step_from}
 use Rattle.walk_search.specs.Asking.{question}
-use Rattle.walk_search.proofs.Ways.{can_step}
+use Rattle.grid_board.proofs.Ways.{can_step}
 use Rattle.walk_search.proofs.Offered.{can_step_beside, offered_step}
 use Rattle.walk_search.proofs.offers.offer_from.Goals as goal
 

@@ -1,8 +1,8 @@
 use Rattle.std.proofs.Common.{◌≡◌, sym, subst, true}
 use Rattle.octi_grid.specs.declared.point.GridPoint.{GridPoint}
 use Rattle.octi_grid.specs.Ways.{CanStep}
-use Rattle.walk_search.specs.Boards.{contains, doubled_bounds}
-use Rattle.walk_search.proofs.Ways.{can_step, doubled_can_step, doubled_inside}
+use Rattle.grid_board.specs.Boards.{contains, doubled_bounds}
+use Rattle.grid_board.proofs.Ways.{can_step, doubled_can_step, doubled_inside}
 use Rattle.walk_search.proofs.seats.doubled_within.Goals as goal
 
 pub doubled-requires : goal.doubled-requires

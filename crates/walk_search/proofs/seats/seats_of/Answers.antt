@@ -1,6 +1,6 @@
 use Rattle.std.proofs.Common.{◌∙◌, ap, ◌++◌, filter, map, pos}
 use Rattle.octi_grid.specs.declared.point.GridPoint.{GridPoint}
-use Rattle.walk_search.specs.Boards.{parts_of}
+use Rattle.grid_board.specs.Boards.{parts_of}
 use Rattle.walk_search.specs.Seats.{is_free_seat, kept_seat, shifted, shifts}
 use Rattle.walk_search.proofs.SeatFacts.{seats_more}
 use Rattle.walk_search.proofs.seats.seats_of.Goals as goal

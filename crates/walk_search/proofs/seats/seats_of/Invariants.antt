@@ -1,5 +1,5 @@
 use Rattle.std.proofs.Common.{◌≡◌, ◌++◌, drop, filter, map}
-use Rattle.walk_search.specs.Boards.{parts_of}
+use Rattle.grid_board.specs.Boards.{parts_of}
 use Rattle.walk_search.specs.Seats.{is_free_seat, shifted, shifts}
 use Rattle.walk_search.proofs.seats.seats_of.Given as goal
 

@@ -1,5 +1,5 @@
 use Rattle.std.proofs.Common.{arith}
-use Rattle.walk_search.proofs.Within.{few_cells}
+use Rattle.grid_board.proofs.Within.{few_cells}
 use Rattle.walk_search.proofs.spots.spots_of.Goals as goal
 
 pub overflow_mul-result : goal.overflow_mul-result

@@ -6,7 +6,7 @@ use Rattle.octi_grid.specs.Walks.{PlainWalk, end_point}
 use Rattle.walk_search.specs.Asking.{question}
 use Rattle.walk_search.specs.Moves.{direction}
 use Rattle.walk_search.specs.Walked.{AreSteps}
-use Rattle.walk_search.proofs.Ways.{within_board}
+use Rattle.grid_board.proofs.Ways.{within_board}
 use Rattle.walk_search.proofs.Walking.{after_last, steps_left, walk_left}
 use Rattle.walk_search.proofs.walk.walk_from.Goals as goal
 

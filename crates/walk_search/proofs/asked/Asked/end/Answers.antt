@@ -1,5 +1,5 @@
 use Rattle.std.proofs.Common.{◌∙◌, ap, get_or}
-use Rattle.walk_search.specs.Boards.{parts_of}
+use Rattle.grid_board.specs.Boards.{parts_of}
 use Rattle.walk_search.proofs.SeatFacts.{seat_is_inside}
 use Rattle.walk_search.proofs.asked.Asked.end.Goals as goal
 

@@ -1,5 +1,5 @@
 use Rattle.std.proofs.Common.{◌<◌, ◌≤◌, length, arith}
-use Rattle.walk_search.specs.Boards.{parts_of}
+use Rattle.grid_board.specs.Boards.{parts_of}
 use Rattle.walk_search.specs.Seats.{seats_of}
 use Rattle.walk_search.proofs.SeatFacts.{seats_few}
 use Rattle.walk_search.proofs.asked.Asked.group_of.Goals as goal

@@ -1,9 +1,9 @@
 use Rattle.std.proofs.Common.{◌≡◌, sym, ◌∙◌, ap, subst, true}
 use Rattle.octi_grid.specs.declared.point.GridPoint.{GridPoint}
 use Rattle.octi_grid.specs.Ways.{step_from}
-use Rattle.walk_search.specs.declared.bounds.Bounds.{Bounds}
-use Rattle.walk_search.specs.Boards.{contains, doubled_bounds, parts_of}
-use Rattle.walk_search.proofs.Ways.{middle_inside}
+use Rattle.grid_board.specs.declared.bounds.Bounds.{Bounds}
+use Rattle.grid_board.specs.Boards.{contains, doubled_bounds, parts_of}
+use Rattle.grid_board.proofs.Ways.{middle_inside}
 use Rattle.walk_search.proofs.asked.Asked.is_middle_clear.Goals as goal
 
 pub is_taken-requires : goal.is_taken-requires

@@ -1,5 +1,5 @@
-use Rattle.walk_search.specs.Boards.{parts_of}
-use Rattle.walk_search.proofs.Ways.{within_board}
+use Rattle.grid_board.specs.Boards.{parts_of}
+use Rattle.grid_board.proofs.Ways.{within_board}
 use Rattle.walk_search.proofs.asked.Asked.new.Goals as goal
 
 pub seats_of-requires : goal.seats_of-requires

@@ -1,6 +1,6 @@
 use Rattle.std.proofs.Common.{◌∙◌, ap}
-use Rattle.walk_search.specs.declared.bounds.Bounds.{Bounds}
-use Rattle.walk_search.specs.Boards.{parts_of}
+use Rattle.grid_board.specs.declared.bounds.Bounds.{Bounds}
+use Rattle.grid_board.specs.Boards.{parts_of}
 use Rattle.walk_search.specs.Spots.{spot_of}
 use Rattle.walk_search.proofs.Numbered.{spots_on_board}
 use Rattle.walk_search.proofs.asked.Asked.spot_of.Goals as goal

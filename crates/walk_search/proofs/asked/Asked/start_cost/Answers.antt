@@ -1,9 +1,9 @@
 use Rattle.std.proofs.Common.{sym, ◌∙◌, ap, subst, ◌≤◌}
-use Rattle.walk_search.specs.Boards.{parts_of}
+use Rattle.grid_board.specs.Boards.{parts_of}
 use Rattle.walk_search.specs.Asking.{question}
 use Rattle.walk_search.specs.Seats.{seat_cost}
 use Rattle.walk_search.proofs.Moving.{start_cheap}
-use Rattle.walk_search.proofs.Ways.{within_board}
+use Rattle.grid_board.proofs.Ways.{within_board}
 use Rattle.walk_search.proofs.asked.Asked.start_cost.Goals as goal
 
 pub seat_cost-requires-clause-home : goal.seat_cost-requires-clause-home

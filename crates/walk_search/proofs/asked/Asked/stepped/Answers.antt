@@ -1,5 +1,5 @@
-use Rattle.walk_search.specs.Boards.{parts_of}
-use Rattle.walk_search.proofs.Ways.{can_step}
+use Rattle.grid_board.specs.Boards.{parts_of}
+use Rattle.grid_board.proofs.Ways.{can_step}
 use Rattle.walk_search.proofs.asked.Asked.stepped.Goals as goal
 
 pub step-requires : goal.step-requires

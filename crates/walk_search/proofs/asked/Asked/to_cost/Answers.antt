@@ -1,5 +1,5 @@
-use Rattle.walk_search.specs.Boards.{parts_of}
-use Rattle.walk_search.proofs.Ways.{within_board}
+use Rattle.grid_board.specs.Boards.{parts_of}
+use Rattle.grid_board.proofs.Ways.{within_board}
 use Rattle.walk_search.proofs.asked.Asked.to_cost.Goals as goal
 
 pub seat_cost-requires-clause-home : goal.seat_cost-requires-clause-home

@@ -1,0 +1,4 @@
+pub mod Within
+pub mod Marks
+pub mod Ways
+pub mod OnBoards

@@ -1,0 +1,10 @@
+pub mod Cells
+pub mod Nodes
+pub mod Homes
+pub mod Nearest
+pub mod Ports
+pub mod Orders
+pub mod Routes
+pub mod Underway
+pub mod Routing
+pub mod Tours

@@ -1,0 +1,14 @@
+//! Tests of walks: the least free walks on small boards and on a large one, what walks cost and where they end, a drawing
+//! that is legal and one that is not, and the homes and the drawing of a small graph.
+#![tactic(auto)]
+
+#[cfg(test)]
+mod boards;
+#[cfg(test)]
+mod drawing_tests;
+#[cfg(test)]
+mod route_tests;
+#[cfg(test)]
+mod small;
+#[cfg(test)]
+mod walk_tests;
