@@ -46,11 +46,11 @@ cost_word = record { no_space = (refl, (refl, (refl, (refl, tt)))); no_end = (re
 
 -- ---- each line at the front of its text
 
-version_read : (ps : List (LineId × ℕ)) (rest : List ℕ) → spoken_front (codes "octimap") version_of (version_text ps ++ rest) ≡ Some (texts.version_of ps, rest)
+pub version_read : (ps : List (LineId × ℕ)) (rest : List ℕ) → spoken_front (codes "octimap") version_of (version_text ps ++ rest) ≡ Some (texts.version_of ps, rest)
 version_read [] rest = spoken_again (codes "octimap") version_of (pos 1 ∷ []) 1 rest octimap_word (omega arith, tt) (version_again 1 (omega arith) (omega arith))
 version_read (p ∷ ps) rest = spoken_again (codes "octimap") version_of (pos 2 ∷ []) 2 rest octimap_word (omega arith, tt) (version_again 2 (omega arith) (omega arith))
 
-counts_read : (n : Counts) (rest : List ℕ) → n.nodes ≤ most_nodes → n.segs ≤ most_segs → n.lines ≤ most_lines → spoken_front (codes "graph") counts_of (counts_text n.nodes n.segs n.lines ++ rest) ≡ Some (n, rest)
+pub counts_read : (n : Counts) (rest : List ℕ) → n.nodes ≤ most_nodes → n.segs ≤ most_segs → n.lines ≤ most_lines → spoken_front (codes "graph") counts_of (counts_text n.nodes n.segs n.lines ++ rest) ≡ Some (n, rest)
 counts_read n rest a b c =
     spoken_again (codes "graph") counts_of (pos n.nodes ∷ pos n.segs ∷ pos n.lines ∷ []) n rest graph_word (omega (arith, a), (omega (arith, b), (omega (arith, c), tt))) (counts_again n a b c)
 
@@ -58,7 +58,7 @@ pair_numbers_few : (least : ℕ) (ps : List (LineId × ℕ)) → ArePairs least 
 pair_numbers_few least [] are = tt
 pair_numbers_few least (p ∷ rest) are = (omega (arith, are.1), (omega (arith, are.3), pair_numbers_few (suc p.0.0) rest are.4))
 
-importance_read : (p : LineId × ℕ) (ps : List (LineId × ℕ)) (rest : List ℕ) → ArePairs 0 (p ∷ ps) → spoken_front (codes "importance") importance_of (importance_text (p ∷ ps) ++ rest) ≡ Some (p ∷ ps, rest)
+pub importance_read : (p : LineId × ℕ) (ps : List (LineId × ℕ)) (rest : List ℕ) → ArePairs 0 (p ∷ ps) → spoken_front (codes "importance") importance_of (importance_text (p ∷ ps) ++ rest) ≡ Some (p ∷ ps, rest)
 importance_read p ps rest are =
     spoken_again (codes "importance") importance_of (pair_numbers (p ∷ ps)) (p ∷ ps) rest importance_word (pair_numbers_few 0 (p ∷ ps) are) (importance_again p ps are)
 
@@ -66,11 +66,11 @@ line_numbers_few : (ls : List LineId) → AllByRecursion (λ (l : LineId). l.0 �
 line_numbers_few [] few = tt
 line_numbers_few (l ∷ ls) few = (omega (arith, few.0), line_numbers_few ls few.1)
 
-order_read : (s : ℕ) (ls : List LineId) (rest : List ℕ) → s ≤ most_segs → IsOrder ls → spoken_front (codes "order") (order_of s) (order_text s ls ++ rest) ≡ Some (ls, rest)
+pub order_read : (s : ℕ) (ls : List LineId) (rest : List ℕ) → s ≤ most_segs → IsOrder ls → spoken_front (codes "order") (order_of s) (order_text s ls ++ rest) ≡ Some (ls, rest)
 order_read s ls rest few is =
     spoken_again (codes "order") (order_of s) (pos s ∷ line_numbers ls) ls rest order_word (omega (arith, few), line_numbers_few ls is.range) (order_again s ls is)
 
-cost_read : (k : ℕ) (rest : List ℕ) → k ≤ most_cost → spoken_front (codes "cost") cost_of (cost_text k ++ rest) ≡ Some (k, rest)
+pub cost_read : (k : ℕ) (rest : List ℕ) → k ≤ most_cost → spoken_front (codes "cost") cost_of (cost_text k ++ rest) ≡ Some (k, rest)
 cost_read k rest few = spoken_again (codes "cost") cost_of (pos k ∷ []) k rest cost_word (omega (arith, few), tt) (cost_again k few)
 
 -- ---- all of them, read again
@@ -102,7 +102,7 @@ orders_due_again s (o ∷ os) rest few are =
     ∙ orders_due_again (suc s) os rest (omega arith) are.1
 
 -- the parts of a certificate's text, one behind the other
-apart : (c : PlainCertificate) (rest : List ℕ)
+pub apart : (c : PlainCertificate) (rest : List ℕ)
     → head_text c ++ rest ≡ version_text c.importance ++ (counts_text c.nodes c.segs c.lines ++ (importance_text c.importance ++ (walks_text 0 c.walks ++ (orders_text 0 c.orders ++ (cost_text c.cost ++ rest)))))
 apart c rest =
     let b = counts_text c.nodes c.segs c.lines in

@@ -9,3 +9,4 @@ mod PathFacts
 mod NetworkFacts
 mod Whole
 mod Outcomes
+pub mod FeedLines

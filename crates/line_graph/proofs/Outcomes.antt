@@ -62,14 +62,14 @@ kind_known stations known p all = by_cases (slice_get_cases known p).1
         (subst (λ (s : StationId). s.0 < length stations) there.3 (all p there.0 there.1))
     by_cases (inr past) = subst (λ (o : Option StationId). IsKnown stations (kind_of o)) (sym past.1) tt
 
-passed : {A : Type 0} (b : Bool) (next : Result A Limit) (limit : Limit) (x : A) → cond b next (Err limit) ≡ Ok x → next ≡ Ok x
+pub passed : {A : Type 0} (b : Bool) (next : Result A Limit) (limit : Limit) (x : A) → cond b next (Err limit) ≡ Ok x → next ≡ Ok x
 passed true next limit x e = e
 passed false next limit x e = cc
 
-abbrev outcome_with : GraphParts → Result GraphParts Limit
+abbrev pub outcome_with : GraphParts → Result GraphParts Limit
 outcome_with parts = Ok parts
 
-same_parts : (a b : GraphParts) → outcome_with a ≡ outcome_with b → a ≡ b
+pub same_parts : (a b : GraphParts) → outcome_with a ≡ outcome_with b → a ≡ b
 same_parts a b same = cc
 
 -- the stations of a graph are those of the feed

@@ -1,6 +1,7 @@
 //! The line graph of a feed.
 
-ghost use Rattle.std.specs.Prelude.{◌≡◌, ◌≤◌, All, IfOk, IfErr, Ok};
+ghost use Rattle.std.specs.Prelude.{◌≡◌, ◌<◌, ◌≤◌, length, All, IfOk, IfErr, Ok};
+ghost use Rattle.map_base.specs.declared.ids.LineId.{LineId as Line};
 ghost use Rattle.track_net.specs.Laws.{HasOwnDirections, JoinsStations};
 ghost use Rattle.feed_courses.specs.Fit.{AreFit, AreServed};
 ghost use Rattle.way_network.specs.Graphs.{graph_over, graph_within};
@@ -32,8 +33,9 @@ pub fn build(alloc: Global, tables: &Tables, settings: &Settings) -> Result<Line
     ensures graph { IfOk result (λ graph. graph_outcome settings.now.near tables.now ≡ Ok graph) }
     ensures cause { IfErr result (λ fault. HasCause (graph_outcome settings.now.near tables.now) fault) }
 
-    // Its stations are stations of the tables.
+    // Its stations are stations of the tables, and its lines are lines of the tables.
     ensures stations { IfOk result (λ graph. All (IsKnown tables.now.stations) graph.kinds) }
+    ensures lines { IfOk result (λ graph. All (All (λ (a : Line). a.0 < length tables.now.lines)) graph.lines) }
 {
     let courses = courses_of(alloc, tables, settings.near)?;
     graph_of_courses(alloc, &courses, settings.near, tables.lines.len() as u32)

@@ -20,6 +20,7 @@ use Rattle.map_cli.specs.Inputs.{input_path}
 use Rattle.map_cli.specs.Answers.{alone, done, status_of, answer_by}
 use Rattle.map_cli.specs.Commands.{work}
 use Rattle.map_cli.specs.Following.{HasCause, ComesTo, Follows}
+use Rattle.map_cli.specs.Promises.{Keeps}
 use Rattle.map_cli.specs.Ending.{IsAnswerTo, IsLineOf, IsWritten, IsOutOfMemory, Ends, IsCaused, status_after}
 use Rattle.map_cli.proofs.FollowLemmas.{comes_to}
 
@@ -27,13 +28,14 @@ abbrev Told : Type 0
 Told = Option (List (List ℕ × List ℕ))
 
 -- outputs that a command came to are its answer
-pub finished_answer : (told : Told) (asked : Asked) (rose : Type 0) (outputs : List Output) (answer : Answer) → Follows told (input_path asked) rose (λ o. o) (work asked) (Ok outputs) → answer ≡ done outputs → IsAnswerTo (Some asked) told rose answer
-finished_answer told asked rose outputs answer follows is = (Ok outputs, follows, is)
+pub finished_answer : (told : Told) (asked : Asked) (rose : Type 0) (outputs : List Output) (answer : Answer) → Follows told (input_path asked) rose (λ (o : List Output). o) (work asked) (Ok outputs) → Keeps told asked (Ok outputs)
+    → answer ≡ done outputs → IsAnswerTo (Some asked) told rose answer
+finished_answer told asked rose outputs answer follows keeps is = (Ok outputs, follows, keeps, is)
 
 -- and so is the status of its refusal
 pub refused_answer : (told : Told) (asked : Asked) (rose : Type 0) (why : Refusal) (answer : Answer) → Follows told (input_path asked) rose (λ (o : List Output). o) (work asked) (Err why)
     → answer ≡ alone (status_of (input_path asked) why) → why ≢ refused.NoMemory → IsAnswerTo (Some asked) told rose answer
-refused_answer told asked rose why answer follows is free = (Err why, comes_to told (input_path asked) rose (λ (o : List Output). o) (work asked) why free follows, is)
+refused_answer told asked rose why answer follows is free = (Err why, comes_to told (input_path asked) rose (λ (o : List Output). o) (work asked) why free follows, tt, is)
 
 -- a status has a line
 some_line : (ended : Status) → (line : List ℕ) × IsLineOf ended line
@@ -52,7 +54,7 @@ unwritten answer rose old new ended out =
 -- the cause of the status of an answer
 answer_caused : (asked : Option Asked) (told : Told) (files_rose sinks_rose : Type 0) (answer : Answer) → IsAnswerTo asked told files_rose answer → IsCaused asked files_rose sinks_rose answer.status
 answer_caused None told files_rose sinks_rose answer is = subst (λ (a : Answer). IsCaused None files_rose sinks_rose a.status) (sym is) refl
-answer_caused (Some asked) told files_rose sinks_rose answer (result, comes, is) =
+answer_caused (Some asked) told files_rose sinks_rose answer (result, comes, keeps, is) =
     subst (λ (a : Answer). IsCaused (Some asked) files_rose sinks_rose a.status) (sym is) (by_result result comes)
   where
     read : Some asked ≢ None
@@ -61,7 +63,10 @@ answer_caused (Some asked) told files_rose sinks_rose answer (result, comes, is)
     by_result : (r : Result (List Output) Refusal) → ComesTo told (input_path asked) files_rose (work asked) r → IsCaused (Some asked) files_rose sinks_rose (answer_by (input_path asked) r).status
     by_result (Ok outputs) comes = read
     by_result (Err (refused.BadRow table row why)) comes = read
+    by_result (Err (refused.NoRoute seg)) comes = read
+    by_result (Err (refused.Spent component branches)) comes = read
     by_result (Err (refused.Limit limit)) comes = read
+    by_result (Err (refused.Refuted item)) comes = read
     by_result (Err (refused.ReadFault input)) comes = (comes.0, (asked, input, refl, refl, (comes.1.seen, comes.1.runs)))
     by_result (Err refused.NoMemory) comes = tt
 
@@ -96,7 +101,7 @@ unread_usage asked told files_rose sinks_rose old new ended none (inr out) = inr
 -- over files that are told the answer is the defined one, or names an input that was left unread
 pub told_answer : (asked : Asked) (files : List (List ℕ × List ℕ)) (rose : Type 0) (answer : Answer) → IsAnswerTo (Some asked) (Some files) rose answer
     → (answer ≡ answer_by (input_path asked) (outcome (work asked) (file_of files (input_path asked)))) ⊎ ((input : Input) × rose × (answer ≡ alone (status.ReadFault (input_path asked input))))
-told_answer asked files rose answer (result, comes, is) =
+told_answer asked files rose answer (result, comes, keeps, is) =
     by_case (told_outcome refused.ReadFault (work asked) (file_of files (input_path asked)) comes.1.seen result comes.1.are_told comes.1.runs)
   where
     by_case : (result ≡ outcome (work asked) (file_of files (input_path asked))) ⊎ ((input : Input) × (result ≡ Err (refused.ReadFault input)))

@@ -40,6 +40,9 @@ refusal_follows told paths rose first_view view work next refused.NoMemory first
 refusal_follows told paths rose first_view view work next (refused.ReadFault input) first = (first.0, refused_run refused.ReadFault told paths work next (refused.ReadFault input) first.1)
 refusal_follows told paths rose first_view view work next (refused.BadRow table row why) first = (tt, refused_run refused.ReadFault told paths work next (refused.BadRow table row why) first.1)
 refusal_follows told paths rose first_view view work next (refused.Limit limit) first = (tt, refused_run refused.ReadFault told paths work next (refused.Limit limit) first.1)
+refusal_follows told paths rose first_view view work next (refused.NoRoute seg) first = (tt, refused_run refused.ReadFault told paths work next (refused.NoRoute seg) first.1)
+refusal_follows told paths rose first_view view work next (refused.Spent component branches) first = (tt, refused_run refused.ReadFault told paths work next (refused.Spent component branches) first.1)
+refusal_follows told paths rose first_view view work next (refused.Refuted item) first = (tt, refused_run refused.ReadFault told paths work next (refused.Refuted item) first.1)
 
 pub follows_refused : {A B C D : Type 0} (told : Told) (paths : Input → List ℕ) (rose : Type 0) (first_view : A → B) (view : C → D) (work : Work Input Refusal B) (next : B → Work Input Refusal D) (why : Refusal) (result : Result C Refusal)
     → IsRefusedAs why result → Follows told paths rose first_view work (Err why) → Follows told paths rose view (work >>= next) result
@@ -58,6 +61,12 @@ follows_then told paths first_rose later rose first_view view work next value (E
     (tt, then_run refused.ReadFault told paths work next (first_view value) (Err (refused.BadRow table row why)) first.1 second.1)
 follows_then told paths first_rose later rose first_view view work next value (Err (refused.Limit limit)) widen first second =
     (tt, then_run refused.ReadFault told paths work next (first_view value) (Err (refused.Limit limit)) first.1 second.1)
+follows_then told paths first_rose later rose first_view view work next value (Err (refused.NoRoute seg)) widen first second =
+    (tt, then_run refused.ReadFault told paths work next (first_view value) (Err (refused.NoRoute seg)) first.1 second.1)
+follows_then told paths first_rose later rose first_view view work next value (Err (refused.Spent component branches)) widen first second =
+    (tt, then_run refused.ReadFault told paths work next (first_view value) (Err (refused.Spent component branches)) first.1 second.1)
+follows_then told paths first_rose later rose first_view view work next value (Err (refused.Refuted item)) widen first second =
+    (tt, then_run refused.ReadFault told paths work next (first_view value) (Err (refused.Refuted item)) first.1 second.1)
 
 -- what is given without reading is a piece of work that has come to its end
 pub gives_follows : {A B : Type 0} (told : Told) (paths : Input → List ℕ) (rose : Type 0) (view : A → B) (defined : Result B Refusal) (result : Result A Refusal)
@@ -70,6 +79,12 @@ gives_follows {A} {B} told paths rose view defined (Err (refused.BadRow table ro
     (tt, subst (λ (d : Result B Refusal). IsRun refused.ReadFault told paths (ends d) (Err (refused.BadRow table row why))) (sym gives) (ends_run refused.ReadFault told paths (Err (refused.BadRow table row why))))
 gives_follows {A} {B} told paths rose view defined (Err (refused.Limit limit)) gives =
     (tt, subst (λ (d : Result B Refusal). IsRun refused.ReadFault told paths (ends d) (Err (refused.Limit limit))) (sym gives) (ends_run refused.ReadFault told paths (Err (refused.Limit limit))))
+gives_follows {A} {B} told paths rose view defined (Err (refused.NoRoute seg)) gives =
+    (tt, subst (λ (d : Result B Refusal). IsRun refused.ReadFault told paths (ends d) (Err (refused.NoRoute seg))) (sym gives) (ends_run refused.ReadFault told paths (Err (refused.NoRoute seg))))
+gives_follows {A} {B} told paths rose view defined (Err (refused.Spent component branches)) gives =
+    (tt, subst (λ (d : Result B Refusal). IsRun refused.ReadFault told paths (ends d) (Err (refused.Spent component branches))) (sym gives) (ends_run refused.ReadFault told paths (Err (refused.Spent component branches))))
+gives_follows {A} {B} told paths rose view defined (Err (refused.Refuted item)) gives =
+    (tt, subst (λ (d : Result B Refusal). IsRun refused.ReadFault told paths (ends d) (Err (refused.Refuted item))) (sym gives) (ends_run refused.ReadFault told paths (Err (refused.Refuted item))))
 
 -- what a call that did its work to the end came to
 pub comes_to : {A B : Type 0} (told : Told) (paths : Input → List ℕ) (rose : Type 0) (view : A → B) (work : Work Input Refusal B) (why : Refusal)
@@ -78,6 +93,9 @@ comes_to told paths rose view work refused.NoMemory free follows = absurd (free 
 comes_to told paths rose view work (refused.ReadFault input) free follows = follows
 comes_to told paths rose view work (refused.BadRow table row why) free follows = follows
 comes_to told paths rose view work (refused.Limit limit) free follows = follows
+comes_to told paths rose view work (refused.NoRoute seg) free follows = follows
+comes_to told paths rose view work (refused.Spent component branches) free follows = follows
+comes_to told paths rose view work (refused.Refuted item) free follows = follows
 
 -- a refusal of one piece of work
 pub follows_as : {A B : Type 0} (told : Told) (paths : Input → List ℕ) (rose : Type 0) (view : A → B) (work : Work Input Refusal B) (why : Refusal) (result : Result A Refusal)

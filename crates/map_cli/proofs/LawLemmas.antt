@@ -30,7 +30,10 @@ Holds outputs old new = (target : Target) → held_by target new ≡ held_after 
 result_no_fault : (asked : Asked) (result : Result (List Output) Refusal) → (answer_by (input_path asked) result).status ≡ status.WriteFault → ⊥
 result_no_fault asked (Ok outputs) same = cc
 result_no_fault asked (Err (refused.BadRow table row why)) same = cc
+result_no_fault asked (Err (refused.NoRoute seg)) same = cc
+result_no_fault asked (Err (refused.Spent component branches)) same = cc
 result_no_fault asked (Err (refused.Limit limit)) same = cc
+result_no_fault asked (Err (refused.Refuted item)) same = cc
 result_no_fault asked (Err (refused.ReadFault input)) same = cc
 result_no_fault asked (Err refused.NoMemory) same = cc
 
@@ -38,7 +41,7 @@ answer_no_fault : (asked : Option Asked) (told : Told) (rose : Type 0) (answer :
 answer_no_fault None told rose answer is same =
     let usage : status.Usage ≡ status.WriteFault = ap (λ (a : Answer). a.status) (sym is) ∙ same in
     cc
-answer_no_fault (Some asked) told rose answer (result, comes, is) same = result_no_fault asked result (ap (λ (a : Answer). a.status) (sym is) ∙ same)
+answer_no_fault (Some asked) told rose answer (result, comes, keeps, is) same = result_no_fault asked result (ap (λ (a : Answer). a.status) (sym is) ∙ same)
 
 -- a status of the answer
 abbrev LeavesWhole : Option Asked → Told → Type 0 → Type 0 → Written → Written → Status → Type 0

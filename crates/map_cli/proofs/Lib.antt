@@ -1,4 +1,10 @@
 pub mod FollowLemmas
 pub mod TableLemmas
+pub mod FileLemmas
+pub mod MakeLemmas
+pub mod CheckLemmas
 pub mod EndingLemmas
 pub mod LawLemmas
+pub mod HeadlineLemmas
+pub mod DoneLemmas
+mod Examples

@@ -1,6 +1,8 @@
 -- What each command does, as a piece of work that reads inputs. One block a command.
-use Rattle.std.specs.Prelude.{ℕ, List, Option, Result, Ok, Err}
+use Rattle.std.specs.Prelude.{ℕ, true, false, List, length, Option, None, Some, Result, Ok, Err, if◌then◌else◌}
 use Rattle.map_base.specs.declared.limit.Limit.{Limit}
+use Rattle.map_base.specs.declared.limit.LimitKind.TheVariants.{File}
+use Rattle.map_base.specs.Limits.{is_within, limit_of}
 use Rattle.map_base.specs.Settings.{standard_choices}
 use Rattle.table_rows.specs.declared.why.Table.{Table}
 use Rattle.table_rows.specs.declared.why.Table.TheVariants.{Routes, Stops, Trips, Shapes, StopTimes}
@@ -11,17 +13,24 @@ use Rattle.gtfs_tables.specs.Feed.{feed_of, routes_outcome, stops_table_outcome,
 use Rattle.graph_core.specs.declared.parts.GraphParts.{GraphParts}
 use Rattle.line_graph.specs.Outcome.{graph_outcome}
 use Rattle.line_graph.specs.Text.{graph_text}
+use Rattle.map_engine.specs.declared.fault.MakeFault.{MakeFault}
+use Rattle.map_engine.specs.declared.fault.CheckFault.{CheckFault}
+use Rattle.map_engine.specs.Making.{MapBytes, make_outcome}
+use Rattle.map_engine.specs.Readings.{certificate_in}
+use Rattle.map_engine.specs.Checking.{PlainChecked, checked_text, pictured}
 use Rattle.command_run.specs.declared.output.Output.{Output}
 use Rattle.command_run.specs.Work.{Work, ends, reads, ◌>>=◌}
 use Rattle.map_cli.specs.declared.input.Input.{Input}
 use Rattle.map_cli.specs.declared.input.Input.TheVariants as input
+use Rattle.map_cli.specs.declared.item.Item.TheVariants as item
 use Rattle.map_cli.specs.declared.loaded.Loaded.{Loaded}
 use Rattle.map_cli.specs.declared.refusal.Refusal.{Refusal}
 use Rattle.map_cli.specs.declared.refusal.Refusal.TheVariants as refused
-use Rattle.map_cli.specs.Refusals.{of_feed}
-use Rattle.map_cli.specs.Answers.{said}
+use Rattle.map_cli.specs.Refusals.{of_feed, of_make, of_check}
+use Rattle.map_cli.specs.Answers.{said, map_outputs}
+use Rattle.map_cli.specs.Lines.{best_line}
 use Rattle.map_cli.specs.Stations.{stations_text}
-use Rattle.map_cli.specs.Words.{Asked, stations, graph}
+use Rattle.map_cli.specs.Words.{Asked, MapPaths, stations, graph, make, check}
 
 -- what a table gives, or its refusal
 abbrev pub given_by : {A : Type 0} → Result A FeedFault → Work Input Refusal A
@@ -65,7 +74,74 @@ graph_work = do
   loaded ← load_work
   ends (drawn loaded.tables (graph_outcome loaded.settings.near loaded.tables))
 
+-- the files of a map that is made, or why there is none
+abbrev pub made_at : MapPaths → Result MapBytes MakeFault → Result (List Output) Refusal
+made_at paths (Ok made) = Ok (map_outputs paths made)
+made_at paths (Err fault) = Err (of_make fault)
+
+-- `make`: the map of the feed is made, and its certificate
+abbrev pub make_work : MapPaths → Work Input Refusal (List Output)
+make_work paths = do
+  loaded ← load_work
+  ends (made_at paths (make_outcome loaded.tables loaded.settings))
+
+-- what is read of a file, if it is there: all its bytes, where these are not too many
+abbrev pub file_outcome : Option (List ℕ) → Result (Option (List ℕ)) Refusal
+file_outcome None = Ok None
+file_outcome (Some bytes) = if is_within File (length bytes) then Ok (Some bytes) else Err (refused.Limit (limit_of File))
+
+-- a file that is no table is read
+abbrev pub file_work : Input → Work Input Refusal (Option (List ℕ))
+file_work role = reads role (λ file. ends (file_outcome file))
+
+-- what a check gives, or the item that it refuses
+abbrev pub checked_as : {A : Type 0} → Result A CheckFault → Result A Refusal
+checked_as (Ok value) = Ok value
+checked_as (Err fault) = Err (of_check fault)
+
+-- every item of a certificate but the picture; it has to be there
+abbrev pub certificate_checked : Loaded → GraphParts → Option (List ℕ) → Result PlainChecked Refusal
+certificate_checked loaded parts None = Err (refused.Refuted (item.Missing false))
+certificate_checked loaded parts (Some bytes) = checked_as (checked_text loaded.tables loaded.settings parts (certificate_in bytes))
+
+-- the map is compared with the picture that is due; it has to be there
+abbrev pub picture_checked : PlainChecked → Option (List ℕ) → Result ℕ Refusal
+picture_checked checked None = Err (refused.Refuted (item.Missing true))
+picture_checked checked (Some bytes) = checked_as (pictured bytes (Ok checked))
+
+-- the cost of a map that is accepted is printed
+abbrev pub best : Result ℕ Refusal → Result (List Output) Refusal
+best (Ok cost) = Ok (said (best_line cost))
+best (Err why) = Err why
+
+-- the certificate is read, and checked by the line graph
+abbrev pub certificate_work : Loaded → GraphParts → Work Input Refusal PlainChecked
+certificate_work loaded parts = do
+  file ← file_work input.Certificate
+  ends (certificate_checked loaded parts file)
+
+-- the map is read, and compared
+abbrev pub picture_work : PlainChecked → Work Input Refusal (List Output)
+picture_work checked = do
+  file ← file_work input.Picture
+  ends (best (picture_checked checked file))
+
+-- the line graph, or the limit that is met first
+abbrev pub built : Result GraphParts Limit → Result GraphParts Refusal
+built (Ok parts) = Ok parts
+built (Err limit) = Err (refused.Limit limit)
+
+-- `check`: the line graph of the feed comes first, then the certificate, and last the map
+abbrev pub check_work : Work Input Refusal (List Output)
+check_work = do
+  loaded ← load_work
+  parts ← ends (built (graph_outcome loaded.settings.near loaded.tables))
+  checked ← certificate_work loaded parts
+  picture_work checked
+
 -- what is asked for
 abbrev pub work : Asked → Work Input Refusal (List Output)
 work (stations feed) = stations_work
 work (graph feed) = graph_work
+work (make feed paths) = make_work paths
+work (check feed paths) = check_work

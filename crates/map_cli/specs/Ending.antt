@@ -20,13 +20,15 @@ use Rattle.map_cli.specs.Inputs.{input_path}
 use Rattle.map_cli.specs.Answers.{alone, answer_by}
 use Rattle.map_cli.specs.Commands.{work}
 use Rattle.map_cli.specs.Following.{ComesTo}
+use Rattle.map_cli.specs.Promises.{Keeps}
 
--- The answer to what the words ask for: that of a result that the command's work comes to over the files. Where they
--- ask for nothing that is read, it is the help.
+-- The answer to what the words ask for: that of a result that the command's work comes to over the files, and that keeps
+-- what the command promises. Where they ask for nothing that is read, it is the help.
 abbrev pub IsAnswerTo : Option Asked → Option (List (List ℕ × List ℕ)) → Type 0 → Answer → Type 0
 IsAnswerTo None told rose answer = answer ≡ alone status.Usage
 IsAnswerTo (Some asked) told rose answer =
-    (result : Result (List Output) Refusal) × ComesTo told (input_path asked) rose (work asked) result × (answer ≡ answer_by (input_path asked) result)
+    (result : Result (List Output) Refusal) × ComesTo told (input_path asked) rose (work asked) result × Keeps told asked result
+    × (answer ≡ answer_by (input_path asked) result)
 
 -- a line that the status may print
 abbrev pub IsLineOf : Status → List ℕ → Type 0
@@ -72,7 +74,10 @@ IsCaused asked files_rose sinks_rose (status.ReadFault path) =
 IsCaused asked files_rose sinks_rose status.WriteFault = sinks_rose
 -- a feed is refused or worked on only where the words name one
 IsCaused asked files_rose sinks_rose status.Done = asked ≢ None
+IsCaused asked files_rose sinks_rose (status.Refuted item) = asked ≢ None
 IsCaused asked files_rose sinks_rose (status.BadRow table row why) = asked ≢ None
+IsCaused asked files_rose sinks_rose (status.NoRoute seg) = asked ≢ None
+IsCaused asked files_rose sinks_rose (status.Spent component branches) = asked ≢ None
 IsCaused asked files_rose sinks_rose (status.Limit limit) = asked ≢ None
 -- want of memory is free
 IsCaused asked files_rose sinks_rose status.NoMemory = ⊤

@@ -8,6 +8,7 @@ use Rattle.table_rows.specs.declared.why.Why.TheVariants.{MissingFile, MissingCo
 use Rattle.command_run.specs.Delivered.{no_memory_line}
 use Rattle.map_cli.specs.declared.status.Status.{Status}
 use Rattle.map_cli.specs.declared.status.Status.TheVariants as status
+use Rattle.map_cli.specs.Items.{item_text}
 
 -- a reason in words
 abbrev pub reason_text : Why → List ℕ
@@ -28,11 +29,18 @@ reason_text UnknownTrip = codes "unknown trip"
 reason_text UnknownStop = codes "unknown stop"
 reason_text RepeatedSequence = codes "repeated sequence"
 
+-- what `check` prints of a map that is accepted
+abbrev pub best_line : ℕ → List ℕ
+best_line cost = codes "best " ++ (decimal cost ++ codes "\n")
+
 -- the number that the process ends with
 abbrev pub status_number : Status → ℕ
 status_number status.Done = 0
+status_number (status.Refuted item) = 1
 status_number status.Usage = 2
 status_number (status.BadRow table row why) = 3
+status_number (status.NoRoute seg) = 4
+status_number (status.Spent component branches) = 5
 status_number (status.Limit limit) = 6
 status_number (status.ReadFault path) = 7
 status_number status.WriteFault = 8
@@ -42,8 +50,11 @@ status_number status.NoMemory = 9
 -- are not read is left open
 abbrev pub status_line : Status → Option (List ℕ)
 status_line status.Done = Some []
+status_line (status.Refuted item) = Some (codes "refuted: " ++ (item_text item ++ codes "\n"))
 status_line status.Usage = None
 status_line (status.BadRow table row why) = Some (codes "bad row: " ++ (file_name table ++ (codes " " ++ (decimal row ++ (codes " " ++ (reason_text why ++ codes "\n"))))))
+status_line (status.NoRoute seg) = Some (codes "no route: " ++ (decimal seg.0 ++ codes "\n"))
+status_line (status.Spent component branches) = Some (codes "spent: " ++ (decimal component ++ (codes " " ++ (decimal branches ++ codes "\n"))))
 status_line (status.Limit limit) = Some (codes "limit: " ++ (limit_name limit.what ++ (codes " " ++ (decimal limit.found ++ (codes " " ++ (decimal limit.most ++ codes "\n"))))))
 status_line (status.ReadFault path) = Some (codes "read fault: " ++ (path ++ codes "\n"))
 status_line status.WriteFault = Some []

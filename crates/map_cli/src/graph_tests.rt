@@ -41,7 +41,7 @@ round 1 0 1
 ";
 
 /// One more file of the folder `feed`.
-fn put_file(
+pub(crate) fn put_file(
     alloc: Global,
     files: &mut Vec<(Text, Vec<u8>)>,
     path: &str,

@@ -1,6 +1,6 @@
 //! Laws that the ending of a run is read by: what told files decide, and what each target holds then.
 
-ghost use Rattle.std.specs.Prelude.{◌≡◌, ◌≢◌, ◌⊎◌, ◌++◌, ℕ, List, Option, Some};
+ghost use Rattle.std.specs.Prelude.{◌≡◌, ◌≢◌, ◌⊎◌, ◌++◌, ℕ, List, Option, Some, Ok};
 ghost use Rattle.files_door.specs.declared.target.Target.{Target};
 ghost use Rattle.files_door.specs.Fault.{Rose};
 ghost use Rattle.files_door.specs.Targets.{Written, held_by};
@@ -56,4 +56,14 @@ pub fn want_of_memory_leaves_two_beginnings()
         → (outputs : List Output) × (front : List Output) × (last : List Output) × IsToBeWritten asked told (Rose files_before files_now) outputs
         × IsBeginning front outputs × IsBeginning last (line_outputs no_memory_line)
         × ((target : Target) → held_by target new ≡ held_after target (front ++ last) (held_by target old)) }
+{}
+
+/// Where told files give a command outputs, and no count of faults rises, the run ends with status 0, and each target
+/// holds what these outputs leave in it; or memory ran out. So what is defined is done: a bad row, a limit, a network
+/// without a drawing, a search over its budget or a refused item are the only other causes, and each is exact.
+pub fn what_is_defined_is_done()
+    ensures { (asked : Asked) (files : List (List ℕ × List ℕ)) (files_before files_now before now : ℕ) (old new : Written) (ended : Status) (outputs : List Output)
+        → Ends (Some asked) (Some files) (Rose files_before files_now) (Rose before now) (Some old) (Some new) ended
+        → outcome (work asked) (file_of files (input_path asked)) ≡ Ok outputs → (Rose files_before files_now → ⊥) → (Rose before now → ⊥)
+        → ((ended ≡ status.Done) × ((target : Target) → held_by target new ≡ held_after target outputs (held_by target old))) ⊎ (ended ≡ status.NoMemory) }
 {}

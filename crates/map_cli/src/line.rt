@@ -17,12 +17,24 @@ pub fn line_of(alloc: Global, status: &Status, words: &[String]) -> Result<Strin
 {
     match status {
         Status::Done => Ok(String::new(alloc)),
+        Status::Refuted(item) => {
+            let item = item.text(alloc)?;
+            Ok(format!(in alloc; "refuted: {item}\n")?)
+        }
         Status::Usage => usage_text(alloc, words),
         Status::BadRow { table, row, why } => {
             let name = file_name(*table);
             let reason = reason_text(*why);
             Ok(format!(in alloc; "bad row: {name} {row} {reason}\n")?)
         }
+        Status::NoRoute { seg } => {
+            let number = seg.0;
+            Ok(format!(in alloc; "no route: {number}\n")?)
+        }
+        Status::Spent {
+            component,
+            branches,
+        } => { Ok(format!(in alloc; "spent: {component} {branches}\n")?) }
         Status::Limit(limit) => {
             let kind = limit.what.name();
             let found = limit.found;

@@ -5,6 +5,7 @@
 ghost use Rattle.std.specs.Prelude.{◌≡◌, ◌<◌};
 
 mod answer;
+mod check_command;
 mod disk_files;
 mod disk_sinks;
 mod failures;
@@ -13,9 +14,14 @@ mod graph_command;
 mod graph_tests;
 mod help;
 mod input;
+mod input_file;
+mod item;
 mod laws;
 mod line;
 mod loaded;
+mod make_command;
+#[cfg(test)]
+mod map_tests;
 mod refusal;
 mod run;
 mod stations;

@@ -2,21 +2,30 @@
 
 ghost use Rattle.std.specs.Prelude.{◌≡◌};
 ghost use Rattle.map_cli.specs.declared.refusal.Refusal.TheVariants as refused;
-ghost use Rattle.map_cli.specs.Refusals.{of_build, of_feed};
+ghost use Rattle.map_cli.specs.Refusals.{of_build, of_check, of_feed, of_make};
 
 use crate::input::Input;
+use crate::item::Item;
 use line_graph::BuildFault;
-use map_base::{Limit, NoMemory};
+use map_base::{Limit, NoMemory, SegId};
+use map_engine::{CheckFault, MakeFault};
 use table_rows::{FeedFault, Table, Why};
 
 /// Why a command came to no result.
-#[derive(Clone, Copy, Debug, PartialEq, Eq)]
+#[derive(Debug, Drop)]
 pub enum Refusal {
     /// This is the feed's first bad row, with its least reason. The header is row 1; a file that is missing
     /// has row 0.
     BadRow { table: Table, row: u64, why: Why },
+    /// No fineness of the grid gives each segment a walk; at the last one this is the first segment without one.
+    NoRoute { seg: SegId },
+    /// The live tree of this part, counted from 0, has more branch nodes than the budget; `branches` is the budget
+    /// plus 1.
+    Spent { component: u32, branches: u32 },
     /// This is the first counted quantity above its greatest allowed number.
     Limit(Limit),
+    /// This is the first item of a map and its certificate that is refused.
+    Refuted(Item),
     /// This input could not be read.
     ReadFault { input: Input },
     /// The allocator had no room.
@@ -53,6 +62,37 @@ impl From<BuildFault> for Refusal {
         match fault {
             BuildFault::Limit(limit) => Refusal::Limit(limit),
             BuildFault::NoMemory => Refusal::NoMemory,
+        }
+    }
+}
+
+impl From<MakeFault> for Refusal {
+    ghost from_gives = { λ fault refusal. refusal ≡ of_make fault };
+
+    fn from(fault: MakeFault) -> Refusal {
+        match fault {
+            MakeFault::NoRoute { seg } => Refusal::NoRoute { seg },
+            MakeFault::Spent {
+                component,
+                branches,
+            } => Refusal::Spent {
+                component,
+                branches,
+            },
+            MakeFault::Limit(limit) => Refusal::Limit(limit),
+            MakeFault::NoMemory => Refusal::NoMemory,
+        }
+    }
+}
+
+impl From<CheckFault> for Refusal {
+    ghost from_gives = { λ fault refusal. refusal ≡ of_check fault };
+
+    fn from(fault: CheckFault) -> Refusal {
+        match fault {
+            CheckFault::Refuted(item) => Refusal::Refuted(Item::Found(item)),
+            CheckFault::Limit(limit) => Refusal::Limit(limit),
+            CheckFault::NoMemory => Refusal::NoMemory,
         }
     }
 }

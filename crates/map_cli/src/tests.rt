@@ -140,24 +140,32 @@ fn a_fault_of_writing_leaves_a_beginning(rt: HostRuntime) -> Result<(), Fail> {
 fn words_that_are_not_read_get_the_help(rt: HostRuntime) -> Result<(), Fail> {
     let alloc = rt.alloc();
     for (line, complaint) in [
-        ("help", "octimap draws"),
-        ("--help", "octimap draws"),
+        ("help", "octimap makes"),
+        ("--help", "octimap makes"),
         (
             "station feed",
-            "octimap: there is no command \"station\"\n\noctimap draws",
+            "octimap: there is no command \"station\"\n\noctimap makes",
         ),
         (
             "stations",
-            "octimap: stations needs the folder FEED\n\noctimap draws",
+            "octimap: stations needs the folder FEED\n\noctimap makes",
         ),
         (
             "graph -x",
-            "octimap: there is no option \"-x\"; a folder of that name is ./-x\n\noctimap draws",
+            "octimap: there is no option \"-x\"; a path of that name is ./-x\n\noctimap makes",
         ),
-        ("graph --help", "octimap draws"),
+        ("graph --help", "octimap makes"),
         (
             "stations feed more",
-            "octimap: stations takes one folder FEED and nothing more\n\noctimap draws",
+            "octimap: stations takes the folder FEED and nothing more\n\noctimap makes",
+        ),
+        (
+            "make feed map.svg",
+            "octimap: make needs the folder FEED and the files SVG and CERT\n\noctimap makes",
+        ),
+        (
+            "make feed map map",
+            "octimap: SVG and CERT are one file\n\noctimap makes",
         ),
     ] {
         let words = words_of(alloc, line)?;

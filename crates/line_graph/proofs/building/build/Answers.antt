@@ -6,6 +6,7 @@ use Rattle.graph_core.specs.declared.parts.GraphParts.{GraphParts}
 use Rattle.line_graph.specs.Outcome.{net_of_courses, graph_outcome}
 use Rattle.line_graph.specs.Faults.{HasCause}
 use Rattle.line_graph.proofs.Outcomes.{outcome_is, known_where}
+use Rattle.line_graph.proofs.FeedLines.{below_where}
 use Rattle.line_graph.proofs.building.build.Goals as goal
 
 pub returns-clause-graph : goal.returns-clause-graph
@@ -30,4 +31,11 @@ pub returns-clause-stations : goal.returns-clause-stations
 returns-clause-stations c =
     let near = c.settings.inside.near in
     known_where near c.len.result c.args.tables.now c.in_ok-courses.courses (net_of_courses near c.in_ok-courses.courses) c.graph_of_courses.result c.in_ok-courses.ensures.courses
+    c.graph_of_courses.ensures.graph
+
+pub returns-clause-lines : goal.returns-clause-lines
+returns-clause-lines c =
+    let feed = c.args.tables.now in
+    let count : c.len.result ≡ length feed.lines = c.len.ensures ∙ c.tables.inside.lines.ok.0 ∙ ap (λ (f : Feed). length f.lines) c.tables.view_is in
+    below_where c.settings.inside.near c.len.result (length feed.lines) c.in_ok-courses.courses (net_of_courses c.settings.inside.near c.in_ok-courses.courses) c.graph_of_courses.result count
     c.graph_of_courses.ensures.graph

@@ -1,0 +1,177 @@
+-- From how a run ends to what status 0 means.
+use Rattle.std.proofs.Common.{◌≡◌, ◌≢◌, ℕ, ◌==◌, ◌||◌, ◌⊎◌, inl, inr, Bool, true, false, List, [], ◌∷◌, ◌++◌, map, codes, Option, None, Some, Result, Ok, Err, IfSome, String, string_bytes, if◌then◌else◌, unwrap_or, refl, sym, ap, ◌∙◌, subst}
+use Rattle.std.specs.declared.alloc.Global.{Global}
+use Rattle.std.specs.Str.{bytes_eq}
+use Rattle.std.proofs.lemmas.List.{append-nil}
+use Rattle.files_door.specs.declared.target.Target.{Target}
+use Rattle.files_door.specs.declared.target.Target.TheVariants.{Said, Path}
+use Rattle.files_door.specs.Targets.{Written, held_by, same_target}
+use Rattle.std.proofs.lemmas.Slice.Eq.{bytes_eq-Decides}
+use Rattle.command_run.specs.declared.output.Output.{Output}
+use Rattle.command_run.specs.Held.{held_after, line_outputs, IsBeginning}
+use Rattle.map_engine.specs.Making.{MapBytes}
+use Rattle.map_cli.specs.declared.answer.Answer.{Answer}
+use Rattle.map_cli.specs.declared.input.Input.{Input}
+use Rattle.map_cli.specs.declared.refusal.Refusal.{Refusal}
+use Rattle.map_cli.specs.declared.refusal.Refusal.TheVariants as refused
+use Rattle.map_cli.specs.declared.status.Status.{Status}
+use Rattle.map_cli.specs.declared.status.Status.TheVariants as status
+use Rattle.map_cli.specs.Words.{Asked, MapPaths, stations, graph, make, check, is_option, make_at, asked_of, asked_for_map, asked, asked_in}
+use Rattle.map_cli.specs.Inputs.{input_path}
+use Rattle.map_cli.specs.Answers.{map_outputs, said, done, answer_by, status_of}
+use Rattle.map_cli.specs.Lines.{best_line}
+use Rattle.map_cli.specs.Promises.{Keeps, Promised, AreOfMap, AreOfYes}
+use Rattle.map_cli.specs.Ending.{Ends, IsLineOf}
+use Rattle.map_cli.specs.Headline.{MeansDone, IsMapWritten, IsMapAccepted}
+use Rattle.map_cli.proofs.LawLemmas.{leaves_whole}
+
+abbrev Told : Type 0
+Told = Option (List (List ℕ × List ℕ))
+
+-- a map is asked for at two paths
+
+abbrev AreApart : Option Asked → Type 0
+AreApart None = Unit {0}
+AreApart (Some (stations feed)) = Unit {0}
+AreApart (Some (graph feed)) = Unit {0}
+AreApart (Some (make feed paths)) = bytes_eq paths.picture paths.certificate ≡ false
+AreApart (Some (check feed paths)) = Unit {0}
+
+apart_at : (feed : List ℕ) (paths : MapPaths) → AreApart (make_at feed paths)
+apart_at feed paths = by_test (bytes_eq paths.picture paths.certificate) refl
+  where
+    by_test : (same : Bool) → bytes_eq paths.picture paths.certificate ≡ same → AreApart (if same then None else Some (make feed paths))
+    by_test true e = tt
+    by_test false e = e
+
+apart_for_map : (word feed : List ℕ) (paths : MapPaths) → AreApart (asked_for_map word feed paths)
+apart_for_map word feed paths =
+    by_tests (is_option feed || is_option paths.picture || is_option paths.certificate) (bytes_eq word (codes "make")) (bytes_eq word (codes "check"))
+  where
+    by_tests : (option made checked : Bool) → AreApart (if option then None else if made then make_at feed paths else if checked then Some (check feed paths) else None)
+    by_tests true made checked = tt
+    by_tests false true checked = apart_at feed paths
+    by_tests false false true = tt
+    by_tests false false false = tt
+
+apart_of : (word feed : List ℕ) → AreApart (asked_of word feed)
+apart_of word feed = by_tests (is_option feed) (bytes_eq word (codes "stations")) (bytes_eq word (codes "graph"))
+  where
+    by_tests : (option listed drawn : Bool) → AreApart (if option then None else if listed then Some (stations feed) else if drawn then Some (graph feed) else None)
+    by_tests true listed drawn = tt
+    by_tests false true drawn = tt
+    by_tests false false true = tt
+    by_tests false false false = tt
+
+asked_apart : (words : List (List ℕ)) → AreApart (asked words)
+asked_apart [] = tt
+asked_apart (word ∷ []) = tt
+asked_apart (word ∷ feed ∷ []) = apart_of word feed
+asked_apart (word ∷ feed ∷ picture ∷ []) = tt
+asked_apart (word ∷ feed ∷ picture ∷ certificate ∷ []) = apart_for_map word feed (record { picture = picture; certificate = certificate })
+asked_apart (word ∷ feed ∷ picture ∷ certificate ∷ more ∷ rest) = tt
+
+-- what targets hold after the outputs of a map
+
+other_way : (a b : List ℕ) → bytes_eq a b ≡ false → bytes_eq b a ≡ false
+other_way a b apart = by_test (bytes_eq b a) refl
+  where
+    by_test : (same : Bool) → bytes_eq b a ≡ same → same ≡ false
+    by_test true e =
+        let same : bytes_eq a b ≡ true = (bytes_eq-Decides a b).1 (sym ((bytes_eq-Decides b a).0 e)) in
+        absurd (cc)
+    by_test false e = refl
+
+map_held : (paths : MapPaths) (made : MapBytes) (held : Option (List ℕ)) → bytes_eq paths.picture paths.certificate ≡ false → held_after (Path paths.picture) (map_outputs paths made) held ≡ Some made.svg
+map_held paths made held apart = by_tests (bytes_eq paths.picture paths.picture) (bytes_eq paths.certificate paths.picture) ((bytes_eq-Decides paths.picture paths.picture).1 refl) (other_way paths.picture paths.certificate apart)
+  where
+    by_tests : (first second : Bool) → first ≡ true → second ≡ false
+        → (if second then Some ([] ++ made.certificate) else (if first then Some ([] ++ made.svg) else held)) ≡ Some made.svg
+    by_tests true false a b = refl
+    by_tests true true a b = absurd (cc)
+    by_tests false second a b = absurd (cc)
+
+certificate_held : (paths : MapPaths) (made : MapBytes) (held : Option (List ℕ)) → held_after (Path paths.certificate) (map_outputs paths made) held ≡ Some made.certificate
+certificate_held paths made held = by_test (bytes_eq paths.certificate paths.certificate) (if bytes_eq paths.picture paths.certificate then Some ([] ++ made.svg) else held) ((bytes_eq-Decides paths.certificate paths.certificate).1 refl)
+  where
+    by_test : (second : Bool) (before : Option (List ℕ)) → second ≡ true → (if second then Some ([] ++ made.certificate) else before) ≡ Some made.certificate
+    by_test true before e = refl
+    by_test false before e = absurd (cc)
+
+-- the outputs of a command that ended with status 0
+
+pub no_front : (front : List Output) (line : List ℕ) → line ≡ [] → IsBeginning front (line_outputs line) → front ≡ []
+no_front [] line is begins = refl
+no_front (output ∷ front) line is begins = absurd (subst (λ (l : List ℕ). IsBeginning (output ∷ front) (line_outputs l)) is begins)
+
+-- no refusal has the status of work that is done
+refusal_not_done : (paths : Input → List ℕ) (why : Refusal) → status_of paths why ≢ status.Done
+refusal_not_done paths (refused.BadRow table row why) same = cc
+refusal_not_done paths (refused.NoRoute seg) same = cc
+refusal_not_done paths (refused.Spent component branches) same = cc
+refusal_not_done paths (refused.Limit limit) same = cc
+refusal_not_done paths (refused.Refuted item) same = cc
+refusal_not_done paths (refused.ReadFault input) same = cc
+refusal_not_done paths refused.NoMemory same = cc
+
+-- the outputs stand in the targets
+abbrev Holds : List Output → Written → Written → Type 0
+Holds outputs old new = (target : Target) → held_by target new ≡ held_after target outputs (held_by target old)
+
+means : (told : Told) (command : Asked) (outputs : List Output) (old new : Written) → AreApart (Some command) → Promised told command outputs → Holds outputs old new → MeansDone told command old new
+means told (stations feed) outputs old new apart promised holds = tt
+means told (graph feed) outputs old new apart promised holds = tt
+means told (make feed paths) outputs old new apart promised holds =
+    let has = subst (λ (o : List Output). Holds o old new) promised.are holds in
+    record {
+      loaded = promised.loaded;
+      loads = promised.loads;
+      made = promised.made;
+      defined = promised.defined;
+      shows = promised.shows;
+      map = has (Path paths.picture) ∙ map_held paths promised.made (held_by (Path paths.picture) old) apart;
+      certificate = has (Path paths.certificate) ∙ certificate_held paths promised.made (held_by (Path paths.certificate) old);
+    }
+means told (check feed paths) outputs old new apart promised holds =
+    let has = subst (λ (o : List Output). Holds o old new) promised.are holds in
+    record {
+      loaded = promised.loaded;
+      loads = promised.loads;
+      picture = promised.picture;
+      lies = promised.lies;
+      cost = promised.cost;
+      accepted = promised.accepted;
+      printed = has Said;
+    }
+
+-- an answer with status 0 is that of outputs that keep what the command promises
+outputs_of : (told : Told) (command : Asked) (result : Result (List Output) Refusal) (answer : Answer) → Keeps told command result → answer ≡ answer_by (input_path command) result → answer.status ≡ status.Done
+    → Promised told command answer.outputs
+outputs_of told command (Ok outputs) answer keeps is ended = subst (λ (a : Answer). Promised told command a.outputs) (sym is) keeps
+outputs_of told command (Err why) answer keeps is ended = absurd (refusal_not_done (input_path command) why (ap (λ (a : Answer). a.status) (sym is) ∙ ended))
+
+run_means : (told : Told) (command : Asked) (files_rose sinks_rose : Type 0) (old new : Written) (ended : Status) → AreApart (Some command)
+    → Ends (Some command) told files_rose sinks_rose (Some old) (Some new) ended → ended ≡ status.Done → MeansDone told command old new
+run_means told command files_rose sinks_rose old new ended apart ends is =
+    let left = leaves_whole (Some command) told files_rose sinks_rose old new ended ends (λ same. let other : status.Done ≡ status.WriteFault = sym is ∙ same in cc) (λ same. let other : status.Done ≡ status.NoMemory = sym is ∙ same in cc) in
+    let line = subst (λ (s : Status). IsLineOf s left.1) is left.5 in
+    let none = no_front left.2 left.1 line left.6 in
+    let whole : left.0.outputs ++ left.2 ≡ left.0.outputs = ap (λ (f : List Output). left.0.outputs ++ f) none ∙ append-nil left.0.outputs in
+    means told command left.0.outputs old new apart
+    (outputs_of told command left.3.0 left.0 left.3.2 left.3.3 (sym left.4 ∙ is)) (subst (λ (o : List Output). Holds o old new) whole left.8)
+
+-- what status 0 means, where the sinks tell what was written
+abbrev Means : Told → Option Asked → Option Written → Option Written → Type 0
+Means told asked old new = IfSome asked (λ command. IfSome old (λ before. IfSome new (λ now. MeansDone told command before now)))
+
+by_telling : (told : Told) (asked : Option Asked) (files_rose sinks_rose : Type 0) (old new : Option Written) (ended : Status) → AreApart asked
+    → Ends asked told files_rose sinks_rose old new ended → ended ≡ status.Done → Means told asked old new
+by_telling told None files_rose sinks_rose old new ended apart ends is = tt
+by_telling told (Some command) files_rose sinks_rose None new ended apart ends is = tt
+by_telling told (Some command) files_rose sinks_rose (Some old) None ended apart ends is = tt
+by_telling told (Some command) files_rose sinks_rose (Some old) (Some new) ended apart ends is = run_means told command files_rose sinks_rose old new ended apart ends is
+
+pub done_means : (told : Told) (words : List (String Global)) (files_rose sinks_rose : Type 0) (old new : Option Written) (ended : Status)
+    → Ends (asked_in words) told files_rose sinks_rose old new ended → ended ≡ status.Done → Means told (asked_in words) old new
+done_means told words files_rose sinks_rose old new ended ends is =
+    by_telling told (asked_in words) files_rose sinks_rose old new ended (asked_apart (map string_bytes words)) ends is

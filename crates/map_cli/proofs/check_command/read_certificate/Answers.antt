@@ -1,0 +1,19 @@
+use Rattle.std.proofs.Common.{ℕ, Vec, option_map}
+use Rattle.std.specs.Global.{Global}
+use Rattle.files_door.specs.Fault.{Rose}
+use Rattle.map_engine.specs.Checking.{checked_bytes}
+use Rattle.map_cli.specs.declared.input.Input.TheVariants as input
+use Rattle.map_cli.specs.Words.{asked_by}
+use Rattle.map_cli.specs.Inputs.{input_path}
+use Rattle.map_cli.specs.Commands.{certificate_checked, file_work}
+use Rattle.map_cli.proofs.FollowLemmas.{follows_value}
+use Rattle.map_cli.proofs.check_command.read_certificate.Goals as goal
+
+pub returns-clause-follows : goal.returns-clause-follows
+returns-clause-follows g c =
+    let told = g.F.Files.told c.args.files.now in
+    let paths = input_path (asked_by c.args.command.now) in
+    let rose = Rose (g.F.Files.faults c.args.files.now) (g.F.Files.faults c.read_file.new.files) in
+    follows_value told paths rose (λ bytes. option_map (λ (v : Vec ℕ Global). v.items) bytes) checked_bytes (file_work input.Certificate)
+    (λ file. certificate_checked c.args.loaded.now c.args.graph.now file) c.in_ok-bytes.bytes c.check_certificate.result
+    c.in_ok-bytes.ensures.follows c.check_certificate.ensures.given

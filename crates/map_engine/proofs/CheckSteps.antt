@@ -1,0 +1,86 @@
+-- What comes of a check after each of its steps.
+use Rattle.std.proofs.Common.{◌≡◌, ◌∙◌, ap, sym, subst, refl, ℕ, ◌+◌, ◌&&◌, ◌==◌, eqb-true, Bool, true, false, cond, List, [], ◌∷◌, length, Option, Some, None, option_map, Result, Ok, Err}
+use Rattle.map_base.specs.declared.ids.SegId.{SegId}
+use Rattle.map_base.specs.declared.ids.LineId.{LineId}
+use Rattle.map_base.specs.declared.limit.Limit.{Limit}
+use Rattle.map_base.specs.declared.limit_fault.LimitFault.{LimitFault}
+use Rattle.map_base.specs.declared.limit_fault.LimitFault.TheVariants as limit
+use Rattle.map_base.specs.declared.limit.LimitKind.TheVariants.{Terms}
+use Rattle.map_base.specs.Limits.{is_within, limit_of}
+use Rattle.map_base.specs.Faults as limits
+use Rattle.map_base.specs.Settings.{Choices}
+use Rattle.transit_feed.specs.Feeds.{Feed}
+use Rattle.graph_core.specs.declared.parts.GraphParts.{GraphParts}
+use Rattle.line_graph.specs.declared.fault.BuildFault.{BuildFault}
+use Rattle.line_graph.specs.declared.fault.BuildFault.TheVariants as build
+use Rattle.line_graph.specs.Faults as graphs
+use Rattle.line_graph.specs.Outcome.{graph_outcome}
+use Rattle.decimal_text.specs.declared.fault.BadText.{BadText}
+use Rattle.decimal_text.specs.declared.fault.BadText.TheVariants as bad
+use Rattle.decimal_text.specs.Readers.{EndsAs}
+use Rattle.octi_grid.specs.declared.drawing.DrawWhy.{DrawWhy}
+use Rattle.octi_grid.specs.declared.drawing.DrawingStop.{DrawingStop}
+use Rattle.octi_grid.specs.declared.drawing.DrawingStop.TheVariants as drawing
+use Rattle.octi_grid.specs.Legal.{first_illegal}
+use Rattle.octi_grid.specs.Legal as drawings
+use Rattle.order_model.specs.declared.problem.ProblemParts.{ProblemParts}
+use Rattle.order_model.specs.Costs.{cost_of, AreOrders, AreBest}
+use Rattle.order_check.specs.declared.refusal.ProofItem.{ProofItem}
+use Rattle.order_check.specs.declared.refusal.ProofStop.{ProofStop}
+use Rattle.order_check.specs.declared.refusal.ProofStop.TheVariants as proof
+use Rattle.order_check.specs.Verdict as verdicts
+use Rattle.order_check.specs.Verdict.{verdict}
+use Rattle.order_proof.specs.Plain.{PlainProof}
+use Rattle.svg_writer.specs.Picture.{picture_text}
+use Rattle.cert_file.specs.declared.certificate.Certificate.{Certificate}
+use Rattle.cert_file.specs.Plain.{PlainCertificate}
+use Rattle.cert_file.specs.Reading.{certificate_end}
+use Rattle.map_engine.specs.declared.fault.CheckItem.{CheckItem}
+use Rattle.map_engine.specs.declared.fault.CheckItem.TheVariants as item
+use Rattle.map_engine.specs.declared.fault.CheckFault.{CheckFault}
+use Rattle.map_engine.specs.declared.fault.CheckFault.TheVariants as fault
+use Rattle.map_engine.specs.Faults.{graph_stop, text_stop, drawing_stop, terms_stop, proof_stop}
+use Rattle.map_engine.specs.Tables.{names_by}
+use Rattle.map_engine.specs.Problems.{problem_of, problem_within}
+use Rattle.map_engine.specs.Promises.{CostLeast}
+use Rattle.map_engine.specs.Readings.{certificate_in}
+use Rattle.map_engine.specs.Checking.{walk_refused, walk_item, first_disorder, order_item, cost_item, proof_item, first_difference, picture_item, unless_refused, PlainChecked, unless_costlier, checked_orders, checked_walks, checked_items, checked_text, checked_on, certificate_outcome, pictured, HasCause, Gives}
+use Rattle.map_engine.proofs.ReadAgain.{wrong_read}
+use Rattle.map_engine.proofs.MadeProblem.{problem_is}
+
+-- a text that is no certificate's is refused where reading stops
+pub text_refused : (feed : Feed) (choices : Choices) (graph : GraphParts) (bytes : List ℕ) (stop : BadText) → EndsAs (λ (c : Certificate). length bytes) (Err stop) (certificate_end bytes)
+    → HasCause (checked_text feed choices graph (certificate_in bytes)) (text_stop stop)
+text_refused feed choices graph bytes (bad.At at) h = ap (checked_text feed choices graph) (wrong_read bytes at h)
+text_refused feed choices graph bytes bad.NoMemory h = tt
+
+-- what is given of an outcome is given of an equal one
+pub gives_same : {X Y : Type 0} (view : X → Y) (result : Result X CheckFault) (a b : Result Y CheckFault) → a ≡ b → Gives view result b → Gives view result a
+gives_same {X} {Y} view result a b same h = subst (λ (outcome : Result Y CheckFault). Gives view result outcome) (sym same) h
+
+-- texts that differ nowhere are one
+pub no_difference : (xs ys : List ℕ) → first_difference xs ys ≡ None → xs ≡ ys
+no_difference [] [] none = refl
+no_difference [] (y ∷ ys) none = absurd cc
+no_difference (x ∷ xs) [] none = absurd cc
+no_difference (x ∷ xs) (y ∷ ys) none = by (x == y) refl (first_difference xs ys) (no_difference xs ys) none
+  where
+    by : (t : Bool) → (x == y) ≡ t → (o : Option ℕ) → (o ≡ None → xs ≡ ys) → cond t (option_map (λ at. 1 + at) o) (Some 0) ≡ None → x ∷ xs ≡ y ∷ ys
+    by true same None rest h = ap (λ (z : ℕ). z ∷ xs) (eqb-true x y same) ∙ ap (λ (zs : List ℕ). y ∷ zs) (rest refl)
+    by true same (Some at) rest h = absurd cc
+    by false same o rest h = absurd cc
+
+-- line orders that cost least in the problem that was made cost least in the graph's
+pub costs_least : (feed : Feed) (choices : Choices) (graph : GraphParts) (p : ProblemParts) (orders : List (List LineId)) (cost : ℕ) → problem_within feed choices graph ≡ Ok p
+    → cost_of p.terms orders ≡ cost → AreBest p.segs p.terms orders → CostLeast feed choices graph orders cost
+costs_least feed choices graph p orders cost made costs best =
+    let same = problem_is feed choices graph p made in
+    record {
+      costs = subst (λ (q : ProblemParts). cost_of q.terms orders ≡ cost) same costs;
+      best = subst (λ (q : ProblemParts). AreBest q.segs q.terms orders) same best;
+    }
+
+-- orders of a graph's segments are orders of its problem's
+pub orders_fit : (feed : Feed) (choices : Choices) (graph : GraphParts) (p : ProblemParts) (orders : List (List LineId)) → problem_within feed choices graph ≡ Ok p
+    → AreOrders graph.lines orders → AreOrders p.segs orders
+orders_fit feed choices graph p orders made are = subst (λ (q : ProblemParts). AreOrders q.segs orders) (sym (problem_is feed choices graph p made)) are

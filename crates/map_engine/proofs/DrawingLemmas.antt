@@ -1,0 +1,78 @@
+-- From what each step gives to the drawing of a feed.
+use Rattle.std.proofs.Common.{◌≡◌, ◌∙◌, ap, sym, subst, refl, ℕ, Bool, true, false, cond, List, length, Result, Ok, Err}
+use Rattle.map_base.specs.declared.limit.Limit.{Limit}
+use Rattle.map_base.specs.declared.limit.LimitKind.TheVariants.{Terms}
+use Rattle.map_base.specs.declared.limit_fault.LimitFault.{LimitFault}
+use Rattle.map_base.specs.declared.limit_fault.LimitFault.TheVariants as limit
+use Rattle.map_base.specs.Limits.{is_within, limit_of}
+use Rattle.map_base.specs.Faults as terms
+use Rattle.map_base.specs.Settings.{Choices}
+use Rattle.transit_feed.specs.Feeds.{Feed}
+use Rattle.graph_core.specs.declared.parts.GraphParts.{GraphParts}
+use Rattle.line_graph.specs.declared.fault.BuildFault.{BuildFault}
+use Rattle.line_graph.specs.declared.fault.BuildFault.TheVariants as build
+use Rattle.line_graph.specs.Outcome.{graph_outcome}
+use Rattle.line_graph.specs.Faults as graph
+use Rattle.octi_grid.specs.Walks.{PlainWalk}
+use Rattle.segment_router.specs.declared.fault.RouteFault.{RouteFault}
+use Rattle.segment_router.specs.declared.fault.RouteFault.TheVariants as route
+use Rattle.segment_router.specs.Routing.{route_outcome}
+use Rattle.segment_router.specs.Routing as routing
+use Rattle.order_model.specs.declared.problem.ProblemParts.{ProblemParts}
+use Rattle.order_terms.specs.Terms.{graph_terms}
+use Rattle.map_engine.specs.declared.fault.MakeFault.{MakeFault}
+use Rattle.map_engine.specs.declared.fault.MakeFault.TheVariants as fault
+use Rattle.map_engine.specs.Faults.{of_build, of_route, of_terms}
+use Rattle.map_engine.specs.Tables.{importance_by}
+use Rattle.map_engine.specs.Problems.{Drawn, drawn_with, routed_by, drawn_on, drawn_outcome, problem_of, problem_within}
+use Rattle.map_engine.specs.Making.{HasCause}
+
+-- a line graph that is refused refuses the drawing
+pub not_built : (feed : Feed) (choices : Choices) (stop : BuildFault) → graph.HasCause (graph_outcome choices.near feed) stop → HasCause (drawn_outcome feed choices) (of_build stop)
+not_built feed choices (build.Limit l) h = ap (drawn_on feed choices) h
+not_built feed choices build.NoMemory h = tt
+
+-- a line graph that is there draws what is drawn on it
+pub drawn_from : (feed : Feed) (choices : Choices) (parts : GraphParts) → graph_outcome choices.near feed ≡ Ok parts → drawn_outcome feed choices ≡ drawn_on feed choices (Ok parts)
+drawn_from feed choices parts h = ap (drawn_on feed choices) h
+
+-- no route refuses it
+pub not_routed : (feed : Feed) (choices : Choices) (parts : GraphParts) (stop : RouteFault) → routing.HasCause (route_outcome parts choices.cell) stop
+    → HasCause (drawn_on feed choices (Ok parts)) (of_route stop)
+not_routed feed choices parts (route.NoRoute seg) h = ap (routed_by feed choices parts) h
+not_routed feed choices parts (route.Limit l) h = ap (routed_by feed choices parts) h
+not_routed feed choices parts route.NoMemory h = tt
+
+-- too many terms refuse it
+pub not_counted : (feed : Feed) (choices : Choices) (parts : GraphParts) (walks : List PlainWalk) (stop : LimitFault) → route_outcome parts choices.cell ≡ Ok walks
+    → terms.HasCause (problem_within feed choices parts) stop → HasCause (drawn_on feed choices (Ok parts)) (of_terms stop)
+not_counted feed choices parts walks (limit.Limit l) routed h = ap (routed_by feed choices parts) routed ∙ ap (drawn_with parts walks) h
+not_counted feed choices parts walks limit.NoMemory routed h = tt
+
+-- else there is the drawing
+pub drawn_is : (feed : Feed) (choices : Choices) (parts : GraphParts) (walks : List PlainWalk) (problem : ProblemParts) → route_outcome parts choices.cell ≡ Ok walks
+    → problem_within feed choices parts ≡ Ok problem → drawn_on feed choices (Ok parts) ≡ Ok (record { graph = parts; walks = walks; problem = problem })
+drawn_is feed choices parts walks problem routed counted = ap (routed_by feed choices parts) routed ∙ ap (drawn_with parts walks) counted
+
+-- What is drawn is the line graph, with its problem.
+
+there_with : (parts : GraphParts) (walks : List PlainWalk) (outcome : Result ProblemParts Limit) (x : Drawn) → drawn_with parts walks outcome ≡ Ok x → (parts ≡ x.graph) × (outcome ≡ Ok x.problem)
+there_with parts walks (Ok problem) x h =
+    let same : record { graph = parts; walks = walks; problem = problem } ≡ x = cc in
+    (ap (λ (d : Drawn). d.graph) same, ap (λ (d : Drawn). Ok d.problem) same)
+there_with parts walks (Err l) x h = cc
+
+there_by : (feed : Feed) (choices : Choices) (parts : GraphParts) (routed : Result (List PlainWalk) RouteFault) (x : Drawn) → routed_by feed choices parts routed ≡ Ok x
+    → (parts ≡ x.graph) × (problem_within feed choices parts ≡ Ok x.problem)
+there_by feed choices parts (Ok walks) x h = there_with parts walks (problem_within feed choices parts) x h
+there_by feed choices parts (Err stop) x h = cc
+
+pub graph_there : (feed : Feed) (choices : Choices) (outcome : Result GraphParts Limit) (x : Drawn) → drawn_on feed choices outcome ≡ Ok x → outcome ≡ Ok x.graph
+graph_there feed choices (Ok parts) x h = ap Ok (there_by feed choices parts (route_outcome parts choices.cell) x h).0
+graph_there feed choices (Err l) x h = cc
+
+pub problem_there : (feed : Feed) (choices : Choices) (outcome : Result GraphParts Limit) (x : Drawn) → drawn_on feed choices outcome ≡ Ok x → problem_within feed choices x.graph ≡ Ok x.problem
+problem_there feed choices (Ok parts) x h =
+    let both = there_by feed choices parts (route_outcome parts choices.cell) x h in
+    subst (λ (g : GraphParts). problem_within feed choices g ≡ Ok x.problem) both.0 both.1
+problem_there feed choices (Err l) x h = cc

@@ -1,0 +1,39 @@
+-- How much lines count: each number is one that a line may have.
+use Rattle.std.proofs.Common.{◌≡◌, ℕ, ◌<◌, Bool, true, false, cond, List, [], ◌∷◌, length, map, get_or, arith, All}
+use Rattle.std.specs.Prelude.{bytes_eq}
+use Rattle.std.proofs.lemmas.List.{length-map}
+use Rattle.std.proofs.lemmas.List.Elements.{All-head, All-tail, All-map, All-weaker}
+use Rattle.map_base.specs.declared.ids.LineId.{LineId}
+use Rattle.map_base.specs.Settings.{Choices, IsImportance}
+use Rattle.transit_feed.specs.declared.line.Line.{Line}
+use Rattle.transit_feed.specs.Feeds.{Feed}
+use Rattle.graph_core.specs.declared.parts.GraphParts.{GraphParts}
+use Rattle.order_terms.specs.Terms.{HasImportance, HaveImportance}
+use Rattle.map_engine.specs.Tables.{importance_among, importance_by, AreOfFeed}
+
+-- the number of a pair
+abbrev HasNumber : List ℕ × ℕ → Type 0
+HasNumber p = IsImportance p.1
+
+among_in_range : (pairs : List (List ℕ × ℕ)) (id : List ℕ) → All HasNumber pairs → IsImportance (importance_among pairs id)
+among_in_range [] id all = (omega arith, omega arith)
+among_in_range (p ∷ pairs) id all = by_test (bytes_eq p.0 id) (All-head HasNumber p pairs all) (among_in_range pairs id (All-tail HasNumber p pairs all))
+  where
+    by_test : (b : Bool) → IsImportance p.1 → IsImportance (importance_among pairs id) → IsImportance (cond b p.1 (importance_among pairs id))
+    by_test true here rest = here
+    by_test false here rest = rest
+
+line_has : (feed : Feed) (choices : Choices) (a : LineId) → All HasNumber choices.importance → a.0 < length feed.lines → HasImportance (importance_by feed choices) a
+line_has feed choices a all below =
+    let number : Line → ℕ = λ (l : Line). importance_among choices.importance l.id in
+    let each : length (importance_by feed choices) ≡ length feed.lines = length-map feed.lines number in
+    let within : a.0 < length (importance_by feed choices) = omega (arith, each, below) in
+    (within, All-map IsImportance number feed.lines (λ k d h. among_in_range choices.importance (get_or feed.lines k d).id all) a.0 0 within)
+
+-- all lines of a feed's graph have their numbers
+pub have_importance : (feed : Feed) (choices : Choices) (graph : GraphParts) → All (λ (p : List ℕ × ℕ). IsImportance p.1) choices.importance → AreOfFeed feed graph
+    → HaveImportance (importance_by feed choices) graph.lines
+have_importance feed choices graph all of_feed =
+    All-weaker (All (λ (a : LineId). a.0 < length feed.lines)) (All (HasImportance (importance_by feed choices)))
+    (λ lines h. All-weaker (λ (a : LineId). a.0 < length feed.lines) (HasImportance (importance_by feed choices)) (λ a. line_has feed choices a all) lines h)
+    graph.lines of_feed

@@ -1,0 +1,161 @@
+-- The check says yes to a drawing with its solved parts.
+use Rattle.std.proofs.Common.{◌≡◌, ◌∙◌, ap, sym, subst, refl, ℕ, zero, suc, ◌+◌, ◌<◌, ◌==◌, ◌&&◌, Bool, true, false, cond, List, [], ◌∷◌, length, map, get_or, option_map, arith, eq-eqb, Option, Some, None, Result, Ok, Err}
+use Rattle.std.specs.List.{All, AllByRecursion, list_all}
+use Rattle.std.specs.List.Sorted.{IsPermutation}
+use Rattle.std.proofs.lemmas.Bool.{and_from}
+use Rattle.std.proofs.lemmas.List.Sorted.{length_permutation, All-permutation}
+use Rattle.std.proofs.lemmas.List.Elements.{All-head, All-tail}
+use Rattle.map_base.specs.declared.ids.SegId.{SegId}
+use Rattle.map_base.specs.declared.ids.LineId.{LineId}
+use Rattle.map_base.specs.declared.limit.Limit.{Limit}
+use Rattle.map_base.specs.Settings.{Choices}
+use Rattle.transit_feed.specs.Feeds.{Feed}
+use Rattle.graph_core.specs.declared.parts.GraphParts.{GraphParts}
+use Rattle.line_graph.specs.Outcome.{graph_outcome}
+use Rattle.octi_grid.specs.Legal.{first_illegal, legal}
+use Rattle.order_model.specs.declared.problem.ProblemParts.{ProblemParts}
+use Rattle.order_model.specs.Places.{has_line}
+use Rattle.order_model.specs.Problems.{IsProblem}
+use Rattle.order_model.specs.Costs.{cost_of, AreOrders, AreBest}
+use Rattle.order_check.specs.declared.refusal.ProofItem.{ProofItem}
+use Rattle.svg_writer.specs.Picture.{picture_text}
+use Rattle.cert_file.specs.Plain.{PlainCertificate}
+use Rattle.map_engine.specs.declared.fault.CheckItem.{CheckItem}
+use Rattle.map_engine.specs.declared.fault.CheckItem.TheVariants as item
+use Rattle.map_engine.specs.Tables.{names_by}
+use Rattle.map_engine.specs.Problems.{Drawn, drawn_outcome, problem_of, problem_within}
+use Rattle.map_engine.specs.Solving.{SolvedPart, solved, solve_outcome, parts_in, orders_by}
+use Rattle.map_engine.specs.Certificates.{line_count, weighty_lines, certificate_of}
+use Rattle.map_engine.specs.Making.{MapBytes, map_of}
+use Rattle.map_engine.specs.Promises.{IsPictureOf, CostLeast, ShowsGraph, ShowsLineGraph}
+use Rattle.map_engine.specs.Checking.{PlainChecked, walk_refused, refused_unless, unless_refused, graph_item, importance_item, walk_item, order_item, cost_item, proof_item, are_same_pairs, is_order, first_disorder, first_difference, picture_item, checked_on, checked_orders, pictured, check_outcome}
+use Rattle.map_engine.specs.Wholes.{done_in, orders_in, IsWhole, ShowsFeed}
+use Rattle.map_engine.specs.declared.drawn_map.DrawnMap.{DrawnMap}
+use Rattle.map_engine.specs.declared.solution.Solution.{Solution}
+use Rattle.map_engine.specs.Stages.{drawn_of, map_by, IsShown, IsSolution}
+use Rattle.map_engine.proofs.DrawingLemmas.{graph_there, problem_there}
+use Rattle.map_engine.proofs.ItemLemmas.{has_at}
+use Rattle.map_engine.proofs.PartOrders.{all_are, shown_each, cost_is, best_is}
+use Rattle.map_engine.proofs.Accepting.{verdict_none}
+
+same_pairs : (pairs : List (LineId × ℕ)) → are_same_pairs pairs pairs ≡ true
+same_pairs [] = refl
+same_pairs (p ∷ pairs) =
+    and_from (p.0.0 == p.0.0 && p.1 == p.1) (are_same_pairs pairs pairs) (and_from (p.0.0 == p.0.0) (p.1 == p.1) (eq-eqb p.0.0 p.0.0 refl) (eq-eqb p.1 p.1 refl)) (same_pairs pairs)
+
+same_bytes : (bytes : List ℕ) → first_difference bytes bytes ≡ None
+same_bytes [] = refl
+same_bytes (x ∷ xs) =
+    ap (λ (b : Bool). cond b (option_map (λ (at : ℕ). 1 + at) (first_difference xs xs)) (Some 0)) (eq-eqb x x refl) ∙ ap (option_map (λ (at : ℕ). 1 + at)) (same_bytes xs)
+
+-- a permutation of the lines of a segment is an order of it
+
+all_pass : (test : LineId → Bool) (lines : List LineId) → All (λ (a : LineId). test a ≡ true) lines → list_all test lines ≡ true
+all_pass test [] all = refl
+all_pass test (a ∷ lines) all =
+    and_from (test a) (list_all test lines) (All-head (λ (b : LineId). test b ≡ true) a lines all) (all_pass test lines (All-tail (λ (b : LineId). test b ≡ true) a lines all))
+
+own_lines : (lines : List LineId) → All (λ (a : LineId). has_line lines a ≡ true) lines
+own_lines lines k d below = has_at lines k (get_or lines k d) below (ap (λ (a : LineId). a.0) (same_default lines k d (get_or lines k d) below))
+  where
+    same_default : (ls : List LineId) (i : ℕ) (x y : LineId) → i < length ls → get_or ls i y ≡ get_or ls i x
+    same_default [] i x y h = absurd (omega (arith, h))
+    same_default (a ∷ ls) zero x y h = refl
+    same_default (a ∷ ls) (suc i) x y h = same_default ls i x y (omega (arith, h))
+
+is_order_of : (lines order : List LineId) → IsPermutation lines order → is_order lines order ≡ true
+is_order_of lines order moved =
+    and_from (length order == length lines) (list_all (has_line lines) order)
+    (eq-eqb (length order) (length lines) (length_permutation lines order moved))
+    (all_pass (has_line lines) order (All-permutation (λ (a : LineId). has_line lines a ≡ true) lines order moved (own_lines lines)))
+
+abbrev seg_numbered : ℕ → SegId
+seg_numbered n = record { 0 = n }
+
+none_disordered : (k : ℕ) (segs orders : List (List LineId)) → AreOrders segs orders → first_disorder k segs orders ≡ None
+none_disordered k [] orders are = refl
+none_disordered k (lines ∷ segs) [] are = absurd are
+none_disordered k (lines ∷ segs) (order ∷ orders) are =
+    ap (λ (b : Bool). cond b (first_disorder (k + 1) segs orders) (Some (seg_numbered k))) (is_order_of lines order are.0) ∙ none_disordered (k + 1) segs orders are.1
+
+held : (holds : Bool) (i : CheckItem) → holds ≡ true → refused_unless holds i ≡ None
+held holds i h = ap (λ (b : Bool). cond b None (Some i)) h
+
+segs_same : (feed : Feed) (choices : Choices) (drawn : Drawn) → IsWhole feed choices drawn → drawn.problem.segs ≡ drawn.graph.lines
+segs_same feed choices drawn whole = ap (λ (p : ProblemParts). p.segs) whole.defined
+
+-- the map shows the line graph
+pub shows_graph : (feed : Feed) (choices : Choices) (drawn : Drawn) → IsWhole feed choices drawn
+    → ShowsLineGraph feed choices (map_of feed choices drawn (done_in drawn.problem)).svg (certificate_of feed choices drawn (done_in drawn.problem)).cost
+shows_graph feed choices drawn whole = record {
+  graph = drawn.graph;
+  of_feed = whole.of_feed;
+  shows = record {
+    walks = drawn.walks;
+    orders = orders_in drawn.problem;
+    shown = record { legal = whole.legal; ordered = subst (λ (segs : List (List LineId)). AreOrders segs (orders_in drawn.problem)) (segs_same feed choices drawn whole) whole.ordered; picture = refl };
+    least = record {
+      costs = ap (λ (p : ProblemParts). cost_of p.terms (orders_in drawn.problem)) (sym whole.defined);
+      best = subst (λ (p : ProblemParts). AreBest p.segs p.terms (orders_in drawn.problem)) whole.defined (best_is drawn.problem whole.fits whole.shown);
+    };
+  };
+}
+
+-- and the check says yes to it
+pub accepts_map : (feed : Feed) (choices : Choices) (drawn : Drawn) → IsWhole feed choices drawn → first_illegal drawn.graph drawn.walks ≡ None
+    → check_outcome feed choices (map_of feed choices drawn (done_in drawn.problem)).svg (Ok (certificate_of feed choices drawn (done_in drawn.problem)))
+    ≡ Ok (certificate_of feed choices drawn (done_in drawn.problem)).cost
+accepts_map feed choices drawn whole none_illegal =
+    let p : ProblemParts = drawn.problem in
+    let graph : GraphParts = drawn.graph in
+    let c : PlainCertificate = certificate_of feed choices drawn (done_in p) in
+    let svg : List ℕ = picture_text (names_by feed) graph drawn.walks (orders_in p) in
+    let due : PlainChecked = record { cost = c.cost; svg = svg } in
+    let by_terms = checked_orders feed graph c (problem_within feed choices graph) in
+    let by_orders = unless_refused (order_item graph c) by_terms in
+    let by_walks = unless_refused (walk_item graph c) by_orders in
+    let by_importance = unless_refused (importance_item feed choices graph c) by_walks in
+    let counts : graph_item feed graph c ≡ None =
+    held _ item.Graph (and_from (c.nodes == length graph.kinds && c.segs == length graph.ends) (c.lines == line_count feed graph)
+    (and_from (c.nodes == length graph.kinds) (c.segs == length graph.ends) (eq-eqb c.nodes c.nodes refl) (eq-eqb c.segs c.segs refl)) (eq-eqb c.lines c.lines refl)) in
+    let pairs : importance_item feed choices graph c ≡ None = held _ item.Importance (same_pairs (weighty_lines feed choices graph)) in
+    let walks : walk_item graph c ≡ None = ap (option_map walk_refused) none_illegal in
+    let orders : order_item graph c ≡ None =
+    ap (option_map item.Order) (none_disordered 0 graph.lines (orders_in p) (subst (λ (segs : List (List LineId)). AreOrders segs (orders_in p)) (segs_same feed choices drawn whole) whole.ordered)) in
+    let cost : cost_item p c.orders c.cost ≡ None = held _ item.Cost (eq-eqb c.cost c.cost refl) in
+    let proof : proof_item p c.orders c.proof ≡ None =
+    ap (option_map item.Proof) (verdict_none p (orders_in p) whole.shown (cost_is p whole.fits whole.shown)) in
+    ap (λ (r : Result GraphParts Limit). pictured svg (checked_on feed choices (Ok c) r)) whole.of_feed
+    ∙ ap (λ (o : Option CheckItem). pictured svg (unless_refused o by_importance)) counts
+    ∙ ap (λ (o : Option CheckItem). pictured svg (unless_refused o by_walks)) pairs
+    ∙ ap (λ (o : Option CheckItem). pictured svg (unless_refused o by_orders)) walks
+    ∙ ap (λ (o : Option CheckItem). pictured svg (unless_refused o by_terms)) orders
+    ∙ ap (λ (r : Result ProblemParts Limit). pictured svg (checked_orders feed graph c r)) whole.counted
+    ∙ ap (λ (o : Option CheckItem). pictured svg (unless_refused o (unless_refused (proof_item p c.orders c.proof) (Ok due)))) cost
+    ∙ ap (λ (o : Option CheckItem). pictured svg (unless_refused o (Ok due))) proof
+    ∙ ap (λ (o : Option ℕ). unless_refused (option_map item.Picture o) (Ok c.cost)) (same_bytes svg)
+
+-- what is drawn and solved is whole
+pub whole_is : (feed : Feed) (choices : Choices) (d : DrawnMap) (s : Solution) (parts : List SolvedPart) → drawn_outcome feed choices ≡ Ok (drawn_of d)
+    → legal d.graph d.drawing.walks ≡ true → d.problem ≡ problem_of feed choices d.graph → IsProblem d.problem → AreOrders d.problem.segs s.orders.items
+    → solve_outcome choices.budget d.problem ≡ Ok parts → IsSolution d.problem parts s → IsWhole feed choices (drawn_of d)
+whole_is feed choices d s parts drawn is_legal defined fits ordered is_solved solution =
+    let all : parts ≡ done_in d.problem = all_are choices.budget d.problem parts is_solved in
+    record {
+      of_feed = graph_there feed choices (graph_outcome choices.near feed) (drawn_of d) drawn;
+      legal = is_legal;
+      counted = problem_there feed choices (graph_outcome choices.near feed) (drawn_of d) drawn;
+      defined = defined;
+      fits = fits;
+      ordered = subst (AreOrders d.problem.segs) (solution.orders ∙ ap (orders_by d.problem) all) ordered;
+      shown = shown_each d.problem (parts_in d.problem) (subst (AllByRecursion (λ (q : SolvedPart). IsShown d.problem q.segs)) all solution.shown);
+    }
+
+pub shows_feed : (feed : Feed) (choices : Choices) (d : DrawnMap) (s : Solution) (parts : List SolvedPart) → drawn_outcome feed choices ≡ Ok (drawn_of d)
+    → legal d.graph d.drawing.walks ≡ true → d.problem ≡ problem_of feed choices d.graph → IsProblem d.problem → AreOrders d.problem.segs s.orders.items
+    → solve_outcome choices.budget d.problem ≡ Ok parts → IsSolution d.problem parts s → ShowsFeed feed choices (map_by feed d s).svg
+shows_feed feed choices d s parts drawn is_legal defined fits ordered is_solved solution =
+    let whole = whole_is feed choices d s parts drawn is_legal defined fits ordered is_solved solution in
+    let all : s.orders.items ≡ orders_in d.problem = solution.orders ∙ ap (orders_by d.problem) (all_are choices.budget d.problem parts is_solved) in
+    subst (λ (orders : List (List LineId)). ShowsFeed feed choices (picture_text (names_by feed) d.graph d.drawing.walks orders)) (sym all)
+    ((certificate_of feed choices (drawn_of d) (done_in d.problem)).cost, shows_graph feed choices (drawn_of d) whole)

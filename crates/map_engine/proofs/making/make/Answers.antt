@@ -1,0 +1,83 @@
+use Rattle.std.proofs.Common.{◌≡◌, ◌≤◌, ◌∙◌, ◌+◌, ℕ, List, [], length, map, sum_by, sym, ap, subst, Ok, Result, arith}
+use Rattle.std.proofs.lemmas.List.{length-map}
+use Rattle.std.proofs.lemmas.Result.{err_from_is_err_and}
+use Rattle.map_base.specs.Settings.{Choices}
+use Rattle.transit_feed.specs.declared.line.Line.{Line}
+use Rattle.order_model.specs.declared.problem.ProblemParts.{ProblemParts}
+use Rattle.order_proof.specs.Plain.{PlainPart}
+use Rattle.order_proof.specs.Trees.{HasTrees}
+use Rattle.order_search.specs.FoundParts.{branches_in}
+use Rattle.map_engine.specs.Tables.{importance_among}
+use Rattle.map_engine.specs.Solving.{solve_outcome, parts_in}
+use Rattle.map_engine.specs.Keeping.{branches_left}
+use Rattle.map_engine.specs.Making.{MapBytes, HasCause}
+use Rattle.map_engine.specs.Stages.{Solves}
+use Rattle.map_engine.proofs.MadeLemmas.{map_is, outcome_is, not_drawn, not_solved, none_held, with_rules}
+use Rattle.map_engine.specs.Wholes.{ShowsFeed}
+use Rattle.map_engine.proofs.Promised.{shows_feed}
+use Rattle.map_engine.proofs.making.make.Goals as goal
+
+pub returns-in_err-drawn-clause-outcome : goal.returns-in_err-drawn-clause-outcome
+returns-in_err-drawn-clause-outcome g c =
+    let same = err_from_is_err_and c.from_residual.result c.from_residual.ensures.1 in
+    rw (same.1, same.2) (not_drawn c.args.tables.now c.args.settings.now c.in_err-drawn.field-0.0 c.in_err-drawn.ensures.outcome)
+
+pub returns-in_err-solution-clause-outcome : goal.returns-in_err-solution-clause-outcome
+returns-in_err-solution-clause-outcome g c =
+    let e = c.in_err-solution.field-0.0 in
+    let d = c.in_ok-drawn.drawn in
+    let cause = subst (λ (s : Choices). HasCause (solve_outcome s.budget d.problem) e) c.settings.view_is c.in_err-solution.ensures.solved in
+    let same = err_from_is_err_and c.from_residual-in_err-solution.result c.from_residual-in_err-solution.ensures.1 in
+    rw (same.1, same.2) (not_solved c.args.tables.now c.args.settings.now d e c.in_ok-drawn.ensures.outcome cause)
+
+pub returns-in_err-solution-clause-steps : goal.returns-in_err-solution-clause-steps
+returns-in_err-solution-clause-steps g c =
+    let left = ap (λ (held : List ProblemParts). branches_left held c.args.tables.now c.args.settings.now) c.is_empty-none.ensures
+    ∙ none_held c.args.tables.now c.args.settings.now c.in_ok-drawn.drawn c.in_ok-drawn.ensures.outcome in
+    omega (arith, left, c.solve_parts.ensures.steps)
+
+pub returns-in_err-written-clause-steps : goal.returns-in_err-written-clause-steps
+returns-in_err-written-clause-steps g c =
+    let left = ap (λ (held : List ProblemParts). branches_left held c.args.tables.now c.args.settings.now) c.is_empty-none.ensures
+    ∙ none_held c.args.tables.now c.args.settings.now c.in_ok-drawn.drawn c.in_ok-drawn.ensures.outcome in
+    omega (arith, left, c.solve_parts.ensures.steps)
+
+pub returns-clause-steps : goal.returns-clause-steps
+returns-clause-steps g c =
+    let left = ap (λ (held : List ProblemParts). branches_left held c.args.tables.now c.args.settings.now) c.is_empty-none.ensures
+    ∙ none_held c.args.tables.now c.args.settings.now c.in_ok-drawn.drawn c.in_ok-drawn.ensures.outcome in
+    omega (arith, left, c.solve_parts.ensures.steps)
+
+pub written-requires-clause-lines : goal.written-requires-clause-lines
+written-requires-clause-lines g c =
+    ap length c.in_ok-drawn.ensures.importance ∙ length-map c.args.tables.now.lines (λ (l : Line). importance_among c.args.settings.now.importance l.id)
+
+pub written-requires-clause-segs : goal.written-requires-clause-segs
+written-requires-clause-segs g c = ap (λ (p : ProblemParts). p.segs) c.in_ok-drawn.ensures.problem
+
+pub written-requires-clause-orders : goal.written-requires-clause-orders
+written-requires-clause-orders g c = c.in_ok-solution.ensures.orders
+
+pub written-requires-clause-trees : goal.written-requires-clause-trees
+written-requires-clause-trees g c =
+    let found = c.in_ok-solution.ensures.solved in
+    subst (λ (parts : List PlainPart). HasTrees (with_rules parts)) (sym found.2.proofs) found.2.trees
+
+pub returns-clause-outcome : goal.returns-clause-outcome
+returns-clause-outcome g c =
+    let d = c.in_ok-drawn.drawn in
+    let s = c.in_ok-solution.solution in
+    let found = c.in_ok-solution.ensures.solved in
+    let solved = subst (λ (k : Choices). solve_outcome k.budget d.problem ≡ Ok found.0) c.settings.view_is found.1 in
+    outcome_is c.args.tables.now c.args.settings.now d s found.0 c.in_ok-drawn.ensures.outcome solved c.in_ok-drawn.ensures.importance found.2
+    ∙ ap Ok (sym c.in_ok-written.ensures)
+
+pub returns-clause-shows : goal.returns-clause-shows
+returns-clause-shows g c =
+    let d = c.in_ok-drawn.drawn in
+    let s = c.in_ok-solution.solution in
+    let found = c.in_ok-solution.ensures.solved in
+    let solved = subst (λ (k : Choices). solve_outcome k.budget d.problem ≡ Ok found.0) c.settings.view_is found.1 in
+    let shown = shows_feed c.args.tables.now c.args.settings.now d s found.0 c.in_ok-drawn.ensures.outcome c.in_ok-drawn.ensures.legal c.in_ok-drawn.ensures.problem
+    c.in_ok-solution.ensures.fits c.in_ok-solution.ensures.orders solved found.2 in
+    subst (ShowsFeed c.args.tables.now c.args.settings.now) (ap (λ (m : MapBytes). m.svg) (sym c.in_ok-written.ensures)) shown

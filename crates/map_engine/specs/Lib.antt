@@ -1,0 +1,14 @@
+pub mod Tables
+pub mod Faults
+pub mod Problems
+pub mod Solving
+pub mod Certificates
+pub mod DrawnLines
+pub mod Making
+pub mod Stages
+pub mod FrontReadings
+pub mod Readings
+pub mod Checking
+pub mod Keeping
+pub mod Promises
+pub mod Wholes

@@ -1,0 +1,56 @@
+-- The map of a feed and its certificate; or why there is none.
+use Rattle.std.specs.Prelude.{◌≡◌, ℕ, List, Vec, Result, Ok, Err}
+use Rattle.std.specs.Global.{Global}
+use Rattle.map_base.specs.Settings.{Choices}
+use Rattle.transit_feed.specs.Feeds.{Feed}
+use Rattle.svg_writer.specs.Picture.{picture_text}
+use Rattle.cert_file.specs.Text.{certificate_text}
+use Rattle.map_engine.specs.declared.fault.MakeFault.{MakeFault}
+use Rattle.map_engine.specs.declared.fault.MakeFault.TheVariants as fault
+use Rattle.map_engine.specs.declared.made.Made.{Made}
+use Rattle.map_engine.specs.Tables.{names_by}
+use Rattle.map_engine.specs.Problems.{Drawn, drawn_outcome}
+use Rattle.map_engine.specs.Solving.{SolvedPart, solve_outcome, orders_by}
+use Rattle.map_engine.specs.Certificates.{certificate_of}
+
+-- the bytes of a map and of its certificate
+pub record MapBytes : Type 0 where
+  pub svg : List ℕ
+  pub certificate : List ℕ
+
+-- the map and the certificate of a drawing with solved parts
+abbrev pub map_of : Feed → Choices → Drawn → List SolvedPart → MapBytes
+map_of feed choices drawn parts = record {
+  svg = picture_text (names_by feed) drawn.graph drawn.walks (orders_by drawn.problem parts);
+  certificate = certificate_text (certificate_of feed choices drawn parts);
+}
+
+-- what comes of a drawing and its parts
+abbrev pub made_with : Feed → Choices → Drawn → Result (List SolvedPart) MakeFault → Result MapBytes MakeFault
+made_with feed choices drawn (Ok parts) = Ok (map_of feed choices drawn parts)
+made_with feed choices drawn (Err stop) = Err stop
+
+abbrev pub made_on : Feed → Choices → Result Drawn MakeFault → Result MapBytes MakeFault
+made_on feed choices (Ok drawn) = made_with feed choices drawn (solve_outcome choices.budget drawn.problem)
+made_on feed choices (Err stop) = Err stop
+
+-- The map of a feed and its certificate; or the first cause why there is none: a limit of the line graph, of cells, no
+-- route, a limit of terms, or a part that is over the limit of places or over the budget. It never is want of memory.
+abbrev pub make_outcome : Feed → Choices → Result MapBytes MakeFault
+make_outcome feed choices = made_on feed choices (drawn_outcome feed choices)
+
+-- the bytes of what was made
+abbrev pub bytes_of : Made → MapBytes
+bytes_of made = record { svg = made.svg.items; certificate = made.certificate.items }
+
+-- the fault is the one that comes by definition; want of memory is free
+abbrev pub HasCause : {A : Type 0} → Result A MakeFault → MakeFault → Type 0
+HasCause outcome fault.NoMemory = Unit {0}
+HasCause outcome (fault.NoRoute seg) = outcome ≡ Err (fault.NoRoute seg)
+HasCause outcome (fault.Spent component branches) = outcome ≡ Err (fault.Spent component branches)
+HasCause outcome (fault.Limit limit) = outcome ≡ Err (fault.Limit limit)
+
+-- what was answered, seen by view, is what comes by definition, unless memory ran out
+abbrev pub Gives : {X Y : Type 0} → (X → Y) → Result X MakeFault → Result Y MakeFault → Type 0
+Gives view (Ok x) outcome = outcome ≡ Ok (view x)
+Gives view (Err e) outcome = HasCause outcome e

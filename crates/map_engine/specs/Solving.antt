@@ -1,0 +1,78 @@
+-- The parts of a problem, each solved by its live tree.
+use Rattle.std.specs.Prelude.{ℕ, ◌+◌, nat_lt, nat_le, Bool, true, false, ◌&&◌, List, [], ◌∷◌, map, fold, Result, Ok, Err, if◌then◌else◌}
+use Rattle.map_base.specs.declared.ids.SegId.{SegId}
+use Rattle.map_base.specs.declared.ids.LineId.{LineId}
+use Rattle.map_base.specs.declared.limit.LimitKind.TheVariants.{Places}
+use Rattle.map_base.specs.Limits.{limit_of, is_within}
+use Rattle.order_model.specs.declared.problem.ProblemParts.{ProblemParts}
+use Rattle.order_model.specs.Gathering.{problem_parts}
+use Rattle.order_proof.specs.Plain.{PlainTree}
+use Rattle.order_search.specs.LiveTrees.{GrownTree, live_tree}
+use Rattle.order_search.specs.FoundParts.{part_in, branches_in}
+use Rattle.order_search.specs.Finding.{places_of, with_lists}
+use Rattle.map_engine.specs.declared.fault.MakeFault.{MakeFault}
+use Rattle.map_engine.specs.declared.fault.MakeFault.TheVariants as fault
+
+-- the live tree of a part, with the best orders that it meets
+abbrev pub live_of : ProblemParts → List SegId → GrownTree
+live_of p part = live_tree (part_in p part)
+
+-- the part has few enough places to be searched
+abbrev pub is_shallow : ProblemParts → List SegId → Bool
+is_shallow p part = is_within Places (places_of p.segs part)
+
+-- its live tree has no more branch nodes than the budget
+abbrev pub is_affordable : ℕ → ProblemParts → List SegId → Bool
+is_affordable budget p part = nat_le (branches_in p part) budget
+
+-- both hold, so the part is solved
+abbrev pub is_solvable : ℕ → ProblemParts → List SegId → Bool
+is_solvable budget p part = is_shallow p part && is_affordable budget p part
+
+-- a part with what its live tree shows: the least cost, and the orders of its segments that are printed
+pub record SolvedPart : Type 0 where
+  pub segs : List SegId
+  pub target : ℕ
+  pub tree : PlainTree
+  pub lists : List (List LineId)
+
+abbrev pub solved : ProblemParts → List SegId → SolvedPart
+solved p part = record {
+  segs = part;
+  target = (live_of p part).best.cost;
+  tree = (live_of p part).tree;
+  lists = (live_of p part).best.lists;
+}
+
+-- why part k is not solved: it is over the limit of places, or else over the budget
+abbrev pub why_unsolved : ℕ → ProblemParts → ℕ → List SegId → MakeFault
+why_unsolved budget p k part = if is_shallow p part then fault.Spent k (budget + 1) else fault.Limit (limit_of Places)
+
+-- a solved part before others
+abbrev pub with_solved : SolvedPart → Result (List SolvedPart) MakeFault → Result (List SolvedPart) MakeFault
+with_solved first (Ok later) = Ok (first ∷ later)
+with_solved first (Err stop) = Err stop
+
+-- all parts, from part k on, solved in turn; or why the first that is not solved is none
+abbrev pub solve_from : ℕ → ProblemParts → ℕ → List (List SegId) → Result (List SolvedPart) MakeFault
+solve_from budget p k [] = Ok []
+solve_from budget p k (part ∷ parts) =
+    if is_solvable budget p part then with_solved (solved p part) (solve_from budget p (k + 1) parts)
+    else Err (why_unsolved budget p k part)
+
+-- the parts of a problem
+abbrev pub parts_in : ProblemParts → List (List SegId)
+parts_in p = problem_parts p.segs p.terms
+
+-- all parts of a problem, solved in turn
+abbrev pub solve_outcome : ℕ → ProblemParts → Result (List SolvedPart) MakeFault
+solve_outcome budget p = solve_from budget p 0 (parts_in p)
+
+-- orders in which the segments of solved parts have the orders that were found
+abbrev pub with_parts : List SolvedPart → List (List LineId) → List (List LineId)
+with_parts [] orders = orders
+with_parts (s ∷ later) orders = with_parts later (with_lists s.segs s.lists orders)
+
+-- the orders of a problem by its solved parts: where a segment is of no part, its lines in their number order
+abbrev pub orders_by : ProblemParts → List SolvedPart → List (List LineId)
+orders_by p parts = with_parts parts p.segs

@@ -1,0 +1,63 @@
+//! From a feed to its drawing and the problem of its line orders.
+
+ghost use Rattle.std.specs.Prelude.{◌≡◌, true, IfOk, Ok};
+ghost use Rattle.octi_grid.specs.Legal.{legal};
+ghost use Rattle.line_graph.specs.Outcome.{graph_outcome};
+ghost use Rattle.map_engine.specs.Tables.{AreOfFeed};
+ghost use Rattle.map_engine.specs.Tables.{importance_by};
+ghost use Rattle.map_engine.specs.Problems.{drawn_outcome, drawn_on, problem_of};
+ghost use Rattle.map_engine.specs.Making.{Gives};
+ghost use Rattle.map_engine.specs.Stages.{drawn_of};
+
+use crate::drawn_map::DrawnMap;
+use crate::fault::MakeFault;
+use crate::importance::importance_of;
+use graph_core::LineGraph;
+use line_graph::build;
+use map_base::Settings;
+use order_terms::terms_of;
+use segment_router::route;
+use std::alloc::Global;
+use transit_feed::Tables;
+
+/// The line graph of a feed, its drawing, and the problem of its line orders: what comes first of a limit of the line
+/// graph or of the grid's cells, a segment without a walk, and a limit of terms, is answered.
+pub(crate) fn drawn_map(
+    alloc: Global,
+    tables: &Tables,
+    settings: &Settings,
+) -> Result<DrawnMap, MakeFault>
+    ensures outcome { Gives drawn_of result (drawn_outcome tables.now settings.now) }
+    ensures legal { IfOk result (λ d. legal d.graph d.drawing.walks ≡ true) }
+    ensures lines { IfOk result (λ d. AreOfFeed tables.now d.graph) }
+    ensures importance { IfOk result (λ d. d.importance.items ≡ importance_by tables.now settings.now) }
+    ensures problem { IfOk result (λ d. d.problem ≡ problem_of tables.now settings.now d.graph) }
+{
+    let graph = build(alloc, tables, settings)?;
+    drawn_on_graph(alloc, tables, settings, graph)
+}
+
+/// The same from the line graph on.
+fn drawn_on_graph(
+    alloc: Global,
+    tables: &Tables,
+    settings: &Settings,
+    graph: LineGraph,
+) -> Result<DrawnMap, MakeFault>
+    requires lines { AreOfFeed tables.now graph }
+    ensures outcome { Gives drawn_of result (drawn_on tables.now settings.now (Ok graph)) }
+    ensures legal { IfOk result (λ d. legal d.graph d.drawing.walks ≡ true) }
+    ensures lines { IfOk result (λ d. AreOfFeed tables.now d.graph) }
+    ensures importance { IfOk result (λ d. d.importance.items ≡ importance_by tables.now settings.now) }
+    ensures problem { IfOk result (λ d. d.problem ≡ problem_of tables.now settings.now d.graph) }
+{
+    let drawing = route(alloc, &graph, settings.cell)?;
+    let importance = importance_of(alloc, tables, settings)?;
+    let problem = terms_of(alloc, &graph, &settings.weights, importance.as_slice())?;
+    Ok(DrawnMap {
+        graph,
+        drawing,
+        importance,
+        problem,
+    })
+}

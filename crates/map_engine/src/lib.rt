@@ -1,0 +1,38 @@
+//! The map of a feed and its certificate, and the check of both.
+//!
+//! `make` draws the feed's line graph on the grid, finds the line orders that cost least, and writes the map and a
+//! certificate. `check` says yes only where the drawing is legal, no line orders cost less and the map is the picture that
+//! is due, whoever made them; else it names the first item that is refused. `Kept` holds what was found of the parts of
+//! a problem from one map to the next, and never changes a byte of it.
+#![tactic(auto)]
+
+mod checked;
+mod checking;
+mod drawing;
+mod drawn_lines;
+mod drawn_map;
+mod fault;
+mod importance;
+mod items;
+mod kept;
+mod laws;
+mod made;
+mod making;
+mod names;
+mod promises;
+mod solution;
+mod solving;
+
+pub use checked::Checked;
+pub use checking::{check, check_certificate, check_on_graph};
+pub use fault::{CheckFault, CheckItem, MakeFault};
+pub use importance::importance_of;
+pub use items::first_difference;
+pub use kept::Kept;
+pub use laws::{
+    each_certificate_is_read_from_its_text, each_other_text_is_refused_at_its_first_wrong_line,
+};
+pub use made::Made;
+pub use making::make;
+pub use names::names_of;
+pub use promises::a_solved_drawing_is_accepted;
