@@ -7,7 +7,7 @@ use Rattle.map_base.specs.declared.ids.LineId.{LineId}
 use Rattle.graph_core.specs.Consistent.{AreRising}
 use Rattle.order_model.specs.declared.term.Term.{Term}
 use Rattle.order_model.specs.declared.problem.ProblemParts.{ProblemParts}
-use Rattle.order_model.specs.Problems.{lines_on, IsTerm, IsProblem}
+use Rattle.order_model.specs.Problems.{lines_on, IsProblem}
 use Rattle.order_model.specs.Costs.{term_cost, cost_of}
 use Rattle.order_model.specs.Parts.{IsRisingPart}
 use Rattle.order_model.specs.PartTerms.{part_terms, part_numbers, plain_terms, no_term}
@@ -16,10 +16,9 @@ use Rattle.order_model.proofs.KeptTerms.{part_numbers_known, part_terms_few, par
 use Rattle.order_bound.proofs.Sums.{sum_map}
 use Rattle.part_bounds.specs.PartStates.{PartState, IsWell}
 use Rattle.order_search.specs.declared.search_state.Search.{Search}
-use Rattle.order_search.specs.LiveTrees.{Best, number_order}
-use Rattle.order_search.specs.Bounded.{bounded_part}
+use Rattle.order_search.specs.LiveTrees.{Best}
 use Rattle.order_search.specs.FoundParts.{cost_of_number}
-use Rattle.order_search.specs.Searching.{best_of, IsOfProblem, IsUnderWay, IsBegun}
+use Rattle.order_search.specs.Searching.{IsOfProblem, IsBegun}
 
 pub numbers_known : (terms : List Term) (part : List SegId) (numbers : List ℕ) → numbers ≡ part_numbers terms part → All (λ n. n < length terms) numbers
 numbers_known terms part numbers e = subst (All (λ n. n < length terms)) (sym e) (part_numbers_known part terms)

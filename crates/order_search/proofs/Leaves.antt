@@ -26,7 +26,7 @@ leaf_better b cost best same below =
     ap (λ t. cond t (best_at (part_of b) b.placed) best) (lt-ltb (cost_of (plain_terms b.terms) b.placed) best.cost (omega (arith, same, below)))
     ∙ ap (λ (n : ℕ). let at : Best = record { cost = n; lists = map (λ s. lines_on b.placed s) b.part } in at) (sym same)
 
-leaf_no_better : (b : PartState) (cost : ℕ) (best : Best) → cost ≡ cost_of (plain_terms b.terms) b.placed → best.cost ≤ cost → better (part_of b) b.placed best ≡ best
+pub leaf_no_better : (b : PartState) (cost : ℕ) (best : Best) → cost ≡ cost_of (plain_terms b.terms) b.placed → best.cost ≤ cost → better (part_of b) b.placed best ≡ best
 leaf_no_better b cost best same above = by_test (nat_lt (cost_of (plain_terms b.terms) b.placed) best.cost) refl (omega (arith, same, above))
   where
     by_test : (t : Bool) → nat_lt (cost_of (plain_terms b.terms) b.placed) best.cost ≡ t → best.cost ≤ cost_of (plain_terms b.terms) b.placed

@@ -31,3 +31,4 @@ mod RenamedTrees
 mod RisingNumbers
 mod OwnParts
 mod Begins
+mod Early

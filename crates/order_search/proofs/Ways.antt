@@ -73,7 +73,7 @@ cases_by at b lines best = grow_cases (live_at (bare b)) (bare b) b.placed (seg_
 
 -- The children of a split.
 
-drop_front : (xs ys : List Child) (n : ℕ) → n ≡ length xs → drop n (xs ++ ys) ≡ ys
+pub drop_front : (xs ys : List Child) (n : ℕ) → n ≡ length xs → drop n (xs ++ ys) ≡ ys
 drop_front xs ys n e = ap (λ k. drop k (xs ++ ys)) e ∙ whole xs
   where
     whole : (zs : List Child) → drop (length zs) (zs ++ ys) ≡ ys

@@ -1,5 +1,6 @@
 -- A search under way.
 use Rattle.std.specs.Prelude.{◌≡◌, ℕ, ◌+◌, ◌<◌, ◌≤◌, ◌^◌, List, [], ◌++◌, length, take, drop, slice_index_or, All, Some, None}
+use Rattle.std.specs.List.{AllByRecursion}
 use Rattle.map_base.specs.declared.ids.SegId.{SegId}
 use Rattle.map_base.specs.declared.ids.LineId.{LineId}
 use Rattle.graph_core.specs.Consistent.{AreRising}
@@ -59,6 +60,10 @@ pub record IsOfProblem (problem : ProblemParts) (b : PartState) : Type 0 where
   pub terms : b.terms ≡ part_terms problem.terms b.part
   pub fits : All (IsTerm b.segs) problem.terms
   pub rises : IsRisingPart b.part
+
+-- each of these children has the bound of the prefix in which its line is placed next on a segment
+abbrev pub AreBounded : PartState → SegId → List Child → Type 0
+AreBounded b s children = AllByRecursion (λ (c : Child). c.bound ≡ (part_of b).bound (placed_more b.segs b.placed s c.line)) children
 
 -- the search has a prefix of its part, and has not met more branch nodes than it may
 pub record IsUnderWay (search : Search) : Type 0 where

@@ -2,14 +2,16 @@
 
 ghost use Rattle.std.specs.Prelude.{◌≡◌, ◌+◌, ◌<◌, ◌≤◌, [], length, map, drop, false, Contains, IfOk, IfErr, OnOk};
 ghost use Rattle.order_model.specs.Problems.{lines_on};
+ghost use Rattle.order_model.specs.Completions.{placed_more};
 ghost use Rattle.order_model.specs.Prefixes.{is_placed};
 ghost use Rattle.order_proof.specs.Plain.{plain, close, cases_of};
 ghost use Rattle.order_proof.specs.Trees.{splits_of, splits_of_cases};
 ghost use Rattle.order_search.specs.Left.{AreNext};
 ghost use Rattle.order_search.specs.Children.{lines_in};
-ghost use Rattle.order_search.specs.Searching.{part_of, due, due_case, due_cases, seg_at, IsUnderWay, AreShut, IsOpenAt, HasGrown, IsStop};
+ghost use Rattle.order_search.specs.Searching.{part_of, due, due_case, due_cases, seg_at, AreBounded, IsUnderWay, AreShut, IsOpenAt, HasGrown, IsStop};
 
 use crate::best::compare;
+use crate::child::Child;
 use crate::children::push_children;
 use crate::found::SearchFault;
 use crate::search_state::{Search, next_open};
@@ -123,6 +125,7 @@ fn grow_cases<L: Ledger>(
     requires first { IsOpenAt at search.old }
     requires start { start ≤ length search.old.children.items }
     requires next { AreNext search.old.bounds.segs search.old.bounds.placed (seg_at at search.old) (lines_in (drop start search.old.children.items)) }
+    requires bounded { AreBounded search.old.bounds (seg_at at search.old) (drop start search.old.children.items) }
     ensures steps { steps.new + search.old.spent ≡ steps.old + search.new.spent }
     ensures most { search.new.spent ≤ search.old.spent + splits_of_cases (cases_of (due_cases at start search.old).cases) }
     ensures cases { IfOk result (λ v. map (λ c. (c.0, plain c.1)) v.items ≡ (due_cases at start search.old).cases) }
@@ -132,34 +135,39 @@ fn grow_cases<L: Ledger>(
     let count = search.children.len() - start;
     let mut cases = Vec::with_capacity(alloc, count)?;
     for k in 0..count {
-        let line = search.children[start + k].line;
-        let tree = grow_case(alloc, search, at, line, steps)?;
-        cases.push((line, tree))?;
+        let child = search.children[start + k];
+        let tree = grow_case(alloc, search, at, child, steps)?;
+        cases.push((child.line, tree))?;
     }
     Ok(cases)
 }
 
-/// The tree of a case, whose line is placed while it grows.
+/// The tree of a case, whose line is placed while it grows. Where its bound is not below the best so far it is closed,
+/// whether it is complete or not, and its line need not be placed.
 #[cycle(grow)]
 fn grow_case<L: Ledger>(
     alloc: Global,
     search: &mut Search,
     at: usize,
-    line: LineId,
+    child: Child,
     steps: &mut Steps<L>,
 ) -> Result<Tree, SearchFault>
     requires under_way { IsUnderWay search.old }
     requires first { IsOpenAt at search.old }
-    requires line { Contains (lines_on search.old.bounds.segs (seg_at at search.old)) line }
-    requires unplaced { is_placed (lines_on search.old.bounds.placed (seg_at at search.old)) line ≡ false }
+    requires line { Contains (lines_on search.old.bounds.segs (seg_at at search.old)) child.line }
+    requires unplaced { is_placed (lines_on search.old.bounds.placed (seg_at at search.old)) child.line ≡ false }
+    requires bound { child.bound ≡ (part_of search.old.bounds).bound (placed_more search.old.bounds.segs search.old.bounds.placed (seg_at at search.old) child.line) }
     ensures steps { steps.new + search.old.spent ≡ steps.old + search.new.spent }
-    ensures most { search.new.spent ≤ search.old.spent + splits_of (due_case at line search.old).tree }
-    ensures tree { IfOk result (λ t. plain t ≡ (due_case at line search.old).tree) }
-    ensures grown { OnOk result (HasGrown search.old search.new (due_case at line search.old).best (splits_of (due_case at line search.old).tree)) }
-    ensures stop { IfErr result (IsStop search.old.budget (search.old.spent + splits_of (due_case at line search.old).tree)) }
+    ensures most { search.new.spent ≤ search.old.spent + splits_of (due_case at child.line search.old).tree }
+    ensures tree { IfOk result (λ t. plain t ≡ (due_case at child.line search.old).tree) }
+    ensures grown { OnOk result (HasGrown search.old search.new (due_case at child.line search.old).best (splits_of (due_case at child.line search.old).tree)) }
+    ensures stop { IfErr result (IsStop search.old.budget (search.old.spent + splits_of (due_case at child.line search.old).tree)) }
 {
+    if child.bound >= search.cost {
+        return Ok(closed(alloc));
+    }
     let seg = search.part[at];
-    search.bounds.place(seg, line);
+    search.bounds.place(seg, child.line);
     let tree = grow(alloc, search, at, steps)?;
     search.bounds.take_back(seg);
     Ok(tree)

@@ -1,4 +1,4 @@
-use Rattle.std.proofs.Common.{◌≡◌, sym, ◌∙◌, ap}
+use Rattle.std.proofs.Common.{sym, ◌∙◌, ap}
 use Rattle.order_model.specs.PartTerms.{part_numbers}
 use Rattle.order_search.specs.LiveTrees.{GrownTree}
 use Rattle.order_search.specs.ByItself.{renumbered}
