@@ -1,63 +1,63 @@
 -- The tables of a feed fit together.
-use Rattle.std.proofs.Common.{◌≡◌, ◌≢◌, ◌<◌, ◌≤◌, ◌+◌, ℕ, suc, Bool, true, false, cond, List, [], ◌∷◌, ◌++◌, Option, Some, None, All, length, bytes_eq, nat_eq, nat_le, refl, ap, sym, subst, arith, true≢false, if◌then◌else◌}
-use Rattle.std.specs.List.{IsDistinct, list_any, cons_option}
+use Rattle.std.proofs.Common.{◌≡◌, ◌≢◌, ◌<◌, ◌≤◌, ◌+◌, ℕ, suc, Bool, true, false, cond, List, [], ◌∷◌, Option, Some, None, All, length, bytes_eq, nat_eq, nat_le, refl, sym, subst, arith, if◌then◌else◌}
+use Rattle.std.specs.List.{IsDistinct, cons_option, dedup_from}
 use Rattle.std.proofs.lemmas.Bool.{leb-true}
 use Rattle.std.proofs.lemmas.Bool.Decides.{nat_tests}
-use Rattle.std.proofs.lemmas.List.{length-append}
-use Rattle.std.proofs.lemmas.List.Elements.{All-nil, All-cons, All-head, All-tail, All-push}
+use Rattle.std.proofs.lemmas.List.Elements.{All-nil, All-cons, All-head, All-tail}
+use Rattle.std.proofs.lemmas.List.Filters.{All-dedup}
 use Rattle.map_base.specs.declared.ids.StationId.{StationId}
 use Rattle.transit_feed.specs.declared.pattern.Pattern.{Pattern}
 use Rattle.transit_feed.specs.Feeds.{Feed, IsFeed, IsPattern, AreApart, AreFew, NamesShape}
-use Rattle.gtfs_tables.specs.declared.known.KnownTrips.{KnownTrips}
-use Rattle.gtfs_tables.specs.declared.known.KnownShapes.{KnownShapes}
-use Rattle.gtfs_tables.specs.declared.known.FeedRoutes.{FeedRoutes}
-use Rattle.gtfs_tables.specs.declared.known.FeedStops.{FeedStops}
+use Rattle.table_rows.proofs.FirstLemmas.{length-firsts, All-firsts}
+use Rattle.route_tables.specs.declared.known.KnownTrips.{KnownTrips}
+use Rattle.trip_runs.specs.declared.known.KnownShapes.{KnownShapes}
+use Rattle.route_tables.specs.declared.known.FeedRoutes.{FeedRoutes}
+use Rattle.stop_table.specs.declared.known.FeedStops.{FeedStops}
 use Rattle.gtfs_tables.specs.Good.{IsBelow, AreGoodRoutes, AreGoodStops, AreGoodTrips, AreGoodShapes, AreServed}
-use Rattle.gtfs_tables.specs.Patterns.{is_number, apart_after, apart, trip_pattern, trip_patterns, is_same_pattern, with_pattern, once}
+use Rattle.gtfs_tables.specs.Patterns.{is_same_station, apart, trip_pattern, trip_patterns, is_same_pattern}
 use Rattle.gtfs_tables.specs.Feed.{feed_of}
 
+-- what `dedup` leaves begins with its first element
+dedup_head : (station : StationId) (rest : List StationId) → (others : List StationId) × (dedup_from is_same_station station rest ≡ station ∷ others)
+dedup_head station [] = ([], refl)
+dedup_head station (next ∷ rest) = by (is_same_station next station) (dedup_head station rest)
+  where
+    by : (b : Bool) → (others : List StationId) × (dedup_from is_same_station station rest ≡ station ∷ others)
+        → (others : List StationId) × (cond b (dedup_from is_same_station station rest) (station ∷ dedup_from is_same_station next rest) ≡ station ∷ others)
+    by true found = found
+    by false found = (dedup_from is_same_station next rest, refl)
+
+differ : (m n : ℕ) → nat_eq m n ≡ false → n ≢ m
+differ m n none same = grind (arith, nat_tests, none, same)
+
+apart-from : (station : StationId) (rest : List StationId) → AreApart (dedup_from is_same_station station rest)
+apart-from station [] = tt
+apart-from station (next ∷ rest) = by (is_same_station next station) refl (apart-from station rest) (apart-from next rest)
+  where
+    by : (b : Bool) → is_same_station next station ≡ b → AreApart (dedup_from is_same_station station rest) → AreApart (dedup_from is_same_station next rest)
+        → AreApart (cond b (dedup_from is_same_station station rest) (station ∷ dedup_from is_same_station next rest))
+    by true e same other = same
+    by false e same other =
+        let head = dedup_head next rest in
+        subst (λ (behind : List StationId). AreApart (station ∷ behind)) (sym head.1) (differ next.0 station.0 e, subst AreApart head.1 other)
+
 -- no station of stations set apart repeats the one before
-AreAfter : Option ℕ → List StationId → Type 0
-AreAfter before [] = Unit {0}
-AreAfter before (station ∷ rest) = (is_number before station.0 ≡ false) × AreAfter (Some station.0) rest
+AreApart-apart : (stations : List StationId) → AreApart (apart stations)
+AreApart-apart [] = tt
+AreApart-apart (station ∷ rest) = apart-from station rest
 
-apart_after-after : (before : Option ℕ) (stations : List StationId) → AreAfter before (apart_after before stations)
-unfolding AreAfter
-apart_after-after before [] = tt
-apart_after-after before (station ∷ rest) = by (is_number before station.0) refl (apart_after-after (Some station.0) rest)
+length-from : (station : StationId) (rest : List StationId) → length (dedup_from is_same_station station rest) ≤ suc (length rest)
+length-from station [] = omega arith
+length-from station (next ∷ rest) = by (is_same_station next station) (length-from station rest) (length-from next rest)
   where
-    number : (before : Option ℕ) → is_number before station.0 ≡ true → before ≡ Some station.0
-    number None same = absurd (true≢false (sym same))
-    number (Some other) same = ap Some (grind (arith, nat_tests, same))
+    by : (b : Bool) → length (dedup_from is_same_station station rest) ≤ suc (length rest) → length (dedup_from is_same_station next rest) ≤ suc (length rest)
+        → length (cond b (dedup_from is_same_station station rest) (station ∷ dedup_from is_same_station next rest)) ≤ suc (suc (length rest))
+    by true l m = omega (arith, l)
+    by false l m = omega (arith, m)
 
-    by : (b : Bool) → is_number before station.0 ≡ b → AreAfter (Some station.0) (apart_after (Some station.0) rest) → AreAfter before (cond b (apart_after (Some station.0) rest) (station ∷ apart_after (Some station.0) rest))
-    by true e after = subst (λ other. AreAfter other (apart_after (Some station.0) rest)) (sym (number before e)) after
-    by false e after = (e, after)
-
-apart_from_after : (before : Option ℕ) (stations : List StationId) → AreAfter before stations → AreApart stations
-unfolding AreAfter
-apart_from_after before [] after = tt
-apart_from_after before (a ∷ []) after = tt
-apart_from_after before (a ∷ b ∷ rest) after = (differ a.0 b.0 after.1.0, apart_from_after (Some a.0) (b ∷ rest) after.1)
-  where
-    differ : (m n : ℕ) → nat_eq m n ≡ false → m ≢ n
-    differ m n none same = grind (arith, nat_tests, none, same)
-
-length-apart_after : (before : Option ℕ) (stations : List StationId) → length (apart_after before stations) ≤ length stations
-length-apart_after before [] = omega arith
-length-apart_after before (station ∷ rest) = by (is_number before station.0) (length-apart_after (Some station.0) rest)
-  where
-    by : (b : Bool) → length (apart_after (Some station.0) rest) ≤ length rest → length (cond b (apart_after (Some station.0) rest) (station ∷ apart_after (Some station.0) rest)) ≤ suc (length rest)
-    by true l = omega (arith, l)
-    by false l = omega (arith, l)
-
-all-apart_after : (P : StationId → Type 0) (before : Option ℕ) (stations : List StationId) → All P stations → All P (apart_after before stations)
-all-apart_after P before [] all = all
-all-apart_after P before (station ∷ rest) all = by (is_number before station.0) (all-apart_after P (Some station.0) rest (All-tail P station rest all))
-  where
-    by : (b : Bool) → All P (apart_after (Some station.0) rest) → All P (cond b (apart_after (Some station.0) rest) (station ∷ apart_after (Some station.0) rest))
-    by true rest_all = rest_all
-    by false rest_all = All-cons P station (apart_after (Some station.0) rest) (All-head P station rest all) rest_all
+length-apart : (stations : List StationId) → length (apart stations) ≤ length stations
+length-apart [] = omega arith
+length-apart (station ∷ rest) = length-from station rest
 
 names_shape : (count : ℕ) (shape : Option ℕ) → IsBelow count shape → NamesShape count shape
 names_shape count None below = tt
@@ -65,20 +65,6 @@ names_shape count (Some n) below = below
 
 -- patterns of trips fit a feed
 module _ (feed : Feed) where
-  all-with_pattern : (patterns : List Pattern) (pattern : Pattern) → All (IsPattern feed) patterns → IsPattern feed pattern → All (IsPattern feed) (with_pattern patterns pattern)
-  all-with_pattern patterns pattern all one = by (list_any (is_same_pattern pattern) patterns)
-    where
-      by : (b : Bool) → All (IsPattern feed) (if b then patterns else patterns ++ pattern ∷ [])
-      by true = all
-      by false = All-push (IsPattern feed) patterns pattern all one
-
-  all-once : (seen patterns : List Pattern) → All (IsPattern feed) seen → All (IsPattern feed) patterns → All (IsPattern feed) (once seen patterns)
-  all-once seen [] all more = all
-  all-once seen (pattern ∷ patterns) all more =
-      all-once (with_pattern seen pattern) patterns
-      (all-with_pattern seen pattern all (All-head (IsPattern feed) pattern patterns more))
-      (All-tail (IsPattern feed) pattern patterns more)
-
   cons_pattern : (line shape : Option ℕ) (stations : List StationId) (rest : List Pattern)
       → IsBelow (length feed.lines) line → IsBelow (length feed.shapes) shape → AreFew stations → All (λ (s : StationId). s.0 < length feed.stations) stations
       → All (IsPattern feed) rest → All (IsPattern feed) (cons_option (trip_pattern line stations shape) rest)
@@ -90,13 +76,13 @@ module _ (feed : Feed) where
       by false e = all
       by true e =
           let pattern : Pattern = record { line = record { 0 = line }; stops = apart stations; shape = shape } in
-          let fewer = length-apart_after None stations in
+          let fewer = length-apart stations in
           All-cons (IsPattern feed) pattern rest (record {
             line = line_below;
             some_stops = leb-true 2 (length (apart stations)) e;
             few_stops = omega (arith, fewer, few);
-            stops = all-apart_after (λ (s : StationId). s.0 < length feed.stations) None stations below;
-            apart = apart_from_after None (apart stations) (apart_after-after None stations);
+            stops = All-dedup is_same_station (λ (s : StationId). s.0 < length feed.stations) stations below;
+            apart = AreApart-apart stations;
             shape = names_shape (length feed.shapes) shape shape_below;
           }) all
 
@@ -117,17 +103,6 @@ module _ (feed : Feed) where
       (All-tail few s stations c) (All-tail below s stations d))
 
 -- there are no more patterns than trips
-length-once : (seen patterns : List Pattern) → length (once seen patterns) ≤ length seen + length patterns
-length-once seen [] = omega arith
-length-once seen (pattern ∷ patterns) =
-    let rest = length-once (with_pattern seen pattern) patterns in
-    let more = grown (list_any (is_same_pattern pattern) seen) in
-    omega (arith, rest, more)
-  where
-    grown : (b : Bool) → length (if b then seen else seen ++ pattern ∷ []) ≤ length seen + 1
-    grown true = omega arith
-    grown false = omega (arith, length-append seen (pattern ∷ []))
-
 length-trip_patterns : (lines : List (Option ℕ)) (stations : List (List StationId)) (shapes : List (Option ℕ)) → length (trip_patterns lines stations shapes) ≤ length lines
 length-trip_patterns [] stations shapes = omega arith
 length-trip_patterns (line ∷ lines) [] shapes = omega arith
@@ -145,7 +120,7 @@ pub is_feed : (routes : FeedRoutes) (stops : FeedStops) (trips : KnownTrips) (sh
 is_feed routes stops trips shapes stations good_routes good_stops good_trips good_shapes served =
     let feed = feed_of routes stops trips shapes stations in
     let all = trip_patterns trips.lines stations shapes.of_trips in
-    let fewer = length-once [] all in
+    let fewer = length-firsts is_same_pattern all in
     let counted = length-trip_patterns trips.lines stations shapes.of_trips in
     record {
       few_stations = good_stops.few;
@@ -154,7 +129,7 @@ is_feed routes stops trips shapes stations good_routes good_stops good_trips goo
       few_shapes = good_shapes.few;
       placed = good_stops.placed;
       shapes = good_shapes.shapes;
-      patterns = all-once feed [] all (All-nil (IsPattern feed))
+      patterns = All-firsts (IsPattern feed) is_same_pattern all
           (all-trip_patterns feed trips.lines stations shapes.of_trips good_trips.lines good_shapes.of_trips served.few served.below);
       station_ids = good_stops.distinct;
       line_ids = subst (IsDistinct bytes_eq) good_routes.line_ids good_routes.distinct;

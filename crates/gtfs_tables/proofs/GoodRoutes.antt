@@ -10,18 +10,17 @@ use Rattle.table_rows.specs.declared.why.Why.{Why}
 use Rattle.table_rows.specs.Ids.{place_among}
 use Rattle.table_rows.specs.Cells.{Row, field_in, ids_in}
 use Rattle.table_rows.specs.Reasons.{first_bad, unless_bad}
+use Rattle.table_rows.proofs.FirstLemmas.{filter-few}
 use Rattle.table_rows.proofs.DistinctIds.{distinct_ids, place_among-below, place_of_distinct}
-use Rattle.gtfs_tables.specs.declared.route_columns.RouteColumns.{RouteColumns}
-use Rattle.gtfs_tables.specs.declared.known.KnownRoutes.{KnownRoutes}
-use Rattle.gtfs_tables.specs.declared.known.KnownTrips.{KnownTrips}
-use Rattle.gtfs_tables.specs.declared.known.FeedRoutes.{FeedRoutes}
+use Rattle.route_tables.specs.declared.known.KnownRoutes.{KnownRoutes}
+use Rattle.route_tables.specs.declared.known.KnownTrips.{KnownTrips}
+use Rattle.route_tables.specs.declared.known.FeedRoutes.{FeedRoutes}
 use Rattle.gtfs_tables.specs.Good.{IsBelow, AreGoodRoutes, AreGoodTrips}
-use Rattle.gtfs_tables.specs.StopTimeReads.{AreNumbered}
-use Rattle.gtfs_tables.specs.Routes.{route_columns, routes_reason, is_selected, selected_rows, lines_from, lines_of, known_routes, feed_routes}
-use Rattle.gtfs_tables.specs.Trips.{trip_columns, trips_reason, line_in, shape_in, known_trips, trips_of}
-use Rattle.gtfs_tables.proofs.RouteLemmas.{routes_new, length-lines_from}
-use Rattle.gtfs_tables.proofs.TripLemmas.{trips_new}
-use Rattle.gtfs_tables.proofs.LeadLemmas.{filter-few}
+use Rattle.trip_runs.specs.StopTimeReads.{AreNumbered}
+use Rattle.route_tables.specs.Routes.{route_columns, routes_reason, is_selected, selected_rows, lines_from, lines_of, known_routes, feed_routes}
+use Rattle.route_tables.specs.Trips.{trip_columns, trips_reason, line_in, shape_in, known_trips, trips_of}
+use Rattle.route_tables.proofs.RouteLemmas.{routes_new, length-lines_from}
+use Rattle.route_tables.proofs.TripLemmas.{trips_new}
 
 -- a value that comes of a table is the defined one, and no row is bad
 pub unless_bad-ok : {A : Type 0} (table : Table) (bad : Option (ℕ × Why)) (value given : A) → unless_bad table bad value ≡ Ok given → (bad ≡ None) × (value ≡ given)
@@ -47,9 +46,9 @@ is_below-place ids id = by (place_among ids id) refl
 pub few_behind : (rows : List Row) → length rows ≤ 2 ^ 32 → length (drop 1 rows) < 2 ^ 32
 few_behind rows few = omega (arith, length-drop 1 rows, few)
 
-ids_of_lines : (c : RouteColumns) (n : ℕ) (rows : List Row) → map (λ (line : Line). line.id) (lines_from c n rows) ≡ ids_in c.id rows
-ids_of_lines c n [] = refl
-ids_of_lines c n (row ∷ rows) = ap (λ ids. field_in row c.id ∷ ids) (ids_of_lines c (n + 1) rows)
+ids_of_lines : (all : List Row) (n : ℕ) (rows : List Row) → map (λ (line : Line). line.id) (lines_from (route_columns all) n rows) ≡ ids_in (route_columns all).id rows
+ids_of_lines all n [] = refl
+ids_of_lines all n (row ∷ rows) = ap (λ ids. field_in row (route_columns all).id ∷ ids) (ids_of_lines all (n + 1) rows)
 
 good_known : (types : List ℕ) (rows : List Row) → length rows ≤ 2 ^ 32 → first_bad (routes_reason types rows) rows ≡ None
     → AreGoodRoutes (record { lines = lines_of types rows; known = known_routes types rows })
@@ -61,7 +60,7 @@ good_known types rows few good =
     let behind = few_behind rows few in
     record {
       few = omega (arith, counted, kept, behind);
-      line_ids = sym (ids_of_lines c 0 selected);
+      line_ids = sym (ids_of_lines rows 0 selected);
       distinct = distinct_ids c.id (is_selected types c) rows (routes_new types rows good);
     }
 

@@ -14,14 +14,14 @@ use Rattle.table_rows.specs.Cells.{Row, row_at, field_in, ends_early, is_text}
 use Rattle.table_rows.specs.Values.{rows_of}
 use Rattle.table_rows.specs.Reasons.{first_met, first_bad}
 use Rattle.table_rows.proofs.ReasonLemmas.{first_met-none, first_bad-at}
-use Rattle.gtfs_tables.specs.declared.known.KnownStops.{KnownStops}
-use Rattle.gtfs_tables.specs.declared.known.KnownTrips.{KnownTrips}
+use Rattle.stop_table.specs.declared.known.KnownStops.{KnownStops}
+use Rattle.route_tables.specs.declared.known.KnownTrips.{KnownTrips}
 use Rattle.gtfs_tables.specs.Good.{IsBelow, AreServed}
-use Rattle.gtfs_tables.specs.Leads.{station_of_id}
-use Rattle.gtfs_tables.specs.Rising.{by_rising}
-use Rattle.gtfs_tables.specs.StopTimes.{stop_time_columns, required_columns, is_read, sequence_in, station_in, is_repeated, stop_times_reason, rows_of_trip, station_at, stations_of_trip, trip_stations, stop_times_of, stop_times_of_file}
-use Rattle.gtfs_tables.proofs.LeadLemmas.{filter-few}
-use Rattle.gtfs_tables.proofs.RisingLemmas.{length-by_rising, all-by_rising}
+use Rattle.stop_table.specs.Leads.{station_of_id}
+use Rattle.trip_runs.specs.Rising.{by_rising}
+use Rattle.trip_runs.specs.StopTimes.{stop_time_columns, required_columns, is_read, sequence_in, station_in, is_repeated, stop_times_reason, rows_of_trip, station_at, stations_of_trip, trip_stations, stop_times_of, stop_times_of_file}
+use Rattle.table_rows.proofs.FirstLemmas.{filter-few}
+use Rattle.trip_runs.proofs.RisingLemmas.{length-by_rising, all-by_rising}
 use Rattle.gtfs_tables.proofs.GoodRoutes.{unless_bad-ok, all_of_map, few_behind}
 
 -- a test that is met where another is not

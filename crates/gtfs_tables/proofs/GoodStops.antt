@@ -8,13 +8,14 @@ use Rattle.table_rows.specs.Ids.{place_among}
 use Rattle.table_rows.specs.Cells.{Row, field_in}
 use Rattle.table_rows.specs.Reasons.{first_bad}
 use Rattle.table_rows.proofs.DistinctIds.{distinct_ids}
-use Rattle.gtfs_tables.specs.declared.known.FeedStops.{FeedStops}
+use Rattle.stop_table.specs.declared.known.FeedStops.{FeedStops}
 use Rattle.gtfs_tables.specs.Good.{IsBelow, AreGoodStops}
-use Rattle.gtfs_tables.specs.Stops.{stop_columns, stations_of, stops_reason}
-use Rattle.gtfs_tables.specs.Leads.{station_ids, station_led, lead_in, known_stops, feed_stops}
-use Rattle.gtfs_tables.proofs.StopLemmas.{stops_new}
-use Rattle.gtfs_tables.proofs.LeadLemmas.{is_station_row, station_ids-rows, filter-few}
-use Rattle.gtfs_tables.proofs.PlacedLemmas.{stations-placed}
+use Rattle.stop_table.specs.Stops.{stop_columns, stations_of, stops_reason}
+use Rattle.stop_table.specs.Leads.{station_ids, station_led, lead_in, known_stops, feed_stops}
+use Rattle.stop_table.proofs.StopLemmas.{stops_new}
+use Rattle.stop_table.proofs.LeadLemmas.{is_station_row, station_ids-rows}
+use Rattle.table_rows.proofs.FirstLemmas.{filter-few}
+use Rattle.stop_table.proofs.PlacedLemmas.{stations-placed}
 use Rattle.gtfs_tables.proofs.GoodRoutes.{unless_bad-ok, all_of_map, is_below-place, few_behind}
 
 -- a row leads to a station of the table, or to none

@@ -1,23 +1,9 @@
-pub mod StopLemmas
-mod StopExamples
-pub mod PlacedLemmas
-pub mod RouteLemmas
-pub mod TripLemmas
-pub mod LeadLemmas
 pub mod PatternLemmas
 pub mod GoodRoutes
 pub mod GoodStops
-pub mod RisingLemmas
 pub mod GoodShapes
 pub mod GoodStations
 pub mod GoodPatterns
 pub mod StepLemmas
 pub mod FewRows
 pub mod StepCases
-pub mod ReadLemmas
-pub mod ComingRows
-pub mod PlaceLemmas
-pub mod StopTimeLemmas
-pub mod StationLemmas
-pub mod ShapeLemmas
-pub mod CourseLemmas

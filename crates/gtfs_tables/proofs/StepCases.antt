@@ -5,16 +5,16 @@ use Rattle.table_rows.specs.declared.why.Table.TheVariants as tables
 use Rattle.table_rows.specs.declared.fault.FeedFault.{FeedFault}
 use Rattle.table_rows.specs.Folder.{file_outcome}
 use Rattle.table_rows.specs.Outcome.{◌>>=◌}
-use Rattle.gtfs_tables.specs.declared.known.KnownTrips.{KnownTrips}
-use Rattle.gtfs_tables.specs.declared.known.KnownShapes.{KnownShapes}
-use Rattle.gtfs_tables.specs.declared.known.FeedRoutes.{FeedRoutes}
-use Rattle.gtfs_tables.specs.declared.known.FeedStops.{FeedStops}
+use Rattle.route_tables.specs.declared.known.KnownTrips.{KnownTrips}
+use Rattle.trip_runs.specs.declared.known.KnownShapes.{KnownShapes}
+use Rattle.route_tables.specs.declared.known.FeedRoutes.{FeedRoutes}
+use Rattle.stop_table.specs.declared.known.FeedStops.{FeedStops}
 use Rattle.gtfs_tables.specs.Feed.{Folder, table_outcome, before}
 use Rattle.gtfs_tables.specs.Steps.{before_any, before_stops, before_trips, before_shapes, before_stop_times}
-use Rattle.gtfs_tables.specs.Routes.{feed_routes}
-use Rattle.gtfs_tables.specs.Leads.{feed_stops}
-use Rattle.gtfs_tables.specs.Trips.{trips_of}
-use Rattle.gtfs_tables.specs.Shapes.{shapes_of_file}
+use Rattle.route_tables.specs.Routes.{feed_routes}
+use Rattle.stop_table.specs.Leads.{feed_stops}
+use Rattle.route_tables.specs.Trips.{trips_of}
+use Rattle.trip_runs.specs.Shapes.{shapes_of_file}
 use Rattle.gtfs_tables.proofs.StepLemmas.{folder_with}
 
 -- nothing is refused before a later table, where nothing is up to this one and behind it

@@ -4,11 +4,11 @@ use Rattle.std.specs.List.{IsDistinct}
 use Rattle.map_base.specs.declared.ids.StationId.{StationId}
 use Rattle.transit_feed.specs.declared.line.Line.{Line}
 use Rattle.transit_feed.specs.Feeds.{AreFew, IsPlaced, IsShape}
-use Rattle.gtfs_tables.specs.declared.known.FeedRoutes.{FeedRoutes}
-use Rattle.gtfs_tables.specs.declared.known.FeedStops.{FeedStops}
-use Rattle.gtfs_tables.specs.declared.known.KnownTrips.{KnownTrips}
-use Rattle.gtfs_tables.specs.declared.known.KnownShapes.{KnownShapes}
-use Rattle.gtfs_tables.specs.Leads.{station_ids}
+use Rattle.route_tables.specs.declared.known.FeedRoutes.{FeedRoutes}
+use Rattle.stop_table.specs.declared.known.FeedStops.{FeedStops}
+use Rattle.route_tables.specs.declared.known.KnownTrips.{KnownTrips}
+use Rattle.trip_runs.specs.declared.known.KnownShapes.{KnownShapes}
+use Rattle.stop_table.specs.Leads.{station_ids}
 
 -- a number, if it is there, is below a count
 abbrev pub IsBelow : ℕ → Option ℕ → Type 0

@@ -1,22 +1,17 @@
 -- Patterns: the stations that trips serve.
-use Rattle.std.specs.Prelude.{ℕ, Bool, true, false, ◌&&◌, List, [], ◌∷◌, ◌++◌, length, Option, Some, None, if◌then◌else◌, nat_le, nat_eq}
-use Rattle.std.specs.List.{list_any, cons_option}
+use Rattle.std.specs.Prelude.{ℕ, Bool, true, false, ◌&&◌, List, [], ◌∷◌, length, Option, Some, None, if◌then◌else◌, nat_le, nat_eq}
+use Rattle.std.specs.List.{cons_option, dedup}
+use Rattle.table_rows.specs.Firsts.{firsts}
 use Rattle.map_base.specs.declared.ids.StationId.{StationId}
 use Rattle.transit_feed.specs.declared.pattern.Pattern.{Pattern}
 
--- whether a number is there and is this one
-abbrev pub is_number : Option ℕ → ℕ → Bool
-is_number None number = false
-is_number (Some other) number = nat_eq other number
-
--- stations without those that repeat the one before; the number of the one before the first, if any, is given
-abbrev pub apart_after : Option ℕ → List StationId → List StationId
-apart_after before [] = []
-apart_after before (station ∷ rest) = if is_number before station.0 then apart_after (Some station.0) rest else station ∷ apart_after (Some station.0) rest
+-- whether two stations are one
+abbrev pub is_same_station : StationId → StationId → Bool
+is_same_station a b = nat_eq a.0 b.0
 
 -- stations with immediate repeats dropped
 abbrev pub apart : List StationId → List StationId
-apart stations = apart_after None stations
+apart stations = dedup is_same_station stations
 
 -- the pattern of a line, stations and a shape, where there are two stations
 abbrev pub pattern_of : ℕ → List StationId → Option ℕ → Option Pattern
@@ -46,15 +41,6 @@ are_same_stations first second = false
 abbrev pub is_same_pattern : Pattern → Pattern → Bool
 is_same_pattern a b = nat_eq a.line.0 b.line.0 && (are_same_stations a.stops b.stops && is_same_shape a.shape b.shape)
 
--- patterns, once another is seen
-abbrev pub with_pattern : List Pattern → Pattern → List Pattern
-with_pattern patterns pattern = if list_any (is_same_pattern pattern) patterns then patterns else patterns ++ pattern ∷ []
-
--- each pattern once, at the first of those that equal it, behind those that were seen before
-abbrev pub once : List Pattern → List Pattern → List Pattern
-once seen [] = seen
-once seen (pattern ∷ rest) = once (with_pattern seen pattern) rest
-
--- the patterns of a feed, told the line, stations and shape of each trip
+-- the patterns of a feed, each once, told the line, stations and shape of each trip
 abbrev pub patterns_of : List (Option ℕ) → List (List StationId) → List (Option ℕ) → List Pattern
-patterns_of lines stations shapes = once [] (trip_patterns lines stations shapes)
+patterns_of lines stations shapes = firsts is_same_pattern (trip_patterns lines stations shapes)

@@ -1,4 +1,7 @@
-//! The tables of an unpacked GTFS feed: its stations, or the first bad row.
+//! The tables of an unpacked GTFS feed: the whole feed, or its stations alone, or the first bad row.
+//!
+//! stop_table, route_tables and trip_runs each know one table or two; here they are read one after another, and the
+//! patterns of the trips are made.
 //!
 //! A feed is a folder of CSV files (GTFS Schedule reference). Columns are found by their names in the header,
 //! spaces at both ends aside, the first of equal names; an absent column that is not required, and a field that
@@ -7,51 +10,15 @@
 //! that it meets. Each answer is exactly the one that `specs/` defines for the file's bytes.
 #![tactic(auto)]
 
-mod degrees;
-mod feed_stops;
-mod first_refused;
-mod known;
-mod last_trip;
-mod leads;
-mod parents;
 mod pattern_set;
 mod patterns;
-mod route_columns;
-mod route_row;
-mod routes;
-mod routes_check;
-mod shape_columns;
-mod shape_file;
-mod shape_reads;
-mod shape_row;
-mod shapes;
-mod shapes_kept;
-mod shapes_read;
-mod slices;
-mod small;
-mod stop_columns;
-mod stop_row;
-mod stop_time_columns;
-mod stop_time_file;
-mod stop_time_reads;
-mod stop_time_row;
-mod stop_times;
-mod stop_times_read;
-mod stops;
-mod stops_check;
 mod table_file;
-mod trip_columns;
-mod trip_row;
-mod trips;
-mod trips_check;
 mod whole_feed;
 
-pub use stops::read_stations;
+pub use stop_table::read_stations;
 pub use table_rows::{FeedFault, Table, Why};
 pub use transit_feed::{Line, Pattern, Shape, Station, Tables};
 pub use whole_feed::read_tables;
 
 #[cfg(test)]
 mod feed_tests;
-#[cfg(test)]
-mod tests;

@@ -2,7 +2,8 @@
 
 ghost use Rattle.std.specs.Prelude.{◌≡◌, [], option_map, option_to_list, IfOk, OnOk};
 ghost use Rattle.gtfs_tables.specs.PatternKeys.{pattern_of_key};
-ghost use Rattle.gtfs_tables.specs.Patterns.{with_pattern, once};
+ghost use Rattle.gtfs_tables.specs.Patterns.{is_same_pattern};
+ghost use Rattle.table_rows.specs.Firsts.{with_new, firsts_behind};
 
 use indexmap::IndexSet;
 use map_base::{LineId, NoMemory, Sequence, StationId};
@@ -58,7 +59,7 @@ impl PatternSet {
 
     /// Notes a pattern, unless it was seen.
     fn note(&mut self, key: PatternKey) -> Result<(), NoMemory>
-        ensures { OnOk result (self.new ≡ with_pattern self.old (pattern_of_key key)) }
+        ensures { OnOk result (self.new ≡ with_new is_same_pattern self.old (pattern_of_key key)) }
     {
         self.held.insert(key)?;
         Ok(())
@@ -66,7 +67,7 @@ impl PatternSet {
 
     /// Notes a pattern, if there is one, unless it was seen.
     pub(crate) fn note_some(&mut self, key: Option<PatternKey>) -> Result<(), NoMemory>
-        ensures { OnOk result (self.new ≡ once self.old (option_to_list (option_map pattern_of_key key))) }
+        ensures { OnOk result (self.new ≡ firsts_behind is_same_pattern self.old (option_to_list (option_map pattern_of_key key))) }
     {
         match key {
             None => Ok(()),

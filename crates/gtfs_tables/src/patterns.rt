@@ -1,47 +1,20 @@
 //! The patterns of a feed: the stations that its trips serve.
 
-ghost use Rattle.std.specs.Prelude.{◌≡◌, ◌≤◌, ◌++◌, ◌∷◌, [], length, option_map, IfOk, OnOk, if◌then◌else◌};
+ghost use Rattle.std.specs.Prelude.{◌≡◌, length, option_map, IfOk};
 ghost use Rattle.gtfs_tables.specs.PatternKeys.{pattern_of_key};
-ghost use Rattle.gtfs_tables.specs.Patterns.{is_number, apart, pattern_of, trip_pattern, patterns_of};
+ghost use Rattle.gtfs_tables.specs.Patterns.{apart, pattern_of, trip_pattern, patterns_of};
 
 use crate::pattern_set::{PatternKey, PatternSet};
 use map_base::{LineId, NoMemory, Sequence, StationId};
 use std::alloc::Global;
 use transit_feed::Pattern;
 
-fn is_number(before: Option<u32>, number: u32) -> bool
-    ensures { result ≡ is_number before number }
-{
-    match before {
-        None => false,
-        Some(other) => other == number,
-    }
-}
-
-/// Adds a station, unless it is the one before.
-fn push_apart(
-    kept: &mut Vec<StationId>,
-    before: Option<u32>,
-    station: StationId,
-) -> Result<(), NoMemory>
-    ensures { OnOk result (kept.new.items ≡ kept.old.items ++ (if is_number before station.0 then [] else station ∷ [])) }
-{
-    if !is_number(before, station.0) {
-        kept.push(station)?;
-    }
-    Ok(())
-}
-
 /// Stations with immediate repeats dropped.
 fn apart(alloc: Global, stations: &[StationId]) -> Result<Vec<StationId>, NoMemory>
     ensures { IfOk result (λ kept. kept.items ≡ apart stations.now) }
 {
-    let mut kept = Vec::with_capacity(alloc, stations.len())?;
-    let mut before = None;
-    for station in stations {
-        push_apart(&mut kept, before, *station)?;
-        before = Some(station.0);
-    }
+    let mut kept = Vec::from_slice(alloc, stations)?;
+    kept.dedup();
     Ok(kept)
 }
 
@@ -78,6 +51,7 @@ fn key_of_trip(
 }
 
 /// The patterns of a feed, told the line, the stations by rising sequence and the shape of each trip.
+#[tactic(auto, using(crate::proofs::PatternLemmas::seen_all))]
 pub(crate) fn patterns_of(
     alloc: Global,
     lines: &[Option<u32>],

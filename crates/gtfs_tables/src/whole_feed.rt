@@ -6,19 +6,16 @@ ghost use Rattle.gtfs_tables.specs.Good.{AreGoodRoutes, AreGoodStops, AreGoodTri
 ghost use Rattle.gtfs_tables.specs.Feed.{Folder, told_folder, feed_of, feed_outcome, may_fail};
 ghost use Rattle.gtfs_tables.specs.Steps.{OfFolder, FailsAt, feed_after_routes, feed_after_stops, feed_after_trips, feed_after_shapes, before_any, before_stops, before_trips, before_shapes, before_stop_times};
 
-use crate::feed_stops::stops_in;
-use crate::known::{FeedRoutes, FeedStops, KnownShapes, KnownTrips};
 use crate::patterns::patterns_of;
-use crate::routes::routes_in;
-use crate::shape_file::shapes_in_file;
-use crate::stop_time_file::stop_times_in_file;
 use crate::table_file::{file_in, rows_in};
-use crate::trips::trips_in;
 use files_door::Files;
 use map_base::{Sequence, StationId};
+use route_tables::{FeedRoutes, KnownTrips, routes_in, trips_in};
 use std::alloc::Global;
+use stop_table::{FeedStops, stops_in};
 use table_rows::{FeedFault, Table};
 use transit_feed::Tables;
+use trip_runs::{KnownShapes, shapes_in_file, stop_times_in_file};
 
 /// The feed of what the five tables gave.
 fn tables_of(

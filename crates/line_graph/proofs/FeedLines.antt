@@ -33,7 +33,7 @@ numbered_below most [] all = tt
 numbered_below most (x ∷ xs) all = (all.0, numbered_below most xs all.1)
 
 -- the lines of a chain are below the count of lines
-chain_below : (g : Network) (chain : List ℕ) → All (λ (a : LineId). a.0 < g.lines) (lines_of g chain)
+pub chain_below : (g : Network) (chain : List ℕ) → All (λ (a : LineId). a.0 < g.lines) (lines_of g chain)
 chain_below g chain =
     All-from_recursion (λ (a : LineId). a.0 < g.lines) (lines_of g chain)
     (numbered_below g.lines _ (kept_below g.lines _ (range_with_len 0 g.lines) (below_range 0 g.lines g.lines (omega arith))))

@@ -7,6 +7,7 @@ mod TableLemmas
 mod LegFacts
 mod PathFacts
 mod NetworkFacts
+mod RideLemmas
 mod Whole
 mod Outcomes
 pub mod FeedLines

@@ -190,7 +190,7 @@ pub used_edge : (lines stations : ℕ) (net : NetParts) → IsNet net → (ways 
 used_edge lines stations net kept ways traces p q e =
     used_in net p q ways (λ k d below. let t = traces k d below in trace_runs lines stations net kept ways (get_or ways k d) t.0 t.1 t.2 p q) e
 
-used_by_line : (p q line : ℕ) (ways : List Way) → line_runs_over ways p q line ≡ true → is_used ways p q ≡ true
+pub used_by_line : (p q line : ℕ) (ways : List Way) → line_runs_over ways p q line ≡ true → is_used ways p q ≡ true
 used_by_line p q line [] e = absurd (false≢true e)
 used_by_line p q line (w ∷ ways) e = of_cases (or_cases (eqb w.line.0 line && runs_over p q w.points) (line_runs_over ways p q line) e) (used_by_line p q line ways)
   where

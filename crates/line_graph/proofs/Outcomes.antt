@@ -26,6 +26,7 @@ use Rattle.line_graph.specs.declared.fault.BuildFault.{BuildFault}
 use Rattle.line_graph.specs.Outcome.{net_of_courses, network_of, all_passages, graph_over_net, graph_of_courses, graph_outcome}
 use Rattle.line_graph.specs.Faults.{of_courses, of_net, HasCause}
 use Rattle.line_graph.specs.Text.{IsKnown}
+use Rattle.line_graph.specs.Rides.{KeepsCourses, AreKept, KeepsOutcome, KeepsLines}
 
 -- ---- the net
 
@@ -88,3 +89,22 @@ pub known_where : (near lines : ℕ) (feed : Feed) (all : Courses) (over : NetPa
     IfOk result (λ parts. graph_over_net near lines all over ≡ Ok parts) → IfOk result (λ parts. All (IsKnown feed.stations) parts.kinds)
 known_where near lines feed all over (Ok parts) is_all is = stations_known near lines feed all over parts is_all is
 known_where near lines feed all over (Err fault) is_all is = tt
+
+-- ---- no line is lost
+
+keeps_lines : (near lines : ℕ) (feed : Feed) (all : Courses) (parts : GraphParts) → lines ≡ length feed.lines → courses_outcome near feed ≡ Ok all → graph_over_net near lines all (net_of_courses near all) ≡ Ok parts →
+    AreKept near lines all (net_of_courses near all) → KeepsLines near feed parts
+keeps_lines near lines feed all parts count is_all is kept =
+    let over : NetParts = net_of_courses near all in
+    let made : GraphParts = graph_over all.stations over.points (network_of near lines all over) (all_passages near all over) in
+    let within = passed (leb (length over.points) 100000) _ _ parts is in
+    let nodes = passed (leb (length made.kinds) 10000) _ _ parts within in
+    let segments = passed (leb (length made.ends) 20000) _ _ parts nodes in
+    subst (λ (r : Result Courses Limit). KeepsOutcome near (length feed.lines) r parts) (sym is_all)
+    (subst (λ (n : ℕ). KeepsCourses near n all (net_of_courses near all) parts) count
+    (subst (KeepsCourses near lines all (net_of_courses near all)) (same_parts made parts segments) kept))
+
+pub kept_where : (near lines : ℕ) (feed : Feed) (all : Courses) (result : Result GraphParts BuildFault) → lines ≡ length feed.lines → courses_outcome near feed ≡ Ok all →
+    IfOk result (λ parts. graph_over_net near lines all (net_of_courses near all) ≡ Ok parts) → IfOk result (λ parts. AreKept near lines all (net_of_courses near all)) → IfOk result (λ parts. KeepsLines near feed parts)
+kept_where near lines feed all (Ok parts) count is_all is kept = keeps_lines near lines feed all parts count is_all is kept
+kept_where near lines feed all (Err fault) count is_all is kept = tt

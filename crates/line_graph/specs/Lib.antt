@@ -5,3 +5,4 @@ pub mod Text
 pub mod Faults
 pub mod StretchTables
 pub mod Premises
+pub mod Rides

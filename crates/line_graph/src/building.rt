@@ -7,6 +7,7 @@ ghost use Rattle.feed_courses.specs.Fit.{AreFit, AreServed};
 ghost use Rattle.way_network.specs.Graphs.{graph_over, graph_within};
 ghost use Rattle.line_graph.specs.Outcome.{all_passages, all_samples, graph_outcome, graph_over_net, net_of_courses as net_of, network_of};
 ghost use Rattle.line_graph.specs.Faults.{HasCause};
+ghost use Rattle.line_graph.specs.Rides.{AreKept, KeepsLines};
 ghost use Rattle.line_graph.specs.Text.{IsKnown};
 
 use crate::course_net::net_of_courses;
@@ -36,6 +37,9 @@ pub fn build(alloc: Global, tables: &Tables, settings: &Settings) -> Result<Line
     // Its stations are stations of the tables, and its lines are lines of the tables.
     ensures stations { IfOk result (λ graph. All (IsKnown tables.now.stations) graph.kinds) }
     ensures lines { IfOk result (λ graph. All (All (λ (a : Line). a.0 < length tables.now.lines)) graph.lines) }
+
+    // No line is lost: that of each course rides over segments that have it, from each to the next by a join.
+    ensures kept { IfOk result (λ graph. KeepsLines settings.now.near tables.now graph) }
 {
     let courses = courses_of(alloc, tables, settings.near)?;
     graph_of_courses(alloc, &courses, settings.near, tables.lines.len() as u32)
@@ -54,6 +58,7 @@ fn graph_of_courses(
     requires near_high { near ≤ 20000 }
     ensures graph { IfOk result (λ graph. graph_over_net near lines courses.now (net_of near courses.now) ≡ Ok graph) }
     ensures cause { IfErr result (λ fault. HasCause (graph_over_net near lines courses.now (net_of near courses.now)) fault) }
+    ensures kept { IfOk result (λ _. AreKept near lines courses.now (net_of near courses.now)) }
 {
     let net = net_of_courses(alloc, courses, near)?;
     graph_of_net(alloc, courses, &net, near, lines)
@@ -75,6 +80,7 @@ fn graph_of_net(
     requires near_high { near ≤ 20000 }
     ensures graph { IfOk result (λ graph. graph_within (graph_over courses.now.stations net.now.points (network_of near lines courses.now net.now) (all_passages near courses.now net.now)) ≡ Ok graph) }
     ensures cause { IfErr result (λ fault. HasCause (graph_within (graph_over courses.now.stations net.now.points (network_of near lines courses.now net.now) (all_passages near courses.now net.now))) fault) }
+    ensures kept { IfOk result (λ _. AreKept near lines courses.now net.now) }
 {
     let traced = network(alloc, courses, net, near, lines)?;
     let stations = courses.stations.as_slice();

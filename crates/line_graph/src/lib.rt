@@ -1,4 +1,7 @@
 //! The line graph of a feed: from its courses over the net to nodes, segments and their lines, and its text.
+//!
+//! The graph is the one that `specs/` defines for the feed. No line is lost: that of each course is on the segments
+//! along its legs, and where it goes on from one to another, a node joins the two by it.
 #![tactic(auto)]
 
 mod building;

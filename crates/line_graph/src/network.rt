@@ -7,6 +7,7 @@ ghost use Rattle.way_network.specs.Premises.{IsNetwork, IsPassage};
 ghost use Rattle.feed_courses.specs.Fit.{AreFit, AreServed};
 ghost use Rattle.line_graph.specs.Legs.{all_legs, ways_of};
 ghost use Rattle.line_graph.specs.Outcome.{all_passages, all_samples, net_of_courses, network_of};
+ghost use Rattle.line_graph.specs.Rides.{AreKept};
 
 use crate::legs::stretches_of;
 use crate::passages::passages_of;
@@ -50,6 +51,9 @@ pub(crate) fn network(
     // It is a network, and these are its passages.
     ensures network { IfOk result (λ _. IsNetwork net.now.points (network_of near lines courses.now net.now)) }
     ensures are_passages { IfOk result (λ _. All (IsPassage (network_of near lines courses.now net.now)) (all_passages near courses.now net.now)) }
+
+    // Its graph keeps the line of each course.
+    ensures kept { IfOk result (λ _. AreKept near lines courses.now net.now) }
 {
     let points = net_points(alloc, net)?;
     let table = stretches_of(alloc, courses.courses.as_slice())?;

@@ -8,7 +8,7 @@ use Rattle.table_rows.specs.declared.why.Table.{Table}
 use Rattle.table_rows.specs.declared.why.Table.TheVariants.{Routes, Stops, Trips, Shapes, StopTimes}
 use Rattle.table_rows.specs.declared.fault.FeedFault.{FeedFault}
 use Rattle.transit_feed.specs.Feeds.{Feed}
-use Rattle.gtfs_tables.specs.Stops.{stops_outcome}
+use Rattle.stop_table.specs.Stops.{stops_outcome}
 use Rattle.gtfs_tables.specs.Feed.{feed_of, routes_outcome, stops_table_outcome, trips_outcome, shapes_outcome, stop_times_outcome}
 use Rattle.graph_core.specs.declared.parts.GraphParts.{GraphParts}
 use Rattle.line_graph.specs.Outcome.{graph_outcome}

@@ -4,7 +4,7 @@ use Rattle.std.specs.List.{IsDistinct, position_or_len, AllByRecursion}
 use Rattle.std.specs.Cmp.Lexicographic.{nat_list_eq_equiv}
 use Rattle.std.proofs.lemmas.Bool.{ltb-true}
 use Rattle.std.proofs.lemmas.List.Elements.{All-from_recursion}
-use Rattle.table_rows.specs.Ids.{is_among, noted, sighted, place_among}
+use Rattle.table_rows.specs.Ids.{is_among, place_among}
 use Rattle.table_rows.specs.Cells.{Row, row_at, rows_before, field_in, ids_in}
 use Rattle.table_rows.specs.NewIds.{AreNew}
 use Rattle.table_rows.proofs.CellLemmas.{position-at}
@@ -80,15 +80,3 @@ place_among-below ids id place found = by (position_or_len (bytes_eq id) ids) (l
         let l = ltb-true n (length ids) e in
         omega (arith, same, l)
     by n false e is = cc
-
--- no more ids are sighted than there are
-pub length-sighted : (seen ids : List (List ℕ)) → length (sighted seen ids) ≤ length seen + length ids
-length-sighted seen [] = omega arith
-length-sighted seen (id ∷ ids) =
-    let rest = length-sighted (noted seen id) ids in
-    let more = grown (is_among id seen) in
-    omega (arith, rest, more)
-  where
-    grown : (b : Bool) → length (if b then seen else seen ++ id ∷ []) ≤ length seen + 1
-    grown true = omega arith
-    grown false = omega (arith, length-append seen (id ∷ []))

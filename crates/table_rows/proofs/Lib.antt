@@ -4,3 +4,4 @@ pub mod ReasonLemmas
 pub mod RowLemmas
 pub mod FolderLemmas
 pub mod DistinctIds
+pub mod FirstLemmas

@@ -10,11 +10,6 @@ is_among id ids = list_any (bytes_eq id) ids
 abbrev pub noted : List (List ℕ) → List ℕ → List (List ℕ)
 noted ids id = if is_among id ids then ids else ids ++ id ∷ []
 
--- ids, each once, at its first sight, behind those that were seen before
-abbrev pub sighted : List (List ℕ) → List (List ℕ) → List (List ℕ)
-sighted seen [] = seen
-sighted seen (id ∷ ids) = sighted (noted seen id) ids
-
 -- the place of the first id that is this one
 abbrev pub place_among : List (List ℕ) → List ℕ → Option ℕ
 place_among ids id = position (bytes_eq id) ids

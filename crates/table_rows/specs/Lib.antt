@@ -1,8 +1,10 @@
 pub mod Ids
 pub mod Values
+pub mod Degrees
 pub mod Cells
 pub mod Reasons
 pub mod Outcome
 pub mod Folder
 pub mod NotRead
 pub mod NewIds
+pub mod Firsts

@@ -4,7 +4,7 @@ use Rattle.table_rows.specs.declared.why.Table.TheVariants as tables
 use Rattle.table_rows.specs.Outcome.{Answers}
 use Rattle.gtfs_tables.specs.Feed.{table_outcome}
 use Rattle.gtfs_tables.specs.Steps.{OfFolder, FailsAt, feed_after_routes, feed_after_stops, before_stops, before_trips}
-use Rattle.gtfs_tables.specs.Leads.{feed_stops}
+use Rattle.stop_table.specs.Leads.{feed_stops}
 use Rattle.gtfs_tables.proofs.StepLemmas.{step_unread, step_refused, step_went_on}
 use Rattle.gtfs_tables.proofs.StepCases.{stops_later}
 use Rattle.gtfs_tables.proofs.GoodStops.{good_stops}

@@ -4,7 +4,7 @@ use Rattle.table_rows.specs.declared.why.Table.TheVariants as tables
 use Rattle.table_rows.specs.Outcome.{Answers}
 use Rattle.gtfs_tables.specs.Feed.{table_outcome}
 use Rattle.gtfs_tables.specs.Steps.{OfFolder, FailsAt, feed_after_stops, feed_after_trips, before_trips, before_shapes}
-use Rattle.gtfs_tables.specs.Trips.{trips_of}
+use Rattle.route_tables.specs.Trips.{trips_of}
 use Rattle.gtfs_tables.proofs.StepLemmas.{step_unread, step_refused, step_went_on}
 use Rattle.gtfs_tables.proofs.StepCases.{trips_later}
 use Rattle.gtfs_tables.specs.Good.{AreGoodTrips}

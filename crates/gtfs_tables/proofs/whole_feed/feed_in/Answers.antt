@@ -4,7 +4,7 @@ use Rattle.table_rows.specs.declared.why.Table.TheVariants as tables
 use Rattle.table_rows.specs.Outcome.{Answers}
 use Rattle.gtfs_tables.specs.Feed.{table_outcome, feed_outcome}
 use Rattle.gtfs_tables.specs.Steps.{OfFolder, FailsAt, feed_after_routes, before_any, before_stops}
-use Rattle.gtfs_tables.specs.Routes.{feed_routes}
+use Rattle.route_tables.specs.Routes.{feed_routes}
 use Rattle.gtfs_tables.proofs.StepLemmas.{step_unread, step_refused, step_went_on}
 use Rattle.gtfs_tables.proofs.StepCases.{routes_later}
 use Rattle.gtfs_tables.proofs.GoodRoutes.{good_routes}

@@ -5,7 +5,8 @@ use Rattle.transit_feed.specs.Feeds.{Feed}
 use Rattle.graph_core.specs.declared.parts.GraphParts.{GraphParts}
 use Rattle.line_graph.specs.Outcome.{net_of_courses, graph_outcome}
 use Rattle.line_graph.specs.Faults.{HasCause}
-use Rattle.line_graph.proofs.Outcomes.{outcome_is, known_where}
+use Rattle.line_graph.specs.Rides.{KeepsLines}
+use Rattle.line_graph.proofs.Outcomes.{outcome_is, known_where, kept_where}
 use Rattle.line_graph.proofs.FeedLines.{below_where}
 use Rattle.line_graph.proofs.building.build.Goals as goal
 
@@ -39,3 +40,11 @@ returns-clause-lines c =
     let count : c.len.result ≡ length feed.lines = c.len.ensures ∙ c.tables.inside.lines.ok.0 ∙ ap (λ (f : Feed). length f.lines) c.tables.view_is in
     below_where c.settings.inside.near c.len.result (length feed.lines) c.in_ok-courses.courses (net_of_courses c.settings.inside.near c.in_ok-courses.courses) c.graph_of_courses.result count
     c.graph_of_courses.ensures.graph
+
+pub returns-clause-kept : goal.returns-clause-kept
+returns-clause-kept c =
+    let feed = c.args.tables.now in
+    let near = c.settings.inside.near in
+    let count : c.len.result ≡ length feed.lines = c.len.ensures ∙ c.tables.inside.lines.ok.0 ∙ ap (λ (f : Feed). length f.lines) c.tables.view_is in
+    subst (λ (n : ℕ). IfOk c.graph_of_courses.result (λ graph. KeepsLines n feed graph)) (ap (λ (choices : Choices). choices.near) c.settings.view_is)
+    (kept_where near c.len.result feed c.in_ok-courses.courses c.graph_of_courses.result count c.in_ok-courses.ensures.courses c.graph_of_courses.ensures.graph c.graph_of_courses.ensures.kept)

@@ -7,7 +7,7 @@ use Rattle.feed_courses.specs.declared.courses.Courses.{Courses}
 use Rattle.line_graph.specs.Outcome.{all_samples, net_of_courses}
 use Rattle.line_graph.specs.Premises.{HasHops}
 use Rattle.line_graph.proofs.LegFacts.{all_have_hops}
-use Rattle.line_graph.proofs.Whole.{AreReady, asked_told, ways_told, passages_told, network_told, are_passages_told}
+use Rattle.line_graph.proofs.Whole.{AreReady, asked_told, ways_told, passages_told, network_told, are_passages_told, kept_told}
 use Rattle.line_graph.proofs.network.network.Goals as goal
 
 ready : (near lines : ℕ) (courses : Courses) (net : NetParts) → IsNet net → AreFit near courses → AreServed lines courses → net ≡ net_of_courses near courses → HasOwnDirections net →
@@ -44,5 +44,11 @@ returns-clause-network c =
 pub returns-clause-are_passages : goal.returns-clause-are_passages
 returns-clause-are_passages c =
     are_passages_told c.args.near c.args.lines c.args.courses.now c.args.net.now c.in_ok-table.table c.as_slice.result.now
+    (ready c.args.near c.args.lines c.args.courses.now c.args.net.now c.net_points.ensures.kept c.requires.fit c.requires.served c.requires.net c.requires.directions c.requires.joined)
+    c.in_ok-table.ensures c.as_slice.ensures c.in_ok-ways.ensures.led
+
+pub returns-clause-kept : goal.returns-clause-kept
+returns-clause-kept c =
+    kept_told c.args.near c.args.lines c.args.courses.now c.args.net.now c.in_ok-table.table c.as_slice.result.now
     (ready c.args.near c.args.lines c.args.courses.now c.args.net.now c.net_points.ensures.kept c.requires.fit c.requires.served c.requires.net c.requires.directions c.requires.joined)
     c.in_ok-table.ensures c.as_slice.ensures c.in_ok-ways.ensures.led

@@ -3,7 +3,7 @@ use Rattle.std.proofs.lemmas.Result.{err_from_is_err_and}
 use Rattle.std.specs.declared.alloc.Global.{Global}
 use Rattle.table_rows.specs.declared.why.Table.TheVariants.{Stops}
 use Rattle.transit_feed.specs.declared.station.Station.{Station}
-use Rattle.gtfs_tables.specs.Stops.{stops_outcome}
+use Rattle.stop_table.specs.Stops.{stops_outcome}
 use Rattle.files_door.specs.Fault.{Rose}
 use Rattle.command_run.specs.declared.output.Output.{Output}
 use Rattle.command_run.specs.Work.{ends}

@@ -1,0 +1,4 @@
+pub mod StopLemmas
+mod StopExamples
+pub mod PlacedLemmas
+pub mod LeadLemmas

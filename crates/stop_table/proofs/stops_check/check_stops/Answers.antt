@@ -1,0 +1,15 @@
+use Rattle.std.proofs.Common.{◌∙◌, ap, sym, refl}
+use Rattle.table_rows.specs.declared.why.Table.TheVariants.{Stops}
+use Rattle.table_rows.specs.Cells.{row_at}
+use Rattle.table_rows.specs.Reasons.{header_reason}
+use Rattle.stop_table.specs.Stops.{stops_reason, required_columns}
+use Rattle.table_rows.proofs.ReasonLemmas.{Refuses-bad}
+use Rattle.stop_table.proofs.stops_check.check_stops.Goals as goal
+
+pub returns-in-Some : goal.returns-in-Some
+returns-in-Some c =
+    Refuses-bad Stops (stops_reason c.args.rows.now) c.args.rows.now tt 0 c.in-Some.why c.bad_row.result
+    c.requires.header
+    refl
+    (ap (λ columns. header_reason (required_columns columns) (row_at c.args.rows.now 0)) (sym c.requires.columns) ∙ sym c.header_reason.ensures ∙ c.in-Some.is)
+    c.bad_row.ensures

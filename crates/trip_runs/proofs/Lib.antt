@@ -1,0 +1,8 @@
+pub mod RisingLemmas
+pub mod ReadLemmas
+pub mod ComingRows
+pub mod PlaceLemmas
+pub mod StopTimeLemmas
+pub mod StationLemmas
+pub mod ShapeLemmas
+pub mod CourseLemmas

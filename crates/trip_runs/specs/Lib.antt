@@ -1,0 +1,9 @@
+pub mod Rising
+pub mod Reads
+pub mod Shapes
+pub mod ShapeReads
+pub mod KeptShapes
+pub mod StopTimes
+pub mod StopTimeReads
+pub mod StationsOfTrips
+pub mod RowsFrom
