@@ -39,15 +39,15 @@ abbrev pub same_outputs : List Output → List Output
 same_outputs outputs = outputs
 
 -- the line graph of what is loaded, as work
-abbrev graph_work : Loaded → Work Input Refusal GraphParts
+abbrev pub graph_work : Loaded → Work Input Refusal GraphParts
 graph_work loaded = ends (built (graph_outcome loaded.settings.near loaded.tables))
 
 -- what comes after the line graph
-abbrev with_graph : Loaded → GraphParts → Work Input Refusal (List Output)
+abbrev pub with_graph : Loaded → GraphParts → Work Input Refusal (List Output)
 with_graph loaded graph = certificate_work loaded graph >>= picture_work
 
 -- what comes after loading
-abbrev with_loaded : Loaded → Work Input Refusal (List Output)
+abbrev pub with_loaded : Loaded → Work Input Refusal (List Output)
 with_loaded loaded = graph_work loaded >>= with_graph loaded
 
 -- what is loaded is refused

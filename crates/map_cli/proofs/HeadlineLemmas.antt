@@ -128,7 +128,7 @@ means told (make feed paths) outputs old new apart promised holds =
       loads = promised.loads;
       made = promised.made;
       defined = promised.defined;
-      shows = promised.shows;
+      is_made = promised.is_made;
       map = has (Path paths.picture) ∙ map_held paths promised.made (held_by (Path paths.picture) old) apart;
       certificate = has (Path paths.certificate) ∙ certificate_held paths promised.made (held_by (Path paths.certificate) old);
     }

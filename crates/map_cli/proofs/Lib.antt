@@ -7,4 +7,5 @@ pub mod EndingLemmas
 pub mod LawLemmas
 pub mod HeadlineLemmas
 pub mod DoneLemmas
+pub mod SaysYes
 mod Examples

@@ -3,7 +3,7 @@ use Rattle.std.proofs.Common.{◌≡◌, ◌≤◌, ◌+◌, ℕ, inl, inr, List
 use Rattle.command_run.specs.declared.output.Output.{Output}
 use Rattle.map_engine.specs.Making.{MapBytes, make_outcome}
 use Rattle.map_engine.specs.Keeping.{branches_left}
-use Rattle.map_engine.specs.Wholes.{ShowsFeed}
+use Rattle.map_engine.specs.Promises.{IsMade}
 use Rattle.map_cli.specs.declared.loaded.Loaded.{Loaded}
 use Rattle.map_cli.specs.declared.refusal.Refusal.{Refusal}
 use Rattle.map_cli.specs.Words.{Asked, MapPaths, make}
@@ -19,9 +19,9 @@ Told = Option (List (List ℕ × List ℕ))
 -- a map that was made of what was loaded
 pub are_of_map : (told : Told) (asked : Asked) (rose : Type 0) (paths : MapPaths) (loaded : Loaded) (result : Result (List Output) Refusal)
     → Follows told (input_path asked) rose (λ (l : Loaded). l) load_work (Ok loaded)
-    → IfOk result (λ outputs. (made : MapBytes) × (make_outcome loaded.tables loaded.settings ≡ Ok made) × ShowsFeed loaded.tables loaded.settings made.svg × (outputs ≡ map_outputs paths made)) → IfOk result (AreOfMap told asked paths)
+    → IfOk result (λ outputs. (made : MapBytes) × (make_outcome loaded.tables loaded.settings ≡ Ok made) × IsMade loaded.tables loaded.settings made × (outputs ≡ map_outputs paths made)) → IfOk result (AreOfMap told asked paths)
 are_of_map told asked rose paths loaded (Err why) loads made = tt
-are_of_map told asked rose paths loaded (Ok outputs) loads made = record { loaded = loaded; loads = loads.1; made = made.0; defined = made.1; shows = made.2; are = made.3 }
+are_of_map told asked rose paths loaded (Ok outputs) loads made = record { loaded = loaded; loads = loads.1; made = made.0; defined = made.1; is_made = made.2; are = made.3 }
 
 pub searches : (told : Told) (asked : Asked) (rose : Type 0) (loaded : Loaded) (before now : ℕ) → Follows told (input_path asked) rose (λ (l : Loaded). l) load_work (Ok loaded)
     → now ≤ before + branches_left [] loaded.tables loaded.settings → SearchesParts told asked before now

@@ -1,25 +1,34 @@
 -- What a user may rely on where a run ends with status 0, in the words of the feed.
-use Rattle.std.specs.Prelude.{◌≡◌, ℕ, List, [], ◌++◌, Option, Some, IfSome, unwrap_or, ⊤, Ok}
+use Rattle.std.specs.Prelude.{◌≡◌, ℕ, List, [], ◌++◌, length, Option, Some, IfSome, unwrap_or, true, ⊤, Ok}
+use Rattle.map_base.specs.declared.limit.LimitKind.TheVariants.{File}
+use Rattle.map_base.specs.Limits.{is_within}
 use Rattle.files_door.specs.declared.target.Target.TheVariants.{Said, Path}
 use Rattle.files_door.specs.Files.{file_at}
 use Rattle.files_door.specs.Targets.{Written, held_by}
+use Rattle.table_rows.specs.declared.why.Table.{Table}
+use Rattle.table_rows.specs.Folder.{path_in}
 use Rattle.map_engine.specs.Making.{MapBytes, make_outcome}
-use Rattle.map_engine.specs.Wholes.{ShowsFeed}
+use Rattle.map_engine.specs.Promises.{IsMade}
 use Rattle.map_cli.specs.declared.loaded.Loaded.{Loaded}
 use Rattle.map_cli.specs.Words.{Asked, MapPaths, stations, graph, make, check}
 use Rattle.map_cli.specs.Lines.{best_line}
 use Rattle.map_cli.specs.Promises.{Loads, IsAccepted}
 
 -- The map of a feed is written, and its certificate: those that are defined for the feed's tables. The map shows exactly
--- the line graph of these tables, in a legal drawing, and no line orders cost less. The two files hold the two.
+-- the line graph of these tables, in a legal drawing; no line orders cost less, as the certificate shows: the check says yes
+-- to both. The two files hold the two.
 pub record IsMapWritten (told : Option (List (List ℕ × List ℕ))) (asked : Asked) (paths : MapPaths) (new : Written) : Type 0 where
   pub loaded : Loaded
   pub loads : Loads told asked loaded
   pub made : MapBytes
   pub defined : make_outcome loaded.tables loaded.settings ≡ Ok made
-  pub shows : ShowsFeed loaded.tables loaded.settings made.svg
+  pub is_made : IsMade loaded.tables loaded.settings made
   pub map : held_by (Path paths.picture) new ≡ Some made.svg
   pub certificate : held_by (Path paths.certificate) new ≡ Some made.certificate
+
+-- a cost is printed behind what standard output held
+abbrev pub SaysBest : Written → Written → ℕ → Type 0
+SaysBest old new cost = held_by Said new ≡ Some (unwrap_or (held_by Said old) [] ++ best_line cost)
 
 -- The map that lies at the path of `check` is accepted with its certificate, whoever made the two: it shows exactly the line
 -- graph of the feed's tables, in a legal drawing, with line orders of the cost that is printed, and none cost less.
@@ -30,7 +39,7 @@ pub record IsMapAccepted (told : Option (List (List ℕ × List ℕ))) (asked : 
   pub lies : IfSome told (λ files. file_at files paths.picture ≡ Some picture)
   pub cost : ℕ
   pub accepted : IsAccepted told asked loaded picture cost
-  pub printed : held_by Said new ≡ Some (unwrap_or (held_by Said old) [] ++ best_line cost)
+  pub printed : SaysBest old new cost
 
 -- what status 0 means, by the command
 abbrev pub MeansDone : Option (List (List ℕ × List ℕ)) → Asked → Written → Written → Type 0
@@ -38,3 +47,12 @@ MeansDone told (stations feed) old new = ⊤
 MeansDone told (graph feed) old new = ⊤
 MeansDone told (make feed paths) old new = IsMapWritten told (make feed paths) paths new
 MeansDone told (check feed paths) old new = IsMapAccepted told (check feed paths) paths old new
+
+-- Later files: the feed is as it was, and the map and the certificate lie at their paths as a run of `make` left them, none
+-- of the two longer than a file may be.
+pub record LieAsMade (files later : List (List ℕ × List ℕ)) (feed : List ℕ) (paths : MapPaths) (new : Written) : Type 0 where
+  pub same_feed : (table : Table) → file_at later (path_in feed table) ≡ file_at files (path_in feed table)
+  pub map : file_at later paths.picture ≡ held_by (Path paths.picture) new
+  pub certificate : file_at later paths.certificate ≡ held_by (Path paths.certificate) new
+  pub map_fits : IfSome (held_by (Path paths.picture) new) (λ bytes. is_within File (length bytes) ≡ true)
+  pub certificate_fits : IfSome (held_by (Path paths.certificate) new) (λ bytes. is_within File (length bytes) ≡ true)

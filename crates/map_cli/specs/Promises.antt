@@ -5,8 +5,7 @@ use Rattle.command_run.specs.declared.output.Output.{Output}
 use Rattle.command_run.specs.Told.{IsRun}
 use Rattle.map_engine.specs.Making.{MapBytes, make_outcome}
 use Rattle.map_engine.specs.Keeping.{branches_left}
-use Rattle.map_engine.specs.Promises.{IsCertified}
-use Rattle.map_engine.specs.Wholes.{ShowsFeed}
+use Rattle.map_engine.specs.Promises.{IsMade, IsCertified}
 use Rattle.map_cli.specs.declared.input.Input.TheVariants as input
 use Rattle.map_cli.specs.declared.loaded.Loaded.{Loaded}
 use Rattle.map_cli.specs.declared.refusal.Refusal.{Refusal}
@@ -22,13 +21,13 @@ abbrev pub Loads : Option (List (List ℕ × List ℕ)) → Asked → Loaded →
 Loads told asked loaded = IsRun refused.ReadFault told (input_path asked) load_work (Ok loaded)
 
 -- The outputs of `make` are a map and its certificate, at their paths: those that are defined for the feed. The map shows
--- exactly the line graph of the feed, in a legal drawing, and no line orders cost less.
+-- exactly the line graph of the feed, in a legal drawing, and no line orders cost less; the check says yes to both.
 pub record AreOfMap (told : Option (List (List ℕ × List ℕ))) (asked : Asked) (paths : MapPaths) (outputs : List Output) : Type 0 where
   pub loaded : Loaded
   pub loads : Loads told asked loaded
   pub made : MapBytes
   pub defined : make_outcome loaded.tables loaded.settings ≡ Ok made
-  pub shows : ShowsFeed loaded.tables loaded.settings made.svg
+  pub is_made : IsMade loaded.tables loaded.settings made
   pub are : outputs ≡ map_outputs paths made
 
 -- The certificate at its path certifies this map and this cost. Its walks are a legal drawing of exactly the line graph of

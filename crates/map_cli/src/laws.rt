@@ -13,11 +13,13 @@ ghost use Rattle.map_cli.specs.declared.answer.Answer.{Answer};
 ghost use Rattle.map_cli.specs.declared.input.Input.{Input};
 ghost use Rattle.map_cli.specs.declared.status.Status.{Status};
 ghost use Rattle.map_cli.specs.declared.status.Status.TheVariants as status;
-ghost use Rattle.map_cli.specs.Words.{Asked};
+ghost use Rattle.map_cli.specs.Words.{Asked, MapPaths, check, make};
 ghost use Rattle.map_cli.specs.Inputs.{input_path};
-ghost use Rattle.map_cli.specs.Answers.{alone, answer_by};
+ghost use Rattle.map_cli.specs.Lines.{best_line};
+ghost use Rattle.map_cli.specs.Answers.{alone, answer_by, said};
 ghost use Rattle.map_cli.specs.Commands.{work};
 ghost use Rattle.map_cli.specs.Ending.{Ends, IsAnswerTo, IsLineOf, IsToBeWritten};
+ghost use Rattle.map_cli.specs.Headline.{IsMapWritten, LieAsMade, SaysBest};
 
 /// Over files that are told, the answer to a command is the one that they define, or it names the path of an input,
 /// and the files' count of faults rose.
@@ -66,4 +68,19 @@ pub fn what_is_defined_is_done()
         → Ends (Some asked) (Some files) (Rose files_before files_now) (Rose before now) (Some old) (Some new) ended
         → outcome (work asked) (file_of files (input_path asked)) ≡ Ok outputs → (Rose files_before files_now → ⊥) → (Rose before now → ⊥)
         → ((ended ≡ status.Done) × ((target : Target) → held_by target new ≡ held_after target outputs (held_by target old))) ⊎ (ended ≡ status.NoMemory) }
+{}
+
+/// The check says yes to what `make` wrote. After a run of `make` that ended with status 0 let the feed be as it was, and
+/// the map and the certificate lie as they were written, neither longer than a file may be. Then `check` comes to the cost
+/// of the map; and a run of it on which no count of faults rises ends with status 0 and prints this cost, or memory ran
+/// out.
+pub fn check_says_yes_to_what_make_wrote()
+    ensures defined { (feed : List ℕ) (paths : MapPaths) (files later : List (List ℕ × List ℕ)) (made : Written)
+        → (written : IsMapWritten (Some files) (make feed paths) paths made) → LieAsMade files later feed paths made
+        → outcome (work (check feed paths)) (file_of later (input_path (check feed paths))) ≡ Ok (said (best_line written.is_made.cost)) }
+    ensures done { (feed : List ℕ) (paths : MapPaths) (files later : List (List ℕ × List ℕ)) (made : Written) (files_before files_now before now : ℕ) (old new : Written) (ended : Status)
+        → (written : IsMapWritten (Some files) (make feed paths) paths made) → LieAsMade files later feed paths made
+        → Ends (Some (check feed paths)) (Some later) (Rose files_before files_now) (Rose before now) (Some old) (Some new) ended
+        → (Rose files_before files_now → ⊥) → (Rose before now → ⊥)
+        → ((ended ≡ status.Done) × SaysBest old new written.is_made.cost) ⊎ (ended ≡ status.NoMemory) }
 {}

@@ -4,7 +4,7 @@ ghost use Rattle.std.specs.Prelude.{Ok, ◌≡◌, ◌≤◌, ◌+◌, [], IfOk}
 ghost use Rattle.files_door.specs.Fault.{Rose};
 ghost use Rattle.map_engine.specs.Making.{MapBytes, make_outcome};
 ghost use Rattle.map_engine.specs.Keeping.{branches_left};
-ghost use Rattle.map_engine.specs.Wholes.{ShowsFeed};
+ghost use Rattle.map_engine.specs.Promises.{IsMade};
 ghost use Rattle.map_cli.specs.Words.{asked_by, paths_by};
 ghost use Rattle.map_cli.specs.Inputs.{input_path};
 ghost use Rattle.map_cli.specs.Answers.{map_outputs};
@@ -50,7 +50,7 @@ fn map_of<L: Ledger>(
     ensures given { Gives (λ outputs. outputs) result
         (made_at (paths_by map_files.now) (make_outcome loaded.now.tables loaded.now.settings)) }
     ensures made { IfOk result (λ outputs. (made : MapBytes)
-        × (make_outcome loaded.now.tables loaded.now.settings ≡ Ok made) × ShowsFeed loaded.now.tables loaded.now.settings made.svg
+        × (make_outcome loaded.now.tables loaded.now.settings ≡ Ok made) × IsMade loaded.now.tables loaded.now.settings made
         × (outputs ≡ map_outputs (paths_by map_files.now) made)) }
     ensures steps { steps.new ≤ steps.old + branches_left [] loaded.now.tables loaded.now.settings }
 {

@@ -1,7 +1,8 @@
 -- How much lines count: each number is one that a line may have.
-use Rattle.std.proofs.Common.{◌≡◌, ℕ, ◌<◌, Bool, true, false, cond, List, [], ◌∷◌, length, map, get_or, arith, All}
+use Rattle.std.proofs.Common.{◌≡◌, ℕ, ◌<◌, ◌≤◌, ◌⊎◌, inl, inr, Bool, true, false, cond, List, [], ◌∷◌, length, map, get_or, arith, All}
 use Rattle.std.specs.Prelude.{bytes_eq}
-use Rattle.std.proofs.lemmas.List.{length-map}
+use Rattle.std.proofs.lemmas.Bool.{cases_lt}
+use Rattle.std.proofs.lemmas.List.{get_or_past, length-map}
 use Rattle.std.proofs.lemmas.List.Elements.{All-head, All-tail, All-map, All-weaker}
 use Rattle.map_base.specs.declared.ids.LineId.{LineId}
 use Rattle.map_base.specs.Settings.{Choices, IsImportance}
@@ -29,6 +30,16 @@ line_has feed choices a all below =
     let each : length (importance_by feed choices) ≡ length feed.lines = length-map feed.lines number in
     let within : a.0 < length (importance_by feed choices) = omega (arith, each, below) in
     (within, All-map IsImportance number feed.lines (λ k d h. among_in_range choices.importance (get_or feed.lines k d).id all) a.0 0 within)
+
+-- no number is above 16
+pub number_at : (feed : Feed) (choices : Choices) → All HasNumber choices.importance → (k : ℕ) → get_or (importance_by feed choices) k 1 ≤ 16
+number_at feed choices all k = by_place (cases_lt k (length (importance_by feed choices)))
+  where
+    by_place : (k < length (importance_by feed choices)) ⊎ (length (importance_by feed choices) ≤ k) → get_or (importance_by feed choices) k 1 ≤ 16
+    by_place (inl h) =
+        let number : Line → ℕ = λ (l : Line). importance_among choices.importance l.id in
+        (All-map IsImportance number feed.lines (λ i d below. among_in_range choices.importance (get_or feed.lines i d).id all) k 1 h).1
+    by_place (inr h) = omega (arith, get_or_past (importance_by feed choices) k 1 h)
 
 -- all lines of a feed's graph have their numbers
 pub have_importance : (feed : Feed) (choices : Choices) (graph : GraphParts) → All (λ (p : List ℕ × ℕ). IsImportance p.1) choices.importance → AreOfFeed feed graph

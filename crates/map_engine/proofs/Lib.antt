@@ -15,3 +15,5 @@ mod CostParts
 mod PartOrders
 mod Accepting
 mod Promised
+mod TreeRanges
+mod CertificateRanges

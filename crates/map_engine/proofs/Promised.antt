@@ -27,12 +27,12 @@ use Rattle.map_engine.specs.Problems.{Drawn, drawn_outcome, problem_of, problem_
 use Rattle.map_engine.specs.Solving.{SolvedPart, solved, solve_outcome, parts_in, orders_by}
 use Rattle.map_engine.specs.Certificates.{line_count, weighty_lines, certificate_of}
 use Rattle.map_engine.specs.Making.{MapBytes, map_of}
-use Rattle.map_engine.specs.Promises.{IsPictureOf, CostLeast, ShowsGraph, ShowsLineGraph}
+use Rattle.map_engine.specs.Promises.{IsPictureOf, CostLeast, ShowsCertified, ShowsGraph, ShowsLineGraph}
 use Rattle.map_engine.specs.Checking.{PlainChecked, walk_refused, refused_unless, unless_refused, graph_item, importance_item, walk_item, order_item, cost_item, proof_item, are_same_pairs, is_order, first_disorder, first_difference, picture_item, checked_on, checked_orders, pictured, check_outcome}
-use Rattle.map_engine.specs.Wholes.{done_in, orders_in, IsWhole, ShowsFeed}
+use Rattle.map_engine.specs.Wholes.{done_in, orders_in, IsWhole}
 use Rattle.map_engine.specs.declared.drawn_map.DrawnMap.{DrawnMap}
 use Rattle.map_engine.specs.declared.solution.Solution.{Solution}
-use Rattle.map_engine.specs.Stages.{drawn_of, map_by, IsShown, IsSolution}
+use Rattle.map_engine.specs.Stages.{drawn_of, IsShown, IsSolution}
 use Rattle.map_engine.proofs.DrawingLemmas.{graph_there, problem_there}
 use Rattle.map_engine.proofs.ItemLemmas.{has_at}
 use Rattle.map_engine.proofs.PartOrders.{all_are, shown_each, cost_is, best_is}
@@ -81,25 +81,29 @@ none_disordered k (lines ∷ segs) (order ∷ orders) are =
 held : (holds : Bool) (i : CheckItem) → holds ≡ true → refused_unless holds i ≡ None
 held holds i h = ap (λ (b : Bool). cond b None (Some i)) h
 
-segs_same : (feed : Feed) (choices : Choices) (drawn : Drawn) → IsWhole feed choices drawn → drawn.problem.segs ≡ drawn.graph.lines
+pub segs_same : (feed : Feed) (choices : Choices) (drawn : Drawn) → IsWhole feed choices drawn → drawn.problem.segs ≡ drawn.graph.lines
 segs_same feed choices drawn whole = ap (λ (p : ProblemParts). p.segs) whole.defined
 
--- the map shows the line graph
-pub shows_graph : (feed : Feed) (choices : Choices) (drawn : Drawn) → IsWhole feed choices drawn
-    → ShowsLineGraph feed choices (map_of feed choices drawn (done_in drawn.problem)).svg (certificate_of feed choices drawn (done_in drawn.problem)).cost
-shows_graph feed choices drawn whole = record {
-  graph = drawn.graph;
-  of_feed = whole.of_feed;
-  shows = record {
-    walks = drawn.walks;
-    orders = orders_in drawn.problem;
-    shown = record { legal = whole.legal; ordered = subst (λ (segs : List (List LineId)). AreOrders segs (orders_in drawn.problem)) (segs_same feed choices drawn whole) whole.ordered; picture = refl };
-    least = record {
-      costs = ap (λ (p : ProblemParts). cost_of p.terms (orders_in drawn.problem)) (sym whole.defined);
-      best = subst (λ (p : ProblemParts). AreBest p.segs p.terms (orders_in drawn.problem)) whole.defined (best_is drawn.problem whole.fits whole.shown);
-    };
+-- the map shows the line graph, with the walks and the orders of its certificate
+pub shows_certified : (feed : Feed) (choices : Choices) (drawn : Drawn) → IsWhole feed choices drawn
+    → ShowsCertified feed choices drawn.graph (certificate_of feed choices drawn (done_in drawn.problem)) (map_of feed choices drawn (done_in drawn.problem)).svg (certificate_of feed choices drawn (done_in drawn.problem)).cost
+shows_certified feed choices drawn whole = record {
+  shown = record { each = whole.each; legal = whole.legal; ordered = subst (λ (segs : List (List LineId)). AreOrders segs (orders_in drawn.problem)) (segs_same feed choices drawn whole) whole.ordered; picture = refl };
+  least = record {
+    costs = ap (λ (p : ProblemParts). cost_of p.terms (orders_in drawn.problem)) (sym whole.defined);
+    best = subst (λ (p : ProblemParts). AreBest p.segs p.terms (orders_in drawn.problem)) whole.defined (best_is drawn.problem whole.fits whole.shown);
   };
 }
+
+pub shows_graph : (feed : Feed) (choices : Choices) (drawn : Drawn) → IsWhole feed choices drawn
+    → ShowsLineGraph feed choices (map_of feed choices drawn (done_in drawn.problem)).svg (certificate_of feed choices drawn (done_in drawn.problem)).cost
+shows_graph feed choices drawn whole =
+    let shows = shows_certified feed choices drawn whole in
+    record {
+      graph = drawn.graph;
+      of_feed = whole.of_feed;
+      shows = record { walks = drawn.walks; orders = orders_in drawn.problem; shown = shows.shown; least = shows.least };
+    }
 
 -- and the check says yes to it
 pub accepts_map : (feed : Feed) (choices : Choices) (drawn : Drawn) → IsWhole feed choices drawn → first_illegal drawn.graph drawn.walks ≡ None
@@ -137,12 +141,13 @@ accepts_map feed choices drawn whole none_illegal =
 
 -- what is drawn and solved is whole
 pub whole_is : (feed : Feed) (choices : Choices) (d : DrawnMap) (s : Solution) (parts : List SolvedPart) → drawn_outcome feed choices ≡ Ok (drawn_of d)
-    → legal d.graph d.drawing.walks ≡ true → d.problem ≡ problem_of feed choices d.graph → IsProblem d.problem → AreOrders d.problem.segs s.orders.items
+    → length d.drawing.walks ≡ length d.graph.ends → legal d.graph d.drawing.walks ≡ true → d.problem ≡ problem_of feed choices d.graph → IsProblem d.problem → AreOrders d.problem.segs s.orders.items
     → solve_outcome choices.budget d.problem ≡ Ok parts → IsSolution d.problem parts s → IsWhole feed choices (drawn_of d)
-whole_is feed choices d s parts drawn is_legal defined fits ordered is_solved solution =
+whole_is feed choices d s parts drawn each is_legal defined fits ordered is_solved solution =
     let all : parts ≡ done_in d.problem = all_are choices.budget d.problem parts is_solved in
     record {
       of_feed = graph_there feed choices (graph_outcome choices.near feed) (drawn_of d) drawn;
+      each = each;
       legal = is_legal;
       counted = problem_there feed choices (graph_outcome choices.near feed) (drawn_of d) drawn;
       defined = defined;
@@ -150,12 +155,3 @@ whole_is feed choices d s parts drawn is_legal defined fits ordered is_solved so
       ordered = subst (AreOrders d.problem.segs) (solution.orders ∙ ap (orders_by d.problem) all) ordered;
       shown = shown_each d.problem (parts_in d.problem) (subst (AllByRecursion (λ (q : SolvedPart). IsShown d.problem q.segs)) all solution.shown);
     }
-
-pub shows_feed : (feed : Feed) (choices : Choices) (d : DrawnMap) (s : Solution) (parts : List SolvedPart) → drawn_outcome feed choices ≡ Ok (drawn_of d)
-    → legal d.graph d.drawing.walks ≡ true → d.problem ≡ problem_of feed choices d.graph → IsProblem d.problem → AreOrders d.problem.segs s.orders.items
-    → solve_outcome choices.budget d.problem ≡ Ok parts → IsSolution d.problem parts s → ShowsFeed feed choices (map_by feed d s).svg
-shows_feed feed choices d s parts drawn is_legal defined fits ordered is_solved solution =
-    let whole = whole_is feed choices d s parts drawn is_legal defined fits ordered is_solved solution in
-    let all : s.orders.items ≡ orders_in d.problem = solution.orders ∙ ap (orders_by d.problem) (all_are choices.budget d.problem parts is_solved) in
-    subst (λ (orders : List (List LineId)). ShowsFeed feed choices (picture_text (names_by feed) d.graph d.drawing.walks orders)) (sym all)
-    ((certificate_of feed choices (drawn_of d) (done_in d.problem)).cost, shows_graph feed choices (drawn_of d) whole)

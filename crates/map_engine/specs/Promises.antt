@@ -1,5 +1,5 @@
 -- What a map promises, whoever made it.
-use Rattle.std.specs.Prelude.{◌≡◌, ℕ, List, true, Ok}
+use Rattle.std.specs.Prelude.{◌≡◌, ℕ, List, length, true, Ok}
 use Rattle.map_base.specs.declared.ids.LineId.{LineId}
 use Rattle.map_base.specs.Settings.{Choices}
 use Rattle.transit_feed.specs.Feeds.{Feed}
@@ -14,10 +14,13 @@ use Rattle.cert_file.specs.Readers.{IsTextOf}
 use Rattle.map_engine.specs.Tables.{names_by}
 use Rattle.map_engine.specs.Problems.{problem_of}
 use Rattle.map_engine.specs.Making.{MapBytes}
+use Rattle.map_engine.specs.Readings.{certificate_in}
 use Rattle.map_engine.specs.Checking.{check_outcome}
 
--- a picture of this line graph: a legal drawing, in which the lines of each segment stand in some order
+-- a picture of this line graph: a legal drawing with a walk for each segment, in which the lines of each segment stand in
+-- some order
 pub record IsPictureOf (feed : Feed) (graph : GraphParts) (walks : List PlainWalk) (orders : List (List LineId)) (svg : List ℕ) : Type 0 where
+  pub each : length walks ≡ length graph.ends
   pub legal : legal graph walks ≡ true
   pub ordered : AreOrders graph.lines orders
   pub picture : svg ≡ picture_text (names_by feed) graph walks orders
@@ -45,9 +48,9 @@ pub record ShowsCertified (feed : Feed) (choices : Choices) (graph : GraphParts)
   pub shown : IsPictureOf feed graph certificate.walks certificate.orders svg
   pub least : CostLeast feed choices graph certificate.orders cost
 
--- What a yes to a map and a certificate means, whoever made them: the bytes are a certificate's text; its walks are a
--- legal drawing of the feed's line graph, and the map is the picture of it; its orders are orders of the segments, they
--- cost so much, and none cost less.
+-- A map that is certified by a certificate, whoever made the two: the bytes are a certificate's text; its walks are a legal
+-- drawing of the feed's line graph, and the map is the picture of it; its orders are orders of the segments, they cost so
+-- much, and none cost less. This is what a yes means.
 pub record IsCertified (feed : Feed) (choices : Choices) (svg bytes : List ℕ) (cost : ℕ) : Type 0 where
   pub certificate : PlainCertificate
   pub written : IsTextOf certificate bytes
@@ -55,10 +58,9 @@ pub record IsCertified (feed : Feed) (choices : Choices) (svg bytes : List ℕ) 
   pub of_feed : graph_outcome choices.near feed ≡ Ok graph
   pub shows : ShowsCertified feed choices graph certificate svg cost
 
--- what is made keeps the promise: the map shows exactly the line graph; the certificate is in range and has the map's cost;
--- and the check says yes to both
+-- What is made keeps the promise: the map is certified by its certificate, so it shows exactly the line graph and no line
+-- orders cost less; and the check says yes to the two, with that cost.
 pub record IsMade (feed : Feed) (choices : Choices) (made : MapBytes) : Type 0 where
-  pub certificate : PlainCertificate
-  pub written : IsTextOf certificate made.certificate
-  pub shows : ShowsLineGraph feed choices made.svg certificate.cost
-  pub accepted : check_outcome feed choices made.svg (Ok certificate) ≡ Ok certificate.cost
+  pub cost : ℕ
+  pub certified : IsCertified feed choices made.svg made.certificate cost
+  pub accepted : check_outcome feed choices made.svg (certificate_in made.certificate) ≡ Ok cost

@@ -1,5 +1,5 @@
 -- A drawing whose parts are solved.
-use Rattle.std.specs.Prelude.{◌≡◌, ℕ, List, map, true, Ok}
+use Rattle.std.specs.Prelude.{◌≡◌, ℕ, List, length, map, true, Ok}
 use Rattle.std.specs.List.{AllByRecursion}
 use Rattle.map_base.specs.declared.ids.LineId.{LineId}
 use Rattle.map_base.specs.Settings.{Choices}
@@ -12,7 +12,6 @@ use Rattle.order_model.specs.Costs.{AreOrders}
 use Rattle.map_engine.specs.Problems.{Drawn, problem_of, problem_within}
 use Rattle.map_engine.specs.Solving.{SolvedPart, solved, parts_in, orders_by}
 use Rattle.map_engine.specs.Stages.{IsShown}
-use Rattle.map_engine.specs.Promises.{ShowsLineGraph}
 
 -- all parts of a problem, each with what its live tree shows
 abbrev pub done_in : ProblemParts → List SolvedPart
@@ -22,17 +21,14 @@ done_in p = map (solved p) (parts_in p)
 abbrev pub orders_in : ProblemParts → List (List LineId)
 orders_in p = orders_by p (done_in p)
 
--- what is known of a drawing whose parts are solved: it is a legal one of the feed's line graph, and the live tree of each
--- part shows its least cost
+-- what is known of a drawing whose parts are solved: it is a legal one of the feed's line graph, with a walk for each
+-- segment, and the live tree of each part shows its least cost
 pub record IsWhole (feed : Feed) (choices : Choices) (drawn : Drawn) : Type 0 where
   pub of_feed : graph_outcome choices.near feed ≡ Ok drawn.graph
+  pub each : length drawn.walks ≡ length drawn.graph.ends
   pub legal : legal drawn.graph drawn.walks ≡ true
   pub counted : problem_within feed choices drawn.graph ≡ Ok drawn.problem
   pub defined : drawn.problem ≡ problem_of feed choices drawn.graph
   pub fits : IsProblem drawn.problem
   pub ordered : AreOrders drawn.problem.segs (orders_in drawn.problem)
   pub shown : AllByRecursion (IsShown drawn.problem) (parts_in drawn.problem)
-
--- the map shows exactly the line graph of the feed, in a legal drawing and with line orders of least cost
-abbrev pub ShowsFeed : Feed → Choices → List ℕ → Type 0
-ShowsFeed feed choices svg = (cost : ℕ) × ShowsLineGraph feed choices svg cost

@@ -1,7 +1,9 @@
 //! From a feed to its drawing and the problem of its line orders.
 
-ghost use Rattle.std.specs.Prelude.{◌≡◌, true, IfOk, Ok};
-ghost use Rattle.octi_grid.specs.Legal.{legal};
+ghost use Rattle.std.specs.Prelude.{◌≡◌, length, true, All, None, IfOk, Ok};
+ghost use Rattle.graph_core.specs.Consistent.{IsConsistent};
+ghost use Rattle.octi_grid.specs.Walks.{IsWalk};
+ghost use Rattle.octi_grid.specs.Legal.{first_illegal, legal};
 ghost use Rattle.line_graph.specs.Outcome.{graph_outcome};
 ghost use Rattle.map_engine.specs.Tables.{AreOfFeed};
 ghost use Rattle.map_engine.specs.Tables.{importance_by};
@@ -15,6 +17,7 @@ use crate::importance::importance_of;
 use graph_core::LineGraph;
 use line_graph::build;
 use map_base::Settings;
+use octi_grid::{Walk, illegal_drawings_have_a_first_walk};
 use order_terms::terms_of;
 use segment_router::route;
 use std::alloc::Global;
@@ -28,6 +31,10 @@ pub(crate) fn drawn_map(
     settings: &Settings,
 ) -> Result<DrawnMap, MakeFault>
     ensures outcome { Gives drawn_of result (drawn_outcome tables.now settings.now) }
+    ensures fits { IfOk result (λ d. IsConsistent d.graph) }
+    ensures walks { IfOk result (λ d. All IsWalk d.drawing.walks) }
+    ensures first { IfOk result (λ d. first_illegal d.graph d.drawing.walks ≡ None) }
+    ensures each { IfOk result (λ d. length d.drawing.walks ≡ length d.graph.ends) }
     ensures legal { IfOk result (λ d. legal d.graph d.drawing.walks ≡ true) }
     ensures lines { IfOk result (λ d. AreOfFeed tables.now d.graph) }
     ensures importance { IfOk result (λ d. d.importance.items ≡ importance_by tables.now settings.now) }
@@ -46,12 +53,19 @@ fn drawn_on_graph(
 ) -> Result<DrawnMap, MakeFault>
     requires lines { AreOfFeed tables.now graph }
     ensures outcome { Gives drawn_of result (drawn_on tables.now settings.now (Ok graph)) }
+    ensures fits { IfOk result (λ d. IsConsistent d.graph) }
+    ensures walks { IfOk result (λ d. All IsWalk d.drawing.walks) }
+    ensures first { IfOk result (λ d. first_illegal d.graph d.drawing.walks ≡ None) }
+    ensures each { IfOk result (λ d. length d.drawing.walks ≡ length d.graph.ends) }
     ensures legal { IfOk result (λ d. legal d.graph d.drawing.walks ≡ true) }
     ensures lines { IfOk result (λ d. AreOfFeed tables.now d.graph) }
     ensures importance { IfOk result (λ d. d.importance.items ≡ importance_by tables.now settings.now) }
     ensures problem { IfOk result (λ d. d.problem ≡ problem_of tables.now settings.now d.graph) }
 {
+    let _nodes = graph.nodes();
     let drawing = route(alloc, &graph, settings.cell)?;
+    are_walks(drawing.walks.as_slice());
+    illegal_drawings_have_a_first_walk();
     let importance = importance_of(alloc, tables, settings)?;
     let problem = terms_of(alloc, &graph, &settings.weights, importance.as_slice())?;
     Ok(DrawnMap {
@@ -60,4 +74,13 @@ fn drawn_on_graph(
         importance,
         problem,
     })
+}
+
+/// What the type of walks keeps, of each of these: it has a step, and its points lie within 10,000 either way.
+fn are_walks(walks: &[Walk])
+    ensures { All IsWalk walks.now }
+{
+    for walk in walks {
+        let _runs = walk.runs();
+    }
 }

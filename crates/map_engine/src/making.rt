@@ -1,13 +1,13 @@
 //! The map of a feed and its certificate.
 
-ghost use Rattle.std.specs.Prelude.{◌≡◌, ◌≤◌, ◌+◌, [], length, All, Contains, IfOk};
+ghost use Rattle.std.specs.Prelude.{◌≡◌, ◌≤◌, ◌<◌, ◌+◌, ◌^◌, [], length, All, Contains, IfOk};
 ghost use Rattle.order_model.specs.Costs.{AreOrders};
 ghost use Rattle.order_proof.specs.Trees.{HasTrees};
 ghost use Rattle.map_engine.specs.Tables.{AreOfFeed};
 ghost use Rattle.map_engine.specs.Making.{bytes_of, make_outcome, Gives};
 ghost use Rattle.map_engine.specs.Keeping.{branches_left};
 ghost use Rattle.map_engine.specs.Stages.{map_by, plain_parts};
-ghost use Rattle.map_engine.specs.Wholes.{ShowsFeed};
+ghost use Rattle.map_engine.specs.Promises.{IsMade};
 
 use crate::drawing::drawn_map;
 use crate::drawn_lines::{drawn_lines, weighty_lines};
@@ -39,8 +39,9 @@ pub fn make<L: Ledger>(
 ) -> Result<Made, MakeFault>
     ensures outcome { Gives bytes_of result (make_outcome tables.now settings.now) }
 
-    // The map shows exactly the feed's line graph, in a legal drawing, and no line orders of it cost less.
-    ensures shows { IfOk result (λ made. ShowsFeed tables.now settings.now made.svg.items) }
+    // The map shows exactly the feed's line graph, in a legal drawing, and no line orders of it cost less; and the check
+    // says yes to the map and its certificate.
+    ensures made { IfOk result (λ made. IsMade tables.now settings.now (bytes_of made)) }
 
     // What is held stays, and no part that is held is searched again.
     ensures kept { All (Contains kept.new) kept.old }
@@ -64,7 +65,8 @@ fn written(
     requires segs { drawn.problem.segs ≡ drawn.graph.lines }
     requires orders { AreOrders drawn.problem.segs solution.orders.items }
     requires trees { HasTrees (record { rules = []; parts = plain_parts solution }) }
-    ensures { IfOk result (λ made. bytes_of made ≡ map_by tables.now drawn solution) }
+    ensures bytes { IfOk result (λ made. bytes_of made ≡ map_by tables.now drawn solution) }
+    ensures few { IfOk result (λ _. length tables.now.lines < 2 ^ 32) }
 {
     let orders = Orders {
         lists: Sequence::of(solution.orders),

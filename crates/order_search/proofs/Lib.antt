@@ -19,7 +19,6 @@ mod BoundedParts
 mod Roots
 mod Shows
 mod Leaves
-mod Restored
 mod Sorted
 mod Pushed
 mod Ways

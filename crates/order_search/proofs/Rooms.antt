@@ -1,14 +1,14 @@
 -- How much room a prefix leaves.
-use Rattle.std.proofs.Common.{◌≡◌, ℕ, ◌+◌, ◌<◌, ◌≤◌, ◌==◌, ◌||◌, Bool, true, false, cond, List, [], ◌∷◌, ◌++◌, length, set, get_or, refl, sym, ◌∙◌, ap, subst, arith, inl, inr, true≢false, eqb-true, eq-eqb, length-append, Some, None}
+use Rattle.std.proofs.Common.{◌≡◌, ℕ, ◌<◌, ◌≤◌, ◌==◌, ◌||◌, Bool, true, false, cond, List, [], ◌∷◌, length, set, get_or, refl, sym, ◌∙◌, ap, subst, arith, inl, inr, true≢false, eqb-true, eq-eqb, Some, None}
 use Rattle.std.specs.List.{find, sum_by}
-use Rattle.std.specs.Option.{option_to_list}
 use Rattle.std.proofs.lemmas.Bool.{ltb-true}
 use Rattle.std.proofs.lemmas.List.{get_or-set_same, get_or-set_other}
 use Rattle.std.proofs.lemmas.List.Sums.{sum_by-cons}
 use Rattle.map_base.specs.declared.ids.SegId.{SegId}
 use Rattle.map_base.specs.declared.ids.LineId.{LineId}
+use Rattle.part_bounds.proofs.Restored.{longer}
 use Rattle.order_model.specs.Problems.{lines_on}
-use Rattle.order_model.specs.Prefixes.{is_unplaced, with_line}
+use Rattle.order_model.specs.Prefixes.{with_line}
 use Rattle.order_model.specs.PartTerms.{is_in}
 use Rattle.order_model.specs.Completions.{placed_more}
 use Rattle.order_model.proofs.Lines.{either_true}
@@ -53,16 +53,6 @@ none_in p (t ∷ part) s h in_part = by_test (p t) refl h (none_in p part s)
     ]
 
 -- Placing a line takes room.
-
-pub longer : (lines placed : List LineId) (a : LineId) → length placed < length (with_line lines placed a)
-longer lines placed a = by_test (length (placed ++ a ∷ []) + 1 == length lines)
-  where
-    pushed : length placed < length (placed ++ a ∷ [])
-    pushed = omega (arith, length-append placed (a ∷ []))
-
-    by_test : (b : Bool) → length placed < length (cond b ((placed ++ a ∷ []) ++ option_to_list (find (is_unplaced (placed ++ a ∷ [])) lines)) (placed ++ a ∷ []))
-    by_test false = pushed
-    by_test true = omega (arith, pushed, length-append (placed ++ a ∷ []) (option_to_list (find (is_unplaced (placed ++ a ∷ [])) lines)))
 
 pub left_after : (segs placed : List (List LineId)) (s : SegId) (a : LineId) (u : SegId) → s.0 < length placed → left_on segs (placed_more segs placed s a) u ≤ left_on segs placed u
 left_after segs placed s a u known = elim (same_or_other u.0 s.0) [

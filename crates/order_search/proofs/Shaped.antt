@@ -19,7 +19,8 @@ use Rattle.part_bounds.specs.PartStates.{IsWell}
 use Rattle.order_search.specs.Left.{is_open, first_open, room_of, AreNext}
 use Rattle.order_search.specs.LiveTrees.{BoundedPart, Best, next_lines, GrownTree, grow_cases, split_with, closed_with, live_node, live_within, live_at}
 use Rattle.order_search.specs.Finding.{places_of, most_places}
-use Rattle.order_search.proofs.Rooms.{found_in, longer, sum_least, sum_falls}
+use Rattle.order_search.proofs.Rooms.{found_in, sum_least, sum_falls}
+use Rattle.part_bounds.proofs.Restored.{longer}
 use Rattle.order_search.proofs.OneLive.{lines_grown}
 use Rattle.order_search.proofs.NextLines.{are_next, some_next, distinct_next}
 use Rattle.order_search.proofs.Accepted.{well_more, seg_known, less_placed}

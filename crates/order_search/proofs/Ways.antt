@@ -27,7 +27,7 @@ use Rattle.order_search.proofs.Nodes.{fewer_left, complete_is, split_is, closed_
 use Rattle.order_search.proofs.NextLines.{are_next}
 use Rattle.order_search.proofs.Growing.{with_last, grown_upto, splits_upto}
 use Rattle.order_search.proofs.Opening.{stays_shut}
-use Rattle.order_search.proofs.Restored.{restored, chosen}
+use Rattle.part_bounds.proofs.Restored.{restored, chosen}
 
 abbrev pub bare : PartState → BoundedPart
 bare b = unpriced (part_of b)

@@ -15,3 +15,4 @@ mod Renewed
 mod Opened
 mod OwnUse
 mod OwnPrices
+pub mod Restored

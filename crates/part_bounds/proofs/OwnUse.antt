@@ -1,10 +1,10 @@
 -- A pair on the segments of its terms.
-use Rattle.std.proofs.Common.{◌≡◌, ℕ, ◌+◌, ◌<◌, ◌≤◌, ◌==◌, Bool, true, false, cond, List, [], ◌∷◌, length, filter, get_or, refl, sym, ap, subst, ◌∙◌, ◌⊎◌, inl, inr, arith, true≢false, eqb-true}
+use Rattle.std.proofs.Common.{◌≡◌, ℕ, ◌+◌, ◌<◌, ◌≤◌, ◌==◌, Bool, true, false, cond, ◌||◌, ◌&&◌, List, [], ◌∷◌, length, filter, get_or, refl, sym, ap, subst, ◌∙◌, ◌⊎◌, inl, inr, arith, true≢false, eqb-true}
 use Rattle.std.specs.List.{All, AllWithin}
 use Rattle.std.proofs.Math.ListN.{set}
 use Rattle.std.proofs.lemmas.Bool.{or_left, or_right, or_cases, and_parts, and_from}
 use Rattle.std.proofs.Math.Seq.{map-set_same}
-use Rattle.std.proofs.lemmas.List.Elements.{All-filter, All-from_recursion, AllWithin-more_set}
+use Rattle.std.proofs.lemmas.List.Elements.{All-head, All-tail, All-filter, All-from_recursion, AllWithin-more_set}
 use Rattle.map_base.specs.declared.ids.SegId.{SegId}
 use Rattle.map_base.specs.declared.ids.LineId.{LineId}
 use Rattle.order_model.specs.declared.term.Term.{Term}
@@ -13,11 +13,11 @@ use Rattle.order_model.specs.PartTerms.{is_in, is_of}
 use Rattle.order_bound.specs.Pairs.{AreApartSegments}
 use Rattle.order_bound.specs.Decided.{decided_sum}
 use Rattle.order_bound.specs.Bounds.{pair_bound}
-use Rattle.order_bound.proofs.Lists.{each_among}
+use Rattle.order_bound.proofs.Lists.{each_among, is_false}
 use Rattle.order_bound.proofs.Completing.{apart_filter}
 use Rattle.part_bounds.specs.declared.one_pair.Room.{Room}
 use Rattle.part_bounds.specs.declared.pair_terms.PairTerms.{PairTerms}
-use Rattle.part_bounds.specs.PairGroups.{Group, KnowsOwn, own_segments, meets, group_in, groups_in, share_of}
+use Rattle.part_bounds.specs.PairGroups.{Group, KnowsOwn, own_segments, is_end, meets, group_in, groups_in, share_of}
 use Rattle.part_bounds.specs.Slots.{HasRoom}
 use Rattle.part_bounds.proofs.PairCosts.{all_among}
 use Rattle.part_bounds.proofs.KeptUp.{few_filtered}
@@ -40,6 +40,28 @@ in_own q (t ∷ part) s h e = by_test (q t) refl (or_cases (t.0 == s.0) (is_in p
         let P : ℕ → SegId = λ n. record { 0 = n } in
         absurd (true≢false (sym e ∙ (sym (ap q (ap P (eqb-true t.0 s.0 here))) ∙ g)))
     by_test false g (inr later) rest = rest later
+
+either_end : (part : List SegId) (s a b : SegId) → (a.0 == s.0 || b.0 == s.0) ≡ true → (is_in part a && is_in part b) ≡ true → is_in part s ≡ true
+either_end part s a b h inside =
+    let P : ℕ → SegId = λ n. record { 0 = n } in
+    let parts = and_parts (is_in part a) (is_in part b) inside in
+    elim (or_cases (a.0 == s.0) (b.0 == s.0) h) [
+      | inl e ↦ ap (λ k. is_in part k) (sym (ap P (eqb-true a.0 s.0 e))) ∙ parts.0
+      | inr e ↦ ap (λ k. is_in part k) (sym (ap P (eqb-true b.0 s.0 e))) ∙ parts.1
+    ]
+
+met_inside : (part : List SegId) (terms : List (ℕ × Term)) (s : SegId) → All (λ (t : ℕ × Term). is_of part t.1 ≡ true) terms → meets terms s ≡ true → is_in part s ≡ true
+met_inside part [] s inside h = absurd (true≢false (sym h))
+met_inside part (t ∷ terms) s inside h = elim (or_cases (is_end s t.1) (meets terms s) h) [
+  | inl here ↦ either_end part s (seg_of t.1) (other_of t.1) here (All-head (λ (t : ℕ × Term). is_of part t.1 ≡ true) t terms inside)
+  | inr later ↦ met_inside part terms s (All-tail (λ (t : ℕ × Term). is_of part t.1 ≡ true) t terms inside) later
+]
+
+-- a segment that is none of a pair's own meets none of its terms
+pub not_own : (part : List SegId) (terms : List (ℕ × Term)) (own : List SegId) (s : SegId) → own ≡ own_segments part terms → All (λ (t : ℕ × Term). is_of part t.1 ≡ true) terms → is_in own s ≡ false
+    → meets terms s ≡ false
+not_own part terms own s e inside none =
+    is_false (meets terms s) (λ h. true≢false (sym (in_own (meets terms) part s (met_inside part terms s inside h) h) ∙ (ap (λ l. is_in l s) (sym e) ∙ none)))
 
 pub own_inside : (part : List SegId) (terms all : List (ℕ × Term)) (own : List SegId) → own ≡ own_segments part terms → all ≡ terms → All (λ (t : ℕ × Term). is_of part t.1 ≡ true) terms
     → All (λ (t : ℕ × Term). is_of own t.1 ≡ true) all

@@ -4,6 +4,7 @@ use Rattle.std.specs.Prelude.{ℤ, pos, ◌+ℤ◌, ◌-ℤ◌}
 use Rattle.std.specs.Int.{int_min}
 use Rattle.std.specs.List.{All, AllByRecursion}
 use Rattle.std.proofs.lemmas.Int.{ints, clamps}
+use Rattle.std.proofs.lemmas.Bool.{or_parts}
 use Rattle.std.proofs.lemmas.List.{take_more}
 use Rattle.std.proofs.lemmas.List.Elements.{All-nil, All-cons, All-head, All-tail}
 use lib.Signed.{◌≤ℤ◌}
@@ -12,7 +13,7 @@ use Rattle.order_model.specs.PartTerms.{is_in}
 use Rattle.part_bounds.specs.declared.slots.Slot.{Slot}
 use Rattle.order_bound.specs.declared.pairs.OpenLink.{OpenLink}
 use Rattle.order_bound.specs.Values.{where_one, is_one, is_one_there, share, int_sum, least_answer}
-use Rattle.order_bound.specs.CanonicalPrices.{shares, rise_of, price_for, priced}
+use Rattle.order_bound.specs.CanonicalPrices.{ends_at, shares, rise_of, price_for, priced}
 use Rattle.order_bound.specs.declared.pairs.ChildLink.{ChildLink}
 use Rattle.part_bounds.specs.Slots.{slot_at, slot_shared, rise_in, with_child, with_children, slot_least, IsSmall}
 use Rattle.order_bound.proofs.IntSums.{int_sum-append}
@@ -59,6 +60,18 @@ none_shared label cost (s ∷ segs) =
   where
     none : (n : ℕ) → n ≡ n + 0
     none n = omega arith
+
+none_more : (a z : ℤ) → z ≡ pos 0 → a ≡ a +ℤ z
+none_more a z e = omega (arith, ints)
+
+-- a slot at which a Link doesn't end has no share of its price
+pub unshared : (l : OpenLink) (y : ℤ) (slot : Slot) → ends_at slot.seg l ≡ false → slot ≡ slot_shared l y slot
+unshared l y slot h =
+    let parts = or_parts (l.seg.0 == slot.seg.0) (l.other.0 == slot.seg.0) h in
+    let none : (x : Bool) → share y l slot.seg x ≡ pos 0 = λ x. rw (parts.0, parts.1) refl in
+    let Q : ℤ → ℤ → Slot = λ a b. record { seg = slot.seg; label = slot.label; lesser_first = a; greater_first = b } in
+    ap (λ a. Q a slot.greater_first) (none_more slot.lesser_first (share y l slot.seg true) (none true))
+    ∙ ap (λ b. Q (slot.lesser_first +ℤ share y l slot.seg true) b) (none_more slot.greater_first (share y l slot.seg false) (none false))
 
 -- slots with the prices of children
 pub children_priced : (label : ℕ → ℕ) (cost : SegId → Bool → ℕ) (segs : List SegId) (children : List ChildLink) → AllByRecursion (λ (c : ChildLink). is_in segs c.child ≡ true) children

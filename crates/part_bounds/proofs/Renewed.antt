@@ -11,7 +11,7 @@ use Rattle.map_base.specs.declared.ids.LineId.{LineId}
 use Rattle.order_model.specs.Problems.{lines_on}
 use Rattle.order_bound.specs.Pairs.{AreApartSegments}
 use Rattle.part_bounds.specs.PairGroups.{Group, no_group, meets, terms_in, share_of, IsGroup}
-use Rattle.part_bounds.specs.Shares.{AreSharesBut}
+use Rattle.part_bounds.specs.Shares.{AreSharesBut, IsTrialSum}
 use Rattle.part_bounds.proofs.OwnSegments.{SameElsewhere, share_kept}
 use Rattle.part_bounds.proofs.PairCosts.{share_small}
 
@@ -53,6 +53,31 @@ share_renewed due s i groups shares fresh total total2 v ok below is most e tota
       total_is = (let sums = sum_by-set (λ n. n) shares i v 0 within in let before = ok.total_is in omega (arith, sums, before, total_is));
     })
 
+-- The same of a sum alone, while the shares stay.
+
+-- it begins
+pub trial_begins : (due : Group → ℕ) (s : SegId) (groups : List Group) (shares : List ℕ) (total : ℕ) → AreSharesBut due s 0 groups shares total → IsTrialSum due s 0 groups shares total
+trial_begins due s groups shares total ok = record { each = ok.each; anew = shares; are = ok; later = λ k h. refl }
+
+pub trial_stays : (due : Group → ℕ) (s : SegId) (i : ℕ) (groups : List Group) (shares : List ℕ) (total : ℕ) → IsTrialSum due s i groups shares total → meets (get_or groups i no_group).1 s ≡ false
+    → IsTrialSum due s (i + 1) groups shares total
+trial_stays due s i groups shares total h none = record {
+  each = h.each;
+  anew = h.anew;
+  are = share_stays due s i groups h.anew total h.are none;
+  later = λ k b. h.later k (omega (arith, b));
+}
+
+pub trial_renewed : (due : Group → ℕ) (s : SegId) (i : ℕ) (groups : List Group) (shares : List ℕ) (total total2 v : ℕ) → IsTrialSum due s i groups shares total → i < length groups
+    → v ≡ due (get_or groups i no_group) → v ≤ 1024000 * terms_in (get_or groups i no_group) → total2 + get_or shares i 0 ≡ total + v → IsTrialSum due s (i + 1) groups shares total2
+trial_renewed due s i groups shares total total2 v h below is most total_is = record {
+  each = h.each;
+  anew = set h.anew i v;
+  are = (let kept : get_or h.anew i 0 ≡ get_or shares i 0 = h.later i (omega arith) in
+      share_renewed due s i groups h.anew (set h.anew i v) total total2 v h.are below is most refl (omega (arith, kept, total_is)));
+  later = λ k b. (let ne : k ≢ i = λ e. absurd (omega (arith, b, e)) in get_or-set_other h.anew i k v 0 ne ∙ h.later k (omega (arith, b)));
+}
+
 -- Sums.
 
 sums_below : (groups : List Group) (shares : List ℕ) → length shares ≡ length groups → ((k : ℕ) → k < length groups → get_or shares k 0 ≤ 1024000 * terms_in (get_or groups k no_group))
@@ -75,6 +100,15 @@ pub total_small : (due : Group → ℕ) (s : SegId) (i : ℕ) (groups : List Gro
 total_small due s i groups shares total ok few =
     let is = ok.total_is in
     (omega (arith, is, few, sums_below groups shares ok.each ok.small), omega (arith, is, one_below shares i))
+
+-- a sum that is worked out in part is small, and the next kept share is not above it
+pub trial_small : (due : Group → ℕ) (s : SegId) (i : ℕ) (groups : List Group) (shares : List ℕ) (total : ℕ) → IsTrialSum due s i groups shares total → sum_by terms_in groups ≤ 4000000
+    → (total ≤ 4096000000000) × (get_or shares i 0 ≤ total)
+trial_small due s i groups shares total h few =
+    let small = total_small due s i groups h.anew total h.are few in
+    let one = small.1 in
+    let kept : get_or h.anew i 0 ≡ get_or shares i 0 = h.later i (omega arith) in
+    (small.0, omega (arith, one, kept))
 
 pub term_few : (groups : List Group) (i : ℕ) → sum_by terms_in groups ≤ 4000000 → terms_in (get_or groups i no_group) ≤ 4000000
 term_few [] i h = omega arith

@@ -23,6 +23,13 @@ pub record AreSharesBut (due : Group → ℕ) (s : SegId) (count : ℕ) (groups 
   pub small : (k : ℕ) → k < length groups → slice_index shares k ≤ 1024000 * terms_in (slice_index_or groups k no_group)
   pub total_is : total ≡ sum shares
 
+-- a sum of shares as it is once the first so many groups' shares are worked out anew, while the kept ones stay
+pub record IsTrialSum (due : Group → ℕ) (s : SegId) (count : ℕ) (groups : List Group) (shares : List ℕ) (total : ℕ) : Type 0 where
+  pub each : length shares ≡ length groups
+  pub anew : List ℕ
+  pub are : AreSharesBut due s count groups anew total
+  pub later : (k : ℕ) → count ≤ k → slice_index anew k ≡ slice_index shares k
+
 -- the numbers of a part's terms, and its pairs with what each adds to the bound of a prefix, and the sum; with room for so many shares
 pub record IsKeptUp (problem : ProblemParts) (part : List SegId) (numbers : List ℕ) (prefix : Placement) (pairs : List PairTerms) (shares : List ℕ) (places total : ℕ) (room : Room) : Type 0 where
   pub fits : IsPrefixOf problem.segs prefix

@@ -5,7 +5,7 @@ ghost use Rattle.std.specs.List.{AllWithin};
 ghost use Rattle.map_base.specs.declared.ids.SegId.{SegId};
 ghost use Rattle.order_model.specs.declared.term.Term.{Term};
 ghost use Rattle.order_model.specs.Problems.{IsProblem};
-ghost use Rattle.order_model.specs.PartTerms.{terms_by_number};
+ghost use Rattle.order_model.specs.PartTerms.{is_in, terms_by_number};
 ghost use Rattle.order_bound.specs.Pairs.{pair_of, pair_in};
 ghost use Rattle.part_bounds.specs.PairGroups.{Group, KnowsOwn, is_end, meets, own_segments, terms_in, pair_on, groups_of, groups_in, with_pair, with_term_at};
 
@@ -94,8 +94,15 @@ fn own_segments(
     Ok(segs)
 }
 
+/// Whether a segment is one of these.
+pub(crate) fn is_in(segs: &[SegId], seg: SegId) -> bool
+    ensures { result ≡ is_in segs.now seg }
+{
+    segs.iter().any(|own| own.0 == seg.0)
+}
+
 /// Whether one of these terms has an end on a segment.
-pub(crate) fn meets(terms: &[(u32, Term)], seg: SegId) -> bool
+fn meets(terms: &[(u32, Term)], seg: SegId) -> bool
     ensures { result ≡ meets terms.now seg }
 {
     terms.iter().any(|entry| is_end(seg, entry.1))

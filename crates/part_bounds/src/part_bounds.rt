@@ -2,7 +2,9 @@
 
 ghost use Rattle.std.specs.Prelude.{◌≡◌, ◌<◌, length, All, false, Contains, IfOk, slice_set};
 ghost use Rattle.map_base.specs.declared.ids.SegId.{SegId};
+ghost use Rattle.graph_core.specs.Consistent.{AreRising};
 ghost use Rattle.order_model.specs.Problems.{lines_on};
+ghost use Rattle.order_model.specs.Completions.{placed_more};
 ghost use Rattle.order_model.specs.Parts.{IsRisingPart};
 ghost use Rattle.order_model.specs.PartTerms.{part_terms, part_numbers};
 ghost use Rattle.order_model.specs.Prefixes.{is_placed, is_left, first_placed, none_placed, without_last};
@@ -13,7 +15,7 @@ ghost use Rattle.part_bounds.specs.PartStates.{state_more, with_placed, IsWell};
 use crate::one_pair::Room;
 use crate::pair_terms::{PairTerms, find_segments, most_terms, pairs_of};
 use crate::prices::prices_of;
-use crate::shares::{fill_shares, renew_shares};
+use crate::shares::{fill_shares, renew_shares, sum_anew};
 use map_base::{LineId, NoMemory, SegId};
 use order_model::{Prefix, Problem};
 use order_values::Prices;
@@ -98,6 +100,32 @@ impl<'a> PartBounds<'a> {
         ensures { result ≡ bound_of self.now.segs self.now.part self.now.terms self.now.placed }
     {
         self.total
+    }
+
+    /// The bound once a line of a segment is placed next, and the one that is then left there alone; neither is.
+    #[tactic(auto, using(crate::proofs::Restored::restored, crate::proofs::Restored::chosen))]
+    pub fn bound_with(&mut self, seg: SegId, line: LineId) -> u64
+        requires rising { All AreRising self.old.segs }
+        requires well { IsWell self.old.segs self.old.placed }
+        requires known { seg.0 < length self.old.segs }
+        requires line { Contains (lines_on self.old.segs seg) line }
+        requires unplaced { is_placed (lines_on self.old.placed seg) line ≡ false }
+        ensures bound { result ≡ bound_of self.old.segs self.old.part self.old.terms (placed_more self.old.segs self.old.placed seg line) }
+        ensures kept { self.new ≡ self.old }
+    {
+        self.prefix.place(self.problem, seg, line);
+        let bound = sum_anew(
+            self.problem,
+            &self.prefix,
+            self.part,
+            seg,
+            self.pairs.as_slice(),
+            &self.shares,
+            self.total,
+            &mut self.room,
+        );
+        self.prefix.take_back(self.problem, seg);
+        bound
     }
 
     /// The canonical prices of the placed lines, by the numbers of their terms in the problem.

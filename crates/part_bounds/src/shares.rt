@@ -7,10 +7,10 @@ ghost use Rattle.order_model.specs.Prefixes.{IsPrefixOf};
 ghost use Rattle.order_bound.specs.Pairs.{AreApartSegments};
 ghost use Rattle.part_bounds.specs.PairGroups.{KnowsOwn, group_in, groups_in, terms_in, share_of, IsGroup};
 ghost use Rattle.part_bounds.specs.Slots.{HasRoom, KeepsRoom};
-ghost use Rattle.part_bounds.specs.Shares.{HasRoomFor, AreSharesBut};
+ghost use Rattle.part_bounds.specs.Shares.{HasRoomFor, AreSharesBut, IsTrialSum};
 
 use crate::one_pair::{Room, bound_of_pair};
-use crate::pair_terms::{PairTerms, meets};
+use crate::pair_terms::{PairTerms, is_in};
 use map_base::SegId;
 use order_model::{Prefix, Problem};
 
@@ -109,7 +109,7 @@ fn renew_at(
     ensures room { KeepsRoom room.old room.new }
 {
     let entry = &pairs[place];
-    if !meets(entry.terms.as_slice(), seg) {
+    if !is_in(entry.segs.as_slice(), seg) {
         return total;
     }
     let share = share_of(problem, prefix, part, entry, room);
@@ -146,6 +146,67 @@ pub(crate) fn renew_shares(
     let mut sum = total;
     for place in 0..pairs.len() {
         sum = renew_at(problem, prefix, part, seg, pairs, place, shares, sum, room);
+    }
+    sum
+}
+
+/// The sum once what the pair at a place adds is worked out anew, if it has a term on a segment.
+fn sum_at(
+    problem: &Problem,
+    prefix: &Prefix,
+    part: &[SegId],
+    seg: SegId,
+    pairs: &[PairTerms],
+    place: usize,
+    shares: &Vec<u64>,
+    total: u64,
+    room: &mut Room,
+) -> u64
+    requires fits { IsPrefixOf problem.now.segs prefix.now }
+    requires part { All (λ (s : SegId). s.0 < length problem.now.segs) part.now }
+    requires apart { AreApartSegments part.now }
+    requires groups { All (IsGroup problem.now.segs part.now) (groups_in pairs.now) }
+    requires few { sum_by terms_in (groups_in pairs.now) ≤ 4000000 }
+    requires own { All (KnowsOwn part.now) pairs.now }
+    requires room { HasRoomFor part.now (groups_in pairs.now) room.old }
+    requires within { place < length pairs.now }
+    requires stale { IsTrialSum (share_of problem.now.segs part.now prefix.now.placed) seg place (groups_in pairs.now) shares.now.items total }
+    ensures renewed { IsTrialSum (share_of problem.now.segs part.now prefix.now.placed) seg (place + 1) (groups_in pairs.now) shares.now.items result }
+    ensures room { KeepsRoom room.old room.new }
+{
+    let entry = &pairs[place];
+    if !is_in(entry.segs.as_slice(), seg) {
+        return total;
+    }
+    let share = share_of(problem, prefix, part, entry, room);
+    total - shares[place] + share
+}
+
+/// The sum once what those pairs add is worked out anew that have a term on a segment. What is kept of each pair stays.
+pub(crate) fn sum_anew(
+    problem: &Problem,
+    prefix: &Prefix,
+    part: &[SegId],
+    seg: SegId,
+    pairs: &[PairTerms],
+    shares: &Vec<u64>,
+    total: u64,
+    room: &mut Room,
+) -> u64
+    requires fits { IsPrefixOf problem.now.segs prefix.now }
+    requires part { All (λ (s : SegId). s.0 < length problem.now.segs) part.now }
+    requires apart { AreApartSegments part.now }
+    requires groups { All (IsGroup problem.now.segs part.now) (groups_in pairs.now) }
+    requires few { sum_by terms_in (groups_in pairs.now) ≤ 4000000 }
+    requires own { All (KnowsOwn part.now) pairs.now }
+    requires room { HasRoomFor part.now (groups_in pairs.now) room.old }
+    requires stale { AreSharesBut (share_of problem.now.segs part.now prefix.now.placed) seg 0 (groups_in pairs.now) shares.now.items total }
+    ensures total { result ≡ sum_by (share_of problem.now.segs part.now prefix.now.placed) (groups_in pairs.now) }
+    ensures room { KeepsRoom room.old room.new }
+{
+    let mut sum = total;
+    for place in 0..pairs.len() {
+        sum = sum_at(problem, prefix, part, seg, pairs, place, shares, sum, room);
     }
     sum
 }

@@ -5,6 +5,7 @@ ghost use Rattle.std.specs.Prelude.{ℤ, pos, ◌+ℤ◌, ◌-ℤ◌, ◌≤ℤ�
 ghost use Rattle.part_bounds.specs.Slots.{slot_more, slot_relabelled, slot_shared, label_in, rise_in, slot_least, IsSmall};
 ghost use Rattle.order_bound.specs.Values.{share, int_sum};
 
+use crate::walking::ends_at;
 use map_base::SegId;
 use order_bound::OpenLink;
 
@@ -146,13 +147,17 @@ fn share(price: i64, link: OpenLink, seg: SegId, lesser_first: bool) -> i64
     sum(here, there)
 }
 
-/// The slot with its shares of a price on a Link.
+/// The slot with its shares of a price on a Link, of which it has none where the Link doesn't end there.
+#[tactic(auto, using(crate::proofs::PricedSlots::unshared))]
 fn shared(slot: Slot, link: OpenLink, price: i64) -> Slot
     requires small { IsSmall (2 ^ 60) slot }
     requires low { (pos 0 -ℤ pos (2 ^ 32)) ≤ℤ price }
     requires high { price ≤ℤ pos (2 ^ 32) }
     ensures { result ≡ slot_shared link price slot }
 {
+    if !ends_at(slot.seg, link) {
+        return slot;
+    }
     Slot {
         seg: slot.seg,
         label: slot.label,

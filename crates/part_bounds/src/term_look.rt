@@ -1,6 +1,6 @@
 //! What a term of a pair of lines is where a prefix stands.
 
-ghost use Rattle.std.specs.Prelude.{◌≡◌, ◌<◌};
+ghost use Rattle.std.specs.Prelude.{◌≡◌, ◌<◌, Some};
 ghost use Rattle.order_model.specs.Problems.{IsTerm, IsSide, IsPair};
 ghost use Rattle.order_model.specs.Prefixes.{IsPrefixOf};
 ghost use Rattle.order_bound.specs.Decided.{apart_cost};
@@ -118,21 +118,29 @@ fn link_look(problem: &Problem, prefix: &Prefix, link: OpenLink, a: LineId, b: L
 {
     let decided = prefix.is_decided(problem, link.seg, a, b);
     let decided_there = prefix.is_decided(problem, link.other, a, b);
-    let here = prefix.comes_before(problem, link.seg, a, b);
-    let there = prefix.comes_before(problem, link.other, a, b);
     match (decided, decided_there) {
-        (true, true) => TermLook::Decided(link_by(link, here, there)),
-        (true, false) => TermLook::OnSegment {
-            seg: link.other,
-            lesser_first: link_by(link, here, true),
-            greater_first: link_by(link, here, false),
-        },
-        (false, true) => TermLook::OnSegment {
-            seg: link.seg,
-            lesser_first: link_by(link, true, there),
-            greater_first: link_by(link, false, there),
-        },
         (false, false) => TermLook::Between(link),
+        (true, false) => {
+            let here = prefix.comes_before(problem, link.seg, a, b);
+            TermLook::OnSegment {
+                seg: link.other,
+                lesser_first: link_by(link, here, true),
+                greater_first: link_by(link, here, false),
+            }
+        }
+        (false, true) => {
+            let there = prefix.comes_before(problem, link.other, a, b);
+            TermLook::OnSegment {
+                seg: link.seg,
+                lesser_first: link_by(link, true, there),
+                greater_first: link_by(link, false, there),
+            }
+        }
+        (true, true) => {
+            let here = prefix.comes_before(problem, link.seg, a, b);
+            let there = prefix.comes_before(problem, link.other, a, b);
+            TermLook::Decided(link_by(link, here, there))
+        }
     }
 }
 
@@ -150,17 +158,21 @@ fn apart_look(
     requires lines { IsPair problem.now.segs seg other a b w }
     ensures { result ≡ apart_look problem.now.segs prefix.now.placed seg other a b w }
 {
-    let here = prefix.neighbours(problem, seg, a, b);
-    let there = prefix.neighbours(problem, other, a, b);
-    TermLook::Decided(apart_cost(w, here, there))
+    match prefix.neighbours(problem, seg, a, b) {
+        None => TermLook::Decided(0),
+        Some(here) => {
+            let there = prefix.neighbours(problem, other, a, b);
+            TermLook::Decided(apart_cost(w, here, there))
+        }
+    }
 }
 
-/// What an Apart costs where both answers are settled.
-fn apart_cost(w: u32, here: Option<bool>, there: Option<bool>) -> u32
-    ensures { result ≡ apart_cost w here there }
+/// What an Apart costs whose lines are neighbours on its first segment or aren't, where that is settled on its other too.
+fn apart_cost(w: u32, here: bool, there: Option<bool>) -> u32
+    ensures { result ≡ apart_cost w (Some here) there }
 {
-    match (here, there) {
-        (Some(here), Some(there)) => { if here == there { 0 } else { w } }
-        _ => 0,
+    match there {
+        Some(there) => { if here == there { 0 } else { w } }
+        None => 0,
     }
 }

@@ -10,7 +10,7 @@ use map_base::SegId;
 use order_bound::{ChildLink, OpenLink};
 
 /// Whether a Link ends at a segment.
-fn ends_at(seg: SegId, link: OpenLink) -> bool
+pub(crate) fn ends_at(seg: SegId, link: OpenLink) -> bool
     ensures { result ≡ ends_at seg link }
 {
     if link.seg.0 == seg.0 {

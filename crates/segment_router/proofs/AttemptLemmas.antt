@@ -10,11 +10,13 @@ use Rattle.octi_grid.specs.Walks.{PlainWalk}
 use Rattle.octi_grid.specs.Legal.{legal}
 use Rattle.segment_router.specs.declared.attempts.Attempt.{Attempt}
 use Rattle.segment_router.specs.Cells.{is_too_fine, offset_of}
+use Rattle.segment_router.specs.declared.placing.Placing.{Placing}
 use Rattle.segment_router.specs.Homes.{placing_at}
+use Rattle.segment_router.specs.Routes.{routes_from, IsPlacing}
 use Rattle.segment_router.specs.Routing.{first_drawn, limit_found, limit_of, or_else, plain_attempt, routes_at, IsAttempt}
 use Rattle.segment_router.proofs.GridLemmas.{offsets_within}
 use Rattle.segment_router.proofs.HomeFacts.{placing_fits}
-use Rattle.segment_router.proofs.LegalRoutes.{legal_routes}
+use Rattle.segment_router.proofs.LegalRoutes.{legal_routes, route_each_segment}
 
 -- what came of one attempt, or of the first after it that is a drawing, and else of the last
 abbrev pub drawn_after : GraphParts → ℕ → Result (List PlainWalk) SegId → List Attempt → Result (List PlainWalk) SegId
@@ -48,19 +50,43 @@ no_limit ps cell e = by_test (is_too_fine ps cell) refl e
     by_test true is clash = cc
     by_test false is same = is
 
--- a drawing that comes of attempts is legal
+-- a drawing that comes of attempts is that of one placing
+pub record IsDrawnFrom (graph : GraphParts) (walks : List PlainWalk) : Type 0 where
+  pub placing : Placing
+  pub placed : IsPlacing graph placing
+  pub drawn : routes_from graph placing ≡ Ok walks
+
+drawn_here : (graph : GraphParts) (cell : ℕ) (a : Attempt) (walks : List PlainWalk) → IsConsistent graph → is_too_fine graph.places cell ≡ false → IsAttempt graph a → routes_at graph cell a ≡ Ok walks
+    → IsDrawnFrom graph walks
+drawn_here graph cell a walks fit fine one e = record {
+  placing = placing_at graph cell a.fineness a.offsets;
+  placed = placing_fits graph cell a.fineness a.offsets fit one.fine fine one.one_each;
+  drawn = e;
+}
+
+drawn_from : (graph : GraphParts) (cell : ℕ) (a : Attempt) (rest : List Attempt) (walks : List PlainWalk) → IsConsistent graph → is_too_fine graph.places cell ≡ false → IsAttempt graph a
+    → AllByRecursion (IsAttempt graph) rest → first_drawn graph cell a rest ≡ Ok walks → IsDrawnFrom graph walks
+drawn_from graph cell a [] walks fit fine one others e = drawn_here graph cell a walks fit fine one e
+drawn_from graph cell a (b ∷ rest) walks fit fine one others e =
+    by_first (routes_at graph cell a) refl e (λ f. drawn_from graph cell b rest walks fit fine others.0 others.1 f)
+  where
+    by_first : (o : Result (List PlainWalk) SegId) → routes_at graph cell a ≡ o → or_else o (first_drawn graph cell b rest) ≡ Ok walks → (first_drawn graph cell b rest ≡ Ok walks → IsDrawnFrom graph walks)
+        → IsDrawnFrom graph walks
+    by_first (Ok ws) is e later = drawn_here graph cell a walks fit fine one (is ∙ e)
+    by_first (Err s) is e later = later e
+
+-- so it is legal, with a walk for each segment
 pub drawn_legal : (graph : GraphParts) (cell : ℕ) (a : Attempt) (rest : List Attempt) (walks : List PlainWalk) → IsConsistent graph → is_too_fine graph.places cell ≡ false → IsAttempt graph a
     → AllByRecursion (IsAttempt graph) rest → first_drawn graph cell a rest ≡ Ok walks → legal graph walks ≡ true
-drawn_legal graph cell a [] walks fit fine one others e =
-    legal_routes graph (placing_at graph cell a.fineness a.offsets) walks fit (placing_fits graph cell a.fineness a.offsets fit one.fine fine one.one_each) e
-drawn_legal graph cell a (b ∷ rest) walks fit fine one others e =
-    by_first (routes_at graph cell a) refl e (λ f. drawn_legal graph cell b rest walks fit fine others.0 others.1 f)
-  where
-    by_first : (o : Result (List PlainWalk) SegId) → routes_at graph cell a ≡ o → or_else o (first_drawn graph cell b rest) ≡ Ok walks → (first_drawn graph cell b rest ≡ Ok walks → legal graph walks ≡ true)
-        → legal graph walks ≡ true
-    by_first (Ok ws) is e later =
-        legal_routes graph (placing_at graph cell a.fineness a.offsets) walks fit (placing_fits graph cell a.fineness a.offsets fit one.fine fine one.one_each) (is ∙ e)
-    by_first (Err s) is e later = later e
+drawn_legal graph cell a rest walks fit fine one others e =
+    let from = drawn_from graph cell a rest walks fit fine one others e in
+    legal_routes graph from.placing walks fit from.placed from.drawn
+
+pub drawn_each : (graph : GraphParts) (cell : ℕ) (a : Attempt) (rest : List Attempt) (walks : List PlainWalk) → IsConsistent graph → is_too_fine graph.places cell ≡ false → IsAttempt graph a
+    → AllByRecursion (IsAttempt graph) rest → first_drawn graph cell a rest ≡ Ok walks → length walks ≡ length graph.ends
+drawn_each graph cell a rest walks fit fine one others e =
+    let from = drawn_from graph cell a rest walks fit fine one others e in
+    route_each_segment graph from.placing walks fit from.placed from.drawn
 
 -- an attempt with the nodes put where they lie
 pub plain_is : (graph : GraphParts) (fineness : ℕ) → IsConsistent graph → 0 < fineness → fineness ≤ 16 → IsAttempt graph (plain_attempt graph fineness)

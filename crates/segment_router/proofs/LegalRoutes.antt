@@ -302,9 +302,14 @@ all_ports graph r a = ports_each (legs_in graph r) 0 graph.rounds (λ i h. at_no
 all_legal : (graph : GraphParts) (r : Routed) → AreAll graph r → legal graph (filter_map (λ w. w) r.walks) ≡ true
 all_legal graph r a = ap is_none (why_ports graph.rounds (legs_in graph r) true (all_ends graph r a) (all_meets graph r a) (all_ports graph r a))
 
--- the routes from a placing are legal
-pub legal_routes : (graph : GraphParts) (placing : Placing) (walks : List PlainWalk) → IsConsistent graph → IsPlacing graph placing → routes_from graph placing ≡ Ok walks → legal graph walks ≡ true
-legal_routes graph placing walks fit placed e = by_end (route_each graph (routing_order graph.lines) (begun graph placing)) refl e
+-- what routes are made of: routing at its end, when every segment has its walk
+pub record AreRoutes (graph : GraphParts) (walks : List PlainWalk) : Type 0 where
+  pub routed : Routed
+  pub all : AreAll graph routed
+  pub are : filter_map (λ w. w) routed.walks ≡ walks
+
+all_routed : (graph : GraphParts) (placing : Placing) (walks : List PlainWalk) → IsConsistent graph → IsPlacing graph placing → routes_from graph placing ≡ Ok walks → AreRoutes graph walks
+all_routed graph placing walks fit placed e = by_end (route_each graph (routing_order graph.lines) (begun graph placing)) refl e
   where
     all_there : (r : Routed) → IsDone graph (routing_order graph.lines) (begun graph placing) r → AreAll graph r
     all_there r d = record {
@@ -314,8 +319,27 @@ legal_routes graph placing walks fit placed e = by_end (route_each graph (routin
       all = λ i h. d.each (seg_at i) (inl (order_has graph.lines i (omega (arith, fit.lines_each)) (fit.lines i [] (omega (arith, fit.lines_each))).0));
     }
 
-    by_end : (o : Result Routed SegId) → route_each graph (routing_order graph.lines) (begun graph placing) ≡ o → walks_of o ≡ Ok walks → legal graph walks ≡ true
+    by_end : (o : Result Routed SegId) → route_each graph (routing_order graph.lines) (begun graph placing) ≡ o → walks_of o ≡ Ok walks → AreRoutes graph walks
     by_end (Err s) is clash = cc
-    by_end (Ok r) is same =
-        let are : filter_map (λ w. w) r.walks ≡ walks = cc in
-        subst (λ (ws : List PlainWalk). legal graph ws ≡ true) are (all_legal graph r (all_there r (routes_done graph fit placing placed r is)))
+    by_end (Ok r) is same = record { routed = r; all = all_there r (routes_done graph fit placing placed r is); are = cc }
+
+-- the routes from a placing are legal
+pub legal_routes : (graph : GraphParts) (placing : Placing) (walks : List PlainWalk) → IsConsistent graph → IsPlacing graph placing → routes_from graph placing ≡ Ok walks → legal graph walks ≡ true
+legal_routes graph placing walks fit placed e =
+    let f = all_routed graph placing walks fit placed e in
+    subst (λ (ws : List PlainWalk). legal graph ws ≡ true) f.are (all_legal graph f.routed f.all)
+
+-- and there is one for each segment
+all_kept : (ws : List (Option PlainWalk)) → AllThere ws → length (filter_map (λ v. v) ws) ≡ length ws
+all_kept [] all = refl
+all_kept (o ∷ ws) all = by_walk o (all 0 (omega arith)) (all_kept ws (λ j d. all (suc j) (omega arith)))
+  where
+    by_walk : (o : Option PlainWalk) → (w : PlainWalk) × (o ≡ Some w) → length (filter_map (λ v. v) ws) ≡ length ws → length (cons_option o (filter_map (λ v. v) ws)) ≡ suc (length ws)
+    by_walk None there rest = let clash : (let none : Option PlainWalk = None in none) ≡ Some there.0 = there.1 in cc
+    by_walk (Some w) there rest = ap suc rest
+
+pub route_each_segment : (graph : GraphParts) (placing : Placing) (walks : List PlainWalk) → IsConsistent graph → IsPlacing graph placing → routes_from graph placing ≡ Ok walks → length walks ≡ length graph.ends
+route_each_segment graph placing walks fit placed e =
+    let f = all_routed graph placing walks fit placed e in
+    let each = f.all.laid.underway.walks_each in
+    ap length (sym f.are) ∙ all_kept f.routed.walks (λ i h. f.all.all i (omega (arith, each))) ∙ each

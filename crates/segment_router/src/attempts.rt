@@ -1,6 +1,6 @@
 //! The drawing of a line graph: routes on the first grid on which every segment has one.
 
-ghost use Rattle.std.specs.Prelude.{◌≡◌, ◌∷◌, [], true, false, IfOk, IfErr, Ok};
+ghost use Rattle.std.specs.Prelude.{◌≡◌, ◌∷◌, [], length, true, false, IfOk, IfErr, Ok};
 ghost use Rattle.std.specs.List.{AllByRecursion};
 ghost use Rattle.graph_core.specs.Consistent.{IsConsistent};
 ghost use Rattle.octi_grid.specs.Legal.{legal};
@@ -27,12 +27,14 @@ pub struct Attempt {
 }
 
 /// The drawing of a line graph on cells of a side in decimetres, or of a fiftieth of its extent for 0: on the first grid
-/// of the finenesses 1, 2 and 4 on which every segment has a free walk, the routes one after another. It is legal. A
-/// fault is the limit of cells, or the first segment that has no free walk on the last grid.
+/// of the finenesses 1, 2 and 4 on which every segment has a free walk, the routes one after another. It is legal, and
+/// has one walk for each segment. A fault is the limit of cells, or the first segment that has no free walk on the last
+/// grid.
 pub fn route(alloc: Global, graph: &LineGraph, cell: u32) -> Result<Drawing, RouteFault>
     ensures drawing { IfOk result (λ d. route_outcome graph.now cell ≡ Ok d.walks) }
     ensures cause { IfErr result (λ fault. HasCause (route_outcome graph.now cell) fault) }
     ensures legal { IfOk result (λ d. legal graph.now d.walks ≡ true) }
+    ensures each { IfOk result (λ d. length d.walks ≡ length graph.now.ends) }
 {
     let first = plain_attempt(alloc, graph, 1)?;
     let rest = finer_attempts(alloc, graph)?;
@@ -52,6 +54,7 @@ pub fn route_attempts(
     ensures drawing { IfOk result (λ d. outcome_of graph.now cell first.now rest.now ≡ Ok d.walks) }
     ensures cause { IfErr result (λ fault. HasCause (outcome_of graph.now cell first.now rest.now) fault) }
     ensures legal { IfOk result (λ d. legal graph.now d.walks ≡ true) }
+    ensures each { IfOk result (λ d. length d.walks ≡ length graph.now.ends) }
 {
     if let Some(limit) = cells_over(graph, cell) {
         return Err(RouteFault::Limit(limit));

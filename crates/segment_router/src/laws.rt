@@ -11,11 +11,12 @@ ghost use Rattle.walk_search.specs.Seats.{is_free_seat};
 ghost use Rattle.segment_router.specs.declared.placing.Placing.{Placing};
 ghost use Rattle.segment_router.specs.Routes.{has_doubled, is_settled, node_point, routed_after, routes_from, IsPlacing, Routed};
 
-/// A law: where every segment of a graph has a route from a placing, the routes are a legal drawing. Each walk joins the
-/// points of its nodes, which are even and distinct; no doubled point is there twice, or another node's; and round each
-/// node the ports are distinct and clockwise.
+/// A law: where every segment of a graph has a route from a placing, the routes are a legal drawing, one for each
+/// segment. Each walk joins the points of its nodes, which are even and distinct; no doubled point is there twice, or
+/// another node's; and round each node the ports are distinct and clockwise.
 pub fn routes_are_legal()
-    ensures { (graph : GraphParts) (placing : Placing) (walks : List PlainWalk) → IsConsistent graph → IsPlacing graph placing → routes_from graph placing ≡ Ok walks → legal graph walks ≡ true }
+    ensures legal { (graph : GraphParts) (placing : Placing) (walks : List PlainWalk) → IsConsistent graph → IsPlacing graph placing → routes_from graph placing ≡ Ok walks → legal graph walks ≡ true }
+    ensures each { (graph : GraphParts) (placing : Placing) (walks : List PlainWalk) → IsConsistent graph → IsPlacing graph placing → routes_from graph placing ≡ Ok walks → length walks ≡ length graph.ends }
 {}
 
 /// A law: homes stay free. After each segment the home of a node that is not settled is a point of no walk and no other

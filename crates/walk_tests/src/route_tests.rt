@@ -3,9 +3,9 @@
 use crate::boards::{at, run};
 use crate::small::one_line;
 use graph_core::LineGraph;
-use map_base::{Limit, LimitKind};
+use map_base::{Limit, LimitKind, Sequence};
 use octi_grid::{Dir, end_of};
-use segment_router::{Offset, RouteFault, place, place_at, route};
+use segment_router::{Attempt, Offset, RouteFault, place, place_at, route, route_attempts};
 use std::test::Fail;
 
 /// Two stations 11,132 decimetres apart are 50 columns apart on cells of a fiftieth, with a margin of 6.
@@ -55,6 +55,30 @@ fn one_line_is_drawn_straight(rt: HostRuntime) -> Result<(), Fail> {
             assert_eq!(rt; end_of(walk), at(50, 0));
             let runs = walk.runs();
             assert_eq!(rt; runs, [run(Dir::E, 50)].as_slice());
+        }
+    }
+    Ok(())
+}
+
+/// Where both nodes are put on one place, the second one's home is the nearest point below: the line runs down to it.
+#[test]
+fn nodes_are_drawn_where_they_are_put(rt: HostRuntime) -> Result<(), Fail> {
+    let graph = LineGraph::new(one_line(rt.alloc())?);
+    let west = Offset { east: 0, north: 0 };
+    let moved = Attempt {
+        fineness: 4,
+        offsets: Sequence::of(vec![in rt.alloc(); west, west]?),
+    };
+    let no_other: Vec<Attempt> = Vec::new(rt.alloc());
+    match route_attempts(rt.alloc(), &graph, 0, &moved, no_other.as_slice()) {
+        Err(_) => panic!(rt; "no drawing"),
+        Ok(drawing) => {
+            let walks = drawing.walks.as_slice();
+            assert_eq!(rt; walks.len(), 1);
+            let walk = &walks[0];
+            assert_eq!(rt; walk.start(), at(0, 0));
+            let runs = walk.runs();
+            assert_eq!(rt; runs, [run(Dir::S, 2)].as_slice());
         }
     }
     Ok(())

@@ -10,6 +10,7 @@ use std::alloc::{AllocError, Global};
 /// Two stations, and one line from the one to the other.
 pub(crate) fn one_line(alloc: Global) -> Result<GraphParts, AllocError>
     ensures fits { IfOk result IsConsistent }
+    ensures two { IfOk result (λ p. length p.kinds ≡ 2) }
     ensures one { IfOk result (λ p. length p.ends ≡ 1) }
 {
     let kinds = vec![in alloc;

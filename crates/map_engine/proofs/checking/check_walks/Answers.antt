@@ -47,6 +47,7 @@ returns-clause-certified c =
     ∙ ap (graph_problem c.args.graph.now c.settings.inside.weights) (sym numbers) ∙ c.in_ok-problem.ensures in
     record {
       shown = record {
+        each = c.requires.range.walks_each ∙ c.requires.segs;
         legal = c.in_ok-check_drawing.ensures.legal;
         ordered = orders_held lines orders 0 c.requires.range.orders (omega (arith, c.requires.range.orders_each, c.requires.segs, c.requires.fits.lines_each)) none;
         picture = c.in_ok-svg.ensures ∙ ap (λ (names : Names). picture_text names c.args.graph.now c.args.certificate.walks orders) c.in_ok-names.ensures;

@@ -21,14 +21,14 @@ terms_of-requires-clause-light c = c.settings.invariant.weights
 
 pub terms_of-requires-clause-importance : goal.terms_of-requires-clause-importance
 terms_of-requires-clause-importance c =
-    let numbers = c.as_slice.ensures.value ∙ c.in_ok-importance.ensures in
+    let numbers = c.as_slice-2.ensures.value ∙ c.in_ok-importance.ensures in
     let counts = subst (λ (s : Choices). All (λ (p : List ℕ × ℕ). IsImportance p.1) s.importance) c.settings.view_is c.settings.invariant.importance in
     subst (λ (ns : List ℕ). HaveImportance ns c.args.graph.lines) (sym numbers) (have_importance c.args.tables.now c.args.settings.now c.args.graph counts c.requires.lines)
 
 pub returns-clause-outcome : goal.returns-clause-outcome
 returns-clause-outcome c =
     let choices = c.args.settings.now in
-    let numbers = c.as_slice.ensures.value ∙ c.in_ok-importance.ensures in
+    let numbers = c.as_slice-2.ensures.value ∙ c.in_ok-importance.ensures in
     let routed = subst (λ (s : Choices). route_outcome c.args.graph s.cell ≡ Ok c.in_ok-drawing.drawing.walks) c.settings.view_is c.in_ok-drawing.ensures.drawing in
     let counted : problem_within c.args.tables.now choices c.args.graph ≡ Ok c.in_ok-problem.problem =
     sym (ap (λ (s : Choices). graph_problem c.args.graph s.weights (importance_by c.args.tables.now choices)) c.settings.view_is)
@@ -38,7 +38,7 @@ returns-clause-outcome c =
 pub returns-clause-problem : goal.returns-clause-problem
 returns-clause-problem c =
     let choices = c.args.settings.now in
-    let numbers = c.as_slice.ensures.value ∙ c.in_ok-importance.ensures in
+    let numbers = c.as_slice-2.ensures.value ∙ c.in_ok-importance.ensures in
     let counted : problem_within c.args.tables.now choices c.args.graph ≡ Ok c.in_ok-problem.problem =
     sym (ap (λ (s : Choices). graph_problem c.args.graph s.weights (importance_by c.args.tables.now choices)) c.settings.view_is)
     ∙ sym (ap (graph_problem c.args.graph c.settings.inside.weights) numbers) ∙ c.in_ok-problem.ensures in
@@ -55,11 +55,14 @@ pub returns-in_err-problem-clause-outcome : goal.returns-in_err-problem-clause-o
 returns-in_err-problem-clause-outcome c =
     let choices = c.args.settings.now in
     let stop = c.in_err-problem.field-0.0 in
-    let numbers = c.as_slice.ensures.value ∙ c.in_ok-importance.ensures in
+    let numbers = c.as_slice-2.ensures.value ∙ c.in_ok-importance.ensures in
     let routed = subst (λ (s : Choices). route_outcome c.args.graph s.cell ≡ Ok c.in_ok-drawing.drawing.walks) c.settings.view_is c.in_ok-drawing.ensures.drawing in
-    let counted : graph_problem c.args.graph c.settings.inside.weights c.as_slice.result.now ≡ problem_within c.args.tables.now choices c.args.graph =
+    let counted : graph_problem c.args.graph c.settings.inside.weights c.as_slice-2.result.now ≡ problem_within c.args.tables.now choices c.args.graph =
     ap (graph_problem c.args.graph c.settings.inside.weights) numbers
     ∙ ap (λ (s : Choices). graph_problem c.args.graph s.weights (importance_by c.args.tables.now choices)) c.settings.view_is in
     let cause = subst (λ (o : Result ProblemParts Limit). terms.HasCause o stop) counted c.in_err-problem.ensures in
     let same = err_from_is_err_and c.from_residual-in_err-problem.result c.from_residual-in_err-problem.ensures.1 in
     rw (same.1, same.2) (not_counted c.args.tables.now choices c.args.graph c.in_ok-drawing.drawing.walks stop routed cause)
+
+pub returns-clause-first : goal.returns-clause-first
+returns-clause-first c = (c.illegal_drawings_have_a_first_walk.ensures c.args.graph c.in_ok-drawing.drawing.walks).0 c.in_ok-drawing.ensures.legal

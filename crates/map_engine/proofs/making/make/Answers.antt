@@ -1,7 +1,7 @@
-use Rattle.std.proofs.Common.{◌≡◌, ◌≤◌, ◌∙◌, ◌+◌, ℕ, List, [], length, map, sum_by, sym, ap, subst, Ok, Result, arith}
+use Rattle.std.proofs.Common.{◌≡◌, ◌≤◌, ◌∙◌, ◌+◌, ℕ, List, [], length, map, All, sum_by, sym, ap, subst, Ok, Result, arith}
 use Rattle.std.proofs.lemmas.List.{length-map}
 use Rattle.std.proofs.lemmas.Result.{err_from_is_err_and}
-use Rattle.map_base.specs.Settings.{Choices}
+use Rattle.map_base.specs.Settings.{Choices, IsImportance}
 use Rattle.transit_feed.specs.declared.line.Line.{Line}
 use Rattle.order_model.specs.declared.problem.ProblemParts.{ProblemParts}
 use Rattle.order_proof.specs.Plain.{PlainPart}
@@ -10,11 +10,12 @@ use Rattle.order_search.specs.FoundParts.{branches_in}
 use Rattle.map_engine.specs.Tables.{importance_among}
 use Rattle.map_engine.specs.Solving.{solve_outcome, parts_in}
 use Rattle.map_engine.specs.Keeping.{branches_left}
-use Rattle.map_engine.specs.Making.{MapBytes, HasCause}
+use Rattle.map_engine.specs.Making.{HasCause}
 use Rattle.map_engine.specs.Stages.{Solves}
 use Rattle.map_engine.proofs.MadeLemmas.{map_is, outcome_is, not_drawn, not_solved, none_held, with_rules}
-use Rattle.map_engine.specs.Wholes.{ShowsFeed}
-use Rattle.map_engine.proofs.Promised.{shows_feed}
+use Rattle.map_engine.specs.Promises.{IsMade}
+use Rattle.map_engine.proofs.Promised.{whole_is}
+use Rattle.map_engine.proofs.CertificateRanges.{made_by}
 use Rattle.map_engine.proofs.making.make.Goals as goal
 
 pub returns-in_err-drawn-clause-outcome : goal.returns-in_err-drawn-clause-outcome
@@ -70,14 +71,18 @@ returns-clause-outcome g c =
     let found = c.in_ok-solution.ensures.solved in
     let solved = subst (λ (k : Choices). solve_outcome k.budget d.problem ≡ Ok found.0) c.settings.view_is found.1 in
     outcome_is c.args.tables.now c.args.settings.now d s found.0 c.in_ok-drawn.ensures.outcome solved c.in_ok-drawn.ensures.importance found.2
-    ∙ ap Ok (sym c.in_ok-written.ensures)
+    ∙ ap Ok (sym c.in_ok-written.ensures.bytes)
 
-pub returns-clause-shows : goal.returns-clause-shows
-returns-clause-shows g c =
+pub returns-clause-made : goal.returns-clause-made
+returns-clause-made g c =
+    let feed = c.args.tables.now in
+    let choices = c.args.settings.now in
     let d = c.in_ok-drawn.drawn in
     let s = c.in_ok-solution.solution in
     let found = c.in_ok-solution.ensures.solved in
     let solved = subst (λ (k : Choices). solve_outcome k.budget d.problem ≡ Ok found.0) c.settings.view_is found.1 in
-    let shown = shows_feed c.args.tables.now c.args.settings.now d s found.0 c.in_ok-drawn.ensures.outcome c.in_ok-drawn.ensures.legal c.in_ok-drawn.ensures.problem
+    let importance = subst (λ (k : Choices). All (λ (p : List ℕ × ℕ). IsImportance p.1) k.importance) c.settings.view_is c.settings.invariant.importance in
+    let whole = whole_is feed choices d s found.0 c.in_ok-drawn.ensures.outcome c.in_ok-drawn.ensures.each c.in_ok-drawn.ensures.legal c.in_ok-drawn.ensures.problem
     c.in_ok-solution.ensures.fits c.in_ok-solution.ensures.orders solved found.2 in
-    subst (ShowsFeed c.args.tables.now c.args.settings.now) (ap (λ (m : MapBytes). m.svg) (sym c.in_ok-written.ensures)) shown
+    subst (IsMade feed choices) (sym c.in_ok-written.ensures.bytes)
+    (made_by feed choices d s found.0 whole c.in_ok-drawn.ensures.fits c.in_ok-drawn.ensures.walks c.in_ok-drawn.ensures.first c.in_ok-drawn.ensures.lines c.in_ok-written.ensures.few importance c.in_ok-drawn.ensures.importance solved found.2)

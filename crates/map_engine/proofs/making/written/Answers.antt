@@ -19,3 +19,6 @@ overflow_cast-certificate c =
     let below : c.len-2.result < 2 ^ 32 =
     omega (arith, c.len-2.ensures, c.in_ok-lines.lines.ok.0, ap length lines, drawn_few c.len.result c.args.drawn.graph, c.len.ensures, c.tables.inside.lines.ok.0, c.tables.invariant.few_lines) in
     search rules
+
+pub returns-clause-few : goal.returns-clause-few
+returns-clause-few c = subst (λ (f : Feed). length f.lines < 2 ^ 32) c.tables.view_is c.tables.invariant.few_lines

@@ -3,6 +3,8 @@ use Rattle.std.proofs.lemmas.List.{length-map}
 use Rattle.std.proofs.lemmas.Grind.{get_or_default_zero}
 use Rattle.part_bounds.specs.PairGroups.{Group, KnowsOwn, no_group, meets, group_in, groups_in, terms_in, share_of, IsGroup}
 use Rattle.part_bounds.specs.Slots.{HasRoom}
+use Rattle.order_model.specs.PartTerms.{is_in}
+use Rattle.part_bounds.proofs.OwnUse.{not_own}
 use Rattle.part_bounds.proofs.KeptUp.{group_at, group_here}
 use Rattle.part_bounds.proofs.Renewed.{share_stays, share_renewed, total_small, term_few}
 use Rattle.part_bounds.proofs.shares.renew_at.Goals as goal
@@ -18,11 +20,14 @@ pub share_of-share-requires-clause-room : goal.share_of-share-requires-clause-ro
 share_of-share-requires-clause-room c =
     group_at (λ (g : Group). HasRoom (length c.args.part.now) (terms_in g) c.args.room.now) c.args.pairs.now c.args.place c.index-pairs-place.result c.requires.room c.requires.within c.index-pairs-place.is
 
-pub returns-then-not-meets-clause-renewed : goal.returns-then-not-meets-clause-renewed
-returns-then-not-meets-clause-renewed c =
+pub returns-then-not-is_in-clause-renewed : goal.returns-then-not-is_in-clause-renewed
+returns-then-not-is_in-clause-renewed c =
     let none : meets (get_or (groups_in c.args.pairs.now) c.args.place no_group).1 c.args.seg ≡ false =
     ap (λ (g : Group). meets g.1 c.args.seg) (group_here c.args.pairs.now c.args.place c.index-pairs-place.result c.requires.within c.index-pairs-place.is)
-    ∙ (ap (λ ts. meets ts c.args.seg) (sym c.as_slice.ensures.value) ∙ (sym c.meets.ensures ∙ c.if-not-meets.true)) in
+    ∙ not_own c.args.part.now c.index-pairs-place.result.terms.items c.index-pairs-place.result.segs.items c.args.seg
+    (subst (KnowsOwn c.args.part.now) (sym c.index-pairs-place.is) (c.requires.own c.args.place c.index-pairs-place.result c.requires.within))
+    (group_at (IsGroup c.args.problem.now.segs c.args.part.now) c.args.pairs.now c.args.place c.index-pairs-place.result c.requires.groups c.requires.within c.index-pairs-place.is).inside
+    (ap (λ l. is_in l c.args.seg) (sym c.as_slice.ensures.value) ∙ (sym c.is_in.ensures ∙ c.if-not-is_in.true)) in
     share_stays (share_of c.args.problem.now.segs c.args.part.now c.args.prefix.now.placed) c.args.seg c.args.place (groups_in c.args.pairs.now) c.args.shares.now.items c.args.total c.requires.stale none
 
 pub overflow_add-renewed : goal.overflow_add-renewed

@@ -2,7 +2,7 @@
 use Rattle.std.proofs.Common.{◌≡◌, ◌≢◌, ℕ, zero, suc, ◌+◌, ◌<◌, ◌≤◌, ◌==◌, Bool, true, false, cond, List, [], ◌∷◌, ◌++◌, length, set, refl, ◌∙◌, ap, arith, eqb-true, Option, Some, None}
 use Rattle.std.specs.List.{All, find}
 use Rattle.std.specs.Option.{option_to_list}
-use Rattle.std.proofs.lemmas.List.{get_or-set_same, set-get_or}
+use Rattle.std.proofs.lemmas.List.{get_or-set_same, set-get_or, length-append}
 use Rattle.map_base.specs.declared.ids.SegId.{SegId}
 use Rattle.map_base.specs.declared.ids.LineId.{LineId}
 use Rattle.graph_core.specs.Consistent.{AreRising}
@@ -12,7 +12,18 @@ use Rattle.order_model.specs.Completions.{placed_more}
 use Rattle.order_model.proofs.PrefixLemmas.{undone}
 use Rattle.part_bounds.specs.PartStates.{PartState, with_placed, state_more, IsWell}
 use Rattle.order_bound.proofs.Sound.{rising_at}
-use Rattle.order_search.proofs.Rooms.{longer}
+
+-- Placing a line makes the placed lines more.
+
+pub longer : (lines placed : List LineId) (a : LineId) → length placed < length (with_line lines placed a)
+longer lines placed a = by_test (length (placed ++ a ∷ []) + 1 == length lines)
+  where
+    pushed : length placed < length (placed ++ a ∷ [])
+    pushed = omega (arith, length-append placed (a ∷ []))
+
+    by_test : (b : Bool) → length placed < length (cond b ((placed ++ a ∷ []) ++ option_to_list (find (is_unplaced (placed ++ a ∷ [])) lines)) (placed ++ a ∷ []))
+    by_test false = pushed
+    by_test true = omega (arith, pushed, length-append (placed ++ a ∷ []) (option_to_list (find (is_unplaced (placed ++ a ∷ [])) lines)))
 
 first_few : (lines placed : List LineId) → ArePlacedLines lines placed → length (first_placed lines) ≤ length placed
 first_few lines placed ok = by_test (0 + 1 == length lines) refl
@@ -43,7 +54,7 @@ set_twice [] i x y = refl
 set_twice (z ∷ xs) zero x y = refl
 set_twice (z ∷ xs) (suc i) x y = ap (λ l. z ∷ l) (set_twice xs i x y)
 
-taken_back : (segs placed : List (List LineId)) (s : SegId) (a : LineId) → IsWell segs placed → s.0 < length segs → All AreRising segs
+pub taken_back : (segs placed : List (List LineId)) (s : SegId) (a : LineId) → IsWell segs placed → s.0 < length segs → All AreRising segs
     → set (placed_more segs placed s a) s.0 (without_last (lines_on segs s) (lines_on (placed_more segs placed s a) s)) ≡ placed
 taken_back segs placed s a well known rising =
     let more : List LineId = with_line (lines_on segs s) (lines_on placed s) a in

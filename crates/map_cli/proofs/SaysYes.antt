@@ -1,0 +1,177 @@
+-- The check says yes to what `make` wrote.
+use Rattle.std.proofs.Common.{◌≡◌, ℕ, ◌⊎◌, inl, inr, Bool, true, false, if◌then◌else◌, List, [], length, Option, None, Some, Result, Ok, Err, IfSome, refl, sym, ap, ◌∙◌, subst}
+use Rattle.map_base.specs.declared.limit.LimitKind.TheVariants.{File}
+use Rattle.map_base.specs.Limits.{is_within, limit_of}
+use Rattle.map_base.specs.Settings.{standard_choices}
+use Rattle.files_door.specs.declared.target.Target.{Target}
+use Rattle.files_door.specs.declared.target.Target.TheVariants.{Said, Path}
+use Rattle.files_door.specs.Targets.{Written, held_by}
+use Rattle.table_rows.specs.declared.why.Table.{Table}
+use Rattle.table_rows.specs.declared.why.Table.TheVariants.{Routes, Stops, Trips, Shapes, StopTimes}
+use Rattle.table_rows.specs.declared.fault.FeedFault.{FeedFault}
+use Rattle.transit_feed.specs.Feeds.{Feed}
+use Rattle.gtfs_tables.specs.Feed.{routes_outcome, stops_table_outcome, trips_outcome, shapes_outcome, stop_times_outcome}
+use Rattle.graph_core.specs.declared.parts.GraphParts.{GraphParts}
+use Rattle.line_graph.specs.Outcome.{graph_outcome}
+use Rattle.map_engine.specs.declared.fault.CheckFault.{CheckFault}
+use Rattle.map_engine.specs.Making.{MapBytes}
+use Rattle.map_engine.specs.Readings.{certificate_in}
+use Rattle.map_engine.specs.Checking.{PlainChecked, check_outcome, checked_on, checked_text, pictured}
+use Rattle.command_run.specs.declared.output.Output.{Output}
+use Rattle.command_run.specs.Work.{Work, ends, reads, ◌>>=◌, outcome}
+use Rattle.command_run.specs.Held.{held_after}
+use Rattle.command_run.specs.Told.{file_of}
+use Rattle.command_run.proofs.WorkLemmas.{told_outcome}
+use Rattle.map_cli.specs.declared.input.Input.{Input}
+use Rattle.map_cli.specs.declared.input.Input.TheVariants as input
+use Rattle.map_cli.specs.declared.loaded.Loaded.{Loaded}
+use Rattle.map_cli.specs.declared.refusal.Refusal.{Refusal}
+use Rattle.map_cli.specs.declared.refusal.Refusal.TheVariants as refused
+use Rattle.map_cli.specs.declared.status.Status.{Status}
+use Rattle.map_cli.specs.declared.status.Status.TheVariants as status
+use Rattle.map_cli.specs.Words.{Asked, MapPaths, make, check}
+use Rattle.map_cli.specs.Inputs.{input_path}
+use Rattle.map_cli.specs.Lines.{best_line}
+use Rattle.map_cli.specs.Answers.{said}
+use Rattle.map_cli.specs.Commands.{best, built, certificate_checked, certificate_work, check_work, checked_as, file_outcome, given_by, load_work, picture_checked, picture_work, tables_work, work}
+use Rattle.map_cli.specs.Promises.{Loads}
+use Rattle.map_cli.specs.Ending.{Ends}
+use Rattle.map_cli.specs.Headline.{IsMapWritten, LieAsMade, SaysBest}
+use Rattle.map_cli.proofs.CheckLemmas.{graph_work, with_graph, with_loaded}
+use Rattle.map_cli.proofs.DoneLemmas.{is_done}
+
+abbrev Given : Type 0
+Given = Input → Option (List ℕ)
+
+-- work that comes to a value, and what follows it
+then_outcome : {A B : Type 0} (first : Work Input Refusal A) (next : A → Work Input Refusal B) (given : Given) (value : A) → outcome first given ≡ Ok value
+    → outcome (first >>= next) given ≡ outcome (next value) given
+then_outcome {A} {B} (ends (Ok found)) next given value is =
+    let same : found ≡ value = cc in
+    ap (λ (v : A). outcome (next v) given) same
+then_outcome (ends (Err why)) next given value is = absurd (cc)
+then_outcome (reads one rest) next given value is = then_outcome (rest (given one)) next given value is
+
+-- Loading reads tables alone.
+
+abbrev ReadsTables : {A : Type 0} → Work Input Refusal A → Type 0
+ReadsTables (ends result) = Unit {0}
+ReadsTables (reads (input.Table table) rest) = (file : Option (List ℕ)) → ReadsTables (rest file)
+ReadsTables (reads input.Certificate rest) = ⊥
+ReadsTables (reads input.Picture rest) = ⊥
+
+tables_then : {A B : Type 0} (first : Work Input Refusal A) (next : A → Work Input Refusal B) → ReadsTables first → ((value : A) → ReadsTables (next value)) → ReadsTables (first >>= next)
+tables_then (ends (Ok value)) next only each = each value
+tables_then (ends (Err why)) next only each = tt
+tables_then (reads (input.Table table) rest) next only each = λ file. tables_then (rest file) next (only file) each
+tables_then (reads input.Certificate rest) next only each = absurd only
+tables_then (reads input.Picture rest) next only each = absurd only
+
+past_table : {A B : Type 0} (first : Result A FeedFault) (next : A → Work Input Refusal B) → ((value : A) → ReadsTables (next value)) → ReadsTables (given_by first >>= next)
+past_table (Ok value) next each = each value
+past_table (Err why) next each = tt
+
+tables_alone : (types : List ℕ) → ReadsTables (tables_work types)
+tables_alone types =
+    λ file. past_table (routes_outcome types (λ _. file)) _ (λ routes.
+    λ file. past_table (stops_table_outcome (λ _. file)) _ (λ stops.
+    λ file. past_table (trips_outcome routes.known (λ _. file)) _ (λ trips.
+    λ file. past_table (shapes_outcome trips (λ _. file)) _ (λ shapes.
+    λ file. past_table (stop_times_outcome trips stops.known (λ _. file)) _ (λ places. tt)))))
+
+load_alone : ReadsTables load_work
+load_alone =
+    let loaded : Feed → Work Input Refusal Loaded = λ feed. ends (Ok (record { settings = standard_choices; tables = feed })) in
+    tables_then (tables_work standard_choices.types) loaded (tables_alone standard_choices.types) (λ feed. tt)
+
+-- so it comes to one thing where the tables are the same
+same_tables : {A : Type 0} (these : Work Input Refusal A) (given later : Given) → ReadsTables these → ((table : Table) → later (input.Table table) ≡ given (input.Table table))
+    → outcome these later ≡ outcome these given
+same_tables (ends result) given later only same = refl
+same_tables (reads (input.Table table) rest) given later only same =
+    ap (λ (file : Option (List ℕ)). outcome (rest file) later) (same table) ∙ same_tables (rest (given (input.Table table))) given later (only (given (input.Table table))) same
+same_tables (reads input.Certificate rest) given later only same = absurd only
+same_tables (reads input.Picture rest) given later only same = absurd only
+
+loads_are : (files : List (List ℕ × List ℕ)) (asked : Asked) (loaded : Loaded) → Loads (Some files) asked loaded → outcome load_work (file_of files (input_path asked)) ≡ Ok loaded
+loads_are files asked loaded loads =
+    by_run (told_outcome refused.ReadFault load_work (file_of files (input_path asked)) loads.seen (Ok loaded) loads.are_told loads.runs)
+  where
+    by_run : (let found : Result Loaded Refusal = Ok loaded in found ≡ outcome load_work (file_of files (input_path asked))) ⊎ ((one : Input) × (let found : Result Loaded Refusal = Ok loaded in found ≡ Err (refused.ReadFault one)))
+        → outcome load_work (file_of files (input_path asked)) ≡ Ok loaded
+    by_run (inl is) = sym is
+    by_run (inr clash) =
+        let refusal : (let found : Result Loaded Refusal = Ok loaded in found) ≡ Err (refused.ReadFault clash.0) = clash.1 in
+        absurd (cc)
+
+-- A file that is there, and not too long.
+
+file_whole : (bytes : List ℕ) → is_within File (length bytes) ≡ true → file_outcome (Some bytes) ≡ Ok (Some bytes)
+file_whole bytes fits = by_test (is_within File (length bytes)) fits
+  where
+    by_test : (within : Bool) → within ≡ true → (let whole : Result (Option (List ℕ)) Refusal = if within then Ok (Some bytes) else Err (refused.Limit (limit_of File)) in whole) ≡ Ok (Some bytes)
+    by_test true e = refl
+    by_test false e = absurd (cc)
+
+module _ (given : Given) (loaded : Loaded) (graph : GraphParts) (made : MapBytes) (cost : ℕ)
+    (certificate : given input.Certificate ≡ Some made.certificate) (certificate_fits : is_within File (length made.certificate) ≡ true)
+    (map : given input.Picture ≡ Some made.svg) (map_fits : is_within File (length made.svg) ≡ true) where
+  -- what is read of the certificate
+  reading : Result PlainChecked CheckFault
+  reading = checked_text loaded.tables loaded.settings graph (certificate_in made.certificate)
+
+  certificate_read : outcome (certificate_work loaded graph) given ≡ checked_as reading
+  unfolding reading
+  certificate_read =
+      let next : Option (List ℕ) → Work Input Refusal PlainChecked = λ file. ends (certificate_checked loaded graph file) in
+      let whole : Result (Option (List ℕ)) Refusal → Result PlainChecked Refusal = λ file. outcome (ends file >>= next) given in
+      ap (λ (file : Option (List ℕ)). whole (file_outcome file)) certificate ∙ ap whole (file_whole made.certificate certificate_fits)
+
+  map_read : (checked : PlainChecked) → outcome (picture_work checked) given ≡ best (checked_as (pictured made.svg (Ok checked)))
+  map_read checked =
+      let next : Option (List ℕ) → Work Input Refusal (List Output) = λ file. ends (best (picture_checked checked file)) in
+      let whole : Result (Option (List ℕ)) Refusal → Result (List Output) Refusal = λ file. outcome (ends file >>= next) given in
+      ap (λ (file : Option (List ℕ)). whole (file_outcome file)) map ∙ ap whole (file_whole made.svg map_fits)
+
+  after_graph : (read : Result PlainChecked CheckFault) → reading ≡ read → pictured made.svg read ≡ Ok cost → outcome (with_graph loaded graph) given ≡ Ok (said (best_line cost))
+  after_graph (Err why) is due = absurd (cc)
+  after_graph (Ok checked) is due =
+      let found : outcome (certificate_work loaded graph) given ≡ Ok checked = certificate_read ∙ ap checked_as is in
+      then_outcome (certificate_work loaded graph) picture_work given checked found ∙ map_read checked ∙ ap (λ (r : Result ℕ CheckFault). best (checked_as r)) due
+
+  after_loading : graph_outcome loaded.settings.near loaded.tables ≡ Ok graph → check_outcome loaded.tables loaded.settings made.svg (certificate_in made.certificate) ≡ Ok cost
+      → outcome (with_loaded loaded) given ≡ Ok (said (best_line cost))
+  unfolding reading
+  after_loading of_feed accepted =
+      let due : pictured made.svg reading ≡ Ok cost = subst (λ g. pictured made.svg (checked_on loaded.tables loaded.settings (certificate_in made.certificate) g) ≡ Ok cost) of_feed accepted in
+      then_outcome (graph_work loaded) (with_graph loaded) given graph (ap built of_feed) ∙ after_graph reading refl due
+
+-- a file that holds what was written
+fits_by : (held : Option (List ℕ)) (bytes : List ℕ) → held ≡ Some bytes → IfSome held (λ b. is_within File (length b) ≡ true) → is_within File (length bytes) ≡ true
+fits_by held bytes is fits = subst (λ (h : Option (List ℕ)). IfSome h (λ b. is_within File (length b) ≡ true)) is fits
+
+pub says_yes : (feed : List ℕ) (paths : MapPaths) (files later : List (List ℕ × List ℕ)) (made : Written)
+    → (written : IsMapWritten (Some files) (make feed paths) paths made) → LieAsMade files later feed paths made
+    → outcome (work (check feed paths)) (file_of later (input_path (check feed paths))) ≡ Ok (said (best_line written.is_made.cost))
+says_yes feed paths files later made written lie =
+    let before : Given = file_of files (input_path (make feed paths)) in
+    let given : Given = file_of later (input_path (check feed paths)) in
+    let certified = written.is_made.certified in
+    let loads : outcome load_work given ≡ Ok written.loaded = same_tables load_work before given load_alone lie.same_feed ∙ loads_are files (make feed paths) written.loaded written.loads in
+    then_outcome load_work with_loaded given written.loaded loads
+    ∙ after_loading given written.loaded certified.graph written.made written.is_made.cost
+    (lie.certificate ∙ written.certificate) (fits_by (held_by (Path paths.certificate) made) written.made.certificate written.certificate lie.certificate_fits)
+    (lie.map ∙ written.map) (fits_by (held_by (Path paths.picture) made) written.made.svg written.map lie.map_fits)
+    certified.of_feed written.is_made.accepted
+
+pub ends_with_yes : (feed : List ℕ) (paths : MapPaths) (files later : List (List ℕ × List ℕ)) (made : Written) (files_rose rose : Type 0) (old new : Written) (ended : Status)
+    → (written : IsMapWritten (Some files) (make feed paths) paths made) → LieAsMade files later feed paths made
+    → Ends (Some (check feed paths)) (Some later) files_rose rose (Some old) (Some new) ended → (files_rose → ⊥) → (rose → ⊥)
+    → ((ended ≡ status.Done) × SaysBest old new written.is_made.cost) ⊎ (ended ≡ status.NoMemory)
+ends_with_yes feed paths files later made files_rose rose old new ended written lie finish told steady =
+    by_end (is_done (check feed paths) later files_rose rose old new ended (said (best_line written.is_made.cost)) finish (says_yes feed paths files later made written lie) told steady)
+  where
+    by_end : ((ended ≡ status.Done) × ((target : Target) → held_by target new ≡ held_after target (said (best_line written.is_made.cost)) (held_by target old))) ⊎ (ended ≡ status.NoMemory)
+        → ((ended ≡ status.Done) × SaysBest old new written.is_made.cost) ⊎ (ended ≡ status.NoMemory)
+    by_end (inl done) = inl (done.0, done.1 Said)
+    by_end (inr out) = inr out

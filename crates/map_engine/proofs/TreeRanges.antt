@@ -1,0 +1,162 @@
+-- A tree that is accepted, and that a proof may have, is in range.
+use Rattle.std.proofs.Common.{◌≡◌, ◌≢◌, sym, subst, refl, ℕ, zero, suc, ◌<◌, ◌≤◌, ◌==◌, ◌&&◌, ◌||◌, not, nat_lt, nat_le, Bool, true, false, true≢false, cond, ℤ, pos, negsuc, List, [], ◌∷◌, length, arith, eqb-true, leb-true, ◌⊎◌, inl, inr, Some, None, All}
+use Rattle.std.specs.Prelude.{unsigned_abs}
+use Rattle.std.specs.List.{AllByRecursion, Contains, list_all, list_any}
+use Rattle.std.proofs.lemmas.Bool.{and_parts, or_cases}
+use Rattle.std.proofs.lemmas.List.Elements.{All-from_recursion}
+use Rattle.map_base.specs.declared.ids.SegId.{SegId}
+use Rattle.map_base.specs.declared.ids.LineId.{LineId}
+use Rattle.order_model.specs.declared.term.Term.{Term}
+use Rattle.order_model.specs.declared.term.Term.TheVariants.{Side, Link, Apart}
+use Rattle.order_model.specs.Problems.{lines_on}
+use Rattle.order_model.specs.Costs.{weight_of}
+use Rattle.order_model.specs.Places.{has_line}
+use Rattle.order_model.specs.Looks.{is_decided}
+use Rattle.order_model.specs.PartTerms.{is_in}
+use Rattle.order_model.specs.Prefixes.{is_left, is_placed, is_unplaced, AreApart}
+use Rattle.order_model.specs.Completions.{placed_more}
+use Rattle.order_model.proofs.Lines.{same_line}
+use Rattle.order_model.proofs.PrefixLemmas.{few_apart}
+use Rattle.order_model.proofs.RisingLines.{contains_first, contains_later}
+use Rattle.order_values.specs.PriceLists.{AreRisingPrices}
+use Rattle.order_proof.specs.Plain.{PlainTree, split, close, Cases, no_case, case_of}
+use Rattle.order_proof.specs.Trees.{count_of, is_among, lines_of, AreDistinct, AreNotZero, AreTrees, IsTree}
+use Rattle.order_proof.specs.Forms.{most_id, most_cases, most_price}
+use Rattle.order_proof.specs.Ranges.{AreCasesInRange, ArePrices, IsPrice, IsTreeInRange}
+use Rattle.order_bound.specs.Accepting.{accepts, accepts_cases, are_those_left, is_closed, is_split, reaches, Question}
+use Rattle.order_bound.specs.Values.{allows, are_allowed, value_of}
+
+-- a line that is there is one of the list
+pub line_there : (lines : List LineId) (a : LineId) → has_line lines a ≡ true → Contains lines a
+line_there [] a h = absurd (true≢false (sym h))
+line_there (b ∷ lines) a h = by_case (or_cases (b.0 == a.0) (has_line lines a) h) (line_there lines a)
+  where
+    by_case : ((b.0 == a.0) ≡ true) ⊎ (has_line lines a ≡ true) → (has_line lines a ≡ true → Contains lines a) → Contains (b ∷ lines) a
+    by_case (inl e) later = subst (λ (x : LineId). Contains (b ∷ lines) x) (same_line b a e) (contains_first b lines)
+    by_case (inr e) later = contains_later b a lines (later e)
+
+-- the number of a term and its weight are in range
+abbrev pub IsTermInRange : ℕ × Term → Type 0
+IsTermInRange t = (t.0 ≤ most_id) × (weight_of t.1 ≤ most_price)
+
+-- what is asked of a tree is in range
+pub record IsAsked (q : Question) : Type 0 where
+  pub segs : (s : SegId) → is_in q.part s ≡ true → s.0 ≤ most_id
+  pub few : (s : SegId) → length (lines_on q.segs s) ≤ most_cases
+  pub lines : (s : SegId) (a : LineId) → has_line (lines_on q.segs s) a ≡ true → a.0 ≤ most_id
+  pub terms : AllByRecursion IsTermInRange q.terms
+
+-- Prices that are allowed are in range.
+
+abbrev IsSmall : ℕ × ℤ → Type 0
+IsSmall q = (q.0 ≤ most_id) × (unsigned_abs q.1 ≤ most_price)
+
+allowed_here : (placed : List (List LineId)) (q : ℕ × ℤ) (k : ℕ) (t : Term) → allows placed q k t ≡ true → (k ≡ q.0) × (unsigned_abs q.1 ≤ weight_of t)
+allowed_here placed q k (Side seg first second w) h = absurd (true≢false (sym h))
+allowed_here placed q k (Link seg other flip a b w) h =
+    let parts = and_parts (k == q.0 && not (is_decided placed seg a b || is_decided placed other a b)) (nat_le (unsigned_abs q.1) w) h in
+    let one = and_parts (k == q.0) (not (is_decided placed seg a b || is_decided placed other a b)) parts.0 in
+    (eqb-true k q.0 one.0, leb-true (unsigned_abs q.1) w parts.1)
+allowed_here placed q k (Apart seg other a b w) h = absurd (true≢false (sym h))
+
+price_small : (placed : List (List LineId)) (q : ℕ × ℤ) (terms : List (ℕ × Term)) → AllByRecursion IsTermInRange terms → list_any (λ (t : ℕ × Term). allows placed q t.0 t.1) terms ≡ true → IsSmall q
+price_small placed q [] range h = absurd (true≢false (sym h))
+price_small placed q (t ∷ terms) range h = by_case (or_cases (allows placed q t.0 t.1) (list_any (λ (u : ℕ × Term). allows placed q u.0 u.1) terms) h) (price_small placed q terms range.1)
+  where
+    by_case : (allows placed q t.0 t.1 ≡ true) ⊎ (list_any (λ (u : ℕ × Term). allows placed q u.0 u.1) terms ≡ true)
+        → (list_any (λ (u : ℕ × Term). allows placed q u.0 u.1) terms ≡ true → IsSmall q) → IsSmall q
+    by_case (inl e) later = let at = allowed_here placed q t.0 t.1 e in (omega (arith, at.0, range.0.0), omega (arith, at.1, range.0.1))
+    by_case (inr e) later = later e
+
+prices_small : (placed : List (List LineId)) (terms : List (ℕ × Term)) → AllByRecursion IsTermInRange terms → (prices : List (ℕ × ℤ)) → are_allowed placed terms prices ≡ true
+    → AllByRecursion IsSmall prices
+prices_small placed terms range [] h = tt
+prices_small placed terms range (q ∷ prices) h =
+    let parts = and_parts (list_any (λ (t : ℕ × Term). allows placed q t.0 t.1) terms) (are_allowed placed terms prices) h in
+    (price_small placed q terms range parts.0, prices_small placed terms range prices parts.1)
+
+price_range : (y : ℤ) → y ≢ pos 0 → unsigned_abs y ≤ most_price → IsPrice y
+price_range (pos zero) some small = absurd (some refl)
+price_range (pos (suc n)) some small = (omega arith, small)
+price_range (negsuc n) some small = omega (arith, small)
+
+-- the first number is at least so much
+abbrev StartsAt : ℕ → List (ℕ × ℤ) → Type 0
+StartsAt least [] = Unit {0}
+StartsAt least (p ∷ rest) = least ≤ p.0
+
+starts_after : (p : ℕ × ℤ) (rest : List (ℕ × ℤ)) → AreRisingPrices (p ∷ rest) → StartsAt (suc p.0) rest × AreRisingPrices rest
+starts_after p [] rise = (tt, tt)
+starts_after p (q ∷ rest) rise = (omega (arith, rise.0), rise.1)
+
+prices_range : (least : ℕ) (prices : List (ℕ × ℤ)) → StartsAt least prices → AreRisingPrices prices → AreNotZero prices → AllByRecursion IsSmall prices → ArePrices least prices
+prices_range least [] starts rise some small = tt
+prices_range least (p ∷ rest) starts rise some small =
+    let after = starts_after p rest rise in
+    (starts, small.0.0, price_range p.1 some.0 small.0.1, prices_range (suc p.0) rest after.0 after.1 some.1 small.1)
+
+starts_at_0 : (prices : List (ℕ × ℤ)) → StartsAt 0 prices
+starts_at_0 [] = tt
+starts_at_0 (p ∷ rest) = omega arith
+
+allowed_where_closed : (q : Question) (placed : List (List LineId)) (prices : List (ℕ × ℤ)) → is_closed q placed prices ≡ true → are_allowed placed q.terms prices ≡ true
+allowed_where_closed q placed prices h = by_test (are_allowed placed q.terms prices) refl h
+  where
+    by_test : (b : Bool) → are_allowed placed q.terms prices ≡ b → reaches q.target (cond b (Some (value_of q.segs q.part q.terms placed prices)) None) ≡ true → are_allowed placed q.terms prices ≡ true
+    by_test true e holds = e
+    by_test false e holds = absurd (true≢false (sym holds))
+
+-- Splits that hold have few cases, each of a line of the segment.
+
+own_lines : (lines placed these : List LineId) → list_all (is_left lines placed) these ≡ true → AllByRecursion (λ (a : LineId). has_line lines a ≡ true) these
+own_lines lines placed [] h = tt
+own_lines lines placed (a ∷ these) h =
+    let parts = and_parts (is_left lines placed a) (list_all (is_left lines placed) these) h in
+    ((and_parts (has_line lines a) (is_unplaced placed a) parts.0).0, own_lines lines placed these parts.1)
+
+those_there : (lines these : List LineId) → AllByRecursion (λ (a : LineId). has_line lines a ≡ true) these → AllByRecursion (Contains lines) these
+those_there lines [] all = tt
+those_there lines (a ∷ these) all = (line_there lines a all.0, those_there lines these all.1)
+
+distinct_apart : (lines : List LineId) → AreDistinct lines → AreApart lines
+distinct_apart [] h = tt
+distinct_apart (a ∷ lines) h = (h.0, distinct_apart lines h.1)
+
+count_is : (cases : Cases) → count_of cases ≡ length (lines_of cases)
+count_is no_case = refl
+count_is (case_of a tree rest) = let later = count_is rest in omega (arith, later)
+
+record IsSplitInRange (q : Question) (s : SegId) (cases : Cases) : Type 0 where
+  seg : s.0 ≤ most_id
+  few : count_of cases ≤ most_cases
+  own : AllByRecursion (λ (a : LineId). has_line (lines_on q.segs s) a ≡ true) (lines_of cases)
+
+split_range : (q : Question) → IsAsked q → (placed : List (List LineId)) (s : SegId) (cases : Cases) → AreDistinct (lines_of cases) → is_split q placed s (lines_of cases) ≡ true
+    → IsSplitInRange q s cases
+split_range q asked placed s cases distinct h =
+    let lines : List LineId = lines_on q.segs s in
+    let before : List LineId = lines_on placed s in
+    let these : List LineId = lines_of cases in
+    let parts = and_parts (is_in q.part s) (nat_lt 0 (length these) && are_those_left lines before these) h in
+    let left = and_parts (nat_lt 0 (length these)) (are_those_left lines before these) parts.1 in
+    let each = and_parts (list_all (is_left lines before) these) (list_all (λ b. is_placed before b || is_among these b) lines) left.1 in
+    let own = own_lines (lines_on q.segs s) (lines_on placed s) (lines_of cases) each.0 in
+    let there : All (Contains (lines_on q.segs s)) (lines_of cases) = All-from_recursion (Contains (lines_on q.segs s)) (lines_of cases) (those_there (lines_on q.segs s) (lines_of cases) own) in
+    let few = few_apart (lines_of cases) (lines_on q.segs s) (distinct_apart (lines_of cases) distinct) there in
+    record { seg = asked.segs s parts.0; few = omega (arith, few, count_is cases, asked.few s); own = own }
+
+mutual
+  pub tree_range : (q : Question) → IsAsked q → (placed : List (List LineId)) (tree : PlainTree) → IsTree tree → accepts q placed tree ≡ true → IsTreeInRange tree
+  tree_range q asked placed (split s cases) is h =
+      let parts = and_parts (is_split q placed s (lines_of cases)) (accepts_cases q placed s cases) h in
+      let at = split_range q asked placed s cases is.1 parts.0 in
+      (at.seg, omega (arith, is.0), at.few, is.1, cases_range q asked placed s cases is.2 at.own parts.1)
+  tree_range q asked placed (close prices) is h =
+      prices_range 0 prices (starts_at_0 prices) is.0 is.1 (prices_small placed q.terms asked.terms prices (allowed_where_closed q placed prices h))
+
+  cases_range : (q : Question) → IsAsked q → (placed : List (List LineId)) (s : SegId) (cases : Cases) → AreTrees cases → AllByRecursion (λ (a : LineId). has_line (lines_on q.segs s) a ≡ true) (lines_of cases)
+      → accepts_cases q placed s cases ≡ true → AreCasesInRange cases
+  cases_range q asked placed s no_case are own h = tt
+  cases_range q asked placed s (case_of a tree rest) are own h =
+      let parts = and_parts (accepts q (placed_more q.segs placed s a) tree) (accepts_cases q placed s rest) h in
+      (asked.lines s a own.0, tree_range q asked (placed_more q.segs placed s a) tree are.0 parts.0, cases_range q asked placed s rest are.1 own.1 parts.1)

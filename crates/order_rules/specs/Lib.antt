@@ -1,0 +1,5 @@
+pub mod PairWeights
+pub mod Merging
+pub mod Dividing
+pub mod Untangling
+pub mod Lifting
