@@ -22,12 +22,12 @@ mod Leaves
 mod Sorted
 mod Pushed
 mod Ways
-mod Shown
+pub mod Shown
 mod Whole
 mod Marks
 pub mod Renaming
-mod RenamedTrees
-mod RisingNumbers
-mod OwnParts
+pub mod RenamedTrees
+pub mod RisingNumbers
+pub mod OwnParts
 mod Begins
 mod Early

@@ -28,12 +28,12 @@ use Rattle.order_search.proofs.RenamedTrees.{moved, stays, live_same}
 
 -- Numbers that are told by a list.
 
-at_number : (part : List SegId) (i : ℕ) (d : SegId) → i < length part → get_or (seg_numbers part) i 0 ≡ (get_or part i d).0
+pub at_number : (part : List SegId) (i : ℕ) (d : SegId) → i < length part → get_or (seg_numbers part) i 0 ≡ (get_or part i d).0
 at_number [] i d below = absurd (omega (arith, below))
 at_number (s ∷ part) zero d below = refl
 at_number (s ∷ part) (suc i) d below = at_number part i d (omega (arith, below))
 
-lines_there : (segs : List (List LineId)) (part : List SegId) (i : ℕ) → i < length part → get_or segs (get_or (seg_numbers part) i 0) [] ≡ get_or (map (lines_on segs) part) i []
+pub lines_there : (segs : List (List LineId)) (part : List SegId) (i : ℕ) → i < length part → get_or segs (get_or (seg_numbers part) i 0) [] ≡ get_or (map (lines_on segs) part) i []
 lines_there segs [] i below = absurd (omega (arith, below))
 lines_there segs (s ∷ part) zero below = refl
 lines_there segs (s ∷ part) (suc i) below = lines_there segs part i (omega (arith, below))
@@ -64,7 +64,7 @@ back_to f k (s ∷ part) told =
     ap (λ n. made n ∷ rest) (told 0 k (omega arith) (omega arith))
     ∙ ap (λ ss. s ∷ ss) (back_to f (k + 1) part (λ i j e below. told (suc i) j (omega (arith, e)) (omega (arith, below))))
 
-numbers_of_segments : (part : List SegId) (s : SegId) → is_in part s ≡ is_number (seg_numbers part) s.0
+pub numbers_of_segments : (part : List SegId) (s : SegId) → is_in part s ≡ is_number (seg_numbers part) s.0
 numbers_of_segments [] s = refl
 numbers_of_segments (t ∷ part) s = ap (λ b. (t.0 == s.0) || b) (numbers_of_segments part s)
 

@@ -22,7 +22,7 @@ use Rattle.order_bound.specs.Pairs.{pair_of, is_pair, pair_in, joined, kept, ope
 use Rattle.order_bound.specs.declared.pairs.Pair.{Pair}
 use Rattle.order_bound.specs.declared.pairs.OpenLink.{OpenLink}
 use Rattle.order_bound.specs.Bounds.{open_cost, slot_cost}
-use Rattle.order_bound.specs.Decided.{decided_cost}
+use Rattle.part_bounds.specs.Settled.{counted_cost}
 use Rattle.part_bounds.specs.TermLooks.{look_of, look_decided, look_open, look_link}
 use Rattle.part_bounds.specs.Slots.{slot_at, slots_of, IsCollected, IsSmall, slot_more, slot_relabelled, label_in, slots_after, links_after}
 use Rattle.order_bound.proofs.Forests.{labels_after}
@@ -106,8 +106,8 @@ module _ (segs placed : List (List LineId)) (p : Pair) (open_segs : List SegId) 
   abbrev cost : SegId → Bool → ℕ
   cost s x = slot_cost placed done p s x
 
-  more_base : (n : ℕ) → decided_cost segs placed t.1 ≡ n → base + n ≡ sum_by (λ (t : ℕ × Term). decided_cost segs placed t.1) (done ++ t ∷ [])
-  more_base n h = let sums = sum_by_push (λ (t : ℕ × Term). decided_cost segs placed t.1) done t in let is = ok.base_is in omega (arith, sums, is, h)
+  more_base : (n : ℕ) → counted_cost segs placed t.1 ≡ n → base + n ≡ sum_by (λ (t : ℕ × Term). counted_cost segs placed t.1) (done ++ t ∷ [])
+  more_base n h = let sums = sum_by_push (λ (t : ℕ × Term). counted_cost segs placed t.1) done t in let is = ok.base_is in omega (arith, sums, is, h)
 
   same_links : open_link placed p t.0 t.1 ≡ [] → links ≡ kept (λ s. s) (open_links placed p (done ++ t ∷ []))
   same_links h = ok.links_are ∙ ap (kept (λ s. s)) (sym (open_links_push placed p done t ∙ (ap (λ k. open_links placed p done ++ k) h ∙ append-nil (open_links placed p done))))
@@ -118,7 +118,7 @@ module _ (segs placed : List (List LineId)) (p : Pair) (open_segs : List SegId) 
       let whole : open_links placed p (done ++ t ∷ []) ≡ open_links placed p done ++ l ∷ [] = open_links_push placed p done t ∙ ap (λ k. open_links placed p done ++ k) h in
       sym (ap (kept (λ s. s)) whole ∙ (pushed ∙ ap (λ k. k ++ kept (labels_after (λ s. s) k) (l ∷ [])) (sym ok.links_are)))
 
-  by_look : (look : TermLook) → decided_cost segs placed t.1 ≡ look_decided look → ((s : SegId) (x : Bool) → open_cost placed p s x t.1 ≡ look_open s x look) → open_link placed p t.0 t.1 ≡ look_link look
+  by_look : (look : TermLook) → counted_cost segs placed t.1 ≡ look_decided look → ((s : SegId) (x : Bool) → open_cost placed p s x t.1 ≡ look_open s x look) → open_link placed p t.0 t.1 ≡ look_link look
       → AllByRecursion (IsBetween open_segs) (look_link look)
       → IsCollected segs placed p open_segs (done ++ t ∷ []) (base + look_decided look) (slots_after look slots) (links_after look slots links)
   by_look (Decided n) h k l between = record {

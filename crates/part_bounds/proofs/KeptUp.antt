@@ -1,9 +1,10 @@
 -- A part that is kept up while lines are placed.
-use Rattle.std.proofs.Common.{◌≡◌, ℕ, suc, ◌+◌, ◌<◌, ◌≤◌, Bool, true, false, cond, List, [], ◌∷◌, ◌++◌, length, filter, map, take, get_or, refl, sym, ap, subst, ◌∙◌, arith}
-use Rattle.std.specs.Prelude.{sum_by}
+use Rattle.std.proofs.Common.{◌≡◌, ℕ, suc, ◌+◌, ◌*◌, ◌<◌, ◌≤◌, Bool, true, false, cond, List, [], ◌∷◌, ◌++◌, length, filter, map, take, get_or, refl, sym, ap, subst, ◌∙◌, arith}
+use Rattle.std.specs.Prelude.{Vec, sum_by}
+use Rattle.std.specs.Global.{Global}
 use Rattle.std.specs.List.{All}
 use Rattle.std.proofs.lemmas.List.{get_or-map, take_more, map_push, length-map}
-use Rattle.std.proofs.lemmas.List.Elements.{All-nil, All-cons, All-map, All-filter, All-weaker, All-more, All-from_recursion}
+use Rattle.std.proofs.lemmas.List.Elements.{All-nil, All-cons, All-head, All-tail, All-map, All-filter, All-weaker, All-more, All-from_recursion}
 use Rattle.std.proofs.lemmas.List.Sums.{sum_by_more, sum_by_more_le, sum_by-cons}
 use Rattle.map_base.specs.declared.ids.SegId.{SegId}
 use Rattle.map_base.specs.declared.ids.LineId.{LineId}
@@ -16,17 +17,21 @@ use Rattle.order_bound.specs.Bounds.{bound_of}
 use Rattle.order_model.proofs.KeptTerms.{part_terms_few}
 use Rattle.order_bound.proofs.Lists.{each_among}
 use Rattle.order_bound.proofs.Completing.{IsPart}
-use Rattle.order_bound.proofs.Parts.{part_of_problem}
+use Rattle.order_bound.proofs.Parts.{part_of_problem, rising_apart}
 use Rattle.order_model.specs.PartTerms.{is_of, part_terms, part_numbers}
 use Rattle.order_bound.specs.declared.pairs.Pair.{Pair}
-use Rattle.order_bound.specs.Pairs.{is_pair, pair_in, pairs_of}
+use Rattle.order_bound.specs.Pairs.{is_pair, pair_in, pairs_of, AreApartSegments}
 use Rattle.order_bound.proofs.Sums.{sum_map, sum_same}
 use Rattle.part_bounds.specs.declared.one_pair.Room.{Room}
 use Rattle.part_bounds.specs.declared.pair_terms.PairTerms.{PairTerms}
 use Rattle.part_bounds.specs.PairGroups.{Group, KnowsOwn, terms_of_pair, group_of, groups_of, group_in, groups_in, terms_in, no_group, share_of, IsGroup}
 use Rattle.part_bounds.specs.Slots.{HasRoom, KeepsRoom}
 use Rattle.part_bounds.specs.Shares.{HasRoomFor, IsKeptUp}
+use Rattle.part_bounds.specs.declared.aparts.Aparts.{Aparts}
+use Rattle.part_bounds.specs.Settled.{settled_sum, lists_in, AreSettled}
 use Rattle.part_bounds.proofs.OwnTerms.{parted, shares_bound}
+use Rattle.part_bounds.proofs.PairCosts.{share_small}
+use Rattle.part_bounds.proofs.ApartLists.{settled_small, aparts_known, aparts_few}
 use Rattle.part_bounds.proofs.Groups.{filter_mine}
 
 -- Room.
@@ -143,17 +148,25 @@ most_more pairs i e most next below here all up own =
 part_known : (problem : ProblemParts) (part : List SegId) → IsProblem problem → IsRisingPart part → IsPart problem.segs part (part_terms problem.terms part)
 part_known problem part fits rises = part_of_problem problem.segs problem.terms part fits.rising fits.terms rises
 
+pub each_known : (problem : ProblemParts) (part : List SegId) → IsProblem problem → IsRisingPart part → All (λ (t : ℕ × Term). IsTerm problem.segs t.1) (part_terms problem.terms part)
+each_known problem part fits rises =
+    let terms : List (ℕ × Term) = part_terms problem.terms part in
+    let ok = part_known problem part fits rises in
+    All-from_recursion (λ (t : ℕ × Term). IsTerm problem.segs t.1) terms (each_among (λ (t : ℕ × Term). IsTerm problem.segs t.1) terms ok.known)
+
+pub terms_few : (problem : ProblemParts) (part : List SegId) → IsProblem problem → length (part_terms problem.terms part) ≤ 4000000
+terms_few problem part fits = let few = fits.few_terms in omega (arith, few, part_terms_few part problem.terms)
+
 pub part_groups : (problem : ProblemParts) (part : List SegId) → IsProblem problem → IsRisingPart part → All (IsGroup problem.segs part) (groups_of (part_terms problem.terms part))
 part_groups problem part fits rises =
     let terms : List (ℕ × Term) = part_terms problem.terms part in
     let ok = part_known problem part fits rises in
-    groups_fit problem.segs part terms
-    (All-from_recursion (λ (t : ℕ × Term). IsTerm problem.segs t.1) terms (each_among (λ (t : ℕ × Term). IsTerm problem.segs t.1) terms ok.known))
+    groups_fit problem.segs part terms (each_known problem part fits rises)
     (All-from_recursion (λ (t : ℕ × Term). is_of part t.1 ≡ true) terms (each_among (λ (t : ℕ × Term). is_of part t.1 ≡ true) terms ok.inside))
-    (let few = fits.few_terms in omega (arith, few, part_terms_few part problem.terms))
+    (terms_few problem part fits)
 
 pub part_few : (problem : ProblemParts) (part : List SegId) → IsProblem problem → sum_by terms_in (groups_of (part_terms problem.terms part)) ≤ 4000000
-part_few problem part fits = let few = fits.few_terms in omega (arith, few, part_terms_few part problem.terms, groups_count (part_terms problem.terms part))
+part_few problem part fits = omega (arith, terms_few problem part fits, groups_count (part_terms problem.terms part))
 
 pub each_few : (groups : List Group) → sum_by terms_in groups ≤ 4000000 → All (λ (g : Group). terms_in g ≤ 4000000) groups
 each_few [] h = All-nil (λ (g : Group). terms_in g ≤ 4000000)
@@ -168,18 +181,45 @@ room_for part groups most room all has =
 
 -- The part as it is kept.
 
--- its sum is the bound
-pub bound_is : (problem : ProblemParts) (part : List SegId) (numbers : List ℕ) (prefix : Placement) (pairs : List PairTerms) (shares : List ℕ) (places total : ℕ) (room : Room)
-    → IsKeptUp problem part numbers prefix pairs shares places total room → total ≡ bound_of problem.segs part (part_terms problem.terms part) prefix.placed
-bound_is problem part numbers prefix pairs shares places total room ok =
-    ok.total_is ∙ (ap (sum_by (share_of problem.segs part prefix.placed)) ok.grouped ∙ shares_bound problem.segs prefix.placed part (part_terms problem.terms part))
+-- the shares of all pairs and the settled Aparts
+pub whole_bound : (segs placed : List (List LineId)) (part : List SegId) (terms : List (ℕ × Term)) (groups : List Group) (total settled : ℕ) → groups ≡ groups_of terms
+    → total ≡ sum_by (share_of segs part placed) groups → settled ≡ settled_sum segs placed terms → total + settled ≡ bound_of segs part terms placed
+whole_bound segs placed part terms groups total settled e1 e2 e3 =
+    let sum = e2 ∙ ap (sum_by (share_of segs part placed)) e1 in
+    omega (arith, sum, e3, shares_bound segs placed part terms)
+
+-- its sum with that of the settled Aparts is the bound
+pub bound_is : (problem : ProblemParts) (part : List SegId) (numbers : List ℕ) (prefix : Placement) (pairs : List PairTerms) (shares : List ℕ) (places total : ℕ) (room : Room) (aparts : Aparts)
+    → IsKeptUp problem part numbers prefix pairs shares places total room aparts → total + aparts.total ≡ bound_of problem.segs part (part_terms problem.terms part) prefix.placed
+bound_is problem part numbers prefix pairs shares places total room aparts ok =
+    whole_bound problem.segs prefix.placed part (part_terms problem.terms part) (groups_in pairs) total aparts.total ok.grouped ok.total_is ok.settled.total_is
+
+-- shares of groups are small
+groups_small : (segs placed : List (List LineId)) (part : List SegId) (groups : List Group) → AreApartSegments part → All (IsGroup segs part) groups → sum_by (share_of segs part placed) groups ≤ 1024000 * sum_by terms_in groups
+groups_small segs placed part [] apart fit = omega arith
+groups_small segs placed part (g ∷ groups) apart fit =
+    let here = All-head (IsGroup segs part) g groups fit in
+    let one : share_of segs part placed g ≤ 1024000 * terms_in g = share_small segs placed part g.0 g.1 apart here.known here.inside in
+    let rest = groups_small segs placed part groups apart (All-tail (IsGroup segs part) g groups fit) in
+    omega (arith, one, rest, sum_by-cons (share_of segs part placed) g groups, sum_by-cons terms_in g groups)
+
+pub whole_small : (segs placed : List (List LineId)) (part : List SegId) (terms : List (ℕ × Term)) (groups : List Group) (total settled : ℕ) → AreApartSegments part → All (IsGroup segs part) groups → sum_by terms_in groups ≤ 4000000
+    → All (λ (t : ℕ × Term). IsTerm segs t.1) terms → length terms ≤ 4000000 → total ≡ sum_by (share_of segs part placed) groups → settled ≡ settled_sum segs placed terms → total + settled ≤ 8192000000000
+whole_small segs placed part terms groups total settled apart fit few known few_terms e1 e2 =
+    omega (arith, e1, e2, few, few_terms, groups_small segs placed part groups apart fit, settled_small segs placed terms known)
+
+pub bound_small : (problem : ProblemParts) (part : List SegId) (numbers : List ℕ) (prefix : Placement) (pairs : List PairTerms) (shares : List ℕ) (places total : ℕ) (room : Room) (aparts : Aparts)
+    → IsKeptUp problem part numbers prefix pairs shares places total room aparts → total + aparts.total ≤ 8192000000000
+bound_small problem part numbers prefix pairs shares places total room aparts ok =
+    whole_small problem.segs prefix.placed part (part_terms problem.terms part) (groups_in pairs) total aparts.total (rising_apart part ok.rises) ok.groups ok.few ok.known_terms ok.few_terms ok.total_is ok.settled.total_is
 
 -- it begins
-pub begun : (problem : ProblemParts) (part : List SegId) (numbers : List ℕ) (prefix : Placement) (pairs : List PairTerms) (shares : List ℕ) (places places2 total most : ℕ) (room room2 : Room)
+pub begun : (problem : ProblemParts) (part : List SegId) (numbers : List ℕ) (prefix : Placement) (pairs : List PairTerms) (shares : List ℕ) (places places2 total most : ℕ) (room room2 : Room) (aparts : Aparts)
     → IsPrefixOf problem.segs prefix → All (λ (s : SegId). s.0 < length problem.segs) part → IsRisingPart part → IsProblem problem → numbers ≡ part_numbers problem.terms part → groups_in pairs ≡ groups_of (part_terms problem.terms part)
     → shares ≡ map (share_of problem.segs part prefix.placed) (groups_in pairs) → total ≡ sum_by (share_of problem.segs part prefix.placed) (groups_in pairs) → All (KnowsOwn part) pairs → length pairs ≤ places → places ≤ places2
-    → All (λ (g : Group). terms_in g ≤ most) (groups_in pairs) → HasRoom (length part) most room → KeepsRoom room room2 → IsKeptUp problem part numbers prefix pairs shares places2 total room2
-begun problem part numbers prefix pairs shares places places2 total most room room2 fits known rises is listed grouped e1 e2 own enough more each has keeps = record {
+    → All (λ (g : Group). terms_in g ≤ most) (groups_in pairs) → HasRoom (length part) most room → KeepsRoom room room2 → AreSettled problem.segs prefix.placed (part_terms problem.terms part) aparts
+    → IsKeptUp problem part numbers prefix pairs shares places2 total room2 aparts
+begun problem part numbers prefix pairs shares places places2 total most room room2 aparts fits known rises is listed grouped e1 e2 own enough more each has keeps settled = record {
   fits = fits;
   known = known;
   rises = rises;
@@ -192,13 +232,17 @@ begun problem part numbers prefix pairs shares places places2 total most room ro
   total_is = e2;
   enough = omega (arith, enough, more);
   has_room = rooms_kept part (groups_in pairs) room room2 (room_for part (groups_in pairs) most room each has) keeps;
+  known_terms = each_known problem part is rises;
+  few_terms = terms_few problem part is;
+  settled = settled;
 }
 
 -- it goes on with another prefix
-pub kept_up : (problem : ProblemParts) (part : List SegId) (numbers : List ℕ) (prefix next : Placement) (pairs : List PairTerms) (shares fresh : List ℕ) (places places2 total total2 : ℕ) (room room2 : Room)
-    → IsKeptUp problem part numbers prefix pairs shares places total room → IsPrefixOf problem.segs next → fresh ≡ map (share_of problem.segs part next.placed) (groups_in pairs)
-    → total2 ≡ sum_by (share_of problem.segs part next.placed) (groups_in pairs) → places ≤ places2 → KeepsRoom room room2 → IsKeptUp problem part numbers next pairs fresh places2 total2 room2
-kept_up problem part numbers prefix next pairs shares fresh places places2 total total2 room room2 ok fits e1 e2 more keeps =
+pub kept_up : (problem : ProblemParts) (part : List SegId) (numbers : List ℕ) (prefix next : Placement) (pairs : List PairTerms) (shares fresh : List ℕ) (places places2 total total2 : ℕ) (room room2 : Room) (aparts aparts2 : Aparts)
+    → IsKeptUp problem part numbers prefix pairs shares places total room aparts → IsPrefixOf problem.segs next → fresh ≡ map (share_of problem.segs part next.placed) (groups_in pairs)
+    → total2 ≡ sum_by (share_of problem.segs part next.placed) (groups_in pairs) → places ≤ places2 → KeepsRoom room room2 → AreSettled problem.segs next.placed (part_terms problem.terms part) aparts2
+    → IsKeptUp problem part numbers next pairs fresh places2 total2 room2 aparts2
+kept_up problem part numbers prefix next pairs shares fresh places places2 total total2 room room2 aparts aparts2 ok fits e1 e2 more keeps settled =
     let enough = ok.enough in
     record {
       fits = fits;
@@ -213,4 +257,20 @@ kept_up problem part numbers prefix next pairs shares fresh places places2 total
       total_is = e2;
       enough = omega (arith, enough, more);
       has_room = rooms_kept part (groups_in pairs) room room2 ok.has_room keeps;
+      known_terms = ok.known_terms;
+      few_terms = ok.few_terms;
+      settled = settled;
     }
+
+-- The Aparts with an end on a segment, as they lie in memory.
+
+pub list_known : (segs placed : List (List LineId)) (s : SegId) (terms : List (ℕ × Term)) (aparts : Aparts) → AreSettled segs placed terms aparts → s.0 < length segs → All (λ (t : ℕ × Term). IsTerm segs t.1) terms
+    → All (IsTerm segs) (get_or (lists_in aparts.lists.items) s.0 [])
+list_known segs placed s terms aparts ok known all = subst (All (IsTerm segs)) (sym (ok.by_ends.on s known)) (aparts_known segs s terms all)
+
+pub list_few : (segs placed : List (List LineId)) (s : SegId) (terms : List (ℕ × Term)) (aparts : Aparts) → AreSettled segs placed terms aparts → s.0 < length segs → length terms ≤ 4000000
+    → length (get_or (lists_in aparts.lists.items) s.0 []) ≤ 4000000
+list_few segs placed s terms aparts ok known few = omega (arith, ap length (ok.by_ends.on s known), aparts_few s terms, few)
+
+pub list_here : (segs placed : List (List LineId)) (s : SegId) (terms : List (ℕ × Term)) (aparts : Aparts) → AreSettled segs placed terms aparts → s.0 < length segs → s.0 < length aparts.lists.items
+list_here segs placed s terms aparts ok known = omega (arith, known, ok.by_ends.each, length-map aparts.lists.items (λ (v : Vec Term Global). v.items))

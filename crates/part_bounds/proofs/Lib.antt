@@ -11,6 +11,7 @@ mod KeptUp
 mod Noted
 mod NotedPairs
 mod OwnSegments
+mod ApartLists
 mod Renewed
 mod Opened
 mod OwnUse

@@ -18,6 +18,7 @@ use Rattle.order_bound.specs.declared.pairs.Pair.{Pair}
 use Rattle.order_bound.specs.declared.pairs.OpenLink.{OpenLink}
 use Rattle.order_bound.specs.Pairs.{is_pair, pair_of, is_open_on, open_segments, open_link, open_links, kept, kept_links}
 use Rattle.order_bound.specs.Decided.{apart_cost, decided_cost}
+use Rattle.part_bounds.specs.Settled.{counted_cost}
 use Rattle.order_bound.specs.Bounds.{Choice, open_cost, slot_cost, link_cost, choice_cost, with_answer, least_over, pair_bound}
 use Rattle.order_bound.proofs.Lists.{Among, each_append, is_false}
 use Rattle.order_bound.proofs.Bounding.{each_kept}
@@ -176,7 +177,7 @@ own_bound_is segs placed part terms p =
 abbrev pub SameElsewhere : SegId → List (List LineId) → List (List LineId) → Type 0
 SameElsewhere s one two = (t : SegId) → (t.0 == s.0) ≡ false → lines_on one t ≡ lines_on two t
 
-decided_same : (segs one two : List (List LineId)) (t : Term) → lines_on one (seg_of t) ≡ lines_on two (seg_of t) → lines_on one (other_of t) ≡ lines_on two (other_of t) → decided_cost segs one t ≡ decided_cost segs two t
+pub decided_same : (segs one two : List (List LineId)) (t : Term) → lines_on one (seg_of t) ≡ lines_on two (seg_of t) → lines_on one (other_of t) ≡ lines_on two (other_of t) → decided_cost segs one t ≡ decided_cost segs two t
 decided_same segs one two (Side seg first second w) h g = ap (λ l. cond (is_placed l first || is_placed l second) (cost_on l l (Side seg first second w)) 0) h
 decided_same segs one two (Link seg other flip a b w) h g =
     ap (λ l. cond ((is_placed l a || is_placed l b) && is_decided one other a b) (cost_on l (lines_on one other) (Link seg other flip a b w)) 0) h
@@ -184,6 +185,11 @@ decided_same segs one two (Link seg other flip a b w) h g =
 decided_same segs one two (Apart seg other a b w) h g =
     ap (λ l. apart_cost w (neighbours_on (lines_on segs seg) l a b) (neighbours_on (lines_on segs other) (lines_on one other) a b)) h
     ∙ ap (λ l. apart_cost w (neighbours_on (lines_on segs seg) (lines_on two seg) a b) (neighbours_on (lines_on segs other) l a b)) g
+
+counted_same : (segs one two : List (List LineId)) (t : Term) → lines_on one (seg_of t) ≡ lines_on two (seg_of t) → lines_on one (other_of t) ≡ lines_on two (other_of t) → counted_cost segs one t ≡ counted_cost segs two t
+counted_same segs one two (Side seg first second w) h g = decided_same segs one two (Side seg first second w) h g
+counted_same segs one two (Link seg other flip a b w) h g = decided_same segs one two (Link seg other flip a b w) h g
+counted_same segs one two (Apart seg other a b w) h g = refl
 
 cost_same : (one two : List (List LineId)) (p : Pair) (s : SegId) (x : Bool) (t : Term) → lines_on one (seg_of t) ≡ lines_on two (seg_of t) → lines_on one (other_of t) ≡ lines_on two (other_of t)
     → open_cost one p s x t ≡ open_cost two p s x t
@@ -243,8 +249,8 @@ pub share_kept : (segs one two : List (List LineId)) (part : List SegId) (g : Gr
 share_kept segs one two part g s h same =
     let terms : List (ℕ × Term) = g.1 in
     let own : List SegId = filter (meets terms) part in
-    let decided = sum_kept (λ (t : ℕ × Term). decided_cost segs one t.1) (λ (t : ℕ × Term). decided_cost segs two t.1) terms s h
-    (λ t e. let ends = same_ends s one two t.1 same e in decided_same segs one two t.1 ends.0 ends.1) in
+    let decided = sum_kept (λ (t : ℕ × Term). counted_cost segs one t.1) (λ (t : ℕ × Term). counted_cost segs two t.1) terms s h
+    (λ t e. let ends = same_ends s one two t.1 same e in counted_same segs one two t.1 ends.0 ends.1) in
     let costs : slot_cost one terms g.0 ≡ slot_cost two terms g.0 =
     fun_ext (λ v. fun_ext (λ x. sum_kept (λ (t : ℕ × Term). open_cost one g.0 v x t.1) (λ (t : ℕ × Term). open_cost two g.0 v x t.1) terms s h (λ t e. let ends = same_ends s one two t.1 same e in cost_same one two g.0 v x t.1 ends.0 ends.1))) in
     let bounds : pair_bound segs one own terms g.0 ≡ pair_bound segs two own terms g.0 =

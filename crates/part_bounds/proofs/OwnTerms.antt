@@ -1,5 +1,5 @@
 -- What a pair of lines adds to the bound depends on its own terms alone, and each term is of one pair.
-use Rattle.std.proofs.Common.{◌≡◌, ℕ, Bool, true, false, cond, ◌||◌, List, [], ◌∷◌, ◌++◌, filter, refl, sym, ap, subst, ◌∙◌, ◌⊎◌, inl, inr, arith, true≢false}
+use Rattle.std.proofs.Common.{◌≡◌, ℕ, ◌+◌, Bool, true, false, cond, ◌||◌, List, [], ◌∷◌, ◌++◌, filter, refl, sym, ap, subst, ◌∙◌, ◌⊎◌, inl, inr, arith, true≢false}
 use Rattle.std.specs.Prelude.{sum_by}
 use Rattle.std.specs.List.{AllByRecursion}
 use Rattle.std.proofs.Math.Path.{fun_ext}
@@ -12,6 +12,7 @@ use Rattle.order_model.specs.declared.term.Term.TheVariants.{Side, Link, Apart}
 use Rattle.order_bound.specs.declared.pairs.Pair.{Pair}
 use Rattle.order_bound.specs.Pairs.{is_pair, pair_in, has_pair, pairs_after, pairs_of, open_segments, open_link, open_links, kept}
 use Rattle.order_bound.specs.Decided.{decided_cost, decided_sum}
+use Rattle.part_bounds.specs.Settled.{counted_cost, settled_cost, counted_sum, settled_sum}
 use Rattle.order_bound.specs.Bounds.{open_cost, slot_cost, choice_cost, least_over, pair_bound, bound_of}
 use Rattle.order_bound.proofs.Lists.{Among, each_among}
 use Rattle.order_bound.proofs.Sums.{sum_same, sum_both, sum_swap, sum_map}
@@ -135,12 +136,24 @@ parted f terms =
     (each_among (λ (t : ℕ × Term). sum_by (λ p. cond (is_pair p (pair_in t.1)) (f t) 0) pairs ≡ f t) terms
     (λ t h. one_of_pair (pair_in t.1) (f t) pairs (pairs_apart terms) (found_pair [] terms t h))))
 
--- the shares of all pairs make the bound
-pub shares_bound : (segs placed : List (List LineId)) (part : List SegId) (terms : List (ℕ × Term)) → sum_by (share_of segs part placed) (groups_of terms) ≡ bound_of segs part terms placed
+-- what is decided of Aparts, and of other terms
+decided_parts : (segs placed : List (List LineId)) (t : Term) → decided_cost segs placed t ≡ counted_cost segs placed t + settled_cost segs placed t
+decided_parts segs placed (Side seg first second w) = omega arith
+decided_parts segs placed (Link seg other flip a b w) = omega arith
+decided_parts segs placed (Apart seg other a b w) = omega arith
+
+decided_both : (segs placed : List (List LineId)) (terms : List (ℕ × Term)) → decided_sum segs placed terms ≡ counted_sum segs placed terms + settled_sum segs placed terms
+decided_both segs placed terms =
+    sum_same (λ (t : ℕ × Term). decided_cost segs placed t.1) (λ (t : ℕ × Term). counted_cost segs placed t.1 + settled_cost segs placed t.1) terms (λ t. decided_parts segs placed t.1)
+    ∙ sum_both (λ (t : ℕ × Term). counted_cost segs placed t.1) (λ (t : ℕ × Term). settled_cost segs placed t.1) terms
+
+-- the shares of all pairs and the settled Aparts make the bound
+pub shares_bound : (segs placed : List (List LineId)) (part : List SegId) (terms : List (ℕ × Term))
+    → sum_by (share_of segs part placed) (groups_of terms) + settled_sum segs placed terms ≡ bound_of segs part terms placed
 shares_bound segs placed part terms =
     let pairs : List Pair = pairs_of terms in
     let moved = sum_map (share_of segs part placed) (group_of terms) pairs in
-    let both = sum_both (λ p. decided_sum segs placed (terms_of_pair p terms)) (λ p. pair_bound segs placed part (terms_of_pair p terms) p) pairs in
-    let decided = parted (λ (t : ℕ × Term). decided_cost segs placed t.1) terms in
+    let both = sum_both (λ p. counted_sum segs placed (terms_of_pair p terms)) (λ p. pair_bound segs placed part (terms_of_pair p terms) p) pairs in
+    let counted = parted (λ (t : ℕ × Term). counted_cost segs placed t.1) terms in
     let bounds = sum_same (λ p. pair_bound segs placed part (terms_of_pair p terms) p) (pair_bound segs placed part terms) pairs (λ p. own_bound segs placed part p terms) in
-    omega (arith, moved, both, decided, bounds)
+    omega (arith, moved, both, counted, bounds, decided_both segs placed terms)

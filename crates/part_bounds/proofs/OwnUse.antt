@@ -11,7 +11,7 @@ use Rattle.order_model.specs.declared.term.Term.{Term}
 use Rattle.order_model.specs.Costs.{seg_of, other_of}
 use Rattle.order_model.specs.PartTerms.{is_in, is_of}
 use Rattle.order_bound.specs.Pairs.{AreApartSegments}
-use Rattle.order_bound.specs.Decided.{decided_sum}
+use Rattle.part_bounds.specs.Settled.{counted_sum}
 use Rattle.order_bound.specs.Bounds.{pair_bound}
 use Rattle.order_bound.proofs.Lists.{each_among, is_false}
 use Rattle.order_bound.proofs.Completing.{apart_filter}
@@ -79,10 +79,10 @@ own_room part terms own n m room e same has =
     record { slots = omega (arith, a, few); links = omega (arith, b, same); waiting = omega (arith, c, few, same); children = omega (arith, d, same) }
 
 pub own_share : (segs placed : List (List LineId)) (part own : List SegId) (g : Group) (all : List (ℕ × Term)) → own ≡ own_segments part g.1 → all ≡ g.1
-    → decided_sum segs placed all + pair_bound segs placed own all g.0 ≡ share_of segs part placed g
+    → counted_sum segs placed all + pair_bound segs placed own all g.0 ≡ share_of segs part placed g
 own_share segs placed part own g all e same =
-    ap (λ l. decided_sum segs placed l + pair_bound segs placed own l g.0) same ∙ (ap (λ l. decided_sum segs placed g.1 + pair_bound segs placed l g.1 g.0) e
-    ∙ ap (λ n. decided_sum segs placed g.1 + n) (sym (own_bound_is segs placed part g.1 g.0)))
+    ap (λ l. counted_sum segs placed l + pair_bound segs placed own l g.0) same ∙ (ap (λ l. counted_sum segs placed g.1 + pair_bound segs placed l g.1 g.0) e
+    ∙ ap (λ n. counted_sum segs placed g.1 + n) (sym (own_bound_is segs placed part g.1 g.0)))
 
 -- the segments of one pair more are found
 pub found_at : (part : List SegId) (pairs : List PairTerms) (i : ℕ) (g e : PairTerms) → i < length pairs → g ≡ get_or pairs i g → e.terms.items ≡ g.terms.items → e.segs.items ≡ own_segments part g.terms.items

@@ -15,7 +15,8 @@ use Rattle.order_model.specs.Costs.{same_answer, comes_before, seg_of, other_of}
 use Rattle.order_model.specs.Looks.{is_decided, neighbours_on}
 use Rattle.order_model.specs.PartTerms.{is_in, is_of}
 use Rattle.part_bounds.specs.declared.slots.Slot.{Slot}
-use Rattle.order_bound.specs.Decided.{apart_cost, decided_cost, decided_sum}
+use Rattle.order_bound.specs.Decided.{apart_cost, decided_cost}
+use Rattle.part_bounds.specs.Settled.{counted_cost, settled_cost, counted_sum}
 use Rattle.order_bound.specs.Pairs.{pair_of, is_pair, is_open_on, open_segments, open_link, open_links, kept, joined, kept_links, labels_after, AreApartSegments}
 use Rattle.order_bound.specs.declared.pairs.Pair.{Pair}
 use Rattle.order_bound.specs.declared.pairs.OpenLink.{OpenLink}
@@ -277,6 +278,17 @@ decided_most segs placed (Link seg other flip a b w) known =
 decided_most segs placed (Apart seg other a b w) known =
     apart_most w (neighbours_on (lines_on segs seg) (lines_on placed seg) a b) (neighbours_on (lines_on segs other) (lines_on placed other) a b) known.weight.1
 
+counted_most : (segs placed : List (List LineId)) (t : Term) → IsTerm segs t → counted_cost segs placed t ≤ 256000
+counted_most segs placed (Side seg first second w) known = decided_most segs placed (Side seg first second w) known
+counted_most segs placed (Link seg other flip a b w) known = decided_most segs placed (Link seg other flip a b w) known
+counted_most segs placed (Apart seg other a b w) known = omega arith
+
+-- so is what an Apart costs that is settled
+pub settled_most : (segs placed : List (List LineId)) (t : Term) → IsTerm segs t → settled_cost segs placed t ≤ 256000
+settled_most segs placed (Side seg first second w) known = omega arith
+settled_most segs placed (Link seg other flip a b w) known = omega arith
+settled_most segs placed (Apart seg other a b w) known = decided_most segs placed (Apart seg other a b w) known
+
 links_most : (choice : SegId → Bool) (links : List OpenLink) → AllByRecursion (λ (l : OpenLink). l.weight ≤ 256000) links → sum_by (link_cost choice) links ≤ 256000 * length links
 links_most choice links h =
     sum_most (link_cost choice) 256000 links (each_weaker (λ (l : OpenLink). l.weight ≤ 256000) (λ l. link_cost choice l ≤ 256000) links
@@ -284,7 +296,7 @@ links_most choice links h =
 
 -- what a pair of lines adds to the bound is at most so much a term
 pub share_small : (segs placed : List (List LineId)) (part : List SegId) (p : Pair) (terms : List (ℕ × Term)) → AreApartSegments part → All (λ (t : ℕ × Term). IsTerm segs t.1) terms
-    → All (λ (t : ℕ × Term). is_of part t.1 ≡ true) terms → decided_sum segs placed terms + pair_bound segs placed part terms p ≤ 1024000 * length terms
+    → All (λ (t : ℕ × Term). is_of part t.1 ≡ true) terms → counted_sum segs placed terms + pair_bound segs placed part terms p ≤ 1024000 * length terms
 share_small segs placed part p terms apart known inside =
     let open_segs : List SegId = open_segments segs placed part p in
     let all : List OpenLink = kept_links placed p terms in
@@ -295,8 +307,8 @@ share_small segs placed part p terms apart known inside =
     let swapped = sum_swap (λ s (t : ℕ × Term). open_cost placed p s true t.1) open_segs terms in
     let slots = sum_most (λ (t : ℕ × Term). sum_by (λ s. open_cost placed p s true t.1) open_segs) 512000 terms (each_among (λ (t : ℕ × Term). sum_by (λ s. open_cost placed p s true t.1) open_segs ≤ 512000) terms
     (λ t h. open_sum segs placed p open_segs t.1 (apart_filter (is_open_on segs placed p) part apart) (all_among (λ (t : ℕ × Term). IsTerm segs t.1) terms known t h))) in
-    let decided = sum_most (λ (t : ℕ × Term). decided_cost segs placed t.1) 256000 terms (each_among (λ (t : ℕ × Term). decided_cost segs placed t.1 ≤ 256000) terms
-    (λ t h. decided_most segs placed t.1 (all_among (λ (t : ℕ × Term). IsTerm segs t.1) terms known t h))) in
+    let decided = sum_most (λ (t : ℕ × Term). counted_cost segs placed t.1) 256000 terms (each_among (λ (t : ℕ × Term). counted_cost segs placed t.1 ≤ 256000) terms
+    (λ t h. counted_most segs placed t.1 (all_among (λ (t : ℕ × Term). IsTerm segs t.1) terms known t h))) in
     let links = links_most (λ s. true) all light in
     let kept_count = length_kept (λ s. s) (open_links placed p terms) in
     let link_count = length_links placed p terms in

@@ -7,7 +7,7 @@ use Rattle.order_model.specs.declared.term.Term.TheVariants.{Side, Link, Apart}
 use Rattle.order_model.specs.Problems.{lines_on, IsTerm}
 use Rattle.order_model.specs.Costs.{comes_before, same_answer}
 use Rattle.order_model.specs.Looks.{is_decided}
-use Rattle.order_bound.specs.Decided.{decided_cost}
+use Rattle.part_bounds.specs.Settled.{counted_cost}
 use Rattle.order_bound.specs.Pairs.{pair_of, pair_in, is_pair, open_link}
 use Rattle.order_bound.specs.declared.pairs.Pair.{Pair}
 use Rattle.order_bound.specs.Bounds.{open_cost}
@@ -17,7 +17,7 @@ use Rattle.order_bound.proofs.Completing.{pair_itself}
 use Rattle.part_bounds.specs.declared.term_look.TermLook.TheVariants.{Decided, OnSegment, Between}
 use Rattle.order_bound.proofs.TermCosts.{pair, link_gate}
 
-pub decided_is : (segs placed : List (List LineId)) (k : ℕ) (t : Term) → decided_cost segs placed t ≡ look_decided (look_of segs placed k t)
+pub decided_is : (segs placed : List (List LineId)) (k : ℕ) (t : Term) → counted_cost segs placed t ≡ look_decided (look_of segs placed k t)
 decided_is segs placed k (Side seg first second w) = by_test (is_decided placed seg first second) (nat_lt first.0 second.0)
   where
     by_test : (d e : Bool) → cond d (cond (comes_before (lines_on placed seg) second first) w 0) 0

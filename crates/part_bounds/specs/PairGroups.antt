@@ -9,9 +9,9 @@ use Rattle.order_model.specs.Costs.{seg_of, other_of}
 use Rattle.std.specs.List.{list_any}
 use Rattle.order_bound.specs.declared.pairs.Pair.{Pair}
 use Rattle.order_bound.specs.Pairs.{is_pair, has_pair, pair_in, pairs_of}
-use Rattle.order_bound.specs.Decided.{decided_sum}
 use Rattle.order_bound.specs.Bounds.{pair_bound}
 use Rattle.part_bounds.specs.declared.pair_terms.PairTerms.{PairTerms}
+use Rattle.part_bounds.specs.Settled.{counted_sum}
 
 -- a pair with terms
 abbrev pub Group : Type 0
@@ -56,9 +56,9 @@ with_pair p groups = if has_pair (map (λ (g : Group). g.0) groups) p then group
 abbrev pub with_term_at : ℕ → ℕ × Term → List Group → List Group
 with_term_at k t groups = slice_set groups k ((slice_index_or groups k no_group).0, (slice_index_or groups k no_group).1 ++ t ∷ [])
 
--- what a pair adds to the bound: its decided terms, and the least that it costs on the part where it is open
+-- what a pair adds to the bound beside its Aparts: its decided terms, and the least that it costs on the part where it is open
 abbrev pub share_of : List (List LineId) → List SegId → List (List LineId) → Group → ℕ
-share_of segs part placed g = decided_sum segs placed g.1 + pair_bound segs placed part g.1 g.0
+share_of segs part placed g = counted_sum segs placed g.1 + pair_bound segs placed part g.1 g.0
 
 -- the term has an end on the segment
 abbrev pub is_end : SegId → Term → Bool

@@ -5,9 +5,13 @@ use Rattle.order_model.specs.declared.problem.ProblemParts.{ProblemParts}
 use Rattle.order_model.specs.PartTerms.{part_terms, part_numbers}
 use Rattle.order_model.specs.Parts.{IsRisingPart}
 use Rattle.order_model.specs.Prefixes.{Placement, IsPrefixOf}
+use Rattle.order_model.specs.declared.term.Term.{Term}
+use Rattle.order_model.specs.Problems.{IsTerm}
+use Rattle.part_bounds.specs.declared.aparts.Aparts.{Aparts}
 use Rattle.part_bounds.specs.declared.one_pair.Room.{Room}
 use Rattle.part_bounds.specs.declared.pair_terms.PairTerms.{PairTerms}
 use Rattle.part_bounds.specs.PairGroups.{Group, KnowsOwn, groups_of, groups_in, no_group, meets, terms_in, share_of, IsGroup}
+use Rattle.part_bounds.specs.Settled.{AreSettled}
 use Rattle.part_bounds.specs.Slots.{HasRoom}
 
 -- there is room for each of these pairs
@@ -30,8 +34,9 @@ pub record IsTrialSum (due : Group → ℕ) (s : SegId) (count : ℕ) (groups : 
   pub are : AreSharesBut due s count groups anew total
   pub later : (k : ℕ) → count ≤ k → slice_index anew k ≡ slice_index shares k
 
--- the numbers of a part's terms, and its pairs with what each adds to the bound of a prefix, and the sum; with room for so many shares
-pub record IsKeptUp (problem : ProblemParts) (part : List SegId) (numbers : List ℕ) (prefix : Placement) (pairs : List PairTerms) (shares : List ℕ) (places total : ℕ) (room : Room) : Type 0 where
+-- the numbers of a part's terms, and its pairs with what each adds to the bound of a prefix, and the sum, with room for so many
+-- shares; and its Aparts
+pub record IsKeptUp (problem : ProblemParts) (part : List SegId) (numbers : List ℕ) (prefix : Placement) (pairs : List PairTerms) (shares : List ℕ) (places total : ℕ) (room : Room) (aparts : Aparts) : Type 0 where
   pub fits : IsPrefixOf problem.segs prefix
   pub known : All (λ (s : SegId). s.0 < length problem.segs) part
   pub rises : IsRisingPart part
@@ -44,3 +49,6 @@ pub record IsKeptUp (problem : ProblemParts) (part : List SegId) (numbers : List
   pub total_is : total ≡ sum_by (share_of problem.segs part prefix.placed) (groups_in pairs)
   pub enough : length pairs ≤ places
   pub has_room : HasRoomFor part (groups_in pairs) room
+  pub known_terms : All (λ (t : ℕ × Term). IsTerm problem.segs t.1) (part_terms problem.terms part)
+  pub few_terms : length (part_terms problem.terms part) ≤ 4000000
+  pub settled : AreSettled problem.segs prefix.placed (part_terms problem.terms part) aparts

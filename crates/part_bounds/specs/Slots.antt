@@ -10,7 +10,6 @@ use Rattle.part_bounds.specs.declared.term_look.TermLook.{TermLook}
 use Rattle.part_bounds.specs.declared.term_look.TermLook.TheVariants.{Decided, OnSegment, Between}
 use Rattle.map_base.specs.declared.ids.LineId.{LineId}
 use Rattle.order_model.specs.declared.term.Term.{Term}
-use Rattle.order_bound.specs.Decided.{decided_cost}
 use Rattle.order_bound.specs.Bounds.{slot_cost}
 use Rattle.order_bound.specs.Pairs.{labels_after, kept, open_links}
 use Rattle.order_bound.specs.declared.pairs.Pair.{Pair}
@@ -18,6 +17,7 @@ use Rattle.order_bound.specs.declared.pairs.OpenLink.{OpenLink}
 use Rattle.order_bound.specs.Values.{share}
 use Rattle.order_bound.specs.CanonicalPrices.{price_for}
 use Rattle.order_bound.specs.declared.pairs.ChildLink.{ChildLink}
+use Rattle.part_bounds.specs.Settled.{counted_cost}
 
 -- the slot of a segment, by its label and by what it costs by the answer there
 abbrev pub slot_at : (ℕ → ℕ) → (SegId → Bool → ℤ) → SegId → Slot
@@ -87,10 +87,10 @@ with_children (c ∷ later) slots = with_child c (with_children later slots)
 abbrev pub slot_least : Slot → ℤ
 slot_least slot = int_min slot.lesser_first slot.greater_first
 
--- what these terms of a pair make of it, that is open on these segments: what they cost where they are decided, its slots,
+-- what these terms of a pair make of it, that is open on these segments: what its decided Sides and Links cost, its slots,
 -- and its kept Links
 pub record IsCollected (segs placed : List (List LineId)) (p : Pair) (open_segs : List SegId) (done : List (ℕ × Term)) (base : ℕ) (slots : List Slot) (links : List OpenLink) : Type 0 where
-  pub base_is : base ≡ sum_by (λ (t : ℕ × Term). decided_cost segs placed t.1) done
+  pub base_is : base ≡ sum_by (λ (t : ℕ × Term). counted_cost segs placed t.1) done
   pub slots_are : slots ≡ slots_of (labels_after (λ s. s) links) (slot_cost placed done p) open_segs
   pub links_are : links ≡ kept (λ s. s) (open_links placed p done)
 

@@ -1,20 +1,15 @@
 -- What a term of a pair of lines is where a prefix stands.
-use Rattle.std.specs.Prelude.{ℕ, ◌+◌, ◌==◌, nat_lt, Bool, true, false, List, [], ◌∷◌, length, Option, Some, None, if◌then◌else◌}
+use Rattle.std.specs.Prelude.{ℕ, ◌==◌, nat_lt, Bool, true, false, List, [], ◌∷◌, if◌then◌else◌}
 use Rattle.map_base.specs.declared.ids.SegId.{SegId}
 use Rattle.map_base.specs.declared.ids.LineId.{LineId}
 use Rattle.order_model.specs.declared.term.Term.{Term}
 use Rattle.order_model.specs.declared.term.Term.TheVariants as term
 use Rattle.order_model.specs.Problems.{lines_on}
 use Rattle.order_model.specs.Costs.{comes_before, same_answer}
-use Rattle.order_model.specs.Looks.{is_decided, neighbours_on}
+use Rattle.order_model.specs.Looks.{is_decided}
 use Rattle.part_bounds.specs.declared.term_look.TermLook.{TermLook}
 use Rattle.part_bounds.specs.declared.term_look.TermLook.TheVariants.{Decided, OnSegment, Between}
-use Rattle.order_bound.specs.Decided.{apart_cost}
 use Rattle.order_bound.specs.declared.pairs.OpenLink.{OpenLink}
-
--- whether two lines that are not placed are neighbours, where that is settled
-abbrev pub both_unplaced : List LineId → List LineId → Option Bool
-both_unplaced lines placed = if length placed + 2 == length lines then Some true else None
 
 -- what a Link costs by whether its first line stands first on each of its segments
 abbrev pub link_by : Bool → ℕ → Bool → Bool → ℕ
@@ -37,17 +32,13 @@ link_look placed l a b =
     then OnSegment l.seg (link_by l.flip l.weight true (comes_before (lines_on placed l.other) a b)) (link_by l.flip l.weight false (comes_before (lines_on placed l.other) a b))
     else Between l)
 
--- what an Apart is: decided, at no cost where it is not settled
-abbrev pub apart_look : List (List LineId) → List (List LineId) → SegId → SegId → LineId → LineId → ℕ → TermLook
-apart_look segs placed seg other a b w =
-    Decided (apart_cost w (neighbours_on (lines_on segs seg) (lines_on placed seg) a b) (neighbours_on (lines_on segs other) (lines_on placed other) a b))
-
+-- what a term is; an Apart is not counted for its pair
 abbrev pub look_of : List (List LineId) → List (List LineId) → ℕ → Term → TermLook
 look_of segs placed k (term.Side seg first second w) = side_look placed seg first second w
 look_of segs placed k (term.Link seg other flip a b w) = link_look placed (record { number = k; seg = seg; other = other; flip = flip; weight = w }) a b
-look_of segs placed k (term.Apart seg other a b w) = apart_look segs placed seg other a b w
+look_of segs placed k (term.Apart seg other a b w) = Decided 0
 
--- what a look adds to the decided terms
+-- what a look adds to what is decided
 abbrev pub look_decided : TermLook → ℕ
 look_decided (Decided cost) = cost
 look_decided (OnSegment seg lesser_first greater_first) = 0

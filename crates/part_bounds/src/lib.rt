@@ -5,6 +5,7 @@
 //! the bound and the prices are those of order_bound's definitions.
 #![tactic(auto)]
 
+mod aparts;
 mod child_prices;
 mod collecting;
 mod noted_prices;

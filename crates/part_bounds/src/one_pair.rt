@@ -9,7 +9,6 @@ ghost use Rattle.order_model.specs.PartTerms.{is_of};
 ghost use Rattle.order_model.specs.Prefixes.{IsPrefixOf};
 ghost use Rattle.part_bounds.specs.declared.slots.Slot.{Slot};
 ghost use Rattle.order_bound.specs.Pairs.{pair_in, open_segments, kept_links};
-ghost use Rattle.order_bound.specs.Decided.{decided_sum};
 ghost use Rattle.order_bound.specs.Bounds.{pair_bound};
 ghost use Rattle.order_bound.specs.Pairs.{AreApartSegments};
 ghost use Rattle.order_bound.specs.Values.{int_sum};
@@ -17,6 +16,7 @@ ghost use Rattle.order_bound.specs.CanonicalPrices.{children_of, pair_prices};
 ghost use Rattle.order_bound.specs.declared.pairs.ChildLink.{ChildLink};
 ghost use Rattle.part_bounds.specs.Slots.{slot_least, IsSmall, IsCollected, HasRoom, KeepsRoom};
 ghost use Rattle.part_bounds.specs.PriceNotes.{price_noted, price_over};
+ghost use Rattle.part_bounds.specs.Settled.{counted_sum};
 
 use crate::child_prices::{least_sum, note_children, price_children};
 use crate::collecting::collect;
@@ -127,7 +127,7 @@ fn price_pair(
     requires mine { All (λ (t : ℕ × Term). pair ≡ pair_in t.1) terms.now }
     requires few { length terms.now ≤ 4000000 }
     requires room { HasRoom (length part.now) (length terms.now) room.old }
-    ensures decided { result ≡ decided_sum problem.now.segs prefix.now.placed terms.now }
+    ensures decided { result ≡ counted_sum problem.now.segs prefix.now.placed terms.now }
     ensures least { int_sum slot_least room.new.slots.items ≡ pos (pair_bound problem.now.segs prefix.now.placed part.now terms.now pair) }
     ensures small { All (IsSmall (2 ^ 43)) room.new.slots.items }
     ensures room { KeepsRoom room.old room.new }
@@ -182,7 +182,7 @@ pub(crate) fn bound_of_pair(
     requires mine { All (λ (t : ℕ × Term). pair ≡ pair_in t.1) terms.now }
     requires few { length terms.now ≤ 4000000 }
     requires room { HasRoom (length part.now) (length terms.now) room.old }
-    ensures bound { result ≡ decided_sum problem.now.segs prefix.now.placed terms.now + pair_bound problem.now.segs prefix.now.placed part.now terms.now pair }
+    ensures bound { result ≡ counted_sum problem.now.segs prefix.now.placed terms.now + pair_bound problem.now.segs prefix.now.placed part.now terms.now pair }
     ensures small { result ≤ 1024000 * length terms.now }
     ensures room { KeepsRoom room.old room.new }
 {

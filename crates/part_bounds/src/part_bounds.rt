@@ -12,6 +12,7 @@ ghost use Rattle.order_bound.specs.Bounds.{bound_of};
 ghost use Rattle.order_bound.specs.CanonicalPrices.{prices_for};
 ghost use Rattle.part_bounds.specs.PartStates.{state_more, with_placed, IsWell};
 
+use crate::aparts::{Aparts, aparts_by_end, moved, settled_on, settled_total};
 use crate::one_pair::Room;
 use crate::pair_terms::{PairTerms, find_segments, most_terms, pairs_of};
 use crate::prices::prices_of;
@@ -33,11 +34,13 @@ pub struct PartBounds<'a> {
     prefix: Prefix,
     /// The pairs of lines of the part's terms.
     pairs: Vec<PairTerms>,
-    /// What each pair adds to the bound.
+    /// What each pair adds to the bound beside its Aparts.
     shares: Vec<u64>,
-    /// The bound.
+    /// The sum of these.
     total: u64,
     room: Room,
+    /// The part's Aparts, with what the settled ones add to the bound.
+    aparts: Aparts,
 }
 
 impl<'a> Model for PartBounds<'a> {
@@ -50,7 +53,7 @@ impl<'a> Model for PartBounds<'a> {
 
     ghost view = { λ b. record { segs = b.problem.now.segs; part = b.part.now; terms = part_terms b.problem.now.terms b.part.now; placed = b.prefix.placed } };
 
-    ghost invariant = { λ b. IsKeptUp b.problem.now b.part.now b.numbers.now b.prefix b.pairs.items b.shares.items (vec_capacity b.shares) b.total b.room };
+    ghost invariant = { λ b. IsKeptUp b.problem.now b.part.now b.numbers.now b.prefix b.pairs.items b.shares.items (vec_capacity b.shares) b.total b.room b.aparts };
 }
 
 impl<'a> PartBounds<'a> {
@@ -83,6 +86,8 @@ impl<'a> PartBounds<'a> {
             &mut shares,
             &mut room,
         );
+        let lists = aparts_by_end(alloc, problem, numbers)?;
+        let settled = settled_total(problem, &prefix, numbers);
         Ok(PartBounds {
             problem,
             part,
@@ -92,6 +97,10 @@ impl<'a> PartBounds<'a> {
             shares,
             total,
             room,
+            aparts: Aparts {
+                lists,
+                total: settled,
+            },
         })
     }
 
@@ -99,7 +108,7 @@ impl<'a> PartBounds<'a> {
     pub fn bound(&self) -> u64
         ensures { result ≡ bound_of self.now.segs self.now.part self.now.terms self.now.placed }
     {
-        self.total
+        self.total + self.aparts.total
     }
 
     /// The bound once a line of a segment is placed next, and the one that is then left there alone; neither is.
@@ -113,8 +122,10 @@ impl<'a> PartBounds<'a> {
         ensures bound { result ≡ bound_of self.old.segs self.old.part self.old.terms (placed_more self.old.segs self.old.placed seg line) }
         ensures kept { self.new ≡ self.old }
     {
+        let before = settled_on(self.problem, &self.prefix, &self.aparts, seg);
         self.prefix.place(self.problem, seg, line);
-        let bound = sum_anew(
+        let after = settled_on(self.problem, &self.prefix, &self.aparts, seg);
+        let total = sum_anew(
             self.problem,
             &self.prefix,
             self.part,
@@ -125,7 +136,7 @@ impl<'a> PartBounds<'a> {
             &mut self.room,
         );
         self.prefix.take_back(self.problem, seg);
-        bound
+        total + moved(self.aparts.total, before, after)
     }
 
     /// The canonical prices of the placed lines, by the numbers of their terms in the problem.
@@ -168,7 +179,10 @@ impl<'a> PartBounds<'a> {
         ensures state { self.new ≡ state_more self.old seg line }
         ensures well { IsWell self.new.segs self.new.placed }
     {
+        let before = settled_on(self.problem, &self.prefix, &self.aparts, seg);
         self.prefix.place(self.problem, seg, line);
+        let after = settled_on(self.problem, &self.prefix, &self.aparts, seg);
+        self.aparts.total = moved(self.aparts.total, before, after);
         self.total = renew_shares(
             self.problem,
             &self.prefix,
@@ -189,7 +203,10 @@ impl<'a> PartBounds<'a> {
         ensures state { self.new ≡ with_placed self.old (slice_set self.old.placed seg.0 (without_last (lines_on self.old.segs seg) (lines_on self.old.placed seg))) }
         ensures well { IsWell self.new.segs self.new.placed }
     {
+        let before = settled_on(self.problem, &self.prefix, &self.aparts, seg);
         self.prefix.take_back(self.problem, seg);
+        let after = settled_on(self.problem, &self.prefix, &self.aparts, seg);
+        self.aparts.total = moved(self.aparts.total, before, after);
         self.total = renew_shares(
             self.problem,
             &self.prefix,

@@ -1,10 +1,9 @@
 //! What a term of a pair of lines is where a prefix stands.
 
-ghost use Rattle.std.specs.Prelude.{◌≡◌, ◌<◌, Some};
+ghost use Rattle.std.specs.Prelude.{◌≡◌, ◌<◌};
 ghost use Rattle.order_model.specs.Problems.{IsTerm, IsSide, IsPair};
 ghost use Rattle.order_model.specs.Prefixes.{IsPrefixOf};
-ghost use Rattle.order_bound.specs.Decided.{apart_cost};
-ghost use Rattle.part_bounds.specs.TermLooks.{link_by, side_look, link_look, apart_look, look_of};
+ghost use Rattle.part_bounds.specs.TermLooks.{link_by, side_look, link_look, look_of};
 
 use map_base::{LineId, SegId};
 use order_bound::OpenLink;
@@ -25,7 +24,7 @@ pub enum TermLook {
     Between(OpenLink),
 }
 
-/// What a term of a problem is for its pair of lines.
+/// What a term of a problem is for its pair of lines. An Apart is none of its pair's, as others than its lines settle it.
 pub(crate) fn look_at(problem: &Problem, prefix: &Prefix, number: u32, term: Term) -> TermLook
     requires fits { IsPrefixOf problem.now.segs prefix.now }
     requires term { IsTerm problem.now.segs term }
@@ -55,13 +54,7 @@ pub(crate) fn look_at(problem: &Problem, prefix: &Prefix, number: u32, term: Ter
             };
             link_look(problem, prefix, link, a, b)
         }
-        Term::Apart {
-            seg,
-            other,
-            a,
-            b,
-            w,
-        } => apart_look(problem, prefix, seg, other, a, b, w),
+        Term::Apart { .. } => TermLook::Decided(0),
     }
 }
 
@@ -141,38 +134,5 @@ fn link_look(problem: &Problem, prefix: &Prefix, link: OpenLink, a: LineId, b: L
             let there = prefix.comes_before(problem, link.other, a, b);
             TermLook::Decided(link_by(link, here, there))
         }
-    }
-}
-
-/// What an Apart is.
-fn apart_look(
-    problem: &Problem,
-    prefix: &Prefix,
-    seg: SegId,
-    other: SegId,
-    a: LineId,
-    b: LineId,
-    w: u32,
-) -> TermLook
-    requires fits { IsPrefixOf problem.now.segs prefix.now }
-    requires lines { IsPair problem.now.segs seg other a b w }
-    ensures { result ≡ apart_look problem.now.segs prefix.now.placed seg other a b w }
-{
-    match prefix.neighbours(problem, seg, a, b) {
-        None => TermLook::Decided(0),
-        Some(here) => {
-            let there = prefix.neighbours(problem, other, a, b);
-            TermLook::Decided(apart_cost(w, here, there))
-        }
-    }
-}
-
-/// What an Apart costs whose lines are neighbours on its first segment or aren't, where that is settled on its other too.
-fn apart_cost(w: u32, here: bool, there: Option<bool>) -> u32
-    ensures { result ≡ apart_cost w (Some here) there }
-{
-    match there {
-        Some(there) => { if here == there { 0 } else { w } }
-        None => 0,
     }
 }

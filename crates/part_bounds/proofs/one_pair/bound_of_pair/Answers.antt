@@ -5,7 +5,7 @@ use lib.Dec.{T}
 use lib.Signed.{non_neg}
 use lib.IntN.{nat_abs}
 use Rattle.order_bound.specs.Values.{int_sum}
-use Rattle.order_bound.specs.Decided.{decided_sum}
+use Rattle.part_bounds.specs.Settled.{counted_sum}
 use Rattle.order_bound.specs.Bounds.{pair_bound}
 use Rattle.part_bounds.specs.Slots.{slot_least}
 use Rattle.part_bounds.proofs.PairCosts.{share_small}
@@ -24,7 +24,7 @@ least_is : (c : goal.After-least_sum-least) → to_z w128 (of_z w128 c.least_sum
 least_is c =
     to_z-of_z w128 c.least_sum-least.result (search rules) ∙ (c.least_sum-least.ensures ∙ (ap (int_sum slot_least) c.as_slice.ensures.value ∙ c.price_pair-decided.ensures.least))
 
-small : (c : goal.After-least_sum-least) → decided_sum c.args.problem.now.segs c.args.prefix.now.placed c.args.terms.now + least c ≤ 1024000 * length c.args.terms.now
+small : (c : goal.After-least_sum-least) → counted_sum c.args.problem.now.segs c.args.prefix.now.placed c.args.terms.now + least c ≤ 1024000 * length c.args.terms.now
 small c = share_small c.args.problem.now.segs c.args.prefix.now.placed c.args.part.now c.args.pair c.args.terms.now c.requires.apart c.requires.known c.requires.inside
 
 pub overflow_cast-result : goal.overflow_cast-result
@@ -36,7 +36,7 @@ returns-clause-bound c = ap (λ z. c.price_pair-decided.result + nat_abs z) (lea
 
 pub overflow_add-result : goal.overflow_add-result
 overflow_add-result c =
-    subst (Fits w64) (sym (returns-clause-bound c)) (fits_one (decided_sum c.args.problem.now.segs c.args.prefix.now.placed c.args.terms.now + least c) (let most = small c in omega (arith, most, c.requires.few)))
+    subst (Fits w64) (sym (returns-clause-bound c)) (fits_one (counted_sum c.args.problem.now.segs c.args.prefix.now.placed c.args.terms.now + least c) (let most = small c in omega (arith, most, c.requires.few)))
 
 pub returns-clause-small : goal.returns-clause-small
 returns-clause-small c = subst (λ n. n ≤ 1024000 * length c.args.terms.now) (sym (returns-clause-bound c)) (small c)

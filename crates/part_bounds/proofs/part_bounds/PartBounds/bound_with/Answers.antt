@@ -1,11 +1,11 @@
-use Rattle.std.proofs.Common.{◌≡◌, ap, sym, subst, ◌∙◌, ◌<◌, List, length, map, set, arith}
+use Rattle.std.proofs.Common.{◌≡◌, ◌+◌, ◌<◌, ◌≤◌, List, length, map, set, ap, sym, subst, ◌∙◌, arith, rules}
 use Rattle.order_model.specs.Problems.{lines_on}
 use Rattle.order_model.specs.Prefixes.{without_last}
 use Rattle.std.specs.Prelude.{sum_by}
 use Rattle.std.specs.Vec.{vec_capacity}
 use Rattle.order_bound.proofs.Parts.{rising_apart}
 use Rattle.part_bounds.specs.declared.pair_terms.PairTerms.{PairTerms}
-use Rattle.part_bounds.specs.PairGroups.{KnowsOwn, groups_in, share_of, IsGroup}
+use Rattle.part_bounds.specs.PairGroups.{KnowsOwn, groups_in, terms_in, share_of, IsGroup}
 use Rattle.part_bounds.specs.Shares.{HasRoomFor}
 use Rattle.std.specs.List.{All}
 use Rattle.graph_core.specs.Consistent.{AreRising}
@@ -13,21 +13,52 @@ use Rattle.order_model.specs.PartTerms.{part_terms}
 use Rattle.order_model.specs.Completions.{placed_more}
 use Rattle.order_bound.specs.Bounds.{bound_of}
 use Rattle.part_bounds.specs.PartStates.{PartState, IsWell}
-use Rattle.part_bounds.proofs.OwnTerms.{shares_bound}
-use Rattle.part_bounds.proofs.KeptUp.{kept_up}
+use Rattle.part_bounds.proofs.KeptUp.{kept_up, list_here, list_known, list_few, whole_small, whole_bound}
 use Rattle.part_bounds.proofs.Restored.{taken_back}
+use Rattle.part_bounds.proofs.ApartLists.{total_low, total_most, total_next}
+use Rattle.part_bounds.specs.Settled.{settled_sum, AreSettled}
 use Rattle.part_bounds.proofs.Renewed.{moved_on, stale_on}
 use Rattle.part_bounds.proofs.part_bounds.PartBounds.bound_with.Goals as goal
 
-pub sum_anew-bound-requires-clause-apart : goal.sum_anew-bound-requires-clause-apart
-sum_anew-bound-requires-clause-apart c = rising_apart c.self.inside.part.now c.self.invariant.rises
+pub settled_on-before-requires-clause-here : goal.settled_on-before-requires-clause-here
+settled_on-before-requires-clause-here c = list_here c.self.inside.problem.now.segs c.self.inside.prefix.placed c.args.seg (part_terms c.self.inside.problem.now.terms c.self.inside.part.now) c.self.inside.aparts c.self.invariant.settled (subst (λ (b : PartState). c.args.seg.0 < length b.segs) (sym c.self.view_is) c.requires.known)
 
-pub sum_anew-bound-requires-clause-room : goal.sum_anew-bound-requires-clause-room
-sum_anew-bound-requires-clause-room c =
+pub settled_on-before-requires-clause-known : goal.settled_on-before-requires-clause-known
+settled_on-before-requires-clause-known c =
+    list_known c.self.inside.problem.now.segs c.self.inside.prefix.placed c.args.seg (part_terms c.self.inside.problem.now.terms c.self.inside.part.now) c.self.inside.aparts c.self.invariant.settled (subst (λ (b : PartState). c.args.seg.0 < length b.segs) (sym c.self.view_is) c.requires.known) c.self.invariant.known_terms
+
+pub settled_on-before-requires-clause-few : goal.settled_on-before-requires-clause-few
+settled_on-before-requires-clause-few c =
+    list_few c.self.inside.problem.now.segs c.self.inside.prefix.placed c.args.seg (part_terms c.self.inside.problem.now.terms c.self.inside.part.now) c.self.inside.aparts c.self.invariant.settled (subst (λ (b : PartState). c.args.seg.0 < length b.segs) (sym c.self.view_is) c.requires.known) c.self.invariant.few_terms
+
+pub settled_on-after-requires-clause-here : goal.settled_on-after-requires-clause-here
+settled_on-after-requires-clause-here c = list_here c.self.inside.problem.now.segs c.self.inside.prefix.placed c.args.seg (part_terms c.self.inside.problem.now.terms c.self.inside.part.now) c.self.inside.aparts c.self.invariant.settled (subst (λ (b : PartState). c.args.seg.0 < length b.segs) (sym c.self.view_is) c.requires.known)
+
+pub settled_on-after-requires-clause-known : goal.settled_on-after-requires-clause-known
+settled_on-after-requires-clause-known c =
+    list_known c.self.inside.problem.now.segs c.self.inside.prefix.placed c.args.seg (part_terms c.self.inside.problem.now.terms c.self.inside.part.now) c.self.inside.aparts c.self.invariant.settled (subst (λ (b : PartState). c.args.seg.0 < length b.segs) (sym c.self.view_is) c.requires.known) c.self.invariant.known_terms
+
+pub settled_on-after-requires-clause-few : goal.settled_on-after-requires-clause-few
+settled_on-after-requires-clause-few c =
+    list_few c.self.inside.problem.now.segs c.self.inside.prefix.placed c.args.seg (part_terms c.self.inside.problem.now.terms c.self.inside.part.now) c.self.inside.aparts c.self.invariant.settled (subst (λ (b : PartState). c.args.seg.0 < length b.segs) (sym c.self.view_is) c.requires.known) c.self.invariant.few_terms
+
+pub moved-requires-clause-low : goal.moved-requires-clause-low
+moved-requires-clause-low c =
+    total_low c.self.inside.problem.now.segs c.self.inside.prefix.placed c.args.seg (part_terms c.self.inside.problem.now.terms c.self.inside.part.now) c.self.inside.aparts c.settled_on-before.result c.self.invariant.settled (subst (λ (b : PartState). c.args.seg.0 < length b.segs) (sym c.self.view_is) c.requires.known) c.settled_on-before.ensures.value
+
+pub moved-requires-clause-most : goal.moved-requires-clause-most
+moved-requires-clause-most c =
+    total_most c.self.inside.problem.now.segs c.self.inside.prefix.placed (part_terms c.self.inside.problem.now.terms c.self.inside.part.now) c.self.inside.aparts c.self.invariant.settled c.self.invariant.known_terms c.self.invariant.few_terms
+
+pub sum_anew-total-requires-clause-apart : goal.sum_anew-total-requires-clause-apart
+sum_anew-total-requires-clause-apart c = rising_apart c.self.inside.part.now c.self.invariant.rises
+
+pub sum_anew-total-requires-clause-room : goal.sum_anew-total-requires-clause-room
+sum_anew-total-requires-clause-room c =
     subst (λ (l : List PairTerms). HasRoomFor c.self.inside.part.now (groups_in l) c.self.inside.room) (sym c.as_slice.ensures.value) c.self.invariant.has_room
 
-pub sum_anew-bound-requires-clause-stale : goal.sum_anew-bound-requires-clause-stale
-sum_anew-bound-requires-clause-stale c =
+pub sum_anew-total-requires-clause-stale : goal.sum_anew-total-requires-clause-stale
+sum_anew-total-requires-clause-stale c =
     let f = share_of c.self.inside.problem.now.segs c.self.inside.part.now c.self.inside.prefix.placed in
     let slice : c.as_slice.result.now ≡ c.self.inside.pairs.items = c.as_slice.ensures.value in
     stale_on c.self.inside.problem.now.segs c.self.inside.prefix.placed c.place.new.self.placed c.self.inside.part.now c.args.seg (groups_in c.as_slice.result.now) c.self.inside.shares.items c.self.inside.total
@@ -36,8 +67,8 @@ sum_anew-bound-requires-clause-stale c =
     (moved_on c.self.inside.prefix.placed c.place.new.self.placed c.args.seg _ c.place.ensures.placed)
     (c.self.invariant.shares_are ∙ ap (λ l. map f (groups_in l)) (sym slice)) (c.self.invariant.total_is ∙ ap (λ l. sum_by f (groups_in l)) (sym slice))
 
-pub sum_anew-bound-requires-clause-own : goal.sum_anew-bound-requires-clause-own
-sum_anew-bound-requires-clause-own c = subst (All (KnowsOwn c.self.inside.part.now)) (sym c.as_slice.ensures.value) c.self.invariant.own
+pub sum_anew-total-requires-clause-own : goal.sum_anew-total-requires-clause-own
+sum_anew-total-requires-clause-own c = subst (All (KnowsOwn c.self.inside.part.now)) (sym c.as_slice.ensures.value) c.self.invariant.own
 
 pub invariant_of-self : goal.invariant_of-self
 invariant_of-self c =
@@ -47,15 +78,28 @@ invariant_of-self c =
     ∙ taken_back segs c.self.inside.prefix.placed c.args.seg c.args.line (subst (λ (b : PartState). IsWell b.segs b.placed) (sym c.self.view_is) c.requires.well)
     (subst (λ (b : PartState). c.args.seg.0 < length b.segs) (sym c.self.view_is) c.requires.known) (subst (λ (b : PartState). All AreRising b.segs) (sym c.self.view_is) c.requires.rising)) in
     kept_up c.self.inside.problem.now c.self.inside.part.now c.self.inside.numbers.now c.self.inside.prefix c.take_back.new.self c.self.inside.pairs.items c.self.inside.shares.items c.self.inside.shares.items
-    (vec_capacity c.self.inside.shares) (vec_capacity c.self.inside.shares) c.self.inside.total c.self.inside.total c.self.inside.room c.sum_anew-bound.new.room
+    (vec_capacity c.self.inside.shares) (vec_capacity c.self.inside.shares) c.self.inside.total c.self.inside.total c.self.inside.room c.sum_anew-total.new.room c.self.inside.aparts c.self.inside.aparts
     c.self.invariant c.take_back.ensures.fits (c.self.invariant.shares_are ∙ ap (λ l. map (share_of segs c.self.inside.part.now l) (groups_in c.self.inside.pairs.items)) (sym back))
-    (c.self.invariant.total_is ∙ ap (λ l. sum_by (share_of segs c.self.inside.part.now l) (groups_in c.self.inside.pairs.items)) (sym back)) (omega arith) c.sum_anew-bound.ensures.room
+    (c.self.invariant.total_is ∙ ap (λ l. sum_by (share_of segs c.self.inside.part.now l) (groups_in c.self.inside.pairs.items)) (sym back)) (omega arith) c.sum_anew-total.ensures.room
+    (subst (λ l. AreSettled segs l (part_terms c.self.inside.problem.now.terms c.self.inside.part.now) c.self.inside.aparts) (sym back) c.self.invariant.settled)
+
+settled_is : (c : goal.After-moved) → c.moved.result ≡ settled_sum c.self.inside.problem.now.segs c.place.new.self.placed (part_terms c.self.inside.problem.now.terms c.self.inside.part.now)
+settled_is c =
+    total_next c.self.inside.problem.now.segs c.self.inside.prefix.placed c.place.new.self.placed c.args.seg (part_terms c.self.inside.problem.now.terms c.self.inside.part.now) c.self.inside.aparts c.settled_on-before.result c.settled_on-after.result c.self.invariant.settled (subst (λ (b : PartState). c.args.seg.0 < length b.segs) (sym c.self.view_is) c.requires.known)
+    (moved_on c.self.inside.prefix.placed c.place.new.self.placed c.args.seg _ c.place.ensures.placed) c.settled_on-before.ensures.value c.settled_on-after.ensures.value c.moved.result c.moved.ensures
+
+pub overflow_add-result : goal.overflow_add-result
+overflow_add-result c =
+    let most : c.sum_anew-total.result + c.moved.result ≤ 8192000000000 = whole_small c.self.inside.problem.now.segs c.place.new.self.placed c.self.inside.part.now (part_terms c.self.inside.problem.now.terms c.self.inside.part.now) (groups_in c.as_slice.result.now) c.sum_anew-total.result c.moved.result
+    (rising_apart c.self.inside.part.now c.self.invariant.rises) (subst (λ (l : List PairTerms). All (IsGroup c.self.inside.problem.now.segs c.self.inside.part.now) (groups_in l)) (sym c.as_slice.ensures.value) c.self.invariant.groups)
+    (subst (λ (l : List PairTerms). sum_by terms_in (groups_in l) ≤ 4000000) (sym c.as_slice.ensures.value) c.self.invariant.few) c.self.invariant.known_terms c.self.invariant.few_terms c.sum_anew-total.ensures.total (settled_is c) in
+    search rules
 
 pub returns-clause-bound : goal.returns-clause-bound
 returns-clause-bound c =
     let segs = c.self.inside.problem.now.segs in
     let part = c.self.inside.part.now in
     let terms = part_terms c.self.inside.problem.now.terms part in
-    c.sum_anew-bound.ensures.total ∙ (ap (sum_by (share_of segs part c.place.new.self.placed)) (ap groups_in c.as_slice.ensures.value ∙ c.self.invariant.grouped)
-    ∙ (shares_bound segs c.place.new.self.placed part terms ∙ (ap (bound_of segs part terms) c.place.ensures.placed
-    ∙ ap (λ (b : PartState). bound_of b.segs b.part b.terms (placed_more b.segs b.placed c.args.seg c.args.line)) c.self.view_is)))
+    whole_bound segs c.place.new.self.placed part terms (groups_in c.as_slice.result.now) c.sum_anew-total.result c.moved.result (ap groups_in c.as_slice.ensures.value ∙ c.self.invariant.grouped)
+    c.sum_anew-total.ensures.total (settled_is c) ∙ (ap (bound_of segs part terms) c.place.ensures.placed
+    ∙ ap (λ (b : PartState). bound_of b.segs b.part b.terms (placed_more b.segs b.placed c.args.seg c.args.line)) c.self.view_is)

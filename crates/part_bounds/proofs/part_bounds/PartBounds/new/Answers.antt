@@ -8,12 +8,27 @@ use Rattle.order_model.proofs.KeptTerms.{part_numbers_known, part_terms_by_numbe
 use Rattle.order_bound.proofs.Parts.{rising_apart}
 use Rattle.part_bounds.specs.declared.pair_terms.PairTerms.{PairTerms}
 use Rattle.part_bounds.specs.PairGroups.{Group, KnowsOwn, terms_in, groups_of, groups_in, share_of, IsGroup}
-use Rattle.part_bounds.proofs.KeptUp.{begun, part_groups, part_few, each_few, room_for}
+use Rattle.std.proofs.lemmas.List.{length-map}
+use Rattle.part_bounds.specs.Settled.{settled_sum, lists_in, AreByEnds}
+use Rattle.part_bounds.proofs.KeptUp.{begun, terms_few, part_groups, part_few, each_few, room_for}
 use Rattle.part_bounds.proofs.part_bounds.PartBounds.new.Goals as goal
 
 grouped : (terms : List Term) (part : List SegId) (numbers : List ℕ) (pairs slice : List PairTerms) → numbers ≡ part_numbers terms part → groups_in pairs ≡ groups_of (terms_by_number terms numbers) → slice ≡ pairs
     → groups_in slice ≡ groups_of (part_terms terms part)
 grouped terms part numbers pairs slice e1 e2 e3 = ap groups_in e3 ∙ (e2 ∙ ap groups_of (ap (terms_by_number terms) e1 ∙ part_terms_by_number part terms))
+
+mine : (terms : List Term) (part : List SegId) (numbers : List ℕ) → numbers ≡ part_numbers terms part → terms_by_number terms numbers ≡ part_terms terms part
+mine terms part numbers e = ap (terms_by_number terms) e ∙ part_terms_by_number part terms
+
+pub aparts_by_end-requires : goal.aparts_by_end-requires
+aparts_by_end-requires c = subst (All (λ n. n < length c.args.problem.now.terms)) (sym c.requires.numbers) (part_numbers_known c.args.part.now c.args.problem.now.terms)
+
+pub settled_total-settled-requires-clause-known : goal.settled_total-settled-requires-clause-known
+settled_total-settled-requires-clause-known c = subst (All (λ n. n < length c.args.problem.now.terms)) (sym c.requires.numbers) (part_numbers_known c.args.part.now c.args.problem.now.terms)
+
+pub settled_total-settled-requires-clause-few : goal.settled_total-settled-requires-clause-few
+settled_total-settled-requires-clause-few c =
+    omega (arith, ap length c.requires.numbers, length-map (part_terms c.args.problem.now.terms c.args.part.now) (λ (q : ℕ × Term). q.0), terms_few c.args.problem.now c.args.part.now c.pairs_of.ensures.fits)
 
 pub pairs_of-requires : goal.pairs_of-requires
 pairs_of-requires c = subst (All (λ n. n < length c.args.problem.now.terms)) (sym c.requires.numbers) (part_numbers_known c.args.part.now c.args.problem.now.terms)
@@ -45,9 +60,13 @@ pub invariant_of-result : goal.invariant_of-result
 invariant_of-result c =
     let f = share_of c.args.problem.now.segs c.args.part.now c.in_ok-prefix.prefix.placed in
     begun c.args.problem.now c.args.part.now c.args.numbers.now c.in_ok-prefix.prefix c.find_segments.new.pairs.items c.fill_shares-total.new.shares.items (vec_capacity c.in_ok-shares.shares) (vec_capacity c.fill_shares-total.new.shares)
-    c.fill_shares-total.result c.most_terms.result c.in_ok-room.room c.fill_shares-total.new.room c.in_ok-prefix.ensures.fits c.requires.known c.requires.rising c.pairs_of.ensures.fits c.requires.numbers
+    c.fill_shares-total.result c.most_terms.result c.in_ok-room.room c.fill_shares-total.new.room _ c.in_ok-prefix.ensures.fits c.requires.known c.requires.rising c.pairs_of.ensures.fits c.requires.numbers
     (grouped c.args.problem.now.terms c.args.part.now c.args.numbers.now c.find_segments.new.pairs.items c.find_segments.new.pairs.items c.requires.numbers (c.find_segments.ensures.same ∙ c.in_ok-pairs.ensures.grouped) refl)
     (c.fill_shares-total.ensures.shares ∙ ap (λ l. map f (groups_in l)) c.as_slice-2.ensures.value) (c.fill_shares-total.ensures.total ∙ ap (λ l. sum_by f (groups_in l)) c.as_slice-2.ensures.value)
     c.in_ok-find_segments.ensures.own
     (omega (arith, c.in_ok-shares.ensures.exact, c.len.ensures, c.find_segments.new.pairs.ok.0)) c.fill_shares-total.ensures.places
     (subst (λ (l : List PairTerms). All (λ (g : Group). terms_in g ≤ c.most_terms.result) (groups_in l)) c.as_slice.ensures.value c.most_terms.ensures.each) c.in_ok-room.ensures c.fill_shares-total.ensures.room
+    (record {
+      by_ends = subst (λ l. AreByEnds (length c.args.problem.now.segs) l (lists_in c.in_ok-lists.lists.items)) (mine c.args.problem.now.terms c.args.part.now c.args.numbers.now c.requires.numbers) c.in_ok-lists.ensures.by_ends;
+      total_is = c.settled_total-settled.ensures ∙ ap (settled_sum c.args.problem.now.segs c.in_ok-prefix.prefix.placed) (mine c.args.problem.now.terms c.args.part.now c.args.numbers.now c.requires.numbers);
+    })

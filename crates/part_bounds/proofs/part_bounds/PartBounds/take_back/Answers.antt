@@ -1,4 +1,4 @@
-use Rattle.std.proofs.Common.{◌≡◌, ap, sym, subst, ◌∙◌, List, map}
+use Rattle.std.proofs.Common.{◌≡◌, ◌<◌, List, length, map, refl, ap, sym, subst, ◌∙◌}
 use Rattle.std.specs.Prelude.{sum_by}
 use Rattle.std.specs.Vec.{vec_capacity}
 use Rattle.order_bound.proofs.Parts.{rising_apart}
@@ -6,9 +6,42 @@ use Rattle.part_bounds.specs.declared.pair_terms.PairTerms.{PairTerms}
 use Rattle.part_bounds.specs.PairGroups.{KnowsOwn, groups_in, share_of, IsGroup}
 use Rattle.part_bounds.specs.Shares.{HasRoomFor}
 use Rattle.std.specs.List.{All}
-use Rattle.part_bounds.proofs.KeptUp.{kept_up}
+use Rattle.part_bounds.specs.PartStates.{PartState}
+use Rattle.order_model.specs.PartTerms.{part_terms}
+use Rattle.part_bounds.proofs.KeptUp.{kept_up, list_here, list_known, list_few}
+use Rattle.part_bounds.proofs.ApartLists.{total_low, total_most, settled_next}
 use Rattle.part_bounds.proofs.Renewed.{moved_on, stale_on}
 use Rattle.part_bounds.proofs.part_bounds.PartBounds.take_back.Goals as goal
+
+pub settled_on-before-requires-clause-here : goal.settled_on-before-requires-clause-here
+settled_on-before-requires-clause-here c = list_here c.self.inside.problem.now.segs c.self.inside.prefix.placed c.args.seg (part_terms c.self.inside.problem.now.terms c.self.inside.part.now) c.self.inside.aparts c.self.invariant.settled (subst (λ (b : PartState). c.args.seg.0 < length b.segs) (sym c.self.view_is) c.requires.known)
+
+pub settled_on-before-requires-clause-known : goal.settled_on-before-requires-clause-known
+settled_on-before-requires-clause-known c =
+    list_known c.self.inside.problem.now.segs c.self.inside.prefix.placed c.args.seg (part_terms c.self.inside.problem.now.terms c.self.inside.part.now) c.self.inside.aparts c.self.invariant.settled (subst (λ (b : PartState). c.args.seg.0 < length b.segs) (sym c.self.view_is) c.requires.known) c.self.invariant.known_terms
+
+pub settled_on-before-requires-clause-few : goal.settled_on-before-requires-clause-few
+settled_on-before-requires-clause-few c =
+    list_few c.self.inside.problem.now.segs c.self.inside.prefix.placed c.args.seg (part_terms c.self.inside.problem.now.terms c.self.inside.part.now) c.self.inside.aparts c.self.invariant.settled (subst (λ (b : PartState). c.args.seg.0 < length b.segs) (sym c.self.view_is) c.requires.known) c.self.invariant.few_terms
+
+pub settled_on-after-requires-clause-here : goal.settled_on-after-requires-clause-here
+settled_on-after-requires-clause-here c = list_here c.self.inside.problem.now.segs c.self.inside.prefix.placed c.args.seg (part_terms c.self.inside.problem.now.terms c.self.inside.part.now) c.self.inside.aparts c.self.invariant.settled (subst (λ (b : PartState). c.args.seg.0 < length b.segs) (sym c.self.view_is) c.requires.known)
+
+pub settled_on-after-requires-clause-known : goal.settled_on-after-requires-clause-known
+settled_on-after-requires-clause-known c =
+    list_known c.self.inside.problem.now.segs c.self.inside.prefix.placed c.args.seg (part_terms c.self.inside.problem.now.terms c.self.inside.part.now) c.self.inside.aparts c.self.invariant.settled (subst (λ (b : PartState). c.args.seg.0 < length b.segs) (sym c.self.view_is) c.requires.known) c.self.invariant.known_terms
+
+pub settled_on-after-requires-clause-few : goal.settled_on-after-requires-clause-few
+settled_on-after-requires-clause-few c =
+    list_few c.self.inside.problem.now.segs c.self.inside.prefix.placed c.args.seg (part_terms c.self.inside.problem.now.terms c.self.inside.part.now) c.self.inside.aparts c.self.invariant.settled (subst (λ (b : PartState). c.args.seg.0 < length b.segs) (sym c.self.view_is) c.requires.known) c.self.invariant.few_terms
+
+pub moved-self-inside-requires-clause-low : goal.moved-self-inside-requires-clause-low
+moved-self-inside-requires-clause-low c =
+    total_low c.self.inside.problem.now.segs c.self.inside.prefix.placed c.args.seg (part_terms c.self.inside.problem.now.terms c.self.inside.part.now) c.self.inside.aparts c.settled_on-before.result c.self.invariant.settled (subst (λ (b : PartState). c.args.seg.0 < length b.segs) (sym c.self.view_is) c.requires.known) c.settled_on-before.ensures.value
+
+pub moved-self-inside-requires-clause-most : goal.moved-self-inside-requires-clause-most
+moved-self-inside-requires-clause-most c =
+    total_most c.self.inside.problem.now.segs c.self.inside.prefix.placed (part_terms c.self.inside.problem.now.terms c.self.inside.part.now) c.self.inside.aparts c.self.invariant.settled c.self.invariant.known_terms c.self.invariant.few_terms
 
 pub renew_shares-self-inside-requires-clause-apart : goal.renew_shares-self-inside-requires-clause-apart
 renew_shares-self-inside-requires-clause-apart c = rising_apart c.self.inside.part.now c.self.invariant.rises
@@ -34,6 +67,8 @@ pub invariant_of-self : goal.invariant_of-self
 invariant_of-self c =
     let f = share_of c.self.inside.problem.now.segs c.self.inside.part.now c.take_back.new.self.placed in
     kept_up c.self.inside.problem.now c.self.inside.part.now c.self.inside.numbers.now c.self.inside.prefix c.take_back.new.self c.self.inside.pairs.items c.self.inside.shares.items c.renew_shares-self-inside.new.shares.items
-    (vec_capacity c.self.inside.shares) (vec_capacity c.renew_shares-self-inside.new.shares) c.self.inside.total c.renew_shares-self-inside.result c.self.inside.room c.renew_shares-self-inside.new.room
+    (vec_capacity c.self.inside.shares) (vec_capacity c.renew_shares-self-inside.new.shares) c.self.inside.total c.renew_shares-self-inside.result c.self.inside.room c.renew_shares-self-inside.new.room c.self.inside.aparts _
     c.self.invariant c.take_back.ensures.fits (c.renew_shares-self-inside.ensures.shares ∙ ap (λ l. map f (groups_in l)) c.as_slice.ensures.value)
     (c.renew_shares-self-inside.ensures.total ∙ ap (λ l. sum_by f (groups_in l)) c.as_slice.ensures.value) c.renew_shares-self-inside.ensures.places c.renew_shares-self-inside.ensures.room
+    (settled_next c.self.inside.problem.now.segs c.self.inside.prefix.placed c.take_back.new.self.placed c.args.seg (part_terms c.self.inside.problem.now.terms c.self.inside.part.now) c.self.inside.aparts _ c.settled_on-before.result c.settled_on-after.result c.self.invariant.settled (subst (λ (b : PartState). c.args.seg.0 < length b.segs) (sym c.self.view_is) c.requires.known)
+    (moved_on c.self.inside.prefix.placed c.take_back.new.self.placed c.args.seg _ c.take_back.ensures.placed) c.settled_on-before.ensures.value c.settled_on-after.ensures.value refl c.moved-self-inside.ensures)

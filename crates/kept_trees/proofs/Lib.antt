@@ -1,0 +1,7 @@
+mod RenumberedTrees
+mod OwnPlaces
+mod OwnProblems
+mod OwnNumbers
+mod FoundHere
+mod HeldParts
+pub mod HeldLists

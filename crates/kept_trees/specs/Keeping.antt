@@ -1,0 +1,52 @@
+-- Which parts are held, each part by itself.
+use Rattle.std.specs.Prelude.{ℕ, ◌==◌, ◌&&◌, Bool, false, List, [], ◌∷◌, ◌++◌, if◌then◌else◌}
+use Rattle.std.specs.List.{list_any}
+use Rattle.std.specs.Cmp.Lexicographic.{pointwise}
+use Rattle.map_base.specs.declared.ids.SegId.{SegId}
+use Rattle.map_base.specs.declared.ids.LineId.{LineId}
+use Rattle.order_model.specs.declared.term.Term.{Term}
+use Rattle.order_model.specs.declared.term.Term.TheVariants.{Side, Link, Apart}
+use Rattle.order_model.specs.declared.problem.ProblemParts.{ProblemParts}
+use Rattle.order_model.specs.Costs.{same_answer}
+use Rattle.order_search.specs.FoundParts.{branches_in}
+use Rattle.order_search.specs.ByItself.{by_itself}
+
+-- the same lines in the same order
+abbrev pub are_same_lines : List LineId → List LineId → Bool
+are_same_lines = pointwise (λ (a b : LineId). a.0 == b.0)
+
+-- the same lists of lines in the same order
+abbrev pub are_same_segs : List (List LineId) → List (List LineId) → Bool
+are_same_segs = pointwise are_same_lines
+
+-- the same term
+abbrev pub is_same_term : Term → Term → Bool
+is_same_term (Side s a b w) (Side t c d v) = s.0 == t.0 && (a.0 == c.0 && (b.0 == d.0 && w == v))
+is_same_term (Link s o f a b w) (Link t p g c d v) = s.0 == t.0 && (o.0 == p.0 && (same_answer f g && (a.0 == c.0 && (b.0 == d.0 && w == v))))
+is_same_term (Apart s o a b w) (Apart t p c d v) = s.0 == t.0 && (o.0 == p.0 && (a.0 == c.0 && (b.0 == d.0 && w == v)))
+is_same_term (Side s a b w) (Link t p g c d v) = false
+is_same_term (Side s a b w) (Apart t p c d v) = false
+is_same_term (Link s o f a b w) (Side t c d v) = false
+is_same_term (Link s o f a b w) (Apart t p c d v) = false
+is_same_term (Apart s o a b w) (Side t c d v) = false
+is_same_term (Apart s o a b w) (Link t p g c d v) = false
+
+-- the same terms in the same order
+abbrev pub are_same_terms : List Term → List Term → Bool
+are_same_terms = pointwise is_same_term
+
+-- two parts by themselves are the same
+abbrev pub is_same_part : ProblemParts → ProblemParts → Bool
+is_same_part p q = are_same_segs p.segs q.segs && are_same_terms p.terms q.terms
+
+-- the part is one of those that are held
+abbrev pub is_held : List ProblemParts → ProblemParts → Bool
+is_held held p = list_any (is_same_part p) held
+
+-- the parts that are held, once this one is
+abbrev pub with_part : List ProblemParts → ProblemParts → List ProblemParts
+with_part held p = if is_held held p then held else held ++ p ∷ []
+
+-- how many branch nodes are to be met for a part of a problem: none where it is held, else those of its live tree
+abbrev pub branches_to_meet : List ProblemParts → ProblemParts → List SegId → ℕ
+branches_to_meet held p part = if is_held held (by_itself p part) then 0 else branches_in p part

@@ -1,0 +1,3 @@
+pub mod Renumbered
+pub mod Keeping
+pub mod OwnTrees

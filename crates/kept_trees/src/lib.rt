@@ -1,0 +1,17 @@
+//! Live trees that are kept from problem to problem, each of a part by itself.
+//!
+//! A part by itself has its segments and its terms numbered from 0 on. It has the live tree that the part has in each
+//! problem, but for the numbers, so a tree that was found once serves every problem that has the part. `Kept` holds such
+//! trees: its `solve_part` searches a part only where the part is not held, and what it answers is the same either way.
+#![tactic(auto)]
+
+mod found_in;
+mod kept;
+mod own_search;
+mod own_terms;
+mod part_key;
+mod tree_numbers;
+
+pub use kept::Kept;
+pub use part_key::PartKey;
+pub use tree_numbers::renumbered;
