@@ -83,8 +83,8 @@ def one_walk(size):
 
 
 def snake(size):
-    """A legal walk over 4 million grid points for each mebibyte asked for, row by row, and one row more."""
-    rows = min(20_000, max(2, 200 * (size >> 20)))
+    """A legal walk row by row, over 40,000 grid points for each mebibyte asked for: its text is short."""
+    rows = min(20_000, 2 * (size >> 20))
     rows -= rows % 2
     yield HEAD + b"walk 0 -10000 -10000"
     for row in range(rows):

@@ -17,8 +17,8 @@ use Rattle.map_cli.specs.declared.item.Item.TheVariants as item
 use Rattle.map_cli.specs.declared.loaded.Loaded.{Loaded}
 use Rattle.map_cli.specs.declared.refusal.Refusal.{Refusal}
 use Rattle.map_cli.specs.declared.refusal.Refusal.TheVariants as refused
-use Rattle.map_cli.specs.Words.{Asked}
-use Rattle.map_cli.specs.Inputs.{input_path}
+use Rattle.command_words.specs.Asked.{Asked, Chosen}
+use Rattle.map_cli.specs.Inputs.{chosen_of, input_path}
 use Rattle.map_cli.specs.Lines.{best_line}
 use Rattle.map_cli.specs.Answers.{said}
 use Rattle.map_cli.specs.Commands.{load_work, built, certificate_work, picture_work, check_work, picture_checked, checked_as}
@@ -51,36 +51,36 @@ abbrev pub with_loaded : Loaded → Work Input Refusal (List Output)
 with_loaded loaded = graph_work loaded >>= with_graph loaded
 
 -- what is loaded is refused
-pub refused_load : (told : Told) (paths : Input → List ℕ) (rose : Type 0) (why : Refusal) (result : Result (List Output) Refusal) → IsRefusedAs why result
-    → Follows told paths rose same_loaded load_work (Err why) → Follows told paths rose same_outputs check_work result
-refused_load told paths rose why result is first = follows_refused told paths rose same_loaded same_outputs load_work with_loaded why result is first
+pub refused_load : (told : Told) (paths : Input → List ℕ) (chosen : Chosen) (rose : Type 0) (why : Refusal) (result : Result (List Output) Refusal) → IsRefusedAs why result
+    → Follows told paths rose same_loaded (load_work chosen) (Err why) → Follows told paths rose same_outputs (check_work chosen) result
+refused_load told paths chosen rose why result is first = follows_refused told paths rose same_loaded same_outputs (load_work chosen) with_loaded why result is first
 
-module _ (told : Told) (paths : Input → List ℕ) (rose : Type 0) (loaded : Loaded) (loads : Follows told paths rose same_loaded load_work (Ok loaded)) (result : Result (List Output) Refusal) where
+module _ (told : Told) (paths : Input → List ℕ) (chosen : Chosen) (rose : Type 0) (loaded : Loaded) (loads : Follows told paths rose same_loaded (load_work chosen) (Ok loaded)) (result : Result (List Output) Refusal) where
   -- a limit of the line graph
   pub graph_refused : (why : Refusal) → Gives same_graph (Err why) (built (graph_outcome loaded.settings.near loaded.tables)) → IsRefusedAs why result
-      → Follows told paths rose same_outputs check_work result
+      → Follows told paths rose same_outputs (check_work chosen) result
   graph_refused why gives is =
       let second = follows_refused told paths rose same_graph same_outputs (graph_work loaded) (with_graph loaded) why result is
       (gives_follows told paths rose same_graph (built (graph_outcome loaded.settings.near loaded.tables)) (Err why) gives) in
-      follows_then told paths rose rose rose same_loaded same_outputs load_work with_loaded loaded result (λ r. r) loads second
+      follows_then told paths rose rose rose same_loaded same_outputs (load_work chosen) with_loaded loaded result (λ r. r) loads second
 
   module _ (graph : GraphParts) (gives : Gives same_graph (Ok graph) (built (graph_outcome loaded.settings.near loaded.tables))) (later : Type 0) (widen : later → rose) where
     -- what follows the line graph
-    past_graph : Follows told paths later same_outputs (with_graph loaded graph) result → Follows told paths rose same_outputs check_work result
+    past_graph : Follows told paths later same_outputs (with_graph loaded graph) result → Follows told paths rose same_outputs (check_work chosen) result
     past_graph second =
         let graphed = follows_then told paths later later later same_graph same_outputs (graph_work loaded) (with_graph loaded) graph result (λ r. r)
         (gives_follows told paths later same_graph (built (graph_outcome loaded.settings.near loaded.tables)) (Ok graph) gives) second in
-        follows_then told paths rose later rose same_loaded same_outputs load_work with_loaded loaded result widen loads graphed
+        follows_then told paths rose later rose same_loaded same_outputs (load_work chosen) with_loaded loaded result widen loads graphed
 
     -- the certificate is refused, or left unread
     pub certificate_refused : (why : Refusal) → Follows told paths later checked_bytes (certificate_work loaded graph) (Err why) → IsRefusedAs why result
-        → Follows told paths rose same_outputs check_work result
+        → Follows told paths rose same_outputs (check_work chosen) result
     certificate_refused why first is =
         past_graph (follows_refused told paths later checked_bytes same_outputs (certificate_work loaded graph) picture_work why result is first)
 
     -- the certificate is accepted, and the map follows
     pub picture_follows : (first_rose : Type 0) (checked : Checked) → Follows told paths first_rose checked_bytes (certificate_work loaded graph) (Ok checked)
-        → Follows told paths later same_outputs (picture_work (checked_bytes checked)) result → Follows told paths rose same_outputs check_work result
+        → Follows told paths later same_outputs (picture_work (checked_bytes checked)) result → Follows told paths rose same_outputs (check_work chosen) result
     picture_follows first_rose checked first second =
         past_graph (follows_then told paths first_rose later later checked_bytes same_outputs (certificate_work loaded graph) picture_work checked result (λ r. r) first second)
 
@@ -111,7 +111,7 @@ picture_other checked svg at is = ap (compared checked) is
 
 -- the yes of a map that is accepted
 pub says_yes : (told : Told) (asked : Asked) (rose : Type 0) (loaded : Loaded) (checked : Checked) (result : Result (List Output) Refusal)
-    → Follows told (input_path asked) rose same_loaded load_work (Ok loaded) → IsAccepted told asked loaded checked.svg.items checked.cost
+    → Follows told (input_path asked) rose same_loaded (load_work (chosen_of asked)) (Ok loaded) → IsAccepted told asked loaded checked.svg.items checked.cost
     → IfOk result (λ _. IfSome told (λ all. file_at all (input_path asked input.Picture) ≡ Some checked.svg.items))
     → IfOk result (λ outputs. outputs ≡ said (best_line checked.cost)) → IfOk result (AreOfYes told asked)
 says_yes told asked rose loaded checked (Err why) loads accepted lies are = tt

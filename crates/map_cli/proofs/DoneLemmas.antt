@@ -15,7 +15,7 @@ use Rattle.map_cli.specs.declared.answer.Answer.{Answer}
 use Rattle.map_cli.specs.declared.refusal.Refusal.{Refusal}
 use Rattle.map_cli.specs.declared.status.Status.{Status}
 use Rattle.map_cli.specs.declared.status.Status.TheVariants as status
-use Rattle.map_cli.specs.Words.{Asked}
+use Rattle.command_words.specs.Asked.{Asked}
 use Rattle.map_cli.specs.Inputs.{input_path}
 use Rattle.map_cli.specs.Answers.{done, answer_by}
 use Rattle.map_cli.specs.Commands.{work}

@@ -1,5 +1,5 @@
 -- From the answer of a command to how a run ends, and to the cause of its status.
-use Rattle.std.proofs.Common.{◌≡◌, ◌≢◌, ℕ, ◌⊎◌, inl, inr, List, [], length, Option, None, Some, Result, Ok, Err, IfSome, refl, sym, ap, ◌∙◌, subst, arith}
+use Rattle.std.proofs.Common.{◌≡◌, ◌≢◌, ℕ, ◌⊎◌, inl, inr, List, [], length, Option, None, Some, Result, Ok, Err, IfOk, IfSome, string_bytes, refl, sym, ap, ◌∙◌, subst, arith}
 use Rattle.files_door.specs.Targets.{Written}
 use Rattle.command_run.specs.declared.output.Output.{Output}
 use Rattle.command_run.specs.declared.delivery.Ending.{Ending}
@@ -14,14 +14,18 @@ use Rattle.map_cli.specs.declared.refusal.Refusal.{Refusal}
 use Rattle.map_cli.specs.declared.refusal.Refusal.TheVariants as refused
 use Rattle.map_cli.specs.declared.status.Status.{Status}
 use Rattle.map_cli.specs.declared.status.Status.TheVariants as status
-use Rattle.map_cli.specs.Lines.{status_line}
-use Rattle.map_cli.specs.Words.{Asked}
+use Rattle.map_base.specs.declared.memory.NoMemory.{NoMemory}
+use Rattle.command_words.specs.declared.fault.WordsFault.{WordsFault}
+use Rattle.command_words.specs.declared.fault.WordsFault.TheVariants as fault
+use Rattle.command_words.specs.Words.{Reads as ReadsWords}
+use Rattle.map_cli.specs.declared.answer.Reply.{Reply}
+use Rattle.command_words.specs.Asked.{Asked, stations, graph, make, check}
 use Rattle.map_cli.specs.Inputs.{input_path}
 use Rattle.map_cli.specs.Answers.{alone, done, status_of, answer_by}
 use Rattle.map_cli.specs.Commands.{work}
 use Rattle.map_cli.specs.Following.{HasCause, ComesTo, Follows}
-use Rattle.map_cli.specs.Promises.{Keeps}
-use Rattle.map_cli.specs.Ending.{IsAnswerTo, IsLineOf, IsWritten, IsOutOfMemory, Ends, IsCaused, status_after}
+use Rattle.map_cli.specs.Promises.{Keeps, TakesSteps}
+use Rattle.map_cli.specs.Ending.{IsAnswerTo, IsLineOf, IsWritten, IsOutOfMemory, IsReplyTo, Ends, IsCaused, status_after}
 use Rattle.map_cli.proofs.FollowLemmas.{comes_to}
 
 abbrev Told : Type 0
@@ -37,19 +41,33 @@ pub refused_answer : (told : Told) (asked : Asked) (rose : Type 0) (why : Refusa
     → answer ≡ alone (status_of (input_path asked) why) → why ≢ refused.NoMemory → IsAnswerTo (Some asked) told rose answer
 refused_answer told asked rose why answer follows is free = (Err why, comes_to told (input_path asked) rose (λ (o : List Output). o) (work asked) why free follows, tt, is)
 
--- a status has a line
-some_line : (ended : Status) → (line : List ℕ) × IsLineOf ended line
-some_line ended = line_from (status_line ended)
-  where
-    line_from : (o : Option (List ℕ)) → (line : List ℕ) × IfSome o (λ defined. line ≡ defined)
-    line_from None = ([], tt)
-    line_from (Some line) = (line, refl)
+-- words that are not read ask for nothing
+pub nothing_asked : (asked : Option Asked) (f : WordsFault) → ReadsWords asked (Err f) → f ≢ fault.NoMemory → asked ≡ None
+nothing_asked asked (fault.Usage text) none free = none
+nothing_asked asked fault.NoMemory none free = absurd (free refl)
 
--- memory ran out before an answer was written
-pub unwritten : (answer : Answer) (rose : Type 0) (old new : Option Written) (ended : Status) → IsOutOfMemory old new ended → IsWritten answer rose old new ended
-unwritten answer rose old new ended out =
-    let line = some_line answer.status in
-    (line.0, OutOfMemory, line.1, (0, out.0, out.2), out.1)
+-- the reply to words that are not read is the text for the user
+pub unread_reply : (asked : Option Asked) (told : Told) (rose : Type 0) (f : WordsFault) (result : Result Reply NoMemory) → ReadsWords asked (Err f)
+    → IfOk result (λ reply. reply.answer ≡ alone status.Usage) → IfOk result (λ _. f ≢ fault.NoMemory) → IfOk result (IsReplyTo asked told rose)
+unread_reply asked told rose f (Err e) reads usage free = tt
+unread_reply asked told rose f (Ok reply) reads usage free =
+    let none = nothing_asked asked f reads free in (
+      subst (λ (a : Option Asked). IsAnswerTo a told rose reply.answer) (sym none) usage,
+      subst (λ (a : Answer). IsLineOf a.status (string_bytes reply.line)) (sym usage) tt,
+    )
+
+-- the same of a command that was read
+pub read_reply : (asked : Option Asked) (command : Asked) (told : Told) (rose : Type 0) (result : Result Reply NoMemory) → asked ≡ Some command
+    → IfOk result (IsReplyTo (Some command) told rose) → IfOk result (IsReplyTo asked told rose)
+read_reply asked command told rose result is reply = subst (λ (a : Option Asked). IfOk result (IsReplyTo a told rose)) (sym is) reply
+
+-- no step is none too many
+pub no_steps : (told : Told) (asked : Option Asked) (steps : ℕ) → TakesSteps told asked steps steps
+no_steps told None steps = refl
+no_steps told (Some (stations feed)) steps = refl
+no_steps told (Some (graph feed chosen)) steps = refl
+no_steps told (Some (make feed paths chosen)) steps = inl refl
+no_steps told (Some (check feed paths chosen)) steps = refl
 
 -- the cause of the status of an answer
 answer_caused : (asked : Option Asked) (told : Told) (files_rose sinks_rose : Type 0) (answer : Answer) → IsAnswerTo asked told files_rose answer → IsCaused asked files_rose sinks_rose answer.status
@@ -67,6 +85,7 @@ answer_caused (Some asked) told files_rose sinks_rose answer (result, comes, kee
     by_result (Err (refused.Spent component branches)) comes = read
     by_result (Err (refused.Limit limit)) comes = read
     by_result (Err (refused.Refuted item)) comes = read
+    by_result (Err (refused.BadSettings why)) comes = read
     by_result (Err (refused.ReadFault input)) comes = (comes.0, (asked, input, refl, refl, (comes.1.seen, comes.1.runs)))
     by_result (Err refused.NoMemory) comes = tt
 

@@ -5,6 +5,7 @@ use Rattle.files_door.specs.declared.target.Target.TheVariants.{Path}
 use Rattle.table_rows.specs.declared.why.Table.TheVariants.{Routes, Trips, StopTimes}
 use Rattle.table_rows.specs.declared.why.Why.TheVariants.{MissingFile}
 use Rattle.command_run.specs.Work.{outcome, Runs}
+use Rattle.map_settings.specs.declared.fault.SettingsWhy.TheVariants as why
 use Rattle.map_engine.specs.declared.fault.MakeFault.TheVariants as fault
 use Rattle.map_engine.specs.declared.fault.CheckItem.TheVariants as found
 use Rattle.order_check.specs.declared.refusal.ProofItem.TheVariants as proof
@@ -12,54 +13,39 @@ use Rattle.map_cli.specs.declared.input.Input.TheVariants as input
 use Rattle.map_cli.specs.declared.item.Item.TheVariants as item
 use Rattle.map_cli.specs.declared.refusal.Refusal.TheVariants as refused
 use Rattle.map_cli.specs.declared.status.Status.TheVariants as status
-use Rattle.map_cli.specs.Words.{Asked, MapPaths, stations, graph, make, check, asked}
+use Rattle.command_words.specs.Asked.{Asked, Chosen, MapPaths, stations, graph, make, check}
 use Rattle.map_cli.specs.Inputs.{input_path}
 use Rattle.map_cli.specs.Answers.{alone, answer_by, said}
 use Rattle.map_cli.specs.Commands.{graph_work, check_work, picture_work, made_at}
 use Rattle.map_cli.specs.Items.{item_text}
 use Rattle.map_cli.specs.Lines.{status_line, status_number, best_line}
 
--- a command with its folder
-two_words : asked (codes "graph" ∷ codes "feed" ∷ []) ≡ Some (graph (codes "feed"))
-two_words = refl
+abbrev standard : Chosen
+standard = record { settings = None }
 
--- `-` alone is a folder, and `-x` is none
-dash_alone : asked (codes "stations" ∷ codes "-" ∷ []) ≡ Some (stations (codes "-"))
-dash_alone = refl
-
-option_like : asked (codes "stations" ∷ codes "-x" ∷ []) ≡ None
-option_like = refl
-
--- a word too few, a word too many, and another command
-too_few : asked (codes "graph" ∷ []) ≡ None
-too_few = refl
-
-too_many : asked (codes "graph" ∷ codes "feed" ∷ codes "more" ∷ []) ≡ None
-too_many = refl
-
-no_command : asked (codes "graphs" ∷ codes "feed" ∷ []) ≡ None
-no_command = refl
+abbrev by_mine : Chosen
+by_mine = record { settings = Some (codes "my.toml") }
 
 -- where a table lies
-table_path : input_path (graph (codes "feed")) (input.Table StopTimes) ≡ codes "feed/stop_times.txt"
+table_path : input_path (graph (codes "feed") standard) (input.Table StopTimes) ≡ codes "feed/stop_times.txt"
 table_path = refl
 
 -- an unread table is named by its path
-unread_trips : answer_by (input_path (graph (codes "feed"))) (Err (refused.ReadFault (input.Table Trips))) ≡ alone (status.ReadFault (codes "feed/trips.txt"))
+unread_trips : answer_by (input_path (graph (codes "feed") standard)) (Err (refused.ReadFault (input.Table Trips))) ≡ alone (status.ReadFault (codes "feed/trips.txt"))
 unread_trips = refl
 
 read_fault_line : status_line (status.ReadFault (codes "feed/trips.txt")) ≡ Some (codes "read fault: feed/trips.txt\n")
 read_fault_line = refl
 
 -- where the routes are missing, no other table is read
-no_routes : outcome graph_work (λ _. None) ≡ Err (refused.BadRow Routes 0 MissingFile)
+no_routes : outcome (graph_work standard) (λ _. None) ≡ Err (refused.BadRow Routes 0 MissingFile)
 no_routes = refl
 
-routes_alone : Runs refused.ReadFault graph_work ((input.Table Routes, None) ∷ []) (Err (refused.BadRow Routes 0 MissingFile))
+routes_alone : Runs refused.ReadFault (graph_work standard) ((input.Table Routes, None) ∷ []) (Err (refused.BadRow Routes 0 MissingFile))
 routes_alone = (refl, refl)
 
 -- the routes themselves may be left unread, and a later table may not be before them
-routes_unread : Runs refused.ReadFault graph_work [] (Err (refused.ReadFault (input.Table Routes)))
+routes_unread : Runs refused.ReadFault (graph_work standard) [] (Err (refused.ReadFault (input.Table Routes)))
 routes_unread = refl
 
 -- a map and its certificate are two files
@@ -67,29 +53,12 @@ routes_unread = refl
 places : MapPaths
 places = record { picture = codes "map.svg"; certificate = codes "map.cert" }
 
-four_words : asked (codes "make" ∷ codes "feed" ∷ codes "map.svg" ∷ codes "map.cert" ∷ []) ≡ Some (make (codes "feed") places)
-unfolding places
-four_words = refl
-
-one_path : asked (codes "make" ∷ codes "feed" ∷ codes "map" ∷ codes "map" ∷ []) ≡ None
-one_path = refl
-
--- what is checked may lie at one path
-one_path_checked : asked (codes "check" ∷ codes "feed" ∷ codes "map" ∷ codes "map" ∷ []) ≡ Some (check (codes "feed") (record { picture = codes "map"; certificate = codes "map" }))
-one_path_checked = refl
-
-no_certificate_named : asked (codes "make" ∷ codes "feed" ∷ codes "map.svg" ∷ []) ≡ None
-no_certificate_named = refl
-
-option_as_map : asked (codes "make" ∷ codes "feed" ∷ codes "-o" ∷ codes "map.cert" ∷ []) ≡ None
-option_as_map = refl
-
 -- what is checked lies at the two paths, and what is made is no input
-certificate_path : input_path (check (codes "feed") places) input.Certificate ≡ codes "map.cert"
+certificate_path : input_path (check (codes "feed") places standard) input.Certificate ≡ codes "map.cert"
 unfolding places
 certificate_path = refl
 
-picture_path : input_path (check (codes "feed") places) input.Picture ≡ codes "map.svg"
+picture_path : input_path (check (codes "feed") places standard) input.Picture ≡ codes "map.svg"
 unfolding places
 picture_path = refl
 
@@ -99,7 +68,7 @@ unfolding places
 both_files = refl
 
 -- a part over the budget is named, with its branch nodes
-spent_line : answer_by (input_path (make (codes "feed") places)) (made_at places (Err (fault.Spent 0 2))) ≡ alone (status.Spent 0 2)
+spent_line : answer_by (input_path (make (codes "feed") places standard)) (made_at places (Err (fault.Spent 0 2))) ≡ alone (status.Spent 0 2)
 unfolding places
 spent_line = refl
 
@@ -138,7 +107,7 @@ refuted_number : status_number (status.Refuted (item.Found found.Graph)) ≡ 1
 refuted_number = refl
 
 -- where the routes are missing, neither map nor certificate is read
-no_routes_checked : outcome check_work (λ _. None) ≡ Err (refused.BadRow Routes 0 MissingFile)
+no_routes_checked : outcome (check_work standard) (λ _. None) ≡ Err (refused.BadRow Routes 0 MissingFile)
 no_routes_checked = refl
 
 -- a certificate that is accepted is no yes where the map is missing
@@ -151,3 +120,19 @@ map_the_same = refl
 -- the first byte that differs
 map_differs : outcome (picture_work (record { cost = 7; svg = codes "abc" })) (λ _. Some (codes "abd")) ≡ Err (refused.Refuted (item.Found (found.Picture 2)))
 map_differs = refl
+
+-- a file of settings comes first, and has to be there
+no_settings : outcome (graph_work by_mine) (λ _. None) ≡ Err (refused.BadSettings why.Missing)
+no_settings = refl
+
+settings_unread : Runs refused.ReadFault (graph_work by_mine) [] (Err (refused.ReadFault input.Settings))
+settings_unread = refl
+
+settings_path : input_path (graph (codes "feed") by_mine) input.Settings ≡ codes "my.toml"
+settings_path = refl
+
+bad_key_text : status_line (status.BadSettings (why.Key (codes "near"))) ≡ Some (codes "bad settings: near\n")
+bad_key_text = refl
+
+bad_settings_number : status_number (status.BadSettings why.NotToml) ≡ 10
+bad_settings_number = refl

@@ -1,18 +1,19 @@
 -- Calls that do pieces of work, one after another.
-use Rattle.std.proofs.Common.{◌≡◌, ◌≢◌, ℕ, List, Option, Result, Ok, Err, refl, sym, ap, ◌∙◌, subst}
+use Rattle.std.proofs.Common.{◌≡◌, ◌≢◌, ℕ, List, Option, None, Some, Result, Ok, Err, refl, sym, ap, ◌∙◌, subst}
 use Rattle.command_run.specs.Work.{Work, ends, ◌>>=◌}
 use Rattle.command_run.specs.Told.{IsRun}
 use Rattle.command_run.proofs.WorkLemmas.{then_run, refused_run, ends_run}
+use Rattle.command_words.specs.Asked.{Chosen}
 use Rattle.map_cli.specs.declared.input.Input.{Input}
 use Rattle.map_cli.specs.declared.refusal.Refusal.{Refusal}
 use Rattle.map_cli.specs.declared.refusal.Refusal.TheVariants as refused
 use Rattle.map_base.specs.Settings.{Choices, standard_choices}
 use Rattle.transit_feed.specs.Feeds.{Feed}
 use Rattle.map_cli.specs.declared.loaded.Loaded.{Loaded}
-use Rattle.map_cli.specs.Commands.{tables_work, load_work}
+use Rattle.map_cli.specs.Commands.{load_work, settings_by, settings_file_work, tables_work}
 use Rattle.map_cli.specs.Following.{ComesTo, Follows, Gives}
 
-abbrev Told : Type 0
+abbrev pub Told : Type 0
 Told = Option (List (List ℕ × List ℕ))
 
 -- a refusal that is answered as it came
@@ -43,6 +44,7 @@ refusal_follows told paths rose first_view view work next (refused.Limit limit) 
 refusal_follows told paths rose first_view view work next (refused.NoRoute seg) first = (tt, refused_run refused.ReadFault told paths work next (refused.NoRoute seg) first.1)
 refusal_follows told paths rose first_view view work next (refused.Spent component branches) first = (tt, refused_run refused.ReadFault told paths work next (refused.Spent component branches) first.1)
 refusal_follows told paths rose first_view view work next (refused.Refuted item) first = (tt, refused_run refused.ReadFault told paths work next (refused.Refuted item) first.1)
+refusal_follows told paths rose first_view view work next (refused.BadSettings bad) first = (tt, refused_run refused.ReadFault told paths work next (refused.BadSettings bad) first.1)
 
 pub follows_refused : {A B C D : Type 0} (told : Told) (paths : Input → List ℕ) (rose : Type 0) (first_view : A → B) (view : C → D) (work : Work Input Refusal B) (next : B → Work Input Refusal D) (why : Refusal) (result : Result C Refusal)
     → IsRefusedAs why result → Follows told paths rose first_view work (Err why) → Follows told paths rose view (work >>= next) result
@@ -67,6 +69,8 @@ follows_then told paths first_rose later rose first_view view work next value (E
     (tt, then_run refused.ReadFault told paths work next (first_view value) (Err (refused.Spent component branches)) first.1 second.1)
 follows_then told paths first_rose later rose first_view view work next value (Err (refused.Refuted item)) widen first second =
     (tt, then_run refused.ReadFault told paths work next (first_view value) (Err (refused.Refuted item)) first.1 second.1)
+follows_then told paths first_rose later rose first_view view work next value (Err (refused.BadSettings bad)) widen first second =
+    (tt, then_run refused.ReadFault told paths work next (first_view value) (Err (refused.BadSettings bad)) first.1 second.1)
 
 -- what is given without reading is a piece of work that has come to its end
 pub gives_follows : {A B : Type 0} (told : Told) (paths : Input → List ℕ) (rose : Type 0) (view : A → B) (defined : Result B Refusal) (result : Result A Refusal)
@@ -85,6 +89,8 @@ gives_follows {A} {B} told paths rose view defined (Err (refused.Spent component
     (tt, subst (λ (d : Result B Refusal). IsRun refused.ReadFault told paths (ends d) (Err (refused.Spent component branches))) (sym gives) (ends_run refused.ReadFault told paths (Err (refused.Spent component branches))))
 gives_follows {A} {B} told paths rose view defined (Err (refused.Refuted item)) gives =
     (tt, subst (λ (d : Result B Refusal). IsRun refused.ReadFault told paths (ends d) (Err (refused.Refuted item))) (sym gives) (ends_run refused.ReadFault told paths (Err (refused.Refuted item))))
+gives_follows {A} {B} told paths rose view defined (Err (refused.BadSettings bad)) gives =
+    (tt, subst (λ (d : Result B Refusal). IsRun refused.ReadFault told paths (ends d) (Err (refused.BadSettings bad))) (sym gives) (ends_run refused.ReadFault told paths (Err (refused.BadSettings bad))))
 
 -- what a call that did its work to the end came to
 pub comes_to : {A B : Type 0} (told : Told) (paths : Input → List ℕ) (rose : Type 0) (view : A → B) (work : Work Input Refusal B) (why : Refusal)
@@ -96,6 +102,7 @@ comes_to told paths rose view work (refused.Limit limit) free follows = follows
 comes_to told paths rose view work (refused.NoRoute seg) free follows = follows
 comes_to told paths rose view work (refused.Spent component branches) free follows = follows
 comes_to told paths rose view work (refused.Refuted item) free follows = follows
+comes_to told paths rose view work (refused.BadSettings bad) free follows = follows
 
 -- a refusal of one piece of work
 pub follows_as : {A B : Type 0} (told : Told) (paths : Input → List ℕ) (rose : Type 0) (view : A → B) (work : Work Input Refusal B) (why : Refusal) (result : Result A Refusal)
@@ -112,8 +119,43 @@ follows_value told paths rose first_view view work defined value result first gi
 abbrev pub loaded_by : Choices → Feed → Loaded
 loaded_by choices feed = record { settings = choices; tables = feed }
 
-pub follows_loaded : (told : Told) (paths : Input → List ℕ) (rose : Type 0) (choices : Choices) (feed : Feed) → choices ≡ standard_choices
-    → Follows told paths rose (λ (f : Feed). f) (tables_work standard_choices.types) (Ok feed) → Follows told paths rose (λ (l : Loaded). l) load_work (Ok (loaded_by choices feed))
-follows_loaded told paths rose choices feed are first =
-    let loaded : Choices → Result Loaded Refusal = λ s. Ok (loaded_by s feed) in
-    follows_value told paths rose (λ (f : Feed). f) (λ (l : Loaded). l) (tables_work standard_choices.types) (λ f. Ok (loaded_by standard_choices f)) feed (Ok (loaded_by choices feed)) first (ap loaded (sym are))
+-- what comes after the settings
+abbrev pub with_settings : Choices → Work Input Refusal Loaded
+with_settings choices = tables_work choices.types >>= (λ feed. ends (Ok (loaded_by choices feed)))
+
+-- a user who names no file has the standard settings
+pub settings_none : (told : Told) (paths : Input → List ℕ) (rose : Type 0) (chosen : Option (List ℕ)) (result : Result Choices Refusal) → chosen ≡ None
+    → Gives (λ (s : Choices). s) result (Ok standard_choices) → Follows told paths rose (λ (s : Choices). s) (settings_by chosen) result
+settings_none told paths rose chosen result none gives =
+    subst (λ (c : Option (List ℕ)). Follows told paths rose (λ (s : Choices). s) (settings_by c) result) (sym none)
+    (gives_follows told paths rose (λ (s : Choices). s) (Ok standard_choices) result gives)
+
+-- one who names a file has those that it gives
+pub settings_some : (told : Told) (paths : Input → List ℕ) (rose : Type 0) (chosen : Option (List ℕ)) (path : List ℕ) (result : Result Choices Refusal) → chosen ≡ Some path
+    → Follows told paths rose (λ (s : Choices). s) settings_file_work result → Follows told paths rose (λ (s : Choices). s) (settings_by chosen) result
+settings_some told paths rose chosen path result some follows =
+    subst (λ (c : Option (List ℕ)). Follows told paths rose (λ (s : Choices). s) (settings_by c) result) (sym some) follows
+
+module _ (told : Told) (paths : Input → List ℕ) (chosen : Chosen) where
+  -- the settings are refused
+  pub settings_refused : (rose : Type 0) (why : Refusal) (result : Result Loaded Refusal) → IsRefusedAs why result
+      → Follows told paths rose (λ (s : Choices). s) (settings_by chosen.settings) (Err why) → Follows told paths rose (λ (l : Loaded). l) (load_work chosen) result
+  settings_refused rose why result is first =
+      follows_refused told paths rose (λ (s : Choices). s) (λ (l : Loaded). l) (settings_by chosen.settings) with_settings why result is first
+
+  module _ (first_rose later rose : Type 0) (choices : Choices) (widen : later → rose) (first : Follows told paths first_rose (λ (s : Choices). s) (settings_by chosen.settings) (Ok choices)) where
+    past_settings : (result : Result Loaded Refusal) → Follows told paths later (λ (l : Loaded). l) (with_settings choices) result → Follows told paths rose (λ (l : Loaded). l) (load_work chosen) result
+    past_settings result second =
+        follows_then told paths first_rose later rose (λ (s : Choices). s) (λ (l : Loaded). l) (settings_by chosen.settings) with_settings choices result widen first second
+
+    -- the tables are refused
+    pub tables_refused : (why : Refusal) (result : Result Loaded Refusal) → IsRefusedAs why result
+        → Follows told paths later (λ (feed : Feed). feed) (tables_work choices.types) (Err why) → Follows told paths rose (λ (l : Loaded). l) (load_work chosen) result
+    tables_refused why result is second =
+        past_settings result (follows_refused told paths later (λ (feed : Feed). feed) (λ (l : Loaded). l) (tables_work choices.types) (λ feed. ends (Ok (loaded_by choices feed))) why result is second)
+
+    -- all is loaded
+    pub tables_loaded : (feed : Feed) → Follows told paths later (λ (f : Feed). f) (tables_work choices.types) (Ok feed) → Follows told paths rose (λ (l : Loaded). l) (load_work chosen) (Ok (loaded_by choices feed))
+    tables_loaded feed second =
+        past_settings (Ok (loaded_by choices feed))
+        (follows_value told paths later (λ (f : Feed). f) (λ (l : Loaded). l) (tables_work choices.types) (λ f. Ok (loaded_by choices f)) feed (Ok (loaded_by choices feed)) second refl)

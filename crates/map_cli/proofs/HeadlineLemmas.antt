@@ -16,7 +16,9 @@ use Rattle.map_cli.specs.declared.refusal.Refusal.{Refusal}
 use Rattle.map_cli.specs.declared.refusal.Refusal.TheVariants as refused
 use Rattle.map_cli.specs.declared.status.Status.{Status}
 use Rattle.map_cli.specs.declared.status.Status.TheVariants as status
-use Rattle.map_cli.specs.Words.{Asked, MapPaths, stations, graph, make, check, is_option, make_at, asked_of, asked_for_map, asked, asked_in}
+use Rattle.command_words.specs.Asked.{Asked, MapPaths, stations, graph, make, check}
+use Rattle.command_words.specs.Words.{asked, asked_in}
+use Rattle.command_words.proofs.Apart.{AreApart, asked_apart}
 use Rattle.map_cli.specs.Inputs.{input_path}
 use Rattle.map_cli.specs.Answers.{map_outputs, said, done, answer_by, status_of}
 use Rattle.map_cli.specs.Lines.{best_line}
@@ -27,49 +29,6 @@ use Rattle.map_cli.proofs.LawLemmas.{leaves_whole}
 
 abbrev Told : Type 0
 Told = Option (List (List ℕ × List ℕ))
-
--- a map is asked for at two paths
-
-abbrev AreApart : Option Asked → Type 0
-AreApart None = Unit {0}
-AreApart (Some (stations feed)) = Unit {0}
-AreApart (Some (graph feed)) = Unit {0}
-AreApart (Some (make feed paths)) = bytes_eq paths.picture paths.certificate ≡ false
-AreApart (Some (check feed paths)) = Unit {0}
-
-apart_at : (feed : List ℕ) (paths : MapPaths) → AreApart (make_at feed paths)
-apart_at feed paths = by_test (bytes_eq paths.picture paths.certificate) refl
-  where
-    by_test : (same : Bool) → bytes_eq paths.picture paths.certificate ≡ same → AreApart (if same then None else Some (make feed paths))
-    by_test true e = tt
-    by_test false e = e
-
-apart_for_map : (word feed : List ℕ) (paths : MapPaths) → AreApart (asked_for_map word feed paths)
-apart_for_map word feed paths =
-    by_tests (is_option feed || is_option paths.picture || is_option paths.certificate) (bytes_eq word (codes "make")) (bytes_eq word (codes "check"))
-  where
-    by_tests : (option made checked : Bool) → AreApart (if option then None else if made then make_at feed paths else if checked then Some (check feed paths) else None)
-    by_tests true made checked = tt
-    by_tests false true checked = apart_at feed paths
-    by_tests false false true = tt
-    by_tests false false false = tt
-
-apart_of : (word feed : List ℕ) → AreApart (asked_of word feed)
-apart_of word feed = by_tests (is_option feed) (bytes_eq word (codes "stations")) (bytes_eq word (codes "graph"))
-  where
-    by_tests : (option listed drawn : Bool) → AreApart (if option then None else if listed then Some (stations feed) else if drawn then Some (graph feed) else None)
-    by_tests true listed drawn = tt
-    by_tests false true drawn = tt
-    by_tests false false true = tt
-    by_tests false false false = tt
-
-asked_apart : (words : List (List ℕ)) → AreApart (asked words)
-asked_apart [] = tt
-asked_apart (word ∷ []) = tt
-asked_apart (word ∷ feed ∷ []) = apart_of word feed
-asked_apart (word ∷ feed ∷ picture ∷ []) = tt
-asked_apart (word ∷ feed ∷ picture ∷ certificate ∷ []) = apart_for_map word feed (record { picture = picture; certificate = certificate })
-asked_apart (word ∷ feed ∷ picture ∷ certificate ∷ more ∷ rest) = tt
 
 -- what targets hold after the outputs of a map
 
@@ -111,6 +70,7 @@ refusal_not_done paths (refused.NoRoute seg) same = cc
 refusal_not_done paths (refused.Spent component branches) same = cc
 refusal_not_done paths (refused.Limit limit) same = cc
 refusal_not_done paths (refused.Refuted item) same = cc
+refusal_not_done paths (refused.BadSettings why) same = cc
 refusal_not_done paths (refused.ReadFault input) same = cc
 refusal_not_done paths refused.NoMemory same = cc
 
@@ -120,8 +80,8 @@ Holds outputs old new = (target : Target) → held_by target new ≡ held_after 
 
 means : (told : Told) (command : Asked) (outputs : List Output) (old new : Written) → AreApart (Some command) → Promised told command outputs → Holds outputs old new → MeansDone told command old new
 means told (stations feed) outputs old new apart promised holds = tt
-means told (graph feed) outputs old new apart promised holds = tt
-means told (make feed paths) outputs old new apart promised holds =
+means told (graph feed chosen) outputs old new apart promised holds = tt
+means told (make feed paths chosen) outputs old new apart promised holds =
     let has = subst (λ (o : List Output). Holds o old new) promised.are holds in
     record {
       loaded = promised.loaded;
@@ -132,7 +92,7 @@ means told (make feed paths) outputs old new apart promised holds =
       map = has (Path paths.picture) ∙ map_held paths promised.made (held_by (Path paths.picture) old) apart;
       certificate = has (Path paths.certificate) ∙ certificate_held paths promised.made (held_by (Path paths.certificate) old);
     }
-means told (check feed paths) outputs old new apart promised holds =
+means told (check feed paths chosen) outputs old new apart promised holds =
     let has = subst (λ (o : List Output). Holds o old new) promised.are holds in
     record {
       loaded = promised.loaded;

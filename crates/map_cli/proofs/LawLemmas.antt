@@ -14,7 +14,7 @@ use Rattle.map_cli.specs.declared.refusal.Refusal.{Refusal}
 use Rattle.map_cli.specs.declared.refusal.Refusal.TheVariants as refused
 use Rattle.map_cli.specs.declared.status.Status.{Status}
 use Rattle.map_cli.specs.declared.status.Status.TheVariants as status
-use Rattle.map_cli.specs.Words.{Asked}
+use Rattle.command_words.specs.Asked.{Asked}
 use Rattle.map_cli.specs.Inputs.{input_path}
 use Rattle.map_cli.specs.Answers.{answer_by}
 use Rattle.map_cli.specs.Ending.{IsAnswerTo, IsLineOf, IsToBeWritten, Ends, status_after}
@@ -34,6 +34,7 @@ result_no_fault asked (Err (refused.NoRoute seg)) same = cc
 result_no_fault asked (Err (refused.Spent component branches)) same = cc
 result_no_fault asked (Err (refused.Limit limit)) same = cc
 result_no_fault asked (Err (refused.Refuted item)) same = cc
+result_no_fault asked (Err (refused.BadSettings why)) same = cc
 result_no_fault asked (Err (refused.ReadFault input)) same = cc
 result_no_fault asked (Err refused.NoMemory) same = cc
 

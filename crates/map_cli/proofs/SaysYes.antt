@@ -1,10 +1,11 @@
 -- The check says yes to what `make` wrote.
-use Rattle.std.proofs.Common.{◌≡◌, ℕ, ◌⊎◌, inl, inr, Bool, true, false, if◌then◌else◌, List, [], length, Option, None, Some, Result, Ok, Err, IfSome, refl, sym, ap, ◌∙◌, subst}
+use Rattle.std.proofs.Common.{◌≡◌, ℕ, ◌⊎◌, inl, inr, Bool, true, false, if◌then◌else◌, List, [], length, Option, None, Some, Result, Ok, Err, IfSome, unwrap_or, refl, sym, ap, ◌∙◌, subst}
 use Rattle.map_base.specs.declared.limit.LimitKind.TheVariants.{File}
 use Rattle.map_base.specs.Limits.{is_within, limit_of}
-use Rattle.map_base.specs.Settings.{standard_choices}
+use Rattle.map_base.specs.Settings.{Choices}
 use Rattle.files_door.specs.declared.target.Target.{Target}
 use Rattle.files_door.specs.declared.target.Target.TheVariants.{Said, Path}
+use Rattle.files_door.specs.Files.{file_at}
 use Rattle.files_door.specs.Targets.{Written, held_by}
 use Rattle.table_rows.specs.declared.why.Table.{Table}
 use Rattle.table_rows.specs.declared.why.Table.TheVariants.{Routes, Stops, Trips, Shapes, StopTimes}
@@ -29,11 +30,11 @@ use Rattle.map_cli.specs.declared.refusal.Refusal.{Refusal}
 use Rattle.map_cli.specs.declared.refusal.Refusal.TheVariants as refused
 use Rattle.map_cli.specs.declared.status.Status.{Status}
 use Rattle.map_cli.specs.declared.status.Status.TheVariants as status
-use Rattle.map_cli.specs.Words.{Asked, MapPaths, make, check}
-use Rattle.map_cli.specs.Inputs.{input_path}
+use Rattle.command_words.specs.Asked.{Asked, Chosen, MapPaths, make, check}
+use Rattle.map_cli.specs.Inputs.{chosen_of, input_path}
 use Rattle.map_cli.specs.Lines.{best_line}
 use Rattle.map_cli.specs.Answers.{said}
-use Rattle.map_cli.specs.Commands.{best, built, certificate_checked, certificate_work, check_work, checked_as, file_outcome, given_by, load_work, picture_checked, picture_work, tables_work, work}
+use Rattle.map_cli.specs.Commands.{best, built, certificate_checked, certificate_work, check_work, checked_as, file_outcome, given_by, load_work, picture_checked, picture_work, settings_by, settings_in, tables_work, work}
 use Rattle.map_cli.specs.Promises.{Loads}
 use Rattle.map_cli.specs.Ending.{Ends}
 use Rattle.map_cli.specs.Headline.{IsMapWritten, LieAsMade, SaysBest}
@@ -52,53 +53,72 @@ then_outcome {A} {B} (ends (Ok found)) next given value is =
 then_outcome (ends (Err why)) next given value is = absurd (cc)
 then_outcome (reads one rest) next given value is = then_outcome (rest (given one)) next given value is
 
--- Loading reads tables alone.
+-- Work comes to one thing where each input that it may read is the same.
 
-abbrev ReadsTables : {A : Type 0} → Work Input Refusal A → Type 0
-ReadsTables (ends result) = Unit {0}
-ReadsTables (reads (input.Table table) rest) = (file : Option (List ℕ)) → ReadsTables (rest file)
-ReadsTables (reads input.Certificate rest) = ⊥
-ReadsTables (reads input.Picture rest) = ⊥
+abbrev ReadsSame : {A : Type 0} → Given → Given → Work Input Refusal A → Type 0
+ReadsSame given later (ends result) = Unit {0}
+ReadsSame given later (reads one rest) = (later one ≡ given one) × ((file : Option (List ℕ)) → ReadsSame given later (rest file))
 
-tables_then : {A B : Type 0} (first : Work Input Refusal A) (next : A → Work Input Refusal B) → ReadsTables first → ((value : A) → ReadsTables (next value)) → ReadsTables (first >>= next)
-tables_then (ends (Ok value)) next only each = each value
-tables_then (ends (Err why)) next only each = tt
-tables_then (reads (input.Table table) rest) next only each = λ file. tables_then (rest file) next (only file) each
-tables_then (reads input.Certificate rest) next only each = absurd only
-tables_then (reads input.Picture rest) next only each = absurd only
+same_outcome : {A : Type 0} (given later : Given) (these : Work Input Refusal A) → ReadsSame given later these → outcome these later ≡ outcome these given
+same_outcome given later (ends result) same = refl
+same_outcome given later (reads one rest) same =
+    ap (λ (file : Option (List ℕ)). outcome (rest file) later) same.0 ∙ same_outcome given later (rest (given one)) (same.1 (given one))
 
-past_table : {A B : Type 0} (first : Result A FeedFault) (next : A → Work Input Refusal B) → ((value : A) → ReadsTables (next value)) → ReadsTables (given_by first >>= next)
-past_table (Ok value) next each = each value
-past_table (Err why) next each = tt
+same_then : {A B : Type 0} (given later : Given) (first : Work Input Refusal A) (next : A → Work Input Refusal B) → ReadsSame given later first → ((value : A) → ReadsSame given later (next value)) → ReadsSame given later (first >>= next)
+same_then given later (ends (Ok value)) next same each = each value
+same_then given later (ends (Err why)) next same each = tt
+same_then given later (reads one rest) next same each = (same.0, λ file. same_then given later (rest file) next (same.1 file) each)
 
-tables_alone : (types : List ℕ) → ReadsTables (tables_work types)
-tables_alone types =
-    λ file. past_table (routes_outcome types (λ _. file)) _ (λ routes.
-    λ file. past_table (stops_table_outcome (λ _. file)) _ (λ stops.
-    λ file. past_table (trips_outcome routes.known (λ _. file)) _ (λ trips.
-    λ file. past_table (shapes_outcome trips (λ _. file)) _ (λ shapes.
-    λ file. past_table (stop_times_outcome trips stops.known (λ _. file)) _ (λ places. tt)))))
+past_table : {A B : Type 0} (given later : Given) (first : Result A FeedFault) (next : A → Work Input Refusal B) → ((value : A) → ReadsSame given later (next value)) → ReadsSame given later (given_by first >>= next)
+past_table given later (Ok value) next each = each value
+past_table given later (Err why) next each = tt
 
-load_alone : ReadsTables load_work
-load_alone =
-    let loaded : Feed → Work Input Refusal Loaded = λ feed. ends (Ok (record { settings = standard_choices; tables = feed })) in
-    tables_then (tables_work standard_choices.types) loaded (tables_alone standard_choices.types) (λ feed. tt)
+-- Loading reads the tables, and the file of settings where one is named.
 
--- so it comes to one thing where the tables are the same
-same_tables : {A : Type 0} (these : Work Input Refusal A) (given later : Given) → ReadsTables these → ((table : Table) → later (input.Table table) ≡ given (input.Table table))
-    → outcome these later ≡ outcome these given
-same_tables (ends result) given later only same = refl
-same_tables (reads (input.Table table) rest) given later only same =
-    ap (λ (file : Option (List ℕ)). outcome (rest file) later) (same table) ∙ same_tables (rest (given (input.Table table))) given later (only (given (input.Table table))) same
-same_tables (reads input.Certificate rest) given later only same = absurd only
-same_tables (reads input.Picture rest) given later only same = absurd only
+tables_same : (given later : Given) → ((table : Table) → later (input.Table table) ≡ given (input.Table table)) → (types : List ℕ) → ReadsSame given later (tables_work types)
+tables_same given later same types = (
+  same Routes,
+  λ file. past_table given later (routes_outcome types (λ _. file)) _ (λ routes. (
+    same Stops,
+    λ file. past_table given later (stops_table_outcome (λ _. file)) _ (λ stops. (
+      same Trips,
+      λ file. past_table given later (trips_outcome routes.known (λ _. file)) _ (λ trips. (
+        same Shapes,
+        λ file. past_table given later (shapes_outcome trips (λ _. file)) _ (λ shapes.
+            (same StopTimes, λ file. past_table given later (stop_times_outcome trips stops.known (λ _. file)) _ (λ places. tt))),
+      )),
+    )),
+  )),
+)
 
-loads_are : (files : List (List ℕ × List ℕ)) (asked : Asked) (loaded : Loaded) → Loads (Some files) asked loaded → outcome load_work (file_of files (input_path asked)) ≡ Ok loaded
+past_file : (given later : Given) (read : Result (Option (List ℕ)) Refusal) → (let next : Option (List ℕ) → Work Input Refusal Choices = λ file. ends (settings_in file) in ReadsSame given later (ends read >>= next))
+past_file given later (Ok file) = tt
+past_file given later (Err why) = tt
+
+settings_same : (given later : Given) (settings : Option (List ℕ)) → IfSome settings (λ path. later input.Settings ≡ given input.Settings) → ReadsSame given later (settings_by settings)
+settings_same given later None same = tt
+settings_same given later (Some path) same = (same, λ file. past_file given later (file_outcome file))
+
+load_same : (given later : Given) (chosen : Chosen) → IfSome chosen.settings (λ path. later input.Settings ≡ given input.Settings) → ((table : Table) → later (input.Table table) ≡ given (input.Table table))
+    → ReadsSame given later (load_work chosen)
+load_same given later chosen settings tables =
+    let loaded : Choices → Feed → Work Input Refusal Loaded = λ choices feed. ends (Ok (record { settings = choices; tables = feed })) in
+    let after : Choices → Work Input Refusal Loaded = λ choices. tables_work choices.types >>= loaded choices in
+    same_then given later (settings_by chosen.settings) after (settings_same given later chosen.settings settings)
+    (λ choices. same_then given later (tables_work choices.types) (loaded choices) (tables_same given later tables choices.types) (λ feed. tt))
+
+-- the file of settings lies at its path
+settings_lie : (files later : List (List ℕ × List ℕ)) (settings : Option (List ℕ)) → IfSome settings (λ path. file_at later path ≡ file_at files path)
+    → IfSome settings (λ path. file_at later (unwrap_or settings []) ≡ file_at files (unwrap_or settings []))
+settings_lie files later None same = tt
+settings_lie files later (Some path) same = same
+
+loads_are : (files : List (List ℕ × List ℕ)) (asked : Asked) (loaded : Loaded) → Loads (Some files) asked loaded → outcome (load_work (chosen_of asked)) (file_of files (input_path asked)) ≡ Ok loaded
 loads_are files asked loaded loads =
-    by_run (told_outcome refused.ReadFault load_work (file_of files (input_path asked)) loads.seen (Ok loaded) loads.are_told loads.runs)
+    by_run (told_outcome refused.ReadFault (load_work (chosen_of asked)) (file_of files (input_path asked)) loads.seen (Ok loaded) loads.are_told loads.runs)
   where
-    by_run : (let found : Result Loaded Refusal = Ok loaded in found ≡ outcome load_work (file_of files (input_path asked))) ⊎ ((one : Input) × (let found : Result Loaded Refusal = Ok loaded in found ≡ Err (refused.ReadFault one)))
-        → outcome load_work (file_of files (input_path asked)) ≡ Ok loaded
+    by_run : (let found : Result Loaded Refusal = Ok loaded in found ≡ outcome (load_work (chosen_of asked)) (file_of files (input_path asked))) ⊎ ((one : Input) × (let found : Result Loaded Refusal = Ok loaded in found ≡ Err (refused.ReadFault one)))
+        → outcome (load_work (chosen_of asked)) (file_of files (input_path asked)) ≡ Ok loaded
     by_run (inl is) = sym is
     by_run (inr clash) =
         let refusal : (let found : Result Loaded Refusal = Ok loaded in found) ≡ Err (refused.ReadFault clash.0) = clash.1 in
@@ -150,26 +170,27 @@ module _ (given : Given) (loaded : Loaded) (graph : GraphParts) (made : MapBytes
 fits_by : (held : Option (List ℕ)) (bytes : List ℕ) → held ≡ Some bytes → IfSome held (λ b. is_within File (length b) ≡ true) → is_within File (length bytes) ≡ true
 fits_by held bytes is fits = subst (λ (h : Option (List ℕ)). IfSome h (λ b. is_within File (length b) ≡ true)) is fits
 
-pub says_yes : (feed : List ℕ) (paths : MapPaths) (files later : List (List ℕ × List ℕ)) (made : Written)
-    → (written : IsMapWritten (Some files) (make feed paths) paths made) → LieAsMade files later feed paths made
-    → outcome (work (check feed paths)) (file_of later (input_path (check feed paths))) ≡ Ok (said (best_line written.is_made.cost))
-says_yes feed paths files later made written lie =
-    let before : Given = file_of files (input_path (make feed paths)) in
-    let given : Given = file_of later (input_path (check feed paths)) in
+pub says_yes : (feed : List ℕ) (paths : MapPaths) (chosen : Chosen) (files later : List (List ℕ × List ℕ)) (made : Written)
+    → (written : IsMapWritten (Some files) (make feed paths chosen) paths made) → LieAsMade files later feed paths chosen made
+    → outcome (work (check feed paths chosen)) (file_of later (input_path (check feed paths chosen))) ≡ Ok (said (best_line written.is_made.cost))
+says_yes feed paths chosen files later made written lie =
+    let before : Given = file_of files (input_path (make feed paths chosen)) in
+    let given : Given = file_of later (input_path (check feed paths chosen)) in
     let certified = written.is_made.certified in
-    let loads : outcome load_work given ≡ Ok written.loaded = same_tables load_work before given load_alone lie.same_feed ∙ loads_are files (make feed paths) written.loaded written.loads in
-    then_outcome load_work with_loaded given written.loaded loads
+    let same : ReadsSame before given (load_work chosen) = load_same before given chosen (settings_lie files later chosen.settings lie.same_settings) lie.same_feed in
+    let loads : outcome (load_work chosen) given ≡ Ok written.loaded = same_outcome before given (load_work chosen) same ∙ loads_are files (make feed paths chosen) written.loaded written.loads in
+    then_outcome (load_work chosen) with_loaded given written.loaded loads
     ∙ after_loading given written.loaded certified.graph written.made written.is_made.cost
     (lie.certificate ∙ written.certificate) (fits_by (held_by (Path paths.certificate) made) written.made.certificate written.certificate lie.certificate_fits)
     (lie.map ∙ written.map) (fits_by (held_by (Path paths.picture) made) written.made.svg written.map lie.map_fits)
     certified.of_feed written.is_made.accepted
 
-pub ends_with_yes : (feed : List ℕ) (paths : MapPaths) (files later : List (List ℕ × List ℕ)) (made : Written) (files_rose rose : Type 0) (old new : Written) (ended : Status)
-    → (written : IsMapWritten (Some files) (make feed paths) paths made) → LieAsMade files later feed paths made
-    → Ends (Some (check feed paths)) (Some later) files_rose rose (Some old) (Some new) ended → (files_rose → ⊥) → (rose → ⊥)
+pub ends_with_yes : (feed : List ℕ) (paths : MapPaths) (chosen : Chosen) (files later : List (List ℕ × List ℕ)) (made : Written) (files_rose rose : Type 0) (old new : Written) (ended : Status)
+    → (written : IsMapWritten (Some files) (make feed paths chosen) paths made) → LieAsMade files later feed paths chosen made
+    → Ends (Some (check feed paths chosen)) (Some later) files_rose rose (Some old) (Some new) ended → (files_rose → ⊥) → (rose → ⊥)
     → ((ended ≡ status.Done) × SaysBest old new written.is_made.cost) ⊎ (ended ≡ status.NoMemory)
-ends_with_yes feed paths files later made files_rose rose old new ended written lie finish told steady =
-    by_end (is_done (check feed paths) later files_rose rose old new ended (said (best_line written.is_made.cost)) finish (says_yes feed paths files later made written lie) told steady)
+ends_with_yes feed paths chosen files later made files_rose rose old new ended written lie finish told steady =
+    by_end (is_done (check feed paths chosen) later files_rose rose old new ended (said (best_line written.is_made.cost)) finish (says_yes feed paths chosen files later made written lie) told steady)
   where
     by_end : ((ended ≡ status.Done) × ((target : Target) → held_by target new ≡ held_after target (said (best_line written.is_made.cost)) (held_by target old))) ⊎ (ended ≡ status.NoMemory)
         → ((ended ≡ status.Done) × SaysBest old new written.is_made.cost) ⊎ (ended ≡ status.NoMemory)

@@ -16,7 +16,7 @@ use Rattle.map_cli.specs.declared.input.Input.{Input}
 use Rattle.map_cli.specs.declared.input.Input.TheVariants as input
 use Rattle.map_cli.specs.declared.refusal.Refusal.{Refusal}
 use Rattle.map_cli.specs.declared.refusal.Refusal.TheVariants as refused
-use Rattle.map_cli.specs.Words.{Asked}
+use Rattle.command_words.specs.Asked.{Asked}
 use Rattle.map_cli.specs.Inputs.{feed_of, input_path}
 use Rattle.map_cli.specs.Refusals.{of_feed}
 use Rattle.map_cli.specs.Commands.{given_by, table_work, tables_work}

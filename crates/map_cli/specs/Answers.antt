@@ -9,7 +9,7 @@ use Rattle.map_cli.specs.declared.refusal.Refusal.{Refusal}
 use Rattle.map_cli.specs.declared.refusal.Refusal.TheVariants as refused
 use Rattle.map_cli.specs.declared.status.Status.{Status}
 use Rattle.map_cli.specs.declared.status.Status.TheVariants as status
-use Rattle.map_cli.specs.Words.{MapPaths}
+use Rattle.command_words.specs.Asked.{MapPaths}
 
 -- a text that goes to standard output
 abbrev pub said : List ℕ → List Output
@@ -35,6 +35,7 @@ status_of paths (refused.NoRoute seg) = status.NoRoute seg
 status_of paths (refused.Spent component branches) = status.Spent component branches
 status_of paths (refused.Limit limit) = status.Limit limit
 status_of paths (refused.Refuted item) = status.Refuted item
+status_of paths (refused.BadSettings why) = status.BadSettings why
 status_of paths (refused.ReadFault input) = status.ReadFault (paths input)
 status_of paths refused.NoMemory = status.NoMemory
 

@@ -3,7 +3,7 @@ use Rattle.std.specs.Prelude.{ℕ, true, false, List, length, Option, None, Some
 use Rattle.map_base.specs.declared.limit.Limit.{Limit}
 use Rattle.map_base.specs.declared.limit.LimitKind.TheVariants.{File}
 use Rattle.map_base.specs.Limits.{is_within, limit_of}
-use Rattle.map_base.specs.Settings.{standard_choices}
+use Rattle.map_base.specs.Settings.{Choices, standard_choices}
 use Rattle.table_rows.specs.declared.why.Table.{Table}
 use Rattle.table_rows.specs.declared.why.Table.TheVariants.{Routes, Stops, Trips, Shapes, StopTimes}
 use Rattle.table_rows.specs.declared.fault.FeedFault.{FeedFault}
@@ -18,6 +18,9 @@ use Rattle.map_engine.specs.declared.fault.CheckFault.{CheckFault}
 use Rattle.map_engine.specs.Making.{MapBytes, make_outcome}
 use Rattle.map_engine.specs.Readings.{certificate_in}
 use Rattle.map_engine.specs.Checking.{PlainChecked, checked_text, pictured}
+use Rattle.map_settings.specs.declared.fault.SettingsWhy.{SettingsWhy}
+use Rattle.map_settings.specs.declared.fault.SettingsWhy.TheVariants as why
+use Rattle.map_settings.specs.Outcome.{settings_outcome}
 use Rattle.command_run.specs.declared.output.Output.{Output}
 use Rattle.command_run.specs.Work.{Work, ends, reads, ◌>>=◌}
 use Rattle.map_cli.specs.declared.input.Input.{Input}
@@ -30,7 +33,7 @@ use Rattle.map_cli.specs.Refusals.{of_feed, of_make, of_check}
 use Rattle.map_cli.specs.Answers.{said, map_outputs}
 use Rattle.map_cli.specs.Lines.{best_line}
 use Rattle.map_cli.specs.Stations.{stations_text}
-use Rattle.map_cli.specs.Words.{Asked, MapPaths, stations, graph, make, check}
+use Rattle.command_words.specs.Asked.{Asked, Chosen, MapPaths, stations, graph, make, check}
 
 -- what a table gives, or its refusal
 abbrev pub given_by : {A : Type 0} → Result A FeedFault → Work Input Refusal A
@@ -51,11 +54,41 @@ tables_work types = do
   places ← table_work StopTimes (λ file. stop_times_outcome trips stops.known (λ _. file))
   ends (Ok (feed_of routes stops trips shapes places))
 
--- the settings where a user sets none, and the tables by them
-abbrev pub load_work : Work Input Refusal Loaded
-load_work = do
-  feed ← tables_work standard_choices.types
-  ends (Ok (record { settings = standard_choices; tables = feed }))
+-- what is read of a file, if it is there: all its bytes, where these are not too many
+abbrev pub file_outcome : Option (List ℕ) → Result (Option (List ℕ)) Refusal
+file_outcome None = Ok None
+file_outcome (Some bytes) = if is_within File (length bytes) then Ok (Some bytes) else Err (refused.Limit (limit_of File))
+
+-- a file that is no table is read
+abbrev pub file_work : Input → Work Input Refusal (Option (List ℕ))
+file_work role = reads role (λ file. ends (file_outcome file))
+
+-- the settings that a file of settings gives, or why it gives none; it has to be there
+abbrev pub settings_given : Result Choices SettingsWhy → Result Choices Refusal
+settings_given (Ok choices) = Ok choices
+settings_given (Err why) = Err (refused.BadSettings why)
+
+abbrev pub settings_in : Option (List ℕ) → Result Choices Refusal
+settings_in None = Err (refused.BadSettings why.Missing)
+settings_in (Some bytes) = settings_given (settings_outcome bytes)
+
+-- a file of settings is read
+abbrev pub settings_file_work : Work Input Refusal Choices
+settings_file_work = do
+  file ← file_work input.Settings
+  ends (settings_in file)
+
+-- the settings by the file that the user names, or the standard ones
+abbrev pub settings_by : Option (List ℕ) → Work Input Refusal Choices
+settings_by None = ends (Ok standard_choices)
+settings_by (Some path) = settings_file_work
+
+-- the settings come first, and then the tables by them
+abbrev pub load_work : Chosen → Work Input Refusal Loaded
+load_work chosen = do
+  settings ← settings_by chosen.settings
+  feed ← tables_work settings.types
+  ends (Ok (record { settings = settings; tables = feed }))
 
 -- `stations`: `stops.txt` alone is read, and a line printed for each station
 abbrev pub stations_work : Work Input Refusal (List Output)
@@ -69,9 +102,9 @@ drawn feed (Ok parts) = Ok (said (graph_text feed.stations parts))
 drawn feed (Err limit) = Err (refused.Limit limit)
 
 -- `graph`: the line graph of the feed is printed
-abbrev pub graph_work : Work Input Refusal (List Output)
-graph_work = do
-  loaded ← load_work
+abbrev pub graph_work : Chosen → Work Input Refusal (List Output)
+graph_work chosen = do
+  loaded ← load_work chosen
   ends (drawn loaded.tables (graph_outcome loaded.settings.near loaded.tables))
 
 -- the files of a map that is made, or why there is none
@@ -80,19 +113,10 @@ made_at paths (Ok made) = Ok (map_outputs paths made)
 made_at paths (Err fault) = Err (of_make fault)
 
 -- `make`: the map of the feed is made, and its certificate
-abbrev pub make_work : MapPaths → Work Input Refusal (List Output)
-make_work paths = do
-  loaded ← load_work
+abbrev pub make_work : Chosen → MapPaths → Work Input Refusal (List Output)
+make_work chosen paths = do
+  loaded ← load_work chosen
   ends (made_at paths (make_outcome loaded.tables loaded.settings))
-
--- what is read of a file, if it is there: all its bytes, where these are not too many
-abbrev pub file_outcome : Option (List ℕ) → Result (Option (List ℕ)) Refusal
-file_outcome None = Ok None
-file_outcome (Some bytes) = if is_within File (length bytes) then Ok (Some bytes) else Err (refused.Limit (limit_of File))
-
--- a file that is no table is read
-abbrev pub file_work : Input → Work Input Refusal (Option (List ℕ))
-file_work role = reads role (λ file. ends (file_outcome file))
 
 -- what a check gives, or the item that it refuses
 abbrev pub checked_as : {A : Type 0} → Result A CheckFault → Result A Refusal
@@ -132,9 +156,9 @@ built (Ok parts) = Ok parts
 built (Err limit) = Err (refused.Limit limit)
 
 -- `check`: the line graph of the feed comes first, then the certificate, and last the map
-abbrev pub check_work : Work Input Refusal (List Output)
-check_work = do
-  loaded ← load_work
+abbrev pub check_work : Chosen → Work Input Refusal (List Output)
+check_work chosen = do
+  loaded ← load_work chosen
   parts ← ends (built (graph_outcome loaded.settings.near loaded.tables))
   checked ← certificate_work loaded parts
   picture_work checked
@@ -142,6 +166,6 @@ check_work = do
 -- what is asked for
 abbrev pub work : Asked → Work Input Refusal (List Output)
 work (stations feed) = stations_work
-work (graph feed) = graph_work
-work (make feed paths) = make_work paths
-work (check feed paths) = check_work
+work (graph feed chosen) = graph_work chosen
+work (make feed paths chosen) = make_work chosen paths
+work (check feed paths chosen) = check_work chosen

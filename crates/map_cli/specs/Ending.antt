@@ -1,5 +1,5 @@
 -- How a run ends: what its targets hold then, and which status it has.
-use Rattle.std.specs.Prelude.{◌≡◌, ◌≢◌, ℕ, ◌⊎◌, List, [], ◌++◌, take, Option, None, Some, Result, Err, IfSome, ⊤}
+use Rattle.std.specs.Prelude.{◌≡◌, ◌≢◌, ℕ, ◌⊎◌, List, [], ◌++◌, take, Option, None, Some, Result, Err, IfSome, string_bytes, ⊤}
 use Rattle.files_door.specs.Targets.{Written}
 use Rattle.files_door.specs.Acts.{Does}
 use Rattle.command_run.specs.declared.output.Output.{Output}
@@ -9,13 +9,14 @@ use Rattle.command_run.specs.Work.{Seen, Runs}
 use Rattle.command_run.specs.Delivered.{IsDelivered, line_acts, no_memory_line}
 use Rattle.command_run.specs.Held.{line_outputs}
 use Rattle.map_cli.specs.declared.answer.Answer.{Answer}
+use Rattle.map_cli.specs.declared.answer.Reply.{Reply}
 use Rattle.map_cli.specs.declared.input.Input.{Input}
 use Rattle.map_cli.specs.declared.refusal.Refusal.{Refusal}
 use Rattle.map_cli.specs.declared.refusal.Refusal.TheVariants as refused
 use Rattle.map_cli.specs.declared.status.Status.{Status}
 use Rattle.map_cli.specs.declared.status.Status.TheVariants as status
 use Rattle.map_cli.specs.Lines.{status_line}
-use Rattle.map_cli.specs.Words.{Asked}
+use Rattle.command_words.specs.Asked.{Asked}
 use Rattle.map_cli.specs.Inputs.{input_path}
 use Rattle.map_cli.specs.Answers.{alone, answer_by}
 use Rattle.map_cli.specs.Commands.{work}
@@ -33,6 +34,10 @@ IsAnswerTo (Some asked) told rose answer =
 -- a line that the status may print
 abbrev pub IsLineOf : Status → List ℕ → Type 0
 IsLineOf ended line = IfSome (status_line ended) (λ defined. line ≡ defined)
+
+-- an answer to what the words ask for, with a line that its status may print
+abbrev pub IsReplyTo : Option Asked → Option (List (List ℕ × List ℕ)) → Type 0 → Reply → Type 0
+IsReplyTo asked told rose reply = IsAnswerTo asked told rose reply.answer × IsLineOf reply.answer.status (string_bytes reply.line)
 
 -- the status of a run by its answer, and by how the delivery of its outputs ended
 abbrev pub status_after : Status → Ending → Status
@@ -75,6 +80,7 @@ IsCaused asked files_rose sinks_rose status.WriteFault = sinks_rose
 -- a feed is refused or worked on only where the words name one
 IsCaused asked files_rose sinks_rose status.Done = asked ≢ None
 IsCaused asked files_rose sinks_rose (status.Refuted item) = asked ≢ None
+IsCaused asked files_rose sinks_rose (status.BadSettings why) = asked ≢ None
 IsCaused asked files_rose sinks_rose (status.BadRow table row why) = asked ≢ None
 IsCaused asked files_rose sinks_rose (status.NoRoute seg) = asked ≢ None
 IsCaused asked files_rose sinks_rose (status.Spent component branches) = asked ≢ None

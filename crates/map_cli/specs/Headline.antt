@@ -10,7 +10,7 @@ use Rattle.table_rows.specs.Folder.{path_in}
 use Rattle.map_engine.specs.Making.{MapBytes, make_outcome}
 use Rattle.map_engine.specs.Promises.{IsMade}
 use Rattle.map_cli.specs.declared.loaded.Loaded.{Loaded}
-use Rattle.map_cli.specs.Words.{Asked, MapPaths, stations, graph, make, check}
+use Rattle.command_words.specs.Asked.{Asked, Chosen, MapPaths, stations, graph, make, check}
 use Rattle.map_cli.specs.Lines.{best_line}
 use Rattle.map_cli.specs.Promises.{Loads, IsAccepted}
 
@@ -44,14 +44,15 @@ pub record IsMapAccepted (told : Option (List (List ℕ × List ℕ))) (asked : 
 -- what status 0 means, by the command
 abbrev pub MeansDone : Option (List (List ℕ × List ℕ)) → Asked → Written → Written → Type 0
 MeansDone told (stations feed) old new = ⊤
-MeansDone told (graph feed) old new = ⊤
-MeansDone told (make feed paths) old new = IsMapWritten told (make feed paths) paths new
-MeansDone told (check feed paths) old new = IsMapAccepted told (check feed paths) paths old new
+MeansDone told (graph feed chosen) old new = ⊤
+MeansDone told (make feed paths chosen) old new = IsMapWritten told (make feed paths chosen) paths new
+MeansDone told (check feed paths chosen) old new = IsMapAccepted told (check feed paths chosen) paths old new
 
--- Later files: the feed is as it was, and the map and the certificate lie at their paths as a run of `make` left them, none
+-- Later files: the feed and the file of settings, if one is named, are as they were, and the map and the certificate lie at their paths as a run of `make` left them, none
 -- of the two longer than a file may be.
-pub record LieAsMade (files later : List (List ℕ × List ℕ)) (feed : List ℕ) (paths : MapPaths) (new : Written) : Type 0 where
+pub record LieAsMade (files later : List (List ℕ × List ℕ)) (feed : List ℕ) (paths : MapPaths) (chosen : Chosen) (new : Written) : Type 0 where
   pub same_feed : (table : Table) → file_at later (path_in feed table) ≡ file_at files (path_in feed table)
+  pub same_settings : IfSome chosen.settings (λ path. file_at later path ≡ file_at files path)
   pub map : file_at later paths.picture ≡ held_by (Path paths.picture) new
   pub certificate : file_at later paths.certificate ≡ held_by (Path paths.certificate) new
   pub map_fits : IfSome (held_by (Path paths.picture) new) (λ bytes. is_within File (length bytes) ≡ true)

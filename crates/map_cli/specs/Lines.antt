@@ -5,6 +5,8 @@ use Rattle.map_base.specs.Limits.{limit_name}
 use Rattle.table_rows.specs.Folder.{file_name}
 use Rattle.table_rows.specs.declared.why.Why.{Why}
 use Rattle.table_rows.specs.declared.why.Why.TheVariants.{MissingFile, MissingColumn, WrongFields, NotUtf8, EmptyId, RepeatedId, BadLatitude, BadLongitude, BadType, BadColour, BadWhole, UnknownParent, UnknownRoute, UnknownTrip, UnknownStop, RepeatedSequence}
+use Rattle.map_settings.specs.declared.fault.SettingsWhy.{SettingsWhy}
+use Rattle.map_settings.specs.declared.fault.SettingsWhy.TheVariants as settings
 use Rattle.command_run.specs.Delivered.{no_memory_line}
 use Rattle.map_cli.specs.declared.status.Status.{Status}
 use Rattle.map_cli.specs.declared.status.Status.TheVariants as status
@@ -29,6 +31,12 @@ reason_text UnknownTrip = codes "unknown trip"
 reason_text UnknownStop = codes "unknown stop"
 reason_text RepeatedSequence = codes "repeated sequence"
 
+-- why a file of settings gives none, in words; a bad key as it is written
+abbrev pub settings_text : SettingsWhy → List ℕ
+settings_text settings.Missing = codes "missing"
+settings_text settings.NotToml = codes "not toml"
+settings_text (settings.Key key) = key
+
 -- what `check` prints of a map that is accepted
 abbrev pub best_line : ℕ → List ℕ
 best_line cost = codes "best " ++ (decimal cost ++ codes "\n")
@@ -45,6 +53,7 @@ status_number (status.Limit limit) = 6
 status_number (status.ReadFault path) = 7
 status_number status.WriteFault = 8
 status_number status.NoMemory = 9
+status_number (status.BadSettings why) = 10
 
 -- the line that a status prints on standard output, empty for those that print none; the text for words that
 -- are not read is left open
@@ -59,3 +68,4 @@ status_line (status.Limit limit) = Some (codes "limit: " ++ (limit_name limit.wh
 status_line (status.ReadFault path) = Some (codes "read fault: " ++ (path ++ codes "\n"))
 status_line status.WriteFault = Some []
 status_line status.NoMemory = Some no_memory_line
+status_line (status.BadSettings why) = Some (codes "bad settings: " ++ (settings_text why ++ codes "\n"))

@@ -10,15 +10,15 @@ use Rattle.map_cli.specs.declared.input.Input.TheVariants as input
 use Rattle.map_cli.specs.declared.loaded.Loaded.{Loaded}
 use Rattle.map_cli.specs.declared.refusal.Refusal.{Refusal}
 use Rattle.map_cli.specs.declared.refusal.Refusal.TheVariants as refused
-use Rattle.map_cli.specs.Words.{Asked, MapPaths, stations, graph, make, check}
-use Rattle.map_cli.specs.Inputs.{input_path}
+use Rattle.command_words.specs.Asked.{Asked, MapPaths, stations, graph, make, check}
+use Rattle.map_cli.specs.Inputs.{chosen_of, input_path}
 use Rattle.map_cli.specs.Lines.{best_line}
 use Rattle.map_cli.specs.Answers.{said, map_outputs}
 use Rattle.map_cli.specs.Commands.{load_work}
 
 -- the settings and tables that a command works on are those of its feed
 abbrev pub Loads : Option (List (List ℕ × List ℕ)) → Asked → Loaded → Type 0
-Loads told asked loaded = IsRun refused.ReadFault told (input_path asked) load_work (Ok loaded)
+Loads told asked loaded = IsRun refused.ReadFault told (input_path asked) (load_work (chosen_of asked)) (Ok loaded)
 
 -- The outputs of `make` are a map and its certificate, at their paths: those that are defined for the feed. The map shows
 -- exactly the line graph of the feed, in a legal drawing, and no line orders cost less; the check says yes to both.
@@ -50,9 +50,9 @@ pub record AreOfYes (told : Option (List (List ℕ × List ℕ))) (asked : Asked
 -- what a command promises of its outputs, beside that its work comes to them
 abbrev pub Promised : Option (List (List ℕ × List ℕ)) → Asked → List Output → Type 0
 Promised told (stations feed) outputs = ⊤
-Promised told (graph feed) outputs = ⊤
-Promised told (make feed paths) outputs = AreOfMap told (make feed paths) paths outputs
-Promised told (check feed paths) outputs = AreOfYes told (check feed paths) outputs
+Promised told (graph feed chosen) outputs = ⊤
+Promised told (make feed paths chosen) outputs = AreOfMap told (make feed paths chosen) paths outputs
+Promised told (check feed paths chosen) outputs = AreOfYes told (check feed paths chosen) outputs
 
 -- what a result promises: a refusal nothing more
 abbrev pub Keeps : Option (List (List ℕ × List ℕ)) → Asked → Result (List Output) Refusal → Type 0
@@ -68,6 +68,6 @@ SearchesParts told asked before now =
 abbrev pub TakesSteps : Option (List (List ℕ × List ℕ)) → Option Asked → ℕ → ℕ → Type 0
 TakesSteps told None before now = now ≡ before
 TakesSteps told (Some (stations feed)) before now = now ≡ before
-TakesSteps told (Some (graph feed)) before now = now ≡ before
-TakesSteps told (Some (make feed paths)) before now = SearchesParts told (make feed paths) before now
-TakesSteps told (Some (check feed paths)) before now = now ≡ before
+TakesSteps told (Some (graph feed chosen)) before now = now ≡ before
+TakesSteps told (Some (make feed paths chosen)) before now = SearchesParts told (make feed paths chosen) before now
+TakesSteps told (Some (check feed paths chosen)) before now = now ≡ before

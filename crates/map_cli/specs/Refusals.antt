@@ -5,6 +5,8 @@ use Rattle.files_door.specs.declared.reading.DoorFault.{DoorFault}
 use Rattle.files_door.specs.declared.reading.DoorFault.TheVariants as door
 use Rattle.table_rows.specs.declared.fault.FeedFault.{FeedFault}
 use Rattle.table_rows.specs.declared.fault.FeedFault.TheVariants as feed
+use Rattle.map_settings.specs.declared.fault.SettingsFault.{SettingsFault}
+use Rattle.map_settings.specs.declared.fault.SettingsFault.TheVariants as settings
 use Rattle.line_graph.specs.declared.fault.BuildFault.{BuildFault}
 use Rattle.line_graph.specs.declared.fault.BuildFault.TheVariants as build
 use Rattle.map_engine.specs.declared.fault.MakeFault.{MakeFault}
@@ -23,6 +25,11 @@ of_feed (feed.BadRow table row why) = refused.BadRow table row why
 of_feed (feed.Limit limit) = refused.Limit limit
 of_feed (feed.ReadFault table) = refused.ReadFault (input.Table table)
 of_feed feed.NoMemory = refused.NoMemory
+
+-- a file of settings that is refused
+abbrev pub of_settings : SettingsFault → Refusal
+of_settings (settings.Bad why) = refused.BadSettings why
+of_settings settings.NoMemory = refused.NoMemory
 
 -- a line graph that is refused
 abbrev pub of_build : BuildFault → Refusal

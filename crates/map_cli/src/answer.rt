@@ -4,12 +4,12 @@ ghost use Rattle.std.specs.Prelude.{◌≡◌, IfOk};
 ghost use Rattle.map_engine.specs.Making.{bytes_of};
 ghost use Rattle.map_cli.specs.Answers.{alone, answer_by, done, map_outputs, said};
 ghost use Rattle.map_cli.specs.Inputs.{input_path};
-ghost use Rattle.map_cli.specs.Words.{asked_by, paths_by};
+ghost use Rattle.command_words.specs.Asked.{asked_by, paths_by};
 
 use crate::refusal::Refusal;
 use crate::status::Status;
-use crate::words::MapFiles;
 use command_run::Output;
+use command_words::MapFiles;
 use files_door::Target;
 use map_base::{NoMemory, Sequence, Text};
 use map_engine::Made;
@@ -20,6 +20,13 @@ use std::alloc::Global;
 pub struct Answer {
     pub status: Status,
     pub outputs: Sequence<Output>,
+}
+
+/// An answer with the line of its status.
+#[derive(Debug, Drop)]
+pub struct Reply {
+    pub answer: Answer,
+    pub line: String,
 }
 
 /// The one output of a text to standard output.

@@ -6,8 +6,8 @@ ghost use Rattle.files_door.specs.Files.{file_at};
 ghost use Rattle.line_graph.specs.Outcome.{graph_outcome};
 ghost use Rattle.map_engine.specs.Checking.{checked_bytes};
 ghost use Rattle.map_engine.specs.Promises.{IsCertified};
-ghost use Rattle.map_cli.specs.Words.{asked_by};
-ghost use Rattle.map_cli.specs.Inputs.{input_path};
+ghost use Rattle.command_words.specs.Asked.{asked_by};
+ghost use Rattle.map_cli.specs.Inputs.{chosen_of, input_path};
 ghost use Rattle.map_cli.specs.Answers.{said};
 ghost use Rattle.map_cli.specs.Lines.{best_line};
 ghost use Rattle.map_cli.specs.Commands.{best, built, certificate_checked, certificate_work, check_work, picture_checked, picture_work};
@@ -20,8 +20,8 @@ use crate::input_file::read_file;
 use crate::item::Item;
 use crate::loaded::{Loaded, load};
 use crate::refusal::Refusal;
-use crate::words::Command;
 use command_run::Output;
+use command_words::Command;
 use files_door::Files;
 use graph_core::LineGraph;
 use line_graph::build;
@@ -37,7 +37,7 @@ pub fn check_map<F: Files>(
     files: &mut F,
 ) -> Result<Sequence<Output>, Refusal>
     ensures follows { Follows (F.told files.old) (input_path (asked_by command.now))
-        (Rose (F.faults files.old) (F.faults files.new)) (λ outputs. outputs) check_work result }
+        (Rose (F.faults files.old) (F.faults files.new)) (λ outputs. outputs) (check_work (chosen_of (asked_by command.now))) result }
     ensures keeps { IfOk result (AreOfYes (F.told files.old) (asked_by command.now)) }
 {
     let loaded = load(alloc, command, files)?;

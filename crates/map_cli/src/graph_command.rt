@@ -2,16 +2,16 @@
 
 ghost use Rattle.files_door.specs.Fault.{Rose};
 ghost use Rattle.line_graph.specs.Outcome.{graph_outcome};
-ghost use Rattle.map_cli.specs.Words.{asked_by};
-ghost use Rattle.map_cli.specs.Inputs.{input_path};
+ghost use Rattle.command_words.specs.Asked.{asked_by};
+ghost use Rattle.map_cli.specs.Inputs.{chosen_of, input_path};
 ghost use Rattle.map_cli.specs.Commands.{drawn, graph_work};
 ghost use Rattle.map_cli.specs.Following.{Follows, Gives};
 
 use crate::answer::say;
 use crate::loaded::{Loaded, load};
 use crate::refusal::Refusal;
-use crate::words::Command;
 use command_run::Output;
+use command_words::Command;
 use files_door::Files;
 use line_graph::{build, print_graph};
 use map_base::Sequence;
@@ -24,7 +24,7 @@ pub fn print_line_graph<F: Files>(
     files: &mut F,
 ) -> Result<Sequence<Output>, Refusal>
     ensures follows { Follows (F.told files.old) (input_path (asked_by command.now))
-        (Rose (F.faults files.old) (F.faults files.new)) (λ outputs. outputs) graph_work result }
+        (Rose (F.faults files.old) (F.faults files.new)) (λ outputs. outputs) (graph_work (chosen_of (asked_by command.now))) result }
 {
     let loaded = load(alloc, command, files)?;
     draw(alloc, &loaded)

@@ -5,6 +5,8 @@ use table_rows::Table;
 /// A file that a command reads, by its role. Two of them may lie at one path.
 #[derive(Clone, Copy, Debug, PartialEq, Eq)]
 pub enum Input {
+    /// The file of settings.
+    Settings,
     /// A table of the feed.
     Table(Table),
     /// The certificate that is checked.

@@ -3,15 +3,16 @@
 ghost use Rattle.std.specs.Prelude.{◌≡◌, ◌≤◌, option_map, IfOk, IfSome};
 ghost use Rattle.files_door.specs.Fault.{Rose};
 ghost use Rattle.files_door.specs.Files.{file_at};
-ghost use Rattle.map_cli.specs.Words.{asked_by};
+ghost use Rattle.command_words.specs.Asked.{asked_by};
 ghost use Rattle.map_cli.specs.Inputs.{input_path};
 ghost use Rattle.map_cli.specs.Refusals.{not_read};
 ghost use Rattle.map_cli.specs.Commands.{file_work};
 ghost use Rattle.map_cli.specs.Following.{Follows};
 
 use crate::input::Input;
+use crate::paths::path_of;
 use crate::refusal::Refusal;
-use crate::words::Command;
+use command_words::Command;
 use files_door::{DoorFault, Files, read_all};
 use map_base::LimitKind;
 use std::alloc::Global;
@@ -30,7 +31,7 @@ pub fn read_file<F: Files>(
     ensures kept { F.told files.new ≡ F.told files.old }
     ensures later { F.faults files.old ≤ F.faults files.new }
 {
-    let path = command.path_of(alloc, input)?;
+    let path = path_of(alloc, command, input)?;
     match read_all(alloc, files, path.as_str(), LimitKind::File.most()) {
         Ok(bytes) => Ok(Some(bytes)),
         Err(fault) => not_read(input, fault),

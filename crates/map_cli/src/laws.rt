@@ -13,7 +13,7 @@ ghost use Rattle.map_cli.specs.declared.answer.Answer.{Answer};
 ghost use Rattle.map_cli.specs.declared.input.Input.{Input};
 ghost use Rattle.map_cli.specs.declared.status.Status.{Status};
 ghost use Rattle.map_cli.specs.declared.status.Status.TheVariants as status;
-ghost use Rattle.map_cli.specs.Words.{Asked, MapPaths, check, make};
+ghost use Rattle.command_words.specs.Asked.{Asked, Chosen, MapPaths, check, make};
 ghost use Rattle.map_cli.specs.Inputs.{input_path};
 ghost use Rattle.map_cli.specs.Lines.{best_line};
 ghost use Rattle.map_cli.specs.Answers.{alone, answer_by, said};
@@ -75,12 +75,12 @@ pub fn what_is_defined_is_done()
 /// of the map; and a run of it on which no count of faults rises ends with status 0 and prints this cost, or memory ran
 /// out.
 pub fn check_says_yes_to_what_make_wrote()
-    ensures defined { (feed : List ℕ) (paths : MapPaths) (files later : List (List ℕ × List ℕ)) (made : Written)
-        → (written : IsMapWritten (Some files) (make feed paths) paths made) → LieAsMade files later feed paths made
-        → outcome (work (check feed paths)) (file_of later (input_path (check feed paths))) ≡ Ok (said (best_line written.is_made.cost)) }
-    ensures done { (feed : List ℕ) (paths : MapPaths) (files later : List (List ℕ × List ℕ)) (made : Written) (files_before files_now before now : ℕ) (old new : Written) (ended : Status)
-        → (written : IsMapWritten (Some files) (make feed paths) paths made) → LieAsMade files later feed paths made
-        → Ends (Some (check feed paths)) (Some later) (Rose files_before files_now) (Rose before now) (Some old) (Some new) ended
+    ensures defined { (feed : List ℕ) (paths : MapPaths) (chosen : Chosen) (files later : List (List ℕ × List ℕ)) (made : Written)
+        → (written : IsMapWritten (Some files) (make feed paths chosen) paths made) → LieAsMade files later feed paths chosen made
+        → outcome (work (check feed paths chosen)) (file_of later (input_path (check feed paths chosen))) ≡ Ok (said (best_line written.is_made.cost)) }
+    ensures done { (feed : List ℕ) (paths : MapPaths) (chosen : Chosen) (files later : List (List ℕ × List ℕ)) (made : Written) (files_before files_now before now : ℕ) (old new : Written) (ended : Status)
+        → (written : IsMapWritten (Some files) (make feed paths chosen) paths made) → LieAsMade files later feed paths chosen made
+        → Ends (Some (check feed paths chosen)) (Some later) (Rose files_before files_now) (Rose before now) (Some old) (Some new) ended
         → (Rose files_before files_now → ⊥) → (Rose before now → ⊥)
         → ((ended ≡ status.Done) × SaysBest old new written.is_made.cost) ⊎ (ended ≡ status.NoMemory) }
 {}

@@ -2,17 +2,16 @@
 
 ghost use Rattle.std.specs.Prelude.{◌≡◌, IfOk, IfSome, string_bytes};
 ghost use Rattle.table_rows.specs.Folder.{file_name};
-ghost use Rattle.map_cli.specs.Lines.{status_line, reason_text};
+ghost use Rattle.map_cli.specs.Lines.{reason_text, settings_text, status_line};
 
-use crate::help::usage_text;
 use crate::status::Status;
 use map_base::NoMemory;
+use map_settings::SettingsWhy;
 use std::alloc::Global;
 use table_rows::{Table, Why};
 
-/// The line that standard output gets for a status, empty where there is none. For words that are not read
-/// it is the help.
-pub fn line_of(alloc: Global, status: &Status, words: &[String]) -> Result<String, NoMemory>
+/// The line that standard output gets for a status, empty where there is none.
+pub fn line_of(alloc: Global, status: &Status) -> Result<String, NoMemory>
     ensures { IfOk result (λ line. IfSome (status_line status.now) (λ defined. string_bytes line ≡ defined)) }
 {
     match status {
@@ -21,7 +20,7 @@ pub fn line_of(alloc: Global, status: &Status, words: &[String]) -> Result<Strin
             let item = item.text(alloc)?;
             Ok(format!(in alloc; "refuted: {item}\n")?)
         }
-        Status::Usage => usage_text(alloc, words),
+        Status::Usage => Ok(String::new(alloc)),
         Status::BadRow { table, row, why } => {
             let name = file_name(*table);
             let reason = reason_text(*why);
@@ -47,6 +46,10 @@ pub fn line_of(alloc: Global, status: &Status, words: &[String]) -> Result<Strin
         }
         Status::WriteFault => Ok(String::new(alloc)),
         Status::NoMemory => Ok(String::from_str(alloc, "no memory\n")?),
+        Status::BadSettings(why) => {
+            let why = settings_text(why);
+            Ok(format!(in alloc; "bad settings: {why}\n")?)
+        }
     }
 }
 
@@ -60,6 +63,17 @@ pub fn file_name(table: Table) -> &'static str
         Table::Trips => "trips.txt",
         Table::Shapes => "shapes.txt",
         Table::StopTimes => "stop_times.txt",
+    }
+}
+
+/// Why a file of settings gives none, in words; a bad key as it is written.
+fn settings_text(why: &SettingsWhy) -> &str
+    ensures { result.now ≡ settings_text why.now }
+{
+    match why {
+        SettingsWhy::Missing => "missing",
+        SettingsWhy::NotToml => "not toml",
+        SettingsWhy::Key(key) => key.as_str(),
     }
 }
 

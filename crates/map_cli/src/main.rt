@@ -12,7 +12,6 @@ mod failures;
 mod graph_command;
 #[cfg(test)]
 mod graph_tests;
-mod help;
 mod input;
 mod input_file;
 mod item;
@@ -22,14 +21,15 @@ mod loaded;
 mod make_command;
 #[cfg(test)]
 mod map_tests;
+mod paths;
 mod refusal;
 mod run;
+mod settings;
 mod stations;
 mod stations_command;
 mod status;
 #[cfg(test)]
 mod tests;
-mod words;
 
 use crate::disk_files::DiskFiles;
 use crate::disk_sinks::DiskSinks;

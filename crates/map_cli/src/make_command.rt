@@ -5,8 +5,8 @@ ghost use Rattle.files_door.specs.Fault.{Rose};
 ghost use Rattle.map_engine.specs.Making.{MapBytes, make_outcome};
 ghost use Rattle.map_engine.specs.Keeping.{branches_left};
 ghost use Rattle.map_engine.specs.Promises.{IsMade};
-ghost use Rattle.map_cli.specs.Words.{asked_by, paths_by};
-ghost use Rattle.map_cli.specs.Inputs.{input_path};
+ghost use Rattle.command_words.specs.Asked.{asked_by, paths_by};
+ghost use Rattle.map_cli.specs.Inputs.{chosen_of, input_path};
 ghost use Rattle.map_cli.specs.Answers.{map_outputs};
 ghost use Rattle.map_cli.specs.Commands.{made_at, make_work};
 ghost use Rattle.map_cli.specs.Following.{Follows, Gives};
@@ -15,8 +15,8 @@ ghost use Rattle.map_cli.specs.Promises.{AreOfMap, SearchesParts};
 use crate::answer::write_map;
 use crate::loaded::{Loaded, load};
 use crate::refusal::Refusal;
-use crate::words::{Command, MapFiles};
 use command_run::Output;
+use command_words::{Command, MapFiles};
 use files_door::Files;
 use map_base::{Sequence, Steps};
 use map_engine::{Kept, make};
@@ -32,7 +32,7 @@ pub fn make_map<F: Files, L: Ledger>(
     steps: &mut Steps<L>,
 ) -> Result<Sequence<Output>, Refusal>
     ensures follows { Follows (F.told files.old) (input_path (asked_by command.now))
-        (Rose (F.faults files.old) (F.faults files.new)) (λ outputs. outputs) (make_work (paths_by map_files.now)) result }
+        (Rose (F.faults files.old) (F.faults files.new)) (λ outputs. outputs) (make_work (chosen_of (asked_by command.now)) (paths_by map_files.now)) result }
     ensures keeps { IfOk result (AreOfMap (F.told files.old) (asked_by command.now) (paths_by map_files.now)) }
     ensures steps { SearchesParts (F.told files.old) (asked_by command.now) steps.old steps.new }
 {

@@ -2,13 +2,14 @@
 
 ghost use Rattle.std.specs.Prelude.{◌≡◌};
 ghost use Rattle.map_cli.specs.declared.refusal.Refusal.TheVariants as refused;
-ghost use Rattle.map_cli.specs.Refusals.{of_build, of_check, of_feed, of_make};
+ghost use Rattle.map_cli.specs.Refusals.{of_build, of_check, of_feed, of_make, of_settings};
 
 use crate::input::Input;
 use crate::item::Item;
 use line_graph::BuildFault;
 use map_base::{Limit, NoMemory, SegId};
 use map_engine::{CheckFault, MakeFault};
+use map_settings::{SettingsFault, SettingsWhy};
 use table_rows::{FeedFault, Table, Why};
 
 /// Why a command came to no result.
@@ -26,6 +27,8 @@ pub enum Refusal {
     Limit(Limit),
     /// This is the first item of a map and its certificate that is refused.
     Refuted(Item),
+    /// The file of settings gives none, for this reason.
+    BadSettings(SettingsWhy),
     /// This input could not be read.
     ReadFault { input: Input },
     /// The allocator had no room.
@@ -51,6 +54,17 @@ impl From<FeedFault> for Refusal {
                 input: Input::Table(table),
             },
             FeedFault::NoMemory => Refusal::NoMemory,
+        }
+    }
+}
+
+impl From<SettingsFault> for Refusal {
+    ghost from_gives = { λ fault refusal. refusal ≡ of_settings fault };
+
+    fn from(fault: SettingsFault) -> Refusal {
+        match fault {
+            SettingsFault::Bad(why) => Refusal::BadSettings(why),
+            SettingsFault::NoMemory => Refusal::NoMemory,
         }
     }
 }

@@ -1,26 +1,28 @@
 //! All that the program does, over any files and sinks.
 
-ghost use Rattle.std.specs.Prelude.{◌≡◌, ◌≢◌, ◌⊎◌, None, Some, IfOk, IfSome};
+ghost use Rattle.std.specs.Prelude.{◌≡◌, ◌≢◌, ◌⊎◌, None, Some, IfOk, IfSome, string_bytes};
 ghost use Rattle.files_door.specs.Fault.{Rose};
-ghost use Rattle.map_cli.specs.Words.{asked_by, asked_in};
+ghost use Rattle.command_words.specs.Asked.{asked_by};
+ghost use Rattle.command_words.specs.Words.{asked_in};
 ghost use Rattle.map_cli.specs.Inputs.{input_path};
 ghost use Rattle.map_cli.specs.Answers.{alone, status_of};
 ghost use Rattle.map_cli.specs.Commands.{work};
 ghost use Rattle.map_cli.specs.Following.{Follows};
 ghost use Rattle.map_cli.specs.Promises.{Keeps, TakesSteps};
-ghost use Rattle.map_cli.specs.Ending.{Ends, IsAnswerTo, IsCaused, IsOutOfMemory, IsWritten};
+ghost use Rattle.map_cli.specs.Ending.{Ends, IsAnswerTo, IsCaused, IsLineOf, IsOutOfMemory, IsReplyTo, IsWritten};
 ghost use Rattle.map_cli.specs.Headline.{MeansDone};
 
-use crate::answer::{Answer, end_with, finished};
+use crate::answer::{Answer, Reply, end_with, finished};
 use crate::check_command::check_map;
 use crate::graph_command::print_line_graph;
 use crate::line::line_of;
 use crate::make_command::make_map;
+use crate::paths::path_of;
 use crate::refusal::Refusal;
 use crate::stations_command::print_stations;
 use crate::status::Status;
-use crate::words::{Command, command_of};
 use command_run::{Ending, Output, deliver, out_of_memory};
+use command_words::{Command, WordsFault, command_of};
 use files_door::{Files, Sinks};
 use map_base::{NoMemory, Sequence, Steps};
 use std::alloc::Global;
@@ -81,20 +83,19 @@ fn ended_run<F: Files, S: Sinks, L: Ledger>(
         (S.written sinks.old) (S.written sinks.new) result }
     ensures steps { TakesSteps (F.told files.old) (asked_in words.now) steps.old steps.new }
 {
-    match answer_of(alloc, words, files, steps) {
-        Ok(answer) => write_answer(alloc, answer, words, sinks),
+    match reply_of(alloc, words, files, steps) {
+        Ok(reply) => write_reply(reply, sinks),
         Err(NoMemory) => end_without_memory(sinks),
     }
 }
 
 /// Writes an answer, and the line of its status.
-fn write_answer<S: Sinks>(alloc: Global, answer: Answer, words: &[String], sinks: &mut S) -> Status
-    ensures written { IsWritten answer (Rose (S.faults sinks.old) (S.faults sinks.new))
+fn write_reply<S: Sinks>(reply: Reply, sinks: &mut S) -> Status
+    requires line { IsLineOf reply.answer.status (string_bytes reply.line) }
+    ensures written { IsWritten reply.answer (Rose (S.faults sinks.old) (S.faults sinks.new))
         (S.written sinks.old) (S.written sinks.new) result }
 {
-    let Ok(line) = line_of(alloc, &answer.status, words) else {
-        return end_without_memory(sinks);
-    };
+    let Reply { answer, line } = reply;
     let Answer { status, outputs } = answer;
     match deliver(outputs.as_slice(), line.as_str(), sinks) {
         Ending::Whole => status,
@@ -112,19 +113,49 @@ fn end_without_memory<S: Sinks>(sinks: &mut S) -> Status
 }
 
 /// What the words ask for, worked out over the files.
-fn answer_of<F: Files, L: Ledger>(
+fn reply_of<F: Files, L: Ledger>(
     alloc: Global,
     words: &[String],
     files: &mut F,
     steps: &mut Steps<L>,
-) -> Result<Answer, NoMemory>
-    ensures answer { IfOk result (IsAnswerTo (asked_in words.now) (F.told files.old)
+) -> Result<Reply, NoMemory>
+    ensures reply { IfOk result (IsReplyTo (asked_in words.now) (F.told files.old)
         (Rose (F.faults files.old) (F.faults files.new))) }
     ensures steps { TakesSteps (F.told files.old) (asked_in words.now) steps.old steps.new }
 {
-    match command_of(words) {
-        Some(command) => answer_to(alloc, &command, files, steps),
-        None => Ok(end_with(alloc, Status::Usage)),
+    match command_of(alloc, words) {
+        Ok(command) => reply_to(alloc, &command, files, steps),
+        Err(fault) => unread(alloc, fault),
+    }
+}
+
+/// What a command comes to over the files, with the line of its status.
+fn reply_to<F: Files, L: Ledger>(
+    alloc: Global,
+    command: &Command<'_>,
+    files: &mut F,
+    steps: &mut Steps<L>,
+) -> Result<Reply, NoMemory>
+    ensures reply { IfOk result (IsReplyTo (Some (asked_by command.now)) (F.told files.old)
+        (Rose (F.faults files.old) (F.faults files.new))) }
+    ensures steps { TakesSteps (F.told files.old) (Some (asked_by command.now)) steps.old steps.new }
+{
+    let answer = answer_to(alloc, command, files, steps)?;
+    let line = line_of(alloc, &answer.status)?;
+    Ok(Reply { answer, line })
+}
+
+/// The words are not read: the text for the user is the line.
+fn unread(alloc: Global, fault: WordsFault) -> Result<Reply, NoMemory>
+    ensures usage { IfOk result (λ reply. reply.answer ≡ alone Status.Usage) }
+    ensures memory { IfOk result (λ _. fault ≢ WordsFault.NoMemory) }
+{
+    match fault {
+        WordsFault::Usage(line) => Ok(Reply {
+            answer: end_with(alloc, Status::Usage),
+            line,
+        }),
+        WordsFault::NoMemory => Err(NoMemory),
     }
 }
 
@@ -158,8 +189,8 @@ fn carry_out<F: Files, L: Ledger>(
     ensures steps { TakesSteps (F.told files.old) (Some (asked_by command.now)) steps.old steps.new }
 {
     match command {
-        Command::Stations(_) => print_stations(alloc, command, files),
-        Command::Graph(_) => print_line_graph(alloc, command, files),
+        Command::Stations { .. } => print_stations(alloc, command, files),
+        Command::Graph { .. } => print_line_graph(alloc, command, files),
         Command::Make {
             files: map_files,
             ..
@@ -185,8 +216,9 @@ fn refuse(alloc: Global, command: &Command<'_>, refusal: Refusal) -> Result<Answ
         },
         Refusal::Limit(limit) => Status::Limit(limit),
         Refusal::Refuted(item) => Status::Refuted(item),
+        Refusal::BadSettings(why) => Status::BadSettings(why),
         Refusal::ReadFault { input } => Status::ReadFault {
-            path: command.path_of(alloc, input)?,
+            path: path_of(alloc, command, input)?,
         },
         Refusal::NoMemory => return Err(NoMemory),
     };

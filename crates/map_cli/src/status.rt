@@ -4,6 +4,7 @@ ghost use Rattle.std.specs.Prelude.{◌≡◌};
 
 use crate::item::Item;
 use map_base::{Limit, SegId, Text};
+use map_settings::SettingsWhy;
 use table_rows::{Table, Why};
 
 /// How a run of the program ended.
@@ -31,6 +32,8 @@ pub enum Status {
     WriteFault,
     /// The allocator had no room.
     NoMemory,
+    /// The file of settings gives none, for this reason.
+    BadSettings(SettingsWhy),
 }
 
 impl Status {
@@ -51,6 +54,7 @@ impl Status {
             Status::ReadFault { .. } => 7,
             Status::WriteFault => 8,
             Status::NoMemory => 9,
+            Status::BadSettings(_) => 10,
         }
     }
 }

@@ -137,35 +137,31 @@ fn a_fault_of_writing_leaves_a_beginning(rt: HostRuntime) -> Result<(), Fail> {
 }
 
 #[test]
-fn words_that_are_not_read_get_the_help(rt: HostRuntime) -> Result<(), Fail> {
+fn words_that_are_not_read_get_a_text(rt: HostRuntime) -> Result<(), Fail> {
     let alloc = rt.alloc();
-    for (line, complaint) in [
-        ("help", "octimap makes"),
-        ("--help", "octimap makes"),
-        (
-            "station feed",
-            "octimap: there is no command \"station\"\n\noctimap makes",
-        ),
+    for (line, beginning) in [
+        ("help", "Makes schematic maps"),
+        ("--help", "Makes schematic maps"),
+        ("help graph", "Print the line graph of a feed"),
+        ("graph --help", "Print the line graph of a feed"),
+        ("station feed", "error: unrecognized subcommand 'station'"),
         (
             "stations",
-            "octimap: stations needs the folder FEED\n\noctimap makes",
+            "error: the following required arguments were not provided:\n  <FEED>\n",
         ),
-        (
-            "graph -x",
-            "octimap: there is no option \"-x\"; a path of that name is ./-x\n\noctimap makes",
-        ),
-        ("graph --help", "octimap makes"),
+        ("graph -x", "error: unexpected argument '-x' found"),
         (
             "stations feed more",
-            "octimap: stations takes the folder FEED and nothing more\n\noctimap makes",
+            "error: unexpected argument 'more' found",
         ),
         (
             "make feed map.svg",
-            "octimap: make needs the folder FEED and the files SVG and CERT\n\noctimap makes",
+            "error: the following required arguments were not provided:\n  <CERT>\n",
         ),
+        ("make feed map map", "error: SVG and CERT are one file"),
         (
-            "make feed map map",
-            "octimap: SVG and CERT are one file\n\noctimap makes",
+            "stations feed --settings my.toml",
+            "error: unexpected argument '--settings' found",
         ),
     ] {
         let words = words_of(alloc, line)?;
@@ -173,8 +169,26 @@ fn words_that_are_not_read_get_the_help(rt: HostRuntime) -> Result<(), Fail> {
         let mut sinks = SteadySinks::none(alloc);
         assert_eq!(rt; run_on(alloc, &words, &mut files, &mut sinks), 2);
         let held = sinks.written(&Target::Said).unwrap_or(b"");
-        assert!(rt; held.starts_with(complaint.as_bytes()), "{line}");
-        assert!(rt; held.ends_with(b"9  no memory\n"), "{line}");
+        assert!(rt; held.starts_with(beginning.as_bytes()), "{line}");
+    }
+    Ok(())
+}
+
+#[test]
+fn a_file_of_settings_comes_first(rt: HostRuntime) -> Result<(), Fail> {
+    let alloc = rt.alloc();
+    let words = words_of(alloc, "graph feed --settings feed/stops.txt")?;
+    for (settings, status, said) in [
+        (None, 10, "bad settings: missing\n"),
+        (Some("near = "), 10, "bad settings: not toml\n"),
+        (Some("near = 19\ncell = 9\n"), 10, "bad settings: cell\n"),
+        (Some("near = 20"), 3, "bad row: routes.txt 0 missing file\n"),
+    ] {
+        let mut files = SteadyFiles::with(feed_with(alloc, settings)?);
+        let mut sinks = SteadySinks::none(alloc);
+        assert_eq!(rt; run_on(alloc, &words, &mut files, &mut sinks), status);
+        let held = sinks.written(&Target::Said).unwrap_or(b"");
+        assert_eq!(rt; held, said.as_bytes());
     }
     Ok(())
 }

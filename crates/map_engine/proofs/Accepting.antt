@@ -1,5 +1,5 @@
 -- The proof of solved parts is accepted.
-use Rattle.std.proofs.Common.{◌≡◌, ◌∙◌, ap, sym, refl, ℕ, ◌+◌, ◌==◌, ◌&&◌, Bool, true, false, cond, List, [], ◌∷◌, length, map, sum_by, arith, eq-eqb, Option, Some, None}
+use Rattle.std.proofs.Common.{◌≡◌, ◌∙◌, ap, sym, refl, ℕ, ◌+◌, ◌==◌, Bool, true, cond, List, [], ◌∷◌, map, sum_by, arith, eq-eqb, Option, Some, None}
 use Rattle.std.specs.List.{AllByRecursion}
 use Rattle.std.proofs.lemmas.Bool.{and_from}
 use Rattle.std.proofs.lemmas.List.Sums.{sum_by-cons}
@@ -14,8 +14,8 @@ use Rattle.order_bound.specs.Accepting.{question, failing}
 use Rattle.order_bound.proofs.Failing.{accepted_exactly}
 use Rattle.order_check.specs.declared.refusal.ProofItem.{ProofItem}
 use Rattle.order_check.specs.declared.refusal.ProofItem.TheVariants as item
-use Rattle.order_check.specs.Verdict.{are_same, first_item, tree_refusal, part_refusal, first_part, targets, total_refusal, first_refused, verdict}
-use Rattle.map_engine.specs.Solving.{SolvedPart, live_of, solved, parts_in, orders_by}
+use Rattle.order_check.specs.Verdict.{are_same, first_item, tree_refusal, part_refusal, first_part, targets, total_refusal, verdict}
+use Rattle.map_engine.specs.Solving.{SolvedPart, live_of, solved, parts_in}
 use Rattle.map_engine.specs.Certificates.{proof_part, proof_of}
 use Rattle.map_engine.specs.Stages.{IsShown}
 use Rattle.map_engine.proofs.PartOrders.{target_sum}

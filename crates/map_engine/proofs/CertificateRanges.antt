@@ -1,5 +1,5 @@
 -- The certificate of a solved drawing is in range, so that it is read again from its text.
-use Rattle.std.proofs.Common.{◌≡◌, ◌∙◌, ap, sym, subst, refl, ℕ, zero, suc, ◌+◌, ◌*◌, ◌<◌, ◌≤◌, ◌==◌, nat_lt, not, Bool, true, false, true≢false, cond, List, [], ◌∷◌, length, map, get_or, sum_by, arith, ltb-true, ◌⊎◌, inl, inr, All, None, Ok, ◌^◌}
+use Rattle.std.proofs.Common.{◌≡◌, ◌∙◌, ap, sym, subst, refl, ℕ, zero, suc, ◌+◌, ◌*◌, ◌<◌, ◌≤◌, ◌==◌, nat_lt, not, Bool, true, false, true≢false, cond, List, [], ◌∷◌, length, map, get_or, arith, ltb-true, ◌⊎◌, inl, inr, All, None, Ok, ◌^◌}
 use Rattle.std.specs.List.{AllByRecursion, Contains, IsDistinct, filter, list_any, range_with_len}
 use Rattle.std.specs.List.Sorted.{IsPermutation}
 use Rattle.std.proofs.lemmas.Bool.{and_from, cases_lt, or_cases}
@@ -23,7 +23,7 @@ use Rattle.order_model.specs.Problems.{lines_on, IsProblem, IsTerm}
 use Rattle.order_model.specs.Costs.{cost_of, is_met, term_cost, weight_of, AreOrders}
 use Rattle.order_model.specs.Places.{has_line}
 use Rattle.order_model.specs.Parts.{AreParts, IsRisingPart}
-use Rattle.order_model.specs.PartTerms.{is_of, numbered_from, part_terms, plain_terms}
+use Rattle.order_model.specs.PartTerms.{is_of, numbered_from, part_terms}
 use Rattle.order_model.specs.Prefixes.{none_placed}
 use Rattle.order_model.proofs.KeptTerms.{plain_kept}
 use Rattle.order_model.proofs.Lines.{order_distinct}
@@ -35,7 +35,7 @@ use Rattle.order_proof.specs.Plain.{PlainPart}
 use Rattle.order_proof.specs.Trees.{HasTrees, IsProofTree}
 use Rattle.order_proof.specs.Forms.{most_id}
 use Rattle.order_proof.specs.Ranges.{AreRisingSegments, IsPartInRange}
-use Rattle.order_bound.specs.Accepting.{question, Question}
+use Rattle.order_bound.specs.Accepting.{question}
 use Rattle.order_search.specs.Finding.{with_lists}
 use Rattle.cert_file.specs.Forms.{are_distinct, is_among}
 use Rattle.cert_file.specs.Ranges.{ArePairs, IsInRange, IsOrder}

@@ -1,50 +1,22 @@
 -- What comes of a check after each of its steps.
-use Rattle.std.proofs.Common.{◌≡◌, ◌∙◌, ap, sym, subst, refl, ℕ, ◌+◌, ◌&&◌, ◌==◌, eqb-true, Bool, true, false, cond, List, [], ◌∷◌, length, Option, Some, None, option_map, Result, Ok, Err}
-use Rattle.map_base.specs.declared.ids.SegId.{SegId}
+use Rattle.std.proofs.Common.{◌≡◌, ◌∙◌, ap, sym, subst, refl, ℕ, ◌+◌, ◌==◌, eqb-true, Bool, true, false, cond, List, [], ◌∷◌, length, Option, Some, None, option_map, Result, Ok, Err}
 use Rattle.map_base.specs.declared.ids.LineId.{LineId}
-use Rattle.map_base.specs.declared.limit.Limit.{Limit}
-use Rattle.map_base.specs.declared.limit_fault.LimitFault.{LimitFault}
-use Rattle.map_base.specs.declared.limit_fault.LimitFault.TheVariants as limit
-use Rattle.map_base.specs.declared.limit.LimitKind.TheVariants.{Terms}
-use Rattle.map_base.specs.Limits.{is_within, limit_of}
-use Rattle.map_base.specs.Faults as limits
 use Rattle.map_base.specs.Settings.{Choices}
 use Rattle.transit_feed.specs.Feeds.{Feed}
 use Rattle.graph_core.specs.declared.parts.GraphParts.{GraphParts}
-use Rattle.line_graph.specs.declared.fault.BuildFault.{BuildFault}
-use Rattle.line_graph.specs.declared.fault.BuildFault.TheVariants as build
-use Rattle.line_graph.specs.Faults as graphs
-use Rattle.line_graph.specs.Outcome.{graph_outcome}
 use Rattle.decimal_text.specs.declared.fault.BadText.{BadText}
 use Rattle.decimal_text.specs.declared.fault.BadText.TheVariants as bad
 use Rattle.decimal_text.specs.Readers.{EndsAs}
-use Rattle.octi_grid.specs.declared.drawing.DrawWhy.{DrawWhy}
-use Rattle.octi_grid.specs.declared.drawing.DrawingStop.{DrawingStop}
-use Rattle.octi_grid.specs.declared.drawing.DrawingStop.TheVariants as drawing
-use Rattle.octi_grid.specs.Legal.{first_illegal}
-use Rattle.octi_grid.specs.Legal as drawings
 use Rattle.order_model.specs.declared.problem.ProblemParts.{ProblemParts}
 use Rattle.order_model.specs.Costs.{cost_of, AreOrders, AreBest}
-use Rattle.order_check.specs.declared.refusal.ProofItem.{ProofItem}
-use Rattle.order_check.specs.declared.refusal.ProofStop.{ProofStop}
-use Rattle.order_check.specs.declared.refusal.ProofStop.TheVariants as proof
-use Rattle.order_check.specs.Verdict as verdicts
-use Rattle.order_check.specs.Verdict.{verdict}
-use Rattle.order_proof.specs.Plain.{PlainProof}
-use Rattle.svg_writer.specs.Picture.{picture_text}
 use Rattle.cert_file.specs.declared.certificate.Certificate.{Certificate}
-use Rattle.cert_file.specs.Plain.{PlainCertificate}
 use Rattle.cert_file.specs.Reading.{certificate_end}
-use Rattle.map_engine.specs.declared.fault.CheckItem.{CheckItem}
-use Rattle.map_engine.specs.declared.fault.CheckItem.TheVariants as item
 use Rattle.map_engine.specs.declared.fault.CheckFault.{CheckFault}
-use Rattle.map_engine.specs.declared.fault.CheckFault.TheVariants as fault
-use Rattle.map_engine.specs.Faults.{graph_stop, text_stop, drawing_stop, terms_stop, proof_stop}
-use Rattle.map_engine.specs.Tables.{names_by}
-use Rattle.map_engine.specs.Problems.{problem_of, problem_within}
+use Rattle.map_engine.specs.Faults.{text_stop}
+use Rattle.map_engine.specs.Problems.{problem_within}
 use Rattle.map_engine.specs.Promises.{CostLeast}
 use Rattle.map_engine.specs.Readings.{certificate_in}
-use Rattle.map_engine.specs.Checking.{walk_refused, walk_item, first_disorder, order_item, cost_item, proof_item, first_difference, picture_item, unless_refused, PlainChecked, unless_costlier, checked_orders, checked_walks, checked_items, checked_text, checked_on, certificate_outcome, pictured, HasCause, Gives}
+use Rattle.map_engine.specs.Checking.{first_difference, checked_text, HasCause, Gives}
 use Rattle.map_engine.proofs.ReadAgain.{wrong_read}
 use Rattle.map_engine.proofs.MadeProblem.{problem_is}
 

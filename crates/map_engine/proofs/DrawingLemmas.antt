@@ -1,10 +1,8 @@
 -- From what each step gives to the drawing of a feed.
-use Rattle.std.proofs.Common.{◌≡◌, ◌∙◌, ap, sym, subst, refl, ℕ, Bool, true, false, cond, List, length, Result, Ok, Err}
+use Rattle.std.proofs.Common.{◌≡◌, ◌∙◌, ap, subst, List, Result, Ok, Err}
 use Rattle.map_base.specs.declared.limit.Limit.{Limit}
-use Rattle.map_base.specs.declared.limit.LimitKind.TheVariants.{Terms}
 use Rattle.map_base.specs.declared.limit_fault.LimitFault.{LimitFault}
 use Rattle.map_base.specs.declared.limit_fault.LimitFault.TheVariants as limit
-use Rattle.map_base.specs.Limits.{is_within, limit_of}
 use Rattle.map_base.specs.Faults as terms
 use Rattle.map_base.specs.Settings.{Choices}
 use Rattle.transit_feed.specs.Feeds.{Feed}
@@ -19,12 +17,8 @@ use Rattle.segment_router.specs.declared.fault.RouteFault.TheVariants as route
 use Rattle.segment_router.specs.Routing.{route_outcome}
 use Rattle.segment_router.specs.Routing as routing
 use Rattle.order_model.specs.declared.problem.ProblemParts.{ProblemParts}
-use Rattle.order_terms.specs.Terms.{graph_terms}
-use Rattle.map_engine.specs.declared.fault.MakeFault.{MakeFault}
-use Rattle.map_engine.specs.declared.fault.MakeFault.TheVariants as fault
 use Rattle.map_engine.specs.Faults.{of_build, of_route, of_terms}
-use Rattle.map_engine.specs.Tables.{importance_by}
-use Rattle.map_engine.specs.Problems.{Drawn, drawn_with, routed_by, drawn_on, drawn_outcome, problem_of, problem_within}
+use Rattle.map_engine.specs.Problems.{Drawn, drawn_with, routed_by, drawn_on, drawn_outcome, problem_within}
 use Rattle.map_engine.specs.Making.{HasCause}
 
 -- a line graph that is refused refuses the drawing

@@ -1,5 +1,5 @@
 -- Small cases of the definitions of the check.
-use Rattle.std.proofs.Common.{◌≡◌, ℕ, pos, true, false, List, [], ◌∷◌, codes, replicate, Option, Some, None, Result, Ok, Err, refl}
+use Rattle.std.proofs.Common.{◌≡◌, ℕ, pos, true, false, [], ◌∷◌, codes, replicate, Some, None, Ok, Err, refl}
 use Rattle.map_base.specs.declared.ids.LineId.{LineId}
 use Rattle.map_base.specs.declared.ids.SegId.{SegId}
 use Rattle.octi_grid.specs.declared.dir.Dir.TheVariants as dir
@@ -8,7 +8,6 @@ use Rattle.decimal_text.specs.Reading as lines
 use Rattle.order_proof.specs.FrontLine as proof_lines
 use Rattle.order_proof.specs.Reading as proofs
 use Rattle.order_proof.specs.Plain.{split, close, no_case, case_of}
-use Rattle.cert_file.specs.Plain.{PlainCertificate}
 use Rattle.cert_file.specs.Forms.{spoken_front}
 use Rattle.map_engine.specs.FrontReadings.{tree_at, part_at, proof_at}
 use Rattle.map_engine.specs.Readings.{certificate_at, certificate_in}

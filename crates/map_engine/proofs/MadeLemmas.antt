@@ -1,5 +1,5 @@
 -- The map of a drawing with line orders and proofs is that of its solved parts.
-use Rattle.std.proofs.Common.{◌≡◌, ◌∙◌, ap, sym, subst, refl, ℕ, ◌+◌, ◌≤◌, Bool, true, false, cond, List, [], ◌∷◌, length, map, sum_by, arith, Result, Ok, Err}
+use Rattle.std.proofs.Common.{◌≡◌, ◌∙◌, ap, sym, refl, ℕ, List, [], ◌∷◌, length, map, sum_by, Ok}
 use Rattle.std.specs.List.{filter}
 use Rattle.std.specs.Prelude.{not}
 use Rattle.map_base.specs.declared.ids.SegId.{SegId}
@@ -10,7 +10,6 @@ use Rattle.order_model.specs.declared.problem.ProblemParts.{ProblemParts}
 use Rattle.order_model.specs.Costs.{cost_of}
 use Rattle.order_proof.specs.Plain.{PlainPart, PlainProof}
 use Rattle.svg_writer.specs.Picture.{picture_text}
-use Rattle.cert_file.specs.Plain.{PlainCertificate}
 use Rattle.cert_file.specs.Text.{certificate_text}
 use Rattle.order_search.specs.FoundParts.{branches_in}
 use Rattle.map_engine.specs.declared.drawn_map.DrawnMap.{DrawnMap}
@@ -18,13 +17,13 @@ use Rattle.map_engine.specs.declared.fault.MakeFault.{MakeFault}
 use Rattle.map_engine.specs.declared.fault.MakeFault.TheVariants as fault
 use Rattle.map_engine.specs.declared.solution.Solution.{Solution}
 use Rattle.map_engine.specs.Tables.{names_by, importance_by}
-use Rattle.map_engine.specs.Problems.{Drawn, drawn_outcome}
+use Rattle.map_engine.specs.Problems.{drawn_outcome}
 use Rattle.map_engine.specs.Solving.{SolvedPart, solve_outcome, orders_by, parts_in}
-use Rattle.map_engine.specs.Certificates.{certificate_of, proof_of, proof_part, line_count, is_weighty, weighed_line, drawn_lines}
+use Rattle.map_engine.specs.Certificates.{line_count, is_weighty, weighed_line, drawn_lines}
 use Rattle.map_engine.specs.Making.{MapBytes, map_of, made_on, made_with, make_outcome, HasCause}
-use Rattle.map_engine.specs.Stages.{drawn_of, certificate_by, map_by, plain_parts, IsSolution}
+use Rattle.map_engine.specs.Stages.{drawn_of, map_by, plain_parts, IsSolution}
 use Rattle.order_search.specs.ByItself.{by_itself}
-use Rattle.map_engine.specs.Keeping.{is_held, parts_missing, missing_branches, branches_left}
+use Rattle.map_engine.specs.Keeping.{is_held, missing_branches, branches_left}
 
 -- a map by what its certificate has of importance, orders and proofs
 abbrev map_with : Feed → DrawnMap → List ℕ → List (List LineId) → List PlainPart → MapBytes

@@ -1,5 +1,5 @@
 -- The orders of solved parts: on each part those that were found, so that all together cost the sum of the least costs.
-use Rattle.std.proofs.Common.{◌≡◌, ◌≢◌, ◌∙◌, ap, sym, subst, refl, ℕ, zero, suc, ◌+◌, ◌<◌, ◌≤◌, ◌==◌, ◌||◌, Bool, true, false, true≢false, List, [], ◌∷◌, length, map, get_or, set, get_or-set_same, get_or-set_other, sum_by, arith, eqb-true, eq-eqb, Result, Ok, Err, cond, IsTrue}
+use Rattle.std.proofs.Common.{◌≡◌, ◌≢◌, ◌∙◌, ap, sym, subst, refl, ℕ, suc, ◌+◌, ◌<◌, ◌≤◌, ◌==◌, ◌||◌, Bool, true, false, true≢false, List, [], ◌∷◌, length, map, get_or, set, get_or-set_same, get_or-set_other, sum_by, arith, eqb-true, eq-eqb, Result, Ok, Err, cond, IsTrue}
 use Rattle.std.specs.List.{All, AllByRecursion, Contains}
 use Rattle.std.proofs.lemmas.List.Sums.{sum_by-cons}
 use Rattle.std.proofs.lemmas.List.Elements.{All-contains}
@@ -7,15 +7,14 @@ use Rattle.map_base.specs.declared.ids.SegId.{SegId}
 use Rattle.map_base.specs.declared.ids.LineId.{LineId}
 use Rattle.order_model.specs.declared.term.Term.{Term}
 use Rattle.order_model.specs.declared.problem.ProblemParts.{ProblemParts}
-use Rattle.order_model.specs.Problems.{lines_on, IsTerm, IsProblem}
+use Rattle.order_model.specs.Problems.{lines_on, IsProblem}
 use Rattle.order_model.specs.Costs.{cost_of, AreOrders, AreBest}
 use Rattle.order_model.specs.Parts.{AreParts, is_wide}
 use Rattle.order_model.specs.PartTerms.{is_in, part_terms, plain_terms}
 use Rattle.order_model.proofs.Shares.{ShareNone, AreApartParts, parts_apart, part_cost, contains_in}
 use Rattle.order_model.proofs.KeptTerms.{plain_kept}
 use Rattle.order_model.proofs.OneParts.{problem_parts_are}
-use Rattle.order_search.specs.Finding.{with_lists, AreAttained, IsLeast}
-use Rattle.order_search.specs.FoundParts.{part_in}
+use Rattle.order_search.specs.Finding.{with_lists}
 use Rattle.map_engine.specs.declared.fault.MakeFault.{MakeFault}
 use Rattle.map_engine.specs.Solving.{SolvedPart, live_of, solved, with_solved, with_parts, is_solvable, why_unsolved, solve_from, solve_outcome, parts_in, orders_by}
 use Rattle.map_engine.specs.Stages.{IsShown}

@@ -1,5 +1,5 @@
 -- The check says yes to a drawing with its solved parts.
-use Rattle.std.proofs.Common.{◌≡◌, ◌∙◌, ap, sym, subst, refl, ℕ, zero, suc, ◌+◌, ◌<◌, ◌==◌, ◌&&◌, Bool, true, false, cond, List, [], ◌∷◌, length, map, get_or, option_map, arith, eq-eqb, Option, Some, None, Result, Ok, Err}
+use Rattle.std.proofs.Common.{◌≡◌, ◌∙◌, ap, sym, subst, refl, ℕ, zero, suc, ◌+◌, ◌<◌, ◌==◌, ◌&&◌, Bool, true, cond, List, [], ◌∷◌, length, get_or, option_map, arith, eq-eqb, Option, Some, None, Result, Ok}
 use Rattle.std.specs.List.{All, AllByRecursion, list_all}
 use Rattle.std.specs.List.Sorted.{IsPermutation}
 use Rattle.std.proofs.lemmas.Bool.{and_from}
@@ -17,18 +17,17 @@ use Rattle.order_model.specs.declared.problem.ProblemParts.{ProblemParts}
 use Rattle.order_model.specs.Places.{has_line}
 use Rattle.order_model.specs.Problems.{IsProblem}
 use Rattle.order_model.specs.Costs.{cost_of, AreOrders, AreBest}
-use Rattle.order_check.specs.declared.refusal.ProofItem.{ProofItem}
 use Rattle.svg_writer.specs.Picture.{picture_text}
 use Rattle.cert_file.specs.Plain.{PlainCertificate}
 use Rattle.map_engine.specs.declared.fault.CheckItem.{CheckItem}
 use Rattle.map_engine.specs.declared.fault.CheckItem.TheVariants as item
 use Rattle.map_engine.specs.Tables.{names_by}
 use Rattle.map_engine.specs.Problems.{Drawn, drawn_outcome, problem_of, problem_within}
-use Rattle.map_engine.specs.Solving.{SolvedPart, solved, solve_outcome, parts_in, orders_by}
+use Rattle.map_engine.specs.Solving.{SolvedPart, solve_outcome, parts_in, orders_by}
 use Rattle.map_engine.specs.Certificates.{line_count, weighty_lines, certificate_of}
-use Rattle.map_engine.specs.Making.{MapBytes, map_of}
-use Rattle.map_engine.specs.Promises.{IsPictureOf, CostLeast, ShowsCertified, ShowsGraph, ShowsLineGraph}
-use Rattle.map_engine.specs.Checking.{PlainChecked, walk_refused, refused_unless, unless_refused, graph_item, importance_item, walk_item, order_item, cost_item, proof_item, are_same_pairs, is_order, first_disorder, first_difference, picture_item, checked_on, checked_orders, pictured, check_outcome}
+use Rattle.map_engine.specs.Making.{map_of}
+use Rattle.map_engine.specs.Promises.{ShowsCertified, ShowsLineGraph}
+use Rattle.map_engine.specs.Checking.{PlainChecked, walk_refused, refused_unless, unless_refused, graph_item, importance_item, walk_item, order_item, cost_item, proof_item, are_same_pairs, is_order, first_disorder, first_difference, checked_on, checked_orders, pictured, check_outcome}
 use Rattle.map_engine.specs.Wholes.{done_in, orders_in, IsWhole}
 use Rattle.map_engine.specs.declared.drawn_map.DrawnMap.{DrawnMap}
 use Rattle.map_engine.specs.declared.solution.Solution.{Solution}

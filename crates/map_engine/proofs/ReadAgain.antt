@@ -1,5 +1,5 @@
 -- The text of a certificate in range is read as that certificate.
-use Rattle.std.proofs.Common.{◌≡◌, ℕ, zero, suc, ◌+◌, ◌-◌, ◌≤◌, ℤ, pos, negsuc, Bool, cond, List, [], ◌∷◌, ◌++◌, codes, length, Option, Some, None, option_map, Result, Ok, Err, refl, ap, lt-ltb, subst, sym, ◌∙◌, append_assoc, arith}
+use Rattle.std.proofs.Common.{◌≡◌, ℕ, zero, suc, ◌+◌, ◌≤◌, ℤ, pos, negsuc, Bool, cond, List, [], ◌∷◌, ◌++◌, codes, length, Option, Some, None, option_map, Result, Ok, Err, refl, ap, lt-ltb, sym, ◌∙◌, append_assoc, arith}
 use Rattle.std.specs.List.{AllByRecursion}
 use Rattle.std.specs.Option.{option_and_then}
 use Rattle.std.proofs.lemmas.List.{append-nil}
@@ -22,15 +22,15 @@ use Rattle.decimal_text.proofs.NumberLemmas.{IsNumber, up_to_within}
 use Rattle.decimal_text.proofs.RangeLemmas.{from_to_again}
 use Rattle.decimal_text.proofs.LineLemmas.{AreNumbers}
 use Rattle.cert_file.specs.Plain.{PlainCertificate}
-use Rattle.cert_file.specs.Forms.{most_segs, spoken_front, version_of, counts_of, walk_in, order_of, cost_of}
+use Rattle.cert_file.specs.Forms.{most_segs, spoken_front, version_of, walk_in, order_of, cost_of}
 use Rattle.cert_file.specs.Text as texts
 use Rattle.cert_file.specs.Text.{version_text, counts_text, importance_text, walk_text, walks_text, order_text, orders_text, cost_text, certificate_text}
 use Rattle.cert_file.specs.Ranges.{ArePairs, IsOrder, IsInRange}
-use Rattle.cert_file.specs.Readers.{IsTextOf, certificate_with}
+use Rattle.cert_file.specs.Readers.{IsTextOf}
 use Rattle.cert_file.specs.Reading.{certificate_end}
 use Rattle.cert_file.proofs.Again.{walk_again}
 use Rattle.cert_file.proofs.LawLemmas.{version_read, counts_read, importance_read, order_read, cost_read, apart, whole_again}
-use Rattle.map_engine.specs.FrontReadings.{and_then, all_at, cases_at, spoken_at, split_by, split_in, tree_with, tree_at, part_at, proof_at}
+use Rattle.map_engine.specs.FrontReadings.{all_at, cases_at, spoken_at, split_by, split_in, tree_at, part_at, proof_at}
 use Rattle.map_engine.specs.Readings.{importance_at, certificate_at, unless_wrong, certificate_in}
 
 -- ---- the numbers of a close

@@ -1,5 +1,5 @@
 -- Parts that are solved one after the other.
-use Rattle.std.proofs.Common.{◌≡◌, ◌∙◌, ap, sym, subst, refl, ℕ, zero, suc, ◌+◌, ◌-◌, ◌<◌, ◌≤◌, Bool, true, false, cond, ◌&&◌, List, [], ◌∷◌, ◌++◌, length, map, take, drop, get_or, sum_by, arith, Some, Result, Ok, Err, set}
+use Rattle.std.proofs.Common.{◌≡◌, ◌∙◌, ap, sym, subst, refl, ℕ, ◌+◌, ◌-◌, ◌<◌, ◌≤◌, Bool, true, false, cond, ◌&&◌, List, [], ◌∷◌, ◌++◌, length, map, take, drop, get_or, sum_by, arith, Some, Result, Ok, Err, set}
 use Rattle.std.specs.Prelude.{Vec}
 use Rattle.std.specs.List.{AllByRecursion}
 use Rattle.std.specs.Global.{Global}
@@ -27,7 +27,7 @@ use Rattle.map_engine.specs.declared.fault.MakeFault.{MakeFault}
 use Rattle.map_engine.specs.declared.fault.MakeFault.TheVariants as fault
 use Rattle.map_engine.specs.declared.solution.Solution.{Solution}
 use Rattle.map_engine.specs.Faults.{of_search}
-use Rattle.map_engine.specs.Solving.{SolvedPart, live_of, is_shallow, is_affordable, solved, with_solved, with_parts, is_solvable, why_unsolved, solve_from, solve_outcome, parts_in, orders_by}
+use Rattle.map_engine.specs.Solving.{SolvedPart, live_of, is_shallow, is_affordable, solved, with_solved, with_parts, is_solvable, why_unsolved, solve_from, solve_outcome, parts_in}
 use Rattle.map_engine.specs.Certificates.{proof_part, proof_of}
 use Rattle.map_engine.specs.Making.{HasCause}
 use Rattle.map_engine.specs.Stages.{prepended, plain_parts, IsShown, IsSolution, IsMore, IsUnsolved, AreSolved}

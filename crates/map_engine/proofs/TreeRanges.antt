@@ -1,5 +1,5 @@
 -- A tree that is accepted, and that a proof may have, is in range.
-use Rattle.std.proofs.Common.{◌≡◌, ◌≢◌, sym, subst, refl, ℕ, zero, suc, ◌<◌, ◌≤◌, ◌==◌, ◌&&◌, ◌||◌, not, nat_lt, nat_le, Bool, true, false, true≢false, cond, ℤ, pos, negsuc, List, [], ◌∷◌, length, arith, eqb-true, leb-true, ◌⊎◌, inl, inr, Some, None, All}
+use Rattle.std.proofs.Common.{◌≡◌, ◌≢◌, sym, subst, refl, ℕ, zero, suc, ◌≤◌, ◌==◌, ◌&&◌, ◌||◌, not, nat_lt, nat_le, Bool, true, false, true≢false, cond, ℤ, pos, negsuc, List, [], ◌∷◌, length, arith, eqb-true, leb-true, ◌⊎◌, inl, inr, Some, None, All}
 use Rattle.std.specs.Prelude.{unsigned_abs}
 use Rattle.std.specs.List.{AllByRecursion, Contains, list_all, list_any}
 use Rattle.std.proofs.lemmas.Bool.{and_parts, or_cases}

@@ -1,5 +1,5 @@
 -- How the lines that stand on segments are found: by a mark for each line.
-use Rattle.std.specs.Prelude.{ℕ, ◌+◌, Bool, true, false, List, [], ◌∷◌, if◌then◌else◌, slice_set}
+use Rattle.std.specs.Prelude.{ℕ, ◌+◌, Bool, true, List, [], ◌∷◌, if◌then◌else◌, slice_set}
 use Rattle.map_base.specs.declared.ids.LineId.{LineId}
 
 -- the marks after these lines are marked

@@ -1,7 +1,6 @@
 -- What stands at the front of a text, line by line: the proof of a certificate.
 use Rattle.std.specs.Prelude.{ℕ, zero, suc, ℤ, List, [], ◌∷◌, codes, Option, Some, None, bytes_eq, if◌then◌else◌}
 use Rattle.map_base.specs.declared.ids.SegId.{SegId}
-use Rattle.order_values.specs.declared.rule.Rule.{Rule}
 use Rattle.decimal_text.specs.Numbers.{natural_within, from_to}
 use Rattle.order_proof.specs.Plain.{PlainTree, split, close, Cases, no_case, case_of, PlainPart, PlainProof}
 use Rattle.order_proof.specs.Trees.{most_depth}

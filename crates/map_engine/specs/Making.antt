@@ -1,6 +1,5 @@
 -- The map of a feed and its certificate; or why there is none.
-use Rattle.std.specs.Prelude.{◌≡◌, ℕ, List, Vec, Result, Ok, Err}
-use Rattle.std.specs.Global.{Global}
+use Rattle.std.specs.Prelude.{◌≡◌, ℕ, List, Result, Ok, Err}
 use Rattle.map_base.specs.Settings.{Choices}
 use Rattle.transit_feed.specs.Feeds.{Feed}
 use Rattle.svg_writer.specs.Picture.{picture_text}

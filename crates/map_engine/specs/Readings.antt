@@ -1,5 +1,5 @@
 -- What a certificate's text is read as.
-use Rattle.std.specs.Prelude.{◌≡◌, ℕ, ◌==◌, List, [], codes, Option, Some, None, Result, Ok, Err, if◌then◌else◌}
+use Rattle.std.specs.Prelude.{ℕ, ◌==◌, List, [], codes, Option, Some, None, Result, Ok, Err, if◌then◌else◌}
 use Rattle.map_base.specs.declared.ids.LineId.{LineId}
 use Rattle.decimal_text.specs.Lines.{front}
 use Rattle.cert_file.specs.Plain.{PlainCertificate}

@@ -1,5 +1,5 @@
 -- What stands between the steps of making a map.
-use Rattle.std.specs.Prelude.{◌≡◌, ◌≤◌, ℕ, ◌+◌, false, true, List, [], ◌∷◌, ◌++◌, length, map, filter, drop, Result, Ok, Err}
+use Rattle.std.specs.Prelude.{◌≡◌, ℕ, false, true, List, [], ◌∷◌, ◌++◌, length, map, filter, drop, Result, Ok, Err}
 use Rattle.std.specs.List.{AllByRecursion}
 use Rattle.map_base.specs.declared.ids.SegId.{SegId}
 use Rattle.order_model.specs.declared.problem.ProblemParts.{ProblemParts}

@@ -1,5 +1,5 @@
 -- A drawing whose parts are solved.
-use Rattle.std.specs.Prelude.{◌≡◌, ℕ, List, length, map, true, Ok}
+use Rattle.std.specs.Prelude.{◌≡◌, List, length, map, true, Ok}
 use Rattle.std.specs.List.{AllByRecursion}
 use Rattle.map_base.specs.declared.ids.LineId.{LineId}
 use Rattle.map_base.specs.Settings.{Choices}

@@ -5,8 +5,8 @@ use Rattle.files_door.specs.Files.{file_at}
 use Rattle.files_door.proofs.Faults.{rose_later}
 use Rattle.map_engine.specs.Checking.{checked_bytes}
 use Rattle.map_cli.specs.declared.input.Input.TheVariants as input
-use Rattle.map_cli.specs.Words.{asked_by}
-use Rattle.map_cli.specs.Inputs.{input_path}
+use Rattle.command_words.specs.Asked.{asked_by}
+use Rattle.map_cli.specs.Inputs.{chosen_of, input_path}
 use Rattle.map_cli.specs.Commands.{certificate_work, picture_work}
 use Rattle.map_cli.specs.Following.{Follows}
 use Rattle.map_cli.specs.Promises.{IsAccepted}
@@ -15,13 +15,13 @@ use Rattle.map_cli.proofs.check_command.check_map.Goals as goal
 
 pub returns-in_err-loaded-clause-follows : goal.returns-in_err-loaded-clause-follows
 returns-in_err-loaded-clause-follows g c =
-    refused_load (g.F.Files.told c.args.files.now) (input_path (asked_by c.args.command.now)) (Rose (g.F.Files.faults c.args.files.now) (g.F.Files.faults c.load.new.files))
+    refused_load (g.F.Files.told c.args.files.now) (input_path (asked_by c.args.command.now)) (chosen_of (asked_by c.args.command.now)) (Rose (g.F.Files.faults c.args.files.now) (g.F.Files.faults c.load.new.files))
     c.in_err-loaded.field-0.0 c.from_residual.result
     (err_from_is_err_and c.from_residual.result c.from_residual.ensures.1) c.in_err-loaded.ensures.follows
 
 pub returns-in_err-graph-clause-follows : goal.returns-in_err-graph-clause-follows
 returns-in_err-graph-clause-follows g c =
-    graph_refused (g.F.Files.told c.args.files.now) (input_path (asked_by c.args.command.now)) (Rose (g.F.Files.faults c.args.files.now) (g.F.Files.faults c.load.new.files))
+    graph_refused (g.F.Files.told c.args.files.now) (input_path (asked_by c.args.command.now)) (chosen_of (asked_by c.args.command.now)) (Rose (g.F.Files.faults c.args.files.now) (g.F.Files.faults c.load.new.files))
     c.in_ok-loaded.loaded c.in_ok-loaded.ensures.follows c.from_residual-in_err-graph.result c.in_err-graph.field-0.0 c.in_err-graph.ensures.given
     (err_from_is_err_and c.from_residual-in_err-graph.result c.from_residual-in_err-graph.ensures.1)
 
@@ -34,7 +34,7 @@ returns-in_err-checked-clause-follows g c =
     let now = g.F.Files.faults c.read_certificate.new.files in
     let why = c.in_err-checked.field-0.0 in
     let first = subst (λ (t : Told). Follows t paths (Rose loaded now) checked_bytes (certificate_work c.in_ok-loaded.loaded c.in_ok-graph.graph) (Err why)) c.in_ok-loaded.ensures.kept c.in_err-checked.ensures.follows in
-    certificate_refused told paths (Rose old now) c.in_ok-loaded.loaded c.in_ok-loaded.ensures.follows c.from_residual-in_err-checked.result
+    certificate_refused told paths (chosen_of (asked_by c.args.command.now)) (Rose old now) c.in_ok-loaded.loaded c.in_ok-loaded.ensures.follows c.from_residual-in_err-checked.result
     c.in_ok-graph.graph c.in_ok-graph.ensures.given (Rose loaded now) (rose_later old loaded now c.in_ok-loaded.ensures.later c.in_err-checked.ensures.later) why first
     (err_from_is_err_and c.from_residual-in_err-checked.result c.from_residual-in_err-checked.ensures.1)
 
@@ -49,7 +49,7 @@ returns-clause-follows g c =
     let first = subst (λ (t : Told). Follows t paths (Rose loaded read) checked_bytes (certificate_work c.in_ok-loaded.loaded c.in_ok-graph.graph) (Ok c.in_ok-checked.checked)) c.in_ok-loaded.ensures.kept c.in_ok-checked.ensures.follows in
     let second = subst (λ (t : Told). Follows t paths (Rose read now) same_outputs (picture_work (checked_bytes c.in_ok-checked.checked)) c.read_picture.result) (c.in_ok-checked.ensures.kept ∙ c.in_ok-loaded.ensures.kept) c.read_picture.ensures.follows in
     let before : old ≤ read = omega (arith, c.in_ok-loaded.ensures.later, c.in_ok-checked.ensures.later) in
-    picture_follows told paths (Rose old now) c.in_ok-loaded.loaded c.in_ok-loaded.ensures.follows c.read_picture.result
+    picture_follows told paths (chosen_of (asked_by c.args.command.now)) (Rose old now) c.in_ok-loaded.loaded c.in_ok-loaded.ensures.follows c.read_picture.result
     c.in_ok-graph.graph c.in_ok-graph.ensures.given (Rose read now) (rose_later old read now before c.read_picture.ensures.later) (Rose loaded read) c.in_ok-checked.checked first second
 
 pub returns-clause-keeps : goal.returns-clause-keeps

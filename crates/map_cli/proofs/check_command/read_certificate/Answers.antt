@@ -3,7 +3,7 @@ use Rattle.std.specs.Global.{Global}
 use Rattle.files_door.specs.Fault.{Rose}
 use Rattle.map_engine.specs.Checking.{checked_bytes}
 use Rattle.map_cli.specs.declared.input.Input.TheVariants as input
-use Rattle.map_cli.specs.Words.{asked_by}
+use Rattle.command_words.specs.Asked.{asked_by}
 use Rattle.map_cli.specs.Inputs.{input_path}
 use Rattle.map_cli.specs.Commands.{certificate_checked, file_work}
 use Rattle.map_cli.proofs.FollowLemmas.{follows_value}

@@ -2,7 +2,7 @@ use Rattle.std.proofs.Common.{Option, ℕ, Result, Vec, sym, subst, ◌∙◌, a
 use Rattle.std.specs.declared.alloc.Global.{Global}
 use Rattle.files_door.specs.Fault.{Rose}
 use Rattle.map_cli.specs.declared.refusal.Refusal.{Refusal}
-use Rattle.map_cli.specs.Words.{asked_by}
+use Rattle.command_words.specs.Asked.{asked_by}
 use Rattle.map_cli.specs.Inputs.{input_path}
 use Rattle.map_cli.specs.Commands.{file_work}
 use Rattle.map_cli.specs.Following.{Follows}

@@ -3,7 +3,7 @@ use Rattle.std.proofs.lemmas.Result.{err_from_is_err_and}
 use Rattle.map_base.specs.Settings.{Choices}
 use Rattle.transit_feed.specs.Feeds.{Feed}
 use Rattle.files_door.specs.Fault.{Rose}
-use Rattle.map_cli.specs.Words.{asked_by}
+use Rattle.command_words.specs.Asked.{asked_by}
 use Rattle.map_cli.specs.Inputs.{input_path}
 use Rattle.map_cli.specs.Refusals.{of_feed}
 use Rattle.map_cli.specs.Commands.{tables_work}
@@ -20,11 +20,11 @@ returns-in_err-read_tables-clause-follows g c =
     let fault = c.in_err-read_tables.field-0.0 in
     follows_as told (input_path asked) (Rose old now) (λ (feed : Feed). feed) (tables_work c.args.settings.now.types) (of_feed fault) c.from_residual.result
     (err_from_is_err_and c.from_residual.result c.from_residual.ensures.1)
-    (reads_follow told asked c.feed.result.now c.as_slice-types.result.now c.args.settings.now.types old now (λ (feed : Feed). feed) (Err fault)
-    c.feed.ensures (c.as_slice-types.ensures ∙ ap (λ (choices : Choices). choices.types) c.settings.view_is) c.in_err-read_tables.ensures.told c.in_err-read_tables.ensures.untold)
+    (reads_follow told asked c.feed_of.result.now c.as_slice-types.result.now c.args.settings.now.types old now (λ (feed : Feed). feed) (Err fault)
+    c.feed_of.ensures (c.as_slice-types.ensures ∙ ap (λ (choices : Choices). choices.types) c.settings.view_is) c.in_err-read_tables.ensures.told c.in_err-read_tables.ensures.untold)
 
 pub returns-clause-follows : goal.returns-clause-follows
 returns-clause-follows g c =
-    reads_follow (g.F.Files.told c.args.files.now) (asked_by c.args.command.now) c.feed.result.now c.as_slice-types.result.now c.args.settings.now.types
+    reads_follow (g.F.Files.told c.args.files.now) (asked_by c.args.command.now) c.feed_of.result.now c.as_slice-types.result.now c.args.settings.now.types
     (g.F.Files.faults c.args.files.now) (g.F.Files.faults c.read_tables.new.files) (λ (feed : Feed). feed) (Ok c.in_ok-read_tables.field-0)
-    c.feed.ensures (c.as_slice-types.ensures ∙ ap (λ (choices : Choices). choices.types) c.settings.view_is) c.in_ok-read_tables.ensures.told c.in_ok-read_tables.ensures.untold
+    c.feed_of.ensures (c.as_slice-types.ensures ∙ ap (λ (choices : Choices). choices.types) c.settings.view_is) c.in_ok-read_tables.ensures.told c.in_ok-read_tables.ensures.untold

@@ -5,8 +5,8 @@ use Rattle.map_engine.specs.Making.{make_outcome}
 use Rattle.command_run.specs.declared.output.Output.{Output}
 use Rattle.command_run.specs.Work.{ends}
 use Rattle.map_cli.specs.declared.loaded.Loaded.{Loaded}
-use Rattle.map_cli.specs.Words.{asked_by, paths_by}
-use Rattle.map_cli.specs.Inputs.{input_path}
+use Rattle.command_words.specs.Asked.{asked_by, paths_by}
+use Rattle.map_cli.specs.Inputs.{chosen_of, input_path}
 use Rattle.map_cli.specs.Commands.{made_at, load_work}
 use Rattle.map_cli.proofs.FollowLemmas.{follows_refused, follows_value}
 use Rattle.map_cli.proofs.MakeLemmas.{are_of_map, searches}
@@ -17,7 +17,7 @@ returns-in_err-loaded-clause-follows g c =
     let told = g.F.Files.told c.args.files.now in
     let paths = input_path (asked_by c.args.command.now) in
     let rose = Rose (g.F.Files.faults c.args.files.now) (g.F.Files.faults c.load.new.files) in
-    follows_refused told paths rose (λ (l : Loaded). l) (λ (o : List Output). o) load_work (λ l. ends (made_at (paths_by c.args.map_files.now) (make_outcome l.tables l.settings))) c.in_err-loaded.field-0.0 c.from_residual.result
+    follows_refused told paths rose (λ (l : Loaded). l) (λ (o : List Output). o) (load_work (chosen_of (asked_by c.args.command.now))) (λ l. ends (made_at (paths_by c.args.map_files.now) (make_outcome l.tables l.settings))) c.in_err-loaded.field-0.0 c.from_residual.result
     (err_from_is_err_and c.from_residual.result c.from_residual.ensures.1) c.in_err-loaded.ensures.follows
 
 pub returns-clause-follows : goal.returns-clause-follows
@@ -25,7 +25,7 @@ returns-clause-follows g c =
     let told = g.F.Files.told c.args.files.now in
     let paths = input_path (asked_by c.args.command.now) in
     let rose = Rose (g.F.Files.faults c.args.files.now) (g.F.Files.faults c.load.new.files) in
-    follows_value told paths rose (λ (l : Loaded). l) (λ (o : List Output). o) load_work (λ l. made_at (paths_by c.args.map_files.now) (make_outcome l.tables l.settings)) c.in_ok-loaded.loaded c.map_of.result
+    follows_value told paths rose (λ (l : Loaded). l) (λ (o : List Output). o) (load_work (chosen_of (asked_by c.args.command.now))) (λ l. made_at (paths_by c.args.map_files.now) (make_outcome l.tables l.settings)) c.in_ok-loaded.loaded c.map_of.result
     c.in_ok-loaded.ensures.follows c.map_of.ensures.given
 
 pub returns-clause-keeps : goal.returns-clause-keeps

@@ -1,5 +1,5 @@
 use Rattle.std.proofs.Common.{ap}
-use Rattle.map_cli.specs.Words.{asked_by}
+use Rattle.command_words.specs.Asked.{asked_by}
 use Rattle.map_cli.proofs.MakeLemmas.{make_steps}
 use Rattle.map_cli.proofs.run.carry_out.Goals as goal
 

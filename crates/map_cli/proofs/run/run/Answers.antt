@@ -1,4 +1,4 @@
-use Rattle.map_cli.specs.Words.{asked_in}
+use Rattle.command_words.specs.Words.{asked_in}
 use Rattle.map_cli.proofs.EndingLemmas.{caused, unread_usage}
 use Rattle.map_cli.proofs.HeadlineLemmas.{done_means}
 use Rattle.map_cli.proofs.run.run.Goals as goal

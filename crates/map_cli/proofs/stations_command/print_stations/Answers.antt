@@ -8,7 +8,7 @@ use Rattle.files_door.specs.Fault.{Rose}
 use Rattle.command_run.specs.declared.output.Output.{Output}
 use Rattle.command_run.specs.Work.{ends}
 use Rattle.map_cli.specs.declared.refusal.Refusal.{Refusal}
-use Rattle.map_cli.specs.Words.{asked_by}
+use Rattle.command_words.specs.Asked.{asked_by}
 use Rattle.map_cli.specs.Inputs.{input_path}
 use Rattle.map_cli.specs.Refusals.{of_feed}
 use Rattle.map_cli.specs.Answers.{said}
@@ -29,7 +29,7 @@ returns-in_err-stations g c =
     record {
       follows = follows_refused told (input_path asked) (Rose old now) items (λ (o : List Output). o) (table_work Stops stops_outcome) (λ all. ends (Ok (said (stations_text all)))) (of_feed fault) c.from_residual.result
           (err_from_is_err_and c.from_residual.result c.from_residual.ensures.1)
-          (read_follows told asked c.feed.result.now Stops stops_outcome old now items (Err fault) c.feed.ensures c.in_err-stations.ensures.told c.in_err-stations.ensures.untold);
+          (read_follows told asked c.feed_of.result.now Stops stops_outcome old now items (Err fault) c.feed_of.ensures c.in_err-stations.ensures.told c.in_err-stations.ensures.untold);
     }
 
 pub returns : goal.returns
@@ -43,6 +43,6 @@ returns g c =
     let text = c.in_ok-text.ensures ∙ ap stations_text c.deref.ensures.value in
     record {
       follows = follows_value told (input_path asked) (Rose old now) items (λ (o : List Output). o) (table_work Stops stops_outcome) (λ all. Ok (said (stations_text all))) c.in_ok-stations.stations (Ok c.in_ok-say.field-0)
-          (read_follows told asked c.feed.result.now Stops stops_outcome old now items (Ok c.in_ok-stations.stations) c.feed.ensures c.in_ok-stations.ensures.told c.in_ok-stations.ensures.untold)
+          (read_follows told asked c.feed_of.result.now Stops stops_outcome old now items (Ok c.in_ok-stations.stations) c.feed_of.ensures c.in_ok-stations.ensures.told c.in_ok-stations.ensures.untold)
           (ap printed (ap said (sym text) ∙ sym c.in_ok-say.ensures));
     }

@@ -1,4 +1,4 @@
-use Rattle.std.proofs.Common.{◌≡◌, ◌∙◌, sym, subst, ℕ, List}
+use Rattle.std.proofs.Common.{◌∙◌, sym, subst, ℕ, List}
 use Rattle.map_engine.specs.Promises.{IsCertified, ShowsLineGraph}
 use Rattle.map_engine.proofs.CheckSteps.{no_difference}
 use Rattle.map_engine.proofs.checking.check.Goals as goal

@@ -1,8 +1,8 @@
-use Rattle.std.proofs.Common.{◌≡◌, ◌<◌, ◌∙◌, ap, sym, subst, ℕ, List, length, All, arith}
+use Rattle.std.proofs.Common.{◌≡◌, ◌<◌, ◌∙◌, ap, sym, subst, ℕ, List, length, All}
 use Rattle.std.proofs.lemmas.List.{length-map}
 use Rattle.map_base.specs.declared.ids.LineId.{LineId}
 use Rattle.transit_feed.specs.declared.line.Line.{Line}
-use Rattle.map_engine.specs.Tables.{importance_among, importance_by}
+use Rattle.map_engine.specs.Tables.{importance_among}
 use Rattle.map_engine.specs.Certificates.{drawn_lines}
 use Rattle.map_engine.proofs.DrawnLemmas.{drawn_below}
 use Rattle.map_engine.proofs.checking.check_items.Goals as goal

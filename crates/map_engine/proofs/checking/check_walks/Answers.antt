@@ -1,9 +1,6 @@
-use Rattle.std.proofs.Common.{◌≡◌, ◌∙◌, ap, sym, subst, None, Ok, Result, ℕ, List, length, arith}
-use Rattle.map_base.specs.declared.limit.Limit.{Limit}
+use Rattle.std.proofs.Common.{◌≡◌, ◌∙◌, ap, sym, subst, None, Ok, ℕ, List, arith}
 use Rattle.map_base.specs.declared.weights.Weights.{Weights}
 use Rattle.map_base.specs.Settings.{Choices, AreInRange}
-use Rattle.order_model.specs.declared.problem.ProblemParts.{ProblemParts}
-use Rattle.order_model.specs.Costs.{AreOrders}
 use Rattle.order_terms.specs.Limits.{graph_problem}
 use Rattle.order_terms.specs.Terms.{HaveImportance}
 use Rattle.svg_writer.specs.declared.names.Names.{Names}

@@ -1,4 +1,4 @@
-use Rattle.std.proofs.Common.{◌≡◌, ◌∙◌, ap, length}
+use Rattle.std.proofs.Common.{◌∙◌, ap, length}
 use Rattle.transit_feed.specs.Feeds.{Feed}
 use Rattle.map_engine.proofs.checking.line_total.Goals as goal
 

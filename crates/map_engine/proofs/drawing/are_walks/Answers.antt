@@ -1,7 +1,7 @@
-use Rattle.std.proofs.Common.{All, subst, sym, arith}
+use Rattle.std.proofs.Common.{All, subst, arith}
 use Rattle.std.proofs.lemmas.List.{take_all}
 use Rattle.std.proofs.lemmas.List.Elements.{All-more}
-use Rattle.octi_grid.specs.Walks.{PlainWalk, IsWalk}
+use Rattle.octi_grid.specs.Walks.{IsWalk}
 use Rattle.map_engine.proofs.drawing.are_walks.Goals as goal
 
 pub loop-walk-preserved : goal.loop-walk-preserved

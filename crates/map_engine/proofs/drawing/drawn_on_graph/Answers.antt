@@ -1,8 +1,7 @@
-use Rattle.std.proofs.Common.{◌≡◌, ◌∙◌, ℕ, List, All, length, ◌<◌, sym, ap, subst, Result, Ok}
+use Rattle.std.proofs.Common.{◌≡◌, ◌∙◌, ℕ, List, All, sym, ap, subst, Result, Ok}
 use Rattle.map_base.specs.declared.limit.Limit.{Limit}
 use Rattle.order_model.specs.declared.problem.ProblemParts.{ProblemParts}
 use Rattle.std.proofs.lemmas.Result.{err_from_is_err_and}
-use Rattle.map_base.specs.declared.weights.Weights.{Weights}
 use Rattle.map_base.specs.Settings.{Choices, IsImportance}
 use Rattle.map_base.specs.Faults as terms
 use Rattle.order_terms.specs.Terms.{HaveImportance}

@@ -1,4 +1,4 @@
-use Rattle.std.proofs.Common.{◌≡◌, ◌∙◌, ap, subst, arith, false, List, length, replicate, ℕ, IfOk}
+use Rattle.std.proofs.Common.{◌≡◌, ◌∙◌, ap, subst, arith, false, List, length, replicate, IfOk}
 use Rattle.std.proofs.lemmas.List.{length-replicate}
 use Rattle.map_base.specs.declared.ids.LineId.{LineId}
 use Rattle.map_engine.specs.DrawnLines.{marked_lines}

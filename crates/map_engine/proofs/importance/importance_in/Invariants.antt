@@ -1,4 +1,4 @@
-use Rattle.std.proofs.Common.{◌≡◌, List, map, take}
+use Rattle.std.proofs.Common.{◌≡◌, map, take}
 use Rattle.transit_feed.specs.declared.line.Line.{Line}
 use Rattle.map_engine.specs.Tables.{importance_among}
 use Rattle.map_engine.proofs.importance.importance_in.Given as goal

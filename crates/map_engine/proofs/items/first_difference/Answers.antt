@@ -1,4 +1,4 @@
-use Rattle.std.proofs.Common.{◌≡◌, ◌≤◌, ◌+◌, ◌∙◌, ◌⊎◌, ap, sym, arith, ℕ, Some, length}
+use Rattle.std.proofs.Common.{◌≡◌, ◌+◌, ◌∙◌, ap, sym, arith, ℕ, Some, length}
 use Rattle.std.specs.Option.{option_map}
 use Rattle.map_engine.proofs.ItemLemmas.{ends_apart, min_is}
 use Rattle.map_engine.proofs.items.first_difference.Goals as goal

@@ -1,4 +1,4 @@
-use Rattle.std.proofs.Common.{◌≡◌, ◌≤◌, ◌∙◌, ◌+◌, ℕ, List, [], length, map, All, sum_by, sym, ap, subst, Ok, Result, arith}
+use Rattle.std.proofs.Common.{◌≡◌, ◌∙◌, ℕ, List, length, All, sym, ap, subst, Ok, arith}
 use Rattle.std.proofs.lemmas.List.{length-map}
 use Rattle.std.proofs.lemmas.Result.{err_from_is_err_and}
 use Rattle.map_base.specs.Settings.{Choices, IsImportance}
@@ -6,13 +6,11 @@ use Rattle.transit_feed.specs.declared.line.Line.{Line}
 use Rattle.order_model.specs.declared.problem.ProblemParts.{ProblemParts}
 use Rattle.order_proof.specs.Plain.{PlainPart}
 use Rattle.order_proof.specs.Trees.{HasTrees}
-use Rattle.order_search.specs.FoundParts.{branches_in}
 use Rattle.map_engine.specs.Tables.{importance_among}
-use Rattle.map_engine.specs.Solving.{solve_outcome, parts_in}
+use Rattle.map_engine.specs.Solving.{solve_outcome}
 use Rattle.map_engine.specs.Keeping.{branches_left}
 use Rattle.map_engine.specs.Making.{HasCause}
-use Rattle.map_engine.specs.Stages.{Solves}
-use Rattle.map_engine.proofs.MadeLemmas.{map_is, outcome_is, not_drawn, not_solved, none_held, with_rules}
+use Rattle.map_engine.proofs.MadeLemmas.{outcome_is, not_drawn, not_solved, none_held, with_rules}
 use Rattle.map_engine.specs.Promises.{IsMade}
 use Rattle.map_engine.proofs.Promised.{whole_is}
 use Rattle.map_engine.proofs.CertificateRanges.{made_by}

@@ -1,4 +1,4 @@
-use Rattle.std.proofs.Common.{◌≡◌, ◌≤◌, ◌<◌, ◌^◌, ◌∙◌, ℕ, length, All, sym, ap, subst, arith, rules}
+use Rattle.std.proofs.Common.{◌≡◌, ◌<◌, ◌^◌, ◌∙◌, ℕ, length, All, sym, ap, subst, arith, rules}
 use Rattle.map_base.specs.declared.ids.LineId.{LineId}
 use Rattle.transit_feed.specs.Feeds.{Feed}
 use Rattle.map_engine.specs.Certificates.{drawn_lines}

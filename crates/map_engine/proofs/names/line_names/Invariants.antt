@@ -1,4 +1,4 @@
-use Rattle.std.proofs.Common.{◌≡◌, List, map, take}
+use Rattle.std.proofs.Common.{◌≡◌, map, take}
 use Rattle.transit_feed.specs.declared.line.Line.{Line}
 use Rattle.map_engine.proofs.names.line_names.Given as goal
 

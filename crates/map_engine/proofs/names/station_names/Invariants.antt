@@ -1,4 +1,4 @@
-use Rattle.std.proofs.Common.{◌≡◌, List, map, take}
+use Rattle.std.proofs.Common.{◌≡◌, map, take}
 use Rattle.transit_feed.specs.declared.station.Station.{Station}
 use Rattle.map_engine.proofs.names.station_names.Given as goal
 

@@ -1,4 +1,4 @@
-use Rattle.std.proofs.Common.{◌≡◌, ◌≤◌, ◌<◌, ◌-◌, ◌+◌, ◌∙◌, sym, ap, arith, length}
+use Rattle.std.proofs.Common.{◌≤◌, ◌-◌, ◌∙◌, sym, ap, arith, length}
 use Rattle.std.proofs.Math.ListN.{length-set}
 use Rattle.map_engine.proofs.SolveLemmas.{put_more, popped}
 use Rattle.map_engine.proofs.solving.put_orders.Goals as goal

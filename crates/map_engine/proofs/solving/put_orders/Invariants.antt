@@ -1,4 +1,4 @@
-use Rattle.std.proofs.Common.{◌≡◌, ◌≤◌, length, take, drop}
+use Rattle.std.proofs.Common.{◌≡◌, length, take, drop}
 use Rattle.order_search.specs.Finding.{with_lists}
 use Rattle.map_engine.proofs.solving.put_orders.Given as goal
 

@@ -1,6 +1,6 @@
-use Rattle.std.proofs.Common.{◌≡◌, ◌≤◌, ℕ, ◌∙◌, ◌+◌, ◌<◌, ◌^◌, List, [], length, map, take, sum_by, get_or, sym, ap, subst, refl, arith, rules}
+use Rattle.std.proofs.Common.{◌≤◌, ◌∙◌, ◌+◌, ◌<◌, ◌^◌, List, [], length, sym, ap, subst, arith, rules}
 use Rattle.std.specs.List.{All}
-use Rattle.std.proofs.lemmas.List.Sums.{sum_by-take-le, sum_by_more_le}
+use Rattle.std.proofs.lemmas.List.Sums.{sum_by-take-le}
 use Rattle.std.proofs.lemmas.Result.{err_from_is_err_and}
 use Rattle.map_base.specs.declared.ids.SegId.{SegId}
 use Rattle.order_model.specs.declared.term.Term.{Term}

@@ -1,4 +1,4 @@
-use Rattle.std.proofs.Common.{◌≡◌, ◌≤◌, ◌+◌, take, sum_by}
+use Rattle.std.proofs.Common.{◌≤◌, ◌+◌, take, sum_by}
 use Rattle.order_model.specs.Costs.{AreOrders}
 use Rattle.order_search.specs.FoundParts.{branches_in}
 use Rattle.map_engine.specs.Solving.{parts_in}

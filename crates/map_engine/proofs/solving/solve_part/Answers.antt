@@ -1,7 +1,6 @@
-use Rattle.std.proofs.Common.{List, length, All, subst, sym, ◌<◌, ℕ}
+use Rattle.std.proofs.Common.{All, subst, sym, ◌<◌, ℕ}
 use Rattle.map_base.specs.declared.ids.SegId.{SegId}
 use Rattle.order_model.specs.Costs.{AreOrders}
-use Rattle.map_base.specs.declared.ids.LineId.{LineId}
 use Rattle.map_engine.proofs.PutOrders.{length-orders, orders_put}
 use Rattle.map_engine.proofs.SolveLemmas.{found_more}
 use Rattle.map_engine.proofs.solving.solve_part.Goals as goal

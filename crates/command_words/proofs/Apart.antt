@@ -1,0 +1,62 @@
+-- A map is asked for at two paths.
+use Rattle.std.proofs.Common.{◌≡◌, ℕ, Bool, true, false, List, [], ◌∷◌, Option, None, Some, codes, if◌then◌else◌, refl}
+use Rattle.std.specs.Str.{bytes_eq}
+use Rattle.clap.specs.Walk.{Row, Text, first_of}
+use Rattle.clap.specs.Kinds.{Kinds}
+use Rattle.command_words.specs.Asked.{Asked, Chosen, MapPaths, stations, graph, make, check}
+use Rattle.command_words.specs.Words.{◌>>=◌, asked, asked_as, check_in, faults, graph_in, make_at, make_in, met, named_in, options_in, paths_in, stations_in, unless}
+
+abbrev pub AreApart : Option Asked → Type 0
+AreApart None = Unit {0}
+AreApart (Some (stations feed)) = Unit {0}
+AreApart (Some (graph feed chosen)) = Unit {0}
+AreApart (Some (make feed paths chosen)) = bytes_eq paths.picture paths.certificate ≡ false
+AreApart (Some (check feed paths chosen)) = Unit {0}
+
+apart_at : (feed : List ℕ) (chosen : Chosen) (paths : MapPaths) → AreApart (make_at feed chosen paths)
+apart_at feed chosen paths = by_test (bytes_eq paths.picture paths.certificate) refl
+  where
+    by_test : (same : Bool) → bytes_eq paths.picture paths.certificate ≡ same → AreApart (if same then None else Some (make feed paths chosen))
+    by_test true e = tt
+    by_test false e = e
+
+made_apart : (chosen : Chosen) (feed : Option (List ℕ)) (paths : Option MapPaths) → AreApart (feed >>= (λ f. paths >>= (λ p. make_at f chosen p)))
+made_apart chosen None paths = tt
+made_apart chosen (Some feed) None = tt
+made_apart chosen (Some feed) (Some paths) = apart_at feed chosen paths
+
+checked_apart : (chosen : Chosen) (feed : Option (List ℕ)) (paths : Option MapPaths) → AreApart (feed >>= (λ f. paths >>= (λ p. Some (check f p chosen))))
+checked_apart chosen None paths = tt
+checked_apart chosen (Some feed) None = tt
+checked_apart chosen (Some feed) (Some paths) = tt
+
+drawn_apart : (chosen : Chosen) (feed : Option (List ℕ)) → AreApart (feed >>= (λ f. Some (graph f chosen)))
+drawn_apart chosen None = tt
+drawn_apart chosen (Some feed) = tt
+
+listed_apart : (feed : Option (List ℕ)) → AreApart (feed >>= (λ f. Some (stations f)))
+listed_apart None = tt
+listed_apart (Some feed) = tt
+
+as_apart : (name : Text) (rows : List Row) → AreApart (asked_as name rows)
+as_apart name rows = by_tests (bytes_eq name (codes "make")) (bytes_eq name (codes "check")) (bytes_eq name (codes "graph")) (bytes_eq name (codes "stations"))
+  where
+    by_tests : (made checked drawn listed : Bool) → AreApart (if made then make_in rows else if checked then check_in rows else if drawn then graph_in rows else if listed then stations_in rows else None)
+    by_tests true checked drawn listed = made_apart (options_in rows) (first_of (codes "FEED") rows) (paths_in rows)
+    by_tests false true drawn listed = checked_apart (options_in rows) (first_of (codes "FEED") rows) (paths_in rows)
+    by_tests false false true listed = drawn_apart (options_in rows) (first_of (codes "FEED") rows)
+    by_tests false false false true = listed_apart (first_of (codes "FEED") rows)
+    by_tests false false false false = tt
+
+named_apart : (command : Option (Text × List Row)) → AreApart (named_in command)
+named_apart None = tt
+named_apart (Some command) = as_apart command.0 command.1
+
+unless_apart : (kinds : Kinds) (read : Option Asked) → AreApart read → AreApart (unless kinds read)
+unless_apart [] read apart = apart
+unless_apart (kind ∷ more) read apart = tt
+
+-- whatever words are read
+pub asked_apart : (words : List Text) → AreApart (asked words)
+unfolding asked
+asked_apart words = unless_apart (faults words) (named_in (met words)) (named_apart (met words))

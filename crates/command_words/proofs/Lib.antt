@@ -1,0 +1,4 @@
+pub mod Apart
+mod Reading
+mod Building
+mod Examples

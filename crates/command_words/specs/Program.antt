@@ -1,0 +1,49 @@
+-- The commands, as `clap` defines commands: what each takes.
+use Rattle.std.specs.Prelude.{◌≡◌, true, false, [], codes, Some}
+use Rattle.clap.specs.Walk.{Rule, Text}
+use Rattle.clap.specs.Simple.{App, new_app, new_rule, new_shape, with_rule, with_subcommand}
+use Rattle.clap.specs.declared.builder.command.Command.{Command}
+use Rattle.clap.specs.declared.builder.command.Command.TheViews.{out-Command}
+use Rattle.clap.specs.declared.builder.action.ArgAction.TheVariants.{Set}
+
+-- a command has no argument that its commands share
+abbrev pub IsLocal : Command → Type 0
+IsLocal command = (out-Command command).has_globals ≡ false
+
+-- an operand, which has to be there
+abbrev pub operand : Text → Rule
+operand name = record (new_rule name) { required = true }
+
+-- `--settings FILE`
+abbrev pub settings_option : Rule
+settings_option = record (new_rule (codes "settings")) { long = Some (codes "settings"); action = Some Set; value_names = 1 }
+
+-- a command that works on a feed
+abbrev pub feed_app : Text → App
+feed_app name = with_rule (new_app name) (operand (codes "FEED"))
+
+-- the command with a map and its certificate, and settings
+abbrev pub with_map : App → App
+with_map command = with_rule (with_rule (with_rule command (operand (codes "SVG"))) (operand (codes "CERT"))) settings_option
+
+abbrev pub map_app : Text → App
+map_app name = with_map (feed_app name)
+
+abbrev pub graph_app : App
+graph_app = with_rule (feed_app (codes "graph")) settings_option
+
+-- the program before its commands: a command is required, and without one its help is shown
+abbrev pub octimap_alone : App
+octimap_alone = record {
+  top = record (new_shape (codes "octimap")) { no_binary_name = true; subcommand_required = true; arg_required_else_help = true };
+  subs = [];
+}
+
+abbrev pub with_command : App → App → App
+with_command program command = with_subcommand program command.top
+
+-- the program: `make`, `check`, `graph` and `stations`
+unfoldable pub octimap_app : App
+octimap_app =
+    with_command (with_command (with_command (with_command octimap_alone
+    (map_app (codes "make"))) (map_app (codes "check"))) graph_app) (feed_app (codes "stations"))

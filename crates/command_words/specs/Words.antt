@@ -1,0 +1,105 @@
+-- What the words of the command line ask for.
+use Rattle.std.specs.Prelude.{◌≡◌, ℕ, List, [], ◌∷◌, map, codes, if◌then◌else◌, Option, None, Some, option_and_then, Result, Ok, Err, ⊤, String, string_bytes}
+use Rattle.std.specs.declared.alloc.Global.{Global}
+use Rattle.std.specs.Str.{bytes_eq}
+use Rattle.clap.specs.Walk.{Row, Text, first_of}
+use Rattle.clap.specs.Simple.{subcommand_of, subcommand_rows_of}
+use Rattle.clap.specs.Kinds.{Kinds}
+use Rattle.clap.specs.declared.parser.matches.ArgMatches.{ArgMatches}
+use Rattle.clap.specs.Faults.{fault_of}
+use Rattle.command_words.specs.declared.command.Command.{Command}
+use Rattle.command_words.specs.declared.fault.WordsFault.{WordsFault}
+use Rattle.command_words.specs.declared.fault.WordsFault.TheVariants as fault
+use Rattle.command_words.specs.Asked.{Asked, Chosen, MapPaths, asked_by, stations, graph, make, check}
+use Rattle.command_words.specs.Program.{octimap_app}
+
+-- one choice after another: none where the first is none
+infixl 10 ◌>>=◌
+abbrev pub ◌>>=◌ : {A B : Type 0} → Option A → (A → Option B) → Option B
+first >>= next = option_and_then next first
+
+-- the file of settings, if it is named
+abbrev pub options_in : List Row → Chosen
+options_in rows = record { settings = first_of (codes "settings") rows }
+
+-- where the map and its certificate lie
+abbrev pub paths_in : List Row → Option MapPaths
+paths_in rows = do
+  picture ← first_of (codes "SVG") rows
+  certificate ← first_of (codes "CERT") rows
+  Some (record { picture = picture; certificate = certificate })
+
+abbrev pub stations_in : List Row → Option Asked
+stations_in rows = do
+  feed ← first_of (codes "FEED") rows
+  Some (stations feed)
+
+abbrev pub graph_in : List Row → Option Asked
+graph_in rows = do
+  feed ← first_of (codes "FEED") rows
+  Some (graph feed (options_in rows))
+
+-- a map is made at two paths, and not at one
+abbrev pub make_at : List ℕ → Chosen → MapPaths → Option Asked
+make_at feed chosen paths = if bytes_eq paths.picture paths.certificate then None else Some (make feed paths chosen)
+
+abbrev pub make_in : List Row → Option Asked
+make_in rows = do
+  feed ← first_of (codes "FEED") rows
+  paths ← paths_in rows
+  make_at feed (options_in rows) paths
+
+abbrev pub check_in : List Row → Option Asked
+check_in rows = do
+  feed ← first_of (codes "FEED") rows
+  paths ← paths_in rows
+  Some (check feed paths (options_in rows))
+
+-- what the matches of the command of this name ask for
+abbrev pub asked_as : Text → List Row → Option Asked
+asked_as name rows =
+    if bytes_eq name (codes "make") then make_in rows
+    else if bytes_eq name (codes "check") then check_in rows
+    else if bytes_eq name (codes "graph") then graph_in rows
+    else if bytes_eq name (codes "stations") then stations_in rows
+    else None
+
+-- what a command that was met asks for
+abbrev pub named_in : Option (Text × List Row) → Option Asked
+named_in met = option_and_then (λ command. asked_as command.0 command.1) met
+
+-- the faults that `clap` finds in the words, requests for help among them, by the definition of the program
+unfoldable pub faults : List Text → Kinds
+faults words = fault_of octimap_app words
+
+-- the command that `clap` meets in the words, with its matches
+unfoldable pub met : List Text → Option (Text × List Row)
+met words = subcommand_of octimap_app words
+
+-- nothing is asked for where there is a fault
+abbrev pub unless : Kinds → Option Asked → Option Asked
+unless [] read = read
+unless (fault ∷ more) read = None
+
+-- The words after the program's name ask for the command that `clap` reads in them by the definition of the program.
+-- Where `clap` finds a fault in them, requests for help among them, they ask for none; nor where a map and its
+-- certificate are to be one file.
+unfoldable pub asked : List Text → Option Asked
+asked words = unless (faults words) (named_in (met words))
+
+abbrev pub asked_in : List (String Global) → Option Asked
+asked_in words = asked (map string_bytes words)
+
+-- what the matches of words give: what the words ask for, or where they ask for nothing the text for the user; or
+-- memory ran out
+abbrev pub Matches : Option Asked → Result ArgMatches WordsFault → Type 0
+Matches asked (Ok matches) = asked ≡ named_in (subcommand_rows_of matches)
+Matches asked (Err (fault.Usage text)) = asked ≡ None
+Matches asked (Err fault.NoMemory) = ⊤
+
+-- what reading words gives: the command that they ask for, or where they ask for none the text for the user; or memory
+-- ran out
+abbrev pub Reads : Option Asked → Result Command WordsFault → Type 0
+Reads asked (Ok command) = asked ≡ Some (asked_by command)
+Reads asked (Err (fault.Usage text)) = asked ≡ None
+Reads asked (Err fault.NoMemory) = ⊤

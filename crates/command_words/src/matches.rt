@@ -1,0 +1,109 @@
+//! What the matches of the words ask for.
+
+ghost use Rattle.std.specs.Prelude.{◌≡◌, option_map};
+ghost use Rattle.clap.specs.Words.{first_of, found_of, rows_of, subcommand_rows_of};
+ghost use Rattle.command_words.specs.Asked.{asked_by, options_by, paths_by};
+ghost use Rattle.command_words.specs.Words.{asked_as, check_in, graph_in, make_in, named_in, options_in, paths_in, stations_in};
+
+use crate::command::{Command, MapFiles, Options};
+use clap::ArgMatches;
+
+/// The command that the matches name; none where a map and its certificate are to be one file.
+pub(crate) fn command_in<'a>(matches: &ArgMatches<'a>) -> Option<Command<'a>>
+    ensures { option_map asked_by result ≡ named_in (subcommand_rows_of matches.now) }
+{
+    let (name, given) = matches.subcommand()?;
+    command_named(name, given)
+}
+
+/// The command of this name.
+fn command_named<'a>(name: &str, given: &ArgMatches<'a>) -> Option<Command<'a>>
+    ensures { option_map asked_by result ≡ asked_as name.now (rows_of (found_of given.now)) }
+{
+    if name == "make" {
+        make_in(given)
+    } else if name == "check" {
+        check_in(given)
+    } else if name == "graph" {
+        graph_in(given)
+    } else if name == "stations" {
+        stations_in(given)
+    } else {
+        None
+    }
+}
+
+/// `stations FEED`
+fn stations_in<'a>(given: &ArgMatches<'a>) -> Option<Command<'a>>
+    ensures { option_map asked_by result ≡ stations_in (rows_of (found_of given.now)) }
+{
+    let feed = value_of(given, "FEED")?;
+    Some(Command::Stations { feed })
+}
+
+/// `graph FEED`
+fn graph_in<'a>(given: &ArgMatches<'a>) -> Option<Command<'a>>
+    ensures { option_map asked_by result ≡ graph_in (rows_of (found_of given.now)) }
+{
+    let feed = value_of(given, "FEED")?;
+    let options = options_in(given);
+    Some(Command::Graph { feed, options })
+}
+
+/// `make FEED SVG CERT`, of two files.
+fn make_in<'a>(given: &ArgMatches<'a>) -> Option<Command<'a>>
+    ensures { option_map asked_by result ≡ make_in (rows_of (found_of given.now)) }
+{
+    let feed = value_of(given, "FEED")?;
+    let files = files_in(given)?;
+    if files.picture == files.certificate {
+        return None;
+    }
+    let options = options_in(given);
+    Some(Command::Make {
+        feed,
+        files,
+        options,
+    })
+}
+
+/// `check FEED SVG CERT`
+fn check_in<'a>(given: &ArgMatches<'a>) -> Option<Command<'a>>
+    ensures { option_map asked_by result ≡ check_in (rows_of (found_of given.now)) }
+{
+    let feed = value_of(given, "FEED")?;
+    let files = files_in(given)?;
+    let options = options_in(given);
+    Some(Command::Check {
+        feed,
+        files,
+        options,
+    })
+}
+
+/// Where the map and its certificate lie.
+fn files_in<'a>(given: &ArgMatches<'a>) -> Option<MapFiles<'a>>
+    ensures { option_map paths_by result ≡ paths_in (rows_of (found_of given.now)) }
+{
+    let picture = value_of(given, "SVG")?;
+    let certificate = value_of(given, "CERT")?;
+    Some(MapFiles {
+        picture,
+        certificate,
+    })
+}
+
+/// What the user chose.
+fn options_in<'a>(given: &ArgMatches<'a>) -> Options<'a>
+    ensures { options_by result ≡ options_in (rows_of (found_of given.now)) }
+{
+    let settings = value_of(given, "settings");
+    Options { settings }
+}
+
+/// The value of an argument.
+fn value_of<'a>(given: &ArgMatches<'a>, name: &str) -> Option<&'a str>
+    ensures { option_map (λ text. text.now) result ≡ first_of name.now (rows_of (found_of given.now)) }
+{
+    given.get_str(name)
+}

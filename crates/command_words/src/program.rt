@@ -1,0 +1,127 @@
+//! The commands as `clap` reads them.
+
+ghost use Rattle.std.specs.Prelude.{◌≡◌, IfOk, codes, false};
+ghost use Rattle.clap.specs.Words.{app_of, new_app, rule_of};
+ghost use Rattle.command_words.specs.Program.{IsLocal, feed_app, graph_app, map_app, octimap_alone, octimap_app, operand, settings_option, with_map};
+
+use crate::help;
+use clap::{Arg, ArgAction, Command};
+use std::alloc::{AllocError, Global};
+
+/// The program's commands, one level of them, of which one is required.
+pub(crate) fn program<'a>(alloc: Global) -> Result<Command<'a>, AllocError>
+    ensures { IfOk result (λ program. app_of program ≡ octimap_app) }
+{
+    let make = make(alloc)?;
+    let check = check(alloc)?;
+    let graph = graph(alloc)?;
+    let stations = stations(alloc)?;
+    alone(alloc)
+        .subcommand(make)?
+        .subcommand(check)?
+        .subcommand(graph)?
+        .subcommand(stations)
+}
+
+/// The program before its commands.
+fn alone<'a>(alloc: Global) -> Command<'a>
+    ensures { app_of result ≡ octimap_alone }
+{
+    Command::new(alloc, "octimap")
+        .about(help::PROGRAM)
+        .after_help(help::AFTER_PROGRAM)
+        .no_binary_name(true)
+        .subcommand_required(true)
+        .arg_required_else_help(true)
+}
+
+/// `stations FEED`
+fn stations<'a>(alloc: Global) -> Result<Command<'a>, AllocError>
+    ensures app { IfOk result (λ command. app_of command ≡ feed_app (codes "stations")) }
+    ensures local { IfOk result IsLocal }
+{
+    over_feed(alloc, "stations", help::STATIONS, help::AFTER_STATIONS)
+}
+
+/// `graph FEED`
+fn graph<'a>(alloc: Global) -> Result<Command<'a>, AllocError>
+    ensures app { IfOk result (λ command. app_of command ≡ graph_app) }
+    ensures local { IfOk result IsLocal }
+{
+    over_feed(alloc, "graph", help::GRAPH, help::AFTER_GRAPH)?.arg(settings(alloc))
+}
+
+/// `make FEED SVG CERT`
+fn make<'a>(alloc: Global) -> Result<Command<'a>, AllocError>
+    ensures app { IfOk result (λ command. app_of command ≡ map_app (codes "make")) }
+    ensures local { IfOk result IsLocal }
+{
+    let command = over_feed(alloc, "make", help::MAKE, help::AFTER_MAKE)?;
+    over_map(alloc, command, help::NEW_SVG, help::NEW_CERT)
+}
+
+/// `check FEED SVG CERT`
+fn check<'a>(alloc: Global) -> Result<Command<'a>, AllocError>
+    ensures app { IfOk result (λ command. app_of command ≡ map_app (codes "check")) }
+    ensures local { IfOk result IsLocal }
+{
+    let command = over_feed(alloc, "check", help::CHECK, help::AFTER_CHECK)?;
+    over_map(alloc, command, help::SVG, help::CERT)
+}
+
+/// A command that works on a feed.
+fn over_feed<'a>(
+    alloc: Global,
+    name: &'a str,
+    about: &'a str,
+    after: &'a str,
+) -> Result<Command<'a>, AllocError>
+    ensures app { IfOk result (λ command. app_of command ≡ feed_app name.entry.now) }
+    ensures local { IfOk result IsLocal }
+{
+    named_command(alloc, name, about, after).arg(named_operand(alloc, "FEED", help::FEED))
+}
+
+/// The command with a map and its certificate, and settings.
+fn over_map<'a>(
+    alloc: Global,
+    command: Command<'a>,
+    picture: &'a str,
+    certificate: &'a str,
+) -> Result<Command<'a>, AllocError>
+    ensures app { IsLocal command.entry → IfOk result (λ r. app_of r ≡ with_map (app_of command.entry)) }
+    ensures local { IsLocal command.entry → IfOk result IsLocal }
+{
+    command
+        .arg(named_operand(alloc, "SVG", picture))?
+        .arg(named_operand(alloc, "CERT", certificate))?
+        .arg(settings(alloc))
+}
+
+/// A command without arguments.
+fn named_command<'a>(alloc: Global, name: &'a str, about: &'a str, after: &'a str) -> Command<'a>
+    ensures app { app_of result ≡ new_app name.entry.now }
+    ensures local { IsLocal result }
+{
+    Command::new(alloc, name).about(about).after_help(after)
+}
+
+/// An operand, which has to be there.
+fn named_operand<'a>(alloc: Global, name: &'a str, about: &'a str) -> Arg<'a>
+    ensures rule { rule_of result ≡ operand name.entry.now }
+    ensures local { result.global ≡ false }
+{
+    Arg::new(alloc, name).required(true).help(about)
+}
+
+/// `--settings FILE`
+fn settings<'a>(alloc: Global) -> Arg<'a>
+    ensures rule { rule_of result ≡ settings_option }
+    ensures local { result.global ≡ false }
+{
+    Arg::new(alloc, "settings")
+        .long("settings")
+        .value_name("FILE")
+        .action(ArgAction::Set)
+        .help(help::SETTINGS)
+}

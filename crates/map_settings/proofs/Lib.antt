@@ -1,0 +1,5 @@
+mod EachLemmas
+mod ImportanceLemmas
+mod KeyLemmas
+mod TableLemmas
+mod TextLemmas
