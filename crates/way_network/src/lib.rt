@@ -19,21 +19,13 @@ mod rounds;
 mod segments;
 mod way;
 
-pub use edge_table::EdgeTable;
-pub use edges::UsedEdge;
 pub use fault::GraphFault;
 pub use graph::graph_of;
 pub use laws::{
     edges_are_on_one_segment, lines_are_on_the_segments_of_their_ways,
     segments_have_the_lines_of_their_edges, used_edges_are_on_segments,
 };
-pub use nodes::Nodes;
-pub use numbers::Segments;
 pub use way::{Passage, Way};
 
 #[cfg(test)]
 mod graph_tests;
-#[cfg(test)]
-mod segment_tests;
-#[cfg(test)]
-mod tests;
