@@ -84,8 +84,16 @@ def one_walk(size):
 
 def snake(size):
     """A legal walk row by row, over 40,000 grid points for each mebibyte asked for: its text is short."""
-    rows = min(20_000, 2 * (size >> 20))
-    rows -= rows % 2
+    return rows_of_walk(min(20_000, 2 * (size >> 20)))
+
+
+def whole_grid(size):
+    """A legal walk over each point of the greatest grid, whatever size is asked for: its text is short."""
+    return rows_of_walk(20_000)
+
+
+def rows_of_walk(rows):
+    """A certificate whose walk goes over so many rows and one more."""
     yield HEAD + b"walk 0 -10000 -10000"
     for row in range(rows):
         yield b" %s20000 N1" % (b"W" if row % 2 else b"E")
@@ -174,7 +182,7 @@ def great_counts(size):
 
 CERTIFICATES = {
     name.__name__: name
-    for name in [many_walks, long_runs, one_walk, snake, many_orders, one_order, one_order_twice, prices, segments, parts, rules, wide_tree, deep_trees, too_deep, great_counts]
+    for name in [many_walks, long_runs, one_walk, snake, whole_grid, many_orders, one_order, one_order_twice, prices, segments, parts, rules, wide_tree, deep_trees, too_deep, great_counts]
 }
 CERTIFICATES["no_line_end"] = lambda size: repeated(size, b"a")
 CERTIFICATES["zeros"] = lambda size: repeated(size, b"\0")

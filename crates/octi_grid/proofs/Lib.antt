@@ -5,6 +5,7 @@ pub mod Members
 pub mod TakingLemmas
 pub mod LegalLemmas
 pub mod MeetsLemmas
+mod PointSetLemmas
 mod SweepLemmas
 mod CheckLemmas
 mod CheckSteps

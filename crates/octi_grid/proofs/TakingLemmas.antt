@@ -3,16 +3,17 @@ use Rattle.std.proofs.Common.{◌≡◌, ℕ, zero, suc, ◌+◌, ◌-◌, ◌*�
 use Rattle.std.proofs.lemmas.Int.{ints}
 use Rattle.std.proofs.lemmas.Bool.{and_parts, and_from, and_left, not-true, not_from_false, false≢true}
 use Rattle.std.proofs.lemmas.List.{append-nil, replicate_more, replicate-append-replicate, drop_more}
-use Rattle.std.specs.HashSet.{contains}
+use Rattle.std.specs.List.{AllByRecursion}
+use Rattle.octi_grid.specs.PointSets.{holds, PointFlags}
 use Rattle.octi_grid.specs.declared.dir.Dir.{Dir}
 use Rattle.octi_grid.specs.declared.point.GridPoint.{GridPoint}
 use Rattle.octi_grid.specs.declared.walk.Run.{Run}
-use Rattle.octi_grid.specs.Ways.{after, are_one, doubled, doubled_from, east_of, north_of, step_from, IsDoubled, IsWithin}
+use Rattle.octi_grid.specs.Ways.{after, are_one, doubled, doubled_from, east_of, north_of, points_from, step_from, IsDoubled, IsWithin}
 use Rattle.octi_grid.specs.Runs.{are_runs, steps_of}
 use Rattle.octi_grid.specs.Legal.{are_distinct, is_among}
-use Rattle.octi_grid.specs.Taking.{are_new, first_half_count, half_count, half_steps, taken_with, trail, Has, PointSet, Takes}
-use Rattle.octi_grid.proofs.WayLemmas.{after-append, same_point}
-use Rattle.octi_grid.proofs.RunLemmas.{first_count, no_run, rest_are_runs}
+use Rattle.octi_grid.specs.Taking.{are_new, first_half_count, half_count, half_steps, taken_with, trail, Has, Takes}
+use Rattle.octi_grid.proofs.WayLemmas.{after-append, doubled_on_run, first_of-points, last_of-points, same_point}
+use Rattle.octi_grid.proofs.RunLemmas.{first_count, no_run, points_of_run, rest_are_runs}
 use Rattle.octi_grid.proofs.Members.{are_one_sym, In, not_among, not_in, same_among}
 
 -- new points are not among those taken, and are distinct
@@ -69,14 +70,14 @@ taken_with-append taken [] qs = refl
 taken_with-append taken (p ∷ ps) qs = taken_with-append (p ∷ taken) ps qs
 
 -- a set has the same points under another list
-pub Has-same : (set : PointSet) (ps qs : List GridPoint) → Has set ps → ((p : GridPoint) → In p ps → In p qs) → ((p : GridPoint) → In p qs → In p ps) → Has set qs
+pub Has-same : (set : PointFlags) (ps qs : List GridPoint) → Has set ps → ((p : GridPoint) → In p ps → In p qs) → ((p : GridPoint) → In p qs → In p ps) → Has set qs
 Has-same set ps qs h f g = record { tells = λ p. h.tells p ∙ same_among ps qs p (f p) (g p) }
 
 -- nothing is taken at first, and then one part after another
-pub Takes-none : (set : PointSet) → Takes set set [] true
+pub Takes-none : (set : PointFlags) → Takes set set [] true
 Takes-none set = record { says = λ taken h. refl; takes = λ taken h e. h }
 
-pub Takes-more : (a b c : PointSet) (ps qs : List GridPoint) (r : Bool) → Takes a b ps true → Takes b c qs r → Takes a c (ps ++ qs) r
+pub Takes-more : (a b c : PointFlags) (ps qs : List GridPoint) (r : Bool) → Takes a b ps true → Takes b c qs r → Takes a c (ps ++ qs) r
 Takes-more a b c ps qs r first next = record {
   says = λ taken h.
       next.says (taken_with taken ps) (first.takes taken h refl)
@@ -84,17 +85,17 @@ Takes-more a b c ps qs r first next = record {
   takes = λ taken h e. subst (Has c) (sym (taken_with-append taken ps qs)) (next.takes (taken_with taken ps) (first.takes taken h refl) e);
 }
 
-pub Takes-stop : (a b : PointSet) (ps qs : List GridPoint) → Takes a b ps false → Takes a b (ps ++ qs) false
+pub Takes-stop : (a b : PointFlags) (ps qs : List GridPoint) → Takes a b ps false → Takes a b (ps ++ qs) false
 Takes-stop a b ps qs first = record {
   says = λ taken h. sym (are_new-append taken ps qs ∙ and_left _ _ (sym (first.says taken h)));
   takes = λ taken h e. absurd (false≢true e);
 }
 
 -- one point
-pub Takes-one : (a b : PointSet) (p : GridPoint) (r : Bool) → r ≡ not (contains are_one a p) → ((q : GridPoint) → contains are_one b q ≡ (are_one p q || contains are_one a q)) → Takes a b (p ∷ []) r
+pub Takes-one : (a b : PointFlags) (p : GridPoint) (r : Bool) → r ≡ not (holds a p) → ((q : GridPoint) → holds b q ≡ (are_one p q || holds a q)) → Takes a b (p ∷ []) r
 Takes-one a b p r e f = record {
   says = λ taken h. e ∙ ap not (h.tells p) ∙ sym (and_true (not (is_among taken p)));
-  takes = λ taken h t. record { tells = λ q. f q ∙ ap (λ v. v || contains are_one a q) (are_one_sym p q) ∙ ap (λ v. are_one q p || v) (h.tells q) };
+  takes = λ taken h t. record { tells = λ q. f q ∙ ap (λ v. v || holds a q) (are_one_sym p q) ∙ ap (λ v. are_one q p || v) (h.tells q) };
 }
   where
     and_true : (b : Bool) → (b && true) ≡ b
@@ -167,8 +168,8 @@ doubled_from-runs p rs e h =
     ∙ ap (λ (q : GridPoint). doubled p ∷ (trail (doubled p) (half_steps rs) ++ q ∷ [])) ends
 
 -- a point that is put into a set
-pub insert_takes : (a b : PointSet) (p : GridPoint) (r : Bool) → r ≡ not (contains are_one a p) → ((q : GridPoint) → contains are_one b q ≡ cond (are_one p q) true (contains are_one a q)) → Takes a b (p ∷ []) r
-insert_takes a b p r e f = Takes-one a b p r e (λ q. f q ∙ either (are_one p q) (contains are_one a q))
+pub insert_takes : (a b : PointFlags) (p : GridPoint) (r : Bool) → r ≡ not (holds a p) → ((q : GridPoint) → holds b q ≡ cond (are_one p q) true (holds a q)) → Takes a b (p ∷ []) r
+insert_takes a b p r e f = Takes-one a b p r e (λ q. f q ∙ either (are_one p q) (holds a q))
   where
     either : (x y : Bool) → cond x true y ≡ (x || y)
     either true y = refl
@@ -188,34 +189,34 @@ run_split p n m d h =
     ap (λ k. trail p (replicate k d)) (sym whole) ∙ ap (trail p) (sym (replicate-append-replicate (n + 1) (m - (n + 1)) d)) ∙ trail-append p (replicate (n + 1) d) (replicate (m - (n + 1)) d)
 
 -- one step of a run is taken, or stops it
-pub run_takes : (a b c : PointSet) (p q : GridPoint) (n : ℕ) (d : Dir) (r : Bool) → Takes a b (trail p (replicate n d)) true → q ≡ step_from (after p (replicate n d)) d
-    → r ≡ not (contains are_one b q) → ((s : GridPoint) → contains are_one c s ≡ cond (are_one q s) true (contains are_one b s))
+pub run_takes : (a b c : PointFlags) (p q : GridPoint) (n : ℕ) (d : Dir) (r : Bool) → Takes a b (trail p (replicate n d)) true → q ≡ step_from (after p (replicate n d)) d
+    → r ≡ not (holds b q) → ((s : GridPoint) → holds c s ≡ cond (are_one q s) true (holds b s))
     → Takes a c (trail p (replicate (n + 1) d)) r
 run_takes a b c p q n d r before e f g =
     subst (λ ps. Takes a c ps r) (ap (λ (s : GridPoint). trail p (replicate n d) ++ s ∷ []) e ∙ sym (run_more p n d))
     (Takes-more a b c (trail p (replicate n d)) (q ∷ []) r before (insert_takes b c q r f g))
 
-pub run_stops : (a c : PointSet) (p : GridPoint) (n m : ℕ) (d : Dir) → n < m → Takes a c (trail p (replicate (n + 1) d)) false → Takes a c (trail p (replicate m d)) false
+pub run_stops : (a c : PointFlags) (p : GridPoint) (n m : ℕ) (d : Dir) → n < m → Takes a c (trail p (replicate (n + 1) d)) false → Takes a c (trail p (replicate m d)) false
 run_stops a c p n m d h stop =
     subst (λ ps. Takes a c ps false) (sym (run_split p n m d h)) (Takes-stop a c (trail p (replicate (n + 1) d)) (trail (after p (replicate (n + 1) d)) (replicate (m - (n + 1)) d)) stop)
 
 -- some points were new and are taken, and others are left
-abbrev pub TakesSoFar : PointSet → PointSet → List GridPoint → List GridPoint → Type 0
+abbrev pub TakesSoFar : PointFlags → PointFlags → List GridPoint → List GridPoint → Type 0
 TakesSoFar a b all left = (done : List GridPoint) × (all ≡ done ++ left) × Takes a b done true
 
-pub TakesSoFar-none : (a : PointSet) (all : List GridPoint) → TakesSoFar a a all all
+pub TakesSoFar-none : (a : PointFlags) (all : List GridPoint) → TakesSoFar a a all all
 TakesSoFar-none a all = ([], refl, Takes-none a)
 
-pub TakesSoFar-more : (a b c : PointSet) (all left next rest : List GridPoint) → TakesSoFar a b all left → left ≡ next ++ rest → Takes b c next true → TakesSoFar a c all rest
+pub TakesSoFar-more : (a b c : PointFlags) (all left next rest : List GridPoint) → TakesSoFar a b all left → left ≡ next ++ rest → Takes b c next true → TakesSoFar a c all rest
 TakesSoFar-more a b c all left next rest so_far e takes =
     (so_far.0 ++ next, so_far.1 ∙ ap (λ ps. so_far.0 ++ ps) e ∙ sym (append_assoc so_far.0 next rest), Takes-more a b c so_far.0 next true so_far.2 takes)
 
-pub TakesSoFar-stop : (a b c : PointSet) (all left next rest : List GridPoint) → TakesSoFar a b all left → left ≡ next ++ rest → Takes b c next false → Takes a c all false
+pub TakesSoFar-stop : (a b c : PointFlags) (all left next rest : List GridPoint) → TakesSoFar a b all left → left ≡ next ++ rest → Takes b c next false → Takes a c all false
 TakesSoFar-stop a b c all left next rest so_far e takes =
     subst (λ ps. Takes a c ps false) (sym (so_far.1 ∙ ap (λ ps. so_far.0 ++ ps) e ∙ sym (append_assoc so_far.0 next rest)))
     (Takes-stop a c (so_far.0 ++ next) rest (Takes-more a b c so_far.0 next false so_far.2 takes))
 
-pub TakesSoFar-all : (a b : PointSet) (all : List GridPoint) → TakesSoFar a b all [] → Takes a b all true
+pub TakesSoFar-all : (a b : PointFlags) (all : List GridPoint) → TakesSoFar a b all [] → Takes a b all true
 TakesSoFar-all a b all so_far = subst (λ ps. Takes a b ps true) (sym (so_far.1 ∙ append-nil so_far.0)) so_far.2
 
 -- the half steps of a run lead to the doubled point of its end
@@ -244,3 +245,18 @@ IsDoubled-doubled p h = record { across = twice_in p.x h.across; along = twice_i
   where
     twice_in : (x : ℤ) → unsigned_abs x ≤ 10000 → unsigned_abs (x +ℤ x) ≤ 20000
     twice_in x h = omega (arith, ints)
+
+-- where the half steps of a run lead to
+half_few : (r : Run) (rs : List Run) → half_count r rs ≤ 2 * r.count
+half_few r [] = omega arith
+half_few r (s ∷ rs) = omega arith
+
+pub half_run_end : (p : GridPoint) (rs : List Run) (i n : ℕ) → i < length rs → n ≡ first_half_count (drop i rs) → AllByRecursion IsWithin (points_from p (steps_of (drop i rs)))
+    → IsDoubled (after (doubled p) (replicate n (get_or rs i no_run).dir))
+half_run_end p rs i n h e within =
+    let run = get_or rs i no_run in
+    let few : n ≤ 2 * run.count = subst (λ k. k ≤ 2 * run.count) (sym (e ∙ ap first_half_count (drop_more rs i no_run h))) (half_few run (drop (i + 1) rs)) in
+    let here : IsWithin p = first_of-points IsWithin p (steps_of (drop i rs)) within in
+    let there : IsWithin (after p (replicate run.count run.dir)) = last_of-points IsWithin p (replicate run.count run.dir) (points_of_run p rs i h within) in
+    doubled_on_run (doubled p) n (2 * run.count) run.dir few (IsDoubled-doubled p here)
+    (subst IsDoubled (sym (after-half_run p run.count run.dir)) (IsDoubled-doubled (after p (replicate run.count run.dir)) there))

@@ -6,7 +6,7 @@ use Rattle.std.specs.List.{list_all, AllByRecursion}
 use Rattle.octi_grid.specs.declared.dir.Dir.{Dir}
 use Rattle.octi_grid.specs.declared.dir.Dir.TheVariants as dir
 use Rattle.octi_grid.specs.declared.point.GridPoint.{GridPoint}
-use Rattle.octi_grid.specs.Ways.{after, east_of, end_within, is_within, moved, north_of, points_from, step_from, IsWithin}
+use Rattle.octi_grid.specs.Ways.{after, east_of, end_within, is_within, moved, north_of, points_from, step_from, IsDoubled, IsWithin}
 
 -- the test of the range is the fact
 pub IsWithin-from_test : (p : GridPoint) → is_within p ≡ true → IsWithin p
@@ -130,6 +130,18 @@ run_within p zero d here there = (here, tt)
 run_within p (suc n) d here there =
     let at_end : IsWithin (record { x = moved p.x (east_of d) (pos (suc n)); y = moved p.y (north_of d) (pos (suc n)) }) = subst IsWithin (after-replicate p (suc n) d) there in
     (here, run_within (step_from p d) n d (record { across = between _ p.x n (sense_east d) here.across at_end.across; along = between _ p.y n (sense_north d) here.along at_end.along }) there)
+
+-- each point of a run between two doubled points may be a doubled one
+on_the_way : (w x : ℤ) (most k n : ℕ) → Sense w → k ≤ n → unsigned_abs x ≤ most → unsigned_abs (moved x w (pos n)) ≤ most → unsigned_abs (moved x w (pos k)) ≤ most
+on_the_way w x most k n stay h low high = omega (arith, ints)
+on_the_way w x most k n rise h low high = omega (arith, ints)
+on_the_way w x most k n fall h low high = omega (arith, ints)
+
+pub doubled_on_run : (p : GridPoint) (k n : ℕ) (d : Dir) → k ≤ n → IsDoubled p → IsDoubled (after p (replicate n d)) → IsDoubled (after p (replicate k d))
+doubled_on_run p k n d h here there =
+    let at_end : IsDoubled (record { x = moved p.x (east_of d) (pos n); y = moved p.y (north_of d) (pos n) }) = subst IsDoubled (after-replicate p n d) there in
+    subst IsDoubled (sym (after-replicate p k d))
+    (record { across = on_the_way _ p.x 20000 k n (sense_east d) h here.across at_end.across; along = on_the_way _ p.y 20000 k n (sense_north d) h here.along at_end.along })
 
 -- a run that is not short leaves the range
 far : (w x : ℤ) (n : ℕ) → unsigned_abs x ≤ 10000 → (w ≡ pos 1) ⊎ (w ≡ negsuc 0) → unsigned_abs (moved x w (pos n)) ≤ 10000 → n ≤ 20000

@@ -4,7 +4,6 @@ use Rattle.std.specs.List.{flat_map}
 use Rattle.std.specs.declared.hash.FoldHasher.{FoldHasher}
 use Rattle.std.specs.declared.hash.BuildHasherDefault.{BuildHasherDefault}
 use Rattle.std.specs.HashMap.{get, HashMap}
-use Rattle.std.specs.HashSet.{contains, HashSet}
 use Rattle.octi_grid.specs.declared.dir.Dir.{Dir}
 use Rattle.octi_grid.specs.declared.point.GridPoint.{GridPoint}
 use Rattle.octi_grid.specs.declared.walk.Run.{Run}
@@ -14,6 +13,7 @@ use Rattle.octi_grid.specs.declared.drawing.DrawingStop.{DrawingStop}
 use Rattle.octi_grid.specs.declared.drawing.DrawingStop.TheVariants as stop
 use Rattle.octi_grid.specs.Ways.{are_one, doubled, step_from}
 use Rattle.octi_grid.specs.Walks.{doubled_of}
+use Rattle.octi_grid.specs.PointSets.{holds, PointFlags}
 use Rattle.octi_grid.specs.Legal.{ends_hold, is_among, is_even, meets_hold, puts_of, Leg, Put}
 
 -- the points of a way after its start
@@ -45,18 +45,15 @@ abbrev pub taken_with : List GridPoint → List GridPoint → List GridPoint
 taken_with taken [] = taken
 taken_with taken (p ∷ ps) = taken_with (p ∷ taken) ps
 
-abbrev pub PointSet : Type 0
-PointSet = HashSet GridPoint (BuildHasherDefault FoldHasher)
-
 abbrev pub NodeMap : Type 0
 NodeMap = HashMap GridPoint ℕ (BuildHasherDefault FoldHasher)
 
 -- the set has these points and no others
-pub record Has (set : PointSet) (points : List GridPoint) : Type 0 where
-  pub tells : (p : GridPoint) → contains are_one set p ≡ is_among points p
+pub record Has (set : PointFlags) (points : List GridPoint) : Type 0 where
+  pub tells : (p : GridPoint) → holds set p ≡ is_among points p
 
 -- the answer says whether these points were new to a set, and if so it has them now
-pub record Takes (old new : PointSet) (points : List GridPoint) (answer : Bool) : Type 0 where
+pub record Takes (old new : PointFlags) (points : List GridPoint) (answer : Bool) : Type 0 where
   pub says : (taken : List GridPoint) → Has old taken → answer ≡ are_new taken points
   pub takes : (taken : List GridPoint) → Has old taken → answer ≡ true → Has new (taken_with taken points)
 

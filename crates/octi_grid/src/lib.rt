@@ -8,6 +8,7 @@ mod dir;
 mod drawing;
 mod laws;
 mod point;
+mod point_set;
 mod ports;
 mod runs;
 mod taken;

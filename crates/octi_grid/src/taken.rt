@@ -3,18 +3,19 @@
 ghost use Rattle.std.specs.Prelude.{◌≡◌, ◌≤◌, ◌<◌, ◌==◌, [], length, drop, None, IfOk, replicate, slice_index_or};
 ghost use Rattle.std.specs.List.{AllByRecursion};
 ghost use Rattle.std.specs.HashMap.{get};
-ghost use Rattle.octi_grid.specs.Ways.{are_one, doubled, points_from, IsDoubled, IsWithin};
+ghost use Rattle.octi_grid.specs.Ways.{after, are_one, doubled, points_from, IsDoubled, IsWithin};
 ghost use Rattle.octi_grid.specs.Legal.{is_even};
 ghost use Rattle.octi_grid.specs.Runs.{steps_of, IsShort};
 ghost use Rattle.octi_grid.specs.Taking.{first_half_count, half_steps, is_or_none, may_put, trail, AreTables, Puts, Takes};
 
 use crate::dir::Dir;
 use crate::point::GridPoint;
+use crate::point_set::PointSet;
 use crate::runs::run_end;
 use crate::walk::Run;
 use map_base::{NoMemory, NodeId};
 use std::alloc::Global;
-use std::collections::{HashMap, HashSet};
+use std::collections::HashMap;
 
 /// Where walks put nodes, and the doubled points that they take.
 #[derive(Drop)]
@@ -24,7 +25,7 @@ pub(crate) struct Taken {
     /// The node that is put at a point.
     pub(crate) nodes: HashMap<GridPoint, u32>,
     /// The doubled points.
-    pub(crate) doubled: HashSet<GridPoint>,
+    pub(crate) doubled: PointSet,
 }
 
 impl Taken {
@@ -35,7 +36,7 @@ impl Taken {
         Ok(Taken {
             points: vec![in alloc; None; nodes as usize]?,
             nodes: HashMap::new(alloc),
-            doubled: HashSet::new(alloc),
+            doubled: PointSet::none(alloc)?,
         })
     }
 
@@ -93,7 +94,7 @@ fn is_node_or_none(node: Option<u32>, n: u32) -> bool
 
 /// Takes the doubled points of a way between its ends. Whether none was taken before, or twice.
 pub(crate) fn take_between(
-    points: &mut HashSet<GridPoint>,
+    points: &mut PointSet,
     start: GridPoint,
     runs: &[Run],
 ) -> Result<bool, NoMemory>
@@ -115,8 +116,7 @@ pub(crate) fn take_between(
 fn half_count(runs: &[Run], i: usize) -> u32
     requires place { i < length runs.now }
     requires runs { AllByRecursion IsShort runs.now }
-    ensures count { result ≡ first_half_count (drop i runs.now) }
-    ensures within { result ≤ 40000 }
+    ensures { result ≡ first_half_count (drop i runs.now) }
 {
     let whole = 2 * runs[i].count;
     if i + 1 == runs.len() {
@@ -126,14 +126,9 @@ fn half_count(runs: &[Run], i: usize) -> u32
 }
 
 /// Takes the points of a run but its start. Whether none was taken before, or twice.
-fn take_run(
-    points: &mut HashSet<GridPoint>,
-    start: GridPoint,
-    dir: Dir,
-    count: u32,
-) -> Result<bool, NoMemory>
+fn take_run(points: &mut PointSet, start: GridPoint, dir: Dir, count: u32) -> Result<bool, NoMemory>
     requires start { IsDoubled start }
-    requires count { count ≤ 40000 }
+    requires end { IsDoubled (after start (replicate count dir)) }
     ensures { IfOk result (Takes points.old points.new (trail start (replicate count dir))) }
 {
     let mut at = start;

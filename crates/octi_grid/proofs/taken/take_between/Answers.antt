@@ -8,7 +8,7 @@ use Rattle.octi_grid.specs.Runs.{steps_of}
 use Rattle.octi_grid.specs.Taking.{half_steps, trail, Takes}
 use Rattle.octi_grid.proofs.WayLemmas.{first_of-points, run_short}
 use Rattle.octi_grid.proofs.RunLemmas.{no_run, points_of_rest, points_of_run, AreShort-from_within}
-use Rattle.octi_grid.proofs.TakingLemmas.{trail-drop, TakesSoFar, IsDoubled-doubled, TakesSoFar-all, TakesSoFar-more, TakesSoFar-stop}
+use Rattle.octi_grid.proofs.TakingLemmas.{half_run_end, trail-drop, TakesSoFar, IsDoubled-doubled, TakesSoFar-all, TakesSoFar-more, TakesSoFar-stop}
 use Rattle.octi_grid.proofs.taken.take_between.Goals as goal
 
 pub half_count-requires-clause-runs : goal.half_count-requires-clause-runs
@@ -23,6 +23,12 @@ pub take_run-requires-clause-start : goal.take_run-requires-clause-start
 take_run-requires-clause-start c =
     let here = first_of-points IsWithin c.loop-i.at (steps_of (drop c.loop-i.i c.args.runs.now)) c.loop-i.invariant.within in
     subst IsDoubled (sym c.doubled.ensures) (IsDoubled-doubled c.loop-i.at here)
+
+pub take_run-requires-clause-end : goal.take_run-requires-clause-end
+take_run-requires-clause-end c =
+    let run = get_or c.args.runs.now c.loop-i.i no_run in
+    subst (λ (p : GridPoint). IsDoubled (after p (replicate c.half_count.result run.dir))) (sym c.doubled.ensures)
+    (half_run_end c.loop-i.at c.args.runs.now c.loop-i.i c.half_count.result c.loop-i-test.true c.half_count.ensures c.loop-i.invariant.within)
 
 pub run_end-at-requires-clause-at : goal.run_end-at-requires-clause-at
 run_end-at-requires-clause-at c = first_of-points IsWithin c.loop-i.at (steps_of (drop c.loop-i.i c.args.runs.now)) c.loop-i.invariant.within
@@ -48,7 +54,7 @@ loop-i-preserved c =
           (trail (doubled c.loop-i.at) (replicate c.half_count.result run.dir))
           (trail (doubled c.run_end-at.result) (half_steps (drop (c.loop-i.i + 1) c.args.runs.now)))
           c.loop-i.invariant.taken
-          (trail-drop c.loop-i.at c.args.runs.now c.loop-i.i c.half_count.result c.loop-i-test.true c.half_count.ensures.count
+          (trail-drop c.loop-i.at c.args.runs.now c.loop-i.i c.half_count.result c.loop-i-test.true c.half_count.ensures
           ∙ ap (λ (p : GridPoint). trail (doubled c.loop-i.at) (replicate c.half_count.result run.dir) ++ trail (doubled p) (half_steps (drop (c.loop-i.i + 1) c.args.runs.now))) (sym c.run_end-at.ensures))
           took;
     }
@@ -65,7 +71,7 @@ returns-then-not-branch c =
     (trail (doubled c.loop-i.at) (replicate c.half_count.result run.dir))
     (trail (doubled (after c.loop-i.at (replicate run.count run.dir))) (half_steps (drop (c.loop-i.i + 1) c.args.runs.now)))
     c.loop-i.invariant.taken
-    (trail-drop c.loop-i.at c.args.runs.now c.loop-i.i c.half_count.result c.loop-i-test.true c.half_count.ensures.count)
+    (trail-drop c.loop-i.at c.args.runs.now c.loop-i.i c.half_count.result c.loop-i-test.true c.half_count.ensures)
     stopped
 
 pub returns : goal.returns
