@@ -78,13 +78,14 @@ module _ (q : BoundedPart) (rising : All AreRising q.segs) (known : All (λ (s :
       both_hold (accepts asked (placed_more asked.segs placed s a) first.tree) (accepts_cases asked placed s (cases_of (grow_cases (live_within n q) q placed s lines first.best).cases))
       moved (accepted_cases n again placed first.best ok room s e lines (All-tail P a lines next) least)
 
-  split_holds : (placed : List (List LineId)) (s : SegId) → first_open q.segs q.part placed ≡ Some s → is_split asked placed s (next_lines q placed s) ≡ true
-  split_holds placed s e =
+  -- the lines that are left on a segment of the part, where there are some, are those of a Split
+  pub split_holds : (placed : List (List LineId)) (s : SegId) → (is_open q.segs placed s ≡ true) × (is_in q.part s ≡ true) → is_split asked placed s (next_lines q placed s) ≡ true
+  split_holds placed s open_here =
       let lines : List LineId = next_lines q placed s in
       both_hold (is_in asked.part s) (nat_lt 0 (length lines) && are_those_left (lines_on asked.segs s) (lines_on placed s) lines)
-      (ap (λ p. is_in p s) taken.part ∙ (found_in (is_open q.segs placed) q.part s e).1)
+      (ap (λ p. is_in p s) taken.part ∙ open_here.1)
       (both_hold (nat_lt 0 (length lines)) (are_those_left (lines_on asked.segs s) (lines_on placed s) lines)
-      (lt-ltb 0 (length lines) (some_next q placed s rising (less_placed q rising known placed s e)))
+      (lt-ltb 0 (length lines) (some_next q placed s rising (ltb-true (length (lines_on placed s)) (length (lines_on q.segs s)) open_here.0)))
       (ap (λ g. are_those_left (lines_on g s) (lines_on placed s) lines) taken.segs ∙ those_next q placed s))
 
   accepted_node : (n : ℕ) → AcceptsAt n → (placed : List (List LineId)) (b : Best) → IsWell q.segs placed → room_of q.segs q.part placed ≤ suc n
@@ -99,7 +100,7 @@ module _ (q : BoundedPart) (rising : All AreRising q.segs) (known : All (λ (s :
       by_test true t least =
           both_hold (is_split asked placed s (lines_of (cases_of (grow_cases (live_within n q) q placed s (next_lines q placed s) b).cases)))
           (accepts_cases asked placed s (cases_of (grow_cases (live_within n q) q placed s (next_lines q placed s) b).cases))
-          (ap (is_split asked placed s) (lines_grown (live_within n q) q placed s (next_lines q placed s) b) ∙ split_holds placed s e)
+          (ap (is_split asked placed s) (lines_grown (live_within n q) q placed s (next_lines q placed s) b) ∙ split_holds placed s (found_in (is_open q.segs placed) q.part s e))
           (accepted_cases n again placed b ok room s e (next_lines q placed s) (are_next q placed s) least)
       by_test false t least = taken.closes placed ok (omega (arith, least, ltb-false (q.bound placed) b.cost t))
 

@@ -80,13 +80,13 @@ abbrev pub IsCostOnPart : BoundedPart → Type 0
 IsCostOnPart q = (xs ys : List (List LineId)) → ((s : SegId) → is_in q.part s ≡ true → lines_on xs s ≡ lines_on ys s) → q.cost xs ≡ q.cost ys
 
 module _ (q : BoundedPart) (rising : All AreRising q.segs) (known : All (λ (s : SegId). s.0 < length q.segs) q.part) (told : IsCostOnPart q) where
-  abbrev ArePermuted : List (List LineId) → Type 0
+  abbrev pub ArePermuted : List (List LineId) → Type 0
   ArePermuted xs = (s : SegId) → is_in q.part s ≡ true → IsPermutation (lines_on q.segs s) (lines_on xs s)
 
-  abbrev IsOfOrders : Best → Type 0
+  abbrev pub IsOfOrders : Best → Type 0
   IsOfOrders b = (xs : List (List LineId)) × ArePermuted xs × (b ≡ best_at q xs)
 
-  of_orders : (b : Best) → IsOfOrders b → AreAttained q b.lists b.cost
+  pub of_orders : (b : Best) → IsOfOrders b → AreAttained q b.lists b.cost
   of_orders b h =
       let P : Best → Type 0 = λ c. AreAttained q c.lists c.cost in
       let whole : P (best_at q h.0) = record {
@@ -95,7 +95,7 @@ module _ (q : BoundedPart) (rising : All AreRising q.segs) (known : All (λ (s :
         costs = told (put q.part h.0 q.segs) h.0 (λ s g. put_in q.part h.0 q.segs s known g);
       } in subst P (sym h.2) whole
 
-  permuted : (placed : List (List LineId)) → IsWell q.segs placed → first_open q.segs q.part placed ≡ None → ArePermuted placed
+  pub permuted : (placed : List (List LineId)) → IsWell q.segs placed → first_open q.segs q.part placed ≡ None → ArePermuted placed
   permuted placed ok shut s h =
       let s_known : s.0 < length q.segs = all_in (λ (s : SegId). s.0 < length q.segs) q.part s known h in
       let lines = ok.lines s.0 s_known in

@@ -3,7 +3,7 @@ use Rattle.std.proofs.Common.{◌≡◌, ◌≢◌, ℕ, zero, suc, ◌+◌, ◌
 use Rattle.std.specs.List.{All, Contains, find, filter}
 use Rattle.std.specs.Option.{option_to_list}
 use Rattle.std.proofs.Math.Nat.{mul-le-mul_left}
-use Rattle.std.proofs.lemmas.Bool.{eqb-false}
+use Rattle.std.proofs.lemmas.Bool.{eqb-false, ltb-true}
 use Rattle.std.proofs.lemmas.Bool.Decides.{nat_tests}
 use Rattle.std.proofs.lemmas.List.{get_or-set_same, get_or-set_other}
 use Rattle.std.proofs.lemmas.List.Elements.{All-head, All-tail}
@@ -20,7 +20,7 @@ use Rattle.order_proof.specs.Trees.{splits_of, splits_of_cases}
 use Rattle.order_model.specs.PartTerms.{is_in}
 use Rattle.order_model.specs.Completions.{placed_more}
 use Rattle.order_model.proofs.Lines.{neither}
-use Rattle.order_bound.proofs.Sound.{same_or_other}
+use Rattle.order_bound.proofs.Sound.{same_or_other, all_in}
 use Rattle.part_bounds.specs.PartStates.{IsWell}
 use Rattle.order_search.specs.Left.{is_open, first_open, lines_left, left_on, room_of, AreNext}
 use Rattle.order_search.specs.LiveTrees.{BoundedPart, Best, next_lines, grow_cases, split_with, closed_with, live_node, live_within, live_at}
@@ -28,7 +28,7 @@ use Rattle.order_search.specs.Finding.{orders_of, prefixes_of, product, incomple
 use Rattle.order_search.proofs.Rooms.{found_in}
 use Rattle.order_search.proofs.NextLines.{are_next, ordered}
 use Rattle.order_model.proofs.PrefixLemmas.{few_apart}
-use Rattle.order_search.proofs.Accepted.{well_more, seg_known, less_placed}
+use Rattle.order_search.proofs.Accepted.{well_more}
 
 -- Products.
 
@@ -43,7 +43,7 @@ less_product : (f g : SegId → ℕ) → ((s : SegId) → f s ≤ g s) → (part
 less_product f g each [] = omega arith
 less_product f g each (s ∷ part) = mul_le (f s) (g s) (product f part) (product g part) (each s) (less_product f g each part)
 
-same_product : (f g : SegId → ℕ) (part : List SegId) → ((u : SegId) → is_in part u ≡ true → f u ≡ g u) → product f part ≡ product g part
+pub same_product : (f g : SegId → ℕ) (part : List SegId) → ((u : SegId) → is_in part u ≡ true → f u ≡ g u) → product f part ≡ product g part
 same_product f g [] same = refl
 same_product f g (s ∷ part) same =
     ap (λ n. n * product f part) (same s (here s part)) ∙ ap (λ n. g s * n) (same_product f g part (λ u h. same u (later s u part h)))
@@ -59,7 +59,7 @@ same_product f g (s ∷ part) same =
         by_test false = h
 
 -- no segment stands twice
-abbrev AreOnce : List SegId → Type 0
+abbrev pub AreOnce : List SegId → Type 0
 AreOnce [] = Unit {0}
 AreOnce (s ∷ part) = (is_in part s ≡ false) × AreOnce part
 
@@ -212,17 +212,26 @@ few_left lines placed apart known =
 -- The induction.
 
 module _ (q : BoundedPart) (rising : All AreRising q.segs) (known : All (λ (s : SegId). s.0 < length q.segs) q.part) (once : AreOnce q.part) where
-  abbrev prefixes_at : List (List LineId) → SegId → ℕ
+  abbrev pub prefixes_at : List (List LineId) → SegId → ℕ
   prefixes_at placed s = prefixes_of (left_on q.segs placed s)
 
-  abbrev orders_at : List (List LineId) → SegId → ℕ
+  abbrev pub orders_at : List (List LineId) → SegId → ℕ
   orders_at placed s = orders_of (left_on q.segs placed s)
 
-  two_left : (placed : List (List LineId)) (s : SegId) → IsWell q.segs placed → first_open q.segs q.part placed ≡ Some s → 2 ≤ left_on q.segs placed s
+  -- a line is left on a segment of the part
+  abbrev pub IsOpenIn : List (List LineId) → SegId → Type 0
+  IsOpenIn placed s = (is_open q.segs placed s ≡ true) × (is_in q.part s ≡ true)
+
+  known_seg : (placed : List (List LineId)) (s : SegId) → IsOpenIn placed s → s.0 < length q.segs
+  known_seg placed s e = all_in (λ (s : SegId). s.0 < length q.segs) q.part s known e.1
+
+  less_there : (placed : List (List LineId)) (s : SegId) → IsOpenIn placed s → length (lines_on placed s) < length (lines_on q.segs s)
+  less_there placed s e = ltb-true (length (lines_on placed s)) (length (lines_on q.segs s)) e.0
+
+  two_left : (placed : List (List LineId)) (s : SegId) → IsWell q.segs placed → IsOpenIn placed s → 2 ≤ left_on q.segs placed s
   two_left placed s ok e =
-      let here = found_in (is_open q.segs placed) q.part s e in
-      let alone : length (lines_on placed s) + 1 ≢ length (lines_on q.segs s) = (ok.lines s.0 (seg_known q rising known placed s e)).none_alone in
-      by_case (length (lines_on q.segs s)) (length (lines_on placed s)) (less_placed q rising known placed s e) alone
+      let alone : length (lines_on placed s) + 1 ≢ length (lines_on q.segs s) = (ok.lines s.0 (known_seg placed s e)).none_alone in
+      by_case (length (lines_on q.segs s)) (length (lines_on placed s)) (less_there placed s e) alone
     where
       by_case : (n p : ℕ) → p < n → p + 1 ≢ n → 2 ≤ n - p
       by_case n p h g = elim (same_or_other (p + 1) n) [ inl is ↦ absurd (g is) | inr other ↦ omega (arith, h, other) ]
@@ -230,19 +239,19 @@ module _ (q : BoundedPart) (rising : All AreRising q.segs) (known : All (λ (s :
   left_beside : (placed : List (List LineId)) (s u : SegId) (a : LineId) → u.0 ≢ s.0 → left_on q.segs (placed_more q.segs placed s a) u ≡ left_on q.segs placed u
   left_beside placed s u a n = ap (λ l. length (lines_on q.segs u) - length l) (get_or-set_other placed s.0 u.0 (with_line (lines_on q.segs s) (lines_on placed s) a) [] n)
 
-  left_here : (placed : List (List LineId)) (s : SegId) (a : LineId) → IsWell q.segs placed → first_open q.segs q.part placed ≡ Some s
+  left_here : (placed : List (List LineId)) (s : SegId) (a : LineId) → IsWell q.segs placed → IsOpenIn placed s
       → IsOneFewer (left_on q.segs placed s) (left_on q.segs (placed_more q.segs placed s a) s)
   left_here placed s a ok e =
-      let s_known : s.0 < length placed = omega (arith, ok.each, seg_known q rising known placed s e) in
+      let s_known : s.0 < length placed = omega (arith, ok.each, known_seg placed s e) in
       subst (λ l. IsOneFewer (left_on q.segs placed s) (length (lines_on q.segs s) - length l))
       (sym (get_or-set_same placed s.0 (with_line (lines_on q.segs s) (lines_on placed s) a) [] s_known))
-      (placed_then (lines_on q.segs s) (lines_on placed s) a (less_placed q rising known placed s e))
+      (placed_then (lines_on q.segs s) (lines_on placed s) a (less_there placed s e))
 
   -- so many prefixes and orders each child has
-  abbrev child_prefixes : List (List LineId) → SegId → ℕ
+  abbrev pub child_prefixes : List (List LineId) → SegId → ℕ
   child_prefixes placed s = product (λ u. cond (u.0 == s.0) (prefixes_of (left_on q.segs placed s - 1)) (prefixes_at placed u)) q.part
 
-  abbrev child_orders : List (List LineId) → SegId → ℕ
+  abbrev pub child_orders : List (List LineId) → SegId → ℕ
   child_orders placed s = product (λ u. cond (u.0 == s.0) (orders_of (left_on q.segs placed s - 1)) (orders_at placed u)) q.part
 
   by_seg : (f : ℕ → ℕ) (placed : List (List LineId)) (s : SegId) (a : LineId) (n : ℕ) → f (left_on q.segs (placed_more q.segs placed s a) s) ≡ n
@@ -253,14 +262,14 @@ module _ (q : BoundedPart) (rising : All AreRising q.segs) (known : All (λ (s :
       by_test true e = subst (λ v. f (left_on q.segs (placed_more q.segs placed s a) v) ≡ n) (sym (seg_is u s e)) at
       by_test false e = ap f (left_beside placed s u a (eqb-false u.0 s.0 e))
 
-  prefixes_of_child : (placed : List (List LineId)) (s : SegId) (a : LineId) → IsWell q.segs placed → first_open q.segs q.part placed ≡ Some s
+  pub prefixes_of_child : (placed : List (List LineId)) (s : SegId) (a : LineId) → IsWell q.segs placed → IsOpenIn placed s
       → product (prefixes_at (placed_more q.segs placed s a)) q.part ≡ child_prefixes placed s
   prefixes_of_child placed s a ok e =
       same_product (prefixes_at (placed_more q.segs placed s a)) (λ u. cond (u.0 == s.0) (prefixes_of (left_on q.segs placed s - 1)) (prefixes_at placed u)) q.part
       (λ u h. by_seg prefixes_of placed s a (prefixes_of (left_on q.segs placed s - 1))
       (fewer_prefixes (left_on q.segs placed s) (left_on q.segs (placed_more q.segs placed s a) s) (left_here placed s a ok e)) u)
 
-  orders_of_child : (placed : List (List LineId)) (s : SegId) (a : LineId) → IsWell q.segs placed → first_open q.segs q.part placed ≡ Some s
+  pub orders_of_child : (placed : List (List LineId)) (s : SegId) (a : LineId) → IsWell q.segs placed → IsOpenIn placed s
       → product (orders_at (placed_more q.segs placed s a)) q.part ≡ child_orders placed s
   orders_of_child placed s a ok e =
       same_product (orders_at (placed_more q.segs placed s a)) (λ u. cond (u.0 == s.0) (orders_of (left_on q.segs placed s - 1)) (orders_at placed u)) q.part
@@ -277,26 +286,26 @@ module _ (q : BoundedPart) (rising : All AreRising q.segs) (known : All (λ (s :
       by_test true e = absurd (h (eqb-true u.0 s.0 e))
       by_test false e = refl
 
-  prefixes_grow : (placed : List (List LineId)) (s : SegId) → IsWell q.segs placed → first_open q.segs q.part placed ≡ Some s
+  pub prefixes_grow : (placed : List (List LineId)) (s : SegId) → IsWell q.segs placed → IsOpenIn placed s
       → 1 + left_on q.segs placed s * child_prefixes placed s ≤ product (prefixes_at placed) q.part
   prefixes_grow placed s ok e =
       let m : ℕ = left_on q.segs placed s in
       product_grows s m (prefixes_at placed) (λ u. cond (u.0 == s.0) (prefixes_of (left_on q.segs placed s - 1)) (prefixes_at placed u))
       (but_seg s (prefixes_of (left_on q.segs placed s - 1)) (prefixes_at placed))
       (prefixes_more m (two_left placed s ok e) ∙ ap (λ n. 1 + m * n) (sym (at_seg s (prefixes_of (m - 1)) (prefixes_at placed))))
-      (λ u. one_prefix (left_on q.segs placed u)) q.part once (found_in (is_open q.segs placed) q.part s e).1
+      (λ u. one_prefix (left_on q.segs placed u)) q.part once e.1
 
-  orders_times : (placed : List (List LineId)) (s : SegId) → IsWell q.segs placed → first_open q.segs q.part placed ≡ Some s
+  pub orders_times : (placed : List (List LineId)) (s : SegId) → IsWell q.segs placed → IsOpenIn placed s
       → product (orders_at placed) q.part ≡ left_on q.segs placed s * child_orders placed s
   orders_times placed s ok e =
       let m : ℕ = left_on q.segs placed s in
       product_times s m (orders_at placed) (λ u. cond (u.0 == s.0) (orders_of (left_on q.segs placed s - 1)) (orders_at placed u))
       (but_seg s (orders_of (left_on q.segs placed s - 1)) (orders_at placed))
-      (orders_more m (two_left placed s ok e) ∙ ap (λ n. m * n) (sym (at_seg s (orders_of (m - 1)) (orders_at placed)))) q.part once (found_in (is_open q.segs placed) q.part s e).1
+      (orders_more m (two_left placed s ok e) ∙ ap (λ n. m * n) (sym (at_seg s (orders_of (m - 1)) (orders_at placed)))) q.part once e.1
 
-  few_next : (placed : List (List LineId)) (s : SegId) → IsWell q.segs placed → first_open q.segs q.part placed ≡ Some s → length (next_lines q placed s) ≤ left_on q.segs placed s
+  pub few_next : (placed : List (List LineId)) (s : SegId) → IsWell q.segs placed → IsOpenIn placed s → length (next_lines q placed s) ≤ left_on q.segs placed s
   few_next placed s ok e =
-      let lines = ok.lines s.0 (seg_known q rising known placed s e) in
+      let lines = ok.lines s.0 (known_seg placed s e) in
       omega (
         arith,
         length_permutation (lines_left (lines_on q.segs s) (lines_on placed s)) (next_lines q placed s) (ordered q placed s),
@@ -306,10 +315,10 @@ module _ (q : BoundedPart) (rising : All AreRising q.segs) (known : All (λ (s :
   abbrev CountedAt : ℕ → Type 0
   CountedAt n = (placed : List (List LineId)) (b : Best) → IsWell q.segs placed → splits_of (live_within n q placed b).tree + product (orders_at placed) q.part ≤ product (prefixes_at placed) q.part
 
-  orders_below : (placed : List (List LineId)) → product (orders_at placed) q.part ≤ product (prefixes_at placed) q.part
+  pub orders_below : (placed : List (List LineId)) → product (orders_at placed) q.part ≤ product (prefixes_at placed) q.part
   orders_below placed = less_product (orders_at placed) (prefixes_at placed) (λ u. orders_few (left_on q.segs placed u)) q.part
 
-  counted_cases : (n : ℕ) → CountedAt n → (placed : List (List LineId)) (b : Best) → IsWell q.segs placed → (s : SegId) → first_open q.segs q.part placed ≡ Some s
+  counted_cases : (n : ℕ) → CountedAt n → (placed : List (List LineId)) (b : Best) → IsWell q.segs placed → (s : SegId) → IsOpenIn placed s
       → (lines : List LineId) → AreNext q.segs placed s lines
       → splits_of_cases (cases_of (grow_cases (live_within n q) q placed s lines b).cases) + length lines * child_orders placed s ≤ length lines * child_prefixes placed s
   counted_cases n again placed b ok s e [] next = omega arith
@@ -317,17 +326,17 @@ module _ (q : BoundedPart) (rising : All AreRising q.segs) (known : All (λ (s :
       let P : LineId → Type 0 = λ (a : LineId). Contains (lines_on q.segs s) a × (is_placed (lines_on placed s) a ≡ false) in
       let more : List (List LineId) = placed_more q.segs placed s a in
       let fits = All-head P a lines next in
-      let one = again more b (well_more q rising known placed s a ok (seg_known q rising known placed s e) fits.0 fits.1) in
+      let one = again more b (well_more q rising known placed s a ok (known_seg placed s e) fits.0 fits.1) in
       let rest = counted_cases n again placed (live_within n q more b).best ok s e lines (All-tail P a lines next) in
       omega (arith, one, rest, prefixes_of_child placed s a ok e, orders_of_child placed s a ok e)
 
-  fewer_times : (k m c p t : ℕ) → k ≤ m → c ≤ p → t + k * c ≤ k * p → t + m * c ≤ m * p
+  pub fewer_times : (k m c p t : ℕ) → k ≤ m → c ≤ p → t + k * c ≤ k * p → t + m * c ≤ m * p
   fewer_times k m c p t less below h =
       let more : (m - k) * c ≤ (m - k) * p = mul-le-mul_left (m - k) below in
       let all : k + (m - k) ≡ m = omega (arith, less) in
       subst (λ n. t + n * c ≤ n * p) all (omega (arith, h, more))
 
-  child_below : (placed : List (List LineId)) (s : SegId) → child_orders placed s ≤ child_prefixes placed s
+  pub child_below : (placed : List (List LineId)) (s : SegId) → child_orders placed s ≤ child_prefixes placed s
   child_below placed s =
       less_product (λ u. cond (u.0 == s.0) (orders_of (left_on q.segs placed s - 1)) (orders_at placed u))
       (λ u. cond (u.0 == s.0) (prefixes_of (left_on q.segs placed s - 1)) (prefixes_at placed u)) (λ u. by_test u (u.0 == s.0)) q.part
@@ -345,10 +354,11 @@ module _ (q : BoundedPart) (rising : All AreRising q.segs) (known : All (λ (s :
       by_test : (t : Bool) → splits_of (cond t (split_with s (grow_cases (live_within n q) q placed s (next_lines q placed s) b)) (closed_with q placed b)).tree
           + product (orders_at placed) q.part ≤ product (prefixes_at placed) q.part
       by_test true =
-          let cases = counted_cases n again placed b ok s e (next_lines q placed s) (are_next q placed s) in
+          let here : IsOpenIn placed s = found_in (is_open q.segs placed) q.part s e in
+          let cases = counted_cases n again placed b ok s here (next_lines q placed s) (are_next q placed s) in
           let all = fewer_times (length (next_lines q placed s)) (left_on q.segs placed s) (child_orders placed s) (child_prefixes placed s)
-          (splits_of_cases (cases_of (grow_cases (live_within n q) q placed s (next_lines q placed s) b).cases)) (few_next placed s ok e) (child_below placed s) cases in
-          omega (arith, all, prefixes_grow placed s ok e, orders_times placed s ok e)
+          (splits_of_cases (cases_of (grow_cases (live_within n q) q placed s (next_lines q placed s) b).cases)) (few_next placed s ok here) (child_below placed s) cases in
+          omega (arith, all, prefixes_grow placed s ok here, orders_times placed s ok here)
       by_test false = omega (arith, orders_below placed)
 
   counted : (n : ℕ) → CountedAt n

@@ -1,33 +1,33 @@
 mod Examples
-mod Rooms
-mod Nodes
-mod OneLive
-mod Ordered
-mod NextLines
-mod Falls
-mod Accepted
-mod Permuted
-mod Attained
-mod Shaped
-mod Counting
-mod Unpriced
-mod Growing
-mod Opening
-mod OverPrices
-mod CompleteBounds
-mod BoundedParts
-mod Roots
-mod Shows
-mod Leaves
-mod Sorted
-mod Pushed
-mod Ways
+pub mod Rooms
+pub mod Nodes
+pub mod OneLive
+pub mod Ordered
+pub mod NextLines
+pub mod Falls
+pub mod Accepted
+pub mod Permuted
+pub mod Attained
+pub mod Shaped
+pub mod Counting
+pub mod Unpriced
+pub mod Growing
+pub mod Opening
+pub mod OverPrices
+pub mod CompleteBounds
+pub mod BoundedParts
+pub mod Roots
+pub mod Shows
+pub mod Leaves
+pub mod Sorted
+pub mod Pushed
+pub mod Ways
 pub mod Shown
-mod Whole
+pub mod Whole
 mod Marks
 pub mod Renaming
 pub mod RenamedTrees
 pub mod RisingNumbers
 pub mod OwnParts
-mod Begins
-mod Early
+pub mod Begins
+pub mod Early

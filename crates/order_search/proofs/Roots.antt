@@ -17,7 +17,7 @@ use Rattle.order_search.specs.LiveTrees.{BoundedPart, live_tree, number_order}
 use Rattle.order_search.specs.Finding.{orders_of, prefixes_of, incomplete_in}
 use Rattle.order_search.proofs.Counting.{few_orders, few_prefixes, rising_once, live_counted}
 
-none_at : (segs : List (List LineId)) (n : ℕ) → get_or (none_placed segs) n [] ≡ first_placed (get_or segs n [])
+pub none_at : (segs : List (List LineId)) (n : ℕ) → get_or (none_placed segs) n [] ≡ first_placed (get_or segs n [])
 none_at [] n = refl
 none_at (l ∷ segs) zero = refl
 none_at (l ∷ segs) (suc n) = none_at segs n
@@ -32,7 +32,7 @@ none_well segs rising = record {
 }
 
 -- as many are left of a function that doesn't tell a lone line from none
-left_as : (f : ℕ → ℕ) → ((n : ℕ) → n ≤ 1 → f n ≡ 1) → (lines : List LineId) → f (length lines - length (first_placed lines)) ≡ f (length lines)
+pub left_as : (f : ℕ → ℕ) → ((n : ℕ) → n ≤ 1 → f n ≡ 1) → (lines : List LineId) → f (length lines - length (first_placed lines)) ≡ f (length lines)
 left_as f few lines = by_test (0 + 1 == length lines) refl
   where
     by_test : (b : Bool) → (0 + 1 == length lines) ≡ b → f (length lines - length (cond b ([] ++ option_to_list (find (is_unplaced []) lines)) [])) ≡ f (length lines)

@@ -30,7 +30,7 @@ count_grown : (next : List (List LineId) → Best → GrownTree) (q : BoundedPar
 count_grown next q placed s [] b = refl
 count_grown next q placed s (a ∷ lines) b = ap suc (count_grown next q placed s lines (next (placed_more q.segs placed s a) b).best)
 
-greater_of : (a b m : ℕ) → a ≤ m → b ≤ m → max a b ≤ m
+pub greater_of : (a b m : ℕ) → a ≤ m → b ≤ m → max a b ≤ m
 greater_of a b m h g = omega (arith, h, g)
 
 -- the prices of prefixes may stand in a proof
@@ -73,7 +73,7 @@ module _ (q : BoundedPart) (rising : All AreRising q.segs) (known : All (λ (s :
       two_at_least : (n p q : ℕ) → p < n → p + 1 ≢ n → p < q → n - q - 1 < n - p - 1
       two_at_least n p q h e g = elim (same_or_other (p + 1) n) [ inl is ↦ absurd (e is) | inr other ↦ omega (arith, h, g, e) ]
 
-  levels_fall : (placed : List (List LineId)) (s : SegId) (a : LineId) → IsWell q.segs placed → is_in q.part s ≡ true → is_open q.segs placed s ≡ true
+  pub levels_fall : (placed : List (List LineId)) (s : SegId) (a : LineId) → IsWell q.segs placed → is_in q.part s ≡ true → is_open q.segs placed s ≡ true
       → levels q.segs q.part (placed_more q.segs placed s a) < levels q.segs q.part placed
   levels_fall placed s a ok in_part open_here =
       let s_in : s.0 < length q.segs = all_in (λ (s : SegId). s.0 < length q.segs) q.part s known in_part in

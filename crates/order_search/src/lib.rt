@@ -13,13 +13,17 @@ mod grow;
 mod laws;
 mod part_numbers;
 mod part_search;
-mod priced;
 mod search_state;
+mod tree_prices;
 
+pub use child::Child;
+pub use children::put_in_order;
 pub use found::{Found, SearchFault};
 pub use laws::{
     a_part_by_itself_has_the_same_live_tree, branch_nodes_are_incomplete_prefixes,
     each_part_has_one_live_tree, live_trees_show_the_least_cost,
     parts_that_are_the_same_by_themselves_share_their_tree, the_number_order_wins_ties,
 };
-pub use part_search::{search, search_part};
+pub use part_numbers::numbers_of_part;
+pub use part_search::{is_deep, number_cost, number_lists, search, search_part};
+pub use tree_prices::priced;

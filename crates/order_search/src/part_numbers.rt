@@ -11,7 +11,7 @@ use order_model::{Problem, Term, ends_of};
 use std::alloc::Global;
 
 /// The numbers of the terms of a part in the problem, by one walk over the terms.
-pub(crate) fn numbers_of_part(
+pub fn numbers_of_part(
     alloc: Global,
     problem: &Problem,
     part: &[SegId],

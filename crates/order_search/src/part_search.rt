@@ -16,8 +16,8 @@ ghost use Rattle.order_search.specs.Searching.{part_of, best_of, IsUnderWay, IsB
 use crate::found::{Found, SearchFault};
 use crate::grow::grow;
 use crate::part_numbers::numbers_of_part;
-use crate::priced::priced;
 use crate::search_state::Search;
+use crate::tree_prices::priced;
 use map_base::{Limit, LimitKind, LineId, NoMemory, SegId, Sequence, Steps};
 use order_model::{Orders, Problem, Term, ends_of, is_met_on, weight_of};
 use order_proof::Tree;
@@ -138,7 +138,7 @@ fn begin<'a>(
 }
 
 /// What the terms of these numbers cost under the number order.
-fn number_cost(problem: &Problem, numbers: &[u32]) -> u64
+pub fn number_cost(problem: &Problem, numbers: &[u32]) -> u64
     requires known { All (λ n. n < length problem.now.terms) numbers.now }
     requires few { length numbers.now ≤ 4000000 }
     ensures { result ≡ sum_by (cost_of_number problem.now) numbers.now }
@@ -169,7 +169,7 @@ fn number_cost_of(problem: &Problem, term: Term) -> u64
 }
 
 /// The lines of each segment of the part, by number.
-fn number_lists(
+pub fn number_lists(
     alloc: Global,
     problem: &Problem,
     part: &[SegId],
@@ -187,14 +187,15 @@ fn number_lists(
 }
 
 /// What a search has found, with the prices of its tree.
-fn found(alloc: Global, mut search: Search, tree: &Tree) -> Result<Found, NoMemory>
+fn found(alloc: Global, search: Search, tree: &Tree) -> Result<Found, NoMemory>
     requires under_way { IsUnderWay search }
     requires over { IsOver search.bounds.segs search.bounds.placed (plain tree.now) }
     ensures tree { IfOk result (λ f. plain f.tree ≡ with_prices (part_of search.entry.bounds) search.entry.bounds.placed (plain tree.now)) }
     ensures best { IfOk result (λ f. best_found f ≡ best_of search.entry) }
     ensures branches { IfOk result (λ f. f.branches ≡ search.entry.spent) }
 {
-    let tree = priced(alloc, &mut search.bounds, tree)?;
+    let mut prices = search.bounds.into_prices(alloc)?;
+    let tree = priced(alloc, &mut prices, tree)?;
     Ok(Found {
         orders: Orders {
             lists: Sequence::of(search.lists),
@@ -206,7 +207,7 @@ fn found(alloc: Global, mut search: Search, tree: &Tree) -> Result<Found, NoMemo
 }
 
 /// Whether the part has more places than are allowed.
-fn is_deep(problem: &Problem, part: &[SegId]) -> bool
+pub fn is_deep(problem: &Problem, part: &[SegId]) -> bool
     requires { All (λ (s : SegId). s.0 < length problem.now.segs) part.now }
     ensures deep { result ≡ nat_lt 2048 (places_of problem.now.segs part.now) }
     ensures fits { IsProblem problem.now }

@@ -56,6 +56,28 @@ fn refuses_prices_that_are_not_allowed_or_too_low(rt: HostRuntime) {
     }
 }
 
+/// A price on a term that there is not, of the greatest number; splits on a segment of another part, on one that is full,
+/// on one that is not there, and on one of the part by lines that are not all that are left.
+const FOREIGN: [&[u8]; 5] = [
+    b"rules 0\nparts 1\npart 1 1 3\nclose 1 4294967295 1\n",
+    b"rules 0\nparts 1\npart 1 1 3\nsplit 0 1\ntake 0\nclose 0\n",
+    b"rules 0\nparts 1\npart 1 1 3\nsplit 1 2\ntake 0\nsplit 1 1\ntake 1\nclose 0\ntake 1\nclose 0\n",
+    b"rules 0\nparts 1\npart 1 1 3\nsplit 4294967295 1\ntake 0\nclose 0\n",
+    b"rules 0\nparts 1\npart 1 1 3\nsplit 1 1\ntake 0\nclose 0\n",
+];
+
+#[test]
+fn refuses_what_is_none_of_the_part(rt: HostRuntime) {
+    for text in FOREIGN {
+        assert!(rt;
+            matches!(
+                checked(rt.alloc(), text),
+                Err(ProofStop::Refuted(ProofItem::Part { index: 0, .. }))
+            )
+        );
+    }
+}
+
 /// A price on the Link where it is decided on one segment, below line 0.
 const DECIDED: &[u8] =
     b"rules 0\nparts 1\npart 1 1 3\nsplit 1 2\ntake 0\nclose 1 1 1\ntake 1\nclose 0\n";

@@ -10,8 +10,11 @@ mod Groups
 mod KeptUp
 mod Noted
 mod NotedPairs
+mod Marks
 mod OwnSegments
 mod ApartLists
+mod PairsKept
+mod PricesKept
 mod Renewed
 mod Opened
 mod OwnUse

@@ -1,12 +1,12 @@
 -- Prices noted from the last child to the first.
-use Rattle.std.proofs.Common.{◌≡◌, ℕ, ◌==◌, cond, List, [], ◌∷◌, ◌++◌, refl, sym, ap, ◌∙◌}
+use Rattle.std.proofs.Common.{◌≡◌, ◌≢◌, ℕ, ◌<◌, ◌≤◌, ◌==◌, Bool, true, false, cond, List, [], ◌∷◌, ◌++◌, length, set, get_or, refl, sym, ap, ◌∙◌, arith, eqb-true, eq-eqb, true≢false, get_or-set_same, get_or-set_other}
 use Rattle.std.specs.Prelude.{ℤ, pos}
 use Rattle.order_bound.specs.declared.pairs.OpenLink.{OpenLink}
 use Rattle.order_bound.specs.declared.pairs.ChildLink.{ChildLink}
 use Rattle.order_bound.specs.CanonicalPrices.{price_for, price_among}
 use Rattle.part_bounds.specs.declared.slots.Slot.{Slot}
 use Rattle.part_bounds.specs.Slots.{rise_in, with_child, with_children}
-use Rattle.part_bounds.specs.PriceNotes.{price_over, priced_in}
+use Rattle.part_bounds.specs.PriceNotes.{price_noted, price_over, priced_in}
 use Rattle.part_bounds.proofs.PricedSlots.{children_push}
 
 priced_push : (children : List ChildLink) (c : ChildLink) (slots : List Slot) → priced_in (children ++ c ∷ []) slots ≡ priced_in children (with_child c slots) ++ (c.link, price_for c (rise_in slots c.child)) ∷ []
@@ -32,3 +32,21 @@ noted_more children rest c slots after price old new k e1 e2 e3 e4 =
 pub over_none : (priced : List (OpenLink × ℤ)) (k : ℕ) → price_over priced (pos 0) k ≡ price_among priced k
 over_none [] k = refl
 over_none (q ∷ priced) k = ap (λ z. cond (q.0.number == k) q.1 z) (over_none priced k)
+
+-- A price is noted in a table.
+
+-- of a number that has a place
+pub note_within : (prices : List ℤ) (i : ℕ) (y : ℤ) (k : ℕ) → i < length prices → price_noted (set prices i y) k ≡ cond (i == k) y (price_noted prices k)
+note_within prices i y k within = by_test (i == k) refl
+  where
+    by_test : (b : Bool) → (i == k) ≡ b → get_or (set prices i y) k (pos 0) ≡ cond b y (get_or prices k (pos 0))
+    by_test true e = ap (λ j. get_or (set prices i y) j (pos 0)) (sym (eqb-true i k e)) ∙ get_or-set_same prices i y (pos 0) within
+    by_test false e = let ne : k ≢ i = λ is. true≢false (sym (eq-eqb i k (sym is)) ∙ e) in get_or-set_other prices i k y (pos 0) ne
+
+-- of a number that has none
+pub note_beyond : (prices : List ℤ) (i : ℕ) (y : ℤ) (k : ℕ) → length prices ≤ i → k < length prices → price_noted prices k ≡ cond (i == k) y (price_noted prices k)
+note_beyond prices i y k beyond below = by_test (i == k) refl
+  where
+    by_test : (b : Bool) → (i == k) ≡ b → get_or prices k (pos 0) ≡ cond b y (get_or prices k (pos 0))
+    by_test true e = absurd (omega (arith, beyond, below, eqb-true i k e))
+    by_test false e = refl

@@ -1,17 +1,18 @@
--- The prices of all pairs, noted one pair after the other, and listed by number.
-use Rattle.std.proofs.Common.{◌≡◌, ℕ, zero, suc, ◌+◌, ◌<◌, ◌≤◌, ◌==◌, not, Bool, true, false, cond, ◌||◌, ◌&&◌, List, [], ◌∷◌, ◌++◌, length, map, take, get_or, refl, sym, ap, ◌∙◌, inl, inr, arith, eqb-true, true≢false, append_assoc}
+-- The prices of pairs, noted anew pair by pair, and listed by number.
+use Rattle.std.proofs.Common.{◌≡◌, ◌≢◌, ℕ, zero, suc, ◌+◌, ◌<◌, ◌==◌, not, Bool, true, false, cond, ◌||◌, ◌&&◌, List, [], ◌∷◌, ◌++◌, length, map, filter, take, set, get_or, refl, sym, ap, subst, ◌∙◌, inl, inr, arith, eqb-true, eq-eqb, true≢false, append_assoc, get_or-set_other}
 use Rattle.std.specs.Prelude.{ℤ, pos, negsuc}
 use Rattle.std.specs.List.{All, AllByRecursion}
 use Rattle.std.proofs.Math.Path.{fun_ext}
-use Rattle.std.proofs.lemmas.Bool.{or_left, or_right, and_parts}
-use Rattle.std.proofs.lemmas.List.{append-nil, take_more}
-use Rattle.std.proofs.lemmas.List.Elements.{All-from_recursion}
+use Rattle.std.proofs.lemmas.Bool.{or_left, or_right, or_cases, and_parts}
+use Rattle.std.proofs.lemmas.List.{append-nil, take_more, get_or-map, length-map}
+use Rattle.std.proofs.lemmas.List.Elements.{All-head, All-tail, All-from_recursion}
 use Rattle.map_base.specs.declared.ids.SegId.{SegId}
 use Rattle.map_base.specs.declared.ids.LineId.{LineId}
 use Rattle.order_values.specs.PriceLists.{AreRisingPrices}
 use Rattle.order_model.specs.declared.term.Term.{Term}
 use Rattle.order_model.specs.declared.term.Term.TheVariants.{Side, Link, Apart}
 use Rattle.order_model.specs.PartTerms.{part_terms, part_numbers}
+use Rattle.order_model.proofs.KeptTerms.{part_numbers_known}
 use Rattle.order_model.specs.Looks.{is_decided}
 use Rattle.order_bound.specs.declared.pairs.Pair.{Pair}
 use Rattle.order_bound.specs.declared.pairs.OpenLink.{OpenLink}
@@ -20,13 +21,20 @@ use Rattle.order_bound.specs.Bounds.{slot_cost}
 use Rattle.order_bound.specs.CanonicalPrices.{children_of, priced, pair_prices, price_among, listed, prices_on}
 use Rattle.order_bound.proofs.Lists.{Among, each_append, each_among, is_false}
 use Rattle.order_bound.proofs.Worth.{each_taken, each_priced}
-use Rattle.order_bound.proofs.Completing.{AreApartPairs, same_pair, pair_itself, pairs_apart}
+use Rattle.order_bound.proofs.Completing.{same_pair, pair_itself}
+use Rattle.order_bound.proofs.Parts.{part_numbered}
 use Rattle.order_bound.proofs.Bounding.{AreNumbered, each_kept}
-use Rattle.part_bounds.specs.PairGroups.{terms_of_pair}
+use Rattle.part_bounds.specs.declared.changes.Change.{Change}
+use Rattle.part_bounds.specs.declared.pair_terms.PairTerms.{PairTerms}
+use Rattle.part_bounds.specs.Changes.{is_new_pair, is_changed}
+use Rattle.part_bounds.specs.PairGroups.{Group, KnowsOwn, terms_of_pair, group_of, groups_of, group_in, groups_in, no_group, IsGroup}
 use Rattle.part_bounds.specs.PriceNotes.{price_over, listed_all}
+use Rattle.part_bounds.specs.KeptPrices.{has_number, cleared, AreMarked, IsNoted, AreNoted}
 use Rattle.part_bounds.proofs.OwnTerms.{own_cost, own_links, found_pair}
 use Rattle.part_bounds.proofs.Noted.{over_none}
 use Rattle.part_bounds.proofs.PairCosts.{all_among}
+use Rattle.part_bounds.proofs.KeptUp.{group_here, group_at}
+use Rattle.part_bounds.proofs.PairsKept.{unchanged}
 
 -- The prices of a pair depend on its own terms alone.
 
@@ -88,92 +96,174 @@ prices_other segs placed part terms p t numbered h other =
     let mine2 : p ≡ pair_in t.1 = same_pair p (pair_in u.1) mine ∙ ap (λ (v : ℕ × Term). pair_in v.1) same in
     true≢false (sym (pair_itself (pair_in t.1)) ∙ (ap (is_pair (pair_in t.1)) (sym mine2) ∙ other)))))))
 
--- One pair more.
+-- One pair is noted anew.
 
--- the price that is due for a term once these pairs are noted
-abbrev pub due_price : List (List LineId) → List (List LineId) → List SegId → List (ℕ × Term) → List Pair → ℕ × Term → ℤ
-due_price segs placed part terms pairs t = cond (has_pair pairs (pair_in t.1)) (price_among (pair_prices segs placed part terms (pair_in t.1)) t.0) (pos 0)
-
-has_push : (pairs : List Pair) (p q : Pair) → has_pair (pairs ++ p ∷ []) q ≡ (has_pair pairs q || is_pair q p)
-has_push [] p q = by_test (is_pair q p)
+-- of a filtered list
+pub among_filtered : {A : Type 0} (p : A → Bool) (xs : List A) (x : A) → Among x (filter p xs) → Among x xs × (p x ≡ true)
+among_filtered p [] x h = absurd h
+among_filtered p (y ∷ xs) x h = by_test (p y) refl h (among_filtered p xs x)
   where
-    by_test : (b : Bool) → (b || false) ≡ b
-    by_test true = refl
-    by_test false = refl
-has_push (r ∷ pairs) p q = ap (λ b. is_pair q r || b) (has_push pairs p q) ∙ moved (is_pair q r) (has_pair pairs q) (is_pair q p)
-  where
-    moved : (a b c : Bool) → (a || (b || c)) ≡ ((a || b) || c)
-    moved true b c = refl
-    moved false b c = refl
+    by_test : (b : Bool) → p y ≡ b → Among x (cond b (y ∷ filter p xs) (filter p xs)) → (Among x (filter p xs) → Among x xs × (p x ≡ true)) → Among x (y ∷ xs) × (p x ≡ true)
+    by_test true e (inl is) rest = (inl is, ap p is ∙ e)
+    by_test true e (inr later) rest = let parts = rest later in (inr parts.0, parts.1)
+    by_test false e later rest = let parts = rest later in (inr parts.0, parts.1)
 
-none_before : (pairs : List Pair) (i : ℕ) (q d : Pair) → AreApartPairs pairs → i < length pairs → get_or pairs i d ≡ q → has_pair (take i pairs) q ≡ false
-none_before [] i q d apart below at = absurd (omega (arith, below))
-none_before (p ∷ pairs) zero q d apart below at = refl
-none_before (p ∷ pairs) (suc i) q d apart below at =
-    let first : is_pair q p ≡ false = is_false (is_pair q p) (λ e. true≢false (sym (found pairs i (omega (arith, below)) at) ∙ (ap (has_pair pairs) (same_pair q p e) ∙ apart.0))) in
-    let rest = none_before pairs i q d apart.1 (omega (arith, below)) at in
-    rw (first, rest) refl
+pub in_filtered : {A : Type 0} (p : A → Bool) (xs : List A) (x : A) → Among x xs → p x ≡ true → Among x (filter p xs)
+in_filtered p [] x h e = absurd h
+in_filtered p (y ∷ xs) x h e = by_test (p y) refl h (λ k. in_filtered p xs x k e)
   where
-    found : (pairs : List Pair) (i : ℕ) → i < length pairs → get_or pairs i d ≡ q → has_pair pairs q ≡ true
-    found [] i below at = absurd (omega (arith, below))
-    found (r ∷ pairs) zero below at = or_left (is_pair q r) (has_pair pairs q) (ap (is_pair q) at ∙ pair_itself q)
-    found (r ∷ pairs) (suc i) below at = or_right (is_pair q r) (has_pair pairs q) (found pairs i (omega (arith, below)) at)
+    by_test : (b : Bool) → p y ≡ b → Among x (y ∷ xs) → (Among x xs → Among x (filter p xs)) → Among x (cond b (y ∷ filter p xs) (filter p xs))
+    by_test true g (inl is) rest = inl is
+    by_test true g (inr later) rest = inr (rest later)
+    by_test false g (inl is) rest = absurd (true≢false (sym e ∙ (ap p is ∙ g)))
+    by_test false g (inr later) rest = rest later
 
-pub note_more : (segs placed : List (List LineId)) (part : List SegId) (terms : List (ℕ × Term)) (i : ℕ) (p : Pair) (own : List (ℕ × Term)) (old new : ℕ → ℤ) (t : ℕ × Term)
-    → AreNumbered terms → Among t terms → i < length (pairs_of terms) → get_or (pairs_of terms) i p ≡ p → own ≡ terms_of_pair p terms
-    → old t.0 ≡ due_price segs placed part terms (take i (pairs_of terms)) t → new t.0 ≡ price_over (pair_prices segs placed part own p) (old t.0) t.0
-    → new t.0 ≡ due_price segs placed part terms (take (i + 1) (pairs_of terms)) t
-note_more segs placed part terms i p own old new t numbered h below at e1 e2 e3 =
-    let more : has_pair (take (i + 1) (pairs_of terms)) (pair_in t.1) ≡ (has_pair (take i (pairs_of terms)) (pair_in t.1) || is_pair (pair_in t.1) p) =
-    ap (λ l. has_pair l (pair_in t.1)) (take_more (pairs_of terms) i p below ∙ ap (λ r. take i (pairs_of terms) ++ r ∷ []) at) ∙ has_push (take i (pairs_of terms)) p (pair_in t.1) in
-    let over : new t.0 ≡ price_over (pair_prices segs placed part terms p) (old t.0) t.0 = e3 ∙ (ap (λ l. price_over (pair_prices segs placed part l p) (old t.0) t.0) e1 ∙ ap (λ l. price_over l (old t.0) t.0) (own_prices segs placed part p terms)) in
-    ap (λ y. y) over ∙ (by_test (is_pair (pair_in t.1) p) refl ∙ ap (λ b. cond b (price_among (pair_prices segs placed part terms (pair_in t.1)) t.0) (pos 0)) (sym more))
+numbered_in : (terms : List (ℕ × Term)) (t : ℕ × Term) → Among t terms → has_number terms t.0 ≡ true
+numbered_in [] t h = absurd h
+numbered_in (u ∷ terms) t (inl e) = or_left (u.0 == t.0) (has_number terms t.0) (eq-eqb u.0 t.0 (ap (λ (v : ℕ × Term). v.0) (sym e)))
+numbered_in (u ∷ terms) t (inr h) = or_right (u.0 == t.0) (has_number terms t.0) (numbered_in terms t h)
+
+-- a term of this number is none of these, if each of them has another
+numbered_out : (terms : List (ℕ × Term)) (k : ℕ) → ((u : ℕ × Term) → Among u terms → (u.0 == k) ≡ false) → has_number terms k ≡ false
+numbered_out [] k h = refl
+numbered_out (u ∷ terms) k h = let here = h u (inl refl) in rw here (numbered_out terms k (λ v m. h v (inr m)))
+
+-- a group is that of its pair
+pub group_is : (terms : List (ℕ × Term)) (groups : List Group) (k : ℕ) → groups ≡ groups_of terms → k < length groups
+    → (get_or groups k no_group).1 ≡ terms_of_pair (get_or groups k no_group).0 terms
+group_is terms groups k grouped below =
+    let within : k < length (pairs_of terms) = omega (arith, below, ap length grouped, length-map (pairs_of terms) (group_of terms)) in
+    let at : get_or groups k no_group ≡ group_of terms (get_or (pairs_of terms) k no_group.0) =
+    ap (λ gs. get_or gs k no_group) grouped ∙ get_or-map (group_of terms) (pairs_of terms) k no_group.0 no_group within in
+    ap (λ (g : Group). g.1) at ∙ ap (λ p. terms_of_pair p terms) (sym (ap (λ (g : Group). g.0) at))
+
+-- the prices of a pair that is noted anew are its own, and those of others stay
+noted_anew : (segs placed : List (List LineId)) (part : List SegId) (terms : List (ℕ × Term)) (p q : Pair) (t : ℕ × Term) (old between new : ℤ) → AreNumbered terms
+    → Among t (terms_of_pair p terms) → between ≡ cond (has_number (terms_of_pair q terms) t.0) (pos 0) old → new ≡ price_over (pair_prices segs placed part (terms_of_pair q terms) q) between t.0
+    → (is_pair p q ≡ false → old ≡ price_among (pair_prices segs placed part (terms_of_pair p terms) p) t.0) → new ≡ price_among (pair_prices segs placed part (terms_of_pair p terms) p) t.0
+noted_anew segs placed part terms p q t old between new numbered h e1 e2 kept = by_test (is_pair p q) refl
   where
-    same_bool : (b : Bool) → (b || false) ≡ b
-    same_bool true = refl
-    same_bool false = refl
-
-    by_test : (b : Bool) → is_pair (pair_in t.1) p ≡ b → price_over (pair_prices segs placed part terms p) (old t.0) t.0
-        ≡ cond (has_pair (take i (pairs_of terms)) (pair_in t.1) || is_pair (pair_in t.1) p) (price_among (pair_prices segs placed part terms (pair_in t.1)) t.0) (pos 0)
+    by_test : (b : Bool) → is_pair p q ≡ b → new ≡ price_among (pair_prices segs placed part (terms_of_pair p terms) p) t.0
     by_test true e =
-        let same : pair_in t.1 ≡ p = same_pair (pair_in t.1) p e in
-        let none : has_pair (take i (pairs_of terms)) (pair_in t.1) ≡ false = none_before (pairs_of terms) i (pair_in t.1) p (pairs_apart terms) below (at ∙ sym same) in
-        let zero_before : old t.0 ≡ pos 0 = e2 ∙ ap (λ b. cond b (price_among (pair_prices segs placed part terms (pair_in t.1)) t.0) (pos 0)) none in
-        ap (λ y. price_over (pair_prices segs placed part terms p) y t.0) zero_before ∙ (over_none (pair_prices segs placed part terms p) t.0
-        ∙ (ap (λ q. price_among (pair_prices segs placed part terms q) t.0) (sym same)
-        ∙ ap (λ b. cond b (price_among (pair_prices segs placed part terms (pair_in t.1)) t.0) (pos 0)) (sym (or_right (has_pair (take i (pairs_of terms)) (pair_in t.1)) (is_pair (pair_in t.1) p) e))))
+        let same : p ≡ q = same_pair p q e in
+        let mine : has_number (terms_of_pair q terms) t.0 ≡ true = ap (λ r. has_number (terms_of_pair r terms) t.0) (sym same) ∙ numbered_in (terms_of_pair p terms) t h in
+        let none : between ≡ pos 0 = e1 ∙ ap (λ b. cond b (pos 0) old) mine in
+        e2 ∙ (ap (λ y. price_over (pair_prices segs placed part (terms_of_pair q terms) q) y t.0) none ∙ (over_none (pair_prices segs placed part (terms_of_pair q terms) q) t.0
+        ∙ ap (λ r. price_among (pair_prices segs placed part (terms_of_pair r terms) r) t.0) (sym same)))
     by_test false e =
-        over_other (pair_prices segs placed part terms p) (old t.0) t.0 (prices_other segs placed part terms p t numbered h e) ∙ (e2
-        ∙ ap (λ b. cond b (price_among (pair_prices segs placed part terms (pair_in t.1)) t.0) (pos 0))
-        (sym (ap (λ b. has_pair (take i (pairs_of terms)) (pair_in t.1) || b) e ∙ same_bool (has_pair (take i (pairs_of terms)) (pair_in t.1)))))
+        let parts = among_filtered (λ (u : ℕ × Term). is_pair p (pair_in u.1)) terms t h in
+        let own : p ≡ pair_in t.1 = same_pair p (pair_in t.1) parts.1 in
+        let other : is_pair (pair_in t.1) q ≡ false = ap (λ r. is_pair r q) (sym own) ∙ e in
+        let out : has_number (terms_of_pair q terms) t.0 ≡ false = numbered_out (terms_of_pair q terms) t.0 (λ u m. is_false (u.0 == t.0) (λ same.
+        let of = among_filtered (λ (v : ℕ × Term). is_pair q (pair_in v.1)) terms u m in
+        let is : u ≡ t = one_term terms u t numbered of.0 parts.0 (eqb-true u.0 t.0 same) in
+        let pair : q ≡ pair_in t.1 = same_pair q (pair_in u.1) of.1 ∙ ap (λ (v : ℕ × Term). pair_in v.1) is in
+        true≢false (sym (pair_itself (pair_in t.1)) ∙ (ap (is_pair (pair_in t.1)) (sym pair) ∙ other)))) in
+        e2 ∙ (ap (λ l. price_over l between t.0) (own_prices segs placed part q terms)
+        ∙ (over_other (pair_prices segs placed part terms q) between t.0 (prices_other segs placed part terms q t numbered parts.0 other)
+        ∙ (e1 ∙ (ap (λ b. cond b (pos 0) old) out ∙ kept e))))
 
--- once all pairs are noted, each term has its price
-pub all_noted : (segs placed : List (List LineId)) (part : List SegId) (terms : List (ℕ × Term)) (t : ℕ × Term) → Among t terms
-    → due_price segs placed part terms (pairs_of terms) t ≡ price_among (pair_prices segs placed part terms (pair_in t.1)) t.0
-all_noted segs placed part terms t h = ap (λ b. cond b (price_among (pair_prices segs placed part terms (pair_in t.1)) t.0) (pos 0)) (found_pair [] terms t h)
+below_numbers : (m : ℕ) (terms : List (ℕ × Term)) → All (λ n. n < m) (map (λ (t : ℕ × Term). t.0) terms) → (t : ℕ × Term) → Among t terms → t.0 < m
+below_numbers m [] all t h = absurd h
+below_numbers m (u ∷ terms) all t (inl e) =
+    let first : u.0 < m = All-head (λ n. n < m) u.0 (map (λ (t : ℕ × Term). t.0) terms) all in omega (arith, first, ap (λ (v : ℕ × Term). v.0) e)
+below_numbers m (u ∷ terms) all t (inr h) = below_numbers m terms (All-tail (λ n. n < m) u.0 (map (λ (t : ℕ × Term). t.0) terms) all) t h
 
--- once as many are noted as there are
-pub whole_noted : (segs placed : List (List LineId)) (part : List SegId) (terms : List (ℕ × Term)) (price : ℕ → ℤ) (i : ℕ) → length (pairs_of terms) ≤ i
-    → ((t : ℕ × Term) → Among t terms → price t.0 ≡ due_price segs placed part terms (take i (pairs_of terms)) t)
+-- the pair at a place is noted anew
+pub renewed : (segs placed : List (List LineId)) (part : List SegId) (problem_terms : List Term) (groups : List Group) (i : ℕ) (g : Group) (m : ℕ) (old between new : ℕ → ℤ) (stale after : List Bool)
+    → groups ≡ groups_of (part_terms problem_terms part) → i < length groups → get_or groups i no_group ≡ g → m ≡ length problem_terms
+    → ((k : ℕ) → k < m → between k ≡ cleared g.1 old k) → ((k : ℕ) → k < m → new k ≡ price_over (pair_prices segs placed part g.1 g.0) (between k) k)
+    → length stale ≡ length groups → after ≡ set stale i false → AreNoted segs placed part old groups stale → AreNoted segs placed part new groups after
+renewed segs placed part problem_terms groups i g m old between new stale after grouped below at enough e1 e2 each e3 noted k kb fresh =
+    All-from_recursion (λ (t : ℕ × Term). new t.0 ≡ price_among (pair_prices segs placed part h.1 h.0) t.0) h.1
+    (each_among (λ (t : ℕ × Term). new t.0 ≡ price_among (pair_prices segs placed part h.1 h.0) t.0) h.1 one)
+  where
+    terms : List (ℕ × Term)
+    terms = part_terms problem_terms part
+
+    h : Group
+    h = get_or groups k no_group
+
+    own_h : h.1 ≡ terms_of_pair h.0 terms
+    own_h = group_is terms groups k grouped kb
+
+    own_g : g.1 ≡ terms_of_pair g.0 terms
+    own_g = subst (λ (x : Group). x.1 ≡ terms_of_pair x.0 terms) at (group_is terms groups i grouped below)
+
+    known : All (λ n. n < m) (map (λ (t : ℕ × Term). t.0) terms)
+    known = subst (λ n. All (λ j. j < n) (part_numbers problem_terms part)) (sym enough) (part_numbers_known part problem_terms)
+
+    still : is_pair h.0 g.0 ≡ false → get_or stale k true ≡ false
+    still other =
+        let ne : k ≢ i = λ e. true≢false (sym (pair_itself g.0) ∙ (ap (λ (x : Group). is_pair x.0 g.0) (sym at ∙ ap (λ j. get_or groups j no_group) (sym e)) ∙ other)) in
+        sym (get_or-set_other stale i k false true ne) ∙ (ap (λ l. get_or l k true) (sym e3) ∙ fresh)
+
+    one : (t : ℕ × Term) → Among t h.1 → new t.0 ≡ price_among (pair_prices segs placed part h.1 h.0) t.0
+    one t m1 =
+        let mine : Among t (terms_of_pair h.0 terms) = subst (Among t) own_h m1 in
+        let within : t.0 < m = below_numbers m terms known t (among_filtered (λ (u : ℕ × Term). is_pair h.0 (pair_in u.1)) terms t mine).0 in
+        noted_anew segs placed part terms h.0 g.0 t (old t.0) (between t.0) (new t.0) (part_numbered problem_terms part) mine
+        (e1 t.0 within ∙ ap (λ l. cond (has_number l t.0) (pos 0) (old t.0)) own_g)
+        (e2 t.0 within ∙ ap (λ l. price_over (pair_prices segs placed part l g.0) (between t.0) t.0) own_g)
+        (λ other. all_among (λ (u : ℕ × Term). old u.0 ≡ price_among (pair_prices segs placed part h.1 h.0) u.0) h.1 (noted k kb (still other)) t m1
+        ∙ ap (λ l. price_among (pair_prices segs placed part l h.0) t.0) own_h)
+        ∙ ap (λ l. price_among (pair_prices segs placed part l h.0) t.0) (sym own_h)
+
+-- a fact of each of some pairs
+each_of_pairs : (P : Pair → Type 0) (pairs : List Pair) (q d : Pair) → has_pair pairs q ≡ true → ((k : ℕ) → k < length pairs → P (get_or pairs k d)) → P q
+each_of_pairs P [] q d h all = absurd (true≢false (sym h))
+each_of_pairs P (p ∷ pairs) q d h all = elim (or_cases (is_pair q p) (has_pair pairs q) h) [
+  | inl e ↦ subst P (sym (same_pair q p e)) (all 0 (omega arith))
+  | inr later ↦ each_of_pairs P pairs q d later (λ k b. all (suc k) (omega (arith, b)))
+]
+
+-- once no pair is stale, each term has its price
+pub whole_noted : (segs placed : List (List LineId)) (part : List SegId) (terms : List (ℕ × Term)) (price : ℕ → ℤ) (groups : List Group) (stale : List Bool) → groups ≡ groups_of terms
+    → ((k : ℕ) → k < length groups → get_or stale k true ≡ false) → AreNoted segs placed part price groups stale
     → All (λ (t : ℕ × Term). price t.0 ≡ price_among (pair_prices segs placed part terms (pair_in t.1)) t.0) terms
-whole_noted segs placed part terms price i most due =
+whole_noted segs placed part terms price groups stale grouped fresh noted =
     All-from_recursion (λ (t : ℕ × Term). price t.0 ≡ price_among (pair_prices segs placed part terms (pair_in t.1)) t.0) terms
-    (each_among (λ (t : ℕ × Term). price t.0 ≡ price_among (pair_prices segs placed part terms (pair_in t.1)) t.0) terms
-    (λ t h. due t h ∙ (ap (λ l. due_price segs placed part terms l t) (take_whole (pairs_of terms) i most) ∙ all_noted segs placed part terms t h)))
+    (each_among (λ (t : ℕ × Term). price t.0 ≡ price_among (pair_prices segs placed part terms (pair_in t.1)) t.0) terms one)
   where
-    take_whole : (xs : List Pair) (i : ℕ) → length xs ≤ i → take i xs ≡ xs
-    take_whole [] zero h = refl
-    take_whole [] (suc i) h = refl
-    take_whole (x ∷ xs) zero h = absurd (omega (arith, h))
-    take_whole (x ∷ xs) (suc i) h = ap (λ l. x ∷ l) (take_whole xs i (omega (arith, h)))
+    at : (k : ℕ) → k < length (pairs_of terms) → IsNoted segs placed part price (group_of terms (get_or (pairs_of terms) k no_group.0))
+    at k b =
+        let within : k < length groups = omega (arith, b, ap length grouped, length-map (pairs_of terms) (group_of terms)) in
+        subst (IsNoted segs placed part price) (ap (λ gs. get_or gs k no_group) grouped ∙ get_or-map (group_of terms) (pairs_of terms) k no_group.0 no_group b) (noted k within (fresh k within))
 
--- before any is noted
-pub none_noted : (segs placed : List (List LineId)) (part : List SegId) (terms : List (ℕ × Term)) (t : ℕ × Term) (y : ℤ) → y ≡ pos 0 → y ≡ due_price segs placed part terms (take 0 (pairs_of terms)) t
-none_noted segs placed part terms t y h = h ∙ ap (λ l. due_price segs placed part terms l t) (sym (take_nothing (pairs_of terms)))
-  where
-    take_nothing : (xs : List Pair) → take 0 xs ≡ []
-    take_nothing [] = refl
-    take_nothing (x ∷ xs) = refl
+    one : (t : ℕ × Term) → Among t terms → price t.0 ≡ price_among (pair_prices segs placed part terms (pair_in t.1)) t.0
+    one t h =
+        let q : Pair = pair_in t.1 in
+        let its : IsNoted segs placed part price (group_of terms q) = each_of_pairs (λ p. IsNoted segs placed part price (group_of terms p)) (pairs_of terms) q no_group.0 (found_pair [] terms t h) at in
+        all_among (λ (u : ℕ × Term). price u.0 ≡ price_among (pair_prices segs placed part (terms_of_pair q terms) q) u.0) (terms_of_pair q terms) its t
+        (in_filtered (λ (u : ℕ × Term). is_pair q (pair_in u.1)) terms t h (pair_itself q))
+        ∙ ap (λ l. price_among l t.0) (own_prices segs placed part q terms)
+
+-- Another prefix.
+
+pub any_default : {A : Type 0} (xs : List A) (i : ℕ) (d e : A) → i < length xs → get_or xs i d ≡ get_or xs i e
+any_default [] i d e below = absurd (omega (arith, below))
+any_default (x ∷ xs) zero d e below = refl
+any_default (x ∷ xs) (suc i) d e below = any_default xs i d e (omega (arith, below))
+
+-- the pairs that a placing leaves keep their prices
+pub left_noted : (segs one two : List (List LineId)) (part : List SegId) (price : ℕ → ℤ) (c : Change) (pairs : List PairTerms) (count : ℕ) (stale after : List Bool) → All (KnowsOwn part) pairs → All (IsGroup segs part) (groups_in pairs)
+    → count ≡ length pairs → AreMarked c pairs count stale after → ((g : Group) → IsGroup segs part g → is_changed c g ≡ false → pair_prices segs two part g.1 g.0 ≡ pair_prices segs one part g.1 g.0)
+    → AreNoted segs one part price (groups_in pairs) stale → AreNoted segs two part price (groups_in pairs) after
+left_noted segs one two part price c [] count stale after own fit counted marked same noted k below fresh = absurd (omega (arith, below))
+left_noted segs one two part price c (p ∷ rest) count stale after own fit counted marked same noted k below fresh =
+    let pairs : List PairTerms = p ∷ rest in
+    let within : k < length pairs = omega (arith, below, length-map pairs group_in) in
+    let e : PairTerms = get_or pairs k p in
+    let here : e ≡ get_or pairs k e = any_default pairs k p e within in
+    let is : get_or (groups_in pairs) k no_group ≡ group_in e = group_here pairs k e within here in
+    let fits : IsGroup segs part (group_in e) = group_at (IsGroup segs part) pairs k e fit within here in
+    let known : KnowsOwn part e = subst (KnowsOwn part) (sym here) (own k e within) in
+    let none : is_changed c (group_in e) ≡ false =
+    unchanged part e.terms.items e.segs.items c.seg (is_new_pair c e.pair) known fits.inside (marked.marked k e (omega (arith, within, counted)) within here fresh) in
+    let prices : pair_prices segs two part e.terms.items e.pair ≡ pair_prices segs one part e.terms.items e.pair = same (group_in e) fits none in
+    subst (IsNoted segs two part price) (sym is)
+    (subst (λ l. All (λ (t : ℕ × Term). price t.0 ≡ price_among l t.0) e.terms.items) (sym prices)
+    (subst (IsNoted segs one part price) is (noted k below (marked.still k fresh))))
 
 -- The list.
 

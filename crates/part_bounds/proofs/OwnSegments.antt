@@ -191,7 +191,7 @@ counted_same segs one two (Side seg first second w) h g = decided_same segs one 
 counted_same segs one two (Link seg other flip a b w) h g = decided_same segs one two (Link seg other flip a b w) h g
 counted_same segs one two (Apart seg other a b w) h g = refl
 
-cost_same : (one two : List (List LineId)) (p : Pair) (s : SegId) (x : Bool) (t : Term) → lines_on one (seg_of t) ≡ lines_on two (seg_of t) → lines_on one (other_of t) ≡ lines_on two (other_of t)
+pub cost_same : (one two : List (List LineId)) (p : Pair) (s : SegId) (x : Bool) (t : Term) → lines_on one (seg_of t) ≡ lines_on two (seg_of t) → lines_on one (other_of t) ≡ lines_on two (other_of t)
     → open_cost one p s x t ≡ open_cost two p s x t
 cost_same one two p s x (Side seg first second w) h g =
     ap (λ l. cond ((is_pair p (pair_of first second) && seg.0 == s.0) && not (is_placed l first || is_placed l second)) (cond (same_answer (first.0 == p.lesser.0) x) 0 w) 0) h
@@ -211,23 +211,23 @@ link_same one two p k (Link seg other flip a b w) h g =
     ap (λ l. Q (is_pair p (pair_of a b) && not ((is_placed l a || is_placed l b) || is_decided one other a b))) h
     ∙ ap (λ l. Q (is_pair p (pair_of a b) && not (is_decided two seg a b || (is_placed l a || is_placed l b)))) g
 
-same_ends : (s : SegId) (one two : List (List LineId)) (t : Term) → SameElsewhere s one two → is_end s t ≡ false → (lines_on one (seg_of t) ≡ lines_on two (seg_of t)) × (lines_on one (other_of t) ≡ lines_on two (other_of t))
+pub same_ends : (s : SegId) (one two : List (List LineId)) (t : Term) → SameElsewhere s one two → is_end s t ≡ false → (lines_on one (seg_of t) ≡ lines_on two (seg_of t)) × (lines_on one (other_of t) ≡ lines_on two (other_of t))
 same_ends s one two t same h = let parts = or_parts ((seg_of t).0 == s.0) ((other_of t).0 == s.0) h in (same (seg_of t) parts.0, same (other_of t) parts.1)
 
-sum_kept : (f g : ℕ × Term → ℕ) (terms : List (ℕ × Term)) (s : SegId) → meets terms s ≡ false → ((t : ℕ × Term) → is_end s t.1 ≡ false → f t ≡ g t) → sum_by f terms ≡ sum_by g terms
+pub sum_kept : (f g : ℕ × Term → ℕ) (terms : List (ℕ × Term)) (s : SegId) → meets terms s ≡ false → ((t : ℕ × Term) → is_end s t.1 ≡ false → f t ≡ g t) → sum_by f terms ≡ sum_by g terms
 sum_kept f g [] s h same = refl
 sum_kept f g (t ∷ terms) s h same =
     let parts = or_parts (is_end s t.1) (meets terms s) h in
     omega (arith, same t parts.0, sum_kept f g terms s parts.1 same, sum_by-cons f t terms, sum_by-cons g t terms)
 
-links_kept : (one two : List (List LineId)) (p : Pair) (terms : List (ℕ × Term)) (s : SegId) → meets terms s ≡ false → SameElsewhere s one two → open_links one p terms ≡ open_links two p terms
+pub links_kept : (one two : List (List LineId)) (p : Pair) (terms : List (ℕ × Term)) (s : SegId) → meets terms s ≡ false → SameElsewhere s one two → open_links one p terms ≡ open_links two p terms
 links_kept one two p [] s h same = refl
 links_kept one two p (t ∷ terms) s h same =
     let parts = or_parts (is_end s t.1) (meets terms s) h in
     let ends = same_ends s one two t.1 same parts.0 in
     ap (λ l. l ++ open_links one p terms) (link_same one two p t.0 t.1 ends.0 ends.1) ∙ ap (λ l. open_link two p t.0 t.1 ++ l) (links_kept one two p terms s parts.1 same)
 
-open_kept : (segs one two : List (List LineId)) (q : SegId → Bool) (part : List SegId) (p : Pair) (s : SegId) → q s ≡ false → SameElsewhere s one two
+pub open_kept : (segs one two : List (List LineId)) (q : SegId → Bool) (part : List SegId) (p : Pair) (s : SegId) → q s ≡ false → SameElsewhere s one two
     → open_segments segs one (filter q part) p ≡ open_segments segs two (filter q part) p
 open_kept segs one two q [] p s none same = refl
 open_kept segs one two q (t ∷ part) p s none same = by_test (q t) refl (open_kept segs one two q part p s none same)

@@ -3,5 +3,7 @@ pub mod TermLooks
 pub mod Slots
 pub mod PairGroups
 pub mod Shares
+pub mod Changes
 pub mod Settled
 pub mod PriceNotes
+pub mod KeptPrices

@@ -1,9 +1,5 @@
 -- Prices noted by the number of their Link.
-use Rattle.std.specs.Prelude.{ℕ, ◌==◌, ℤ, pos, nat_eq, List, [], ◌∷◌, ◌++◌, if◌then◌else◌}
-use Rattle.std.specs.Option.{unwrap_or}
-use Rattle.std.specs.declared.hash.FoldHasher.{FoldHasher}
-use Rattle.std.specs.declared.hash.BuildHasherDefault.{BuildHasherDefault}
-use Rattle.std.specs.HashMap.{get, HashMap}
+use Rattle.std.specs.Prelude.{ℕ, ◌==◌, ℤ, pos, List, [], ◌∷◌, ◌++◌, if◌then◌else◌, slice_index_or}
 use Rattle.order_bound.specs.declared.pairs.OpenLink.{OpenLink}
 use Rattle.order_bound.specs.declared.pairs.ChildLink.{ChildLink}
 use Rattle.order_bound.specs.CanonicalPrices.{price_for, listed}
@@ -11,8 +7,8 @@ use Rattle.part_bounds.specs.declared.slots.Slot.{Slot}
 use Rattle.part_bounds.specs.Slots.{rise_in, with_children}
 
 -- the price that is noted for a number, 0 where there is none
-abbrev pub price_noted : HashMap ℕ ℤ (BuildHasherDefault FoldHasher) → ℕ → ℤ
-price_noted prices k = unwrap_or (get nat_eq prices k) (pos 0)
+abbrev pub price_noted : List ℤ → ℕ → ℤ
+price_noted prices k = slice_index_or prices k (pos 0)
 
 -- the price of the first of these Links that has this number; another price where none has it
 abbrev pub price_over : List (OpenLink × ℤ) → ℤ → ℕ → ℤ

@@ -1,5 +1,5 @@
 -- What a part is kept with while lines are placed.
-use Rattle.std.specs.Prelude.{◌≡◌, ℕ, ◌*◌, ◌<◌, ◌≤◌, false, sum, slice_index, slice_index_or, List, length, map, sum_by, All}
+use Rattle.std.specs.Prelude.{◌≡◌, ℕ, ◌*◌, ◌<◌, ◌≤◌, Bool, false, sum, slice_index, slice_index_or, List, length, map, sum_by, All}
 use Rattle.map_base.specs.declared.ids.SegId.{SegId}
 use Rattle.order_model.specs.declared.problem.ProblemParts.{ProblemParts}
 use Rattle.order_model.specs.PartTerms.{part_terms, part_numbers}
@@ -10,7 +10,7 @@ use Rattle.order_model.specs.Problems.{IsTerm}
 use Rattle.part_bounds.specs.declared.aparts.Aparts.{Aparts}
 use Rattle.part_bounds.specs.declared.one_pair.Room.{Room}
 use Rattle.part_bounds.specs.declared.pair_terms.PairTerms.{PairTerms}
-use Rattle.part_bounds.specs.PairGroups.{Group, KnowsOwn, groups_of, groups_in, no_group, meets, terms_in, share_of, IsGroup}
+use Rattle.part_bounds.specs.PairGroups.{Group, KnowsOwn, groups_of, groups_in, no_group, terms_in, share_of, IsGroup}
 use Rattle.part_bounds.specs.Settled.{AreSettled}
 use Rattle.part_bounds.specs.Slots.{HasRoom}
 
@@ -18,20 +18,20 @@ use Rattle.part_bounds.specs.Slots.{HasRoom}
 abbrev pub HasRoomFor : List SegId → List Group → Room → Type 0
 HasRoomFor part groups room = All (λ (g : Group). HasRoom (length part) (terms_in g) room) groups
 
--- shares of groups, each at most so much a term, with their sum. Each of the first so many, and each of a group without a
--- term on the segment, is what is due
-pub record AreSharesBut (due : Group → ℕ) (s : SegId) (count : ℕ) (groups : List Group) (shares : List ℕ) (total : ℕ) : Type 0 where
+-- shares of groups, each at most so much a term, with their sum. Each of the first so many, and each of a group that is
+-- not stale, is what is due
+pub record AreSharesBut (due : Group → ℕ) (stale : Group → Bool) (count : ℕ) (groups : List Group) (shares : List ℕ) (total : ℕ) : Type 0 where
   pub each : length shares ≡ length groups
   pub early : (k : ℕ) → k < count → k < length groups → slice_index shares k ≡ due (slice_index_or groups k no_group)
-  pub beside : (k : ℕ) → k < length groups → meets (slice_index_or groups k no_group).1 s ≡ false → slice_index shares k ≡ due (slice_index_or groups k no_group)
+  pub beside : (k : ℕ) → k < length groups → stale (slice_index_or groups k no_group) ≡ false → slice_index shares k ≡ due (slice_index_or groups k no_group)
   pub small : (k : ℕ) → k < length groups → slice_index shares k ≤ 1024000 * terms_in (slice_index_or groups k no_group)
   pub total_is : total ≡ sum shares
 
 -- a sum of shares as it is once the first so many groups' shares are worked out anew, while the kept ones stay
-pub record IsTrialSum (due : Group → ℕ) (s : SegId) (count : ℕ) (groups : List Group) (shares : List ℕ) (total : ℕ) : Type 0 where
+pub record IsTrialSum (due : Group → ℕ) (stale : Group → Bool) (count : ℕ) (groups : List Group) (shares : List ℕ) (total : ℕ) : Type 0 where
   pub each : length shares ≡ length groups
   pub anew : List ℕ
-  pub are : AreSharesBut due s count groups anew total
+  pub are : AreSharesBut due stale count groups anew total
   pub later : (k : ℕ) → count ≤ k → slice_index anew k ≡ slice_index shares k
 
 -- the numbers of a part's terms, and its pairs with what each adds to the bound of a prefix, and the sum, with room for so many

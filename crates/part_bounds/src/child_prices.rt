@@ -1,6 +1,6 @@
 //! Prices of the Links of a pair, from the leaves of their trees to the roots.
 
-ghost use Rattle.std.specs.Prelude.{◌≡◌, ◌<◌, ◌≤◌, ◌+◌, ◌*◌, ◌^◌, ℕ, length, map, All, OnOk};
+ghost use Rattle.std.specs.Prelude.{◌≡◌, ◌<◌, ◌≤◌, ◌+◌, ◌*◌, ◌^◌, ℕ, length, map, All};
 ghost use Rattle.std.specs.Prelude.{ℤ, pos, ◌+ℤ◌, ◌-ℤ◌, ◌≤ℤ◌};
 ghost use Rattle.std.specs.Vec.{vec_len, vec_capacity};
 ghost use Rattle.order_bound.specs.CanonicalPrices.{cut_to, turned_by, price_for};
@@ -11,7 +11,6 @@ ghost use Rattle.part_bounds.specs.PriceNotes.{price_noted, price_over, priced_i
 
 use crate::noted_prices::NotedPrices;
 use crate::slots::{Slot, add_shares, rise_in};
-use map_base::NoMemory;
 use order_bound::ChildLink;
 
 /// A number cut to a weight either way.
@@ -84,18 +83,18 @@ pub(crate) fn note_children(
     slots: &mut [Slot],
     children: &mut Vec<ChildLink>,
     noted: &mut NotedPrices,
-) -> Result<(), NoMemory>
+)
     requires small { All (IsSmall (2 ^ 41)) slots.old }
     requires light { All (λ (c : ChildLink). c.link.weight ≤ 256000) children.old.items }
     requires few { vec_len children.old ≤ 4000000 }
-    ensures noted { OnOk result ((k : ℕ) → price_noted noted.new.prices k ≡ price_over (priced_in children.old.items slots.old) (price_noted noted.old.prices k) k) }
+    ensures each { length noted.new.prices.items ≡ length noted.old.prices.items }
+    ensures noted { (k : ℕ) → k < length noted.old.prices.items → price_noted noted.new.prices.items k ≡ price_over (priced_in children.old.items slots.old) (price_noted noted.old.prices.items k) k }
     ensures room { vec_capacity children.old ≤ vec_capacity children.new }
 {
     while let Some(child) = children.pop() {
         let price = price_child(slots, child);
-        noted.note(child.link.number, price)?;
+        noted.note(child.link.number, price);
     }
-    Ok(())
 }
 
 /// The lesser of the two costs of a slot.

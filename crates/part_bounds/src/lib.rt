@@ -1,11 +1,13 @@
 //! The bound of a part of a problem and its canonical prices, while lines are placed.
 //!
 //! `PartBounds` holds a part with the lines placed so far. Its bound is known at any time: placing a line, and taking one
-//! back, work out anew what those pairs of lines add that have a term on the line's segment, and take no memory. Both
-//! the bound and the prices are those of order_bound's definitions.
+//! back, work out anew what those pairs of lines add that are then decided on the line's segment, or no longer, and take no
+//! memory. `PartPrices` holds a part likewise, with its canonical prices: asked for, they are worked out anew for those
+//! pairs alone that have changed since. Both the bound and the prices are those of order_bound's definitions.
 #![tactic(auto)]
 
 mod aparts;
+mod changes;
 mod child_prices;
 mod collecting;
 mod noted_prices;
@@ -13,10 +15,13 @@ mod one_pair;
 mod opening;
 mod pair_terms;
 mod part_bounds;
+mod part_prices;
 mod prices;
 mod shares;
 mod slots;
+mod stale_prices;
 mod term_look;
 mod walking;
 
 pub use part_bounds::PartBounds;
+pub use part_prices::PartPrices;

@@ -1,6 +1,6 @@
 //! The bound of one pair of lines.
 
-ghost use Rattle.std.specs.Prelude.{◌≡◌, true, ◌<◌, ◌≤◌, ◌+◌, ◌*◌, ◌^◌, ℕ, length, map, reverse, All, IfOk, OnOk, pos};
+ghost use Rattle.std.specs.Prelude.{◌≡◌, true, ◌<◌, ◌≤◌, ◌+◌, ◌*◌, ◌^◌, ℕ, length, map, reverse, All, IfOk, pos};
 ghost use Rattle.std.specs.Vec.{vec_len, vec_capacity};
 ghost use Rattle.map_base.specs.declared.ids.SegId.{SegId};
 ghost use Rattle.order_model.specs.declared.term.Term.{Term};
@@ -146,7 +146,7 @@ pub(crate) fn note_pair(
     terms: &[(u32, Term)],
     room: &mut Room,
     noted: &mut NotedPrices,
-) -> Result<(), NoMemory>
+)
     requires fits { IsPrefixOf problem.now.segs prefix.now }
     requires part { All (λ (s : SegId). s.0 < length problem.now.segs) part.now }
     requires apart { AreApartSegments part.now }
@@ -155,13 +155,13 @@ pub(crate) fn note_pair(
     requires mine { All (λ (t : ℕ × Term). pair ≡ pair_in t.1) terms.now }
     requires few { length terms.now ≤ 4000000 }
     requires room { HasRoom (length part.now) (length terms.now) room.old }
-    ensures noted { OnOk result ((k : ℕ) → price_noted noted.new.prices k
-        ≡ price_over (pair_prices problem.now.segs prefix.now.placed part.now terms.now pair) (price_noted noted.old.prices k) k) }
+    ensures each { length noted.new.prices.items ≡ length noted.old.prices.items }
+    ensures noted { (k : ℕ) → k < length noted.old.prices.items → price_noted noted.new.prices.items k
+        ≡ price_over (pair_prices problem.now.segs prefix.now.placed part.now terms.now pair) (price_noted noted.old.prices.items k) k }
     ensures room { KeepsRoom room.old room.new }
 {
     let _ = plan_pair(problem, prefix, part, pair, terms, room);
-    note_children(room.slots.as_mut_slice(), &mut room.children, noted)?;
-    Ok(())
+    note_children(room.slots.as_mut_slice(), &mut room.children, noted);
 }
 
 /// The bound of a pair of lines on a part, and what its decided terms cost, together.

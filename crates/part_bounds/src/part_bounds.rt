@@ -1,4 +1,4 @@
-//! A part of a problem with the lines placed so far, its bound and its prices.
+//! A part of a problem with the lines placed so far, and its bound.
 
 ghost use Rattle.std.specs.Prelude.{◌≡◌, ◌<◌, length, All, false, Contains, IfOk, slice_set};
 ghost use Rattle.map_base.specs.declared.ids.SegId.{SegId};
@@ -9,21 +9,21 @@ ghost use Rattle.order_model.specs.Parts.{IsRisingPart};
 ghost use Rattle.order_model.specs.PartTerms.{part_terms, part_numbers};
 ghost use Rattle.order_model.specs.Prefixes.{is_placed, is_left, first_placed, none_placed, without_last};
 ghost use Rattle.order_bound.specs.Bounds.{bound_of};
-ghost use Rattle.order_bound.specs.CanonicalPrices.{prices_for};
 ghost use Rattle.part_bounds.specs.PartStates.{state_more, with_placed, IsWell};
 
 use crate::aparts::{Aparts, aparts_by_end, moved, settled_on, settled_total};
+use crate::changes::{change_on, last_two, placed_count};
+use crate::noted_prices::NotedPrices;
 use crate::one_pair::Room;
 use crate::pair_terms::{PairTerms, find_segments, most_terms, pairs_of};
-use crate::prices::prices_of;
+use crate::part_prices::PartPrices;
 use crate::shares::{fill_shares, renew_shares, sum_anew};
 use map_base::{LineId, NoMemory, SegId};
 use order_model::{Prefix, Problem};
-use order_values::Prices;
 use std::alloc::Global;
 use std::marker::Model;
 
-/// A part of a problem with the lines placed so far, its bound and its prices. It is seen as the lines of the problem's
+/// A part of a problem with the lines placed so far, and its bound. It is seen as the lines of the problem's
 /// segments, the part, the part's terms behind their numbers in the problem, and the placed lines of each segment.
 #[derive(Drop)]
 pub struct PartBounds<'a> {
@@ -123,13 +123,16 @@ impl<'a> PartBounds<'a> {
         ensures kept { self.new ≡ self.old }
     {
         let before = settled_on(self.problem, &self.prefix, &self.aparts, seg);
+        let count = placed_count(self.problem, &self.prefix, seg);
         self.prefix.place(self.problem, seg, line);
+        let last = last_two(self.problem, &self.prefix, seg);
+        let change = change_on(self.problem, &self.prefix, seg, count, last);
         let after = settled_on(self.problem, &self.prefix, &self.aparts, seg);
         let total = sum_anew(
             self.problem,
             &self.prefix,
             self.part,
-            seg,
+            &change,
             self.pairs.as_slice(),
             &self.shares,
             self.total,
@@ -139,18 +142,22 @@ impl<'a> PartBounds<'a> {
         total + moved(self.aparts.total, before, after)
     }
 
-    /// The canonical prices of the placed lines, by the numbers of their terms in the problem.
-    pub fn prices(&self, alloc: Global) -> Result<Prices, NoMemory>
-        ensures { IfOk result (λ p. p ≡ prices_for self.now.segs self.now.part self.now.terms self.now.placed) }
+    /// The same part with its canonical prices in place of its bound.
+    pub fn into_prices(self, alloc: Global) -> Result<PartPrices<'a>, NoMemory>
+        ensures { IfOk result (λ p. p ≡ self.entry) }
     {
-        prices_of(
-            alloc,
-            self.problem,
-            &self.prefix,
-            self.part,
-            self.pairs.as_slice(),
-            self.numbers,
-        )
+        let noted = NotedPrices::none(alloc, self.problem.terms().len())?;
+        let stale = vec![in alloc; true; self.pairs.len()]?;
+        Ok(PartPrices {
+            problem: self.problem,
+            part: self.part,
+            numbers: self.numbers,
+            prefix: self.prefix,
+            pairs: self.pairs,
+            room: self.room,
+            noted,
+            stale,
+        })
     }
 
     /// The placed lines of a segment, left to right.
@@ -180,14 +187,17 @@ impl<'a> PartBounds<'a> {
         ensures well { IsWell self.new.segs self.new.placed }
     {
         let before = settled_on(self.problem, &self.prefix, &self.aparts, seg);
+        let count = placed_count(self.problem, &self.prefix, seg);
         self.prefix.place(self.problem, seg, line);
+        let last = last_two(self.problem, &self.prefix, seg);
+        let change = change_on(self.problem, &self.prefix, seg, count, last);
         let after = settled_on(self.problem, &self.prefix, &self.aparts, seg);
         self.aparts.total = moved(self.aparts.total, before, after);
         self.total = renew_shares(
             self.problem,
             &self.prefix,
             self.part,
-            seg,
+            &change,
             self.pairs.as_slice(),
             &mut self.shares,
             self.total,
@@ -204,14 +214,17 @@ impl<'a> PartBounds<'a> {
         ensures well { IsWell self.new.segs self.new.placed }
     {
         let before = settled_on(self.problem, &self.prefix, &self.aparts, seg);
+        let last = last_two(self.problem, &self.prefix, seg);
         self.prefix.take_back(self.problem, seg);
+        let count = placed_count(self.problem, &self.prefix, seg);
+        let change = change_on(self.problem, &self.prefix, seg, count, last);
         let after = settled_on(self.problem, &self.prefix, &self.aparts, seg);
         self.aparts.total = moved(self.aparts.total, before, after);
         self.total = renew_shares(
             self.problem,
             &self.prefix,
             self.part,
-            seg,
+            &change,
             self.pairs.as_slice(),
             &mut self.shares,
             self.total,

@@ -7,10 +7,12 @@ ghost use Rattle.order_model.specs.Prefixes.{IsPrefixOf};
 ghost use Rattle.order_bound.specs.Pairs.{AreApartSegments};
 ghost use Rattle.part_bounds.specs.PairGroups.{KnowsOwn, group_in, groups_in, terms_in, share_of, IsGroup};
 ghost use Rattle.part_bounds.specs.Slots.{HasRoom, KeepsRoom};
+ghost use Rattle.part_bounds.specs.Changes.{is_changed};
 ghost use Rattle.part_bounds.specs.Shares.{HasRoomFor, AreSharesBut, IsTrialSum};
 
+use crate::changes::{Change, is_changed};
 use crate::one_pair::{Room, bound_of_pair};
-use crate::pair_terms::{PairTerms, is_in};
+use crate::pair_terms::PairTerms;
 use map_base::SegId;
 use order_model::{Prefix, Problem};
 
@@ -83,12 +85,12 @@ pub(crate) fn fill_shares(
     total
 }
 
-/// Works out anew what the pair at a place adds, if it has a term on a segment. Answers the sum.
+/// Works out anew what the pair at a place adds, if a placing changes it. Answers the sum.
 fn renew_at(
     problem: &Problem,
     prefix: &Prefix,
     part: &[SegId],
-    seg: SegId,
+    change: &Change,
     pairs: &[PairTerms],
     place: usize,
     shares: &mut Vec<u64>,
@@ -103,13 +105,13 @@ fn renew_at(
     requires own { All (KnowsOwn part.now) pairs.now }
     requires room { HasRoomFor part.now (groups_in pairs.now) room.old }
     requires within { place < length pairs.now }
-    requires stale { AreSharesBut (share_of problem.now.segs part.now prefix.now.placed) seg place (groups_in pairs.now) shares.old.items total }
-    ensures renewed { AreSharesBut (share_of problem.now.segs part.now prefix.now.placed) seg (place + 1) (groups_in pairs.now) shares.new.items result }
+    requires stale { AreSharesBut (share_of problem.now.segs part.now prefix.now.placed) (is_changed change.now) place (groups_in pairs.now) shares.old.items total }
+    ensures renewed { AreSharesBut (share_of problem.now.segs part.now prefix.now.placed) (is_changed change.now) (place + 1) (groups_in pairs.now) shares.new.items result }
     ensures places { vec_capacity shares.old ≤ vec_capacity shares.new }
     ensures room { KeepsRoom room.old room.new }
 {
     let entry = &pairs[place];
-    if !is_in(entry.segs.as_slice(), seg) {
+    if !is_changed(change, entry) {
         return total;
     }
     let share = share_of(problem, prefix, part, entry, room);
@@ -118,13 +120,12 @@ fn renew_at(
     renewed
 }
 
-/// Works out anew what those pairs add that have a term on a segment, once lines are placed there or taken back. Answers
-/// the sum.
+/// Works out anew what those pairs add that a placing changes, once it is done or taken back. Answers the sum.
 pub(crate) fn renew_shares(
     problem: &Problem,
     prefix: &Prefix,
     part: &[SegId],
-    seg: SegId,
+    change: &Change,
     pairs: &[PairTerms],
     shares: &mut Vec<u64>,
     total: u64,
@@ -137,7 +138,7 @@ pub(crate) fn renew_shares(
     requires few { sum_by terms_in (groups_in pairs.now) ≤ 4000000 }
     requires own { All (KnowsOwn part.now) pairs.now }
     requires room { HasRoomFor part.now (groups_in pairs.now) room.old }
-    requires stale { AreSharesBut (share_of problem.now.segs part.now prefix.now.placed) seg 0 (groups_in pairs.now) shares.old.items total }
+    requires stale { AreSharesBut (share_of problem.now.segs part.now prefix.now.placed) (is_changed change.now) 0 (groups_in pairs.now) shares.old.items total }
     ensures shares { shares.new.items ≡ map (share_of problem.now.segs part.now prefix.now.placed) (groups_in pairs.now) }
     ensures total { result ≡ sum_by (share_of problem.now.segs part.now prefix.now.placed) (groups_in pairs.now) }
     ensures places { vec_capacity shares.old ≤ vec_capacity shares.new }
@@ -145,17 +146,19 @@ pub(crate) fn renew_shares(
 {
     let mut sum = total;
     for place in 0..pairs.len() {
-        sum = renew_at(problem, prefix, part, seg, pairs, place, shares, sum, room);
+        sum = renew_at(
+            problem, prefix, part, change, pairs, place, shares, sum, room,
+        );
     }
     sum
 }
 
-/// The sum once what the pair at a place adds is worked out anew, if it has a term on a segment.
+/// The sum once what the pair at a place adds is worked out anew, if a placing changes it.
 fn sum_at(
     problem: &Problem,
     prefix: &Prefix,
     part: &[SegId],
-    seg: SegId,
+    change: &Change,
     pairs: &[PairTerms],
     place: usize,
     shares: &Vec<u64>,
@@ -170,24 +173,24 @@ fn sum_at(
     requires own { All (KnowsOwn part.now) pairs.now }
     requires room { HasRoomFor part.now (groups_in pairs.now) room.old }
     requires within { place < length pairs.now }
-    requires stale { IsTrialSum (share_of problem.now.segs part.now prefix.now.placed) seg place (groups_in pairs.now) shares.now.items total }
-    ensures renewed { IsTrialSum (share_of problem.now.segs part.now prefix.now.placed) seg (place + 1) (groups_in pairs.now) shares.now.items result }
+    requires stale { IsTrialSum (share_of problem.now.segs part.now prefix.now.placed) (is_changed change.now) place (groups_in pairs.now) shares.now.items total }
+    ensures renewed { IsTrialSum (share_of problem.now.segs part.now prefix.now.placed) (is_changed change.now) (place + 1) (groups_in pairs.now) shares.now.items result }
     ensures room { KeepsRoom room.old room.new }
 {
     let entry = &pairs[place];
-    if !is_in(entry.segs.as_slice(), seg) {
+    if !is_changed(change, entry) {
         return total;
     }
     let share = share_of(problem, prefix, part, entry, room);
     total - shares[place] + share
 }
 
-/// The sum once what those pairs add is worked out anew that have a term on a segment. What is kept of each pair stays.
+/// The sum once what those pairs add is worked out anew that a placing changes. What is kept of each pair stays.
 pub(crate) fn sum_anew(
     problem: &Problem,
     prefix: &Prefix,
     part: &[SegId],
-    seg: SegId,
+    change: &Change,
     pairs: &[PairTerms],
     shares: &Vec<u64>,
     total: u64,
@@ -200,13 +203,15 @@ pub(crate) fn sum_anew(
     requires few { sum_by terms_in (groups_in pairs.now) ≤ 4000000 }
     requires own { All (KnowsOwn part.now) pairs.now }
     requires room { HasRoomFor part.now (groups_in pairs.now) room.old }
-    requires stale { AreSharesBut (share_of problem.now.segs part.now prefix.now.placed) seg 0 (groups_in pairs.now) shares.now.items total }
+    requires stale { AreSharesBut (share_of problem.now.segs part.now prefix.now.placed) (is_changed change.now) 0 (groups_in pairs.now) shares.now.items total }
     ensures total { result ≡ sum_by (share_of problem.now.segs part.now prefix.now.placed) (groups_in pairs.now) }
     ensures room { KeepsRoom room.old room.new }
 {
     let mut sum = total;
     for place in 0..pairs.len() {
-        sum = sum_at(problem, prefix, part, seg, pairs, place, shares, sum, room);
+        sum = sum_at(
+            problem, prefix, part, change, pairs, place, shares, sum, room,
+        );
     }
     sum
 }

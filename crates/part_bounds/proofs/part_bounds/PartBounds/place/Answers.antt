@@ -1,4 +1,5 @@
-use Rattle.std.proofs.Common.{◌≡◌, ◌<◌, List, length, map, refl, ap, sym, subst, ◌∙◌}
+use Rattle.std.proofs.Common.{◌≡◌, ◌<◌, List, length, map, refl, ap, sym, subst, ◌∙◌, arith}
+use Rattle.order_model.specs.Problems.{lines_on}
 use Rattle.std.specs.Prelude.{sum_by}
 use Rattle.std.specs.Vec.{vec_capacity}
 use Rattle.order_bound.proofs.Parts.{rising_apart}
@@ -10,6 +11,9 @@ use Rattle.part_bounds.specs.PartStates.{PartState}
 use Rattle.order_model.specs.PartTerms.{part_terms}
 use Rattle.part_bounds.proofs.KeptUp.{kept_up, list_here, list_known, list_few}
 use Rattle.part_bounds.proofs.ApartLists.{total_low, total_most, settled_next}
+use Rattle.part_bounds.specs.Changes.{is_changed, IsChange}
+use Rattle.part_bounds.proofs.OwnSegments.{SameElsewhere}
+use Rattle.part_bounds.proofs.PairsKept.{is_placing, left_by_placing, more_placed}
 use Rattle.part_bounds.proofs.Renewed.{moved_on, stale_on}
 use Rattle.part_bounds.proofs.part_bounds.PartBounds.place.Goals as goal
 
@@ -50,14 +54,28 @@ pub renew_shares-self-inside-requires-clause-room : goal.renew_shares-self-insid
 renew_shares-self-inside-requires-clause-room c =
     subst (λ (l : List PairTerms). HasRoomFor c.self.inside.part.now (groups_in l) c.self.inside.room) (sym c.as_slice.ensures.value) c.self.invariant.has_room
 
+pub last_two-last-requires-clause-some : goal.last_two-last-requires-clause-some
+last_two-last-requires-clause-some c =
+    let below : c.args.seg.0 < length c.self.inside.prefix.placed = (let each = c.self.invariant.fits.each in let known : c.args.seg.0 < length c.self.inside.problem.now.segs = subst (λ (b : PartState). c.args.seg.0 < length b.segs) (sym c.self.view_is) c.requires.known in omega (arith, each, known)) in
+    omega (arith, more_placed c.self.inside.problem.now.segs c.self.inside.prefix.placed c.place.new.self.placed c.args.seg c.args.line below c.place.ensures.placed)
+
+pub change_on-change-requires-clause-within : goal.change_on-change-requires-clause-within
+change_on-change-requires-clause-within c =
+    let below : c.args.seg.0 < length c.self.inside.prefix.placed = (let each = c.self.invariant.fits.each in let known : c.args.seg.0 < length c.self.inside.problem.now.segs = subst (λ (b : PartState). c.args.seg.0 < length b.segs) (sym c.self.view_is) c.requires.known in omega (arith, each, known)) in
+    omega (arith, c.placed_count-count.ensures, more_placed c.self.inside.problem.now.segs c.self.inside.prefix.placed c.place.new.self.placed c.args.seg c.args.line below c.place.ensures.placed)
+
 pub renew_shares-self-inside-requires-clause-stale : goal.renew_shares-self-inside-requires-clause-stale
 renew_shares-self-inside-requires-clause-stale c =
     let f = share_of c.self.inside.problem.now.segs c.self.inside.part.now c.self.inside.prefix.placed in
     let slice : c.as_slice.result.now ≡ c.self.inside.pairs.items = c.as_slice.ensures.value in
-    stale_on c.self.inside.problem.now.segs c.self.inside.prefix.placed c.place.new.self.placed c.self.inside.part.now c.args.seg (groups_in c.as_slice.result.now) c.self.inside.shares.items c.self.inside.total
+    let moved : SameElsewhere c.args.seg c.place.new.self.placed c.self.inside.prefix.placed = moved_on c.self.inside.prefix.placed c.place.new.self.placed c.args.seg _ c.place.ensures.placed in
+    let below : c.args.seg.0 < length c.self.inside.prefix.placed = (let each = c.self.invariant.fits.each in let known : c.args.seg.0 < length c.self.inside.problem.now.segs = subst (λ (b : PartState). c.args.seg.0 < length b.segs) (sym c.self.view_is) c.requires.known in omega (arith, each, known)) in
+    let change : IsChange (lines_on c.self.inside.prefix.placed c.args.seg) (lines_on c.place.new.self.placed c.args.seg) c.change_on-change.result =
+    is_placing c.self.inside.problem.now.segs c.self.inside.prefix.placed c.place.new.self.placed c.args.seg c.args.line c.change_on-change.result c.placed_count-count.result c.last_two-last.result below c.place.ensures.placed c.placed_count-count.ensures c.change_on-change.ensures.known c.change_on-change.ensures.last c.last_two-last.ensures.last c.last_two-last.ensures.before in
+    stale_on c.self.inside.problem.now.segs c.self.inside.prefix.placed c.place.new.self.placed c.self.inside.part.now (is_changed c.change_on-change.result) (groups_in c.as_slice.result.now) c.self.inside.shares.items c.self.inside.total
     (rising_apart c.self.inside.part.now c.self.invariant.rises)
     (subst (λ (l : List PairTerms). All (IsGroup c.self.inside.problem.now.segs c.self.inside.part.now) (groups_in l)) (sym slice) c.self.invariant.groups)
-    (moved_on c.self.inside.prefix.placed c.place.new.self.placed c.args.seg _ c.place.ensures.placed)
+    (λ g fit none. left_by_placing c.self.inside.problem.now.segs c.self.inside.prefix.placed c.place.new.self.placed c.self.inside.part.now c.change_on-change.result c.args.seg g c.change_on-change.ensures.seg moved change fit none)
     (c.self.invariant.shares_are ∙ ap (λ l. map f (groups_in l)) (sym slice)) (c.self.invariant.total_is ∙ ap (λ l. sum_by f (groups_in l)) (sym slice))
 
 pub renew_shares-self-inside-requires-clause-own : goal.renew_shares-self-inside-requires-clause-own

@@ -3,7 +3,7 @@ use Rattle.part_bounds.proofs.OwnUse.{own_known, own_apart, own_inside, own_room
 use Rattle.part_bounds.proofs.OwnPrices.{own_prices_is}
 use Rattle.order_bound.specs.CanonicalPrices.{pair_prices}
 use Rattle.part_bounds.specs.PriceNotes.{price_noted, price_over}
-use Rattle.part_bounds.proofs.prices.note_entry.Goals as goal
+use Rattle.part_bounds.proofs.stale_prices.note_entry.Goals as goal
 
 pub note_pair-requires-clause-part : goal.note_pair-requires-clause-part
 note_pair-requires-clause-part c = own_known (length c.args.problem.now.segs) c.args.part.now c.args.entry.now.terms.items c.as_slice.result.now (c.as_slice.ensures.value ∙ c.requires.own) c.requires.part
@@ -19,8 +19,8 @@ note_pair-requires-clause-room c =
     own_room c.args.part.now c.args.entry.now.terms.items c.as_slice.result.now (length c.as_slice-2.result.now) (length c.args.entry.now.terms.items) c.args.room.now (c.as_slice.ensures.value ∙ c.requires.own) (ap length c.as_slice-2.ensures.value) c.requires.room
 
 pub returns-clause-noted : goal.returns-clause-noted
-returns-clause-noted c = λ k.
-    c.in_ok-note_pair.ensures.noted k
-    ∙ (ap (λ l. price_over (pair_prices c.args.problem.now.segs c.args.prefix.now.placed c.as_slice.result.now l c.args.entry.now.pair) (price_noted c.args.noted.now.prices k) k) c.as_slice-2.ensures.value
-    ∙ (ap (λ l. price_over (pair_prices c.args.problem.now.segs c.args.prefix.now.placed l c.args.entry.now.terms.items c.args.entry.now.pair) (price_noted c.args.noted.now.prices k) k) (c.as_slice.ensures.value ∙ c.requires.own)
-    ∙ ap (λ l. price_over l (price_noted c.args.noted.now.prices k) k) (sym (own_prices_is c.args.problem.now.segs c.args.prefix.now.placed c.args.part.now c.args.entry.now.terms.items c.args.entry.now.pair))))
+returns-clause-noted c = λ k b.
+    c.note_pair.ensures.noted k b
+    ∙ (ap (λ l. price_over (pair_prices c.args.problem.now.segs c.args.prefix.now.placed c.as_slice.result.now l c.args.entry.now.pair) (price_noted c.args.noted.now.prices.items k) k) c.as_slice-2.ensures.value
+    ∙ (ap (λ l. price_over (pair_prices c.args.problem.now.segs c.args.prefix.now.placed l c.args.entry.now.terms.items c.args.entry.now.pair) (price_noted c.args.noted.now.prices.items k) k) (c.as_slice.ensures.value ∙ c.requires.own)
+    ∙ ap (λ l. price_over l (price_noted c.args.noted.now.prices.items k) k) (sym (own_prices_is c.args.problem.now.segs c.args.prefix.now.placed c.args.part.now c.args.entry.now.terms.items c.args.entry.now.pair))))

@@ -2,7 +2,7 @@ use Rattle.std.proofs.Common.{◌≡◌, map, take}
 use Rattle.order_proof.specs.Plain.{plain}
 use Rattle.order_search.specs.Pricing.{priced_case}
 use Rattle.order_search.specs.Searching.{part_of}
-use Rattle.order_search.proofs.priced.+priced.Given as goal
+use Rattle.order_search.proofs.tree_prices.+priced.Given as goal
 
 abbrev pub invariant-priced_cases-loop-child : goal.invariant-priced_cases-loop-child
 invariant-priced_cases-loop-child l = record {
