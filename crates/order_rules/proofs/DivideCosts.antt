@@ -77,7 +77,7 @@ abbrev pub IsFree : SegId → List LineId → List LineId → Term → Type 0
 IsFree e group rest t = (a b : LineId) → has_line group a ≡ true → has_line rest b ≡ true → is_against e a b t ≡ false
 
 -- a Link or an Apart across speaks against
-tied : (group rest : List LineId) (on : Bool) (x y : LineId) → on ≡ true → IsOfOne group rest x → IsOfOne group rest y
+pub tied : (group rest : List LineId) (on : Bool) (x y : LineId) → on ≡ true → IsOfOne group rest x → IsOfOne group rest y
     → (has_line group x || has_line group y) ≡ true → (has_line rest x || has_line rest y) ≡ true
     → ((a b : LineId) → has_line group a ≡ true → has_line rest b ≡ true → (on && are_these x y a b) ≡ false) → ⊥
 tied group rest on x y is (inl hx) (inl hy) hg hr free = true≢false (sym hr ∙ (ap (λ (m : Bool). m || has_line rest y) hx.1 ∙ hy.1))

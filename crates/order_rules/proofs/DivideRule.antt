@@ -121,12 +121,12 @@ module _ (p : ProblemParts) (e : SegId) (group : List LineId) (ok : Divides p e 
       by_group true h = inl (h, has_filter (λ b. not (has_line group b)) lines a (ap not h))
       by_group false h = inr (h, has_filtered (λ b. not (has_line group b)) lines a (ap not h) ∙ has_contained lines a on)
 
-  spoken : (a b : LineId) → has_line group a ≡ true → has_line rest b ≡ true → list_all (λ t. not (is_against e a b t)) p.terms ≡ true
+  pub spoken : (a b : LineId) → has_line group a ≡ true → has_line rest b ≡ true → list_all (λ t. not (is_against e a b t)) p.terms ≡ true
   spoken a b ha hb =
       (both_true (list_all (λ t. not (is_against e a b t)) p.terms)
       (nat_le (2 * most_apart p.segs p.terms e) (weight_where (λ t. is_side t && is_on e t && is_of_lines a b t) p.terms)) (ok.parts a b ha hb)).0
 
-  free_each : (terms : List Term) → ((a b : LineId) → has_line group a ≡ true → has_line rest b ≡ true → list_all (λ t. not (is_against e a b t)) terms ≡ true)
+  pub free_each : (terms : List Term) → ((a b : LineId) → has_line group a ≡ true → has_line rest b ≡ true → list_all (λ t. not (is_against e a b t)) terms ≡ true)
       → AllByRecursion (IsFree e group rest) terms
   free_each [] h = tt
   free_each (t ∷ terms) h = (

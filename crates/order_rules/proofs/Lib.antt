@@ -17,3 +17,10 @@ pub mod RuleLaws
 pub mod Lifts
 pub mod Closures
 pub mod UntanglingLaws
+pub mod LineLists
+pub mod MergeGains
+pub mod Unchanged
+pub mod FarTerms
+pub mod Locality
+pub mod DivideLocality
+pub mod Groups

@@ -3,3 +3,5 @@ pub mod Merging
 pub mod Dividing
 pub mod Untangling
 pub mod Lifting
+pub mod MergeWeights
+pub mod Touching

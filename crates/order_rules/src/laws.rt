@@ -1,13 +1,14 @@
 //! What rules keep: laws of the definitions.
 
-ghost use Rattle.std.specs.Prelude.{◌≡◌, ◌≤◌, List};
+ghost use Rattle.std.specs.Prelude.{◌≡◌, ◌≤◌, IsTrue, List};
 ghost use Rattle.map_base.specs.declared.ids.LineId.{LineId};
 ghost use Rattle.order_values.specs.declared.rule.Rule.{Rule};
 ghost use Rattle.order_model.specs.declared.problem.ProblemParts.{ProblemParts};
 ghost use Rattle.order_model.specs.Problems.{IsProblem};
 ghost use Rattle.order_model.specs.Costs.{cost_of, AreOrders, AreBest};
-ghost use Rattle.order_rules.specs.Untangling.{ApplyInTurn, after_rules, untangling, next_rule};
+ghost use Rattle.order_rules.specs.Untangling.{rule_applies, ApplyInTurn, after_rules, untangling, next_rule};
 ghost use Rattle.order_rules.specs.Lifting.{lifted_all};
+ghost use Rattle.order_rules.specs.Touching.{IsLocal};
 
 /// Orders of the problem after rules, lifted, are orders of the first problem and cost the same there.
 pub fn lifted_orders_cost_the_same()
@@ -41,4 +42,9 @@ pub fn untangling_ends()
     ensures apply { (p : ProblemParts) → IsProblem p → ApplyInTurn p (untangling p).0 }
     ensures last { (p : ProblemParts) → IsProblem p → (untangling p).1 ≡ after_rules p (untangling p).0 }
     ensures ends { (p : ProblemParts) → IsProblem p → next_rule (untangling p).1 ≡ None }
+{}
+
+/// A rule that applies changes what can be done at the segments that it touches alone.
+pub fn rules_are_local()
+    ensures { (p : ProblemParts) (r : Rule) → IsProblem p → IsTrue (rule_applies p r) → IsLocal p r }
 {}

@@ -4,6 +4,7 @@ ghost use Rattle.std.specs.Prelude.{◌≡◌, ◌-◌, ◌++◌, [], length, ta
 ghost use Rattle.order_model.specs.Problems.{lines_on};
 ghost use Rattle.order_rules.specs.Lifting.{lifted, lifted_all};
 
+use crate::terms::lines_on;
 use map_base::{LineId, NoMemory, SegId, Sequence};
 use order_model::Orders;
 use order_values::Rule;
@@ -84,14 +85,4 @@ fn with_order(
         lists[seg.0 as usize] = Sequence::of(order);
     }
     lists
-}
-
-/// The order of a segment, none where there is no such segment.
-fn lines_on(lists: &[Sequence<LineId>], seg: SegId) -> &[LineId]
-    ensures { result.now ≡ lines_on lists.now seg }
-{
-    match lists.get(seg.0 as usize) {
-        Some(lines) => lines.as_slice(),
-        None => &[],
-    }
 }

@@ -1,5 +1,5 @@
 -- Texts that grew piece by piece.
-use Rattle.std.proofs.Common.{◌≡◌, ℕ, List, ◌++◌, refl, ap, sym, ◌∙◌, append_assoc}
+use Rattle.std.proofs.Common.{◌≡◌, ℕ, List, ◌++◌, ap, ◌∙◌, append_assoc}
 
 pub grew2 : (o s t : List ℕ) (a b : List ℕ) → s ≡ o ++ a → t ≡ s ++ b → t ≡ o ++ (a ++ b)
 grew2 o s t a b e f = f ∙ ap (λ (bytes : List ℕ). bytes ++ b) e ∙ append_assoc o a b

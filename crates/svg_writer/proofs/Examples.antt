@@ -1,23 +1,16 @@
 -- Small cases of the definitions.
-use Rattle.std.proofs.Common.{◌≡◌, ℕ, ℤ, pos, negsuc, List, [], ◌∷◌, ◌++◌, codes, refl}
+use Rattle.std.proofs.Common.{◌≡◌, pos, List, [], ◌∷◌, ◌++◌, codes, refl}
 use Rattle.map_base.specs.declared.ids.LineId.{LineId}
-use Rattle.map_base.specs.declared.ids.SegId.{SegId}
-use Rattle.map_base.specs.declared.ids.NodeId.{NodeId}
-use Rattle.map_base.specs.declared.ids.StationId.{StationId}
 use Rattle.std.specs.Str.{chars}
 use Rattle.std.specs.Fmt.{digits}
 use lib.Utf8.{encode}
-use Rattle.graph_core.specs.declared.parts.NodeKind.{NodeKind}
-use Rattle.graph_core.specs.declared.parts.NodeKind.TheVariants.{Station, Junction}
+use Rattle.graph_core.specs.declared.parts.NodeKind.TheVariants.{Station}
 use Rattle.graph_core.specs.declared.parts.GraphParts.{GraphParts}
-use Rattle.graph_core.specs.declared.parts.Join.{Join}
-use Rattle.octi_grid.specs.declared.dir.Dir.{Dir}
 use Rattle.octi_grid.specs.declared.dir.Dir.TheVariants as dir
 use Rattle.octi_grid.specs.Walks.{PlainWalk}
-use Rattle.line_offsets.specs.declared.corner.Corner.{Corner}
 use Rattle.svg_writer.specs.declared.names.Names.{Names}
 use Rattle.svg_writer.specs.Escaping.{escaped}
-use Rattle.svg_writer.specs.Elements.{element_text, texts, Head, OnSegment, AtNode}
+use Rattle.svg_writer.specs.Elements.{texts}
 use Rattle.svg_writer.specs.Picture.{picture_text, segment_elements, join_elements}
 
 -- what markup begins with, a control character, and the two characters above U+FFFD

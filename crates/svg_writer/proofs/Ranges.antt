@@ -1,11 +1,11 @@
 -- Elements made number by number.
-use Rattle.std.proofs.Common.{◌≡◌, sym, ◌∙◌, ap, subst, refl, ℕ, zero, suc, ◌+◌, List, [], ◌∷◌, ◌++◌, arith, append_assoc, append-nil}
+use Rattle.std.proofs.Common.{◌≡◌, sym, ◌∙◌, ap, ℕ, zero, suc, ◌+◌, List, [], ◌∷◌, ◌++◌, arith, append_assoc, append-nil}
 use Rattle.std.specs.List.{flat_map, range_with_len}
 use Rattle.std.proofs.lemmas.Grind.{flat_map-append}
 use Rattle.svg_writer.specs.Elements.{Element, element_text, texts}
 
 -- the number after so many
-range_more : (a n j : ℕ) → a + n ≡ j → range_with_len a (n + 1) ≡ range_with_len a n ++ j ∷ []
+pub range_more : (a n j : ℕ) → a + n ≡ j → range_with_len a (n + 1) ≡ range_with_len a n ++ j ∷ []
 range_more a zero j e = let is : a ≡ j = omega (arith, e) in ap (λ (k : ℕ). k ∷ []) is
 range_more a (suc n) j e =
     let more : suc n + 1 ≡ suc (n + 1) = omega arith in

@@ -1,5 +1,5 @@
 -- The elements of a picture, and the text of each (SVG 1.1).
-use Rattle.std.specs.Prelude.{ℕ, ◌≤◌, ℤ, pos, ◌+ℤ◌, ◌-ℤ◌, ◌/◌, ◌%◌, unsigned_abs, List, [], ◌∷◌, ◌++◌, codes}
+use Rattle.std.specs.Prelude.{ℕ, ◌≤◌, pos, ◌+ℤ◌, ◌-ℤ◌, ◌/◌, ◌%◌, unsigned_abs, List, [], ◌∷◌, ◌++◌, codes}
 use Rattle.std.specs.List.{flat_map}
 use Rattle.std.specs.Fmt.{decimal, signed_decimal}
 use Rattle.std.specs.Char.{digit_char}
@@ -89,9 +89,9 @@ element_text Tail = codes "</svg>\n"
 abbrev pub texts : List Element → List ℕ
 texts elements = flat_map element_text elements
 
--- bounds of a drawing of the grid
+-- bounds that can be reckoned with: each lies within 2^40 either way
 pub record AreBounds (b : Bounds) : Type 0 where
-  pub left : unsigned_abs b.left ≤ 1000000
-  pub right : unsigned_abs b.right ≤ 1000000
-  pub top : unsigned_abs b.top ≤ 1000000
-  pub bottom : unsigned_abs b.bottom ≤ 1000000
+  pub left : unsigned_abs b.left ≤ 1099511627776
+  pub right : unsigned_abs b.right ≤ 1099511627776
+  pub top : unsigned_abs b.top ≤ 1099511627776
+  pub bottom : unsigned_abs b.bottom ≤ 1099511627776

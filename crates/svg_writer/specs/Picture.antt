@@ -1,5 +1,5 @@
 -- The picture of a drawn line graph: its elements in order.
-use Rattle.std.specs.Prelude.{ℕ, suc, ◌+◌, ◌*◌, ◌==◌, ◌&&◌, Bool, ℤ, pos, ◌+ℤ◌, ◌-ℤ◌, max, List, [], ◌∷◌, ◌++◌, length, fold, if◌then◌else◌, slice_get, unwrap_or, Option, Some, None}
+use Rattle.std.specs.Prelude.{ℕ, ◌+◌, ◌*◌, ◌==◌, ◌&&◌, Bool, ℤ, pos, ◌+ℤ◌, ◌-ℤ◌, max, List, [], ◌∷◌, ◌++◌, length, fold, if◌then◌else◌, slice_get, unwrap_or, Option, Some, None}
 use Rattle.std.specs.List.{flat_map, range_with_len, position_or_len}
 use Rattle.std.specs.Int.{int_min, int_max}
 use Rattle.std.specs.Ordering.{int_eq}
@@ -177,6 +177,20 @@ all_markers g walks = flat_map (λ n. marker g walks n (kind_at g.kinds n)) (ran
 abbrev pub all_labels : Names → GraphParts → List PlainWalk → List Element
 all_labels names g walks = flat_map (λ n. label names g walks n (kind_at g.kinds n)) (range_with_len 0 (length g.kinds))
 
+-- the place at which the name of node n begins, where there is one
+abbrev pub spot_at : List (Option Corner) → ℕ → Option Corner
+spot_at spots n = unwrap_or (slice_get spots n) None
+
+-- the name of a node at a place, where it is a station and there is one
+abbrev pub placed_label : Names → NodeKind → Option Corner → List Element
+placed_label names (Station s) (Some spot) = Label spot (station_name names s.0) ∷ []
+placed_label names (Station s) None = []
+placed_label names Junction spot = []
+
+-- the names of stations at these places, one for each node
+abbrev pub placed_labels : Names → GraphParts → List (Option Corner) → List Element
+placed_labels names g spots = flat_map (λ n. placed_label names (kind_at g.kinds n) (spot_at spots n)) (range_with_len 0 (length g.kinds))
+
 -- The head; each line of each segment, in its order; each line from segment to segment at each node, where it is not
 -- there already; the markers of stations, and their names; the end.
 abbrev pub elements : Names → GraphParts → List PlainWalk → List (List LineId) → List Element
@@ -186,3 +200,11 @@ elements names g walks orders =
 -- the picture's text
 abbrev pub picture_text : Names → GraphParts → List PlainWalk → List (List LineId) → List ℕ
 picture_text names g walks orders = texts (elements names g walks orders)
+
+-- the same where the head shows these bounds, and the names of stations stand at these places
+abbrev pub placed_elements : Names → GraphParts → List PlainWalk → List (List LineId) → Bounds → List (Option Corner) → List Element
+placed_elements names g walks orders frame spots =
+    Head frame ∷ (all_lines names g walks orders ++ (all_joins names g walks orders ++ (all_markers g walks ++ (placed_labels names g spots ++ Tail ∷ []))))
+
+abbrev pub placed_text : Names → GraphParts → List PlainWalk → List (List LineId) → Bounds → List (Option Corner) → List ℕ
+placed_text names g walks orders frame spots = texts (placed_elements names g walks orders frame spots)

@@ -2,7 +2,7 @@
 
 /// The least and the greatest coordinates of what is drawn: x grows to the right, y downwards.
 #[derive(Clone, Copy, Debug, PartialEq, Eq)]
-pub(crate) struct Bounds {
+pub struct Bounds {
     pub left: i64,
     pub right: i64,
     pub top: i64,

@@ -14,6 +14,10 @@ mod stations;
 mod walked;
 mod whole;
 
+pub use bounds::Bounds;
 pub use escaping::escape;
 pub use names::Names;
-pub use whole::picture;
+pub use scene::{drawn, station_name};
+pub use stations::{centre_of, radius_of};
+pub use walked::bounds_of;
+pub use whole::{picture, picture_with};

@@ -169,8 +169,8 @@ fn view_size(bounds: Bounds) -> Corner
 
 /// How far it is from one coordinate to a greater one, with 200 units more on each side.
 fn wider(low: i64, high: i64) -> i64
-    requires low { unsigned_abs low ≤ 1000000 }
-    requires high { unsigned_abs high ≤ 1000000 }
+    requires low { unsigned_abs low ≤ 1099511627776 }
+    requires high { unsigned_abs high ≤ 1099511627776 }
     ensures { result ≡ (high -ℤ low) +ℤ pos 400 }
 {
     high - low + 400

@@ -88,7 +88,7 @@ pub(crate) fn colour_of<'a>(names: &'a Names, line: LineId) -> &'a [u8]
 }
 
 /// The name of a station.
-pub(crate) fn station_name<'a>(names: &'a Names, station: u32) -> &'a str
+pub fn station_name<'a>(names: &'a Names, station: u32) -> &'a str
     ensures { result.now ≡ station_name names.now station }
 {
     match names.stations.as_slice().get(station as usize) {
@@ -177,7 +177,7 @@ pub(crate) fn first_of(round: &[SegId]) -> u32
 }
 
 /// A grid point as it is drawn.
-pub(crate) fn drawn(p: GridPoint) -> Corner
+pub fn drawn(p: GridPoint) -> Corner
     ensures { result ≡ drawn p }
 {
     Corner {

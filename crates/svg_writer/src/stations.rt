@@ -2,13 +2,15 @@
 
 ghost use Rattle.std.specs.Prelude.{◌≡◌, ◌++◌, ◌≤◌, ◌<◌, length, unsigned_abs, IfOk, OnOk, string_bytes};
 ghost use Rattle.svg_writer.specs.Elements.{texts};
-ghost use Rattle.svg_writer.specs.Picture.{centre_of, most_lines, radius_of, beside, marker, label, kind_at, all_markers, all_labels};
+ghost use Rattle.svg_writer.specs.Picture.{centre_of, most_lines, radius_of, beside, marker, label, kind_at, all_markers, all_labels, spot_at, placed_label, placed_labels};
 
 use crate::elements::{push_label, push_marker};
+use crate::names::Names;
 use crate::scene::{Scene, drawn, ends_of, first_of, lines_of, put_at, small_count, station_name};
 use graph_core::{LineGraph, NodeKind};
 use line_offsets::Corner;
 use map_base::{NoMemory, NodeId, SegId};
+use octi_grid::Drawing;
 
 /// Appends the marker of each station.
 pub(crate) fn push_all_markers(text: &mut String, scene: &Scene) -> Result<(), NoMemory>
@@ -37,8 +39,9 @@ fn push_marker_of(text: &mut String, scene: &Scene, n: u32, kind: NodeKind) -> R
 {
     match kind {
         NodeKind::Station(_) => {
-            let radius = radius_of(scene.graph, n)?;
-            push_marker(text, centre_of(scene, n), u64::from(radius))?;
+            let radius = radius_of(scene.graph, NodeId(n))?;
+            let centre = centre_of(scene.graph, scene.drawing, NodeId(n));
+            push_marker(text, centre, u64::from(radius))?;
             Ok(())
         }
         NodeKind::Junction => Ok(()),
@@ -72,8 +75,8 @@ fn push_label_of(text: &mut String, scene: &Scene, n: u32, kind: NodeKind) -> Re
 {
     match kind {
         NodeKind::Station(station) => {
-            let radius = radius_of(scene.graph, n)?;
-            let place = beside(centre_of(scene, n), radius);
+            let radius = radius_of(scene.graph, NodeId(n))?;
+            let place = beside(centre_of(scene.graph, scene.drawing, NodeId(n)), radius);
             push_label(text, place, station_name(scene.names, station.0))?;
             Ok(())
         }
@@ -81,15 +84,58 @@ fn push_label_of(text: &mut String, scene: &Scene, n: u32, kind: NodeKind) -> Re
     }
 }
 
-/// Where a node is drawn.
-fn centre_of(scene: &Scene, n: u32) -> Corner
-    requires { n < length scene.now.graph.now.kinds }
-    ensures value { result ≡ centre_of scene.now.graph.now scene.now.drawing.now.walks n }
+/// Appends the names of stations at these places, one for each node.
+pub(crate) fn push_placed_labels(
+    text: &mut String,
+    scene: &Scene,
+    spots: &[Option<Corner>],
+) -> Result<(), NoMemory>
+    ensures { OnOk result (string_bytes text.new ≡ string_bytes text.old ++ texts (placed_labels scene.now.names.now scene.now.graph.now spots.now)) }
+{
+    for n in 0..scene.graph.nodes() {
+        let kind = scene.graph.kind(NodeId(n));
+        push_placed_label(text, scene.names, kind, spot_at(spots, n))?;
+    }
+    Ok(())
+}
+
+/// Appends the name of a node at a place, where it is a station and there is one.
+fn push_placed_label(
+    text: &mut String,
+    names: &Names,
+    kind: NodeKind,
+    spot: Option<Corner>,
+) -> Result<(), NoMemory>
+    ensures { OnOk result (string_bytes text.new ≡ string_bytes text.old ++ texts (placed_label names.now kind spot)) }
+{
+    match (kind, spot) {
+        (NodeKind::Station(station), Some(place)) => {
+            push_label(text, place, station_name(names, station.0))?;
+            Ok(())
+        }
+        _ => Ok(()),
+    }
+}
+
+/// The place at which the name of node n begins, where there is one.
+fn spot_at(spots: &[Option<Corner>], n: u32) -> Option<Corner>
+    ensures { result ≡ spot_at spots.now n }
+{
+    match spots.get(n as usize) {
+        Some(spot) => *spot,
+        None => None,
+    }
+}
+
+/// Where a node is drawn: where the walk of the first segment of its round puts it.
+pub fn centre_of(graph: &LineGraph, drawing: &Drawing, n: NodeId) -> Corner
+    requires { n.0 < length graph.now.kinds }
+    ensures value { result ≡ centre_of graph.now drawing.now.walks n.0 }
     ensures x { unsigned_abs result.x ≤ 214748364800 }
     ensures y { unsigned_abs result.y ≤ 214748364800 }
 {
-    let first = first_of(scene.graph.round(NodeId(n)));
-    drawn(put_at(&scene.drawing.walks, ends_of(scene.graph, first), n, first))
+    let first = first_of(graph.round(n));
+    drawn(put_at(&drawing.walks, ends_of(graph, first), n.0, first))
 }
 
 /// To the right of a marker, and above it.
@@ -106,12 +152,13 @@ fn beside(centre: Corner, radius: u32) -> Corner
 }
 
 /// The radius of the marker of a node: seven units for each line of the segment there with the most, and three.
-fn radius_of(graph: &LineGraph, n: u32) -> Result<u32, NoMemory>
-    requires node { n < length graph.now.kinds }
+pub fn radius_of(graph: &LineGraph, n: NodeId) -> Result<u32, NoMemory>
+    requires node { n.0 < length graph.now.kinds }
     requires lines { length graph.now.lines ≡ length graph.now.ends }
-    ensures { IfOk result (λ r. r ≡ radius_of graph.now n) }
+    ensures value { IfOk result (λ r. r ≡ radius_of graph.now n.0) }
+    ensures small { IfOk result (λ r. r ≤ 700000003) }
 {
-    let most = small_count(most_lines(graph, graph.round(NodeId(n))))?;
+    let most = small_count(most_lines(graph, graph.round(n)))?;
     Ok(7 * most as u32 + 3)
 }
 

@@ -13,7 +13,7 @@ use line_offsets::Corner;
 use octi_grid::{GridPoint, Walk, run_end};
 
 /// The bounds of all grid points of walks, those of the origin where there is none.
-pub(crate) fn bounds_of(walks: &[Walk]) -> Bounds
+pub fn bounds_of(walks: &[Walk]) -> Bounds
     ensures value { result ≡ bounds_of walks.now }
     ensures small { AreBounds result }
 {
@@ -70,8 +70,8 @@ fn with_point(bounds: Option<Bounds>, p: GridPoint) -> Bounds
 /// Bounds, widened to hold a point.
 fn widened(held: Bounds, corner: Corner) -> Bounds
     requires held { AreBounds held }
-    requires x { unsigned_abs corner.x ≤ 1000000 }
-    requires y { unsigned_abs corner.y ≤ 1000000 }
+    requires x { unsigned_abs corner.x ≤ 1099511627776 }
+    requires y { unsigned_abs corner.y ≤ 1099511627776 }
     ensures value { result ≡ widened held corner }
     ensures small { AreBounds result }
 {
@@ -85,20 +85,20 @@ fn widened(held: Bounds, corner: Corner) -> Bounds
 
 /// The lesser of two coordinates.
 fn least(a: i64, b: i64) -> i64
-    requires a { unsigned_abs a ≤ 1000000 }
-    requires b { unsigned_abs b ≤ 1000000 }
+    requires a { unsigned_abs a ≤ 1099511627776 }
+    requires b { unsigned_abs b ≤ 1099511627776 }
     ensures value { result ≡ int_min a b }
-    ensures small { unsigned_abs result ≤ 1000000 }
+    ensures small { unsigned_abs result ≤ 1099511627776 }
 {
     a.min(b)
 }
 
 /// The greater of two coordinates.
 fn greatest(a: i64, b: i64) -> i64
-    requires a { unsigned_abs a ≤ 1000000 }
-    requires b { unsigned_abs b ≤ 1000000 }
+    requires a { unsigned_abs a ≤ 1099511627776 }
+    requires b { unsigned_abs b ≤ 1099511627776 }
     ensures value { result ≡ int_max a b }
-    ensures small { unsigned_abs result ≤ 1000000 }
+    ensures small { unsigned_abs result ≤ 1099511627776 }
 {
     a.max(b)
 }

@@ -1,8 +1,8 @@
-use Rattle.std.proofs.Common.{◌≡◌, ℕ, List, ◌++◌, length, drop, string_bytes, ap, sym, ◌∙◌, append-nil, arith}
+use Rattle.std.proofs.Common.{List, ◌++◌, length, string_bytes, ap, sym, ◌∙◌, append-nil, arith}
 use Rattle.std.proofs.lemmas.List.{at_drop_all}
 use Rattle.map_base.specs.declared.ids.LineId.{LineId}
 use Rattle.svg_writer.specs.Elements.{texts}
-use Rattle.svg_writer.specs.Picture.{walk_at, line_elements, segment_elements}
+use Rattle.svg_writer.specs.Picture.{walk_at, line_elements}
 use Rattle.svg_writer.proofs.Written.{line_more}
 use Rattle.svg_writer.proofs.lines.push_segment.Goals as goal
 

@@ -1,6 +1,6 @@
 use Rattle.std.proofs.Common.{◌++◌, ◌∷◌, string_bytes, ap, ◌∙◌}
 use Rattle.line_offsets.specs.declared.corner.Corner.{Corner}
-use Rattle.svg_writer.specs.Elements.{corner_text, view_place, view_size}
+use Rattle.svg_writer.specs.Elements.{corner_text, view_place}
 use Rattle.svg_writer.proofs.Appends.{grew3}
 use Rattle.svg_writer.proofs.pieces.push_view.Goals as goal
 

@@ -1,4 +1,4 @@
-use Rattle.std.proofs.Common.{◌≡◌, ℕ, ℤ, pos, List, [], Bool, true, false, cond, ◌==◌, Option, unwrap_or, w32, to_z, of_z, refl, ap, sym, ◌∙◌}
+use Rattle.std.proofs.Common.{◌≡◌, ℕ, ℤ, pos, [], Bool, true, false, cond, ◌==◌, Option, unwrap_or, w32, refl, ap, sym, ◌∙◌}
 use Rattle.std.proofs.lemmas.Int.{to_z-of_z}
 use Rattle.map_base.specs.declared.ids.NodeId.{NodeId}
 use Rattle.octi_grid.specs.Walks.{PlainWalk}

@@ -1,4 +1,4 @@
-use Rattle.std.proofs.Common.{◌≡◌, ℤ, Bool, true, false, cond, ◌==◌, w32, to_z, of_z, ap, sym, ◌∙◌}
+use Rattle.std.proofs.Common.{Bool, cond, w32, ap, sym, ◌∙◌}
 use Rattle.std.proofs.lemmas.Bool.{eq-eqb, ne_eqb}
 use Rattle.std.proofs.lemmas.Int.{to_z-of_z}
 use Rattle.line_offsets.specs.Paths.{path_start, path_end}

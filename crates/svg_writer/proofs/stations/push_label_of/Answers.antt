@@ -13,7 +13,7 @@ returns-in_ok-push_label-in-Station c =
     let old = string_bytes c.args.text.now in
     let name = station_name n c.in-Station.station.0 in
     let place : c.beside-place.result ≡ beside (centre_of g w c.args.n) (radius_of g c.args.n) =
-    c.beside-place.ensures ∙ ap (λ (p : Corner). beside p c.in_ok-radius-in-Station.radius) c.centre_of.ensures.value ∙ ap (beside (centre_of g w c.args.n)) c.in_ok-radius-in-Station.ensures in
+    c.beside-place.ensures ∙ ap (λ (p : Corner). beside p c.in_ok-radius-in-Station.radius) c.centre_of.ensures.value ∙ ap (beside (centre_of g w c.args.n)) c.in_ok-radius-in-Station.ensures.value in
     let at = beside (centre_of g w c.args.n) (radius_of g c.args.n) in
     c.in_ok-push_label-in-Station.ensures
     ∙ ap (λ (p : Corner). old ++ element_text (Label p c.station_name.result.now)) place

@@ -4,13 +4,12 @@ use Rattle.std.proofs.lemmas.List.{at_drop_all}
 use Rattle.octi_grid.specs.declared.dir.Dir.{Dir}
 use Rattle.octi_grid.specs.declared.point.GridPoint.{GridPoint}
 use Rattle.octi_grid.specs.declared.walk.Run.{Run}
-use Rattle.octi_grid.specs.Ways.{after, points_from, IsWithin}
+use Rattle.octi_grid.specs.Ways.{points_from, IsWithin}
 use Rattle.octi_grid.specs.Runs.{steps_of}
 use Rattle.octi_grid.proofs.WayLemmas.{first_of-points, last_of-points, run_short}
 use Rattle.octi_grid.proofs.RunLemmas.{points_of_rest, points_of_run}
-use Rattle.line_offsets.specs.Shifts.{drawn}
 use Rattle.svg_writer.specs.Picture.{bounds_with}
-use Rattle.svg_writer.proofs.Hulls.{Holds, holds_with, hull_begins, hull_more, hull_ends}
+use Rattle.svg_writer.proofs.Hulls.{holds_with, hull_begins, hull_more, hull_ends}
 use Rattle.svg_writer.proofs.walked.with_walk.Goals as goal
 
 pub with_point-bounds-requires-clause-point : goal.with_point-bounds-requires-clause-point

@@ -1,5 +1,4 @@
 use Rattle.std.proofs.Common.{◌≡◌, ℕ, List, ◌++◌, string_bytes, ap, sym, ◌∙◌}
-use Rattle.octi_grid.specs.Walks.{PlainWalk}
 use Rattle.svg_writer.specs.declared.bounds.Bounds.{Bounds}
 use Rattle.svg_writer.specs.Elements.{Head, Tail, element_text, texts}
 use Rattle.svg_writer.specs.Picture.{bounds_of, all_lines, all_joins, all_markers, all_labels}

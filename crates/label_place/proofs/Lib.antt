@@ -1,0 +1,12 @@
+mod Examples
+mod Tests
+mod Orders
+mod Numbers
+mod Timing
+mod Reaching
+mod Links
+mod Growing
+mod Stepping
+mod Held
+mod Clear
+mod Framing

@@ -1,0 +1,9 @@
+pub mod Words
+pub mod Lines
+pub mod Values
+pub mod Grammar
+pub mod Answers
+pub mod Kinds
+pub mod Effects
+pub mod Pairs
+pub mod Standing
