@@ -1,10 +1,11 @@
--- A map is asked for at two paths.
+-- What is written lies apart: a map and its certificate at two paths, and a page at another path than its map.
 use Rattle.std.proofs.Common.{◌≡◌, ℕ, Bool, true, false, List, [], ◌∷◌, Option, None, Some, codes, if◌then◌else◌, refl}
 use Rattle.std.specs.Str.{bytes_eq}
 use Rattle.clap.specs.Walk.{Row, Text, first_of}
 use Rattle.clap.specs.Kinds.{Kinds}
-use Rattle.command_words.specs.Asked.{Asked, Chosen, MapPaths, stations, graph, make, check}
-use Rattle.command_words.specs.Words.{◌>>=◌, asked, asked_as, check_in, faults, graph_in, make_at, make_in, met, named_in, options_in, paths_in, stations_in, unless}
+use Rattle.command_paths.specs.Paths.{Chosen, MapPaths}
+use Rattle.command_words.specs.Asked.{Asked, stations, graph, make, check, trial, page}
+use Rattle.command_words.specs.Words.{◌>>=◌, asked, asked_as, check_in, faults, graph_in, make_at, make_in, met, named_in, number_in, options_in, page_at, page_in, paths_in, stations_in, trial_in, unless}
 
 abbrev pub AreApart : Option Asked → Type 0
 AreApart None = Unit {0}
@@ -12,6 +13,8 @@ AreApart (Some (stations feed)) = Unit {0}
 AreApart (Some (graph feed chosen)) = Unit {0}
 AreApart (Some (make feed paths chosen)) = bytes_eq paths.picture paths.certificate ≡ false
 AreApart (Some (check feed paths chosen)) = Unit {0}
+AreApart (Some (trial number)) = Unit {0}
+AreApart (Some (page picture html)) = bytes_eq picture html ≡ false
 
 apart_at : (feed : List ℕ) (chosen : Chosen) (paths : MapPaths) → AreApart (make_at feed chosen paths)
 apart_at feed chosen paths = by_test (bytes_eq paths.picture paths.certificate) refl
@@ -38,15 +41,35 @@ listed_apart : (feed : Option (List ℕ)) → AreApart (feed >>= (λ f. Some (st
 listed_apart None = tt
 listed_apart (Some feed) = tt
 
-as_apart : (name : Text) (rows : List Row) → AreApart (asked_as name rows)
-as_apart name rows = by_tests (bytes_eq name (codes "make")) (bytes_eq name (codes "check")) (bytes_eq name (codes "graph")) (bytes_eq name (codes "stations"))
+tried_apart : (number : Option ℕ) → AreApart (number >>= (λ n. Some (trial n)))
+tried_apart None = tt
+tried_apart (Some number) = tt
+
+paged_at : (picture html : List ℕ) → AreApart (page_at picture html)
+paged_at picture html = by_test (bytes_eq picture html) refl
   where
-    by_tests : (made checked drawn listed : Bool) → AreApart (if made then make_in rows else if checked then check_in rows else if drawn then graph_in rows else if listed then stations_in rows else None)
-    by_tests true checked drawn listed = made_apart (options_in rows) (first_of (codes "FEED") rows) (paths_in rows)
-    by_tests false true drawn listed = checked_apart (options_in rows) (first_of (codes "FEED") rows) (paths_in rows)
-    by_tests false false true listed = drawn_apart (options_in rows) (first_of (codes "FEED") rows)
-    by_tests false false false true = listed_apart (first_of (codes "FEED") rows)
-    by_tests false false false false = tt
+    by_test : (same : Bool) → bytes_eq picture html ≡ same → AreApart (if same then None else Some (page picture html))
+    by_test true e = tt
+    by_test false e = e
+
+paged_apart : (picture html : Option (List ℕ)) → AreApart (picture >>= (λ p. html >>= (λ h. page_at p h)))
+paged_apart None html = tt
+paged_apart (Some picture) None = tt
+paged_apart (Some picture) (Some html) = paged_at picture html
+
+as_apart : (name : Text) (rows : List Row) → AreApart (asked_as name rows)
+as_apart name rows =
+    by_tests (bytes_eq name (codes "make")) (bytes_eq name (codes "check")) (bytes_eq name (codes "graph")) (bytes_eq name (codes "stations")) (bytes_eq name (codes "page")) (bytes_eq name (codes "trial"))
+  where
+    by_tests : (made checked drawn listed paged tried : Bool)
+        → AreApart (if made then make_in rows else if checked then check_in rows else if drawn then graph_in rows else if listed then stations_in rows else if paged then page_in rows else if tried then trial_in rows else None)
+    by_tests true checked drawn listed paged tried = made_apart (options_in rows) (first_of (codes "FEED") rows) (paths_in rows)
+    by_tests false true drawn listed paged tried = checked_apart (options_in rows) (first_of (codes "FEED") rows) (paths_in rows)
+    by_tests false false true listed paged tried = drawn_apart (options_in rows) (first_of (codes "FEED") rows)
+    by_tests false false false true paged tried = listed_apart (first_of (codes "FEED") rows)
+    by_tests false false false false true tried = paged_apart (first_of (codes "SVG") rows) (first_of (codes "HTML") rows)
+    by_tests false false false false false true = tried_apart (number_in (codes "N") rows)
+    by_tests false false false false false false = tt
 
 named_apart : (command : Option (Text × List Row)) → AreApart (named_in command)
 named_apart None = tt

@@ -1,7 +1,8 @@
 -- Words that are written out.
 use Rattle.std.proofs.Common.{◌≡◌, [], ◌∷◌, None, Some, codes, refl}
 use Rattle.clap.proofs.OnLiterals.{clap_on_literals}
-use Rattle.command_words.specs.Asked.{MapPaths, Chosen, stations, graph, make, check}
+use Rattle.command_paths.specs.Paths.{MapPaths, Chosen}
+use Rattle.command_words.specs.Asked.{stations, graph, make, check, trial, page}
 use Rattle.command_words.specs.Program.{octimap_app}
 use Rattle.command_words.specs.Words.{asked, faults, met}
 
@@ -68,6 +69,32 @@ an_operand_is_missing = refl
 an_operand_too_many : asked (codes "stations" ∷ codes "feed" ∷ codes "more" ∷ []) ≡ None
 unfolding clap_on_literals asked faults met octimap_app
 an_operand_too_many = refl
+
+-- the number of a trial is one of 32 bits
+a_trial_is_asked : asked (codes "trial" ∷ codes "+0152" ∷ []) ≡ Some (trial 152)
+unfolding clap_on_literals asked faults met octimap_app
+a_trial_is_asked = refl
+
+the_greatest_trial : asked (codes "trial" ∷ codes "4294967295" ∷ []) ≡ Some (trial 4294967295)
+unfolding clap_on_literals asked faults met octimap_app
+the_greatest_trial = refl
+
+a_trial_past_it : asked (codes "trial" ∷ codes "4294967296" ∷ []) ≡ None
+unfolding clap_on_literals asked faults met octimap_app
+a_trial_past_it = refl
+
+not_a_trial : asked (codes "trial" ∷ codes "x" ∷ []) ≡ None
+unfolding clap_on_literals asked faults met octimap_app
+not_a_trial = refl
+
+-- a page is another file than its map
+a_page_is_asked : asked (codes "page" ∷ codes "m.svg" ∷ codes "m.html" ∷ []) ≡ Some (page (codes "m.svg") (codes "m.html"))
+unfolding clap_on_literals asked faults met octimap_app
+a_page_is_asked = refl
+
+a_page_at_its_map : asked (codes "page" ∷ codes "m.svg" ∷ codes "m.svg" ∷ []) ≡ None
+unfolding clap_on_literals asked faults met octimap_app
+a_page_at_its_map = refl
 
 -- help is no command
 help_is_asked : asked (codes "help" ∷ codes "make" ∷ []) ≡ None

@@ -1,4 +1,5 @@
 pub mod Apart
 mod Reading
+mod Numbers
 mod Building
 mod Examples

@@ -1,10 +1,11 @@
 -- The commands, as `clap` defines commands: what each takes.
-use Rattle.std.specs.Prelude.{◌≡◌, true, false, [], codes, Some}
+use Rattle.std.specs.Prelude.{◌≡◌, true, false, [], codes, Some, pos}
 use Rattle.clap.specs.Walk.{Rule, Text}
 use Rattle.clap.specs.Simple.{App, new_app, new_rule, new_shape, with_rule, with_subcommand}
 use Rattle.clap.specs.declared.builder.command.Command.{Command}
 use Rattle.clap.specs.declared.builder.command.Command.TheViews.{out-Command}
 use Rattle.clap.specs.declared.builder.action.ArgAction.TheVariants.{Set}
+use Rattle.clap.specs.declared.builder.value_parser.ValueParser.TheVariants as parser
 
 -- a command has no argument that its commands share
 abbrev pub IsLocal : Command → Type 0
@@ -17,6 +18,10 @@ operand name = record (new_rule name) { required = true }
 -- `--settings FILE`
 abbrev pub settings_option : Rule
 settings_option = record (new_rule (codes "settings")) { long = Some (codes "settings"); action = Some Set; value_names = 1 }
+
+-- `N`, a number of 32 bits
+abbrev pub number_operand : Rule
+number_operand = record (operand (codes "N")) { parser = Some (parser.Signed (pos 0) (pos 4294967295)) }
 
 -- a command that works on a feed
 abbrev pub feed_app : Text → App
@@ -32,6 +37,13 @@ map_app name = with_map (feed_app name)
 abbrev pub graph_app : App
 graph_app = with_rule (feed_app (codes "graph")) settings_option
 
+abbrev pub trial_app : App
+trial_app = with_rule (new_app (codes "trial")) number_operand
+
+-- a page is made of a map
+abbrev pub page_app : App
+page_app = with_rule (with_rule (new_app (codes "page")) (operand (codes "SVG"))) (operand (codes "HTML"))
+
 -- the program before its commands: a command is required, and without one its help is shown
 abbrev pub octimap_alone : App
 octimap_alone = record {
@@ -42,8 +54,8 @@ octimap_alone = record {
 abbrev pub with_command : App → App → App
 with_command program command = with_subcommand program command.top
 
--- the program: `make`, `check`, `graph` and `stations`
+-- the program: `make`, `check`, `graph`, `stations`, `page` and `trial`
 unfoldable pub octimap_app : App
 octimap_app =
-    with_command (with_command (with_command (with_command octimap_alone
-    (map_app (codes "make"))) (map_app (codes "check"))) graph_app) (feed_app (codes "stations"))
+    with_command (with_command (with_command (with_command (with_command (with_command octimap_alone
+    (map_app (codes "make"))) (map_app (codes "check"))) graph_app) (feed_app (codes "stations"))) page_app) trial_app

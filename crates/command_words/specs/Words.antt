@@ -1,16 +1,19 @@
 -- What the words of the command line ask for.
-use Rattle.std.specs.Prelude.{◌≡◌, ℕ, List, [], ◌∷◌, map, codes, if◌then◌else◌, Option, None, Some, option_and_then, Result, Ok, Err, ⊤, String, string_bytes}
+use Rattle.std.specs.Prelude.{◌≡◌, ℕ, ◌^◌, ◌&&◌, List, [], ◌∷◌, map, codes, if◌then◌else◌, Option, None, Some, option_and_then, nat_lt, Result, Ok, Err, ⊤, String, string_bytes}
 use Rattle.std.specs.declared.alloc.Global.{Global}
 use Rattle.std.specs.Str.{bytes_eq}
-use Rattle.clap.specs.Walk.{Row, Text, first_of}
+use Rattle.std.specs.Str.Parse.{digits_value, without_leading_plus}
+use Rattle.clap.specs.Walk.{Row, Text, first_of, one_of}
 use Rattle.clap.specs.Simple.{subcommand_of, subcommand_rows_of}
 use Rattle.clap.specs.Kinds.{Kinds}
 use Rattle.clap.specs.declared.parser.matches.ArgMatches.{ArgMatches}
 use Rattle.clap.specs.Faults.{fault_of}
+use Rattle.clap.specs.ValueTests.{is_numeral}
 use Rattle.command_words.specs.declared.command.Command.{Command}
 use Rattle.command_words.specs.declared.fault.WordsFault.{WordsFault}
 use Rattle.command_words.specs.declared.fault.WordsFault.TheVariants as fault
-use Rattle.command_words.specs.Asked.{Asked, Chosen, MapPaths, asked_by, stations, graph, make, check}
+use Rattle.command_paths.specs.Paths.{Chosen, MapPaths}
+use Rattle.command_words.specs.Asked.{Asked, asked_by, stations, graph, make, check, trial, page}
 use Rattle.command_words.specs.Program.{octimap_app}
 
 -- one choice after another: none where the first is none
@@ -28,6 +31,16 @@ paths_in rows = do
   picture ← first_of (codes "SVG") rows
   certificate ← first_of (codes "CERT") rows
   Some (record { picture = picture; certificate = certificate })
+
+-- the number of 32 bits that decimal digits spell; a `+` may stand before them
+abbrev pub number_spelt : Text → Option ℕ
+number_spelt text =
+    let digits = without_leading_plus text in
+    if is_numeral digits && nat_lt (digits_value 10 digits) (2 ^ 32) then Some (digits_value 10 digits) else None
+
+-- the number that an argument's value spells
+abbrev pub number_in : Text → List Row → Option ℕ
+number_in name rows = option_and_then number_spelt (one_of name rows)
 
 abbrev pub stations_in : List Row → Option Asked
 stations_in rows = do
@@ -55,6 +68,21 @@ check_in rows = do
   paths ← paths_in rows
   Some (check feed paths (options_in rows))
 
+abbrev pub trial_in : List Row → Option Asked
+trial_in rows = do
+  number ← number_in (codes "N") rows
+  Some (trial number)
+
+-- a page is made at another path than that of its map
+abbrev pub page_at : List ℕ → List ℕ → Option Asked
+page_at picture html = if bytes_eq picture html then None else Some (page picture html)
+
+abbrev pub page_in : List Row → Option Asked
+page_in rows = do
+  picture ← first_of (codes "SVG") rows
+  html ← first_of (codes "HTML") rows
+  page_at picture html
+
 -- what the matches of the command of this name ask for
 abbrev pub asked_as : Text → List Row → Option Asked
 asked_as name rows =
@@ -62,6 +90,8 @@ asked_as name rows =
     else if bytes_eq name (codes "check") then check_in rows
     else if bytes_eq name (codes "graph") then graph_in rows
     else if bytes_eq name (codes "stations") then stations_in rows
+    else if bytes_eq name (codes "page") then page_in rows
+    else if bytes_eq name (codes "trial") then trial_in rows
     else None
 
 -- what a command that was met asks for
@@ -83,7 +113,7 @@ unless (fault ∷ more) read = None
 
 -- The words after the program's name ask for the command that `clap` reads in them by the definition of the program.
 -- Where `clap` finds a fault in them, requests for help among them, they ask for none; nor where a map and its
--- certificate are to be one file.
+-- certificate, or a map and its page, are to be one file.
 unfoldable pub asked : List Text → Option Asked
 asked words = unless (faults words) (named_in (met words))
 

@@ -1,20 +1,6 @@
 //! Commands with what they work on.
 
-/// Where a map and its certificate lie.
-#[derive(Clone, Copy, Debug)]
-pub struct MapFiles<'a> {
-    /// The map.
-    pub picture: &'a str,
-    /// Its certificate.
-    pub certificate: &'a str,
-}
-
-/// What a user may choose for a command.
-#[derive(Clone, Copy, Debug)]
-pub struct Options<'a> {
-    /// A file of settings.
-    pub settings: Option<&'a str>,
-}
+use command_paths::{MapFiles, Options};
 
 /// A command with what it works on.
 #[derive(Clone, Copy, Debug)]
@@ -39,5 +25,14 @@ pub enum Command<'a> {
         feed: &'a str,
         files: MapFiles<'a>,
         options: Options<'a>,
+    },
+    /// The numbers of the map of the trial feed with this number.
+    Trial {
+        number: u32,
+    },
+    /// A page that shows a map.
+    Page {
+        map: &'a str,
+        page: &'a str,
     },
 }

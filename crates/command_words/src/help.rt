@@ -11,8 +11,10 @@ pub(crate) const AFTER_PROGRAM: &str = "\
 Examples:
   octimap make examples/vienna-ubahn map.svg map.cert
   octimap check examples/vienna-ubahn map.svg map.cert
+  octimap page map.svg map.html
   octimap graph examples/vienna-ubahn
   octimap stations examples/vienna-ubahn
+  octimap trial 152
 
 Exit status:
    0  done
@@ -25,7 +27,8 @@ Exit status:
    7  a file could not be read
    8  the output could not be written
    9  no memory
-  10  the settings are bad; the line names the key";
+  10  the settings are bad; the line names the key
+  13  a file that is needed is not there; the line names it";
 
 pub(crate) const STATIONS: &str = "Print each station of a feed: its place and its id";
 
@@ -64,6 +67,25 @@ else the first thing that is wrong. Give it the settings that the map was made w
 Example:
   octimap check examples/vienna-ubahn map.svg map.cert";
 
+pub(crate) const PAGE: &str = "Make a page of a map, for a browser";
+
+pub(crate) const AFTER_PAGE: &str = "\
+The page is one HTML file that works from disk, without network: it moves and zooms, has a legend, lifts lines out and
+finds stations by name. Nothing is printed. SVG is a map that `octimap make` wrote; what HTML held before is lost.
+
+Example:
+  octimap make examples/vienna-ubahn map.svg map.cert
+  octimap page map.svg map.html";
+
+pub(crate) const TRIAL: &str = "Make the map of a built-in random feed, and print its numbers";
+
+pub(crate) const AFTER_TRIAL: &str = "\
+No file is read or written: it shows that the program works here, and how fast. The feed is a lattice with some
+lines, the same for the same N each time.
+
+Example:
+  octimap trial 152";
+
 pub(crate) const FEED: &str = "The folder with the tables of an unpacked GTFS Schedule feed";
 
 pub(crate) const NEW_SVG: &str = "The file that the map is written to";
@@ -76,11 +98,26 @@ pub(crate) const CERT: &str = "The file of its certificate";
 
 pub(crate) const SETTINGS: &str = "A file of settings in TOML, such as examples/settings.toml";
 
+pub(crate) const SHOWN_SVG: &str = "The file of the map that the page shows";
+
+pub(crate) const HTML: &str = "The file that the page is written to";
+
+pub(crate) const NUMBER: &str = "The number of the feed, from 0 to 4294967295";
+
 /// What is said where a map and its certificate are to be one file.
 pub(crate) const ONE_FILE: &str = "\
 error: SVG and CERT are one file
 
 Usage: octimap make [OPTIONS] <FEED> <SVG> <CERT>
+
+For more information, try '--help'.
+";
+
+/// What is said where a map and its page are to be one file.
+pub(crate) const ONE_PAGE: &str = "\
+error: SVG and HTML are one file
+
+Usage: octimap page <SVG> <HTML>
 
 For more information, try '--help'.
 ";

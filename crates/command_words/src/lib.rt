@@ -10,6 +10,6 @@ mod matches;
 mod program;
 mod words;
 
-pub use command::{Command, MapFiles, Options};
+pub use command::Command;
 pub use fault::WordsFault;
 pub use words::command_of;

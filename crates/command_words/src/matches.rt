@@ -2,13 +2,15 @@
 
 ghost use Rattle.std.specs.Prelude.{◌≡◌, option_map};
 ghost use Rattle.clap.specs.Words.{first_of, found_of, rows_of, subcommand_rows_of};
-ghost use Rattle.command_words.specs.Asked.{asked_by, options_by, paths_by};
-ghost use Rattle.command_words.specs.Words.{asked_as, check_in, graph_in, make_in, named_in, options_in, paths_in, stations_in};
+ghost use Rattle.command_paths.specs.Paths.{options_by, paths_by};
+ghost use Rattle.command_words.specs.Asked.{asked_by};
+ghost use Rattle.command_words.specs.Words.{asked_as, check_in, graph_in, make_in, named_in, number_in, options_in, page_in, paths_in, stations_in, trial_in};
 
-use crate::command::{Command, MapFiles, Options};
+use crate::command::Command;
 use clap::ArgMatches;
+use command_paths::{MapFiles, Options};
 
-/// The command that the matches name; none where a map and its certificate are to be one file.
+/// The command that the matches name; none where two of its files are to be one.
 pub(crate) fn command_in<'a>(matches: &ArgMatches<'a>) -> Option<Command<'a>>
     ensures { option_map asked_by result ≡ named_in (subcommand_rows_of matches.now) }
 {
@@ -28,6 +30,10 @@ fn command_named<'a>(name: &str, given: &ArgMatches<'a>) -> Option<Command<'a>>
         graph_in(given)
     } else if name == "stations" {
         stations_in(given)
+    } else if name == "page" {
+        page_in(given)
+    } else if name == "trial" {
+        trial_in(given)
     } else {
         None
     }
@@ -81,6 +87,26 @@ fn check_in<'a>(given: &ArgMatches<'a>) -> Option<Command<'a>>
     })
 }
 
+/// `trial N`
+fn trial_in<'a>(given: &ArgMatches<'a>) -> Option<Command<'a>>
+    ensures { option_map asked_by result ≡ trial_in (rows_of (found_of given.now)) }
+{
+    let number = number_of(given, "N")?;
+    Some(Command::Trial { number })
+}
+
+/// `page SVG HTML`, of two files.
+fn page_in<'a>(given: &ArgMatches<'a>) -> Option<Command<'a>>
+    ensures { option_map asked_by result ≡ page_in (rows_of (found_of given.now)) }
+{
+    let map = value_of(given, "SVG")?;
+    let page = value_of(given, "HTML")?;
+    if map == page {
+        return None;
+    }
+    Some(Command::Page { map, page })
+}
+
 /// Where the map and its certificate lie.
 fn files_in<'a>(given: &ArgMatches<'a>) -> Option<MapFiles<'a>>
     ensures { option_map paths_by result ≡ paths_in (rows_of (found_of given.now)) }
@@ -106,4 +132,11 @@ fn value_of<'a>(given: &ArgMatches<'a>, name: &str) -> Option<&'a str>
     ensures { option_map (λ text. text.now) result ≡ first_of name.now (rows_of (found_of given.now)) }
 {
     given.get_str(name)
+}
+
+/// The number that the value of an argument spells.
+fn number_of(given: &ArgMatches<'_>, name: &str) -> Option<u32>
+    ensures { result ≡ number_in name.now (rows_of (found_of given.now)) }
+{
+    given.get_one::<u32>(name)
 }

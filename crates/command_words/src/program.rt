@@ -2,10 +2,10 @@
 
 ghost use Rattle.std.specs.Prelude.{◌≡◌, IfOk, codes, false};
 ghost use Rattle.clap.specs.Words.{app_of, new_app, rule_of};
-ghost use Rattle.command_words.specs.Program.{IsLocal, feed_app, graph_app, map_app, octimap_alone, octimap_app, operand, settings_option, with_map};
+ghost use Rattle.command_words.specs.Program.{IsLocal, feed_app, graph_app, map_app, octimap_alone, octimap_app, operand, page_app, settings_option, trial_app, with_map};
 
 use crate::help;
-use clap::{Arg, ArgAction, Command};
+use clap::{Arg, ArgAction, Command, value_parser};
 use std::alloc::{AllocError, Global};
 
 /// The program's commands, one level of them, of which one is required.
@@ -16,23 +16,30 @@ pub(crate) fn program<'a>(alloc: Global) -> Result<Command<'a>, AllocError>
     let check = check(alloc)?;
     let graph = graph(alloc)?;
     let stations = stations(alloc)?;
-    alone(alloc)
+    let page = page(alloc)?;
+    let trial = trial(alloc)?;
+    alone(alloc)?
         .subcommand(make)?
         .subcommand(check)?
         .subcommand(graph)?
-        .subcommand(stations)
+        .subcommand(stations)?
+        .subcommand(page)?
+        .subcommand(trial)
 }
 
 /// The program before its commands.
-fn alone<'a>(alloc: Global) -> Command<'a>
-    ensures { app_of result ≡ octimap_alone }
+fn alone<'a>(alloc: Global) -> Result<Command<'a>, AllocError>
+    ensures { IfOk result (λ program. app_of program ≡ octimap_alone) }
 {
-    Command::new(alloc, "octimap")
-        .about(help::PROGRAM)
-        .after_help(help::AFTER_PROGRAM)
-        .no_binary_name(true)
-        .subcommand_required(true)
-        .arg_required_else_help(true)
+    let program = Command::new(alloc, "octimap").bin_name("octimap")?;
+    Ok(
+        program
+            .about(help::PROGRAM)
+            .after_help(help::AFTER_PROGRAM)
+            .no_binary_name(true)
+            .subcommand_required(true)
+            .arg_required_else_help(true),
+    )
 }
 
 /// `stations FEED`
@@ -67,6 +74,25 @@ fn check<'a>(alloc: Global) -> Result<Command<'a>, AllocError>
 {
     let command = over_feed(alloc, "check", help::CHECK, help::AFTER_CHECK)?;
     over_map(alloc, command, help::SVG, help::CERT)
+}
+
+/// `page SVG HTML`
+fn page<'a>(alloc: Global) -> Result<Command<'a>, AllocError>
+    ensures app { IfOk result (λ command. app_of command ≡ page_app) }
+    ensures local { IfOk result IsLocal }
+{
+    named_command(alloc, "page", help::PAGE, help::AFTER_PAGE)
+        .arg(named_operand(alloc, "SVG", help::SHOWN_SVG))?
+        .arg(named_operand(alloc, "HTML", help::HTML))
+}
+
+/// `trial N`
+fn trial<'a>(alloc: Global) -> Result<Command<'a>, AllocError>
+    ensures app { IfOk result (λ command. app_of command ≡ trial_app) }
+    ensures local { IfOk result IsLocal }
+{
+    let number = named_operand(alloc, "N", help::NUMBER).value_parser(value_parser!(u32));
+    named_command(alloc, "trial", help::TRIAL, help::AFTER_TRIAL).arg(number)
 }
 
 /// A command that works on a feed.

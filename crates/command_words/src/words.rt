@@ -15,8 +15,8 @@ use clap::{ArgMatches, Error};
 use std::alloc::{AllocError, Global};
 
 /// The command that the words after the program's name ask for. Words that `clap` refuses by the definition of the
-/// commands, that ask for help, or that would write a map and its certificate to one file ask for none; the text for
-/// the user comes in place of a command.
+/// commands, that ask for help, or that would write a map and its certificate, or a page and its map, to one file ask for none;
+/// the text for the user comes in place of a command.
 pub fn command_of<'a>(alloc: Global, words: &'a [String]) -> Result<Command<'a>, WordsFault>
     ensures { Reads (asked_in words.now) result }
 {
@@ -32,7 +32,15 @@ fn command_by<'a>(alloc: Global, matches: &ArgMatches<'a>) -> Result<Command<'a>
 {
     match command_in(matches) {
         Some(command) => Ok(command),
-        None => Err(shown(String::from_str(alloc, help::ONE_FILE))),
+        None => Err(shown(String::from_str(alloc, one_file(matches)))),
+    }
+}
+
+/// What is said where two files of the command that was met are one.
+fn one_file(matches: &ArgMatches<'_>) -> &'static str {
+    match matches.subcommand_name() {
+        Some(name) if name == "page" => help::ONE_PAGE,
+        _ => help::ONE_FILE,
     }
 }
 

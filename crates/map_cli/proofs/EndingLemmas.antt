@@ -9,24 +9,25 @@ use Rattle.command_run.specs.Work.{outcome}
 use Rattle.command_run.specs.Told.{file_of}
 use Rattle.command_run.proofs.WorkLemmas.{told_outcome}
 use Rattle.map_cli.specs.declared.answer.Answer.{Answer}
-use Rattle.map_cli.specs.declared.input.Input.{Input}
-use Rattle.map_cli.specs.declared.refusal.Refusal.{Refusal}
-use Rattle.map_cli.specs.declared.refusal.Refusal.TheVariants as refused
-use Rattle.map_cli.specs.declared.status.Status.{Status}
-use Rattle.map_cli.specs.declared.status.Status.TheVariants as status
+use Rattle.run_status.specs.declared.input.Input.{Input}
+use Rattle.run_status.specs.declared.refusal.Refusal.{Refusal}
+use Rattle.run_status.specs.declared.refusal.Refusal.TheVariants as refused
+use Rattle.run_status.specs.declared.status.Status.{Status}
+use Rattle.run_status.specs.declared.status.Status.TheVariants as status
 use Rattle.map_base.specs.declared.memory.NoMemory.{NoMemory}
 use Rattle.command_words.specs.declared.fault.WordsFault.{WordsFault}
 use Rattle.command_words.specs.declared.fault.WordsFault.TheVariants as fault
 use Rattle.command_words.specs.Words.{Reads as ReadsWords}
 use Rattle.map_cli.specs.declared.answer.Reply.{Reply}
-use Rattle.command_words.specs.Asked.{Asked, stations, graph, make, check}
+use Rattle.command_words.specs.Asked.{Asked, stations, graph, make, check, trial, page}
 use Rattle.map_cli.specs.Inputs.{input_path}
-use Rattle.map_cli.specs.Answers.{alone, done, status_of, answer_by}
+use Rattle.map_cli.specs.Answers.{alone, done, answer_by}
+use Rattle.run_status.specs.Statuses.{status_of}
 use Rattle.map_cli.specs.Commands.{work}
-use Rattle.map_cli.specs.Following.{HasCause, ComesTo, Follows}
+use Rattle.run_status.specs.Following.{HasCause, ComesTo, Follows}
 use Rattle.map_cli.specs.Promises.{Keeps, TakesSteps}
 use Rattle.map_cli.specs.Ending.{IsAnswerTo, IsLineOf, IsWritten, IsOutOfMemory, IsReplyTo, Ends, IsCaused, status_after}
-use Rattle.map_cli.proofs.FollowLemmas.{comes_to}
+use Rattle.run_status.proofs.FollowLemmas.{comes_to}
 
 abbrev Told : Type 0
 Told = Option (List (List ℕ × List ℕ))
@@ -68,6 +69,8 @@ no_steps told (Some (stations feed)) steps = refl
 no_steps told (Some (graph feed chosen)) steps = refl
 no_steps told (Some (make feed paths chosen)) steps = inl refl
 no_steps told (Some (check feed paths chosen)) steps = refl
+no_steps told (Some (trial number)) steps = inl refl
+no_steps told (Some (page picture html)) steps = refl
 
 -- the cause of the status of an answer
 answer_caused : (asked : Option Asked) (told : Told) (files_rose sinks_rose : Type 0) (answer : Answer) → IsAnswerTo asked told files_rose answer → IsCaused asked files_rose sinks_rose answer.status
@@ -86,6 +89,7 @@ answer_caused (Some asked) told files_rose sinks_rose answer (result, comes, kee
     by_result (Err (refused.Limit limit)) comes = read
     by_result (Err (refused.Refuted item)) comes = read
     by_result (Err (refused.BadSettings why)) comes = read
+    by_result (Err (refused.Missing input)) comes = read
     by_result (Err (refused.ReadFault input)) comes = (comes.0, (asked, input, refl, refl, (comes.1.seen, comes.1.runs)))
     by_result (Err refused.NoMemory) comes = tt
 

@@ -9,16 +9,20 @@ use Rattle.map_settings.specs.declared.fault.SettingsWhy.TheVariants as why
 use Rattle.map_engine.specs.declared.fault.MakeFault.TheVariants as fault
 use Rattle.map_engine.specs.declared.fault.CheckItem.TheVariants as found
 use Rattle.order_check.specs.declared.refusal.ProofItem.TheVariants as proof
-use Rattle.map_cli.specs.declared.input.Input.TheVariants as input
-use Rattle.map_cli.specs.declared.item.Item.TheVariants as item
-use Rattle.map_cli.specs.declared.refusal.Refusal.TheVariants as refused
-use Rattle.map_cli.specs.declared.status.Status.TheVariants as status
-use Rattle.command_words.specs.Asked.{Asked, Chosen, MapPaths, stations, graph, make, check}
+use Rattle.run_status.specs.declared.input.Input.TheVariants as input
+use Rattle.run_status.specs.declared.item.Item.TheVariants as item
+use Rattle.run_status.specs.declared.refusal.Refusal.TheVariants as refused
+use Rattle.run_status.specs.declared.status.Status.TheVariants as status
+use Rattle.command_words.specs.Asked.{Asked, stations, graph, make, check, page}
+use Rattle.command_paths.specs.Paths.{Chosen, MapPaths}
+use Rattle.page_command.specs.PageWorks.{page_work}
 use Rattle.map_cli.specs.Inputs.{input_path}
-use Rattle.map_cli.specs.Answers.{alone, answer_by, said}
-use Rattle.map_cli.specs.Commands.{graph_work, check_work, picture_work, made_at}
-use Rattle.map_cli.specs.Items.{item_text}
-use Rattle.map_cli.specs.Lines.{status_line, status_number, best_line}
+use Rattle.map_cli.specs.Answers.{alone, answer_by}
+use Rattle.run_status.specs.Outputs.{said}
+use Rattle.table_commands.specs.TableWorks.{graph_work}
+use Rattle.map_commands.specs.MapWorks.{check_work, picture_work, made_at, best_line}
+use Rattle.run_status.specs.Items.{item_text}
+use Rattle.run_status.specs.Lines.{status_line, status_number}
 
 abbrev standard : Chosen
 standard = record { settings = None }
@@ -136,3 +140,16 @@ bad_key_text = refl
 
 bad_settings_number : status_number (status.BadSettings why.NotToml) ≡ 10
 bad_settings_number = refl
+
+-- a map that is to be shown has to be there
+no_map_to_show : outcome (page_work (codes "m.html")) (λ _. None) ≡ Err (refused.Missing input.Picture)
+no_map_to_show = refl
+
+shown_path : input_path (page (codes "m.svg") (codes "m.html")) input.Picture ≡ codes "m.svg"
+shown_path = refl
+
+missing_map_text : status_line (status.Missing (codes "m.svg")) ≡ Some (codes "missing: m.svg\n")
+missing_map_text = refl
+
+missing_map_number : status_number (status.Missing (codes "m.svg")) ≡ 13
+missing_map_number = refl

@@ -11,18 +11,22 @@ use Rattle.command_run.specs.declared.output.Output.{Output}
 use Rattle.command_run.specs.Held.{held_after, line_outputs, IsBeginning}
 use Rattle.map_engine.specs.Making.{MapBytes}
 use Rattle.map_cli.specs.declared.answer.Answer.{Answer}
-use Rattle.map_cli.specs.declared.input.Input.{Input}
-use Rattle.map_cli.specs.declared.refusal.Refusal.{Refusal}
-use Rattle.map_cli.specs.declared.refusal.Refusal.TheVariants as refused
-use Rattle.map_cli.specs.declared.status.Status.{Status}
-use Rattle.map_cli.specs.declared.status.Status.TheVariants as status
-use Rattle.command_words.specs.Asked.{Asked, MapPaths, stations, graph, make, check}
+use Rattle.run_status.specs.declared.input.Input.{Input}
+use Rattle.run_status.specs.declared.refusal.Refusal.{Refusal}
+use Rattle.run_status.specs.declared.refusal.Refusal.TheVariants as refused
+use Rattle.run_status.specs.declared.status.Status.{Status}
+use Rattle.run_status.specs.declared.status.Status.TheVariants as status
+use Rattle.command_words.specs.Asked.{Asked, stations, graph, make, check, trial, page}
+use Rattle.command_paths.specs.Paths.{MapPaths}
 use Rattle.command_words.specs.Words.{asked, asked_in}
 use Rattle.command_words.proofs.Apart.{AreApart, asked_apart}
 use Rattle.map_cli.specs.Inputs.{input_path}
-use Rattle.map_cli.specs.Answers.{map_outputs, said, done, answer_by, status_of}
-use Rattle.map_cli.specs.Lines.{best_line}
-use Rattle.map_cli.specs.Promises.{Keeps, Promised, AreOfMap, AreOfYes}
+use Rattle.map_commands.specs.MapWorks.{map_outputs, best_line}
+use Rattle.run_status.specs.Outputs.{said}
+use Rattle.map_cli.specs.Answers.{done, answer_by}
+use Rattle.run_status.specs.Statuses.{status_of}
+use Rattle.map_cli.specs.Promises.{Keeps, Promised}
+use Rattle.map_commands.specs.Promises.{AreOfMap, AreOfYes}
 use Rattle.map_cli.specs.Ending.{Ends, IsLineOf}
 use Rattle.map_cli.specs.Headline.{MeansDone, IsMapWritten, IsMapAccepted}
 use Rattle.map_cli.proofs.LawLemmas.{leaves_whole}
@@ -71,6 +75,7 @@ refusal_not_done paths (refused.Spent component branches) same = cc
 refusal_not_done paths (refused.Limit limit) same = cc
 refusal_not_done paths (refused.Refuted item) same = cc
 refusal_not_done paths (refused.BadSettings why) same = cc
+refusal_not_done paths (refused.Missing input) same = cc
 refusal_not_done paths (refused.ReadFault input) same = cc
 refusal_not_done paths refused.NoMemory same = cc
 
@@ -81,6 +86,8 @@ Holds outputs old new = (target : Target) → held_by target new ≡ held_after 
 means : (told : Told) (command : Asked) (outputs : List Output) (old new : Written) → AreApart (Some command) → Promised told command outputs → Holds outputs old new → MeansDone told command old new
 means told (stations feed) outputs old new apart promised holds = tt
 means told (graph feed chosen) outputs old new apart promised holds = tt
+means told (trial number) outputs old new apart promised holds = tt
+means told (page picture html) outputs old new apart promised holds = tt
 means told (make feed paths chosen) outputs old new apart promised holds =
     let has = subst (λ (o : List Output). Holds o old new) promised.are holds in
     record {

@@ -10,10 +10,10 @@ use Rattle.command_run.specs.Delivered.{IsDelivered, outputs_acts, line_acts, no
 use Rattle.command_run.specs.Held.{held_after, line_outputs, IsBeginning}
 use Rattle.command_run.proofs.HeldLemmas.{standing_of, cut_of, line_as_outputs, held_by-Does, begin-append}
 use Rattle.map_cli.specs.declared.answer.Answer.{Answer}
-use Rattle.map_cli.specs.declared.refusal.Refusal.{Refusal}
-use Rattle.map_cli.specs.declared.refusal.Refusal.TheVariants as refused
-use Rattle.map_cli.specs.declared.status.Status.{Status}
-use Rattle.map_cli.specs.declared.status.Status.TheVariants as status
+use Rattle.run_status.specs.declared.refusal.Refusal.{Refusal}
+use Rattle.run_status.specs.declared.refusal.Refusal.TheVariants as refused
+use Rattle.run_status.specs.declared.status.Status.{Status}
+use Rattle.run_status.specs.declared.status.Status.TheVariants as status
 use Rattle.command_words.specs.Asked.{Asked}
 use Rattle.map_cli.specs.Inputs.{input_path}
 use Rattle.map_cli.specs.Answers.{answer_by}
@@ -35,6 +35,7 @@ result_no_fault asked (Err (refused.Spent component branches)) same = cc
 result_no_fault asked (Err (refused.Limit limit)) same = cc
 result_no_fault asked (Err (refused.Refuted item)) same = cc
 result_no_fault asked (Err (refused.BadSettings why)) same = cc
+result_no_fault asked (Err (refused.Missing input)) same = cc
 result_no_fault asked (Err (refused.ReadFault input)) same = cc
 result_no_fault asked (Err refused.NoMemory) same = cc
 

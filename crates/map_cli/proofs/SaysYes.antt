@@ -2,7 +2,7 @@
 use Rattle.std.proofs.Common.{◌≡◌, ℕ, ◌⊎◌, inl, inr, Bool, true, false, if◌then◌else◌, List, [], length, Option, None, Some, Result, Ok, Err, IfSome, unwrap_or, refl, sym, ap, ◌∙◌, subst}
 use Rattle.map_base.specs.declared.limit.LimitKind.TheVariants.{File}
 use Rattle.map_base.specs.Limits.{is_within, limit_of}
-use Rattle.map_base.specs.Settings.{Choices}
+use Rattle.map_method.specs.declared.map_settings.MapSettings.{MapSettings}
 use Rattle.files_door.specs.declared.target.Target.{Target}
 use Rattle.files_door.specs.declared.target.Target.TheVariants.{Said, Path}
 use Rattle.files_door.specs.Files.{file_at}
@@ -23,22 +23,23 @@ use Rattle.command_run.specs.Work.{Work, ends, reads, ◌>>=◌, outcome}
 use Rattle.command_run.specs.Held.{held_after}
 use Rattle.command_run.specs.Told.{file_of}
 use Rattle.command_run.proofs.WorkLemmas.{told_outcome}
-use Rattle.map_cli.specs.declared.input.Input.{Input}
-use Rattle.map_cli.specs.declared.input.Input.TheVariants as input
-use Rattle.map_cli.specs.declared.loaded.Loaded.{Loaded}
-use Rattle.map_cli.specs.declared.refusal.Refusal.{Refusal}
-use Rattle.map_cli.specs.declared.refusal.Refusal.TheVariants as refused
-use Rattle.map_cli.specs.declared.status.Status.{Status}
-use Rattle.map_cli.specs.declared.status.Status.TheVariants as status
-use Rattle.command_words.specs.Asked.{Asked, Chosen, MapPaths, make, check}
-use Rattle.map_cli.specs.Inputs.{chosen_of, input_path}
-use Rattle.map_cli.specs.Lines.{best_line}
-use Rattle.map_cli.specs.Answers.{said}
-use Rattle.map_cli.specs.Commands.{best, built, certificate_checked, certificate_work, check_work, checked_as, file_outcome, given_by, load_work, picture_checked, picture_work, settings_by, settings_in, tables_work, work}
-use Rattle.map_cli.specs.Promises.{Loads}
+use Rattle.run_status.specs.declared.input.Input.{Input}
+use Rattle.run_status.specs.declared.input.Input.TheVariants as input
+use Rattle.command_inputs.specs.declared.loaded.Loaded.{Loaded}
+use Rattle.run_status.specs.declared.refusal.Refusal.{Refusal}
+use Rattle.run_status.specs.declared.refusal.Refusal.TheVariants as refused
+use Rattle.run_status.specs.declared.status.Status.{Status}
+use Rattle.run_status.specs.declared.status.Status.TheVariants as status
+use Rattle.command_words.specs.Asked.{Asked, make, check}
+use Rattle.command_paths.specs.Paths.{Chosen, MapPaths}
+use Rattle.map_cli.specs.Inputs.{inputs_of, input_path}
+use Rattle.map_commands.specs.MapWorks.{best_line, best, built, certificate_checked, certificate_work, check_work, checked_as, picture_checked, picture_work}
+use Rattle.run_status.specs.Outputs.{said}
+use Rattle.command_inputs.specs.Loading.{file_outcome, given_by, load_work, settings_by, settings_in, tables_work, Loads}
+use Rattle.map_cli.specs.Commands.{work}
 use Rattle.map_cli.specs.Ending.{Ends}
 use Rattle.map_cli.specs.Headline.{IsMapWritten, LieAsMade, SaysBest}
-use Rattle.map_cli.proofs.CheckLemmas.{graph_work, with_graph, with_loaded}
+use Rattle.map_commands.proofs.CheckLemmas.{graph_work, with_graph, with_loaded}
 use Rattle.map_cli.proofs.DoneLemmas.{is_done}
 
 abbrev Given : Type 0
@@ -91,7 +92,7 @@ tables_same given later same types = (
   )),
 )
 
-past_file : (given later : Given) (read : Result (Option (List ℕ)) Refusal) → (let next : Option (List ℕ) → Work Input Refusal Choices = λ file. ends (settings_in file) in ReadsSame given later (ends read >>= next))
+past_file : (given later : Given) (read : Result (Option (List ℕ)) Refusal) → (let next : Option (List ℕ) → Work Input Refusal MapSettings = λ file. ends (settings_in file) in ReadsSame given later (ends read >>= next))
 past_file given later (Ok file) = tt
 past_file given later (Err why) = tt
 
@@ -102,10 +103,10 @@ settings_same given later (Some path) same = (same, λ file. past_file given lat
 load_same : (given later : Given) (chosen : Chosen) → IfSome chosen.settings (λ path. later input.Settings ≡ given input.Settings) → ((table : Table) → later (input.Table table) ≡ given (input.Table table))
     → ReadsSame given later (load_work chosen)
 load_same given later chosen settings tables =
-    let loaded : Choices → Feed → Work Input Refusal Loaded = λ choices feed. ends (Ok (record { settings = choices; tables = feed })) in
-    let after : Choices → Work Input Refusal Loaded = λ choices. tables_work choices.types >>= loaded choices in
+    let loaded : MapSettings → Feed → Work Input Refusal Loaded = λ choices feed. ends (Ok (record { settings = choices.settings; method = choices.method; tables = feed })) in
+    let after : MapSettings → Work Input Refusal Loaded = λ choices. tables_work choices.settings.types >>= loaded choices in
     same_then given later (settings_by chosen.settings) after (settings_same given later chosen.settings settings)
-    (λ choices. same_then given later (tables_work choices.types) (loaded choices) (tables_same given later tables choices.types) (λ feed. tt))
+    (λ choices. same_then given later (tables_work choices.settings.types) (loaded choices) (tables_same given later tables choices.settings.types) (λ feed. tt))
 
 -- the file of settings lies at its path
 settings_lie : (files later : List (List ℕ × List ℕ)) (settings : Option (List ℕ)) → IfSome settings (λ path. file_at later path ≡ file_at files path)
@@ -113,12 +114,12 @@ settings_lie : (files later : List (List ℕ × List ℕ)) (settings : Option (L
 settings_lie files later None same = tt
 settings_lie files later (Some path) same = same
 
-loads_are : (files : List (List ℕ × List ℕ)) (asked : Asked) (loaded : Loaded) → Loads (Some files) asked loaded → outcome (load_work (chosen_of asked)) (file_of files (input_path asked)) ≡ Ok loaded
+loads_are : (files : List (List ℕ × List ℕ)) (asked : Asked) (loaded : Loaded) → Loads (Some files) (inputs_of asked) loaded → outcome (load_work (inputs_of asked).chosen) (file_of files (input_path asked)) ≡ Ok loaded
 loads_are files asked loaded loads =
-    by_run (told_outcome refused.ReadFault (load_work (chosen_of asked)) (file_of files (input_path asked)) loads.seen (Ok loaded) loads.are_told loads.runs)
+    by_run (told_outcome refused.ReadFault (load_work (inputs_of asked).chosen) (file_of files (input_path asked)) loads.seen (Ok loaded) loads.are_told loads.runs)
   where
-    by_run : (let found : Result Loaded Refusal = Ok loaded in found ≡ outcome (load_work (chosen_of asked)) (file_of files (input_path asked))) ⊎ ((one : Input) × (let found : Result Loaded Refusal = Ok loaded in found ≡ Err (refused.ReadFault one)))
-        → outcome (load_work (chosen_of asked)) (file_of files (input_path asked)) ≡ Ok loaded
+    by_run : (let found : Result Loaded Refusal = Ok loaded in found ≡ outcome (load_work (inputs_of asked).chosen) (file_of files (input_path asked))) ⊎ ((one : Input) × (let found : Result Loaded Refusal = Ok loaded in found ≡ Err (refused.ReadFault one)))
+        → outcome (load_work (inputs_of asked).chosen) (file_of files (input_path asked)) ≡ Ok loaded
     by_run (inl is) = sym is
     by_run (inr clash) =
         let refusal : (let found : Result Loaded Refusal = Ok loaded in found) ≡ Err (refused.ReadFault clash.0) = clash.1 in

@@ -10,17 +10,17 @@ use Rattle.command_run.specs.Delivered.{IsDelivered, line_acts, no_memory_line}
 use Rattle.command_run.specs.Held.{line_outputs}
 use Rattle.map_cli.specs.declared.answer.Answer.{Answer}
 use Rattle.map_cli.specs.declared.answer.Reply.{Reply}
-use Rattle.map_cli.specs.declared.input.Input.{Input}
-use Rattle.map_cli.specs.declared.refusal.Refusal.{Refusal}
-use Rattle.map_cli.specs.declared.refusal.Refusal.TheVariants as refused
-use Rattle.map_cli.specs.declared.status.Status.{Status}
-use Rattle.map_cli.specs.declared.status.Status.TheVariants as status
-use Rattle.map_cli.specs.Lines.{status_line}
+use Rattle.run_status.specs.declared.input.Input.{Input}
+use Rattle.run_status.specs.declared.refusal.Refusal.{Refusal}
+use Rattle.run_status.specs.declared.refusal.Refusal.TheVariants as refused
+use Rattle.run_status.specs.declared.status.Status.{Status}
+use Rattle.run_status.specs.declared.status.Status.TheVariants as status
+use Rattle.run_status.specs.Lines.{status_line}
 use Rattle.command_words.specs.Asked.{Asked}
 use Rattle.map_cli.specs.Inputs.{input_path}
 use Rattle.map_cli.specs.Answers.{alone, answer_by}
 use Rattle.map_cli.specs.Commands.{work}
-use Rattle.map_cli.specs.Following.{ComesTo}
+use Rattle.run_status.specs.Following.{ComesTo}
 use Rattle.map_cli.specs.Promises.{Keeps}
 
 -- The answer to what the words ask for: that of a result that the command's work comes to over the files, and that keeps
@@ -81,6 +81,7 @@ IsCaused asked files_rose sinks_rose status.WriteFault = sinks_rose
 IsCaused asked files_rose sinks_rose status.Done = asked ≢ None
 IsCaused asked files_rose sinks_rose (status.Refuted item) = asked ≢ None
 IsCaused asked files_rose sinks_rose (status.BadSettings why) = asked ≢ None
+IsCaused asked files_rose sinks_rose (status.Missing path) = asked ≢ None
 IsCaused asked files_rose sinks_rose (status.BadRow table row why) = asked ≢ None
 IsCaused asked files_rose sinks_rose (status.NoRoute seg) = asked ≢ None
 IsCaused asked files_rose sinks_rose (status.Spent component branches) = asked ≢ None

@@ -1,12 +1,6 @@
 pub mod Inputs
-pub mod Refusals
-pub mod Items
-pub mod Lines
 pub mod Answers
-pub mod Stations
 pub mod Commands
-pub mod Following
 pub mod Promises
 pub mod Ending
 pub mod Headline
-pub mod Places

@@ -5,36 +5,21 @@
 ghost use Rattle.std.specs.Prelude.{◌≡◌, ◌<◌};
 
 mod answer;
-mod check_command;
-mod disk_files;
-mod disk_sinks;
-mod failures;
-mod graph_command;
 #[cfg(test)]
 mod graph_tests;
-mod input;
-mod input_file;
-mod item;
+mod inputs;
 mod laws;
-mod line;
-mod loaded;
-mod make_command;
 #[cfg(test)]
 mod map_tests;
-mod paths;
-mod refusal;
+#[cfg(test)]
+mod page_tests;
 mod run;
-mod settings;
-mod stations;
-mod stations_command;
-mod status;
 #[cfg(test)]
 mod tests;
 
-use crate::disk_files::DiskFiles;
-use crate::disk_sinks::DiskSinks;
-use crate::status::Status;
+use disk_door::{DiskFiles, DiskSinks};
 use map_base::Steps;
+use run_status::Status;
 use std::marker::Brand;
 use std::process::ExitCode;
 use std::sync::ledger::{Blank, Ledger};

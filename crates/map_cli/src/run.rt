@@ -5,28 +5,27 @@ ghost use Rattle.files_door.specs.Fault.{Rose};
 ghost use Rattle.command_words.specs.Asked.{asked_by};
 ghost use Rattle.command_words.specs.Words.{asked_in};
 ghost use Rattle.map_cli.specs.Inputs.{input_path};
-ghost use Rattle.map_cli.specs.Answers.{alone, status_of};
+ghost use Rattle.map_cli.specs.Answers.{alone};
+ghost use Rattle.run_status.specs.Statuses.{status_of};
 ghost use Rattle.map_cli.specs.Commands.{work};
-ghost use Rattle.map_cli.specs.Following.{Follows};
+ghost use Rattle.run_status.specs.Following.{Follows};
 ghost use Rattle.map_cli.specs.Promises.{Keeps, TakesSteps};
 ghost use Rattle.map_cli.specs.Ending.{Ends, IsAnswerTo, IsCaused, IsLineOf, IsOutOfMemory, IsReplyTo, IsWritten};
 ghost use Rattle.map_cli.specs.Headline.{MeansDone};
 
 use crate::answer::{Answer, Reply, end_with, finished};
-use crate::check_command::check_map;
-use crate::graph_command::print_line_graph;
-use crate::line::line_of;
-use crate::make_command::make_map;
-use crate::paths::path_of;
-use crate::refusal::Refusal;
-use crate::stations_command::print_stations;
-use crate::status::Status;
+use crate::inputs::{inputs_of, path_for};
 use command_run::{Ending, Output, deliver, out_of_memory};
 use command_words::{Command, WordsFault, command_of};
 use files_door::{Files, Sinks};
 use map_base::{NoMemory, Sequence, Steps};
+use map_commands::{check_map, make_map};
+use page_command::show_map;
+use run_status::{Refusal, Status, line_of};
 use std::alloc::Global;
 use std::sync::ledger::Ledger;
+use table_commands::{print_line_graph, print_stations};
+use trial_command::print_trial;
 
 /// Does what the words after the program's name ask for, and answers how that ended. `steps` counts the
 /// branch nodes of searches for line orders.
@@ -38,7 +37,8 @@ use std::sync::ledger::Ledger;
 ///
 /// Where `make` ends with status 0, the map that is written shows exactly the feed's line graph: a legal drawing, in
 /// which no line orders cost less, as the certificate beside it shows. Where `check` ends with status 0, the map at its
-/// path is such a map, whoever made it and its certificate.
+/// path is such a map, whoever made it and its certificate. `page` writes the bytes of the page's head, of the map and of
+/// the page's tail. `trial` reads and writes no file.
 pub fn run<F: Files, S: Sinks, L: Ledger>(
     alloc: Global,
     words: &[String],
@@ -188,14 +188,17 @@ fn carry_out<F: Files, L: Ledger>(
     ensures keeps { Keeps (F.told files.old) (asked_by command.now) result }
     ensures steps { TakesSteps (F.told files.old) (Some (asked_by command.now)) steps.old steps.new }
 {
+    let inputs = inputs_of(command);
     match command {
-        Command::Stations { .. } => print_stations(alloc, command, files),
-        Command::Graph { .. } => print_line_graph(alloc, command, files),
+        Command::Stations { .. } => print_stations(alloc, &inputs, files),
+        Command::Graph { .. } => print_line_graph(alloc, &inputs, files),
         Command::Make {
             files: map_files,
             ..
-        } => make_map(alloc, command, map_files, files, steps),
-        Command::Check { .. } => check_map(alloc, command, files),
+        } => make_map(alloc, &inputs, map_files, files, steps),
+        Command::Check { .. } => check_map(alloc, &inputs, files),
+        Command::Trial { number } => print_trial(alloc, *number, steps),
+        Command::Page { page, .. } => show_map(alloc, &inputs, page, files),
     }
 }
 
@@ -217,8 +220,11 @@ fn refuse(alloc: Global, command: &Command<'_>, refusal: Refusal) -> Result<Answ
         Refusal::Limit(limit) => Status::Limit(limit),
         Refusal::Refuted(item) => Status::Refuted(item),
         Refusal::BadSettings(why) => Status::BadSettings(why),
+        Refusal::Missing { input } => Status::Missing {
+            path: path_for(alloc, command, input)?,
+        },
         Refusal::ReadFault { input } => Status::ReadFault {
-            path: path_of(alloc, command, input)?,
+            path: path_for(alloc, command, input)?,
         },
         Refusal::NoMemory => return Err(NoMemory),
     };

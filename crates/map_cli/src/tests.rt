@@ -1,17 +1,11 @@
-//! Whole runs over files and sinks in memory, and over the disk.
+//! Whole runs over files and sinks in memory.
 
 ghost use Rattle.std.specs.Prelude.{◌≡◌, ◌<◌};
 
-use crate::disk_files::DiskFiles;
-use crate::disk_sinks::DiskSinks;
 use crate::run::run;
-use files_door::{
-    DoorFault, Files, MemoryFiles, MemorySinks, Sinks, SteadyFiles, SteadySinks, Stop, Target,
-    read_all, write_all,
-};
+use files_door::{Files, MemoryFiles, MemorySinks, Sinks, SteadyFiles, SteadySinks, Target};
 use map_base::{NoMemory, Steps, Text};
 use std::alloc::{AllocError, Global};
-use std::fs;
 use std::marker::Brand;
 use std::sync::ledger::{Blank, Ledger};
 use std::test::Fail;
@@ -156,9 +150,12 @@ fn words_that_are_not_read_get_a_text(rt: HostRuntime) -> Result<(), Fail> {
         ),
         (
             "make feed map.svg",
-            "error: the following required arguments were not provided:\n  <CERT>\n",
+            "error: the following required arguments were not provided:\n  <CERT>\n\nUsage: octimap make ",
         ),
         ("make feed map map", "error: SVG and CERT are one file"),
+        ("page map map", "error: SVG and HTML are one file"),
+        ("trial x", "error: invalid value 'x' for '<N>'"),
+        ("help trial", "Make the map of a built-in random feed"),
         (
             "stations feed --settings my.toml",
             "error: unexpected argument '--settings' found",
@@ -190,49 +187,5 @@ fn a_file_of_settings_comes_first(rt: HostRuntime) -> Result<(), Fail> {
         let held = sinks.written(&Target::Said).unwrap_or(b"");
         assert_eq!(rt; held, said.as_bytes());
     }
-    Ok(())
-}
-
-#[test]
-fn files_of_the_disk_are_read(rt: HostRuntime) -> Result<(), Fail> {
-    let alloc = rt.alloc();
-    fs::write(&rt, "octimap-test-stops.txt", "stop_id\r\n")?;
-    let mut files = DiskFiles::new(&rt);
-    let bytes = read_all(alloc, &mut files, "octimap-test-stops.txt", 100);
-    let below = read_all(alloc, &mut files, "octimap-test-stops.txt/stops.txt", 100);
-    fs::remove_file(&rt, "octimap-test-stops.txt")?;
-    let missing = read_all(alloc, &mut files, "octimap-test-stops.txt", 100);
-    let folder = read_all(alloc, &mut files, ".", 100);
-    assert_eq!(rt; bytes?.as_slice(), b"stop_id\r\n".as_slice());
-    // A part of the path that is a file, and no file at the path.
-    assert_eq!(rt; below.err(), Some(DoorFault::Absent));
-    assert_eq!(rt; missing.err(), Some(DoorFault::Absent));
-    assert_eq!(rt; folder.err(), Some(DoorFault::ReadFault));
-    Ok(())
-}
-
-#[test]
-fn a_file_in_no_folder_is_not_written(rt: HostRuntime) -> Result<(), Fail> {
-    let alloc = rt.alloc();
-    let target = Target::Path(Text::of(alloc, "octimap-test-missing/map.svg")?);
-    let mut sinks = DiskSinks::new(&rt, alloc);
-    assert_eq!(rt; sinks.begin(&target).err(), Some(Stop::Failed));
-    Ok(())
-}
-
-#[test]
-fn files_of_the_disk_are_written(rt: HostRuntime) -> Result<(), Fail> {
-    let alloc = rt.alloc();
-    let target = Target::Path(Text::of(alloc, "octimap-test-map.svg")?);
-    let mut sinks = DiskSinks::new(&rt, alloc);
-    for text in ["<svg>longer</svg>\n", "<svg/>\n"] {
-        if sinks.begin(&target).is_err() {
-            return Err(Fail::from("the file is not begun"));
-        }
-        write_all(&mut sinks, text.as_bytes())?;
-    }
-    let held = fs::read(&rt, "octimap-test-map.svg");
-    fs::remove_file(&rt, "octimap-test-map.svg")?;
-    assert_eq!(rt; held?.as_slice(), b"<svg/>\n".as_slice());
     Ok(())
 }

@@ -11,6 +11,8 @@ mod SolveLemmas
 mod ImportanceLemmas
 mod DrawingLemmas
 mod MadeLemmas
+mod KeepLemmas
+mod NoneLeft
 mod CostParts
 mod PartOrders
 mod Accepting

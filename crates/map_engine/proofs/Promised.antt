@@ -9,6 +9,7 @@ use Rattle.map_base.specs.declared.ids.SegId.{SegId}
 use Rattle.map_base.specs.declared.ids.LineId.{LineId}
 use Rattle.map_base.specs.declared.limit.Limit.{Limit}
 use Rattle.map_base.specs.Settings.{Choices}
+use Rattle.map_method.specs.Methods.{MethodChoices}
 use Rattle.transit_feed.specs.Feeds.{Feed}
 use Rattle.graph_core.specs.declared.parts.GraphParts.{GraphParts}
 use Rattle.line_graph.specs.Outcome.{graph_outcome}
@@ -139,16 +140,16 @@ accepts_map feed choices drawn whole none_illegal =
     ∙ ap (λ (o : Option ℕ). unless_refused (option_map item.Picture o) (Ok c.cost)) (same_bytes svg)
 
 -- what is drawn and solved is whole
-pub whole_is : (feed : Feed) (choices : Choices) (d : DrawnMap) (s : Solution) (parts : List SolvedPart) → drawn_outcome feed choices ≡ Ok (drawn_of d)
+pub whole_is : (feed : Feed) (choices : Choices) (method : MethodChoices) (d : DrawnMap) (s : Solution) (parts : List SolvedPart) → drawn_outcome feed choices method ≡ Ok (drawn_of d)
     → length d.drawing.walks ≡ length d.graph.ends → legal d.graph d.drawing.walks ≡ true → d.problem ≡ problem_of feed choices d.graph → IsProblem d.problem → AreOrders d.problem.segs s.orders.items
     → solve_outcome choices.budget d.problem ≡ Ok parts → IsSolution d.problem parts s → IsWhole feed choices (drawn_of d)
-whole_is feed choices d s parts drawn each is_legal defined fits ordered is_solved solution =
+whole_is feed choices method d s parts drawn each is_legal defined fits ordered is_solved solution =
     let all : parts ≡ done_in d.problem = all_are choices.budget d.problem parts is_solved in
     record {
-      of_feed = graph_there feed choices (graph_outcome choices.near feed) (drawn_of d) drawn;
+      of_feed = graph_there feed choices method (graph_outcome choices.near feed) (drawn_of d) drawn;
       each = each;
       legal = is_legal;
-      counted = problem_there feed choices (graph_outcome choices.near feed) (drawn_of d) drawn;
+      counted = problem_there feed choices method (graph_outcome choices.near feed) (drawn_of d) drawn;
       defined = defined;
       fits = fits;
       ordered = subst (AreOrders d.problem.segs) (solution.orders ∙ ap (orders_by d.problem) all) ordered;

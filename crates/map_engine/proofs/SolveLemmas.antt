@@ -128,11 +128,10 @@ part_here p parts k part are below is =
           ∙ get_or_default (parts_in p) k [] part.items (subst (λ (ps : List (List SegId)). k < length ps) are within),
     )
 
--- no part takes more steps than all
-pub steps_more : (p : ProblemParts) (k : ℕ) (part : List SegId) → k < length (parts_in p) → part ≡ get_or (parts_in p) k part
-    → sum_by (branches_in p) (take (k + 1) (parts_in p)) ≡ sum_by (branches_in p) (take k (parts_in p)) + branches_in p part
-steps_more p k part below is =
-    sum_by_more (branches_in p) (parts_in p) k part below ∙ ap (λ (q : List SegId). sum_by (branches_in p) (take k (parts_in p)) + branches_in p q) (sym is)
+-- a sum over one part more
+pub steps_more : (f : List SegId → ℕ) (p : ProblemParts) (k : ℕ) (part : List SegId) → k < length (parts_in p) → part ≡ get_or (parts_in p) k part
+    → sum_by f (take (k + 1) (parts_in p)) ≡ sum_by f (take k (parts_in p)) + f part
+steps_more f p k part below is = sum_by_more f (parts_in p) k part below ∙ ap (λ (q : List SegId). sum_by f (take k (parts_in p)) + f q) (sym is)
 
 abbrev part_of : List SegId → ℕ → PlainTree → PlainPart
 part_of part target tree = record { segs = part; target = target; tree = tree }

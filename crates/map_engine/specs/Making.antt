@@ -1,6 +1,7 @@
 -- The map of a feed and its certificate; or why there is none.
 use Rattle.std.specs.Prelude.{◌≡◌, ℕ, List, Result, Ok, Err}
 use Rattle.map_base.specs.Settings.{Choices}
+use Rattle.map_method.specs.Methods.{MethodChoices}
 use Rattle.transit_feed.specs.Feeds.{Feed}
 use Rattle.svg_writer.specs.Picture.{picture_text}
 use Rattle.cert_file.specs.Text.{certificate_text}
@@ -35,8 +36,8 @@ made_on feed choices (Err stop) = Err stop
 
 -- The map of a feed and its certificate; or the first cause why there is none: a limit of the line graph, of cells, no
 -- route, a limit of terms, or a part that is over the limit of places or over the budget. It never is want of memory.
-abbrev pub make_outcome : Feed → Choices → Result MapBytes MakeFault
-make_outcome feed choices = made_on feed choices (drawn_outcome feed choices)
+abbrev pub make_outcome : Feed → Choices → MethodChoices → Result MapBytes MakeFault
+make_outcome feed choices method = made_on feed choices (drawn_outcome feed choices method)
 
 -- the bytes of what was made
 abbrev pub bytes_of : Made → MapBytes

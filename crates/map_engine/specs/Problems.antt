@@ -2,6 +2,7 @@
 use Rattle.std.specs.Prelude.{List, Result, Ok, Err}
 use Rattle.map_base.specs.declared.limit.Limit.{Limit}
 use Rattle.map_base.specs.Settings.{Choices}
+use Rattle.map_method.specs.Methods.{MethodChoices}
 use Rattle.transit_feed.specs.Feeds.{Feed}
 use Rattle.graph_core.specs.declared.parts.GraphParts.{GraphParts}
 use Rattle.line_graph.specs.Outcome.{graph_outcome}
@@ -41,10 +42,10 @@ routed_by feed choices graph (Ok walks) = drawn_with graph walks (problem_within
 routed_by feed choices graph (Err stop) = Err (of_route stop)
 
 -- what comes of a line graph
-abbrev pub drawn_on : Feed → Choices → Result GraphParts Limit → Result Drawn MakeFault
-drawn_on feed choices (Ok graph) = routed_by feed choices graph (route_outcome graph choices.cell)
-drawn_on feed choices (Err limit) = Err (fault.Limit limit)
+abbrev pub drawn_on : Feed → Choices → MethodChoices → Result GraphParts Limit → Result Drawn MakeFault
+drawn_on feed choices method (Ok graph) = routed_by feed choices graph (route_outcome graph choices.cell method.spread method.finest)
+drawn_on feed choices method (Err limit) = Err (fault.Limit limit)
 
 -- The drawing and the problem of a feed. The line graph comes first, then its walks, then the terms.
-abbrev pub drawn_outcome : Feed → Choices → Result Drawn MakeFault
-drawn_outcome feed choices = drawn_on feed choices (graph_outcome choices.near feed)
+abbrev pub drawn_outcome : Feed → Choices → MethodChoices → Result Drawn MakeFault
+drawn_outcome feed choices method = drawn_on feed choices method (graph_outcome choices.near feed)

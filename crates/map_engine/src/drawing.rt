@@ -17,6 +17,7 @@ use crate::importance::importance_of;
 use graph_core::LineGraph;
 use line_graph::build;
 use map_base::Settings;
+use map_method::Method;
 use octi_grid::{Walk, illegal_drawings_have_a_first_walk};
 use order_terms::terms_of;
 use segment_router::route;
@@ -29,8 +30,9 @@ pub(crate) fn drawn_map(
     alloc: Global,
     tables: &Tables,
     settings: &Settings,
+    method: &Method,
 ) -> Result<DrawnMap, MakeFault>
-    ensures outcome { Gives drawn_of result (drawn_outcome tables.now settings.now) }
+    ensures outcome { Gives drawn_of result (drawn_outcome tables.now settings.now method.now) }
     ensures fits { IfOk result (λ d. IsConsistent d.graph) }
     ensures walks { IfOk result (λ d. All IsWalk d.drawing.walks) }
     ensures first { IfOk result (λ d. first_illegal d.graph d.drawing.walks ≡ None) }
@@ -41,7 +43,7 @@ pub(crate) fn drawn_map(
     ensures problem { IfOk result (λ d. d.problem ≡ problem_of tables.now settings.now d.graph) }
 {
     let graph = build(alloc, tables, settings)?;
-    drawn_on_graph(alloc, tables, settings, graph)
+    drawn_on_graph(alloc, tables, settings, method, graph)
 }
 
 /// The same from the line graph on.
@@ -49,10 +51,11 @@ fn drawn_on_graph(
     alloc: Global,
     tables: &Tables,
     settings: &Settings,
+    method: &Method,
     graph: LineGraph,
 ) -> Result<DrawnMap, MakeFault>
     requires lines { AreOfFeed tables.now graph }
-    ensures outcome { Gives drawn_of result (drawn_on tables.now settings.now (Ok graph)) }
+    ensures outcome { Gives drawn_of result (drawn_on tables.now settings.now method.now (Ok graph)) }
     ensures fits { IfOk result (λ d. IsConsistent d.graph) }
     ensures walks { IfOk result (λ d. All IsWalk d.drawing.walks) }
     ensures first { IfOk result (λ d. first_illegal d.graph d.drawing.walks ≡ None) }
@@ -63,7 +66,7 @@ fn drawn_on_graph(
     ensures problem { IfOk result (λ d. d.problem ≡ problem_of tables.now settings.now d.graph) }
 {
     let _nodes = graph.nodes();
-    let drawing = route(alloc, &graph, settings.cell)?;
+    let drawing = route(alloc, &graph, settings.cell, method.spread, method.finest)?;
     are_walks(drawing.walks.as_slice());
     illegal_drawings_have_a_first_walk();
     let importance = importance_of(alloc, tables, settings)?;

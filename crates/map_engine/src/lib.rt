@@ -3,7 +3,7 @@
 //! `make` draws the feed's line graph on the grid, finds the line orders that cost least, and writes the map and a
 //! certificate. `check` says yes only where the drawing is legal, no line orders cost less and the map is the picture that
 //! is due, whoever made them; else it names the first item that is refused. `Kept` holds what was found of the parts of
-//! a problem from one map to the next, and never changes a byte of it.
+//! a problem from one map to the next, so that no part is searched twice, and never changes a byte.
 #![tactic(auto)]
 
 mod checked;
@@ -14,7 +14,6 @@ mod drawn_map;
 mod fault;
 mod importance;
 mod items;
-mod kept;
 mod laws;
 mod made;
 mod making;
@@ -28,9 +27,10 @@ pub use checking::{check, check_certificate, check_on_graph};
 pub use fault::{CheckFault, CheckItem, MakeFault};
 pub use importance::importance_of;
 pub use items::first_difference;
-pub use kept::Kept;
+pub use kept_trees::Kept;
 pub use laws::{
     each_certificate_is_read_from_its_text, each_other_text_is_refused_at_its_first_wrong_line,
+    what_was_made_is_not_searched_again,
 };
 pub use made::Made;
 pub use making::make;

@@ -5,7 +5,7 @@ ghost use Rattle.order_model.specs.Costs.{AreOrders};
 ghost use Rattle.order_proof.specs.Trees.{HasTrees};
 ghost use Rattle.map_engine.specs.Tables.{AreOfFeed};
 ghost use Rattle.map_engine.specs.Making.{bytes_of, make_outcome, Gives};
-ghost use Rattle.map_engine.specs.Keeping.{branches_left};
+ghost use Rattle.map_engine.specs.Keeping.{finished_parts, HoldsFinished, branches_left};
 ghost use Rattle.map_engine.specs.Stages.{map_by, plain_parts};
 ghost use Rattle.map_engine.specs.Promises.{IsMade};
 
@@ -13,13 +13,14 @@ use crate::drawing::drawn_map;
 use crate::drawn_lines::{drawn_lines, weighty_lines};
 use crate::drawn_map::DrawnMap;
 use crate::fault::MakeFault;
-use crate::kept::Kept;
 use crate::made::Made;
 use crate::names::names_of;
 use crate::solution::Solution;
 use crate::solving::solve_parts;
 use cert_file::{Certificate, write_certificate};
+use kept_trees::Kept;
 use map_base::{NoMemory, Sequence, Settings, Steps};
+use map_method::Method;
 use order_model::{Orders, cost_by_tables};
 use order_proof::Proof;
 use std::alloc::Global;
@@ -34,22 +35,23 @@ pub fn make<L: Ledger>(
     alloc: Global,
     tables: &Tables,
     settings: &Settings,
+    method: &Method,
     kept: &mut Kept,
     steps: &mut Steps<L>,
 ) -> Result<Made, MakeFault>
-    ensures outcome { Gives bytes_of result (make_outcome tables.now settings.now) }
+    ensures outcome { Gives bytes_of result (make_outcome tables.now settings.now method.now) }
 
     // The map shows exactly the feed's line graph, in a legal drawing, and no line orders of it cost less; and the check
     // says yes to the map and its certificate.
     ensures made { IfOk result (λ made. IsMade tables.now settings.now (bytes_of made)) }
 
-    // What is held stays, and no part that is held is searched again.
+    // What is held stays, each part that was finished is held, and no part that is held is searched again.
     ensures kept { All (Contains kept.new) kept.old }
-    ensures steps { steps.new ≤ steps.old + branches_left kept.old tables.now settings.now }
+    ensures finished { HoldsFinished result (finished_parts tables.now settings.now method.now) kept.new }
+    ensures steps { steps.new ≤ steps.old + branches_left kept.old tables.now settings.now method.now }
 {
-    let _none = kept.is_empty();
-    let drawn = drawn_map(alloc, tables, settings)?;
-    let solution = solve_parts(alloc, &drawn.problem, settings.budget, steps)?;
+    let drawn = drawn_map(alloc, tables, settings, method)?;
+    let solution = solve_parts(alloc, &drawn.problem, settings.budget, kept, steps)?;
     Ok(written(alloc, tables, drawn, solution)?)
 }
 

@@ -1,6 +1,6 @@
 //! The parts of a problem, each solved by its live tree.
 
-ghost use Rattle.std.specs.Prelude.{◌≡◌, ◌≤◌, ◌<◌, ◌+◌, [], ◌∷◌, ◌++◌, length, map, sum_by, All, IfOk, OnOk, IfErr, slice_set};
+ghost use Rattle.std.specs.Prelude.{◌≡◌, ◌≤◌, ◌<◌, ◌+◌, [], ◌∷◌, ◌++◌, length, map, sum_by, All, Contains, IfOk, OnOk, IfErr, slice_set};
 ghost use Rattle.map_base.specs.declared.ids.SegId.{SegId as Seg};
 ghost use Rattle.order_model.specs.Problems.{IsProblem};
 ghost use Rattle.order_model.specs.Costs.{AreOrders};
@@ -9,33 +9,41 @@ ghost use Rattle.order_model.specs.Gathering.{part_lists};
 ghost use Rattle.order_model.specs.PartTerms.{part_numbers};
 ghost use Rattle.order_model.specs.Places.{tables_of};
 ghost use Rattle.order_search.specs.Finding.{with_lists};
-ghost use Rattle.order_search.specs.FoundParts.{branches_in};
+ghost use Rattle.order_search.specs.ByItself.{by_itself};
+ghost use Rattle.kept_trees.specs.Keeping.{branches_to_meet};
 ghost use Rattle.map_engine.specs.Faults.{of_search};
+ghost use Rattle.map_engine.specs.Keeping.{finished_of, HoldsFinished};
 ghost use Rattle.map_engine.specs.Solving.{parts_in, solve_outcome};
 ghost use Rattle.map_engine.specs.Stages.{IsMore, IsUnsolved, Solves};
 
 use crate::fault::MakeFault;
 use crate::solution::Solution;
+use kept_trees::Kept;
 use map_base::{LineId, NoMemory, SegId, Sequence, Steps};
 use order_model::{Problem, numbers_of, parts_of, terms_by_part};
 use order_proof::Part;
-use order_search::{Found, SearchFault, search_part};
+use order_search::{Found, SearchFault};
 use std::alloc::Global;
 use std::sync::ledger::Ledger;
 
 /// The line orders of a problem that cost least, part by part, each with its proof. The first part that is over the limit
-/// of places or over the budget of branch nodes ends it. The terms of all parts are gathered once.
+/// of places or over the budget of branch nodes ends it. The terms of all parts are gathered once. A part that is kept is
+/// not searched, and each part that is solved is kept.
+#[tactic(auto, using(crate::proofs::KeepLemmas::itself_held))]
 pub(crate) fn solve_parts<L: Ledger>(
     alloc: Global,
     problem: &Problem,
     budget: u32,
+    kept: &mut Kept,
     steps: &mut Steps<L>,
 ) -> Result<Solution, MakeFault>
     requires budget { budget ≤ 100000 }
     ensures solved { Solves problem.now result (solve_outcome budget problem.now) }
     ensures orders { IfOk result (λ s. AreOrders problem.now.segs s.orders.items) }
     ensures fits { IfOk result (λ _. IsProblem problem.now) }
-    ensures steps { steps.new ≤ steps.old + sum_by (branches_in problem.now) (parts_in problem.now) }
+    ensures kept { All (Contains kept.new) kept.old }
+    ensures finished { HoldsFinished result (finished_of budget problem.now) kept.new }
+    ensures steps { steps.new ≤ steps.old + sum_by (branches_to_meet kept.old problem.now) (parts_in problem.now) }
 {
     let parts = parts_of(alloc, problem)?;
     let numbers = numbers_of(alloc, problem, parts.as_slice())?;
@@ -46,17 +54,20 @@ pub(crate) fn solve_parts<L: Ledger>(
         parts.as_slice(),
         terms.as_slice(),
         budget,
+        kept,
         steps,
     )
 }
 
 /// Solves these parts in turn, each with the numbers of its terms.
+#[tactic(auto, using(crate::proofs::KeepLemmas::itself_held))]
 fn solve_all<L: Ledger>(
     alloc: Global,
     problem: &Problem,
     parts: &[Vec<SegId>],
     terms: &[Vec<u32>],
     budget: u32,
+    kept: &mut Kept,
     steps: &mut Steps<L>,
 ) -> Result<Solution, MakeFault>
     requires parts { part_lists parts.now ≡ parts_in problem.now }
@@ -66,7 +77,9 @@ fn solve_all<L: Ledger>(
     ensures solved { Solves problem.now result (solve_outcome budget problem.now) }
     ensures orders { IfOk result (λ s. AreOrders problem.now.segs s.orders.items) }
     ensures fits { IfOk result (λ _. IsProblem problem.now) }
-    ensures steps { steps.new ≤ steps.old + sum_by (branches_in problem.now) (parts_in problem.now) }
+    ensures kept { All (Contains kept.new) kept.old }
+    ensures finished { HoldsFinished result (finished_of budget problem.now) kept.new }
+    ensures steps { steps.new ≤ steps.old + sum_by (branches_to_meet kept.old problem.now) (parts_in problem.now) }
 {
     let mut solution = Solution {
         orders: number_orders(alloc, problem.segs())?,
@@ -81,6 +94,7 @@ fn solve_all<L: Ledger>(
             terms[k].as_slice(),
             budget,
             &mut solution,
+            kept,
             steps,
         )?;
     }
@@ -111,6 +125,7 @@ fn solve_part<L: Ledger>(
     numbers: &[u32],
     budget: u32,
     solution: &mut Solution,
+    kept: &mut Kept,
     steps: &mut Steps<L>,
 ) -> Result<(), MakeFault>
     requires rising { IsRisingPart part.now }
@@ -121,9 +136,11 @@ fn solve_part<L: Ledger>(
     ensures more { OnOk result (IsMore budget problem.now part.now solution.old solution.new) }
     ensures orders { OnOk result (AreOrders problem.now.segs solution.new.orders.items) }
     ensures unsolved { IfErr result (IsUnsolved budget problem.now k part.now) }
-    ensures steps { steps.new ≤ steps.old + branches_in problem.now part.now }
+    ensures kept { All (Contains kept.new) kept.old }
+    ensures held { OnOk result (Contains kept.new (by_itself problem.now part.now)) }
+    ensures steps { steps.new ≤ steps.old + branches_to_meet kept.old problem.now part.now }
 {
-    match search_part(alloc, problem, part, numbers, budget, steps) {
+    match kept.solve_part(alloc, problem, part, numbers, budget, steps) {
         Ok(found) => {
             take_found(alloc, part, found, solution)?;
             Ok(())

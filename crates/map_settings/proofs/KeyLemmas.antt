@@ -10,7 +10,9 @@ use Rattle.std.specs.Map.{keys_of}
 use Rattle.std.specs.Option.{is_none}
 use Rattle.std.specs.Ordering.{is_lt, ordering_reverse}
 use Rattle.std.specs.String.{string_cmp}
-use Rattle.map_base.specs.Settings.{Choices, standard_choices}
+use Rattle.map_method.specs.declared.defaults.Defaults.{Defaults}
+use Rattle.map_method.specs.declared.map_settings.MapSettings.{MapSettings}
+use Rattle.map_method.specs.Defaults.{default_choices}
 use Rattle.toml.specs.Data.{Data}
 use Rattle.toml.specs.View.{view, members_view}
 use Rattle.toml.specs.declared.value.Value.{Value}
@@ -34,7 +36,7 @@ Data_entry = List ℕ × Data
 abbrev bad_by : Data_entry → List Data_entry → Option Change → List (List ℕ)
 bad_by entry rest o = map (λ (e : Data_entry). e.0) (cond (is_none o) (entry ∷ filter is_bad rest) (filter is_bad rest))
 
-good_by : (entry : Data_entry) (rest : List Data_entry) (o : Option Change) (old new : Choices) → change_of entry ≡ o
+good_by : (entry : Data_entry) (rest : List Data_entry) (o : Option Change) (old new : MapSettings) → change_of entry ≡ o
     → option_map (λ (change : Change). change old) o ≡ Some new
     → (bad_keys rest ≡ bad_keys (entry ∷ rest)) × (after rest new ≡ after (entry ∷ rest) old)
 good_by entry rest None old new is e = absurd (none-some _ e)
@@ -42,7 +44,7 @@ good_by entry rest (Some change) old new is e =
     (sym (ap (bad_by entry rest) is), sym (ap (λ o. after rest (changed o old)) is ∙ ap (after rest) (same_Some (change old) new e)))
 
 -- an entry that changes the choices
-pub good_entry : (entry : Entry) (left : List Entry) (text : List ℕ) (old new : Choices) → text ≡ string_bytes entry.0
+pub good_entry : (entry : Entry) (left : List Entry) (text : List ℕ) (old new : MapSettings) → text ≡ string_bytes entry.0
     → option_map (λ (change : Change). change old) (change_of (text, view entry.1)) ≡ Some new
     → (bad_keys (map entry_view left) ≡ bad_keys (map entry_view (entry ∷ left))) × (after (map entry_view left) new ≡ after (map entry_view (entry ∷ left)) old)
 good_entry entry left text old new named e =
@@ -92,25 +94,25 @@ first_bad entry left bad s =
     ∙ ap Some (lesser-first (string_bytes entry.0) (least (bad_keys (map entry_view left))) (above (string_bytes entry.0) left (sorted_head string_cmp entry.0 (keys_of left) s)))
 
 -- an entry that changes nothing
-pub bad_entry : (entry : Entry) (left file : List Entry) (text : List ℕ) → text ≡ string_bytes entry.0 → change_of (text, view entry.1) ≡ None
+pub bad_entry : (defaults : Defaults) (entry : Entry) (left file : List Entry) (text : List ℕ) → text ≡ string_bytes entry.0 → change_of (text, view entry.1) ≡ None
     → IsStrictlySortedBy string_cmp (keys_of (entry ∷ left)) → bad_keys (map entry_view (entry ∷ left)) ≡ bad_keys (map entry_view file)
-    → entries_outcome (entries (members_view file)) ≡ Err (Key text)
-bad_entry entry left file text named bad s same =
+    → entries_outcome defaults (entries (members_view file)) ≡ Err (Key text)
+bad_entry defaults entry left file text named bad s same =
     let here : change_of (entry_view entry) ≡ None = sym (ap (λ t. change_of (t, view entry.1)) named) ∙ bad in
     let some : least (bad_keys (map entry_view file)) ≡ Some text = sym (ap least same) ∙ first_bad entry left here s ∙ ap Some (sym named) in
-    ap entries_outcome (entries-members_view file) ∙ ap (λ o. unless_bad o (after (map entry_view file) standard_choices)) some
+    ap (entries_outcome defaults) (entries-members_view file) ∙ ap (λ o. unless_bad o (after (map entry_view file) (default_choices defaults))) some
 
 -- no entry is left
-pub good_file : (left file : List Entry) (choices : Choices) → left ≡ [] → bad_keys (map entry_view left) ≡ bad_keys (map entry_view file)
-    → after (map entry_view left) choices ≡ after (map entry_view file) standard_choices
-    → entries_outcome (entries (members_view file)) ≡ Ok choices
-good_file left file choices none same made =
+pub good_file : (defaults : Defaults) (left file : List Entry) (settings : MapSettings) → left ≡ [] → bad_keys (map entry_view left) ≡ bad_keys (map entry_view file)
+    → after (map entry_view left) settings ≡ after (map entry_view file) (default_choices defaults)
+    → entries_outcome defaults (entries (members_view file)) ≡ Ok settings
+good_file defaults left file settings none same made =
     let no_key : least (bad_keys (map entry_view file)) ≡ None = sym (ap least same) ∙ ap (λ es. least (bad_keys (map entry_view es))) none in
-    let is : after (map entry_view file) standard_choices ≡ choices = sym made ∙ ap (λ es. after (map entry_view es) choices) none in
-    ap entries_outcome (entries-members_view file) ∙ ap (λ o. unless_bad o (after (map entry_view file) standard_choices)) no_key ∙ ap Ok is
+    let is : after (map entry_view file) (default_choices defaults) ≡ settings = sym made ∙ ap (λ es. after (map entry_view es) settings) none in
+    ap (entries_outcome defaults) (entries-members_view file) ∙ ap (λ o. unless_bad o (after (map entry_view file) (default_choices defaults))) no_key ∙ ap Ok is
 
 -- a fault that names the least bad key
-pub reads_named : (fault : SettingsFault) (key : List ℕ) (outcome : Result Choices SettingsWhy) → Names fault key → outcome ≡ Err (Key key)
+pub reads_named : (fault : SettingsFault) (key : List ℕ) (outcome : Result MapSettings SettingsWhy) → Names fault key → outcome ≡ Err (Key key)
     → Reads (Err fault) outcome
 reads_named (settings.Bad why) key outcome named e = e ∙ ap Err (sym named)
 reads_named settings.NoMemory key outcome named e = tt

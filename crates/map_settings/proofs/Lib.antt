@@ -1,3 +1,5 @@
+mod ChangeLemmas
+mod Examples
 mod EachLemmas
 mod ImportanceLemmas
 mod KeyLemmas

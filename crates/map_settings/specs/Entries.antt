@@ -1,39 +1,47 @@
 -- What an entry of a settings file changes.
-use Rattle.std.specs.Prelude.{ℕ, List, codes, Option, None, option_map, if◌then◌else◌, slice_set}
+use Rattle.std.specs.Prelude.{ℕ, List, Bool, ◌||◌, codes, Option, None, option_map, if◌then◌else◌, slice_set}
 use Rattle.std.specs.Str.{bytes_eq}
 use Rattle.map_base.specs.Settings.{Choices}
 use Rattle.map_base.specs.declared.weights.Weights.{Weights}
+use Rattle.map_method.specs.declared.map_settings.MapSettings.{MapSettings}
+use Rattle.map_method.specs.declared.spread.Spread.{Spread}
+use Rattle.map_method.specs.Methods.{MethodChoices}
 use Rattle.toml.specs.Data.{Data}
-use Rattle.map_settings.specs.Values.{near_of, cell_of, budget_of, types_of, weights_of, importance_of}
+use Rattle.map_settings.specs.Values.{near_of, cell_of, budget_of, types_of, weights_of, importance_of, spread_of, finest_of}
 
--- a change of the choices
-abbrev pub Change : Type 0
-Change = Choices → Choices
-
-abbrev pub near_is : ℕ → Change
+-- a change of the settings of a map
+abbrev pub near_is : ℕ → Choices → Choices
 near_is near choices = record choices { near = near }
 
-abbrev pub cell_is : ℕ → Change
+abbrev pub cell_is : ℕ → Choices → Choices
 cell_is cell choices = record choices { cell = cell }
 
-abbrev pub budget_is : ℕ → Change
+abbrev pub budget_is : ℕ → Choices → Choices
 budget_is budget choices = record choices { budget = budget }
 
-abbrev pub types_are : List ℕ → Change
+abbrev pub types_are : List ℕ → Choices → Choices
 types_are types choices = record choices { types = types }
 
-abbrev pub junction_is : Weights → Change
+abbrev pub junction_is : Weights → Choices → Choices
 junction_is weights choices = record choices { weights = slice_set choices.weights 0 weights }
 
-abbrev pub station_is : Weights → Change
+abbrev pub station_is : Weights → Choices → Choices
 station_is weights choices = record choices { weights = slice_set choices.weights 1 weights }
 
-abbrev pub importance_is : List (List ℕ × ℕ) → Change
+abbrev pub importance_is : List (List ℕ × ℕ) → Choices → Choices
 importance_is importance choices = record choices { importance = importance }
 
--- what an entry changes: nothing where its key is unknown, or its value is of another type or out of range
-abbrev pub change_of : List ℕ × Data → Option Change
-change_of entry =
+-- a change of how a map is found
+abbrev pub spread_is : Spread → MethodChoices → MethodChoices
+spread_is spread method = record method { spread = spread }
+
+abbrev pub finest_is : ℕ → MethodChoices → MethodChoices
+finest_is finest method = record method { finest = finest }
+
+-- what an entry changes in the settings of a map: nothing where its key is none of theirs, or its value is of another type
+-- or out of range
+abbrev pub settings_change : List ℕ × Data → Option (Choices → Choices)
+settings_change entry =
     if bytes_eq entry.0 (codes "near") then option_map near_is (near_of entry.1)
     else if bytes_eq entry.0 (codes "cell") then option_map cell_is (cell_of entry.1)
     else if bytes_eq entry.0 (codes "budget") then option_map budget_is (budget_of entry.1)
@@ -42,3 +50,28 @@ change_of entry =
     else if bytes_eq entry.0 (codes "station") then option_map station_is (weights_of entry.1)
     else if bytes_eq entry.0 (codes "importance") then option_map importance_is (importance_of entry.1)
     else None
+
+-- the same in how a map is found
+abbrev pub method_change : List ℕ × Data → Option (MethodChoices → MethodChoices)
+method_change entry =
+    if bytes_eq entry.0 (codes "spread") then option_map spread_is (spread_of entry.1)
+    else if bytes_eq entry.0 (codes "finest") then option_map finest_is (finest_of entry.1)
+    else None
+
+-- the key says how a map is found
+abbrev pub is_of_method : List ℕ → Bool
+is_of_method key = bytes_eq key (codes "spread") || bytes_eq key (codes "finest")
+
+-- a change of both
+abbrev pub Change : Type 0
+Change = MapSettings → MapSettings
+
+abbrev pub in_settings : (Choices → Choices) → Change
+in_settings change all = record all { settings = change all.settings }
+
+abbrev pub in_method : (MethodChoices → MethodChoices) → Change
+in_method change all = record all { method = change all.method }
+
+-- what an entry changes: nothing where its key is unknown, or its value is of another type or out of range
+abbrev pub change_of : List ℕ × Data → Option Change
+change_of entry = if is_of_method entry.0 then option_map in_method (method_change entry) else option_map in_settings (settings_change entry)

@@ -2,7 +2,7 @@
 use Rattle.std.specs.Prelude.{◌≡◌, List, ℕ, String, Option, Some, None, option_map, Result, Ok, Err}
 use Rattle.std.specs.BTreeMap.{BTreeMap}
 use Rattle.std.specs.declared.alloc.Global.{Global}
-use Rattle.map_base.specs.Settings.{Choices}
+use Rattle.map_method.specs.declared.map_settings.MapSettings.{MapSettings}
 use Rattle.toml.specs.Data.{Members}
 use Rattle.toml.specs.View.{table_view}
 use Rattle.toml.specs.declared.value.Value.{Value}
@@ -12,11 +12,10 @@ use Rattle.map_settings.specs.declared.fault.SettingsFault.{SettingsFault}
 use Rattle.map_settings.specs.declared.fault.SettingsFault.TheVariants as settings
 use Rattle.map_settings.specs.declared.fault.EntryFault.{EntryFault}
 use Rattle.map_settings.specs.declared.fault.EntryFault.TheVariants as entry
-use Rattle.map_settings.specs.Entries.{Change}
 
 -- the settings are those that come by definition, or the file is refused as it says
-abbrev pub Reads : Result Choices SettingsFault → Result Choices SettingsWhy → Type 0
-Reads (Ok choices) outcome = outcome ≡ Ok choices
+abbrev pub Reads : Result MapSettings SettingsFault → Result MapSettings SettingsWhy → Type 0
+Reads (Ok settings) outcome = outcome ≡ Ok settings
 Reads (Err (settings.Bad why)) outcome = outcome ≡ Err why
 Reads (Err settings.NoMemory) outcome = Unit {0}
 
@@ -37,8 +36,8 @@ Gives (Ok x) outcome = outcome ≡ Some x
 Gives (Err entry.Bad) outcome = outcome ≡ None
 Gives (Err entry.NoMemory) outcome = Unit {0}
 
--- the choices are changed as the entry says, or by definition it changes nothing
-abbrev pub Changes : Choices → Choices → Result (Unit {0}) EntryFault → Option Change → Type 0
+-- what was there is changed as an entry says, or by definition the entry changes nothing
+abbrev pub Changes : {A : Type 0} → A → A → Result (Unit {0}) EntryFault → Option (A → A) → Type 0
 Changes old new (Ok _) outcome = option_map (λ change. change old) outcome ≡ Some new
 Changes old new (Err entry.Bad) outcome = outcome ≡ None
 Changes old new (Err entry.NoMemory) outcome = Unit {0}

@@ -3,7 +3,9 @@ use Rattle.std.specs.Prelude.{ℕ, Bool, List, [], ◌∷◌, map, filter, is_no
 use Rattle.std.specs.Str.{is_utf8}
 use Rattle.std.specs.Ordering.{nat_cmp, is_lt}
 use Rattle.std.specs.Cmp.Lexicographic.{slice_cmp}
-use Rattle.map_base.specs.Settings.{Choices, standard_choices}
+use Rattle.map_method.specs.declared.defaults.Defaults.{Defaults}
+use Rattle.map_method.specs.declared.map_settings.MapSettings.{MapSettings}
+use Rattle.map_method.specs.Defaults.{default_choices}
 use Rattle.toml.specs.Data.{Data, Members}
 use Rattle.toml.specs.Parse.{parse_document}
 use Rattle.map_settings.specs.declared.fault.SettingsWhy.{SettingsWhy}
@@ -28,35 +30,34 @@ abbrev pub least : List (List ℕ) → Option (List ℕ)
 least [] = None
 least (text ∷ texts) = Some (lesser text (least texts))
 
--- the choices after a change, if there is one
-abbrev pub changed : Option Change → Choices → Choices
-changed None choices = choices
-changed (Some change) choices = change choices
+-- the settings after a change, if there is one
+abbrev pub changed : Option Change → MapSettings → MapSettings
+changed None settings = settings
+changed (Some change) settings = change settings
 
--- the choices after the changes of all entries
-abbrev pub after : List (List ℕ × Data) → Choices → Choices
-after [] choices = choices
-after (entry ∷ file) choices = after file (changed (change_of entry) choices)
+-- the settings after the changes of all entries
+abbrev pub after : List (List ℕ × Data) → MapSettings → MapSettings
+after [] settings = settings
+after (entry ∷ file) settings = after file (changed (change_of entry) settings)
 
--- the choices, unless a key is bad
-abbrev pub unless_bad : Option (List ℕ) → Choices → Result Choices SettingsWhy
-unless_bad (Some key) choices = Err (Key key)
-unless_bad None choices = Ok choices
+-- the settings, unless a key is bad
+abbrev pub unless_bad : Option (List ℕ) → MapSettings → Result MapSettings SettingsWhy
+unless_bad (Some key) settings = Err (Key key)
+unless_bad None settings = Ok settings
 
--- what the entries of a file make: the standard choices with their changes, unless a key is bad; then the least
--- bad key is named
-abbrev pub entries_outcome : List (List ℕ × Data) → Result Choices SettingsWhy
-entries_outcome file = unless_bad (least (bad_keys file)) (after file standard_choices)
+-- what the entries of a file make: the defaults with their changes, unless a key is bad; then the least bad key is named
+abbrev pub entries_outcome : Defaults → List (List ℕ × Data) → Result MapSettings SettingsWhy
+entries_outcome defaults file = unless_bad (least (bad_keys file)) (after file (default_choices defaults))
 
 -- the table of a TOML document, which is UTF-8
 abbrev pub table_outcome : List ℕ → Option Members
 table_outcome bytes = if is_utf8 bytes then parse_document bytes else None
 
 -- the entries of a table, if there is one
-abbrev pub with_table : Option Members → Result Choices SettingsWhy
-with_table None = Err NotToml
-with_table (Some table) = entries_outcome (entries table)
+abbrev pub with_table : Defaults → Option Members → Result MapSettings SettingsWhy
+with_table defaults None = Err NotToml
+with_table defaults (Some table) = entries_outcome defaults (entries table)
 
 -- what a file with these bytes makes
-abbrev pub settings_outcome : List ℕ → Result Choices SettingsWhy
-settings_outcome bytes = with_table (table_outcome bytes)
+abbrev pub settings_outcome : Defaults → List ℕ → Result MapSettings SettingsWhy
+settings_outcome defaults bytes = with_table defaults (table_outcome bytes)

@@ -1,8 +1,11 @@
 -- What the value of each key of a settings file gives; none where it is of another type or out of range.
-use Rattle.std.specs.Prelude.{ℕ, ◌^◌, ◌-◌, ℤ, pos, negsuc, ◌&&◌, ◌||◌, ◌==◌, nat_le, List, [], ◌∷◌, length, Option, Some, None, option_map, if◌then◌else◌}
+use Rattle.std.specs.Prelude.{ℕ, ◌^◌, ◌-◌, ℤ, pos, negsuc, ◌&&◌, ◌||◌, ◌==◌, nat_le, List, [], ◌∷◌, length, codes, Option, Some, None, option_map, if◌then◌else◌}
 use Rattle.std.specs.Option.{option_and_then}
+use Rattle.std.specs.Str.{bytes_eq}
 use Rattle.map_base.specs.declared.weights.Weights.{Weights}
-use Rattle.toml.specs.Data.{Data, as_integer, as_array, as_table}
+use Rattle.map_method.specs.declared.spread.Spread.{Spread}
+use Rattle.map_method.specs.declared.spread.Spread.TheVariants.{Percent, Auto}
+use Rattle.toml.specs.Data.{Data, as_str, as_integer, as_array, as_table}
 use Rattle.map_settings.specs.Tables.{elements, entries}
 
 -- a number from `least` to `most`
@@ -73,3 +76,23 @@ importances lines = option_and_then (of_each importance_at) (at_most 1000 lines)
 
 abbrev pub importance_of : Data → Option (List (List ℕ × ℕ))
 importance_of value = option_and_then (λ members. importances (entries members)) (as_table value)
+
+-- how far nodes are spread, by its name
+abbrev pub spread_named : List ℕ → Option Spread
+spread_named name = if bytes_eq name (codes "auto") then Some Auto else None
+
+-- the same of a name, and else of percents
+abbrev pub spread_by : Option (List ℕ) → Data → Option Spread
+spread_by (Some name) value = spread_named name
+spread_by None value = option_map Percent (whole_number 0 100 value)
+
+abbrev pub spread_of : Data → Option Spread
+spread_of value = spread_by (as_str value) value
+
+-- 4, 8 or 16
+abbrev pub four_eight_sixteen : ℕ → Option ℕ
+four_eight_sixteen finest = if finest == 4 || finest == 8 || finest == 16 then Some finest else None
+
+-- how fine the finest grid is
+abbrev pub finest_of : Data → Option ℕ
+finest_of value = option_and_then four_eight_sixteen (whole_number 4 16 value)

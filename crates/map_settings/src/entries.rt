@@ -3,22 +3,49 @@
 ghost use Rattle.std.specs.Prelude.{◌≡◌};
 ghost use Rattle.toml.specs.View.{view};
 ghost use Rattle.map_settings.specs.Faults.{Changes};
-ghost use Rattle.map_settings.specs.Entries.{change_of};
+ghost use Rattle.map_settings.specs.Entries.{change_of, is_of_method, method_change, settings_change};
 
 use crate::fault::EntryFault;
-use crate::values::{budget_of, cell_of, importance_of, near_of, types_of, weights_of};
+use crate::values::{
+    budget_of, cell_of, finest_of, importance_of, near_of, spread_of, types_of, weights_of,
+};
 use map_base::Settings;
+use map_method::{MapSettings, Method};
 use std::alloc::Global;
 use toml::Value;
 
 /// Changes what the key names to what the value says. After a refusal the settings are not to be used.
 pub fn change(
     alloc: Global,
+    all: &mut MapSettings,
+    key: &str,
+    value: &Value,
+) -> Result<(), EntryFault>
+    ensures { Changes all.old all.new result (change_of (key.now, view value.now)) }
+{
+    if is_of_method(key) {
+        return change_method(&mut all.method, key, value);
+    }
+    change_settings(alloc, &mut all.settings, key, value)
+}
+
+/// Whether the key says how a map is found.
+fn is_of_method(key: &str) -> bool
+    ensures { result ≡ is_of_method key.now }
+{
+    match key {
+        "spread" | "finest" => true,
+        _ => false,
+    }
+}
+
+fn change_settings(
+    alloc: Global,
     settings: &mut Settings,
     key: &str,
     value: &Value,
 ) -> Result<(), EntryFault>
-    ensures { Changes settings.old settings.new result (change_of (key.now, view value.now)) }
+    ensures { Changes settings.old settings.new result (settings_change (key.now, view value.now)) }
 {
     match key {
         "near" => settings.near = near_of(value).ok_or(EntryFault::Bad)?,
@@ -28,6 +55,17 @@ pub fn change(
         "junction" => settings.weights[0] = weights_of(value).ok_or(EntryFault::Bad)?,
         "station" => settings.weights[1] = weights_of(value).ok_or(EntryFault::Bad)?,
         "importance" => settings.importance = importance_of(alloc, value)?,
+        _ => return Err(EntryFault::Bad),
+    }
+    Ok(())
+}
+
+fn change_method(method: &mut Method, key: &str, value: &Value) -> Result<(), EntryFault>
+    ensures { Changes method.old method.new result (method_change (key.now, view value.now)) }
+{
+    match key {
+        "spread" => method.spread = spread_of(value).ok_or(EntryFault::Bad)?,
+        "finest" => method.finest = finest_of(value).ok_or(EntryFault::Bad)?,
         _ => return Err(EntryFault::Bad),
     }
     Ok(())

@@ -8,16 +8,21 @@ ghost use Rattle.map_settings.specs.Outcome.{settings_outcome, table_outcome, en
 
 use crate::entries::change;
 use crate::fault::{EntryFault, SettingsFault, SettingsWhy};
-use map_base::{Settings, Text};
+use map_base::Text;
+use map_method::{Defaults, MapSettings};
 use std::alloc::Global;
 use toml::Table;
 
-/// The settings that a file with these bytes makes.
-pub fn read_settings(alloc: Global, bytes: &[u8]) -> Result<Settings, SettingsFault>
-    ensures { Reads result (settings_outcome bytes.now) }
+/// The settings that a file with these bytes makes: those that its keys say, and the defaults for missing keys.
+pub fn read_settings(
+    alloc: Global,
+    bytes: &[u8],
+    defaults: Defaults,
+) -> Result<MapSettings, SettingsFault>
+    ensures { Reads result (settings_outcome defaults bytes.now) }
 {
     let table = table_of(alloc, bytes)?;
-    settings_of(alloc, &table)
+    settings_of(alloc, &table, defaults)
 }
 
 /// The table that a document in TOML is.
@@ -36,10 +41,14 @@ fn table_of(alloc: Global, bytes: &[u8]) -> Result<Table, SettingsFault>
 }
 
 /// The settings that the entries of a table make.
-fn settings_of(alloc: Global, table: &Table) -> Result<Settings, SettingsFault>
-    ensures { Reads result (entries_outcome (entries (table_view table.now))) }
+fn settings_of(
+    alloc: Global,
+    table: &Table,
+    defaults: Defaults,
+) -> Result<MapSettings, SettingsFault>
+    ensures { Reads result (entries_outcome defaults (entries (table_view table.now))) }
 {
-    let mut settings = Settings::standard(alloc)?;
+    let mut settings = MapSettings::standard(alloc, defaults)?;
     for (key, value) in table.iter() {
         match change(alloc, &mut settings, key.as_str(), value) {
             Ok(()) => {}

@@ -5,10 +5,12 @@ ghost use Rattle.toml.specs.View.{view, table_view};
 ghost use Rattle.map_base.specs.Settings.{AreLight, AreRisingIds, IsImportance};
 ghost use Rattle.map_settings.specs.Faults.{Gives};
 ghost use Rattle.map_settings.specs.Tables.{entries};
-ghost use Rattle.map_settings.specs.Values.{whole_number, near_of, cell_of, budget_of, types_of, route_types, weights_of, three_weights, importance_of, importances};
+ghost use Rattle.map_method.specs.Methods.{IsFinest, IsSpread};
+ghost use Rattle.map_settings.specs.Values.{whole_number, near_of, cell_of, budget_of, types_of, route_types, weights_of, three_weights, importance_of, importances, spread_of, spread_named, finest_of};
 
 use crate::fault::EntryFault;
 use map_base::{Sequence, Text, Weights};
+use map_method::Spread;
 use std::alloc::Global;
 use toml::{Table, Value};
 
@@ -139,4 +141,36 @@ fn importances(alloc: Global, lines: &Table) -> Result<Sequence<(Text, u32)>, En
         }
     }
     Ok(Sequence::of(pairs))
+}
+
+/// How far nodes are spread: 0 to 100 percent of the way, or "auto".
+pub fn spread_of(value: &Value) -> Option<Spread>
+    ensures value { result ≡ spread_of (view value.now) }
+    ensures range { IfSome result IsSpread }
+{
+    match value.as_str() {
+        Some(name) => spread_named(name),
+        None => Some(Spread::Percent(whole_number(value, 0, 100)?)),
+    }
+}
+
+fn spread_named(name: &str) -> Option<Spread>
+    ensures value { result ≡ spread_named name.now }
+    ensures range { IfSome result IsSpread }
+{
+    match name {
+        "auto" => Some(Spread::Auto),
+        _ => None,
+    }
+}
+
+/// How fine the finest grid is: 4, 8 or 16.
+pub fn finest_of(value: &Value) -> Option<u32>
+    ensures value { result ≡ finest_of (view value.now) }
+    ensures range { IfSome result IsFinest }
+{
+    match whole_number(value, 4, 16) {
+        Some(finest) if finest == 4 || finest == 8 || finest == 16 => Some(finest),
+        _ => None,
+    }
 }

@@ -1,5 +1,5 @@
 -- Worked examples of the definitions.
-use Rattle.std.proofs.Common.{◌≡◌, ℕ, true, false, ℤ, pos, negsuc, List, [], ◌∷◌, Some, refl, arith}
+use Rattle.std.proofs.Common.{◌≡◌, ℕ, true, false, ℤ, pos, negsuc, List, [], ◌∷◌, length, take, Some, refl, arith}
 use Rattle.std.proofs.lemmas.Int.{ints}
 use Rattle.map_base.specs.declared.ids.NodeId.{NodeId}
 use Rattle.map_base.specs.declared.ids.SegId.{SegId}
@@ -15,8 +15,11 @@ use Rattle.grid_board.specs.declared.bounds.Bounds.{Bounds}
 use Rattle.segment_router.specs.declared.placing.Offset.{Offset}
 use Rattle.segment_router.specs.declared.placing.Placing.{Placing}
 use Rattle.segment_router.specs.Cells.{cell_side, fine_cells, grid_of, is_too_fine, offsets_of, root_up}
+use Rattle.map_method.specs.declared.spread.Spread.TheVariants.{Percent, Auto}
+use Rattle.segment_router.specs.declared.attempts.Attempt.{Attempt}
+use Rattle.segment_router.specs.Spreads.{even_place, spread_offsets}
 use Rattle.segment_router.specs.Homes.{homes_of}
-use Rattle.segment_router.specs.Routing.{limit_of}
+use Rattle.segment_router.specs.Routing.{attempts_of, limit_of}
 use Rattle.segment_router.specs.Ports.{allowed_mask, are_spaced, port_in}
 use Rattle.segment_router.specs.Orders.{routing_order}
 use Rattle.segment_router.specs.Routes.{begun, end_at, node_point, port_at_node, with_route, IsPlacing, Routed}
@@ -193,3 +196,42 @@ home_is_free = refl
 
 others_stay : after_seat.board.is_node (grid_point (pos 0) (pos 4)) ≡ true
 others_stay = refl
+
+-- spreading: four nodes, two of them with the middle of their ranks; each is at most put to its even place
+abbrev crowded : List Point
+crowded =
+    record { x = pos 0; y = pos 0 } ∷ record { x = pos 100; y = pos 0 } ∷ record { x = pos 11132; y = pos 0 } ∷ record { x = pos 100; y = pos 0 } ∷ []
+
+spread_whole : spread_offsets crowded 100 ≡ at 0 0 ∷ at 5566 0 ∷ at 11132 0 ∷ at 5566 0 ∷ []
+spread_whole = refl
+
+spread_half : spread_offsets crowded 50 ≡ at 0 0 ∷ at 2833 0 ∷ at 11132 0 ∷ at 2833 0 ∷ []
+spread_half = refl
+
+not_spread : spread_offsets crowded 0 ≡ offsets_of crowded
+not_spread = refl
+
+-- an even place is rounded down
+rounded_down : even_place 7 (0 ∷ 1 ∷ 7 ∷ []) 1 ≡ 3
+rounded_down = refl
+
+-- a node that is alone, and nodes at one place, stay
+alone : spread_offsets (record { x = pos 9; y = negsuc 4 } ∷ []) 100 ≡ at 0 0 ∷ []
+alone = refl
+
+-- the attempts: each spread on a grid before the next grid
+abbrev try : ℕ → ℕ → Attempt
+try fineness percent = record { fineness = fineness; percent = percent }
+
+as_before : attempts_of (Percent 0) 4 ≡ try 1 0 ∷ try 2 0 ∷ try 4 0 ∷ []
+as_before = refl
+
+up_to_eight : attempts_of (Percent 35) 8 ≡ try 1 35 ∷ try 2 35 ∷ try 4 35 ∷ try 8 35 ∷ []
+up_to_eight = refl
+
+all_attempts : length (attempts_of Auto 16) ≡ 55
+all_attempts = refl
+
+spreads_first : take 13 (attempts_of Auto 16)
+    ≡ try 1 0 ∷ try 1 10 ∷ try 1 20 ∷ try 1 30 ∷ try 1 40 ∷ try 1 50 ∷ try 1 60 ∷ try 1 70 ∷ try 1 80 ∷ try 1 90 ∷ try 1 100 ∷ try 2 0 ∷ try 2 10 ∷ []
+spreads_first = refl

@@ -170,6 +170,10 @@ least_low a (z ∷ zs) =
     let low = lesser_low a z in
     (le_trans (least_beside (lesser a z) zs) (lesser a z) a rest.0 low.0, (le_trans (least_beside (lesser a z) zs) (lesser a z) z rest.0 low.1, rest.1))
 
+-- the least of numbers is no greater than each
+pub least_of_all : (zs : List ℤ) → AllByRecursion (λ z. least_number zs ≤ℤ z) zs
+least_of_all zs = (least_low (first_number zs) zs).1
+
 greatest_high : (a : ℤ) (zs : List ℤ) → (a ≤ℤ greatest_beside a zs) × AllByRecursion (λ z. z ≤ℤ greatest_beside a zs) zs
 greatest_high a [] = (le_self a, tt)
 greatest_high a (z ∷ zs) =

@@ -10,6 +10,7 @@ mod OpenPoints
 mod Rooms
 mod GridLemmas
 pub mod HomeFacts
+pub mod SpreadLemmas
 mod AttemptLemmas
 pub mod RouteLemmas
 pub mod SettledLemmas

@@ -1,5 +1,6 @@
 pub mod Cells
 pub mod Nodes
+pub mod Spreads
 pub mod Homes
 pub mod Nearest
 pub mod Ports

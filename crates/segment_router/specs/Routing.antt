@@ -1,43 +1,63 @@
 -- What comes of a graph: its drawing, or why it has none.
-use Rattle.std.specs.Prelude.{ℕ, ◌≡◌, ◌<◌, ◌≤◌, List, [], ◌∷◌, length, if◌then◌else◌, Option, Some, None, Result, Ok, Err}
-use Rattle.std.specs.List.{AllByRecursion}
+use Rattle.std.specs.Prelude.{ℕ, ◌≡◌, ◌<◌, ◌≤◌, nat_le, List, [], ◌∷◌, map, filter, if◌then◌else◌, Option, Some, None, Result, Ok, Err}
+use Rattle.std.specs.List.{flat_map}
 use Rattle.map_base.specs.declared.point.Point.{Point}
 use Rattle.map_base.specs.declared.ids.SegId.{SegId}
 use Rattle.map_base.specs.declared.limit.Limit.{Limit}
 use Rattle.map_base.specs.declared.limit.LimitKind.TheVariants as kind
+use Rattle.map_method.specs.declared.spread.Spread.{Spread}
+use Rattle.map_method.specs.declared.spread.Spread.TheVariants.{Percent, Auto}
 use Rattle.graph_core.specs.declared.parts.GraphParts.{GraphParts}
 use Rattle.octi_grid.specs.Walks.{PlainWalk}
 use Rattle.segment_router.specs.declared.fault.RouteFault.{RouteFault}
 use Rattle.segment_router.specs.declared.fault.RouteFault.TheVariants as fault
 use Rattle.segment_router.specs.declared.attempts.Attempt.{Attempt}
-use Rattle.segment_router.specs.Cells.{fine_cells, is_too_fine, offsets_of, IsOffset}
+use Rattle.segment_router.specs.Cells.{fine_cells, is_too_fine}
+use Rattle.segment_router.specs.Spreads.{spread_offsets}
 use Rattle.segment_router.specs.Homes.{placing_at}
 use Rattle.segment_router.specs.Routes.{routes_from}
 
 -- the routes of an attempt
 abbrev pub routes_at : GraphParts → ℕ → Attempt → Result (List PlainWalk) SegId
-routes_at graph cell attempt = routes_from graph (placing_at graph cell attempt.fineness attempt.offsets)
+routes_at graph cell a = routes_from graph (placing_at graph cell a.fineness (spread_offsets graph.places a.percent))
 
 -- the first of two that is a drawing, and else why the second is none
 abbrev pub or_else : Result (List PlainWalk) SegId → Result (List PlainWalk) SegId → Result (List PlainWalk) SegId
 or_else (Ok walks) other = Ok walks
 or_else (Err s) other = other
 
--- the drawing of the first attempt that gives every segment a walk; where none does, the segment that has none at the last
-abbrev pub first_drawn : GraphParts → ℕ → Attempt → List Attempt → Result (List PlainWalk) SegId
-first_drawn graph cell a [] = routes_at graph cell a
-first_drawn graph cell a (b ∷ rest) = or_else (routes_at graph cell a) (first_drawn graph cell b rest)
+-- What comes of attempts, one after another, where this came of those before them: the drawing of the first that gives
+-- every segment a walk; where none does, the segment that has none at the last.
+abbrev pub first_drawn : GraphParts → ℕ → Result (List PlainWalk) SegId → List Attempt → Result (List PlainWalk) SegId
+first_drawn graph cell before [] = before
+first_drawn graph cell before (a ∷ rest) = or_else before (first_drawn graph cell (routes_at graph cell a) rest)
 
--- a fineness, with the nodes put where they lie
-abbrev pub plain_attempt : GraphParts → ℕ → Attempt
-plain_attempt graph fineness = record { fineness = fineness; offsets = offsets_of graph.places }
+-- nothing is attempted yet
+abbrev pub nothing_drawn : Result (List PlainWalk) SegId
+nothing_drawn = Err (record { 0 = 0 })
 
--- an attempt at a drawing of a graph: its fineness is from 1 to 16, and each node is put within the extents
-pub record IsAttempt (graph : GraphParts) (a : Attempt) : Type 0 where
+-- how many percent of the way to their even places nodes are put, one after another on each grid
+abbrev pub percents_of : Spread → List ℕ
+percents_of (Percent percent) = percent ∷ []
+percents_of Auto = 0 ∷ 10 ∷ 20 ∷ 30 ∷ 40 ∷ 50 ∷ 60 ∷ 70 ∷ 80 ∷ 90 ∷ 100 ∷ []
+
+-- how fine the grids are, up to the finest
+abbrev pub grids_upto : ℕ → List ℕ
+grids_upto finest = 1 ∷ filter (λ fineness. nat_le fineness finest) (2 ∷ 4 ∷ 8 ∷ 16 ∷ [])
+
+-- the attempts on a grid
+abbrev pub attempts_on : List ℕ → ℕ → List Attempt
+attempts_on percents fineness = map (λ percent. record { fineness = fineness; percent = percent }) percents
+
+-- all attempts: each spread on a grid before the next grid
+abbrev pub attempts_of : Spread → ℕ → List Attempt
+attempts_of spread finest = flat_map (attempts_on (percents_of spread)) (grids_upto finest)
+
+-- an attempt at a drawing: its fineness is from 1 to 16, and nodes are put at most the whole way
+pub record IsAttempt (a : Attempt) : Type 0 where
   pub some : 0 < a.fineness
   pub fine : a.fineness ≤ 16
-  pub one_each : length a.offsets ≡ length graph.kinds
-  pub within : AllByRecursion (IsOffset graph.places) a.offsets
+  pub within : a.percent ≤ 100
 
 -- no route is a fault
 abbrev pub as_outcome : Result (List PlainWalk) SegId → Result (List PlainWalk) RouteFault
@@ -58,12 +78,13 @@ outcome_under (Some limit) drawn = Err (fault.Limit limit)
 outcome_under None drawn = as_outcome drawn
 
 -- what comes of these attempts, after a test of the cell
-abbrev pub outcome_of : GraphParts → ℕ → Attempt → List Attempt → Result (List PlainWalk) RouteFault
-outcome_of graph cell a rest = outcome_under (limit_of graph.places cell) (first_drawn graph cell a rest)
+abbrev pub outcome_of : GraphParts → ℕ → List Attempt → Result (List PlainWalk) RouteFault
+outcome_of graph cell attempts = outcome_under (limit_of graph.places cell) (first_drawn graph cell nothing_drawn attempts)
 
--- what comes of the finenesses 1, 2 and 4, with the nodes put where they lie
-abbrev pub route_outcome : GraphParts → ℕ → Result (List PlainWalk) RouteFault
-route_outcome graph cell = outcome_of graph cell (plain_attempt graph 1) (plain_attempt graph 2 ∷ plain_attempt graph 4 ∷ [])
+-- What comes of a graph on cells of a side, of a spread and a finest grid: a limit; or the drawing of the first attempt
+-- that gives every segment a walk; or no route, where none does.
+abbrev pub route_outcome : GraphParts → ℕ → Spread → ℕ → Result (List PlainWalk) RouteFault
+route_outcome graph cell spread finest = outcome_of graph cell (attempts_of spread finest)
 
 -- a fault has its cause; want of memory is free
 abbrev pub HasCause : Result (List PlainWalk) RouteFault → RouteFault → Type 0

@@ -1,9 +1,11 @@
-//! The drawing of a line graph on the octilinear grid: homes of nodes on even grid points, allowed ports, and routes of
-//! segments one after another, on finer and finer grids. A drawing that it makes is legal.
+//! The drawing of a line graph on the octilinear grid: nodes that are spread so that a dense centre gets room, their homes
+//! on even grid points, allowed ports, and routes of segments one after another, on finer and finer grids. A drawing that
+//! it makes is legal.
 #![tactic(auto)]
 
 mod attempts;
 mod cells;
+mod drawing;
 mod fault;
 mod homes;
 mod laws;
@@ -13,9 +15,12 @@ mod placing;
 mod ports;
 mod routing;
 mod spot;
+mod spreading;
 
-pub use attempts::{Attempt, route, route_attempts};
+pub use drawing::route;
 pub use fault::RouteFault;
-pub use laws::{homes_stay_free, routes_are_legal, the_board_shows_nodes_and_walks};
-pub use placing::{Offset, Placing, place, place_at};
+pub use laws::{
+    homes_stay_free, routes_are_legal, spreading_keeps_sides, the_board_shows_nodes_and_walks,
+};
+pub use placing::{Offset, Placing, place};
 pub use ports::allowed_ports;

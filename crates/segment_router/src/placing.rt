@@ -2,11 +2,13 @@
 
 ghost use Rattle.std.specs.Prelude.{◌≡◌, ◌≤◌, ◌<◌, false, IfOk};
 ghost use Rattle.std.specs.List.{AllByRecursion};
-ghost use Rattle.segment_router.specs.Cells.{is_too_fine, offsets_of, IsOffset};
+ghost use Rattle.segment_router.specs.Cells.{is_too_fine, IsOffset};
 ghost use Rattle.segment_router.specs.Homes.{placing_at};
+ghost use Rattle.segment_router.specs.Spreads.{places_of, spread_offsets};
 
-use crate::cells::{cell_side, extents_of, grid_of, offsets_of};
+use crate::cells::{cell_side, extents_of, grid_of};
 use crate::homes::homes_of;
+use crate::spreading::{Place, places_of, spread_offsets};
 use graph_core::LineGraph;
 use map_base::{NoMemory, Sequence};
 use octi_grid::GridPoint;
@@ -29,25 +31,46 @@ pub struct Placing {
     pub top: i32,
 }
 
-/// The homes of a graph's nodes on the grid of a cell and a fineness from 1 to 16: in the order of the nodes the nearest
-/// even grid points that are not used, among equals the least y, then the least x. The cell is not too small.
+/// The homes of a graph's nodes on the grid of a cell and a fineness from 1 to 16, where the nodes are put so many percent
+/// of the way to their even places: in the order of the nodes the nearest even grid points that are not used, among equals
+/// the least y, then the least x. The cell is not too small.
 pub fn place(
     alloc: Global,
     graph: &LineGraph,
     cell: u32,
     fineness: u32,
+    percent: u32,
 ) -> Result<Placing, NoMemory>
     requires fine { (0 < fineness) × (fineness ≤ 16) }
     requires cell { is_too_fine graph.now.places cell ≡ false }
-    ensures { IfOk result (λ placing. placing ≡ placing_at graph.now cell fineness (offsets_of graph.now.places)) }
+    requires percent { percent ≤ 100 }
+    ensures { IfOk result (λ placing. placing ≡ placing_at graph.now cell fineness (spread_offsets graph.now.places percent)) }
 {
-    let extents = extents_of(graph);
-    let offsets = offsets_of(alloc, graph, extents)?;
+    let places = places_of(alloc, graph)?;
+    place_spread(alloc, graph, cell, fineness, percent, &places)
+}
+
+/// The same, by the even places of the nodes.
+pub(crate) fn place_spread(
+    alloc: Global,
+    graph: &LineGraph,
+    cell: u32,
+    fineness: u32,
+    percent: u32,
+    places: &[Place],
+) -> Result<Placing, NoMemory>
+    requires fine { (0 < fineness) × (fineness ≤ 16) }
+    requires cell { is_too_fine graph.now.places cell ≡ false }
+    requires percent { percent ≤ 100 }
+    requires places { places.now ≡ places_of graph.now.places }
+    ensures { IfOk result (λ placing. placing ≡ placing_at graph.now cell fineness (spread_offsets graph.now.places percent)) }
+{
+    let offsets = spread_offsets(alloc, places, percent)?;
     place_at(alloc, graph, cell, fineness, &offsets)
 }
 
-/// The same for nodes that are put at other offsets within the extents of the graph.
-pub fn place_at(
+/// The same for nodes that are put at any offsets within the extents of the graph.
+fn place_at(
     alloc: Global,
     graph: &LineGraph,
     cell: u32,

@@ -3,16 +3,17 @@
 use crate::boards::{at, run};
 use crate::small::one_line;
 use graph_core::LineGraph;
-use map_base::{Limit, LimitKind, Sequence};
+use map_base::{Limit, LimitKind};
+use map_method::Spread;
 use octi_grid::{Dir, end_of};
-use segment_router::{Attempt, Offset, RouteFault, place, place_at, route, route_attempts};
+use segment_router::{RouteFault, place, route};
 use std::test::Fail;
 
 /// Two stations 11,132 decimetres apart are 50 columns apart on cells of a fiftieth, with a margin of 6.
 #[test]
 fn two_stations_have_homes(rt: HostRuntime) -> Result<(), Fail> {
     let graph = LineGraph::new(one_line(rt.alloc())?);
-    match place(rt.alloc(), &graph, 0, 1) {
+    match place(rt.alloc(), &graph, 0, 1, 50) {
         Err(_) => panic!(rt; "no memory"),
         Ok(placing) => {
             let points = placing.points.as_slice();
@@ -26,26 +27,11 @@ fn two_stations_have_homes(rt: HostRuntime) -> Result<(), Fail> {
     Ok(())
 }
 
-/// Of nodes that are put on one place the second one gets the nearest point below.
-#[test]
-fn a_home_is_not_used_twice(rt: HostRuntime) -> Result<(), Fail> {
-    let graph = LineGraph::new(one_line(rt.alloc())?);
-    let west = Offset { east: 0, north: 0 };
-    match place_at(rt.alloc(), &graph, 0, 4, [west, west].as_slice()) {
-        Err(_) => panic!(rt; "no memory"),
-        Ok(placing) => {
-            let points = placing.points.as_slice();
-            assert_eq!(rt; points, [at(0, 0), at(0, -2)].as_slice());
-        }
-    }
-    Ok(())
-}
-
 /// The line between the two stations is drawn straight.
 #[test]
 fn one_line_is_drawn_straight(rt: HostRuntime) -> Result<(), Fail> {
     let graph = LineGraph::new(one_line(rt.alloc())?);
-    match route(rt.alloc(), &graph, 0) {
+    match route(rt.alloc(), &graph, 0, Spread::Auto, 16) {
         Err(_) => panic!(rt; "no drawing"),
         Ok(drawing) => {
             let walks = drawing.walks.as_slice();
@@ -60,30 +46,6 @@ fn one_line_is_drawn_straight(rt: HostRuntime) -> Result<(), Fail> {
     Ok(())
 }
 
-/// Where both nodes are put on one place, the second one's home is the nearest point below: the line runs down to it.
-#[test]
-fn nodes_are_drawn_where_they_are_put(rt: HostRuntime) -> Result<(), Fail> {
-    let graph = LineGraph::new(one_line(rt.alloc())?);
-    let west = Offset { east: 0, north: 0 };
-    let moved = Attempt {
-        fineness: 4,
-        offsets: Sequence::of(vec![in rt.alloc(); west, west]?),
-    };
-    let no_other: Vec<Attempt> = Vec::new(rt.alloc());
-    match route_attempts(rt.alloc(), &graph, 0, &moved, no_other.as_slice()) {
-        Err(_) => panic!(rt; "no drawing"),
-        Ok(drawing) => {
-            let walks = drawing.walks.as_slice();
-            assert_eq!(rt; walks.len(), 1);
-            let walk = &walks[0];
-            assert_eq!(rt; walk.start(), at(0, 0));
-            let runs = walk.runs();
-            assert_eq!(rt; runs, [run(Dir::S, 2)].as_slice());
-        }
-    }
-    Ok(())
-}
-
 /// Under cells of 10 decimetres the finest grid takes 4,453 of them.
 #[test]
 fn small_cells_are_too_many(rt: HostRuntime) -> Result<(), Fail> {
@@ -93,7 +55,7 @@ fn small_cells_are_too_many(rt: HostRuntime) -> Result<(), Fail> {
         found: 4453,
         most: 400,
     });
-    match route(rt.alloc(), &graph, 10) {
+    match route(rt.alloc(), &graph, 10, Spread::Percent(0), 4) {
         Err(fault) => assert_eq!(rt; fault, limit),
         Ok(_) => panic!(rt; "drawn"),
     }

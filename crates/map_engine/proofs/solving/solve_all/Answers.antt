@@ -1,5 +1,7 @@
-use Rattle.std.proofs.Common.{◌≤◌, ◌∙◌, ◌+◌, ◌<◌, ◌^◌, List, [], length, sym, ap, subst, arith, rules}
+use Rattle.std.proofs.Common.{◌≤◌, ◌∙◌, ◌+◌, ◌<◌, ◌^◌, List, [], length, take, sym, ap, subst, arith, rules}
 use Rattle.std.specs.List.{All}
+use Rattle.std.specs.Prelude.{Contains}
+use Rattle.std.proofs.lemmas.List.Elements.{All-nil, All-contains_itself}
 use Rattle.std.proofs.lemmas.List.Sums.{sum_by-take-le}
 use Rattle.std.proofs.lemmas.Result.{err_from_is_err_and}
 use Rattle.map_base.specs.declared.ids.SegId.{SegId}
@@ -9,10 +11,14 @@ use Rattle.order_model.specs.PartTerms.{part_numbers}
 use Rattle.order_model.proofs.Placing.{length-part_lists}
 use Rattle.order_model.proofs.PartLists.{part_at, part_known_at, parts_few_at}
 use Rattle.order_model.proofs.KeptTerms.{group_items}
-use Rattle.order_search.specs.FoundParts.{branches_in}
+use Rattle.order_search.specs.ByItself.{by_itself}
+use Rattle.kept_trees.specs.Keeping.{branches_to_meet}
+use Rattle.kept_trees.proofs.HeldLists.{fewer_to_meet}
+use Rattle.map_engine.specs.declared.solution.Solution.{Solution}
 use Rattle.map_engine.specs.Solving.{parts_in}
 use Rattle.map_engine.specs.Stages.{IsMore, IsUnsolved}
 use Rattle.map_engine.proofs.PutOrders.{number_orders_are}
+use Rattle.map_engine.proofs.KeepLemmas.{AreHeld, still_held, all_held, one_held, held_before, held_all}
 use Rattle.map_engine.proofs.SolveLemmas.{none_solved, one_solved, unsolved_ends, all_solved, part_here, steps_more}
 use Rattle.map_engine.proofs.solving.solve_all.Goals as goal
 
@@ -23,6 +29,8 @@ loop-k-init g c =
     record {
       solved = none_solved c.args.budget c.args.problem.now (record { orders = c.in_ok-number_orders.field-0; parts = c.in_ok-with_capacity.field-0 }) orders c.in_ok-with_capacity.ensures.items;
       orders = rw orders (number_orders_are segs);
+      kept = All-contains_itself c.args.kept.now;
+      held = All-nil (λ (q : List SegId). Contains c.args.kept.now (by_itself c.args.problem.now q));
       steps = omega arith;
     }
 
@@ -55,11 +63,20 @@ loop-k-preserved g c =
     let part = c.index-parts-k.result in
     let here = part_here p c.args.parts.now c.loop-k.k part c.requires.parts c.loop-k-test.true c.index-parts-k.is in
     let more = subst (λ (q : List SegId). IsMore c.args.budget p q c.loop-k.solution c.solve_part.new.solution) c.as_slice.ensures.value c.in_ok-solve_part.ensures.more in
-    let taken = subst (λ (q : List SegId). c.solve_part.new.steps ≤ c.loop-k.steps + branches_in p q) c.as_slice.ensures.value c.solve_part.ensures.steps in
+    let held = subst (λ (q : List SegId). Contains c.solve_part.new.kept (by_itself p q)) c.as_slice.ensures.value c.in_ok-solve_part.ensures.held in
+    let taken = subst (λ (q : List SegId). c.solve_part.new.steps ≤ c.loop-k.steps + branches_to_meet c.loop-k.kept p q) c.as_slice.ensures.value c.solve_part.ensures.steps in
     record {
       solved = one_solved c.args.budget p c.loop-k.k part.items c.loop-k.solution c.solve_part.new.solution here.0 here.1 more c.loop-k.invariant.solved;
       orders = c.in_ok-solve_part.ensures.orders;
-      steps = omega (arith, taken, c.loop-k.invariant.steps, steps_more p c.loop-k.k part.items here.0 here.1);
+      kept = still_held c.args.kept.now c.loop-k.kept c.solve_part.new.kept c.loop-k.invariant.kept c.solve_part.ensures.kept;
+      held = one_held c.loop-k.kept c.solve_part.new.kept p c.loop-k.k part.items here.0 here.1 c.solve_part.ensures.kept held c.loop-k.invariant.held;
+      steps = omega (
+        arith,
+        taken,
+        c.loop-k.invariant.steps,
+        fewer_to_meet c.args.kept.now c.loop-k.kept p part.items c.loop-k.invariant.kept,
+        steps_more (branches_to_meet c.args.kept.now p) p c.loop-k.k part.items here.0 here.1,
+      );
     }
 
 pub returns-in_err-solve_part-clause-solved : goal.returns-in_err-solve_part-clause-solved
@@ -73,13 +90,36 @@ returns-in_err-solve_part-clause-solved g c =
     rw (same.1, same.2)
     (unsolved_ends c.args.budget p c.loop-k.k part.items c.loop-k.solution e here.0 here.1 why c.loop-k.invariant.solved)
 
+pub returns-in_err-solve_part-clause-kept : goal.returns-in_err-solve_part-clause-kept
+returns-in_err-solve_part-clause-kept g c = still_held c.args.kept.now c.loop-k.kept c.solve_part.new.kept c.loop-k.invariant.kept c.solve_part.ensures.kept
+
+pub returns-in_err-solve_part-clause-finished : goal.returns-in_err-solve_part-clause-finished
+returns-in_err-solve_part-clause-finished g c =
+    let p = c.args.problem.now in
+    let part = c.index-parts-k.result in
+    let here = part_here p c.args.parts.now c.loop-k.k part c.requires.parts c.loop-k-test.true c.index-parts-k.is in
+    let e = c.in_err-solve_part.field-0.0 in
+    let why = subst (λ (q : List SegId). IsUnsolved c.args.budget p c.loop-k.k q e) c.as_slice.ensures.value c.in_err-solve_part.ensures.unsolved in
+    let before : AreHeld c.solve_part.new.kept p (take c.loop-k.k (parts_in p)) =
+    all_held c.loop-k.kept c.solve_part.new.kept p (take c.loop-k.k (parts_in p)) c.solve_part.ensures.kept c.loop-k.invariant.held in
+    let same = err_from_is_err_and c.from_residual-in_err-solve_part.result c.from_residual-in_err-solve_part.ensures.1 in
+    rw (same.1, same.2)
+    (held_before Solution c.args.budget p c.loop-k.k part.items c.solve_part.new.kept e here.0 here.1 why before)
+
 pub returns-in_err-solve_part-clause-steps : goal.returns-in_err-solve_part-clause-steps
 returns-in_err-solve_part-clause-steps g c =
     let p = c.args.problem.now in
     let part = c.index-parts-k.result in
     let here = part_here p c.args.parts.now c.loop-k.k part c.requires.parts c.loop-k-test.true c.index-parts-k.is in
-    let taken = subst (λ (q : List SegId). c.solve_part.new.steps ≤ c.loop-k.steps + branches_in p q) c.as_slice.ensures.value c.solve_part.ensures.steps in
-    omega (arith, taken, c.loop-k.invariant.steps, steps_more p c.loop-k.k part.items here.0 here.1, sum_by-take-le (branches_in p) (parts_in p) (c.loop-k.k + 1))
+    let taken = subst (λ (q : List SegId). c.solve_part.new.steps ≤ c.loop-k.steps + branches_to_meet c.loop-k.kept p q) c.as_slice.ensures.value c.solve_part.ensures.steps in
+    omega (
+      arith,
+      taken,
+      c.loop-k.invariant.steps,
+      fewer_to_meet c.args.kept.now c.loop-k.kept p part.items c.loop-k.invariant.kept,
+      steps_more (branches_to_meet c.args.kept.now p) p c.loop-k.k part.items here.0 here.1,
+      sum_by-take-le (branches_to_meet c.args.kept.now p) (parts_in p) (c.loop-k.k + 1),
+    )
 
 pub returns-clause-solved : goal.returns-clause-solved
 returns-clause-solved g c =
@@ -87,3 +127,10 @@ returns-clause-solved g c =
     let over : length (parts_in p) ≤ c.loop-k.k =
     subst (λ (ps : List (List SegId)). length ps ≤ c.loop-k.k) c.requires.parts (omega (arith, length-part_lists c.args.parts.now, c.loop-k-test.false)) in
     all_solved c.args.budget p c.loop-k.k c.loop-k.solution over c.loop-k.invariant.solved
+
+pub returns-clause-finished : goal.returns-clause-finished
+returns-clause-finished g c =
+    let p = c.args.problem.now in
+    let over : length (parts_in p) ≤ c.loop-k.k =
+    subst (λ (ps : List (List SegId)). length ps ≤ c.loop-k.k) c.requires.parts (omega (arith, length-part_lists c.args.parts.now, c.loop-k-test.false)) in
+    held_all c.args.budget p c.loop-k.k c.loop-k.kept over c.loop-k.invariant.held

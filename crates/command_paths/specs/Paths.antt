@@ -1,0 +1,21 @@
+-- What words give to commands.
+use Rattle.std.specs.Prelude.{ℕ, List, Option, option_map}
+use Rattle.command_paths.specs.declared.map_files.MapFiles.{MapFiles}
+use Rattle.command_paths.specs.declared.options.Options.{Options}
+
+-- where a map and its certificate lie
+pub record MapPaths : Type 0 where
+  pub picture : List ℕ
+  pub certificate : List ℕ
+
+-- what a user chose: a file of settings, if any
+pub record Chosen : Type 0 where
+  pub settings : Option (List ℕ)
+
+-- the paths of a map and its certificate in the program
+abbrev pub paths_by : MapFiles → MapPaths
+paths_by files = record { picture = files.picture.now; certificate = files.certificate.now }
+
+-- the options of a command in the program
+abbrev pub options_by : Options → Chosen
+options_by options = record { settings = option_map (λ path. path.now) options.settings }

@@ -1,0 +1,9 @@
+//! What words give to commands: where a map and its certificate lie, and what a user chose. What a command does
+//! with them stands in crates above, and so does how words are read.
+#![tactic(auto)]
+
+mod map_files;
+mod options;
+
+pub use map_files::MapFiles;
+pub use options::Options;

@@ -1,0 +1,11 @@
+//! The files of the disk and standard output, as the files and sinks that a run works over.
+#![tactic(auto)]
+
+mod disk_files;
+mod disk_sinks;
+mod failures;
+#[cfg(test)]
+mod tests;
+
+pub use disk_files::DiskFiles;
+pub use disk_sinks::DiskSinks;

@@ -1,7 +1,0 @@
-use Rattle.std.proofs.Common.{◌≡◌, take}
-use Rattle.std.specs.List.{flat_map}
-use Rattle.map_cli.specs.Stations.{feed_band, station_line}
-use Rattle.map_cli.proofs.stations.text_of_stations.Given as goal
-
-abbrev pub invariant-loop-station : goal.invariant-loop-station
-invariant-loop-station l = l.text.items ≡ flat_map (station_line (feed_band l.stations)) (take l.station-index l.stations)

@@ -1,0 +1,2 @@
+pub mod MapWorks
+pub mod Promises

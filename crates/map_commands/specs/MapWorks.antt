@@ -1,0 +1,89 @@
+-- What the commands do that make and check a map, as pieces of work. One block a command.
+use Rattle.std.specs.Prelude.{ℕ, true, false, List, [], ◌∷◌, ◌++◌, codes, Option, None, Some, Result, Ok, Err}
+use Rattle.std.specs.Fmt.{decimal}
+use Rattle.map_base.specs.declared.limit.Limit.{Limit}
+use Rattle.graph_core.specs.declared.parts.GraphParts.{GraphParts}
+use Rattle.line_graph.specs.Outcome.{graph_outcome}
+use Rattle.map_engine.specs.declared.fault.MakeFault.{MakeFault}
+use Rattle.map_engine.specs.declared.fault.CheckFault.{CheckFault}
+use Rattle.map_engine.specs.Making.{MapBytes, make_outcome}
+use Rattle.map_engine.specs.Readings.{certificate_in}
+use Rattle.map_engine.specs.Checking.{PlainChecked, checked_text, pictured}
+use Rattle.files_door.specs.declared.target.Target.TheVariants.{Path}
+use Rattle.command_run.specs.declared.output.Output.{Output}
+use Rattle.command_run.specs.Work.{Work, ends, ◌>>=◌}
+use Rattle.command_paths.specs.Paths.{Chosen, MapPaths}
+use Rattle.run_status.specs.declared.input.Input.{Input}
+use Rattle.run_status.specs.declared.input.Input.TheVariants as input
+use Rattle.run_status.specs.declared.item.Item.TheVariants as item
+use Rattle.run_status.specs.declared.refusal.Refusal.{Refusal}
+use Rattle.run_status.specs.declared.refusal.Refusal.TheVariants as refused
+use Rattle.run_status.specs.Refusals.{of_make, of_check}
+use Rattle.run_status.specs.Outputs.{said}
+use Rattle.command_inputs.specs.declared.loaded.Loaded.{Loaded}
+use Rattle.command_inputs.specs.Loading.{file_work, load_work}
+
+-- a map and its certificate go to their files, the map first
+abbrev pub map_outputs : MapPaths → MapBytes → List Output
+map_outputs paths made =
+    record { to = Path paths.picture; bytes = made.svg } ∷ record { to = Path paths.certificate; bytes = made.certificate } ∷ []
+
+-- what `check` prints of a map that is accepted
+abbrev pub best_line : ℕ → List ℕ
+best_line cost = codes "best " ++ (decimal cost ++ codes "\n")
+
+-- the files of a map that is made, or why there is none
+abbrev pub made_at : MapPaths → Result MapBytes MakeFault → Result (List Output) Refusal
+made_at paths (Ok made) = Ok (map_outputs paths made)
+made_at paths (Err fault) = Err (of_make fault)
+
+-- `make`: the map of the feed is made, and its certificate
+abbrev pub make_work : Chosen → MapPaths → Work Input Refusal (List Output)
+make_work chosen paths = do
+  loaded ← load_work chosen
+  ends (made_at paths (make_outcome loaded.tables loaded.settings loaded.method))
+
+-- what a check gives, or the item that it refuses
+abbrev pub checked_as : {A : Type 0} → Result A CheckFault → Result A Refusal
+checked_as (Ok value) = Ok value
+checked_as (Err fault) = Err (of_check fault)
+
+-- every item of a certificate but the picture; it has to be there
+abbrev pub certificate_checked : Loaded → GraphParts → Option (List ℕ) → Result PlainChecked Refusal
+certificate_checked loaded parts None = Err (refused.Refuted (item.Missing false))
+certificate_checked loaded parts (Some bytes) = checked_as (checked_text loaded.tables loaded.settings parts (certificate_in bytes))
+
+-- the map is compared with the picture that is due; it has to be there
+abbrev pub picture_checked : PlainChecked → Option (List ℕ) → Result ℕ Refusal
+picture_checked checked None = Err (refused.Refuted (item.Missing true))
+picture_checked checked (Some bytes) = checked_as (pictured bytes (Ok checked))
+
+-- the cost of a map that is accepted is printed
+abbrev pub best : Result ℕ Refusal → Result (List Output) Refusal
+best (Ok cost) = Ok (said (best_line cost))
+best (Err why) = Err why
+
+-- the certificate is read, and checked by the line graph
+abbrev pub certificate_work : Loaded → GraphParts → Work Input Refusal PlainChecked
+certificate_work loaded parts = do
+  file ← file_work input.Certificate
+  ends (certificate_checked loaded parts file)
+
+-- the map is read, and compared
+abbrev pub picture_work : PlainChecked → Work Input Refusal (List Output)
+picture_work checked = do
+  file ← file_work input.Picture
+  ends (best (picture_checked checked file))
+
+-- the line graph, or the limit that is met first
+abbrev pub built : Result GraphParts Limit → Result GraphParts Refusal
+built (Ok parts) = Ok parts
+built (Err limit) = Err (refused.Limit limit)
+
+-- `check`: the line graph of the feed comes first, then the certificate, and last the map
+abbrev pub check_work : Chosen → Work Input Refusal (List Output)
+check_work chosen = do
+  loaded ← load_work chosen
+  parts ← ends (built (graph_outcome loaded.settings.near loaded.tables))
+  checked ← certificate_work loaded parts
+  picture_work checked

@@ -1,0 +1,45 @@
+-- What `make` and `check` promise of their outputs, in the words of the feed.
+use Rattle.std.specs.Prelude.{◌≡◌, ◌≤◌, ◌⊎◌, ℕ, ◌+◌, List, [], Option, Some, Ok, IfSome}
+use Rattle.files_door.specs.Files.{file_at}
+use Rattle.command_run.specs.declared.output.Output.{Output}
+use Rattle.map_engine.specs.Making.{MapBytes, make_outcome}
+use Rattle.map_engine.specs.Keeping.{branches_left}
+use Rattle.map_engine.specs.Promises.{IsMade, IsCertified}
+use Rattle.command_paths.specs.Paths.{MapPaths}
+use Rattle.run_status.specs.Outputs.{said}
+use Rattle.command_inputs.specs.declared.loaded.Loaded.{Loaded}
+use Rattle.command_inputs.specs.Inputs.{InputPaths}
+use Rattle.command_inputs.specs.Loading.{Loads}
+use Rattle.map_commands.specs.MapWorks.{best_line, map_outputs}
+
+-- The outputs of `make` are a map and its certificate, at their paths: those that are defined for the feed. The map shows
+-- exactly the line graph of the feed, in a legal drawing, and no line orders cost less; the check says yes to both.
+pub record AreOfMap (told : Option (List (List ℕ × List ℕ))) (inputs : InputPaths) (paths : MapPaths) (outputs : List Output) : Type 0 where
+  pub loaded : Loaded
+  pub loads : Loads told inputs loaded
+  pub made : MapBytes
+  pub defined : make_outcome loaded.tables loaded.settings loaded.method ≡ Ok made
+  pub is_made : IsMade loaded.tables loaded.settings made
+  pub are : outputs ≡ map_outputs paths made
+
+-- The certificate at its path certifies this map and this cost. Its walks are a legal drawing of exactly the line graph of
+-- the feed, its orders have this cost, and none cost less; the map is the picture of both.
+abbrev pub IsAccepted : Option (List (List ℕ × List ℕ)) → InputPaths → Loaded → List ℕ → ℕ → Type 0
+IsAccepted told inputs loaded picture cost =
+    (certificate : List ℕ) × IfSome told (λ files. file_at files (inputs.files.certificate) ≡ Some certificate)
+    × IsCertified loaded.tables loaded.settings picture certificate cost
+
+-- The output of `check` is the cost of the map that lies at its path, and that is accepted with its certificate.
+pub record AreOfYes (told : Option (List (List ℕ × List ℕ))) (inputs : InputPaths) (outputs : List Output) : Type 0 where
+  pub loaded : Loaded
+  pub loads : Loads told inputs loaded
+  pub picture : List ℕ
+  pub lies : IfSome told (λ files. file_at files (inputs.files.picture) ≡ Some picture)
+  pub cost : ℕ
+  pub accepted : IsAccepted told inputs loaded picture cost
+  pub are : outputs ≡ said (best_line cost)
+
+-- the counter of steps rises by at most the branch nodes of the live trees of all parts of the feed's problem
+abbrev pub SearchesParts : Option (List (List ℕ × List ℕ)) → InputPaths → ℕ → ℕ → Type 0
+SearchesParts told inputs before now =
+    (now ≡ before) ⊎ ((loaded : Loaded) × Loads told inputs loaded × (now ≤ before + branches_left [] loaded.tables loaded.settings loaded.method))

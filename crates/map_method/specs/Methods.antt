@@ -1,0 +1,27 @@
+-- How a map is found, and in which range each setting of it lies.
+use Rattle.std.specs.Prelude.{ℕ, ◌≤◌, ◌⊎◌, ◌≡◌}
+use Rattle.map_method.specs.declared.search.Search.{Search}
+use Rattle.map_method.specs.declared.spread.Spread.{Spread}
+use Rattle.map_method.specs.declared.spread.Spread.TheVariants.{Percent, Auto}
+
+-- how a map is found, as contracts see it
+pub record MethodChoices : Type 0 where
+  pub search : Search
+  pub spread : Spread
+  pub finest : ℕ
+  pub moves : ℕ
+
+-- at most the whole way
+abbrev pub IsSpread : Spread → Type 0
+IsSpread (Percent percent) = percent ≤ 100
+IsSpread Auto = Unit {0}
+
+-- how fine the finest grid may be
+abbrev pub IsFinest : ℕ → Type 0
+IsFinest finest = (finest ≡ 4) ⊎ (finest ≡ 8) ⊎ (finest ≡ 16)
+
+-- each setting is in its range
+pub record IsMethod (method : MethodChoices) : Type 0 where
+  pub spread : IsSpread method.spread
+  pub finest : IsFinest method.finest
+  pub moves : method.moves ≤ 10000

@@ -1,0 +1,28 @@
+//! How a map is found.
+
+use crate::search::Search;
+use crate::spread::Spread;
+use std::marker::Model;
+
+/// How a map is found, each setting in its range. Contracts see it as the record of its fields.
+#[derive(Debug, Drop)]
+pub struct Method {
+    /// How the line orders of each part are searched for.
+    pub search: Search,
+    /// How far nodes are spread before they get their homes.
+    pub spread: Spread,
+    /// How fine the finest grid is on which a drawing is tried: 4, 8 or 16 times as fine as the first one.
+    pub finest: u32,
+    /// How many improving moves may follow the routes: at most 10,000.
+    pub moves: u32,
+}
+
+impl Model for Method {
+    ghost use Rattle.map_method.specs.Methods.{MethodChoices, IsMethod};
+
+    ghost Value = { MethodChoices };
+
+    ghost view = { λ m. record { search = m.search; spread = m.spread; finest = m.finest; moves = m.moves } };
+
+    ghost invariant = { λ m. IsMethod (record { search = m.search; spread = m.spread; finest = m.finest; moves = m.moves }) };
+}

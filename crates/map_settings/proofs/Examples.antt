@@ -1,0 +1,66 @@
+-- What settings files make, at small ones.
+use Rattle.std.proofs.Common.{◌≡◌, Ok, Err, codes, refl}
+use Rattle.toml.specs.Parse.{parse_document}
+use Rattle.toml.proofs.OnLiterals.{toml_on_literals}
+use Rattle.map_base.specs.Settings.{standard_choices}
+use Rattle.map_method.specs.declared.defaults.Defaults.TheVariants.{Make, Map}
+use Rattle.map_method.specs.declared.map_settings.MapSettings.{MapSettings}
+use Rattle.map_method.specs.declared.search.Search.TheVariants.{Live, Rising}
+use Rattle.map_method.specs.declared.spread.Spread.TheVariants.{Percent, Auto}
+use Rattle.map_method.specs.Defaults.{default_choices}
+use Rattle.map_method.specs.Methods.{MethodChoices}
+use Rattle.map_settings.specs.declared.fault.SettingsWhy.TheVariants.{NotToml, Key}
+use Rattle.map_settings.specs.Outcome.{with_table}
+
+abbrev near_and_method : MethodChoices → MapSettings
+near_and_method method = record { settings = record standard_choices { near = 20 }; method = method }
+
+of_nothing : with_table Make (parse_document (codes "")) ≡ Ok (default_choices Make)
+unfolding toml_on_literals
+of_nothing = refl
+
+-- a key leaves the other defaults as they are
+least_near : with_table Make (parse_document (codes "near = 20\n"))
+    ≡ Ok (near_and_method (record { search = Live; spread = Percent 0; finest = 4; moves = 0 }))
+unfolding toml_on_literals
+least_near = refl
+
+of_map : with_table Map (parse_document (codes "budget = 20000\nnear = 20\nfinest = 8\n"))
+    ≡ Ok (near_and_method (record { search = Rising; spread = Auto; finest = 8; moves = 1000 }))
+unfolding toml_on_literals
+of_map = refl
+
+of_method : with_table Make (parse_document (codes "spread = \"auto\"\nnear = 20\nfinest = 8\n"))
+    ≡ Ok (near_and_method (record { search = Live; spread = Auto; finest = 8; moves = 0 }))
+unfolding toml_on_literals
+of_method = refl
+
+near_too_small : with_table Make (parse_document (codes "near = 19\n")) ≡ Err (Key (codes "near"))
+unfolding toml_on_literals
+near_too_small = refl
+
+-- a cell of 0 is allowed, and one of 9 is not
+no_cell : with_table Make (parse_document (codes "cell = 0\n")) ≡ Ok (default_choices Make)
+unfolding toml_on_literals
+no_cell = refl
+
+cell_too_small : with_table Make (parse_document (codes "cell = 9\n")) ≡ Err (Key (codes "cell"))
+unfolding toml_on_literals
+cell_too_small = refl
+
+spread_too_far : with_table Make (parse_document (codes "spread = 101\n")) ≡ Err (Key (codes "spread"))
+unfolding toml_on_literals
+spread_too_far = refl
+
+no_grid_between : with_table Map (parse_document (codes "finest = 12\n")) ≡ Err (Key (codes "finest"))
+unfolding toml_on_literals
+no_grid_between = refl
+
+-- the least key by its bytes, wherever it stands
+least_bad_key : with_table Make (parse_document (codes "spread = \"all\"\nnear = 1\nfinest = 5\n")) ≡ Err (Key (codes "finest"))
+unfolding toml_on_literals
+least_bad_key = refl
+
+no_document : with_table Make (parse_document (codes "near = \n")) ≡ Err NotToml
+unfolding toml_on_literals
+no_document = refl

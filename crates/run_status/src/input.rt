@@ -1,0 +1,16 @@
+//! What commands read.
+
+use table_rows::Table;
+
+/// A file that a command reads, by its role. Two of them may lie at one path.
+#[derive(Clone, Copy, Debug, PartialEq, Eq)]
+pub enum Input {
+    /// The file of settings.
+    Settings,
+    /// A table of the feed.
+    Table(Table),
+    /// The certificate that is checked.
+    Certificate,
+    /// The picture that is checked or shown.
+    Picture,
+}

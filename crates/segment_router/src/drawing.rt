@@ -1,0 +1,147 @@
+//! The drawing of a line graph: routes at the first attempt at which every segment has one.
+
+ghost use Rattle.std.specs.Prelude.{◌≡◌, ◌≤◌, length, true, false, IfOk, IfErr, Ok};
+ghost use Rattle.std.specs.List.{AllByRecursion};
+ghost use Rattle.graph_core.specs.Consistent.{IsConsistent};
+ghost use Rattle.octi_grid.specs.Legal.{legal};
+ghost use Rattle.map_method.specs.Methods.{IsSpread};
+ghost use Rattle.segment_router.specs.Cells.{is_too_fine};
+ghost use Rattle.segment_router.specs.Orders.{routing_order};
+ghost use Rattle.segment_router.specs.Routing.{first_drawn, limit_of, nothing_drawn, outcome_of, route_outcome, routes_at, HasCause, IsAttempt};
+ghost use Rattle.segment_router.specs.Spreads.{places_of};
+
+use crate::attempts::{Attempt, attempts_of};
+use crate::cells::{extents_of, fine_cells};
+use crate::fault::RouteFault;
+use crate::order::routing_order;
+use crate::placing::place_spread;
+use crate::routing::routes_from;
+use crate::spreading::{Place, places_of};
+use graph_core::LineGraph;
+use map_base::{Limit, LimitKind, NoMemory, SegId, Sequence};
+use map_method::Spread;
+use octi_grid::{Drawing, Walk};
+use std::alloc::Global;
+
+/// The drawing of a line graph on cells of a side in decimetres, or of a fiftieth of its extent for 0: the routes of its
+/// segments, one after another, at the first attempt at which every segment has a free walk. The grids have the finenesses
+/// 1, 2, 4, 8 and 16 up to the finest, and on each one nodes are spread as asked for, before the next one. The drawing is
+/// legal, and has one walk for each segment. A fault is the limit of cells, or the first segment that has no free walk at
+/// the last attempt.
+pub fn route(
+    alloc: Global,
+    graph: &LineGraph,
+    cell: u32,
+    spread: Spread,
+    finest: u32,
+) -> Result<Drawing, RouteFault>
+    requires { IsSpread spread }
+    ensures drawing { IfOk result (λ d. route_outcome graph.now cell spread finest ≡ Ok d.walks) }
+    ensures cause { IfErr result (λ fault. HasCause (route_outcome graph.now cell spread finest) fault) }
+    ensures legal { IfOk result (λ d. legal graph.now d.walks ≡ true) }
+    ensures each { IfOk result (λ d. length d.walks ≡ length graph.now.ends) }
+{
+    let attempts = attempts_of(alloc, spread, finest)?;
+    draw(alloc, graph, cell, &attempts)
+}
+
+/// The same for any attempts.
+fn draw(
+    alloc: Global,
+    graph: &LineGraph,
+    cell: u32,
+    attempts: &[Attempt],
+) -> Result<Drawing, RouteFault>
+    requires { AllByRecursion IsAttempt attempts.now }
+    ensures drawing { IfOk result (λ d. outcome_of graph.now cell attempts.now ≡ Ok d.walks) }
+    ensures cause { IfErr result (λ fault. HasCause (outcome_of graph.now cell attempts.now) fault) }
+    ensures legal { IfOk result (λ d. legal graph.now d.walks ≡ true) }
+    ensures each { IfOk result (λ d. length d.walks ≡ length graph.now.ends) }
+{
+    if let Some(limit) = cells_over(graph, cell) {
+        return Err(RouteFault::Limit(limit));
+    }
+    let order = routing_order(alloc, graph)?;
+    let places = places_of(alloc, graph)?;
+    match first_drawn(alloc, graph, &order, cell, &places, attempts)? {
+        Ok(walks) => Ok(Drawing { walks }),
+        Err(seg) => Err(RouteFault::NoRoute { seg }),
+    }
+}
+
+/// The limit of cells, where a side is asked for under which a grid four times as fine as the first has too many.
+fn cells_over(graph: &LineGraph, cell: u32) -> Option<Limit>
+    ensures limit { result ≡ limit_of graph.now.places cell }
+    ensures graph { IsConsistent graph.now }
+{
+    let extents = extents_of(graph);
+    if cell == 0 {
+        return None;
+    }
+    let found = fine_cells(extents, cell);
+    if found <= 400 {
+        return None;
+    }
+    Some(Limit {
+        what: LimitKind::Cells,
+        found,
+        most: 400,
+    })
+}
+
+/// The walks of the first attempt at which every segment has a free walk; where there is none, the first segment without
+/// one at the last attempt.
+fn first_drawn(
+    alloc: Global,
+    graph: &LineGraph,
+    order: &[SegId],
+    cell: u32,
+    places: &[Place],
+    attempts: &[Attempt],
+) -> Result<Result<Sequence<Walk>, SegId>, NoMemory>
+    requires graph { IsConsistent graph.now }
+    requires order { order.now ≡ routing_order graph.now.lines }
+    requires cell { is_too_fine graph.now.places cell ≡ false }
+    requires places { places.now ≡ places_of graph.now.places }
+    requires attempts { AllByRecursion IsAttempt attempts.now }
+    ensures { IfOk result (λ outcome. outcome ≡ first_drawn graph.now cell nothing_drawn attempts.now) }
+{
+    let mut outcome = Err(SegId(0));
+    for attempt in attempts {
+        if outcome.is_ok() {
+            return Ok(outcome);
+        }
+        outcome = routes_at(alloc, graph, order, cell, places, *attempt)?;
+    }
+    Ok(outcome)
+}
+
+/// The walks of an attempt, or the first segment without one.
+fn routes_at(
+    alloc: Global,
+    graph: &LineGraph,
+    order: &[SegId],
+    cell: u32,
+    places: &[Place],
+    attempt: Attempt,
+) -> Result<Result<Sequence<Walk>, SegId>, NoMemory>
+    requires graph { IsConsistent graph.now }
+    requires order { order.now ≡ routing_order graph.now.lines }
+    requires cell { is_too_fine graph.now.places cell ≡ false }
+    requires places { places.now ≡ places_of graph.now.places }
+    requires attempt { IsAttempt attempt }
+    ensures { IfOk result (λ outcome. outcome ≡ routes_at graph.now cell attempt) }
+{
+    let placing = place_spread(
+        alloc,
+        graph,
+        cell,
+        attempt.fineness,
+        attempt.percent,
+        places,
+    )?;
+    match routes_from(alloc, graph, order, &placing)? {
+        Ok(walks) => Ok(Ok(Sequence::of(walks))),
+        Err(seg) => Ok(Err(seg)),
+    }
+}

@@ -1,0 +1,48 @@
+//! How many splits the trees of a proof have. More of them than a number of 64 bits counts are in no memory, so that is
+//! answered as want of it.
+
+ghost use Rattle.std.specs.Prelude.{◌≡◌, ◌+◌, map, IfOk};
+ghost use Rattle.order_proof.specs.Plain.{plain, plain_part};
+ghost use Rattle.order_proof.specs.Trees.{splits_of};
+ghost use Rattle.trial_command.specs.Trials.{splits_of_parts};
+
+use map_base::NoMemory;
+use order_proof::{Part, Tree};
+
+/// The splits of the trees of all parts.
+pub fn splits_of_parts(parts: &[Part]) -> Result<u64, NoMemory>
+    ensures { IfOk result (λ count. count ≡ splits_of_parts (map plain_part parts.now)) }
+{
+    let mut count = 0;
+    for part in parts {
+        count = with_splits(count, &part.tree)?;
+    }
+    Ok(count)
+}
+
+/// The count with the splits of a tree.
+#[tactic(auto, using(crate::proofs::SplitLemmas::splits_next))]
+fn with_splits(before: u64, tree: &Tree) -> Result<u64, NoMemory>
+    ensures { IfOk result (λ count. count ≡ before + splits_of (plain tree.now)) }
+{
+    match tree {
+        Tree::Close { .. } => Ok(before),
+        Tree::Split { seg: _, children } => {
+            let mut count = one_more(before)?;
+            for entry in children {
+                count = with_splits(count, &entry.1)?;
+            }
+            Ok(count)
+        }
+    }
+}
+
+/// The next number.
+fn one_more(count: u64) -> Result<u64, NoMemory>
+    ensures { IfOk result (λ next. next ≡ count + 1) }
+{
+    match count.checked_add(1) {
+        Some(next) => Ok(next),
+        None => Err(NoMemory),
+    }
+}

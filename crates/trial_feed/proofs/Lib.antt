@@ -1,0 +1,4 @@
+mod DrawLemmas
+mod WalkLemmas
+mod FolderLemmas
+mod Examples
