@@ -1,0 +1,12 @@
+mod CellLemmas
+mod TermChanges
+mod ListedChanges
+mod FirstListing
+mod NumberLists
+mod RowLemmas
+mod LeftLemmas
+mod MarkLemmas
+mod SegmentTerms
+mod WaitLemmas
+mod WorkLemmas
+mod UntangleLemmas

@@ -1,0 +1,4 @@
+pub mod LeftTerms
+pub mod Segments
+pub mod Waits
+pub mod Works
