@@ -1,0 +1,6 @@
+use Rattle.std.proofs.Common.{◌≡◌, drop}
+use Rattle.order_bound.specs.Values.{price_at}
+use Rattle.prefix_bounds.proofs.allowed.price_of.Given as goal
+
+abbrev pub invariant-loop-entry : goal.invariant-loop-entry
+invariant-loop-entry l = price_at l.list l.number ≡ price_at (drop l.entry-index l.list) l.number

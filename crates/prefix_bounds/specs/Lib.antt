@@ -1,0 +1,3 @@
+pub mod SlotsSoFar
+pub mod Completed
+pub mod Filling
