@@ -1,3 +1,5 @@
 pub mod FileLemmas
 pub mod TableLemmas
 pub mod LoadLemmas
+pub mod EditLemmas
+mod Examples

@@ -1,6 +1,6 @@
--- What commands load: the settings, and then the tables by them.
+-- What commands load: the settings, then the tables by them, and last the edits of both.
 use Rattle.std.proofs.Common.{◌≡◌, ℕ, List, Option, None, Some, Result, Ok, Err, refl, sym, subst}
-use Rattle.map_method.specs.declared.defaults.Defaults.TheVariants.{Make}
+use Rattle.map_method.specs.declared.defaults.Defaults.{Defaults}
 use Rattle.map_method.specs.declared.map_settings.MapSettings.{MapSettings}
 use Rattle.map_method.specs.Defaults.{default_choices}
 use Rattle.transit_feed.specs.Feeds.{Feed}
@@ -11,7 +11,7 @@ use Rattle.run_status.specs.declared.refusal.Refusal.{Refusal}
 use Rattle.run_status.specs.Following.{Follows, Gives}
 use Rattle.run_status.proofs.FollowLemmas.{IsRefusedAs, follows_refused, follows_then, follows_value, gives_follows}
 use Rattle.command_inputs.specs.declared.loaded.Loaded.{Loaded}
-use Rattle.command_inputs.specs.Loading.{load_work, settings_by, settings_file_work, tables_work}
+use Rattle.command_inputs.specs.Loading.{edited_by, edits_file_work, feed_work, settings_by, settings_file_work, tables_work}
 
 abbrev pub Told : Type 0
 Told = Option (List (List ℕ × List ℕ))
@@ -25,38 +25,51 @@ abbrev pub with_settings : MapSettings → Work Input Refusal Loaded
 with_settings choices = tables_work choices.settings.types >>= (λ feed. ends (Ok (loaded_by choices feed)))
 
 -- a user who names no file has the standard settings
-pub settings_none : (told : Told) (paths : Input → List ℕ) (rose : Type 0) (chosen : Option (List ℕ)) (result : Result MapSettings Refusal) → chosen ≡ None
-    → Gives (λ (s : MapSettings). s) result (Ok (default_choices Make)) → Follows told paths rose (λ (s : MapSettings). s) (settings_by chosen) result
-settings_none told paths rose chosen result none gives =
-    subst (λ (c : Option (List ℕ)). Follows told paths rose (λ (s : MapSettings). s) (settings_by c) result) (sym none)
-    (gives_follows told paths rose (λ (s : MapSettings). s) (Ok (default_choices Make)) result gives)
+pub settings_none : (told : Told) (paths : Input → List ℕ) (rose : Type 0) (defaults : Defaults) (chosen : Option (List ℕ)) (result : Result MapSettings Refusal) → chosen ≡ None
+    → Gives (λ (s : MapSettings). s) result (Ok (default_choices defaults)) → Follows told paths rose (λ (s : MapSettings). s) (settings_by defaults chosen) result
+settings_none told paths rose defaults chosen result none gives =
+    subst (λ (c : Option (List ℕ)). Follows told paths rose (λ (s : MapSettings). s) (settings_by defaults c) result) (sym none)
+    (gives_follows told paths rose (λ (s : MapSettings). s) (Ok (default_choices defaults)) result gives)
 
 -- one who names a file has those that it gives
-pub settings_some : (told : Told) (paths : Input → List ℕ) (rose : Type 0) (chosen : Option (List ℕ)) (path : List ℕ) (result : Result MapSettings Refusal) → chosen ≡ Some path
-    → Follows told paths rose (λ (s : MapSettings). s) settings_file_work result → Follows told paths rose (λ (s : MapSettings). s) (settings_by chosen) result
-settings_some told paths rose chosen path result some follows =
-    subst (λ (c : Option (List ℕ)). Follows told paths rose (λ (s : MapSettings). s) (settings_by c) result) (sym some) follows
+pub settings_some : (told : Told) (paths : Input → List ℕ) (rose : Type 0) (defaults : Defaults) (chosen : Option (List ℕ)) (path : List ℕ) (result : Result MapSettings Refusal) → chosen ≡ Some path
+    → Follows told paths rose (λ (s : MapSettings). s) (settings_file_work defaults) result → Follows told paths rose (λ (s : MapSettings). s) (settings_by defaults chosen) result
+settings_some told paths rose defaults chosen path result some follows =
+    subst (λ (c : Option (List ℕ)). Follows told paths rose (λ (s : MapSettings). s) (settings_by defaults c) result) (sym some) follows
+
+-- one who names no file of edits has settings and tables as they are
+pub edits_none : (told : Told) (paths : Input → List ℕ) (rose : Type 0) (named : Option (List ℕ)) (loaded : Loaded) → named ≡ None
+    → Follows told paths rose (λ (l : Loaded). l) (edited_by named loaded) (Ok loaded)
+edits_none told paths rose named loaded none =
+    subst (λ (n : Option (List ℕ)). Follows told paths rose (λ (l : Loaded). l) (edited_by n loaded) (Ok loaded)) (sym none)
+    (gives_follows told paths rose (λ (l : Loaded). l) (Ok loaded) (Ok loaded) refl)
+
+-- one who names a file has what its edits make of them
+pub edits_some : (told : Told) (paths : Input → List ℕ) (rose : Type 0) (named : Option (List ℕ)) (path : List ℕ) (loaded : Loaded) (result : Result Loaded Refusal) → named ≡ Some path
+    → Follows told paths rose (λ (l : Loaded). l) (edits_file_work loaded) result → Follows told paths rose (λ (l : Loaded). l) (edited_by named loaded) result
+edits_some told paths rose named path loaded result some follows =
+    subst (λ (n : Option (List ℕ)). Follows told paths rose (λ (l : Loaded). l) (edited_by n loaded) result) (sym some) follows
 
 module _ (told : Told) (paths : Input → List ℕ) (chosen : Chosen) where
   -- the settings are refused
   pub settings_refused : (rose : Type 0) (why : Refusal) (result : Result Loaded Refusal) → IsRefusedAs why result
-      → Follows told paths rose (λ (s : MapSettings). s) (settings_by chosen.settings) (Err why) → Follows told paths rose (λ (l : Loaded). l) (load_work chosen) result
+      → Follows told paths rose (λ (s : MapSettings). s) (settings_by chosen.defaults chosen.settings) (Err why) → Follows told paths rose (λ (l : Loaded). l) (feed_work chosen) result
   settings_refused rose why result is first =
-      follows_refused told paths rose (λ (s : MapSettings). s) (λ (l : Loaded). l) (settings_by chosen.settings) with_settings why result is first
+      follows_refused told paths rose (λ (s : MapSettings). s) (λ (l : Loaded). l) (settings_by chosen.defaults chosen.settings) with_settings why result is first
 
-  module _ (first_rose later rose : Type 0) (choices : MapSettings) (widen : later → rose) (first : Follows told paths first_rose (λ (s : MapSettings). s) (settings_by chosen.settings) (Ok choices)) where
-    past_settings : (result : Result Loaded Refusal) → Follows told paths later (λ (l : Loaded). l) (with_settings choices) result → Follows told paths rose (λ (l : Loaded). l) (load_work chosen) result
+  module _ (first_rose later rose : Type 0) (choices : MapSettings) (widen : later → rose) (first : Follows told paths first_rose (λ (s : MapSettings). s) (settings_by chosen.defaults chosen.settings) (Ok choices)) where
+    past_settings : (result : Result Loaded Refusal) → Follows told paths later (λ (l : Loaded). l) (with_settings choices) result → Follows told paths rose (λ (l : Loaded). l) (feed_work chosen) result
     past_settings result second =
-        follows_then told paths first_rose later rose (λ (s : MapSettings). s) (λ (l : Loaded). l) (settings_by chosen.settings) with_settings choices result widen first second
+        follows_then told paths first_rose later rose (λ (s : MapSettings). s) (λ (l : Loaded). l) (settings_by chosen.defaults chosen.settings) with_settings choices result widen first second
 
     -- the tables are refused
     pub tables_refused : (why : Refusal) (result : Result Loaded Refusal) → IsRefusedAs why result
-        → Follows told paths later (λ (feed : Feed). feed) (tables_work choices.settings.types) (Err why) → Follows told paths rose (λ (l : Loaded). l) (load_work chosen) result
+        → Follows told paths later (λ (feed : Feed). feed) (tables_work choices.settings.types) (Err why) → Follows told paths rose (λ (l : Loaded). l) (feed_work chosen) result
     tables_refused why result is second =
         past_settings result (follows_refused told paths later (λ (feed : Feed). feed) (λ (l : Loaded). l) (tables_work choices.settings.types) (λ feed. ends (Ok (loaded_by choices feed))) why result is second)
 
     -- all is loaded
-    pub tables_loaded : (feed : Feed) → Follows told paths later (λ (f : Feed). f) (tables_work choices.settings.types) (Ok feed) → Follows told paths rose (λ (l : Loaded). l) (load_work chosen) (Ok (loaded_by choices feed))
+    pub tables_loaded : (feed : Feed) → Follows told paths later (λ (f : Feed). f) (tables_work choices.settings.types) (Ok feed) → Follows told paths rose (λ (l : Loaded). l) (feed_work chosen) (Ok (loaded_by choices feed))
     tables_loaded feed second =
         past_settings (Ok (loaded_by choices feed))
         (follows_value told paths later (λ (f : Feed). f) (λ (l : Loaded). l) (tables_work choices.settings.types) (λ f. Ok (loaded_by choices f)) feed (Ok (loaded_by choices feed)) second refl)

@@ -2,7 +2,7 @@
 use Rattle.std.specs.Prelude.{ℕ, List, length, Option, None, Some, Result, Ok, Err, if◌then◌else◌}
 use Rattle.map_base.specs.declared.limit.LimitKind.TheVariants.{File}
 use Rattle.map_base.specs.Limits.{is_within, limit_of}
-use Rattle.map_method.specs.declared.defaults.Defaults.TheVariants.{Make}
+use Rattle.map_method.specs.declared.defaults.Defaults.{Defaults}
 use Rattle.map_method.specs.declared.map_settings.MapSettings.{MapSettings}
 use Rattle.map_method.specs.Defaults.{default_choices}
 use Rattle.table_rows.specs.declared.why.Table.{Table}
@@ -13,6 +13,9 @@ use Rattle.gtfs_tables.specs.Feed.{feed_of, routes_outcome, stops_table_outcome,
 use Rattle.map_settings.specs.declared.fault.SettingsWhy.{SettingsWhy}
 use Rattle.map_settings.specs.declared.fault.SettingsWhy.TheVariants as why
 use Rattle.map_settings.specs.Outcome.{settings_outcome}
+use Rattle.map_edits.specs.declared.edit.Edit.{Edit}
+use Rattle.map_edits.specs.Effects.{choices_after, feed_after}
+use Rattle.map_edits.specs.Standing.{edits_in}
 use Rattle.command_run.specs.Work.{Work, ends, reads, ◌>>=◌}
 use Rattle.command_run.specs.Told.{IsRun}
 use Rattle.command_paths.specs.Paths.{Chosen}
@@ -57,28 +60,64 @@ abbrev pub settings_given : Result MapSettings SettingsWhy → Result MapSetting
 settings_given (Ok choices) = Ok choices
 settings_given (Err why) = Err (refused.BadSettings why)
 
-abbrev pub settings_in : Option (List ℕ) → Result MapSettings Refusal
-settings_in None = Err (refused.BadSettings why.Missing)
-settings_in (Some bytes) = settings_given (settings_outcome Make bytes)
+abbrev pub settings_in : Defaults → Option (List ℕ) → Result MapSettings Refusal
+settings_in defaults None = Err (refused.BadSettings why.Missing)
+settings_in defaults (Some bytes) = settings_given (settings_outcome defaults bytes)
 
 -- a file of settings is read
-abbrev pub settings_file_work : Work Input Refusal MapSettings
-settings_file_work = do
+abbrev pub settings_file_work : Defaults → Work Input Refusal MapSettings
+settings_file_work defaults = do
   file ← file_work input.Settings
-  ends (settings_in file)
+  ends (settings_in defaults file)
 
--- the settings by the file that the user names, or those of `make` where a user sets none
-abbrev pub settings_by : Option (List ℕ) → Work Input Refusal MapSettings
-settings_by None = ends (Ok (default_choices Make))
-settings_by (Some path) = settings_file_work
+-- the settings by the file that the user names, or those that hold where a user sets none
+abbrev pub settings_by : Defaults → Option (List ℕ) → Work Input Refusal MapSettings
+settings_by defaults None = ends (Ok (default_choices defaults))
+settings_by defaults (Some path) = settings_file_work defaults
 
 -- the settings come first, and then the tables by them
-abbrev pub load_work : Chosen → Work Input Refusal Loaded
-load_work chosen = do
-  all ← settings_by chosen.settings
+abbrev pub feed_work : Chosen → Work Input Refusal Loaded
+feed_work chosen = do
+  all ← settings_by chosen.defaults chosen.settings
   feed ← tables_work all.settings.types
   ends (Ok (record { settings = all.settings; method = all.method; tables = feed }))
 
--- the settings and tables that a command works on are those of its inputs
+-- the edits that stand, or the first bad line
+abbrev pub edits_given : Result (List Edit) ℕ → Result (List Edit) Refusal
+edits_given (Ok edits) = Ok edits
+edits_given (Err line) = Err (refused.BadEdit line)
+
+-- the edits that a file of edits gives, by the tables; a file that is missing is as a bad line 0
+abbrev pub edits_of : Feed → Option (List ℕ) → Result (List Edit) Refusal
+edits_of feed None = Err (refused.BadEdit 0)
+edits_of feed (Some bytes) = edits_given (edits_in feed bytes)
+
+-- what edits make of settings and tables, or why there are none; how the map is found stays as it is
+abbrev pub changed_by : Loaded → Result (List Edit) Refusal → Result Loaded Refusal
+changed_by loaded (Ok edits) = Ok (record { settings = choices_after edits loaded.settings; method = loaded.method; tables = feed_after edits loaded.tables })
+changed_by loaded (Err why) = Err why
+
+-- what the edits of a file make of settings and tables
+abbrev pub changed_in : Loaded → Option (List ℕ) → Result Loaded Refusal
+changed_in loaded file = changed_by loaded (edits_of loaded.tables file)
+
+-- a file of edits is read
+abbrev pub edits_file_work : Loaded → Work Input Refusal Loaded
+edits_file_work loaded = do
+  file ← file_work input.Edits
+  ends (changed_in loaded file)
+
+-- settings and tables by the file of edits that the user names, or as they are
+abbrev pub edited_by : Option (List ℕ) → Loaded → Work Input Refusal Loaded
+edited_by None loaded = ends (Ok loaded)
+edited_by (Some path) loaded = edits_file_work loaded
+
+-- the settings come first, then the tables by them, and last the edits of both
+abbrev pub load_work : Chosen → Work Input Refusal Loaded
+load_work chosen = do
+  loaded ← feed_work chosen
+  edited_by chosen.edits loaded
+
+-- the settings and tables that a command works on are those of its inputs, edited where a file of edits is named
 abbrev pub Loads : Option (List (List ℕ × List ℕ)) → InputPaths → Loaded → Type 0
 Loads told inputs loaded = IsRun refused.ReadFault told (input_at inputs) (load_work inputs.chosen) (Ok loaded)

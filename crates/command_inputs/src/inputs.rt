@@ -17,6 +17,8 @@ pub struct Inputs<'a> {
     pub options: Options<'a>,
     /// A map and its certificate.
     pub files: MapFiles<'a>,
+    /// The script of a session.
+    pub script: &'a str,
 }
 
 /// Where an input lies: a table in the folder of the feed, and empty where the command has no such input.
@@ -25,12 +27,14 @@ pub fn path_of(alloc: Global, inputs: &Inputs<'_>, input: Input) -> Result<Text,
 {
     match input {
         Input::Settings => Text::of(alloc, inputs.options.settings.unwrap_or("")),
+        Input::Edits => Text::of(alloc, inputs.options.edits.unwrap_or("")),
         Input::Table(table) => {
             let folder = inputs.feed;
             let name = file_name(table);
             let path = format!(in alloc; "{folder}/{name}")?;
             Text::of(alloc, path.as_str())
         }
+        Input::Script => Text::of(alloc, inputs.script),
         Input::Certificate => Text::of(alloc, inputs.files.certificate),
         Input::Picture => Text::of(alloc, inputs.files.picture),
     }

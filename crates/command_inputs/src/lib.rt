@@ -2,6 +2,7 @@
 //! piece of work that `specs/Loading.antt` defines, as a function of what the inputs give.
 #![tactic(auto)]
 
+mod edits;
 mod input_file;
 mod inputs;
 mod loaded;

@@ -3,9 +3,10 @@
 ghost use Rattle.std.specs.Prelude.{◌≡◌, ◌≤◌, IfOk};
 ghost use Rattle.files_door.specs.Fault.{Rose};
 ghost use Rattle.command_inputs.specs.Inputs.{input_at, inputs_by};
-ghost use Rattle.command_inputs.specs.Loading.{load_work, tables_work};
+ghost use Rattle.command_inputs.specs.Loading.{feed_work, load_work, tables_work};
 ghost use Rattle.run_status.specs.Following.{Follows};
 
+use crate::edits::edited_for;
 use crate::inputs::Inputs;
 use crate::settings::settings_for;
 use files_door::Files;
@@ -24,10 +25,21 @@ pub struct Loaded {
     pub tables: Tables,
 }
 
-/// Reads what a command works on: its settings, and then the tables of its feed by them.
+/// Reads what a command works on: its settings, then the tables of its feed by them, and last the edits of both.
 pub fn load<F: Files>(alloc: Global, inputs: &Inputs<'_>, files: &mut F) -> Result<Loaded, Refusal>
     ensures follows { Follows (F.told files.old) (input_at (inputs_by inputs.now))
         (Rose (F.faults files.old) (F.faults files.new)) (λ loaded. loaded) (load_work (inputs_by inputs.now).chosen) result }
+    ensures kept { F.told files.new ≡ F.told files.old }
+    ensures later { F.faults files.old ≤ F.faults files.new }
+{
+    let loaded = load_feed(alloc, inputs, files)?;
+    edited_for(alloc, inputs, loaded, files)
+}
+
+/// The settings of a command, and the tables of its feed by them.
+fn load_feed<F: Files>(alloc: Global, inputs: &Inputs<'_>, files: &mut F) -> Result<Loaded, Refusal>
+    ensures follows { Follows (F.told files.old) (input_at (inputs_by inputs.now))
+        (Rose (F.faults files.old) (F.faults files.new)) (λ loaded. loaded) (feed_work (inputs_by inputs.now).chosen) result }
     ensures kept { F.told files.new ≡ F.told files.old }
     ensures later { F.faults files.old ≤ F.faults files.new }
 {

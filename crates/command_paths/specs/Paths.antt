@@ -1,5 +1,6 @@
 -- What words give to commands.
 use Rattle.std.specs.Prelude.{ℕ, List, Option, option_map}
+use Rattle.map_method.specs.declared.defaults.Defaults.{Defaults}
 use Rattle.command_paths.specs.declared.map_files.MapFiles.{MapFiles}
 use Rattle.command_paths.specs.declared.options.Options.{Options}
 
@@ -8,9 +9,11 @@ pub record MapPaths : Type 0 where
   pub picture : List ℕ
   pub certificate : List ℕ
 
--- what a user chose: a file of settings, if any
+-- what a user chose: which settings hold where no file sets them, a file of settings, and one of edits, if any
 pub record Chosen : Type 0 where
+  pub defaults : Defaults
   pub settings : Option (List ℕ)
+  pub edits : Option (List ℕ)
 
 -- the paths of a map and its certificate in the program
 abbrev pub paths_by : MapFiles → MapPaths
@@ -18,4 +21,4 @@ paths_by files = record { picture = files.picture.now; certificate = files.certi
 
 -- the options of a command in the program
 abbrev pub options_by : Options → Chosen
-options_by options = record { settings = option_map (λ path. path.now) options.settings }
+options_by options = record { defaults = options.defaults; settings = option_map (λ path. path.now) options.settings; edits = option_map (λ path. path.now) options.edits }

@@ -3,9 +3,10 @@ use Rattle.std.proofs.Common.{◌≡◌, ℕ, Bool, true, false, List, [], ◌�
 use Rattle.std.specs.Str.{bytes_eq}
 use Rattle.clap.specs.Walk.{Row, Text, first_of}
 use Rattle.clap.specs.Kinds.{Kinds}
+use Rattle.map_method.specs.declared.defaults.Defaults.TheVariants.{Make, Map}
 use Rattle.command_paths.specs.Paths.{Chosen, MapPaths}
-use Rattle.command_words.specs.Asked.{Asked, stations, graph, make, check, trial, page}
-use Rattle.command_words.specs.Words.{◌>>=◌, asked, asked_as, check_in, faults, graph_in, make_at, make_in, met, named_in, number_in, options_in, page_at, page_in, paths_in, stations_in, trial_in, unless}
+use Rattle.command_words.specs.Asked.{Asked, stations, graph, make, check, labels, session, trial, page}
+use Rattle.command_words.specs.Words.{◌>>=◌, asked, asked_as, check_in, faults, graph_in, labels_in, make_at, make_in, met, named_in, number_in, options_in, page_at, page_in, paths_in, session_in, settings_in, stations_in, trial_in, unless}
 
 abbrev pub AreApart : Option Asked → Type 0
 AreApart None = Unit {0}
@@ -13,6 +14,8 @@ AreApart (Some (stations feed)) = Unit {0}
 AreApart (Some (graph feed chosen)) = Unit {0}
 AreApart (Some (make feed paths chosen)) = bytes_eq paths.picture paths.certificate ≡ false
 AreApart (Some (check feed paths chosen)) = Unit {0}
+AreApart (Some (labels feed certificate out chosen)) = Unit {0}
+AreApart (Some (session feed script out chosen)) = Unit {0}
 AreApart (Some (trial number)) = Unit {0}
 AreApart (Some (page picture html)) = bytes_eq picture html ≡ false
 
@@ -32,6 +35,18 @@ checked_apart : (chosen : Chosen) (feed : Option (List ℕ)) (paths : Option Map
 checked_apart chosen None paths = tt
 checked_apart chosen (Some feed) None = tt
 checked_apart chosen (Some feed) (Some paths) = tt
+
+labelled_apart : (chosen : Chosen) (feed certificate out : Option (List ℕ)) → AreApart (feed >>= (λ f. certificate >>= (λ c. out >>= (λ o. Some (labels f c o chosen)))))
+labelled_apart chosen None certificate out = tt
+labelled_apart chosen (Some feed) None out = tt
+labelled_apart chosen (Some feed) (Some certificate) None = tt
+labelled_apart chosen (Some feed) (Some certificate) (Some out) = tt
+
+edited_apart : (chosen : Chosen) (feed script out : Option (List ℕ)) → AreApart (feed >>= (λ f. script >>= (λ s. out >>= (λ o. Some (session f s o chosen)))))
+edited_apart chosen None script out = tt
+edited_apart chosen (Some feed) None out = tt
+edited_apart chosen (Some feed) (Some script) None = tt
+edited_apart chosen (Some feed) (Some script) (Some out) = tt
 
 drawn_apart : (chosen : Chosen) (feed : Option (List ℕ)) → AreApart (feed >>= (λ f. Some (graph f chosen)))
 drawn_apart chosen None = tt
@@ -59,17 +74,20 @@ paged_apart (Some picture) (Some html) = paged_at picture html
 
 as_apart : (name : Text) (rows : List Row) → AreApart (asked_as name rows)
 as_apart name rows =
-    by_tests (bytes_eq name (codes "make")) (bytes_eq name (codes "check")) (bytes_eq name (codes "graph")) (bytes_eq name (codes "stations")) (bytes_eq name (codes "page")) (bytes_eq name (codes "trial"))
+    by_tests (bytes_eq name (codes "map")) (bytes_eq name (codes "make")) (bytes_eq name (codes "check")) (bytes_eq name (codes "labels")) (bytes_eq name (codes "session")) (bytes_eq name (codes "graph")) (bytes_eq name (codes "stations")) (bytes_eq name (codes "page")) (bytes_eq name (codes "trial"))
   where
-    by_tests : (made checked drawn listed paged tried : Bool)
-        → AreApart (if made then make_in rows else if checked then check_in rows else if drawn then graph_in rows else if listed then stations_in rows else if paged then page_in rows else if tried then trial_in rows else None)
-    by_tests true checked drawn listed paged tried = made_apart (options_in rows) (first_of (codes "FEED") rows) (paths_in rows)
-    by_tests false true drawn listed paged tried = checked_apart (options_in rows) (first_of (codes "FEED") rows) (paths_in rows)
-    by_tests false false true listed paged tried = drawn_apart (options_in rows) (first_of (codes "FEED") rows)
-    by_tests false false false true paged tried = listed_apart (first_of (codes "FEED") rows)
-    by_tests false false false false true tried = paged_apart (first_of (codes "SVG") rows) (first_of (codes "HTML") rows)
-    by_tests false false false false false true = tried_apart (number_in (codes "N") rows)
-    by_tests false false false false false false = tt
+    by_tests : (mapped made checked labelled edited drawn listed paged tried : Bool)
+        → AreApart (if mapped then make_in Map rows else if made then make_in Make rows else if checked then check_in rows else if labelled then labels_in rows else if edited then session_in rows else if drawn then graph_in rows else if listed then stations_in rows else if paged then page_in rows else if tried then trial_in rows else None)
+    by_tests true made checked labelled edited drawn listed paged tried = made_apart (options_in Map rows) (first_of (codes "FEED") rows) (paths_in rows)
+    by_tests false true checked labelled edited drawn listed paged tried = made_apart (options_in Make rows) (first_of (codes "FEED") rows) (paths_in rows)
+    by_tests false false true labelled edited drawn listed paged tried = checked_apart (options_in Make rows) (first_of (codes "FEED") rows) (paths_in rows)
+    by_tests false false false true edited drawn listed paged tried = labelled_apart (options_in Make rows) (first_of (codes "FEED") rows) (first_of (codes "CERT") rows) (first_of (codes "OUT") rows)
+    by_tests false false false false true drawn listed paged tried = edited_apart (settings_in Make rows) (first_of (codes "FEED") rows) (first_of (codes "SCRIPT") rows) (first_of (codes "OUT") rows)
+    by_tests false false false false false true listed paged tried = drawn_apart (options_in Make rows) (first_of (codes "FEED") rows)
+    by_tests false false false false false false true paged tried = listed_apart (first_of (codes "FEED") rows)
+    by_tests false false false false false false false true tried = paged_apart (first_of (codes "SVG") rows) (first_of (codes "HTML") rows)
+    by_tests false false false false false false false false true = tried_apart (number_in (codes "N") rows)
+    by_tests false false false false false false false false false = tt
 
 named_apart : (command : Option (Text × List Row)) → AreApart (named_in command)
 named_apart None = tt

@@ -1,16 +1,17 @@
 -- Words that are written out.
 use Rattle.std.proofs.Common.{◌≡◌, [], ◌∷◌, None, Some, codes, refl}
 use Rattle.clap.proofs.OnLiterals.{clap_on_literals}
+use Rattle.map_method.specs.declared.defaults.Defaults.TheVariants.{Make, Map}
 use Rattle.command_paths.specs.Paths.{MapPaths, Chosen}
-use Rattle.command_words.specs.Asked.{stations, graph, make, check, trial, page}
+use Rattle.command_words.specs.Asked.{stations, graph, make, check, labels, session, trial, page}
 use Rattle.command_words.specs.Program.{octimap_app}
 use Rattle.command_words.specs.Words.{asked, faults, met}
 
 abbrev no_settings : Chosen
-no_settings = record { settings = None }
+no_settings = record { defaults = Make; settings = None; edits = None }
 
 abbrev by_mine : Chosen
-by_mine = record { settings = Some (codes "my.toml") }
+by_mine = record { defaults = Make; settings = Some (codes "my.toml"); edits = None }
 
 abbrev map_and_certificate : MapPaths
 map_and_certificate = record { picture = codes "m.svg"; certificate = codes "m.cert" }
@@ -38,6 +39,12 @@ settings_come_once : asked (codes "graph" ∷ codes "feed" ∷ codes "--settings
 unfolding clap_on_literals asked faults met octimap_app
 settings_come_once = refl
 
+-- edits beside them, in either order
+edits_are_named : asked (codes "graph" ∷ codes "--edits" ∷ codes "my.edits" ∷ codes "feed" ∷ codes "--settings" ∷ codes "my.toml" ∷ [])
+    ≡ Some (graph (codes "feed") (record { defaults = Make; settings = Some (codes "my.toml"); edits = Some (codes "my.edits") }))
+unfolding clap_on_literals asked faults met octimap_app
+edits_are_named = refl
+
 -- nor where none are read
 stations_take_no_settings : asked (codes "stations" ∷ codes "feed" ∷ codes "--settings" ∷ codes "my.toml" ∷ []) ≡ None
 unfolding clap_on_literals asked faults met octimap_app
@@ -51,6 +58,11 @@ a_dash_is_a_folder = refl
 a_folder_may_look_like_an_option : asked (codes "graph" ∷ codes "--" ∷ codes "--feed" ∷ []) ≡ Some (graph (codes "--feed") no_settings)
 unfolding clap_on_literals asked faults met octimap_app
 a_folder_may_look_like_an_option = refl
+
+-- `map` is `make` over other settings
+a_map_is_asked : asked (codes "map" ∷ codes "feed" ∷ codes "m.svg" ∷ codes "m.cert" ∷ []) ≡ Some (make (codes "feed") map_and_certificate (record no_settings { defaults = Map }))
+unfolding clap_on_literals asked faults met octimap_app
+a_map_is_asked = refl
 
 -- a map and its certificate are two files
 one_file_is_refused : asked (codes "make" ∷ codes "feed" ∷ codes "m.svg" ∷ codes "m.svg" ∷ []) ≡ None
@@ -86,6 +98,22 @@ a_trial_past_it = refl
 not_a_trial : asked (codes "trial" ∷ codes "x" ∷ []) ≡ None
 unfolding clap_on_literals asked faults met octimap_app
 not_a_trial = refl
+
+-- labels take the settings and edits of the map
+labels_are_asked : asked (codes "labels" ∷ codes "feed" ∷ codes "m.cert" ∷ codes "n.svg" ∷ codes "--settings" ∷ codes "my.toml" ∷ [])
+    ≡ Some (labels (codes "feed") (codes "m.cert") (codes "n.svg") by_mine)
+unfolding clap_on_literals asked faults met octimap_app
+labels_are_asked = refl
+
+-- a session takes settings, and no file of edits: its edits stand in the script
+a_session_is_asked : asked (codes "session" ∷ codes "feed" ∷ codes "my.script" ∷ codes "draws" ∷ codes "--settings" ∷ codes "my.toml" ∷ [])
+    ≡ Some (session (codes "feed") (codes "my.script") (codes "draws") by_mine)
+unfolding clap_on_literals asked faults met octimap_app
+a_session_is_asked = refl
+
+a_session_takes_no_edits : asked (codes "session" ∷ codes "feed" ∷ codes "my.script" ∷ codes "draws" ∷ codes "--edits" ∷ codes "my.edits" ∷ []) ≡ None
+unfolding clap_on_literals asked faults met octimap_app
+a_session_takes_no_edits = refl
 
 -- a page is another file than its map
 a_page_is_asked : asked (codes "page" ∷ codes "m.svg" ∷ codes "m.html" ∷ []) ≡ Some (page (codes "m.svg") (codes "m.html"))

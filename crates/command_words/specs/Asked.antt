@@ -10,6 +10,8 @@ pub data Asked : Type 0 where
   graph : List ℕ → Chosen → Asked
   make : List ℕ → MapPaths → Chosen → Asked
   check : List ℕ → MapPaths → Chosen → Asked
+  labels : List ℕ → List ℕ → List ℕ → Chosen → Asked
+  session : List ℕ → List ℕ → List ℕ → Chosen → Asked
   trial : ℕ → Asked
   page : List ℕ → List ℕ → Asked
 
@@ -19,5 +21,7 @@ asked_by (command.Stations feed) = stations feed.now
 asked_by (command.Graph feed options) = graph feed.now (options_by options)
 asked_by (command.Make feed files options) = make feed.now (paths_by files) (options_by options)
 asked_by (command.Check feed files options) = check feed.now (paths_by files) (options_by options)
+asked_by (command.Labels feed certificate out options) = labels feed.now certificate.now out.now (options_by options)
+asked_by (command.Session feed script out options) = session feed.now script.now out.now (options_by options)
 asked_by (command.Trial number) = trial number
 asked_by (command.Page shown html) = page shown.now html.now

@@ -15,9 +15,13 @@ IsLocal command = (out-Command command).has_globals ≡ false
 abbrev pub operand : Text → Rule
 operand name = record (new_rule name) { required = true }
 
--- `--settings FILE`
-abbrev pub settings_option : Rule
-settings_option = record (new_rule (codes "settings")) { long = Some (codes "settings"); action = Some Set; value_names = 1 }
+-- an option that names a file
+abbrev pub file_option : Text → Rule
+file_option name = record (new_rule name) { long = Some name; action = Some Set; value_names = 1 }
+
+-- the command with `--settings FILE` and `--edits FILE`
+abbrev pub with_options : App → App
+with_options command = with_rule (with_rule command (file_option (codes "settings"))) (file_option (codes "edits"))
 
 -- `N`, a number of 32 bits
 abbrev pub number_operand : Rule
@@ -27,15 +31,27 @@ number_operand = record (operand (codes "N")) { parser = Some (parser.Signed (po
 abbrev pub feed_app : Text → App
 feed_app name = with_rule (new_app name) (operand (codes "FEED"))
 
--- the command with a map and its certificate, and settings
+-- the command with a map and its certificate, settings and edits
 abbrev pub with_map : App → App
-with_map command = with_rule (with_rule (with_rule command (operand (codes "SVG"))) (operand (codes "CERT"))) settings_option
+with_map command = with_options (with_rule (with_rule command (operand (codes "SVG"))) (operand (codes "CERT")))
 
 abbrev pub map_app : Text → App
 map_app name = with_map (feed_app name)
 
+-- the command with the file that it writes
+abbrev pub with_out : App → App
+with_out command = with_rule command (operand (codes "OUT"))
+
+-- the map of a certificate, with names in more places
+abbrev pub labels_app : App
+labels_app = with_options (with_out (with_rule (feed_app (codes "labels")) (operand (codes "CERT"))))
+
+-- a script of edits and draws, whose settings alone are named
+abbrev pub session_app : App
+session_app = with_rule (with_out (with_rule (feed_app (codes "session")) (operand (codes "SCRIPT")))) (file_option (codes "settings"))
+
 abbrev pub graph_app : App
-graph_app = with_rule (feed_app (codes "graph")) settings_option
+graph_app = with_options (feed_app (codes "graph"))
 
 abbrev pub trial_app : App
 trial_app = with_rule (new_app (codes "trial")) number_operand
@@ -54,8 +70,12 @@ octimap_alone = record {
 abbrev pub with_command : App → App → App
 with_command program command = with_subcommand program command.top
 
--- the program: `make`, `check`, `graph`, `stations`, `page` and `trial`
+-- the commands that make maps and check them: `map`, `make`, `check`, `labels` and `session`
+abbrev pub octimap_maps : App
+octimap_maps =
+    with_command (with_command (with_command (with_command (with_command octimap_alone
+    (map_app (codes "map"))) (map_app (codes "make"))) (map_app (codes "check"))) labels_app) session_app
+
+-- the program: these, `graph`, `stations`, `page` and `trial`
 unfoldable pub octimap_app : App
-octimap_app =
-    with_command (with_command (with_command (with_command (with_command (with_command octimap_alone
-    (map_app (codes "make"))) (map_app (codes "check"))) graph_app) (feed_app (codes "stations"))) page_app) trial_app
+octimap_app = with_command (with_command (with_command (with_command octimap_maps graph_app) (feed_app (codes "stations"))) page_app) trial_app

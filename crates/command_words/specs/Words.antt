@@ -9,11 +9,13 @@ use Rattle.clap.specs.Kinds.{Kinds}
 use Rattle.clap.specs.declared.parser.matches.ArgMatches.{ArgMatches}
 use Rattle.clap.specs.Faults.{fault_of}
 use Rattle.clap.specs.ValueTests.{is_numeral}
+use Rattle.map_method.specs.declared.defaults.Defaults.{Defaults}
+use Rattle.map_method.specs.declared.defaults.Defaults.TheVariants.{Make, Map}
 use Rattle.command_words.specs.declared.command.Command.{Command}
 use Rattle.command_words.specs.declared.fault.WordsFault.{WordsFault}
 use Rattle.command_words.specs.declared.fault.WordsFault.TheVariants as fault
 use Rattle.command_paths.specs.Paths.{Chosen, MapPaths}
-use Rattle.command_words.specs.Asked.{Asked, asked_by, stations, graph, make, check, trial, page}
+use Rattle.command_words.specs.Asked.{Asked, asked_by, stations, graph, make, check, labels, session, trial, page}
 use Rattle.command_words.specs.Program.{octimap_app}
 
 -- one choice after another: none where the first is none
@@ -21,9 +23,13 @@ infixl 10 ◌>>=◌
 abbrev pub ◌>>=◌ : {A B : Type 0} → Option A → (A → Option B) → Option B
 first >>= next = option_and_then next first
 
--- the file of settings, if it is named
-abbrev pub options_in : List Row → Chosen
-options_in rows = record { settings = first_of (codes "settings") rows }
+-- the file of settings, if it is named, over these settings; and no file of edits
+abbrev pub settings_in : Defaults → List Row → Chosen
+settings_in defaults rows = record { defaults = defaults; settings = first_of (codes "settings") rows; edits = None }
+
+-- the file of edits too, if it is named
+abbrev pub options_in : Defaults → List Row → Chosen
+options_in defaults rows = record (settings_in defaults rows) { edits = first_of (codes "edits") rows }
 
 -- where the map and its certificate lie
 abbrev pub paths_in : List Row → Option MapPaths
@@ -50,23 +56,38 @@ stations_in rows = do
 abbrev pub graph_in : List Row → Option Asked
 graph_in rows = do
   feed ← first_of (codes "FEED") rows
-  Some (graph feed (options_in rows))
+  Some (graph feed (options_in Make rows))
 
 -- a map is made at two paths, and not at one
 abbrev pub make_at : List ℕ → Chosen → MapPaths → Option Asked
 make_at feed chosen paths = if bytes_eq paths.picture paths.certificate then None else Some (make feed paths chosen)
 
-abbrev pub make_in : List Row → Option Asked
-make_in rows = do
+-- by these settings where the user sets none
+abbrev pub make_in : Defaults → List Row → Option Asked
+make_in defaults rows = do
   feed ← first_of (codes "FEED") rows
   paths ← paths_in rows
-  make_at feed (options_in rows) paths
+  make_at feed (options_in defaults rows) paths
 
 abbrev pub check_in : List Row → Option Asked
 check_in rows = do
   feed ← first_of (codes "FEED") rows
   paths ← paths_in rows
-  Some (check feed paths (options_in rows))
+  Some (check feed paths (options_in Make rows))
+
+abbrev pub labels_in : List Row → Option Asked
+labels_in rows = do
+  feed ← first_of (codes "FEED") rows
+  certificate ← first_of (codes "CERT") rows
+  out ← first_of (codes "OUT") rows
+  Some (labels feed certificate out (options_in Make rows))
+
+abbrev pub session_in : List Row → Option Asked
+session_in rows = do
+  feed ← first_of (codes "FEED") rows
+  script ← first_of (codes "SCRIPT") rows
+  out ← first_of (codes "OUT") rows
+  Some (session feed script out (settings_in Make rows))
 
 abbrev pub trial_in : List Row → Option Asked
 trial_in rows = do
@@ -86,8 +107,11 @@ page_in rows = do
 -- what the matches of the command of this name ask for
 abbrev pub asked_as : Text → List Row → Option Asked
 asked_as name rows =
-    if bytes_eq name (codes "make") then make_in rows
+    if bytes_eq name (codes "map") then make_in Map rows
+    else if bytes_eq name (codes "make") then make_in Make rows
     else if bytes_eq name (codes "check") then check_in rows
+    else if bytes_eq name (codes "labels") then labels_in rows
+    else if bytes_eq name (codes "session") then session_in rows
     else if bytes_eq name (codes "graph") then graph_in rows
     else if bytes_eq name (codes "stations") then stations_in rows
     else if bytes_eq name (codes "page") then page_in rows

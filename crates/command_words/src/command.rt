@@ -14,7 +14,8 @@ pub enum Command<'a> {
         feed: &'a str,
         options: Options<'a>,
     },
-    /// The map of the feed in this folder, and its certificate.
+    /// The map of the feed in this folder, and its certificate; `map` and `make` differ in the settings where the user
+    /// sets none.
     Make {
         feed: &'a str,
         files: MapFiles<'a>,
@@ -24,6 +25,20 @@ pub enum Command<'a> {
     Check {
         feed: &'a str,
         files: MapFiles<'a>,
+        options: Options<'a>,
+    },
+    /// The map of a certificate of the feed in this folder, with names in more places.
+    Labels {
+        feed: &'a str,
+        certificate: &'a str,
+        out: &'a str,
+        options: Options<'a>,
+    },
+    /// A script of edits and draws of the feed in this folder.
+    Session {
+        feed: &'a str,
+        script: &'a str,
+        out: &'a str,
         options: Options<'a>,
     },
     /// The numbers of the map of the trial feed with this number.

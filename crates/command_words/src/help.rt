@@ -9,9 +9,11 @@ pub(crate) const AFTER_PROGRAM: &str = "\
 `octimap help COMMAND` tells what a command takes, with an example.
 
 Examples:
-  octimap make examples/vienna-ubahn map.svg map.cert
+  octimap map examples/vienna-ubahn map.svg map.cert
   octimap check examples/vienna-ubahn map.svg map.cert
+  octimap labels examples/vienna-ubahn map.cert labelled.svg
   octimap page map.svg map.html
+  octimap session examples/vienna-ubahn examples/session.txt draws.txt
   octimap graph examples/vienna-ubahn
   octimap stations examples/vienna-ubahn
   octimap trial 152
@@ -28,6 +30,7 @@ Exit status:
    8  the output could not be written
    9  no memory
   10  the settings are bad; the line names the key
+  11  an edit is bad; the line names its line in the file, or 0 where there is no file
   13  a file that is needed is not there; the line names it";
 
 pub(crate) const STATIONS: &str = "Print each station of a feed: its place and its id";
@@ -48,8 +51,18 @@ north, and where lines go on from segment to segment. X and Y are whole decimetr
 Example:
   octimap graph examples/vienna-ubahn";
 
-pub(crate) const MAKE: &str =
+pub(crate) const MAP: &str =
     "Make the map of a feed, and a certificate that its line orders cost least";
+
+pub(crate) const AFTER_MAP: &str = "\
+The map is SVG 1.1. The certificate is text that `octimap check` reads, and any checker of yours may. Nothing is
+printed. SVG and CERT are two files; what they held before is lost. Finer grids are tried, a dense centre gets room, and
+line orders are searched for longer than by `make`.
+
+Example:
+  octimap map examples/vienna-ubahn map.svg map.cert";
+
+pub(crate) const MAKE: &str = "Make the map of a feed by other settings than `map` has";
 
 pub(crate) const AFTER_MAKE: &str = "\
 The map is SVG 1.1. The certificate is text that `octimap check` reads, and any checker of yours may. Nothing is
@@ -66,6 +79,28 @@ else the first thing that is wrong. Give it the settings that the map was made w
 
 Example:
   octimap check examples/vienna-ubahn map.svg map.cert";
+
+pub(crate) const LABELS: &str = "Write the map of a certificate with each name where it fits";
+
+pub(crate) const AFTER_LABELS: &str = "\
+The certificate is checked first, all of it but the map that was written with it; then the map is written anew. Each
+name stands in the first of eight places where it meets no line, no station and no other name, and is left out where
+there is none. Nothing is printed. What OUT held before is lost. Give it the settings and edits that the map was made
+with.
+
+Example:
+  octimap make examples/vienna-ubahn map.svg map.cert
+  octimap labels examples/vienna-ubahn map.cert labelled.svg";
+
+pub(crate) const SESSION: &str = "Run a script of edits and draws";
+
+pub(crate) const AFTER_SESSION: &str = "\
+A line of SCRIPT is an edit, as in a file of edits, or `draw`. OUT gets each map that is drawn, with its certificate,
+behind a line `draw K SVGBYTES CERTBYTES`; where there is none, a line `draw K refused: WHY`, and the script goes on. A
+line that is neither an edit nor a draw ends it.
+
+Example:
+  octimap session examples/vienna-ubahn examples/session.txt draws.txt";
 
 pub(crate) const PAGE: &str = "Make a page of a map, for a browser";
 
@@ -96,7 +131,17 @@ pub(crate) const SVG: &str = "The file of the map";
 
 pub(crate) const CERT: &str = "The file of its certificate";
 
+pub(crate) const LABELLED: &str = "The file that the map with its names is written to";
+
+pub(crate) const SCRIPT: &str =
+    "A file of edits and draws, one a line, such as examples/session.txt";
+
+pub(crate) const DRAWS: &str = "The file that the maps and certificates are written to";
+
 pub(crate) const SETTINGS: &str = "A file of settings in TOML, such as examples/settings.toml";
+
+pub(crate) const EDITS: &str =
+    "A file of edits, one a line, such as examples/edits.txt; they are done to the tables and settings first";
 
 pub(crate) const SHOWN_SVG: &str = "The file of the map that the page shows";
 
@@ -105,6 +150,15 @@ pub(crate) const HTML: &str = "The file that the page is written to";
 pub(crate) const NUMBER: &str = "The number of the feed, from 0 to 4294967295";
 
 /// What is said where a map and its certificate are to be one file.
+pub(crate) const ONE_MAP: &str = "\
+error: SVG and CERT are one file
+
+Usage: octimap map [OPTIONS] <FEED> <SVG> <CERT>
+
+For more information, try '--help'.
+";
+
+/// The same of `make`.
 pub(crate) const ONE_FILE: &str = "\
 error: SVG and CERT are one file
 

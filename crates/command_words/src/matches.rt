@@ -4,11 +4,12 @@ ghost use Rattle.std.specs.Prelude.{◌≡◌, option_map};
 ghost use Rattle.clap.specs.Words.{first_of, found_of, rows_of, subcommand_rows_of};
 ghost use Rattle.command_paths.specs.Paths.{options_by, paths_by};
 ghost use Rattle.command_words.specs.Asked.{asked_by};
-ghost use Rattle.command_words.specs.Words.{asked_as, check_in, graph_in, make_in, named_in, number_in, options_in, page_in, paths_in, stations_in, trial_in};
+ghost use Rattle.command_words.specs.Words.{asked_as, check_in, graph_in, labels_in, make_in, named_in, number_in, options_in, page_in, paths_in, session_in, settings_in, stations_in, trial_in};
 
 use crate::command::Command;
 use clap::ArgMatches;
 use command_paths::{MapFiles, Options};
+use map_method::Defaults;
 
 /// The command that the matches name; none where two of its files are to be one.
 pub(crate) fn command_in<'a>(matches: &ArgMatches<'a>) -> Option<Command<'a>>
@@ -22,10 +23,16 @@ pub(crate) fn command_in<'a>(matches: &ArgMatches<'a>) -> Option<Command<'a>>
 fn command_named<'a>(name: &str, given: &ArgMatches<'a>) -> Option<Command<'a>>
     ensures { option_map asked_by result ≡ asked_as name.now (rows_of (found_of given.now)) }
 {
-    if name == "make" {
-        make_in(given)
+    if name == "map" {
+        make_in(given, Defaults::Map)
+    } else if name == "make" {
+        make_in(given, Defaults::Make)
     } else if name == "check" {
         check_in(given)
+    } else if name == "labels" {
+        labels_in(given)
+    } else if name == "session" {
+        session_in(given)
     } else if name == "graph" {
         graph_in(given)
     } else if name == "stations" {
@@ -52,20 +59,20 @@ fn graph_in<'a>(given: &ArgMatches<'a>) -> Option<Command<'a>>
     ensures { option_map asked_by result ≡ graph_in (rows_of (found_of given.now)) }
 {
     let feed = value_of(given, "FEED")?;
-    let options = options_in(given);
+    let options = options_in(given, Defaults::Make);
     Some(Command::Graph { feed, options })
 }
 
-/// `make FEED SVG CERT`, of two files.
-fn make_in<'a>(given: &ArgMatches<'a>) -> Option<Command<'a>>
-    ensures { option_map asked_by result ≡ make_in (rows_of (found_of given.now)) }
+/// `make FEED SVG CERT` or `map FEED SVG CERT`, of two files.
+fn make_in<'a>(given: &ArgMatches<'a>, defaults: Defaults) -> Option<Command<'a>>
+    ensures { option_map asked_by result ≡ make_in defaults (rows_of (found_of given.now)) }
 {
     let feed = value_of(given, "FEED")?;
     let files = files_in(given)?;
     if files.picture == files.certificate {
         return None;
     }
-    let options = options_in(given);
+    let options = options_in(given, defaults);
     Some(Command::Make {
         feed,
         files,
@@ -79,10 +86,42 @@ fn check_in<'a>(given: &ArgMatches<'a>) -> Option<Command<'a>>
 {
     let feed = value_of(given, "FEED")?;
     let files = files_in(given)?;
-    let options = options_in(given);
+    let options = options_in(given, Defaults::Make);
     Some(Command::Check {
         feed,
         files,
+        options,
+    })
+}
+
+/// `labels FEED CERT OUT`
+fn labels_in<'a>(given: &ArgMatches<'a>) -> Option<Command<'a>>
+    ensures { option_map asked_by result ≡ labels_in (rows_of (found_of given.now)) }
+{
+    let feed = value_of(given, "FEED")?;
+    let certificate = value_of(given, "CERT")?;
+    let out = value_of(given, "OUT")?;
+    let options = options_in(given, Defaults::Make);
+    Some(Command::Labels {
+        feed,
+        certificate,
+        out,
+        options,
+    })
+}
+
+/// `session FEED SCRIPT OUT`
+fn session_in<'a>(given: &ArgMatches<'a>) -> Option<Command<'a>>
+    ensures { option_map asked_by result ≡ session_in (rows_of (found_of given.now)) }
+{
+    let feed = value_of(given, "FEED")?;
+    let script = value_of(given, "SCRIPT")?;
+    let out = value_of(given, "OUT")?;
+    let options = settings_in(given, Defaults::Make);
+    Some(Command::Session {
+        feed,
+        script,
+        out,
         options,
     })
 }
@@ -120,11 +159,26 @@ fn files_in<'a>(given: &ArgMatches<'a>) -> Option<MapFiles<'a>>
 }
 
 /// What the user chose.
-fn options_in<'a>(given: &ArgMatches<'a>) -> Options<'a>
-    ensures { options_by result ≡ options_in (rows_of (found_of given.now)) }
+fn options_in<'a>(given: &ArgMatches<'a>, defaults: Defaults) -> Options<'a>
+    ensures { options_by result ≡ options_in defaults (rows_of (found_of given.now)) }
+{
+    let edits = value_of(given, "edits");
+    Options {
+        edits,
+        ..settings_in(given, defaults)
+    }
+}
+
+/// What the user chose where edits stand elsewhere.
+fn settings_in<'a>(given: &ArgMatches<'a>, defaults: Defaults) -> Options<'a>
+    ensures { options_by result ≡ settings_in defaults (rows_of (found_of given.now)) }
 {
     let settings = value_of(given, "settings");
-    Options { settings }
+    Options {
+        defaults,
+        settings,
+        edits: None,
+    }
 }
 
 /// The value of an argument.

@@ -2,7 +2,7 @@
 
 ghost use Rattle.std.specs.Prelude.{◌≡◌, IfOk, codes, false};
 ghost use Rattle.clap.specs.Words.{app_of, new_app, rule_of};
-ghost use Rattle.command_words.specs.Program.{IsLocal, feed_app, graph_app, map_app, octimap_alone, octimap_app, operand, page_app, settings_option, trial_app, with_map};
+ghost use Rattle.command_words.specs.Program.{IsLocal, feed_app, file_option, graph_app, labels_app, map_app, octimap_alone, octimap_app, octimap_maps, operand, page_app, session_app, trial_app, with_map, with_options};
 
 use crate::help;
 use clap::{Arg, ArgAction, Command, value_parser};
@@ -12,19 +12,32 @@ use std::alloc::{AllocError, Global};
 pub(crate) fn program<'a>(alloc: Global) -> Result<Command<'a>, AllocError>
     ensures { IfOk result (λ program. app_of program ≡ octimap_app) }
 {
-    let make = make(alloc)?;
-    let check = check(alloc)?;
     let graph = graph(alloc)?;
     let stations = stations(alloc)?;
     let page = page(alloc)?;
     let trial = trial(alloc)?;
-    alone(alloc)?
-        .subcommand(make)?
-        .subcommand(check)?
+    over_maps(alloc)?
         .subcommand(graph)?
         .subcommand(stations)?
         .subcommand(page)?
         .subcommand(trial)
+}
+
+/// The program with the commands that make maps and check them.
+fn over_maps<'a>(alloc: Global) -> Result<Command<'a>, AllocError>
+    ensures { IfOk result (λ program. app_of program ≡ octimap_maps) }
+{
+    let map = map(alloc)?;
+    let make = make(alloc)?;
+    let check = check(alloc)?;
+    let labels = labels(alloc)?;
+    let session = session(alloc)?;
+    alone(alloc)?
+        .subcommand(map)?
+        .subcommand(make)?
+        .subcommand(check)?
+        .subcommand(labels)?
+        .subcommand(session)
 }
 
 /// The program before its commands.
@@ -55,7 +68,17 @@ fn graph<'a>(alloc: Global) -> Result<Command<'a>, AllocError>
     ensures app { IfOk result (λ command. app_of command ≡ graph_app) }
     ensures local { IfOk result IsLocal }
 {
-    over_feed(alloc, "graph", help::GRAPH, help::AFTER_GRAPH)?.arg(settings(alloc))
+    let command = over_feed(alloc, "graph", help::GRAPH, help::AFTER_GRAPH)?;
+    with_options(alloc, command)
+}
+
+/// `map FEED SVG CERT`
+fn map<'a>(alloc: Global) -> Result<Command<'a>, AllocError>
+    ensures app { IfOk result (λ command. app_of command ≡ map_app (codes "map")) }
+    ensures local { IfOk result IsLocal }
+{
+    let command = over_feed(alloc, "map", help::MAP, help::AFTER_MAP)?;
+    over_map(alloc, command, help::NEW_SVG, help::NEW_CERT)
 }
 
 /// `make FEED SVG CERT`
@@ -74,6 +97,28 @@ fn check<'a>(alloc: Global) -> Result<Command<'a>, AllocError>
 {
     let command = over_feed(alloc, "check", help::CHECK, help::AFTER_CHECK)?;
     over_map(alloc, command, help::SVG, help::CERT)
+}
+
+/// `labels FEED CERT OUT`
+fn labels<'a>(alloc: Global) -> Result<Command<'a>, AllocError>
+    ensures app { IfOk result (λ command. app_of command ≡ labels_app) }
+    ensures local { IfOk result IsLocal }
+{
+    let command = over_feed(alloc, "labels", help::LABELS, help::AFTER_LABELS)?
+        .arg(named_operand(alloc, "CERT", help::CERT))?
+        .arg(named_operand(alloc, "OUT", help::LABELLED))?;
+    with_options(alloc, command)
+}
+
+/// `session FEED SCRIPT OUT`
+fn session<'a>(alloc: Global) -> Result<Command<'a>, AllocError>
+    ensures app { IfOk result (λ command. app_of command ≡ session_app) }
+    ensures local { IfOk result IsLocal }
+{
+    over_feed(alloc, "session", help::SESSION, help::AFTER_SESSION)?
+        .arg(named_operand(alloc, "SCRIPT", help::SCRIPT))?
+        .arg(named_operand(alloc, "OUT", help::DRAWS))?
+        .arg(file_option(alloc, "settings", help::SETTINGS))
 }
 
 /// `page SVG HTML`
@@ -108,7 +153,7 @@ fn over_feed<'a>(
     named_command(alloc, name, about, after).arg(named_operand(alloc, "FEED", help::FEED))
 }
 
-/// The command with a map and its certificate, and settings.
+/// The command with a map and its certificate, settings and edits.
 fn over_map<'a>(
     alloc: Global,
     command: Command<'a>,
@@ -118,10 +163,20 @@ fn over_map<'a>(
     ensures app { IsLocal command.entry → IfOk result (λ r. app_of r ≡ with_map (app_of command.entry)) }
     ensures local { IsLocal command.entry → IfOk result IsLocal }
 {
-    command
+    let command = command
         .arg(named_operand(alloc, "SVG", picture))?
-        .arg(named_operand(alloc, "CERT", certificate))?
-        .arg(settings(alloc))
+        .arg(named_operand(alloc, "CERT", certificate))?;
+    with_options(alloc, command)
+}
+
+/// The command with `--settings FILE` and `--edits FILE`.
+fn with_options<'a>(alloc: Global, command: Command<'a>) -> Result<Command<'a>, AllocError>
+    ensures app { IsLocal command.entry → IfOk result (λ r. app_of r ≡ with_options (app_of command.entry)) }
+    ensures local { IsLocal command.entry → IfOk result IsLocal }
+{
+    command
+        .arg(file_option(alloc, "settings", help::SETTINGS))?
+        .arg(file_option(alloc, "edits", help::EDITS))
 }
 
 /// A command without arguments.
@@ -140,14 +195,14 @@ fn named_operand<'a>(alloc: Global, name: &'a str, about: &'a str) -> Arg<'a>
     Arg::new(alloc, name).required(true).help(about)
 }
 
-/// `--settings FILE`
-fn settings<'a>(alloc: Global) -> Arg<'a>
-    ensures rule { rule_of result ≡ settings_option }
+/// An option that names a file.
+fn file_option<'a>(alloc: Global, name: &'a str, about: &'a str) -> Arg<'a>
+    ensures rule { rule_of result ≡ file_option name.entry.now }
     ensures local { result.global ≡ false }
 {
-    Arg::new(alloc, "settings")
-        .long("settings")
+    Arg::new(alloc, name)
+        .long(name)
         .value_name("FILE")
         .action(ArgAction::Set)
-        .help(help::SETTINGS)
+        .help(about)
 }

@@ -40,6 +40,7 @@ fn command_by<'a>(alloc: Global, matches: &ArgMatches<'a>) -> Result<Command<'a>
 fn one_file(matches: &ArgMatches<'_>) -> &'static str {
     match matches.subcommand_name() {
         Some(name) if name == "page" => help::ONE_PAGE,
+        Some(name) if name == "map" => help::ONE_MAP,
         _ => help::ONE_FILE,
     }
 }

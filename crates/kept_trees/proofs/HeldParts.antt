@@ -1,4 +1,5 @@
--- Parts that are held are the same exactly where they are equal, and are found by a test of keys.
+-- Parts that are held are the same exactly where they are equal, with how they were searched, and are found by a test of
+-- keys.
 use Rattle.std.proofs.Common.{◌≡◌, ℕ, ◌==◌, ◌&&◌, ◌||◌, Bool, true, false, cond, List, [], ◌∷◌, ◌++◌, refl, sym, ◌∙◌, ap, subst, None, Some, eqb-true, eq-eqb, true≢false}
 use Rattle.std.specs.Prelude.{MatchOption, Vec, map, Option}
 use Rattle.std.specs.Option.{option_copied}
@@ -8,6 +9,9 @@ use Rattle.std.specs.Map.{lookup}
 use Rattle.std.specs.Cmp.Lexicographic.{pointwise, pointwise_decides}
 use Rattle.std.proofs.lemmas.Bool.{and_parts, and_from, or_parts}
 use Rattle.map_base.specs.declared.ids.LineId.{LineId}
+use Rattle.map_method.specs.declared.search.Search.{Search}
+use Rattle.map_method.specs.declared.search.Search.TheVariants.{Live, Rising}
+use Rattle.map_method.specs.contracts.search.SearchPartialEq.TheImpl as searches
 use Rattle.order_model.specs.declared.term.Term.{Term}
 use Rattle.order_model.specs.declared.term.Term.TheVariants.{Side, Link, Apart}
 use Rattle.order_model.specs.declared.problem.ProblemParts.{ProblemParts}
@@ -16,8 +20,8 @@ use Rattle.order_search.specs.declared.found.Found.{Found}
 use Rattle.order_model.specs.contracts.term.TermPartialEq.TheImpl as terms
 use Rattle.kept_trees.specs.contracts.part_key.PartKeyPartialEq.TheImpl as keys
 use Rattle.kept_trees.specs.declared.part_key.PartKey.{PartKey}
-use Rattle.kept_trees.specs.Keeping.{are_same_lines, are_same_segs, is_same_term, are_same_terms, is_same_part, is_held}
-use Rattle.kept_trees.specs.OwnTrees.{IsOwnTree, part_of_key, parts_held, AreOwnTrees}
+use Rattle.kept_trees.specs.Keeping.{are_same_lines, are_same_segs, is_same_term, are_same_terms, is_same_part, is_same_search, is_same_held, is_held}
+use Rattle.kept_trees.specs.OwnTrees.{HeldPart, IsOwnResult, held_by, parts_held, AreOwnResults}
 
 line_decides : (a b : LineId) → ((a.0 == b.0) ≡ true → a ≡ b) × (a ≡ b → (a.0 == b.0) ≡ true)
 line_decides a b =
@@ -89,40 +93,58 @@ term_decides t u = (term_is t u, λ e. subst (λ (x : Term). is_same_term t x �
 terms_decide : (xs ys : List Term) → (are_same_terms xs ys ≡ true → xs ≡ ys) × (xs ≡ ys → are_same_terms xs ys ≡ true)
 terms_decide = pointwise_decides term_decides
 
-pub part_is : (p q : ProblemParts) → is_same_part p q ≡ true → p ≡ q
+part_is : (p q : ProblemParts) → is_same_part p q ≡ true → p ≡ q
 part_is p q h =
     let both = and_parts (are_same_segs p.segs q.segs) (are_same_terms p.terms q.terms) h in
     λ i. record { segs = (segs_decide p.segs q.segs).0 both.0 i; terms = (terms_decide p.terms q.terms).0 both.1 i }
 
-pub part_same : (p : ProblemParts) → is_same_part p p ≡ true
+part_same : (p : ProblemParts) → is_same_part p p ≡ true
 part_same p = and_from (are_same_segs p.segs p.segs) (are_same_terms p.terms p.terms) ((segs_decide p.segs p.segs).1 refl) ((terms_decide p.terms p.terms).1 refl)
 
--- What is held, found by a test of keys that is one of their parts.
-module _ (test : PartKey → Bool) (key : PartKey) (same : (k : PartKey) → test k ≡ is_same_part (part_of_key key) (part_of_key k)) where
-  abbrev IsHere : List (PartKey × Found) → Bool → Type 0
-  IsHere entries b = is_held (parts_held entries) (part_of_key key) ≡ b
+search_is : (x y : Search) → is_same_search x y ≡ true → x ≡ y
+search_is Live Live h = refl
+search_is Live Rising h = absurd (true≢false (sym h))
+search_is Rising Live h = absurd (true≢false (sym h))
+search_is Rising Rising h = refl
 
-  pub held_by_key : (entries : List (PartKey × Found)) → AreOwnTrees entries
-      → MatchOption (lookup test entries) (IsHere entries false) (λ (f : Found). IsHere entries true × IsOwnTree (part_of_key key) f)
+search_same : (x : Search) → is_same_search x x ≡ true
+search_same Live = refl
+search_same Rising = refl
+
+pub held_is : (h g : HeldPart) → is_same_held h g ≡ true → h ≡ g
+held_is h g e =
+    let both = and_parts (is_same_search h.how g.how) (is_same_part h.part g.part) e in
+    λ i. record { how = search_is h.how g.how both.0 i; part = part_is h.part g.part both.1 i }
+
+pub held_same : (h : HeldPart) → is_same_held h h ≡ true
+held_same h = and_from (is_same_search h.how h.how) (is_same_part h.part h.part) (search_same h.how) (part_same h.part)
+
+-- What is held, found by a test of keys that is one of their parts.
+module _ (test : PartKey → Bool) (key : PartKey) (same : (k : PartKey) → test k ≡ is_same_held (held_by key) (held_by k)) where
+  abbrev IsHere : List (PartKey × Found) → Bool → Type 0
+  IsHere entries b = is_held (parts_held entries) (held_by key) ≡ b
+
+  pub held_by_key : (entries : List (PartKey × Found)) → AreOwnResults entries
+      → MatchOption (lookup test entries) (IsHere entries false) (λ (f : Found). IsHere entries true × IsOwnResult (held_by key) f)
   held_by_key [] own = refl
   held_by_key (e ∷ entries) own = by_test (test e.0) refl (held_by_key entries own.1)
     where
       rest : Bool
-      rest = is_held (parts_held entries) (part_of_key key)
+      rest = is_held (parts_held entries) (held_by key)
 
-      by_test : (b : Bool) → test e.0 ≡ b → MatchOption (lookup test entries) (rest ≡ false) (λ (f : Found). (rest ≡ true) × IsOwnTree (part_of_key key) f)
-          → MatchOption (cond b (Some e.1) (lookup test entries)) (IsHere (e ∷ entries) false) (λ (f : Found). IsHere (e ∷ entries) true × IsOwnTree (part_of_key key) f)
+      by_test : (b : Bool) → test e.0 ≡ b → MatchOption (lookup test entries) (rest ≡ false) (λ (f : Found). (rest ≡ true) × IsOwnResult (held_by key) f)
+          → MatchOption (cond b (Some e.1) (lookup test entries)) (IsHere (e ∷ entries) false) (λ (f : Found). IsHere (e ∷ entries) true × IsOwnResult (held_by key) f)
       by_test true h later =
-          let here : is_same_part (part_of_key key) (part_of_key e.0) ≡ true = sym (same e.0) ∙ h in
-          (ap (λ b. b || rest) here, subst (λ (p : ProblemParts). IsOwnTree p e.1) (sym (part_is (part_of_key key) (part_of_key e.0) here)) own.0)
+          let here : is_same_held (held_by key) (held_by e.0) ≡ true = sym (same e.0) ∙ h in
+          (ap (λ b. b || rest) here, subst (λ (h : HeldPart). IsOwnResult h e.1) (sym (held_is (held_by key) (held_by e.0) here)) own.0)
       by_test false h later =
-          subst (λ (b : Bool). MatchOption (lookup test entries) ((b || rest) ≡ false) (λ (f : Found). ((b || rest) ≡ true) × IsOwnTree (part_of_key key) f))
+          subst (λ (b : Bool). MatchOption (lookup test entries) ((b || rest) ≡ false) (λ (f : Found). ((b || rest) ≡ true) × IsOwnResult (held_by key) f))
           (sym (sym (same e.0) ∙ h)) later
 
   pub absent_by_key : (entries : List (PartKey × Found)) → IsHere entries false → lookup test entries ≡ None
   absent_by_key [] none = refl
   absent_by_key (e ∷ entries) none =
-      let both = or_parts (is_same_part (part_of_key key) (part_of_key e.0)) (is_held (parts_held entries) (part_of_key key)) none in
+      let both = or_parts (is_same_held (held_by key) (held_by e.0)) (is_held (parts_held entries) (held_by key)) none in
       ap (λ b. cond b (Some e.1) (lookup test entries)) (same e.0 ∙ both.0) ∙ absent_by_key entries both.1
 
 -- Keys compare as their parts do.
@@ -146,7 +168,7 @@ pub lent_match : {X : Type 0} (P : Type 0) (Q : X → Type 0) (r : Option (Bor X
 lent_match P Q None h = h
 lent_match P Q (Some x) h = h
 
-pub own_push : (entries : List (PartKey × Found)) (key : PartKey) (f : Found) → AreOwnTrees entries → IsOwnTree (part_of_key key) f → AreOwnTrees (entries ++ (key, f) ∷ [])
+pub own_push : (entries : List (PartKey × Found)) (key : PartKey) (f : Found) → AreOwnResults entries → IsOwnResult (held_by key) f → AreOwnResults (entries ++ (key, f) ∷ [])
 own_push [] key f own here = (here, tt)
 own_push (e ∷ entries) key f own here = (own.0, own_push entries key f own.1 here)
 
@@ -164,8 +186,15 @@ terms_as (Apart s o a b w) (Side t c d v) = refl
 terms_as (Apart s o a b w) (Link t p g c d v) = refl
 terms_as (Apart s o a b w) (Apart t p c d v) = refl
 
-pub same_key : (key k : PartKey) → (keys.ghosts).eq key k ≡ is_same_part (part_of_key key) (part_of_key k)
+searches_as : (x y : Search) → (searches.ghosts).eq x y ≡ is_same_search x y
+searches_as Live Live = refl
+searches_as Live Rising = refl
+searches_as Rising Live = refl
+searches_as Rising Rising = refl
+
+pub same_key : (key k : PartKey) → (keys.ghosts).eq key k ≡ is_same_held (held_by key) (held_by k)
 same_key key k =
+    let how = searches_as key.how k.how in
     let lists = held_lists are_same_lines _ (λ v w. refl) key.lists.items k.lists.items in
     let terms = held_terms _ terms_as key.terms.items k.terms.items in
-    λ i. lists i && terms i
+    λ i. how i && (lists i && terms i)

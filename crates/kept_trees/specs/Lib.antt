@@ -1,3 +1,4 @@
 pub mod Renumbered
+pub mod Results
 pub mod Keeping
 pub mod OwnTrees

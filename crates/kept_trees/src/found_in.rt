@@ -5,17 +5,15 @@ ghost use Rattle.map_base.specs.declared.ids.SegId.{SegId as Seg};
 ghost use Rattle.order_model.specs.Problems.{IsProblem};
 ghost use Rattle.order_model.specs.Parts.{IsRisingPart};
 ghost use Rattle.order_model.specs.PartTerms.{part_numbers};
-ghost use Rattle.order_search.specs.ByItself.{by_itself};
 ghost use Rattle.order_search.specs.Finding.{places_of, IsSearchFault};
-ghost use Rattle.order_search.specs.FoundParts.{branches_in, IsFoundIn};
-ghost use Rattle.kept_trees.specs.OwnTrees.{IsOwnTree};
+ghost use Rattle.kept_trees.specs.OwnTrees.{held_as, IsOwnResult};
+ghost use Rattle.kept_trees.specs.Results.{branches_by, IsResult};
 
 use crate::tree_numbers::renumbered;
 use map_base::{LineId, NoMemory, SegId, Sequence};
+use map_method::Search;
 use order_model::{Orders, Problem};
-use order_search::{
-    Found, SearchFault, a_part_by_itself_has_the_same_live_tree, live_trees_show_the_least_cost,
-};
+use order_search::{Found, SearchFault};
 use std::alloc::Global;
 
 /// What was found for the part by itself, where the budget allows its branch nodes.
@@ -24,6 +22,7 @@ pub(crate) fn found_within(
     problem: &Problem,
     part: &[SegId],
     numbers: &[u32],
+    how: Search,
     budget: u32,
     own: &Found,
 ) -> Result<Found, SearchFault>
@@ -32,17 +31,17 @@ pub(crate) fn found_within(
     requires rising { IsRisingPart part.now }
     requires numbers { numbers.now ≡ part_numbers problem.now.terms part.now }
     requires budget { budget + 1 < 2 ^ 32 }
-    requires own { IsOwnTree (by_itself problem.now part.now) own.now }
-    ensures found { IfOk result (IsFoundIn problem.now part.now) }
+    requires own { IsOwnResult (held_as how problem.now part.now) own.now }
+    ensures found { IfOk result (IsResult how problem.now part.now) }
     ensures within { IfOk result (λ f. f.branches ≤ budget) }
-    ensures fault { IfErr result (IsSearchFault (places_of problem.now.segs part.now) (branches_in problem.now part.now) budget) }
+    ensures fault { IfErr result (IsSearchFault (places_of problem.now.segs part.now) (branches_by how problem.now part.now) budget) }
 {
     if own.branches > budget {
         return Err(SearchFault::Spent {
             branches: budget + 1,
         });
     }
-    Ok(found_in(alloc, problem, part, numbers, own)?)
+    Ok(found_in(alloc, problem, part, numbers, how, own)?)
 }
 
 /// What was found for the part by itself, with the numbers that its segments and its terms have in the problem.
@@ -51,18 +50,17 @@ pub(crate) fn found_in(
     problem: &Problem,
     part: &[SegId],
     numbers: &[u32],
+    how: Search,
     own: &Found,
 ) -> Result<Found, NoMemory>
     requires problem { IsProblem problem.now }
     requires known { All (λ (s : Seg). s.0 < length problem.now.segs) part.now }
     requires rising { IsRisingPart part.now }
     requires numbers { numbers.now ≡ part_numbers problem.now.terms part.now }
-    requires own { IsOwnTree (by_itself problem.now part.now) own.now }
-    ensures found { IfOk result (IsFoundIn problem.now part.now) }
+    requires own { IsOwnResult (held_as how problem.now part.now) own.now }
+    ensures found { IfOk result (IsResult how problem.now part.now) }
     ensures branches { IfOk result (λ f. f.branches ≡ own.now.branches) }
 {
-    a_part_by_itself_has_the_same_live_tree();
-    live_trees_show_the_least_cost();
     let tree = renumbered(alloc, &own.tree, part, numbers)?;
     let lists = copied(alloc, own.orders.lists.as_slice())?;
     Ok(Found {

@@ -1,8 +1,9 @@
-//! Live trees that are kept from problem to problem, each of a part by itself.
+//! What was found of parts, by the live tree or by trees whose target rises, and is kept from problem to problem.
 //!
-//! A part by itself has its segments and its terms numbered from 0 on. It has the live tree that the part has in each
-//! problem, but for the numbers, so a tree that was found once serves every problem that has the part. `Kept` holds such
-//! trees: its `solve_part` searches a part only where the part is not held, and what it answers is the same either way.
+//! A part by itself has its segments and its terms numbered from 0 on. A search finds of it what it finds of the part in
+//! each problem, but for the numbers, so a tree that was found once serves every problem that has the part. `Kept` holds
+//! such trees, each under the search by which it was found: its `solve_part` searches a part only where the part is not
+//! held, and what it answers is the same either way.
 #![tactic(auto)]
 
 mod found_in;

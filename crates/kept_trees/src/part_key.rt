@@ -1,4 +1,4 @@
-//! What tells a part by itself from others.
+//! What tells a part by itself, and how it is searched, from others.
 
 ghost use Rattle.std.specs.Prelude.{◌≡◌, ◌<◌, length, map, All, IfOk};
 ghost use Rattle.map_base.specs.declared.ids.SegId.{SegId as Seg};
@@ -6,18 +6,22 @@ ghost use Rattle.order_model.specs.Problems.{lines_on, IsProblem};
 ghost use Rattle.order_model.specs.Parts.{IsRisingPart};
 ghost use Rattle.order_model.specs.PartTerms.{part_numbers};
 ghost use Rattle.order_search.specs.ByItself.{by_itself};
-ghost use Rattle.kept_trees.specs.OwnTrees.{part_of_key};
+ghost use Rattle.kept_trees.specs.OwnTrees.{part_of_key, held_as, held_by};
 
 use crate::own_terms::own_terms;
 use map_base::{LineId, NoMemory, SegId, Sequence};
+use map_method::Search;
 use order_model::{Problem, ProblemParts, Term};
 use std::alloc::Global;
 
-/// A part by itself: two of them are equal where their lists of lines and their terms are. The lists of lines alone tell
-/// nearly all parts of a problem apart, so a hash is made of them.
+/// A part by itself, and how it is searched: two of them are equal where the search, the lists of lines and the terms are.
+/// The lists of lines alone tell nearly all parts of a problem apart, so a hash is made of them.
 #[derive(PartialEq, Eq, Drop)]
 #[derive_where(Hash)]
 pub struct PartKey {
+    /// How the part is searched.
+    #[derive_where(skip(Hash))]
+    pub(crate) how: Search,
     /// The lines of each segment, rising.
     pub(crate) lists: Vec<Vec<LineId>>,
     /// The terms in their order, with segments numbered from 0.
@@ -31,17 +35,19 @@ pub(crate) fn part_key(
     problem: &Problem,
     part: &[SegId],
     numbers: &[u32],
+    how: Search,
 ) -> Result<PartKey, NoMemory>
     requires known { All (λ (s : Seg). s.0 < length problem.now.segs) part.now }
     requires rising { IsRisingPart part.now }
     requires numbers { numbers.now ≡ part_numbers problem.now.terms part.now }
     ensures part { IfOk result (λ key. part_of_key key ≡ by_itself problem.now part.now) }
+    ensures held { IfOk result (λ key. held_by key ≡ held_as how problem.now part.now) }
     ensures fits { IsProblem problem.now }
 {
     let terms = problem.terms();
     let lists = own_lists(alloc, problem.segs(), part)?;
     let terms = own_terms(alloc, terms, part, numbers)?;
-    Ok(PartKey { lists, terms })
+    Ok(PartKey { how, lists, terms })
 }
 
 /// The lines of each segment of the part.

@@ -1,20 +1,26 @@
 -- The work of a command, by the command that is asked for.
-use Rattle.std.proofs.Common.{◌≡◌, ℕ, inl, List, Option, Some, Result, Ok, Err, IfOk, refl, sym, subst}
+use Rattle.std.proofs.Common.{◌≡◌, ℕ, List, Option, Some, Result, Ok, Err, IfOk, refl, sym, subst}
 use Rattle.command_paths.specs.Paths.{Chosen, MapPaths}
 use Rattle.command_run.specs.declared.output.Output.{Output}
-use Rattle.command_run.specs.Work.{Work}
-use Rattle.command_words.specs.Asked.{Asked, stations, graph, make, check, trial, page}
+use Rattle.command_run.specs.Work.{Work, ends}
+use Rattle.command_words.specs.Asked.{Asked, stations, graph, make, check, labels, session, trial, page}
 use Rattle.run_status.specs.declared.input.Input.{Input}
 use Rattle.run_status.specs.declared.refusal.Refusal.{Refusal}
 use Rattle.run_status.specs.Following.{Follows, Gives}
-use Rattle.run_status.proofs.FollowLemmas.{gives_follows}
+use Rattle.run_status.proofs.FollowLemmas.{follows_refused, follows_value, gives_follows}
 use Rattle.command_inputs.specs.Inputs.{InputPaths, input_at}
 use Rattle.table_commands.specs.TableWorks.{graph_work, stations_work}
 use Rattle.map_commands.specs.MapWorks.{check_work, make_work}
 use Rattle.page_command.specs.PageWorks.{page_work}
 use Rattle.map_commands.specs.Promises.{AreOfMap, AreOfYes, SearchesParts}
-use Rattle.trial_command.specs.Trials.{TakesTrialSteps, trial_outcome}
-use Rattle.map_cli.specs.Commands.{work}
+use Rattle.label_command.specs.LabelWorks.{labels_work, AreOfLabels}
+use Rattle.session_command.specs.declared.played.Played.{Played}
+use Rattle.session_command.specs.SessionWorks.{session_work}
+use Rattle.session_command.specs.Promises.{AreOfSession, TakesSessionSteps}
+use Rattle.trial_command.specs.Trials.{TakesTrialSteps, trial_outcome, trial_work}
+use Rattle.map_cli.specs.declared.answer.Finished.{Finished}
+use Rattle.map_cli.specs.Answers.{stopped, stopped_by, whole, whole_by}
+use Rattle.map_cli.specs.Commands.{to_a_stop, to_the_end, work}
 use Rattle.map_cli.specs.Inputs.{inputs_of, input_path}
 use Rattle.map_cli.specs.Promises.{Keeps, TakesSteps}
 
@@ -24,74 +30,132 @@ Told = Option (List (List ℕ × List ℕ))
 abbrev same : List Output → List Output
 same outputs = outputs
 
+abbrev at_end : Finished → Finished
+at_end finished = finished
+
+abbrev as_played : Played → Played
+as_played played = played
+
+-- a command without a script, and its end
+whole_follows : (told : Told) (paths : Input → List ℕ) (rose : Type 0) (first : Work Input Refusal (List Output)) (result : Result (List Output) Refusal)
+    → Follows told paths rose same first result → Follows told paths rose at_end (to_the_end first) (whole_by result)
+whole_follows told paths rose first (Ok outputs) follows =
+    follows_value told paths rose same at_end first (λ o. Ok (whole o)) outputs (Ok (whole outputs)) follows refl
+whole_follows told paths rose first (Err why) follows =
+    follows_refused told paths rose same at_end first (λ o. ends (Ok (whole o))) why (Err why) (why, refl, refl) follows
+
+-- a script, and where it stopped
+stopped_follows : (told : Told) (paths : Input → List ℕ) (rose : Type 0) (first : Work Input Refusal Played) (result : Result Played Refusal)
+    → Follows told paths rose as_played first result → Follows told paths rose at_end (to_a_stop first) (stopped_by result)
+stopped_follows told paths rose first (Ok played) follows =
+    follows_value told paths rose as_played at_end first (λ p. Ok (stopped p)) played (Ok (stopped played)) follows refl
+stopped_follows told paths rose first (Err why) follows =
+    follows_refused told paths rose as_played at_end first (λ p. ends (Ok (stopped p))) why (Err why) (why, refl, refl) follows
+
 module _ (told : Told) (asked : Asked) where
   -- what follows a command's work, where its inputs are these
-  arm_follows : (rose : Type 0) (result : Result (List Output) Refusal) (command : Asked) (inputs : InputPaths) (does : InputPaths → Work Input Refusal (List Output)) → asked ≡ command → inputs ≡ inputs_of asked
-      → does (inputs_of command) ≡ work command → Follows told (input_at inputs) rose same (does inputs) result → Follows told (input_path asked) rose same (work asked) result
-  arm_follows rose result command inputs does is lie it_is follows =
-      let there : Follows told (input_at (inputs_of asked)) rose same (does (inputs_of asked)) result = subst (λ (p : InputPaths). Follows told (input_at p) rose same (does p) result) lie follows in
-      let here : Follows told (input_path command) rose same (does (inputs_of command)) result = subst (λ (a : Asked). Follows told (input_path a) rose same (does (inputs_of a)) result) is there in
-      let worked : Follows told (input_path command) rose same (work command) result = subst (λ (w : Work Input Refusal (List Output)). Follows told (input_path command) rose same w result) it_is here in
-      subst (λ (a : Asked). Follows told (input_path a) rose same (work a) result) (sym is) worked
+  arm_follows : (rose : Type 0) (end : Result Finished Refusal) (command : Asked) (inputs : InputPaths) (does : InputPaths → Work Input Refusal Finished) → asked ≡ command → inputs ≡ inputs_of asked
+      → does (inputs_of command) ≡ work command → Follows told (input_at inputs) rose at_end (does inputs) end → Follows told (input_path asked) rose at_end (work asked) end
+  arm_follows rose end command inputs does is lie it_is follows =
+      let there : Follows told (input_at (inputs_of asked)) rose at_end (does (inputs_of asked)) end = subst (λ (p : InputPaths). Follows told (input_at p) rose at_end (does p) end) lie follows in
+      let here : Follows told (input_path command) rose at_end (does (inputs_of command)) end = subst (λ (a : Asked). Follows told (input_path a) rose at_end (does (inputs_of a)) end) is there in
+      let worked : Follows told (input_path command) rose at_end (work command) end = subst (λ (w : Work Input Refusal Finished). Follows told (input_path command) rose at_end w end) it_is here in
+      subst (λ (a : Asked). Follows told (input_path a) rose at_end (work a) end) (sym is) worked
 
-  pub stations_follows : {feed : List ℕ} (rose : Type 0) (result : Result (List Output) Refusal) (inputs : InputPaths) → asked ≡ stations feed → inputs ≡ inputs_of asked
-      → Follows told (input_at inputs) rose same stations_work result → Follows told (input_path asked) rose same (work asked) result
-  stations_follows {feed} rose result inputs is lie follows = arm_follows rose result (stations feed) inputs (λ p. stations_work) is lie refl follows
+  -- the same of a command without a script, by its outputs
+  outputs_follow : (rose : Type 0) (result : Result (List Output) Refusal) (end : Result Finished Refusal) (command : Asked) (inputs : InputPaths) (does : InputPaths → Work Input Refusal (List Output)) → end ≡ whole_by result
+      → asked ≡ command → inputs ≡ inputs_of asked → to_the_end (does (inputs_of command)) ≡ work command → Follows told (input_at inputs) rose same (does inputs) result → Follows told (input_path asked) rose at_end (work asked) end
+  outputs_follow rose result end command inputs does ended is lie it_is follows =
+      let by_result = whole_follows told (input_at inputs) rose (does inputs) result follows in
+      arm_follows rose end command inputs (λ p. to_the_end (does p)) is lie it_is (subst (λ (e : Result Finished Refusal). Follows told (input_at inputs) rose at_end (to_the_end (does inputs)) e) (sym ended) by_result)
 
-  pub graph_follows : {feed : List ℕ} {chosen : Chosen} (rose : Type 0) (result : Result (List Output) Refusal) (inputs : InputPaths) → asked ≡ graph feed chosen → inputs ≡ inputs_of asked
-      → Follows told (input_at inputs) rose same (graph_work inputs.chosen) result → Follows told (input_path asked) rose same (work asked) result
-  graph_follows {feed} {chosen} rose result inputs is lie follows = arm_follows rose result (graph feed chosen) inputs (λ p. graph_work p.chosen) is lie refl follows
+  pub stations_follows : {feed : List ℕ} (rose : Type 0) (result : Result (List Output) Refusal) (end : Result Finished Refusal) (inputs : InputPaths) → end ≡ whole_by result → asked ≡ stations feed → inputs ≡ inputs_of asked
+      → Follows told (input_at inputs) rose same stations_work result → Follows told (input_path asked) rose at_end (work asked) end
+  stations_follows {feed} rose result end inputs ended is lie follows = outputs_follow rose result end (stations feed) inputs (λ p. stations_work) ended is lie refl follows
 
-  pub make_follows : {feed : List ℕ} {paths : MapPaths} {chosen : Chosen} (rose : Type 0) (result : Result (List Output) Refusal) (inputs : InputPaths) → asked ≡ make feed paths chosen → inputs ≡ inputs_of asked
-      → Follows told (input_at inputs) rose same (make_work inputs.chosen paths) result → Follows told (input_path asked) rose same (work asked) result
-  make_follows {feed} {paths} {chosen} rose result inputs is lie follows = arm_follows rose result (make feed paths chosen) inputs (λ p. make_work p.chosen paths) is lie refl follows
+  pub graph_follows : {feed : List ℕ} {chosen : Chosen} (rose : Type 0) (result : Result (List Output) Refusal) (end : Result Finished Refusal) (inputs : InputPaths) → end ≡ whole_by result → asked ≡ graph feed chosen → inputs ≡ inputs_of asked
+      → Follows told (input_at inputs) rose same (graph_work inputs.chosen) result → Follows told (input_path asked) rose at_end (work asked) end
+  graph_follows {feed} {chosen} rose result end inputs ended is lie follows = outputs_follow rose result end (graph feed chosen) inputs (λ p. graph_work p.chosen) ended is lie refl follows
 
-  pub check_follows : {feed : List ℕ} {paths : MapPaths} {chosen : Chosen} (rose : Type 0) (result : Result (List Output) Refusal) (inputs : InputPaths) → asked ≡ check feed paths chosen → inputs ≡ inputs_of asked
-      → Follows told (input_at inputs) rose same (check_work inputs.chosen) result → Follows told (input_path asked) rose same (work asked) result
-  check_follows {feed} {paths} {chosen} rose result inputs is lie follows = arm_follows rose result (check feed paths chosen) inputs (λ p. check_work p.chosen) is lie refl follows
+  pub make_follows : {feed : List ℕ} {paths : MapPaths} {chosen : Chosen} (rose : Type 0) (result : Result (List Output) Refusal) (end : Result Finished Refusal) (inputs : InputPaths) → end ≡ whole_by result → asked ≡ make feed paths chosen → inputs ≡ inputs_of asked
+      → Follows told (input_at inputs) rose same (make_work inputs.chosen paths) result → Follows told (input_path asked) rose at_end (work asked) end
+  make_follows {feed} {paths} {chosen} rose result end inputs ended is lie follows = outputs_follow rose result end (make feed paths chosen) inputs (λ p. make_work p.chosen paths) ended is lie refl follows
 
-  pub page_follows : {picture html : List ℕ} (rose : Type 0) (result : Result (List Output) Refusal) (inputs : InputPaths) → asked ≡ page picture html → inputs ≡ inputs_of asked
-      → Follows told (input_at inputs) rose same (page_work html) result → Follows told (input_path asked) rose same (work asked) result
-  page_follows {picture} {html} rose result inputs is lie follows = arm_follows rose result (page picture html) inputs (λ p. page_work html) is lie refl follows
+  pub check_follows : {feed : List ℕ} {paths : MapPaths} {chosen : Chosen} (rose : Type 0) (result : Result (List Output) Refusal) (end : Result Finished Refusal) (inputs : InputPaths) → end ≡ whole_by result → asked ≡ check feed paths chosen → inputs ≡ inputs_of asked
+      → Follows told (input_at inputs) rose same (check_work inputs.chosen) result → Follows told (input_path asked) rose at_end (work asked) end
+  check_follows {feed} {paths} {chosen} rose result end inputs ended is lie follows = outputs_follow rose result end (check feed paths chosen) inputs (λ p. check_work p.chosen) ended is lie refl follows
 
-  pub trial_follows : (rose : Type 0) (result : Result (List Output) Refusal) (number : ℕ) → asked ≡ trial number → Gives same result (trial_outcome number)
-      → Follows told (input_path asked) rose same (work asked) result
-  trial_follows rose result number is gives =
-      subst (λ (a : Asked). Follows told (input_path asked) rose same (work a) result) (sym is) (gives_follows told (input_path asked) rose same (trial_outcome number) result gives)
+  pub labels_follows : {feed certificate out : List ℕ} {chosen : Chosen} (rose : Type 0) (result : Result (List Output) Refusal) (end : Result Finished Refusal) (inputs : InputPaths) → end ≡ whole_by result → asked ≡ labels feed certificate out chosen
+      → inputs ≡ inputs_of asked → Follows told (input_at inputs) rose same (labels_work inputs.chosen out) result → Follows told (input_path asked) rose at_end (work asked) end
+  labels_follows {feed} {certificate} {out} {chosen} rose result end inputs ended is lie follows =
+      outputs_follow rose result end (labels feed certificate out chosen) inputs (λ p. labels_work p.chosen out) ended is lie refl follows
+
+  pub page_follows : {picture html : List ℕ} (rose : Type 0) (result : Result (List Output) Refusal) (end : Result Finished Refusal) (inputs : InputPaths) → end ≡ whole_by result → asked ≡ page picture html → inputs ≡ inputs_of asked
+      → Follows told (input_at inputs) rose same (page_work html) result → Follows told (input_path asked) rose at_end (work asked) end
+  page_follows {picture} {html} rose result end inputs ended is lie follows = outputs_follow rose result end (page picture html) inputs (λ p. page_work html) ended is lie refl follows
+
+  pub session_follows : {feed script out : List ℕ} {chosen : Chosen} (rose : Type 0) (result : Result Played Refusal) (end : Result Finished Refusal) (inputs : InputPaths) → end ≡ stopped_by result → asked ≡ session feed script out chosen
+      → inputs ≡ inputs_of asked → Follows told (input_at inputs) rose as_played (session_work inputs.chosen out) result → Follows told (input_path asked) rose at_end (work asked) end
+  session_follows {feed} {script} {out} {chosen} rose result end inputs ended is lie follows =
+      let by_result = stopped_follows told (input_at inputs) rose (session_work inputs.chosen out) result follows in
+      arm_follows rose end (session feed script out chosen) inputs (λ p. to_a_stop (session_work p.chosen out)) is lie refl
+      (subst (λ (e : Result Finished Refusal). Follows told (input_at inputs) rose at_end (to_a_stop (session_work inputs.chosen out)) e) (sym ended) by_result)
+
+  pub trial_follows : (rose : Type 0) (result : Result (List Output) Refusal) (end : Result Finished Refusal) (number : ℕ) → end ≡ whole_by result → asked ≡ trial number → Gives same result (trial_outcome number)
+      → Follows told (input_path asked) rose at_end (work asked) end
+  trial_follows rose result end number ended is gives =
+      let by_result = whole_follows told (input_path asked) rose (trial_work number) result (gives_follows told (input_path asked) rose same (trial_outcome number) result gives) in
+      let by_end = subst (λ (e : Result Finished Refusal). Follows told (input_path asked) rose at_end (to_the_end (trial_work number)) e) (sym ended) by_result in
+      subst (λ (a : Asked). Follows told (input_path asked) rose at_end (work a) end) (sym is) by_end
 
   -- what a command keeps
-  keeps_as : (command : Asked) (result : Result (List Output) Refusal) → asked ≡ command → Keeps told command result → Keeps told asked result
-  keeps_as command result is keeps = subst (λ (a : Asked). Keeps told a result) (sym is) keeps
+  keeps_as : (command : Asked) (found end : Result Finished Refusal) → end ≡ found → asked ≡ command → Keeps told command found → Keeps told asked end
+  keeps_as command found end ended is keeps =
+      subst (λ (e : Result Finished Refusal). Keeps told asked e) (sym ended) (subst (λ (a : Asked). Keeps told a found) (sym is) keeps)
 
-  pub stations_keeps : {feed : List ℕ} (result : Result (List Output) Refusal) → asked ≡ stations feed → Keeps told asked result
-  stations_keeps {feed} (Ok outputs) is = keeps_as (stations feed) (Ok outputs) is tt
-  stations_keeps (Err why) is = tt
+  pub stations_keeps : {feed : List ℕ} (result : Result (List Output) Refusal) (end : Result Finished Refusal) → end ≡ whole_by result → asked ≡ stations feed → Keeps told asked end
+  stations_keeps {feed} (Ok outputs) end ended is = keeps_as (stations feed) (Ok (whole outputs)) end ended is tt
+  stations_keeps {feed} (Err why) end ended is = keeps_as (stations feed) (Err why) end ended is tt
 
-  pub graph_keeps : {feed : List ℕ} {chosen : Chosen} (result : Result (List Output) Refusal) → asked ≡ graph feed chosen → Keeps told asked result
-  graph_keeps {feed} {chosen} (Ok outputs) is = keeps_as (graph feed chosen) (Ok outputs) is tt
-  graph_keeps (Err why) is = tt
+  pub graph_keeps : {feed : List ℕ} {chosen : Chosen} (result : Result (List Output) Refusal) (end : Result Finished Refusal) → end ≡ whole_by result → asked ≡ graph feed chosen → Keeps told asked end
+  graph_keeps {feed} {chosen} (Ok outputs) end ended is = keeps_as (graph feed chosen) (Ok (whole outputs)) end ended is tt
+  graph_keeps {feed} {chosen} (Err why) end ended is = keeps_as (graph feed chosen) (Err why) end ended is tt
 
-  pub trial_keeps : {number : ℕ} (result : Result (List Output) Refusal) → asked ≡ trial number → Keeps told asked result
-  trial_keeps {number} (Ok outputs) is = keeps_as (trial number) (Ok outputs) is tt
-  trial_keeps (Err why) is = tt
+  pub trial_keeps : {number : ℕ} (result : Result (List Output) Refusal) (end : Result Finished Refusal) → end ≡ whole_by result → asked ≡ trial number → Keeps told asked end
+  trial_keeps {number} (Ok outputs) end ended is = keeps_as (trial number) (Ok (whole outputs)) end ended is tt
+  trial_keeps {number} (Err why) end ended is = keeps_as (trial number) (Err why) end ended is tt
 
-  pub page_keeps : {picture html : List ℕ} (result : Result (List Output) Refusal) → asked ≡ page picture html → Keeps told asked result
-  page_keeps {picture} {html} (Ok outputs) is = keeps_as (page picture html) (Ok outputs) is tt
-  page_keeps (Err why) is = tt
+  pub page_keeps : {picture html : List ℕ} (result : Result (List Output) Refusal) (end : Result Finished Refusal) → end ≡ whole_by result → asked ≡ page picture html → Keeps told asked end
+  page_keeps {picture} {html} (Ok outputs) end ended is = keeps_as (page picture html) (Ok (whole outputs)) end ended is tt
+  page_keeps {picture} {html} (Err why) end ended is = keeps_as (page picture html) (Err why) end ended is tt
 
-  pub make_keeps : {feed : List ℕ} {paths : MapPaths} {chosen : Chosen} (inputs : InputPaths) (result : Result (List Output) Refusal) → asked ≡ make feed paths chosen → inputs ≡ inputs_of asked
-      → IfOk result (AreOfMap told inputs paths) → Keeps told asked result
-  make_keeps {feed} {paths} {chosen} inputs (Ok outputs) is lie are =
-      keeps_as (make feed paths chosen) (Ok outputs) is
-      (subst (λ (a : Asked). AreOfMap told (inputs_of a) paths outputs) is (subst (λ (p : InputPaths). AreOfMap told p paths outputs) lie are))
-  make_keeps inputs (Err why) is lie are = tt
+  -- what is promised by the inputs of a command
+  by_inputs : (P : InputPaths → Type 0) (command : Asked) (inputs : InputPaths) → asked ≡ command → inputs ≡ inputs_of asked → P inputs → P (inputs_of command)
+  by_inputs P command inputs is lie promised = subst (λ (a : Asked). P (inputs_of a)) is (subst P lie promised)
 
-  pub check_keeps : {feed : List ℕ} {paths : MapPaths} {chosen : Chosen} (inputs : InputPaths) (result : Result (List Output) Refusal) → asked ≡ check feed paths chosen → inputs ≡ inputs_of asked
-      → IfOk result (AreOfYes told inputs) → Keeps told asked result
-  check_keeps {feed} {paths} {chosen} inputs (Ok outputs) is lie are =
-      keeps_as (check feed paths chosen) (Ok outputs) is
-      (subst (λ (a : Asked). AreOfYes told (inputs_of a) outputs) is (subst (λ (p : InputPaths). AreOfYes told p outputs) lie are))
-  check_keeps inputs (Err why) is lie are = tt
+  pub make_keeps : {feed : List ℕ} {paths : MapPaths} {chosen : Chosen} (inputs : InputPaths) (result : Result (List Output) Refusal) (end : Result Finished Refusal) → end ≡ whole_by result → asked ≡ make feed paths chosen → inputs ≡ inputs_of asked
+      → IfOk result (AreOfMap told inputs paths) → Keeps told asked end
+  make_keeps {feed} {paths} {chosen} inputs (Ok outputs) end ended is lie are =
+      keeps_as (make feed paths chosen) (Ok (whole outputs)) end ended is (by_inputs (λ p. AreOfMap told p paths outputs) (make feed paths chosen) inputs is lie are)
+  make_keeps {feed} {paths} {chosen} inputs (Err why) end ended is lie are = keeps_as (make feed paths chosen) (Err why) end ended is tt
+
+  pub check_keeps : {feed : List ℕ} {paths : MapPaths} {chosen : Chosen} (inputs : InputPaths) (result : Result (List Output) Refusal) (end : Result Finished Refusal) → end ≡ whole_by result → asked ≡ check feed paths chosen → inputs ≡ inputs_of asked
+      → IfOk result (AreOfYes told inputs) → Keeps told asked end
+  check_keeps {feed} {paths} {chosen} inputs (Ok outputs) end ended is lie are =
+      keeps_as (check feed paths chosen) (Ok (whole outputs)) end ended is (by_inputs (λ p. AreOfYes told p outputs) (check feed paths chosen) inputs is lie are)
+  check_keeps {feed} {paths} {chosen} inputs (Err why) end ended is lie are = keeps_as (check feed paths chosen) (Err why) end ended is tt
+
+  pub labels_keeps : {feed certificate out : List ℕ} {chosen : Chosen} (inputs : InputPaths) (result : Result (List Output) Refusal) (end : Result Finished Refusal) → end ≡ whole_by result → asked ≡ labels feed certificate out chosen
+      → inputs ≡ inputs_of asked → IfOk result (AreOfLabels told inputs out) → Keeps told asked end
+  labels_keeps {feed} {certificate} {out} {chosen} inputs (Ok outputs) end ended is lie are =
+      keeps_as (labels feed certificate out chosen) (Ok (whole outputs)) end ended is (by_inputs (λ p. AreOfLabels told p out outputs) (labels feed certificate out chosen) inputs is lie are)
+  labels_keeps {feed} {certificate} {out} {chosen} inputs (Err why) end ended is lie are = keeps_as (labels feed certificate out chosen) (Err why) end ended is tt
+
+  pub session_keeps : {feed script out : List ℕ} {chosen : Chosen} (inputs : InputPaths) (result : Result Played Refusal) (end : Result Finished Refusal) → end ≡ stopped_by result → asked ≡ session feed script out chosen
+      → inputs ≡ inputs_of asked → IfOk result (AreOfSession told inputs out) → Keeps told asked end
+  session_keeps {feed} {script} {out} {chosen} inputs (Ok played) end ended is lie are =
+      keeps_as (session feed script out chosen) (Ok (stopped played)) end ended is (by_inputs (λ p. AreOfSession told p out played) (session feed script out chosen) inputs is lie are)
+  session_keeps {feed} {script} {out} {chosen} inputs (Err why) end ended is lie are = keeps_as (session feed script out chosen) (Err why) end ended is tt
 
   -- how many steps a command takes
   steps_as : (command : Asked) (before now : ℕ) → asked ≡ command → TakesSteps told (Some command) before now → TakesSteps told (Some asked) before now
@@ -106,6 +170,14 @@ module _ (told : Told) (asked : Asked) where
   pub check_steps : {feed : List ℕ} {paths : MapPaths} {chosen : Chosen} (steps : ℕ) → asked ≡ check feed paths chosen → TakesSteps told (Some asked) steps steps
   check_steps {feed} {paths} {chosen} steps is = steps_as (check feed paths chosen) steps steps is refl
 
+  pub labels_steps : {feed certificate out : List ℕ} {chosen : Chosen} (steps : ℕ) → asked ≡ labels feed certificate out chosen → TakesSteps told (Some asked) steps steps
+  labels_steps {feed} {certificate} {out} {chosen} steps is = steps_as (labels feed certificate out chosen) steps steps is refl
+
+  pub session_steps : {feed script out : List ℕ} {chosen : Chosen} (inputs : InputPaths) (before now : ℕ) → asked ≡ session feed script out chosen → inputs ≡ inputs_of asked
+      → TakesSessionSteps told inputs before now → TakesSteps told (Some asked) before now
+  session_steps {feed} {script} {out} {chosen} inputs before now is lie few =
+      steps_as (session feed script out chosen) before now is (by_inputs (λ p. TakesSessionSteps told p before now) (session feed script out chosen) inputs is lie few)
+
   pub page_steps : {picture html : List ℕ} (steps : ℕ) → asked ≡ page picture html → TakesSteps told (Some asked) steps steps
   page_steps {picture} {html} steps is = steps_as (page picture html) steps steps is refl
 
@@ -115,5 +187,4 @@ module _ (told : Told) (asked : Asked) where
   pub make_steps : {feed : List ℕ} {paths : MapPaths} {chosen : Chosen} (inputs : InputPaths) (before now : ℕ) → asked ≡ make feed paths chosen → inputs ≡ inputs_of asked
       → SearchesParts told inputs before now → TakesSteps told (Some asked) before now
   make_steps {feed} {paths} {chosen} inputs before now is lie few =
-      steps_as (make feed paths chosen) before now is
-      (subst (λ (a : Asked). SearchesParts told (inputs_of a) before now) is (subst (λ (p : InputPaths). SearchesParts told p before now) lie few))
+      steps_as (make feed paths chosen) before now is (by_inputs (λ p. SearchesParts told p before now) (make feed paths chosen) inputs is lie few)

@@ -1,7 +1,6 @@
 -- From the answer of a command to how a run ends, and to the cause of its status.
-use Rattle.std.proofs.Common.{◌≡◌, ◌≢◌, ℕ, ◌⊎◌, inl, inr, List, [], length, Option, None, Some, Result, Ok, Err, IfOk, IfSome, string_bytes, refl, sym, ap, ◌∙◌, subst, arith}
+use Rattle.std.proofs.Common.{◌≡◌, ◌≢◌, ℕ, ◌⊎◌, inl, inr, List, length, Option, None, Some, Result, Ok, Err, IfOk, string_bytes, refl, sym, ap, ◌∙◌, subst, arith}
 use Rattle.files_door.specs.Targets.{Written}
-use Rattle.command_run.specs.declared.output.Output.{Output}
 use Rattle.command_run.specs.declared.delivery.Ending.{Ending}
 use Rattle.command_run.specs.declared.delivery.Ending.TheVariants.{Whole, CutShort, OutOfMemory}
 use Rattle.command_run.specs.Delivered.{IsDelivered, outputs_acts}
@@ -9,6 +8,7 @@ use Rattle.command_run.specs.Work.{outcome}
 use Rattle.command_run.specs.Told.{file_of}
 use Rattle.command_run.proofs.WorkLemmas.{told_outcome}
 use Rattle.map_cli.specs.declared.answer.Answer.{Answer}
+use Rattle.map_cli.specs.declared.answer.Finished.{Finished}
 use Rattle.run_status.specs.declared.input.Input.{Input}
 use Rattle.run_status.specs.declared.refusal.Refusal.{Refusal}
 use Rattle.run_status.specs.declared.refusal.Refusal.TheVariants as refused
@@ -19,28 +19,28 @@ use Rattle.command_words.specs.declared.fault.WordsFault.{WordsFault}
 use Rattle.command_words.specs.declared.fault.WordsFault.TheVariants as fault
 use Rattle.command_words.specs.Words.{Reads as ReadsWords}
 use Rattle.map_cli.specs.declared.answer.Reply.{Reply}
-use Rattle.command_words.specs.Asked.{Asked, stations, graph, make, check, trial, page}
+use Rattle.command_words.specs.Asked.{Asked, stations, graph, make, check, labels, session, trial, page}
 use Rattle.map_cli.specs.Inputs.{input_path}
-use Rattle.map_cli.specs.Answers.{alone, done, answer_by}
+use Rattle.map_cli.specs.Answers.{alone, done, answer_by, status_at}
 use Rattle.run_status.specs.Statuses.{status_of}
 use Rattle.map_cli.specs.Commands.{work}
 use Rattle.run_status.specs.Following.{HasCause, ComesTo, Follows}
 use Rattle.map_cli.specs.Promises.{Keeps, TakesSteps}
-use Rattle.map_cli.specs.Ending.{IsAnswerTo, IsLineOf, IsWritten, IsOutOfMemory, IsReplyTo, Ends, IsCaused, status_after}
+use Rattle.map_cli.specs.Ending.{IsAnswerTo, IsLineOf, IsReplyTo, Ends, IsCaused, status_after}
 use Rattle.run_status.proofs.FollowLemmas.{comes_to}
 
 abbrev Told : Type 0
 Told = Option (List (List ℕ × List ℕ))
 
--- outputs that a command came to are its answer
-pub finished_answer : (told : Told) (asked : Asked) (rose : Type 0) (outputs : List Output) (answer : Answer) → Follows told (input_path asked) rose (λ (o : List Output). o) (work asked) (Ok outputs) → Keeps told asked (Ok outputs)
-    → answer ≡ done outputs → IsAnswerTo (Some asked) told rose answer
-finished_answer told asked rose outputs answer follows keeps is = (Ok outputs, follows, keeps, is)
+-- the end that a command came to is its answer
+pub finished_answer : (told : Told) (asked : Asked) (rose : Type 0) (finished : Finished) (answer : Answer) → Follows told (input_path asked) rose (λ (f : Finished). f) (work asked) (Ok finished) → Keeps told asked (Ok finished)
+    → answer ≡ done finished → IsAnswerTo (Some asked) told rose answer
+finished_answer told asked rose finished answer follows keeps is = (Ok finished, follows, keeps, is)
 
 -- and so is the status of its refusal
-pub refused_answer : (told : Told) (asked : Asked) (rose : Type 0) (why : Refusal) (answer : Answer) → Follows told (input_path asked) rose (λ (o : List Output). o) (work asked) (Err why)
+pub refused_answer : (told : Told) (asked : Asked) (rose : Type 0) (why : Refusal) (answer : Answer) → Follows told (input_path asked) rose (λ (f : Finished). f) (work asked) (Err why)
     → answer ≡ alone (status_of (input_path asked) why) → why ≢ refused.NoMemory → IsAnswerTo (Some asked) told rose answer
-refused_answer told asked rose why answer follows is free = (Err why, comes_to told (input_path asked) rose (λ (o : List Output). o) (work asked) why free follows, tt, is)
+refused_answer told asked rose why answer follows is free = (Err why, comes_to told (input_path asked) rose (λ (f : Finished). f) (work asked) why free follows, tt, is)
 
 -- words that are not read ask for nothing
 pub nothing_asked : (asked : Option Asked) (f : WordsFault) → ReadsWords asked (Err f) → f ≢ fault.NoMemory → asked ≡ None
@@ -69,6 +69,8 @@ no_steps told (Some (stations feed)) steps = refl
 no_steps told (Some (graph feed chosen)) steps = refl
 no_steps told (Some (make feed paths chosen)) steps = inl refl
 no_steps told (Some (check feed paths chosen)) steps = refl
+no_steps told (Some (labels feed certificate out chosen)) steps = refl
+no_steps told (Some (session feed script out chosen)) steps = inl refl
 no_steps told (Some (trial number)) steps = inl refl
 no_steps told (Some (page picture html)) steps = refl
 
@@ -81,14 +83,19 @@ answer_caused (Some asked) told files_rose sinks_rose answer (result, comes, kee
     read : Some asked ≢ None
     read same = cc
 
-    by_result : (r : Result (List Output) Refusal) → ComesTo told (input_path asked) files_rose (work asked) r → IsCaused (Some asked) files_rose sinks_rose (answer_by (input_path asked) r).status
-    by_result (Ok outputs) comes = read
+    by_line : (line : Option ℕ) → IsCaused (Some asked) files_rose sinks_rose (status_at line)
+    by_line None = read
+    by_line (Some line) = read
+
+    by_result : (r : Result Finished Refusal) → ComesTo told (input_path asked) files_rose (work asked) r → IsCaused (Some asked) files_rose sinks_rose (answer_by (input_path asked) r).status
+    by_result (Ok finished) comes = by_line finished.bad_line
     by_result (Err (refused.BadRow table row why)) comes = read
     by_result (Err (refused.NoRoute seg)) comes = read
     by_result (Err (refused.Spent component branches)) comes = read
     by_result (Err (refused.Limit limit)) comes = read
     by_result (Err (refused.Refuted item)) comes = read
     by_result (Err (refused.BadSettings why)) comes = read
+    by_result (Err (refused.BadEdit line)) comes = read
     by_result (Err (refused.Missing input)) comes = read
     by_result (Err (refused.ReadFault input)) comes = (comes.0, (asked, input, refl, refl, (comes.1.seen, comes.1.runs)))
     by_result (Err refused.NoMemory) comes = tt
@@ -132,6 +139,6 @@ told_answer asked files rose answer (result, comes, keeps, is) =
     by_case (inl defined) = inl (is ∙ ap (answer_by (input_path asked)) defined)
     by_case (inr (input, left)) = inr (
       input,
-      subst (λ (r : Result (List Output) Refusal). HasCause rose r) left comes.0,
+      subst (λ (r : Result Finished Refusal). HasCause rose r) left comes.0,
       is ∙ ap (answer_by (input_path asked)) left,
     )

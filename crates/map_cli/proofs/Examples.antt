@@ -1,6 +1,7 @@
 -- The definitions at small cases.
-use Rattle.std.proofs.Common.{◌≡◌, ℕ, List, [], ◌∷◌, true, false, Option, None, Some, Ok, Err, codes, refl}
+use Rattle.std.proofs.Common.{◌≡◌, [], ◌∷◌, true, false, None, Some, Ok, Err, codes, refl}
 use Rattle.std.specs.Fmt.{digits}
+use Rattle.map_method.specs.declared.defaults.Defaults.TheVariants.{Make}
 use Rattle.files_door.specs.declared.target.Target.TheVariants.{Path}
 use Rattle.table_rows.specs.declared.why.Table.TheVariants.{Routes, Trips, StopTimes}
 use Rattle.table_rows.specs.declared.why.Why.TheVariants.{MissingFile}
@@ -13,11 +14,11 @@ use Rattle.run_status.specs.declared.input.Input.TheVariants as input
 use Rattle.run_status.specs.declared.item.Item.TheVariants as item
 use Rattle.run_status.specs.declared.refusal.Refusal.TheVariants as refused
 use Rattle.run_status.specs.declared.status.Status.TheVariants as status
-use Rattle.command_words.specs.Asked.{Asked, stations, graph, make, check, page}
+use Rattle.command_words.specs.Asked.{graph, make, check, page}
 use Rattle.command_paths.specs.Paths.{Chosen, MapPaths}
 use Rattle.page_command.specs.PageWorks.{page_work}
 use Rattle.map_cli.specs.Inputs.{input_path}
-use Rattle.map_cli.specs.Answers.{alone, answer_by}
+use Rattle.map_cli.specs.Answers.{alone, answer_by, whole_by}
 use Rattle.run_status.specs.Outputs.{said}
 use Rattle.table_commands.specs.TableWorks.{graph_work}
 use Rattle.map_commands.specs.MapWorks.{check_work, picture_work, made_at, best_line}
@@ -25,10 +26,10 @@ use Rattle.run_status.specs.Items.{item_text}
 use Rattle.run_status.specs.Lines.{status_line, status_number}
 
 abbrev standard : Chosen
-standard = record { settings = None }
+standard = record { defaults = Make; settings = None; edits = None }
 
 abbrev by_mine : Chosen
-by_mine = record { settings = Some (codes "my.toml") }
+by_mine = record { defaults = Make; settings = Some (codes "my.toml"); edits = None }
 
 -- where a table lies
 table_path : input_path (graph (codes "feed") standard) (input.Table StopTimes) ≡ codes "feed/stop_times.txt"
@@ -72,7 +73,7 @@ unfolding places
 both_files = refl
 
 -- a part over the budget is named, with its branch nodes
-spent_line : answer_by (input_path (make (codes "feed") places standard)) (made_at places (Err (fault.Spent 0 2))) ≡ alone (status.Spent 0 2)
+spent_line : answer_by (input_path (make (codes "feed") places standard)) (whole_by (made_at places (Err (fault.Spent 0 2)))) ≡ alone (status.Spent 0 2)
 unfolding places
 spent_line = refl
 
@@ -140,6 +141,21 @@ bad_key_text = refl
 
 bad_settings_number : status_number (status.BadSettings why.NotToml) ≡ 10
 bad_settings_number = refl
+
+-- a file of edits lies at its path, and a bad line is named
+edits_path : input_path (graph (codes "feed") (record { defaults = Make; settings = None; edits = Some (codes "my.edits") })) input.Edits ≡ codes "my.edits"
+edits_path = refl
+
+bad_edit_text : status_line (status.BadEdit 2) ≡ Some (codes "bad edit: 2\n")
+unfolding digits
+bad_edit_text = refl
+
+bad_edit_number : status_number (status.BadEdit 2) ≡ 11
+bad_edit_number = refl
+
+-- a script that stops at a bad line leaves what it drew
+stopped_at_6 : answer_by (λ _. []) (Ok (record { outputs = said (codes "drawn"); bad_line = Some 6 })) ≡ record { status = status.BadEdit 6; outputs = said (codes "drawn") }
+stopped_at_6 = refl
 
 -- a map that is to be shown has to be there
 no_map_to_show : outcome (page_work (codes "m.html")) (λ _. None) ≡ Err (refused.Missing input.Picture)

@@ -1,34 +1,35 @@
 -- From how a run ends to what status 0 means.
-use Rattle.std.proofs.Common.{◌≡◌, ◌≢◌, ℕ, ◌==◌, ◌||◌, ◌⊎◌, inl, inr, Bool, true, false, List, [], ◌∷◌, ◌++◌, map, codes, Option, None, Some, Result, Ok, Err, IfSome, String, string_bytes, if◌then◌else◌, unwrap_or, refl, sym, ap, ◌∙◌, subst}
+use Rattle.std.proofs.Common.{◌≡◌, ◌≢◌, ℕ, Bool, true, false, List, [], ◌∷◌, ◌++◌, map, Option, None, Some, Result, Ok, Err, IfSome, String, string_bytes, if◌then◌else◌, refl, sym, ap, ◌∙◌, subst}
 use Rattle.std.specs.declared.alloc.Global.{Global}
 use Rattle.std.specs.Str.{bytes_eq}
 use Rattle.std.proofs.lemmas.List.{append-nil}
 use Rattle.files_door.specs.declared.target.Target.{Target}
 use Rattle.files_door.specs.declared.target.Target.TheVariants.{Said, Path}
-use Rattle.files_door.specs.Targets.{Written, held_by, same_target}
+use Rattle.files_door.specs.Targets.{Written, held_by}
 use Rattle.std.proofs.lemmas.Slice.Eq.{bytes_eq-Decides}
 use Rattle.command_run.specs.declared.output.Output.{Output}
 use Rattle.command_run.specs.Held.{held_after, line_outputs, IsBeginning}
 use Rattle.map_engine.specs.Making.{MapBytes}
 use Rattle.map_cli.specs.declared.answer.Answer.{Answer}
+use Rattle.map_cli.specs.declared.answer.Finished.{Finished}
 use Rattle.run_status.specs.declared.input.Input.{Input}
 use Rattle.run_status.specs.declared.refusal.Refusal.{Refusal}
 use Rattle.run_status.specs.declared.refusal.Refusal.TheVariants as refused
 use Rattle.run_status.specs.declared.status.Status.{Status}
 use Rattle.run_status.specs.declared.status.Status.TheVariants as status
-use Rattle.command_words.specs.Asked.{Asked, stations, graph, make, check, trial, page}
+use Rattle.command_words.specs.Asked.{Asked, stations, graph, make, check, labels, session, trial, page}
 use Rattle.command_paths.specs.Paths.{MapPaths}
 use Rattle.command_words.specs.Words.{asked, asked_in}
 use Rattle.command_words.proofs.Apart.{AreApart, asked_apart}
 use Rattle.map_cli.specs.Inputs.{input_path}
-use Rattle.map_commands.specs.MapWorks.{map_outputs, best_line}
-use Rattle.run_status.specs.Outputs.{said}
-use Rattle.map_cli.specs.Answers.{done, answer_by}
+use Rattle.map_commands.specs.MapWorks.{map_outputs}
+use Rattle.session_command.specs.declared.played.Played.{Played}
+use Rattle.session_command.specs.SessionWorks.{session_text}
+use Rattle.map_cli.specs.Answers.{answer_by, status_at}
 use Rattle.run_status.specs.Statuses.{status_of}
 use Rattle.map_cli.specs.Promises.{Keeps, Promised}
-use Rattle.map_commands.specs.Promises.{AreOfMap, AreOfYes}
 use Rattle.map_cli.specs.Ending.{Ends, IsLineOf}
-use Rattle.map_cli.specs.Headline.{MeansDone, IsMapWritten, IsMapAccepted}
+use Rattle.map_cli.specs.Headline.{MeansDone}
 use Rattle.map_cli.proofs.LawLemmas.{leaves_whole}
 
 abbrev Told : Type 0
@@ -61,6 +62,14 @@ certificate_held paths made held = by_test (bytes_eq paths.certificate paths.cer
     by_test true before e = refl
     by_test false before e = absurd (cc)
 
+-- what one file holds after one output
+one_held : (out bytes : List ℕ) (held : Option (List ℕ)) → held_after (Path out) (record { to = Path out; bytes = bytes } ∷ []) held ≡ Some bytes
+one_held out bytes held = by_test (bytes_eq out out) ((bytes_eq-Decides out out).1 refl)
+  where
+    by_test : (same : Bool) → same ≡ true → (if same then Some ([] ++ bytes) else held) ≡ Some bytes
+    by_test true e = refl
+    by_test false e = absurd (cc)
+
 -- the outputs of a command that ended with status 0
 
 pub no_front : (front : List Output) (line : List ℕ) → line ≡ [] → IsBeginning front (line_outputs line) → front ≡ []
@@ -75,6 +84,7 @@ refusal_not_done paths (refused.Spent component branches) same = cc
 refusal_not_done paths (refused.Limit limit) same = cc
 refusal_not_done paths (refused.Refuted item) same = cc
 refusal_not_done paths (refused.BadSettings why) same = cc
+refusal_not_done paths (refused.BadEdit line) same = cc
 refusal_not_done paths (refused.Missing input) same = cc
 refusal_not_done paths (refused.ReadFault input) same = cc
 refusal_not_done paths refused.NoMemory same = cc
@@ -83,12 +93,12 @@ refusal_not_done paths refused.NoMemory same = cc
 abbrev Holds : List Output → Written → Written → Type 0
 Holds outputs old new = (target : Target) → held_by target new ≡ held_after target outputs (held_by target old)
 
-means : (told : Told) (command : Asked) (outputs : List Output) (old new : Written) → AreApart (Some command) → Promised told command outputs → Holds outputs old new → MeansDone told command old new
-means told (stations feed) outputs old new apart promised holds = tt
-means told (graph feed chosen) outputs old new apart promised holds = tt
-means told (trial number) outputs old new apart promised holds = tt
-means told (page picture html) outputs old new apart promised holds = tt
-means told (make feed paths chosen) outputs old new apart promised holds =
+means : (told : Told) (command : Asked) (finished : Finished) (old new : Written) → AreApart (Some command) → Promised told command finished → finished.bad_line ≡ None → Holds finished.outputs old new → MeansDone told command old new
+means told (stations feed) finished old new apart promised none holds = tt
+means told (graph feed chosen) finished old new apart promised none holds = tt
+means told (trial number) finished old new apart promised none holds = tt
+means told (page picture html) finished old new apart promised none holds = tt
+means told (make feed paths chosen) finished old new apart promised none holds =
     let has = subst (λ (o : List Output). Holds o old new) promised.are holds in
     record {
       loaded = promised.loaded;
@@ -99,7 +109,7 @@ means told (make feed paths chosen) outputs old new apart promised holds =
       map = has (Path paths.picture) ∙ map_held paths promised.made (held_by (Path paths.picture) old) apart;
       certificate = has (Path paths.certificate) ∙ certificate_held paths promised.made (held_by (Path paths.certificate) old);
     }
-means told (check feed paths chosen) outputs old new apart promised holds =
+means told (check feed paths chosen) finished old new apart promised none holds =
     let has = subst (λ (o : List Output). Holds o old new) promised.are holds in
     record {
       loaded = promised.loaded;
@@ -110,12 +120,43 @@ means told (check feed paths chosen) outputs old new apart promised holds =
       accepted = promised.accepted;
       printed = has Said;
     }
+means told (labels feed certificate out chosen) finished old new apart promised none holds =
+    let labelled = promised.labelled in
+    let has = subst (λ (o : List Output). Holds o old new) labelled.4 holds in
+    record {
+      loaded = promised.loaded;
+      loads = promised.loads;
+      certificate = labelled.0;
+      lies = labelled.2;
+      map = labelled.1;
+      is_labelled = labelled.3;
+      holds = has (Path out) ∙ one_held out labelled.1 (held_by (Path out) old);
+    }
+means told (session feed script out chosen) finished old new apart promised none holds =
+    let has = subst (λ (o : List Output). Holds o old new) (ap (λ (p : Played). p.outputs) promised.are) holds in
+    record {
+      loaded = promised.loaded;
+      loads = promised.loads;
+      script = promised.script;
+      lies = promised.lies;
+      followed = sym (ap (λ (p : Played). p.bad) promised.are) ∙ none;
+      kept = promised.kept;
+      holds = has (Path out) ∙ one_held out (session_text promised.loaded promised.script) (held_by (Path out) old);
+    }
 
--- an answer with status 0 is that of outputs that keep what the command promises
-outputs_of : (told : Told) (command : Asked) (result : Result (List Output) Refusal) (answer : Answer) → Keeps told command result → answer ≡ answer_by (input_path command) result → answer.status ≡ status.Done
-    → Promised told command answer.outputs
-outputs_of told command (Ok outputs) answer keeps is ended = subst (λ (a : Answer). Promised told command a.outputs) (sym is) keeps
-outputs_of told command (Err why) answer keeps is ended = absurd (refusal_not_done (input_path command) why (ap (λ (a : Answer). a.status) (sym is) ∙ ended))
+-- an answer with status 0 is that of an end without a bad line, which keeps what the command promises
+abbrev IsKept : Told → Asked → Answer → Type 0
+IsKept told command answer = (finished : Finished) × Promised told command finished × (finished.bad_line ≡ None) × (answer.outputs ≡ finished.outputs)
+
+no_bad_line : (line : Option ℕ) → status_at line ≡ status.Done → line ≡ None
+no_bad_line None same = refl
+no_bad_line (Some line) same = absurd (cc)
+
+kept_of : (told : Told) (command : Asked) (result : Result Finished Refusal) (answer : Answer) → Keeps told command result → answer ≡ answer_by (input_path command) result → answer.status ≡ status.Done
+    → IsKept told command answer
+kept_of told command (Ok finished) answer keeps is ended =
+    (finished, keeps, no_bad_line finished.bad_line (ap (λ (a : Answer). a.status) (sym is) ∙ ended), ap (λ (a : Answer). a.outputs) is)
+kept_of told command (Err why) answer keeps is ended = absurd (refusal_not_done (input_path command) why (ap (λ (a : Answer). a.status) (sym is) ∙ ended))
 
 run_means : (told : Told) (command : Asked) (files_rose sinks_rose : Type 0) (old new : Written) (ended : Status) → AreApart (Some command)
     → Ends (Some command) told files_rose sinks_rose (Some old) (Some new) ended → ended ≡ status.Done → MeansDone told command old new
@@ -123,9 +164,9 @@ run_means told command files_rose sinks_rose old new ended apart ends is =
     let left = leaves_whole (Some command) told files_rose sinks_rose old new ended ends (λ same. let other : status.Done ≡ status.WriteFault = sym is ∙ same in cc) (λ same. let other : status.Done ≡ status.NoMemory = sym is ∙ same in cc) in
     let line = subst (λ (s : Status). IsLineOf s left.1) is left.5 in
     let none = no_front left.2 left.1 line left.6 in
-    let whole : left.0.outputs ++ left.2 ≡ left.0.outputs = ap (λ (f : List Output). left.0.outputs ++ f) none ∙ append-nil left.0.outputs in
-    means told command left.0.outputs old new apart
-    (outputs_of told command left.3.0 left.0 left.3.2 left.3.3 (sym left.4 ∙ is)) (subst (λ (o : List Output). Holds o old new) whole left.8)
+    let kept = kept_of told command left.3.0 left.0 left.3.2 left.3.3 (sym left.4 ∙ is) in
+    let whole : left.0.outputs ++ left.2 ≡ kept.0.outputs = ap (λ (f : List Output). left.0.outputs ++ f) none ∙ append-nil left.0.outputs ∙ kept.3 in
+    means told command kept.0 old new apart kept.1 kept.2 (subst (λ (o : List Output). Holds o old new) whole left.8)
 
 -- what status 0 means, where the sinks tell what was written
 abbrev Means : Told → Option Asked → Option Written → Option Written → Type 0

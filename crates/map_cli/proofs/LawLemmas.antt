@@ -10,13 +10,14 @@ use Rattle.command_run.specs.Delivered.{IsDelivered, outputs_acts, line_acts, no
 use Rattle.command_run.specs.Held.{held_after, line_outputs, IsBeginning}
 use Rattle.command_run.proofs.HeldLemmas.{standing_of, cut_of, line_as_outputs, held_by-Does, begin-append}
 use Rattle.map_cli.specs.declared.answer.Answer.{Answer}
+use Rattle.map_cli.specs.declared.answer.Finished.{Finished}
 use Rattle.run_status.specs.declared.refusal.Refusal.{Refusal}
 use Rattle.run_status.specs.declared.refusal.Refusal.TheVariants as refused
 use Rattle.run_status.specs.declared.status.Status.{Status}
 use Rattle.run_status.specs.declared.status.Status.TheVariants as status
 use Rattle.command_words.specs.Asked.{Asked}
 use Rattle.map_cli.specs.Inputs.{input_path}
-use Rattle.map_cli.specs.Answers.{answer_by}
+use Rattle.map_cli.specs.Answers.{answer_by, status_at}
 use Rattle.map_cli.specs.Ending.{IsAnswerTo, IsLineOf, IsToBeWritten, Ends, status_after}
 
 abbrev Told : Type 0
@@ -27,14 +28,19 @@ abbrev Holds : List Output → Written → Written → Type 0
 Holds outputs old new = (target : Target) → held_by target new ≡ held_after target outputs (held_by target old)
 
 -- no answer has the status of a fault of writing
-result_no_fault : (asked : Asked) (result : Result (List Output) Refusal) → (answer_by (input_path asked) result).status ≡ status.WriteFault → ⊥
-result_no_fault asked (Ok outputs) same = cc
+line_no_fault : (line : Option ℕ) → status_at line ≡ status.WriteFault → ⊥
+line_no_fault None same = cc
+line_no_fault (Some line) same = cc
+
+result_no_fault : (asked : Asked) (result : Result Finished Refusal) → (answer_by (input_path asked) result).status ≡ status.WriteFault → ⊥
+result_no_fault asked (Ok finished) same = line_no_fault finished.bad_line same
 result_no_fault asked (Err (refused.BadRow table row why)) same = cc
 result_no_fault asked (Err (refused.NoRoute seg)) same = cc
 result_no_fault asked (Err (refused.Spent component branches)) same = cc
 result_no_fault asked (Err (refused.Limit limit)) same = cc
 result_no_fault asked (Err (refused.Refuted item)) same = cc
 result_no_fault asked (Err (refused.BadSettings why)) same = cc
+result_no_fault asked (Err (refused.BadEdit line)) same = cc
 result_no_fault asked (Err (refused.Missing input)) same = cc
 result_no_fault asked (Err (refused.ReadFault input)) same = cc
 result_no_fault asked (Err refused.NoMemory) same = cc

@@ -1,3 +1,4 @@
+pub mod Budgets
 pub mod EndingLemmas
 pub mod LawLemmas
 pub mod HeadlineLemmas

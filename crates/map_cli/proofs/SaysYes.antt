@@ -2,6 +2,9 @@
 use Rattle.std.proofs.Common.{◌≡◌, ℕ, ◌⊎◌, inl, inr, Bool, true, false, if◌then◌else◌, List, [], length, Option, None, Some, Result, Ok, Err, IfSome, unwrap_or, refl, sym, ap, ◌∙◌, subst}
 use Rattle.map_base.specs.declared.limit.LimitKind.TheVariants.{File}
 use Rattle.map_base.specs.Limits.{is_within, limit_of}
+use Rattle.map_base.specs.Settings.{Choices}
+use Rattle.map_method.specs.declared.defaults.Defaults.{Defaults}
+use Rattle.map_method.specs.declared.defaults.Defaults.TheVariants.{Make}
 use Rattle.map_method.specs.declared.map_settings.MapSettings.{MapSettings}
 use Rattle.files_door.specs.declared.target.Target.{Target}
 use Rattle.files_door.specs.declared.target.Target.TheVariants.{Said, Path}
@@ -35,10 +38,12 @@ use Rattle.command_paths.specs.Paths.{Chosen, MapPaths}
 use Rattle.map_cli.specs.Inputs.{inputs_of, input_path}
 use Rattle.map_commands.specs.MapWorks.{best_line, best, built, certificate_checked, certificate_work, check_work, checked_as, picture_checked, picture_work}
 use Rattle.run_status.specs.Outputs.{said}
-use Rattle.command_inputs.specs.Loading.{file_outcome, given_by, load_work, settings_by, settings_in, tables_work, Loads}
+use Rattle.map_cli.proofs.Budgets.{AreLoadedAlike, loads_over}
+use Rattle.command_inputs.specs.Loading.{changed_in, edited_by, feed_work, file_outcome, given_by, load_work, settings_by, settings_in, tables_work, Loads}
+use Rattle.map_cli.specs.Answers.{whole}
 use Rattle.map_cli.specs.Commands.{work}
 use Rattle.map_cli.specs.Ending.{Ends}
-use Rattle.map_cli.specs.Headline.{IsMapWritten, LieAsMade, SaysBest}
+use Rattle.map_cli.specs.Headline.{IsMapWritten, LieAsMade, SaysBest, to_check}
 use Rattle.map_commands.proofs.CheckLemmas.{graph_work, with_graph, with_loaded}
 use Rattle.map_cli.proofs.DoneLemmas.{is_done}
 
@@ -74,7 +79,7 @@ past_table : {A B : Type 0} (given later : Given) (first : Result A FeedFault) (
 past_table given later (Ok value) next each = each value
 past_table given later (Err why) next each = tt
 
--- Loading reads the tables, and the file of settings where one is named.
+-- Loading reads the tables, and the files of settings and of edits where they are named.
 
 tables_same : (given later : Given) → ((table : Table) → later (input.Table table) ≡ given (input.Table table)) → (types : List ℕ) → ReadsSame given later (tables_work types)
 tables_same given later same types = (
@@ -92,27 +97,37 @@ tables_same given later same types = (
   )),
 )
 
-past_file : (given later : Given) (read : Result (Option (List ℕ)) Refusal) → (let next : Option (List ℕ) → Work Input Refusal MapSettings = λ file. ends (settings_in file) in ReadsSame given later (ends read >>= next))
-past_file given later (Ok file) = tt
-past_file given later (Err why) = tt
+past_file : {A : Type 0} (given later : Given) (read : Result (Option (List ℕ)) Refusal) (gives : Option (List ℕ) → Result A Refusal)
+    → (let next : Option (List ℕ) → Work Input Refusal A = λ file. ends (gives file) in ReadsSame given later (ends read >>= next))
+past_file given later (Ok file) gives = tt
+past_file given later (Err why) gives = tt
 
-settings_same : (given later : Given) (settings : Option (List ℕ)) → IfSome settings (λ path. later input.Settings ≡ given input.Settings) → ReadsSame given later (settings_by settings)
-settings_same given later None same = tt
-settings_same given later (Some path) same = (same, λ file. past_file given later (file_outcome file))
+settings_same : (given later : Given) (defaults : Defaults) (settings : Option (List ℕ)) → IfSome settings (λ path. later input.Settings ≡ given input.Settings) → ReadsSame given later (settings_by defaults settings)
+settings_same given later defaults None same = tt
+settings_same given later defaults (Some path) same = (same, λ file. past_file given later (file_outcome file) (settings_in defaults))
 
-load_same : (given later : Given) (chosen : Chosen) → IfSome chosen.settings (λ path. later input.Settings ≡ given input.Settings) → ((table : Table) → later (input.Table table) ≡ given (input.Table table))
-    → ReadsSame given later (load_work chosen)
-load_same given later chosen settings tables =
+feed_same : (given later : Given) (chosen : Chosen) → IfSome chosen.settings (λ path. later input.Settings ≡ given input.Settings) → ((table : Table) → later (input.Table table) ≡ given (input.Table table))
+    → ReadsSame given later (feed_work chosen)
+feed_same given later chosen settings tables =
     let loaded : MapSettings → Feed → Work Input Refusal Loaded = λ choices feed. ends (Ok (record { settings = choices.settings; method = choices.method; tables = feed })) in
     let after : MapSettings → Work Input Refusal Loaded = λ choices. tables_work choices.settings.types >>= loaded choices in
-    same_then given later (settings_by chosen.settings) after (settings_same given later chosen.settings settings)
+    same_then given later (settings_by chosen.defaults chosen.settings) after (settings_same given later chosen.defaults chosen.settings settings)
     (λ choices. same_then given later (tables_work choices.settings.types) (loaded choices) (tables_same given later tables choices.settings.types) (λ feed. tt))
 
--- the file of settings lies at its path
-settings_lie : (files later : List (List ℕ × List ℕ)) (settings : Option (List ℕ)) → IfSome settings (λ path. file_at later path ≡ file_at files path)
-    → IfSome settings (λ path. file_at later (unwrap_or settings []) ≡ file_at files (unwrap_or settings []))
-settings_lie files later None same = tt
-settings_lie files later (Some path) same = same
+edits_same : (given later : Given) (edits : Option (List ℕ)) (loaded : Loaded) → IfSome edits (λ path. later input.Edits ≡ given input.Edits) → ReadsSame given later (edited_by edits loaded)
+edits_same given later None loaded same = tt
+edits_same given later (Some path) loaded same = (same, λ file. past_file given later (file_outcome file) (changed_in loaded))
+
+load_same : (given later : Given) (chosen : Chosen) → IfSome chosen.settings (λ path. later input.Settings ≡ given input.Settings) → IfSome chosen.edits (λ path. later input.Edits ≡ given input.Edits)
+    → ((table : Table) → later (input.Table table) ≡ given (input.Table table)) → ReadsSame given later (load_work chosen)
+load_same given later chosen settings edits tables =
+    same_then given later (feed_work chosen) (λ loaded. edited_by chosen.edits loaded) (feed_same given later chosen settings tables) (λ loaded. edits_same given later chosen.edits loaded edits)
+
+-- a file that is named lies at its path
+named_lies : (files later : List (List ℕ × List ℕ)) (named : Option (List ℕ)) → IfSome named (λ path. file_at later path ≡ file_at files path)
+    → IfSome named (λ path. file_at later (unwrap_or named []) ≡ file_at files (unwrap_or named []))
+named_lies files later None same = tt
+named_lies files later (Some path) same = same
 
 loads_are : (files : List (List ℕ × List ℕ)) (asked : Asked) (loaded : Loaded) → Loads (Some files) (inputs_of asked) loaded → outcome (load_work (inputs_of asked).chosen) (file_of files (input_path asked)) ≡ Ok loaded
 loads_are files asked loaded loads =
@@ -171,27 +186,36 @@ module _ (given : Given) (loaded : Loaded) (graph : GraphParts) (made : MapBytes
 fits_by : (held : Option (List ℕ)) (bytes : List ℕ) → held ≡ Some bytes → IfSome held (λ b. is_within File (length b) ≡ true) → is_within File (length bytes) ≡ true
 fits_by held bytes is fits = subst (λ (h : Option (List ℕ)). IfSome h (λ b. is_within File (length b) ≡ true)) is fits
 
+-- what holds of tables and settings holds where these are alike but for the budget, of which it does not speak
+as_well : (P : Feed → Choices → Type 0) (x y : Loaded) → AreLoadedAlike x y → P x.tables (record x.settings { budget = y.settings.budget }) → P y.tables y.settings
+as_well P x y alike holds = subst (λ (t : Feed). P t y.settings) alike.0 (subst (λ (c : Choices). P x.tables c) alike.1 holds)
+
 pub says_yes : (feed : List ℕ) (paths : MapPaths) (chosen : Chosen) (files later : List (List ℕ × List ℕ)) (made : Written)
     → (written : IsMapWritten (Some files) (make feed paths chosen) paths made) → LieAsMade files later feed paths chosen made
-    → outcome (work (check feed paths chosen)) (file_of later (input_path (check feed paths chosen))) ≡ Ok (said (best_line written.is_made.cost))
+    → outcome (work (check feed paths (to_check chosen))) (file_of later (input_path (check feed paths (to_check chosen)))) ≡ Ok (whole (said (best_line written.is_made.cost)))
 says_yes feed paths chosen files later made written lie =
     let before : Given = file_of files (input_path (make feed paths chosen)) in
-    let given : Given = file_of later (input_path (check feed paths chosen)) in
+    let given : Given = file_of later (input_path (check feed paths (to_check chosen))) in
     let certified = written.is_made.certified in
-    let same : ReadsSame before given (load_work chosen) = load_same before given chosen (settings_lie files later chosen.settings lie.same_settings) lie.same_feed in
+    let same : ReadsSame before given (load_work chosen) = load_same before given chosen (named_lies files later chosen.settings lie.same_settings) (named_lies files later chosen.edits lie.same_edits) lie.same_feed in
     let loads : outcome (load_work chosen) given ≡ Ok written.loaded = same_outcome before given (load_work chosen) same ∙ loads_are files (make feed paths chosen) written.loaded written.loads in
-    then_outcome (load_work chosen) with_loaded given written.loaded loads
-    ∙ after_loading given written.loaded certified.graph written.made written.is_made.cost
+    let other = loads_over chosen Make given written.loaded loads in
+    let drawn = as_well (λ feed choices. graph_outcome choices.near feed ≡ Ok certified.graph) written.loaded other.0 other.2 certified.of_feed in
+    let accepted = as_well (λ feed choices. check_outcome feed choices written.made.svg (certificate_in written.made.certificate) ≡ Ok written.is_made.cost) written.loaded other.0 other.2 written.is_made.accepted in
+    let printed : outcome (check_work (to_check chosen)) given ≡ Ok (said (best_line written.is_made.cost)) =
+    then_outcome (load_work (to_check chosen)) with_loaded given other.0 other.1
+    ∙ after_loading given other.0 certified.graph written.made written.is_made.cost
     (lie.certificate ∙ written.certificate) (fits_by (held_by (Path paths.certificate) made) written.made.certificate written.certificate lie.certificate_fits)
     (lie.map ∙ written.map) (fits_by (held_by (Path paths.picture) made) written.made.svg written.map lie.map_fits)
-    certified.of_feed written.is_made.accepted
+    drawn accepted in
+    then_outcome (check_work (to_check chosen)) (λ outputs. ends (Ok (whole outputs))) given (said (best_line written.is_made.cost)) printed
 
 pub ends_with_yes : (feed : List ℕ) (paths : MapPaths) (chosen : Chosen) (files later : List (List ℕ × List ℕ)) (made : Written) (files_rose rose : Type 0) (old new : Written) (ended : Status)
     → (written : IsMapWritten (Some files) (make feed paths chosen) paths made) → LieAsMade files later feed paths chosen made
-    → Ends (Some (check feed paths chosen)) (Some later) files_rose rose (Some old) (Some new) ended → (files_rose → ⊥) → (rose → ⊥)
+    → Ends (Some (check feed paths (to_check chosen))) (Some later) files_rose rose (Some old) (Some new) ended → (files_rose → ⊥) → (rose → ⊥)
     → ((ended ≡ status.Done) × SaysBest old new written.is_made.cost) ⊎ (ended ≡ status.NoMemory)
 ends_with_yes feed paths chosen files later made files_rose rose old new ended written lie finish told steady =
-    by_end (is_done (check feed paths chosen) later files_rose rose old new ended (said (best_line written.is_made.cost)) finish (says_yes feed paths chosen files later made written lie) told steady)
+    by_end (is_done (check feed paths (to_check chosen)) later files_rose rose old new ended (said (best_line written.is_made.cost)) finish (says_yes feed paths chosen files later made written lie) told steady)
   where
     by_end : ((ended ≡ status.Done) × ((target : Target) → held_by target new ≡ held_after target (said (best_line written.is_made.cost)) (held_by target old))) ⊎ (ended ≡ status.NoMemory)
         → ((ended ≡ status.Done) × SaysBest old new written.is_made.cost) ⊎ (ended ≡ status.NoMemory)

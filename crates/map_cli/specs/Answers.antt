@@ -1,22 +1,46 @@
 -- Answers of a run: a status, and outputs in the order in which their targets are begun.
-use Rattle.std.specs.Prelude.{ℕ, List, [], Result, Ok, Err}
+use Rattle.std.specs.Prelude.{ℕ, List, [], Option, None, Some, Result, Ok, Err}
 use Rattle.command_run.specs.declared.output.Output.{Output}
 use Rattle.run_status.specs.declared.input.Input.{Input}
 use Rattle.run_status.specs.declared.refusal.Refusal.{Refusal}
 use Rattle.run_status.specs.declared.status.Status.{Status}
 use Rattle.run_status.specs.declared.status.Status.TheVariants as status
 use Rattle.run_status.specs.Statuses.{status_of}
+use Rattle.session_command.specs.declared.played.Played.{Played}
 use Rattle.map_cli.specs.declared.answer.Answer.{Answer}
+use Rattle.map_cli.specs.declared.answer.Finished.{Finished}
 
 -- a status with nothing but its line
 abbrev pub alone : Status → Answer
 alone why = record { status = why; outputs = [] }
 
--- the work is done, and these are its outputs
-abbrev pub done : List Output → Answer
-done outputs = record { status = status.Done; outputs = outputs }
+-- a command without a script came to its end
+abbrev pub whole : List Output → Finished
+whole outputs = record { outputs = outputs; bad_line = None }
+
+-- a script came to its end, or to its first bad line
+abbrev pub stopped : Played → Finished
+stopped played = record { outputs = played.outputs; bad_line = played.bad }
+
+-- the same of results
+abbrev pub whole_by : Result (List Output) Refusal → Result Finished Refusal
+whole_by (Ok outputs) = Ok (whole outputs)
+whole_by (Err why) = Err why
+
+abbrev pub stopped_by : Result Played Refusal → Result Finished Refusal
+stopped_by (Ok played) = Ok (stopped played)
+stopped_by (Err why) = Err why
+
+-- the status by the bad line at which a script stopped
+abbrev pub status_at : Option ℕ → Status
+status_at None = status.Done
+status_at (Some line) = status.BadEdit line
+
+-- a command came to its end, and these are its outputs
+abbrev pub done : Finished → Answer
+done finished = record { status = status_at finished.bad_line; outputs = finished.outputs }
 
 -- the answer of a command by what its work came to
-abbrev pub answer_by : (Input → List ℕ) → Result (List Output) Refusal → Answer
-answer_by paths (Ok outputs) = done outputs
+abbrev pub answer_by : (Input → List ℕ) → Result Finished Refusal → Answer
+answer_by paths (Ok finished) = done finished
 answer_by paths (Err why) = alone (status_of paths why)

@@ -1,20 +1,39 @@
 -- What each command does, as a piece of work that reads inputs. One line a command.
-use Rattle.std.specs.Prelude.{List}
+use Rattle.std.specs.Prelude.{List, Ok}
 use Rattle.command_run.specs.declared.output.Output.{Output}
-use Rattle.command_run.specs.Work.{Work}
-use Rattle.command_words.specs.Asked.{Asked, stations, graph, make, check, trial, page}
+use Rattle.command_run.specs.Work.{Work, ends, ◌>>=◌}
+use Rattle.command_words.specs.Asked.{Asked, stations, graph, make, check, labels, session, trial, page}
 use Rattle.run_status.specs.declared.input.Input.{Input}
 use Rattle.run_status.specs.declared.refusal.Refusal.{Refusal}
 use Rattle.table_commands.specs.TableWorks.{graph_work, stations_work}
 use Rattle.map_commands.specs.MapWorks.{check_work, make_work}
+use Rattle.label_command.specs.LabelWorks.{labels_work}
+use Rattle.session_command.specs.declared.played.Played.{Played}
+use Rattle.session_command.specs.SessionWorks.{session_work}
 use Rattle.trial_command.specs.Trials.{trial_work}
 use Rattle.page_command.specs.PageWorks.{page_work}
+use Rattle.map_cli.specs.declared.answer.Finished.{Finished}
+use Rattle.map_cli.specs.Answers.{stopped, whole}
+
+-- a command without a script
+abbrev pub to_the_end : Work Input Refusal (List Output) → Work Input Refusal Finished
+to_the_end first = do
+  outputs ← first
+  ends (Ok (whole outputs))
+
+-- a script
+abbrev pub to_a_stop : Work Input Refusal Played → Work Input Refusal Finished
+to_a_stop first = do
+  played ← first
+  ends (Ok (stopped played))
 
 -- what is asked for
-abbrev pub work : Asked → Work Input Refusal (List Output)
-work (stations feed) = stations_work
-work (graph feed chosen) = graph_work chosen
-work (make feed paths chosen) = make_work chosen paths
-work (check feed paths chosen) = check_work chosen
-work (trial number) = trial_work number
-work (page picture html) = page_work html
+abbrev pub work : Asked → Work Input Refusal Finished
+work (stations feed) = to_the_end stations_work
+work (graph feed chosen) = to_the_end (graph_work chosen)
+work (make feed paths chosen) = to_the_end (make_work chosen paths)
+work (check feed paths chosen) = to_the_end (check_work chosen)
+work (labels feed certificate out chosen) = to_the_end (labels_work chosen out)
+work (session feed script out chosen) = to_a_stop (session_work chosen out)
+work (trial number) = to_the_end (trial_work number)
+work (page picture html) = to_the_end (page_work html)

@@ -9,6 +9,7 @@ use Rattle.command_run.specs.Work.{Seen, Runs}
 use Rattle.command_run.specs.Delivered.{IsDelivered, line_acts, no_memory_line}
 use Rattle.command_run.specs.Held.{line_outputs}
 use Rattle.map_cli.specs.declared.answer.Answer.{Answer}
+use Rattle.map_cli.specs.declared.answer.Finished.{Finished}
 use Rattle.map_cli.specs.declared.answer.Reply.{Reply}
 use Rattle.run_status.specs.declared.input.Input.{Input}
 use Rattle.run_status.specs.declared.refusal.Refusal.{Refusal}
@@ -28,7 +29,7 @@ use Rattle.map_cli.specs.Promises.{Keeps}
 abbrev pub IsAnswerTo : Option Asked → Option (List (List ℕ × List ℕ)) → Type 0 → Answer → Type 0
 IsAnswerTo None told rose answer = answer ≡ alone status.Usage
 IsAnswerTo (Some asked) told rose answer =
-    (result : Result (List Output) Refusal) × ComesTo told (input_path asked) rose (work asked) result × Keeps told asked result
+    (result : Result Finished Refusal) × ComesTo told (input_path asked) rose (work asked) result × Keeps told asked result
     × (answer ≡ answer_by (input_path asked) result)
 
 -- a line that the status may print
@@ -81,6 +82,7 @@ IsCaused asked files_rose sinks_rose status.WriteFault = sinks_rose
 IsCaused asked files_rose sinks_rose status.Done = asked ≢ None
 IsCaused asked files_rose sinks_rose (status.Refuted item) = asked ≢ None
 IsCaused asked files_rose sinks_rose (status.BadSettings why) = asked ≢ None
+IsCaused asked files_rose sinks_rose (status.BadEdit line) = asked ≢ None
 IsCaused asked files_rose sinks_rose (status.Missing path) = asked ≢ None
 IsCaused asked files_rose sinks_rose (status.BadRow table row why) = asked ≢ None
 IsCaused asked files_rose sinks_rose (status.NoRoute seg) = asked ≢ None

@@ -1,32 +1,43 @@
 -- What commands promise of their outputs and their steps. One line a command.
 use Rattle.std.specs.Prelude.{◌≡◌, ℕ, List, Option, None, Some, Result, Ok, Err, ⊤}
-use Rattle.command_run.specs.declared.output.Output.{Output}
-use Rattle.command_words.specs.Asked.{Asked, stations, graph, make, check, trial, page}
+use Rattle.command_words.specs.Asked.{Asked, stations, graph, make, check, labels, session, trial, page}
 use Rattle.run_status.specs.declared.refusal.Refusal.{Refusal}
 use Rattle.map_commands.specs.Promises.{AreOfMap, AreOfYes, SearchesParts}
+use Rattle.label_command.specs.LabelWorks.{AreOfLabels}
+use Rattle.session_command.specs.declared.played.Played.{Played}
+use Rattle.session_command.specs.Promises.{AreOfSession, TakesSessionSteps}
 use Rattle.trial_command.specs.Trials.{TakesTrialSteps}
+use Rattle.map_cli.specs.declared.answer.Finished.{Finished}
 use Rattle.map_cli.specs.Inputs.{inputs_of}
 
--- what a command promises of its outputs, beside that its work comes to them
-abbrev pub Promised : Option (List (List ℕ × List ℕ)) → Asked → List Output → Type 0
-Promised told (stations feed) outputs = ⊤
-Promised told (graph feed chosen) outputs = ⊤
-Promised told (make feed paths chosen) outputs = AreOfMap told (inputs_of (make feed paths chosen)) paths outputs
-Promised told (check feed paths chosen) outputs = AreOfYes told (inputs_of (check feed paths chosen)) outputs
-Promised told (trial number) outputs = ⊤
-Promised told (page picture html) outputs = ⊤
+-- a script that came so far
+abbrev pub played_of : Finished → Played
+played_of finished = record { outputs = finished.outputs; bad = finished.bad_line }
+
+-- what a command promises of its end, beside that its work comes to it
+abbrev pub Promised : Option (List (List ℕ × List ℕ)) → Asked → Finished → Type 0
+Promised told (stations feed) finished = ⊤
+Promised told (graph feed chosen) finished = ⊤
+Promised told (make feed paths chosen) finished = AreOfMap told (inputs_of (make feed paths chosen)) paths finished.outputs
+Promised told (check feed paths chosen) finished = AreOfYes told (inputs_of (check feed paths chosen)) finished.outputs
+Promised told (labels feed certificate out chosen) finished = AreOfLabels told (inputs_of (labels feed certificate out chosen)) out finished.outputs
+Promised told (session feed script out chosen) finished = AreOfSession told (inputs_of (session feed script out chosen)) out (played_of finished)
+Promised told (trial number) finished = ⊤
+Promised told (page picture html) finished = ⊤
 
 -- what a result promises: a refusal nothing more
-abbrev pub Keeps : Option (List (List ℕ × List ℕ)) → Asked → Result (List Output) Refusal → Type 0
-Keeps told asked (Ok outputs) = Promised told asked outputs
+abbrev pub Keeps : Option (List (List ℕ × List ℕ)) → Asked → Result Finished Refusal → Type 0
+Keeps told asked (Ok finished) = Promised told asked finished
 Keeps told asked (Err why) = ⊤
 
--- how far the counter of steps rises: `make` and `trial` search parts, and no other command takes a step
+-- how far the counter of steps rises: `make`, `session` and `trial` search parts, and no other command takes a step
 abbrev pub TakesSteps : Option (List (List ℕ × List ℕ)) → Option Asked → ℕ → ℕ → Type 0
 TakesSteps told None before now = now ≡ before
 TakesSteps told (Some (stations feed)) before now = now ≡ before
 TakesSteps told (Some (graph feed chosen)) before now = now ≡ before
 TakesSteps told (Some (make feed paths chosen)) before now = SearchesParts told (inputs_of (make feed paths chosen)) before now
 TakesSteps told (Some (check feed paths chosen)) before now = now ≡ before
+TakesSteps told (Some (labels feed certificate out chosen)) before now = now ≡ before
+TakesSteps told (Some (session feed script out chosen)) before now = TakesSessionSteps told (inputs_of (session feed script out chosen)) before now
 TakesSteps told (Some (trial number)) before now = TakesTrialSteps number before now
 TakesSteps told (Some (page picture html)) before now = now ≡ before

@@ -96,6 +96,41 @@ fn a_finer_net_keeps_two_ways_apart(rt: HostRuntime) -> Result<(), Fail> {
     Ok(())
 }
 
+/// The status and the standard output of `graph feed --edits my.edits`, where the file has these edits, if it is there.
+fn edited_graph(alloc: Global, edits: Option<&str>) -> Result<(u8, Vec<u8>), Fail> {
+    let words = words_of(alloc, "graph feed --edits my.edits")?;
+    let mut given = feed_of(alloc, ROUTES, TRIPS, STOP_TIMES)?;
+    if let Some(edits) = edits {
+        put_file(alloc, &mut given, "my.edits", edits)?;
+    }
+    let mut files = SteadyFiles::with(given);
+    let mut sinks = SteadySinks::none(alloc);
+    let status = run_on(alloc, &words, &mut files, &mut sinks);
+    let held = sinks.written(&Target::Said).unwrap_or(b"").to_vec(alloc)?;
+    Ok((status, held))
+}
+
+#[test]
+fn a_graph_is_edited_first(rt: HostRuntime) -> Result<(), Fail> {
+    let alloc = rt.alloc();
+    let (status, held) = edited_graph(alloc, Some("hide\tA\r\nundo\nnear\t100"))?;
+    assert_eq!(rt; status, 0);
+    assert_eq!(rt; held.as_slice(), TWO_LINES_APART.as_bytes());
+    Ok(())
+}
+
+#[test]
+fn a_bad_edit_is_named_by_its_line(rt: HostRuntime) -> Result<(), Fail> {
+    let alloc = rt.alloc();
+    let (status, held) = edited_graph(alloc, Some("hide\tA\nshow\tX\nundo\n"))?;
+    assert_eq!(rt; status, 11);
+    assert_eq!(rt; held.as_slice(), b"bad edit: 2\n".as_slice());
+    let (status, held) = edited_graph(alloc, None)?;
+    assert_eq!(rt; status, 11);
+    assert_eq!(rt; held.as_slice(), b"bad edit: 0\n".as_slice());
+    Ok(())
+}
+
 #[test]
 fn a_fault_of_reading_names_the_table(rt: HostRuntime) -> Result<(), Fail> {
     let alloc = rt.alloc();

@@ -10,6 +10,7 @@ ghost use Rattle.command_run.specs.Held.{held_after, line_outputs, IsBeginning};
 ghost use Rattle.command_run.specs.Work.{outcome};
 ghost use Rattle.command_run.specs.Told.{file_of};
 ghost use Rattle.map_cli.specs.declared.answer.Answer.{Answer};
+ghost use Rattle.map_cli.specs.declared.answer.Finished.{Finished};
 ghost use Rattle.run_status.specs.declared.input.Input.{Input};
 ghost use Rattle.run_status.specs.declared.status.Status.{Status};
 ghost use Rattle.run_status.specs.declared.status.Status.TheVariants as status;
@@ -17,11 +18,11 @@ ghost use Rattle.command_words.specs.Asked.{Asked, check, make};
 ghost use Rattle.command_paths.specs.Paths.{Chosen, MapPaths};
 ghost use Rattle.map_cli.specs.Inputs.{input_path};
 ghost use Rattle.map_commands.specs.MapWorks.{best_line};
-ghost use Rattle.map_cli.specs.Answers.{alone, answer_by};
+ghost use Rattle.map_cli.specs.Answers.{alone, answer_by, status_at, whole};
 ghost use Rattle.run_status.specs.Outputs.{said};
 ghost use Rattle.map_cli.specs.Commands.{work};
 ghost use Rattle.map_cli.specs.Ending.{Ends, IsAnswerTo, IsLineOf, IsToBeWritten};
-ghost use Rattle.map_cli.specs.Headline.{IsMapWritten, LieAsMade, SaysBest};
+ghost use Rattle.map_cli.specs.Headline.{IsMapWritten, LieAsMade, SaysBest, to_check};
 
 /// Over files that are told, the answer to a command is the one that they define, or it names the path of an input,
 /// and the files' count of faults rose.
@@ -64,25 +65,31 @@ pub fn want_of_memory_leaves_two_beginnings()
 
 /// Where told files give a command outputs, and no count of faults rises, the run ends with status 0, and each target
 /// holds what these outputs leave in it; or memory ran out. So what is defined is done: a bad row, a limit, a network
-/// without a drawing, a search over its budget or a refused item are the only other causes, and each is exact.
+/// without a drawing, a search over its budget or a refused item are the only other causes, and each is exact. A script
+/// that stops at a bad line leaves its outputs up to there, and behind them the line of status 11.
 pub fn what_is_defined_is_done()
-    ensures { (asked : Asked) (files : List (List ℕ × List ℕ)) (files_before files_now before now : ℕ) (old new : Written) (ended : Status) (outputs : List Output)
+    ensures stopped { (asked : Asked) (files : List (List ℕ × List ℕ)) (files_before files_now before now : ℕ) (old new : Written) (ended : Status) (finished : Finished)
         → Ends (Some asked) (Some files) (Rose files_before files_now) (Rose before now) (Some old) (Some new) ended
-        → outcome (work asked) (file_of files (input_path asked)) ≡ Ok outputs → (Rose files_before files_now → ⊥) → (Rose before now → ⊥)
+        → outcome (work asked) (file_of files (input_path asked)) ≡ Ok finished → (Rose files_before files_now → ⊥) → (Rose before now → ⊥)
+        → ((ended ≡ status_at finished.bad_line) × ((line : List ℕ) × IsLineOf ended line
+        × ((target : Target) → held_by target new ≡ held_after target (finished.outputs ++ line_outputs line) (held_by target old)))) ⊎ (ended ≡ status.NoMemory) }
+    ensures whole { (asked : Asked) (files : List (List ℕ × List ℕ)) (files_before files_now before now : ℕ) (old new : Written) (ended : Status) (outputs : List Output)
+        → Ends (Some asked) (Some files) (Rose files_before files_now) (Rose before now) (Some old) (Some new) ended
+        → outcome (work asked) (file_of files (input_path asked)) ≡ Ok (whole outputs) → (Rose files_before files_now → ⊥) → (Rose before now → ⊥)
         → ((ended ≡ status.Done) × ((target : Target) → held_by target new ≡ held_after target outputs (held_by target old))) ⊎ (ended ≡ status.NoMemory) }
 {}
 
-/// The check says yes to what `make` wrote. After a run of `make` that ended with status 0 let the feed be as it was, and
+/// The check says yes to what `make` or `map` wrote. After a run of one of them that ended with status 0 let the feed be as it was, and
 /// the map and the certificate lie as they were written, neither longer than a file may be. Then `check` comes to the cost
 /// of the map; and a run of it on which no count of faults rises ends with status 0 and prints this cost, or memory ran
 /// out.
 pub fn check_says_yes_to_what_make_wrote()
     ensures defined { (feed : List ℕ) (paths : MapPaths) (chosen : Chosen) (files later : List (List ℕ × List ℕ)) (made : Written)
         → (written : IsMapWritten (Some files) (make feed paths chosen) paths made) → LieAsMade files later feed paths chosen made
-        → outcome (work (check feed paths chosen)) (file_of later (input_path (check feed paths chosen))) ≡ Ok (said (best_line written.is_made.cost)) }
+        → outcome (work (check feed paths (to_check chosen))) (file_of later (input_path (check feed paths (to_check chosen)))) ≡ Ok (whole (said (best_line written.is_made.cost))) }
     ensures done { (feed : List ℕ) (paths : MapPaths) (chosen : Chosen) (files later : List (List ℕ × List ℕ)) (made : Written) (files_before files_now before now : ℕ) (old new : Written) (ended : Status)
         → (written : IsMapWritten (Some files) (make feed paths chosen) paths made) → LieAsMade files later feed paths chosen made
-        → Ends (Some (check feed paths chosen)) (Some later) (Rose files_before files_now) (Rose before now) (Some old) (Some new) ended
+        → Ends (Some (check feed paths (to_check chosen))) (Some later) (Rose files_before files_now) (Rose before now) (Some old) (Some new) ended
         → (Rose files_before files_now → ⊥) → (Rose before now → ⊥)
         → ((ended ≡ status.Done) × SaysBest old new written.is_made.cost) ⊎ (ended ≡ status.NoMemory) }
 {}

@@ -13,15 +13,17 @@ ghost use Rattle.map_cli.specs.Promises.{Keeps, TakesSteps};
 ghost use Rattle.map_cli.specs.Ending.{Ends, IsAnswerTo, IsCaused, IsLineOf, IsOutOfMemory, IsReplyTo, IsWritten};
 ghost use Rattle.map_cli.specs.Headline.{MeansDone};
 
-use crate::answer::{Answer, Reply, end_with, finished};
+use crate::answer::{Answer, Finished, Reply, answered, end_with, stopped, whole};
 use crate::inputs::{inputs_of, path_for};
-use command_run::{Ending, Output, deliver, out_of_memory};
+use command_run::{Ending, deliver, out_of_memory};
 use command_words::{Command, WordsFault, command_of};
 use files_door::{Files, Sinks};
-use map_base::{NoMemory, Sequence, Steps};
+use label_command::label_map;
+use map_base::{NoMemory, Steps};
 use map_commands::{check_map, make_map};
 use page_command::show_map;
 use run_status::{Refusal, Status, line_of};
+use session_command::play_script;
 use std::alloc::Global;
 use std::sync::ledger::Ledger;
 use table_commands::{print_line_graph, print_stations};
@@ -37,8 +39,10 @@ use trial_command::print_trial;
 ///
 /// Where `make` ends with status 0, the map that is written shows exactly the feed's line graph: a legal drawing, in
 /// which no line orders cost less, as the certificate beside it shows. Where `check` ends with status 0, the map at its
-/// path is such a map, whoever made it and its certificate. `page` writes the bytes of the page's head, of the map and of
-/// the page's tail. `trial` reads and writes no file.
+/// path is such a map, whoever made it and its certificate; and where `labels` ends with it, such a map is written with
+/// names at free places. Each draw of a `session` has the bytes of a fresh map with the edits that stand there; a bad line
+/// of its script ends it, and the draws before it are written. Where a file of edits is named, the feed is as these make it.
+/// `page` writes the bytes of the page's head, of the map and of the page's tail. `trial` reads and writes no file.
 pub fn run<F: Files, S: Sinks, L: Ledger>(
     alloc: Global,
     words: &[String],
@@ -171,34 +175,36 @@ fn answer_to<F: Files, L: Ledger>(
     ensures steps { TakesSteps (F.told files.old) (Some (asked_by command.now)) steps.old steps.new }
 {
     match carry_out(alloc, command, files, steps) {
-        Ok(outputs) => Ok(finished(outputs)),
+        Ok(finished) => Ok(answered(finished)),
         Err(refusal) => refuse(alloc, command, refusal),
     }
 }
 
-/// Does the work of a command.
+/// Does the work of a command, to its end or to the bad line of a script.
 fn carry_out<F: Files, L: Ledger>(
     alloc: Global,
     command: &Command<'_>,
     files: &mut F,
     steps: &mut Steps<L>,
-) -> Result<Sequence<Output>, Refusal>
+) -> Result<Finished, Refusal>
     ensures follows { Follows (F.told files.old) (input_path (asked_by command.now))
-        (Rose (F.faults files.old) (F.faults files.new)) (λ outputs. outputs) (work (asked_by command.now)) result }
+        (Rose (F.faults files.old) (F.faults files.new)) (λ finished. finished) (work (asked_by command.now)) result }
     ensures keeps { Keeps (F.told files.old) (asked_by command.now) result }
     ensures steps { TakesSteps (F.told files.old) (Some (asked_by command.now)) steps.old steps.new }
 {
     let inputs = inputs_of(command);
     match command {
-        Command::Stations { .. } => print_stations(alloc, &inputs, files),
-        Command::Graph { .. } => print_line_graph(alloc, &inputs, files),
+        Command::Stations { .. } => whole(print_stations(alloc, &inputs, files)),
+        Command::Graph { .. } => whole(print_line_graph(alloc, &inputs, files)),
         Command::Make {
             files: map_files,
             ..
-        } => make_map(alloc, &inputs, map_files, files, steps),
-        Command::Check { .. } => check_map(alloc, &inputs, files),
-        Command::Trial { number } => print_trial(alloc, *number, steps),
-        Command::Page { page, .. } => show_map(alloc, &inputs, page, files),
+        } => whole(make_map(alloc, &inputs, map_files, files, steps)),
+        Command::Check { .. } => whole(check_map(alloc, &inputs, files)),
+        Command::Labels { out, .. } => whole(label_map(alloc, &inputs, out, files)),
+        Command::Session { out, .. } => stopped(play_script(alloc, &inputs, out, files, steps)),
+        Command::Trial { number } => whole(print_trial(alloc, *number, steps)),
+        Command::Page { page, .. } => whole(show_map(alloc, &inputs, page, files)),
     }
 }
 
@@ -220,6 +226,7 @@ fn refuse(alloc: Global, command: &Command<'_>, refusal: Refusal) -> Result<Answ
         Refusal::Limit(limit) => Status::Limit(limit),
         Refusal::Refuted(item) => Status::Refuted(item),
         Refusal::BadSettings(why) => Status::BadSettings(why),
+        Refusal::BadEdit { line } => Status::BadEdit { line },
         Refusal::Missing { input } => Status::Missing {
             path: path_for(alloc, command, input)?,
         },

@@ -18,6 +18,7 @@ use Rattle.octi_grid.specs.Walks.{IsWalk}
 use Rattle.octi_grid.specs.Legal.{first_illegal}
 use Rattle.order_model.specs.declared.term.Term.{Term}
 use Rattle.order_model.specs.declared.term.Term.TheVariants.{Side, Link, Apart}
+use Rattle.map_method.specs.declared.search.Search.{Search}
 use Rattle.order_model.specs.declared.problem.ProblemParts.{ProblemParts}
 use Rattle.order_model.specs.Problems.{lines_on, IsProblem, IsTerm}
 use Rattle.order_model.specs.Costs.{cost_of, is_met, term_cost, weight_of, AreOrders}
@@ -32,49 +33,45 @@ use Rattle.order_model.proofs.PartLists.{part_known, parts_few}
 use Rattle.order_model.proofs.RisingLines.{few_rising}
 use Rattle.order_model.proofs.Shares.{contains_in}
 use Rattle.order_proof.specs.Plain.{PlainPart}
-use Rattle.order_proof.specs.Trees.{HasTrees, IsProofTree}
+use Rattle.order_proof.specs.Trees.{IsProofTree}
 use Rattle.order_proof.specs.Forms.{most_id}
 use Rattle.order_proof.specs.Ranges.{AreRisingSegments, IsPartInRange}
 use Rattle.order_bound.specs.Accepting.{question}
+use Rattle.order_check.proofs.RuleTurns.{few_rules}
 use Rattle.order_search.specs.Finding.{with_lists}
 use Rattle.cert_file.specs.Forms.{are_distinct, is_among}
 use Rattle.cert_file.specs.Ranges.{ArePairs, IsInRange, IsOrder}
 use Rattle.cert_file.specs.Readers.{IsTextOf}
 use Rattle.map_engine.specs.Tables.{importance_by, AreOfFeed}
-use Rattle.map_engine.specs.Problems.{Drawn}
-use Rattle.map_engine.specs.Solving.{live_of, parts_in, solve_outcome, solved, SolvedPart}
-use Rattle.map_engine.specs.Certificates.{certificate_of, drawn_lines, is_drawn, is_weighty, line_numbered, proof_of, proof_part, weighed_line}
+use Rattle.map_engine.specs.Problems.{Drawn, untangling_rules, untangled_problem}
+use Rattle.kept_trees.specs.Results.{result_of}
+use Rattle.map_engine.specs.Solving.{parts_in, solve_outcome, solved, SolvedPart}
+use Rattle.map_engine.specs.Lifted.{lifted_by}
+use Rattle.map_engine.specs.Certificates.{certificate_of, drawn_lines, is_drawn, is_weighty, line_numbered, proof_part, weighed_line}
 use Rattle.map_engine.specs.Making.{map_of}
 use Rattle.map_engine.specs.Promises.{IsMade}
 use Rattle.map_engine.specs.Checking.{check_outcome}
+use Rattle.map_engine.specs.declared.best_orders.BestOrders.{BestOrders}
 use Rattle.map_engine.specs.declared.drawn_map.DrawnMap.{DrawnMap}
-use Rattle.map_engine.specs.declared.solution.Solution.{Solution}
-use Rattle.map_engine.specs.Stages.{drawn_of, map_by, IsShown, IsSolution}
-use Rattle.map_engine.specs.Wholes.{done_in, orders_in, IsWhole}
+use Rattle.map_engine.specs.Stages.{drawn_of, map_by, IsShown, AreBestBy, HaveProofTrees}
+use Rattle.map_engine.specs.Wholes.{done_in, IsWhole}
 use Rattle.map_engine.proofs.ImportanceLemmas.{number_at}
 use Rattle.map_engine.proofs.MadeLemmas.{map_is}
 use Rattle.map_engine.proofs.PartOrders.{all_are}
-use Rattle.map_engine.proofs.Promised.{accepts_map, segs_same, shows_certified}
+use Rattle.map_engine.proofs.Promised.{accepts_map, ordered, segs_same, shows_certified}
 use Rattle.map_engine.proofs.ReadAgain.{text_read}
 use Rattle.map_engine.proofs.TreeRanges.{line_there, tree_range, IsAsked, IsTermInRange}
+use Rattle.map_engine.proofs.RuleRanges.{all_filtered, lines_kept, rules_range, IsLineInRange}
+use Rattle.map_engine.proofs.UntangledLemmas.{last_is, rules_apply, untangled_fits}
 
 -- what a limited graph, its walks, its lines and its trees are
-pub record IsLimited (feed : Feed) (choices : Choices) (drawn : Drawn) : Type 0 where
+pub record IsLimited (how : Search) (feed : Feed) (choices : Choices) (drawn : Drawn) : Type 0 where
   pub fits : IsConsistent drawn.graph
   pub walks : AllByRecursion IsWalk drawn.walks
   pub of_feed : AreOfFeed feed drawn.graph
   pub few_lines : length feed.lines < 2 ^ 32
   pub importance : All (λ (p : List ℕ × ℕ). IsImportance p.1) choices.importance
-  pub trees : HasTrees (proof_of (done_in drawn.problem))
-
--- what each passes, each that a test keeps passes
-all_filtered : {A : Type 0} (P : A → Type 0) (test : A → Bool) (xs : List A) → AllByRecursion P xs → AllByRecursion P (filter test xs)
-all_filtered P test [] all = tt
-all_filtered P test (x ∷ xs) all = by_test (test x) (all_filtered P test xs all.1)
-  where
-    by_test : (b : Bool) → AllByRecursion P (filter test xs) → AllByRecursion P (cond b (x ∷ filter test xs) (filter test xs))
-    by_test true rest = (all.0, rest)
-    by_test false rest = rest
+  pub trees : HaveProofTrees (done_in how (untangled_problem drawn.problem))
 
 -- The lines that are drawn: they rise, and are no more than the lines on all segments.
 
@@ -159,12 +156,11 @@ unfolding IsDistinct
 distinct_is [] h = refl
 distinct_is (x ∷ xs) h = and_from (not (is_among xs x)) (are_distinct xs) (ap not (none_among x xs h.0)) (distinct_is xs h.1)
 
--- what is known of the lines of a segment
+-- what is known of the lines of a segment of the graph
 record AreLines (lines : List LineId) : Type 0 where
   some : 0 < length lines
   rising : AreRising lines
-  range : All (λ (a : LineId). a.0 ≤ most_id) lines
-  few : length lines ≤ 1000
+  range : All IsLineInRange lines
 
 order_range : (lines order : List LineId) → AreLines lines → IsPermutation lines order → IsOrder order
 order_range lines order are moved = record {
@@ -187,7 +183,6 @@ graph_lines feed graph fit of_feed few k d h = record {
   some = (fit.lines k d h).0;
   rising = (fit.lines k d h).1;
   range = λ i e below. omega (arith, few, of_feed k d h i e below);
-  few = omega (arith, few_rising (get_or graph.lines k d) fit.few_lines.0 (fit.lines k d h).1 (fit.few_lines.2 k d h), fit.few_lines.1);
 }
 
 -- The costs.
@@ -229,25 +224,26 @@ numbered_range : (k : ℕ) (terms : List Term) → AllByRecursion IsLight terms 
 numbered_range k [] all few = tt
 numbered_range k (t ∷ terms) all few = ((omega (arith, few), omega (arith, all.0)), numbered_range (k + 1) terms all.1 (omega (arith, few)))
 
--- what is known of a problem's segments
-abbrev AreSegments : List (List LineId) → Type 0
-AreSegments segs = (length segs ≤ 20000) × ((k : ℕ) (d : List LineId) → k < length segs → AreLines (get_or segs k d))
+-- what is known of a problem's segments: the lines of each are in range, and few
+record AreSegments (segs : List (List LineId)) : Type 0 where
+  range : All (All IsLineInRange) segs
+  few : All (λ (lines : List LineId). length lines ≤ 1000) segs
 
 asked_range : (p : ProblemParts) → IsProblem p → AreSegments p.segs → (part : List SegId) (target : ℕ) → All (λ (s : SegId). s.0 < length p.segs) part
     → IsAsked (question p.segs part (part_terms p.terms part) target)
 asked_range p fits are part target known = record {
-  segs = λ s h. omega (arith, All-contains (λ (t : SegId). t.0 < length p.segs) part s known (contains_in part s h), are.0);
+  segs = λ s h. omega (arith, All-contains (λ (t : SegId). t.0 < length p.segs) part s known (contains_in part s h), fits.few_choices);
   few = λ s. few_on s (cases_lt s.0 (length p.segs));
   lines = λ s a h. in_range s a h (cases_lt s.0 (length p.segs));
   terms = all_filtered IsTermInRange (λ (q : ℕ × Term). is_of part q.1) (numbered_from 0 p.terms) (numbered_range 0 p.terms (lights p.segs p.terms fits.terms) (omega (arith, fits.few_terms)));
 }
   where
     few_on : (s : SegId) → (s.0 < length p.segs) ⊎ (length p.segs ≤ s.0) → length (lines_on p.segs s) ≤ 1000
-    few_on s (inl h) = (are.1 s.0 [] h).few
+    few_on s (inl h) = are.few s.0 [] h
     few_on s (inr h) = omega (arith, ap length (get_or_past p.segs s.0 [] h))
 
     in_range : (s : SegId) (a : LineId) → has_line (lines_on p.segs s) a ≡ true → (s.0 < length p.segs) ⊎ (length p.segs ≤ s.0) → a.0 ≤ most_id
-    in_range s a there (inl h) = All-contains (λ (b : LineId). b.0 ≤ most_id) (lines_on p.segs s) a (are.1 s.0 [] h).range (line_there (lines_on p.segs s) a there)
+    in_range s a there (inl h) = All-contains IsLineInRange (lines_on p.segs s) a (are.range s.0 [] h) (line_there (lines_on p.segs s) a there)
     in_range s a there (inr h) = absurd (true≢false (sym there ∙ ap (λ (ls : List LineId). has_line ls a) (get_or_past p.segs s.0 [] h)))
 
 -- the first segment is at least so much
@@ -259,96 +255,121 @@ starts_at_0 : (part : List SegId) → StartsAt 0 part
 starts_at_0 [] = tt
 starts_at_0 (s ∷ rest) = omega arith
 
-segments_rise : (most least : ℕ) (part : List SegId) → most ≤ 20000 → IsRisingPart part → AllByRecursion (λ (s : SegId). s.0 < most) part → StartsAt least part → AreRisingSegments least part
+segments_rise : (most least : ℕ) (part : List SegId) → most ≤ 20000000 → IsRisingPart part → AllByRecursion (λ (s : SegId). s.0 < most) part → StartsAt least part → AreRisingSegments least part
 segments_rise most least [] few rising known from = tt
 segments_rise most least (s ∷ []) few rising known from = (from, omega (arith, few, known.0), tt)
 segments_rise most least (s ∷ t ∷ rest) few rising known from =
     (from, omega (arith, few, known.0), segments_rise most (suc s.0) (t ∷ rest) few rising.1 known.1 (omega (arith, rising.0)))
 
-part_range : (p : ProblemParts) → IsProblem p → AreSegments p.segs → (part : List SegId) → IsRisingPart part → All (λ (s : SegId). s.0 < length p.segs) part → IsShown p part
-    → IsProofTree (live_of p part).tree → IsPartInRange (proof_part (solved p part))
-part_range p fits are part rising known shown tree =
-    let orders : List (List LineId) = with_lists part (live_of p part).best.lists p.segs in
-    let costs : cost_of (filter (is_of part) p.terms) orders ≡ (live_of p part).best.cost = sym (ap (λ (ts : List Term). cost_of ts orders) (plain_kept part p.terms)) ∙ shown.attained.costs in
+part_range : (how : Search) (p : ProblemParts) → IsProblem p → AreSegments p.segs → (part : List SegId) → IsRisingPart part → All (λ (s : SegId). s.0 < length p.segs) part → IsShown how p part
+    → IsProofTree (result_of how p part).tree → IsPartInRange (proof_part (solved how p part))
+part_range how p fits are part rising known shown tree =
+    let orders : List (List LineId) = with_lists part (result_of how p part).lists p.segs in
+    let costs : cost_of (filter (is_of part) p.terms) orders ≡ (result_of how p part).target = sym (ap (λ (ts : List Term). cost_of ts orders) (plain_kept part p.terms)) ∙ shown.attained.costs in
     let light_terms = lights p.segs p.terms fits.terms in
     let small = cost_small orders (filter (is_of part) p.terms) (all_filtered IsLight (is_of part) p.terms light_terms) in
     record {
       target = omega (arith, costs, small, few_filtered (is_of part) p.terms, fits.few_terms);
-      segs = segments_rise (length p.segs) 0 part are.0 rising (recursion_from_All (λ (s : SegId). s.0 < length p.segs) part known) (starts_at_0 part);
-      tree = tree_range (question p.segs part (part_terms p.terms part) (live_of p part).best.cost) (asked_range p fits are part (live_of p part).best.cost known) (none_placed p.segs) (live_of p part).tree
+      segs = segments_rise (length p.segs) 0 part (omega (arith, fits.few_choices)) rising (recursion_from_All (λ (s : SegId). s.0 < length p.segs) part known) (starts_at_0 part);
+      tree = tree_range (question p.segs part (part_terms p.terms part) (result_of how p part).target) (asked_range p fits are part (result_of how p part).target known) (none_placed p.segs) (result_of how p part).tree
           tree.is_tree shown.accepted;
       depth = tree.depth;
     }
 
-parts_range : (p : ProblemParts) → IsProblem p → AreSegments p.segs → (parts : List (List SegId)) → AllByRecursion IsRisingPart parts → AllByRecursion (λ (q : List SegId). All (λ (s : SegId). s.0 < length p.segs) q) parts
-    → AllByRecursion (IsShown p) parts → AllByRecursion (λ (q : PlainPart). IsProofTree q.tree) (map proof_part (map (solved p) parts)) → AllByRecursion IsPartInRange (map proof_part (map (solved p) parts))
-parts_range p fits are [] rising known shown trees = tt
-parts_range p fits are (part ∷ parts) rising known shown trees =
-    (part_range p fits are part rising.0 known.0 shown.0 trees.0, parts_range p fits are parts rising.1 known.1 shown.1 trees.1)
+parts_range : (how : Search) (p : ProblemParts) → IsProblem p → AreSegments p.segs → (parts : List (List SegId)) → AllByRecursion IsRisingPart parts → AllByRecursion (λ (q : List SegId). All (λ (s : SegId). s.0 < length p.segs) q) parts
+    → AllByRecursion (IsShown how p) parts → AllByRecursion (λ (q : PlainPart). IsProofTree q.tree) (map proof_part (map (solved how p) parts)) → AllByRecursion IsPartInRange (map proof_part (map (solved how p) parts))
+parts_range how p fits are [] rising known shown trees = tt
+parts_range how p fits are (part ∷ parts) rising known shown trees =
+    (part_range how p fits are part rising.0 known.0 shown.0 trees.0, parts_range how p fits are parts rising.1 known.1 shown.1 trees.1)
 
 -- The whole certificate.
 
-segments_are : (feed : Feed) (choices : Choices) (drawn : Drawn) → IsWhole feed choices drawn → IsLimited feed choices drawn → AreSegments drawn.problem.segs
-segments_are feed choices drawn whole limited =
-    subst AreSegments (sym (segs_same feed choices drawn whole))
-    (omega (arith, limited.fits.lines_each, limited.fits.few_segments), graph_lines feed drawn.graph limited.fits limited.of_feed limited.few_lines)
+module _ (how : Search) (feed : Feed) (choices : Choices) (drawn : Drawn) (whole : IsWhole how feed choices drawn) (limited : IsLimited how feed choices drawn) where
+  abbrev p : ProblemParts
+  p = drawn.problem
 
-pub certificate_range : (feed : Feed) (choices : Choices) (drawn : Drawn) → IsWhole feed choices drawn → IsLimited feed choices drawn → IsInRange (certificate_of feed choices drawn (done_in drawn.problem))
-certificate_range feed choices drawn whole limited =
-    let p : ProblemParts = drawn.problem in
-    let fit = limited.fits in
-    let are = segments_are feed choices drawn whole limited in
-    let ok : AreParts p.segs p.terms (parts_in p) = problem_parts_are p.segs p.terms whole.fits.terms in
-    let orders = orders_range p.segs (orders_in p) (recursion_from_All AreLines p.segs are.1) whole.ordered in
-    let counted = length-map (parts_in p) (solved p) in
-    let counted_again = length-map (done_in p) proof_part in
-    record {
-      nodes = fit.few_nodes;
-      segs = fit.few_segments;
-      lines = few_drawn drawn.graph fit (length feed.lines);
-      importance = pairs_range (importance_by feed choices) (number_at feed choices limited.importance) (is_drawn drawn.graph) 0 (length feed.lines) 0 (omega (arith, limited.few_lines)) (omega arith);
-      walks_each = whole.each;
-      walks = limited.walks;
-      orders_each = orders.0 ∙ ap length (segs_same feed choices drawn whole) ∙ fit.lines_each;
-      orders = orders.1;
-      cost = omega (arith, cost_small (orders_in p) p.terms (lights p.segs p.terms whole.fits.terms), whole.fits.few_terms);
-      proof = record {
-        few_rules = omega arith;
-        rules = tt;
-        few_parts = omega (arith, counted, counted_again, parts_few p.segs p.terms (parts_in p) ok, are.0);
-        parts = parts_range p whole.fits are (parts_in p) (recursion_from_All IsRisingPart (parts_in p) ok.rising)
-            (recursion_from_All (λ (q : List SegId). All (λ (s : SegId). s.0 < length p.segs) q) (parts_in p) (λ k d below. part_known p.segs p.terms (parts_in p) ok k d below)) whole.shown limited.trees;
-      };
-    }
+  abbrev u : ProblemParts
+  u = untangled_problem p
 
--- so the map keeps its promise
-pub made_is : (feed : Feed) (choices : Choices) (drawn : Drawn) → IsWhole feed choices drawn → IsLimited feed choices drawn → first_illegal drawn.graph drawn.walks ≡ None
-    → IsMade feed choices (map_of feed choices drawn (done_in drawn.problem))
-made_is feed choices drawn whole limited none_illegal =
-    let c = certificate_of feed choices drawn (done_in drawn.problem) in
-    let bytes = (map_of feed choices drawn (done_in drawn.problem)).certificate in
-    let svg = (map_of feed choices drawn (done_in drawn.problem)).svg in
-    let written : IsTextOf c bytes = record { range = certificate_range feed choices drawn whole limited; text = refl } in
-    record {
-      cost = c.cost;
-      certified = record { certificate = c; written = written; graph = drawn.graph; of_feed = whole.of_feed; shows = shows_certified feed choices drawn whole };
-      accepted = ap (check_outcome feed choices svg) (text_read c bytes written) ∙ accepts_map feed choices drawn whole none_illegal;
-    }
+  abbrev done : List SolvedPart
+  done = done_in how u
 
--- and so does what is written of a drawing that was solved
-pub made_by : (feed : Feed) (choices : Choices) (d : DrawnMap) (s : Solution) (parts : List SolvedPart) → IsWhole feed choices (drawn_of d) → IsConsistent d.graph → All IsWalk d.drawing.walks
-    → first_illegal d.graph d.drawing.walks ≡ None → AreOfFeed feed d.graph → length feed.lines < 2 ^ 32 → All (λ (p : List ℕ × ℕ). IsImportance p.1) choices.importance → d.importance.items ≡ importance_by feed choices
-    → solve_outcome choices.budget d.problem ≡ Ok parts → IsSolution d.problem parts s → IsMade feed choices (map_by feed d s)
-made_by feed choices d s parts whole fits walks none_illegal of_feed few importance numbers is_solved solution =
-    let all : parts ≡ done_in d.problem = all_are choices.budget d.problem parts is_solved in
-    let limited : IsLimited feed choices (drawn_of d) = record {
+  abbrev known : List LineId
+  known = limited.fits.few_lines.0
+
+  fits : IsProblem u
+  fits = untangled_fits p whole.fits
+
+  -- what all lines of the graph are, all of the untangled problem are
+  still : (Q : LineId → Type 0) → All (All Q) drawn.graph.lines → All (All Q) u.segs
+  still Q all =
+      subst (λ (q : ProblemParts). All (All Q) q.segs) (sym (last_is p whole.fits))
+      (lines_kept Q p (untangling_rules p) whole.fits (rules_apply p whole.fits) (subst (All (All Q)) (sym (segs_same how feed choices drawn whole)) all))
+
+  graph_range : All (All IsLineInRange) drawn.graph.lines
+  graph_range = λ k d h. (graph_lines feed drawn.graph limited.fits limited.of_feed limited.few_lines k d h).range
+
+  segments_are : AreSegments u.segs
+  segments_are = record {
+    range = still IsLineInRange graph_range;
+    few = λ k d h. omega (arith, few_rising (get_or u.segs k d) known (fits.rising k d h) (still (Contains known) limited.fits.few_lines.2 k d h), limited.fits.few_lines.1);
+  }
+
+  pub certificate_range : IsInRange (certificate_of feed choices drawn done)
+  certificate_range =
+      let fit = limited.fits in
+      let ok : AreParts u.segs u.terms (parts_in u) = problem_parts_are u.segs u.terms fits.terms in
+      let orders = orders_range drawn.graph.lines (lifted_by p done)
+      (recursion_from_All AreLines drawn.graph.lines (graph_lines feed drawn.graph fit limited.of_feed limited.few_lines)) (ordered how feed choices drawn whole) in
+      let counted = length-map (parts_in u) (solved how u) in
+      let counted_again = length-map done proof_part in
+      record {
+        nodes = fit.few_nodes;
+        segs = fit.few_segments;
+        lines = few_drawn drawn.graph fit (length feed.lines);
+        importance = pairs_range (importance_by feed choices) (number_at feed choices limited.importance) (is_drawn drawn.graph) 0 (length feed.lines) 0 (omega (arith, limited.few_lines)) (omega arith);
+        walks_each = whole.each;
+        walks = limited.walks;
+        orders_each = orders.0 ∙ fit.lines_each;
+        orders = orders.1;
+        cost = omega (arith, cost_small (lifted_by p done) p.terms (lights p.segs p.terms whole.fits.terms), whole.fits.few_terms);
+        proof = record {
+          few_rules = omega (arith, few_rules p (untangling_rules p) whole.fits (rules_apply p whole.fits), whole.fits.few_choices);
+          rules = rules_range p (untangling_rules p) whole.fits (rules_apply p whole.fits)
+              (subst (All (All IsLineInRange)) (sym (segs_same how feed choices drawn whole)) graph_range);
+          few_parts = omega (arith, counted, counted_again, parts_few u.segs u.terms (parts_in u) ok, fits.few_choices);
+          parts = parts_range how u fits segments_are (parts_in u) (recursion_from_All IsRisingPart (parts_in u) ok.rising)
+              (recursion_from_All (λ (q : List SegId). All (λ (s : SegId). s.0 < length u.segs) q) (parts_in u) (λ k d below. part_known u.segs u.terms (parts_in u) ok k d below)) whole.shown limited.trees;
+        };
+      }
+
+  -- so the map keeps its promise
+  pub made_is : first_illegal drawn.graph drawn.walks ≡ None → IsMade feed choices (map_of feed choices drawn done)
+  made_is none_illegal =
+      let c = certificate_of feed choices drawn done in
+      let bytes = (map_of feed choices drawn done).certificate in
+      let svg = (map_of feed choices drawn done).svg in
+      let written : IsTextOf c bytes = record { range = certificate_range; text = refl } in
+      record {
+        cost = c.cost;
+        certified = record { certificate = c; written = written; graph = drawn.graph; of_feed = whole.of_feed; shows = shows_certified how feed choices drawn whole };
+        accepted = ap (check_outcome feed choices svg) (text_read c bytes written) ∙ accepts_map how feed choices drawn whole none_illegal;
+      }
+
+-- and so does what is written of a drawing with the line orders that were found
+pub made_by : (how : Search) (feed : Feed) (choices : Choices) (d : DrawnMap) (p : ProblemParts) (best : BestOrders) (parts : List SolvedPart) → IsWhole how feed choices (drawn_of (d, p)) → IsConsistent d.graph
+    → All IsWalk d.drawing.walks → first_illegal d.graph d.drawing.walks ≡ None → AreOfFeed feed d.graph → length feed.lines < 2 ^ 32 → All (λ (q : List ℕ × ℕ). IsImportance q.1) choices.importance
+    → d.importance.items ≡ importance_by feed choices → solve_outcome how choices.budget (untangled_problem p) ≡ Ok parts → AreBestBy how p parts best → IsMade feed choices (map_by feed d best)
+made_by how feed choices d p best parts whole fits walks none_illegal of_feed few importance numbers is_solved found =
+    let all : parts ≡ done_in how (untangled_problem p) = all_are how choices.budget (untangled_problem p) parts is_solved in
+    let limited : IsLimited how feed choices (drawn_of (d, p)) = record {
       fits = fits;
       walks = recursion_from_All IsWalk d.drawing.walks walks;
       of_feed = of_feed;
       few_lines = few;
       importance = importance;
-      trees = subst (λ (ps : List SolvedPart). HasTrees (proof_of ps)) all solution.trees;
+      trees = subst HaveProofTrees all found.trees;
     } in
-    let bytes : map_by feed d s ≡ map_of feed choices (drawn_of d) (done_in d.problem) =
-    map_is feed choices d s parts numbers solution ∙ ap (map_of feed choices (drawn_of d)) all in
-    subst (IsMade feed choices) (sym bytes) (made_is feed choices (drawn_of d) whole limited none_illegal)
+    let bytes : map_by feed d best ≡ map_of feed choices (drawn_of (d, p)) (done_in how (untangled_problem p)) =
+    map_is how feed choices d p best parts numbers found ∙ ap (map_of feed choices (drawn_of (d, p))) all in
+    subst (IsMade feed choices) (sym bytes) (made_is how feed choices (drawn_of (d, p)) whole limited none_illegal)

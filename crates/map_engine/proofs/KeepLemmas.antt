@@ -7,50 +7,51 @@ use Rattle.std.proofs.lemmas.List.Elements.{All-from_recursion, recursion_from_A
 use Rattle.std.proofs.lemmas.List.Sums.{take_while-cons, sum_by-cons}
 use Rattle.map_base.specs.declared.ids.SegId.{SegId}
 use Rattle.map_base.specs.Settings.{Choices}
+use Rattle.map_method.specs.declared.search.Search.{Search}
 use Rattle.map_method.specs.Methods.{MethodChoices}
 use Rattle.transit_feed.specs.Feeds.{Feed}
 use Rattle.order_model.specs.declared.problem.ProblemParts.{ProblemParts}
-use Rattle.order_search.specs.FoundParts.{branches_in}
-use Rattle.order_search.specs.ByItself.{by_itself}
+use Rattle.kept_trees.specs.Results.{branches_by}
+use Rattle.kept_trees.specs.OwnTrees.{HeldPart, held_as}
 use Rattle.kept_trees.specs.Keeping.{is_held, with_part, branches_to_meet}
 use Rattle.kept_trees.proofs.HeldLists.{stays_in}
 use Rattle.map_engine.specs.declared.drawn_map.DrawnMap.{DrawnMap}
 use Rattle.map_engine.specs.declared.fault.MakeFault.{MakeFault}
 use Rattle.map_engine.specs.declared.fault.MakeFault.TheVariants as fault
-use Rattle.map_engine.specs.Problems.{drawn_outcome}
+use Rattle.map_engine.specs.Problems.{drawn_outcome, untangled_problem}
 use Rattle.map_engine.specs.Solving.{parts_in, is_solvable}
 use Rattle.map_engine.specs.Making.{HasCause}
 use Rattle.map_engine.specs.Stages.{drawn_of, IsUnsolved}
 use Rattle.map_engine.specs.Keeping.{finished_of, finished_in, finished_parts, HoldsFinished, missing_branches, branches_left}
 
 -- what is held is held
-pub itself_held : (held : List ProblemParts) → All (Contains held) held
+pub itself_held : (held : List HeldPart) → All (Contains held) held
 itself_held held = All-contains_itself held
 
 -- what was held is held among more
-pub still_held : (old now new : List ProblemParts) → All (Contains now) old → All (Contains new) now → All (Contains new) old
+pub still_held : (old now new : List HeldPart) → All (Contains now) old → All (Contains new) now → All (Contains new) old
 still_held old now new before kept = All-weaker (Contains now) (Contains new) (λ p there. All-contains (Contains new) now p kept there) old before
 
 -- with one part more what was held stays
-pub all_stay : (held : List ProblemParts) (p : ProblemParts) → All (Contains (with_part held p)) held
-all_stay held p = All-weaker (Contains held) (Contains (with_part held p)) (stays_in held p) held (All-contains_itself held)
+pub all_stay : (held : List HeldPart) (h : HeldPart) → All (Contains (with_part held h)) held
+all_stay held h = All-weaker (Contains held) (Contains (with_part held h)) (stays_in held h) held (All-contains_itself held)
 
 -- these parts of a problem are held
-abbrev pub AreHeld : List ProblemParts → ProblemParts → List (List SegId) → Type 0
-AreHeld held p parts = All (λ (part : List SegId). Contains held (by_itself p part)) parts
+abbrev pub AreHeld : Search → List HeldPart → ProblemParts → List (List SegId) → Type 0
+AreHeld how held p parts = All (λ (part : List SegId). Contains held (held_as how p part)) parts
 
 -- parts that were held are held among more
-pub all_held : (old new : List ProblemParts) (p : ProblemParts) (parts : List (List SegId)) → All (Contains new) old → AreHeld old p parts → AreHeld new p parts
-all_held old new p parts kept before =
-    All-weaker (λ (q : List SegId). Contains old (by_itself p q)) (λ (q : List SegId). Contains new (by_itself p q)) (λ q there. All-contains (Contains new) old (by_itself p q) kept there)
+pub all_held : (how : Search) (old new : List HeldPart) (p : ProblemParts) (parts : List (List SegId)) → All (Contains new) old → AreHeld how old p parts → AreHeld how new p parts
+all_held how old new p parts kept before =
+    All-weaker (λ (q : List SegId). Contains old (held_as how p q)) (λ (q : List SegId). Contains new (held_as how p q)) (λ q there. All-contains (Contains new) old (held_as how p q) kept there)
     parts before
 
 -- one part more is held
-pub one_held : (old new : List ProblemParts) (p : ProblemParts) (k : ℕ) (part : List SegId) → k < length (parts_in p) → part ≡ get_or (parts_in p) k part → All (Contains new) old
-    → Contains new (by_itself p part) → AreHeld old p (take k (parts_in p)) → AreHeld new p (take (k + 1) (parts_in p))
-one_held old new p k part below is kept here before =
-    All-more (λ (q : List SegId). Contains new (by_itself p q)) (parts_in p) k part below (all_held old new p (take k (parts_in p)) kept before)
-    (subst (λ (q : List SegId). Contains new (by_itself p q)) is here)
+pub one_held : (how : Search) (old new : List HeldPart) (p : ProblemParts) (k : ℕ) (part : List SegId) → k < length (parts_in p) → part ≡ get_or (parts_in p) k part → All (Contains new) old
+    → Contains new (held_as how p part) → AreHeld how old p (take k (parts_in p)) → AreHeld how new p (take (k + 1) (parts_in p))
+one_held how old new p k part below is kept here before =
+    All-more (λ (q : List SegId). Contains new (held_as how p q)) (parts_in p) k part below (all_held how old new p (take k (parts_in p)) kept before)
+    (subst (λ (q : List SegId). Contains new (held_as how p q)) is here)
 
 module _ {X : Type 0} (P : X → Type 0) (test : X → Bool) where
   none_more : (x : X) (xs : List X) → test x ≡ false → AllByRecursion P (take_while test (x ∷ xs))
@@ -78,78 +79,79 @@ module _ {X : Type 0} (P : X → Type 0) (test : X → Bool) where
       by_test true h later = one_more x xs h held.0 later
       by_test false h later = none_more x xs h
 
-finished_from : (budget : ℕ) (p : ProblemParts) (held : List ProblemParts)
-    → AllByRecursion (λ (part : List SegId). Contains held (by_itself p part)) (take_while (is_solvable budget p) (parts_in p)) → All (Contains held) (finished_of budget p)
-finished_from budget p held each =
-    All-map (Contains held) (by_itself p) (take_while (is_solvable budget p) (parts_in p))
-    (All-from_recursion (λ (part : List SegId). Contains held (by_itself p part)) (take_while (is_solvable budget p) (parts_in p)) each)
+finished_from : (how : Search) (budget : ℕ) (p : ProblemParts) (held : List HeldPart)
+    → AllByRecursion (λ (part : List SegId). Contains held (held_as how p part)) (take_while (is_solvable how budget p) (parts_in p)) → All (Contains held) (finished_of how budget p)
+finished_from how budget p held each =
+    All-map (Contains held) (held_as how p) (take_while (is_solvable how budget p) (parts_in p))
+    (All-from_recursion (λ (part : List SegId). Contains held (held_as how p part)) (take_while (is_solvable how budget p) (parts_in p)) each)
 
 -- where a part is not solved, those before it are held
-pub held_before : (X : Type 0) (budget : ℕ) (p : ProblemParts) (k : ℕ) (part : List SegId) (held : List ProblemParts) (e : MakeFault) → k < length (parts_in p) → part ≡ get_or (parts_in p) k part
-    → IsUnsolved budget p k part e → AreHeld held p (take k (parts_in p)) → HoldsFinished {X = X} (Err e) (finished_of budget p) held
-held_before X budget p k part held e below is why before = by_fault e why
+pub held_before : (how : Search) (X : Type 0) (budget : ℕ) (p : ProblemParts) (k : ℕ) (part : List SegId) (held : List HeldPart) (e : MakeFault) → k < length (parts_in p) → part ≡ get_or (parts_in p) k part
+    → IsUnsolved how budget p k part e → AreHeld how held p (take k (parts_in p)) → HoldsFinished {X = X} (Err e) (finished_of how budget p) held
+held_before how X budget p k part held e below is why before = by_fault e why
   where
-    all : is_solvable budget p part ≡ false → All (Contains held) (finished_of budget p)
+    all : is_solvable how budget p part ≡ false → All (Contains held) (finished_of how budget p)
     all fails =
-        finished_from budget p held
-        (before_failing (λ (q : List SegId). Contains held (by_itself p q)) (is_solvable budget p) (parts_in p) k part below (ap (is_solvable budget p) (sym is) ∙ fails)
-        (recursion_from_All (λ (q : List SegId). Contains held (by_itself p q)) (take k (parts_in p)) before))
+        finished_from how budget p held
+        (before_failing (λ (q : List SegId). Contains held (held_as how p q)) (is_solvable how budget p) (parts_in p) k part below (ap (is_solvable how budget p) (sym is) ∙ fails)
+        (recursion_from_All (λ (q : List SegId). Contains held (held_as how p q)) (take k (parts_in p)) before))
 
-    by_fault : (f : MakeFault) → IsUnsolved budget p k part f → HoldsFinished {X = X} (Err f) (finished_of budget p) held
+    by_fault : (f : MakeFault) → IsUnsolved how budget p k part f → HoldsFinished {X = X} (Err f) (finished_of how budget p) held
     by_fault fault.NoMemory w = tt
     by_fault (fault.NoRoute seg) w = all w.0
     by_fault (fault.Spent component branches) w = all w.0
     by_fault (fault.Limit limit) w = all w.0
 
 -- where all are solved, all are held
-pub held_all : (budget : ℕ) (p : ProblemParts) (k : ℕ) (held : List ProblemParts) → length (parts_in p) ≤ k → AreHeld held p (take k (parts_in p)) → All (Contains held) (finished_of budget p)
-held_all budget p k held over each =
-    finished_from budget p held
-    (before_end (λ (q : List SegId). Contains held (by_itself p q)) (is_solvable budget p) (parts_in p)
-    (recursion_from_All (λ (q : List SegId). Contains held (by_itself p q)) (parts_in p) (subst (AreHeld held p) (take_all k (parts_in p) over) each)))
+pub held_all : (how : Search) (budget : ℕ) (p : ProblemParts) (k : ℕ) (held : List HeldPart) → length (parts_in p) ≤ k → AreHeld how held p (take k (parts_in p)) → All (Contains held) (finished_of how budget p)
+held_all how budget p k held over each =
+    finished_from how budget p held
+    (before_end (λ (q : List SegId). Contains held (held_as how p q)) (is_solvable how budget p) (parts_in p)
+    (recursion_from_All (λ (q : List SegId). Contains held (held_as how p q)) (parts_in p) (subst (AreHeld how held p) (take_all k (parts_in p) over) each)))
 
 -- The branch nodes of the parts that are not held.
 
-pub missing_sum : (held : List ProblemParts) (p : ProblemParts) (parts : List (List SegId))
-    → sum_by (branches_in p) (filter (λ (part : List SegId). not (is_held held (by_itself p part))) parts) ≡ sum_by (branches_to_meet held p) parts
-missing_sum held p [] = refl
-missing_sum held p (part ∷ parts) = by_test (is_held held (by_itself p part)) refl (missing_sum held p parts)
+pub missing_sum : (how : Search) (held : List HeldPart) (p : ProblemParts) (parts : List (List SegId))
+    → sum_by (branches_by how p) (filter (λ (part : List SegId). not (is_held held (held_as how p part))) parts) ≡ sum_by (branches_to_meet held how p) parts
+missing_sum how held p [] = refl
+missing_sum how held p (part ∷ parts) = by_test (is_held held (held_as how p part)) refl (missing_sum how held p parts)
   where
     rest : List (List SegId)
-    rest = filter (λ (q : List SegId). not (is_held held (by_itself p q))) parts
+    rest = filter (λ (q : List SegId). not (is_held held (held_as how p q))) parts
 
-    here : sum_by (branches_to_meet held p) (part ∷ parts) ≡ branches_to_meet held p part + sum_by (branches_to_meet held p) parts
-    here = sum_by-cons (branches_to_meet held p) part parts
+    here : sum_by (branches_to_meet held how p) (part ∷ parts) ≡ branches_to_meet held how p part + sum_by (branches_to_meet held how p) parts
+    here = sum_by-cons (branches_to_meet held how p) part parts
 
-    by_test : (b : Bool) → is_held held (by_itself p part) ≡ b → sum_by (branches_in p) rest ≡ sum_by (branches_to_meet held p) parts
-        → sum_by (branches_in p) (cond (not (is_held held (by_itself p part))) (part ∷ rest) rest) ≡ sum_by (branches_to_meet held p) (part ∷ parts)
+    by_test : (b : Bool) → is_held held (held_as how p part) ≡ b → sum_by (branches_by how p) rest ≡ sum_by (branches_to_meet held how p) parts
+        → sum_by (branches_by how p) (cond (not (is_held held (held_as how p part))) (part ∷ rest) rest) ≡ sum_by (branches_to_meet held how p) (part ∷ parts)
     by_test true h later =
-        let left : sum_by (branches_in p) (cond (not (is_held held (by_itself p part))) (part ∷ rest) rest) ≡ sum_by (branches_in p) rest =
-        ap (λ (b : Bool). sum_by (branches_in p) (cond (not b) (part ∷ rest) rest)) h in
-        let none : branches_to_meet held p part ≡ 0 = ap (λ (b : Bool). cond b 0 (branches_in p part)) h in
+        let left : sum_by (branches_by how p) (cond (not (is_held held (held_as how p part))) (part ∷ rest) rest) ≡ sum_by (branches_by how p) rest =
+        ap (λ (b : Bool). sum_by (branches_by how p) (cond (not b) (part ∷ rest) rest)) h in
+        let none : branches_to_meet held how p part ≡ 0 = ap (λ (b : Bool). cond b 0 (branches_by how p part)) h in
         omega (arith, left, later, here, none)
     by_test false h later =
-        let left : sum_by (branches_in p) (cond (not (is_held held (by_itself p part))) (part ∷ rest) rest) ≡ sum_by (branches_in p) (part ∷ rest) =
-        ap (λ (b : Bool). sum_by (branches_in p) (cond (not b) (part ∷ rest) rest)) h in
-        let all : branches_to_meet held p part ≡ branches_in p part = ap (λ (b : Bool). cond b 0 (branches_in p part)) h in
-        omega (arith, left, later, here, all, sum_by-cons (branches_in p) part rest)
+        let left : sum_by (branches_by how p) (cond (not (is_held held (held_as how p part))) (part ∷ rest) rest) ≡ sum_by (branches_by how p) (part ∷ rest) =
+        ap (λ (b : Bool). sum_by (branches_by how p) (cond (not b) (part ∷ rest) rest)) h in
+        let all : branches_to_meet held how p part ≡ branches_by how p part = ap (λ (b : Bool). cond b 0 (branches_by how p part)) h in
+        omega (arith, left, later, here, all, sum_by-cons (branches_by how p) part rest)
 
--- the branch nodes that are left are those that the parts of the problem have to meet
-pub left_is : (held : List ProblemParts) (feed : Feed) (choices : Choices) (method : MethodChoices) (d : DrawnMap) → drawn_outcome feed choices method ≡ Ok (drawn_of d)
-    → branches_left held feed choices method ≡ sum_by (branches_to_meet held d.problem) (parts_in d.problem)
-left_is held feed choices method d drawn = ap (missing_branches held) drawn ∙ missing_sum held d.problem (parts_in d.problem)
+-- the branch nodes that are left are those that the parts of the untangled problem have to meet
+pub left_is : (held : List HeldPart) (feed : Feed) (choices : Choices) (method : MethodChoices) (d : DrawnMap) (p : ProblemParts) → drawn_outcome feed choices method ≡ Ok (drawn_of (d, p))
+    → branches_left held feed choices method ≡ sum_by (branches_to_meet held method.search (untangled_problem p)) (parts_in (untangled_problem p))
+left_is held feed choices method d p drawn = ap (missing_branches held method.search) drawn ∙ missing_sum method.search held (untangled_problem p) (parts_in (untangled_problem p))
 
--- what a map finishes is what its problem finishes
-pub finished_is : (feed : Feed) (choices : Choices) (method : MethodChoices) (d : DrawnMap) → drawn_outcome feed choices method ≡ Ok (drawn_of d) → finished_parts feed choices method ≡ finished_of choices.budget d.problem
-finished_is feed choices method d drawn = ap (finished_in choices.budget) drawn
+-- what a map finishes is what its untangled problem finishes
+pub finished_is : (feed : Feed) (choices : Choices) (method : MethodChoices) (d : DrawnMap) (p : ProblemParts) → drawn_outcome feed choices method ≡ Ok (drawn_of (d, p))
+    → finished_parts feed choices method ≡ finished_of method.search choices.budget (untangled_problem p)
+finished_is feed choices method d p drawn = ap (finished_in method.search choices.budget) drawn
 
 -- where there is no problem, nothing is finished
-pub nothing_finished : (X : Type 0) (feed : Feed) (choices : Choices) (method : MethodChoices) (held : List ProblemParts) (e : MakeFault) → HasCause (drawn_outcome feed choices method) e
+pub nothing_finished : (X : Type 0) (feed : Feed) (choices : Choices) (method : MethodChoices) (held : List HeldPart) (e : MakeFault) → HasCause (drawn_outcome feed choices method) e
     → HoldsFinished {X = X} (Err e) (finished_parts feed choices method) held
 nothing_finished X feed choices method held e cause = by_fault e cause
   where
     none : (f : MakeFault) → drawn_outcome feed choices method ≡ Err f → All (Contains held) (finished_parts feed choices method)
-    none f h = subst (All (Contains held)) (sym (ap (finished_in choices.budget) h)) (All-nil (Contains held))
+    none f h = subst (All (Contains held)) (sym (ap (finished_in method.search choices.budget) h)) (All-nil (Contains held))
 
     by_fault : (f : MakeFault) → HasCause (drawn_outcome feed choices method) f → HoldsFinished {X = X} (Err f) (finished_parts feed choices method) held
     by_fault fault.NoMemory h = tt
@@ -158,7 +160,7 @@ nothing_finished X feed choices method held e cause = by_fault e cause
     by_fault (fault.Limit limit) h = none (fault.Limit limit) h
 
 -- what a refusal says of held parts, whatever was refused
-pub same_held : (X Y : Type 0) (e : MakeFault) (parts held : List ProblemParts) → HoldsFinished {X = X} (Err e) parts held → HoldsFinished {X = Y} (Err e) parts held
+pub same_held : (X Y : Type 0) (e : MakeFault) (parts held : List HeldPart) → HoldsFinished {X = X} (Err e) parts held → HoldsFinished {X = Y} (Err e) parts held
 same_held X Y fault.NoMemory parts held h = tt
 same_held X Y (fault.NoRoute seg) parts held h = h
 same_held X Y (fault.Spent component branches) parts held h = h

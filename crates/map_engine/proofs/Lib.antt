@@ -5,11 +5,13 @@ mod HeldOrders
 mod ReadAgain
 mod MadeProblem
 mod CheckSteps
+mod LabelSteps
 pub mod Shown
 mod PutOrders
 mod SolveLemmas
 mod ImportanceLemmas
 mod DrawingLemmas
+mod UntangledLemmas
 mod MadeLemmas
 mod KeepLemmas
 mod NoneLeft
@@ -18,4 +20,5 @@ mod PartOrders
 mod Accepting
 mod Promised
 mod TreeRanges
+mod RuleRanges
 mod CertificateRanges

@@ -5,15 +5,16 @@ use Rattle.std.proofs.lemmas.List.Elements.{recursion_from_All}
 use Rattle.std.proofs.lemmas.List.Sums.{take_while-cons, sum_by-cons}
 use Rattle.map_base.specs.declared.ids.SegId.{SegId}
 use Rattle.map_base.specs.Settings.{Choices}
+use Rattle.map_method.specs.declared.search.Search.{Search}
 use Rattle.map_method.specs.Methods.{MethodChoices}
 use Rattle.transit_feed.specs.Feeds.{Feed}
 use Rattle.order_model.specs.declared.problem.ProblemParts.{ProblemParts}
-use Rattle.order_search.specs.FoundParts.{branches_in}
-use Rattle.order_search.specs.ByItself.{by_itself}
+use Rattle.kept_trees.specs.Results.{branches_by}
+use Rattle.kept_trees.specs.OwnTrees.{HeldPart, held_as}
 use Rattle.kept_trees.specs.Keeping.{branches_to_meet}
 use Rattle.kept_trees.proofs.HeldLists.{in_is_held}
 use Rattle.map_engine.specs.declared.fault.MakeFault.{MakeFault}
-use Rattle.map_engine.specs.Problems.{Drawn, drawn_outcome}
+use Rattle.map_engine.specs.Problems.{Drawn, drawn_outcome, untangled_problem}
 use Rattle.map_engine.specs.Solving.{SolvedPart, solved, with_solved, is_solvable, why_unsolved, solve_from, solve_outcome, parts_in}
 use Rattle.map_engine.specs.Making.{MapBytes, made_on, made_with, make_outcome}
 use Rattle.map_engine.specs.Keeping.{finished_in, finished_of, finished_parts, missing_branches, branches_left}
@@ -25,34 +26,34 @@ rest_solved s (Ok later) done h = (later, refl)
 rest_solved s (Err stop) done h = absurd cc
 
 -- where all parts are solved, none of them is the first that is not
-all_taken : (budget : ℕ) (p : ProblemParts) (k : ℕ) (parts : List (List SegId)) (done : List SolvedPart) → solve_from budget p k parts ≡ Ok done → take_while (is_solvable budget p) parts ≡ parts
-all_taken budget p k [] done h = refl
-all_taken budget p k (part ∷ parts) done h = by_test (is_solvable budget p part) refl h (λ later i. all_taken budget p (k + 1) parts later i)
+all_taken : (how : Search) (budget : ℕ) (p : ProblemParts) (k : ℕ) (parts : List (List SegId)) (done : List SolvedPart) → solve_from how budget p k parts ≡ Ok done → take_while (is_solvable how budget p) parts ≡ parts
+all_taken how budget p k [] done h = refl
+all_taken how budget p k (part ∷ parts) done h = by_test (is_solvable how budget p part) refl h (λ later i. all_taken how budget p (k + 1) parts later i)
   where
-    by_test : (b : Bool) → is_solvable budget p part ≡ b → cond b (with_solved (solved p part) (solve_from budget p (k + 1) parts)) (Err (why_unsolved budget p k part)) ≡ Ok done
-        → ((later : List SolvedPart) → solve_from budget p (k + 1) parts ≡ Ok later → take_while (is_solvable budget p) parts ≡ parts)
-        → take_while (is_solvable budget p) (part ∷ parts) ≡ part ∷ parts
+    by_test : (b : Bool) → is_solvable how budget p part ≡ b → cond b (with_solved (solved how p part) (solve_from how budget p (k + 1) parts)) (Err (why_unsolved budget p k part)) ≡ Ok done
+        → ((later : List SolvedPart) → solve_from how budget p (k + 1) parts ≡ Ok later → take_while (is_solvable how budget p) parts ≡ parts)
+        → take_while (is_solvable how budget p) (part ∷ parts) ≡ part ∷ parts
     by_test true passes e more =
-        let rest = rest_solved (solved p part) (solve_from budget p (k + 1) parts) done e in
-        take_while-cons (is_solvable budget p) part parts
-        ∙ ap (λ (b : Bool). cond b (part ∷ take_while (is_solvable budget p) parts) []) passes
+        let rest = rest_solved (solved how p part) (solve_from how budget p (k + 1) parts) done e in
+        take_while-cons (is_solvable how budget p) part parts
+        ∙ ap (λ (b : Bool). cond b (part ∷ take_while (is_solvable how budget p) parts) []) passes
         ∙ ap (λ (ps : List (List SegId)). part ∷ ps) (more rest.0 rest.1)
     by_test false fails e more = absurd cc
 
 -- no branch nodes are to be met for parts that are held
-none_to_meet : (held : List ProblemParts) (p : ProblemParts) (parts : List (List SegId)) → AllByRecursion (Contains held) (map (by_itself p) parts) → sum_by (branches_to_meet held p) parts ≡ 0
-none_to_meet held p [] there = refl
-none_to_meet held p (part ∷ parts) there =
-    let none : branches_to_meet held p part ≡ 0 = ap (λ (b : Bool). cond b 0 (branches_in p part)) (in_is_held held (by_itself p part) there.0) in
-    omega (arith, sum_by-cons (branches_to_meet held p) part parts, none, none_to_meet held p parts there.1)
+none_to_meet : (how : Search) (held : List HeldPart) (p : ProblemParts) (parts : List (List SegId)) → AllByRecursion (Contains held) (map (held_as how p) parts) → sum_by (branches_to_meet held how p) parts ≡ 0
+none_to_meet how held p [] there = refl
+none_to_meet how held p (part ∷ parts) there =
+    let none : branches_to_meet held how p part ≡ 0 = ap (λ (b : Bool). cond b 0 (branches_by how p part)) (in_is_held held (held_as how p part) there.0) in
+    omega (arith, sum_by-cons (branches_to_meet held how p) part parts, none, none_to_meet how held p parts there.1)
 
 -- where the parts of a problem are solved and those that it finishes are held, none is missing
-none_missing : (budget : ℕ) (held : List ProblemParts) (p : ProblemParts) (done : List SolvedPart) → solve_outcome budget p ≡ Ok done → All (Contains held) (finished_of budget p)
-    → sum_by (branches_to_meet held p) (parts_in p) ≡ 0
-none_missing budget held p done h there =
-    none_to_meet held p (parts_in p)
-    (recursion_from_All (Contains held) (map (by_itself p) (parts_in p))
-    (subst (λ (parts : List (List SegId)). All (Contains held) (map (by_itself p) parts)) (all_taken budget p 0 (parts_in p) done h) there))
+none_missing : (how : Search) (budget : ℕ) (held : List HeldPart) (p : ProblemParts) (done : List SolvedPart) → solve_outcome how budget p ≡ Ok done → All (Contains held) (finished_of how budget p)
+    → sum_by (branches_to_meet held how p) (parts_in p) ≡ 0
+none_missing how budget held p done h there =
+    none_to_meet how held p (parts_in p)
+    (recursion_from_All (Contains held) (map (held_as how p) (parts_in p))
+    (subst (λ (parts : List (List SegId)). All (Contains held) (map (held_as how p) parts)) (all_taken how budget p 0 (parts_in p) done h) there))
 
 -- where a map is made of a drawing, its parts are solved
 parts_solved : (feed : Feed) (choices : Choices) (drawn : Drawn) (outcome : Result (List SolvedPart) MakeFault) (made : MapBytes) → made_with feed choices drawn outcome ≡ Ok made
@@ -60,14 +61,15 @@ parts_solved : (feed : Feed) (choices : Choices) (drawn : Drawn) (outcome : Resu
 parts_solved feed choices drawn (Ok done) made h = (done, refl)
 parts_solved feed choices drawn (Err stop) made h = absurd cc
 
-left_of : (feed : Feed) (choices : Choices) (drawn : Result Drawn MakeFault) (made : MapBytes) (held : List ProblemParts) → made_on feed choices drawn ≡ Ok made
-    → All (Contains held) (finished_in choices.budget drawn) → missing_branches held drawn ≡ 0
-left_of feed choices (Err stop) made held h there = refl
-left_of feed choices (Ok drawn) made held h there =
-    let found = parts_solved feed choices drawn (solve_outcome choices.budget drawn.problem) made h in
-    missing_sum held drawn.problem (parts_in drawn.problem) ∙ none_missing choices.budget held drawn.problem found.0 found.1 there
+left_of : (feed : Feed) (choices : Choices) (how : Search) (drawn : Result Drawn MakeFault) (made : MapBytes) (held : List HeldPart) → made_on feed choices how drawn ≡ Ok made
+    → All (Contains held) (finished_in how choices.budget drawn) → missing_branches held how drawn ≡ 0
+left_of feed choices how (Err stop) made held h there = refl
+left_of feed choices how (Ok drawn) made held h there =
+    let p : ProblemParts = untangled_problem drawn.problem in
+    let found = parts_solved feed choices drawn (solve_outcome how choices.budget p) made h in
+    missing_sum how held p (parts_in p) ∙ none_missing how choices.budget held p found.0 found.1 there
 
 -- where the map of a feed is made and each part that it finishes is held, no branch node is left
-pub none_left : (feed : Feed) (choices : Choices) (method : MethodChoices) (made : MapBytes) (held : List ProblemParts) → make_outcome feed choices method ≡ Ok made → All (Contains held) (finished_parts feed choices method)
+pub none_left : (feed : Feed) (choices : Choices) (method : MethodChoices) (made : MapBytes) (held : List HeldPart) → make_outcome feed choices method ≡ Ok made → All (Contains held) (finished_parts feed choices method)
     → branches_left held feed choices method ≡ 0
-none_left feed choices method made held h there = left_of feed choices (drawn_outcome feed choices method) made held h there
+none_left feed choices method made held h there = left_of feed choices method.search (drawn_outcome feed choices method) made held h there

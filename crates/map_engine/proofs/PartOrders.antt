@@ -6,6 +6,7 @@ use Rattle.std.proofs.lemmas.List.Elements.{All-contains}
 use Rattle.map_base.specs.declared.ids.SegId.{SegId}
 use Rattle.map_base.specs.declared.ids.LineId.{LineId}
 use Rattle.order_model.specs.declared.term.Term.{Term}
+use Rattle.map_method.specs.declared.search.Search.{Search}
 use Rattle.order_model.specs.declared.problem.ProblemParts.{ProblemParts}
 use Rattle.order_model.specs.Problems.{lines_on, IsProblem}
 use Rattle.order_model.specs.Costs.{cost_of, AreOrders, AreBest}
@@ -16,7 +17,8 @@ use Rattle.order_model.proofs.KeptTerms.{plain_kept}
 use Rattle.order_model.proofs.OneParts.{problem_parts_are}
 use Rattle.order_search.specs.Finding.{with_lists}
 use Rattle.map_engine.specs.declared.fault.MakeFault.{MakeFault}
-use Rattle.map_engine.specs.Solving.{SolvedPart, live_of, solved, with_solved, with_parts, is_solvable, why_unsolved, solve_from, solve_outcome, parts_in, orders_by}
+use Rattle.kept_trees.specs.Results.{result_of}
+use Rattle.map_engine.specs.Solving.{SolvedPart, solved, with_solved, with_parts, is_solvable, why_unsolved, solve_from, solve_outcome, parts_in, orders_by}
 use Rattle.map_engine.specs.Stages.{IsShown}
 use Rattle.map_engine.proofs.PutOrders.{length-with_lists}
 use Rattle.map_engine.proofs.CostParts.{cost_shared, same_cost}
@@ -97,73 +99,73 @@ targets_are segs terms (s ∷ parts) orders same apart worth =
 
 -- All parts of a problem that are solved in turn.
 
-solved_list : (budget : ℕ) (p : ProblemParts) (k : ℕ) (parts : List (List SegId)) (done : List SolvedPart) → solve_from budget p k parts ≡ Ok done → done ≡ map (solved p) parts
-solved_list budget p k [] done h = cc
-solved_list budget p k (part ∷ parts) done h = by_test (is_solvable budget p part) h (λ later i. solved_list budget p (k + 1) parts later i)
+solved_list : (how : Search) (budget : ℕ) (p : ProblemParts) (k : ℕ) (parts : List (List SegId)) (done : List SolvedPart) → solve_from how budget p k parts ≡ Ok done → done ≡ map (solved how p) parts
+solved_list how budget p k [] done h = cc
+solved_list how budget p k (part ∷ parts) done h = by_test (is_solvable how budget p part) h (λ later i. solved_list how budget p (k + 1) parts later i)
   where
-    with_later : (later : Result (List SolvedPart) MakeFault) → solve_from budget p (k + 1) parts ≡ later → with_solved (solved p part) later ≡ Ok done
-        → ((rest : List SolvedPart) → solve_from budget p (k + 1) parts ≡ Ok rest → rest ≡ map (solved p) parts) → done ≡ solved p part ∷ map (solved p) parts
+    with_later : (later : Result (List SolvedPart) MakeFault) → solve_from how budget p (k + 1) parts ≡ later → with_solved (solved how p part) later ≡ Ok done
+        → ((rest : List SolvedPart) → solve_from how budget p (k + 1) parts ≡ Ok rest → rest ≡ map (solved how p) parts) → done ≡ solved how p part ∷ map (solved how p) parts
     with_later (Err e) i h more = cc
     with_later (Ok later) i h more =
-        let same : done ≡ solved p part ∷ later = cc in
-        same ∙ ap (λ (ls : List SolvedPart). solved p part ∷ ls) (more later i)
+        let same : done ≡ solved how p part ∷ later = cc in
+        same ∙ ap (λ (ls : List SolvedPart). solved how p part ∷ ls) (more later i)
 
-    by_test : (b : Bool) → cond b (with_solved (solved p part) (solve_from budget p (k + 1) parts)) (Err (why_unsolved budget p k part)) ≡ Ok done
-        → ((rest : List SolvedPart) → solve_from budget p (k + 1) parts ≡ Ok rest → rest ≡ map (solved p) parts) → done ≡ solved p part ∷ map (solved p) parts
-    by_test true e more = with_later (solve_from budget p (k + 1) parts) refl e more
+    by_test : (b : Bool) → cond b (with_solved (solved how p part) (solve_from how budget p (k + 1) parts)) (Err (why_unsolved budget p k part)) ≡ Ok done
+        → ((rest : List SolvedPart) → solve_from how budget p (k + 1) parts ≡ Ok rest → rest ≡ map (solved how p) parts) → done ≡ solved how p part ∷ map (solved how p) parts
+    by_test true e more = with_later (solve_from how budget p (k + 1) parts) refl e more
     by_test false e more = cc
 
-pub all_are : (budget : ℕ) (p : ProblemParts) (parts : List SolvedPart) → solve_outcome budget p ≡ Ok parts → parts ≡ map (solved p) (parts_in p)
-all_are budget p parts h = solved_list budget p 0 (parts_in p) parts h
+pub all_are : (how : Search) (budget : ℕ) (p : ProblemParts) (parts : List SolvedPart) → solve_outcome how budget p ≡ Ok parts → parts ≡ map (solved how p) (parts_in p)
+all_are how budget p parts h = solved_list how budget p 0 (parts_in p) parts h
 
-pub shown_each : (p : ProblemParts) (parts : List (List SegId)) → AllByRecursion (λ (s : SolvedPart). IsShown p s.segs) (map (solved p) parts) → AllByRecursion (IsShown p) parts
-shown_each p [] h = tt
-shown_each p (part ∷ parts) h = (h.0, shown_each p parts h.1)
+pub shown_each : (how : Search) (p : ProblemParts) (parts : List (List SegId)) → AllByRecursion (λ (s : SolvedPart). IsShown how p s.segs) (map (solved how p) parts) → AllByRecursion (IsShown how p) parts
+shown_each how p [] h = tt
+shown_each how p (part ∷ parts) h = (h.0, shown_each how p parts h.1)
 
-segs_are : (p : ProblemParts) (parts : List (List SegId)) → map segs_of (map (solved p) parts) ≡ parts
-segs_are p [] = refl
-segs_are p (part ∷ parts) = ap (λ (rest : List (List SegId)). part ∷ rest) (segs_are p parts)
+segs_are : (how : Search) (p : ProblemParts) (parts : List (List SegId)) → map segs_of (map (solved how p) parts) ≡ parts
+segs_are how p [] = refl
+segs_are how p (part ∷ parts) = ap (λ (rest : List (List SegId)). part ∷ rest) (segs_are how p parts)
 
-worth_of : (p : ProblemParts) (part : List SegId) → All (λ (u : SegId). u.0 < length p.segs) part → IsShown p part → IsWorth p.segs p.terms (solved p part)
-worth_of p part known shown = record {
+worth_of : (how : Search) (p : ProblemParts) (part : List SegId) → All (λ (u : SegId). u.0 < length p.segs) part → IsShown how p part → IsWorth p.segs p.terms (solved how p part)
+worth_of how p part known shown = record {
   each = shown.attained.each;
   known = known;
-  costs = sym (ap (λ (ts : List Term). cost_of ts (with_lists part (live_of p part).best.lists p.segs)) (plain_kept part p.terms)) ∙ shown.attained.costs;
+  costs = sym (ap (λ (ts : List Term). cost_of ts (with_lists part (result_of how p part).lists p.segs)) (plain_kept part p.terms)) ∙ shown.attained.costs;
 }
 
-worth_each : (p : ProblemParts) (some : List (List SegId)) → AreParts p.segs p.terms (parts_in p) → ((q : List SegId) → Contains some q → Contains (parts_in p) q)
-    → AllByRecursion (IsShown p) some → AllByRecursion (IsWorth p.segs p.terms) (map (solved p) some)
-worth_each p [] ok sub shown = tt
-worth_each p (part ∷ some) ok sub shown = (
-  worth_of p part
+worth_each : (how : Search) (p : ProblemParts) (some : List (List SegId)) → AreParts p.segs p.terms (parts_in p) → ((q : List SegId) → Contains some q → Contains (parts_in p) q)
+    → AllByRecursion (IsShown how p) some → AllByRecursion (IsWorth p.segs p.terms) (map (solved how p) some)
+worth_each how p [] ok sub shown = tt
+worth_each how p (part ∷ some) ok sub shown = (
+  worth_of how p part
       (λ k d below. (All-contains (All (λ s. (s.0 < length p.segs) × IsTrue (is_wide p.segs s.0))) (parts_in p) part ok.wide (sub part (0, omega arith, refl)) k d below).0)
       shown.0,
-  worth_each p some ok (λ q c. sub q (suc c.0, omega (arith, c.1), c.2)) shown.1,
+  worth_each how p some ok (λ q c. sub q (suc c.0, omega (arith, c.1), c.2)) shown.1,
 )
 
 -- the targets of all parts
-abbrev pub target_sum : ProblemParts → ℕ
-target_sum p = sum_by (λ (s : SolvedPart). s.target) (map (solved p) (parts_in p))
+abbrev pub target_sum : Search → ProblemParts → ℕ
+target_sum how p = sum_by (λ (s : SolvedPart). s.target) (map (solved how p) (parts_in p))
 
-pub cost_is : (p : ProblemParts) → IsProblem p → AllByRecursion (IsShown p) (parts_in p) → cost_of p.terms (orders_by p (map (solved p) (parts_in p))) ≡ target_sum p
-cost_is p fits shown =
+pub cost_is : (how : Search) (p : ProblemParts) → IsProblem p → AllByRecursion (IsShown how p) (parts_in p) → cost_of p.terms (orders_by p (map (solved how p) (parts_in p))) ≡ target_sum how p
+cost_is how p fits shown =
     let ok : AreParts p.segs p.terms (parts_in p) = problem_parts_are p.segs p.terms fits.terms in
-    let done : List SolvedPart = map (solved p) (parts_in p) in
-    let apart : AreApartParts (map segs_of done) = subst AreApartParts (sym (segs_are p (parts_in p))) (parts_apart p.segs p.terms (parts_in p) ok) in
+    let done : List SolvedPart = map (solved how p) (parts_in p) in
+    let apart : AreApartParts (map segs_of done) = subst AreApartParts (sym (segs_are how p (parts_in p))) (parts_apart p.segs p.terms (parts_in p) ok) in
     sym (cost_shared p.segs p.terms (parts_in p) ok fits.terms (orders_by p done))
-    ∙ ap (sum_by (part_cost p.terms (orders_by p done))) (sym (segs_are p (parts_in p)))
-    ∙ targets_are p.segs p.terms done p.segs refl apart (worth_each p (parts_in p) ok (λ q c. c) shown)
+    ∙ ap (sum_by (part_cost p.terms (orders_by p done))) (sym (segs_are how p (parts_in p)))
+    ∙ targets_are p.segs p.terms done p.segs refl apart (worth_each how p (parts_in p) ok (λ q c. c) shown)
 
-least_each : (p : ProblemParts) (others : List (List LineId)) (parts : List (List SegId)) → AreOrders p.segs others → AllByRecursion (IsShown p) parts
-    → sum_by (λ (s : SolvedPart). s.target) (map (solved p) parts) ≤ sum_by (part_cost p.terms others) parts
-least_each p others [] are shown = omega arith
-least_each p others (part ∷ parts) are shown =
-    let rest = least_each p others parts are shown.1 in
+least_each : (how : Search) (p : ProblemParts) (others : List (List LineId)) (parts : List (List SegId)) → AreOrders p.segs others → AllByRecursion (IsShown how p) parts
+    → sum_by (λ (s : SolvedPart). s.target) (map (solved how p) parts) ≤ sum_by (part_cost p.terms others) parts
+least_each how p others [] are shown = omega arith
+least_each how p others (part ∷ parts) are shown =
+    let rest = least_each how p others parts are shown.1 in
     let here = shown.0.least others are in
     let same : cost_of (plain_terms (part_terms p.terms part)) others ≡ part_cost p.terms others part = ap (λ (ts : List Term). cost_of ts others) (plain_kept part p.terms) in
-    omega (arith, rest, here, same, sum_by-cons (λ (s : SolvedPart). s.target) (solved p part) (map (solved p) parts), sum_by-cons (part_cost p.terms others) part parts)
+    omega (arith, rest, here, same, sum_by-cons (λ (s : SolvedPart). s.target) (solved how p part) (map (solved how p) parts), sum_by-cons (part_cost p.terms others) part parts)
 
-pub best_is : (p : ProblemParts) → IsProblem p → AllByRecursion (IsShown p) (parts_in p) → AreBest p.segs p.terms (orders_by p (map (solved p) (parts_in p)))
-best_is p fits shown others are =
+pub best_is : (how : Search) (p : ProblemParts) → IsProblem p → AllByRecursion (IsShown how p) (parts_in p) → AreBest p.segs p.terms (orders_by p (map (solved how p) (parts_in p)))
+best_is how p fits shown others are =
     let ok : AreParts p.segs p.terms (parts_in p) = problem_parts_are p.segs p.terms fits.terms in
-    omega (arith, cost_is p fits shown, least_each p others (parts_in p) are shown, cost_shared p.segs p.terms (parts_in p) ok fits.terms others)
+    omega (arith, cost_is how p fits shown, least_each how p others (parts_in p) are shown, cost_shared p.segs p.terms (parts_in p) ok fits.terms others)

@@ -14,6 +14,7 @@ use Rattle.transit_feed.specs.Feeds.{Feed}
 use Rattle.graph_core.specs.declared.parts.GraphParts.{GraphParts}
 use Rattle.line_graph.specs.Outcome.{graph_outcome}
 use Rattle.octi_grid.specs.Legal.{first_illegal, legal}
+use Rattle.map_method.specs.declared.search.Search.{Search}
 use Rattle.order_model.specs.declared.problem.ProblemParts.{ProblemParts}
 use Rattle.order_model.specs.Places.{has_line}
 use Rattle.order_model.specs.Problems.{IsProblem}
@@ -23,19 +24,21 @@ use Rattle.cert_file.specs.Plain.{PlainCertificate}
 use Rattle.map_engine.specs.declared.fault.CheckItem.{CheckItem}
 use Rattle.map_engine.specs.declared.fault.CheckItem.TheVariants as item
 use Rattle.map_engine.specs.Tables.{names_by}
-use Rattle.map_engine.specs.Problems.{Drawn, drawn_outcome, problem_of, problem_within}
+use Rattle.map_engine.specs.Problems.{Drawn, drawn_outcome, problem_of, problem_within, untangled_problem}
 use Rattle.map_engine.specs.Solving.{SolvedPart, solve_outcome, parts_in, orders_by}
+use Rattle.map_engine.specs.Lifted.{lifted_by}
 use Rattle.map_engine.specs.Certificates.{line_count, weighty_lines, certificate_of}
 use Rattle.map_engine.specs.Making.{map_of}
 use Rattle.map_engine.specs.Promises.{ShowsCertified, ShowsLineGraph}
 use Rattle.map_engine.specs.Checking.{PlainChecked, walk_refused, refused_unless, unless_refused, graph_item, importance_item, walk_item, order_item, cost_item, proof_item, are_same_pairs, is_order, first_disorder, first_difference, checked_on, checked_orders, pictured, check_outcome}
 use Rattle.map_engine.specs.Wholes.{done_in, orders_in, IsWhole}
+use Rattle.map_engine.specs.declared.best_orders.BestOrders.{BestOrders}
 use Rattle.map_engine.specs.declared.drawn_map.DrawnMap.{DrawnMap}
-use Rattle.map_engine.specs.declared.solution.Solution.{Solution}
-use Rattle.map_engine.specs.Stages.{drawn_of, IsShown, IsSolution}
+use Rattle.map_engine.specs.Stages.{drawn_of, IsShown, AreBestBy}
 use Rattle.map_engine.proofs.DrawingLemmas.{graph_there, problem_there}
 use Rattle.map_engine.proofs.ItemLemmas.{has_at}
 use Rattle.map_engine.proofs.PartOrders.{all_are, shown_each, cost_is, best_is}
+use Rattle.map_engine.proofs.UntangledLemmas.{untangled_fits, lifted_are, lifted_cost, lifted_best}
 use Rattle.map_engine.proofs.Accepting.{verdict_none}
 
 same_pairs : (pairs : List (LineId × ℕ)) → are_same_pairs pairs pairs ≡ true
@@ -81,77 +84,91 @@ none_disordered k (lines ∷ segs) (order ∷ orders) are =
 held : (holds : Bool) (i : CheckItem) → holds ≡ true → refused_unless holds i ≡ None
 held holds i h = ap (λ (b : Bool). cond b None (Some i)) h
 
-pub segs_same : (feed : Feed) (choices : Choices) (drawn : Drawn) → IsWhole feed choices drawn → drawn.problem.segs ≡ drawn.graph.lines
-segs_same feed choices drawn whole = ap (λ (p : ProblemParts). p.segs) whole.defined
+pub segs_same : (how : Search) (feed : Feed) (choices : Choices) (drawn : Drawn) → IsWhole how feed choices drawn → drawn.problem.segs ≡ drawn.graph.lines
+segs_same how feed choices drawn whole = ap (λ (p : ProblemParts). p.segs) whole.defined
 
--- the map shows the line graph, with the walks and the orders of its certificate
-pub shows_certified : (feed : Feed) (choices : Choices) (drawn : Drawn) → IsWhole feed choices drawn
-    → ShowsCertified feed choices drawn.graph (certificate_of feed choices drawn (done_in drawn.problem)) (map_of feed choices drawn (done_in drawn.problem)).svg (certificate_of feed choices drawn (done_in drawn.problem)).cost
-shows_certified feed choices drawn whole = record {
-  shown = record { each = whole.each; legal = whole.legal; ordered = subst (λ (segs : List (List LineId)). AreOrders segs (orders_in drawn.problem)) (segs_same feed choices drawn whole) whole.ordered; picture = refl };
-  least = record {
-    costs = ap (λ (p : ProblemParts). cost_of p.terms (orders_in drawn.problem)) (sym whole.defined);
-    best = subst (λ (p : ProblemParts). AreBest p.segs p.terms (orders_in drawn.problem)) whole.defined (best_is drawn.problem whole.fits whole.shown);
-  };
-}
+module _ (how : Search) (feed : Feed) (choices : Choices) (drawn : Drawn) (whole : IsWhole how feed choices drawn) where
+  abbrev p : ProblemParts
+  p = drawn.problem
 
-pub shows_graph : (feed : Feed) (choices : Choices) (drawn : Drawn) → IsWhole feed choices drawn
-    → ShowsLineGraph feed choices (map_of feed choices drawn (done_in drawn.problem)).svg (certificate_of feed choices drawn (done_in drawn.problem)).cost
-shows_graph feed choices drawn whole =
-    let shows = shows_certified feed choices drawn whole in
-    record {
-      graph = drawn.graph;
-      of_feed = whole.of_feed;
-      shows = record { walks = drawn.walks; orders = orders_in drawn.problem; shown = shows.shown; least = shows.least };
-    }
+  abbrev u : ProblemParts
+  u = untangled_problem p
 
--- and the check says yes to it
-pub accepts_map : (feed : Feed) (choices : Choices) (drawn : Drawn) → IsWhole feed choices drawn → first_illegal drawn.graph drawn.walks ≡ None
-    → check_outcome feed choices (map_of feed choices drawn (done_in drawn.problem)).svg (Ok (certificate_of feed choices drawn (done_in drawn.problem)))
-    ≡ Ok (certificate_of feed choices drawn (done_in drawn.problem)).cost
-accepts_map feed choices drawn whole none_illegal =
-    let p : ProblemParts = drawn.problem in
-    let graph : GraphParts = drawn.graph in
-    let c : PlainCertificate = certificate_of feed choices drawn (done_in p) in
-    let svg : List ℕ = picture_text (names_by feed) graph drawn.walks (orders_in p) in
-    let due : PlainChecked = record { cost = c.cost; svg = svg } in
-    let by_terms = checked_orders feed graph c (problem_within feed choices graph) in
-    let by_orders = unless_refused (order_item graph c) by_terms in
-    let by_walks = unless_refused (walk_item graph c) by_orders in
-    let by_importance = unless_refused (importance_item feed choices graph c) by_walks in
-    let counts : graph_item feed graph c ≡ None =
-    held _ item.Graph (and_from (c.nodes == length graph.kinds && c.segs == length graph.ends) (c.lines == line_count feed graph)
-    (and_from (c.nodes == length graph.kinds) (c.segs == length graph.ends) (eq-eqb c.nodes c.nodes refl) (eq-eqb c.segs c.segs refl)) (eq-eqb c.lines c.lines refl)) in
-    let pairs : importance_item feed choices graph c ≡ None = held _ item.Importance (same_pairs (weighty_lines feed choices graph)) in
-    let walks : walk_item graph c ≡ None = ap (option_map walk_refused) none_illegal in
-    let orders : order_item graph c ≡ None =
-    ap (option_map item.Order) (none_disordered 0 graph.lines (orders_in p) (subst (λ (segs : List (List LineId)). AreOrders segs (orders_in p)) (segs_same feed choices drawn whole) whole.ordered)) in
-    let cost : cost_item p c.orders c.cost ≡ None = held _ item.Cost (eq-eqb c.cost c.cost refl) in
-    let proof : proof_item p c.orders c.proof ≡ None =
-    ap (option_map item.Proof) (verdict_none p (orders_in p) whole.shown (cost_is p whole.fits whole.shown)) in
-    ap (λ (r : Result GraphParts Limit). pictured svg (checked_on feed choices (Ok c) r)) whole.of_feed
-    ∙ ap (λ (o : Option CheckItem). pictured svg (unless_refused o by_importance)) counts
-    ∙ ap (λ (o : Option CheckItem). pictured svg (unless_refused o by_walks)) pairs
-    ∙ ap (λ (o : Option CheckItem). pictured svg (unless_refused o by_orders)) walks
-    ∙ ap (λ (o : Option CheckItem). pictured svg (unless_refused o by_terms)) orders
-    ∙ ap (λ (r : Result ProblemParts Limit). pictured svg (checked_orders feed graph c r)) whole.counted
-    ∙ ap (λ (o : Option CheckItem). pictured svg (unless_refused o (unless_refused (proof_item p c.orders c.proof) (Ok due)))) cost
-    ∙ ap (λ (o : Option CheckItem). pictured svg (unless_refused o (Ok due))) proof
-    ∙ ap (λ (o : Option ℕ). unless_refused (option_map item.Picture o) (Ok c.cost)) (same_bytes svg)
+  -- the solved parts of the untangled problem, and the orders of the problem by them
+  abbrev done : List SolvedPart
+  done = done_in how u
+
+  abbrev orders : List (List LineId)
+  orders = lifted_by p done
+
+  pub ordered : AreOrders drawn.graph.lines orders
+  ordered =
+      subst (λ (segs : List (List LineId)). AreOrders segs orders) (segs_same how feed choices drawn whole) (lifted_are p whole.fits (orders_in how u) whole.ordered)
+
+  -- the map shows the line graph, with the walks and the orders of its certificate
+  pub shows_certified : ShowsCertified feed choices drawn.graph (certificate_of feed choices drawn done) (map_of feed choices drawn done).svg (certificate_of feed choices drawn done).cost
+  shows_certified = record {
+    shown = record { each = whole.each; legal = whole.legal; ordered = ordered; picture = refl };
+    least = record {
+      costs = ap (λ (q : ProblemParts). cost_of q.terms orders) (sym whole.defined);
+      best = subst (λ (q : ProblemParts). AreBest q.segs q.terms orders) whole.defined
+          (lifted_best p whole.fits (orders_in how u) whole.ordered (best_is how u (untangled_fits p whole.fits) whole.shown));
+    };
+  }
+
+  pub shows_graph : ShowsLineGraph feed choices (map_of feed choices drawn done).svg (certificate_of feed choices drawn done).cost
+  shows_graph = record {
+    graph = drawn.graph;
+    of_feed = whole.of_feed;
+    shows = record { walks = drawn.walks; orders = orders; shown = shows_certified.shown; least = shows_certified.least };
+  }
+
+  -- and the check says yes to it
+  pub accepts_map : first_illegal drawn.graph drawn.walks ≡ None
+      → check_outcome feed choices (map_of feed choices drawn done).svg (Ok (certificate_of feed choices drawn done)) ≡ Ok (certificate_of feed choices drawn done).cost
+  accepts_map none_illegal =
+      let graph : GraphParts = drawn.graph in
+      let c : PlainCertificate = certificate_of feed choices drawn done in
+      let svg : List ℕ = picture_text (names_by feed) graph drawn.walks orders in
+      let due : PlainChecked = record { cost = c.cost; svg = svg } in
+      let by_terms = checked_orders feed graph c (problem_within feed choices graph) in
+      let by_orders = unless_refused (order_item graph c) by_terms in
+      let by_walks = unless_refused (walk_item graph c) by_orders in
+      let by_importance = unless_refused (importance_item feed choices graph c) by_walks in
+      let counts : graph_item feed graph c ≡ None =
+      held _ item.Graph (and_from (c.nodes == length graph.kinds && c.segs == length graph.ends) (c.lines == line_count feed graph)
+      (and_from (c.nodes == length graph.kinds) (c.segs == length graph.ends) (eq-eqb c.nodes c.nodes refl) (eq-eqb c.segs c.segs refl)) (eq-eqb c.lines c.lines refl)) in
+      let pairs : importance_item feed choices graph c ≡ None = held _ item.Importance (same_pairs (weighty_lines feed choices graph)) in
+      let walks : walk_item graph c ≡ None = ap (option_map walk_refused) none_illegal in
+      let in_order : order_item graph c ≡ None = ap (option_map item.Order) (none_disordered 0 graph.lines orders ordered) in
+      let cost : cost_item p c.orders c.cost ≡ None = held _ item.Cost (eq-eqb c.cost c.cost refl) in
+      let proof : proof_item p c.orders c.proof ≡ None =
+      ap (option_map item.Proof)
+      (verdict_none how p orders whole.fits whole.shown (lifted_cost p whole.fits (orders_in how u) whole.ordered ∙ cost_is how u (untangled_fits p whole.fits) whole.shown)) in
+      ap (λ (r : Result GraphParts Limit). pictured svg (checked_on feed choices (Ok c) r)) whole.of_feed
+      ∙ ap (λ (o : Option CheckItem). pictured svg (unless_refused o by_importance)) counts
+      ∙ ap (λ (o : Option CheckItem). pictured svg (unless_refused o by_walks)) pairs
+      ∙ ap (λ (o : Option CheckItem). pictured svg (unless_refused o by_orders)) walks
+      ∙ ap (λ (o : Option CheckItem). pictured svg (unless_refused o by_terms)) in_order
+      ∙ ap (λ (r : Result ProblemParts Limit). pictured svg (checked_orders feed graph c r)) whole.counted
+      ∙ ap (λ (o : Option CheckItem). pictured svg (unless_refused o (unless_refused (proof_item p c.orders c.proof) (Ok due)))) cost
+      ∙ ap (λ (o : Option CheckItem). pictured svg (unless_refused o (Ok due))) proof
+      ∙ ap (λ (o : Option ℕ). unless_refused (option_map item.Picture o) (Ok c.cost)) (same_bytes svg)
 
 -- what is drawn and solved is whole
-pub whole_is : (feed : Feed) (choices : Choices) (method : MethodChoices) (d : DrawnMap) (s : Solution) (parts : List SolvedPart) → drawn_outcome feed choices method ≡ Ok (drawn_of d)
-    → length d.drawing.walks ≡ length d.graph.ends → legal d.graph d.drawing.walks ≡ true → d.problem ≡ problem_of feed choices d.graph → IsProblem d.problem → AreOrders d.problem.segs s.orders.items
-    → solve_outcome choices.budget d.problem ≡ Ok parts → IsSolution d.problem parts s → IsWhole feed choices (drawn_of d)
-whole_is feed choices method d s parts drawn each is_legal defined fits ordered is_solved solution =
-    let all : parts ≡ done_in d.problem = all_are choices.budget d.problem parts is_solved in
+pub whole_is : (feed : Feed) (choices : Choices) (method : MethodChoices) (d : DrawnMap) (p : ProblemParts) (best : BestOrders) (parts : List SolvedPart)
+    → drawn_outcome feed choices method ≡ Ok (drawn_of (d, p)) → length d.drawing.walks ≡ length d.graph.ends → legal d.graph d.drawing.walks ≡ true → p ≡ problem_of feed choices d.graph → IsProblem p
+    → solve_outcome method.search choices.budget (untangled_problem p) ≡ Ok parts → AreBestBy method.search p parts best → IsWhole method.search feed choices (drawn_of (d, p))
+whole_is feed choices method d p best parts drawn each is_legal defined fits is_solved found =
+    let u : ProblemParts = untangled_problem p in
+    let all : parts ≡ done_in method.search u = all_are method.search choices.budget u parts is_solved in
     record {
-      of_feed = graph_there feed choices method (graph_outcome choices.near feed) (drawn_of d) drawn;
+      of_feed = graph_there feed choices method (graph_outcome choices.near feed) (drawn_of (d, p)) drawn;
       each = each;
       legal = is_legal;
-      counted = problem_there feed choices method (graph_outcome choices.near feed) (drawn_of d) drawn;
+      counted = problem_there feed choices method (graph_outcome choices.near feed) (drawn_of (d, p)) drawn;
       defined = defined;
       fits = fits;
-      ordered = subst (AreOrders d.problem.segs) (solution.orders ∙ ap (orders_by d.problem) all) ordered;
-      shown = shown_each d.problem (parts_in d.problem) (subst (AllByRecursion (λ (q : SolvedPart). IsShown d.problem q.segs)) all solution.shown);
+      ordered = subst (λ (ps : List SolvedPart). AreOrders u.segs (orders_by u ps)) all found.ordered;
+      shown = shown_each method.search u (parts_in u) (subst (AllByRecursion (λ (q : SolvedPart). IsShown method.search u q.segs)) all found.shown);
     }

@@ -8,29 +8,30 @@ use Rattle.std.proofs.lemmas.List.{at_drop_more, at_drop_all, map-append, get_or
 use Rattle.std.proofs.lemmas.List.Sums.{sum_by_more}
 use Rattle.map_base.specs.declared.ids.SegId.{SegId}
 use Rattle.map_base.specs.declared.ids.LineId.{LineId}
+use Rattle.map_method.specs.declared.search.Search.{Search}
 use Rattle.order_model.specs.declared.problem.ProblemParts.{ProblemParts}
 use Rattle.order_model.specs.Gathering.{part_lists}
 use Rattle.order_model.proofs.Placing.{length-part_lists}
 use Rattle.order_model.proofs.PartLists.{part_at}
 use Rattle.order_proof.specs.Plain.{PlainTree, plain, PlainPart, plain_part}
-use Rattle.order_proof.specs.Trees.{HasTrees, IsProofTree}
+use Rattle.order_proof.specs.Trees.{IsProofTree}
 use Rattle.order_search.specs.declared.found.Found.{Found}
 use Rattle.order_search.specs.declared.found.SearchFault.{SearchFault}
 use Rattle.order_search.specs.declared.found.SearchFault.TheVariants as search
 use Rattle.order_bound.specs.Accepting.{question, accepts}
 use Rattle.order_model.specs.PartTerms.{part_terms}
 use Rattle.order_model.specs.Prefixes.{none_placed}
-use Rattle.order_search.specs.LiveTrees.{Best}
 use Rattle.order_search.specs.Finding.{with_lists, places_of, places_limit, IsSearchFault, IsLeast, AreAttained}
-use Rattle.order_search.specs.FoundParts.{part_in, branches_in, IsFoundIn}
+use Rattle.order_search.specs.FoundParts.{part_in}
+use Rattle.kept_trees.specs.Results.{PartResult, branches_by, IsResult}
 use Rattle.map_engine.specs.declared.fault.MakeFault.{MakeFault}
 use Rattle.map_engine.specs.declared.fault.MakeFault.TheVariants as fault
 use Rattle.map_engine.specs.declared.solution.Solution.{Solution}
 use Rattle.map_engine.specs.Faults.{of_search}
-use Rattle.map_engine.specs.Solving.{SolvedPart, live_of, is_shallow, is_affordable, solved, with_solved, with_parts, is_solvable, why_unsolved, solve_from, solve_outcome, parts_in}
-use Rattle.map_engine.specs.Certificates.{proof_part, proof_of}
+use Rattle.map_engine.specs.Solving.{SolvedPart, is_shallow, is_affordable, solved, with_solved, with_parts, is_solvable, why_unsolved, solve_from, solve_outcome, parts_in}
+use Rattle.map_engine.specs.Certificates.{proof_part}
 use Rattle.map_engine.specs.Making.{HasCause}
-use Rattle.map_engine.specs.Stages.{prepended, plain_parts, IsShown, IsSolution, IsMore, IsUnsolved, AreSolved}
+use Rattle.map_engine.specs.Stages.{prepended, plain_parts, IsShown, IsSolution, IsMore, IsUnsolved, AreSolved, HaveProofTrees}
 
 prepended-more : (done : List SolvedPart) (s : SolvedPart) (outcome : Result (List SolvedPart) MakeFault) → prepended (done ++ s ∷ []) outcome ≡ prepended done (with_solved s outcome)
 prepended-more [] s outcome = refl
@@ -52,69 +53,69 @@ proofs-more : (done : List SolvedPart) (s : SolvedPart) → map proof_part (done
 proofs-more [] s = refl
 proofs-more (d ∷ done) s = ap (λ (rest : List PlainPart). proof_part d ∷ rest) (proofs-more done s)
 
-shown-more : (p : ProblemParts) (done : List SolvedPart) (s : SolvedPart) → AllByRecursion (λ (t : SolvedPart). IsShown p t.segs) done → IsShown p s.segs
-    → AllByRecursion (λ (t : SolvedPart). IsShown p t.segs) (done ++ s ∷ [])
-shown-more p [] s all here = (here, tt)
-shown-more p (d ∷ done) s all here = (all.0, shown-more p done s all.1 here)
+shown-more : (how : Search) (p : ProblemParts) (done : List SolvedPart) (s : SolvedPart) → AllByRecursion (λ (t : SolvedPart). IsShown how p t.segs) done → IsShown how p s.segs
+    → AllByRecursion (λ (t : SolvedPart). IsShown how p t.segs) (done ++ s ∷ [])
+shown-more how p [] s all here = (here, tt)
+shown-more how p (d ∷ done) s all here = (all.0, shown-more how p done s all.1 here)
 
 -- what comes of the parts from k on
-parts_at : (budget : ℕ) (p : ProblemParts) (k : ℕ) (part : List SegId) → k < length (parts_in p) → part ≡ get_or (parts_in p) k part
-    → solve_from budget p k (drop k (parts_in p)) ≡ solve_from budget p k (part ∷ drop (k + 1) (parts_in p))
-parts_at budget p k part below is =
-    at_drop_more (solve_from budget p k) (parts_in p) k part below
-    ∙ ap (λ (q : List SegId). solve_from budget p k (q ∷ drop (k + 1) (parts_in p))) (sym is)
+parts_at : (how : Search) (budget : ℕ) (p : ProblemParts) (k : ℕ) (part : List SegId) → k < length (parts_in p) → part ≡ get_or (parts_in p) k part
+    → solve_from how budget p k (drop k (parts_in p)) ≡ solve_from how budget p k (part ∷ drop (k + 1) (parts_in p))
+parts_at how budget p k part below is =
+    at_drop_more (solve_from how budget p k) (parts_in p) k part below
+    ∙ ap (λ (q : List SegId). solve_from how budget p k (q ∷ drop (k + 1) (parts_in p))) (sym is)
 
-pub none_solved : (budget : ℕ) (p : ProblemParts) (s : Solution) → s.orders.items ≡ p.segs → s.parts.items ≡ [] → AreSolved budget p 0 s
-none_solved budget p s orders parts =
+pub none_solved : (how : Search) (budget : ℕ) (p : ProblemParts) (s : Solution) → s.orders.items ≡ p.segs → s.parts.items ≡ [] → AreSolved how budget p 0 s
+none_solved how budget p s orders parts =
     record { done = []; ahead = refl; solution = record { orders = orders; proofs = ap (map plain_part) parts; trees = tt; shown = tt } }
 
-trees-more : (done : List SolvedPart) (s : SolvedPart) → HasTrees (proof_of done) → IsProofTree s.tree → HasTrees (proof_of (done ++ s ∷ []))
+trees-more : (done : List SolvedPart) (s : SolvedPart) → HaveProofTrees done → IsProofTree s.tree → HaveProofTrees (done ++ s ∷ [])
 trees-more [] s all tree = (tree, tt)
 trees-more (d ∷ done) s all tree = (all.0, trees-more done s all.1 tree)
 
 -- one part more
-pub one_solved : (budget : ℕ) (p : ProblemParts) (k : ℕ) (part : List SegId) (before after : Solution) → k < length (parts_in p) → part ≡ get_or (parts_in p) k part
-    → IsMore budget p part before after → AreSolved budget p k before → AreSolved budget p (k + 1) after
-one_solved budget p k part before after below is more so_far = record {
-  done = so_far.done ++ solved p part ∷ [];
+pub one_solved : (how : Search) (budget : ℕ) (p : ProblemParts) (k : ℕ) (part : List SegId) (before after : Solution) → k < length (parts_in p) → part ≡ get_or (parts_in p) k part
+    → IsMore how budget p part before after → AreSolved how budget p k before → AreSolved how budget p (k + 1) after
+one_solved how budget p k part before after below is more so_far = record {
+  done = so_far.done ++ solved how p part ∷ [];
   ahead = so_far.ahead
-      ∙ ap (prepended so_far.done) (parts_at budget p k part below is ∙ ap (λ (b : Bool). cond b (with_solved (solved p part) rest) (Err (why_unsolved budget p k part))) more.solvable)
-      ∙ sym (prepended-more so_far.done (solved p part) rest);
+      ∙ ap (prepended so_far.done) (parts_at how budget p k part below is ∙ ap (λ (b : Bool). cond b (with_solved (solved how p part) rest) (Err (why_unsolved budget p k part))) more.solvable)
+      ∙ sym (prepended-more so_far.done (solved how p part) rest);
   solution = record {
-    orders = more.orders ∙ ap (with_lists part (solved p part).lists) so_far.solution.orders ∙ sym (with_parts-more so_far.done (solved p part) p.segs);
-    proofs = more.proofs ∙ ap (λ (ps : List PlainPart). ps ++ proof_part (solved p part) ∷ []) so_far.solution.proofs ∙ sym (proofs-more so_far.done (solved p part));
-    trees = trees-more so_far.done (solved p part) so_far.solution.trees more.tree;
-    shown = shown-more p so_far.done (solved p part) so_far.solution.shown more.shown;
+    orders = more.orders ∙ ap (with_lists part (solved how p part).lists) so_far.solution.orders ∙ sym (with_parts-more so_far.done (solved how p part) p.segs);
+    proofs = more.proofs ∙ ap (λ (ps : List PlainPart). ps ++ proof_part (solved how p part) ∷ []) so_far.solution.proofs ∙ sym (proofs-more so_far.done (solved how p part));
+    trees = trees-more so_far.done (solved how p part) so_far.solution.trees more.tree;
+    shown = shown-more how p so_far.done (solved how p part) so_far.solution.shown more.shown;
   };
 }
   where
     rest : Result (List SolvedPart) MakeFault
-    rest = solve_from budget p (k + 1) (drop (k + 1) (parts_in p))
+    rest = solve_from how budget p (k + 1) (drop (k + 1) (parts_in p))
 
 -- a part that is not solved ends all
-pub unsolved_ends : (budget : ℕ) (p : ProblemParts) (k : ℕ) (part : List SegId) (before : Solution) (e : MakeFault) → k < length (parts_in p) → part ≡ get_or (parts_in p) k part
-    → IsUnsolved budget p k part e → AreSolved budget p k before → HasCause (solve_outcome budget p) e
-unsolved_ends budget p k part before e below is why so_far = by_fault e why
+pub unsolved_ends : (how : Search) (budget : ℕ) (p : ProblemParts) (k : ℕ) (part : List SegId) (before : Solution) (e : MakeFault) → k < length (parts_in p) → part ≡ get_or (parts_in p) k part
+    → IsUnsolved how budget p k part e → AreSolved how budget p k before → HasCause (solve_outcome how budget p) e
+unsolved_ends how budget p k part before e below is why so_far = by_fault e why
   where
-    ends : (f : MakeFault) → is_solvable budget p part ≡ false → f ≡ why_unsolved budget p k part → solve_outcome budget p ≡ Err f
+    ends : (f : MakeFault) → is_solvable how budget p part ≡ false → f ≡ why_unsolved budget p k part → solve_outcome how budget p ≡ Err f
     ends f not_solvable because =
         so_far.ahead
-        ∙ ap (prepended so_far.done) (parts_at budget p k part below is
-        ∙ ap (λ (b : Bool). cond b (with_solved (solved p part) (solve_from budget p (k + 1) (drop (k + 1) (parts_in p)))) (Err (why_unsolved budget p k part))) not_solvable)
+        ∙ ap (prepended so_far.done) (parts_at how budget p k part below is
+        ∙ ap (λ (b : Bool). cond b (with_solved (solved how p part) (solve_from how budget p (k + 1) (drop (k + 1) (parts_in p)))) (Err (why_unsolved budget p k part))) not_solvable)
         ∙ prepended-err so_far.done (why_unsolved budget p k part) ∙ ap Err (sym because)
 
-    by_fault : (f : MakeFault) → IsUnsolved budget p k part f → HasCause (solve_outcome budget p) f
+    by_fault : (f : MakeFault) → IsUnsolved how budget p k part f → HasCause (solve_outcome how budget p) f
     by_fault fault.NoMemory w = tt
     by_fault (fault.NoRoute seg) w = ends (fault.NoRoute seg) w.0 w.1
     by_fault (fault.Spent component branches) w = ends (fault.Spent component branches) w.0 w.1
     by_fault (fault.Limit limit) w = ends (fault.Limit limit) w.0 w.1
 
 -- all parts
-pub all_solved : (budget : ℕ) (p : ProblemParts) (k : ℕ) (s : Solution) → length (parts_in p) ≤ k → AreSolved budget p k s
-    → (parts : List SolvedPart) × (solve_outcome budget p ≡ Ok parts) × IsSolution p parts s
-all_solved budget p k s over so_far = (
+pub all_solved : (how : Search) (budget : ℕ) (p : ProblemParts) (k : ℕ) (s : Solution) → length (parts_in p) ≤ k → AreSolved how budget p k s
+    → (parts : List SolvedPart) × (solve_outcome how budget p ≡ Ok parts) × IsSolution how p parts s
+all_solved how budget p k s over so_far = (
   so_far.done,
-  so_far.ahead ∙ ap (prepended so_far.done) (at_drop_all (solve_from budget p k) (parts_in p) k over) ∙ prepended-ok so_far.done,
+  so_far.ahead ∙ ap (prepended so_far.done) (at_drop_all (solve_from how budget p k) (parts_in p) k over) ∙ prepended-ok so_far.done,
   so_far.solution,
 )
 
@@ -137,44 +138,39 @@ abbrev part_of : List SegId → ℕ → PlainTree → PlainPart
 part_of part target tree = record { segs = part; target = target; tree = tree }
 
 -- a part that was found is solved
-pub found_more : (budget : ℕ) (p : ProblemParts) (part : List SegId) (f : Found) (before after : Solution) → IsFoundIn p part f → f.branches ≤ budget
+pub found_more : (how : Search) (budget : ℕ) (p : ProblemParts) (part : List SegId) (f : Found) (before after : Solution) → IsResult how p part f → f.branches ≤ budget
     → after.orders.items ≡ with_lists part f.orders.lists before.orders.items
     → after.parts.items ≡ before.parts.items ++ record { segs = part; target = f.target; tree = f.tree } ∷ []
-    → IsMore budget p part before after
-found_more budget p part f before after found within orders parts = record {
-  solvable = and_from (is_shallow p part) (is_affordable budget p part)
+    → IsMore how budget p part before after
+found_more how budget p part f before after found within orders parts = record {
+  solvable = and_from (is_shallow p part) (is_affordable how budget p part)
       (le-leb (places_of p.segs part) 2048 found.places)
-      (le-leb (branches_in p part) budget (omega (arith, found.branches, within)));
-  tree = subst IsProofTree found.tree found.of_proofs;
+      (le-leb (branches_by how p part) budget (omega (arith, ap (λ (x : PartResult). x.branches) found.found, within)));
+  tree = subst (λ (x : PartResult). IsProofTree x.tree) found.found found.of_proofs;
   shown = record {
-    least = subst (IsLeast (part_in p part)) (ap (λ (b : Best). b.cost) found.best) found.least;
-    attained = subst (λ (b : Best). AreAttained (part_in p part) b.lists b.cost) found.best found.attained;
-    accepted = sym (ap (λ (n : ℕ). accepts (question p.segs part (part_terms p.terms part) n) (none_placed p.segs) (live_of p part).tree) (ap (λ (b : Best). b.cost) found.best))
-        ∙ sym (ap (accepts (question p.segs part (part_terms p.terms part) f.target) (none_placed p.segs)) found.tree) ∙ found.accepted;
+    least = subst (λ (x : PartResult). IsLeast (part_in p part) x.target) found.found found.least;
+    attained = subst (λ (x : PartResult). AreAttained (part_in p part) x.lists x.target) found.found found.attained;
+    accepted = subst (λ (x : PartResult). accepts (question p.segs part (part_terms p.terms part) x.target) (none_placed p.segs) x.tree ≡ true) found.found found.accepted;
   };
-  orders = orders ∙ ap (λ (b : Best). with_lists part b.lists before.orders.items) found.best;
+  orders = orders ∙ ap (λ (x : PartResult). with_lists part x.lists before.orders.items) found.found;
   proofs = ap (map plain_part) parts
       ∙ map-append plain_part before.parts.items (record { segs = part; target = f.target; tree = f.tree } ∷ [])
-      ∙ ap (λ (q : PlainPart). plain_parts before ++ q ∷ []) (as_solved f.target (plain f.tree) (ap (λ (b : Best). b.cost) found.best) found.tree);
+      ∙ ap (λ (x : PartResult). plain_parts before ++ part_of part x.target x.tree ∷ []) found.found;
 }
-  where
-    as_solved : (target : ℕ) (tree : PlainTree) → target ≡ (live_of p part).best.cost → tree ≡ (live_of p part).tree
-        → part_of part target tree ≡ proof_part (solved p part)
-    as_solved target tree e h = ap (λ (t : ℕ). part_of part t tree) e ∙ ap (part_of part (live_of p part).best.cost) h
 
 -- a part that is over a limit is not solved
-pub not_found : (budget : ℕ) (p : ProblemParts) (k : ℕ) (part : List SegId) (stop : SearchFault) → IsSearchFault (places_of p.segs part) (branches_in p part) budget stop
-    → IsUnsolved budget p k part (of_search k stop)
-not_found budget p k part search.NoMemory h = tt
-not_found budget p k part (search.TooDeep limit) h =
+pub not_found : (how : Search) (budget : ℕ) (p : ProblemParts) (k : ℕ) (part : List SegId) (stop : SearchFault) → IsSearchFault (places_of p.segs part) (branches_by how p part) budget stop
+    → IsUnsolved how budget p k part (of_search k stop)
+not_found how budget p k part search.NoMemory h = tt
+not_found how budget p k part (search.TooDeep limit) h =
     let deep : is_shallow p part ≡ false = lt-leb (places_of p.segs part) 2048 h.0 in (
-      ap (λ (b : Bool). b && is_affordable budget p part) deep,
+      ap (λ (b : Bool). b && is_affordable how budget p part) deep,
       ap fault.Limit h.1 ∙ sym (ap (λ (b : Bool). cond b (fault.Spent k (budget + 1)) (fault.Limit places_limit)) deep),
     )
-not_found budget p k part (search.Spent n) h =
+not_found how budget p k part (search.Spent n) h =
     let shallow : is_shallow p part ≡ true = le-leb (places_of p.segs part) 2048 h.0 in
-    let over : is_affordable budget p part ≡ false = lt-leb (branches_in p part) budget h.1 in (
-      ap (λ (b : Bool). b && is_affordable budget p part) shallow ∙ over,
+    let over : is_affordable how budget p part ≡ false = lt-leb (branches_by how p part) budget h.1 in (
+      ap (λ (b : Bool). b && is_affordable how budget p part) shallow ∙ over,
       ap (fault.Spent k) h.2 ∙ sym (ap (λ (b : Bool). cond b (fault.Spent k (budget + 1)) (fault.Limit places_limit)) shallow),
     )
 

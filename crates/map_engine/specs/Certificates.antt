@@ -1,17 +1,19 @@
 -- The certificate of a map.
-use Rattle.std.specs.Prelude.{ℕ, nat_lt, Bool, List, [], length, map, filter, slice_index_or}
+use Rattle.std.specs.Prelude.{ℕ, nat_lt, Bool, List, length, map, filter, slice_index_or}
 use Rattle.std.specs.List.{list_any, range_with_len}
 use Rattle.map_base.specs.declared.ids.LineId.{LineId}
 use Rattle.map_base.specs.Settings.{Choices}
 use Rattle.transit_feed.specs.Feeds.{Feed}
 use Rattle.graph_core.specs.declared.parts.GraphParts.{GraphParts}
+use Rattle.order_model.specs.declared.problem.ProblemParts.{ProblemParts}
 use Rattle.order_model.specs.Costs.{cost_of}
 use Rattle.order_model.specs.Places.{has_line}
 use Rattle.order_proof.specs.Plain.{PlainPart, PlainProof}
 use Rattle.cert_file.specs.Plain.{PlainCertificate}
 use Rattle.map_engine.specs.Tables.{importance_by}
-use Rattle.map_engine.specs.Problems.{Drawn}
-use Rattle.map_engine.specs.Solving.{SolvedPart, orders_by}
+use Rattle.map_engine.specs.Problems.{Drawn, untangling_rules}
+use Rattle.map_engine.specs.Solving.{SolvedPart}
+use Rattle.map_engine.specs.Lifted.{lifted_by}
 
 -- the line of a number
 abbrev pub line_numbered : ℕ → LineId
@@ -46,11 +48,11 @@ weighty_lines feed choices graph =
 abbrev pub proof_part : SolvedPart → PlainPart
 proof_part s = record { segs = s.segs; target = s.target; tree = s.tree }
 
--- the proof of solved parts: no rules, and their trees
-abbrev pub proof_of : List SolvedPart → PlainProof
-proof_of parts = record { rules = []; parts = map proof_part parts }
+-- the proof of a problem's line orders: the rules that untangle it, and the trees of the untangled problem's solved parts
+abbrev pub proof_of : ProblemParts → List SolvedPart → PlainProof
+proof_of p parts = record { rules = untangling_rules p; parts = map proof_part parts }
 
--- the certificate of a drawing with solved parts
+-- the certificate of a drawing with the solved parts of its untangled problem
 abbrev pub certificate_of : Feed → Choices → Drawn → List SolvedPart → PlainCertificate
 certificate_of feed choices drawn parts = record {
   nodes = length drawn.graph.kinds;
@@ -58,7 +60,7 @@ certificate_of feed choices drawn parts = record {
   lines = line_count feed drawn.graph;
   importance = weighty_lines feed choices drawn.graph;
   walks = drawn.walks;
-  orders = orders_by drawn.problem parts;
-  cost = cost_of drawn.problem.terms (orders_by drawn.problem parts);
-  proof = proof_of parts;
+  orders = lifted_by drawn.problem parts;
+  cost = cost_of drawn.problem.terms (lifted_by drawn.problem parts);
+  proof = proof_of drawn.problem parts;
 }

@@ -76,7 +76,7 @@ cost_item p orders cost = refused_unless (cost == cost_of p.terms orders) item.C
 
 -- the first item of the proof that is refused
 abbrev pub proof_item : ProblemParts → List (List LineId) → PlainProof → Option CheckItem
-proof_item p orders proof = option_map item.Proof (verdict p.segs p.terms orders proof)
+proof_item p orders proof = option_map item.Proof (verdict p orders proof)
 
 -- the place of the first byte that differs, or the lesser length where one is the beginning of the other
 abbrev pub first_difference : List ℕ → List ℕ → Option ℕ

@@ -2,6 +2,7 @@ pub mod Tables
 pub mod Faults
 pub mod Problems
 pub mod Solving
+pub mod Lifted
 pub mod Certificates
 pub mod DrawnLines
 pub mod Making
@@ -12,3 +13,4 @@ pub mod Checking
 pub mod Keeping
 pub mod Promises
 pub mod Wholes
+pub mod Labelling

@@ -1,6 +1,7 @@
 -- The map of a feed and its certificate; or why there is none.
 use Rattle.std.specs.Prelude.{◌≡◌, ℕ, List, Result, Ok, Err}
 use Rattle.map_base.specs.Settings.{Choices}
+use Rattle.map_method.specs.declared.search.Search.{Search}
 use Rattle.map_method.specs.Methods.{MethodChoices}
 use Rattle.transit_feed.specs.Feeds.{Feed}
 use Rattle.svg_writer.specs.Picture.{picture_text}
@@ -9,8 +10,9 @@ use Rattle.map_engine.specs.declared.fault.MakeFault.{MakeFault}
 use Rattle.map_engine.specs.declared.fault.MakeFault.TheVariants as fault
 use Rattle.map_engine.specs.declared.made.Made.{Made}
 use Rattle.map_engine.specs.Tables.{names_by}
-use Rattle.map_engine.specs.Problems.{Drawn, drawn_outcome}
-use Rattle.map_engine.specs.Solving.{SolvedPart, solve_outcome, orders_by}
+use Rattle.map_engine.specs.Problems.{Drawn, drawn_outcome, untangled_problem}
+use Rattle.map_engine.specs.Solving.{SolvedPart, solve_outcome}
+use Rattle.map_engine.specs.Lifted.{lifted_by}
 use Rattle.map_engine.specs.Certificates.{certificate_of}
 
 -- the bytes of a map and of its certificate
@@ -18,26 +20,27 @@ pub record MapBytes : Type 0 where
   pub svg : List ℕ
   pub certificate : List ℕ
 
--- the map and the certificate of a drawing with solved parts
+-- the map and the certificate of a drawing with the solved parts of its untangled problem
 abbrev pub map_of : Feed → Choices → Drawn → List SolvedPart → MapBytes
 map_of feed choices drawn parts = record {
-  svg = picture_text (names_by feed) drawn.graph drawn.walks (orders_by drawn.problem parts);
+  svg = picture_text (names_by feed) drawn.graph drawn.walks (lifted_by drawn.problem parts);
   certificate = certificate_text (certificate_of feed choices drawn parts);
 }
 
--- what comes of a drawing and its parts
+-- what comes of a drawing and the parts of its untangled problem
 abbrev pub made_with : Feed → Choices → Drawn → Result (List SolvedPart) MakeFault → Result MapBytes MakeFault
 made_with feed choices drawn (Ok parts) = Ok (map_of feed choices drawn parts)
 made_with feed choices drawn (Err stop) = Err stop
 
-abbrev pub made_on : Feed → Choices → Result Drawn MakeFault → Result MapBytes MakeFault
-made_on feed choices (Ok drawn) = made_with feed choices drawn (solve_outcome choices.budget drawn.problem)
-made_on feed choices (Err stop) = Err stop
+abbrev pub made_on : Feed → Choices → Search → Result Drawn MakeFault → Result MapBytes MakeFault
+made_on feed choices how (Ok drawn) = made_with feed choices drawn (solve_outcome how choices.budget (untangled_problem drawn.problem))
+made_on feed choices how (Err stop) = Err stop
 
 -- The map of a feed and its certificate; or the first cause why there is none: a limit of the line graph, of cells, no
--- route, a limit of terms, or a part that is over the limit of places or over the budget. It never is want of memory.
+-- route, a limit of terms, or a part of the untangled problem that is over the limit of places or over the budget. It
+-- never is want of memory.
 abbrev pub make_outcome : Feed → Choices → MethodChoices → Result MapBytes MakeFault
-make_outcome feed choices method = made_on feed choices (drawn_outcome feed choices method)
+make_outcome feed choices method = made_on feed choices method.search (drawn_outcome feed choices method)
 
 -- the bytes of what was made
 abbrev pub bytes_of : Made → MapBytes

@@ -10,6 +10,8 @@ use Rattle.octi_grid.specs.Walks.{PlainWalk}
 use Rattle.segment_router.specs.declared.fault.RouteFault.{RouteFault}
 use Rattle.segment_router.specs.Routing.{route_outcome}
 use Rattle.order_model.specs.declared.problem.ProblemParts.{ProblemParts}
+use Rattle.order_values.specs.declared.rule.Rule.{Rule}
+use Rattle.order_rules.specs.Untangling.{untangling}
 use Rattle.order_terms.specs.Terms.{graph_terms}
 use Rattle.order_terms.specs.Limits.{graph_problem}
 use Rattle.map_engine.specs.declared.fault.MakeFault.{MakeFault}
@@ -24,6 +26,14 @@ problem_of feed choices graph = record { segs = graph.lines; terms = graph_terms
 -- the same, unless there are too many terms
 abbrev pub problem_within : Feed → Choices → GraphParts → Result ProblemParts Limit
 problem_within feed choices graph = graph_problem graph choices.weights (importance_by feed choices)
+
+-- the rules that untangle a problem
+abbrev pub untangling_rules : ProblemParts → List Rule
+untangling_rules p = (untangling p).0
+
+-- the problem that they make, which is the one that is solved
+abbrev pub untangled_problem : ProblemParts → ProblemParts
+untangled_problem p = (untangling p).1
 
 -- a graph with its walks and the problem of its line orders
 pub record Drawn : Type 0 where

@@ -2,88 +2,110 @@
 use Rattle.std.specs.Prelude.{◌≡◌, ℕ, false, true, List, [], ◌∷◌, ◌++◌, length, map, filter, drop, Result, Ok, Err}
 use Rattle.std.specs.List.{AllByRecursion}
 use Rattle.map_base.specs.declared.ids.SegId.{SegId}
+use Rattle.map_method.specs.declared.search.Search.{Search}
 use Rattle.order_model.specs.declared.problem.ProblemParts.{ProblemParts}
 use Rattle.transit_feed.specs.Feeds.{Feed}
-use Rattle.order_model.specs.Costs.{cost_of}
+use Rattle.order_model.specs.Costs.{cost_of, AreOrders}
 use Rattle.svg_writer.specs.Picture.{picture_text}
 use Rattle.cert_file.specs.Plain.{PlainCertificate}
 use Rattle.cert_file.specs.Text.{certificate_text}
-use Rattle.order_proof.specs.Plain.{PlainPart, plain_part}
-use Rattle.order_proof.specs.Trees.{HasTrees, IsProofTree}
+use Rattle.order_proof.specs.Plain.{PlainPart, plain_part, plain_proof}
+use Rattle.order_proof.specs.Trees.{IsProofTree}
 use Rattle.order_bound.specs.Accepting.{question, accepts}
 use Rattle.order_model.specs.PartTerms.{part_terms}
 use Rattle.order_model.specs.Prefixes.{none_placed}
 use Rattle.order_search.specs.Finding.{with_lists, IsLeast, AreAttained}
 use Rattle.order_search.specs.FoundParts.{part_in}
+use Rattle.map_engine.specs.declared.best_orders.BestOrders.{BestOrders}
 use Rattle.map_engine.specs.declared.drawn_map.DrawnMap.{DrawnMap}
 use Rattle.map_engine.specs.declared.solution.Solution.{Solution}
 use Rattle.map_engine.specs.declared.fault.MakeFault.{MakeFault}
 use Rattle.map_engine.specs.declared.fault.MakeFault.TheVariants as fault
-use Rattle.map_engine.specs.Problems.{Drawn}
-use Rattle.map_engine.specs.Solving.{SolvedPart, live_of, solved, with_solved, is_solvable, why_unsolved, orders_by, solve_from, solve_outcome, parts_in}
+use Rattle.map_engine.specs.Problems.{Drawn, untangled_problem}
+use Rattle.kept_trees.specs.Results.{result_of}
+use Rattle.map_engine.specs.Solving.{SolvedPart, solved, with_solved, is_solvable, why_unsolved, orders_by, solve_from, solve_outcome, parts_in}
+use Rattle.map_engine.specs.Lifted.{lifted_by}
 use Rattle.map_engine.specs.Tables.{names_by}
 use Rattle.map_engine.specs.Certificates.{proof_part, proof_of, line_count, is_weighty, weighed_line, drawn_lines}
 use Rattle.map_engine.specs.Making.{HasCause, MapBytes}
 
--- a drawing with its problem, without what else is kept of it
-abbrev pub drawn_of : DrawnMap → Drawn
-drawn_of d = record { graph = d.graph; walks = d.drawing.walks; problem = d.problem }
+-- a drawing and its problem, without what else is kept of it
+abbrev pub drawn_of : DrawnMap × ProblemParts → Drawn
+drawn_of d = record { graph = d.0.graph; walks = d.0.drawing.walks; problem = d.1 }
 
 -- the parts of a proof without where they lie in memory
 abbrev pub plain_parts : Solution → List PlainPart
 plain_parts s = map plain_part s.parts.items
 
--- the live tree of a part shows its least cost, which is that of the orders that are found
-pub record IsShown (p : ProblemParts) (part : List SegId) : Type 0 where
-  pub least : IsLeast (part_in p part) (live_of p part).best.cost
-  pub attained : AreAttained (part_in p part) (live_of p part).best.lists (live_of p part).best.cost
-  pub accepted : accepts (question p.segs part (part_terms p.terms part) (live_of p part).best.cost) (none_placed p.segs) (live_of p part).tree ≡ true
+-- what a search finds of a part shows its least cost, which is that of the orders that are found
+pub record IsShown (how : Search) (p : ProblemParts) (part : List SegId) : Type 0 where
+  pub least : IsLeast (part_in p part) (result_of how p part).target
+  pub attained : AreAttained (part_in p part) (result_of how p part).lists (result_of how p part).target
+  pub accepted : accepts (question p.segs part (part_terms p.terms part) (result_of how p part).target) (none_placed p.segs) (result_of how p part).tree ≡ true
+
+-- the trees of solved parts are trees that a proof may have
+abbrev pub HaveProofTrees : List SolvedPart → Type 0
+HaveProofTrees parts = AllByRecursion (λ (q : PlainPart). IsProofTree q.tree) (map proof_part parts)
 
 -- orders and proofs by solved parts, with trees that a proof may have
-pub record IsSolution (p : ProblemParts) (parts : List SolvedPart) (s : Solution) : Type 0 where
+pub record IsSolution (how : Search) (p : ProblemParts) (parts : List SolvedPart) (s : Solution) : Type 0 where
   pub orders : s.orders.items ≡ orders_by p parts
   pub proofs : plain_parts s ≡ map proof_part parts
-  pub trees : HasTrees (proof_of parts)
-  pub shown : AllByRecursion (λ (s : SolvedPart). IsShown p s.segs) parts
+  pub trees : HaveProofTrees parts
+  pub shown : AllByRecursion (λ (s : SolvedPart). IsShown how p s.segs) parts
 
 -- what was solved is what comes by definition, unless memory ran out
-abbrev pub Solves : ProblemParts → Result Solution MakeFault → Result (List SolvedPart) MakeFault → Type 0
-Solves p (Ok s) outcome = (parts : List SolvedPart) × (outcome ≡ Ok parts) × IsSolution p parts s
-Solves p (Err e) outcome = HasCause outcome e
+abbrev pub Solves : Search → ProblemParts → Result Solution MakeFault → Result (List SolvedPart) MakeFault → Type 0
+Solves how p (Ok s) outcome = (parts : List SolvedPart) × (outcome ≡ Ok parts) × IsSolution how p parts s
+Solves how p (Err e) outcome = HasCause outcome e
+
+-- line orders of a problem, what they cost and their proof, by the solved parts of its untangled problem
+pub record AreBestBy (how : Search) (p : ProblemParts) (parts : List SolvedPart) (best : BestOrders) : Type 0 where
+  pub orders : best.orders.lists ≡ lifted_by p parts
+  pub cost : best.cost ≡ cost_of p.terms (lifted_by p parts)
+  pub proof : plain_proof best.proof ≡ proof_of p parts
+  pub trees : HaveProofTrees parts
+  pub ordered : AreOrders (untangled_problem p).segs (orders_by (untangled_problem p) parts)
+  pub shown : AllByRecursion (λ (s : SolvedPart). IsShown how (untangled_problem p) s.segs) parts
+
+-- what was found is what comes of the untangled problem by definition, unless memory ran out
+abbrev pub Finds : Search → ProblemParts → Result BestOrders MakeFault → Result (List SolvedPart) MakeFault → Type 0
+Finds how p (Ok best) outcome = (parts : List SolvedPart) × (outcome ≡ Ok parts) × AreBestBy how p parts best
+Finds how p (Err e) outcome = HasCause outcome e
 
 -- one part more is solved
-pub record IsMore (budget : ℕ) (p : ProblemParts) (part : List SegId) (before after : Solution) : Type 0 where
-  pub solvable : is_solvable budget p part ≡ true
-  pub tree : IsProofTree (solved p part).tree
-  pub shown : IsShown p part
-  pub orders : after.orders.items ≡ with_lists part (solved p part).lists before.orders.items
-  pub proofs : plain_parts after ≡ plain_parts before ++ proof_part (solved p part) ∷ []
+pub record IsMore (how : Search) (budget : ℕ) (p : ProblemParts) (part : List SegId) (before after : Solution) : Type 0 where
+  pub solvable : is_solvable how budget p part ≡ true
+  pub tree : IsProofTree (solved how p part).tree
+  pub shown : IsShown how p part
+  pub orders : after.orders.items ≡ with_lists part (solved how p part).lists before.orders.items
+  pub proofs : plain_parts after ≡ plain_parts before ++ proof_part (solved how p part) ∷ []
 
 -- part k is not solved, for this reason; want of memory is free
-abbrev pub IsUnsolved : ℕ → ProblemParts → ℕ → List SegId → MakeFault → Type 0
-IsUnsolved budget p k part fault.NoMemory = Unit {0}
-IsUnsolved budget p k part (fault.NoRoute seg) = (is_solvable budget p part ≡ false) × (fault.NoRoute seg ≡ why_unsolved budget p k part)
-IsUnsolved budget p k part (fault.Spent component branches) = (is_solvable budget p part ≡ false) × (fault.Spent component branches ≡ why_unsolved budget p k part)
-IsUnsolved budget p k part (fault.Limit limit) = (is_solvable budget p part ≡ false) × (fault.Limit limit ≡ why_unsolved budget p k part)
+abbrev pub IsUnsolved : Search → ℕ → ProblemParts → ℕ → List SegId → MakeFault → Type 0
+IsUnsolved how budget p k part fault.NoMemory = Unit {0}
+IsUnsolved how budget p k part (fault.NoRoute seg) = (is_solvable how budget p part ≡ false) × (fault.NoRoute seg ≡ why_unsolved budget p k part)
+IsUnsolved how budget p k part (fault.Spent component branches) = (is_solvable how budget p part ≡ false) × (fault.Spent component branches ≡ why_unsolved budget p k part)
+IsUnsolved how budget p k part (fault.Limit limit) = (is_solvable how budget p part ≡ false) × (fault.Limit limit ≡ why_unsolved budget p k part)
 
--- the certificate of a drawing with these line orders and proofs
-abbrev pub certificate_by : Feed → DrawnMap → Solution → PlainCertificate
-certificate_by feed d s = record {
+-- the certificate of a drawing with these line orders
+abbrev pub certificate_by : Feed → DrawnMap → BestOrders → PlainCertificate
+certificate_by feed d best = record {
   nodes = length d.graph.kinds;
   segs = length d.graph.ends;
   lines = line_count feed d.graph;
   importance = filter is_weighty (map (weighed_line d.importance.items) (drawn_lines (length feed.lines) d.graph));
   walks = d.drawing.walks;
-  orders = s.orders.items;
-  cost = cost_of d.problem.terms s.orders.items;
-  proof = record { rules = []; parts = plain_parts s };
+  orders = best.orders.lists;
+  cost = best.cost;
+  proof = plain_proof best.proof;
 }
 
--- the map and the certificate of a drawing with these line orders and proofs
-abbrev pub map_by : Feed → DrawnMap → Solution → MapBytes
-map_by feed d s = record {
-  svg = picture_text (names_by feed) d.graph d.drawing.walks s.orders.items;
-  certificate = certificate_text (certificate_by feed d s);
+-- the map and the certificate of a drawing with these line orders
+abbrev pub map_by : Feed → DrawnMap → BestOrders → MapBytes
+map_by feed d best = record {
+  svg = picture_text (names_by feed) d.graph d.drawing.walks best.orders.lists;
+  certificate = certificate_text (certificate_by feed d best);
 }
 
 -- solved parts before what comes of those after them
@@ -92,7 +114,7 @@ prepended [] outcome = outcome
 prepended (s ∷ done) outcome = with_solved s (prepended done outcome)
 
 -- the first k parts are solved, so that the outcome of all is theirs before that of the others
-pub record AreSolved (budget : ℕ) (p : ProblemParts) (k : ℕ) (s : Solution) : Type 0 where
+pub record AreSolved (how : Search) (budget : ℕ) (p : ProblemParts) (k : ℕ) (s : Solution) : Type 0 where
   pub done : List SolvedPart
-  pub ahead : solve_outcome budget p ≡ prepended done (solve_from budget p k (drop k (parts_in p)))
-  pub solution : IsSolution p done s
+  pub ahead : solve_outcome how budget p ≡ prepended done (solve_from how budget p k (drop k (parts_in p)))
+  pub solution : IsSolution how p done s

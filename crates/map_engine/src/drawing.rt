@@ -2,6 +2,7 @@
 
 ghost use Rattle.std.specs.Prelude.{◌≡◌, length, true, All, None, IfOk, Ok};
 ghost use Rattle.graph_core.specs.Consistent.{IsConsistent};
+ghost use Rattle.order_model.specs.Problems.{IsProblem};
 ghost use Rattle.octi_grid.specs.Walks.{IsWalk};
 ghost use Rattle.octi_grid.specs.Legal.{first_illegal, legal};
 ghost use Rattle.line_graph.specs.Outcome.{graph_outcome};
@@ -19,6 +20,7 @@ use line_graph::build;
 use map_base::Settings;
 use map_method::Method;
 use octi_grid::{Walk, illegal_drawings_have_a_first_walk};
+use order_model::Problem;
 use order_terms::terms_of;
 use segment_router::route;
 use std::alloc::Global;
@@ -31,16 +33,17 @@ pub(crate) fn drawn_map(
     tables: &Tables,
     settings: &Settings,
     method: &Method,
-) -> Result<DrawnMap, MakeFault>
+) -> Result<(DrawnMap, Problem), MakeFault>
     ensures outcome { Gives drawn_of result (drawn_outcome tables.now settings.now method.now) }
-    ensures fits { IfOk result (λ d. IsConsistent d.graph) }
-    ensures walks { IfOk result (λ d. All IsWalk d.drawing.walks) }
-    ensures first { IfOk result (λ d. first_illegal d.graph d.drawing.walks ≡ None) }
-    ensures each { IfOk result (λ d. length d.drawing.walks ≡ length d.graph.ends) }
-    ensures legal { IfOk result (λ d. legal d.graph d.drawing.walks ≡ true) }
-    ensures lines { IfOk result (λ d. AreOfFeed tables.now d.graph) }
-    ensures importance { IfOk result (λ d. d.importance.items ≡ importance_by tables.now settings.now) }
-    ensures problem { IfOk result (λ d. d.problem ≡ problem_of tables.now settings.now d.graph) }
+    ensures fits { IfOk result (λ d. IsConsistent d.0.graph) }
+    ensures walks { IfOk result (λ d. All IsWalk d.0.drawing.walks) }
+    ensures first { IfOk result (λ d. first_illegal d.0.graph d.0.drawing.walks ≡ None) }
+    ensures each { IfOk result (λ d. length d.0.drawing.walks ≡ length d.0.graph.ends) }
+    ensures legal { IfOk result (λ d. legal d.0.graph d.0.drawing.walks ≡ true) }
+    ensures lines { IfOk result (λ d. AreOfFeed tables.now d.0.graph) }
+    ensures importance { IfOk result (λ d. d.0.importance.items ≡ importance_by tables.now settings.now) }
+    ensures problem { IfOk result (λ d. d.1 ≡ problem_of tables.now settings.now d.0.graph) }
+    ensures problem_fits { IfOk result (λ d. IsProblem d.1) }
 {
     let graph = build(alloc, tables, settings)?;
     drawn_on_graph(alloc, tables, settings, method, graph)
@@ -53,17 +56,18 @@ fn drawn_on_graph(
     settings: &Settings,
     method: &Method,
     graph: LineGraph,
-) -> Result<DrawnMap, MakeFault>
+) -> Result<(DrawnMap, Problem), MakeFault>
     requires lines { AreOfFeed tables.now graph }
     ensures outcome { Gives drawn_of result (drawn_on tables.now settings.now method.now (Ok graph)) }
-    ensures fits { IfOk result (λ d. IsConsistent d.graph) }
-    ensures walks { IfOk result (λ d. All IsWalk d.drawing.walks) }
-    ensures first { IfOk result (λ d. first_illegal d.graph d.drawing.walks ≡ None) }
-    ensures each { IfOk result (λ d. length d.drawing.walks ≡ length d.graph.ends) }
-    ensures legal { IfOk result (λ d. legal d.graph d.drawing.walks ≡ true) }
-    ensures lines { IfOk result (λ d. AreOfFeed tables.now d.graph) }
-    ensures importance { IfOk result (λ d. d.importance.items ≡ importance_by tables.now settings.now) }
-    ensures problem { IfOk result (λ d. d.problem ≡ problem_of tables.now settings.now d.graph) }
+    ensures fits { IfOk result (λ d. IsConsistent d.0.graph) }
+    ensures walks { IfOk result (λ d. All IsWalk d.0.drawing.walks) }
+    ensures first { IfOk result (λ d. first_illegal d.0.graph d.0.drawing.walks ≡ None) }
+    ensures each { IfOk result (λ d. length d.0.drawing.walks ≡ length d.0.graph.ends) }
+    ensures legal { IfOk result (λ d. legal d.0.graph d.0.drawing.walks ≡ true) }
+    ensures lines { IfOk result (λ d. AreOfFeed tables.now d.0.graph) }
+    ensures importance { IfOk result (λ d. d.0.importance.items ≡ importance_by tables.now settings.now) }
+    ensures problem { IfOk result (λ d. d.1 ≡ problem_of tables.now settings.now d.0.graph) }
+    ensures problem_fits { IfOk result (λ d. IsProblem d.1) }
 {
     let _nodes = graph.nodes();
     let drawing = route(alloc, &graph, settings.cell, method.spread, method.finest)?;
@@ -71,12 +75,12 @@ fn drawn_on_graph(
     illegal_drawings_have_a_first_walk();
     let importance = importance_of(alloc, tables, settings)?;
     let problem = terms_of(alloc, &graph, &settings.weights, importance.as_slice())?;
-    Ok(DrawnMap {
+    let drawn = DrawnMap {
         graph,
         drawing,
         importance,
-        problem,
-    })
+    };
+    Ok((drawn, problem))
 }
 
 /// What the type of walks keeps, of each of these: it has a step, and its points lie within 10,000 either way.

@@ -1,10 +1,9 @@
-//! A line graph with its drawing and the problem of its line orders.
+//! A line graph with its drawing.
 
 use graph_core::LineGraph;
 use octi_grid::Drawing;
-use order_model::Problem;
 
-/// A feed's line graph, its drawing, and the problem of its line orders.
+/// A feed's line graph and its drawing.
 #[derive(Debug, Drop)]
 pub(crate) struct DrawnMap {
     /// The line graph.
@@ -13,6 +12,4 @@ pub(crate) struct DrawnMap {
     pub drawing: Drawing,
     /// How much each line of the feed counts.
     pub importance: Vec<u32>,
-    /// The problem of the line orders.
-    pub problem: Problem,
 }

@@ -4,7 +4,7 @@ ghost use Rattle.std.specs.Prelude.{◌≡◌, ℕ, List, Ok, Err, All, Contains
 ghost use Rattle.map_base.specs.Settings.{Choices};
 ghost use Rattle.map_method.specs.Methods.{MethodChoices};
 ghost use Rattle.transit_feed.specs.Feeds.{Feed};
-ghost use Rattle.order_model.specs.declared.problem.ProblemParts.{ProblemParts};
+ghost use Rattle.kept_trees.specs.OwnTrees.{HeldPart};
 ghost use Rattle.cert_file.specs.Plain.{PlainCertificate};
 ghost use Rattle.cert_file.specs.Readers.{IsTextOf};
 ghost use Rattle.cert_file.specs.Reading.{certificate_end};
@@ -25,6 +25,6 @@ pub fn each_other_text_is_refused_at_its_first_wrong_line()
 /// Where the map of a feed is made, and each part that was finished is held since, no branch node is left to search. So a
 /// map that is made again with what was kept takes no step.
 pub fn what_was_made_is_not_searched_again()
-    ensures { (feed : Feed) (choices : Choices) (method : MethodChoices) (made : MapBytes) (held : List ProblemParts)
+    ensures { (feed : Feed) (choices : Choices) (method : MethodChoices) (made : MapBytes) (held : List HeldPart)
         → make_outcome feed choices method ≡ Ok made → All (Contains held) (finished_parts feed choices method) → branches_left held feed choices method ≡ 0 }
 {}

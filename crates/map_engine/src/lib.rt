@@ -1,11 +1,13 @@
 //! The map of a feed and its certificate, and the check of both.
 //!
 //! `make` draws the feed's line graph on the grid, finds the line orders that cost least, and writes the map and a
-//! certificate. `check` says yes only where the drawing is legal, no line orders cost less and the map is the picture that
+//! certificate. The problem of the line orders is untangled first, by rules that keep its least cost: the parts of the
+//! untangled problem are solved, and their orders are lifted. `check` says yes only where the drawing is legal, no line orders cost less and the map is the picture that
 //! is due, whoever made them; else it names the first item that is refused. `Kept` holds what was found of the parts of
 //! a problem from one map to the next, so that no part is searched twice, and never changes a byte.
 #![tactic(auto)]
 
+mod best_orders;
 mod checked;
 mod checking;
 mod drawing;
@@ -14,6 +16,7 @@ mod drawn_map;
 mod fault;
 mod importance;
 mod items;
+mod labelled;
 mod laws;
 mod made;
 mod making;
@@ -28,6 +31,7 @@ pub use fault::{CheckFault, CheckItem, MakeFault};
 pub use importance::importance_of;
 pub use items::first_difference;
 pub use kept_trees::Kept;
+pub use labelled::{labels, labels_on_graph};
 pub use laws::{
     each_certificate_is_read_from_its_text, each_other_text_is_refused_at_its_first_wrong_line,
     what_was_made_is_not_searched_again,

@@ -1,36 +1,32 @@
 //! The map of a feed and its certificate.
 
-ghost use Rattle.std.specs.Prelude.{◌≡◌, ◌≤◌, ◌<◌, ◌+◌, ◌^◌, [], length, All, Contains, IfOk};
+ghost use Rattle.std.specs.Prelude.{◌≡◌, ◌≤◌, ◌<◌, ◌+◌, ◌^◌, length, All, Contains, IfOk};
 ghost use Rattle.order_model.specs.Costs.{AreOrders};
-ghost use Rattle.order_proof.specs.Trees.{HasTrees};
 ghost use Rattle.map_engine.specs.Tables.{AreOfFeed};
 ghost use Rattle.map_engine.specs.Making.{bytes_of, make_outcome, Gives};
 ghost use Rattle.map_engine.specs.Keeping.{finished_parts, HoldsFinished, branches_left};
-ghost use Rattle.map_engine.specs.Stages.{map_by, plain_parts};
+ghost use Rattle.map_engine.specs.Stages.{map_by};
 ghost use Rattle.map_engine.specs.Promises.{IsMade};
 
+use crate::best_orders::{BestOrders, best_orders};
 use crate::drawing::drawn_map;
 use crate::drawn_lines::{drawn_lines, weighty_lines};
 use crate::drawn_map::DrawnMap;
 use crate::fault::MakeFault;
 use crate::made::Made;
 use crate::names::names_of;
-use crate::solution::Solution;
-use crate::solving::solve_parts;
 use cert_file::{Certificate, write_certificate};
 use kept_trees::Kept;
 use map_base::{NoMemory, Sequence, Settings, Steps};
 use map_method::Method;
-use order_model::{Orders, cost_by_tables};
-use order_proof::Proof;
 use std::alloc::Global;
 use std::sync::ledger::Ledger;
 use svg_writer::picture;
 use transit_feed::Tables;
 
 /// The map of a feed and its certificate. The first cause why there is none is answered: a limit of the line graph or of
-/// the grid's cells, a segment without a walk, a limit of terms, or the first part that is over the limit of places or
-/// whose live tree has more branch nodes than the budget. What `kept` holds changes none of this.
+/// the grid's cells, a segment without a walk, a limit of terms, or the first part of the untangled problem that is over
+/// the limit of places or whose search meets more branch nodes than the budget. What `kept` holds changes none of this.
 pub fn make<L: Ledger>(
     alloc: Global,
     tables: &Tables,
@@ -50,9 +46,9 @@ pub fn make<L: Ledger>(
     ensures finished { HoldsFinished result (finished_parts tables.now settings.now method.now) kept.new }
     ensures steps { steps.new ≤ steps.old + branches_left kept.old tables.now settings.now method.now }
 {
-    let drawn = drawn_map(alloc, tables, settings, method)?;
-    let solution = solve_parts(alloc, &drawn.problem, settings.budget, kept, steps)?;
-    Ok(written(alloc, tables, drawn, solution)?)
+    let (drawn, problem) = drawn_map(alloc, tables, settings, method)?;
+    let best = best_orders(alloc, problem, method.search, settings.budget, kept, steps)?;
+    Ok(written(alloc, tables, drawn, best)?)
 }
 
 /// The map of a drawing and its certificate, by the line orders that were found.
@@ -60,22 +56,17 @@ fn written(
     alloc: Global,
     tables: &Tables,
     drawn: DrawnMap,
-    solution: Solution,
+    best: BestOrders,
 ) -> Result<Made, NoMemory>
     requires of_feed { AreOfFeed tables.now drawn.graph }
     requires lines { length drawn.importance.items ≡ length tables.now.lines }
-    requires segs { drawn.problem.segs ≡ drawn.graph.lines }
-    requires orders { AreOrders drawn.problem.segs solution.orders.items }
-    requires trees { HasTrees (record { rules = []; parts = plain_parts solution }) }
-    ensures bytes { IfOk result (λ made. bytes_of made ≡ map_by tables.now drawn solution) }
+    requires orders { AreOrders drawn.graph.lines best.orders.lists }
+    ensures bytes { IfOk result (λ made. bytes_of made ≡ map_by tables.now drawn best) }
     ensures few { IfOk result (λ _. length tables.now.lines < 2 ^ 32) }
 {
-    let orders = Orders {
-        lists: Sequence::of(solution.orders),
-    };
     let nodes = drawn.graph.nodes();
     let names = names_of(alloc, tables)?;
-    let svg = picture(alloc, &drawn.graph, &names, &drawn.drawing, &orders)?;
+    let svg = picture(alloc, &drawn.graph, &names, &drawn.drawing, &best.orders)?;
     let lines = drawn_lines(alloc, &drawn.graph, tables.lines.len() as u32)?;
     let importance = weighty_lines(alloc, lines.as_slice(), drawn.importance.as_slice())?;
     let certificate = Certificate {
@@ -84,12 +75,9 @@ fn written(
         lines: lines.len() as u32,
         importance: Sequence::of(importance),
         walks: drawn.drawing.walks,
-        cost: cost_by_tables(alloc, &drawn.problem, &orders)?,
-        orders,
-        proof: Proof {
-            rules: Sequence::of(Vec::new(alloc)),
-            parts: Sequence::of(solution.parts),
-        },
+        cost: best.cost,
+        orders: best.orders,
+        proof: best.proof,
     };
     let text = write_certificate(alloc, &certificate)?;
     Ok(Made {

@@ -1,4 +1,4 @@
-//! The parts of a problem, each solved by its live tree.
+//! The parts of a problem, each solved by a search.
 
 ghost use Rattle.std.specs.Prelude.{◌≡◌, ◌≤◌, ◌<◌, ◌+◌, [], ◌∷◌, ◌++◌, length, map, sum_by, All, Contains, IfOk, OnOk, IfErr, slice_set};
 ghost use Rattle.map_base.specs.declared.ids.SegId.{SegId as Seg};
@@ -9,8 +9,8 @@ ghost use Rattle.order_model.specs.Gathering.{part_lists};
 ghost use Rattle.order_model.specs.PartTerms.{part_numbers};
 ghost use Rattle.order_model.specs.Places.{tables_of};
 ghost use Rattle.order_search.specs.Finding.{with_lists};
-ghost use Rattle.order_search.specs.ByItself.{by_itself};
 ghost use Rattle.kept_trees.specs.Keeping.{branches_to_meet};
+ghost use Rattle.kept_trees.specs.OwnTrees.{held_as};
 ghost use Rattle.map_engine.specs.Faults.{of_search};
 ghost use Rattle.map_engine.specs.Keeping.{finished_of, HoldsFinished};
 ghost use Rattle.map_engine.specs.Solving.{parts_in, solve_outcome};
@@ -20,30 +20,32 @@ use crate::fault::MakeFault;
 use crate::solution::Solution;
 use kept_trees::Kept;
 use map_base::{LineId, NoMemory, SegId, Sequence, Steps};
+use map_method::Search;
 use order_model::{Problem, numbers_of, parts_of, terms_by_part};
 use order_proof::Part;
 use order_search::{Found, SearchFault};
 use std::alloc::Global;
 use std::sync::ledger::Ledger;
 
-/// The line orders of a problem that cost least, part by part, each with its proof. The first part that is over the limit
-/// of places or over the budget of branch nodes ends it. The terms of all parts are gathered once. A part that is kept is
-/// not searched, and each part that is solved is kept.
+/// The line orders of a problem that cost least, part by part, each with its proof, as this search finds them. The first
+/// part that is over the limit of places or over the budget of branch nodes ends it. The terms of all parts are gathered
+/// once. A part that is kept under this search is not searched, and each part that is solved is kept.
 #[tactic(auto, using(crate::proofs::KeepLemmas::itself_held))]
 pub(crate) fn solve_parts<L: Ledger>(
     alloc: Global,
     problem: &Problem,
+    how: Search,
     budget: u32,
     kept: &mut Kept,
     steps: &mut Steps<L>,
 ) -> Result<Solution, MakeFault>
     requires budget { budget ≤ 100000 }
-    ensures solved { Solves problem.now result (solve_outcome budget problem.now) }
+    ensures solved { Solves how problem.now result (solve_outcome how budget problem.now) }
     ensures orders { IfOk result (λ s. AreOrders problem.now.segs s.orders.items) }
     ensures fits { IfOk result (λ _. IsProblem problem.now) }
     ensures kept { All (Contains kept.new) kept.old }
-    ensures finished { HoldsFinished result (finished_of budget problem.now) kept.new }
-    ensures steps { steps.new ≤ steps.old + sum_by (branches_to_meet kept.old problem.now) (parts_in problem.now) }
+    ensures finished { HoldsFinished result (finished_of how budget problem.now) kept.new }
+    ensures steps { steps.new ≤ steps.old + sum_by (branches_to_meet kept.old how problem.now) (parts_in problem.now) }
 {
     let parts = parts_of(alloc, problem)?;
     let numbers = numbers_of(alloc, problem, parts.as_slice())?;
@@ -53,6 +55,7 @@ pub(crate) fn solve_parts<L: Ledger>(
         problem,
         parts.as_slice(),
         terms.as_slice(),
+        how,
         budget,
         kept,
         steps,
@@ -66,6 +69,7 @@ fn solve_all<L: Ledger>(
     problem: &Problem,
     parts: &[Vec<SegId>],
     terms: &[Vec<u32>],
+    how: Search,
     budget: u32,
     kept: &mut Kept,
     steps: &mut Steps<L>,
@@ -74,12 +78,12 @@ fn solve_all<L: Ledger>(
     requires classes { AreParts problem.now.segs problem.now.terms (part_lists parts.now) }
     requires terms { tables_of terms.now ≡ map (part_numbers problem.now.terms) (part_lists parts.now) }
     requires budget { budget ≤ 100000 }
-    ensures solved { Solves problem.now result (solve_outcome budget problem.now) }
+    ensures solved { Solves how problem.now result (solve_outcome how budget problem.now) }
     ensures orders { IfOk result (λ s. AreOrders problem.now.segs s.orders.items) }
     ensures fits { IfOk result (λ _. IsProblem problem.now) }
     ensures kept { All (Contains kept.new) kept.old }
-    ensures finished { HoldsFinished result (finished_of budget problem.now) kept.new }
-    ensures steps { steps.new ≤ steps.old + sum_by (branches_to_meet kept.old problem.now) (parts_in problem.now) }
+    ensures finished { HoldsFinished result (finished_of how budget problem.now) kept.new }
+    ensures steps { steps.new ≤ steps.old + sum_by (branches_to_meet kept.old how problem.now) (parts_in problem.now) }
 {
     let mut solution = Solution {
         orders: number_orders(alloc, problem.segs())?,
@@ -92,6 +96,7 @@ fn solve_all<L: Ledger>(
             k as u32,
             parts[k].as_slice(),
             terms[k].as_slice(),
+            how,
             budget,
             &mut solution,
             kept,
@@ -123,6 +128,7 @@ fn solve_part<L: Ledger>(
     k: u32,
     part: &[SegId],
     numbers: &[u32],
+    how: Search,
     budget: u32,
     solution: &mut Solution,
     kept: &mut Kept,
@@ -133,14 +139,14 @@ fn solve_part<L: Ledger>(
     requires numbers { numbers.now ≡ part_numbers problem.now.terms part.now }
     requires budget { budget ≤ 100000 }
     requires orders { AreOrders problem.now.segs solution.old.orders.items }
-    ensures more { OnOk result (IsMore budget problem.now part.now solution.old solution.new) }
+    ensures more { OnOk result (IsMore how budget problem.now part.now solution.old solution.new) }
     ensures orders { OnOk result (AreOrders problem.now.segs solution.new.orders.items) }
-    ensures unsolved { IfErr result (IsUnsolved budget problem.now k part.now) }
+    ensures unsolved { IfErr result (IsUnsolved how budget problem.now k part.now) }
     ensures kept { All (Contains kept.new) kept.old }
-    ensures held { OnOk result (Contains kept.new (by_itself problem.now part.now)) }
-    ensures steps { steps.new ≤ steps.old + branches_to_meet kept.old problem.now part.now }
+    ensures held { OnOk result (Contains kept.new (held_as how problem.now part.now)) }
+    ensures steps { steps.new ≤ steps.old + branches_to_meet kept.old how problem.now part.now }
 {
-    match kept.solve_part(alloc, problem, part, numbers, budget, steps) {
+    match kept.solve_part(alloc, problem, part, numbers, how, budget, steps) {
         Ok(found) => {
             take_found(alloc, part, found, solution)?;
             Ok(())

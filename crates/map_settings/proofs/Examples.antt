@@ -30,8 +30,8 @@ of_map : with_table Map (parse_document (codes "budget = 20000\nnear = 20\nfines
 unfolding toml_on_literals
 of_map = refl
 
-of_method : with_table Make (parse_document (codes "spread = \"auto\"\nnear = 20\nfinest = 8\n"))
-    ≡ Ok (near_and_method (record { search = Live; spread = Auto; finest = 8; moves = 0 }))
+of_method : with_table Make (parse_document (codes "search = \"rising\"\nspread = \"auto\"\nnear = 20\nfinest = 8\n"))
+    ≡ Ok (near_and_method (record { search = Rising; spread = Auto; finest = 8; moves = 0 }))
 unfolding toml_on_literals
 of_method = refl
 
@@ -51,6 +51,15 @@ cell_too_small = refl
 spread_too_far : with_table Make (parse_document (codes "spread = 101\n")) ≡ Err (Key (codes "spread"))
 unfolding toml_on_literals
 spread_too_far = refl
+
+live_search : with_table Map (parse_document (codes "search = \"live\"\nbudget = 20000\nnear = 20\nspread = 0\nfinest = 4\n"))
+    ≡ Ok (near_and_method (record { search = Live; spread = Percent 0; finest = 4; moves = 1000 }))
+unfolding toml_on_literals
+live_search = refl
+
+other_search : with_table Make (parse_document (codes "search = \"Rising\"\n")) ≡ Err (Key (codes "search"))
+unfolding toml_on_literals
+other_search = refl
 
 no_grid_between : with_table Map (parse_document (codes "finest = 12\n")) ≡ Err (Key (codes "finest"))
 unfolding toml_on_literals

@@ -4,10 +4,11 @@ use Rattle.std.specs.Str.{bytes_eq}
 use Rattle.map_base.specs.Settings.{Choices}
 use Rattle.map_base.specs.declared.weights.Weights.{Weights}
 use Rattle.map_method.specs.declared.map_settings.MapSettings.{MapSettings}
+use Rattle.map_method.specs.declared.search.Search.{Search}
 use Rattle.map_method.specs.declared.spread.Spread.{Spread}
 use Rattle.map_method.specs.Methods.{MethodChoices}
 use Rattle.toml.specs.Data.{Data}
-use Rattle.map_settings.specs.Values.{near_of, cell_of, budget_of, types_of, weights_of, importance_of, spread_of, finest_of}
+use Rattle.map_settings.specs.Values.{near_of, cell_of, budget_of, types_of, weights_of, importance_of, search_of, spread_of, finest_of}
 
 -- a change of the settings of a map
 abbrev pub near_is : ℕ → Choices → Choices
@@ -32,6 +33,9 @@ abbrev pub importance_is : List (List ℕ × ℕ) → Choices → Choices
 importance_is importance choices = record choices { importance = importance }
 
 -- a change of how a map is found
+abbrev pub search_is : Search → MethodChoices → MethodChoices
+search_is search method = record method { search = search }
+
 abbrev pub spread_is : Spread → MethodChoices → MethodChoices
 spread_is spread method = record method { spread = spread }
 
@@ -54,13 +58,14 @@ settings_change entry =
 -- the same in how a map is found
 abbrev pub method_change : List ℕ × Data → Option (MethodChoices → MethodChoices)
 method_change entry =
-    if bytes_eq entry.0 (codes "spread") then option_map spread_is (spread_of entry.1)
+    if bytes_eq entry.0 (codes "search") then option_map search_is (search_of entry.1)
+    else if bytes_eq entry.0 (codes "spread") then option_map spread_is (spread_of entry.1)
     else if bytes_eq entry.0 (codes "finest") then option_map finest_is (finest_of entry.1)
     else None
 
 -- the key says how a map is found
 abbrev pub is_of_method : List ℕ → Bool
-is_of_method key = bytes_eq key (codes "spread") || bytes_eq key (codes "finest")
+is_of_method key = bytes_eq key (codes "search") || bytes_eq key (codes "spread") || bytes_eq key (codes "finest")
 
 -- a change of both
 abbrev pub Change : Type 0

@@ -3,6 +3,8 @@ use Rattle.std.specs.Prelude.{ℕ, ◌^◌, ◌-◌, ℤ, pos, negsuc, ◌&&◌,
 use Rattle.std.specs.Option.{option_and_then}
 use Rattle.std.specs.Str.{bytes_eq}
 use Rattle.map_base.specs.declared.weights.Weights.{Weights}
+use Rattle.map_method.specs.declared.search.Search.{Search}
+use Rattle.map_method.specs.declared.search.Search.TheVariants.{Live, Rising}
 use Rattle.map_method.specs.declared.spread.Spread.{Spread}
 use Rattle.map_method.specs.declared.spread.Spread.TheVariants.{Percent, Auto}
 use Rattle.toml.specs.Data.{Data, as_str, as_integer, as_array, as_table}
@@ -76,6 +78,13 @@ importances lines = option_and_then (of_each importance_at) (at_most 1000 lines)
 
 abbrev pub importance_of : Data → Option (List (List ℕ × ℕ))
 importance_of value = option_and_then (λ members. importances (entries members)) (as_table value)
+
+-- how line orders are searched for, by its name
+abbrev pub search_named : List ℕ → Option Search
+search_named name = if bytes_eq name (codes "live") then Some Live else if bytes_eq name (codes "rising") then Some Rising else None
+
+abbrev pub search_of : Data → Option Search
+search_of value = option_and_then search_named (as_str value)
 
 -- how far nodes are spread, by its name
 abbrev pub spread_named : List ℕ → Option Spread

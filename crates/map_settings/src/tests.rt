@@ -32,9 +32,9 @@ fn reads_every_key(rt: HostRuntime) -> Result<(), Fail> {
 
 #[test]
 fn reads_how_a_map_is_found(rt: HostRuntime) -> Result<(), Fail> {
-    let file = "spread = 35\nfinest = 16\n";
+    let file = "search = \"rising\"\nspread = 35\nfinest = 16\n";
     let method = read(rt.alloc(), file).ok().ok_or("read")?.method;
-    assert_eq!(rt; method.search, Search::Live);
+    assert_eq!(rt; method.search, Search::Rising);
     assert_eq!(rt; method.spread, Spread::Percent(35));
     assert_eq!(rt; method.finest, 16);
     assert_eq!(rt; method.moves, 0);
@@ -103,6 +103,10 @@ fn keeps_to_the_ends_of_each_range(rt: HostRuntime) -> Result<(), Fail> {
         ("station = [0, 0, 1001]\n", false),
         ("station = [0, 0]\n", false),
         ("station = [0, 0, 0, 0]\n", false),
+        ("search = \"live\"\n", true),
+        ("search = \"rising\"\n", true),
+        ("search = \"Rising\"\n", false),
+        ("search = 1\n", false),
         ("spread = -1\n", false),
         ("spread = 0\n", true),
         ("spread = 100\n", true),

@@ -6,11 +6,11 @@ ghost use Rattle.map_base.specs.Settings.{AreLight, AreRisingIds, IsImportance};
 ghost use Rattle.map_settings.specs.Faults.{Gives};
 ghost use Rattle.map_settings.specs.Tables.{entries};
 ghost use Rattle.map_method.specs.Methods.{IsFinest, IsSpread};
-ghost use Rattle.map_settings.specs.Values.{whole_number, near_of, cell_of, budget_of, types_of, route_types, weights_of, three_weights, importance_of, importances, spread_of, spread_named, finest_of};
+ghost use Rattle.map_settings.specs.Values.{whole_number, near_of, cell_of, budget_of, types_of, route_types, weights_of, three_weights, importance_of, importances, search_of, search_named, spread_of, spread_named, finest_of};
 
 use crate::fault::EntryFault;
 use map_base::{Sequence, Text, Weights};
-use map_method::Spread;
+use map_method::{Search, Spread};
 use std::alloc::Global;
 use toml::{Table, Value};
 
@@ -141,6 +141,26 @@ fn importances(alloc: Global, lines: &Table) -> Result<Sequence<(Text, u32)>, En
         }
     }
     Ok(Sequence::of(pairs))
+}
+
+/// How line orders are searched for: "live" or "rising".
+pub fn search_of(value: &Value) -> Option<Search>
+    ensures { result ≡ search_of (view value.now) }
+{
+    match value.as_str() {
+        Some(name) => search_named(name),
+        None => None,
+    }
+}
+
+fn search_named(name: &str) -> Option<Search>
+    ensures { result ≡ search_named name.now }
+{
+    match name {
+        "live" => Some(Search::Live),
+        "rising" => Some(Search::Rising),
+        _ => None,
+    }
 }
 
 /// How far nodes are spread: 0 to 100 percent of the way, or "auto".

@@ -5,6 +5,7 @@ pub mod ChargeLemmas
 pub mod SignedSums
 pub mod Charging
 pub mod PriceLemmas
+pub mod RuleTurns
 mod Closing
 mod Nodes
 mod Walks

@@ -1,4 +1,4 @@
--- The first item that is refused, part by part, and what it shows that there is none.
+-- The first item that is refused, one by one, and what it shows that there is none.
 use Rattle.std.proofs.Common.{◌≡◌, ℕ, zero, suc, ◌+◌, ◌<◌, ◌≤◌, ◌==◌, Bool, true, false, cond, List, [], ◌∷◌, length, map, drop, get_or, refl, sym, ◌∙◌, ap, subst, arith, Some, None, Option, eqb-true}
 use Rattle.std.specs.List.{All, AllByRecursion, sum_by}
 use Rattle.std.proofs.lemmas.List.{at_drop_more, drop_all, get_or-map, length-map}
@@ -8,17 +8,23 @@ use Rattle.map_base.specs.declared.ids.SegId.{SegId}
 use Rattle.map_base.specs.declared.ids.LineId.{LineId}
 use Rattle.graph_core.specs.Consistent.{AreRising}
 use Rattle.order_model.specs.declared.term.Term.{Term}
+use Rattle.order_model.specs.declared.problem.ProblemParts.{ProblemParts}
+use Rattle.order_values.specs.declared.rule.Rule.{Rule}
 use Rattle.order_model.specs.Costs.{cost_of, AreOrders}
 use Rattle.order_model.specs.Parts.{AreParts}
 use Rattle.order_proof.specs.declared.proof.Part.{Part}
 use Rattle.order_proof.specs.Plain.{PlainPart, PlainProof, close, plain, plain_part}
 use Rattle.order_proof.specs.Trees.{IsTree}
 use Rattle.order_model.specs.Costs.{AreBest}
-use Rattle.order_model.specs.Problems.{IsTerm}
+use Rattle.order_model.specs.Gathering.{problem_parts}
+use Rattle.order_model.specs.Problems.{IsTerm, IsProblem}
 use Rattle.order_model.specs.Parts.{IsRisingPart}
 use Rattle.order_model.specs.PartTerms.{part_terms, plain_terms}
 use Rattle.order_model.proofs.KeptTerms.{plain_kept}
+use Rattle.order_model.proofs.OneParts.{problem_parts_are}
 use Rattle.order_model.specs.Prefixes.{first_placed, none_placed}
+use Rattle.order_rules.specs.Untangling.{after_rules, first_refused}
+use Rattle.order_rules.proofs.RuleLaws.{all_problem, all_less}
 use Rattle.order_bound.specs.Accepting.{question, failing}
 use Rattle.order_bound.proofs.Sound.{all_complete_none}
 use Rattle.order_bound.proofs.Accepted.{accepted_part_bounds}
@@ -28,7 +34,8 @@ use Rattle.order_check.specs.declared.refusal.ProofItem.{ProofItem}
 use Rattle.order_check.specs.declared.refusal.ProofItem.TheVariants as item
 use Rattle.order_check.specs.declared.refusal.ProofStop.{ProofStop}
 use Rattle.order_check.specs.declared.refusal.ProofStop.TheVariants as stop
-use Rattle.order_check.specs.Verdict.{are_same, first_item, tree_refusal, part_refusal, first_part, targets, total_refusal, first_refused, IsCause}
+use Rattle.order_check.specs.Verdict.{are_same, first_item, tree_refusal, part_refusal, first_part, targets, total_refusal, parts_refusal, rule_refusal, verdict, IsCause}
+use Rattle.order_check.proofs.RuleTurns.{all_apply}
 
 -- Part by part.
 
@@ -77,22 +84,32 @@ module _ (segs : List (List LineId)) (terms : List Term) (parts : List (List Seg
 
 -- Items of a whole proof.
 
-pub refused_by_part : (cost : ℕ) (first : Option ProofItem) (proofs : List PlainPart) (rules : Bool) (stop : ProofStop) → rules ≡ true → IsCause first stop
-    → IsCause (cond rules (first_item first (total_refusal proofs cost)) (Some (item.Rule 0))) stop
-refused_by_part cost first proofs rules (stop.Refuted i) e h =
-    ap (λ b. cond b (first_item first (total_refusal proofs cost)) (Some (item.Rule 0))) e ∙ ap (λ f. first_item f (total_refusal proofs cost)) h
-refused_by_part cost first proofs rules stop.NoMemory e h = tt
+-- what is refused first is refused, whatever comes behind
+pub refused_first : (first later : Option ProofItem) (stop : ProofStop) → IsCause first stop → IsCause (first_item first later) stop
+refused_first first later (stop.Refuted i) h = ap (λ f. first_item f later) h
+refused_first first later stop.NoMemory h = tt
 
-pub refused_by_total : (cost : ℕ) (first : Option ProofItem) (proofs : List PlainPart) (rules : Bool) (stop : ProofStop) → rules ≡ true → first ≡ None
-    → IsCause (total_refusal proofs cost) stop → IsCause (cond rules (first_item first (total_refusal proofs cost)) (Some (item.Rule 0))) stop
-refused_by_total cost first proofs rules (stop.Refuted i) e f h =
-    ap (λ b. cond b (first_item first (total_refusal proofs cost)) (Some (item.Rule 0))) e ∙ ap (λ g. first_item g (total_refusal proofs cost)) f ∙ h
-refused_by_total cost first proofs rules stop.NoMemory e f h = tt
+-- where nothing is refused first, what comes behind is
+pub refused_later : (first later : Option ProofItem) (stop : ProofStop) → first ≡ None → IsCause later stop → IsCause (first_item first later) stop
+refused_later first later (stop.Refuted i) none h = ap (λ f. first_item f later) none ∙ h
+refused_later first later stop.NoMemory none h = tt
 
-pub accepted_whole : (cost : ℕ) (first : Option ProofItem) (proofs : List PlainPart) (rules : Bool) → rules ≡ true → first ≡ None → total_refusal proofs cost ≡ None
-    → cond rules (first_item first (total_refusal proofs cost)) (Some (item.Rule 0)) ≡ None
-accepted_whole cost first proofs rules e f h =
-    ap (λ b. cond b (first_item first (total_refusal proofs cost)) (Some (item.Rule 0))) e ∙ ap (λ g. first_item g (total_refusal proofs cost)) f ∙ h
+pub none_both : (first later : Option ProofItem) → first ≡ None → later ≡ None → first_item first later ≡ None
+none_both first later none none_too = ap (λ f. first_item f later) none ∙ none_too
+
+-- where no rule is refused, the verdict is that on the parts of the problem that the rules make
+pub verdict_by : (p last : ProblemParts) (rules : List Rule) (parts : List (List SegId)) (proofs : List PlainPart) (cost : ℕ) (orders : List (List LineId)) (proof : PlainProof)
+    → rules ≡ proof.rules → last ≡ after_rules p rules → parts ≡ problem_parts last.segs last.terms → proofs ≡ proof.parts → cost ≡ cost_of p.terms orders → first_refused 0 p rules ≡ None
+    → parts_refusal last parts proofs cost ≡ verdict p orders proof
+verdict_by p last rules parts proofs cost orders proof same_rules made parts_are same_proofs costs none =
+    let end : ProblemParts = after_rules p proof.rules in
+    let total : ℕ = cost_of p.terms orders in
+    ap (λ (ps : List (List SegId)). parts_refusal last ps proofs cost) parts_are
+    ∙ ap (λ (rs : List PlainPart). parts_refusal last (problem_parts last.segs last.terms) rs cost) same_proofs
+    ∙ ap (λ (n : ℕ). parts_refusal last (problem_parts last.segs last.terms) proof.parts n) costs
+    ∙ ap (λ (q : ProblemParts). parts_refusal q (problem_parts q.segs q.terms) proof.parts total) (made ∙ ap (after_rules p) same_rules)
+    ∙ sym (ap (λ (o : Option ProofItem). first_item o (parts_refusal end (problem_parts end.segs end.terms) proof.parts total))
+    (ap rule_refusal (subst (λ (rs : List Rule). first_refused 0 p rs ≡ None) same_rules none)))
 
 -- Where nothing is refused, the orders are best.
 
@@ -139,16 +156,30 @@ targets_fit segs terms k (p ∷ parts) (r ∷ proofs) others rising fit part_ris
     let rest = targets_fit segs terms (k + 1) parts proofs others rising fit (All-tail IsRisingPart p parts part_rises) (All-tail (IsKnown segs) p parts known) are both.1 in
     omega (arith, here, rest, sum_by-cons (λ (p : PlainPart). p.target) r proofs, sum_by-cons (part_cost terms others) p parts)
 
-pub best_of : (segs : List (List LineId)) (terms : List Term) (parts : List (List SegId)) (orders : List (List LineId)) (proof : PlainProof)
-    → All AreRising segs → All (IsTerm segs) terms → AreParts segs terms parts → first_refused segs terms parts orders proof ≡ None → AreBest segs terms orders
-best_of segs terms parts orders proof rising terms_fit ok none others are =
-    let rules = none_if (length proof.rules == 0) (first_item (first_part segs terms 0 parts proof.parts) (total_refusal proof.parts (cost_of terms orders))) (item.Rule 0) none in
-    let both = none_first (first_part segs terms 0 parts proof.parts) (total_refusal proof.parts (cost_of terms orders)) rules.1 in
-    let total : targets proof.parts ≡ cost_of terms orders =
-    eqb-true (targets proof.parts) (cost_of terms orders) (none_total (targets proof.parts == cost_of terms orders) item.Total both.1) in
-    let known : All (IsKnown segs) parts = λ k d below j e under. (ok.wide k d below j e under).0 in
-    let fit = targets_fit segs terms 0 parts proof.parts others rising terms_fit ok.rising known are both.0 in
-    omega (arith, total, fit, shares_fit parts terms others (parts_apart segs terms parts ok))
+-- where the parts of a problem and their total are accepted, no orders of the problem cost less than the total
+pub total_bounds : (p : ProblemParts) (parts : List (List SegId)) (proofs : List PlainPart) (cost : ℕ) (others : List (List LineId)) → IsProblem p → AreParts p.segs p.terms parts
+    → parts_refusal p parts proofs cost ≡ None → AreOrders p.segs others → cost ≤ cost_of p.terms others
+total_bounds p parts proofs cost others is ok none are =
+    let both = none_first (first_part p.segs p.terms 0 parts proofs) (total_refusal proofs cost) none in
+    let total : targets proofs ≡ cost = eqb-true (targets proofs) cost (none_total (targets proofs == cost) item.Total both.1) in
+    let known : All (IsKnown p.segs) parts = λ k d below j e under. (ok.wide k d below j e under).0 in
+    let fit = targets_fit p.segs p.terms 0 parts proofs others is.rising is.terms ok.rising known are both.0 in
+    omega (arith, total, fit, shares_fit parts p.terms others (parts_apart p.segs p.terms parts ok))
+
+none_rule : (r : Option ℕ) → rule_refusal r ≡ None → r ≡ None
+none_rule None h = refl
+none_rule (Some k) h = absurd (some_item (item.Rule k) h)
+
+pub best_of : (p : ProblemParts) (orders : List (List LineId)) (proof : PlainProof) → IsProblem p → verdict p orders proof ≡ None → AreBest p.segs p.terms orders
+best_of p orders proof is none others are =
+    let last : ProblemParts = after_rules p proof.rules in
+    let parts : List (List SegId) = problem_parts last.segs last.terms in
+    let both = none_first (rule_refusal (first_refused 0 p proof.rules)) (parts_refusal last parts proof.parts (cost_of p.terms orders)) none in
+    let apply = all_apply 0 p proof.rules (none_rule (first_refused 0 p proof.rules) both.0) in
+    let fits : IsProblem last = all_problem p proof.rules is apply in
+    let better = all_less p proof.rules others is apply are in
+    let bound = total_bounds last parts proof.parts (cost_of p.terms orders) better.orders fits (problem_parts_are last.segs last.terms fits.terms) both.1 better.are in
+    omega (arith, bound, better.less)
 
 -- The parts of a proof.
 

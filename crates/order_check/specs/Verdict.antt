@@ -1,13 +1,15 @@
 -- The first item of a proof that is refused.
-use Rattle.std.specs.Prelude.{◌≡◌, ℕ, ◌+◌, ◌==◌, Bool, true, false, ◌&&◌, List, [], ◌∷◌, length, sum_by, if◌then◌else◌, Option, Some, None}
+use Rattle.std.specs.Prelude.{◌≡◌, ℕ, ◌+◌, ◌==◌, Bool, true, false, ◌&&◌, List, [], ◌∷◌, sum_by, if◌then◌else◌, Option, Some, None}
 use Rattle.map_base.specs.declared.ids.SegId.{SegId}
 use Rattle.map_base.specs.declared.ids.LineId.{LineId}
 use Rattle.order_model.specs.declared.term.Term.{Term}
+use Rattle.order_model.specs.declared.problem.ProblemParts.{ProblemParts}
 use Rattle.order_model.specs.Costs.{cost_of}
 use Rattle.order_model.specs.Gathering.{problem_parts}
 use Rattle.order_proof.specs.Plain.{PlainPart, PlainProof}
 use Rattle.order_model.specs.PartTerms.{part_terms}
 use Rattle.order_model.specs.Prefixes.{none_placed}
+use Rattle.order_rules.specs.Untangling.{after_rules, first_refused}
 use Rattle.order_bound.specs.Accepting.{question, failing}
 use Rattle.order_check.specs.declared.refusal.ProofItem.{ProofItem}
 use Rattle.order_check.specs.declared.refusal.ProofItem.TheVariants as item
@@ -52,15 +54,21 @@ targets proofs = sum_by (λ (p : PlainPart). p.target) proofs
 abbrev pub total_refusal : List PlainPart → ℕ → Option ProofItem
 total_refusal proofs cost = if targets proofs == cost then None else Some item.Total
 
--- rules come first: the first is refused, whatever it is. Then the parts, one by one, and last the total
-abbrev pub first_refused : List (List LineId) → List Term → List (List SegId) → List (List LineId) → PlainProof → Option ProofItem
-first_refused segs terms parts orders proof =
-    if length proof.rules == 0 then first_item (first_part segs terms 0 parts proof.parts) (total_refusal proof.parts (cost_of terms orders))
-    else Some (item.Rule 0)
+-- the parts of a problem are checked one by one, and last the total
+abbrev pub parts_refusal : ProblemParts → List (List SegId) → List PlainPart → ℕ → Option ProofItem
+parts_refusal p parts proofs cost = first_item (first_part p.segs p.terms 0 parts proofs) (total_refusal proofs cost)
 
--- the verdict on a whole proof, by the parts of the problem
-abbrev pub verdict : List (List LineId) → List Term → List (List LineId) → PlainProof → Option ProofItem
-verdict segs terms orders proof = first_refused segs terms (problem_parts segs terms) orders proof
+-- the rule of this number is refused
+abbrev pub rule_refusal : Option ℕ → Option ProofItem
+rule_refusal None = None
+rule_refusal (Some k) = Some (item.Rule k)
+
+-- The verdict on a whole proof. The rules come first: the first that does not apply in its turn is refused. Then come the
+-- parts of the problem that the rules make, and last the total of the targets: what the orders cost on the problem itself.
+abbrev pub verdict : ProblemParts → List (List LineId) → PlainProof → Option ProofItem
+verdict p orders proof =
+    let last = after_rules p proof.rules in
+    first_item (rule_refusal (first_refused 0 p proof.rules)) (parts_refusal last (problem_parts last.segs last.terms) proof.parts (cost_of p.terms orders))
 
 -- the stop names this item; want of memory is free
 abbrev pub IsCause : Option ProofItem → ProofStop → Type 0

@@ -8,10 +8,11 @@ ghost use Rattle.order_model.specs.Parts.{AreParts};
 ghost use Rattle.order_model.specs.Gathering.{part_lists};
 ghost use Rattle.order_proof.specs.Plain.{plain_part, plain_proof};
 ghost use Rattle.order_proof.specs.Trees.{IsTree};
-ghost use Rattle.order_check.specs.Verdict.{first_part, first_refused, verdict, IsCause};
+ghost use Rattle.order_check.specs.Verdict.{first_part, parts_refusal, verdict, IsCause};
 
 use crate::part::check_part;
 use crate::refusal::{ProofItem, ProofStop};
+use crate::rules::after_rules;
 use crate::total::check_total;
 use map_base::{SegId, Sequence};
 use order_model::{Orders, Prefix, Problem, cost_by_tables, numbers_of, parts_of, terms_by_part};
@@ -19,8 +20,9 @@ use order_proof::{Part, Proof};
 use std::alloc::Global;
 
 /// Whether a proof shows that no orders of the problem cost less than these. The items are checked in order: the rules,
-/// of which the first is refused; the parts, one by one, each with its segments and its tree; and that the targets of
-/// the parts sum to what the orders cost. The first item that is refused is named.
+/// each of which has to apply to the problem that those before it make; the parts of the last problem, one by one, each
+/// with its segments and its tree; and that the targets of the parts sum to what the orders cost on the problem itself.
+/// The first item that is refused is named.
 pub fn check_proof(
     alloc: Global,
     problem: Problem,
@@ -28,35 +30,32 @@ pub fn check_proof(
     proof: &Proof,
 ) -> Result<(), ProofStop>
     requires { AreOrders problem.segs orders.now.lists }
-    ensures accepted { IfOk result (λ _. verdict problem.segs problem.terms orders.now.lists (plain_proof proof.now) ≡ None) }
-    ensures refused { IfErr result (IsCause (verdict problem.segs problem.terms orders.now.lists (plain_proof proof.now))) }
+    ensures accepted { IfOk result (λ _. verdict problem orders.now.lists (plain_proof proof.now) ≡ None) }
+    ensures refused { IfErr result (IsCause (verdict problem orders.now.lists (plain_proof proof.now))) }
     ensures best { IfOk result (λ _. AreBest problem.segs problem.terms orders.now.lists) }
 {
-    let parts = parts_of(alloc, &problem)?;
-    check_items(alloc, &problem, parts.as_slice(), orders, proof)
+    let cost = cost_by_tables(alloc, &problem, orders)?;
+    let last = after_rules(alloc, problem, proof.rules.as_slice())?;
+    let parts = parts_of(alloc, &last)?;
+    check_items(alloc, &last, parts.as_slice(), proof.parts.as_slice(), cost)
 }
 
-/// The same, by the parts of the problem.
+/// The parts of the problem that the rules made, and the total of their targets.
 fn check_items(
     alloc: Global,
     problem: &Problem,
     parts: &[Vec<SegId>],
-    orders: &Orders,
-    proof: &Proof,
+    proofs: &[Part],
+    cost: u64,
 ) -> Result<(), ProofStop>
     requires problem { IsProblem problem.now }
-    requires orders { AreOrders problem.now.segs orders.now.lists }
     requires parts { AreParts problem.now.segs problem.now.terms (part_lists parts.now) }
-    ensures accepted { IfOk result (λ _. first_refused problem.now.segs problem.now.terms (part_lists parts.now) orders.now.lists (plain_proof proof.now) ≡ None) }
-    ensures refused { IfErr result (IsCause (first_refused problem.now.segs problem.now.terms (part_lists parts.now) orders.now.lists (plain_proof proof.now))) }
+    requires trees { AllByRecursion (λ p. IsTree p.tree) (map plain_part proofs.now) }
+    ensures accepted { IfOk result (λ _. parts_refusal problem.now (part_lists parts.now) (map plain_part proofs.now) cost ≡ None) }
+    ensures refused { IfErr result (IsCause (parts_refusal problem.now (part_lists parts.now) (map plain_part proofs.now) cost)) }
 {
-    let rules = proof.rules.as_slice();
-    if !rules.is_empty() {
-        return Err(ProofStop::Refuted(ProofItem::Rule { index: 0 }));
-    }
-    let proofs = proof.parts.as_slice();
     check_parts(alloc, problem, parts, proofs)?;
-    check_total(proofs, cost_by_tables(alloc, problem, orders)?)
+    check_total(proofs, cost)
 }
 
 /// Refuses the first part that is not the problem's in its turn, or has a tree that isn't accepted. The numbers and the

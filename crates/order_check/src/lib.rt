@@ -1,5 +1,6 @@
-//! The checker of proofs that orders of lines cost least. Whoever made the proof isn't trusted: where the checker says
-//! yes, no orders of the problem cost less.
+//! The checker of proofs that orders of lines cost least. A proof is a list of rules that make the problem smaller, each
+//! tested in its turn, and a tree for each part of the problem that they make. Whoever made the proof isn't trusted:
+//! where the checker says yes, no orders of the problem cost less.
 #![tactic(auto)]
 
 mod asked;
@@ -10,6 +11,7 @@ mod node;
 mod part;
 mod part_table;
 mod refusal;
+mod rules;
 mod slot;
 mod slot_costs;
 mod term_prices;

@@ -26,6 +26,7 @@ pub mod Shown
 pub mod Whole
 mod Marks
 pub mod Renaming
+pub mod RenamedPrefixes
 pub mod RenamedTrees
 pub mod RisingNumbers
 pub mod OwnParts

@@ -90,22 +90,22 @@ ends_in : (part : List SegId) (t : Term) → is_of part t ≡ true → (is_in pa
 ends_in part t h = and_parts (is_in part (seg_of t)) (is_in part (other_of t)) h
 
 module _ (p : ProblemParts) (part : List SegId) (known : All (λ (s : SegId). s.0 < length p.segs) part) (rising : IsRisingPart part) where
-  abbrev numbers : List ℕ
+  abbrev pub numbers : List ℕ
   numbers = part_numbers p.terms part
 
-  abbrev own : ProblemParts
+  abbrev pub own : ProblemParts
   own = by_itself p part
 
-  segs_below : AllByRecursion (λ n. n < length p.segs) (seg_numbers part)
+  pub segs_below : AllByRecursion (λ n. n < length p.segs) (seg_numbers part)
   segs_below = all_below (length p.segs) part (recursion_from_All (λ (s : SegId). s.0 < length p.segs) part known)
 
-  numbers_below : AllByRecursion (λ n. n < length p.terms) numbers
+  pub numbers_below : AllByRecursion (λ n. n < length p.terms) numbers
   numbers_below = recursion_from_All (λ n. n < length p.terms) numbers (part_numbers_known part p.terms)
 
-  numbers_rise : RisesFrom 0 numbers
+  pub numbers_rise : RisesFrom 0 numbers
   numbers_rise = terms_rise (λ (q : ℕ × Term). is_of part q.1) 0 p.terms
 
-  abbrev r : Renaming
+  abbrev pub r : Renaming
   r = record {
     seg = number_past (seg_numbers part) (length p.segs);
     number = number_past numbers (length p.terms);
@@ -120,10 +120,10 @@ module _ (p : ProblemParts) (part : List SegId) (known : All (λ (s : SegId). s.
   own_count = length-map part (lines_on p.segs)
 
   -- the segment at a place of the part, under the other numbers
-  seg_told : (i : ℕ) → i < length part → r.seg i ≡ get_or (seg_numbers part) i 0
+  pub seg_told : (i : ℕ) → i < length part → r.seg i ≡ get_or (seg_numbers part) i 0
   seg_told i below = number_within (seg_numbers part) (length p.segs) i (omega (arith, seg_count, below))
 
-  same_segs : AreSame r own.segs p.segs
+  pub same_segs : AreSame r own.segs p.segs
   same_segs = record {
     at = λ s. elim (cases_lt s.0 (length part)) [
       | inl below ↦ ap (λ n. get_or p.segs n []) (seg_told s.0 below) ∙ lines_there p.segs part s.0 below
@@ -133,7 +133,7 @@ module _ (p : ProblemParts) (part : List SegId) (known : All (λ (s : SegId). s.
     ];
   }
 
-  part_back : map (seg_by r) (own_segments part) ≡ part
+  pub part_back : map (seg_by r) (own_segments part) ≡ part
   part_back = back_to r.seg 0 part (λ i j e below.
       let same : i ≡ j = omega (arith, e) in
       ap r.seg (sym same) ∙ seg_told i below)
@@ -190,7 +190,7 @@ module _ (p : ProblemParts) (part : List SegId) (known : All (λ (s : SegId). s.
   own_terms : part_terms own.terms (own_segments part) ≡ numbered_from 0 own.terms
   own_terms = filter_all (λ (q : ℕ × Term). is_of (own_segments part) q.1) (numbered_from 0 own.terms) (own_ofs 0 (part_terms p.terms part) all_of)
 
-  terms_there : map (numbered_by r) (part_terms own.terms (own_segments part)) ≡ part_terms p.terms part
+  pub terms_there : map (numbered_by r) (part_terms own.terms (own_segments part)) ≡ part_terms p.terms part
   terms_there =
       ap (map (numbered_by r)) own_terms
       ∙ terms_back 0 (part_terms p.terms part) all_of (λ i j e below.
@@ -202,13 +202,13 @@ module _ (p : ProblemParts) (part : List SegId) (known : All (λ (s : SegId). s.
   part_there : bounded_part p.segs (map (seg_by r) (own_segments part)) (map (numbered_by r) (part_terms own.terms (own_segments part))) ≡ part_in p part
   part_there = ap (λ x. bounded_part p.segs x (map (numbered_by r) (part_terms own.terms (own_segments part)))) part_back ∙ ap (bounded_part p.segs part) terms_there
 
-  own_known : AllByRecursion (λ (s : SegId). s.0 < length own.segs) (own_segments part)
+  pub own_known : AllByRecursion (λ (s : SegId). s.0 < length own.segs) (own_segments part)
   own_known = like_known (λ (s : SegId). s.0 < length own.segs) 0 part (λ i above below. omega (arith, own_count, below))
 
   pub own_known_all : All (λ (s : SegId). s.0 < length own.segs) (own_segments part)
   own_known_all = All-from_recursion (λ (s : SegId). s.0 < length own.segs) (own_segments part) own_known
 
-  within : (i : ℕ) → i < length own.segs → r.seg i < length p.segs
+  pub within : (i : ℕ) → i < length own.segs → r.seg i < length p.segs
   within i below =
       let inside : i < length part = omega (arith, own_count, below) in
       omega (arith, seg_told i inside, at_place (λ n. n < length p.segs) (seg_numbers part) i segs_below (omega (arith, seg_count, inside)))
@@ -221,13 +221,13 @@ module _ (p : ProblemParts) (part : List SegId) (known : All (λ (s : SegId). s.
   abbrev own_live : GrownTree
   own_live = live_tree (part_in own (own_segments part))
 
-  numbers_told : (f g : ℕ → ℕ) → ((k : ℕ) → k < length numbers → f (r.number k) ≡ g k)
+  pub numbers_told : (f g : ℕ → ℕ) → ((k : ℕ) → k < length numbers → f (r.number k) ≡ g k)
       → AllByRecursion (λ (t : ℕ × Term). f (r.number t.0) ≡ g t.0) (part_terms own.terms (own_segments part))
   numbers_told f g each =
       subst (AllByRecursion (λ (t : ℕ × Term). f (r.number t.0) ≡ g t.0)) (sym own_terms)
       (numbered_known (λ (t : ℕ × Term). f (r.number t.0) ≡ g t.0) 0 own.terms (λ k t above below. each k (omega (arith, number_count, below))))
 
-  segs_told : (f g : SegId → SegId) → ((i : ℕ) → i < length part → f (seg_by r (record { 0 = i })) ≡ g (record { 0 = i }))
+  pub segs_told : (f g : SegId → SegId) → ((i : ℕ) → i < length part → f (seg_by r (record { 0 = i })) ≡ g (record { 0 = i }))
       → All (λ (s : SegId). f (seg_by r s) ≡ g s) (own_segments part)
   segs_told f g each =
       All-from_recursion (λ (s : SegId). f (seg_by r s) ≡ g s) (own_segments part)

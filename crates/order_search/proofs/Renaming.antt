@@ -27,7 +27,7 @@ pub map_then : {A B C : Type 0} (f : B → C) (g : A → B) (h : A → C) (xs : 
 map_then f g h [] same = refl
 map_then f g h (x ∷ xs) same = ap (λ y. y ∷ map f (map g xs)) (same x) ∙ ap (λ ys. h x ∷ ys) (map_then f g h xs same)
 
-filter_mapped : {A B : Type 0} (p : B → Bool) (q : A → Bool) (f : A → B) (xs : List A) → ((x : A) → p (f x) ≡ q x) → filter p (map f xs) ≡ map f (filter q xs)
+pub filter_mapped : {A B : Type 0} (p : B → Bool) (q : A → Bool) (f : A → B) (xs : List A) → ((x : A) → p (f x) ≡ q x) → filter p (map f xs) ≡ map f (filter q xs)
 filter_mapped p q f [] same = refl
 filter_mapped p q f (x ∷ xs) same =
     ap (λ b. cond b (f x ∷ filter p (map f xs)) (filter p (map f xs))) (same x) ∙ by_test (q x) (filter_mapped p q f xs same)
@@ -37,7 +37,7 @@ filter_mapped p q f (x ∷ xs) same =
     by_test true e = ap (λ ys. f x ∷ ys) e
     by_test false e = e
 
-sum_mapped : {A B : Type 0} (f : B → ℕ) (g : A → B) (h : A → ℕ) (xs : List A) → ((x : A) → f (g x) ≡ h x) → sum_by f (map g xs) ≡ sum_by h xs
+pub sum_mapped : {A B : Type 0} (f : B → ℕ) (g : A → B) (h : A → ℕ) (xs : List A) → ((x : A) → f (g x) ≡ h x) → sum_by f (map g xs) ≡ sum_by h xs
 sum_mapped f g h xs same = sum_map f g xs ∙ sum_same (λ x. f (g x)) h xs same
 
 mapped_if : {A B : Type 0} (f : A → B) (b : Bool) (x : A) → cond b (f x ∷ []) [] ≡ map f (cond b (x ∷ []) [])

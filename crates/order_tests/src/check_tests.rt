@@ -1,6 +1,6 @@
 //! Proofs that the checker accepts and refuses.
 
-use crate::small::crossing;
+use crate::small::{agreeing, crossing};
 use map_base::LineId;
 use order_check::{ProofItem, ProofStop, check_proof};
 use order_model::Problem;
@@ -16,6 +16,33 @@ fn checked(alloc: Global, text: &[u8]) -> Result<(), ProofStop> {
         Err(_) => return Err(ProofStop::NoMemory),
     };
     check_proof(alloc, Problem::new(parts), &orders, &proof)
+}
+
+/// The same of the problem whose lines needn't cross.
+fn checked_by_rules(alloc: Global, text: &[u8]) -> Result<(), ProofStop> {
+    let (parts, orders) = agreeing(alloc)?;
+    let proof = match read_proof(alloc, text) {
+        Ok((proof, _)) => proof,
+        Err(_) => return Err(ProofStop::NoMemory),
+    };
+    check_proof(alloc, Problem::new(parts), &orders, &proof)
+}
+
+/// The two segments share one order, and then each line stands by itself.
+const RULES: &[u8] = b"rules 2\nmerge 1 3 0\ndivide 1 0\nparts 0\n";
+
+/// The second merge is of a segment that has no lines any more.
+const AGAIN: &[u8] = b"rules 2\nmerge 1 3 0\nmerge 1 3 0\nparts 0\n";
+
+#[test]
+fn applies_rules_in_turn(rt: HostRuntime) {
+    assert!(rt; matches!(checked_by_rules(rt.alloc(), RULES), Ok(())));
+    assert!(rt;
+        matches!(
+            checked_by_rules(rt.alloc(), AGAIN),
+            Err(ProofStop::Refuted(ProofItem::Rule { index: 1 }))
+        )
+    );
 }
 
 /// The tree of all orders, without prices.

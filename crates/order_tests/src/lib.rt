@@ -10,3 +10,5 @@ mod graph_tests;
 mod search_tests;
 #[cfg(test)]
 mod small;
+#[cfg(test)]
+mod untangle_tests;

@@ -1,4 +1,4 @@
-//! A small problem and a small graph.
+//! Two small problems and a small graph.
 
 ghost use Rattle.std.specs.Prelude.{◌≡◌, [], ◌∷◌, length, IfOk};
 ghost use Rattle.graph_core.specs.Consistent.{IsConsistent};
@@ -71,6 +71,52 @@ pub(crate) fn crossing(alloc: Global) -> Result<(ProblemParts, Orders), AllocErr
             first: LineId(1),
             second: LineId(0),
             w: 5,
+        },
+    ]?;
+    let parts = ProblemParts {
+        segs: Sequence::of(segs),
+        terms: Sequence::of(terms),
+    };
+    let orders = Orders {
+        lists: Sequence::of(orders),
+    };
+    Ok((parts, orders))
+}
+
+/// Two lines that share two segments and part at both ends so that they needn't cross. The orders cost nothing.
+pub(crate) fn agreeing(alloc: Global) -> Result<(ProblemParts, Orders), AllocError>
+    ensures fits { IfOk result (λ p. IsProblem p.0) }
+    ensures orders { IfOk result (λ p. AreOrders p.0.segs p.1.lists) }
+{
+    let segs = lists(alloc, 0, 1)?;
+    let orders = lists(alloc, 0, 1)?;
+    let terms = vec![in alloc;
+        Term::Side {
+            seg: SegId(1),
+            first: LineId(0),
+            second: LineId(1),
+            w: 3,
+        },
+        Term::Link {
+            seg: SegId(1),
+            other: SegId(3),
+            flip: false,
+            a: LineId(0),
+            b: LineId(1),
+            w: 12,
+        },
+        Term::Apart {
+            seg: SegId(1),
+            other: SegId(3),
+            a: LineId(0),
+            b: LineId(1),
+            w: 9,
+        },
+        Term::Side {
+            seg: SegId(3),
+            first: LineId(0),
+            second: LineId(1),
+            w: 3,
         },
     ]?;
     let parts = ProblemParts {

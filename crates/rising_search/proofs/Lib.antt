@@ -10,6 +10,10 @@ pub mod Lists
 pub mod Arounds
 pub mod Turns
 pub mod AroundLines
+pub mod Floors
 pub mod Choices
 pub mod RiseSteps
 pub mod Begun
+pub mod RenamedChoices
+pub mod RenamedWalks
+pub mod OwnSearches

@@ -16,5 +16,8 @@ mod shown;
 mod walk_state;
 mod walking;
 
-pub use laws::{both_searches_find_the_same_target, rising_trees_show_the_least_cost};
+pub use laws::{
+    a_part_by_itself_has_the_same_rising_search, both_searches_find_the_same_target,
+    rising_trees_show_the_least_cost,
+};
 pub use part_search::{search, search_part};

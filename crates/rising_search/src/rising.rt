@@ -12,7 +12,7 @@ ghost use Rattle.rising_search.specs.Walking.{part_of, bare, due_at, IsUnderWay,
 use crate::shown::Shown;
 use crate::walk_state::Walk;
 use crate::walking::{closed, walk_from};
-use map_base::Steps;
+use map_base::{LineId, Steps};
 use order_search::SearchFault;
 use std::alloc::Global;
 use std::sync::ledger::Ledger;
@@ -23,6 +23,7 @@ pub(crate) fn rise<L: Ledger>(
     alloc: Global,
     walk: &mut Walk,
     number_cost: u64,
+    hints: &mut [LineId],
     steps: &mut Steps<L>,
 ) -> Result<Shown, SearchFault>
     requires begun { IsBegun walk.old }
@@ -38,7 +39,7 @@ pub(crate) fn rise<L: Ledger>(
     let tree = closed(alloc, walk, target);
     let mut shown = Shown { target, tree };
     while shown.target < number_cost {
-        match walk_above(alloc, walk, shown.target, steps)? {
+        match walk_above(alloc, walk, shown.target, hints, steps)? {
             None => return Ok(shown),
             Some(next) => shown = next,
         }
@@ -52,6 +53,7 @@ fn walk_above<L: Ledger>(
     alloc: Global,
     walk: &mut Walk,
     target: u64,
+    hints: &mut [LineId],
     steps: &mut Steps<L>,
 ) -> Result<Option<Shown>, SearchFault>
     requires under_way { IsUnderWay walk.old }
@@ -64,7 +66,7 @@ fn walk_above<L: Ledger>(
 {
     walk.above = target + 1;
     walk.least = None;
-    match walk_from(alloc, walk, steps)? {
+    match walk_from(alloc, walk, hints, steps)? {
         None => Ok(None),
         Some(tree) => Ok(Some(Shown {
             target: walk.least.unwrap_or(target),

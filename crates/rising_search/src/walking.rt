@@ -30,6 +30,7 @@ use std::sync::ledger::Ledger;
 pub(crate) fn walk_from<L: Ledger>(
     alloc: Global,
     walk: &mut Walk,
+    hints: &mut [LineId],
     steps: &mut Steps<L>,
 ) -> Result<Option<Tree>, SearchFault>
     requires under_way { IsUnderWay walk.old }
@@ -43,12 +44,12 @@ pub(crate) fn walk_from<L: Ledger>(
     if bound >= walk.above {
         return Ok(Some(closed(alloc, walk, bound)));
     }
-    match choose(alloc, walk)? {
+    match choose(alloc, walk, hints)? {
         None => {
             meet(alloc, walk)?;
             Ok(None)
         }
-        Some(candidate) => walk_split(alloc, walk, candidate, steps),
+        Some(candidate) => walk_split(alloc, walk, candidate, hints, steps),
     }
 }
 
@@ -98,6 +99,7 @@ fn walk_split<L: Ledger>(
     alloc: Global,
     walk: &mut Walk,
     candidate: Candidate,
+    hints: &mut [LineId],
     steps: &mut Steps<L>,
 ) -> Result<Option<Tree>, SearchFault>
     requires under_way { IsUnderWay walk.old }
@@ -118,7 +120,14 @@ fn walk_split<L: Ledger>(
     walk.spent += 1;
     steps.tick();
     let seg = candidate.seg;
-    match walk_cases(alloc, walk, seg, candidate.children.as_slice(), steps)? {
+    match walk_cases(
+        alloc,
+        walk,
+        seg,
+        candidate.children.as_slice(),
+        hints,
+        steps,
+    )? {
         None => Ok(None),
         Some(children) => Ok(Some(Tree::Split { seg, children })),
     }
@@ -131,6 +140,7 @@ fn walk_cases<L: Ledger>(
     walk: &mut Walk,
     seg: SegId,
     children: &[Child],
+    hints: &mut [LineId],
     steps: &mut Steps<L>,
 ) -> Result<Option<Vec<(LineId, Tree)>>, SearchFault>
     requires under_way { IsUnderWay walk.old }
@@ -145,7 +155,7 @@ fn walk_cases<L: Ledger>(
 {
     let mut cases = Vec::with_capacity(alloc, children.len())?;
     for child in children {
-        match walk_case(alloc, walk, seg, *child, steps)? {
+        match walk_case(alloc, walk, seg, *child, hints, steps)? {
             None => return Ok(None),
             Some(tree) => cases.push((child.line, tree))?,
         }
@@ -161,6 +171,7 @@ fn walk_case<L: Ledger>(
     walk: &mut Walk,
     seg: SegId,
     child: Child,
+    hints: &mut [LineId],
     steps: &mut Steps<L>,
 ) -> Result<Option<Tree>, SearchFault>
     requires under_way { IsUnderWay walk.old }
@@ -178,7 +189,7 @@ fn walk_case<L: Ledger>(
         return Ok(Some(closed(alloc, walk, child.bound)));
     }
     walk.bounds.place(seg, child.line);
-    let walked = walk_from(alloc, walk, steps)?;
+    let walked = walk_from(alloc, walk, hints, steps)?;
     walk.bounds.take_back(seg);
     Ok(walked)
 }

@@ -1,5 +1,5 @@
 -- Calls that do pieces of work, one after another.
-use Rattle.std.proofs.Common.{◌≡◌, ◌≢◌, ℕ, inl, inr, List, Option, None, Some, Result, Ok, Err, refl, sym, ap, ◌∙◌, subst}
+use Rattle.std.proofs.Common.{◌≡◌, ◌≢◌, ℕ, inl, inr, List, Option, Some, Result, Ok, Err, refl, sym, ap, ◌∙◌, subst}
 use Rattle.command_run.specs.Work.{Work, ends, outcome, ◌>>=◌}
 use Rattle.command_run.specs.Told.{IsRun, file_of}
 use Rattle.command_run.proofs.WorkLemmas.{then_run, refused_run, ends_run, told_outcome}
@@ -41,6 +41,7 @@ refusal_follows told paths rose first_view view work next (refused.Spent compone
 refusal_follows told paths rose first_view view work next (refused.Refuted item) first = (tt, refused_run refused.ReadFault told paths work next (refused.Refuted item) first.1)
 refusal_follows told paths rose first_view view work next (refused.Missing input) first = (tt, refused_run refused.ReadFault told paths work next (refused.Missing input) first.1)
 refusal_follows told paths rose first_view view work next (refused.BadSettings bad) first = (tt, refused_run refused.ReadFault told paths work next (refused.BadSettings bad) first.1)
+refusal_follows told paths rose first_view view work next (refused.BadEdit line) first = (tt, refused_run refused.ReadFault told paths work next (refused.BadEdit line) first.1)
 
 pub follows_refused : {A B C D : Type 0} (told : Told) (paths : Input → List ℕ) (rose : Type 0) (first_view : A → B) (view : C → D) (work : Work Input Refusal B) (next : B → Work Input Refusal D) (why : Refusal) (result : Result C Refusal)
     → IsRefusedAs why result → Follows told paths rose first_view work (Err why) → Follows told paths rose view (work >>= next) result
@@ -69,6 +70,8 @@ follows_then told paths first_rose later rose first_view view work next value (E
     (tt, then_run refused.ReadFault told paths work next (first_view value) (Err (refused.Missing input)) first.1 second.1)
 follows_then told paths first_rose later rose first_view view work next value (Err (refused.BadSettings bad)) widen first second =
     (tt, then_run refused.ReadFault told paths work next (first_view value) (Err (refused.BadSettings bad)) first.1 second.1)
+follows_then told paths first_rose later rose first_view view work next value (Err (refused.BadEdit line)) widen first second =
+    (tt, then_run refused.ReadFault told paths work next (first_view value) (Err (refused.BadEdit line)) first.1 second.1)
 
 -- what is given without reading is a piece of work that has come to its end
 pub gives_follows : {A B : Type 0} (told : Told) (paths : Input → List ℕ) (rose : Type 0) (view : A → B) (defined : Result B Refusal) (result : Result A Refusal)
@@ -91,6 +94,8 @@ gives_follows {A} {B} told paths rose view defined (Err (refused.Missing input))
     (tt, subst (λ (d : Result B Refusal). IsRun refused.ReadFault told paths (ends d) (Err (refused.Missing input))) (sym gives) (ends_run refused.ReadFault told paths (Err (refused.Missing input))))
 gives_follows {A} {B} told paths rose view defined (Err (refused.BadSettings bad)) gives =
     (tt, subst (λ (d : Result B Refusal). IsRun refused.ReadFault told paths (ends d) (Err (refused.BadSettings bad))) (sym gives) (ends_run refused.ReadFault told paths (Err (refused.BadSettings bad))))
+gives_follows {A} {B} told paths rose view defined (Err (refused.BadEdit line)) gives =
+    (tt, subst (λ (d : Result B Refusal). IsRun refused.ReadFault told paths (ends d) (Err (refused.BadEdit line))) (sym gives) (ends_run refused.ReadFault told paths (Err (refused.BadEdit line))))
 
 -- what a call that did its work to the end came to
 pub comes_to : {A B : Type 0} (told : Told) (paths : Input → List ℕ) (rose : Type 0) (view : A → B) (work : Work Input Refusal B) (why : Refusal)
@@ -104,6 +109,7 @@ comes_to told paths rose view work (refused.Spent component branches) free follo
 comes_to told paths rose view work (refused.Refuted item) free follows = follows
 comes_to told paths rose view work (refused.Missing input) free follows = follows
 comes_to told paths rose view work (refused.BadSettings bad) free follows = follows
+comes_to told paths rose view work (refused.BadEdit line) free follows = follows
 
 -- a refusal of one piece of work
 pub follows_as : {A B : Type 0} (told : Told) (paths : Input → List ℕ) (rose : Type 0) (view : A → B) (work : Work Input Refusal B) (why : Refusal) (result : Result A Refusal)
@@ -136,3 +142,4 @@ told_gives {A} {B} files paths rose view work result steady follows = by_result 
     by_result (Err (refused.Refuted item)) follows = defined (Err (refused.Refuted item)) (λ input same. cc) follows.1
     by_result (Err (refused.Missing one)) follows = defined (Err (refused.Missing one)) (λ input same. cc) follows.1
     by_result (Err (refused.BadSettings bad)) follows = defined (Err (refused.BadSettings bad)) (λ input same. cc) follows.1
+    by_result (Err (refused.BadEdit line)) follows = defined (Err (refused.BadEdit line)) (λ input same. cc) follows.1

@@ -50,6 +50,7 @@ status_number (status.ReadFault path) = 7
 status_number status.WriteFault = 8
 status_number status.NoMemory = 9
 status_number (status.BadSettings why) = 10
+status_number (status.BadEdit line) = 11
 status_number (status.Missing path) = 13
 
 -- the line that a status prints on standard output, empty for those that print none; the text for words that
@@ -67,3 +68,4 @@ status_line (status.ReadFault path) = Some (codes "read fault: " ++ (path ++ cod
 status_line status.WriteFault = Some []
 status_line status.NoMemory = Some no_memory_line
 status_line (status.BadSettings why) = Some (codes "bad settings: " ++ (settings_text why ++ codes "\n"))
+status_line (status.BadEdit line) = Some (codes "bad edit: " ++ (decimal line ++ codes "\n"))

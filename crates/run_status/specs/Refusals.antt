@@ -7,6 +7,8 @@ use Rattle.table_rows.specs.declared.fault.FeedFault.{FeedFault}
 use Rattle.table_rows.specs.declared.fault.FeedFault.TheVariants as feed
 use Rattle.map_settings.specs.declared.fault.SettingsFault.{SettingsFault}
 use Rattle.map_settings.specs.declared.fault.SettingsFault.TheVariants as settings
+use Rattle.map_edits.specs.declared.fault.EditsFault.{EditsFault}
+use Rattle.map_edits.specs.declared.fault.EditsFault.TheVariants as edits
 use Rattle.line_graph.specs.declared.fault.BuildFault.{BuildFault}
 use Rattle.line_graph.specs.declared.fault.BuildFault.TheVariants as build
 use Rattle.map_engine.specs.declared.fault.MakeFault.{MakeFault}
@@ -30,6 +32,11 @@ of_feed feed.NoMemory = refused.NoMemory
 abbrev pub of_settings : SettingsFault → Refusal
 of_settings (settings.Bad why) = refused.BadSettings why
 of_settings settings.NoMemory = refused.NoMemory
+
+-- a file of edits that is refused
+abbrev pub of_edits : EditsFault → Refusal
+of_edits (edits.BadEdit line) = refused.BadEdit line
+of_edits edits.NoMemory = refused.NoMemory
 
 -- a line graph that is refused
 abbrev pub of_build : BuildFault → Refusal

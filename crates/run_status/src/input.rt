@@ -7,8 +7,12 @@ use table_rows::Table;
 pub enum Input {
     /// The file of settings.
     Settings,
+    /// The file of edits.
+    Edits,
     /// A table of the feed.
     Table(Table),
+    /// The script of a session.
+    Script,
     /// The certificate that is checked.
     Certificate,
     /// The picture that is checked or shown.

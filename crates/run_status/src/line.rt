@@ -54,6 +54,7 @@ pub fn line_of(alloc: Global, status: &Status) -> Result<String, NoMemory>
             let why = settings_text(why);
             Ok(format!(in alloc; "bad settings: {why}\n")?)
         }
+        Status::BadEdit { line } => Ok(format!(in alloc; "bad edit: {line}\n")?),
     }
 }
 

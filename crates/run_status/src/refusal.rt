@@ -2,12 +2,13 @@
 
 ghost use Rattle.std.specs.Prelude.{◌≡◌};
 ghost use Rattle.run_status.specs.declared.refusal.Refusal.TheVariants as refused;
-ghost use Rattle.run_status.specs.Refusals.{of_build, of_check, of_feed, of_make, of_settings};
+ghost use Rattle.run_status.specs.Refusals.{of_build, of_check, of_edits, of_feed, of_make, of_settings};
 
 use crate::input::Input;
 use crate::item::Item;
 use line_graph::BuildFault;
 use map_base::{Limit, NoMemory, SegId};
+use map_edits::EditsFault;
 use map_engine::{CheckFault, MakeFault};
 use map_settings::{SettingsFault, SettingsWhy};
 use table_rows::{FeedFault, Table, Why};
@@ -29,6 +30,9 @@ pub enum Refusal {
     Refuted(Item),
     /// The file of settings gives none, for this reason.
     BadSettings(SettingsWhy),
+    /// This line of the file of edits, counted from 1, is no edit, names no line or station, or undoes with nothing
+    /// left; 0 where there is no such file.
+    BadEdit { line: u64 },
     /// This input, which is needed, is not there.
     Missing { input: Input },
     /// This input could not be read.
@@ -67,6 +71,17 @@ impl From<SettingsFault> for Refusal {
         match fault {
             SettingsFault::Bad(why) => Refusal::BadSettings(why),
             SettingsFault::NoMemory => Refusal::NoMemory,
+        }
+    }
+}
+
+impl From<EditsFault> for Refusal {
+    ghost from_gives = { λ fault refusal. refusal ≡ of_edits fault };
+
+    fn from(fault: EditsFault) -> Refusal {
+        match fault {
+            EditsFault::BadEdit { line } => Refusal::BadEdit { line },
+            EditsFault::NoMemory => Refusal::NoMemory,
         }
     }
 }

@@ -36,6 +36,9 @@ pub enum Status {
     NoMemory,
     /// The file of settings gives none, for this reason.
     BadSettings(SettingsWhy),
+    /// This line of the file of edits, counted from 1, is no edit, names no line or station, or undoes with nothing
+    /// left; 0 where there is no such file.
+    BadEdit { line: u64 },
 }
 
 impl Status {
@@ -57,6 +60,7 @@ impl Status {
             Status::WriteFault => 8,
             Status::NoMemory => 9,
             Status::BadSettings(_) => 10,
+            Status::BadEdit { .. } => 11,
             Status::Missing { .. } => 13,
         }
     }

@@ -1,5 +1,6 @@
 -- What `trial` does: the map of a trial feed is made, and its numbers are printed.
 use Rattle.std.specs.Prelude.{◌≡◌, ◌≤◌, ◌⊎◌, ℕ, ◌+◌, List, [], ◌∷◌, codes, None, Result, Ok, Err}
+use Rattle.map_method.specs.declared.defaults.Defaults.TheVariants.{Make}
 use Rattle.order_proof.specs.Plain.{PlainPart}
 use Rattle.order_proof.specs.Trees.{splits_of}
 use Rattle.cert_file.specs.Plain.{PlainCertificate}
@@ -21,9 +22,9 @@ use Rattle.trial_feed.specs.declared.summary.Summary.{Summary}
 use Rattle.trial_feed.specs.Folder.{trial_folder}
 use Rattle.trial_feed.specs.Summary.{trial_line}
 
--- the inputs of a trial: its folder, and no file of settings
+-- the inputs of a trial: its folder, no file of settings and none of edits
 abbrev pub trial_inputs : InputPaths
-trial_inputs = record { feed = codes "trial"; chosen = record { settings = None }; files = record { picture = []; certificate = [] } }
+trial_inputs = record { feed = codes "trial"; chosen = record { defaults = Make; settings = None; edits = None }; files = record { picture = []; certificate = [] }; script = [] }
 
 -- the settings and the tables of the folder of a trial: what each command loads, where these are the files
 unfoldable pub trial_loaded : ℕ → Result Loaded Refusal

@@ -14,6 +14,7 @@ use command_paths::{MapFiles, Options};
 use command_run::Output;
 use map_base::{NoMemory, Sequence, Steps};
 use map_engine::{Kept, make};
+use map_method::Defaults;
 use run_status::{Refusal, say};
 use std::alloc::Global;
 use std::sync::ledger::Ledger;
@@ -33,17 +34,22 @@ pub fn print_trial<L: Ledger>(
     tell_map(alloc, trial, &loaded, steps)
 }
 
-/// The inputs of a trial: its folder, and no file of settings.
+/// The inputs of a trial: its folder, no file of settings, and none of edits.
 fn trial_inputs() -> Inputs<'static>
     ensures { inputs_by result ≡ trial_inputs }
 {
     Inputs {
         feed: "trial",
-        options: Options { settings: None },
+        options: Options {
+            defaults: Defaults::Make,
+            settings: None,
+            edits: None,
+        },
         files: MapFiles {
             picture: "",
             certificate: "",
         },
+        script: "",
     }
 }
 

@@ -1,5 +1,5 @@
 -- What the definitions give, at values worked by hand.
-use Rattle.std.proofs.Common.{◌≡◌, ℕ, ◌+◌, ◌*◌, List, [], ◌∷◌, refl}
+use Rattle.std.proofs.Common.{◌≡◌, ℕ, ◌+◌, ◌*◌, [], ◌∷◌, refl}
 use Rattle.std.specs.Prelude.{codes}
 use Rattle.trial_feed.specs.declared.lattice.Place.{Place}
 use Rattle.trial_feed.specs.Draws.{next_state, drawn}

@@ -1,5 +1,5 @@
 -- The rows of a table, one at a time.
-use Rattle.std.proofs.Common.{◌≡◌, ℕ, suc, ◌+◌, List, [], ◌∷◌, ◌++◌, add-one, sym, ap, ◌∙◌, append_assoc}
+use Rattle.std.proofs.Common.{◌≡◌, ℕ, ◌+◌, List, ◌++◌, add-one, sym, ap, ◌∙◌, append_assoc}
 use Rattle.trial_feed.specs.Lattice.{side, line_count}
 use Rattle.trial_feed.specs.Lines.{lines}
 use Rattle.trial_feed.specs.Folder.{joined, folder_of, trial_folder, stops_table, routes_table, trips_table, calls_table}

@@ -1,5 +1,5 @@
 -- The lines of a trial, drawn one after another.
-use Rattle.std.specs.Prelude.{ℕ, zero, suc, ◌+◌, ◌*◌, ◌%◌, List, [], ◌∷◌, map, Vec, if◌then◌else◌}
+use Rattle.std.specs.Prelude.{ℕ, zero, suc, ◌*◌, ◌%◌, List, [], ◌∷◌, map, Vec, if◌then◌else◌}
 use Rattle.std.specs.declared.alloc.Global.{Global}
 use Rattle.trial_feed.specs.declared.lattice.Place.{Place}
 use Rattle.trial_feed.specs.Draws.{next_state, drawn}

@@ -1,21 +1,26 @@
-use Rattle.std.proofs.Common.{◌≡◌, ◌∙◌, ℕ, List, length, All, Contains, sym, ap, subst, Ok, Err, arith}
+use Rattle.std.proofs.Common.{◌≡◌, ◌∙◌, ℕ, ◌+◌, ◌≤◌, List, length, sum_by, All, Contains, sym, ap, subst, Ok, Err, arith}
 use Rattle.std.proofs.lemmas.List.{length-map}
 use Rattle.std.proofs.lemmas.List.Elements.{All-contains_itself}
 use Rattle.std.proofs.lemmas.Result.{err_from_is_err_and}
+use Rattle.map_base.specs.declared.ids.LineId.{LineId}
 use Rattle.map_base.specs.Settings.{Choices, IsImportance}
 use Rattle.transit_feed.specs.declared.line.Line.{Line}
+use Rattle.map_method.specs.Methods.{MethodChoices}
 use Rattle.order_model.specs.declared.problem.ProblemParts.{ProblemParts}
-use Rattle.order_proof.specs.Plain.{PlainPart}
-use Rattle.order_proof.specs.Trees.{HasTrees}
-use Rattle.map_engine.specs.Tables.{importance_among}
-use Rattle.map_engine.specs.Solving.{solve_outcome}
+use Rattle.kept_trees.specs.OwnTrees.{HeldPart}
+use Rattle.kept_trees.specs.Keeping.{branches_to_meet}
+use Rattle.order_model.specs.Costs.{AreOrders}
+use Rattle.map_engine.specs.declared.best_orders.BestOrders.{BestOrders}
 use Rattle.map_engine.specs.declared.made.Made.{Made}
-use Rattle.map_engine.specs.declared.solution.Solution.{Solution}
+use Rattle.map_engine.specs.Tables.{importance_among}
+use Rattle.map_engine.specs.Problems.{untangled_problem}
+use Rattle.map_engine.specs.Solving.{solve_outcome, parts_in}
 use Rattle.map_engine.specs.Keeping.{finished_of, finished_parts, HoldsFinished}
 use Rattle.map_engine.specs.Making.{HasCause}
-use Rattle.map_engine.proofs.MadeLemmas.{outcome_is, not_drawn, not_solved, with_rules}
-use Rattle.map_engine.proofs.KeepLemmas.{left_is, finished_is, nothing_finished, same_held}
+use Rattle.map_engine.specs.Stages.{AreBestBy}
 use Rattle.map_engine.specs.Promises.{IsMade}
+use Rattle.map_engine.proofs.MadeLemmas.{outcome_is, not_drawn, not_solved}
+use Rattle.map_engine.proofs.KeepLemmas.{left_is, finished_is, nothing_finished, same_held}
 use Rattle.map_engine.proofs.Promised.{whole_is}
 use Rattle.map_engine.proofs.CertificateRanges.{made_by}
 use Rattle.map_engine.proofs.making.make.Goals as goal
@@ -25,36 +30,46 @@ returns-in_err-drawn-clause-outcome g c =
     let same = err_from_is_err_and c.from_residual.result c.from_residual.ensures.1 in
     rw (same.1, same.2) (not_drawn c.args.tables.now c.args.settings.now c.args.method.now c.in_err-drawn.field-0.0 c.in_err-drawn.ensures.outcome)
 
-pub returns-in_err-solution-clause-outcome : goal.returns-in_err-solution-clause-outcome
-returns-in_err-solution-clause-outcome g c =
-    let e = c.in_err-solution.field-0.0 in
-    let d = c.in_ok-drawn.drawn in
-    let cause = subst (λ (s : Choices). HasCause (solve_outcome s.budget d.problem) e) c.settings.view_is c.in_err-solution.ensures.solved in
-    let same = err_from_is_err_and c.from_residual-in_err-solution.result c.from_residual-in_err-solution.ensures.1 in
-    rw (same.1, same.2) (not_solved c.args.tables.now c.args.settings.now c.args.method.now d e c.in_ok-drawn.ensures.outcome cause)
+pub returns-in_err-best-clause-outcome : goal.returns-in_err-best-clause-outcome
+returns-in_err-best-clause-outcome g c =
+    let e = c.in_err-best.field-0.0 in
+    let p = c.in_ok-drawn.problem in
+    let cause = subst (λ (m : MethodChoices). HasCause (solve_outcome m.search c.args.settings.now.budget (untangled_problem p)) e) c.method.view_is
+    (subst (λ (s : Choices). HasCause (solve_outcome c.method.inside.search s.budget (untangled_problem p)) e) c.settings.view_is c.in_err-best.ensures.found) in
+    let same = err_from_is_err_and c.from_residual-in_err-best.result c.from_residual-in_err-best.ensures.1 in
+    rw (same.1, same.2) (not_solved c.args.tables.now c.args.settings.now c.args.method.now c.in_ok-drawn.drawn p e c.in_ok-drawn.ensures.outcome cause)
 
-pub returns-in_err-solution-clause-steps : goal.returns-in_err-solution-clause-steps
-returns-in_err-solution-clause-steps g c =
+pub returns-in_err-best-clause-steps : goal.returns-in_err-best-clause-steps
+returns-in_err-best-clause-steps g c =
+    let p : ProblemParts = untangled_problem c.in_ok-drawn.problem in
+    let steps = subst (λ (m : MethodChoices). c.best_orders.new.steps ≤ c.args.steps.now + sum_by (branches_to_meet c.args.kept.now m.search p) (parts_in p)) c.method.view_is
+    c.best_orders.ensures.steps in
     omega (
       arith,
-      left_is c.args.kept.now c.args.tables.now c.args.settings.now c.args.method.now c.in_ok-drawn.drawn c.in_ok-drawn.ensures.outcome,
-      c.solve_parts.ensures.steps,
+      left_is c.args.kept.now c.args.tables.now c.args.settings.now c.args.method.now c.in_ok-drawn.drawn c.in_ok-drawn.problem c.in_ok-drawn.ensures.outcome,
+      steps,
     )
 
 pub returns-in_err-written-clause-steps : goal.returns-in_err-written-clause-steps
 returns-in_err-written-clause-steps g c =
+    let p : ProblemParts = untangled_problem c.in_ok-drawn.problem in
+    let steps = subst (λ (m : MethodChoices). c.best_orders.new.steps ≤ c.args.steps.now + sum_by (branches_to_meet c.args.kept.now m.search p) (parts_in p)) c.method.view_is
+    c.best_orders.ensures.steps in
     omega (
       arith,
-      left_is c.args.kept.now c.args.tables.now c.args.settings.now c.args.method.now c.in_ok-drawn.drawn c.in_ok-drawn.ensures.outcome,
-      c.solve_parts.ensures.steps,
+      left_is c.args.kept.now c.args.tables.now c.args.settings.now c.args.method.now c.in_ok-drawn.drawn c.in_ok-drawn.problem c.in_ok-drawn.ensures.outcome,
+      steps,
     )
 
 pub returns-clause-steps : goal.returns-clause-steps
 returns-clause-steps g c =
+    let p : ProblemParts = untangled_problem c.in_ok-drawn.problem in
+    let steps = subst (λ (m : MethodChoices). c.best_orders.new.steps ≤ c.args.steps.now + sum_by (branches_to_meet c.args.kept.now m.search p) (parts_in p)) c.method.view_is
+    c.best_orders.ensures.steps in
     omega (
       arith,
-      left_is c.args.kept.now c.args.tables.now c.args.settings.now c.args.method.now c.in_ok-drawn.drawn c.in_ok-drawn.ensures.outcome,
-      c.solve_parts.ensures.steps,
+      left_is c.args.kept.now c.args.tables.now c.args.settings.now c.args.method.now c.in_ok-drawn.drawn c.in_ok-drawn.problem c.in_ok-drawn.ensures.outcome,
+      steps,
     )
 
 pub returns-in_err-drawn-clause-kept : goal.returns-in_err-drawn-clause-kept
@@ -65,45 +80,41 @@ returns-in_err-drawn-clause-finished g c =
     let same = err_from_is_err_and c.from_residual.result c.from_residual.ensures.1 in
     rw (same.1, same.2) (nothing_finished Made c.args.tables.now c.args.settings.now c.args.method.now c.args.kept.now c.in_err-drawn.field-0.0 c.in_err-drawn.ensures.outcome)
 
-pub returns-in_err-solution-clause-finished : goal.returns-in_err-solution-clause-finished
-returns-in_err-solution-clause-finished g c =
-    let e = c.in_err-solution.field-0.0 in
-    let d = c.in_ok-drawn.drawn in
-    let held = c.solve_parts.new.kept in
-    let of_problem = subst (λ (s : Choices). HoldsFinished {X = Solution} (Err e) (finished_of s.budget d.problem) held) c.settings.view_is c.in_err-solution.ensures.finished in
-    let of_feed = subst (λ (parts : List ProblemParts). HoldsFinished {X = Solution} (Err e) parts held) (sym (finished_is c.args.tables.now c.args.settings.now c.args.method.now d c.in_ok-drawn.ensures.outcome)) of_problem in
-    let same = err_from_is_err_and c.from_residual-in_err-solution.result c.from_residual-in_err-solution.ensures.1 in
-    rw (same.1, same.2) (same_held Solution Made e (finished_parts c.args.tables.now c.args.settings.now c.args.method.now) held of_feed)
+pub returns-in_err-best-clause-finished : goal.returns-in_err-best-clause-finished
+returns-in_err-best-clause-finished g c =
+    let e = c.in_err-best.field-0.0 in
+    let p = c.in_ok-drawn.problem in
+    let held = c.best_orders.new.kept in
+    let of_problem = subst (λ (m : MethodChoices). HoldsFinished {X = BestOrders} (Err e) (finished_of m.search c.args.settings.now.budget (untangled_problem p)) held) c.method.view_is
+    (subst (λ (s : Choices). HoldsFinished {X = BestOrders} (Err e) (finished_of c.method.inside.search s.budget (untangled_problem p)) held) c.settings.view_is c.in_err-best.ensures.finished) in
+    let of_feed = subst (λ (parts : List HeldPart). HoldsFinished {X = BestOrders} (Err e) parts held) (sym (finished_is c.args.tables.now c.args.settings.now c.args.method.now c.in_ok-drawn.drawn p c.in_ok-drawn.ensures.outcome)) of_problem in
+    let same = err_from_is_err_and c.from_residual-in_err-best.result c.from_residual-in_err-best.ensures.1 in
+    rw (same.1, same.2) (same_held BestOrders Made e (finished_parts c.args.tables.now c.args.settings.now c.args.method.now) held of_feed)
 
 pub returns-clause-finished : goal.returns-clause-finished
 returns-clause-finished g c =
-    let d = c.in_ok-drawn.drawn in
-    let held = c.solve_parts.new.kept in
-    let of_problem = subst (λ (s : Choices). All (Contains held) (finished_of s.budget d.problem)) c.settings.view_is c.in_ok-solution.ensures.finished in
-    subst (λ (parts : List ProblemParts). All (Contains held) parts) (sym (finished_is c.args.tables.now c.args.settings.now c.args.method.now d c.in_ok-drawn.ensures.outcome)) of_problem
+    let p = c.in_ok-drawn.problem in
+    let held = c.best_orders.new.kept in
+    let of_problem = subst (λ (m : MethodChoices). All (Contains held) (finished_of m.search c.args.settings.now.budget (untangled_problem p))) c.method.view_is
+    (subst (λ (s : Choices). All (Contains held) (finished_of c.method.inside.search s.budget (untangled_problem p))) c.settings.view_is c.in_ok-best.ensures.finished) in
+    subst (λ (parts : List HeldPart). All (Contains held) parts) (sym (finished_is c.args.tables.now c.args.settings.now c.args.method.now c.in_ok-drawn.drawn p c.in_ok-drawn.ensures.outcome)) of_problem
 
 pub written-requires-clause-lines : goal.written-requires-clause-lines
 written-requires-clause-lines g c =
     ap length c.in_ok-drawn.ensures.importance ∙ length-map c.args.tables.now.lines (λ (l : Line). importance_among c.args.settings.now.importance l.id)
 
-pub written-requires-clause-segs : goal.written-requires-clause-segs
-written-requires-clause-segs g c = ap (λ (p : ProblemParts). p.segs) c.in_ok-drawn.ensures.problem
-
 pub written-requires-clause-orders : goal.written-requires-clause-orders
-written-requires-clause-orders g c = c.in_ok-solution.ensures.orders
-
-pub written-requires-clause-trees : goal.written-requires-clause-trees
-written-requires-clause-trees g c =
-    let found = c.in_ok-solution.ensures.solved in
-    subst (λ (parts : List PlainPart). HasTrees (with_rules parts)) (sym found.2.proofs) found.2.trees
+written-requires-clause-orders g c =
+    subst (λ (segs : List (List LineId)). AreOrders segs c.in_ok-best.best.orders.lists) (ap (λ (p : ProblemParts). p.segs) c.in_ok-drawn.ensures.problem) c.in_ok-best.ensures.orders
 
 pub returns-clause-outcome : goal.returns-clause-outcome
 returns-clause-outcome g c =
-    let d = c.in_ok-drawn.drawn in
-    let s = c.in_ok-solution.solution in
-    let found = c.in_ok-solution.ensures.solved in
-    let solved = subst (λ (k : Choices). solve_outcome k.budget d.problem ≡ Ok found.0) c.settings.view_is found.1 in
-    outcome_is c.args.tables.now c.args.settings.now c.args.method.now d s found.0 c.in_ok-drawn.ensures.outcome solved c.in_ok-drawn.ensures.importance found.2
+    let p = c.in_ok-drawn.problem in
+    let found = c.in_ok-best.ensures.found in
+    let solved = subst (λ (m : MethodChoices). solve_outcome m.search c.args.settings.now.budget (untangled_problem p) ≡ Ok found.0) c.method.view_is
+    (subst (λ (k : Choices). solve_outcome c.method.inside.search k.budget (untangled_problem p) ≡ Ok found.0) c.settings.view_is found.1) in
+    let best_is = subst (λ (m : MethodChoices). AreBestBy m.search p found.0 c.in_ok-best.best) c.method.view_is found.2 in
+    outcome_is c.args.tables.now c.args.settings.now c.args.method.now c.in_ok-drawn.drawn p c.in_ok-best.best found.0 c.in_ok-drawn.ensures.outcome solved c.in_ok-drawn.ensures.importance best_is
     ∙ ap Ok (sym c.in_ok-written.ensures.bytes)
 
 pub returns-clause-made : goal.returns-clause-made
@@ -111,11 +122,14 @@ returns-clause-made g c =
     let feed = c.args.tables.now in
     let choices = c.args.settings.now in
     let d = c.in_ok-drawn.drawn in
-    let s = c.in_ok-solution.solution in
-    let found = c.in_ok-solution.ensures.solved in
-    let solved = subst (λ (k : Choices). solve_outcome k.budget d.problem ≡ Ok found.0) c.settings.view_is found.1 in
-    let importance = subst (λ (k : Choices). All (λ (p : List ℕ × ℕ). IsImportance p.1) k.importance) c.settings.view_is c.settings.invariant.importance in
-    let whole = whole_is feed choices c.args.method.now d s found.0 c.in_ok-drawn.ensures.outcome c.in_ok-drawn.ensures.each c.in_ok-drawn.ensures.legal c.in_ok-drawn.ensures.problem
-    c.in_ok-solution.ensures.fits c.in_ok-solution.ensures.orders solved found.2 in
+    let p = c.in_ok-drawn.problem in
+    let best = c.in_ok-best.best in
+    let found = c.in_ok-best.ensures.found in
+    let solved = subst (λ (m : MethodChoices). solve_outcome m.search c.args.settings.now.budget (untangled_problem p) ≡ Ok found.0) c.method.view_is
+    (subst (λ (k : Choices). solve_outcome c.method.inside.search k.budget (untangled_problem p) ≡ Ok found.0) c.settings.view_is found.1) in
+    let best_is = subst (λ (m : MethodChoices). AreBestBy m.search p found.0 c.in_ok-best.best) c.method.view_is found.2 in
+    let importance = subst (λ (k : Choices). All (λ (q : List ℕ × ℕ). IsImportance q.1) k.importance) c.settings.view_is c.settings.invariant.importance in
+    let whole = whole_is feed choices c.args.method.now d p best found.0 c.in_ok-drawn.ensures.outcome c.in_ok-drawn.ensures.each c.in_ok-drawn.ensures.legal c.in_ok-drawn.ensures.problem
+    c.in_ok-drawn.ensures.problem_fits solved best_is in
     subst (IsMade feed choices) (sym c.in_ok-written.ensures.bytes)
-    (made_by feed choices d s found.0 whole c.in_ok-drawn.ensures.fits c.in_ok-drawn.ensures.walks c.in_ok-drawn.ensures.first c.in_ok-drawn.ensures.lines c.in_ok-written.ensures.few importance c.in_ok-drawn.ensures.importance solved found.2)
+    (made_by c.args.method.now.search feed choices d p best found.0 whole c.in_ok-drawn.ensures.fits c.in_ok-drawn.ensures.walks c.in_ok-drawn.ensures.first c.in_ok-drawn.ensures.lines c.in_ok-written.ensures.few importance c.in_ok-drawn.ensures.importance solved best_is)

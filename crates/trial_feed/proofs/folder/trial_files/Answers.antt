@@ -1,5 +1,4 @@
 use Rattle.std.proofs.Common.{◌≡◌, ℕ, List, [], IfOk, ap, ◌∙◌, subst}
-use Rattle.trial_feed.specs.declared.lattice.Place.{Place}
 use Rattle.trial_feed.specs.Lattice.{side, line_count}
 use Rattle.trial_feed.specs.Lines.{lines, stops_of}
 use Rattle.trial_feed.specs.Folder.{stops_table, routes_table, trips_table, calls_table}

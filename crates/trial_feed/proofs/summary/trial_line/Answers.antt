@@ -1,4 +1,4 @@
-use Rattle.std.proofs.Common.{◌≡◌, append_assoc}
+use Rattle.std.proofs.Common.{append_assoc}
 use Rattle.trial_feed.proofs.summary.trial_line.Goals as goal
 
 pub returns : goal.returns

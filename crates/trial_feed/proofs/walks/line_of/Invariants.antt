@@ -1,4 +1,3 @@
-use Rattle.std.proofs.Common.{◌+◌, ◌-◌}
 use Rattle.trial_feed.specs.Lines.{line}
 use Rattle.trial_feed.proofs.WalkLemmas.{IsUnderWay, left}
 use Rattle.trial_feed.proofs.walks.line_of.Given as goal

@@ -1,0 +1,4 @@
+mod Examples
+mod SessionLemmas
+pub mod ScriptLemmas
+mod LawLemmas

@@ -1,0 +1,219 @@
+-- What is loaded over other settings where the user sets none: the same tables, and settings that differ in the budget alone.
+use Rattle.std.proofs.Common.{◌≡◌, ℕ, Bool, true, false, List, [], ◌∷◌, codes, if◌then◌else◌, Option, None, Some, option_map, Result, Ok, Err, refl, sym, ap, ◌∙◌, subst}
+use Rattle.std.specs.Str.{bytes_eq}
+use Rattle.map_base.specs.Settings.{Choices}
+use Rattle.map_method.specs.declared.defaults.Defaults.{Defaults}
+use Rattle.map_method.specs.declared.map_settings.MapSettings.{MapSettings}
+use Rattle.map_method.specs.Methods.{MethodChoices}
+use Rattle.map_method.specs.Defaults.{default_choices}
+use Rattle.transit_feed.specs.Feeds.{Feed}
+use Rattle.toml.specs.Data.{Data, Members}
+use Rattle.map_settings.specs.Values.{near_of, cell_of, budget_of, types_of, weights_of, importance_of}
+use Rattle.map_settings.specs.Tables.{entries}
+use Rattle.map_settings.specs.Entries.{near_is, cell_is, budget_is, types_are, junction_is, station_is, importance_is, settings_change, method_change, is_of_method, in_settings, in_method, change_of}
+use Rattle.map_settings.specs.Outcome.{bad_keys, least, changed, after, unless_bad, table_outcome, with_table}
+use Rattle.map_edits.specs.declared.edit.Edit.{Edit}
+use Rattle.map_edits.specs.declared.edit.Edit.TheVariants as edit
+use Rattle.map_edits.specs.Effects.{choices_by, choices_after, feed_after}
+use Rattle.command_run.specs.Work.{Work, ends, reads, ◌>>=◌, outcome}
+use Rattle.command_paths.specs.Paths.{Chosen}
+use Rattle.run_status.specs.declared.input.Input.{Input}
+use Rattle.run_status.specs.declared.input.Input.TheVariants as input
+use Rattle.run_status.specs.declared.refusal.Refusal.{Refusal}
+use Rattle.command_inputs.specs.declared.loaded.Loaded.{Loaded}
+use Rattle.command_inputs.specs.Loading.{changed_by, changed_in, edited_by, edits_of, feed_work, file_outcome, load_work, settings_by, settings_given, settings_in, tables_work}
+
+abbrev Given : Type 0
+Given = Input → Option (List ℕ)
+
+-- the two differ in the budget at most
+abbrev pub AreAlike : Choices → Choices → Type 0
+AreAlike a b = (record a { budget = b.budget }) ≡ b
+
+-- A file of settings makes alike settings of alike ones.
+
+abbrev IsTame : (Choices → Choices) → Type 0
+IsTame change = (a b : Choices) → AreAlike a b → AreAlike (change a) (change b)
+
+abbrev AreTame : Option (Choices → Choices) → Type 0
+AreTame None = Unit {0}
+AreTame (Some change) = IsTame change
+
+tame_map : {A : Type 0} (change : A → Choices → Choices) (value : Option A) → ((a : A) → IsTame (change a)) → AreTame (option_map change value)
+tame_map change None each = tt
+tame_map change (Some a) each = each a
+
+settings_tame : (entry : List ℕ × Data) → AreTame (settings_change entry)
+settings_tame entry =
+    by_tests (bytes_eq entry.0 (codes "near")) (bytes_eq entry.0 (codes "cell")) (bytes_eq entry.0 (codes "budget")) (bytes_eq entry.0 (codes "types")) (bytes_eq entry.0 (codes "junction")) (bytes_eq entry.0 (codes "station")) (bytes_eq entry.0 (codes "importance"))
+  where
+    by_tests : (near cell budget types junction station importance : Bool)
+        → AreTame (if near then option_map near_is (near_of entry.1) else if cell then option_map cell_is (cell_of entry.1) else if budget then option_map budget_is (budget_of entry.1)
+        else if types then option_map types_are (types_of entry.1) else if junction then option_map junction_is (weights_of entry.1) else if station then option_map station_is (weights_of entry.1)
+        else if importance then option_map importance_is (importance_of entry.1) else None)
+    by_tests true cell budget types junction station importance = tame_map near_is (near_of entry.1) (λ v a b e. ap (near_is v) e)
+    by_tests false true budget types junction station importance = tame_map cell_is (cell_of entry.1) (λ v a b e. ap (cell_is v) e)
+    by_tests false false true types junction station importance = tame_map budget_is (budget_of entry.1) (λ v a b e. ap (budget_is v) e)
+    by_tests false false false true junction station importance = tame_map types_are (types_of entry.1) (λ v a b e. ap (types_are v) e)
+    by_tests false false false false true station importance = tame_map junction_is (weights_of entry.1) (λ v a b e. ap (junction_is v) e)
+    by_tests false false false false false true importance = tame_map station_is (weights_of entry.1) (λ v a b e. ap (station_is v) e)
+    by_tests false false false false false false true = tame_map importance_is (importance_of entry.1) (λ v a b e. ap (importance_is v) e)
+    by_tests false false false false false false false = tt
+
+abbrev Alike : MapSettings → MapSettings → Type 0
+Alike x y = AreAlike x.settings y.settings
+
+change_alike : (entry : List ℕ × Data) (x y : MapSettings) → Alike x y → Alike (changed (change_of entry) x) (changed (change_of entry) y)
+change_alike entry x y alike = by_test (is_of_method entry.0)
+  where
+    of_method : (change : Option (MethodChoices → MethodChoices)) → Alike (changed (option_map in_method change) x) (changed (option_map in_method change) y)
+    of_method None = alike
+    of_method (Some change) = alike
+
+    of_settings : (change : Option (Choices → Choices)) → AreTame change → Alike (changed (option_map in_settings change) x) (changed (option_map in_settings change) y)
+    of_settings None tame = alike
+    of_settings (Some change) tame = tame x.settings y.settings alike
+
+    by_test : (method : Bool) → Alike (changed (if method then option_map in_method (method_change entry) else option_map in_settings (settings_change entry)) x)
+        (changed (if method then option_map in_method (method_change entry) else option_map in_settings (settings_change entry)) y)
+    by_test true = of_method (method_change entry)
+    by_test false = of_settings (settings_change entry) (settings_tame entry)
+
+after_alike : (file : List (List ℕ × Data)) (x y : MapSettings) → Alike x y → Alike (after file x) (after file y)
+after_alike [] x y alike = alike
+after_alike (entry ∷ file) x y alike = after_alike file (changed (change_of entry) x) (changed (change_of entry) y) (change_alike entry x y alike)
+
+-- both are refused for one reason, or neither is, and the two are alike
+abbrev AlikeBy : {A : Type 0} → (A → A → Type 0) → Result A Refusal → Result A Refusal → Type 0
+AlikeBy same (Ok x) (Ok y) = same x y
+AlikeBy same (Ok x) (Err why) = ⊥
+AlikeBy same (Err why) (Ok y) = ⊥
+AlikeBy same (Err why) (Err other) = why ≡ other
+
+file_alike : (c d : Defaults) (file : Option (List ℕ)) → AlikeBy Alike (settings_in c file) (settings_in d file)
+file_alike c d None = refl
+file_alike c d (Some bytes) = by_table (table_outcome bytes)
+  where
+    by_table : (table : Option Members) → AlikeBy Alike (settings_given (with_table c table)) (settings_given (with_table d table))
+    by_table None = refl
+    by_table (Some table) = by_bad (least (bad_keys (entries table)))
+      where
+        by_bad : (bad : Option (List ℕ)) → AlikeBy Alike (settings_given (unless_bad bad (after (entries table) (default_choices c)))) (settings_given (unless_bad bad (after (entries table) (default_choices d))))
+        by_bad None = after_alike (entries table) (default_choices c) (default_choices d) refl
+        by_bad (Some key) = refl
+
+-- Works over alike settings.
+
+-- what follows a piece of work, by what that comes to
+bound : {A B : Type 0} (first : Work Input Refusal A) (next : A → Work Input Refusal B) (given : Given) → outcome (first >>= next) given ≡ outcome (ends (outcome first given) >>= next) given
+bound (ends (Ok value)) next given = refl
+bound (ends (Err why)) next given = refl
+bound (reads one rest) next given = bound (rest (given one)) next given
+
+abbrev by_file : Defaults → Option (List ℕ) → Work Input Refusal MapSettings
+by_file defaults file = ends (settings_in defaults file)
+
+settings_alike : (c d : Defaults) (settings : Option (List ℕ)) (given : Given) → AlikeBy Alike (outcome (settings_by c settings) given) (outcome (settings_by d settings) given)
+settings_alike c d None given = refl
+settings_alike c d (Some path) given = by_read (file_outcome (given input.Settings))
+  where
+    by_read : (read : Result (Option (List ℕ)) Refusal) → AlikeBy Alike (outcome (ends read >>= by_file c) given) (outcome (ends read >>= by_file d) given)
+    by_read (Ok file) = file_alike c d file
+    by_read (Err why) = refl
+
+-- the tables are the same, and the settings alike
+abbrev pub AreLoadedAlike : Loaded → Loaded → Type 0
+AreLoadedAlike x y = (x.tables ≡ y.tables) × AreAlike x.settings y.settings
+
+abbrev loaded_as : MapSettings → Feed → Work Input Refusal Loaded
+loaded_as all feed = ends (Ok (record { settings = all.settings; method = all.method; tables = feed }))
+
+abbrev tables_as : MapSettings → Work Input Refusal Loaded
+tables_as all = tables_work all.settings.types >>= loaded_as all
+
+tables_alike : (x y : MapSettings) (given : Given) → Alike x y → AlikeBy AreLoadedAlike (outcome (tables_as x) given) (outcome (tables_as y) given)
+tables_alike x y given alike =
+    let types : x.settings.types ≡ y.settings.types = ap (λ (c : Choices). c.types) alike in
+    let same : outcome (tables_work x.settings.types) given ≡ outcome (tables_work y.settings.types) given = ap (λ (t : List ℕ). outcome (tables_work t) given) types in
+    let here = bound (tables_work x.settings.types) (loaded_as x) given in
+    let there = bound (tables_work y.settings.types) (loaded_as y) given ∙ ap (λ (r : Result Feed Refusal). outcome (ends r >>= loaded_as y) given) (sym same) in
+    subst (λ (r : Result Loaded Refusal). AlikeBy AreLoadedAlike r (outcome (tables_as y) given)) (sym here)
+    (subst (λ (r : Result Loaded Refusal). AlikeBy AreLoadedAlike (outcome (ends (outcome (tables_work x.settings.types) given) >>= loaded_as x) given) r) (sym there) (by_feed (outcome (tables_work x.settings.types) given)))
+  where
+    by_feed : (feed : Result Feed Refusal) → AlikeBy AreLoadedAlike (outcome (ends feed >>= loaded_as x) given) (outcome (ends feed >>= loaded_as y) given)
+    by_feed (Ok feed) = (refl, alike)
+    by_feed (Err why) = refl
+
+-- the same files, over other settings where the user sets none
+abbrev pub over : Defaults → Chosen → Chosen
+over defaults chosen = record chosen { defaults = defaults }
+
+feed_alike : (chosen : Chosen) (d : Defaults) (given : Given) → AlikeBy AreLoadedAlike (outcome (feed_work chosen) given) (outcome (feed_work (over d chosen)) given)
+feed_alike chosen d given =
+    let first : Defaults → Result MapSettings Refusal = λ c. outcome (settings_by c chosen.settings) given in
+    subst (λ (r : Result Loaded Refusal). AlikeBy AreLoadedAlike r (outcome (feed_work (over d chosen)) given)) (sym (bound (settings_by chosen.defaults chosen.settings) tables_as given))
+    (subst (λ (r : Result Loaded Refusal). AlikeBy AreLoadedAlike (outcome (ends (first chosen.defaults) >>= tables_as) given) r) (sym (bound (settings_by d chosen.settings) tables_as given))
+    (by_settings (first chosen.defaults) (first d) (settings_alike chosen.defaults d chosen.settings given)))
+  where
+    by_settings : (x y : Result MapSettings Refusal) → AlikeBy Alike x y → AlikeBy AreLoadedAlike (outcome (ends x >>= tables_as) given) (outcome (ends y >>= tables_as) given)
+    by_settings (Ok x) (Ok y) alike = tables_alike x y given alike
+    by_settings (Ok x) (Err why) alike = absurd alike
+    by_settings (Err why) (Ok y) alike = absurd alike
+    by_settings (Err why) (Err other) alike = alike
+
+-- edits make alike settings of alike ones
+edit_tame : (one : Edit) → IsTame (choices_by one)
+edit_tame (edit.Hide id) a b e = e
+edit_tame (edit.Show id) a b e = e
+edit_tame (edit.Weight station weights) a b e = ap (choices_by (edit.Weight station weights)) e
+edit_tame (edit.Near near) a b e = ap (choices_by (edit.Near near)) e
+edit_tame (edit.Cell cell) a b e = ap (choices_by (edit.Cell cell)) e
+edit_tame (edit.Budget budget) a b e = ap (choices_by (edit.Budget budget)) e
+edit_tame (edit.Rename id name) a b e = e
+edit_tame (edit.Move id lat lon) a b e = e
+edit_tame (edit.Colour id colour) a b e = e
+edit_tame (edit.Importance id number) a b e = ap (choices_by (edit.Importance id number)) e
+edit_tame edit.Undo a b e = e
+
+edits_alike : (edits : List Edit) (a b : Choices) → AreAlike a b → AreAlike (choices_after edits a) (choices_after edits b)
+edits_alike [] a b alike = alike
+edits_alike (one ∷ later) a b alike = edits_alike later (choices_by one a) (choices_by one b) (edit_tame one a b alike)
+
+changed_alike : (x y : Loaded) (edits : Result (List Edit) Refusal) → AreLoadedAlike x y → AlikeBy AreLoadedAlike (changed_by x edits) (changed_by y edits)
+changed_alike x y (Ok edits) alike = (ap (feed_after edits) alike.0, edits_alike edits x.settings y.settings alike.1)
+changed_alike x y (Err why) alike = refl
+
+abbrev by_edits : Loaded → Option (List ℕ) → Work Input Refusal Loaded
+by_edits loaded file = ends (changed_in loaded file)
+
+edited_alike : (x y : Loaded) (edits : Option (List ℕ)) (given : Given) → AreLoadedAlike x y → AlikeBy AreLoadedAlike (outcome (edited_by edits x) given) (outcome (edited_by edits y) given)
+edited_alike x y None given alike = alike
+edited_alike x y (Some path) given alike = by_read (file_outcome (given input.Edits))
+  where
+    by_read : (read : Result (Option (List ℕ)) Refusal) → AlikeBy AreLoadedAlike (outcome (ends read >>= by_edits x) given) (outcome (ends read >>= by_edits y) given)
+    by_read (Ok file) =
+        subst (λ (t : Feed). AlikeBy AreLoadedAlike (changed_by x (edits_of x.tables file)) (changed_by y (edits_of t file))) alike.0 (changed_alike x y (edits_of x.tables file) alike)
+    by_read (Err why) = refl
+
+load_alike : (chosen : Chosen) (d : Defaults) (given : Given) → AlikeBy AreLoadedAlike (outcome (load_work chosen) given) (outcome (load_work (over d chosen)) given)
+load_alike chosen d given =
+    subst (λ (r : Result Loaded Refusal). AlikeBy AreLoadedAlike r (outcome (load_work (over d chosen)) given)) (sym (bound (feed_work chosen) (edited_by chosen.edits) given))
+    (subst (λ (r : Result Loaded Refusal). AlikeBy AreLoadedAlike (outcome (ends (outcome (feed_work chosen) given) >>= edited_by chosen.edits) given) r) (sym (bound (feed_work (over d chosen)) (edited_by chosen.edits) given))
+    (by_feed (outcome (feed_work chosen) given) (outcome (feed_work (over d chosen)) given) (feed_alike chosen d given)))
+  where
+    by_feed : (x y : Result Loaded Refusal) → AlikeBy AreLoadedAlike x y → AlikeBy AreLoadedAlike (outcome (ends x >>= edited_by chosen.edits) given) (outcome (ends y >>= edited_by chosen.edits) given)
+    by_feed (Ok x) (Ok y) alike = edited_alike x y chosen.edits given alike
+    by_feed (Ok x) (Err why) alike = absurd alike
+    by_feed (Err why) (Ok y) alike = absurd alike
+    by_feed (Err why) (Err other) alike = alike
+
+-- what is loaded over other settings where the user sets none
+pub loads_over : (chosen : Chosen) (d : Defaults) (given : Given) (loaded : Loaded) → outcome (load_work chosen) given ≡ Ok loaded
+    → (other : Loaded) × (outcome (load_work (over d chosen)) given ≡ Ok other) × AreLoadedAlike loaded other
+loads_over chosen d given loaded is =
+    by_other (outcome (load_work (over d chosen)) given) refl (subst (λ (r : Result Loaded Refusal). AlikeBy AreLoadedAlike r (outcome (load_work (over d chosen)) given)) is (load_alike chosen d given))
+  where
+    by_other : (r : Result Loaded Refusal) → outcome (load_work (over d chosen)) given ≡ r → AlikeBy AreLoadedAlike (Ok loaded) r
+        → (other : Loaded) × (outcome (load_work (over d chosen)) given ≡ Ok other) × AreLoadedAlike loaded other
+    by_other (Ok other) same alike = (other, same, alike)
+    by_other (Err why) same alike = absurd alike

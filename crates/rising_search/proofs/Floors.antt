@@ -1,0 +1,169 @@
+-- A segment is left where the bound of one of its children is below all of those of the best segment.
+use Rattle.std.proofs.Common.{◌≡◌, ℕ, zero, suc, ◌<◌, ◌≤◌, nat_lt, ◌==◌, ◌||◌, Bool, true, false, true≢false, cond, List, [], ◌∷◌, ◌++◌, map, take, refl, sym, ◌∙◌, ap, arith, eqb-true}
+use Rattle.std.specs.Prelude.{not, Contains}
+use Rattle.std.specs.declared.cmp.Ordering.{Ordering}
+use Rattle.std.specs.declared.cmp.Ordering.TheVariants.{Less, Equal, Greater}
+use Rattle.std.specs.Ordering.{is_lt, is_gt, nat_cmp, ordering_then}
+use Rattle.std.proofs.lemmas.Bool.{lt-ltb, ltb-true, ltb-false, or_parts}
+use Rattle.map_base.specs.declared.ids.LineId.{LineId}
+use Rattle.order_model.specs.Places.{has_line}
+use Rattle.order_model.specs.Prefixes.{is_placed, is_unplaced, is_left}
+use Rattle.order_model.proofs.Lines.{both_true, not_true, same_line}
+use Rattle.order_model.proofs.PrefixLemmas.{contains_placed}
+use Rattle.order_search.specs.declared.child.Child.{Child}
+use Rattle.order_search.specs.Left.{lines_left}
+use Rattle.order_search.specs.Children.{child_order, with_child, in_order}
+use Rattle.rising_search.specs.Choosing.{bounds_below, list_order, is_end}
+use Rattle.rising_search.specs.Candidates.{first_bound, has_below}
+
+-- Bounds below t among more children.
+
+pub none_below : (children : List Child) → has_below 0 children ≡ true → ⊥
+none_below [] h = true≢false (sym h)
+none_below (c ∷ children) h = by_test (nat_lt c.bound 0) refl h (none_below children)
+  where
+    by_test : (b : Bool) → nat_lt c.bound 0 ≡ b → (b || has_below 0 children) ≡ true → (has_below 0 children ≡ true → ⊥) → ⊥
+    by_test true e g rest = absurd (omega (arith, ltb-true c.bound 0 e))
+    by_test false e g rest = rest g
+
+pub below_neither : (t : ℕ) (xs ys : List Child) → has_below t xs ≡ false → has_below t ys ≡ false → has_below t (xs ++ ys) ≡ false
+below_neither t [] ys h g = g
+below_neither t (x ∷ xs) ys h g =
+    let both = or_parts (nat_lt x.bound t) (has_below t xs) h in
+    ap (λ b. b || has_below t (xs ++ ys)) both.0 ∙ below_neither t xs ys both.1 g
+
+pub below_second : (t : ℕ) (xs ys : List Child) → has_below t ys ≡ true → has_below t (xs ++ ys) ≡ true
+below_second t [] ys g = g
+below_second t (x ∷ xs) ys g = by_test (nat_lt x.bound t) (below_second t xs ys g)
+  where
+    by_test : (b : Bool) → has_below t (xs ++ ys) ≡ true → (b || has_below t (xs ++ ys)) ≡ true
+    by_test true h = refl
+    by_test false h = h
+
+-- a push that answers whether no bound below t was met
+not_there : (b : Bool) → not b ≡ true → b ≡ false
+not_there true h = absurd (true≢false (sym h))
+not_there false h = refl
+
+pub is_there : (b : Bool) → not b ≡ false → b ≡ true
+is_there true h = refl
+is_there false h = absurd (true≢false h)
+
+pub pushed_over : (t : ℕ) (xs ys new : List Child) (b : Bool) → new ≡ xs ++ ys → b ≡ not (has_below t ys) → b ≡ true → has_below t xs ≡ false → has_below t new ≡ false
+pushed_over t xs ys new b e over passes so_far = ap (has_below t) e ∙ below_neither t xs ys so_far (not_there (has_below t ys) (sym over ∙ passes))
+
+-- what holds of the first lines holds of all
+pub below_first : (t : ℕ) (f : LineId → Child) (lines placed : List LineId) (k : ℕ) → has_below t (map f (lines_left (take k lines) placed)) ≡ true
+    → has_below t (map f (lines_left lines placed)) ≡ true
+below_first t f [] placed zero h = h
+below_first t f [] placed (suc k) h = h
+below_first t f (a ∷ lines) placed zero h = absurd (true≢false (sym h))
+below_first t f (a ∷ lines) placed (suc k) h = by_test (is_unplaced placed a) h (below_first t f lines placed k)
+  where
+    by_bound : (b : Bool) → (b || has_below t (map f (lines_left (take k lines) placed))) ≡ true → (has_below t (map f (lines_left (take k lines) placed)) ≡ true → has_below t (map f (lines_left lines placed)) ≡ true)
+        → (b || has_below t (map f (lines_left lines placed))) ≡ true
+    by_bound true g rest = refl
+    by_bound false g rest = rest g
+
+    by_test : (b : Bool) → has_below t (map f (cond b (a ∷ lines_left (take k lines) placed) (lines_left (take k lines) placed))) ≡ true
+        → (has_below t (map f (lines_left (take k lines) placed)) ≡ true → has_below t (map f (lines_left lines placed)) ≡ true) → has_below t (map f (cond b (a ∷ lines_left lines placed) (lines_left lines placed))) ≡ true
+    by_test true g rest = by_bound (nat_lt (f a).bound t) g rest
+    by_test false g rest = rest g
+
+-- A line that is left has its child among them.
+
+pub left_is_on : (lines placed : List LineId) (a : LineId) → is_left lines placed a ≡ true → Contains lines a × (is_placed placed a ≡ false)
+left_is_on lines placed a h =
+    let both = both_true (has_line lines a) (is_unplaced placed a) h in (contains_placed lines a both.0, not_true (is_placed placed a) both.1)
+
+left_low : (t : ℕ) (f : LineId → Child) (placed : List LineId) (a : LineId) → is_unplaced placed a ≡ true → (f a).bound < t → (ls : List LineId) → has_line ls a ≡ true
+    → has_below t (map f (lines_left ls placed)) ≡ true
+left_low t f placed a fresh low [] h = absurd (true≢false (sym h))
+left_low t f placed a fresh low (b ∷ ls) h = by_line (b.0 == a.0) refl h (left_low t f placed a fresh low ls)
+  where
+    either : (x y : Bool) → y ≡ true → (x || y) ≡ true
+    either true y g = refl
+    either false y g = g
+
+    later : (x : Bool) → has_below t (map f (lines_left ls placed)) ≡ true → has_below t (map f (cond x (b ∷ lines_left ls placed) (lines_left ls placed))) ≡ true
+    later true g = either (nat_lt (f b).bound t) (has_below t (map f (lines_left ls placed))) g
+    later false g = g
+
+    by_line : (x : Bool) → (b.0 == a.0) ≡ x → (x || has_line ls a) ≡ true → (has_line ls a ≡ true → has_below t (map f (lines_left ls placed)) ≡ true)
+        → has_below t (map f (cond (is_unplaced placed b) (b ∷ lines_left ls placed) (lines_left ls placed))) ≡ true
+    by_line true e g rest =
+        let same : b ≡ a = same_line b a e in
+        let kept : is_unplaced placed b ≡ true = ap (is_unplaced placed) same ∙ fresh in
+        let under : nat_lt (f b).bound t ≡ true = ap (λ (v : LineId). nat_lt (f v).bound t) same ∙ lt-ltb (f a).bound t low in
+        ap (λ x. has_below t (map f (cond x (b ∷ lines_left ls placed) (lines_left ls placed)))) kept ∙ ap (λ x. x || has_below t (map f (lines_left ls placed))) under
+    by_line false e g rest = later (is_unplaced placed b) (rest g)
+
+pub left_below : (t : ℕ) (f : LineId → Child) (lines placed : List LineId) (a : LineId) → is_left lines placed a ≡ true → (f a).bound < t
+    → has_below t (map f (lines_left lines placed)) ≡ true
+left_below t f lines placed a h low =
+    let both = both_true (has_line lines a) (is_unplaced placed a) h in left_low t f placed a both.1 low lines both.0
+
+-- The first of children that stand in their order.
+
+is_less : (a b k l : ℕ) → is_lt (ordering_then (nat_cmp a b) (nat_cmp k l)) ≡ true → a ≤ b
+is_less a b k l h = by_tests (nat_lt a b) refl (a == b) refl h
+  where
+    by_tests : (x : Bool) → nat_lt a b ≡ x → (y : Bool) → (a == b) ≡ y → is_lt (ordering_then (cond x Less (cond y Equal Greater)) (nat_cmp k l)) ≡ true → a ≤ b
+    by_tests true e y f g = omega (arith, ltb-true a b e)
+    by_tests false e true f g = omega (arith, eqb-true a b f)
+    by_tests false e false f g = absurd (true≢false (sym g))
+
+is_no_less : (a b k l : ℕ) → is_lt (ordering_then (nat_cmp a b) (nat_cmp k l)) ≡ false → b ≤ a
+is_no_less a b k l h = by_test (nat_lt a b) refl h
+  where
+    by_test : (x : Bool) → nat_lt a b ≡ x → is_lt (ordering_then (cond x Less (cond (a == b) Equal Greater)) (nat_cmp k l)) ≡ false → b ≤ a
+    by_test true e g = absurd (true≢false g)
+    by_test false e g = ltb-false a b e
+
+-- there is a first one, with a bound below t
+abbrev pub FirstBelow : ℕ → List Child → Type 0
+FirstBelow t [] = ⊥
+FirstBelow t (x ∷ rest) = x.bound < t
+
+first_mine : (t : ℕ) (x : Child) (ys : List Child) → x.bound < t → FirstBelow t (with_child x ys)
+first_mine t x [] h = h
+first_mine t x (y ∷ rest) h = by_test (is_lt (child_order y x)) refl
+  where
+    by_test : (b : Bool) → is_lt (child_order y x) ≡ b → FirstBelow t (cond b (y ∷ with_child x rest) (x ∷ y ∷ rest))
+    by_test true e = omega (arith, is_less y.bound x.bound y.line.0 x.line.0 e, h)
+    by_test false e = h
+
+first_there : (t : ℕ) (x : Child) (ys : List Child) → FirstBelow t ys → FirstBelow t (with_child x ys)
+first_there t x [] h = absurd h
+first_there t x (y ∷ rest) h = by_test (is_lt (child_order y x)) refl
+  where
+    by_test : (b : Bool) → is_lt (child_order y x) ≡ b → FirstBelow t (cond b (y ∷ with_child x rest) (x ∷ y ∷ rest))
+    by_test true e = h
+    by_test false e = omega (arith, is_no_less y.bound x.bound y.line.0 x.line.0 e, h)
+
+pub first_in_order : (t : ℕ) (children : List Child) → has_below t children ≡ true → FirstBelow t (in_order children)
+first_in_order t [] h = absurd (true≢false (sym h))
+first_in_order t (c ∷ children) h = by_test (nat_lt c.bound t) refl h (first_in_order t children)
+  where
+    by_test : (b : Bool) → nat_lt c.bound t ≡ b → (b || has_below t children) ≡ true → (has_below t children ≡ true → FirstBelow t (in_order children))
+        → FirstBelow t (with_child c (in_order children))
+    by_test true e g rest = first_mine t c (in_order children) (ltb-true c.bound t e)
+    by_test false e g rest = first_there t c (in_order children) (rest g)
+
+-- such a list is not empty under t, and is less than one that begins later
+pub is_lost : (t : ℕ) (xs ys : List Child) (rest : Ordering) → FirstBelow (first_bound ys) xs → is_end (bounds_below t ys) ≡ false
+    → (is_end (bounds_below t xs) ≡ false) × (is_gt (ordering_then (list_order (bounds_below t xs) (bounds_below t ys)) rest) ≡ false)
+is_lost t [] ys rest h full = absurd h
+is_lost t (x ∷ xs) [] rest h full = absurd (true≢false full)
+is_lost t (x ∷ xs) (y ∷ ys) rest h full = by_test (nat_lt y.bound t) refl full
+  where
+    less : nat_cmp x.bound y.bound ≡ Less
+    less = ap (λ b. cond b Less (cond (x.bound == y.bound) Equal Greater)) (lt-ltb x.bound y.bound h)
+
+    by_test : (c : Bool) → nat_lt y.bound t ≡ c → is_end (cond c (y.bound ∷ bounds_below t ys) []) ≡ false
+        → (is_end (cond (nat_lt x.bound t) (x.bound ∷ bounds_below t xs) []) ≡ false)
+        × (is_gt (ordering_then (list_order (cond (nat_lt x.bound t) (x.bound ∷ bounds_below t xs) []) (cond c (y.bound ∷ bounds_below t ys) [])) rest) ≡ false)
+    by_test false e g = absurd (true≢false g)
+    by_test true e g =
+        let below : nat_lt x.bound t ≡ true = lt-ltb x.bound t (omega (arith, h, ltb-true y.bound t e)) in
+        rw below (refl, ap (λ o. is_gt (ordering_then (ordering_then o (list_order (bounds_below t xs) (bounds_below t ys))) rest)) less)

@@ -1,0 +1,4 @@
+mod Examples
+mod EditLemmas
+mod LineLemmas
+pub mod PlayLemmas

@@ -1,0 +1,4 @@
+pub mod DrawTexts
+pub mod SessionWorks
+pub mod Stages
+pub mod Promises
