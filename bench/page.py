@@ -34,6 +34,7 @@ MAP = ('<svg xmlns="http://www.w3.org/2000/svg" version="1.1" viewBox="-200 -200
 NAMES = ["A&amp;B &lt;i&gt;&quot;", "two\nlines", "\u05e9\u05dc\u05d5\u05dd 12", "", "x" * 200]
 FRAMES = """window.frames_ = []; let last = performance.now();
     const tick = now => { frames_.push(now - last); last = now; requestAnimationFrame(tick); }; requestAnimationFrame(tick);"""
+PAINTED = 100_000  # bytes of a screenshot that shows the large map, not its empty frame
 failed = 0
 
 
@@ -201,8 +202,13 @@ def try_large(driver, svg):
     driver.execute_cdp_cmd("Performance.enable", {"timeDomain": "threadTicks"})
     seconds = opened(driver, "large", large)
     spent = {one["name"]: one["value"] for one in driver.execute_cdp_cmd("Performance.getMetrics", {})["metrics"]}["TaskDuration"]
+    begun = time.time()
+    while len(driver.get_screenshot_as_png()) < PAINTED and time.time() < begun + 20:
+        time.sleep(.05)
+    seconds += time.time() - begun
     shot(driver, "large")
-    hold(f"large: {len(large):,} bytes are shown in {seconds:.2f} s, of which the page itself took {spent:.2f} s", spent < 2)
+    hold(f"large: {len(large):,} bytes are seen after {seconds:.2f} s, of which the page itself took {spent:.2f} s",
+         spent < 2 and (WORK / "large.png").stat().st_size >= PAINTED)
     hold(f"large: names don't cover each other ({names_shown(driver)} at first)", names_apart(driver))
     print("      zooming: " + frames(driver, lambda step: wheel(driver, -60)))
     opened(driver, "large", large)

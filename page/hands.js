@@ -53,7 +53,7 @@ function takeHold(view, panel) {
   };
   on(window, 'keydown', event => {
     const { key, target } = event, isTyped = target.id === 'find' && key !== 'Escape';
-    if (isTyped || event.ctrlKey || event.metaKey || event.altKey || !Object.hasOwn(keys, key)) return;
+    if (isTyped || event.ctrlKey || event.metaKey || event.altKey || !keys[key]) return;
     event.preventDefault();
     keys[key]();
   });

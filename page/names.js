@@ -1,4 +1,4 @@
-/* A part of the sheet in small squares: empty (0), crossed by lines, or taken by a marker or a name (Infinity). */
+/* A part of the sheet in squares: empty (0), crossed by lines, or taken (Infinity). */
 class Squares {
   constructor({ left, top, width, height }, side, courses) {
     Object.assign(this, { left, top, side, columns: Math.ceil(width / side), rows: Math.ceil(height / side) });
@@ -10,7 +10,7 @@ class Squares {
     this.marks = Float32Array.from({ length: pixels.length / 4 }, (_, i) => pixels[4 * i + 3] / 255);
   }
 
-  /* How much of a rectangle is crossed: Infinity where some is taken, or lies outside. It can be taken, too. */
+  /* How much of a rectangle is crossed (Infinity: taken, or outside); it may then be taken. */
   crossed(x, y, width, height, isTaken) {
     const [first, last] = [x, x + width].map(value => Math.floor((value - this.left) / this.side));
     const [top, bottom] = [y, y + height].map(value => Math.floor((value - this.top) / this.side));
@@ -24,12 +24,11 @@ class Squares {
   }
 }
 
-/* Where a name may stand beside its marker, best first: the way there, and the parts of it that lie left of there and above. */
+/* Places of a name, best first: the way from its marker, the parts of it left of there and above. */
 const SIDES = [[1, 0, 0, .5], [-1, 0, 1, .5], [.7, -.7, 0, 1], [.7, .7, 0, 0], [-.7, -.7, 1, 1], [-.7, .7, 1, 0], [0, -1, .5, 1], [0, 1, .5, 0]];
 const pen = new OffscreenCanvas(1, 1).getContext('2d');
 
-/* Places for names, those with more lines first: each where it lies over the least of lines, none over a marker or another
-   name. A name without a place is left out. */
+/* Names, those of more lines first, where least is crossed and nothing taken. Some find none. */
 function placeNames(stations, squares, { letters, reachOf, most }) {
   for (const station of stations) {
     const reach = reachOf(station);
@@ -46,6 +45,6 @@ function placeNames(stations, squares, { letters, reachOf, most }) {
       if (over < least) [best, least] = [place, over];
     });
     if (best) squares.crossed(...best, true);
-    return best ? [{ name: station.name, x: best[0], y: best[1] + letters * .88 }] : [];
+    return best ? [{ station, x: best[0], y: best[1] + letters * .88 }] : [];
   });
 }

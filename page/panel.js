@@ -4,7 +4,7 @@ const folded = text => text.normalize('NFD').replace(/\p{M}/gu, '').toLowerCase(
 const collator = new Intl.Collator('en', { numeric: true });
 const byName = things => [...things].sort((a, b) => collator.compare(a.name, b.name));
 
-/* Beside the map: a search, what was chosen, the legend. */
+/* A search, what was chosen, the legend. */
 class Panel {
   constructor(view) {
     this.view = view;
@@ -18,15 +18,13 @@ class Panel {
     on(byId('close'), 'click', () => this.choose());
   }
 
-  /* Fills a list with lines and stations, and their colours. */
+  /* A list of lines and stations, by colour. */
   list(id, things) {
     byId(id).replaceChildren(...things.map(thing => {
       const [item, button, name] = ['li', 'button', 'bdi'].map(kind => document.createElement(kind));
-      const swatches = byName(thing.lines || [thing]).map(({ colour }) => {
-        const swatch = document.createElement('i');
-        swatch.style.color = colour;
-        return swatch;
-      });
+      const swatches = byName(thing.lines || [thing]).map(({ colour }) => (
+        Object.assign(document.createElement('i'), { style: `color: ${colour}` })
+      ));
       name.textContent = thing.name;
       button.thing = thing;
       button.append(name, ...swatches);
@@ -38,7 +36,7 @@ class Panel {
     }));
   }
 
-  /* Names that begin as `wanted` come before others that hold it. */
+  /* Names that begin so come first. */
   find(wanted) {
     const met = this.all.filter(({ name }) => wanted && folded(name).includes(wanted));
     const begun = met.filter(({ name }) => folded(name).startsWith(wanted));
@@ -46,14 +44,14 @@ class Panel {
     byId('said').textContent = `${met.length} found`;
   }
 
-  /* A line that is pointed at is lifted meanwhile, what is chosen until something else is. */
+  /* Lifts a line while it is pointed at. */
   point(thing) {
     const line = thing?.stations && thing;
     if (this.pointed !== line) this.view.lift(line || this.chosen);
     this.pointed = line;
   }
 
-  /* Chooses a line or a station, or nothing where it was chosen. */
+  /* Chooses a line or a station; the chosen one no more. */
   choose(thing) {
     const chosen = this.chosen = thing === this.chosen ? undefined : thing;
     this.view.lift(chosen);

@@ -4,8 +4,8 @@ const numbersOf = (element, name) => (element?.getAttribute(name) || '').match(/
 const wordsOf = element => (element?.textContent || '').replace(/\s+/g, ' ').trim();
 const placeOf = (points, i) => `${points[i]},${points[i + 1]}`;
 
-/* Reads a picture: its lines with their ways over segments, and its stations. Only numbers, colours and names are taken
-   from it, no markup. Null where it shows no map. */
+/* The lines of a picture with their ways over segments, and its stations; null where it shows no map. Only numbers,
+   colours and names are taken from it. */
 function readPicture(text) {
   const root = new DOMParser().parseFromString(text, 'text/html');
   const [left, top, width, height] = numbersOf(root.querySelector('svg'), 'viewBox');
@@ -40,8 +40,7 @@ function newLine(number, element) {
   return { colour: /^#[0-9a-f]{6}$/i.test(colour) ? colour : '#808080', name, ways: [], ends: new Map() };
 }
 
-/* The lines of a segment lie evenly to both sides of its middle. So it is known how far each is shifted from there: drawn
-   anew, they may lie nearer or farther. */
+/* The lines of a segment lie evenly about its middle: how far each is shifted from there. */
 function centreWays(ways) {
   const first = ways[0].points, last = ways[ways.length - 1].points;
   const centre = first.map((value, i) => (value + (last[i] ?? value)) / 2);
@@ -52,13 +51,13 @@ function centreWays(ways) {
   }
 }
 
-/* A join leads from an end of a line to another, and is shifted with both. */
+/* A join leads between ends of a line, shifted with both. */
 function linkJoin({ line, points }) {
   const [from, to] = [0, 2].map(i => line.ends.get(placeOf(points, i)) || [points.slice(i, i + 2), [0, 0]]);
   line.ways.push({ centre: [...from[0], ...to[0]], shift: [...from[1], ...to[1]] });
 }
 
-/* Lists the stations of a line from one of its ends on, each branch up to its end. */
+/* Lists the stations of a line from an end on, branch by branch. */
 function listStations(line, stationAt) {
   const next = new Map(), met = new Set();
   for (const { centre } of line.ways) {

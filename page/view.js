@@ -1,4 +1,4 @@
-/* Some lines and stations as shapes, with the names that find a place. */
+/* Lines and stations as shapes, with names where there is room. */
 class Layer {
   constructor(root, { left, top, width, height }) {
     root.setAttribute('viewBox', `${left} ${top} ${width} ${height}`);
@@ -15,9 +15,10 @@ class Layer {
     markers.setAttribute('stroke-width', look.rim);
     names.setAttribute('font-size', look.letters);
     names.setAttribute('stroke-width', look.letters / 3);
-    const placed = placeNames(this.stations, new Squares(part, look.letters / 3, this.courses), look);
+    const placed = placeNames(this.stations, new Squares(part, look.letters / 3, this.courses), look)
+      .filter(({ station }) => !this.unnamed?.includes(station));
     names.innerHTML = placed.map(({ x, y }) => `<text x="${x}" y="${y}"/>`).join('');
-    placed.forEach(({ name }, i) => { names.children[i].textContent = name; });
+    placed.forEach(({ station }, i) => { names.children[i].textContent = station.name; });
   }
 
   spreadOut({ spread, radiusOf }) {
@@ -34,7 +35,7 @@ class Layer {
   }
 }
 
-/* The map in its frame: where it lies at which scale (pixels a unit), now and at rest. */
+/* The map in its frame: its place and scale (pixels a unit), now and at rest. */
 class View {
   constructor(frame, plane, map) {
     Object.assign(this, { frame, plane, map, isLarge: map.lines.flatMap(line => line.ways).length > 3000 });
@@ -51,13 +52,13 @@ class View {
 
   resize() {
     const isWhole = !this.rest || this.rest.scale === this.whole().scale;
-    [this.width, this.height] = [this.frame.clientWidth, this.frame.clientHeight];
+    ({ clientWidth: this.width, clientHeight: this.height } = this.frame);
     this.base ??= this.whole().scale;
     for (const { style } of this.plane.children) style.width = `${this.map.width * this.base}px`;
     this.go(isWhole ? this.whole() : this.rest, true);
   }
 
-  /* Lines are never too thin and never too fat, and a bundle doesn't cover what lies beside it. */
+  /* Lines are neither too thin nor too fat, and bundles cover nothing beside them. */
   lookAt(scale) {
     const wanted = Math.max(3.6, Math.min(12 * scale, 10)) / (12 * scale), room = Math.max(1, Math.min(5, 11 / this.map.widest));
     const spread = Number(Math.min(wanted, room).toPrecision(this.isLarge ? 1 : 3)), rim = Math.max(4 * spread, 1 / scale);
@@ -68,12 +69,12 @@ class View {
     };
   }
 
-  /* Glides there, or is there at once where it is held or motion isn't wanted. */
+  /* Glides there; at once where it is held or motion isn't wanted. */
   go({ scale, x, y }, isHeld = matchMedia('(prefers-reduced-motion: reduce)').matches) {
     const within = (value, frame, size) => Math.max(frame * .3 - size * scale, Math.min(value, frame * .7));
     this.rest = { scale, x: within(x, this.width, this.map.width), y: within(y, this.height, this.map.height) };
     if (isHeld) this.now = this.rest;
-    this.frameAsked ||= requestAnimationFrame(time => this.step(time));
+    this.asked ||= requestAnimationFrame(now => this.step(now));
   }
 
   move(right, down, isHeld) {
@@ -92,15 +93,15 @@ class View {
     this.go({ scale, x: this.width / 2 - (x - map.left) * scale, y: this.height / 2 - (y - map.top) * scale });
   }
 
-  /* Lifts a line with its stations, or a station with its lines, out of the map, which fades. */
+  /* Lifts a line with its stations, or a station with its lines, out of a fading map. */
   lift(thing) {
     const things = thing ? [thing] : [];
     this.plane.classList.toggle('dim', Boolean(thing));
-    this.layers[1].show([...thing?.lines || things], thing?.stations || things);
+    this.layers[1].show([...thing?.lines || things], this.layers[0].unnamed = thing?.stations || things);
     this.settle();
   }
 
-  /* A small map is drawn anew in each frame; a large one is moved, and drawn anew once it rests. */
+  /* A small map is drawn in each frame; a large one once it rests. */
   step(time) {
     const { now, rest } = this, part = 1 - Math.exp(((this.time || time - 16) - time) / 70);
     const isThere = Math.abs(rest.scale / now.scale - 1) < .001 && Math.hypot(rest.x - now.x, rest.y - now.y) < .5;
@@ -108,14 +109,14 @@ class View {
     this.now = isThere ? rest : { scale: between('scale'), x: between('x'), y: between('y') };
     this.plane.style.transform = `translate(${this.now.x}px, ${this.now.y}px) scale(${this.now.scale / this.base})`;
     this.time = isThere ? 0 : time;
-    this.frameAsked = isThere ? 0 : requestAnimationFrame(time => this.step(time));
+    this.asked = isThere ? 0 : requestAnimationFrame(now => this.step(now));
     clearTimeout(this.settling);
     this.plane.classList.toggle('moving', this.isLarge);
     if (this.isLarge) this.settling = setTimeout(() => this.settle(), 150);
     else this.settle();
   }
 
-  /* Draws all for a scale, with the names of what is seen; half a frame beyond, but where the map is small. */
+  /* Draws all for a scale, with names half a frame beyond what is seen. */
   settle({ scale, x, y } = this.now, width = this.width / scale, height = this.height / scale) {
     const { left, top } = this.map, look = this.lookAt(scale), more = look.most > 1 ? .5 : 0, whole = 1 + 2 * more;
     const part = { left: left - x / scale - more * width, top: top - y / scale - more * height, width: whole * width, height: whole * height };
@@ -123,14 +124,14 @@ class View {
     this.plane.classList.remove('moving');
   }
 
-  /* The station or the line within a few pixels of a place. */
+  /* The station or line near a place. */
   at(right, down) {
     const { now, map } = this, { reachOf, stroke } = this.lookAt(now.scale);
     const x = (right - now.x) / now.scale + map.left, y = (down - now.y) / now.scale + map.top;
     const station = map.stations.find(one => Math.hypot(one.x - x, one.y - y) < reachOf(one) + 4 / now.scale);
     const lineWithin = width => {
       pen.lineWidth = width;
-      return map.lines.find((line, i) => pen.isPointInStroke(this.layers[0].courses[i], x, y));
+      return map.lines.find((_, i) => pen.isPointInStroke(this.layers[0].courses[i], x, y));
     };
     return station || lineWithin(stroke) || lineWithin(stroke + 12 / now.scale);
   }

@@ -6,7 +6,7 @@ pub const HEAD: &str = "\
 <html lang=\"en\">\n\
 <head>\n\
 <meta charset=\"utf-8\">\n\
-<meta http-equiv=\"Content-Security-Policy\" content=\"default-src 'none'; script-src 'sha256-fimrq16fK46JtIQ5ctj4DjV+/xM/t6amwBuzFo0qVCU='; style-src 'sha256-tS5U/s6tQrGV37HwUv9Vuk8o3BewdRFIB4fx+9vEQ+o='; base-uri 'none'; form-action 'none'\">\n\
+<meta http-equiv=\"Content-Security-Policy\" content=\"default-src 'none'; script-src 'sha256-PB4bQ632T0IkdhRsHc2+6y4JhzvZsaInw/zts+eRkPA='; style-src 'sha256-wk08bcwp05+zWvw9Qgzy50QxpxArD03/AHACsD8Bzk4='; base-uri 'none'; form-action 'none'\">\n\
 <meta name=\"viewport\" content=\"width=device-width, initial-scale=1\">\n\
 <title>Transit map</title>\n\
 <style>\n\
@@ -27,7 +27,7 @@ button, input { border: 1px solid var(--faint); border-radius: 6px; background: 
 #find { width: 100%; padding: .45rem .6rem; }\n\
 #card { position: relative; flex: none; padding: .6rem; border-radius: 6px; background: var(--paper); }\n\
 #chosen { padding-right: 2rem; overflow-wrap: anywhere; }\n\
-#close { position: absolute; inset: .3rem .3rem auto auto; width: 2.2rem; height: 2.2rem; }\n\
+#close { position: absolute; inset: .3rem .3rem auto auto; width: 1.6rem; height: 1.6rem; }\n\
 #parts { max-height: 38vh; overflow: auto; }\n\
 li button { display: flex; gap: .3rem; align-items: center; width: 100%; padding: .3rem .4rem; border: 0; background: none; text-align: start; }\n\
 li button:hover, [aria-pressed=true] { background: var(--hover); }\n\
@@ -37,17 +37,18 @@ i, .routes path { --line: color-mix(in srgb, currentColor var(--pure), var(--ink
 #lines i { order: -1; width: 1.6rem; height: .5rem; }\n\
 \n\
 #view { position: relative; overflow: hidden; }\n\
-#plane, #plane svg { position: absolute; left: 0; top: 0; transform-origin: 0 0; overflow: visible; }\n\
+#view > *, #plane svg { position: absolute; }\n\
+#plane, #plane svg { left: 0; top: 0; transform-origin: 0 0; overflow: visible; stroke-linecap: round; stroke-linejoin: round; }\n\
 .moving { will-change: transform; }\n\
 .dim #sheet { opacity: .2; }\n\
-.routes path { fill: none; stroke: var(--line); stroke-linecap: round; stroke-linejoin: round; }\n\
+.routes path { fill: none; stroke: var(--line); }\n\
 .markers { fill: var(--paper); stroke: var(--ink); }\n\
-.names { fill: var(--ink); stroke: var(--paper); stroke-linejoin: round; paint-order: stroke; }\n\
-#glass { position: absolute; inset: 0; cursor: grab; touch-action: none; }\n\
-#tip { position: absolute; left: 0; top: 0; padding: .25rem .6rem; border-radius: 6px; background: var(--ink); color: var(--paper); pointer-events: none; }\n\
-#zoom { position: absolute; right: .8rem; bottom: .8rem; display: grid; gap: .3rem; }\n\
+.names { fill: var(--ink); stroke: var(--paper); paint-order: stroke; }\n\
+#glass { inset: 0; cursor: grab; touch-action: none; }\n\
+#tip { left: 0; top: 0; padding: .25rem .6rem; border-radius: 6px; background: var(--ink); color: var(--paper); pointer-events: none; }\n\
+#zoom { right: .8rem; bottom: .8rem; display: grid; gap: .3rem; }\n\
 #zoom button { width: 2.6rem; height: 2.6rem; }\n\
-#trouble, noscript { position: absolute; inset: 40% 10% auto; text-align: center; }\n\
+#trouble, noscript { inset: 40% 10% auto; text-align: center; }\n\
 #said { position: absolute; clip-path: inset(50%); }\n\
 \n\
 @media screen and (max-width: 44rem) {\n\
@@ -97,7 +98,7 @@ i, .routes path { --line: color-mix(in srgb, currentColor var(--pure), var(--ink
 <button id=\"whole\" aria-label=\"Show the whole map\">All</button>\n\
 </div>\n\
 <p id=\"trouble\" hidden>This picture shows no map.</p>\n\
-<noscript>A script draws the map, and scripts are off.</noscript>\n\
+<noscript>A script draws the map: scripts are off.</noscript>\n\
 </main>\n\
 <p id=\"said\" role=\"status\"></p>\n\
 <script>\n\
@@ -107,8 +108,8 @@ const numbersOf = (element, name) => (element?.getAttribute(name) || '').match(/
 const wordsOf = element => (element?.textContent || '').replace(/\\s+/g, ' ').trim();\n\
 const placeOf = (points, i) => `${points[i]},${points[i + 1]}`;\n\
 \n\
-/* Reads a picture: its lines with their ways over segments, and its stations. Only numbers, colours and names are taken\n\
-\x20  from it, no markup. Null where it shows no map. */\n\
+/* The lines of a picture with their ways over segments, and its stations; null where it shows no map. Only numbers,\n\
+\x20  colours and names are taken from it. */\n\
 function readPicture(text) {\n\
 \x20 const root = new DOMParser().parseFromString(text, 'text/html');\n\
 \x20 const [left, top, width, height] = numbersOf(root.querySelector('svg'), 'viewBox');\n\
@@ -143,8 +144,7 @@ function newLine(number, element) {\n\
 \x20 return { colour: /^#[0-9a-f]{6}$/i.test(colour) ? colour : '#808080', name, ways: [], ends: new Map() };\n\
 }\n\
 \n\
-/* The lines of a segment lie evenly to both sides of its middle. So it is known how far each is shifted from there: drawn\n\
-\x20  anew, they may lie nearer or farther. */\n\
+/* The lines of a segment lie evenly about its middle: how far each is shifted from there. */\n\
 function centreWays(ways) {\n\
 \x20 const first = ways[0].points, last = ways[ways.length - 1].points;\n\
 \x20 const centre = first.map((value, i) => (value + (last[i] ?? value)) / 2);\n\
@@ -155,13 +155,13 @@ function centreWays(ways) {\n\
 \x20 }\n\
 }\n\
 \n\
-/* A join leads from an end of a line to another, and is shifted with both. */\n\
+/* A join leads between ends of a line, shifted with both. */\n\
 function linkJoin({ line, points }) {\n\
 \x20 const [from, to] = [0, 2].map(i => line.ends.get(placeOf(points, i)) || [points.slice(i, i + 2), [0, 0]]);\n\
 \x20 line.ways.push({ centre: [...from[0], ...to[0]], shift: [...from[1], ...to[1]] });\n\
 }\n\
 \n\
-/* Lists the stations of a line from one of its ends on, each branch up to its end. */\n\
+/* Lists the stations of a line from an end on, branch by branch. */\n\
 function listStations(line, stationAt) {\n\
 \x20 const next = new Map(), met = new Set();\n\
 \x20 for (const { centre } of line.ways) {\n\
@@ -178,7 +178,7 @@ function listStations(line, stationAt) {\n\
 \x20 for (const station of line.stations) station.lines.add(line);\n\
 }\n\
 \n\
-/* A part of the sheet in small squares: empty (0), crossed by lines, or taken by a marker or a name (Infinity). */\n\
+/* A part of the sheet in squares: empty (0), crossed by lines, or taken (Infinity). */\n\
 class Squares {\n\
 \x20 constructor({ left, top, width, height }, side, courses) {\n\
 \x20   Object.assign(this, { left, top, side, columns: Math.ceil(width / side), rows: Math.ceil(height / side) });\n\
@@ -190,7 +190,7 @@ class Squares {\n\
 \x20   this.marks = Float32Array.from({ length: pixels.length / 4 }, (_, i) => pixels[4 * i + 3] / 255);\n\
 \x20 }\n\
 \n\
-\x20 /* How much of a rectangle is crossed: Infinity where some is taken, or lies outside. It can be taken, too. */\n\
+\x20 /* How much of a rectangle is crossed (Infinity: taken, or outside); it may then be taken. */\n\
 \x20 crossed(x, y, width, height, isTaken) {\n\
 \x20   const [first, last] = [x, x + width].map(value => Math.floor((value - this.left) / this.side));\n\
 \x20   const [top, bottom] = [y, y + height].map(value => Math.floor((value - this.top) / this.side));\n\
@@ -204,12 +204,11 @@ class Squares {\n\
 \x20 }\n\
 }\n\
 \n\
-/* Where a name may stand beside its marker, best first: the way there, and the parts of it that lie left of there and above. */\n\
+/* Places of a name, best first: the way from its marker, the parts of it left of there and above. */\n\
 const SIDES = [[1, 0, 0, .5], [-1, 0, 1, .5], [.7, -.7, 0, 1], [.7, .7, 0, 0], [-.7, -.7, 1, 1], [-.7, .7, 1, 0], [0, -1, .5, 1], [0, 1, .5, 0]];\n\
 const pen = new OffscreenCanvas(1, 1).getContext('2d');\n\
 \n\
-/* Places for names, those with more lines first: each where it lies over the least of lines, none over a marker or another\n\
-\x20  name. A name without a place is left out. */\n\
+/* Names, those of more lines first, where least is crossed and nothing taken. Some find none. */\n\
 function placeNames(stations, squares, { letters, reachOf, most }) {\n\
 \x20 for (const station of stations) {\n\
 \x20   const reach = reachOf(station);\n\
@@ -226,11 +225,11 @@ function placeNames(stations, squares, { letters, reachOf, most }) {\n\
 \x20     if (over < least) [best, least] = [place, over];\n\
 \x20   });\n\
 \x20   if (best) squares.crossed(...best, true);\n\
-\x20   return best ? [{ name: station.name, x: best[0], y: best[1] + letters * .88 }] : [];\n\
+\x20   return best ? [{ station, x: best[0], y: best[1] + letters * .88 }] : [];\n\
 \x20 });\n\
 }\n\
 \n\
-/* Some lines and stations as shapes, with the names that find a place. */\n\
+/* Lines and stations as shapes, with names where there is room. */\n\
 class Layer {\n\
 \x20 constructor(root, { left, top, width, height }) {\n\
 \x20   root.setAttribute('viewBox', `${left} ${top} ${width} ${height}`);\n\
@@ -247,9 +246,10 @@ class Layer {\n\
 \x20   markers.setAttribute('stroke-width', look.rim);\n\
 \x20   names.setAttribute('font-size', look.letters);\n\
 \x20   names.setAttribute('stroke-width', look.letters / 3);\n\
-\x20   const placed = placeNames(this.stations, new Squares(part, look.letters / 3, this.courses), look);\n\
+\x20   const placed = placeNames(this.stations, new Squares(part, look.letters / 3, this.courses), look)\n\
+\x20     .filter(({ station }) => !this.unnamed?.includes(station));\n\
 \x20   names.innerHTML = placed.map(({ x, y }) => `<text x=\"${x}\" y=\"${y}\"/>`).join('');\n\
-\x20   placed.forEach(({ name }, i) => { names.children[i].textContent = name; });\n\
+\x20   placed.forEach(({ station }, i) => { names.children[i].textContent = station.name; });\n\
 \x20 }\n\
 \n\
 \x20 spreadOut({ spread, radiusOf }) {\n\
@@ -266,7 +266,7 @@ class Layer {\n\
 \x20 }\n\
 }\n\
 \n\
-/* The map in its frame: where it lies at which scale (pixels a unit), now and at rest. */\n\
+/* The map in its frame: its place and scale (pixels a unit), now and at rest. */\n\
 class View {\n\
 \x20 constructor(frame, plane, map) {\n\
 \x20   Object.assign(this, { frame, plane, map, isLarge: map.lines.flatMap(line => line.ways).length > 3000 });\n\
@@ -283,13 +283,13 @@ class View {\n\
 \n\
 \x20 resize() {\n\
 \x20   const isWhole = !this.rest || this.rest.scale === this.whole().scale;\n\
-\x20   [this.width, this.height] = [this.frame.clientWidth, this.frame.clientHeight];\n\
+\x20   ({ clientWidth: this.width, clientHeight: this.height } = this.frame);\n\
 \x20   this.base ??= this.whole().scale;\n\
 \x20   for (const { style } of this.plane.children) style.width = `${this.map.width * this.base}px`;\n\
 \x20   this.go(isWhole ? this.whole() : this.rest, true);\n\
 \x20 }\n\
 \n\
-\x20 /* Lines are never too thin and never too fat, and a bundle doesn't cover what lies beside it. */\n\
+\x20 /* Lines are neither too thin nor too fat, and bundles cover nothing beside them. */\n\
 \x20 lookAt(scale) {\n\
 \x20   const wanted = Math.max(3.6, Math.min(12 * scale, 10)) / (12 * scale), room = Math.max(1, Math.min(5, 11 / this.map.widest));\n\
 \x20   const spread = Number(Math.min(wanted, room).toPrecision(this.isLarge ? 1 : 3)), rim = Math.max(4 * spread, 1 / scale);\n\
@@ -300,12 +300,12 @@ class View {\n\
 \x20   };\n\
 \x20 }\n\
 \n\
-\x20 /* Glides there, or is there at once where it is held or motion isn't wanted. */\n\
+\x20 /* Glides there; at once where it is held or motion isn't wanted. */\n\
 \x20 go({ scale, x, y }, isHeld = matchMedia('(prefers-reduced-motion: reduce)').matches) {\n\
 \x20   const within = (value, frame, size) => Math.max(frame * .3 - size * scale, Math.min(value, frame * .7));\n\
 \x20   this.rest = { scale, x: within(x, this.width, this.map.width), y: within(y, this.height, this.map.height) };\n\
 \x20   if (isHeld) this.now = this.rest;\n\
-\x20   this.frameAsked ||= requestAnimationFrame(time => this.step(time));\n\
+\x20   this.asked ||= requestAnimationFrame(now => this.step(now));\n\
 \x20 }\n\
 \n\
 \x20 move(right, down, isHeld) {\n\
@@ -324,15 +324,15 @@ class View {\n\
 \x20   this.go({ scale, x: this.width / 2 - (x - map.left) * scale, y: this.height / 2 - (y - map.top) * scale });\n\
 \x20 }\n\
 \n\
-\x20 /* Lifts a line with its stations, or a station with its lines, out of the map, which fades. */\n\
+\x20 /* Lifts a line with its stations, or a station with its lines, out of a fading map. */\n\
 \x20 lift(thing) {\n\
 \x20   const things = thing ? [thing] : [];\n\
 \x20   this.plane.classList.toggle('dim', Boolean(thing));\n\
-\x20   this.layers[1].show([...thing?.lines || things], thing?.stations || things);\n\
+\x20   this.layers[1].show([...thing?.lines || things], this.layers[0].unnamed = thing?.stations || things);\n\
 \x20   this.settle();\n\
 \x20 }\n\
 \n\
-\x20 /* A small map is drawn anew in each frame; a large one is moved, and drawn anew once it rests. */\n\
+\x20 /* A small map is drawn in each frame; a large one once it rests. */\n\
 \x20 step(time) {\n\
 \x20   const { now, rest } = this, part = 1 - Math.exp(((this.time || time - 16) - time) / 70);\n\
 \x20   const isThere = Math.abs(rest.scale / now.scale - 1) < .001 && Math.hypot(rest.x - now.x, rest.y - now.y) < .5;\n\
@@ -340,14 +340,14 @@ class View {\n\
 \x20   this.now = isThere ? rest : { scale: between('scale'), x: between('x'), y: between('y') };\n\
 \x20   this.plane.style.transform = `translate(${this.now.x}px, ${this.now.y}px) scale(${this.now.scale / this.base})`;\n\
 \x20   this.time = isThere ? 0 : time;\n\
-\x20   this.frameAsked = isThere ? 0 : requestAnimationFrame(time => this.step(time));\n\
+\x20   this.asked = isThere ? 0 : requestAnimationFrame(now => this.step(now));\n\
 \x20   clearTimeout(this.settling);\n\
 \x20   this.plane.classList.toggle('moving', this.isLarge);\n\
 \x20   if (this.isLarge) this.settling = setTimeout(() => this.settle(), 150);\n\
 \x20   else this.settle();\n\
 \x20 }\n\
 \n\
-\x20 /* Draws all for a scale, with the names of what is seen; half a frame beyond, but where the map is small. */\n\
+\x20 /* Draws all for a scale, with names half a frame beyond what is seen. */\n\
 \x20 settle({ scale, x, y } = this.now, width = this.width / scale, height = this.height / scale) {\n\
 \x20   const { left, top } = this.map, look = this.lookAt(scale), more = look.most > 1 ? .5 : 0, whole = 1 + 2 * more;\n\
 \x20   const part = { left: left - x / scale - more * width, top: top - y / scale - more * height, width: whole * width, height: whole * height };\n\
@@ -355,14 +355,14 @@ class View {\n\
 \x20   this.plane.classList.remove('moving');\n\
 \x20 }\n\
 \n\
-\x20 /* The station or the line within a few pixels of a place. */\n\
+\x20 /* The station or line near a place. */\n\
 \x20 at(right, down) {\n\
 \x20   const { now, map } = this, { reachOf, stroke } = this.lookAt(now.scale);\n\
 \x20   const x = (right - now.x) / now.scale + map.left, y = (down - now.y) / now.scale + map.top;\n\
 \x20   const station = map.stations.find(one => Math.hypot(one.x - x, one.y - y) < reachOf(one) + 4 / now.scale);\n\
 \x20   const lineWithin = width => {\n\
 \x20     pen.lineWidth = width;\n\
-\x20     return map.lines.find((line, i) => pen.isPointInStroke(this.layers[0].courses[i], x, y));\n\
+\x20     return map.lines.find((_, i) => pen.isPointInStroke(this.layers[0].courses[i], x, y));\n\
 \x20   };\n\
 \x20   return station || lineWithin(stroke) || lineWithin(stroke + 12 / now.scale);\n\
 \x20 }\n\
@@ -374,7 +374,7 @@ const folded = text => text.normalize('NFD').replace(/\\p{M}/gu, '').toLowerCase
 const collator = new Intl.Collator('en', { numeric: true });\n\
 const byName = things => [...things].sort((a, b) => collator.compare(a.name, b.name));\n\
 \n\
-/* Beside the map: a search, what was chosen, the legend. */\n\
+/* A search, what was chosen, the legend. */\n\
 class Panel {\n\
 \x20 constructor(view) {\n\
 \x20   this.view = view;\n\
@@ -388,15 +388,13 @@ class Panel {\n\
 \x20   on(byId('close'), 'click', () => this.choose());\n\
 \x20 }\n\
 \n\
-\x20 /* Fills a list with lines and stations, and their colours. */\n\
+\x20 /* A list of lines and stations, by colour. */\n\
 \x20 list(id, things) {\n\
 \x20   byId(id).replaceChildren(...things.map(thing => {\n\
 \x20     const [item, button, name] = ['li', 'button', 'bdi'].map(kind => document.createElement(kind));\n\
-\x20     const swatches = byName(thing.lines || [thing]).map(({ colour }) => {\n\
-\x20       const swatch = document.createElement('i');\n\
-\x20       swatch.style.color = colour;\n\
-\x20       return swatch;\n\
-\x20     });\n\
+\x20     const swatches = byName(thing.lines || [thing]).map(({ colour }) => (\n\
+\x20       Object.assign(document.createElement('i'), { style: `color: ${colour}` })\n\
+\x20     ));\n\
 \x20     name.textContent = thing.name;\n\
 \x20     button.thing = thing;\n\
 \x20     button.append(name, ...swatches);\n\
@@ -408,7 +406,7 @@ class Panel {\n\
 \x20   }));\n\
 \x20 }\n\
 \n\
-\x20 /* Names that begin as `wanted` come before others that hold it. */\n\
+\x20 /* Names that begin so come first. */\n\
 \x20 find(wanted) {\n\
 \x20   const met = this.all.filter(({ name }) => wanted && folded(name).includes(wanted));\n\
 \x20   const begun = met.filter(({ name }) => folded(name).startsWith(wanted));\n\
@@ -416,14 +414,14 @@ class Panel {\n\
 \x20   byId('said').textContent = `${met.length} found`;\n\
 \x20 }\n\
 \n\
-\x20 /* A line that is pointed at is lifted meanwhile, what is chosen until something else is. */\n\
+\x20 /* Lifts a line while it is pointed at. */\n\
 \x20 point(thing) {\n\
 \x20   const line = thing?.stations && thing;\n\
 \x20   if (this.pointed !== line) this.view.lift(line || this.chosen);\n\
 \x20   this.pointed = line;\n\
 \x20 }\n\
 \n\
-\x20 /* Chooses a line or a station, or nothing where it was chosen. */\n\
+\x20 /* Chooses a line or a station; the chosen one no more. */\n\
 \x20 choose(thing) {\n\
 \x20   const chosen = this.chosen = thing === this.chosen ? undefined : thing;\n\
 \x20   this.view.lift(chosen);\n\
@@ -495,7 +493,7 @@ function takeHold(view, panel) {\n\
 \x20 };\n\
 \x20 on(window, 'keydown', event => {\n\
 \x20   const { key, target } = event, isTyped = target.id === 'find' && key !== 'Escape';\n\
-\x20   if (isTyped || event.ctrlKey || event.metaKey || event.altKey || !Object.hasOwn(keys, key)) return;\n\
+\x20   if (isTyped || event.ctrlKey || event.metaKey || event.altKey || !keys[key]) return;\n\
 \x20   event.preventDefault();\n\
 \x20   keys[key]();\n\
 \x20 });\n\
