@@ -1,13 +1,21 @@
 //! Corridors, which tell whether a point lies in them.
 
-ghost use Rattle.std.specs.Prelude.{◌≡◌, ◌≤◌, ◌&&◌, IfOk, All};
+ghost use Rattle.std.specs.Prelude.{◌≡◌, ◌*◌, ◌≤◌, ◌&&◌, IfOk, All};
 ghost use Rattle.fixed_plane.specs.Plane.{IsInPlane};
+ghost use Rattle.track_net.specs.Nearness.{FindsNear};
 ghost use Rattle.net_paths.specs.Corridors.{is_in_corridor};
 
 use map_base::{NoMemory, Point};
 use std::alloc::Global;
 use std::marker::Model;
 use track_net::PointCells;
+
+/// A point, and where it lies in a corridor a sample to which it is near.
+#[derive(Clone, Copy)]
+pub(crate) struct Place {
+    pub(crate) point: Point,
+    pub(crate) sample: Option<Point>,
+}
 
 /// A corridor, seen as its samples and `near`, in decimetres: the points that are nearer than four times `near` to
 /// some sample.
@@ -39,23 +47,29 @@ impl Corridor {
         Ok(Corridor { near, samples })
     }
 
-    /// Whether both of two points lie in the corridor.
-    pub(crate) fn holds_both(&self, a: Point, b: Point) -> bool
-        requires a_in_plane { IsInPlane a }
-        requires b_in_plane { IsInPlane b }
-        ensures { result ≡ (is_in_corridor self.now.near self.now.samples a && is_in_corridor self.now.near self.now.samples b) }
+    /// A point, with a sample to which it is near, if it lies in the corridor.
+    pub(crate) fn place_of(&self, point: Point) -> Place
+        requires in_plane { IsInPlane point }
+        ensures point { result.point ≡ point }
+        ensures sample { FindsNear (4 * self.now.near) self.now.samples point result.sample }
     {
-        if !self.holds(a) {
-            return false;
+        Place {
+            point,
+            sample: self.samples.near_point(None, point, 4 * self.near),
         }
-        self.holds(b)
     }
 
-    /// Whether a point lies in the corridor.
-    fn holds(&self, at: Point) -> bool
-        requires in_plane { IsInPlane at }
-        ensures { result ≡ is_in_corridor self.now.near self.now.samples at }
+    /// Whether both of two points lie in the corridor. The sample to which the one is near is often near to the other
+    /// too.
+    pub(crate) fn holds_both(&self, here: Place, there: Point) -> bool
+        requires in_plane { IsInPlane there }
+        requires sample { FindsNear (4 * self.now.near) self.now.samples here.point here.sample }
+        ensures { result ≡ (is_in_corridor self.now.near self.now.samples here.point && is_in_corridor self.now.near self.now.samples there) }
     {
-        self.samples.has_near(at, 4 * self.near)
+        if here.sample.is_none() {
+            return false;
+        }
+        let found = self.samples.near_point(here.sample, there, 4 * self.near);
+        found.is_some()
     }
 }

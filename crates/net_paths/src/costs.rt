@@ -1,23 +1,27 @@
 //! What edges cost along a corridor.
 
-ghost use Rattle.std.specs.Prelude.{◌≡◌, ◌<◌, ◌≤◌, length};
-ghost use Rattle.net_paths.specs.Searching.{dearest, flagged_cost, flags_along};
+ghost use Rattle.std.specs.Prelude.{◌≡◌, ◌*◌, ◌≤◌};
+ghost use Rattle.fixed_plane.specs.Plane.{IsInPlane};
+ghost use Rattle.track_net.specs.Nearness.{FindsNear};
+ghost use Rattle.net_paths.specs.Corridors.{edge_cost};
+ghost use Rattle.net_paths.specs.Searching.{dearest};
 
-use crate::corridor::Corridor;
+use crate::corridor::{Corridor, Place};
 use fixed_plane::dist2;
-use track_net::Net;
+use map_base::Point;
 
-/// What the edge between two points costs: the square of its length where both lie in the corridor, else eight
-/// times that.
-pub(crate) fn cost_between(net: &Net, corridor: &Corridor, a: u32, b: u32) -> u128
-    requires a_in_range { a < length net.now.points }
-    requires b_in_range { b < length net.now.points }
-    ensures value { result ≡ flagged_cost (flags_along corridor.now net.now) net.now.points a b }
+/// What the edge between two points costs, either way: the square of its length where both lie in the corridor, else
+/// eight times that.
+pub(crate) fn cost_between(corridor: &Corridor, here: Place, there: Point) -> u128
+    requires here_in_plane { IsInPlane here.point }
+    requires there_in_plane { IsInPlane there }
+    requires sample { FindsNear (4 * corridor.now.near) corridor.now.samples here.point here.sample }
+    ensures there { result ≡ edge_cost corridor.now.near corridor.now.samples here.point there }
+    ensures back { result ≡ edge_cost corridor.now.near corridor.now.samples there here.point }
     ensures within { result ≤ dearest }
 {
-    let (from, to) = (net.point(a), net.point(b));
-    let square = u128::from(dist2(from, to));
-    if corridor.holds_both(from, to) {
+    let square = u128::from(dist2(here.point, there));
+    if corridor.holds_both(here, there) {
         square
     } else {
         8 * square

@@ -89,13 +89,10 @@ fn spread(
     ensures order { OnOk result (IsHeap queue_cmp (heap_items queue.new)) }
     ensures spread { OnOk result (IsSpread (flags_along corridor.now net.now) net.now at cost known.old (heap_items queue.old) known.new (heap_items queue.new)) }
 {
+    let here = corridor.place_of(net.point(at));
     for next in net.edges_of(at) {
-        lower(
-            known,
-            queue,
-            *next,
-            cost + cost_between(net, corridor, *next, at),
-        )?;
+        let step = cost_between(corridor, here, net.point(*next));
+        lower(known, queue, *next, cost + step)?;
     }
     Ok(())
 }

@@ -44,8 +44,9 @@ fn next_point(net: &Net, corridor: &Corridor, known: &Known, at: u32) -> Option<
     ensures least { IfSome result (IsLeastStep (flags_along corridor.now net.now) net.now known.now at) }
     ensures none { IfNone result ((other : ℕ) → HasEdge net.now at other → KeepsCost (flags_along corridor.now net.now) net.now known.now at other → ⊥) }
 {
+    let here = corridor.place_of(net.point(at));
     for next in net.edges_of(at) {
-        let cost = cost_between(net, corridor, at, *next);
+        let cost = cost_between(corridor, here, net.point(*next));
         if differ_by(known.of(at), known.of(*next), cost) {
             return Some(*next);
         }

@@ -1,7 +1,6 @@
 -- Numbers that are kept by cells.
-use Rattle.std.proofs.Common.{◌≡◌, refl, sym, ◌∙◌, ap, ℕ, ◌+◌, Bool, true, false, cond, ℤ, Vec, List, [], ◌∷◌, ◌++◌, Option, Some, None, append_assoc, append-nil}
+use Rattle.std.proofs.Common.{◌≡◌, refl, sym, ◌∙◌, ap, ℕ, ◌+◌, Bool, true, false, cond, ℤ, Vec, List, [], ◌∷◌, ◌++◌, Some, append_assoc, append-nil}
 use Rattle.std.specs.Global.{Global}
-use Rattle.std.specs.Option.{unwrap_or}
 use Rattle.std.specs.Ordering.{int_eq}
 use Rattle.std.specs.List.{range_with_len, flat_map}
 use Rattle.std.specs.declared.hash.FoldHasher.{FoldHasher}
@@ -25,27 +24,24 @@ is_cell-true c d e =
     ap (λ (x : ℤ). (x, c.1)) (int_eq-true c.0 d.0 parts.0) ∙ ap (λ (y : ℤ). (d.0, y)) (int_eq-true c.1 d.1 parts.1)
 
 -- one more item is kept for a cell
-pub listed_more : {X : Type 0} (old between new : HashMap (ℤ × ℤ) (Vec X Global) (BuildHasherDefault FoldHasher)) (cell : ℤ × ℤ) (x : X) (none had more : Vec X Global) (taken : Option (Vec X Global)) → none.items ≡ [] →
-    taken ≡ get is_cell old cell → ((q : ℤ × ℤ) → get is_cell between q ≡ cond (is_cell cell q) None (get is_cell old q)) → had ≡ unwrap_or taken none →
-    more.items ≡ had.items ++ x ∷ [] → ((q : ℤ × ℤ) → get is_cell new q ≡ cond (is_cell cell q) (Some more) (get is_cell between q)) →
-    (other : ℤ × ℤ) → listed new other ≡ cond (is_cell cell other) (listed old other ++ x ∷ []) (listed old other)
-listed_more {X} old between new cell x none had more taken empty taken_is gone had_is more_is put other = of_test (is_cell cell other) refl
+pub listed_more : {X : Type 0} (old new : HashMap (ℤ × ℤ) (Vec X Global) (BuildHasherDefault FoldHasher)) (cell : ℤ × ℤ) (x : X) (more : Vec X Global) → more.items ≡ listed old cell ++ x ∷ [] →
+    ((q : ℤ × ℤ) → get is_cell new q ≡ cond (is_cell cell q) (Some more) (get is_cell old q)) → (other : ℤ × ℤ) →
+    listed new other ≡ cond (is_cell cell other) (listed old other ++ x ∷ []) (listed old other)
+listed_more {X} old new cell x more more_is put other = of_test (is_cell cell other) refl
   where
-    items_of : (o : Option (Vec X Global)) → (unwrap_or o none).items ≡ items_or_none o
-    items_of None = empty
-    items_of (Some v) = refl
-
-    before : had.items ≡ listed old cell
-    before = ap (λ (v : Vec X Global). v.items) had_is ∙ items_of taken ∙ ap items_or_none taken_is
-
     of_test : (b : Bool) → is_cell cell other ≡ b → listed new other ≡ cond b (listed old other ++ x ∷ []) (listed old other)
     of_test true e =
-        let here : get is_cell new other ≡ Some more = put other ∙ ap (λ b. cond b (Some more) (get is_cell between other)) e in
-        ap items_or_none here ∙ more_is ∙ ap (λ xs. xs ++ x ∷ []) (before ∙ ap (listed old) (is_cell-true cell other e))
-    of_test false e =
-        let here : get is_cell new other ≡ get is_cell between other = put other ∙ ap (λ b. cond b (Some more) (get is_cell between other)) e in
-        let there : get is_cell between other ≡ get is_cell old other = gone other ∙ ap (λ b. cond b None (get is_cell old other)) e in
-        ap items_or_none (here ∙ there)
+        let here : get is_cell new other ≡ Some more = put other ∙ ap (λ b. cond b (Some more) (get is_cell old other)) e in
+        ap items_or_none here ∙ more_is ∙ ap (λ xs. xs ++ x ∷ []) (ap (listed old) (is_cell-true cell other e))
+    of_test false e = ap items_or_none (put other ∙ ap (λ b. cond b (Some more) (get is_cell old other)) e)
+
+-- the first item is kept for a cell
+pub listed_first : {X : Type 0} (old between new : HashMap (ℤ × ℤ) (Vec X Global) (BuildHasherDefault FoldHasher)) (cell : ℤ × ℤ) (x : X) (none more : Vec X Global) → between ≡ old → [] ≡ listed old cell →
+    none.items ≡ [] → more.items ≡ none.items ++ x ∷ [] → ((q : ℤ × ℤ) → get is_cell new q ≡ cond (is_cell cell q) (Some more) (get is_cell between q)) → (other : ℤ × ℤ) →
+    listed new other ≡ cond (is_cell cell other) (listed old other ++ x ∷ []) (listed old other)
+listed_first {X} old between new cell x none more same nothing empty more_is put other =
+    listed_more old new cell x more (more_is ∙ ap (λ xs. xs ++ x ∷ []) (empty ∙ nothing))
+    (λ q. put q ∙ ap (λ (m : HashMap (ℤ × ℤ) (Vec X Global) (BuildHasherDefault FoldHasher)). cond (is_cell cell q) (Some more) (get is_cell m q)) same) other
 
 -- a step of a list of lists
 pub flat_map-range_more : (F : ℕ → List ℕ) (n : ℕ) → flat_map F (range_with_len 0 (n + 1)) ≡ flat_map F (range_with_len 0 n) ++ F n

@@ -1,5 +1,5 @@
 -- The points near to a place lie in its cell and the cells around it.
-use Rattle.std.proofs.Common.{◌≡◌, refl, sym, ◌∙◌, ap, subst, ℕ, zero, suc, ◌+◌, ◌*◌, ◌/◌, ◌%◌, ◌<◌, ◌≤◌, ◌⊎◌, inl, inr, Bool, true, false, nat_lt, ℤ, pos, negsuc, ◌+ℤ◌, ◌-ℤ◌, ◌*ℤ◌, ◌≤ℤ◌, ◌<ℤ◌, unsigned_abs, List, [], ◌∷◌, filter, length, get_or, All, Contains, IsPermutation, eqb, arith}
+use Rattle.std.proofs.Common.{◌≡◌, refl, sym, ◌∙◌, ap, subst, ℕ, zero, suc, ◌+◌, ◌*◌, ◌/◌, ◌%◌, ◌<◌, ◌≤◌, ◌⊎◌, inl, inr, Bool, true, nat_lt, ℤ, pos, negsuc, ◌+ℤ◌, ◌-ℤ◌, ◌*ℤ◌, ◌≤ℤ◌, ◌<ℤ◌, unsigned_abs, List, [], ◌∷◌, filter, length, get_or, All, Contains, arith}
 use Rattle.std.specs.Ordering.{int_eq}
 use Rattle.std.specs.List.{list_any, range_with_len, flat_map}
 use Rattle.std.proofs.Math.Nat.{mul-le-mul}
@@ -8,12 +8,6 @@ use Rattle.std.proofs.lemmas.Bool.{and_from, ltb-true, cases_lt}
 use Rattle.std.proofs.lemmas.Bool.Decides.{Decides-int_eq}
 use Rattle.std.proofs.lemmas.List.Folds.{Any-from_list_any}
 use Rattle.std.proofs.lemmas.List.Elements.{All-contains, All-filter, filter_passes, Contains-append_left, Contains-append_right, Contains-append_cases}
-use Rattle.std.specs.List.{dedup}
-use Rattle.std.specs.List.Sorted.{IsSorted}
-use Rattle.std.specs.Ordering.{nat_cmp}
-use Rattle.std.proofs.lemmas.List.Kept.{Contains-dedup_nat, Contains-from_dedup, IsStrictlyIncreasing-filter, AllPairs-from_increasing}
-use Rattle.std.proofs.lemmas.Map.Keys.{IsStrictlyIncreasing-dedup}
-use Rattle.std.proofs.lemmas.List.Sorted.{IsPermutation-sym, Contains-permutation}
 use Rattle.map_base.specs.declared.point.Point.{Point}
 use Rattle.whole_algebra.specs.Rounding.{floor_quotient}
 use Rattle.whole_algebra.proofs.Rounding.{floor_quotient-lower, floor_quotient-upper}
@@ -22,10 +16,9 @@ use Rattle.whole_algebra.proofs.Signs.{*ℤ-negative_factor}
 use Rattle.fixed_plane.specs.Plane.{IsInPlane}
 use Rattle.fixed_plane.specs.Measures.{square_of, dist2_of}
 use Rattle.fixed_plane.proofs.Distances.{dist2_of_comm}
-use Rattle.track_net.specs.Nearness.{point_at, is_nearer, has_near, numbers_near}
+use Rattle.track_net.specs.Nearness.{HaveTheSame, point_at, is_nearer, has_near, numbers_near}
 use Rattle.track_net.specs.Cells.{cell_of, is_cell, cell_around, CellMap, listed, numbers_in, AreListed, points_in, AreKept, has_near_around}
-use Rattle.track_net.proofs.Lists.{range_below, range_rises, any_found, any_in_filter, any_kept}
-use Rattle.track_net.proofs.RisingLists.{same_where_rising}
+use Rattle.track_net.proofs.Lists.{range_below, any_found, any_in_filter, any_kept, same_tests}
 use Rattle.track_net.proofs.EdgeFacts.{Contains-filter, Contains-range}
 
 -- a square below another is that of a lesser number
@@ -162,7 +155,7 @@ listed_in_range size ps cells is c =
     (All-filter (λ k. is_cell (cell_of size (point_at ps k)) c) (λ k. k < length ps) (range_with_len 0 (length ps)) (range_below (length ps)))
 
 -- are numbers of near points
-pub found_is_near : (size within : ℕ) (ps : List Point) (at : Point) (cells : CellMap ℕ) → AreListed size ps (length ps) cells → (k : ℕ) → Contains (found_of size ps at within cells) k →
+found_is_near : (size within : ℕ) (ps : List Point) (at : Point) (cells : CellMap ℕ) → AreListed size ps (length ps) cells → (k : ℕ) → Contains (found_of size ps at within cells) k →
     Contains (numbers_near within ps at) k
 found_is_near size within ps at cells is k h =
     let near = (λ (j : ℕ). is_nearer within at (point_at ps j)) in
@@ -174,7 +167,7 @@ found_is_near size within ps at cells is k h =
     Contains-filter near (range_with_len 0 (length ps)) k (Contains-range (length ps) k below) passes
 
 -- and all of them
-pub near_is_found : (size within : ℕ) (ps : List Point) (at : Point) (cells : CellMap ℕ) → 0 < size → within ≤ size → AreListed size ps (length ps) cells → (k : ℕ) →
+near_is_found : (size within : ℕ) (ps : List Point) (at : Point) (cells : CellMap ℕ) → 0 < size → within ≤ size → AreListed size ps (length ps) cells → (k : ℕ) →
     Contains (numbers_near within ps at) k → Contains (found_of size ps at within cells) k
 near_is_found size within ps at cells some small is k h =
     let near = (λ (j : ℕ). is_nearer within at (point_at ps j)) in
@@ -189,23 +182,11 @@ near_is_found size within ps at cells some small is k h =
     let kept : Contains (listed cells c) k = subst (λ (ks : List ℕ). Contains ks k) (sym (is c)) inside in
     Contains-flat_map F (range_with_len 0 9) place.0 k (Contains-range 9 place.0 place.1) (Contains-filter near (listed cells c) k kept passes)
 
--- so the numbers that are found, in order and each once, are those of the near points
-pub found_in_order : (size within : ℕ) (ps : List Point) (at : Point) (cells : CellMap ℕ) (found sorted : List ℕ) → 0 < size → within ≤ size → AreListed size ps (length ps) cells →
-    found ≡ found_of size ps at within cells → IsPermutation found sorted → IsSorted nat_cmp sorted → dedup eqb sorted ≡ numbers_near within ps at
-found_in_order size within ps at cells found sorted some small is found_is moved in_order =
-    same_where_rising (dedup eqb sorted) (numbers_near within ps at) (AllPairs-from_increasing (dedup eqb sorted) (IsStrictlyIncreasing-dedup sorted in_order))
-    (AllPairs-from_increasing (numbers_near within ps at) (IsStrictlyIncreasing-filter (λ k. is_nearer within at (point_at ps k)) (range_with_len 0 (length ps)) (range_rises (length ps))))
-    (λ k h. there k h) (λ k h. back k h)
-  where
-    there : (k : ℕ) → Contains (dedup eqb sorted) k → Contains (numbers_near within ps at) k
-    there k h =
-        found_is_near size within ps at cells is k
-        (subst (λ (ks : List ℕ). Contains ks k) found_is (Contains-permutation sorted found k (IsPermutation-sym found sorted moved) (Contains-from_dedup eqb sorted k h)))
-
-    back : (k : ℕ) → Contains (numbers_near within ps at) k → Contains (dedup eqb sorted) k
-    back k h =
-        Contains-dedup_nat sorted k
-        (Contains-permutation found sorted k moved (subst (λ (ks : List ℕ). Contains ks k) (sym found_is) (near_is_found size within ps at cells some small is k h)))
+-- so these are the numbers of the near points
+pub found_are_near : (size within : ℕ) (ps : List Point) (at : Point) (cells : CellMap ℕ) (found : List ℕ) → 0 < size → within ≤ size → AreListed size ps (length ps) cells →
+    found ≡ found_of size ps at within cells → HaveTheSame found (numbers_near within ps at)
+found_are_near size within ps at cells found some small is found_is =
+    subst (λ (ks : List ℕ). HaveTheSame ks (numbers_near within ps at)) (sym found_is) (found_is_near size within ps at cells is, near_is_found size within ps at cells some small is)
 
 -- a point that is kept for one of the nine cells is near exactly where some point is
 pub has_near-around : (size within : ℕ) (ps : List Point) (at : Point) (cells : CellMap Point) → 0 < size → within ≤ size → AreKept size ps cells →
@@ -241,11 +222,6 @@ has_near-around size within ps at cells some small is =
 
     back : has_near within ps at ≡ true → has_near_around within at cells (cell_of size at) ≡ true
     back e = let some_near = Any-from_list_any near ps e in found some_near.0 some_near.1 some_near.2 some_near.3 some_near.4
-
-    same_tests : (a b : Bool) → (a ≡ true → b ≡ true) → (b ≡ true → a ≡ true) → a ≡ b
-    same_tests true b there back = sym (there refl)
-    same_tests false true there back = back refl
-    same_tests false false there back = refl
 
 -- the points that are kept for a cell lie in the plane
 pub kept_in_plane : (size : ℕ) (ps : List Point) (cells : CellMap Point) → All IsInPlane ps → AreKept size ps cells → (c : ℤ × ℤ) → All IsInPlane (listed cells c)

@@ -8,5 +8,7 @@ pub mod EdgeFacts
 pub mod Meeting
 mod Covering
 mod CellsAround
+mod SameLists
+pub mod Finding
 pub mod Joining
 mod Examples

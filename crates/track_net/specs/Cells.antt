@@ -1,5 +1,5 @@
 -- Points by square cells of the plane.
-use Rattle.std.specs.Prelude.{◌≡◌, ℕ, ◌+◌, ◌<◌, ◌/◌, ◌%◌, Bool, ◌&&◌, ℤ, pos, ◌+ℤ◌, ◌-ℤ◌, Vec, List, [], Option, Some, None, filter, length, All}
+use Rattle.std.specs.Prelude.{◌≡◌, ℕ, ◌+◌, ◌<◌, ◌/◌, ◌%◌, Bool, false, ◌&&◌, ℤ, pos, ◌+ℤ◌, ◌-ℤ◌, Vec, List, [], Option, Some, None, filter, length, All}
 use Rattle.std.specs.Global.{Global}
 use Rattle.std.specs.Ordering.{int_eq}
 use Rattle.std.specs.List.{list_any, range_with_len}
@@ -9,7 +9,7 @@ use Rattle.std.specs.HashMap.{get, HashMap}
 use Rattle.map_base.specs.declared.point.Point.{Point}
 use Rattle.whole_algebra.specs.Rounding.{floor_quotient}
 use Rattle.fixed_plane.specs.Plane.{IsInPlane}
-use Rattle.track_net.specs.Nearness.{point_at, has_near}
+use Rattle.track_net.specs.Nearness.{FindsNear, point_at, has_near}
 
 -- the column and the row of the square cell, of a size, in which a point lies
 abbrev pub cell_of : ℕ → Point → ℤ × ℤ
@@ -70,3 +70,8 @@ pub record KeepPoints (size : ℕ) (ps : List Point) (cells : CellMap Point) : T
 -- some point that is kept for a cell or for those around it is nearer to a place than a distance; its own comes first
 abbrev pub has_near_around : ℕ → Point → CellMap Point → ℤ × ℤ → Bool
 has_near_around distance p cells c = list_any (λ i. has_near distance (listed cells (cell_around c ((i + 4) % 9))) p) (range_with_len 0 9)
+
+-- what is found for one of the nine is near, and where nothing is found nothing is near
+abbrev pub FindsAround : ℕ → Point → CellMap Point → ℤ × ℤ → Option Point → Type 0
+FindsAround distance p cells c None = has_near_around distance p cells c ≡ false
+FindsAround distance p cells c (Some q) = (cell : ℤ × ℤ) × FindsNear distance (listed cells cell) p (Some q)

@@ -3,7 +3,7 @@
 ghost use Rattle.std.specs.Prelude.{◌≡◌, ◌^◌, ◌<◌, ◌≤◌, ◌++◌, ◌∷◌, [], IfOk, OnOk, All, filter, length, unsigned_abs, ℤ, if◌then◌else◌};
 ghost use Rattle.std.specs.List.{flat_map, range_with_len};
 ghost use Rattle.fixed_plane.specs.Plane.{IsInPlane};
-ghost use Rattle.track_net.specs.Nearness.{is_nearer, numbers_near, point_at};
+ghost use Rattle.track_net.specs.Nearness.{HaveTheSame, is_nearer, numbers_near, point_at};
 ghost use Rattle.track_net.specs.Cells.{cell_around, is_cell, listed};
 
 use crate::cells::{Cell, cell_at, cell_beside};
@@ -64,11 +64,28 @@ impl Buckets {
         ensures numbers { IfOk result (λ numbers. numbers.items ≡ numbers_near within self.now.points at) }
         ensures in_range { IfOk result (λ numbers. All (λ k. k < length self.now.points) numbers.items) }
     {
-        let center = cell_at(at, self.size);
-        let mut numbers = found_around(alloc, &self.cells, &self.points, center, at, within)?;
+        let mut numbers = Vec::new(alloc);
+        self.find_near(at, within, &mut numbers)?;
         numbers.sort_unstable();
         numbers.dedup();
         Ok(numbers)
+    }
+
+    /// Leaves in `found` the numbers of the points that are nearer to `at` than `within`, in any order. `within` is no
+    /// more than the size.
+    pub(crate) fn find_near(
+        &self,
+        at: Point,
+        within: u32,
+        found: &mut Vec<u32>,
+    ) -> Result<(), NoMemory>
+        requires at_in_plane { IsInPlane at }
+        requires within { within ≤ self.now.size }
+        ensures { OnOk result (HaveTheSame found.new.items (numbers_near within self.now.points at)) }
+    {
+        let center = cell_at(at, self.size);
+        found.clear();
+        find_around(&self.cells, &self.points, center, at, within, found)
     }
 }
 
@@ -76,40 +93,37 @@ impl Buckets {
 fn add(alloc: Global, cells: &mut Cells, cell: Cell, number: u32) -> Result<(), NoMemory>
     ensures { OnOk result ((other : ℤ × ℤ) → listed cells.new other ≡ (if is_cell cell other then listed cells.old other ++ number ∷ [] else listed cells.old other)) }
 {
-    let mut numbers = cells.remove(&cell).unwrap_or(Vec::new(alloc));
+    if let Some(numbers) = cells.get_mut(&cell) {
+        numbers.push(number)?;
+        return Ok(());
+    }
+    let mut numbers = Vec::new(alloc);
     numbers.push(number)?;
     cells.insert(cell, numbers)?;
     Ok(())
 }
 
-/// The numbers of the points in a cell and the cells around it that are nearer to `at` than `within`, cell by cell.
-fn found_around(
-    alloc: Global,
+/// Keeps the numbers of the points in a cell and the cells around it that are nearer to `at` than `within`, cell by
+/// cell.
+fn find_around(
     cells: &Cells,
     points: &[Point],
     center: Cell,
     at: Point,
     within: u32,
-) -> Result<Vec<u32>, NoMemory>
+    found: &mut Vec<u32>,
+) -> Result<(), NoMemory>
     requires in_plane { All IsInPlane points.now }
     requires at_in_plane { IsInPlane at }
     requires column { unsigned_abs center.0 ≤ 300000000 }
     requires row { unsigned_abs center.1 ≤ 300000000 }
     requires in_range { (cell : ℤ × ℤ) → All (λ k. k < length points.now) (listed cells.now cell) }
-    ensures { IfOk result (λ found. found.items ≡ flat_map (λ i. filter (λ k. is_nearer within at (point_at points.now k)) (listed cells.now (cell_around center i))) (range_with_len 0 9)) }
+    ensures { OnOk result (found.new.items ≡ found.old.items ++ flat_map (λ i. filter (λ k. is_nearer within at (point_at points.now k)) (listed cells.now (cell_around center i))) (range_with_len 0 9)) }
 {
-    let mut found = Vec::new(alloc);
     for i in 0..9 {
-        keep_of_cell(
-            cells,
-            points,
-            cell_beside(center, i),
-            at,
-            within,
-            &mut found,
-        )?;
+        keep_of_cell(cells, points, cell_beside(center, i), at, within, found)?;
     }
-    Ok(found)
+    Ok(())
 }
 
 /// Keeps the numbers of the points in a cell that are nearer to `at` than `within`.

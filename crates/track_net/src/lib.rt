@@ -8,6 +8,7 @@ mod building;
 mod cells;
 mod edges;
 mod fault;
+mod nearest;
 mod nearness;
 mod net;
 mod point_cells;

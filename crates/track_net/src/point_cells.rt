@@ -1,12 +1,12 @@
 //! Points in square cells, of which some may be near.
 
-ghost use Rattle.std.specs.Prelude.{◌≡◌, ◌+◌, ◌%◌, ◌<◌, ◌≤◌, ◌++◌, ◌∷◌, [], IfOk, OnOk, All, unsigned_abs, ℤ, if◌then◌else◌};
+ghost use Rattle.std.specs.Prelude.{◌≡◌, ◌+◌, ◌%◌, ◌<◌, ◌≤◌, ◌++◌, ◌∷◌, [], IfOk, IfSome, OnOk, All, Contains, unsigned_abs, ℤ, if◌then◌else◌};
 ghost use Rattle.fixed_plane.specs.Plane.{IsInPlane};
-ghost use Rattle.track_net.specs.Nearness.{has_near};
-ghost use Rattle.track_net.specs.Cells.{AreKept, has_near_around, is_cell, listed};
+ghost use Rattle.track_net.specs.Nearness.{FindsNear, has_near};
+ghost use Rattle.track_net.specs.Cells.{AreKept, FindsAround, is_cell, listed};
 
 use crate::cells::{Cell, cell_at, cell_beside};
-use crate::nearness::has_near_point;
+use crate::nearness::{are_near, near_point};
 use map_base::{NoMemory, Point};
 use std::alloc::Global;
 use std::collections::HashMap;
@@ -15,7 +15,7 @@ use std::marker::Model;
 /// The points of each cell that has some.
 pub(crate) type Kept = HashMap<Cell, Vec<Point>>;
 
-/// Points by square cells of a size in decimetres, seen as the points and the size. It tells whether some point is
+/// Points by square cells of a size in decimetres, seen as the points and the size. It finds a point that is
 /// near to a place without a look at those of far cells.
 #[derive(Drop)]
 pub struct PointCells {
@@ -58,7 +58,18 @@ impl PointCells {
         requires within { within ≤ self.now.size }
         ensures { result ≡ has_near within self.now.points at }
     {
-        is_near_in_cells(&self.cells, &self.points, self.size, at, within)
+        self.near_point(None, at, within).is_some()
+    }
+
+    /// A point that is nearer to `at` than `within`, if there is one. `within` is no more than the size. `first` is
+    /// looked at first.
+    pub fn near_point(&self, first: Option<Point>, at: Point, within: u32) -> Option<Point>
+        requires at_in_plane { IsInPlane at }
+        requires within { within ≤ self.now.size }
+        requires first { IfSome first (Contains self.now.points) }
+        ensures { FindsNear within self.now.points at result }
+    {
+        near_in_cells(&self.cells, &self.points, self.size, first, at, within)
     }
 }
 
@@ -84,56 +95,69 @@ pub(crate) fn keep(
 ) -> Result<(), NoMemory>
     ensures { OnOk result ((other : ℤ × ℤ) → listed cells.new other ≡ (if is_cell cell other then listed cells.old other ++ point ∷ [] else listed cells.old other)) }
 {
-    let mut points = cells.remove(&cell).unwrap_or(Vec::new(alloc));
+    if let Some(points) = cells.get_mut(&cell) {
+        points.push(point)?;
+        return Ok(());
+    }
+    let mut points = Vec::new(alloc);
     points.push(point)?;
     cells.insert(cell, points)?;
     Ok(())
 }
 
-/// Whether some point is nearer to `at` than `within`, where the cells, of a size no less, are those of the points.
-pub(crate) fn is_near_in_cells(
+/// A point that is nearer to `at` than `within`, if there is one, where the cells, of a size no less, are those of the
+/// points. `first` is looked at first.
+pub(crate) fn near_in_cells(
     cells: &Kept,
     points: &[Point],
     size: u32,
+    first: Option<Point>,
     at: Point,
     within: u32,
-) -> bool
+) -> Option<Point>
     requires in_plane { All IsInPlane points.now }
     requires at_in_plane { IsInPlane at }
     requires some { 0 < size }
     requires within { within ≤ size }
     requires theirs { AreKept size points.now cells.now }
-    ensures { result ≡ has_near within points.now at }
+    requires first { IfSome first (Contains points.now) }
+    ensures { FindsNear within points.now at result }
 {
-    is_near_around(cells, cell_at(at, size), at, within)
+    if let Some(point) = first {
+        if are_near(point, at, within) {
+            return first;
+        }
+    }
+    near_around(cells, cell_at(at, size), at, within)
 }
 
-/// Whether some point of a cell or of the cells around it is nearer to `at` than `within`. The cell itself is
-/// looked at first.
-fn is_near_around(cells: &Kept, center: Cell, at: Point, within: u32) -> bool
+/// A point of a cell or of the cells around it that is nearer to `at` than `within`, if there is one. The cell itself
+/// is looked at first.
+fn near_around(cells: &Kept, center: Cell, at: Point, within: u32) -> Option<Point>
     requires at_in_plane { IsInPlane at }
     requires column { unsigned_abs center.0 ≤ 300000000 }
     requires row { unsigned_abs center.1 ≤ 300000000 }
     requires in_plane { (cell : ℤ × ℤ) → All IsInPlane (listed cells.now cell) }
-    ensures { result ≡ has_near_around within at cells.now center }
+    ensures { FindsAround within at cells.now center result }
 {
     for i in 0..9 {
-        if is_near_in_cell(cells, cell_beside(center, (i + 4) % 9), at, within) {
-            return true;
+        let found = near_in_cell(cells, cell_beside(center, (i + 4) % 9), at, within);
+        if found.is_some() {
+            return found;
         }
     }
-    false
+    None
 }
 
-/// Whether some point of a cell is nearer to `at` than `within`.
-fn is_near_in_cell(cells: &Kept, cell: Cell, at: Point, within: u32) -> bool
+/// A point of a cell that is nearer to `at` than `within`, if there is one.
+fn near_in_cell(cells: &Kept, cell: Cell, at: Point, within: u32) -> Option<Point>
     requires at_in_plane { IsInPlane at }
     requires in_plane { All IsInPlane (listed cells.now cell) }
-    ensures { result ≡ has_near within (listed cells.now cell) at }
+    ensures { FindsNear within (listed cells.now cell) at result }
 {
     match cells.get(&cell) {
-        None => false,
-        Some(points) => has_near_point(points, at, within),
+        None => None,
+        Some(points) => near_point(points, at, within),
     }
 }
 

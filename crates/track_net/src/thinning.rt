@@ -1,6 +1,6 @@
 //! Samples that become net points.
 
-ghost use Rattle.std.specs.Prelude.{◌≡◌, ℕ, ◌<◌, ◌≤◌, OnOk, IfOk, IfErr, All, length, vec_len};
+ghost use Rattle.std.specs.Prelude.{◌≡◌, ℕ, ◌<◌, ◌≤◌, OnOk, IfOk, IfErr, IfSome, All, Contains, length, vec_len};
 ghost use Rattle.fixed_plane.specs.Plane.{IsInPlane};
 ghost use Rattle.track_net.specs.Nets.{net_points, with_sample};
 ghost use Rattle.track_net.specs.Cells.{AreKept};
@@ -8,7 +8,7 @@ ghost use Rattle.track_net.specs.Faults.{HasCause};
 
 use crate::cells::cell_at;
 use crate::fault::NetFault;
-use crate::point_cells::{Kept, is_near_in_cells, keep, kept_of};
+use crate::point_cells::{Kept, keep, kept_of, near_in_cells};
 use map_base::{Limit, LimitKind, Point};
 use std::alloc::Global;
 
@@ -35,40 +35,46 @@ pub(crate) fn thinned(
     }
     let mut points = stations.to_vec(alloc)?;
     let mut cells = kept_of(alloc, stations, near)?;
+    let mut last = None;
     for sample in samples {
-        add_sample(alloc, &mut points, &mut cells, *sample, near)?;
+        last = Some(add_sample(alloc, &mut points, &mut cells, last, *sample, near)?);
     }
     Ok(points)
 }
 
-/// Adds a sample to the net points, unless one of them is nearer than `near`. The cells are those of the points.
+/// Adds a sample to the net points, unless one of them is nearer than `near`, and answers the one that is near to it
+/// then. The cells are those of the points; `last` is the one that was near to the sample before, which is often near
+/// to this one too.
 fn add_sample(
     alloc: Global,
     points: &mut Vec<Point>,
     cells: &mut Kept,
+    last: Option<Point>,
     sample: Point,
     near: u32,
-) -> Result<(), NetFault>
+) -> Result<Point, NetFault>
     requires points_in_plane { All IsInPlane points.old.items }
     requires sample_in_plane { IsInPlane sample }
     requires few { vec_len points.old ≤ 100000 }
     requires some { 0 < near }
     requires theirs { AreKept near points.old.items cells.old }
+    requires last { IfSome last (Contains points.old.items) }
+    ensures last { IfOk result (Contains points.new.items) }
     ensures points { OnOk result (points.new.items ≡ with_sample near points.old.items sample) }
     ensures in_plane { OnOk result (All IsInPlane points.new.items) }
     ensures few { OnOk result (vec_len points.new ≤ 100000) }
     ensures theirs { OnOk result (AreKept near points.new.items cells.new) }
     ensures cause { IfErr result (λ fault. HasCause (length (with_sample near points.old.items sample)) fault) }
 {
-    if is_near_in_cells(cells, points, near, sample, near) {
-        return Ok(());
+    if let Some(point) = near_in_cells(cells, points, near, last, sample, near) {
+        return Ok(point);
     }
     if points.len() >= MOST_POINTS {
         return Err(too_many());
     }
     keep(alloc, cells, cell_at(sample, near), sample)?;
     points.push(sample)?;
-    Ok(())
+    Ok(sample)
 }
 
 /// What is reported of more net points than the greatest allowed number.

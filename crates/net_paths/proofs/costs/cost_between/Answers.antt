@@ -1,11 +1,8 @@
-use Rattle.std.proofs.Common.{◌≡◌, sym, ◌∙◌, ap, ℕ, ◌*◌, ◌<◌, Bool, true, false, cond, ◌&&◌, length}
+use Rattle.std.proofs.Common.{◌≡◌, sym, ◌∙◌, ap, ℕ, ◌*◌, Bool, true, false, cond, ◌&&◌}
 use Rattle.map_base.specs.declared.point.Point.{Point}
 use Rattle.fixed_plane.specs.Measures.{dist2_of}
-use Rattle.track_net.specs.Nearness.{point_at}
-use Rattle.track_net.specs.Nets.{NetParts}
 use Rattle.net_paths.specs.Corridors.{CorridorParts, is_in_corridor, edge_cost}
-use Rattle.net_paths.specs.Searching.{flags_along, flagged_cost}
-use Rattle.net_paths.proofs.CostTables.{cost_by_flags_along}
+use Rattle.net_paths.proofs.CostTables.{edge_cost-comm}
 use Rattle.net_paths.proofs.costs.cost_between.Goals as goal
 
 -- the cost of an edge by a test of its ends
@@ -15,21 +12,18 @@ cost_by corridor p q b t square tested is measured =
     ap (λ (c : Bool). cond c square (8 * square)) (sym is ∙ tested)
     ∙ ap (λ (n : ℕ). cond (is_in_corridor corridor.near corridor.samples p && is_in_corridor corridor.near corridor.samples q) n (8 * n)) measured
 
--- the same for points of a net
-cost_at : (corridor : CorridorParts) (net : NetParts) (a b : ℕ) (p q : Point) (n : ℕ) → a < length net.points → b < length net.points → p ≡ point_at net.points a → q ≡ point_at net.points b →
-    n ≡ edge_cost corridor.near corridor.samples p q → n ≡ flagged_cost (flags_along corridor net) net.points a b
-cost_at corridor net a b p q n a_in b_in p_is q_is is =
-    is ∙ ap (λ (r : Point). edge_cost corridor.near corridor.samples r q) p_is ∙ ap (edge_cost corridor.near corridor.samples (point_at net.points a)) q_is
-    ∙ sym (cost_by_flags_along corridor net a b a_in b_in)
+pub returns-then-holds_both-clause-there : goal.returns-then-holds_both-clause-there
+returns-then-holds_both-clause-there c =
+    cost_by c.args.corridor.now c.args.here.point c.args.there c.holds_both.result true c.from-square.result c.holds_both.ensures c.if-holds_both.true (c.from-square.ensures ∙ c.dist2.ensures.value)
 
-pub returns-then-holds_both-clause-value : goal.returns-then-holds_both-clause-value
-returns-then-holds_both-clause-value c =
-    cost_at c.args.corridor.now c.args.net.now c.args.a c.args.b c.point-from.result c.point-to.result c.from-square.result c.requires.a_in_range c.requires.b_in_range c.point-from.ensures.value
-    c.point-to.ensures.value
-    (cost_by c.args.corridor.now c.point-from.result c.point-to.result c.holds_both.result true c.from-square.result c.holds_both.ensures c.if-holds_both.true (c.from-square.ensures ∙ c.dist2.ensures.value))
+pub returns-then-holds_both-clause-back : goal.returns-then-holds_both-clause-back
+returns-then-holds_both-clause-back c =
+    returns-then-holds_both-clause-there c ∙ edge_cost-comm c.args.corridor.now.near c.args.corridor.now.samples c.args.here.point c.args.there
 
-pub returns-else-holds_both-clause-value : goal.returns-else-holds_both-clause-value
-returns-else-holds_both-clause-value c =
-    cost_at c.args.corridor.now c.args.net.now c.args.a c.args.b c.point-from.result c.point-to.result (8 * c.from-square.result) c.requires.a_in_range c.requires.b_in_range c.point-from.ensures.value
-    c.point-to.ensures.value
-    (cost_by c.args.corridor.now c.point-from.result c.point-to.result c.holds_both.result false c.from-square.result c.holds_both.ensures c.if-holds_both.false (c.from-square.ensures ∙ c.dist2.ensures.value))
+pub returns-else-holds_both-clause-there : goal.returns-else-holds_both-clause-there
+returns-else-holds_both-clause-there c =
+    cost_by c.args.corridor.now c.args.here.point c.args.there c.holds_both.result false c.from-square.result c.holds_both.ensures c.if-holds_both.false (c.from-square.ensures ∙ c.dist2.ensures.value)
+
+pub returns-else-holds_both-clause-back : goal.returns-else-holds_both-clause-back
+returns-else-holds_both-clause-back c =
+    returns-else-holds_both-clause-there c ∙ edge_cost-comm c.args.corridor.now.near c.args.corridor.now.samples c.args.here.point c.args.there

@@ -18,5 +18,5 @@ row_more near i ps rows more row before here is =
 
 pub loop-i-preserved : goal.loop-i-preserved
 loop-i-preserved c =
-    row_more c.args.near c.loop-i.i c.args.points.now c.loop-i.edges.items c.push.new.self.items c.in_ok-edges_from.field-0 c.loop-i.invariant c.in_ok-edges_from.ensures
+    row_more c.args.near c.loop-i.i c.args.points.now c.loop-i.edges.items c.push.new.self.items c.in_ok-row.row c.loop-i.invariant c.in_ok-row.ensures
     c.in_ok-push.ensures.items

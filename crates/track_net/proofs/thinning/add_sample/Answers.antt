@@ -1,4 +1,5 @@
-use Rattle.std.proofs.Common.{◌≡◌, sym, ◌∙◌, ap, false, length, arith}
+use Rattle.std.proofs.Common.{◌≡◌, sym, ◌∙◌, ap, false, List, length, arith}
+use Rattle.map_base.specs.declared.point.Point.{Point}
 use Rattle.track_net.specs.Nearness.{has_near}
 use Rattle.track_net.specs.Nets.{with_sample}
 use Rattle.track_net.proofs.ThinLemmas.{length-with_new_sample}
@@ -9,7 +10,7 @@ pub returns-then-len-ge-MOST_POINTS-clause-cause :
     goal.returns-then-len-ge-MOST_POINTS-clause-cause
 returns-then-len-ge-MOST_POINTS-clause-cause c =
     let none : has_near c.args.near c.args.points.now.items c.args.sample ≡ false =
-    sym (ap (λ ps. has_near c.args.near ps c.args.sample) c.deref.ensures.value) ∙ sym c.is_near_in_cells.ensures ∙ c.if-is_near_in_cells.false in
+    sym (ap (λ (ps : List Point). has_near c.args.near ps c.args.sample) c.deref.ensures.value) ∙ c.in_default.ensures in
     let more = length-with_new_sample c.args.near c.args.points.now.items c.args.sample none in
     c.too_many.ensures (length (with_sample c.args.near c.args.points.now.items c.args.sample)) (omega (arith, more, c.args.points.now.ok))
 

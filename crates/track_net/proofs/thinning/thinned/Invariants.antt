@@ -1,4 +1,5 @@
-use Rattle.std.proofs.Common.{◌≡◌, ◌≤◌, take, All, vec_len}
+use Rattle.std.proofs.Common.{◌≡◌, ◌≤◌, take, All, Contains, vec_len}
+use Rattle.std.specs.Option.{IfSome}
 use Rattle.fixed_plane.specs.Plane.{IsInPlane}
 use Rattle.track_net.specs.Nets.{net_points}
 use Rattle.track_net.specs.Cells.{AreKept}
@@ -10,4 +11,5 @@ invariant-loop-sample l = record {
   in_plane : All IsInPlane l.points.items;
   few : vec_len l.points ≤ 100000;
   theirs : AreKept l.near l.points.items l.cells;
+  last : IfSome l.last (Contains l.points.items);
 }

@@ -2,7 +2,7 @@ use Rattle.std.proofs.Common.{◌≡◌, ◌+◌, ◌%◌, false}
 use Rattle.std.specs.List.{list_any, range_with_len}
 use Rattle.track_net.specs.Nearness.{has_near}
 use Rattle.track_net.specs.Cells.{listed, cell_around}
-use Rattle.track_net.proofs.point_cells.is_near_around.Given as goal
+use Rattle.track_net.proofs.point_cells.near_around.Given as goal
 
 abbrev pub invariant-loop-i : goal.invariant-loop-i
 invariant-loop-i l =
