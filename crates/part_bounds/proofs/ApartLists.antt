@@ -1,6 +1,6 @@
 -- The Aparts of a part by the segments of their ends.
 use Rattle.std.proofs.Common.{◌≡◌, ◌≢◌, ℕ, zero, suc, ◌+◌, ◌-◌, ◌*◌, ◌<◌, ◌≤◌, ◌==◌, Bool, true, false, cond, ◌||◌, List, [], ◌∷◌, ◌++◌, length, take, get_or, refl, sym, ap, subst, ◌∙◌, arith, eqb-true, eq-eqb, true≢false}
-use Rattle.std.specs.Prelude.{Vec, sum_by}
+use Rattle.std.specs.Prelude.{Vec, sum_by, Option, Some, None}
 use Rattle.std.specs.Global.{Global}
 use Rattle.std.specs.List.{All}
 use Rattle.std.proofs.Math.ListN.{set}
@@ -14,10 +14,17 @@ use Rattle.order_model.specs.declared.term.Term.{Term}
 use Rattle.order_model.specs.declared.term.Term.TheVariants.{Side, Link, Apart}
 use Rattle.order_model.specs.Problems.{IsTerm}
 use Rattle.order_model.specs.PartTerms.{no_term, terms_by_number}
+use Rattle.order_bound.specs.Decided.{apart_cost}
 use Rattle.part_bounds.specs.declared.aparts.Aparts.{Aparts}
-use Rattle.part_bounds.specs.Settled.{settled_cost, settled_sum, is_apart_on, apart_on, aparts_on, lists_in, HasEnds, AreByEnds, AreMore, AreSettled}
+use Rattle.pair_bounds.specs.Counted.{settled_cost, settled_sum}
+use Rattle.part_bounds.specs.Settled.{is_apart_on, apart_on, aparts_on, lists_in, HasEnds, AreByEnds, AreMore, AreSettled}
 use Rattle.part_bounds.proofs.OwnSegments.{SameElsewhere, decided_same}
-use Rattle.part_bounds.proofs.PairCosts.{settled_most}
+use Rattle.pair_bounds.proofs.PairCosts.{settled_most}
+
+-- an Apart that is not settled on its other segment costs nothing yet
+pub none_there : (w : ℕ) (here : Option Bool) → apart_cost w here None ≡ 0
+none_there w None = refl
+none_there w (Some together) = refl
 
 -- Lists of terms, as they lie in memory.
 
@@ -145,7 +152,7 @@ has_ends segs (Apart seg other a b w) h = (h.seg_below, h.other_known)
 
 -- What settled Aparts cost.
 
-settled_elsewhere : (segs placed next : List (List LineId)) (s : SegId) (t : Term) → SameElsewhere s next placed → is_apart_on s t ≡ false → settled_cost segs next t ≡ settled_cost segs placed t
+pub settled_elsewhere : (segs placed next : List (List LineId)) (s : SegId) (t : Term) → SameElsewhere s next placed → is_apart_on s t ≡ false → settled_cost segs next t ≡ settled_cost segs placed t
 settled_elsewhere segs placed next s (Side seg first second w) same h = refl
 settled_elsewhere segs placed next s (Link seg other flip a b w) same h = refl
 settled_elsewhere segs placed next s (Apart seg other a b w) same h =

@@ -1,5 +1,5 @@
 -- A part that is kept up while lines are placed.
-use Rattle.std.proofs.Common.{◌≡◌, ℕ, suc, ◌+◌, ◌*◌, ◌<◌, ◌≤◌, Bool, true, false, cond, List, [], ◌∷◌, ◌++◌, length, filter, map, take, get_or, refl, sym, ap, subst, ◌∙◌, arith}
+use Rattle.std.proofs.Common.{◌≡◌, ℕ, suc, ◌+◌, ◌*◌, ◌<◌, ◌≤◌, Bool, true, false, cond, List, [], ◌∷◌, ◌++◌, length, filter, map, take, get_or, refl, sym, ap, subst, ◌∙◌, arith, Option}
 use Rattle.std.specs.Prelude.{Vec, sum_by}
 use Rattle.std.specs.Global.{Global}
 use Rattle.std.specs.List.{All}
@@ -22,15 +22,22 @@ use Rattle.order_model.specs.PartTerms.{is_of, part_terms, part_numbers}
 use Rattle.order_bound.specs.declared.pairs.Pair.{Pair}
 use Rattle.order_bound.specs.Pairs.{is_pair, pair_in, pairs_of, AreApartSegments}
 use Rattle.order_bound.proofs.Sums.{sum_map, sum_same}
-use Rattle.part_bounds.specs.declared.one_pair.Room.{Room}
+use Rattle.pair_bounds.specs.declared.one_pair.Room.{Room}
 use Rattle.part_bounds.specs.declared.pair_terms.PairTerms.{PairTerms}
 use Rattle.part_bounds.specs.PairGroups.{Group, KnowsOwn, terms_of_pair, group_of, groups_of, group_in, groups_in, terms_in, no_group, share_of, IsGroup}
-use Rattle.part_bounds.specs.Slots.{HasRoom, KeepsRoom}
+use Rattle.pair_bounds.specs.Slots.{HasRoom, KeepsRoom}
+use Rattle.part_bounds.specs.declared.pair_rows.PairHere.{PairHere}
+use Rattle.part_bounds.specs.declared.share_notes.ShareNote.{ShareNote}
+use Rattle.part_bounds.specs.ShareNotes.{AreTrueNotes}
+use Rattle.part_bounds.specs.declared.rises.Rise.{Rise}
+use Rattle.part_bounds.specs.Rises.{AreTrueRises}
+use Rattle.part_bounds.specs.Meeting.{AreBySegment}
 use Rattle.part_bounds.specs.Shares.{HasRoomFor, IsKeptUp}
 use Rattle.part_bounds.specs.declared.aparts.Aparts.{Aparts}
-use Rattle.part_bounds.specs.Settled.{settled_sum, lists_in, AreSettled}
+use Rattle.pair_bounds.specs.Counted.{settled_sum}
+use Rattle.part_bounds.specs.Settled.{lists_in, AreSettled}
 use Rattle.part_bounds.proofs.OwnTerms.{parted, shares_bound}
-use Rattle.part_bounds.proofs.PairCosts.{share_small}
+use Rattle.pair_bounds.proofs.PairCosts.{share_small}
 use Rattle.part_bounds.proofs.ApartLists.{settled_small, aparts_known, aparts_few}
 use Rattle.part_bounds.proofs.Groups.{filter_mine}
 
@@ -189,9 +196,9 @@ whole_bound segs placed part terms groups total settled e1 e2 e3 =
     omega (arith, sum, e3, shares_bound segs placed part terms)
 
 -- its sum with that of the settled Aparts is the bound
-pub bound_is : (problem : ProblemParts) (part : List SegId) (numbers : List ℕ) (prefix : Placement) (pairs : List PairTerms) (shares : List ℕ) (places total : ℕ) (room : Room) (aparts : Aparts)
-    → IsKeptUp problem part numbers prefix pairs shares places total room aparts → total + aparts.total ≡ bound_of problem.segs part (part_terms problem.terms part) prefix.placed
-bound_is problem part numbers prefix pairs shares places total room aparts ok =
+pub bound_is : (problem : ProblemParts) (part : List SegId) (numbers : List ℕ) (prefix : Placement) (pairs : List PairTerms) (shares : List ℕ) (places total : ℕ) (room : Room) (aparts : Aparts) (rows : List (List PairHere)) (notes : List (Option ShareNote)) (noted_rises : List (List (Option Rise)))
+    → IsKeptUp problem part numbers prefix pairs shares places total room aparts rows notes noted_rises → total + aparts.total ≡ bound_of problem.segs part (part_terms problem.terms part) prefix.placed
+bound_is problem part numbers prefix pairs shares places total room aparts rows notes noted_rises ok =
     whole_bound problem.segs prefix.placed part (part_terms problem.terms part) (groups_in pairs) total aparts.total ok.grouped ok.total_is ok.settled.total_is
 
 -- shares of groups are small
@@ -208,18 +215,18 @@ pub whole_small : (segs placed : List (List LineId)) (part : List SegId) (terms 
 whole_small segs placed part terms groups total settled apart fit few known few_terms e1 e2 =
     omega (arith, e1, e2, few, few_terms, groups_small segs placed part groups apart fit, settled_small segs placed terms known)
 
-pub bound_small : (problem : ProblemParts) (part : List SegId) (numbers : List ℕ) (prefix : Placement) (pairs : List PairTerms) (shares : List ℕ) (places total : ℕ) (room : Room) (aparts : Aparts)
-    → IsKeptUp problem part numbers prefix pairs shares places total room aparts → total + aparts.total ≤ 8192000000000
-bound_small problem part numbers prefix pairs shares places total room aparts ok =
+pub bound_small : (problem : ProblemParts) (part : List SegId) (numbers : List ℕ) (prefix : Placement) (pairs : List PairTerms) (shares : List ℕ) (places total : ℕ) (room : Room) (aparts : Aparts) (rows : List (List PairHere)) (notes : List (Option ShareNote)) (noted_rises : List (List (Option Rise)))
+    → IsKeptUp problem part numbers prefix pairs shares places total room aparts rows notes noted_rises → total + aparts.total ≤ 8192000000000
+bound_small problem part numbers prefix pairs shares places total room aparts rows notes noted_rises ok =
     whole_small problem.segs prefix.placed part (part_terms problem.terms part) (groups_in pairs) total aparts.total (rising_apart part ok.rises) ok.groups ok.few ok.known_terms ok.few_terms ok.total_is ok.settled.total_is
 
 -- it begins
-pub begun : (problem : ProblemParts) (part : List SegId) (numbers : List ℕ) (prefix : Placement) (pairs : List PairTerms) (shares : List ℕ) (places places2 total most : ℕ) (room room2 : Room) (aparts : Aparts)
+pub begun : (problem : ProblemParts) (part : List SegId) (numbers : List ℕ) (prefix : Placement) (pairs : List PairTerms) (shares : List ℕ) (places places2 total most : ℕ) (room room2 : Room) (aparts : Aparts) (rows : List (List PairHere)) (notes : List (Option ShareNote)) (noted_rises : List (List (Option Rise)))
     → IsPrefixOf problem.segs prefix → All (λ (s : SegId). s.0 < length problem.segs) part → IsRisingPart part → IsProblem problem → numbers ≡ part_numbers problem.terms part → groups_in pairs ≡ groups_of (part_terms problem.terms part)
     → shares ≡ map (share_of problem.segs part prefix.placed) (groups_in pairs) → total ≡ sum_by (share_of problem.segs part prefix.placed) (groups_in pairs) → All (KnowsOwn part) pairs → length pairs ≤ places → places ≤ places2
     → All (λ (g : Group). terms_in g ≤ most) (groups_in pairs) → HasRoom (length part) most room → KeepsRoom room room2 → AreSettled problem.segs prefix.placed (part_terms problem.terms part) aparts
-    → IsKeptUp problem part numbers prefix pairs shares places2 total room2 aparts
-begun problem part numbers prefix pairs shares places places2 total most room room2 aparts fits known rises is listed grouped e1 e2 own enough more each has keeps settled = record {
+    → AreBySegment (length problem.segs) pairs rows → AreTrueNotes problem.segs part (groups_in pairs) notes → AreTrueRises problem.segs part (part_terms problem.terms part) prefix.placed noted_rises → IsKeptUp problem part numbers prefix pairs shares places2 total room2 aparts rows notes noted_rises
+begun problem part numbers prefix pairs shares places places2 total most room room2 aparts rows notes noted_rises fits known rises is listed grouped e1 e2 own enough more each has keeps settled by_segment true_notes true_rises = record {
   fits = fits;
   known = known;
   rises = rises;
@@ -235,14 +242,18 @@ begun problem part numbers prefix pairs shares places places2 total most room ro
   known_terms = each_known problem part is rises;
   few_terms = terms_few problem part is;
   settled = settled;
+  by_segment = by_segment;
+  notes_are = true_notes;
+  rises_are = true_rises;
 }
 
 -- it goes on with another prefix
-pub kept_up : (problem : ProblemParts) (part : List SegId) (numbers : List ℕ) (prefix next : Placement) (pairs : List PairTerms) (shares fresh : List ℕ) (places places2 total total2 : ℕ) (room room2 : Room) (aparts aparts2 : Aparts)
-    → IsKeptUp problem part numbers prefix pairs shares places total room aparts → IsPrefixOf problem.segs next → fresh ≡ map (share_of problem.segs part next.placed) (groups_in pairs)
+pub kept_up : (problem : ProblemParts) (part : List SegId) (numbers : List ℕ) (prefix next : Placement) (pairs : List PairTerms) (shares fresh : List ℕ) (places places2 total total2 : ℕ) (room room2 : Room) (aparts aparts2 : Aparts) (rows : List (List PairHere)) (notes notes2 : List (Option ShareNote)) (noted_rises noted_rises2 : List (List (Option Rise)))
+    → IsKeptUp problem part numbers prefix pairs shares places total room aparts rows notes noted_rises → IsPrefixOf problem.segs next → fresh ≡ map (share_of problem.segs part next.placed) (groups_in pairs)
     → total2 ≡ sum_by (share_of problem.segs part next.placed) (groups_in pairs) → places ≤ places2 → KeepsRoom room room2 → AreSettled problem.segs next.placed (part_terms problem.terms part) aparts2
-    → IsKeptUp problem part numbers next pairs fresh places2 total2 room2 aparts2
-kept_up problem part numbers prefix next pairs shares fresh places places2 total total2 room room2 aparts aparts2 ok fits e1 e2 more keeps settled =
+    → AreTrueNotes problem.segs part (groups_in pairs) notes2 → AreTrueRises problem.segs part (part_terms problem.terms part) next.placed noted_rises2
+    → IsKeptUp problem part numbers next pairs fresh places2 total2 room2 aparts2 rows notes2 noted_rises2
+kept_up problem part numbers prefix next pairs shares fresh places places2 total total2 room room2 aparts aparts2 rows notes notes2 noted_rises noted_rises2 ok fits e1 e2 more keeps settled true_notes true_rises =
     let enough = ok.enough in
     record {
       fits = fits;
@@ -260,6 +271,9 @@ kept_up problem part numbers prefix next pairs shares fresh places places2 total
       known_terms = ok.known_terms;
       few_terms = ok.few_terms;
       settled = settled;
+      by_segment = ok.by_segment;
+      notes_are = true_notes;
+      rises_are = true_rises;
     }
 
 -- The Aparts with an end on a segment, as they lie in memory.

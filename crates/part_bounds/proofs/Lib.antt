@@ -1,22 +1,16 @@
-mod TermLooks
-mod Mapped
-mod Collected
-mod Gathered
-mod WalkSteps
-mod PricedSlots
-mod PairCosts
 mod OwnTerms
 mod Groups
 mod KeptUp
-mod Noted
 mod NotedPairs
 mod Marks
 mod OwnSegments
 mod ApartLists
 mod PairsKept
 mod PricesKept
+mod Meeting
+mod StatesNoted
 mod Renewed
-mod Opened
+mod RisesKept
 mod OwnUse
 mod OwnPrices
 pub mod Restored

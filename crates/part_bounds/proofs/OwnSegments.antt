@@ -18,7 +18,7 @@ use Rattle.order_bound.specs.declared.pairs.Pair.{Pair}
 use Rattle.order_bound.specs.declared.pairs.OpenLink.{OpenLink}
 use Rattle.order_bound.specs.Pairs.{is_pair, pair_of, is_open_on, open_segments, open_link, open_links, kept, kept_links}
 use Rattle.order_bound.specs.Decided.{apart_cost, decided_cost}
-use Rattle.part_bounds.specs.Settled.{counted_cost}
+use Rattle.pair_bounds.specs.Counted.{counted_cost}
 use Rattle.order_bound.specs.Bounds.{Choice, open_cost, slot_cost, link_cost, choice_cost, with_answer, least_over, pair_bound}
 use Rattle.order_bound.proofs.Lists.{Among, each_append, is_false}
 use Rattle.order_bound.proofs.Bounding.{each_kept}

@@ -12,7 +12,7 @@ use Rattle.order_model.specs.declared.term.Term.TheVariants.{Side, Link, Apart}
 use Rattle.order_bound.specs.declared.pairs.Pair.{Pair}
 use Rattle.order_bound.specs.Pairs.{is_pair, pair_in, has_pair, pairs_after, pairs_of, open_segments, open_link, open_links, kept}
 use Rattle.order_bound.specs.Decided.{decided_cost, decided_sum}
-use Rattle.part_bounds.specs.Settled.{counted_cost, settled_cost, counted_sum, settled_sum}
+use Rattle.pair_bounds.specs.Counted.{counted_cost, settled_cost, counted_sum, settled_sum}
 use Rattle.order_bound.specs.Bounds.{open_cost, slot_cost, choice_cost, least_over, pair_bound, bound_of}
 use Rattle.order_bound.proofs.Lists.{Among, each_among}
 use Rattle.order_bound.proofs.Sums.{sum_same, sum_both, sum_swap, sum_map}

@@ -11,15 +11,15 @@ use Rattle.order_model.specs.declared.term.Term.{Term}
 use Rattle.order_model.specs.Costs.{seg_of, other_of}
 use Rattle.order_model.specs.PartTerms.{is_in, is_of}
 use Rattle.order_bound.specs.Pairs.{AreApartSegments}
-use Rattle.part_bounds.specs.Settled.{counted_sum}
+use Rattle.pair_bounds.specs.Counted.{counted_sum}
 use Rattle.order_bound.specs.Bounds.{pair_bound}
 use Rattle.order_bound.proofs.Lists.{each_among, is_false}
 use Rattle.order_bound.proofs.Completing.{apart_filter}
-use Rattle.part_bounds.specs.declared.one_pair.Room.{Room}
+use Rattle.pair_bounds.specs.declared.one_pair.Room.{Room}
 use Rattle.part_bounds.specs.declared.pair_terms.PairTerms.{PairTerms}
 use Rattle.part_bounds.specs.PairGroups.{Group, KnowsOwn, own_segments, is_end, meets, group_in, groups_in, share_of}
-use Rattle.part_bounds.specs.Slots.{HasRoom}
-use Rattle.part_bounds.proofs.PairCosts.{all_among}
+use Rattle.pair_bounds.specs.Slots.{HasRoom}
+use Rattle.pair_bounds.proofs.PairCosts.{all_among}
 use Rattle.part_bounds.proofs.KeptUp.{few_filtered}
 use Rattle.part_bounds.proofs.OwnSegments.{met_seg, met_other, own_bound_is}
 

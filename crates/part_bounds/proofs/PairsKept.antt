@@ -1,5 +1,5 @@
 -- A pair of lines keeps its share where a placing changes nothing of it.
-use Rattle.std.proofs.Common.{◌≡◌, ℕ, ◌+◌, ◌-◌, ◌<◌, ◌≤◌, ◌==◌, not, Bool, true, false, cond, ◌||◌, ◌&&◌, List, [], ◌∷◌, ◌++◌, length, take, drop, set, get_or, Option, Some, None, refl, sym, ap, subst, ◌∙◌, inl, inr, arith, eqb-true, true≢false, length-append, append_assoc, get_or-append-add, get_or-set_same}
+use Rattle.std.proofs.Common.{◌≡◌, ℕ, ◌+◌, ◌-◌, ◌<◌, ◌≤◌, ◌==◌, not, Bool, true, false, cond, ◌||◌, ◌&&◌, List, [], ◌∷◌, ◌++◌, length, take, drop, set, get_or, Option, Some, None, refl, sym, ap, subst, ◌∙◌, inl, inr, arith, eqb-true, eq-eqb, true≢false, length-append, append_assoc, get_or-append-add, get_or-set_same}
 use Rattle.std.specs.Prelude.{sum_by, nat_lt}
 use Rattle.std.specs.List.{All, find}
 use Rattle.std.specs.Option.{option_to_list}
@@ -7,14 +7,14 @@ use Rattle.std.proofs.Math.Path.{fun_ext}
 use Rattle.std.proofs.Math.Seq.{take-append_seam}
 use Rattle.std.proofs.lemmas.Bool.{or_left, or_right, or_cases, or_parts, and_cases}
 use Rattle.std.proofs.lemmas.List.{take-append-drop, take_all, length-take-le}
-use Rattle.std.proofs.lemmas.List.Elements.{All-head, All-tail}
+use Rattle.std.proofs.lemmas.List.Elements.{All-head, All-tail, All-weaker}
 use Rattle.std.proofs.lemmas.List.Sums.{sum_by-cons}
 use Rattle.map_base.specs.declared.ids.SegId.{SegId}
 use Rattle.map_base.specs.declared.ids.LineId.{LineId}
 use Rattle.order_model.specs.declared.term.Term.{Term}
 use Rattle.order_model.specs.declared.term.Term.TheVariants.{Side, Link, Apart}
 use Rattle.order_model.specs.Problems.{lines_on}
-use Rattle.order_model.specs.Costs.{comes_before, same_answer}
+use Rattle.order_model.specs.Costs.{comes_before, same_answer, seg_of, other_of}
 use Rattle.order_model.specs.Places.{has_line}
 use Rattle.order_model.specs.Prefixes.{is_placed, is_unplaced, with_line, last_placed, without_last}
 use Rattle.order_model.specs.Looks.{is_decided}
@@ -25,7 +25,7 @@ use Rattle.order_bound.specs.Pairs.{is_pair, pair_of, pair_in, is_open_on, open_
 use Rattle.order_bound.specs.Bounds.{open_cost, slot_cost, choice_cost, least_over, pair_bound}
 use Rattle.order_bound.proofs.Known.{before_known}
 use Rattle.order_bound.proofs.Lists.{is_false}
-use Rattle.part_bounds.specs.Settled.{counted_cost}
+use Rattle.pair_bounds.specs.Counted.{counted_cost}
 use Rattle.part_bounds.specs.PairGroups.{Group, own_segments, meets, share_of, IsGroup}
 use Rattle.part_bounds.specs.declared.changes.Change.{Change}
 use Rattle.part_bounds.specs.Changes.{is_among_last, has_among_last, is_known, is_new_pair, is_changed, IsChange}
@@ -68,79 +68,95 @@ alike_in p a b one two e h = by_test (nat_lt a.0 b.0) e
     by_test true e = subst (λ (q : Pair). AreAlike q.lesser q.greater one two) e h
     by_test false e = alike_turned b a one two (subst (λ (q : Pair). AreAlike q.lesser q.greater one two) e h)
 
+-- where a term of the pair has its ends
+pub record AreSeenAlike (p : Pair) (one two : List (List LineId)) (t : Term) : Type 0 where
+  pub of_pair : p ≡ pair_in t
+  pub here : AreAlike p.lesser p.greater (lines_on one (seg_of t)) (lines_on two (seg_of t))
+  pub there : AreAlike p.lesser p.greater (lines_on one (other_of t)) (lines_on two (other_of t))
+
+pub all_alike : (p : Pair) (one two : List (List LineId)) (terms : List (ℕ × Term)) → All (λ (t : ℕ × Term). p ≡ pair_in t.1) terms → AlikeOn p one two → All (λ (t : ℕ × Term). AreSeenAlike p one two t.1) terms
+all_alike p one two terms mine same =
+    All-weaker (λ (t : ℕ × Term). p ≡ pair_in t.1) (λ (t : ℕ × Term). AreSeenAlike p one two t.1) (λ t e. record { of_pair = e; here = same (seg_of t.1); there = same (other_of t.1) }) terms mine
+
 -- The share of a pair for which prefixes are alike.
 
 by_four : (f : Bool → Bool → Bool → Bool → ℕ) (d e u v d2 e2 u2 v2 : Bool) → d ≡ d2 → e ≡ e2 → u ≡ u2 → v ≡ v2 → f d e u v ≡ f d2 e2 u2 v2
 by_four f d e u v d2 e2 u2 v2 h i j k = ap (λ x. f x e u v) h ∙ (ap (λ x. f d2 x u v) i ∙ (ap (λ x. f d2 e2 x v) j ∙ ap (λ x. f d2 e2 u2 x) k))
 
-counted_alike : (segs one two : List (List LineId)) (p : Pair) (t : Term) → p ≡ pair_in t → AlikeOn p one two → counted_cost segs one t ≡ counted_cost segs two t
-counted_alike segs one two p (Side seg first second w) of_pair same =
-    let h = alike_in p first second (lines_on one seg) (lines_on two seg) of_pair (same seg) in
+counted_alike : (segs one two : List (List LineId)) (p : Pair) (t : Term) → AreSeenAlike p one two t → counted_cost segs one t ≡ counted_cost segs two t
+counted_alike segs one two p (Side seg first second w) seen =
+    let h = alike_in p first second (lines_on one seg) (lines_on two seg) seen.of_pair seen.here in
     ap (λ d. cond d (cond (comes_before (lines_on one seg) second first) w 0) 0) h.decided ∙ ap (λ c. cond (is_decided two seg first second) (cond c w 0) 0) h.after
-counted_alike segs one two p (Link seg other flip a b w) of_pair same =
-    let h = alike_in p a b (lines_on one seg) (lines_on two seg) of_pair (same seg) in
-    let g = alike_in p a b (lines_on one other) (lines_on two other) of_pair (same other) in
+counted_alike segs one two p (Link seg other flip a b w) seen =
+    let h = alike_in p a b (lines_on one seg) (lines_on two seg) seen.of_pair seen.here in
+    let g = alike_in p a b (lines_on one other) (lines_on two other) seen.of_pair seen.there in
     by_four (λ d e u v. cond (d && e) (cond (same_answer flip (same_answer u v)) w 0) 0) (is_decided one seg a b) (is_decided one other a b) (comes_before (lines_on one seg) a b) (comes_before (lines_on one other) a b)
     (is_decided two seg a b) (is_decided two other a b) (comes_before (lines_on two seg) a b) (comes_before (lines_on two other) a b) h.decided g.decided h.before g.before
-counted_alike segs one two p (Apart seg other a b w) of_pair same = refl
+counted_alike segs one two p (Apart seg other a b w) seen = refl
 
-pub open_alike : (one two : List (List LineId)) (p : Pair) (s : SegId) (x : Bool) (t : Term) → p ≡ pair_in t → AlikeOn p one two → open_cost one p s x t ≡ open_cost two p s x t
-open_alike one two p s x (Side seg first second w) of_pair same =
-    let h = alike_in p first second (lines_on one seg) (lines_on two seg) of_pair (same seg) in
+pub open_alike : (one two : List (List LineId)) (p : Pair) (s : SegId) (x : Bool) (t : Term) → AreSeenAlike p one two t → open_cost one p s x t ≡ open_cost two p s x t
+open_alike one two p s x (Side seg first second w) seen =
+    let h = alike_in p first second (lines_on one seg) (lines_on two seg) seen.of_pair seen.here in
     ap (λ d. cond ((is_pair p (pair_of first second) && seg.0 == s.0) && not d) (cond (same_answer (first.0 == p.lesser.0) x) 0 w) 0) h.decided
-open_alike one two p s x (Link seg other flip a b w) of_pair same =
-    let h = alike_in p a b (lines_on one seg) (lines_on two seg) of_pair (same seg) in
-    let g = alike_in p a b (lines_on one other) (lines_on two other) of_pair (same other) in
+open_alike one two p s x (Link seg other flip a b w) seen =
+    let h = alike_in p a b (lines_on one seg) (lines_on two seg) seen.of_pair seen.here in
+    let g = alike_in p a b (lines_on one other) (lines_on two other) seen.of_pair seen.there in
     by_four (λ d e u v. cond (((is_pair p (pair_of a b) && seg.0 == s.0) && not d) && e) (cond (same_answer flip (same_answer x v)) w 0)
     (cond (((is_pair p (pair_of a b) && other.0 == s.0) && d) && not e) (cond (same_answer flip (same_answer u x)) w 0) 0))
     (is_decided one seg a b) (is_decided one other a b) (comes_before (lines_on one seg) a b) (comes_before (lines_on one other) a b)
     (is_decided two seg a b) (is_decided two other a b) (comes_before (lines_on two seg) a b) (comes_before (lines_on two other) a b) h.decided g.decided h.before g.before
-open_alike one two p s x (Apart seg other a b w) of_pair same = refl
+open_alike one two p s x (Apart seg other a b w) seen = refl
 
-link_alike : (one two : List (List LineId)) (p : Pair) (k : ℕ) (t : Term) → p ≡ pair_in t → AlikeOn p one two → open_link one p k t ≡ open_link two p k t
-link_alike one two p k (Side seg first second w) of_pair same = refl
-link_alike one two p k (Apart seg other a b w) of_pair same = refl
-link_alike one two p k (Link seg other flip a b w) of_pair same =
-    let h = alike_in p a b (lines_on one seg) (lines_on two seg) of_pair (same seg) in
-    let g = alike_in p a b (lines_on one other) (lines_on two other) of_pair (same other) in
+link_alike : (one two : List (List LineId)) (p : Pair) (k : ℕ) (t : Term) → AreSeenAlike p one two t → open_link one p k t ≡ open_link two p k t
+link_alike one two p k (Side seg first second w) seen = refl
+link_alike one two p k (Apart seg other a b w) seen = refl
+link_alike one two p k (Link seg other flip a b w) seen =
+    let h = alike_in p a b (lines_on one seg) (lines_on two seg) seen.of_pair seen.here in
+    let g = alike_in p a b (lines_on one other) (lines_on two other) seen.of_pair seen.there in
     let Q : Bool → List OpenLink = λ c. cond c (record { number = k; seg = seg; other = other; flip = flip; weight = w } ∷ []) [] in
     ap (λ d. Q (is_pair p (pair_of a b) && not (d || is_decided one other a b))) h.decided ∙ ap (λ d. Q (is_pair p (pair_of a b) && not (is_decided two seg a b || d))) g.decided
 
-pub sums_alike : (p : Pair) (f g : ℕ × Term → ℕ) (terms : List (ℕ × Term)) → All (λ (t : ℕ × Term). p ≡ pair_in t.1) terms → ((t : ℕ × Term) → p ≡ pair_in t.1 → f t ≡ g t) → sum_by f terms ≡ sum_by g terms
-sums_alike p f g [] mine same = refl
-sums_alike p f g (t ∷ terms) mine same =
-    omega (arith, same t (All-head (λ (t : ℕ × Term). p ≡ pair_in t.1) t terms mine), sums_alike p f g terms (All-tail (λ (t : ℕ × Term). p ≡ pair_in t.1) t terms mine) same, sum_by-cons f t terms, sum_by-cons g t terms)
+pub sums_alike : (P : Term → Type 0) (f g : ℕ × Term → ℕ) (terms : List (ℕ × Term)) → All (λ (t : ℕ × Term). P t.1) terms → ((t : ℕ × Term) → P t.1 → f t ≡ g t) → sum_by f terms ≡ sum_by g terms
+sums_alike P f g [] mine same = refl
+sums_alike P f g (t ∷ terms) mine same =
+    omega (arith, same t (All-head (λ (t : ℕ × Term). P t.1) t terms mine), sums_alike P f g terms (All-tail (λ (t : ℕ × Term). P t.1) t terms mine) same, sum_by-cons f t terms, sum_by-cons g t terms)
 
-pub links_alike : (one two : List (List LineId)) (p : Pair) (terms : List (ℕ × Term)) → All (λ (t : ℕ × Term). p ≡ pair_in t.1) terms → AlikeOn p one two → open_links one p terms ≡ open_links two p terms
-links_alike one two p [] mine same = refl
-links_alike one two p (t ∷ terms) mine same =
-    ap (λ l. l ++ open_links one p terms) (link_alike one two p t.0 t.1 (All-head (λ (t : ℕ × Term). p ≡ pair_in t.1) t terms mine) same)
-    ∙ ap (λ l. open_link two p t.0 t.1 ++ l) (links_alike one two p terms (All-tail (λ (t : ℕ × Term). p ≡ pair_in t.1) t terms mine) same)
+pub links_alike : (one two : List (List LineId)) (p : Pair) (terms : List (ℕ × Term)) → All (λ (t : ℕ × Term). AreSeenAlike p one two t.1) terms → open_links one p terms ≡ open_links two p terms
+links_alike one two p [] seen = refl
+links_alike one two p (t ∷ terms) seen =
+    ap (λ l. l ++ open_links one p terms) (link_alike one two p t.0 t.1 (All-head (λ (t : ℕ × Term). AreSeenAlike p one two t.1) t terms seen))
+    ∙ ap (λ l. open_link two p t.0 t.1 ++ l) (links_alike one two p terms (All-tail (λ (t : ℕ × Term). AreSeenAlike p one two t.1) t terms seen))
 
-pub segments_alike : (segs one two : List (List LineId)) (p : Pair) (part : List SegId) → AlikeOn p one two → open_segments segs one part p ≡ open_segments segs two part p
+pub costs_alike : (one two : List (List LineId)) (p : Pair) (terms : List (ℕ × Term)) → All (λ (t : ℕ × Term). AreSeenAlike p one two t.1) terms → slot_cost one terms p ≡ slot_cost two terms p
+costs_alike one two p terms seen =
+    fun_ext (λ v. fun_ext (λ x. sums_alike (AreSeenAlike p one two) (λ (t : ℕ × Term). open_cost one p v x t.1) (λ (t : ℕ × Term). open_cost two p v x t.1) terms seen (λ t h. open_alike one two p v x t.1 h)))
+
+pub segments_alike : (segs one two : List (List LineId)) (p : Pair) (part : List SegId) → ((t : SegId) → is_in part t ≡ true → AreAlike p.lesser p.greater (lines_on one t) (lines_on two t)) → open_segments segs one part p ≡ open_segments segs two part p
 segments_alike segs one two p [] same = refl
 segments_alike segs one two p (t ∷ part) same =
-    let h = same t in
+    let h = same t (or_left (t.0 == t.0) (is_in part t) (eq-eqb t.0 t.0 refl)) in
     ap (λ d. cond ((has_line (lines_on segs t) p.lesser && has_line (lines_on segs t) p.greater) && not d) (t ∷ open_segments segs one part p) (open_segments segs one part p)) h.decided
-    ∙ ap (λ l. cond (is_open_on segs two p t) (t ∷ l) l) (segments_alike segs one two p part same)
+    ∙ ap (λ l. cond (is_open_on segs two p t) (t ∷ l) l) (segments_alike segs one two p part (λ u i. same u (or_right (t.0 == u.0) (is_in part u) i)))
 
--- a pair keeps its share
-share_alike : (segs one two : List (List LineId)) (part : List SegId) (g : Group) → All (λ (t : ℕ × Term). g.0 ≡ pair_in t.1) g.1 → AlikeOn g.0 one two → share_of segs part one g ≡ share_of segs part two g
-share_alike segs one two part g mine same =
+-- a pair keeps its share, where prefixes are alike on the part and where its terms have their ends
+pub share_seen : (segs one two : List (List LineId)) (part : List SegId) (g : Group) → All (λ (t : ℕ × Term). AreSeenAlike g.0 one two t.1) g.1
+    → ((t : SegId) → is_in part t ≡ true → AreAlike g.0.lesser g.0.greater (lines_on one t) (lines_on two t)) → share_of segs part one g ≡ share_of segs part two g
+share_seen segs one two part g seen same =
     let p : Pair = g.0 in
     let terms : List (ℕ × Term) = g.1 in
-    let decided = sums_alike p (λ (t : ℕ × Term). counted_cost segs one t.1) (λ (t : ℕ × Term). counted_cost segs two t.1) terms mine (λ t e. counted_alike segs one two p t.1 e same) in
-    let costs : slot_cost one terms p ≡ slot_cost two terms p =
-    fun_ext (λ v. fun_ext (λ x. sums_alike p (λ (t : ℕ × Term). open_cost one p v x t.1) (λ (t : ℕ × Term). open_cost two p v x t.1) terms mine (λ t e. open_alike one two p v x t.1 e same))) in
+    let decided = sums_alike (AreSeenAlike p one two) (λ (t : ℕ × Term). counted_cost segs one t.1) (λ (t : ℕ × Term). counted_cost segs two t.1) terms seen (λ t h. counted_alike segs one two p t.1 h) in
     let bounds : pair_bound segs one part terms p ≡ pair_bound segs two part terms p =
     ap (λ slots. least_over slots (λ s. true) (choice_cost slots (slot_cost one terms p) (kept (λ s. s) (open_links one p terms)))) (segments_alike segs one two p part same)
-    ∙ (ap (λ cost. least_over (open_segments segs two part p) (λ s. true) (choice_cost (open_segments segs two part p) cost (kept (λ s. s) (open_links one p terms)))) costs
-    ∙ ap (λ links. least_over (open_segments segs two part p) (λ s. true) (choice_cost (open_segments segs two part p) (slot_cost two terms p) (kept (λ s. s) links))) (links_alike one two p terms mine same)) in
+    ∙ (ap (λ cost. least_over (open_segments segs two part p) (λ s. true) (choice_cost (open_segments segs two part p) cost (kept (λ s. s) (open_links one p terms)))) (costs_alike one two p terms seen)
+    ∙ ap (λ links. least_over (open_segments segs two part p) (λ s. true) (choice_cost (open_segments segs two part p) (slot_cost two terms p) (kept (λ s. s) links))) (links_alike one two p terms seen)) in
     omega (arith, decided, bounds)
+
+pub share_alike : (segs one two : List (List LineId)) (part : List SegId) (g : Group) → All (λ (t : ℕ × Term). g.0 ≡ pair_in t.1) g.1 → AlikeOn g.0 one two → share_of segs part one g ≡ share_of segs part two g
+share_alike segs one two part g mine same = share_seen segs one two part g (all_alike g.0 one two g.1 mine same) (λ t i. same t)
 
 -- More lines placed.
 
-before_none : (xs : List LineId) (a b : LineId) → is_placed xs a ≡ false → comes_before xs a b ≡ false
+pub before_none : (xs : List LineId) (a b : LineId) → is_placed xs a ≡ false → comes_before xs a b ≡ false
 before_none [] a b h = refl
 before_none (x ∷ xs) a b h =
     let parts = or_parts (x.0 == a.0) (is_placed xs a) h in

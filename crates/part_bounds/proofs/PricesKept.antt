@@ -16,7 +16,7 @@ use Rattle.part_bounds.specs.declared.changes.Change.{Change}
 use Rattle.part_bounds.specs.Changes.{is_new_pair, is_changed, IsChange}
 use Rattle.part_bounds.proofs.OwnSegments.{SameElsewhere, cost_same, same_ends, sum_kept, links_kept, open_kept}
 use Rattle.part_bounds.proofs.OwnPrices.{own_prices_is}
-use Rattle.part_bounds.proofs.PairsKept.{AlikeOn, alike_back, open_alike, sums_alike, links_alike, segments_alike, alike_unchanged, elsewhere_alike}
+use Rattle.part_bounds.proofs.PairsKept.{AlikeOn, alike_back, all_alike, costs_alike, links_alike, segments_alike, alike_unchanged, elsewhere_alike}
 
 -- where the segments where a pair is open, what it costs there, and its open Links are the same
 same_prices : (segs one two : List (List LineId)) (part : List SegId) (terms : List (ℕ × Term)) (p : Pair) → open_segments segs one part p ≡ open_segments segs two part p → slot_cost one terms p ≡ slot_cost two terms p
@@ -29,11 +29,8 @@ same_prices segs one two part terms p slots costs links =
 -- a pair for which prefixes are alike
 prices_alike : (segs one two : List (List LineId)) (part : List SegId) (g : Group) → All (λ (t : ℕ × Term). g.0 ≡ pair_in t.1) g.1 → AlikeOn g.0 one two → pair_prices segs one part g.1 g.0 ≡ pair_prices segs two part g.1 g.0
 prices_alike segs one two part g mine same =
-    let p : Pair = g.0 in
-    let terms : List (ℕ × Term) = g.1 in
-    same_prices segs one two part terms p (segments_alike segs one two p part same)
-    (fun_ext (λ v. fun_ext (λ x. sums_alike p (λ (t : ℕ × Term). open_cost one p v x t.1) (λ (t : ℕ × Term). open_cost two p v x t.1) terms mine (λ t e. open_alike one two p v x t.1 e same))))
-    (links_alike one two p terms mine same)
+    let seen = all_alike g.0 one two g.1 mine same in
+    same_prices segs one two part g.1 g.0 (segments_alike segs one two g.0 part (λ t i. same t)) (costs_alike one two g.0 g.1 seen) (links_alike one two g.0 g.1 seen)
 
 -- a pair without a term on the segment where lines are placed
 prices_elsewhere : (segs one two : List (List LineId)) (part : List SegId) (g : Group) (s : SegId) → meets g.1 s ≡ false → SameElsewhere s one two → pair_prices segs one part g.1 g.0 ≡ pair_prices segs two part g.1 g.0

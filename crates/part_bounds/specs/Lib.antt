@@ -1,9 +1,9 @@
 pub mod PartStates
-pub mod TermLooks
-pub mod Slots
 pub mod PairGroups
 pub mod Shares
 pub mod Changes
 pub mod Settled
-pub mod PriceNotes
+pub mod Meeting
+pub mod ShareNotes
+pub mod Rises
 pub mod KeptPrices

@@ -5,7 +5,8 @@ ghost use Rattle.order_model.specs.Problems.{IsTerm, IsProblem};
 ghost use Rattle.order_model.specs.PartTerms.{terms_by_number};
 ghost use Rattle.order_model.specs.Prefixes.{IsPrefixOf};
 ghost use Rattle.order_bound.specs.Decided.{apart_cost};
-ghost use Rattle.part_bounds.specs.Settled.{settled_cost, settled_sum, lists_in, HasEnds, AreByEnds, AreMore};
+ghost use Rattle.pair_bounds.specs.Counted.{settled_cost, settled_sum};
+ghost use Rattle.part_bounds.specs.Settled.{lists_in, HasEnds, AreByEnds, AreMore};
 
 use map_base::{LineId, NoMemory, SegId};
 use order_model::{Prefix, Problem, Term};
@@ -88,6 +89,15 @@ pub(crate) fn settled_total(problem: &Problem, prefix: &Prefix, numbers: &[u32])
     total
 }
 
+/// The Aparts with an end on a segment.
+pub(crate) fn aparts_on(aparts: &Aparts, seg: SegId) -> &[Term]
+    requires { seg.0 < length aparts.now.lists.items }
+    ensures { result.now ≡ slice_index_or (lists_in aparts.now.lists.items) seg.0 [] }
+{
+    let list = &aparts.lists[seg.0 as usize];
+    list.as_slice()
+}
+
 /// What the settled Aparts with an end on a segment cost.
 pub(crate) fn settled_on(problem: &Problem, prefix: &Prefix, aparts: &Aparts, seg: SegId) -> u64
     requires fits { IsPrefixOf problem.now.segs prefix.now }
@@ -127,6 +137,8 @@ fn settled_of(problem: &Problem, prefix: &Prefix, aparts: &[Term]) -> u64
 }
 
 /// What an Apart costs where it is settled on both segments whether its lines are neighbours, and nothing for other terms.
+/// Its greater segment is asked first: a search places lines there later, so it is the one that is mostly not settled.
+#[tactic(auto, using(crate::proofs::ApartLists::none_there))]
 fn settled_cost(problem: &Problem, prefix: &Prefix, term: Term) -> u32
     requires fits { IsPrefixOf problem.now.segs prefix.now }
     requires known { IsTerm problem.now.segs term }
@@ -141,23 +153,23 @@ fn settled_cost(problem: &Problem, prefix: &Prefix, term: Term) -> u32
             a,
             b,
             w,
-        } => match prefix.neighbours(problem, seg, a, b) {
+        } => match prefix.neighbours(problem, other, a, b) {
             None => 0,
-            Some(here) => {
-                let there = prefix.neighbours(problem, other, a, b);
+            Some(there) => {
+                let here = prefix.neighbours(problem, seg, a, b);
                 apart_cost(w, here, there)
             }
         },
     }
 }
 
-/// What an Apart costs whose lines are neighbours on its first segment or aren't, where that is settled on its other too.
-fn apart_cost(w: u32, here: bool, there: Option<bool>) -> u32
-    ensures value { result ≡ apart_cost w (Some here) there }
+/// What an Apart costs whose lines are neighbours on its other segment or aren't, where that is settled on its first too.
+fn apart_cost(w: u32, here: Option<bool>, there: bool) -> u32
+    ensures value { result ≡ apart_cost w here (Some there) }
     ensures most { result ≤ w }
 {
-    match there {
-        Some(there) => { if here == there { 0 } else { w } }
+    match here {
+        Some(here) => { if here == there { 0 } else { w } }
         _ => 0,
     }
 }

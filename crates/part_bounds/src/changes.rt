@@ -87,7 +87,7 @@ pub(crate) fn is_changed(change: &Change, entry: &PairTerms) -> bool
 }
 
 /// Whether a pair is decided with the placing and not without.
-fn is_new_pair(change: &Change, pair: Pair) -> bool
+pub(crate) fn is_new_pair(change: &Change, pair: Pair) -> bool
     ensures { result ≡ is_new_pair change.now pair }
 {
     if !has_among_last(change, pair) {

@@ -8,20 +8,15 @@
 
 mod aparts;
 mod changes;
-mod child_prices;
-mod collecting;
-mod noted_prices;
-mod one_pair;
-mod opening;
+mod pair_rows;
 mod pair_terms;
 mod part_bounds;
 mod part_prices;
 mod prices;
+mod rises;
+mod share_notes;
 mod shares;
-mod slots;
 mod stale_prices;
-mod term_look;
-mod walking;
 
 pub use part_bounds::PartBounds;
 pub use part_prices::PartPrices;

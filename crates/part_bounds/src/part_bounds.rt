@@ -1,6 +1,6 @@
 //! A part of a problem with the lines placed so far, and its bound.
 
-ghost use Rattle.std.specs.Prelude.{◌≡◌, ◌<◌, length, All, false, Contains, IfOk, slice_set};
+ghost use Rattle.std.specs.Prelude.{◌≡◌, ◌<◌, length, All, false, Contains, IfOk, slice_index_or, slice_set};
 ghost use Rattle.map_base.specs.declared.ids.SegId.{SegId};
 ghost use Rattle.graph_core.specs.Consistent.{AreRising};
 ghost use Rattle.order_model.specs.Problems.{lines_on};
@@ -11,15 +11,17 @@ ghost use Rattle.order_model.specs.Prefixes.{is_placed, is_left, first_placed, n
 ghost use Rattle.order_bound.specs.Bounds.{bound_of};
 ghost use Rattle.part_bounds.specs.PartStates.{state_more, with_placed, IsWell};
 
-use crate::aparts::{Aparts, aparts_by_end, moved, settled_on, settled_total};
+use crate::aparts::{Aparts, aparts_by_end, aparts_on, moved, settled_on, settled_total};
 use crate::changes::{change_on, last_two, placed_count};
-use crate::noted_prices::NotedPrices;
-use crate::one_pair::Room;
+use crate::pair_rows::{PairHere, pairs_by_segment};
 use crate::pair_terms::{PairTerms, find_segments, most_terms, pairs_of};
 use crate::part_prices::PartPrices;
+use crate::rises::{Rise, forget_near, line_at, no_rises, note_rise, rise_at};
+use crate::share_notes::{ShareNote, no_notes};
 use crate::shares::{fill_shares, renew_shares, sum_anew};
 use map_base::{LineId, NoMemory, SegId};
 use order_model::{Prefix, Problem};
+use pair_bounds::{NotedPrices, Room};
 use std::alloc::Global;
 use std::marker::Model;
 
@@ -34,10 +36,16 @@ pub struct PartBounds<'a> {
     prefix: Prefix,
     /// The pairs of lines of the part's terms.
     pairs: Vec<PairTerms>,
+    /// For each segment of the problem the pairs that have a term there.
+    rows: Vec<Vec<PairHere>>,
     /// What each pair adds to the bound beside its Aparts.
     shares: Vec<u64>,
     /// The sum of these.
     total: u64,
+    /// For each line of each segment by how much the bound rises where it is placed next, if that was asked for.
+    rises: Vec<Vec<Option<Rise>>>,
+    /// What pairs added in states that were met.
+    notes: Vec<Option<ShareNote>>,
     room: Room,
     /// The part's Aparts, with what the settled ones add to the bound.
     aparts: Aparts,
@@ -47,13 +55,15 @@ impl<'a> Model for PartBounds<'a> {
     ghost use Rattle.std.specs.Vec.{vec_capacity};
     ghost use Rattle.order_model.specs.PartTerms.{part_terms};
     ghost use Rattle.part_bounds.specs.PartStates.{PartState};
+    ghost use Rattle.part_bounds.specs.Meeting.{rows_in};
+    ghost use Rattle.part_bounds.specs.Rises.{rises_in};
     ghost use Rattle.part_bounds.specs.Shares.{IsKeptUp};
 
     ghost Value = { PartState };
 
     ghost view = { λ b. record { segs = b.problem.now.segs; part = b.part.now; terms = part_terms b.problem.now.terms b.part.now; placed = b.prefix.placed } };
 
-    ghost invariant = { λ b. IsKeptUp b.problem.now b.part.now b.numbers.now b.prefix b.pairs.items b.shares.items (vec_capacity b.shares) b.total b.room b.aparts };
+    ghost invariant = { λ b. IsKeptUp b.problem.now b.part.now b.numbers.now b.prefix b.pairs.items b.shares.items (vec_capacity b.shares) b.total b.room b.aparts (rows_in b.rows.items) b.notes.items (rises_in b.rises.items) };
 }
 
 impl<'a> PartBounds<'a> {
@@ -86,7 +96,10 @@ impl<'a> PartBounds<'a> {
             &mut shares,
             &mut room,
         );
+        let rows = pairs_by_segment(alloc, problem.segs().len(), pairs.as_slice())?;
         let lists = aparts_by_end(alloc, problem, numbers)?;
+        let notes = no_notes(alloc, numbers.len())?;
+        let rises = no_rises(alloc, problem)?;
         let settled = settled_total(problem, &prefix, numbers);
         Ok(PartBounds {
             problem,
@@ -94,8 +107,11 @@ impl<'a> PartBounds<'a> {
             numbers,
             prefix,
             pairs,
+            rows,
+            rises,
             shares,
             total,
+            notes,
             room,
             aparts: Aparts {
                 lists,
@@ -112,8 +128,46 @@ impl<'a> PartBounds<'a> {
     }
 
     /// The bound once a line of a segment is placed next, and the one that is then left there alone; neither is.
-    #[tactic(auto, using(crate::proofs::Restored::restored, crate::proofs::Restored::chosen))]
     pub fn bound_with(&mut self, seg: SegId, line: LineId) -> u64
+        requires rising { All AreRising self.old.segs }
+        requires well { IsWell self.old.segs self.old.placed }
+        requires known { seg.0 < length self.old.segs }
+        requires line { Contains (lines_on self.old.segs seg) line }
+        requires unplaced { is_placed (lines_on self.old.placed seg) line ≡ false }
+        ensures bound { result ≡ bound_of self.old.segs self.old.part self.old.terms (placed_more self.old.segs self.old.placed seg line) }
+        ensures kept { self.new ≡ self.old }
+    {
+        let segs = self.problem.segs();
+        match line_at(segs[seg.0 as usize].as_slice(), line) {
+            Some(at) => self.bound_noted(seg, line, at),
+            None => self.bound_anew(seg, line),
+        }
+    }
+
+    /// The same from what is noted for the line, which stands at this place of the segment, if it is; else it is noted.
+    fn bound_noted(&mut self, seg: SegId, line: LineId, at: usize) -> u64
+        requires rising { All AreRising self.old.segs }
+        requires well { IsWell self.old.segs self.old.placed }
+        requires known { seg.0 < length self.old.segs }
+        requires line { Contains (lines_on self.old.segs seg) line }
+        requires unplaced { is_placed (lines_on self.old.placed seg) line ≡ false }
+        requires within { at < length (lines_on self.old.segs seg) }
+        requires here { line ≡ slice_index_or (lines_on self.old.segs seg) at line }
+        ensures bound { result ≡ bound_of self.old.segs self.old.part self.old.terms (placed_more self.old.segs self.old.placed seg line) }
+        ensures kept { self.new ≡ self.old }
+    {
+        let bound = self.bound();
+        if let Some(rise) = rise_at(&self.rises, seg, at) {
+            return bound + rise.child - rise.bound;
+        }
+        let child = self.bound_anew(seg, line);
+        note_rise(&mut self.rises, seg, at, Rise { bound, child });
+        child
+    }
+
+    /// The same, worked out anew.
+    #[tactic(auto, using(crate::proofs::Restored::restored, crate::proofs::Restored::chosen))]
+    fn bound_anew(&mut self, seg: SegId, line: LineId) -> u64
         requires rising { All AreRising self.old.segs }
         requires well { IsWell self.old.segs self.old.placed }
         requires known { seg.0 < length self.old.segs }
@@ -134,8 +188,10 @@ impl<'a> PartBounds<'a> {
             self.part,
             &change,
             self.pairs.as_slice(),
+            self.rows[seg.0 as usize].as_slice(),
             &self.shares,
             self.total,
+            &mut self.notes,
             &mut self.room,
         );
         self.prefix.take_back(self.problem, seg);
@@ -199,9 +255,18 @@ impl<'a> PartBounds<'a> {
             self.part,
             &change,
             self.pairs.as_slice(),
+            self.rows[seg.0 as usize].as_slice(),
             &mut self.shares,
             self.total,
+            &mut self.notes,
             &mut self.room,
+        );
+        forget_near(
+            &mut self.rises,
+            &change,
+            self.pairs.as_slice(),
+            self.rows[seg.0 as usize].as_slice(),
+            aparts_on(&self.aparts, seg),
         );
     }
 
@@ -226,9 +291,18 @@ impl<'a> PartBounds<'a> {
             self.part,
             &change,
             self.pairs.as_slice(),
+            self.rows[seg.0 as usize].as_slice(),
             &mut self.shares,
             self.total,
+            &mut self.notes,
             &mut self.room,
+        );
+        forget_near(
+            &mut self.rises,
+            &change,
+            self.pairs.as_slice(),
+            self.rows[seg.0 as usize].as_slice(),
+            aparts_on(&self.aparts, seg),
         );
     }
 }

@@ -2,10 +2,10 @@
 
 ghost use Rattle.std.specs.Prelude.{◌≡◌, ◌++◌, IfOk, OnOk};
 ghost use Rattle.order_bound.specs.CanonicalPrices.{listed};
-ghost use Rattle.part_bounds.specs.PriceNotes.{price_noted, listed_all};
+ghost use Rattle.pair_bounds.specs.PriceNotes.{price_noted, listed_all};
 
-use crate::noted_prices::NotedPrices;
 use map_base::NoMemory;
+use pair_bounds::NotedPrices;
 use std::alloc::Global;
 
 /// The prices of these numbers, but for those that are 0.

@@ -1,20 +1,23 @@
 //! What the pairs of lines of a part add to its bound.
 
-ghost use Rattle.std.specs.Prelude.{◌≡◌, ◌<◌, ◌≤◌, ◌*◌, ◌+◌, ◌++◌, ◌∷◌, [], length, map, sum_by, All};
+ghost use Rattle.std.specs.Prelude.{◌≡◌, ◌<◌, ◌≤◌, ◌*◌, ◌+◌, ◌++◌, ◌∷◌, [], length, map, take, sum_by, All, slice_index_or};
 ghost use Rattle.std.specs.Vec.{vec_len, vec_capacity};
 ghost use Rattle.map_base.specs.declared.ids.SegId.{SegId};
 ghost use Rattle.order_model.specs.Prefixes.{IsPrefixOf};
 ghost use Rattle.order_bound.specs.Pairs.{AreApartSegments};
-ghost use Rattle.part_bounds.specs.PairGroups.{KnowsOwn, group_in, groups_in, terms_in, share_of, IsGroup};
-ghost use Rattle.part_bounds.specs.Slots.{HasRoom, KeepsRoom};
+ghost use Rattle.part_bounds.specs.PairGroups.{KnowsOwn, no_group, group_in, groups_in, terms_in, share_of, IsGroup};
+ghost use Rattle.pair_bounds.specs.Slots.{HasRoom, KeepsRoom};
 ghost use Rattle.part_bounds.specs.Changes.{is_changed};
-ghost use Rattle.part_bounds.specs.Shares.{HasRoomFor, AreSharesBut, IsTrialSum};
+ghost use Rattle.part_bounds.specs.ShareNotes.{AreTrueNotes};
+ghost use Rattle.part_bounds.specs.Shares.{HasRoomFor, AreSharesBut, IsTrialSum, IsRow};
 
-use crate::changes::{Change, is_changed};
-use crate::one_pair::{Room, bound_of_pair};
+use crate::changes::{Change, is_new_pair};
+use crate::pair_rows::PairHere;
 use crate::pair_terms::PairTerms;
+use crate::share_notes::{ShareNote, key_on, note_at, noted_at, slot_of};
 use map_base::SegId;
 use order_model::{Prefix, Problem};
+use pair_bounds::{Room, bound_of_pair};
 
 /// What a pair adds to the bound: its decided terms, and the least that it costs where it is open.
 pub(crate) fn share_of(
@@ -85,16 +88,54 @@ pub(crate) fn fill_shares(
     total
 }
 
-/// Works out anew what the pair at a place adds, if a placing changes it. Answers the sum.
+/// What the pair at a place adds to the bound, from a note if there is one for its state; else it is noted.
+fn share_noted(
+    problem: &Problem,
+    prefix: &Prefix,
+    part: &[SegId],
+    pairs: &[PairTerms],
+    place: usize,
+    notes: &mut Vec<Option<ShareNote>>,
+    room: &mut Room,
+) -> u64
+    requires fits { IsPrefixOf problem.now.segs prefix.now }
+    requires part { All (λ (s : SegId). s.0 < length problem.now.segs) part.now }
+    requires apart { AreApartSegments part.now }
+    requires groups { All (IsGroup problem.now.segs part.now) (groups_in pairs.now) }
+    requires own { All (KnowsOwn part.now) pairs.now }
+    requires room { HasRoomFor part.now (groups_in pairs.now) room.old }
+    requires notes { AreTrueNotes problem.now.segs part.now (groups_in pairs.now) notes.old.items }
+    requires within { place < length pairs.now }
+    ensures share { result ≡ share_of problem.now.segs part.now prefix.now.placed (slice_index_or (groups_in pairs.now) place no_group) }
+    ensures small { result ≤ 1024000 * terms_in (slice_index_or (groups_in pairs.now) place no_group) }
+    ensures notes { AreTrueNotes problem.now.segs part.now (groups_in pairs.now) notes.new.items }
+    ensures room { KeepsRoom room.old room.new }
+{
+    let entry = &pairs[place];
+    let Some(key) = key_on(problem, prefix, entry.pair, entry.segs.as_slice()) else {
+        return share_of(problem, prefix, part, entry, room);
+    };
+    let at = slot_of(notes.len(), place, key);
+    if let Some(share) = noted_at(notes.as_slice(), at, place, key) {
+        return share;
+    }
+    let share = share_of(problem, prefix, part, entry, room);
+    note_at(notes, at, ShareNote { place, key, share });
+    share
+}
+
+/// Works out anew what the next pair of a row adds, if a placing changes it. Answers the sum.
 fn renew_at(
     problem: &Problem,
     prefix: &Prefix,
     part: &[SegId],
     change: &Change,
     pairs: &[PairTerms],
-    place: usize,
+    row: &[PairHere],
+    next: usize,
     shares: &mut Vec<u64>,
     total: u64,
+    notes: &mut Vec<Option<ShareNote>>,
     room: &mut Room,
 ) -> u64
     requires fits { IsPrefixOf problem.now.segs prefix.now }
@@ -104,17 +145,20 @@ fn renew_at(
     requires few { sum_by terms_in (groups_in pairs.now) ≤ 4000000 }
     requires own { All (KnowsOwn part.now) pairs.now }
     requires room { HasRoomFor part.now (groups_in pairs.now) room.old }
-    requires within { place < length pairs.now }
-    requires stale { AreSharesBut (share_of problem.now.segs part.now prefix.now.placed) (is_changed change.now) place (groups_in pairs.now) shares.old.items total }
-    ensures renewed { AreSharesBut (share_of problem.now.segs part.now prefix.now.placed) (is_changed change.now) (place + 1) (groups_in pairs.now) shares.new.items result }
+    requires notes { AreTrueNotes problem.now.segs part.now (groups_in pairs.now) notes.old.items }
+    requires row { IsRow (is_changed change.now) (groups_in pairs.now) row.now }
+    requires within { next < length row.now }
+    requires stale { AreSharesBut (share_of problem.now.segs part.now prefix.now.placed) (is_changed change.now) (take next row.now) (groups_in pairs.now) shares.old.items total }
+    ensures renewed { AreSharesBut (share_of problem.now.segs part.now prefix.now.placed) (is_changed change.now) (take (next + 1) row.now) (groups_in pairs.now) shares.new.items result }
     ensures places { vec_capacity shares.old ≤ vec_capacity shares.new }
+    ensures notes { AreTrueNotes problem.now.segs part.now (groups_in pairs.now) notes.new.items }
     ensures room { KeepsRoom room.old room.new }
 {
-    let entry = &pairs[place];
-    if !is_changed(change, entry) {
+    let place = row[next].place;
+    if !is_new_pair(change, pairs[place].pair) {
         return total;
     }
-    let share = share_of(problem, prefix, part, entry, room);
+    let share = share_noted(problem, prefix, part, pairs, place, notes, room);
     let renewed = total - shares[place] + share;
     shares[place] = share;
     renewed
@@ -127,8 +171,10 @@ pub(crate) fn renew_shares(
     part: &[SegId],
     change: &Change,
     pairs: &[PairTerms],
+    row: &[PairHere],
     shares: &mut Vec<u64>,
     total: u64,
+    notes: &mut Vec<Option<ShareNote>>,
     room: &mut Room,
 ) -> u64
     requires fits { IsPrefixOf problem.now.segs prefix.now }
@@ -138,31 +184,36 @@ pub(crate) fn renew_shares(
     requires few { sum_by terms_in (groups_in pairs.now) ≤ 4000000 }
     requires own { All (KnowsOwn part.now) pairs.now }
     requires room { HasRoomFor part.now (groups_in pairs.now) room.old }
-    requires stale { AreSharesBut (share_of problem.now.segs part.now prefix.now.placed) (is_changed change.now) 0 (groups_in pairs.now) shares.old.items total }
+    requires notes { AreTrueNotes problem.now.segs part.now (groups_in pairs.now) notes.old.items }
+    requires row { IsRow (is_changed change.now) (groups_in pairs.now) row.now }
+    requires stale { AreSharesBut (share_of problem.now.segs part.now prefix.now.placed) (is_changed change.now) [] (groups_in pairs.now) shares.old.items total }
     ensures shares { shares.new.items ≡ map (share_of problem.now.segs part.now prefix.now.placed) (groups_in pairs.now) }
     ensures total { result ≡ sum_by (share_of problem.now.segs part.now prefix.now.placed) (groups_in pairs.now) }
     ensures places { vec_capacity shares.old ≤ vec_capacity shares.new }
+    ensures notes { AreTrueNotes problem.now.segs part.now (groups_in pairs.now) notes.new.items }
     ensures room { KeepsRoom room.old room.new }
 {
     let mut sum = total;
-    for place in 0..pairs.len() {
+    for next in 0..row.len() {
         sum = renew_at(
-            problem, prefix, part, change, pairs, place, shares, sum, room,
+            problem, prefix, part, change, pairs, row, next, shares, sum, notes, room,
         );
     }
     sum
 }
 
-/// The sum once what the pair at a place adds is worked out anew, if a placing changes it.
+/// The sum once what the next pair of a row adds is worked out anew, if a placing changes it.
 fn sum_at(
     problem: &Problem,
     prefix: &Prefix,
     part: &[SegId],
     change: &Change,
     pairs: &[PairTerms],
-    place: usize,
+    row: &[PairHere],
+    next: usize,
     shares: &Vec<u64>,
     total: u64,
+    notes: &mut Vec<Option<ShareNote>>,
     room: &mut Room,
 ) -> u64
     requires fits { IsPrefixOf problem.now.segs prefix.now }
@@ -172,16 +223,19 @@ fn sum_at(
     requires few { sum_by terms_in (groups_in pairs.now) ≤ 4000000 }
     requires own { All (KnowsOwn part.now) pairs.now }
     requires room { HasRoomFor part.now (groups_in pairs.now) room.old }
-    requires within { place < length pairs.now }
-    requires stale { IsTrialSum (share_of problem.now.segs part.now prefix.now.placed) (is_changed change.now) place (groups_in pairs.now) shares.now.items total }
-    ensures renewed { IsTrialSum (share_of problem.now.segs part.now prefix.now.placed) (is_changed change.now) (place + 1) (groups_in pairs.now) shares.now.items result }
+    requires notes { AreTrueNotes problem.now.segs part.now (groups_in pairs.now) notes.old.items }
+    requires row { IsRow (is_changed change.now) (groups_in pairs.now) row.now }
+    requires within { next < length row.now }
+    requires stale { IsTrialSum (share_of problem.now.segs part.now prefix.now.placed) (is_changed change.now) (take next row.now) (groups_in pairs.now) shares.now.items total }
+    ensures renewed { IsTrialSum (share_of problem.now.segs part.now prefix.now.placed) (is_changed change.now) (take (next + 1) row.now) (groups_in pairs.now) shares.now.items result }
+    ensures notes { AreTrueNotes problem.now.segs part.now (groups_in pairs.now) notes.new.items }
     ensures room { KeepsRoom room.old room.new }
 {
-    let entry = &pairs[place];
-    if !is_changed(change, entry) {
+    let place = row[next].place;
+    if !is_new_pair(change, pairs[place].pair) {
         return total;
     }
-    let share = share_of(problem, prefix, part, entry, room);
+    let share = share_noted(problem, prefix, part, pairs, place, notes, room);
     total - shares[place] + share
 }
 
@@ -192,8 +246,10 @@ pub(crate) fn sum_anew(
     part: &[SegId],
     change: &Change,
     pairs: &[PairTerms],
+    row: &[PairHere],
     shares: &Vec<u64>,
     total: u64,
+    notes: &mut Vec<Option<ShareNote>>,
     room: &mut Room,
 ) -> u64
     requires fits { IsPrefixOf problem.now.segs prefix.now }
@@ -203,14 +259,17 @@ pub(crate) fn sum_anew(
     requires few { sum_by terms_in (groups_in pairs.now) ≤ 4000000 }
     requires own { All (KnowsOwn part.now) pairs.now }
     requires room { HasRoomFor part.now (groups_in pairs.now) room.old }
-    requires stale { AreSharesBut (share_of problem.now.segs part.now prefix.now.placed) (is_changed change.now) 0 (groups_in pairs.now) shares.now.items total }
+    requires notes { AreTrueNotes problem.now.segs part.now (groups_in pairs.now) notes.old.items }
+    requires row { IsRow (is_changed change.now) (groups_in pairs.now) row.now }
+    requires stale { AreSharesBut (share_of problem.now.segs part.now prefix.now.placed) (is_changed change.now) [] (groups_in pairs.now) shares.now.items total }
     ensures total { result ≡ sum_by (share_of problem.now.segs part.now prefix.now.placed) (groups_in pairs.now) }
+    ensures notes { AreTrueNotes problem.now.segs part.now (groups_in pairs.now) notes.new.items }
     ensures room { KeepsRoom room.old room.new }
 {
     let mut sum = total;
-    for place in 0..pairs.len() {
+    for next in 0..row.len() {
         sum = sum_at(
-            problem, prefix, part, change, pairs, place, shares, sum, room,
+            problem, prefix, part, change, pairs, row, next, shares, sum, notes, room,
         );
     }
     sum

@@ -1,6 +1,6 @@
 use Rattle.std.proofs.Common.{◌≡◌, ◌*◌, ◌≤◌, take}
 use Rattle.std.specs.List.{sum_by}
-use Rattle.part_bounds.specs.Settled.{settled_cost}
+use Rattle.pair_bounds.specs.Counted.{settled_cost}
 use Rattle.part_bounds.proofs.aparts.settled_of.Given as goal
 
 abbrev pub invariant-loop-term : goal.invariant-loop-term

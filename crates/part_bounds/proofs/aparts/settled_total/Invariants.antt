@@ -1,6 +1,6 @@
 use Rattle.std.proofs.Common.{◌≡◌, ◌*◌, ◌≤◌, take}
 use Rattle.order_model.specs.PartTerms.{terms_by_number}
-use Rattle.part_bounds.specs.Settled.{settled_sum}
+use Rattle.pair_bounds.specs.Counted.{settled_sum}
 use Rattle.part_bounds.proofs.aparts.settled_total.Given as goal
 
 abbrev pub invariant-loop-n : goal.invariant-loop-n

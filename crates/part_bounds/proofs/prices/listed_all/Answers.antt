@@ -1,6 +1,6 @@
 use Rattle.std.proofs.Common.{refl, get_or, ◌∙◌, rules, to_z, of_z, w64}
 use Rattle.std.proofs.lemmas.Int.{to_z-of_z}
-use Rattle.part_bounds.specs.PriceNotes.{price_noted}
+use Rattle.pair_bounds.specs.PriceNotes.{price_noted}
 use Rattle.part_bounds.proofs.NotedPairs.{listed_more}
 use Rattle.part_bounds.proofs.prices.listed_all.Goals as goal
 

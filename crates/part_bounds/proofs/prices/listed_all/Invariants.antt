@@ -1,5 +1,5 @@
 use Rattle.std.proofs.Common.{◌≡◌, take}
-use Rattle.part_bounds.specs.PriceNotes.{price_noted, listed_all}
+use Rattle.pair_bounds.specs.PriceNotes.{price_noted, listed_all}
 use Rattle.part_bounds.proofs.prices.listed_all.Given as goal
 
 abbrev pub invariant-loop-n : goal.invariant-loop-n

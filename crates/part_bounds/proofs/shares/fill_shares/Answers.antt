@@ -1,6 +1,6 @@
 use Rattle.std.proofs.Common.{subst, sym, ◌+◌, ◌≤◌, ap, arith, length, rules, length-append, [], ◌∷◌}
 use Rattle.part_bounds.specs.PairGroups.{Group, KnowsOwn, group_in, terms_in, share_of, IsGroup}
-use Rattle.part_bounds.specs.Slots.{HasRoom}
+use Rattle.pair_bounds.specs.Slots.{HasRoom}
 use Rattle.part_bounds.proofs.KeptUp.{group_at, share_more, total_more, terms_more, room_kept, kept_on}
 use Rattle.part_bounds.proofs.shares.fill_shares.Goals as goal
 

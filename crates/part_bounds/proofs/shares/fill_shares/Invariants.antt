@@ -1,7 +1,7 @@
 use Rattle.std.proofs.Common.{◌≡◌, ◌≤◌, ◌*◌, map, take}
 use Rattle.std.specs.Prelude.{sum_by, vec_len, vec_capacity}
 use Rattle.part_bounds.specs.PairGroups.{groups_in, terms_in, share_of}
-use Rattle.part_bounds.specs.Slots.{KeepsRoom}
+use Rattle.pair_bounds.specs.Slots.{KeepsRoom}
 use Rattle.part_bounds.proofs.shares.fill_shares.Given as goal
 
 abbrev pub invariant-loop-entry : goal.invariant-loop-entry

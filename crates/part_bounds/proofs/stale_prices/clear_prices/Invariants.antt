@@ -1,5 +1,5 @@
 use Rattle.std.proofs.Common.{◌≡◌, ◌<◌, ℕ, length, take}
-use Rattle.part_bounds.specs.PriceNotes.{price_noted}
+use Rattle.pair_bounds.specs.PriceNotes.{price_noted}
 use Rattle.part_bounds.specs.KeptPrices.{cleared}
 use Rattle.part_bounds.proofs.stale_prices.clear_prices.Given as goal
 

@@ -2,7 +2,7 @@ use Rattle.std.proofs.Common.{ap, sym, ◌∙◌, length}
 use Rattle.part_bounds.proofs.OwnUse.{own_known, own_apart, own_inside, own_room}
 use Rattle.part_bounds.proofs.OwnPrices.{own_prices_is}
 use Rattle.order_bound.specs.CanonicalPrices.{pair_prices}
-use Rattle.part_bounds.specs.PriceNotes.{price_noted, price_over}
+use Rattle.pair_bounds.specs.PriceNotes.{price_noted, price_over}
 use Rattle.part_bounds.proofs.stale_prices.note_entry.Goals as goal
 
 pub note_pair-requires-clause-part : goal.note_pair-requires-clause-part

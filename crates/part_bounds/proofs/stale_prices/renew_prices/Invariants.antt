@@ -1,8 +1,8 @@
 use Rattle.std.proofs.Common.{◌≡◌, ◌<◌, ℕ, true, false, length, get_or}
 use Rattle.part_bounds.specs.PairGroups.{groups_in}
-use Rattle.part_bounds.specs.PriceNotes.{price_noted}
+use Rattle.pair_bounds.specs.PriceNotes.{price_noted}
 use Rattle.part_bounds.specs.KeptPrices.{AreNoted}
-use Rattle.part_bounds.specs.Slots.{KeepsRoom}
+use Rattle.pair_bounds.specs.Slots.{KeepsRoom}
 use Rattle.part_bounds.proofs.stale_prices.renew_prices.Given as goal
 
 abbrev pub invariant-loop-place : goal.invariant-loop-place

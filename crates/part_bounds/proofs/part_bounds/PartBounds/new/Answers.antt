@@ -7,9 +7,14 @@ use Rattle.map_base.specs.declared.ids.SegId.{SegId}
 use Rattle.order_model.proofs.KeptTerms.{part_numbers_known, part_terms_by_number}
 use Rattle.order_bound.proofs.Parts.{rising_apart}
 use Rattle.part_bounds.specs.declared.pair_terms.PairTerms.{PairTerms}
-use Rattle.part_bounds.specs.PairGroups.{Group, KnowsOwn, terms_in, groups_of, groups_in, share_of, IsGroup}
+use Rattle.part_bounds.specs.PairGroups.{Group, KnowsOwn, HasOwn, terms_in, groups_of, groups_in, share_of, IsGroup}
 use Rattle.std.proofs.lemmas.List.{length-map}
-use Rattle.part_bounds.specs.Settled.{settled_sum, lists_in, AreByEnds}
+use Rattle.pair_bounds.specs.Counted.{settled_sum}
+use Rattle.part_bounds.specs.Settled.{lists_in, AreByEnds}
+use Rattle.part_bounds.specs.Rises.{rises_in, rise_at}
+use Rattle.part_bounds.proofs.RisesKept.{not_noted}
+use Rattle.part_bounds.specs.Meeting.{rows_in, AreBySegment}
+use Rattle.part_bounds.proofs.Renewed.{has_own}
 use Rattle.part_bounds.proofs.KeptUp.{begun, terms_few, part_groups, part_few, each_few, room_for}
 use Rattle.part_bounds.proofs.part_bounds.PartBounds.new.Goals as goal
 
@@ -60,7 +65,7 @@ pub invariant_of-result : goal.invariant_of-result
 invariant_of-result c =
     let f = share_of c.args.problem.now.segs c.args.part.now c.in_ok-prefix.prefix.placed in
     begun c.args.problem.now c.args.part.now c.args.numbers.now c.in_ok-prefix.prefix c.find_segments.new.pairs.items c.fill_shares-total.new.shares.items (vec_capacity c.in_ok-shares.shares) (vec_capacity c.fill_shares-total.new.shares)
-    c.fill_shares-total.result c.most_terms.result c.in_ok-room.room c.fill_shares-total.new.room _ c.in_ok-prefix.ensures.fits c.requires.known c.requires.rising c.pairs_of.ensures.fits c.requires.numbers
+    c.fill_shares-total.result c.most_terms.result c.in_ok-room.room c.fill_shares-total.new.room _ (rows_in c.in_ok-rows.rows.items) c.in_ok-notes.notes.items (rises_in c.in_ok-rises.rises.items) c.in_ok-prefix.ensures.fits c.requires.known c.requires.rising c.pairs_of.ensures.fits c.requires.numbers
     (grouped c.args.problem.now.terms c.args.part.now c.args.numbers.now c.find_segments.new.pairs.items c.find_segments.new.pairs.items c.requires.numbers (c.find_segments.ensures.same ∙ c.in_ok-pairs.ensures.grouped) refl)
     (c.fill_shares-total.ensures.shares ∙ ap (λ l. map f (groups_in l)) c.as_slice-2.ensures.value) (c.fill_shares-total.ensures.total ∙ ap (λ l. sum_by f (groups_in l)) c.as_slice-2.ensures.value)
     c.in_ok-find_segments.ensures.own
@@ -70,3 +75,12 @@ invariant_of-result c =
       by_ends = subst (λ l. AreByEnds (length c.args.problem.now.segs) l (lists_in c.in_ok-lists.lists.items)) (mine c.args.problem.now.terms c.args.part.now c.args.numbers.now c.requires.numbers) c.in_ok-lists.ensures.by_ends;
       total_is = c.settled_total-settled.ensures ∙ ap (settled_sum c.args.problem.now.segs c.in_ok-prefix.prefix.placed) (mine c.args.problem.now.terms c.args.part.now c.args.numbers.now c.requires.numbers);
     })
+    (subst (λ n. AreBySegment n c.find_segments.new.pairs.items (rows_in c.in_ok-rows.rows.items)) (ap length c.segs.ensures.lists)
+    (subst (λ l. AreBySegment (length c.segs.result.now) l (rows_in c.in_ok-rows.rows.items)) c.as_slice-3.ensures.value c.in_ok-rows.ensures))
+    (c.in_ok-notes.ensures c.args.problem.now.segs c.args.part.now (groups_in c.find_segments.new.pairs.items))
+    (λ s i a n known within here noted. absurd (not_noted (rise_at (rises_in c.in_ok-rises.rises.items) s.0 i) n ((c.in_ok-rises.ensures s.0).none i) noted))
+
+pub pairs_by_segment-requires : goal.pairs_by_segment-requires
+pairs_by_segment-requires c =
+    subst (All (HasOwn (length c.segs.result.now))) (sym c.as_slice-3.ensures.value) (has_own (length c.segs.result.now) c.args.part.now c.find_segments.new.pairs.items c.in_ok-find_segments.ensures.own
+    (subst (λ n. All (λ (s : SegId). s.0 < n) c.args.part.now) (sym (ap length c.segs.ensures.lists)) c.requires.known) (rising_apart c.args.part.now c.requires.rising))

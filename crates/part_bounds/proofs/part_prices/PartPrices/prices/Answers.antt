@@ -8,7 +8,7 @@ use Rattle.order_bound.proofs.Parts.{rising_apart, part_numbered}
 use Rattle.part_bounds.specs.declared.pair_terms.PairTerms.{PairTerms}
 use Rattle.part_bounds.specs.PairGroups.{group_in, groups_in}
 use Rattle.part_bounds.specs.PartStates.{PartState}
-use Rattle.part_bounds.specs.PriceNotes.{price_noted}
+use Rattle.pair_bounds.specs.PriceNotes.{price_noted}
 use Rattle.part_bounds.specs.Shares.{HasRoomFor}
 use Rattle.part_bounds.proofs.NotedPairs.{whole_noted, list_is, prices_rising}
 use Rattle.part_bounds.proofs.Marks.{priced_on}

@@ -2,7 +2,7 @@ use Rattle.std.proofs.Common.{◌≡◌, ◌<◌, List, length, refl, ap, sym, s
 use Rattle.order_model.specs.Problems.{lines_on}
 use Rattle.order_model.specs.Prefixes.{first_placed}
 use Rattle.part_bounds.specs.PartStates.{PartState}
-use Rattle.part_bounds.specs.PriceNotes.{price_noted}
+use Rattle.pair_bounds.specs.PriceNotes.{price_noted}
 use Rattle.part_bounds.specs.Changes.{IsChange}
 use Rattle.part_bounds.specs.declared.pair_terms.PairTerms.{PairTerms}
 use Rattle.part_bounds.specs.KeptPrices.{AreMarked}

@@ -1,0 +1,4 @@
+pub mod Counted
+pub mod TermLooks
+pub mod Slots
+pub mod PriceNotes
