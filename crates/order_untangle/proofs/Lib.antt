@@ -3,7 +3,7 @@ mod TermChanges
 mod ListedChanges
 mod FirstListing
 mod NumberLists
-mod RowLemmas
+mod ReadLemmas
 mod LeftLemmas
 mod MarkLemmas
 mod SegmentTerms

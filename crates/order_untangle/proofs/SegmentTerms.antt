@@ -1,9 +1,11 @@
 -- What can be done at a segment is read from the terms on it alone.
-use Rattle.std.proofs.Common.{◌≡◌, ℕ, ◌*◌, ◌==◌, nat_le, Bool, true, false, not, ◌||◌, ◌&&◌, Option, Some, None, List, [], ◌∷◌, length, refl, sym, ap, ◌∙◌, arith, inl, inr, true≢false, eqb-true, ◌⊎◌, subst}
+use Rattle.std.proofs.Common.{◌≡◌, ℕ, ◌*◌, ◌==◌, nat_le, nat_lt, Bool, true, false, not, ◌||◌, ◌&&◌, Option, Some, None, List, [], ◌∷◌, length, refl, sym, ap, ◌∙◌, arith, inl, inr, true≢false, eqb-true, ◌⊎◌, subst}
 use Rattle.std.specs.Prelude.{if◌then◌else◌}
 use Rattle.std.specs.List.{All, AllByRecursion, list_any, list_all, sum_by}
 use Rattle.std.specs.Option.{option_map}
-use Rattle.std.proofs.lemmas.List.Elements.{recursion_from_All}
+use Rattle.std.proofs.lemmas.Bool.{le-leb, ltb-true, ltb-false}
+use Rattle.std.proofs.lemmas.List.{get_or_past}
+use Rattle.std.proofs.lemmas.List.Elements.{recursion_from_All, All-get_or}
 use Rattle.std.proofs.lemmas.List.Sums.{sum_by-cons}
 use Rattle.map_base.specs.declared.ids.SegId.{SegId}
 use Rattle.map_base.specs.declared.ids.LineId.{LineId}
@@ -11,7 +13,8 @@ use Rattle.order_values.specs.declared.rule.Rule.TheVariants.{Merge}
 use Rattle.order_model.specs.declared.term.Term.{Term}
 use Rattle.order_model.specs.declared.term.Term.TheVariants.{Side, Link, Apart}
 use Rattle.order_model.specs.declared.problem.ProblemParts.{ProblemParts}
-use Rattle.order_model.specs.Problems.{lines_on}
+use Rattle.graph_core.specs.Consistent.{AreRising}
+use Rattle.order_model.specs.Problems.{IsProblem, IsTerm, lines_on}
 use Rattle.order_model.specs.Costs.{seg_of, other_of, weight_of, are_these}
 use Rattle.order_model.specs.Parts.{is_between}
 use Rattle.order_model.proofs.Lines.{both_true, either_true}
@@ -21,6 +24,7 @@ use Rattle.order_rules.specs.Dividing.{is_group, others, most_apart, is_against,
 use Rattle.order_rules.proofs.Unchanged.{all_alike, pairs_alike, most_alike, grown_alike}
 use Rattle.order_rules.specs.Untangling.{merge_of}
 use Rattle.order_untangle.specs.LeftTerms.{Listing, AreTermsOn}
+use Rattle.order_sums.specs.PairSums.{is_light}
 use Rattle.order_untangle.specs.Segments.{merges_by, flip_by, most_by_lines, divides_by, group_if, group_by, group_of, first_group}
 use Rattle.order_untangle.specs.Waits.{has_merge, LinkWaits, LinksWait}
 use Rattle.order_untangle.specs.Works.{parts_of}
@@ -281,3 +285,36 @@ links_wait terms here given s merges are is_given all e f ends h =
     let these : All (LinkWaits merges) here = subst (All (LinkWaits merges)) is_given all in
     link_here merges e f here (recursion_from_All (LinkWaits merges) here these)
     (own_any s terms here are (is_link_between e f) (link_off e f s ends) ∙ h)
+
+-- Terms of a problem are light, and its lines rise.
+
+light_term : (segs : List (List LineId)) (t : Term) → IsTerm segs t → is_light t ≡ true
+light_term segs (Side seg first second w) fits = le-leb w 256000 fits.weight.1
+light_term segs (Link seg other flip a b w) fits = le-leb w 256000 fits.weight.1
+light_term segs (Apart seg other a b w) fits = le-leb w 256000 fits.weight.1
+
+pub light_here : (p : ProblemParts) (s : SegId) (here : List Term) → IsProblem p → AreTermsOn s p.terms here → list_all is_light here ≡ true
+unfolding bit
+light_here p s here is are =
+    all_by_any is_light here ∙ ap not (none_counted (λ t. not (is_light t)) here
+    (are.sums (λ t. bit (not (is_light t))) ∙ none_heavy p.terms (recursion_from_All (IsTerm p.segs) p.terms is.terms)))
+  where
+    by_test : (t : Term) (c : Bool) → is_light t ≡ true → (if c then bit (not (is_light t)) else 0) ≡ 0
+    by_test t true h = ap (λ (b : Bool). bit (not b)) h
+    by_test t false h = refl
+
+    none_heavy : (ts : List Term) → AllByRecursion (IsTerm p.segs) ts → sum_by (λ t. if is_on s t then bit (not (is_light t)) else 0) ts ≡ 0
+    none_heavy [] all = refl
+    none_heavy (t ∷ ts) all =
+        omega (arith, sum_by-cons (λ u. if is_on s u then bit (not (is_light u)) else 0) t ts, by_test t (is_on s t) (light_term p.segs t all.0), none_heavy ts all.1)
+
+pub light_given : (segs : List (List LineId)) (listing : Listing) (s : SegId) (here given : List Term) → IsProblem (parts_of segs listing) → AreTermsOn s listing.terms here → given ≡ here
+    → list_all is_light given ≡ true
+light_given segs listing s here given is are same = ap (list_all is_light) same ∙ light_here (parts_of segs listing) s here is are
+
+pub rising_given : (segs : List (List LineId)) (listing : Listing) (s : SegId) (lines : List LineId) → IsProblem (parts_of segs listing) → lines ≡ lines_on segs s → AreRising lines
+rising_given segs listing s lines is same = subst AreRising (sym same) (by_test (nat_lt s.0 (length segs)) refl)
+  where
+    by_test : (c : Bool) → nat_lt s.0 (length segs) ≡ c → AreRising (lines_on segs s)
+    by_test true h = All-get_or AreRising segs s.0 [] (ltb-true s.0 (length segs) h) is.rising
+    by_test false h = subst AreRising (sym (get_or_past segs s.0 [] (ltb-false s.0 (length segs) h))) tt

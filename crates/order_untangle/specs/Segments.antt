@@ -100,3 +100,9 @@ flip_by here into_lines lines into from =
     if merges_by here into_lines lines into from false
     then Some false
     else if merges_by here into_lines lines into from true then Some true else None
+
+-- the first of these lines alone, where it is not all of them
+abbrev pub first_alone : List LineId → Option (List LineId)
+first_alone [] = None
+first_alone (a ∷ []) = None
+first_alone (a ∷ b ∷ lines) = Some (a ∷ [])

@@ -14,7 +14,6 @@ mod left_terms;
 mod looking;
 mod next_rules;
 mod numbers;
-mod rows;
 mod segments;
 mod untangling;
 mod waiting;

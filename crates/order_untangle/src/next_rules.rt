@@ -7,9 +7,10 @@ ghost use Rattle.order_untangle.specs.Waits.{AllWait};
 ghost use Rattle.order_untangle.specs.Works.{parts_of};
 
 use crate::left_terms::LeftTerms;
-use crate::looking::{Room, group_at, merge_flip};
+use crate::looking::{group_at, merge_flip};
 use crate::waiting::Waiting;
 use map_base::{LineId, NoMemory, Sequence};
+use order_model::Term;
 use order_values::Rule;
 use std::alloc::Global;
 
@@ -19,14 +20,14 @@ pub(crate) fn next_rule(
     segs: &[Sequence<LineId>],
     terms: &LeftTerms,
     waiting: &mut Waiting,
-    room: &mut Room,
+    room: &mut Vec<Term>,
 ) -> Result<Option<Rule>, NoMemory>
     requires problem { IsProblem (parts_of segs.now terms.now) }
     requires wait { AllWait (parts_of segs.now terms.now) waiting.old.merges.keys waiting.old.divides.keys }
     ensures rule { IfOk result (λ rule. rule ≡ next_rule (parts_of segs.now terms.now)) }
     ensures wait { AllWait (parts_of segs.now terms.now) waiting.new.merges.keys waiting.new.divides.keys }
 {
-    match next_merge(segs, terms, waiting, room)? {
+    match next_merge(alloc, segs, terms, waiting, room)? {
         Some(rule) => Ok(Some(rule)),
         None => next_divide(alloc, segs, terms, waiting, room),
     }
@@ -34,10 +35,11 @@ pub(crate) fn next_rule(
 
 /// The least merge that applies, if there is one. Merges before it wait no longer.
 fn next_merge(
+    alloc: Global,
     segs: &[Sequence<LineId>],
     terms: &LeftTerms,
     waiting: &mut Waiting,
-    room: &mut Room,
+    room: &mut Vec<Term>,
 ) -> Result<Option<Rule>, NoMemory>
     requires problem { IsProblem (parts_of segs.now terms.now) }
     requires wait { AllWait (parts_of segs.now terms.now) waiting.old.merges.keys waiting.old.divides.keys }
@@ -45,7 +47,7 @@ fn next_merge(
     ensures wait { AllWait (parts_of segs.now terms.now) waiting.new.merges.keys waiting.new.divides.keys }
 {
     while let Some((into, from)) = waiting.first_merge() {
-        if let Some(flip) = merge_flip(segs, terms, room, into, from)? {
+        if let Some(flip) = merge_flip(alloc, segs, terms, room, into, from)? {
             return Ok(Some(Rule::Merge { into, from, flip }));
         }
         waiting.drop_merge();
@@ -59,7 +61,7 @@ fn next_divide(
     segs: &[Sequence<LineId>],
     terms: &LeftTerms,
     waiting: &mut Waiting,
-    room: &mut Room,
+    room: &mut Vec<Term>,
 ) -> Result<Option<Rule>, NoMemory>
     requires problem { IsProblem (parts_of segs.now terms.now) }
     requires wait { AllWait (parts_of segs.now terms.now) waiting.old.merges.keys waiting.old.divides.keys }

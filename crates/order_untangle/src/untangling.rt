@@ -48,7 +48,13 @@ pub fn apply_rules(
     let mut work = begun(alloc, problem)?;
     for i in 0..rules.len() {
         let rule = &rules[i];
-        if !rule_applies(work.segs.as_slice(), &work.terms, &mut work.room, rule)? {
+        if !rule_applies(
+            alloc,
+            work.segs.as_slice(),
+            &work.terms,
+            &mut work.room,
+            rule,
+        )? {
             return Ok(Err(i));
         }
         work = after_rule(alloc, work, rule)?;

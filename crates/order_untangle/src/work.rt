@@ -8,10 +8,10 @@ ghost use Rattle.order_untangle.specs.Waits.{AreLooked};
 ghost use Rattle.order_untangle.specs.Works.{IsWork, parts_of};
 
 use crate::left_terms::LeftTerms;
-use crate::looking::{Room, look_again};
+use crate::looking::look_again;
 use crate::waiting::Waiting;
 use map_base::{LineId, NoMemory, SegId, Sequence};
-use order_model::{Problem, ProblemParts};
+use order_model::{Problem, ProblemParts, Term};
 use order_rules::{lines_on, others, with_lines};
 use order_values::Rule;
 use std::alloc::Global;
@@ -26,8 +26,8 @@ pub(crate) struct Work {
     pub(crate) terms: LeftTerms,
     /// What is to be looked at.
     pub(crate) waiting: Waiting,
-    /// Room for a look at a segment.
-    pub(crate) room: Room,
+    /// Room for the terms of one segment.
+    pub(crate) room: Vec<Term>,
 }
 
 /// A problem before any rule.
@@ -39,10 +39,7 @@ pub(crate) fn begun(alloc: Global, problem: Problem) -> Result<Work, NoMemory>
     let segs = parts.segs.into_vec();
     let terms = LeftTerms::of(alloc, segs.len(), parts.terms.into_vec())?;
     let mut waiting = Waiting::none(alloc);
-    let mut room = Room {
-        here: Vec::new(alloc),
-        row: Vec::new(alloc),
-    };
+    let mut room = Vec::new(alloc);
     look_at_all(&terms, segs.len(), &mut waiting, &mut room)?;
     Ok(Work {
         segs,
@@ -57,7 +54,7 @@ fn look_at_all(
     terms: &LeftTerms,
     count: usize,
     waiting: &mut Waiting,
-    room: &mut Room,
+    room: &mut Vec<Term>,
 ) -> Result<(), NoMemory>
     requires { count ≤ 20000000 }
     ensures { OnOk result (AreLooked terms.now.terms count waiting.new.merges.keys waiting.new.divides.keys) }

@@ -1,14 +1,8 @@
-use Rattle.std.proofs.Common.{ℕ, ap, ◌∙◌}
-use Rattle.order_untangle.specs.Segments.{held_rows, rows_of}
-use Rattle.order_untangle.proofs.MarkLemmas.{first_place, rows_count}
+use Rattle.std.proofs.Common.{length, sym, ◌∙◌, eqb-true}
+use Rattle.order_untangle.proofs.ReadLemmas.{no_terms_group}
 use Rattle.order_untangle.proofs.segments.group_by.Goals as goal
 
-pub least_group-requires : goal.least_group-requires
-least_group-requires c =
-    rows_count c.in_ok-rows.rows.items c.as_slice.result.now c.in_ok-most.most c.args.terms.now c.args.seg c.args.lines.now c.as_slice.ensures.value c.in_ok-rows.ensures
-
-pub returns : goal.returns
-returns c =
+pub returns-then-is_empty : goal.returns-then-is_empty
+returns-then-is_empty c =
+    no_terms_group c.args.terms.now c.args.seg c.args.lines.now c.in_ok-group.group (eqb-true (length c.args.terms.now) 0 (sym c.is_empty.ensures ∙ c.if-is_empty.true)) c.requires.rising
     c.in_ok-group.ensures
-    ∙ first_place c.args.terms.now c.args.seg c.args.lines.now (rows_of c.as_slice.result.now)
-    (ap rows_of c.as_slice.ensures.value ∙ (c.in_ok-rows.ensures ∙ ap (λ (m : ℕ). held_rows m c.args.terms.now c.args.seg c.args.lines.now) c.in_ok-most.ensures.most))
