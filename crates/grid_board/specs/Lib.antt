@@ -1,3 +1,4 @@
 pub mod Boards
 pub mod Frames
 pub mod Taking
+pub mod Points

@@ -9,18 +9,25 @@ use Rattle.map_method.specs.declared.spread.Spread.TheVariants.{Percent, Auto}
 use Rattle.map_method.specs.Methods.{IsSpread}
 use Rattle.graph_core.specs.declared.parts.GraphParts.{GraphParts}
 use Rattle.graph_core.specs.Consistent.{IsConsistent}
+use Rattle.octi_grid.specs.declared.point.GridPoint.{GridPoint}
 use Rattle.octi_grid.specs.Walks.{PlainWalk}
 use Rattle.octi_grid.specs.Legal.{legal}
+use Rattle.grid_board.specs.Boards.{contains}
+use Rattle.grid_board.specs.Points.{are_near, is_near}
 use Rattle.segment_router.specs.declared.attempts.Attempt.{Attempt}
-use Rattle.segment_router.specs.declared.placing.Placing.{Placing}
-use Rattle.segment_router.specs.Cells.{is_too_fine}
-use Rattle.segment_router.specs.Homes.{placing_at}
-use Rattle.segment_router.specs.Routes.{routes_from, IsPlacing}
-use Rattle.segment_router.specs.Routing.{attempts_of, attempts_on, first_drawn, grids_upto, limit_found, limit_of, nothing_drawn, or_else, percents_of, routes_at, IsAttempt}
-use Rattle.segment_router.specs.Spreads.{spread_offsets}
-use Rattle.segment_router.proofs.HomeFacts.{placing_fits}
+use Rattle.node_homes.specs.declared.placing.Placing.{Placing}
+use Rattle.node_homes.specs.Cells.{cell_side, is_too_fine}
+use Rattle.node_homes.specs.Homes.{grid_under, placing_at}
+use Rattle.segment_router.specs.Routes.{routes_from}
+use Rattle.node_homes.specs.Homes.{IsPlacing}
+use Rattle.segment_router.specs.Routing.{attempts_of, attempts_on, first_drawn, grids_upto, nothing_drawn, or_else, percents_of, routes_at, IsAttempt}
+use Rattle.node_homes.specs.Cells.{limit_found, limit_of}
+use Rattle.node_homes.specs.Spreads.{spread_offsets}
+use Rattle.node_homes.proofs.GridLemmas.{fine_enough, grid_near}
+use Rattle.node_homes.proofs.HomeFacts.{placing_fits}
 use Rattle.segment_router.proofs.LegalRoutes.{legal_routes, route_each_segment}
-use Rattle.segment_router.proofs.SpreadLemmas.{of_mapped, spread_each}
+use Rattle.segment_router.proofs.NearRoutes.{routes_near}
+use Rattle.node_homes.proofs.SpreadLemmas.{of_mapped, spread_each}
 
 pub drawn_now : (graph : GraphParts) (cell : ℕ) (outcome : Result (List PlainWalk) SegId) (rest : List Attempt) → is_ok outcome ≡ true → first_drawn graph cell outcome rest ≡ outcome
 drawn_now graph cell (Ok walks) [] e = refl
@@ -49,6 +56,7 @@ no_limit ps cell e = by_test (is_too_fine ps cell) refl e
 pub record IsDrawnFrom (graph : GraphParts) (walks : List PlainWalk) : Type 0 where
   pub placing : Placing
   pub placed : IsPlacing graph placing
+  pub near : (p : GridPoint) → contains (grid_under placing) p ≡ true → is_near 1800 p ≡ true
   pub drawn : routes_from graph placing ≡ Ok walks
 
 -- an attempt has an offset for each node
@@ -60,6 +68,7 @@ drawn_here : (graph : GraphParts) (cell : ℕ) (a : Attempt) (walks : List Plain
 drawn_here graph cell a walks fit fine one e = record {
   placing = placing_at graph cell a.fineness (spread_offsets graph.places a.percent);
   placed = placing_fits graph cell a.fineness (spread_offsets graph.places a.percent) fit one.fine fine (one_offset_each graph a.percent fit);
+  near = grid_near graph.places (cell_side graph.places cell) a.fineness (fine_enough graph.places cell a.fineness fine one.fine);
   drawn = e;
 }
 
@@ -90,6 +99,13 @@ pub drawn_each : (graph : GraphParts) (cell : ℕ) (attempts : List Attempt) (wa
 drawn_each graph cell attempts walks fit fine all e =
     let from = drawn_from graph cell nothing_drawn attempts walks fit fine all (nothing_known graph) e in
     route_each_segment graph from.placing walks fit from.placed from.drawn
+
+-- and its grid points lie near the origin
+pub drawn_near : (graph : GraphParts) (cell : ℕ) (attempts : List Attempt) (walks : List PlainWalk) → IsConsistent graph → is_too_fine graph.places cell ≡ false
+    → AllByRecursion IsAttempt attempts → first_drawn graph cell nothing_drawn attempts ≡ Ok walks → are_near 1800 walks ≡ true
+drawn_near graph cell attempts walks fit fine all e =
+    let from = drawn_from graph cell nothing_drawn attempts walks fit fine all (nothing_known graph) e in
+    routes_near graph from.placing walks 1800 fit from.placed from.near from.drawn
 
 -- ---- the attempts
 

@@ -9,9 +9,10 @@ use Rattle.octi_grid.specs.Legal.{are_distinct, is_even}
 use Rattle.octi_grid.proofs.Members.{among_from, are_one-refl, In}
 use Rattle.grid_board.specs.declared.bounds.Bounds.{Bounds}
 use Rattle.grid_board.specs.Boards.{contains, empty_board, with_node, BoardParts}
-use Rattle.segment_router.specs.declared.placing.Placing.{Placing}
-use Rattle.segment_router.specs.Homes.{grid_under}
-use Rattle.segment_router.specs.Routes.{none_routed, with_nodes, IsPlacing}
+use Rattle.node_homes.specs.declared.placing.Placing.{Placing}
+use Rattle.node_homes.specs.Homes.{grid_under}
+use Rattle.segment_router.specs.Routes.{none_routed, with_nodes}
+use Rattle.node_homes.specs.Homes.{IsPlacing}
 use Rattle.segment_router.specs.Underway.{IsUnderway}
 use Rattle.segment_router.proofs.Places.{all_place, in_at}
 
@@ -20,7 +21,7 @@ still_node : (homes : List GridPoint) (board : BoardParts) (p : GridPoint) → b
 still_node [] board p e = e
 still_node (q ∷ homes) board p e = still_node homes (with_node board q) p (or_right _ _ e)
 
-homes_are_nodes : (homes : List GridPoint) (board : BoardParts) (n : ℕ) (d : GridPoint) → n < length homes → (with_nodes board homes).is_node (get_or homes n d) ≡ true
+pub homes_are_nodes : (homes : List GridPoint) (board : BoardParts) (n : ℕ) (d : GridPoint) → n < length homes → (with_nodes board homes).is_node (get_or homes n d) ≡ true
 homes_are_nodes [] board n d h = absurd (omega arith)
 homes_are_nodes (q ∷ homes) board zero d h = still_node homes (with_node board q) q (or_left _ _ (are_one-refl q))
 homes_are_nodes (q ∷ homes) board (suc n) d h = homes_are_nodes homes (with_node board q) n d (omega arith)

@@ -11,13 +11,13 @@ use Rattle.octi_grid.specs.Ways.{after, are_one, doubled, doubled_from, step_fro
 use Rattle.octi_grid.specs.Walks.{doubled_of, end_point, PlainWalk}
 use Rattle.octi_grid.specs.Legal.{are_distinct, is_even}
 use Rattle.octi_grid.proofs.Members.{among_from, one_point, In}
-use Rattle.octi_grid.proofs.MeetsLemmas.{doubled-same}
 use Rattle.grid_board.specs.Boards.{is_inside, with_node_moved, BoardParts, IsBoard}
 use Rattle.walk_search.specs.Moves.{IsQuestion}
 use Rattle.grid_board.proofs.OnBoards.{board_with_walk}
 use Rattle.walk_search.proofs.Once.{route_once}
 use Rattle.segment_router.specs.Routes.{end_at, ends_of, is_settled, node_point, route_of, walk_at, with_route, Routed}
 use Rattle.segment_router.specs.Underway.{IsUnderway}
+use Rattle.segment_router.proofs.ClearNodes.{walk_clear}
 use Rattle.segment_router.proofs.MaskLemmas.{free_mask}
 use Rattle.segment_router.proofs.RouteLemmas.{end_holds, start_holds}
 use Rattle.segment_router.proofs.SettledLemmas.{goes, low_point, other_point, other_settled, other_walk, own_walk, same_ends, underway_more, up_point, which_node, Goes}
@@ -41,7 +41,6 @@ pub record IsLaid (graph : GraphParts) (r : Routed) : Type 0 where
   pub ends : (s : SegId) (w : PlainWalk) → walk_at r s ≡ Some w → end_point w ≡ node_point r (ends_of graph s).1.0
   pub once : (s : SegId) (w : PlainWalk) → walk_at r s ≡ Some w → are_distinct (doubled_of w) ≡ true
   pub takes : (s : SegId) (w : PlainWalk) (d : GridPoint) → walk_at r s ≡ Some w → In d (doubled_of w) → r.board.is_taken d ≡ true
-  pub taken : (n : ℕ) → is_settled r n ≡ true → r.board.is_taken (doubled (node_point r n)) ≡ true
   pub apart : (s t : SegId) (v w : PlainWalk) (d : GridPoint) → (s.0 ≡ t.0 → ⊥) → walk_at r s ≡ Some v → walk_at r t ≡ Some w → In d (doubled_of v) → In d (doubled_of w) → Meeting graph r s t d
   pub clear : (s : SegId) (w : PlainWalk) (n : ℕ) → walk_at r s ≡ Some w → n < length graph.kinds → is_settled r n ≡ true → In (doubled (node_point r n)) (doubled_of w) → HasEnd (ends_of graph s) n
 
@@ -185,20 +184,16 @@ turned_meeting graph r s t d m = record { node = m.node; of_one = m.of_other; of
 same_end : (graph : GraphParts) (s t : SegId) → t.0 ≡ s.0 → (n : ℕ) → HasEnd (ends_of graph s) n → HasEnd (ends_of graph t) n
 same_end graph s t e n h = subst (λ (p : NodeId × NodeId). HasEnd p n) (sym (same_ends graph s t e)) h
 
--- the new walk and a node that is settled
-new_clear : (graph : GraphParts) (r : Routed) (s : SegId) (w : PlainWalk) → Goes graph r s w → IsLaid graph r → (n : ℕ) → n < length graph.kinds → is_settled (with_route graph r s w) n ≡ true
+-- the new walk and a node
+new_clear : (graph : GraphParts) (r : Routed) (s : SegId) (w : PlainWalk) → Goes graph r s w → (n : ℕ) → n < length graph.kinds
     → In (doubled (node_point (with_route graph r s w) n)) (doubled_of w) → HasEnd (ends_of graph s) n
-new_clear graph r s w g laid n h settled m = by_node (which_node (ends_of graph s).0.0 (ends_of graph s).1.0 n)
+new_clear graph r s w g n h m = by_node (which_node (ends_of graph s).0.0 (ends_of graph s).1.0 n)
   where
     by_node : (n ≡ (ends_of graph s).0.0) ⊎ ((n ≡ (ends_of graph s).1.0) ⊎ ((n ≡ (ends_of graph s).0.0 → ⊥) × (n ≡ (ends_of graph s).1.0 → ⊥))) → HasEnd (ends_of graph s) n
     by_node (inl e) = inl (sym e)
     by_node (inr (inl e)) = inr (sym e)
     by_node (inr (inr f)) =
-        let before : is_settled r n ≡ true = sym (other_settled graph r s w n f.0 f.1) ∙ settled in
-        let here : In (doubled (node_point r n)) (doubled_of w) = subst (λ p. In (doubled p) (doubled_of w)) (other_point graph r s w n f.0 f.1) m in
-        let a = at_settled_end graph r s w g (doubled (node_point r n)) here (laid.taken n before) in
-        let same : a.node ≡ n = laid.underway.apart a.node n a.inside h (doubled-same (node_point r a.node) (node_point r n) a.there) in
-        subst (HasEnd (ends_of graph s)) same a.of_segment
+        absurd (walk_clear graph r s w g n h f.0 f.1 (subst (λ p. In (doubled p) (doubled_of w)) (other_point graph r s w n f.0 f.1) m))
 
 -- a walk that was laid before and a node that is settled
 old_clear : (graph : GraphParts) (r : Routed) (s : SegId) (w : PlainWalk) → Goes graph r s w → IsLaid graph r → (t : SegId) (v : PlainWalk) (n : ℕ) → walk_at r t ≡ Some v → n < length graph.kinds
@@ -226,22 +221,6 @@ taken_new graph r s w d m = or_left _ _ (among_from (doubled_of w) d m)
 taken_old : (graph : GraphParts) (r : Routed) (s : SegId) (w : PlainWalk) (d : GridPoint) → r.board.is_taken d ≡ true → (with_route graph r s w).board.is_taken d ≡ true
 taken_old graph r s w d e = or_right _ _ e
 
-taken_then : (graph : GraphParts) (r : Routed) (s : SegId) (w : PlainWalk) → Goes graph r s w → IsLaid graph r → (n : ℕ) → is_settled (with_route graph r s w) n ≡ true
-    → (with_route graph r s w).board.is_taken (doubled (node_point (with_route graph r s w) n)) ≡ true
-taken_then graph r s w g laid n settled = by_node (which_node (ends_of graph s).0.0 (ends_of graph s).1.0 n)
-  where
-    by_node : (n ≡ (ends_of graph s).0.0) ⊎ ((n ≡ (ends_of graph s).1.0) ⊎ ((n ≡ (ends_of graph s).0.0 → ⊥) × (n ≡ (ends_of graph s).1.0 → ⊥)))
-        → (with_route graph r s w).board.is_taken (doubled (node_point (with_route graph r s w) n)) ≡ true
-    by_node (inl e) =
-        taken_new graph r s w (doubled (node_point (with_route graph r s w) n))
-        (subst (λ p. In (doubled p) (doubled_of w)) (sym (ap (node_point (with_route graph r s w)) e ∙ low_point graph r s w g)) (start_on_way w.start w.steps))
-    by_node (inr (inl e)) =
-        taken_new graph r s w (doubled (node_point (with_route graph r s w) n))
-        (subst (λ p. In (doubled p) (doubled_of w)) (sym (ap (node_point (with_route graph r s w)) e ∙ up_point graph r s w g)) (end_on_way w.start w.steps))
-    by_node (inr (inr f)) =
-        taken_old graph r s w (doubled (node_point (with_route graph r s w) n))
-        (ap (λ p. r.board.is_taken (doubled p)) (other_point graph r s w n f.0 f.1) ∙ laid.taken n (sym (other_settled graph r s w n f.0 f.1) ∙ settled))
-
 -- one walk more is laid
 pub laid_more : (graph : GraphParts) → IsConsistent graph → (r : Routed) → IsLaid graph r → (s : SegId) → s.0 < length graph.ends → (w : PlainWalk) → route_of graph r s ≡ Some w → IsLaid graph (with_route graph r s w)
 laid_more graph fit r laid s h w e =
@@ -253,7 +232,6 @@ laid_more graph fit r laid s h w e =
       ends = λ t v k. ends g t v (which_walk graph r s w g t v k);
       once = λ t v k. once g t v (which_walk graph r s w g t v k);
       takes = λ t v d k m. takes t v d m (which_walk graph r s w g t v k);
-      taken = taken_then graph r s w g laid;
       apart = λ t u v x d f k l m n. apart g t u v x d f m n (which_walk graph r s w g t v k) (which_walk graph r s w g u x l);
       clear = λ t v n k b settled m. clear g t v n b settled m (which_walk graph r s w g t v k);
     }
@@ -299,5 +277,5 @@ laid_more graph fit r laid s h w e =
     clear : Goes graph r s w → (t : SegId) (v : PlainWalk) (n : ℕ) → n < length graph.kinds → is_settled (with_route graph r s w) n ≡ true → In (doubled (node_point (with_route graph r s w) n)) (doubled_of v)
         → ((t.0 ≡ s.0) × (w ≡ v)) ⊎ ((t.0 ≡ s.0 → ⊥) × (walk_at r t ≡ Some v)) → HasEnd (ends_of graph t) n
     clear g t v n b settled m (inl k) =
-        same_end graph s t k.0 n (new_clear graph r s w g laid n b settled (subst (λ (x : PlainWalk). In (doubled (node_point (with_route graph r s w) n)) (doubled_of x)) (sym k.1) m))
+        same_end graph s t k.0 n (new_clear graph r s w g n b (subst (λ (x : PlainWalk). In (doubled (node_point (with_route graph r s w) n)) (doubled_of x)) (sym k.1) m))
     clear g t v n b settled m (inr k) = old_clear graph r s w g laid t v n k.1 b settled m

@@ -1,7 +1,6 @@
 -- The routes of all segments are legal.
-use Rattle.std.proofs.Common.{◌≡◌, ℕ, zero, suc, ◌+◌, ◌<◌, ◌≤◌, true, false, eqb, ◌||◌, List, [], ◌∷◌, length, get_or, replicate, slice_get, Option, Some, None, Result, Ok, Err, sym, refl, ap, subst, ◌∙◌, arith, ◌⊎◌, inl, inr}
-use Rattle.std.proofs.lemmas.Bool.{and_from, and_parts, cases_Bool, cases_eq, cases_lt, eq-eqb, not_from_false, or_cases, or_left, or_right, false≢true}
-use Rattle.std.proofs.lemmas.List.{get_or-replicate, get_or_past, length-replicate}
+use Rattle.std.proofs.Common.{◌≡◌, ℕ, zero, suc, ◌+◌, ◌<◌, true, false, eqb, ◌||◌, List, [], ◌∷◌, length, get_or, replicate, slice_get, Option, Some, None, Result, Ok, Err, sym, refl, ap, subst, ◌∙◌, arith, ◌⊎◌, inl, inr}
+use Rattle.std.proofs.lemmas.Bool.{and_from, and_parts, cases_Bool, cases_eq, eq-eqb, not_from_false, or_cases, or_left, or_right}
 use Rattle.std.specs.Prelude.{is_none}
 use Rattle.std.specs.List.{cons_option, filter_map, list_all, zip}
 use Rattle.map_base.specs.declared.ids.NodeId.{NodeId}
@@ -19,10 +18,11 @@ use Rattle.octi_grid.proofs.PortsLemmas.{ports_each, why_ports}
 use Rattle.grid_board.specs.declared.bounds.Bounds.{Bounds}
 use Rattle.grid_board.specs.Boards.{cells_of, doubled_bounds, empty_board, is_inside, with_node, AreBounds, BoardParts, IsBoard}
 use Rattle.grid_board.proofs.OnBoards.{kept_empty, shown_empty}
-use Rattle.segment_router.specs.declared.placing.Placing.{Placing}
-use Rattle.segment_router.specs.Homes.{grid_under}
+use Rattle.node_homes.specs.declared.placing.Placing.{Placing}
+use Rattle.node_homes.specs.Homes.{grid_under}
 use Rattle.segment_router.specs.Orders.{routing_order}
-use Rattle.segment_router.specs.Routes.{after_route, begun, ends_of, is_settled, node_point, port_at_node, port_by, route_each, route_of, routes_from, walk_at, walks_of, with_nodes, with_route, IsPlacing, Routed}
+use Rattle.segment_router.specs.Routes.{after_route, begun, ends_of, is_settled, node_point, port_at_node, port_by, route_each, route_of, routes_from, walk_at, walks_of, with_nodes, with_route, Routed}
+use Rattle.node_homes.specs.Homes.{IsPlacing}
 use Rattle.segment_router.proofs.Beginning.{nothing_there, underway_begins}
 use Rattle.segment_router.proofs.LaidLemmas.{laid_more, HasEnd, IsLaid}
 use Rattle.segment_router.proofs.LaidPorts.{clockwise_begins, clockwise_more, ports_agree, AreClockwise}
@@ -49,22 +49,15 @@ board_with_node board p fit inside even = record {
     by_even q (inl e) = ap is_even (sym (one_point p q e)) ∙ even
     by_even q (inr e) = fit.nodes_even q e
 
-board_with_nodes : (homes : List GridPoint) (board : BoardParts) → IsBoard board → list_all (is_inside board) homes ≡ true → list_all is_even homes ≡ true → IsBoard (with_nodes board homes)
+pub board_with_nodes : (homes : List GridPoint) (board : BoardParts) → IsBoard board → list_all (is_inside board) homes ≡ true → list_all is_even homes ≡ true → IsBoard (with_nodes board homes)
 board_with_nodes [] board fit inside even = fit
 board_with_nodes (p ∷ homes) board fit inside even =
     board_with_nodes homes (with_node board p) (board_with_node board p fit (and_parts _ _ inside).0 (and_parts _ _ even).0) (and_parts _ _ inside).1 (and_parts _ _ even).1
 
-empty_fits : (b : Bounds) → AreBounds b → IsBoard (empty_board b)
+pub empty_fits : (b : Bounds) → AreBounds b → IsBoard (empty_board b)
 empty_fits b fit = subst IsBoard (shown_empty b (cells_of b) (cells_of (doubled_bounds b))) (kept_empty b fit).board
 
-not_yet : (n i : ℕ) → get_or (replicate n false) i false ≡ false
-not_yet n i = by_order (cases_lt i n)
-  where
-    by_order : (i < n) ⊎ (n ≤ i) → get_or (replicate n false) i false ≡ false
-    by_order (inl h) = get_or-replicate n i false false h
-    by_order (inr h) = get_or_past (replicate n false) i false (omega (arith, length-replicate n false))
-
-no_walk : {P : Type 0} (n i : ℕ) (w : PlainWalk) → (let none : Option PlainWalk = None in get_or (replicate n none) i none) ≡ Some w → P
+pub no_walk : {P : Type 0} (n i : ℕ) (w : PlainWalk) → (let none : Option PlainWalk = None in get_or (replicate n none) i none) ≡ Some w → P
 no_walk n i w e = let clash : (let none : Option PlainWalk = None in none) ≡ Some w = sym (nothing_there n i) ∙ e in cc
 
 pub laid_begins : (graph : GraphParts) (placing : Placing) → IsPlacing graph placing → IsLaid graph (begun graph placing)
@@ -75,13 +68,12 @@ laid_begins graph placing fit = record {
   ends = λ s w e. no_walk (length graph.ends) s.0 w e;
   once = λ s w e. no_walk (length graph.ends) s.0 w e;
   takes = λ s w d e m. no_walk (length graph.ends) s.0 w e;
-  taken = λ n e. absurd (false≢true (sym (not_yet (length placing.points) n) ∙ e));
   apart = λ s t v w d f e. no_walk (length graph.ends) s.0 v e;
   clear = λ s w n e. no_walk (length graph.ends) s.0 w e;
 }
 
 -- segments are laid one after another
-abbrev HasWalk : Routed → SegId → Type 0
+abbrev pub HasWalk : Routed → SegId → Type 0
 HasWalk r s = (w : PlainWalk) × (walk_at r s ≡ Some w)
 
 pub record IsDone (graph : GraphParts) (order : List SegId) (old r : Routed) : Type 0 where
@@ -89,7 +81,7 @@ pub record IsDone (graph : GraphParts) (order : List SegId) (old r : Routed) : T
   pub clockwise : AreClockwise graph r
   pub each : (s : SegId) → In s order ⊎ HasWalk old s → HasWalk r s
 
-done : (graph : GraphParts) → IsConsistent graph → (order : List SegId) (old r : Routed) → IsLaid graph old → AreClockwise graph old
+pub done : (graph : GraphParts) → IsConsistent graph → (order : List SegId) (old r : Routed) → IsLaid graph old → AreClockwise graph old
     → ((s : SegId) → In s order → s.0 < length graph.ends) → route_each graph order old ≡ Ok r → IsDone graph order old r
 done graph fit [] old r laid clockwise within e =
     let same : old ≡ r = cc in
@@ -128,7 +120,7 @@ routes_done graph fit placing placed r e =
 abbrev no_ends : NodeId × NodeId
 no_ends = (record { 0 = 0 }, record { 0 = 0 })
 
-abbrev AllThere : List (Option PlainWalk) → Type 0
+abbrev pub AllThere : List (Option PlainWalk) → Type 0
 AllThere ws = (i : ℕ) → i < length ws → (w : PlainWalk) × (get_or ws i None ≡ Some w)
 
 leg_at : (es : List (NodeId × NodeId)) (ws : List (Option PlainWalk)) → length es ≡ length ws → AllThere ws → (i : ℕ) → i < length es
@@ -299,7 +291,7 @@ all_ports graph r a = ports_each (legs_in graph r) 0 graph.rounds (λ i h. at_no
         ∙ ap are_clockwise (ports_agree (port_of (legs_in graph r) i) (port_at_node graph r i) (get_or graph.rounds i []) (port_there graph r a i h))
         ∙ a.clockwise i h
 
-all_legal : (graph : GraphParts) (r : Routed) → AreAll graph r → legal graph (filter_map (λ w. w) r.walks) ≡ true
+pub all_legal : (graph : GraphParts) (r : Routed) → AreAll graph r → legal graph (filter_map (λ w. w) r.walks) ≡ true
 all_legal graph r a = ap is_none (why_ports graph.rounds (legs_in graph r) true (all_ends graph r a) (all_meets graph r a) (all_ports graph r a))
 
 -- what routes are made of: routing at its end, when every segment has its walk
@@ -330,7 +322,7 @@ legal_routes graph placing walks fit placed e =
     subst (λ (ws : List PlainWalk). legal graph ws ≡ true) f.are (all_legal graph f.routed f.all)
 
 -- and there is one for each segment
-all_kept : (ws : List (Option PlainWalk)) → AllThere ws → length (filter_map (λ v. v) ws) ≡ length ws
+pub all_kept : (ws : List (Option PlainWalk)) → AllThere ws → length (filter_map (λ v. v) ws) ≡ length ws
 all_kept [] all = refl
 all_kept (o ∷ ws) all = by_walk o (all 0 (omega arith)) (all_kept ws (λ j d. all (suc j) (omega arith)))
   where

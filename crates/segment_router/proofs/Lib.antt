@@ -1,26 +1,19 @@
 pub mod Places
 pub mod TourLemmas
-mod OrderLemmas
-mod CellLemmas
-mod Distances
-mod Rows
-mod Sides
-mod Columns
-mod OpenPoints
-mod Rooms
-mod GridLemmas
-pub mod HomeFacts
-pub mod SpreadLemmas
+pub mod OrderLemmas
 mod AttemptLemmas
 pub mod RouteLemmas
 pub mod SettledLemmas
 mod MaskLemmas
 mod ClockLemmas
-mod RoutingLemmas
+pub mod RoutingLemmas
 mod OrderFacts
-mod Beginning
-mod LaidLemmas
-mod LaidPorts
+pub mod Beginning
+pub mod ClearNodes
+pub mod LaidLemmas
+pub mod LaidPorts
 pub mod LegalRoutes
+pub mod Again
+mod NearRoutes
 mod ShownLemmas
 mod Examples

@@ -5,28 +5,26 @@ use Rattle.std.specs.List.{list_any}
 use Rattle.map_base.specs.declared.ids.SegId.{SegId}
 use Rattle.graph_core.specs.declared.parts.GraphParts.{GraphParts}
 use Rattle.graph_core.specs.Consistent.{IsConsistent}
-use Rattle.octi_grid.specs.declared.dir.Dir.{Dir}
 use Rattle.octi_grid.specs.declared.point.GridPoint.{GridPoint}
-use Rattle.octi_grid.specs.Ways.{after, are_one, doubled, doubled_from, step_from}
+use Rattle.octi_grid.specs.Ways.{are_one, doubled}
 use Rattle.octi_grid.specs.Walks.{doubled_of, end_point, PlainWalk}
 use Rattle.octi_grid.specs.Legal.{is_among}
 use Rattle.octi_grid.proofs.Members.{among_at, among_from, any_at, any_from, are_one-refl, not_among, one_point, same_test, In}
 use Rattle.grid_board.specs.Boards.{empty_board, with_node, BoardParts}
-use Rattle.walk_search.specs.Routes.{inner_points}
 use Rattle.walk_search.specs.Seats.{is_free_seat}
-use Rattle.walk_search.proofs.FreeWalks.{never_middle, same_doubled}
-use Rattle.walk_search.proofs.FreeWays.{inner_from, inner_is}
-use Rattle.segment_router.specs.declared.placing.Placing.{Placing}
-use Rattle.segment_router.specs.Homes.{grid_under}
+use Rattle.node_homes.specs.declared.placing.Placing.{Placing}
+use Rattle.node_homes.specs.Homes.{grid_under}
 use Rattle.segment_router.specs.Orders.{routing_order}
-use Rattle.segment_router.specs.Routes.{after_route, begun, ends_of, has_doubled, is_settled, node_point, route_each, route_of, routed_after, walk_at, with_nodes, with_route, IsPlacing, Routed}
+use Rattle.segment_router.specs.Routes.{after_route, begun, ends_of, has_doubled, is_settled, node_point, route_each, route_of, routed_after, walk_at, with_nodes, with_route, Routed}
+use Rattle.node_homes.specs.Homes.{IsPlacing}
 use Rattle.segment_router.proofs.Beginning.{nothing_there, taken_stays}
+use Rattle.segment_router.proofs.ClearNodes.{walk_clear}
 use Rattle.segment_router.proofs.LaidLemmas.{laid_more, IsLaid}
 use Rattle.segment_router.proofs.LegalRoutes.{laid_begins}
 use Rattle.segment_router.proofs.OrderFacts.{order_in, order_once, AreOnce}
 use Rattle.segment_router.proofs.OrderLemmas.{read_at}
 use Rattle.segment_router.proofs.Places.{in_at, place_of, same_seg, seg_at}
-use Rattle.segment_router.proofs.SettledLemmas.{end_away, goes, low_point, low_settled, other_point, other_settled, other_walk, own_walk, start_away, up_before, up_point, up_settled, which_node, Goes}
+use Rattle.segment_router.proofs.SettledLemmas.{goes, low_point, low_settled, other_point, other_settled, other_walk, own_walk, up_before, up_point, up_settled, which_node, Goes}
 
 -- a node at a point
 pub record NodeAt (graph : GraphParts) (r : Routed) (p : GridPoint) : Type 0 where
@@ -72,45 +70,6 @@ shown_begins graph placing fit = record {
     by_home : (p : GridPoint) → (false ≡ true) ⊎ ((n : ℕ) × (n < length placing.points) × (get_or placing.points n (record { x = pos 0; y = pos 0 }) ≡ p)) → NodeAt graph (begun graph placing) p
     by_home p (inl e) = absurd (false≢true e)
     by_home p (inr h) = record { node = h.0; within = omega (arith, h.1, fit.one_each); there = h.2 }
-
--- a doubled point of a way that is a point twice is one of its grid points
-on_way : (q p : GridPoint) (ds : List Dir) → In (doubled q) (doubled_from p ds) → (q ≡ p) ⊎ (In q (inner_from p ds) ⊎ (q ≡ after p ds))
-on_way q p [] (inl e) = inl (same_doubled q p e)
-on_way q p [] (inr m) = absurd m
-on_way q p (d ∷ ds) (inl e) = inl (same_doubled q p e)
-on_way q p (d ∷ ds) (inr (inl e)) = absurd (never_middle q p d e)
-on_way q p (d ∷ []) (inr (inr m)) = by_end (on_way q (step_from p d) [] m)
-  where
-    by_end : (q ≡ step_from p d) ⊎ (⊥ ⊎ (q ≡ step_from p d)) → (q ≡ p) ⊎ (⊥ ⊎ (q ≡ step_from p d))
-    by_end (inl e) = inr (inr e)
-    by_end (inr (inl m)) = absurd m
-    by_end (inr (inr e)) = inr (inr e)
-on_way q p (d ∷ e ∷ ds) (inr (inr m)) = by_part (on_way q (step_from p d) (e ∷ ds) m)
-  where
-    by_part : (q ≡ step_from p d) ⊎ (In q (inner_from (step_from p d) (e ∷ ds)) ⊎ (q ≡ after (step_from p d) (e ∷ ds)))
-        → (q ≡ p) ⊎ (((q ≡ step_from p d) ⊎ In q (inner_from (step_from p d) (e ∷ ds))) ⊎ (q ≡ after (step_from p d) (e ∷ ds)))
-    by_part (inl h) = inr (inl (inl h))
-    by_part (inr (inl n)) = inr (inl (inr n))
-    by_part (inr (inr h)) = inr (inr h)
-
-on_walk : (w : PlainWalk) (q : GridPoint) → In (doubled q) (doubled_of w) → (q ≡ w.start) ⊎ (In q (inner_points w) ⊎ (q ≡ end_point w))
-on_walk w q m = by_steps w.steps refl (on_way q w.start w.steps m)
-  where
-    by_steps : (ds : List Dir) → w.steps ≡ ds → (q ≡ w.start) ⊎ (In q (inner_from w.start w.steps) ⊎ (q ≡ end_point w)) → (q ≡ w.start) ⊎ (In q (inner_points w) ⊎ (q ≡ end_point w))
-    by_steps ds e (inl h) = inl h
-    by_steps ds e (inr (inr h)) = inr (inr h)
-    by_steps [] e (inr (inl n)) = absurd (subst (λ (v : List Dir). In q (inner_from w.start v)) e n)
-    by_steps (d ∷ ds) e (inr (inl n)) = inr (inl (subst (λ (v : List GridPoint). In q v) (sym (inner_is w d ds e)) (subst (λ (v : List Dir). In q (inner_from w.start v)) e n)))
-
--- a new walk is clear of the nodes that it does not join
-walk_clear : (graph : GraphParts) (r : Routed) (s : SegId) (w : PlainWalk) → Goes graph r s w → (n : ℕ) → n < length graph.kinds → (n ≡ (ends_of graph s).0.0 → ⊥) → (n ≡ (ends_of graph s).1.0 → ⊥)
-    → In (doubled (node_point r n)) (doubled_of w) → ⊥
-walk_clear graph r s w g n h not_low not_up m = by_place (on_walk w (node_point r n) m)
-  where
-    by_place : (node_point r n ≡ w.start) ⊎ (In (node_point r n) (inner_points w) ⊎ (node_point r n ≡ end_point w)) → ⊥
-    by_place (inl e) = start_away graph r s w g n h (λ k. not_low (sym k)) (sym e)
-    by_place (inr (inl i)) = true≢false (sym (any_from r.board.is_node (inner_points w) (node_point r n) i (g.underway.on_board n h)) ∙ g.route.past_nodes)
-    by_place (inr (inr e)) = end_away graph r s w g n h (λ k. not_up (sym k)) (sym e)
 
 -- one walk more
 node_then : (graph : GraphParts) (r : Routed) (s : SegId) (w : PlainWalk) → Goes graph r s w → ((p : GridPoint) → r.board.is_node p ≡ true → NodeAt graph r p) → (p : GridPoint)

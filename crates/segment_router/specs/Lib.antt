@@ -1,11 +1,7 @@
-pub mod Cells
-pub mod Nodes
-pub mod Spreads
-pub mod Homes
-pub mod Nearest
 pub mod Ports
 pub mod Orders
 pub mod Routes
 pub mod Underway
 pub mod Routing
 pub mod Tours
+pub mod Standing

@@ -1,19 +1,19 @@
 -- Routes of segments, one after another.
-use Rattle.std.specs.Prelude.{◌≡◌, ℕ, Bool, true, false, not, pos, List, [], ◌∷◌, length, replicate, take, Option, Some, None, Result, Ok, Err, slice_index_or, slice_set}
-use Rattle.std.specs.List.{list_all, filter_map}
+use Rattle.std.specs.Prelude.{ℕ, Bool, true, false, not, pos, List, [], ◌∷◌, length, replicate, take, Option, Some, None, Result, Ok, Err, slice_index_or, slice_set}
+use Rattle.std.specs.List.{filter_map}
 use Rattle.map_base.specs.declared.ids.NodeId.{NodeId}
 use Rattle.map_base.specs.declared.ids.SegId.{SegId}
 use Rattle.graph_core.specs.declared.parts.GraphParts.{GraphParts}
 use Rattle.octi_grid.specs.declared.dir.Dir.{Dir}
 use Rattle.octi_grid.specs.declared.point.GridPoint.{GridPoint}
 use Rattle.octi_grid.specs.Walks.{PlainWalk, doubled_of, end_point}
-use Rattle.octi_grid.specs.Legal.{are_distinct, is_among, is_even, port_at}
+use Rattle.octi_grid.specs.Legal.{is_among, port_at}
 use Rattle.grid_board.specs.declared.bounds.Bounds.{Bounds}
 use Rattle.walk_search.specs.declared.ends.End.{End}
-use Rattle.grid_board.specs.Boards.{contains, empty_board, with_node, with_node_moved, with_walk, AreBounds, BoardParts}
+use Rattle.grid_board.specs.Boards.{empty_board, with_node, with_node_moved, with_walk, BoardParts}
 use Rattle.walk_search.specs.Routes.{route}
-use Rattle.segment_router.specs.declared.placing.Placing.{Placing}
-use Rattle.segment_router.specs.Homes.{grid_under}
+use Rattle.node_homes.specs.declared.placing.Placing.{Placing}
+use Rattle.node_homes.specs.Homes.{grid_under}
 use Rattle.segment_router.specs.Ports.{allowed_mask}
 use Rattle.segment_router.specs.Orders.{routing_order}
 
@@ -123,11 +123,3 @@ routed_after graph placing k = route_each graph (take k (routing_order graph.lin
 abbrev pub has_doubled : GridPoint → Option PlainWalk → Bool
 has_doubled d None = false
 has_doubled d (Some w) = is_among (doubled_of w) d
-
--- a placing from which the segments of a graph can be routed: its homes are one a node, distinct, even and on its grid
-pub record IsPlacing (graph : GraphParts) (placing : Placing) : Type 0 where
-  pub grid : AreBounds (grid_under placing)
-  pub one_each : length placing.points ≡ length graph.kinds
-  pub distinct : are_distinct placing.points ≡ true
-  pub even : list_all is_even placing.points ≡ true
-  pub inside : list_all (contains (grid_under placing)) placing.points ≡ true

@@ -1,10 +1,8 @@
 -- What comes of a graph: its drawing, or why it has none.
-use Rattle.std.specs.Prelude.{ℕ, ◌≡◌, ◌<◌, ◌≤◌, nat_le, List, [], ◌∷◌, map, filter, if◌then◌else◌, Option, Some, None, Result, Ok, Err}
+use Rattle.std.specs.Prelude.{ℕ, ◌≡◌, ◌<◌, ◌≤◌, nat_le, List, [], ◌∷◌, map, filter, Option, Some, None, Result, Ok, Err}
 use Rattle.std.specs.List.{flat_map}
-use Rattle.map_base.specs.declared.point.Point.{Point}
 use Rattle.map_base.specs.declared.ids.SegId.{SegId}
 use Rattle.map_base.specs.declared.limit.Limit.{Limit}
-use Rattle.map_base.specs.declared.limit.LimitKind.TheVariants as kind
 use Rattle.map_method.specs.declared.spread.Spread.{Spread}
 use Rattle.map_method.specs.declared.spread.Spread.TheVariants.{Percent, Auto}
 use Rattle.graph_core.specs.declared.parts.GraphParts.{GraphParts}
@@ -12,9 +10,9 @@ use Rattle.octi_grid.specs.Walks.{PlainWalk}
 use Rattle.segment_router.specs.declared.fault.RouteFault.{RouteFault}
 use Rattle.segment_router.specs.declared.fault.RouteFault.TheVariants as fault
 use Rattle.segment_router.specs.declared.attempts.Attempt.{Attempt}
-use Rattle.segment_router.specs.Cells.{fine_cells, is_too_fine}
-use Rattle.segment_router.specs.Spreads.{spread_offsets}
-use Rattle.segment_router.specs.Homes.{placing_at}
+use Rattle.node_homes.specs.Cells.{limit_of}
+use Rattle.node_homes.specs.Spreads.{spread_offsets}
+use Rattle.node_homes.specs.Homes.{placing_at}
 use Rattle.segment_router.specs.Routes.{routes_from}
 
 -- the routes of an attempt
@@ -63,14 +61,6 @@ pub record IsAttempt (a : Attempt) : Type 0 where
 abbrev pub as_outcome : Result (List PlainWalk) SegId → Result (List PlainWalk) RouteFault
 as_outcome (Ok walks) = Ok walks
 as_outcome (Err s) = Err (fault.NoRoute s)
-
--- the limit of cells, with the count of them on the finest grid
-abbrev pub limit_found : List Point → ℕ → Limit
-limit_found ps cell = record { what = kind.Cells; found = fine_cells ps cell; most = 400 }
-
--- the limit of cells, where the finest grid under a cell that is asked for has too many
-abbrev pub limit_of : List Point → ℕ → Option Limit
-limit_of ps cell = if is_too_fine ps cell then Some (limit_found ps cell) else None
 
 -- a limit comes before all else
 abbrev pub outcome_under : Option Limit → Result (List PlainWalk) SegId → Result (List PlainWalk) RouteFault

@@ -4,29 +4,29 @@ ghost use Rattle.std.specs.Prelude.{◌≡◌, ◌≤◌, length, true, false, I
 ghost use Rattle.std.specs.List.{AllByRecursion};
 ghost use Rattle.graph_core.specs.Consistent.{IsConsistent};
 ghost use Rattle.octi_grid.specs.Legal.{legal};
+ghost use Rattle.grid_board.specs.Points.{are_near};
 ghost use Rattle.map_method.specs.Methods.{IsSpread};
-ghost use Rattle.segment_router.specs.Cells.{is_too_fine};
+ghost use Rattle.node_homes.specs.Cells.{is_too_fine};
 ghost use Rattle.segment_router.specs.Orders.{routing_order};
-ghost use Rattle.segment_router.specs.Routing.{first_drawn, limit_of, nothing_drawn, outcome_of, route_outcome, routes_at, HasCause, IsAttempt};
-ghost use Rattle.segment_router.specs.Spreads.{places_of};
+ghost use Rattle.segment_router.specs.Routing.{first_drawn, nothing_drawn, outcome_of, route_outcome, routes_at, HasCause, IsAttempt};
+ghost use Rattle.node_homes.specs.Cells.{limit_of};
+ghost use Rattle.node_homes.specs.Spreads.{places_of};
 
 use crate::attempts::{Attempt, attempts_of};
-use crate::cells::{extents_of, fine_cells};
 use crate::fault::RouteFault;
 use crate::order::routing_order;
-use crate::placing::place_spread;
 use crate::routing::routes_from;
-use crate::spreading::{Place, places_of};
 use graph_core::LineGraph;
-use map_base::{Limit, LimitKind, NoMemory, SegId, Sequence};
+use map_base::{NoMemory, SegId, Sequence};
 use map_method::Spread;
+use node_homes::{Place, cells_over, place_spread, places_of};
 use octi_grid::{Drawing, Walk};
 use std::alloc::Global;
 
 /// The drawing of a line graph on cells of a side in decimetres, or of a fiftieth of its extent for 0: the routes of its
 /// segments, one after another, at the first attempt at which every segment has a free walk. The grids have the finenesses
 /// 1, 2, 4, 8 and 16 up to the finest, and on each one nodes are spread as asked for, before the next one. The drawing is
-/// legal, and has one walk for each segment. A fault is the limit of cells, or the first segment that has no free walk at
+/// legal, has one walk for each segment, and lies within 1,800 grid steps of the origin either way. A fault is the limit of cells, or the first segment that has no free walk at
 /// the last attempt.
 pub fn route(
     alloc: Global,
@@ -40,6 +40,7 @@ pub fn route(
     ensures cause { IfErr result (λ fault. HasCause (route_outcome graph.now cell spread finest) fault) }
     ensures legal { IfOk result (λ d. legal graph.now d.walks ≡ true) }
     ensures each { IfOk result (λ d. length d.walks ≡ length graph.now.ends) }
+    ensures near { IfOk result (λ d. are_near 1800 d.walks ≡ true) }
 {
     let attempts = attempts_of(alloc, spread, finest)?;
     draw(alloc, graph, cell, &attempts)
@@ -57,6 +58,7 @@ fn draw(
     ensures cause { IfErr result (λ fault. HasCause (outcome_of graph.now cell attempts.now) fault) }
     ensures legal { IfOk result (λ d. legal graph.now d.walks ≡ true) }
     ensures each { IfOk result (λ d. length d.walks ≡ length graph.now.ends) }
+    ensures near { IfOk result (λ d. are_near 1800 d.walks ≡ true) }
 {
     if let Some(limit) = cells_over(graph, cell) {
         return Err(RouteFault::Limit(limit));
@@ -67,26 +69,6 @@ fn draw(
         Ok(walks) => Ok(Drawing { walks }),
         Err(seg) => Err(RouteFault::NoRoute { seg }),
     }
-}
-
-/// The limit of cells, where a side is asked for under which a grid four times as fine as the first has too many.
-fn cells_over(graph: &LineGraph, cell: u32) -> Option<Limit>
-    ensures limit { result ≡ limit_of graph.now.places cell }
-    ensures graph { IsConsistent graph.now }
-{
-    let extents = extents_of(graph);
-    if cell == 0 {
-        return None;
-    }
-    let found = fine_cells(extents, cell);
-    if found <= 400 {
-        return None;
-    }
-    Some(Limit {
-        what: LimitKind::Cells,
-        found,
-        most: 400,
-    })
 }
 
 /// The walks of the first attempt at which every segment has a free walk; where there is none, the first segment without

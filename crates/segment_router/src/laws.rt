@@ -1,19 +1,16 @@
 //! Laws of routes.
 
-ghost use Rattle.std.specs.Prelude.{◌≡◌, ◌<◌, ◌≤◌, ◌≤ℤ◌, ℕ, Bool, length, List, Ok, true, false};
+ghost use Rattle.std.specs.Prelude.{◌≡◌, ◌<◌, ℕ, length, List, Ok, true, false};
 ghost use Rattle.std.specs.List.{list_any};
-ghost use Rattle.map_base.specs.declared.point.Point.{Point};
 ghost use Rattle.graph_core.specs.declared.parts.GraphParts.{GraphParts};
 ghost use Rattle.graph_core.specs.Consistent.{IsConsistent};
 ghost use Rattle.octi_grid.specs.declared.point.GridPoint.{GridPoint};
 ghost use Rattle.octi_grid.specs.Walks.{PlainWalk};
 ghost use Rattle.octi_grid.specs.Legal.{is_among, legal};
 ghost use Rattle.walk_search.specs.Seats.{is_free_seat};
-ghost use Rattle.segment_router.specs.declared.placing.Placing.{Placing};
-ghost use Rattle.segment_router.specs.Cells.{offsets_of};
-ghost use Rattle.segment_router.specs.Nodes.{coordinate_at};
-ghost use Rattle.segment_router.specs.Spreads.{spread_along, spread_offsets};
-ghost use Rattle.segment_router.specs.Routes.{has_doubled, is_settled, node_point, routed_after, routes_from, IsPlacing, Routed};
+ghost use Rattle.node_homes.specs.declared.placing.Placing.{Placing};
+ghost use Rattle.segment_router.specs.Routes.{has_doubled, is_settled, node_point, routed_after, routes_from, Routed};
+ghost use Rattle.node_homes.specs.Homes.{IsPlacing};
 
 /// A law: where every segment of a graph has a route from a placing, the routes are a legal drawing, one for each
 /// segment. Each walk joins the points of its nodes, which are even and distinct; no doubled point is there twice, or
@@ -34,11 +31,4 @@ pub fn homes_stay_free()
 pub fn the_board_shows_nodes_and_walks()
     ensures nodes { (graph : GraphParts) (placing : Placing) (k : ℕ) (r : Routed) (p : GridPoint) → IsConsistent graph → IsPlacing graph placing → routed_after graph placing k ≡ Ok r → r.board.is_node p ≡ is_among r.points p }
     ensures walks { (graph : GraphParts) (placing : Placing) (k : ℕ) (r : Routed) (d : GridPoint) → IsConsistent graph → IsPlacing graph placing → routed_after graph placing k ≡ Ok r → r.board.is_taken d ≡ list_any (has_doubled d) r.walks }
-{}
-
-/// A law: spreading keeps sides. A node that lay no farther east than another, or no farther north, is not put farther; and
-/// where nodes are put no part of the way, they stay.
-pub fn spreading_keeps_sides()
-    ensures sides { (ps : List Point) (percent : ℕ) (east : Bool) (n m : ℕ) → percent ≤ 100 → n < length ps → m < length ps → coordinate_at ps n east ≤ℤ coordinate_at ps m east → spread_along ps percent east n ≤ spread_along ps percent east m }
-    ensures none { (ps : List Point) → spread_offsets ps 0 ≡ offsets_of ps }
 {}

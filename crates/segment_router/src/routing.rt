@@ -6,16 +6,17 @@ ghost use Rattle.graph_core.specs.Consistent.{IsConsistent};
 ghost use Rattle.octi_grid.specs.Legal.{is_even};
 ghost use Rattle.octi_grid.specs.Walks.{end_port, start_port};
 ghost use Rattle.grid_board.specs.Boards.{contains, empty_board, is_inside, parts_of, AreBounds};
-ghost use Rattle.segment_router.specs.Homes.{grid_under};
+ghost use Rattle.node_homes.specs.Homes.{grid_under};
 ghost use Rattle.segment_router.specs.Orders.{routing_order};
-ghost use Rattle.segment_router.specs.Routes.{end_at, node_point, none_routed, port_at_node, route_of, routes_from, with_nodes, with_route, with_settled, IsPlacing};
+ghost use Rattle.segment_router.specs.Routes.{end_at, node_point, none_routed, port_at_node, route_of, routes_from, with_nodes, with_route, with_settled};
+ghost use Rattle.node_homes.specs.Homes.{IsPlacing};
 ghost use Rattle.segment_router.specs.Underway.{known_ports, routed_of, with_known, GoesOn, IsUnderway};
 
-use crate::placing::Placing;
 use crate::ports::allowed_ports;
 use graph_core::LineGraph;
 use grid_board::{Board, Bounds};
 use map_base::{NoMemory, NodeId, SegId};
+use node_homes::Placing;
 use octi_grid::{Dir, GridPoint, Walk, end_of};
 use std::alloc::Global;
 use walk_search::least_settled_walk;
@@ -23,11 +24,11 @@ use walk_search::least_settled_walk;
 /// Routing under way: the board with the nodes and the walks so far; of each node its point, and whether it is settled;
 /// and of each segment its walk, if it has its route.
 #[derive(Drop)]
-struct Routing {
-    board: Board,
-    points: Vec<GridPoint>,
-    settled: Vec<bool>,
-    walks: Vec<Option<Walk>>,
+pub(crate) struct Routing {
+    pub(crate) board: Board,
+    pub(crate) points: Vec<GridPoint>,
+    pub(crate) settled: Vec<bool>,
+    pub(crate) walks: Vec<Option<Walk>>,
 }
 
 /// The walks of all segments from a placing, one after another in the order of routing, or the first segment without a
@@ -87,7 +88,12 @@ impl Routing {
     }
 
     /// Gives a segment its route, if it has one.
-    fn route(&mut self, alloc: Global, graph: &LineGraph, seg: SegId) -> Result<bool, NoMemory>
+    pub(crate) fn route(
+        &mut self,
+        alloc: Global,
+        graph: &LineGraph,
+        seg: SegId,
+    ) -> Result<bool, NoMemory>
         requires graph { IsConsistent graph.now }
         requires seg { seg.0 < length graph.now.ends }
         requires underway { IsUnderway graph.now (routed_of self.old) }
@@ -226,7 +232,11 @@ fn port_of(walk: &Walk, at_start: bool) -> Dir
 }
 
 /// A board with nodes at these points.
-fn board_with(alloc: Global, grid: Bounds, homes: &[GridPoint]) -> Result<Board, NoMemory>
+pub(crate) fn board_with(
+    alloc: Global,
+    grid: Bounds,
+    homes: &[GridPoint],
+) -> Result<Board, NoMemory>
     requires grid { AreBounds grid }
     requires even { list_all is_even homes.now ≡ true }
     requires inside { list_all (contains grid) homes.now ≡ true }
@@ -261,7 +271,7 @@ fn push_port(ports: &mut Vec<(SegId, Dir)>, s: SegId, port: Option<Dir>) -> Resu
 }
 
 /// The walks of the segments that have their routes.
-fn into_walks(alloc: Global, walks: Vec<Option<Walk>>) -> Result<Vec<Walk>, NoMemory>
+pub(crate) fn into_walks(alloc: Global, walks: Vec<Option<Walk>>) -> Result<Vec<Walk>, NoMemory>
     ensures { IfOk result (λ kept. kept.items ≡ filter_map (λ w. w) walks.items) }
 {
     let mut kept = Vec::new(alloc);

@@ -1,6 +1,7 @@
 pub mod Paths
 pub mod Tables
-pub mod CostTables
+pub mod RowTables
+pub mod RowLowering
 pub mod Searches
 pub mod Lowering
 pub mod Walks

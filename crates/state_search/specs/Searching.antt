@@ -1,11 +1,7 @@
 -- A search for least costs to goals: what is known, what waits, and what is left to be followed.
-use Rattle.std.specs.Prelude.{◌≡◌, ℕ, ◌+◌, ◌*◌, ◌<◌, ◌≤◌, ◌⊎◌, nat_eq, List, [], ◌∷◌, Option, Some, None, length, map, Contains, IsPermutation, slice_index_or, slice_set, sum_by}
+use Rattle.std.specs.Prelude.{◌≡◌, ℕ, ◌+◌, ◌*◌, ◌<◌, ◌≤◌, ◌⊎◌, List, [], ◌∷◌, Option, Some, None, length, Contains, IsPermutation, slice_index_or, slice_set, sum_by}
 use Rattle.std.specs.declared.cmp.Ordering.{Ordering}
 use Rattle.std.specs.declared.cmp.Reverse.{Reverse}
-use Rattle.std.specs.List.{range_with_len}
-use Rattle.std.specs.declared.hash.FoldHasher.{FoldHasher}
-use Rattle.std.specs.declared.hash.BuildHasherDefault.{BuildHasherDefault}
-use Rattle.std.specs.HashMap.{get, HashMap}
 use Rattle.std.specs.Ordering.{nat_cmp, ordering_then}
 use Rattle.least_path.specs.Orders.{AtMost}
 use Rattle.state_search.specs.Goals.{Space, PathTo, AreLeastCostsTo}
@@ -13,10 +9,6 @@ use Rattle.state_search.specs.Goals.{Space, PathTo, AreLeastCostsTo}
 -- the known cost of a state
 abbrev pub known_at : List (Option ℕ) → ℕ → Option ℕ
 known_at table s = slice_index_or table s None
-
--- what is known of the states below a number, by a map
-abbrev pub costs_below : HashMap ℕ ℕ (BuildHasherDefault FoldHasher) → ℕ → List (Option ℕ)
-costs_below costs n = map (λ s. get nat_eq costs s) (range_with_len 0 n)
 
 -- the cost of a state is known
 abbrev pub with_known : List (Option ℕ) → ℕ → ℕ → List (Option ℕ)

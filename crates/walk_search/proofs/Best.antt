@@ -15,7 +15,8 @@ use Rattle.state_search.specs.Goals.{PathTo}
 use Rattle.state_search.proofs.Dictionaries.{by_head}
 use Rattle.state_search.proofs.Visiting.{HasShort, shortened}
 use Rattle.walk_search.specs.declared.ends.End.{End}
-use Rattle.walk_search.specs.Routes.{best_of, free_walks, is_first, is_free, is_lower, is_no_worse, most_steps, route, total_of, walks_from}
+use Rattle.walk_search.specs.Routes.{best_of, free_walks, is_first, is_free, is_no_worse, most_steps, route, total_of, walks_from}
+use Rattle.grid_board.specs.Points.{is_lower}
 use Rattle.walk_search.specs.Seats.{seats_of}
 use Rattle.walk_search.specs.Spots.{spots_of}
 use Rattle.walk_search.specs.Moves.{Question, IsQuestion, direction, space_of, start_at}

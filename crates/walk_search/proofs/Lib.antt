@@ -11,6 +11,7 @@ pub mod FreeWays
 pub mod FreePaths
 pub mod FreeWalks
 pub mod Routing
+pub mod Enclosing
 pub mod Offered
 pub mod Best
 pub mod Crossing

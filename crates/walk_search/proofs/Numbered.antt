@@ -1,22 +1,30 @@
 -- Spots and their numbers.
-use Rattle.std.proofs.Common.{◌≡◌, ◌≢◌, refl, sym, ◌∙◌, ap, ap₂, subst, ℕ, ◌+◌, ◌*◌, ◌/◌, ◌%◌, ◌<◌, ◌⊎◌, inl, inr, Bool, true, false, cond, eqb, Option, Some, None, arith}
+use Rattle.std.proofs.Common.{◌≡◌, ◌≢◌, refl, sym, ◌∙◌, ap, ap₂, subst, ℕ, ◌+◌, ◌*◌, ◌/◌, ◌%◌, ◌<◌, ◌≤◌, ◌⊎◌, inl, inr, Bool, true, false, cond, eqb, Option, Some, None, arith}
 use Rattle.std.specs.Prelude.{IfSome}
 use Rattle.std.proofs.lemmas.Bool.{ne_eqb, eq-eqb, eqb-true, cases_eq}
 use Rattle.octi_grid.specs.declared.point.GridPoint.{GridPoint}
 use Rattle.grid_board.specs.declared.bounds.Bounds.{Bounds}
 use Rattle.walk_search.specs.declared.spots.Spot.{Spot}
-use Rattle.grid_board.specs.Boards.{AreBounds, cells_of, cell_of, point_of}
-use Rattle.walk_search.specs.Spots.{IsSpot, number_of_spot, spots_of, spot_of}
+use Rattle.grid_board.specs.Boards.{AreBounds, cells_of, cell_of, contains, point_of}
+use Rattle.walk_search.specs.Spots.{IsSpot, number_of_place, number_of_spot, spots_of, spot_of}
 use Rattle.grid_board.proofs.Within.{inside_facts, inside_test, point_below, point_inside, point_of-cell, cell_of-point, frame_of}
 
-parts : (cell a g : ℕ) → a < 9 → g < 10 → ((((cell * 9 + a) * 10 + g) / 90) ≡ cell) × (((((cell * 9 + a) * 10 + g) / 10) % 9) ≡ a) × ((((cell * 9 + a) * 10 + g) % 10) ≡ g)
+parts : (cell a g : ℕ) → a < 9 → g < 10 → ((((cell * 10 + g) * 9 + a) / 90) ≡ cell) × ((((cell * 10 + g) * 9 + a) % 9) ≡ a) × (((((cell * 10 + g) * 9 + a) / 9) % 10) ≡ g)
 parts cell a g h k = (omega arith, omega arith, omega arith)
 
-below_all : (cell cells a g : ℕ) → cell < cells → a < 9 → g < 10 → (cell * 9 + a) * 10 + g < 90 * cells
+below_all : (cell cells a g : ℕ) → cell < cells → a < 9 → g < 10 → (cell * 10 + g) * 9 + a < 90 * cells
 below_all cell cells a g h k l = omega arith
 
 pub number_below_spots : (b : Bounds) (s : Spot) → IsSpot b s → number_of_spot b s < spots_of b
 number_below_spots b s h = below_all (cell_of b s.at) (cells_of b) s.arrival s.group (point_below b s.at (inside_facts b s.at h.inside)) h.arrival h.group
+
+pub place_below_spots : (b : Bounds) (p : GridPoint) (group : ℕ) → contains b p ≡ true → group < 10 → number_of_place b p group * 9 + 9 ≤ spots_of b
+place_below_spots b p group inside small =
+    let below : cell_of b p < cells_of b = point_below b p (inside_facts b p inside) in
+    all_below (cell_of b p) (cells_of b) below
+  where
+    all_below : (cell cells : ℕ) → cell < cells → (cell * 10 + group) * 9 + 9 ≤ 90 * cells
+    all_below cell cells less = omega arith
 
 pub spot_of-number : (b : Bounds) (s : Spot) → IsSpot b s → spot_of b (number_of_spot b s) ≡ Some s
 spot_of-number b s h =
@@ -26,7 +34,7 @@ spot_of-number b s h =
     n = number_of_spot b s
 
     spot_at : ℕ → Spot
-    spot_at m = record { at = point_of b (m / 90); arrival = m / 10 % 9; group = m % 10 }
+    spot_at m = record { at = point_of b (m / 90); arrival = m % 9; group = m / 9 % 10 }
 
     apart : n ≡ spots_of b → ⊥
     apart e = let less : n < spots_of b = number_below_spots b s h in omega arith
@@ -34,7 +42,7 @@ spot_of-number b s h =
     same : spot_at n ≡ s
     same =
         let ps = parts (cell_of b s.at) s.arrival s.group h.arrival h.group in
-        ap₂ (λ (p : GridPoint) (a : ℕ). record { at = p; arrival = a; group = n % 10 }) (ap (point_of b) ps.0 ∙ point_of-cell b s.at (inside_facts b s.at h.inside)) ps.1
+        ap₂ (λ (p : GridPoint) (a : ℕ). record { at = p; arrival = a; group = n / 9 % 10 }) (ap (point_of b) ps.0 ∙ point_of-cell b s.at (inside_facts b s.at h.inside)) ps.1
         ∙ ap (λ (g : ℕ). record { at = s.at; arrival = s.arrival; group = g }) ps.2
 
 some_same : {X : Type 0} (x y : X) → Some x ≡ Some y → x ≡ y
@@ -45,14 +53,14 @@ pub record IsSpotOf (b : Bounds) (n : ℕ) (s : Spot) : Type 0 where
   pub spot : IsSpot b s
   pub number : n ≡ number_of_spot b s
 
-whole : (n : ℕ) → (n / 90 * 9 + n / 10 % 9) * 10 + n % 10 ≡ n
+whole : (n : ℕ) → (n / 90 * 10 + n / 9 % 10) * 9 + n % 9 ≡ n
 whole n = omega arith
 
 pub spot_of-is : (b : Bounds) (n : ℕ) (s : Spot) → AreBounds b → n < spots_of b + 1 → spot_of b n ≡ Some s → IsSpotOf b n s
 spot_of-is b n s h below e = of_case (cases_eq n (spots_of b))
   where
     spot_at : Spot
-    spot_at = record { at = point_of b (n / 90); arrival = n / 10 % 9; group = n % 10 }
+    spot_at = record { at = point_of b (n / 90); arrival = n % 9; group = n / 9 % 10 }
 
     cell_small : n ≢ spots_of b → n / 90 < cells_of b
     cell_small apart = omega arith
@@ -64,18 +72,18 @@ spot_of-is b n s h below e = of_case (cases_eq n (spots_of b))
         subst (λ (x : Spot). IsSpotOf b n x) is
         (record {
           spot = record { inside = inside_test b (point_of b (n / 90)) (point_inside b (frame_of b h) (n / 90) (cell_small apart)); arrival = omega arith; group = omega arith };
-          number = sym (ap (λ c. (c * 9 + n / 10 % 9) * 10 + n % 10) (cell_of-point b (n / 90)) ∙ whole n);
+          number = sym (ap (λ c. (c * 10 + n / 9 % 10) * 9 + n % 9) (cell_of-point b (n / 90)) ∙ whole n);
         })
 
 pub spot_of-none : (b : Bounds) → spot_of b (spots_of b) ≡ None
 spot_of-none b =
-    ap (λ t. cond t None (Some (let s : Spot = record { at = point_of b (spots_of b / 90); arrival = spots_of b / 10 % 9; group = spots_of b % 10 } in s))) (eq-eqb (spots_of b) (spots_of b) refl)
+    ap (λ t. cond t None (Some (let s : Spot = record { at = point_of b (spots_of b / 90); arrival = spots_of b % 9; group = spots_of b / 9 % 10 } in s))) (eq-eqb (spots_of b) (spots_of b) refl)
 
 pub none_is_last : (b : Bounds) (n : ℕ) → spot_of b n ≡ None → n ≡ spots_of b
 none_is_last b n e = of_test (eqb n (spots_of b)) refl
   where
     spot_at : Spot
-    spot_at = record { at = point_of b (n / 90); arrival = n / 10 % 9; group = n % 10 }
+    spot_at = record { at = point_of b (n / 90); arrival = n % 9; group = n / 9 % 10 }
 
     of_test : (t : Bool) → eqb n (spots_of b) ≡ t → n ≡ spots_of b
     of_test true h = eqb-true n (spots_of b) h

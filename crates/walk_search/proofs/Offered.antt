@@ -1,8 +1,9 @@
 -- What was looked at, as offers by their definitions.
-use Rattle.std.proofs.Common.{◌≡◌, refl, sym, ◌∙◌, ap, subst, ℕ, ◌+◌, ◌≤◌, Bool, true, false, cond, not, eqb, ◌&&◌, List, [], ◌∷◌, ◌++◌, length, Option, Some, arith}
+use Rattle.std.proofs.Common.{◌≡◌, refl, sym, ◌∙◌, ap, subst, ℕ, ◌+◌, ◌*◌, ◌<◌, ◌≤◌, Bool, true, false, cond, not, eqb, ltb, ◌&&◌, List, [], ◌∷◌, ◌++◌, length, Option, Some, None, arith}
 use Rattle.std.specs.declared.cmp.Reverse.{Reverse}
 use Rattle.std.proofs.lemmas.Int.{ints}
-use Rattle.std.proofs.lemmas.Bool.{ne_eqb}
+use Rattle.std.specs.List.{flat_map, range_with_len}
+use Rattle.std.proofs.lemmas.Bool.{and_parts, lt-ltb, ne_eqb}
 use Rattle.least_path.proofs.Chosen.{all-at}
 use Rattle.octi_grid.specs.declared.dir.Dir.{Dir}
 use Rattle.octi_grid.specs.declared.point.GridPoint.{GridPoint}
@@ -16,11 +17,14 @@ use Rattle.grid_board.specs.Boards.{AreBounds, contains}
 use Rattle.walk_search.specs.Seats.{seat_cost}
 use Rattle.walk_search.specs.Routes.{allows}
 use Rattle.walk_search.specs.Reaching.{reach_of}
-use Rattle.walk_search.specs.Spots.{IsSpot, number_of_spot, spots_of}
-use Rattle.walk_search.specs.Moves.{Question, direction, end_cost, ends_of, group_of, is_open, is_start, may_end, space_of, spot_ahead, start_at, starts_of}
-use Rattle.walk_search.specs.Offers.{arrival_offer, back_offers, end_offer, end_spot, offer_where, passing_offers, seat_offer, seat_offers, spot_offers, start_offers}
+use Rattle.walk_search.specs.Spots.{IsSpot, number_of_place, number_of_spot, spots_of}
+use Rattle.walk_search.specs.Moves.{Question, direction, end_cost, ends_of, group_of, is_end, is_open, is_start, may_end, space_of, spot_ahead, start_at, starts_of}
+use Rattle.octi_grid.specs.Legal.{is_among}
+use Rattle.state_search.specs.Rows.{IsRowLowered, IsRowOffered, with_row}
+use Rattle.walk_search.specs.Offers.{arrival_offer, back_offers, end_offer, offer_where, offers_at_end, passing_offers, seat_offer, seat_offers, spot_offers, start_offers}
 use Rattle.grid_board.proofs.Within.{inside_facts}
 use Rattle.walk_search.proofs.Numbered.{spot_of-none, spot_of-number}
+use Rattle.state_search.proofs.RowLowering.{row_lowered}
 use Rattle.walk_search.proofs.SeatFacts.{among_stands, seats_cheap}
 use Rattle.walk_search.proofs.Moving.{end_among, end_cost_parts}
 
@@ -41,13 +45,56 @@ offered_spot q s old new queue longer ahead at cost on is number h =
     let same : ahead ≡ (space_of q).ahead (number_of_spot q.board.bounds s) = is ∙ sym (ap (spot_ahead q) (spot_of-number q.board.bounds s on)) in
     subst (λ (m : ℕ). IsLowered m old new queue longer (number_of_spot q.board.bounds s) cost) same (subst (λ (n : ℕ). IsLowered ahead old new queue longer n cost) number h)
 
+-- a spot, by the row of its place
+pub offered_in_row : (q : Question) (s : Spot) (table row new : Table) (queue longer : Waiting) (place ahead cost : ℕ) → IsSpot q.board.bounds s → ahead ≡ reach_of q.from.at s.at → place ≡ number_of_place q.board.bounds s.at s.group →
+    place * 9 + 9 ≤ length table → length row ≡ 9 → IsRowLowered place ahead row new queue longer s.arrival cost →
+    IsLowered ((space_of q).ahead (number_of_spot q.board.bounds s)) (with_row table place row) (with_row table place new) queue longer (number_of_spot q.board.bounds s) cost
+offered_in_row q s table row new queue longer place ahead cost on is number fits nine h =
+    offered_spot q s (with_row table place row) (with_row table place new) queue longer ahead (place * 9 + s.arrival) cost on is (ap (λ (n : ℕ). n * 9 + s.arrival) number)
+    (row_lowered table row new queue longer place ahead s.arrival cost fits nine on.arrival h)
+
 -- where a walk may end
-pub offered_end : (q : Question) (k : ℕ) (s : Spot) (cost : ℕ) (old new : Table) (queue longer : Waiting) → s ≡ end_spot q k → Some cost ≡ end_cost q (Some s) →
-    IsLowered ((space_of q).ahead (number_of_spot q.board.bounds s)) old new queue longer (number_of_spot q.board.bounds s) cost → AreLowered (space_of q).ahead old new queue longer (end_offer q k)
-offered_end q k s cost old new queue longer is pays h =
-    subst (λ (x : Spot). AreLowered (space_of q).ahead old new queue longer (offer_where q x (end_cost q (Some x)))) is
-    (subst (λ (o : Option ℕ). AreLowered (space_of q).ahead old new queue longer (offer_where q s o)) pays
-    (lowered_one (space_of q).ahead old new queue longer (number_of_spot q.board.bounds s) cost h))
+pub nothing_at_end : (q : Question) (p : GridPoint) (group : ℕ) → is_end q p group ≡ false → offers_at_end q p group 8 ≡ []
+nothing_at_end q p group e = none (range_with_len 0 8)
+  where
+    one : (a : ℕ) → end_offer q p group a ≡ []
+    one a =
+        ap (λ t. offer_where q (record { at = p; arrival = a; group = group }) (cond (ltb a 8 && (t && allows q.to.ports (Some (reverse_of (direction a))))) (Some (seat_cost q.to.at p)) None)) e
+        ∙ of_test (ltb a 8)
+      where
+        of_test : (t : Bool) → offer_where q (record { at = p; arrival = a; group = group }) (cond (t && false) (Some (seat_cost q.to.at p)) None) ≡ []
+        of_test true = refl
+        of_test false = refl
+
+    none : (arrivals : List ℕ) → flat_map (end_offer q p group) arrivals ≡ []
+    none [] = refl
+    none (a ∷ arrivals) = ap (λ xs. xs ++ flat_map (end_offer q p group) arrivals) (one a) ∙ none arrivals
+
+pub offered_end : (q : Question) (p : GridPoint) (group arrival : ℕ) (table row new : Table) (queue longer : Waiting) (place ahead cost : ℕ) → is_end q p group ≡ true → arrival < 8 → IsSpot q.board.bounds (record { at = p; arrival = arrival; group = group }) →
+    ahead ≡ reach_of q.from.at p → place ≡ number_of_place q.board.bounds p group → cost ≡ seat_cost q.to.at p → place * 9 + 9 ≤ length table → length row ≡ 9 →
+    IsRowOffered (allows q.to.ports (Some (reverse_of (direction arrival)))) place ahead row new queue longer arrival cost →
+    AreLowered (space_of q).ahead (with_row table place row) (with_row table place new) queue longer (end_offer q p group arrival)
+offered_end q p group arrival table row new queue longer place ahead cost ends small on is number pays fits nine h =
+    subst (λ (o : Option ℕ). AreLowered (space_of q).ahead (with_row table place row) (with_row table place new) queue longer (offer_where q s o)) (sym costs) (of_port (allows q.to.ports (Some (reverse_of (direction arrival)))) h)
+  where
+    s : Spot
+    s = record { at = p; arrival = arrival; group = group }
+
+    costs : end_cost q (Some s) ≡ cond (allows q.to.ports (Some (reverse_of (direction arrival)))) (Some (seat_cost q.to.at p)) None
+    costs =
+        ap (λ t. cond (t && (is_end q p group && allows q.to.ports (Some (reverse_of (direction arrival))))) (Some (seat_cost q.to.at p)) None) (lt-ltb arrival 8 small)
+        ∙ ap (λ t. cond (t && allows q.to.ports (Some (reverse_of (direction arrival)))) (Some (seat_cost q.to.at p)) None) ends
+
+    of_port : (t : Bool) → IsRowOffered t place ahead row new queue longer arrival cost →
+        AreLowered (space_of q).ahead (with_row table place row) (with_row table place new) queue longer (offer_where q s (cond t (Some (seat_cost q.to.at p)) None))
+    of_port true l =
+        lowered_one (space_of q).ahead (with_row table place row) (with_row table place new) queue longer (number_of_spot q.board.bounds s) (seat_cost q.to.at p)
+        (subst (λ (c : ℕ). IsLowered ((space_of q).ahead (number_of_spot q.board.bounds s)) (with_row table place row) (with_row table place new) queue longer (number_of_spot q.board.bounds s) c) pays
+        (offered_in_row q s table row new queue longer place ahead cost on is number fits nine l))
+    of_port false l = (ap (with_row table place) l.0, l.1)
+
+pub end_cheap : (q : Question) (p : GridPoint) (group : ℕ) → is_end q p group ≡ true → seat_cost q.to.at p ≤ 20
+end_cheap q p group e = all-at (λ r. seat_cost q.to.at r ≤ 20) p (ends_of q) (seats_cheap q.board q.to) (among_stands p (ends_of q) (and_parts (is_among (ends_of q) p) _ e).0)
 
 pub may_end_cheap : (q : Question) (s : Spot) → may_end q s ≡ true → seat_cost q.to.at s.at ≤ 20
 may_end_cheap q s e = all-at (λ p. seat_cost q.to.at p ≤ 20) s.at (ends_of q) (seats_cheap q.board q.to) (among_stands s.at (ends_of q) (end_among q s e))

@@ -15,7 +15,7 @@ use Rattle.walk_search.specs.Seats.{seat_cost}
 use Rattle.walk_search.specs.Routes.{allows}
 use Rattle.walk_search.specs.Spots.{IsSpot, number_of_spot, spots_of, spot_of}
 use Rattle.walk_search.specs.Moves.{Question, IsQuestion, IsMove, direction, end_at, end_cost, ends_of, group_of, is_open, is_passable, is_start, may_leave, move_of, space_of, start_at, starts_of, turn_from}
-use Rattle.walk_search.specs.Offers.{arrival_offer, arrival_offers, back_offers, end_offer, end_offers, end_spot, offer_where, passing_offers, seat_offer, seat_offers, spot_offers, start_offers}
+use Rattle.walk_search.specs.Offers.{arrival_offer, arrival_offers, back_offers, end_offer, end_offers, offer_where, offers_at_end, passing_offers, place_offers, seat_offer, seat_offers, spot_offers, start_offers}
 use Rattle.grid_board.proofs.Marks.{one_same, one_true}
 use Rattle.walk_search.proofs.Numbered.{IsSpotOf, number_below_spots, spot_of-number, spot_of-is, spot_of-none, none_is_last}
 use Rattle.walk_search.proofs.Turning.{step_back, step_there}
@@ -26,8 +26,8 @@ use Rattle.walk_search.proofs.Moving.{IsChosen, IsGoal, IsStepped, end_among, go
 end_inside : (q : Question) → IsQuestion q → (i : ℕ) → i < length (ends_of q) → is_inside q.board (end_at q i) ≡ true
 end_inside q h i below = all_index (λ p. is_inside q.board p ≡ true) (ends_of q) (seats_inside q.board q.to (to_inside q h)) i q.to.at below
 
-end_is_spot : (q : Question) → IsQuestion q → (k : ℕ) → k < 80 * length (ends_of q) → IsSpot q.board.bounds (end_spot q k)
-end_is_spot q h k below = record { inside = end_inside q h (k / 80) (omega arith); arrival = omega arith; group = omega arith }
+end_is_spot : (q : Question) → IsQuestion q → (k arrival : ℕ) → k < 10 * length (ends_of q) → arrival < 8 → IsSpot q.board.bounds (record { at = end_at q (k / 10); arrival = arrival; group = k % 10 })
+end_is_spot q h k arrival below small = record { inside = end_inside q h (k / 10) (omega arith); arrival = omega arith; group = omega arith }
 
 pub goal_of_spot : (q : Question) (s : Spot) → IsSpot q.board.bounds s → (space_of q).goal (number_of_spot q.board.bounds s) ≡ end_cost q (Some s)
 goal_of_spot q s h =
@@ -35,48 +35,51 @@ goal_of_spot q s h =
     ap (λ t. cond t (end_cost q (spot_of q.board.bounds (number_of_spot q.board.bounds s))) None) (lt-ltb (number_of_spot q.board.bounds s) (spots_of q.board.bounds + 1) (omega arith))
     ∙ ap (end_cost q) (spot_of-number q.board.bounds s h)
 
-pub goals_are_offered : (q : Question) → IsQuestion q → OfferGoals (space_of q) (end_offers q (80 * length (ends_of q)))
-goals_are_offered q h = goals_stand (space_of q) (end_offers q (80 * length (ends_of q))) all each
+pub goals_are_offered : (q : Question) → IsQuestion q → OfferGoals (space_of q) (end_offers q (10 * length (ends_of q)))
+goals_are_offered q h = goals_stand (space_of q) (end_offers q (10 * length (ends_of q))) all each
   where
-    IsGoalOffer : ℕ × ℕ → Type 0
-    IsGoalOffer offer = (space_of q).goal offer.0 ≡ Some offer.1
+    count : ℕ
+    count = 10 * length (ends_of q)
 
-    one : (k : ℕ) → k < 80 * length (ends_of q) → AllAre (λ (offer : ℕ × ℕ). (space_of q).goal offer.0 ≡ Some offer.1) (end_offer q k)
-    one k below = of_cost (end_cost q (Some (end_spot q k))) refl
+    one : (k arrival : ℕ) → k < count → arrival < 8 → AllAre (λ (offer : ℕ × ℕ). (space_of q).goal offer.0 ≡ Some offer.1) (end_offer q (end_at q (k / 10)) (k % 10) arrival)
+    one k arrival below small = of_cost (end_cost q (Some spot)) refl
       where
-        of_cost : (o : Option ℕ) → end_cost q (Some (end_spot q k)) ≡ o → AllAre (λ (offer : ℕ × ℕ). (space_of q).goal offer.0 ≡ Some offer.1) (offer_where q (end_spot q k) o)
+        spot : Spot
+        spot = record { at = end_at q (k / 10); arrival = arrival; group = k % 10 }
+
+        of_cost : (o : Option ℕ) → end_cost q (Some spot) ≡ o → AllAre (λ (offer : ℕ × ℕ). (space_of q).goal offer.0 ≡ Some offer.1) (offer_where q spot o)
         of_cost None e = tt
-        of_cost (Some c) e = (goal_of_spot q (end_spot q k) (end_is_spot q h k below) ∙ e, tt)
+        of_cost (Some c) e = (goal_of_spot q spot (end_is_spot q h k arrival below small) ∙ e, tt)
 
-    all : AllAre (λ (offer : ℕ × ℕ). (space_of q).goal offer.0 ≡ Some offer.1) (end_offers q (80 * length (ends_of q)))
-    all = all-flat_map (λ (offer : ℕ × ℕ). (space_of q).goal offer.0 ≡ Some offer.1) (end_offer q) (range_with_len 0 (80 * length (ends_of q)))
-        (all-range (λ k. AllAre (λ (offer : ℕ × ℕ). (space_of q).goal offer.0 ≡ Some offer.1) (end_offer q k)) 0 (80 * length (ends_of q)) (λ k low high. one k (omega arith)))
+    at_place : (k : ℕ) → k < count → AllAre (λ (offer : ℕ × ℕ). (space_of q).goal offer.0 ≡ Some offer.1) (place_offers q k)
+    at_place k below = all-flat_map (λ (offer : ℕ × ℕ). (space_of q).goal offer.0 ≡ Some offer.1) (end_offer q (end_at q (k / 10)) (k % 10)) (range_with_len 0 8)
+        (all-range (λ a. AllAre (λ (offer : ℕ × ℕ). (space_of q).goal offer.0 ≡ Some offer.1) (end_offer q (end_at q (k / 10)) (k % 10) a)) 0 8 (λ a low high. one k a below (omega arith)))
 
-    at_goal : (a k : ℕ) (s : Spot) → IsGoal q a k s → end_cost q (Some s) ≡ Some k → StandsIn (a, k) (end_offers q (80 * length (ends_of q)))
+    all : AllAre (λ (offer : ℕ × ℕ). (space_of q).goal offer.0 ≡ Some offer.1) (end_offers q count)
+    all = all-flat_map (λ (offer : ℕ × ℕ). (space_of q).goal offer.0 ≡ Some offer.1) (place_offers q) (range_with_len 0 count)
+        (all-range (λ k. AllAre (λ (offer : ℕ × ℕ). (space_of q).goal offer.0 ≡ Some offer.1) (place_offers q k)) 0 count (λ k low high. at_place k (omega arith)))
+
+    at_goal : (a k : ℕ) (s : Spot) → IsGoal q a k s → end_cost q (Some s) ≡ Some k → StandsIn (a, k) (end_offers q count)
     at_goal a k s g cost =
         let of = spot_of-is q.board.bounds a s h.board.in_range g.below g.spot in
         let place = place_of (ends_of q) s.at q.to.at (among_stands s.at (ends_of q) (end_among q s g.ends)) in
-        let n : ℕ = place.place * 80 + s.arrival * 10 + s.group in
-        let spot : end_spot q n ≡ s =
-        same_spot place.place s.at s.arrival s.group place.is g.arrival of.spot.group in
-        let within : n < 80 * length (ends_of q) = in_count place.place s.arrival s.group (length (ends_of q)) place.below g.arrival of.spot.group in
-        stands-flat_map (end_offer q) n (a, k) (range_with_len 0 (80 * length (ends_of q))) (stands-range 0 (80 * length (ends_of q)) n (omega arith) (omega arith))
-        (subst (λ (x : Spot). StandsIn (a, k) (offer_where q x (end_cost q (Some x)))) (sym spot)
-        (subst (λ (o : Option ℕ). StandsIn (a, k) (offer_where q s o)) (sym cost) (inl (ap (λ (m : ℕ). (m, k)) (sym of.number)))))
+        let n : ℕ = place.place * 10 + s.group in
+        let within : n < count = in_count place.place s.group (length (ends_of q)) place.below of.spot.group in
+        let here : end_at q (n / 10) ≡ s.at = ap (end_at q) (place_is place.place s.group of.spot.group).0 ∙ place.is in
+        let group : n % 10 ≡ s.group = (place_is place.place s.group of.spot.group).1 in
+        stands-flat_map (place_offers q) n (a, k) (range_with_len 0 count) (stands-range 0 count n (omega arith) (omega arith))
+        (subst (λ (p : GridPoint). StandsIn (a, k) (offers_at_end q p (n % 10) 8)) (sym here)
+        (subst (λ (m : ℕ). StandsIn (a, k) (offers_at_end q s.at m 8)) (sym group)
+        (stands-flat_map (end_offer q s.at s.group) s.arrival (a, k) (range_with_len 0 8) (stands-range 0 8 s.arrival (omega arith) (let small : s.arrival < 8 = g.arrival in omega arith))
+        (subst (λ (o : Option ℕ). StandsIn (a, k) (offer_where q s o)) (sym cost) (inl (ap (λ (m : ℕ). (m, k)) (sym of.number)))))))
       where
-        in_count : (i x g len : ℕ) → i < len → x < 8 → g < 10 → i * 80 + x * 10 + g < 80 * len
-        in_count i x g len b c d = omega arith
+        in_count : (i g len : ℕ) → i < len → g < 10 → i * 10 + g < 10 * len
+        in_count i g len b d = omega arith
 
-        place_is : (i x g : ℕ) → x < 8 → g < 10 → ((i * 80 + x * 10 + g) / 80 ≡ i) × ((i * 80 + x * 10 + g) / 10 % 8 ≡ x) × ((i * 80 + x * 10 + g) % 10 ≡ g)
-        place_is i x g b c = (omega arith, omega arith, omega arith)
+        place_is : (i g : ℕ) → g < 10 → ((i * 10 + g) / 10 ≡ i) × ((i * 10 + g) % 10 ≡ g)
+        place_is i g b = (omega arith, omega arith)
 
-        same_spot : (i : ℕ) (p : GridPoint) (x g : ℕ) → end_at q i ≡ p → x < 8 → g < 10 → end_spot q (i * 80 + x * 10 + g) ≡ record { at = p; arrival = x; group = g }
-        same_spot i p x g e b c =
-            let ps = place_is i x g b c in
-            ap₂ (λ (r : GridPoint) (y : ℕ). record { at = r; arrival = y; group = (i * 80 + x * 10 + g) % 10 }) (ap (end_at q) ps.0 ∙ e) ps.1
-            ∙ ap (λ (y : ℕ). record { at = p; arrival = x; group = y }) ps.2
-
-    each : (a k : ℕ) → (space_of q).goal a ≡ Some k → StandsIn (a, k) (end_offers q (80 * length (ends_of q)))
+    each : (a k : ℕ) → (space_of q).goal a ≡ Some k → StandsIn (a, k) (end_offers q count)
     each a k e =
         let g = goal_parts q a k e in
         let below = ltb-true a (spots_of q.board.bounds + 1) in

@@ -19,7 +19,8 @@ use Rattle.state_search.proofs.Visiting.{short_enough}
 use Rattle.walk_search.specs.declared.ends.End.{End}
 use Rattle.grid_board.specs.Boards.{BoardParts}
 use Rattle.walk_search.specs.Seats.{is_free_seat, seats_of, shifted, shifts}
-use Rattle.walk_search.specs.Routes.{best_of, directions, free_walks, is_first, is_free, is_lower, is_no_worse, lists_upto, most_steps, route, total_of, walks_from}
+use Rattle.walk_search.specs.Routes.{best_of, directions, free_walks, is_first, is_free, is_no_worse, lists_upto, most_steps, route, total_of, walks_from}
+use Rattle.grid_board.specs.Points.{is_lower}
 use Rattle.walk_search.specs.Spots.{spots_of}
 use Rattle.walk_search.specs.Moves.{Question, IsQuestion, direction, space_of, start_at, starts_of}
 use Rattle.walk_search.specs.Walked.{AreSteps, IsAnswer, walk_of_labels}

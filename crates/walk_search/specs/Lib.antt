@@ -4,5 +4,6 @@ pub mod Reaching
 pub mod Spots
 pub mod Moves
 pub mod Asking
+pub mod Enclosed
 pub mod Offers
 pub mod Walked

@@ -15,20 +15,24 @@ use Rattle.walk_search.specs.Moves.{Question, start_at, starts_of, end_at, direc
 abbrev pub offered : Question → Spot → ℕ → ℕ × ℕ
 offered q s cost = (number_of_spot q.board.bounds s, cost)
 
--- the spots at which a walk may end, by a count through seats, arrivals and groups
-abbrev pub end_spot : Question → ℕ → Spot
-end_spot q k = record { at = end_at q (k / 80); arrival = k / 10 % 8; group = k % 10 }
-
 -- what is offered where a walk may end
 abbrev pub offer_where : Question → Spot → Option ℕ → List (ℕ × ℕ)
 offer_where q s None = []
 offer_where q s (Some cost) = offered q s cost ∷ []
 
-abbrev pub end_offer : Question → ℕ → List (ℕ × ℕ)
-end_offer q k = offer_where q (end_spot q k) (end_cost q (Some (end_spot q k)))
+-- what is offered where a walk of a group may end at a point, by the direction of arrival
+abbrev pub end_offer : Question → GridPoint → ℕ → ℕ → List (ℕ × ℕ)
+end_offer q p group arrival = offer_where q (record { at = p; arrival = arrival; group = group }) (end_cost q (Some (record { at = p; arrival = arrival; group = group })))
+
+abbrev pub offers_at_end : Question → GridPoint → ℕ → ℕ → List (ℕ × ℕ)
+offers_at_end q p group count = flat_map (end_offer q p group) (range_with_len 0 count)
+
+-- the same at each seat of the end, by a count through seats and groups
+abbrev pub place_offers : Question → ℕ → List (ℕ × ℕ)
+place_offers q k = offers_at_end q (end_at q (k / 10)) (k % 10) 8
 
 abbrev pub end_offers : Question → ℕ → List (ℕ × ℕ)
-end_offers q count = flat_map (end_offer q) (range_with_len 0 count)
+end_offers q count = flat_map (place_offers q) (range_with_len 0 count)
 
 -- what a spot at a start offers to what comes before the choice of a seat
 abbrev pub seat_offer : Question → Spot → ℕ → ℕ → List (ℕ × ℕ)

@@ -1,8 +1,7 @@
 -- Free walks between two ends, and the route: the least of them.
-use Rattle.std.specs.Prelude.{ℕ, zero, suc, ◌+◌, ◌*◌, ◌==◌, ◌||◌, ◌&&◌, nat_lt, Bool, false, not, int_lt, List, [], ◌∷◌, length, map, filter, take, drop, Option, Some, None}
+use Rattle.std.specs.Prelude.{ℕ, zero, suc, ◌+◌, ◌*◌, ◌==◌, ◌||◌, ◌&&◌, nat_lt, Bool, false, not, List, [], ◌∷◌, length, map, filter, take, drop, Option, Some, None}
 use Rattle.std.specs.Int.{bit_at}
 use Rattle.std.specs.List.{flat_map, list_all, list_any}
-use Rattle.std.specs.Ordering.{int_eq}
 use Rattle.least_path.specs.Least.{least_by, is_not_after}
 use Rattle.octi_grid.specs.declared.dir.Dir.{Dir}
 use Rattle.octi_grid.specs.declared.dir.Dir.TheVariants as dir
@@ -12,6 +11,7 @@ use Rattle.octi_grid.specs.Walks.{PlainWalk, points_of, doubled_of, end_point, s
 use Rattle.octi_grid.specs.Legal.{is_among}
 use Rattle.walk_search.specs.declared.ends.End.{End}
 use Rattle.grid_board.specs.Boards.{BoardParts, is_inside, cells_of}
+use Rattle.grid_board.specs.Points.{is_lower}
 use Rattle.walk_search.specs.Seats.{seats_of, seat_cost}
 
 -- there is a port, and the mask allows it by the bit of its direction
@@ -43,10 +43,6 @@ is_free board from to w =
 -- what a walk costs with its two seats
 abbrev pub total_of : End → End → PlainWalk → ℕ
 total_of from to w = seat_cost from.at w.start + cost_of w + seat_cost to.at (end_point w)
-
--- of two points the first is the one of a lesser y, or of the same y and a lesser x
-abbrev pub is_lower : GridPoint → GridPoint → Bool
-is_lower p q = int_lt p.y q.y || (int_eq p.y q.y && int_lt p.x q.x)
 
 -- of two walks of one cost the first one's start is lower, or both have the same start and its list of direction numbers
 -- is not after the other's in the order of dictionaries

@@ -1,22 +1,26 @@
 //! What is asked of a search, and the steps of walks from spot to spot.
 
-ghost use Rattle.std.specs.Prelude.{◌≡◌, ℕ, ◌+◌, ◌^◌, ◌<◌, ◌≤◌, ◌&&◌, not, IfOk, IfSome, Some, true, length, option_map};
-ghost use Rattle.octi_grid.specs.Ways.{CanStep, doubled, step_from};
+ghost use Rattle.std.specs.Prelude.{◌≡◌, ℕ, ◌+◌, ◌*◌, ◌^◌, ◌<◌, ◌≤◌, ◌&&◌, not, IfOk, IfSome, Some, true, length, option_map};
+ghost use Rattle.octi_grid.specs.Ways.{CanStep, doubled, reverse_of, step_from};
 ghost use Rattle.walk_search.specs.Reaching.{reach_of};
 ghost use Rattle.walk_search.specs.Routes.{allows};
 ghost use Rattle.walk_search.specs.Seats.{seat_cost};
 ghost use Rattle.grid_board.specs.Boards.{is_inside, parts_of};
-ghost use Rattle.walk_search.specs.Spots.{IsSpot, number_of_spot, spot_of, spots_of};
+ghost use Rattle.walk_search.specs.Spots.{IsSpot, number_of_place, number_of_spot, spot_of, spots_of};
+ghost use Rattle.std.specs.List.{list_any};
+ghost use Rattle.octi_grid.specs.Legal.{is_among};
+ghost use Rattle.walk_search.specs.Enclosed.{leads_on, leaves_start};
 ghost use Rattle.walk_search.specs.Moves.{IsAsked, IsQuestion, chosen_seat, direction, end_at, end_cost, ends_of, group_of, is_end, is_open, is_other_end, is_own_start, is_passable, is_shared_start, is_start, may_end, may_leave, start_at, starts_of, stepped, turn_from};
 
 use crate::directions::{allows, direction};
 use crate::ends::End;
 use crate::reaching::reach;
-use crate::seats::{are_one, doubled_within, is_among, is_clear, seat_cost, seats_of};
-use crate::spots::{Spot, number_of_spot, spot_of, spots_of};
+use crate::seats::{are_one, doubled_within, have_common, is_among, is_clear, seat_cost, seats_of};
+use crate::spots::{Spot, number_of_place, number_of_spot, spot_of, spots_of};
 use grid_board::Board;
 use map_base::NoMemory;
 use octi_grid::{Dir, GridPoint, step_cost, turn_cost};
+use state_search::Place;
 use std::alloc::Global;
 
 /// The number of the arrival of a walk at its start.
@@ -73,6 +77,22 @@ impl<'a> Asked<'a> {
         ensures within { result < spots_of (question self.now).board.bounds }
     {
         number_of_spot(self.board.bounds(), spot)
+    }
+
+    /// The place of a group of walks at a point.
+    pub(crate) fn place_of(&self, p: GridPoint, group: u8) -> Place
+        requires inside { is_inside (question self.now).board p ≡ true }
+        requires group { group < 10 }
+        ensures number { result.number ≡ number_of_place (question self.now).board.bounds p group }
+        ensures within { result.number * 9 + 9 ≤ spots_of (question self.now).board.bounds }
+        ensures few { result.number < 2 ^ 28 }
+        ensures ahead { result.ahead ≡ reach_of (question self.now).from.at p }
+        ensures near { result.ahead < 2 ^ 40 }
+    {
+        Place {
+            number: number_of_place(self.board.bounds(), p, group),
+            ahead: self.ahead_of(p),
+        }
     }
 
     /// The spot of a number, and none before a seat is chosen.
@@ -182,7 +202,7 @@ impl<'a> Asked<'a> {
     }
 
     /// Whether there are walks of a group, and they may end at a point.
-    fn is_end(&self, p: GridPoint, group: u8) -> bool
+    pub(crate) fn is_end(&self, p: GridPoint, group: u8) -> bool
         ensures { result ≡ is_end (question self.now) p group }
     {
         if !is_among(&self.ends, p) {
@@ -202,7 +222,15 @@ impl<'a> Asked<'a> {
         if !self.is_end(spot.at, spot.group) {
             return false;
         }
-        allows(self.to.ports, direction(spot.arrival).reverse())
+        self.allows_end(spot.arrival)
+    }
+
+    /// Whether a walk may come to its end in a direction.
+    pub(crate) fn allows_end(&self, arrival: u8) -> bool
+        requires { arrival < 8 }
+        ensures { result ≡ allows (question self.now).to.ports (Some (reverse_of (direction arrival))) }
+    {
+        allows(self.to.ports, direction(arrival).reverse())
     }
 
     /// What a walk that stands at a spot pays to end there, where it may.
@@ -221,7 +249,7 @@ impl<'a> Asked<'a> {
     }
 
     /// What a seat of the end costs.
-    fn to_cost(&self, p: GridPoint) -> u64
+    pub(crate) fn to_cost(&self, p: GridPoint) -> u64
         requires { is_inside (question self.now).board p ≡ true }
         ensures { result ≡ seat_cost (question self.now).to.at p }
     {
@@ -279,6 +307,45 @@ impl<'a> Asked<'a> {
             return false;
         }
         allows(self.from.ports, dir)
+    }
+
+    /// The seats of the start.
+    pub(crate) fn starts(&self, alloc: Global) -> Result<Vec<GridPoint>, NoMemory>
+        ensures starts { IfOk result (λ starts. starts.items ≡ starts_of (question self.now)) }
+        ensures asked { IsQuestion (question self.now) }
+    {
+        Ok(self.starts.to_vec(alloc)?)
+    }
+
+    /// Whether a seat of the end is among these points.
+    pub(crate) fn has_end_among(&self, points: &[GridPoint]) -> bool
+        ensures { result ≡ list_any (is_among points.now) (ends_of (question self.now)) }
+    {
+        have_common(points, &self.ends)
+    }
+
+    /// Whether a walk may leave a start at a point by a port.
+    fn leaves_start(&self, p: GridPoint, dir: Dir) -> bool
+        ensures { result ≡ leaves_start (question self.now) p dir }
+    {
+        if !is_among(&self.starts, p) {
+            return false;
+        }
+        allows(self.from.ports, dir)
+    }
+
+    /// Whether, however a walk came to a point, a step may lead on from there.
+    pub(crate) fn leads_on(&self, p: GridPoint, dir: Dir) -> bool
+        requires { is_inside (question self.now).board p ≡ true }
+        ensures { result ≡ leads_on (question self.now) p dir }
+    {
+        if !self.is_open_from(p, dir) {
+            return false;
+        }
+        if self.leaves_start(p, dir) {
+            return true;
+        }
+        self.is_passable(p)
     }
 
     /// Whether a walk may leave a spot in a direction: at its start by an allowed port, elsewhere where it may go on.

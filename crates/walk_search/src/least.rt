@@ -7,13 +7,13 @@ ghost use Rattle.walk_search.specs.Moves.{is_all_or_none};
 
 use crate::asked::Asked;
 use crate::ends::End;
-use crate::known::Known;
 use crate::search::note_costs;
 use crate::spots::spots_of;
 use crate::walk::walk;
 use grid_board::Board;
 use map_base::NoMemory;
 use octi_grid::{GridPoint, Walk};
+use state_search::Known;
 use std::alloc::Global;
 
 /// The least free walk between two nodes of a board that are both settled: it leaves the one and comes to the other by

@@ -6,12 +6,11 @@
 
 mod asked;
 mod directions;
+mod enclosed;
 mod ends;
-mod known;
 mod laws;
 mod least;
 mod offers;
-mod queue;
 mod reaching;
 mod search;
 mod seats;

@@ -2,22 +2,23 @@
 
 ghost use Rattle.std.specs.Prelude.{◌≡◌, ◌+◌, ◌*◌, ◌<◌, ◌≤◌, ◌^◌, ◌==◌, ◌&&◌, OnOk, Some, true, length};
 ghost use Rattle.std.specs.BinaryHeap.{IsHeap, heap_items};
-ghost use Rattle.octi_grid.specs.Ways.{CanStep, are_one};
+ghost use Rattle.octi_grid.specs.Ways.{CanStep, are_one, reverse_of};
 ghost use Rattle.state_search.specs.Searching.{AreLowered, IsLowered, queue_cmp};
 ghost use Rattle.grid_board.specs.Boards.{is_inside};
 ghost use Rattle.walk_search.specs.Spots.{IsSpot, number_of_spot, spot_of, spots_of};
 ghost use Rattle.walk_search.specs.Asking.{question};
-ghost use Rattle.walk_search.specs.Moves.{ends_of, group_of, space_of, start_at, starts_of};
-ghost use Rattle.walk_search.specs.Offers.{arrival_offers, back_offers, end_offer, end_offers, end_spot, passing_offers, seat_offer, seat_offers, spot_offers, start_offers};
+ghost use Rattle.walk_search.specs.Moves.{direction, ends_of, group_of, is_end, space_of, start_at, starts_of};
+ghost use Rattle.walk_search.specs.Offers.{arrival_offers, back_offers, end_offers, offers_at_end, passing_offers, seat_offer, seat_offers, spot_offers, start_offers};
+ghost use Rattle.walk_search.specs.Routes.{allows};
+ghost use Rattle.state_search.specs.Rows.{IsRowOffered};
 
 use crate::asked::{Asked, START, turn_from};
 use crate::directions::direction;
-use crate::known::Known;
-use crate::queue::{Queue, lower};
 use crate::seats::are_one;
 use crate::spots::Spot;
 use map_base::NoMemory;
 use octi_grid::{Dir, GridPoint, step_cost};
+use state_search::{Known, Place, Queue, Row, lower, lower_in};
 
 /// A cost is offered to a spot.
 fn offer(
@@ -49,41 +50,85 @@ pub(crate) fn offer_ends(
     requires order { IsHeap queue_cmp (heap_items queue.old) }
     ensures order { OnOk result (IsHeap queue_cmp (heap_items queue.new)) }
     ensures each { OnOk result (length known.new ≡ spots_of (question asked.now).board.bounds + 1) }
-    ensures lowered { OnOk result (AreLowered (space_of (question asked.now)).ahead known.old known.new (heap_items queue.old) (heap_items queue.new) (end_offers (question asked.now) (80 * length (ends_of (question asked.now))))) }
+    ensures lowered { OnOk result (AreLowered (space_of (question asked.now)).ahead known.old known.new (heap_items queue.old) (heap_items queue.new) (end_offers (question asked.now) (10 * length (ends_of (question asked.now))))) }
 {
-    for k in 0..80 * u16::from(asked.end_count()) {
-        offer_end(asked, k, known, queue)?;
+    for k in 0..10 * asked.end_count() {
+        offer_ends_at(asked, asked.end(k / 10), k % 10, known, queue)?;
     }
     Ok(())
 }
 
-/// The same for one of these spots, if a walk may end there.
-fn offer_end(asked: &Asked, k: u16, known: &mut Known, queue: &mut Queue) -> Result<(), NoMemory>
-    requires k { k < 80 * length (ends_of (question asked.now)) }
+/// The same for a group of walks at a point, if they may end there.
+fn offer_ends_at(
+    asked: &Asked,
+    p: GridPoint,
+    group: u8,
+    known: &mut Known,
+    queue: &mut Queue,
+) -> Result<(), NoMemory>
+    requires inside { is_inside (question asked.now).board p ≡ true }
+    requires group { group < 10 }
     requires each { length known.old ≡ spots_of (question asked.now).board.bounds + 1 }
     requires order { IsHeap queue_cmp (heap_items queue.old) }
     ensures order { OnOk result (IsHeap queue_cmp (heap_items queue.new)) }
     ensures each { OnOk result (length known.new ≡ spots_of (question asked.now).board.bounds + 1) }
-    ensures lowered { OnOk result (AreLowered (space_of (question asked.now)).ahead known.old known.new (heap_items queue.old) (heap_items queue.new) (end_offer (question asked.now) k)) }
+    ensures lowered { OnOk result (AreLowered (space_of (question asked.now)).ahead known.old known.new (heap_items queue.old) (heap_items queue.new) (offers_at_end (question asked.now) p group 8)) }
 {
-    let spot = end_spot(asked, k);
-    match asked.end_cost(spot) {
-        None => Ok(()),
-        Some(cost) => offer(asked, spot, cost, known, queue),
+    if !asked.is_end(p, group) {
+        return Ok(());
     }
+    offer_ends_in(asked, p, group, known, queue)
 }
 
-/// One of the spots at which a walk may end, by a count through seats, arrivals and groups.
-fn end_spot(asked: &Asked, k: u16) -> Spot
-    requires { k < 80 * length (ends_of (question asked.now)) }
-    ensures value { result ≡ end_spot (question asked.now) k }
-    ensures on_board { IsSpot (question asked.now).board.bounds result }
+/// The same where they may end.
+fn offer_ends_in(
+    asked: &Asked,
+    p: GridPoint,
+    group: u8,
+    known: &mut Known,
+    queue: &mut Queue,
+) -> Result<(), NoMemory>
+    requires ends { is_end (question asked.now) p group ≡ true }
+    requires inside { is_inside (question asked.now).board p ≡ true }
+    requires group { group < 10 }
+    requires each { length known.old ≡ spots_of (question asked.now).board.bounds + 1 }
+    requires order { IsHeap queue_cmp (heap_items queue.old) }
+    ensures order { OnOk result (IsHeap queue_cmp (heap_items queue.new)) }
+    ensures each { OnOk result (length known.new ≡ spots_of (question asked.now).board.bounds + 1) }
+    ensures lowered { OnOk result (AreLowered (space_of (question asked.now)).ahead known.old known.new (heap_items queue.old) (heap_items queue.new) (offers_at_end (question asked.now) p group 8)) }
 {
-    Spot {
-        at: asked.end((k / 80) as u8),
-        arrival: (k / 10 % 8) as u8,
-        group: (k % 10) as u8,
+    let place = asked.place_of(p, group);
+    let cost = asked.to_cost(p);
+    let mut row = known.row(place.number);
+    for arrival in 0..START {
+        offer_end(asked, place, arrival, cost, &mut row, queue)?;
     }
+    known.put(place.number, row)
+}
+
+/// The same for one direction of arrival, if a walk may come to its end in it.
+fn offer_end(
+    asked: &Asked,
+    place: Place,
+    arrival: u8,
+    cost: u64,
+    row: &mut Row,
+    queue: &mut Queue,
+) -> Result<(), NoMemory>
+    requires arrival { arrival < 8 }
+    requires whole { length row.old.costs ≡ 9 }
+    requires place { place.number < 2 ^ 28 }
+    requires cost { cost < 2 ^ 40 }
+    requires ahead { place.ahead < 2 ^ 40 }
+    requires order { IsHeap queue_cmp (heap_items queue.old) }
+    ensures order { OnOk result (IsHeap queue_cmp (heap_items queue.new)) }
+    ensures whole { OnOk result (length row.new.costs ≡ 9) }
+    ensures offered { OnOk result (IsRowOffered (allows (question asked.now).to.ports (Some (reverse_of (direction arrival)))) place.number place.ahead row.old.costs row.new.costs (heap_items queue.old) (heap_items queue.new) arrival cost) }
+{
+    if !asked.allows_end(arrival) {
+        return Ok(());
+    }
+    lower_in(row, queue, place, arrival, cost)
 }
 
 /// Offers to each spot from which a step or the choice of a seat leads to a spot what it costs by that step.
@@ -263,16 +308,14 @@ fn offer_arrivals(
     ensures each { OnOk result (length known.new ≡ spots_of (question asked.now).board.bounds + 1) }
     ensures lowered { OnOk result (AreLowered (space_of (question asked.now)).ahead known.old known.new (heap_items queue.old) (heap_items queue.new) (arrival_offers (question asked.now) p group dir cost 8)) }
 {
+    let place = asked.place_of(p, group);
+    let step = u64::from(step_cost(dir));
+    let mut row = known.row(place.number);
     for arrival in 0..START {
-        let spot = Spot {
-            at: p,
-            arrival,
-            group,
-        };
-        let whole = cost + (u64::from(step_cost(dir)) + turn_from(arrival, dir));
-        offer(asked, spot, whole, known, queue)?;
+        let whole = cost + (step + turn_from(arrival, dir));
+        lower_in(&mut row, queue, place, arrival, whole)?;
     }
-    Ok(())
+    known.put(place.number, row)
 }
 
 /// Offers to the spot of a walk that starts at a point, if one may start there by this port.

@@ -1,18 +1,22 @@
 //! The search for the least costs to the ends.
 
-ghost use Rattle.std.specs.Prelude.{◌≡◌, ℕ, ◌+◌, ◌<◌, ◌↔◌, [], Some, None, IsTrue, IfSome, IfNone, OnOk, length, replicate};
+ghost use Rattle.std.specs.Prelude.{◌≡◌, ℕ, ◌+◌, ◌<◌, ◌↔◌, [], Some, None, true, IsTrue, IfOk, IfSome, IfNone, OnOk, length, replicate};
 ghost use Rattle.std.specs.BinaryHeap.{IsHeap, heap_items};
 ghost use Rattle.state_search.specs.Searching.{IsSearched, known_at, queue_cmp};
 ghost use Rattle.walk_search.specs.Spots.{spots_of};
 ghost use Rattle.walk_search.specs.Asking.{question};
 ghost use Rattle.walk_search.specs.Moves.{space_of};
+ghost use Rattle.walk_search.specs.Enclosed.{IsShutIn};
 
 use crate::asked::Asked;
-use crate::known::Known;
+use crate::enclosed::is_shut_in;
 use crate::offers::{offer_back, offer_ends};
-use crate::queue::{Queue, next};
 use map_base::NoMemory;
+use state_search::{Known, Queue, next};
 use std::alloc::Global;
+
+/// After how many rounds a search looks whether the start is shut in.
+const FEW_ROUNDS: u32 = 512;
 
 /// Notes, where nothing is known, the least costs at which the ends can be reached, as far as they can lie on a walk
 /// no dearer than the least. The search goes from the ends backwards and ends where what waits can only be dearer.
@@ -21,11 +25,16 @@ pub(crate) fn note_costs(alloc: Global, asked: &Asked, known: &mut Known) -> Res
     ensures { OnOk result (IsSearched (space_of (question asked.now)) (spots_of (question asked.now).board.bounds) known.new) }
 {
     let mut queue = Queue::new(alloc);
-    search(asked, known, &mut queue)
+    search(alloc, asked, known, &mut queue)
 }
 
 /// The same, with a queue in which nothing waits.
-fn search(asked: &Asked, known: &mut Known, queue: &mut Queue) -> Result<(), NoMemory>
+fn search(
+    alloc: Global,
+    asked: &Asked,
+    known: &mut Known,
+    queue: &mut Queue,
+) -> Result<(), NoMemory>
     requires nothing_known { known.old ≡ replicate (spots_of (question asked.now).board.bounds + 1) None }
     requires nothing_waits { heap_items queue.old ≡ [] }
     requires order { IsHeap queue_cmp (heap_items queue.old) }
@@ -33,12 +42,27 @@ fn search(asked: &Asked, known: &mut Known, queue: &mut Queue) -> Result<(), NoM
 {
     let before = asked.before();
     offer_ends(asked, known, queue)?;
+    let mut rounds = 0u32;
     while let Some((estimate, at)) = next(queue, known.of(before)) {
+        if is_in_vain(alloc, asked, rounds)? {
+            return Ok(());
+        }
+        rounds = rounds.saturating_add(1);
         if let Some(cost) = fresh_cost(asked, known, estimate, at) {
             offer_back(asked, at, cost, known, queue)?;
         }
     }
     Ok(())
+}
+
+/// Whether, after so many rounds, the start is found to be shut in.
+fn is_in_vain(alloc: Global, asked: &Asked, rounds: u32) -> Result<bool, NoMemory>
+    ensures { IfOk result (λ in_vain. in_vain ≡ true → IsShutIn (question asked.now)) }
+{
+    if rounds != FEW_ROUNDS {
+        return Ok(false);
+    }
+    is_shut_in(alloc, asked)
 }
 
 /// The known cost of a spot, if it makes this estimate.

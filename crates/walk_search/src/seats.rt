@@ -4,6 +4,7 @@ ghost use Rattle.std.specs.Prelude.{◌≡◌, ◌<◌, ◌≤◌, ◌^◌, ◌|
 ghost use Rattle.grid_board.specs.Boards.{AreBounds, contains, doubled_bounds, is_inside, parts_of};
 ghost use Rattle.walk_search.specs.Seats.{is_free_seat, kept_seat, seat_cost, seats_of, shifted};
 ghost use Rattle.octi_grid.specs.Ways.{CanStep, IsWithin, are_one, doubled};
+ghost use Rattle.std.specs.List.{list_any};
 ghost use Rattle.octi_grid.specs.Legal.{is_among};
 
 use crate::ends::End;
@@ -119,6 +120,18 @@ pub(crate) fn is_among(points: &[GridPoint], p: GridPoint) -> bool
 {
     for point in points {
         if are_one(p, *point) {
+            return true;
+        }
+    }
+    false
+}
+
+/// Whether one of some points is among others.
+pub(crate) fn have_common(points: &[GridPoint], others: &[GridPoint]) -> bool
+    ensures { result ≡ list_any (is_among points.now) others.now }
+{
+    for other in others {
+        if is_among(points, *other) {
             return true;
         }
     }

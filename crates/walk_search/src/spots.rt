@@ -1,8 +1,8 @@
 //! Where a walk under way stands, and the numbers of these spots.
 
-ghost use Rattle.std.specs.Prelude.{◌≡◌, ◌+◌, ◌<◌, ◌≤◌, true};
+ghost use Rattle.std.specs.Prelude.{◌≡◌, ◌+◌, ◌*◌, ◌<◌, ◌≤◌, true};
 ghost use Rattle.grid_board.specs.Boards.{contains, AreBounds};
-ghost use Rattle.walk_search.specs.Spots.{number_of_spot, spot_of, spots_of};
+ghost use Rattle.walk_search.specs.Spots.{number_of_place, number_of_spot, spot_of, spots_of};
 
 use grid_board::Bounds;
 use octi_grid::GridPoint;
@@ -25,6 +25,17 @@ pub(crate) fn spots_of(bounds: Bounds) -> u32
     90 * bounds.cells()
 }
 
+/// The number of the place of a group of walks at a point.
+pub(crate) fn number_of_place(bounds: Bounds, p: GridPoint, group: u8) -> u32
+    requires bounds { AreBounds bounds }
+    requires inside { contains bounds p ≡ true }
+    requires group { group < 10 }
+    ensures value { result ≡ number_of_place bounds p group }
+    ensures within { result * 9 + 9 ≤ spots_of bounds }
+{
+    bounds.cell_of(p) * 10 + u32::from(group)
+}
+
 /// The number of a spot.
 pub(crate) fn number_of_spot(bounds: Bounds, spot: Spot) -> u32
     requires bounds { AreBounds bounds }
@@ -34,7 +45,7 @@ pub(crate) fn number_of_spot(bounds: Bounds, spot: Spot) -> u32
     ensures value { result ≡ number_of_spot bounds spot }
     ensures within { result < spots_of bounds }
 {
-    (bounds.cell_of(spot.at) * 9 + u32::from(spot.arrival)) * 10 + u32::from(spot.group)
+    number_of_place(bounds, spot.at, spot.group) * 9 + u32::from(spot.arrival)
 }
 
 /// The spot of a number, and none before a seat is chosen.
@@ -48,7 +59,7 @@ pub(crate) fn spot_of(bounds: Bounds, n: u32) -> Option<Spot>
     }
     Some(Spot {
         at: bounds.point_of(n / 90),
-        arrival: (n / 10 % 9) as u8,
-        group: (n % 10) as u8,
+        arrival: (n % 9) as u8,
+        group: (n / 9 % 10) as u8,
     })
 }

@@ -10,15 +10,15 @@ ghost use Rattle.walk_search.specs.Walked.{AreLabels, AreSteps, DifferBy, EndsAt
 
 use crate::asked::Asked;
 use crate::directions::direction;
-use crate::known::Known;
 use crate::search::is_sum;
 use crate::spots::Spot;
 use map_base::NoMemory;
 use octi_grid::{GridPoint, Walk};
+use state_search::Known;
 use std::alloc::Global;
 
 /// A move: its label, the number of the spot that it leads to, and what it costs.
-#[derive(Clone, Copy, Debug, PartialEq, Eq)]
+#[derive(Clone, Copy, Debug)]
 pub(crate) struct Move {
     pub label: u8,
     pub to: u32,

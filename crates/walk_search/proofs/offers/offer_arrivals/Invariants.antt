@@ -1,16 +1,16 @@
-use Rattle.std.proofs.Common.{◌≡◌, ◌+◌, length}
+use Rattle.std.proofs.Common.{◌≡◌, length}
 use Rattle.std.specs.BinaryHeap.{IsHeap, heap_items}
 use Rattle.state_search.specs.Searching.{AreLowered, queue_cmp}
 use Rattle.walk_search.specs.Asking.{question}
-use Rattle.walk_search.specs.Spots.{spots_of}
 use Rattle.walk_search.specs.Moves.{space_of}
 use Rattle.walk_search.specs.Offers.{arrival_offers}
+use Rattle.state_search.specs.Rows.{with_row}
 use Rattle.walk_search.proofs.offers.offer_arrivals.Given as goal
 
 abbrev pub invariant-loop-arrival : goal.invariant-loop-arrival
 invariant-loop-arrival l = record {
   order : IsHeap queue_cmp (heap_items l.queue);
-  each : length l.known ≡ spots_of (question l.asked).board.bounds + 1;
+  whole : length l.row.costs ≡ 9;
   lowered :
-      AreLowered (space_of (question l.asked)).ahead l.initial.known l.known (heap_items l.initial.queue) (heap_items l.queue) (arrival_offers (question l.asked) l.p l.group l.dir l.cost l.arrival);
+      AreLowered (space_of (question l.asked)).ahead l.initial.known (with_row l.initial.known l.place.number l.row.costs) (heap_items l.initial.queue) (heap_items l.queue) (arrival_offers (question l.asked) l.fn.p l.group l.dir l.cost l.arrival);
 }

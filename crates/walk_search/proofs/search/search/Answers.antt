@@ -1,7 +1,7 @@
 use Rattle.std.proofs.Common.{◌∙◌, ap, subst, ℕ, ◌+◌, ◌*◌, ◌<◌, List, [], Option, None, replicate, length}
 use Rattle.std.specs.declared.cmp.Reverse.{Reverse}
 use Rattle.std.specs.BinaryHeap.{heap_items}
-use Rattle.state_search.specs.Searching.{AreLowered, IsBeyond, known_at}
+use Rattle.state_search.specs.Searching.{AreLowered, IsBeyond, known_at, nothing}
 use Rattle.state_search.proofs.Searches.{less_left, search_ends, search_stale, search_taken, taken_in_range}
 use Rattle.state_search.proofs.Lowering.{goals_offered, goals_stay, steps_offered}
 use Rattle.walk_search.specs.Asking.{question}
@@ -11,18 +11,24 @@ use Rattle.walk_search.specs.Offers.{end_offers, spot_offers}
 use Rattle.walk_search.proofs.Moving.{is_space}
 use Rattle.walk_search.proofs.Offering.{goals_are_offered, steps_are_offered}
 use Rattle.walk_search.proofs.Rounds.{cost_small}
+use Rattle.walk_search.proofs.Enclosing.{none_found}
 use Rattle.walk_search.proofs.Walking.{nothing_ahead}
 use Rattle.walk_search.proofs.search.search.Goals as goal
 
 pub loop-estimate-init : goal.loop-estimate-init
 loop-estimate-init c =
     let q = question c.args.asked.now in
-    let offers : List (ℕ × ℕ) = end_offers q (80 * length (ends_of q)) in
+    let offers : List (ℕ × ℕ) = end_offers q (10 * length (ends_of q)) in
     let all : AreLowered (space_of q).ahead (replicate (spots_of q.board.bounds + 1) None) c.offer_ends.new.known [] (heap_items c.offer_ends.new.queue) offers =
     subst (λ (t : List (Option ℕ)). AreLowered (space_of q).ahead t c.offer_ends.new.known [] (heap_items c.offer_ends.new.queue) offers) c.requires.nothing_known
     (subst (λ (w : List (Reverse (ℕ × ℕ))). AreLowered (space_of q).ahead c.args.known.now c.offer_ends.new.known w (heap_items c.offer_ends.new.queue) offers) c.requires.nothing_waits c.in_ok-offer_ends.ensures.lowered) in
     let begun = goals_offered (space_of q) (is_space q c.before-before.ensures.asked) c.offer_ends.new.known (heap_items c.offer_ends.new.queue) offers (goals_are_offered q c.before-before.ensures.asked) all in
     record { order = c.in_ok-offer_ends.ensures.order; each = c.in_ok-offer_ends.ensures.each; search = begun.0; goals = begun.1 }
+
+pub returns-then-branch : goal.returns-then-branch
+returns-then-branch c =
+    let q = question c.args.asked.now in
+    none_found (space_of q) (spots_of q.board.bounds) c.loop-estimate.known (heap_items c.loop-estimate.queue) nothing c.loop-estimate.invariant.search (c.in_ok-is_in_vain.ensures c.if-branch.true)
 
 pub fresh_cost-requires-clause-at : goal.fresh_cost-requires-clause-at
 fresh_cost-requires-clause-at c =
@@ -35,9 +41,9 @@ offer_back-requires-clause-cost c =
     let q = question c.args.asked.now in
     cost_small q c.before-before.ensures.asked c.loop-estimate.known (heap_items c.loop-estimate.queue) _ c.in-Some.at c.in-Some-fresh_cost.cost c.loop-estimate.invariant.search c.in-Some-fresh_cost.ensures.some.0
 
-pub loop-estimate-smaller-in-Continue-branch-2 :
-    goal.loop-estimate-smaller-in-Continue-branch-2
-loop-estimate-smaller-in-Continue-branch-2 c =
+pub loop-estimate-smaller-in-Continue-branch-3 :
+    goal.loop-estimate-smaller-in-Continue-branch-3
+loop-estimate-smaller-in-Continue-branch-3 c =
     let q = question c.args.asked.now in
     let in_range : c.in-Some.at < spots_of q.board.bounds + 1 =
     subst (λ (n : ℕ). c.in-Some.at < n) c.loop-estimate.invariant.each
@@ -51,9 +57,9 @@ loop-estimate-smaller-in-Continue-branch-2 c =
     c.in_ok-offer_back.ensures.lowered in
     less_left 21 c.loop-estimate.known c.offer_back.new.known (heap_items c.loop-estimate.queue) (heap_items c.next.new.queue) (heap_items c.offer_back.new.queue) c.in-Some.at c.in-Some.estimate c.in-Some.ensures.taken spread.left
 
-pub loop-estimate-preserved-in-Continue-branch-2 :
-    goal.loop-estimate-preserved-in-Continue-branch-2
-loop-estimate-preserved-in-Continue-branch-2 c =
+pub loop-estimate-preserved-in-Continue-branch-3 :
+    goal.loop-estimate-preserved-in-Continue-branch-3
+loop-estimate-preserved-in-Continue-branch-3 c =
     let q = question c.args.asked.now in
     let in_range : c.in-Some.at < spots_of q.board.bounds + 1 =
     subst (λ (n : ℕ). c.in-Some.at < n) c.loop-estimate.invariant.each

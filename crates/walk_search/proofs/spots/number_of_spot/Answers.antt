@@ -3,13 +3,7 @@ use Rattle.grid_board.proofs.Within.{few_cells}
 use Rattle.walk_search.proofs.spots.number_of_spot.Goals as goal
 
 pub overflow_mul-result : goal.overflow_mul-result
-overflow_mul-result c = omega (arith, few_cells c.args.bounds c.requires.bounds, c.cell_of.ensures.within)
+overflow_mul-result c = omega (arith, few_cells c.args.bounds c.requires.bounds, c.number_of_place.ensures.within)
 
 pub overflow_add-result : goal.overflow_add-result
-overflow_add-result c = omega (arith, few_cells c.args.bounds c.requires.bounds, c.cell_of.ensures.within)
-
-pub overflow_mul-result-2 : goal.overflow_mul-result-2
-overflow_mul-result-2 c = omega (arith, few_cells c.args.bounds c.requires.bounds, c.cell_of.ensures.within)
-
-pub overflow_add-result-2 : goal.overflow_add-result-2
-overflow_add-result-2 c = omega (arith, few_cells c.args.bounds c.requires.bounds, c.cell_of.ensures.within)
+overflow_add-result c = omega (arith, few_cells c.args.bounds c.requires.bounds, c.number_of_place.ensures.within)

@@ -1,0 +1,6 @@
+pub mod Turns
+pub mod LeastWeights
+pub mod ShortWalks
+pub mod DrawnFacts
+pub mod Sums
+mod Examples

@@ -1,0 +1,13 @@
+//! What drawings weigh, and what each walk from one point to another weighs at least. A walk weighs what it costs, with its
+//! turns counted nine times; a drawing weighs its walks, and how far its nodes stand from where they first stood.
+#![tactic(auto)]
+
+mod laws;
+mod points;
+mod weights;
+
+pub use laws::no_walk_weighs_less;
+pub use points::{point_of, points_of};
+pub use weights::{
+    apart_weight, drawing_weight, least_weight, node_weight, walk_weight, weight_of,
+};

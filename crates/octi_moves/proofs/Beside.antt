@@ -1,0 +1,25 @@
+-- A point is on a walk beside a node where it is among the grid points of all such walks.
+use Rattle.std.proofs.Common.{◌≡◌, ◌∙◌, ℕ, Bool, true, false, not, cond, ◌&&◌, ◌||◌, List, [], ◌∷◌, ap, refl}
+use Rattle.std.specs.List.{flat_map, list_any}
+use Rattle.std.proofs.lemmas.List.Folds.{list_any-append}
+use Rattle.graph_core.specs.Round.{ends_at}
+use Rattle.octi_grid.specs.declared.point.GridPoint.{GridPoint}
+use Rattle.octi_grid.specs.Ways.{are_one}
+use Rattle.octi_grid.specs.Legal.{is_among, Leg}
+use Rattle.octi_grid.specs.Walks.{points_of}
+use Rattle.octi_moves.specs.Lightest.{points_beside}
+use Rattle.octi_moves.specs.Moves.{is_in_the_way}
+
+one_beside : (n : ℕ) (p : GridPoint) (l : Leg) → is_among (points_beside n l) p ≡ is_in_the_way n p l
+one_beside n p l = by_test (ends_at n l.0)
+  where
+    by_test : (b : Bool) → is_among (cond b [] (points_of l.1)) p ≡ (not b && is_among (points_of l.1) p)
+    by_test true = refl
+    by_test false = refl
+
+pub among_beside : (n : ℕ) (p : GridPoint) (legs : List Leg) → is_among (flat_map (points_beside n) legs) p ≡ list_any (is_in_the_way n p) legs
+among_beside n p [] = refl
+among_beside n p (l ∷ legs) =
+    list_any-append (are_one p) (points_beside n l) (flat_map (points_beside n) legs)
+    ∙ ap (λ b. b || is_among (flat_map (points_beside n) legs) p) (one_beside n p l)
+    ∙ ap (λ b. is_in_the_way n p l || b) (among_beside n p legs)

@@ -1,0 +1,26 @@
+use Rattle.std.proofs.Common.{◌∙◌, ◌≤◌, sym, ap, subst}
+use Rattle.std.proofs.lemmas.Bool.{ltb-false}
+use Rattle.octi_grid.specs.declared.point.GridPoint.{GridPoint}
+use Rattle.octi_grid.specs.Ways.{IsWithin}
+use Rattle.octi_grid.specs.Legal.{is_even}
+use Rattle.octi_moves.specs.Lightest.{least_after, weight_at}
+use Rattle.octi_moves.specs.Moves.{moved}
+use Rattle.octi_moves.proofs.MovedUse.{attempt_no_lighter, moves_even, point_within}
+use Rattle.octi_moves.proofs.attempt.lighter_walks.Goals as goal
+
+pub moved-to-requires : goal.moved-to-requires
+moved-to-requires c = subst IsWithin (sym c.point_of.ensures) (point_within c.args.field c.requires.field c.args.walks.now c.requires.standing c.args.n.0 c.requires.node)
+
+pub returns-then-not-may_get_lighter : goal.returns-then-not-may_get_lighter
+returns-then-not-may_get_lighter c =
+    let f = c.args.field in
+    let walks = c.args.walks.now in
+    let n = c.args.n.0 in
+    let to = c.moved-to.ensures ∙ ap (λ (p : GridPoint). moved p c.args.dir) c.point_of.ensures in
+    let no = ltb-false (least_after f.graph.now f.first.now walks n c.moved-to.result) (weight_at f.graph.now f.first.now walks n) (sym c.may_get_lighter.ensures ∙ c.if-not-may_get_lighter.true) in
+    sym (attempt_no_lighter f c.requires.field walks c.requires.standing n c.requires.node c.args.dir (subst (λ (p : GridPoint). weight_at f.graph.now f.first.now walks n ≤ least_after f.graph.now f.first.now walks n p) to no))
+
+pub lighter_at-requires-clause-even : goal.lighter_at-requires-clause-even
+lighter_at-requires-clause-even c =
+    let to = c.moved-to.ensures ∙ ap (λ (p : GridPoint). moved p c.args.dir) c.point_of.ensures in
+    ap is_even to ∙ moves_even c.args.field c.requires.field c.args.walks.now c.requires.standing c.args.n.0 c.requires.node c.args.dir

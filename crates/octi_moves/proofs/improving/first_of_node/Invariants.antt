@@ -1,0 +1,9 @@
+use Rattle.std.proofs.Common.{◌≡◌, drop}
+use Rattle.walk_search.specs.Routes.{directions}
+use Rattle.octi_moves.specs.Moves.{first_of_node}
+use Rattle.octi_moves.proofs.improving.first_of_node.Given as goal
+
+-- it is the first of the directions that are left
+abbrev pub invariant-loop-dir : goal.invariant-loop-dir
+invariant-loop-dir l =
+    first_of_node l.field.graph.now l.field.first.now l.walks l.n.0 (drop l.dir-index l.dir-items) ≡ first_of_node l.field.graph.now l.field.first.now l.walks l.n.0 directions
