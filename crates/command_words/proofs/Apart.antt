@@ -1,35 +1,49 @@
 -- What is written lies apart: a map and its certificate at two paths, and a page at another path than its map.
-use Rattle.std.proofs.Common.{◌≡◌, ℕ, Bool, true, false, List, [], ◌∷◌, Option, None, Some, codes, if◌then◌else◌, refl}
+use Rattle.std.proofs.Common.{◌≡◌, ℕ, Bool, true, false, List, [], ◌∷◌, Option, None, Some, IfSome, codes, if◌then◌else◌, refl}
 use Rattle.std.specs.Str.{bytes_eq}
 use Rattle.clap.specs.Walk.{Row, Text, first_of}
 use Rattle.clap.specs.Kinds.{Kinds}
 use Rattle.map_method.specs.declared.defaults.Defaults.TheVariants.{Make, Map}
 use Rattle.command_paths.specs.Paths.{Chosen, MapPaths}
-use Rattle.command_words.specs.Asked.{Asked, stations, graph, make, check, labels, session, trial, page}
-use Rattle.command_words.specs.Words.{◌>>=◌, asked, asked_as, check_in, faults, graph_in, labels_in, make_at, make_in, met, named_in, number_in, options_in, page_at, page_in, paths_in, session_in, settings_in, stations_in, trial_in, unless}
+use Rattle.command_words.specs.Asked.{Asked, stations, graph, make, improve, check, labels, session, trial, page}
+use Rattle.command_words.specs.Words.{◌>>=◌, apart, asked, asked_as, check_in, faults, graph_in, improve_in, labels_in, make_in, met, named_in, number_in, options_in, page_at, page_in, paths_in, session_in, settings_in, stations_in, trial_in, two_paths_in, unless}
 
 abbrev pub AreApart : Option Asked → Type 0
 AreApart None = Unit {0}
 AreApart (Some (stations feed)) = Unit {0}
 AreApart (Some (graph feed chosen)) = Unit {0}
 AreApart (Some (make feed paths chosen)) = bytes_eq paths.picture paths.certificate ≡ false
+AreApart (Some (improve feed paths moves chosen)) = bytes_eq paths.picture paths.certificate ≡ false
 AreApart (Some (check feed paths chosen)) = Unit {0}
 AreApart (Some (labels feed certificate out chosen)) = Unit {0}
 AreApart (Some (session feed script out chosen)) = Unit {0}
 AreApart (Some (trial number)) = Unit {0}
 AreApart (Some (page picture html)) = bytes_eq picture html ≡ false
 
-apart_at : (feed : List ℕ) (chosen : Chosen) (paths : MapPaths) → AreApart (make_at feed chosen paths)
-apart_at feed chosen paths = by_test (bytes_eq paths.picture paths.certificate) refl
+-- two paths that are taken for a map and its certificate are not one
+apart_at : (paths : MapPaths) → IfSome (apart paths) (λ two. bytes_eq two.picture two.certificate ≡ false)
+apart_at paths = by_test (bytes_eq paths.picture paths.certificate) refl
   where
-    by_test : (same : Bool) → bytes_eq paths.picture paths.certificate ≡ same → AreApart (if same then None else Some (make feed paths chosen))
+    by_test : (same : Bool) → bytes_eq paths.picture paths.certificate ≡ same → IfSome (if same then None else Some paths) (λ two. bytes_eq two.picture two.certificate ≡ false)
     by_test true e = tt
     by_test false e = e
 
-made_apart : (chosen : Chosen) (feed : Option (List ℕ)) (paths : Option MapPaths) → AreApart (feed >>= (λ f. paths >>= (λ p. make_at f chosen p)))
-made_apart chosen None paths = tt
-made_apart chosen (Some feed) None = tt
-made_apart chosen (Some feed) (Some paths) = apart_at feed chosen paths
+two_apart : (paths : Option MapPaths) → IfSome (paths >>= apart) (λ two. bytes_eq two.picture two.certificate ≡ false)
+two_apart None = tt
+two_apart (Some paths) = apart_at paths
+
+made_apart : (chosen : Chosen) (feed : Option (List ℕ)) (paths : Option MapPaths) → IfSome paths (λ two. bytes_eq two.picture two.certificate ≡ false)
+    → AreApart (feed >>= (λ f. paths >>= (λ p. Some (make f p chosen))))
+made_apart chosen None paths is = tt
+made_apart chosen (Some feed) None is = tt
+made_apart chosen (Some feed) (Some paths) is = is
+
+improved_apart : (chosen : Chosen) (feed : Option (List ℕ)) (paths : Option MapPaths) (moves : Option ℕ) → IfSome paths (λ two. bytes_eq two.picture two.certificate ≡ false)
+    → AreApart (feed >>= (λ f. paths >>= (λ p. moves >>= (λ m. Some (improve f p m chosen)))))
+improved_apart chosen None paths moves is = tt
+improved_apart chosen (Some feed) None moves is = tt
+improved_apart chosen (Some feed) (Some paths) None is = tt
+improved_apart chosen (Some feed) (Some paths) (Some moves) is = is
 
 checked_apart : (chosen : Chosen) (feed : Option (List ℕ)) (paths : Option MapPaths) → AreApart (feed >>= (λ f. paths >>= (λ p. Some (check f p chosen))))
 checked_apart chosen None paths = tt
@@ -74,20 +88,21 @@ paged_apart (Some picture) (Some html) = paged_at picture html
 
 as_apart : (name : Text) (rows : List Row) → AreApart (asked_as name rows)
 as_apart name rows =
-    by_tests (bytes_eq name (codes "map")) (bytes_eq name (codes "make")) (bytes_eq name (codes "check")) (bytes_eq name (codes "labels")) (bytes_eq name (codes "session")) (bytes_eq name (codes "graph")) (bytes_eq name (codes "stations")) (bytes_eq name (codes "page")) (bytes_eq name (codes "trial"))
+    by_tests (bytes_eq name (codes "map")) (bytes_eq name (codes "make")) (bytes_eq name (codes "improve")) (bytes_eq name (codes "check")) (bytes_eq name (codes "labels")) (bytes_eq name (codes "session")) (bytes_eq name (codes "graph")) (bytes_eq name (codes "stations")) (bytes_eq name (codes "page")) (bytes_eq name (codes "trial"))
   where
-    by_tests : (mapped made checked labelled edited drawn listed paged tried : Bool)
-        → AreApart (if mapped then make_in Map rows else if made then make_in Make rows else if checked then check_in rows else if labelled then labels_in rows else if edited then session_in rows else if drawn then graph_in rows else if listed then stations_in rows else if paged then page_in rows else if tried then trial_in rows else None)
-    by_tests true made checked labelled edited drawn listed paged tried = made_apart (options_in Map rows) (first_of (codes "FEED") rows) (paths_in rows)
-    by_tests false true checked labelled edited drawn listed paged tried = made_apart (options_in Make rows) (first_of (codes "FEED") rows) (paths_in rows)
-    by_tests false false true labelled edited drawn listed paged tried = checked_apart (options_in Make rows) (first_of (codes "FEED") rows) (paths_in rows)
-    by_tests false false false true edited drawn listed paged tried = labelled_apart (options_in Make rows) (first_of (codes "FEED") rows) (first_of (codes "CERT") rows) (first_of (codes "OUT") rows)
-    by_tests false false false false true drawn listed paged tried = edited_apart (settings_in Make rows) (first_of (codes "FEED") rows) (first_of (codes "SCRIPT") rows) (first_of (codes "OUT") rows)
-    by_tests false false false false false true listed paged tried = drawn_apart (options_in Make rows) (first_of (codes "FEED") rows)
-    by_tests false false false false false false true paged tried = listed_apart (first_of (codes "FEED") rows)
-    by_tests false false false false false false false true tried = paged_apart (first_of (codes "SVG") rows) (first_of (codes "HTML") rows)
-    by_tests false false false false false false false false true = tried_apart (number_in (codes "N") rows)
-    by_tests false false false false false false false false false = tt
+    by_tests : (mapped made improved checked labelled edited drawn listed paged tried : Bool)
+        → AreApart (if mapped then make_in Map rows else if made then make_in Make rows else if improved then improve_in rows else if checked then check_in rows else if labelled then labels_in rows else if edited then session_in rows else if drawn then graph_in rows else if listed then stations_in rows else if paged then page_in rows else if tried then trial_in rows else None)
+    by_tests true made improved checked labelled edited drawn listed paged tried = made_apart (options_in Map rows) (first_of (codes "FEED") rows) (two_paths_in rows) (two_apart (paths_in rows))
+    by_tests false true improved checked labelled edited drawn listed paged tried = made_apart (options_in Make rows) (first_of (codes "FEED") rows) (two_paths_in rows) (two_apart (paths_in rows))
+    by_tests false false true checked labelled edited drawn listed paged tried = improved_apart (options_in Make rows) (first_of (codes "FEED") rows) (two_paths_in rows) (number_in (codes "MOVES") rows) (two_apart (paths_in rows))
+    by_tests false false false true labelled edited drawn listed paged tried = checked_apart (options_in Make rows) (first_of (codes "FEED") rows) (paths_in rows)
+    by_tests false false false false true edited drawn listed paged tried = labelled_apart (options_in Make rows) (first_of (codes "FEED") rows) (first_of (codes "CERT") rows) (first_of (codes "OUT") rows)
+    by_tests false false false false false true drawn listed paged tried = edited_apart (settings_in Make rows) (first_of (codes "FEED") rows) (first_of (codes "SCRIPT") rows) (first_of (codes "OUT") rows)
+    by_tests false false false false false false true listed paged tried = drawn_apart (options_in Make rows) (first_of (codes "FEED") rows)
+    by_tests false false false false false false false true paged tried = listed_apart (first_of (codes "FEED") rows)
+    by_tests false false false false false false false false true tried = paged_apart (first_of (codes "SVG") rows) (first_of (codes "HTML") rows)
+    by_tests false false false false false false false false false true = tried_apart (number_in (codes "N") rows)
+    by_tests false false false false false false false false false false = tt
 
 named_apart : (command : Option (Text × List Row)) → AreApart (named_in command)
 named_apart None = tt

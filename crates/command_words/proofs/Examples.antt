@@ -3,7 +3,7 @@ use Rattle.std.proofs.Common.{◌≡◌, [], ◌∷◌, None, Some, codes, refl}
 use Rattle.clap.proofs.OnLiterals.{clap_on_literals}
 use Rattle.map_method.specs.declared.defaults.Defaults.TheVariants.{Make, Map}
 use Rattle.command_paths.specs.Paths.{MapPaths, Chosen}
-use Rattle.command_words.specs.Asked.{stations, graph, make, check, labels, session, trial, page}
+use Rattle.command_words.specs.Asked.{stations, graph, make, improve, check, labels, session, trial, page}
 use Rattle.command_words.specs.Program.{octimap_app}
 use Rattle.command_words.specs.Words.{asked, faults, met}
 
@@ -72,6 +72,19 @@ one_file_is_refused = refl
 one_file_may_be_checked : asked (codes "check" ∷ codes "feed" ∷ codes "m" ∷ codes "m" ∷ []) ≡ Some (check (codes "feed") (record { picture = codes "m"; certificate = codes "m" }) no_settings)
 unfolding clap_on_literals asked faults met octimap_app
 one_file_may_be_checked = refl
+
+-- an improved map has a number of moves, and two files
+moves_are_asked : asked (codes "improve" ∷ codes "feed" ∷ codes "m.svg" ∷ codes "m.cert" ∷ codes "10000" ∷ codes "--settings" ∷ codes "my.toml" ∷ []) ≡ Some (improve (codes "feed") map_and_certificate 10000 by_mine)
+unfolding clap_on_literals asked faults met octimap_app
+moves_are_asked = refl
+
+moves_past_the_most : asked (codes "improve" ∷ codes "feed" ∷ codes "m.svg" ∷ codes "m.cert" ∷ codes "10001" ∷ []) ≡ None
+unfolding clap_on_literals asked faults met octimap_app
+moves_past_the_most = refl
+
+moves_to_one_file : asked (codes "improve" ∷ codes "feed" ∷ codes "m.svg" ∷ codes "m.svg" ∷ codes "5" ∷ []) ≡ None
+unfolding clap_on_literals asked faults met octimap_app
+moves_to_one_file = refl
 
 -- each operand has to be there, and no more
 an_operand_is_missing : asked (codes "make" ∷ codes "feed" ∷ []) ≡ None

@@ -27,16 +27,28 @@ with_options command = with_rule (with_rule command (file_option (codes "setting
 abbrev pub number_operand : Rule
 number_operand = record (operand (codes "N")) { parser = Some (parser.Signed (pos 0) (pos 4294967295)) }
 
+-- `MOVES`, a number from 0 to 10,000
+abbrev pub moves_operand : Rule
+moves_operand = record (operand (codes "MOVES")) { parser = Some (parser.Signed (pos 0) (pos 10000)) }
+
 -- a command that works on a feed
 abbrev pub feed_app : Text → App
 feed_app name = with_rule (new_app name) (operand (codes "FEED"))
 
--- the command with a map and its certificate, settings and edits
+-- the command with a map and its certificate
+abbrev pub with_files : App → App
+with_files command = with_rule (with_rule command (operand (codes "SVG"))) (operand (codes "CERT"))
+
+-- settings and edits beside them
 abbrev pub with_map : App → App
-with_map command = with_options (with_rule (with_rule command (operand (codes "SVG"))) (operand (codes "CERT")))
+with_map command = with_options (with_files command)
 
 abbrev pub map_app : Text → App
 map_app name = with_map (feed_app name)
+
+-- a map whose drawing is moved more often
+abbrev pub improve_app : App
+improve_app = with_options (with_rule (with_files (feed_app (codes "improve"))) moves_operand)
 
 -- the command with the file that it writes
 abbrev pub with_out : App → App
@@ -70,11 +82,11 @@ octimap_alone = record {
 abbrev pub with_command : App → App → App
 with_command program command = with_subcommand program command.top
 
--- the commands that make maps and check them: `map`, `make`, `check`, `labels` and `session`
+-- the commands that make maps and check them: `map`, `make`, `improve`, `check`, `labels` and `session`
 abbrev pub octimap_maps : App
 octimap_maps =
-    with_command (with_command (with_command (with_command (with_command octimap_alone
-    (map_app (codes "map"))) (map_app (codes "make"))) (map_app (codes "check"))) labels_app) session_app
+    with_command (with_command (with_command (with_command (with_command (with_command octimap_alone
+    (map_app (codes "map"))) (map_app (codes "make"))) improve_app) (map_app (codes "check"))) labels_app) session_app
 
 -- the program: these, `graph`, `stations`, `page` and `trial`
 unfoldable pub octimap_app : App

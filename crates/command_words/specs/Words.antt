@@ -15,7 +15,7 @@ use Rattle.command_words.specs.declared.command.Command.{Command}
 use Rattle.command_words.specs.declared.fault.WordsFault.{WordsFault}
 use Rattle.command_words.specs.declared.fault.WordsFault.TheVariants as fault
 use Rattle.command_paths.specs.Paths.{Chosen, MapPaths}
-use Rattle.command_words.specs.Asked.{Asked, asked_by, stations, graph, make, check, labels, session, trial, page}
+use Rattle.command_words.specs.Asked.{Asked, asked_by, stations, graph, make, improve, check, labels, session, trial, page}
 use Rattle.command_words.specs.Program.{octimap_app}
 
 -- one choice after another: none where the first is none
@@ -58,16 +58,29 @@ graph_in rows = do
   feed ← first_of (codes "FEED") rows
   Some (graph feed (options_in Make rows))
 
--- a map is made at two paths, and not at one
-abbrev pub make_at : List ℕ → Chosen → MapPaths → Option Asked
-make_at feed chosen paths = if bytes_eq paths.picture paths.certificate then None else Some (make feed paths chosen)
+-- two paths, and not one
+abbrev pub apart : MapPaths → Option MapPaths
+apart paths = if bytes_eq paths.picture paths.certificate then None else Some paths
+
+-- where a map and its certificate are to lie
+abbrev pub two_paths_in : List Row → Option MapPaths
+two_paths_in rows = do
+  paths ← paths_in rows
+  apart paths
 
 -- by these settings where the user sets none
 abbrev pub make_in : Defaults → List Row → Option Asked
 make_in defaults rows = do
   feed ← first_of (codes "FEED") rows
-  paths ← paths_in rows
-  make_at feed (options_in defaults rows) paths
+  paths ← two_paths_in rows
+  Some (make feed paths (options_in defaults rows))
+
+abbrev pub improve_in : List Row → Option Asked
+improve_in rows = do
+  feed ← first_of (codes "FEED") rows
+  paths ← two_paths_in rows
+  moves ← number_in (codes "MOVES") rows
+  Some (improve feed paths moves (options_in Make rows))
 
 abbrev pub check_in : List Row → Option Asked
 check_in rows = do
@@ -109,6 +122,7 @@ abbrev pub asked_as : Text → List Row → Option Asked
 asked_as name rows =
     if bytes_eq name (codes "map") then make_in Map rows
     else if bytes_eq name (codes "make") then make_in Make rows
+    else if bytes_eq name (codes "improve") then improve_in rows
     else if bytes_eq name (codes "check") then check_in rows
     else if bytes_eq name (codes "labels") then labels_in rows
     else if bytes_eq name (codes "session") then session_in rows

@@ -21,6 +21,13 @@ pub enum Command<'a> {
         files: MapFiles<'a>,
         options: Options<'a>,
     },
+    /// The same map after so many moves more at most, and what they made of its drawing.
+    Improve {
+        feed: &'a str,
+        files: MapFiles<'a>,
+        moves: u32,
+        options: Options<'a>,
+    },
     /// Whether a map and its certificate are those of the feed in this folder.
     Check {
         feed: &'a str,

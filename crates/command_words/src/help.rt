@@ -71,6 +71,18 @@ printed. SVG and CERT are two files; what they held before is lost.
 Example:
   octimap make examples/vienna-ubahn map.svg map.cert";
 
+pub(crate) const IMPROVE: &str = "Make the map of a feed, and its drawing straighter";
+
+pub(crate) const AFTER_IMPROVE: &str = "\
+The map is that of `octimap make`, its drawing after at most MOVES moves. A move puts one node two grid steps farther,
+where that makes the drawing lighter: each walk weighs what it costs and eight times its turns, each node three times
+the square of its distance from its first point. The line orders stay. It prints `improved BEFORE AFTER MADE`: what the
+drawing weighed, what it weighs now, and how many moves were made. SVG and CERT are two files; what they held before is
+lost. `map` makes up to 1000 moves by itself.
+
+Example:
+  octimap improve examples/vienna-ubahn map.svg map.cert 100";
+
 pub(crate) const CHECK: &str = "Check a map and its certificate against a feed";
 
 pub(crate) const AFTER_CHECK: &str = "\
@@ -127,6 +139,8 @@ pub(crate) const NEW_SVG: &str = "The file that the map is written to";
 
 pub(crate) const NEW_CERT: &str = "The file that the certificate is written to";
 
+pub(crate) const MOVES: &str = "How many moves there may be, from 0 to 10000";
+
 pub(crate) const SVG: &str = "The file of the map";
 
 pub(crate) const CERT: &str = "The file of its certificate";
@@ -163,6 +177,15 @@ pub(crate) const ONE_FILE: &str = "\
 error: SVG and CERT are one file
 
 Usage: octimap make [OPTIONS] <FEED> <SVG> <CERT>
+
+For more information, try '--help'.
+";
+
+/// The same of `improve`.
+pub(crate) const ONE_IMPROVED: &str = "\
+error: SVG and CERT are one file
+
+Usage: octimap improve [OPTIONS] <FEED> <SVG> <CERT> <MOVES>
 
 For more information, try '--help'.
 ";

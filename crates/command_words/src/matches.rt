@@ -4,7 +4,7 @@ ghost use Rattle.std.specs.Prelude.{◌≡◌, option_map};
 ghost use Rattle.clap.specs.Words.{first_of, found_of, rows_of, subcommand_rows_of};
 ghost use Rattle.command_paths.specs.Paths.{options_by, paths_by};
 ghost use Rattle.command_words.specs.Asked.{asked_by};
-ghost use Rattle.command_words.specs.Words.{asked_as, check_in, graph_in, labels_in, make_in, named_in, number_in, options_in, page_in, paths_in, session_in, settings_in, stations_in, trial_in};
+ghost use Rattle.command_words.specs.Words.{asked_as, check_in, graph_in, improve_in, labels_in, make_in, named_in, number_in, options_in, page_in, paths_in, session_in, settings_in, stations_in, trial_in, two_paths_in};
 
 use crate::command::Command;
 use clap::ArgMatches;
@@ -27,6 +27,8 @@ fn command_named<'a>(name: &str, given: &ArgMatches<'a>) -> Option<Command<'a>>
         make_in(given, Defaults::Map)
     } else if name == "make" {
         make_in(given, Defaults::Make)
+    } else if name == "improve" {
+        improve_in(given)
     } else if name == "check" {
         check_in(given)
     } else if name == "labels" {
@@ -68,14 +70,27 @@ fn make_in<'a>(given: &ArgMatches<'a>, defaults: Defaults) -> Option<Command<'a>
     ensures { option_map asked_by result ≡ make_in defaults (rows_of (found_of given.now)) }
 {
     let feed = value_of(given, "FEED")?;
-    let files = files_in(given)?;
-    if files.picture == files.certificate {
-        return None;
-    }
+    let files = two_files_in(given)?;
     let options = options_in(given, defaults);
     Some(Command::Make {
         feed,
         files,
+        options,
+    })
+}
+
+/// `improve FEED SVG CERT MOVES`, of two files.
+fn improve_in<'a>(given: &ArgMatches<'a>) -> Option<Command<'a>>
+    ensures { option_map asked_by result ≡ improve_in (rows_of (found_of given.now)) }
+{
+    let feed = value_of(given, "FEED")?;
+    let files = two_files_in(given)?;
+    let moves = number_of(given, "MOVES")?;
+    let options = options_in(given, Defaults::Make);
+    Some(Command::Improve {
+        feed,
+        files,
+        moves,
         options,
     })
 }
@@ -144,6 +159,17 @@ fn page_in<'a>(given: &ArgMatches<'a>) -> Option<Command<'a>>
         return None;
     }
     Some(Command::Page { map, page })
+}
+
+/// Where the map and its certificate are to lie, at two paths.
+fn two_files_in<'a>(given: &ArgMatches<'a>) -> Option<MapFiles<'a>>
+    ensures { option_map paths_by result ≡ two_paths_in (rows_of (found_of given.now)) }
+{
+    let files = files_in(given)?;
+    if files.picture == files.certificate {
+        return None;
+    }
+    Some(files)
 }
 
 /// Where the map and its certificate lie.

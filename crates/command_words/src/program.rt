@@ -2,9 +2,10 @@
 
 ghost use Rattle.std.specs.Prelude.{◌≡◌, IfOk, codes, false};
 ghost use Rattle.clap.specs.Words.{app_of, new_app, rule_of};
-ghost use Rattle.command_words.specs.Program.{IsLocal, feed_app, file_option, graph_app, labels_app, map_app, octimap_alone, octimap_app, octimap_maps, operand, page_app, session_app, trial_app, with_map, with_options};
+ghost use Rattle.command_words.specs.Program.{IsLocal, feed_app, file_option, graph_app, improve_app, labels_app, map_app, moves_operand, octimap_alone, octimap_app, octimap_maps, operand, page_app, session_app, trial_app, with_files, with_map, with_options};
 
 use crate::help;
+use clap::builder::ValueParser;
 use clap::{Arg, ArgAction, Command, value_parser};
 use std::alloc::{AllocError, Global};
 
@@ -29,12 +30,14 @@ fn over_maps<'a>(alloc: Global) -> Result<Command<'a>, AllocError>
 {
     let map = map(alloc)?;
     let make = make(alloc)?;
+    let improve = improve(alloc)?;
     let check = check(alloc)?;
     let labels = labels(alloc)?;
     let session = session(alloc)?;
     alone(alloc)?
         .subcommand(map)?
         .subcommand(make)?
+        .subcommand(improve)?
         .subcommand(check)?
         .subcommand(labels)?
         .subcommand(session)
@@ -88,6 +91,24 @@ fn make<'a>(alloc: Global) -> Result<Command<'a>, AllocError>
 {
     let command = over_feed(alloc, "make", help::MAKE, help::AFTER_MAKE)?;
     over_map(alloc, command, help::NEW_SVG, help::NEW_CERT)
+}
+
+/// `improve FEED SVG CERT MOVES`
+fn improve<'a>(alloc: Global) -> Result<Command<'a>, AllocError>
+    ensures app { IfOk result (λ command. app_of command ≡ improve_app) }
+    ensures local { IfOk result IsLocal }
+{
+    let command = over_feed(alloc, "improve", help::IMPROVE, help::AFTER_IMPROVE)?;
+    let command = with_files(alloc, command, help::NEW_SVG, help::NEW_CERT)?.arg(moves(alloc))?;
+    with_options(alloc, command)
+}
+
+/// `MOVES`, a number from 0 to 10,000.
+fn moves<'a>(alloc: Global) -> Arg<'a>
+    ensures rule { rule_of result ≡ moves_operand }
+    ensures local { result.global ≡ false }
+{
+    named_operand(alloc, "MOVES", help::MOVES).value_parser(ValueParser::signed(0, 10_000))
 }
 
 /// `check FEED SVG CERT`
@@ -163,10 +184,23 @@ fn over_map<'a>(
     ensures app { IsLocal command.entry → IfOk result (λ r. app_of r ≡ with_map (app_of command.entry)) }
     ensures local { IsLocal command.entry → IfOk result IsLocal }
 {
-    let command = command
-        .arg(named_operand(alloc, "SVG", picture))?
-        .arg(named_operand(alloc, "CERT", certificate))?;
+    let command = with_files(alloc, command, picture, certificate)?;
     with_options(alloc, command)
+}
+
+/// The command with a map and its certificate alone.
+fn with_files<'a>(
+    alloc: Global,
+    command: Command<'a>,
+    picture: &'a str,
+    certificate: &'a str,
+) -> Result<Command<'a>, AllocError>
+    ensures app { IsLocal command.entry → IfOk result (λ r. app_of r ≡ with_files (app_of command.entry)) }
+    ensures local { IsLocal command.entry → IfOk result IsLocal }
+{
+    command
+        .arg(named_operand(alloc, "SVG", picture))?
+        .arg(named_operand(alloc, "CERT", certificate))
 }
 
 /// The command with `--settings FILE` and `--edits FILE`.

@@ -41,6 +41,7 @@ fn one_file(matches: &ArgMatches<'_>) -> &'static str {
     match matches.subcommand_name() {
         Some(name) if name == "page" => help::ONE_PAGE,
         Some(name) if name == "map" => help::ONE_MAP,
+        Some(name) if name == "improve" => help::ONE_IMPROVED,
         _ => help::ONE_FILE,
     }
 }

@@ -12,15 +12,14 @@ use Rattle.command_run.specs.Work.{outcome}
 use Rattle.command_run.specs.Told.{file_of}
 use Rattle.command_run.proofs.HeldLemmas.{standing_of}
 use Rattle.map_cli.specs.declared.answer.Answer.{Answer}
-use Rattle.map_cli.specs.declared.answer.Finished.{Finished}
 use Rattle.run_status.specs.declared.status.Status.{Status}
 use Rattle.run_status.specs.declared.status.Status.TheVariants as status
 use Rattle.command_words.specs.Asked.{Asked}
 use Rattle.map_cli.specs.Inputs.{input_path}
-use Rattle.map_cli.specs.Answers.{done, answer_by, status_at, whole}
+use Rattle.map_cli.specs.Answers.{Finished, done, answer_by, status_at, whole}
 use Rattle.map_cli.specs.Commands.{work}
 use Rattle.map_cli.specs.Ending.{IsLineOf, Ends, status_after}
-use Rattle.map_cli.proofs.EndingLemmas.{told_answer}
+use Rattle.map_cli.proofs.EndingLemmas.{due_of, told_answer}
 
 -- the outputs stand in the targets
 abbrev Holds : List Output → Written → Written → Type 0
@@ -47,9 +46,11 @@ done_by finished line rose old new ended OutOfMemory steady is_line delivered is
 pub is_finished : (asked : Asked) (files : List (List ℕ × List ℕ)) (files_rose rose : Type 0) (old new : Written) (ended : Status) (finished : Finished)
     → Ends (Some asked) (Some files) files_rose rose (Some old) (Some new) ended → outcome (work asked) (file_of files (input_path asked)) ≡ Ok finished
     → (files_rose → ⊥) → (rose → ⊥) → IsDone finished old new ended
-is_finished asked files files_rose rose old new ended finished (inr out) defined told steady = inr out.1
+is_finished asked files files_rose rose old new ended finished (inr (inl left)) defined told steady =
+    elim left.5 [ inl cut ↦ absurd (steady cut.1.1) | inr out ↦ inr out.0 ]
+is_finished asked files files_rose rose old new ended finished (inr (inr out)) defined told steady = inr out.1
 is_finished asked files files_rose rose old new ended finished (inl (answer, is, written)) defined told steady =
-    by_answer (elim (told_answer asked files files_rose answer is) [ inl same ↦ same ∙ ap (answer_by (input_path asked)) defined | inr found ↦ absurd (told found.1) ])
+    by_answer (elim (told_answer asked files files_rose answer (due_of (Some asked) (Some files) files_rose answer is)) [ inl same ↦ same ∙ ap (answer_by (input_path asked)) defined | inr found ↦ absurd (told found.1) ])
   where
     by_answer : answer ≡ done finished → IsDone finished old new ended
     by_answer same =

@@ -11,21 +11,19 @@ use Rattle.command_run.specs.declared.output.Output.{Output}
 use Rattle.command_run.specs.Held.{held_after, line_outputs, IsBeginning}
 use Rattle.map_engine.specs.Making.{MapBytes}
 use Rattle.map_cli.specs.declared.answer.Answer.{Answer}
-use Rattle.map_cli.specs.declared.answer.Finished.{Finished}
 use Rattle.run_status.specs.declared.input.Input.{Input}
 use Rattle.run_status.specs.declared.refusal.Refusal.{Refusal}
 use Rattle.run_status.specs.declared.refusal.Refusal.TheVariants as refused
 use Rattle.run_status.specs.declared.status.Status.{Status}
 use Rattle.run_status.specs.declared.status.Status.TheVariants as status
-use Rattle.command_words.specs.Asked.{Asked, stations, graph, make, check, labels, session, trial, page}
+use Rattle.command_words.specs.Asked.{Asked, stations, graph, make, improve, check, labels, session, trial, page}
 use Rattle.command_paths.specs.Paths.{MapPaths}
 use Rattle.command_words.specs.Words.{asked, asked_in}
 use Rattle.command_words.proofs.Apart.{AreApart, asked_apart}
 use Rattle.map_cli.specs.Inputs.{input_path}
 use Rattle.map_commands.specs.MapWorks.{map_outputs}
-use Rattle.session_command.specs.declared.played.Played.{Played}
-use Rattle.session_command.specs.SessionWorks.{session_text}
-use Rattle.map_cli.specs.Answers.{answer_by, status_at}
+use Rattle.session_command.specs.SessionWorks.{Played, session_text}
+use Rattle.map_cli.specs.Answers.{Finished, answer_by, status_at}
 use Rattle.run_status.specs.Statuses.{status_of}
 use Rattle.map_cli.specs.Promises.{Keeps, Promised}
 use Rattle.map_cli.specs.Ending.{Ends, IsLineOf}
@@ -108,6 +106,18 @@ means told (make feed paths chosen) finished old new apart promised none holds =
       is_made = promised.is_made;
       map = has (Path paths.picture) ∙ map_held paths promised.made (held_by (Path paths.picture) old) apart;
       certificate = has (Path paths.certificate) ∙ certificate_held paths promised.made (held_by (Path paths.certificate) old);
+    }
+means told (improve feed paths moves chosen) finished old new apart promised none holds =
+    let has = subst (λ (o : List Output). Holds o old new) promised.are holds in
+    record {
+      loaded = promised.loaded;
+      loads = promised.loads;
+      improved = promised.improved;
+      defined = promised.defined;
+      is_improved = promised.is_improved;
+      map = has (Path paths.picture) ∙ map_held paths promised.improved.map (held_by (Path paths.picture) old) apart;
+      certificate = has (Path paths.certificate) ∙ certificate_held paths promised.improved.map (held_by (Path paths.certificate) old);
+      printed = has Said;
     }
 means told (check feed paths chosen) finished old new apart promised none holds =
     let has = subst (λ (o : List Output). Holds o old new) promised.are holds in

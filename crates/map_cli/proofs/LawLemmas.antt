@@ -1,5 +1,5 @@
 -- What each target holds after a run.
-use Rattle.std.proofs.Common.{◌≡◌, ◌≢◌, ℕ, ◌⊎◌, inl, inr, List, [], ◌++◌, take, Option, None, Some, Result, Ok, Err, refl, sym, ap, ◌∙◌, subst}
+use Rattle.std.proofs.Common.{◌≡◌, ◌≢◌, ℕ, ◌⊎◌, inl, inr, List, [], ◌∷◌, ◌++◌, take, Option, None, Some, unwrap_or, Result, Ok, Err, refl, sym, ap, ◌∙◌, subst}
 use Rattle.std.proofs.lemmas.List.{append-nil}
 use Rattle.files_door.specs.declared.target.Target.{Target}
 use Rattle.files_door.specs.Targets.{Written, held_by}
@@ -10,15 +10,18 @@ use Rattle.command_run.specs.Delivered.{IsDelivered, outputs_acts, line_acts, no
 use Rattle.command_run.specs.Held.{held_after, line_outputs, IsBeginning}
 use Rattle.command_run.proofs.HeldLemmas.{standing_of, cut_of, line_as_outputs, held_by-Does, begin-append}
 use Rattle.map_cli.specs.declared.answer.Answer.{Answer}
-use Rattle.map_cli.specs.declared.answer.Finished.{Finished}
 use Rattle.run_status.specs.declared.refusal.Refusal.{Refusal}
 use Rattle.run_status.specs.declared.refusal.Refusal.TheVariants as refused
 use Rattle.run_status.specs.declared.status.Status.{Status}
 use Rattle.run_status.specs.declared.status.Status.TheVariants as status
 use Rattle.command_words.specs.Asked.{Asked}
+use Rattle.run_status.specs.Following.{ComesTo}
+use Rattle.run_status.specs.Lines.{status_line}
+use Rattle.map_cli.specs.Commands.{work}
 use Rattle.map_cli.specs.Inputs.{input_path}
-use Rattle.map_cli.specs.Answers.{answer_by, status_at}
-use Rattle.map_cli.specs.Ending.{IsAnswerTo, IsLineOf, IsToBeWritten, Ends, status_after}
+use Rattle.map_cli.specs.Answers.{Finished, answer_by, done, status_at}
+use Rattle.map_cli.specs.Ending.{IsAnswerTo, IsDue, IsLeft, IsLineOf, IsToBeWritten, Ends, status_after}
+use Rattle.map_cli.proofs.EndingLemmas.{due_of}
 
 abbrev Told : Type 0
 Told = Option (List (List ℕ × List ℕ))
@@ -45,11 +48,11 @@ result_no_fault asked (Err (refused.Missing input)) same = cc
 result_no_fault asked (Err (refused.ReadFault input)) same = cc
 result_no_fault asked (Err refused.NoMemory) same = cc
 
-answer_no_fault : (asked : Option Asked) (told : Told) (rose : Type 0) (answer : Answer) → IsAnswerTo asked told rose answer → answer.status ≢ status.WriteFault
+answer_no_fault : (asked : Option Asked) (told : Told) (rose : Type 0) (answer : Answer) → IsDue asked told rose answer → answer.status ≢ status.WriteFault
 answer_no_fault None told rose answer is same =
     let usage : status.Usage ≡ status.WriteFault = ap (λ (a : Answer). a.status) (sym is) ∙ same in
     cc
-answer_no_fault (Some asked) told rose answer (result, comes, keeps, is) same = result_no_fault asked result (ap (λ (a : Answer). a.status) (sym is) ∙ same)
+answer_no_fault (Some asked) told rose answer (result, comes, is) same = result_no_fault asked result (ap (λ (a : Answer). a.status) (sym is) ∙ same)
 
 -- a status of the answer
 abbrev LeavesWhole : Option Asked → Told → Type 0 → Type 0 → Written → Written → Status → Type 0
@@ -80,15 +83,20 @@ pub leaves_whole : (asked : Option Asked) (told : Told) (files_rose rose : Type 
     → ended ≢ status.WriteFault → ended ≢ status.NoMemory → LeavesWhole asked told files_rose rose old new ended
 leaves_whole asked told files_rose rose old new ended (inl (answer, is, written)) no_fault memory =
     whole_by asked told files_rose rose old new ended answer written.0 written.1 is written.2 written.3 written.4 no_fault memory
-leaves_whole asked told files_rose rose old new ended (inr out) no_fault memory = absurd (memory out.1)
+leaves_whole asked told files_rose rose old new ended (inr (inl left)) no_fault memory = absurd (elim left.5 [ inl cut ↦ no_fault cut.0 | inr out ↦ memory out.0 ])
+leaves_whole asked told files_rose rose old new ended (inr (inr out)) no_fault memory = absurd (memory out.1)
+
+-- what a script that is left off comes to is due
+left_due : (asked : Option Asked) (told : Told) (rose : Type 0) (command : Asked) (finished : Finished) → asked ≡ Some command → ComesTo told (input_path command) rose (work command) (Ok finished) → IsDue asked told rose (done finished)
+left_due asked told rose command finished is comes = subst (λ (a : Option Asked). IsDue a told rose (done finished)) (sym is) (Ok finished, comes, refl)
 
 -- a fault of writing
 abbrev LeavesBeginning : Option Asked → Told → Type 0 → Written → Written → Type 0
 LeavesBeginning asked told files_rose old new =
-    (answer : Answer) × (front : List Output) × IsAnswerTo asked told files_rose answer × IsBeginning front answer.outputs × Holds front old new
+    (answer : Answer) × (front : List Output) × IsDue asked told files_rose answer × IsBeginning front answer.outputs × Holds front old new
 
 beginning_by : (asked : Option Asked) (told : Told) (files_rose rose : Type 0) (old new : Written) (answer : Answer) (line : List ℕ) (ending : Ending)
-    → IsAnswerTo asked told files_rose answer → IsDelivered answer.outputs line rose (Some old) (Some new) ending
+    → IsDue asked told files_rose answer → IsDelivered answer.outputs line rose (Some old) (Some new) ending
     → status.WriteFault ≡ status_after answer.status ending → LeavesBeginning asked told files_rose old new
 beginning_by asked told files_rose rose old new answer line Whole is delivered same = absurd (answer_no_fault asked told files_rose answer is (sym same))
 beginning_by asked told files_rose rose old new answer line CutShort is delivered same =
@@ -100,10 +108,29 @@ beginning_by asked told files_rose rose old new answer line OutOfMemory is deliv
 
 pub leaves_beginning : (asked : Option Asked) (told : Told) (files_rose rose : Type 0) (old new : Written) → Ends asked told files_rose rose (Some old) (Some new) status.WriteFault → LeavesBeginning asked told files_rose old new
 leaves_beginning asked told files_rose rose old new (inl (answer, is, written)) =
-    beginning_by asked told files_rose rose old new answer written.0 written.1 is written.3 written.4
-leaves_beginning asked told files_rose rose old new (inr out) =
+    beginning_by asked told files_rose rose old new answer written.0 written.1 (due_of asked told files_rose answer is) written.3 written.4
+leaves_beginning asked told files_rose rose old new (inr (inl left)) = by_end left.5
+  where
+    by_end : IsLeft left.1.outputs rose (Some old) (Some new) status.WriteFault → LeavesBeginning asked told files_rose old new
+    by_end (inl cut) = beginning_by asked told files_rose rose old new (done left.1) [] CutShort (left_due asked told files_rose left.0 left.1 left.2 left.4) cut.1 refl
+    by_end (inr out) =
+        let other : status.WriteFault ≡ status.NoMemory = out.0 in
+        absurd (cc)
+leaves_beginning asked told files_rose rose old new (inr (inr out)) =
     let other : status.WriteFault ≡ status.NoMemory = out.1 in
     absurd (cc)
+
+-- the line of the status of an end
+line_at : (bad_line : Option ℕ) → (line : List ℕ) × IsLineOf (status_at bad_line) line
+line_at None = ([], refl)
+line_at (Some line) = (unwrap_or (status_line (status.BadEdit line)) [], refl)
+
+-- what is a beginning of outputs is one of more of them
+begins_more : (front outputs more : List Output) → IsBeginning front outputs → IsBeginning front (outputs ++ more)
+begins_more [] outputs more begins = tt
+begins_more (one ∷ front) [] more begins = absurd begins
+begins_more (one ∷ front) (output ∷ outputs) more (same, inl (bytes, rest)) = (same, inl (bytes, begins_more front outputs more rest))
+begins_more (one ∷ front) (output ∷ outputs) more (same, inr cut) = (same, inr cut)
 
 -- want of memory
 abbrev LeavesTwo : Option Asked → Told → Type 0 → Written → Written → Type 0
@@ -112,7 +139,7 @@ LeavesTwo asked told files_rose old new =
     × IsBeginning front outputs × IsBeginning last (line_outputs no_memory_line) × Holds (front ++ last) old new
 
 two_by : (asked : Option Asked) (told : Told) (files_rose rose : Type 0) (old new : Written) (answer : Answer) (line : List ℕ) (ending : Ending)
-    → IsAnswerTo asked told files_rose answer → IsLineOf answer.status line → IsDelivered answer.outputs line rose (Some old) (Some new) ending
+    → IsDue asked told files_rose answer → IsLineOf answer.status line → IsDelivered answer.outputs line rose (Some old) (Some new) ending
     → status.NoMemory ≡ status_after answer.status ending → LeavesTwo asked told files_rose old new
 two_by asked told files_rose rose old new answer line Whole is is_line delivered same =
     let standing = standing_of answer.outputs line rose old new Whole delivered in
@@ -142,8 +169,27 @@ two_by asked told files_rose rose old new answer line OutOfMemory is is_line del
 
 pub leaves_two : (asked : Option Asked) (told : Told) (files_rose rose : Type 0) (old new : Written) → Ends asked told files_rose rose (Some old) (Some new) status.NoMemory → LeavesTwo asked told files_rose old new
 leaves_two asked told files_rose rose old new (inl (answer, is, written)) =
-    two_by asked told files_rose rose old new answer written.0 written.1 is written.2 written.3 written.4
-leaves_two asked told files_rose rose old new (inr out) =
+    two_by asked told files_rose rose old new answer written.0 written.1 (due_of asked told files_rose answer is) written.2 written.3 written.4
+leaves_two asked told files_rose rose old new (inr (inl left)) = by_end left.5
+  where
+    by_end : IsLeft left.1.outputs rose (Some old) (Some new) status.NoMemory → LeavesTwo asked told files_rose old new
+    by_end (inl cut) =
+        let other : status.NoMemory ≡ status.WriteFault = cut.0 in
+        absurd (cc)
+    by_end (inr out) =
+        let finished : Finished = left.1 in
+        let line = line_at finished.bad_line in
+        let standing = standing_of finished.outputs [] rose old new OutOfMemory out.1 in
+        let by = standing.1 in (
+          finished.outputs ++ line_outputs line.0,
+          by.0,
+          by.1,
+          inr (done finished, line.0, left_due asked told files_rose left.0 finished left.2 left.4, line.1, refl),
+          begins_more by.0 finished.outputs (line_outputs line.0) (subst (IsBeginning by.0) (append-nil finished.outputs) by.3),
+          by.4,
+          subst (λ (outputs : List Output). Holds outputs old new) by.2 standing.2,
+        )
+leaves_two asked told files_rose rose old new (inr (inr out)) =
     let last = cut_of (line_outputs no_memory_line) out.0 in
     let are : take out.0 (line_acts no_memory_line) ≡ outputs_acts last.0 = ap (take out.0) (line_as_outputs no_memory_line) ∙ last.2 in
     ([], [], last.0, inl refl, tt, last.1, held_by-Does (take out.0 (line_acts no_memory_line)) last.0 old new out.2 are)

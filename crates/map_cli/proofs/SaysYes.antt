@@ -1,4 +1,4 @@
--- The check says yes to what `make` wrote.
+-- The check says yes to what `make` and `improve` wrote.
 use Rattle.std.proofs.Common.{◌≡◌, ℕ, ◌⊎◌, inl, inr, Bool, true, false, if◌then◌else◌, List, [], length, Option, None, Some, Result, Ok, Err, IfSome, unwrap_or, refl, sym, ap, ◌∙◌, subst}
 use Rattle.map_base.specs.declared.limit.LimitKind.TheVariants.{File}
 use Rattle.map_base.specs.Limits.{is_within, limit_of}
@@ -20,6 +20,7 @@ use Rattle.line_graph.specs.Outcome.{graph_outcome}
 use Rattle.map_engine.specs.declared.fault.CheckFault.{CheckFault}
 use Rattle.map_engine.specs.Making.{MapBytes}
 use Rattle.map_engine.specs.Readings.{certificate_in}
+use Rattle.map_engine.specs.Promises.{IsMade}
 use Rattle.map_engine.specs.Checking.{PlainChecked, check_outcome, checked_on, checked_text, pictured}
 use Rattle.command_run.specs.declared.output.Output.{Output}
 use Rattle.command_run.specs.Work.{Work, ends, reads, ◌>>=◌, outcome}
@@ -33,7 +34,7 @@ use Rattle.run_status.specs.declared.refusal.Refusal.{Refusal}
 use Rattle.run_status.specs.declared.refusal.Refusal.TheVariants as refused
 use Rattle.run_status.specs.declared.status.Status.{Status}
 use Rattle.run_status.specs.declared.status.Status.TheVariants as status
-use Rattle.command_words.specs.Asked.{Asked, make, check}
+use Rattle.command_words.specs.Asked.{Asked, make, improve, check}
 use Rattle.command_paths.specs.Paths.{Chosen, MapPaths}
 use Rattle.map_cli.specs.Inputs.{inputs_of, input_path}
 use Rattle.map_commands.specs.MapWorks.{best_line, best, built, certificate_checked, certificate_work, check_work, checked_as, picture_checked, picture_work}
@@ -43,7 +44,7 @@ use Rattle.command_inputs.specs.Loading.{changed_in, edited_by, feed_work, file_
 use Rattle.map_cli.specs.Answers.{whole}
 use Rattle.map_cli.specs.Commands.{work}
 use Rattle.map_cli.specs.Ending.{Ends}
-use Rattle.map_cli.specs.Headline.{IsMapWritten, LieAsMade, SaysBest, to_check}
+use Rattle.map_cli.specs.Headline.{IsImprovedMapWritten, IsMapWritten, LieAsMade, SaysBest, to_check}
 use Rattle.map_commands.proofs.CheckLemmas.{graph_work, with_graph, with_loaded}
 use Rattle.map_cli.proofs.DoneLemmas.{is_done}
 
@@ -190,34 +191,62 @@ fits_by held bytes is fits = subst (λ (h : Option (List ℕ)). IfSome h (λ b. 
 as_well : (P : Feed → Choices → Type 0) (x y : Loaded) → AreLoadedAlike x y → P x.tables (record x.settings { budget = y.settings.budget }) → P y.tables y.settings
 as_well P x y alike holds = subst (λ (t : Feed). P t y.settings) alike.0 (subst (λ (c : Choices). P x.tables c) alike.1 holds)
 
+-- A map of a feed that lies with its certificate as it was written, by whichever of the commands that make maps.
+module _ (feed : List ℕ) (paths : MapPaths) (chosen : Chosen) (files later : List (List ℕ × List ℕ)) (made : Written) (loaded : Loaded) (loads : Loads (Some files) (inputs_of (make feed paths chosen)) loaded)
+    (bytes : MapBytes) (is_made : IsMade loaded.tables loaded.settings bytes) (map : held_by (Path paths.picture) made ≡ Some bytes.svg) (certificate : held_by (Path paths.certificate) made ≡ Some bytes.certificate)
+    (lie : LieAsMade files later feed paths chosen made) where
+  yes_to : outcome (work (check feed paths (to_check chosen))) (file_of later (input_path (check feed paths (to_check chosen)))) ≡ Ok (whole (said (best_line is_made.cost)))
+  yes_to =
+      let before : Given = file_of files (input_path (make feed paths chosen)) in
+      let given : Given = file_of later (input_path (check feed paths (to_check chosen))) in
+      let certified = is_made.certified in
+      let same : ReadsSame before given (load_work chosen) = load_same before given chosen (named_lies files later chosen.settings lie.same_settings) (named_lies files later chosen.edits lie.same_edits) lie.same_feed in
+      let load : outcome (load_work chosen) given ≡ Ok loaded = same_outcome before given (load_work chosen) same ∙ loads_are files (make feed paths chosen) loaded loads in
+      let other = loads_over chosen Make given loaded load in
+      let drawn = as_well (λ feed choices. graph_outcome choices.near feed ≡ Ok certified.graph) loaded other.0 other.2 certified.of_feed in
+      let accepted = as_well (λ feed choices. check_outcome feed choices bytes.svg (certificate_in bytes.certificate) ≡ Ok is_made.cost) loaded other.0 other.2 is_made.accepted in
+      let printed : outcome (check_work (to_check chosen)) given ≡ Ok (said (best_line is_made.cost)) =
+      then_outcome (load_work (to_check chosen)) with_loaded given other.0 other.1
+      ∙ after_loading given other.0 certified.graph bytes is_made.cost
+      (lie.certificate ∙ certificate) (fits_by (held_by (Path paths.certificate) made) bytes.certificate certificate lie.certificate_fits)
+      (lie.map ∙ map) (fits_by (held_by (Path paths.picture) made) bytes.svg map lie.map_fits)
+      drawn accepted in
+      then_outcome (check_work (to_check chosen)) (λ outputs. ends (Ok (whole outputs))) given (said (best_line is_made.cost)) printed
+
+  ends_yes : (files_rose rose : Type 0) (old new : Written) (ended : Status) → Ends (Some (check feed paths (to_check chosen))) (Some later) files_rose rose (Some old) (Some new) ended
+      → (files_rose → ⊥) → (rose → ⊥) → ((ended ≡ status.Done) × SaysBest old new is_made.cost) ⊎ (ended ≡ status.NoMemory)
+  ends_yes files_rose rose old new ended finish told steady =
+      by_end (is_done (check feed paths (to_check chosen)) later files_rose rose old new ended (said (best_line is_made.cost)) finish yes_to told steady)
+    where
+      by_end : ((ended ≡ status.Done) × ((target : Target) → held_by target new ≡ held_after target (said (best_line is_made.cost)) (held_by target old))) ⊎ (ended ≡ status.NoMemory)
+          → ((ended ≡ status.Done) × SaysBest old new is_made.cost) ⊎ (ended ≡ status.NoMemory)
+      by_end (inl done) = inl (done.0, done.1 Said)
+      by_end (inr out) = inr out
+
+-- what `make` wrote
 pub says_yes : (feed : List ℕ) (paths : MapPaths) (chosen : Chosen) (files later : List (List ℕ × List ℕ)) (made : Written)
     → (written : IsMapWritten (Some files) (make feed paths chosen) paths made) → LieAsMade files later feed paths chosen made
     → outcome (work (check feed paths (to_check chosen))) (file_of later (input_path (check feed paths (to_check chosen)))) ≡ Ok (whole (said (best_line written.is_made.cost)))
 says_yes feed paths chosen files later made written lie =
-    let before : Given = file_of files (input_path (make feed paths chosen)) in
-    let given : Given = file_of later (input_path (check feed paths (to_check chosen))) in
-    let certified = written.is_made.certified in
-    let same : ReadsSame before given (load_work chosen) = load_same before given chosen (named_lies files later chosen.settings lie.same_settings) (named_lies files later chosen.edits lie.same_edits) lie.same_feed in
-    let loads : outcome (load_work chosen) given ≡ Ok written.loaded = same_outcome before given (load_work chosen) same ∙ loads_are files (make feed paths chosen) written.loaded written.loads in
-    let other = loads_over chosen Make given written.loaded loads in
-    let drawn = as_well (λ feed choices. graph_outcome choices.near feed ≡ Ok certified.graph) written.loaded other.0 other.2 certified.of_feed in
-    let accepted = as_well (λ feed choices. check_outcome feed choices written.made.svg (certificate_in written.made.certificate) ≡ Ok written.is_made.cost) written.loaded other.0 other.2 written.is_made.accepted in
-    let printed : outcome (check_work (to_check chosen)) given ≡ Ok (said (best_line written.is_made.cost)) =
-    then_outcome (load_work (to_check chosen)) with_loaded given other.0 other.1
-    ∙ after_loading given other.0 certified.graph written.made written.is_made.cost
-    (lie.certificate ∙ written.certificate) (fits_by (held_by (Path paths.certificate) made) written.made.certificate written.certificate lie.certificate_fits)
-    (lie.map ∙ written.map) (fits_by (held_by (Path paths.picture) made) written.made.svg written.map lie.map_fits)
-    drawn accepted in
-    then_outcome (check_work (to_check chosen)) (λ outputs. ends (Ok (whole outputs))) given (said (best_line written.is_made.cost)) printed
+    yes_to feed paths chosen files later made written.loaded written.loads written.made written.is_made written.map written.certificate lie
 
 pub ends_with_yes : (feed : List ℕ) (paths : MapPaths) (chosen : Chosen) (files later : List (List ℕ × List ℕ)) (made : Written) (files_rose rose : Type 0) (old new : Written) (ended : Status)
     → (written : IsMapWritten (Some files) (make feed paths chosen) paths made) → LieAsMade files later feed paths chosen made
     → Ends (Some (check feed paths (to_check chosen))) (Some later) files_rose rose (Some old) (Some new) ended → (files_rose → ⊥) → (rose → ⊥)
     → ((ended ≡ status.Done) × SaysBest old new written.is_made.cost) ⊎ (ended ≡ status.NoMemory)
 ends_with_yes feed paths chosen files later made files_rose rose old new ended written lie finish told steady =
-    by_end (is_done (check feed paths (to_check chosen)) later files_rose rose old new ended (said (best_line written.is_made.cost)) finish (says_yes feed paths chosen files later made written lie) told steady)
-  where
-    by_end : ((ended ≡ status.Done) × ((target : Target) → held_by target new ≡ held_after target (said (best_line written.is_made.cost)) (held_by target old))) ⊎ (ended ≡ status.NoMemory)
-        → ((ended ≡ status.Done) × SaysBest old new written.is_made.cost) ⊎ (ended ≡ status.NoMemory)
-    by_end (inl done) = inl (done.0, done.1 Said)
-    by_end (inr out) = inr out
+    ends_yes feed paths chosen files later made written.loaded written.loads written.made written.is_made written.map written.certificate lie files_rose rose old new ended finish told steady
+
+-- what `improve` wrote
+pub says_yes_again : (feed : List ℕ) (paths : MapPaths) (moves : ℕ) (chosen : Chosen) (files later : List (List ℕ × List ℕ)) (before made : Written)
+    → (written : IsImprovedMapWritten (Some files) (improve feed paths moves chosen) paths moves before made) → LieAsMade files later feed paths chosen made
+    → outcome (work (check feed paths (to_check chosen))) (file_of later (input_path (check feed paths (to_check chosen)))) ≡ Ok (whole (said (best_line written.is_improved.made.cost)))
+says_yes_again feed paths moves chosen files later before made written lie =
+    yes_to feed paths chosen files later made written.loaded written.loads written.improved.map written.is_improved.made written.map written.certificate lie
+
+pub ends_with_yes_again : (feed : List ℕ) (paths : MapPaths) (moves : ℕ) (chosen : Chosen) (files later : List (List ℕ × List ℕ)) (before made : Written) (files_rose rose : Type 0) (old new : Written) (ended : Status)
+    → (written : IsImprovedMapWritten (Some files) (improve feed paths moves chosen) paths moves before made) → LieAsMade files later feed paths chosen made
+    → Ends (Some (check feed paths (to_check chosen))) (Some later) files_rose rose (Some old) (Some new) ended → (files_rose → ⊥) → (rose → ⊥)
+    → ((ended ≡ status.Done) × SaysBest old new written.is_improved.made.cost) ⊎ (ended ≡ status.NoMemory)
+ends_with_yes_again feed paths moves chosen files later before made files_rose rose old new ended written lie finish told steady =
+    ends_yes feed paths chosen files later made written.loaded written.loads written.improved.map written.is_improved.made written.map written.certificate lie files_rose rose old new ended finish told steady

@@ -6,9 +6,14 @@ use Rattle.run_status.specs.declared.refusal.Refusal.{Refusal}
 use Rattle.run_status.specs.declared.status.Status.{Status}
 use Rattle.run_status.specs.declared.status.Status.TheVariants as status
 use Rattle.run_status.specs.Statuses.{status_of}
-use Rattle.session_command.specs.declared.played.Played.{Played}
+use Rattle.session_command.specs.SessionWorks.{Played}
 use Rattle.map_cli.specs.declared.answer.Answer.{Answer}
-use Rattle.map_cli.specs.declared.answer.Finished.{Finished}
+
+-- what a command comes to at its end: its outputs in the order in which their targets are begun, and the number of the bad line
+-- at which a script stopped, if it met one
+pub record Finished : Type 0 where
+  pub outputs : List Output
+  pub bad_line : Option ℕ
 
 -- a status with nothing but its line
 abbrev pub alone : Status → Answer
@@ -22,14 +27,10 @@ whole outputs = record { outputs = outputs; bad_line = None }
 abbrev pub stopped : Played → Finished
 stopped played = record { outputs = played.outputs; bad_line = played.bad }
 
--- the same of results
+-- the same of a result
 abbrev pub whole_by : Result (List Output) Refusal → Result Finished Refusal
 whole_by (Ok outputs) = Ok (whole outputs)
 whole_by (Err why) = Err why
-
-abbrev pub stopped_by : Result Played Refusal → Result Finished Refusal
-stopped_by (Ok played) = Ok (stopped played)
-stopped_by (Err why) = Err why
 
 -- the status by the bad line at which a script stopped
 abbrev pub status_at : Option ℕ → Status

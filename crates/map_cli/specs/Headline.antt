@@ -10,14 +10,16 @@ use Rattle.table_rows.specs.declared.why.Table.{Table}
 use Rattle.table_rows.specs.Folder.{path_in}
 use Rattle.map_engine.specs.Making.{MapBytes, make_outcome}
 use Rattle.map_engine.specs.Promises.{IsMade}
+use Rattle.map_engine.specs.Improving.{ImprovedBytes, improve_outcome, IsImprovedMap}
 use Rattle.map_engine.specs.Labelling.{IsLabelledMap}
 use Rattle.edit_session.specs.Scripts.{followed_in}
 use Rattle.session_command.specs.SessionWorks.{session_text}
 use Rattle.session_command.specs.Promises.{KeepDraws}
 use Rattle.command_inputs.specs.declared.loaded.Loaded.{Loaded}
-use Rattle.command_words.specs.Asked.{Asked, stations, graph, make, check, labels, session, trial, page}
+use Rattle.command_words.specs.Asked.{Asked, stations, graph, make, improve, check, labels, session, trial, page}
 use Rattle.command_paths.specs.Paths.{Chosen, MapPaths}
 use Rattle.map_commands.specs.MapWorks.{best_line}
+use Rattle.improve_command.specs.ImproveWorks.{improved_line}
 use Rattle.command_inputs.specs.Loading.{Loads}
 use Rattle.map_cli.specs.Inputs.{inputs_of}
 use Rattle.map_commands.specs.Promises.{IsAccepted}
@@ -33,6 +35,20 @@ pub record IsMapWritten (told : Option (List (List ℕ × List ℕ))) (asked : A
   pub is_made : IsMade loaded.tables loaded.settings made
   pub map : held_by (Path paths.picture) new ≡ Some made.svg
   pub certificate : held_by (Path paths.certificate) new ≡ Some made.certificate
+
+-- The map of a feed is written after more moves on its drawing, and its certificate: those that are defined for the feed's
+-- tables. The map shows exactly the line graph of these tables, in a legal drawing that is no heavier than that of `make`; no
+-- line orders cost less, and the check says yes to both. The two files hold the two, and the line that tells of the moves is
+-- printed behind what standard output held.
+pub record IsImprovedMapWritten (told : Option (List (List ℕ × List ℕ))) (asked : Asked) (paths : MapPaths) (moves : ℕ) (old new : Written) : Type 0 where
+  pub loaded : Loaded
+  pub loads : Loads told (inputs_of asked) loaded
+  pub improved : ImprovedBytes
+  pub defined : improve_outcome loaded.tables loaded.settings loaded.method moves ≡ Ok improved
+  pub is_improved : IsImprovedMap loaded.tables loaded.settings loaded.method moves improved
+  pub map : held_by (Path paths.picture) new ≡ Some improved.map.svg
+  pub certificate : held_by (Path paths.certificate) new ≡ Some improved.map.certificate
+  pub printed : held_by Said new ≡ Some (unwrap_or (held_by Said old) [] ++ improved_line improved.improvement)
 
 -- a cost is printed behind what standard output held
 abbrev pub SaysBest : Written → Written → ℕ → Type 0
@@ -68,7 +84,7 @@ pub record IsSessionWritten (told : Option (List (List ℕ × List ℕ))) (asked
   pub script : List ℕ
   pub lies : IfSome told (λ files. file_at files path ≡ Some script)
   pub followed : (followed_in loaded.tables script).bad ≡ None
-  pub kept : KeepDraws loaded (Some script)
+  pub kept : KeepDraws loaded script
   pub holds : held_by (Path out) new ≡ Some (session_text loaded script)
 
 -- what status 0 means, by the command
@@ -76,6 +92,7 @@ abbrev pub MeansDone : Option (List (List ℕ × List ℕ)) → Asked → Writte
 MeansDone told (stations feed) old new = ⊤
 MeansDone told (graph feed chosen) old new = ⊤
 MeansDone told (make feed paths chosen) old new = IsMapWritten told (make feed paths chosen) paths new
+MeansDone told (improve feed paths moves chosen) old new = IsImprovedMapWritten told (improve feed paths moves chosen) paths moves old new
 MeansDone told (labels feed certificate out chosen) old new = IsLabelledMapWritten told (labels feed certificate out chosen) certificate out new
 MeansDone told (session feed script out chosen) old new = IsSessionWritten told (session feed script out chosen) script out new
 MeansDone told (trial number) old new = ⊤

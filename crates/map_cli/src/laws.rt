@@ -10,25 +10,24 @@ ghost use Rattle.command_run.specs.Held.{held_after, line_outputs, IsBeginning};
 ghost use Rattle.command_run.specs.Work.{outcome};
 ghost use Rattle.command_run.specs.Told.{file_of};
 ghost use Rattle.map_cli.specs.declared.answer.Answer.{Answer};
-ghost use Rattle.map_cli.specs.declared.answer.Finished.{Finished};
 ghost use Rattle.run_status.specs.declared.input.Input.{Input};
 ghost use Rattle.run_status.specs.declared.status.Status.{Status};
 ghost use Rattle.run_status.specs.declared.status.Status.TheVariants as status;
-ghost use Rattle.command_words.specs.Asked.{Asked, check, make};
+ghost use Rattle.command_words.specs.Asked.{Asked, check, improve, make};
 ghost use Rattle.command_paths.specs.Paths.{Chosen, MapPaths};
 ghost use Rattle.map_cli.specs.Inputs.{input_path};
 ghost use Rattle.map_commands.specs.MapWorks.{best_line};
-ghost use Rattle.map_cli.specs.Answers.{alone, answer_by, status_at, whole};
+ghost use Rattle.map_cli.specs.Answers.{Finished, alone, answer_by, status_at, whole};
 ghost use Rattle.run_status.specs.Outputs.{said};
 ghost use Rattle.map_cli.specs.Commands.{work};
-ghost use Rattle.map_cli.specs.Ending.{Ends, IsAnswerTo, IsLineOf, IsToBeWritten};
-ghost use Rattle.map_cli.specs.Headline.{IsMapWritten, LieAsMade, SaysBest, to_check};
+ghost use Rattle.map_cli.specs.Ending.{Ends, IsAnswerTo, IsDue, IsLineOf, IsToBeWritten};
+ghost use Rattle.map_cli.specs.Headline.{IsImprovedMapWritten, IsMapWritten, LieAsMade, SaysBest, to_check};
 
-/// Over files that are told, the answer to a command is the one that they define, or it names the path of an input,
+/// Over files that are told, the answer that is due to a command is the one that they define, or it names the path of an input,
 /// and the files' count of faults rose.
 pub fn told_files_decide_the_answer()
     ensures { (asked : Asked) (files : List (List ℕ × List ℕ)) (before now : ℕ) (answer : Answer)
-        → IsAnswerTo (Some asked) (Some files) (Rose before now) answer
+        → IsDue (Some asked) (Some files) (Rose before now) answer
         → (answer ≡ answer_by (input_path asked) (outcome (work asked) (file_of files (input_path asked))))
         ⊎ ((input : Input) × Rose before now × (answer ≡ alone (status.ReadFault (input_path asked input)))) }
 {}
@@ -49,7 +48,7 @@ pub fn other_statuses_leave_whole_outputs()
 pub fn a_fault_of_writing_leaves_a_beginning()
     ensures { (asked : Option Asked) (told : Option (List (List ℕ × List ℕ))) (files_before files_now before now : ℕ) (old new : Written)
         → Ends asked told (Rose files_before files_now) (Rose before now) (Some old) (Some new) status.WriteFault
-        → (answer : Answer) × (front : List Output) × IsAnswerTo asked told (Rose files_before files_now) answer × IsBeginning front answer.outputs
+        → (answer : Answer) × (front : List Output) × IsDue asked told (Rose files_before files_now) answer × IsBeginning front answer.outputs
         × ((target : Target) → held_by target new ≡ held_after target front (held_by target old)) }
 {}
 
@@ -92,4 +91,16 @@ pub fn check_says_yes_to_what_make_wrote()
         → Ends (Some (check feed paths (to_check chosen))) (Some later) (Rose files_before files_now) (Rose before now) (Some old) (Some new) ended
         → (Rose files_before files_now → ⊥) → (Rose before now → ⊥)
         → ((ended ≡ status.Done) × SaysBest old new written.is_made.cost) ⊎ (ended ≡ status.NoMemory) }
+{}
+
+/// The check says yes to what `improve` wrote, as to what `make` wrote.
+pub fn check_says_yes_to_what_improve_wrote()
+    ensures defined { (feed : List ℕ) (paths : MapPaths) (moves : ℕ) (chosen : Chosen) (files later : List (List ℕ × List ℕ)) (before made : Written)
+        → (written : IsImprovedMapWritten (Some files) (improve feed paths moves chosen) paths moves before made) → LieAsMade files later feed paths chosen made
+        → outcome (work (check feed paths (to_check chosen))) (file_of later (input_path (check feed paths (to_check chosen)))) ≡ Ok (whole (said (best_line written.is_improved.made.cost))) }
+    ensures done { (feed : List ℕ) (paths : MapPaths) (moves : ℕ) (chosen : Chosen) (files later : List (List ℕ × List ℕ)) (before made : Written) (files_before files_now faults_before faults_now : ℕ) (old new : Written) (ended : Status)
+        → (written : IsImprovedMapWritten (Some files) (improve feed paths moves chosen) paths moves before made) → LieAsMade files later feed paths chosen made
+        → Ends (Some (check feed paths (to_check chosen))) (Some later) (Rose files_before files_now) (Rose faults_before faults_now) (Some old) (Some new) ended
+        → (Rose files_before files_now → ⊥) → (Rose faults_before faults_now → ⊥)
+        → ((ended ≡ status.Done) × SaysBest old new written.is_improved.made.cost) ⊎ (ended ≡ status.NoMemory) }
 {}

@@ -15,6 +15,8 @@ mod map_tests;
 mod page_tests;
 mod run;
 #[cfg(test)]
+mod session_tests;
+#[cfg(test)]
 mod tests;
 
 use disk_door::{DiskFiles, DiskSinks};

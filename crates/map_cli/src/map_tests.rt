@@ -8,7 +8,7 @@ use std::alloc::Global;
 use std::test::Fail;
 
 /// The map of the smallest feed: two stations and a line.
-const SMALLEST_MAP: &str = "\
+pub(crate) const SMALLEST_MAP: &str = "\
 <svg xmlns=\"http://www.w3.org/2000/svg\" version=\"1.1\" viewBox=\"-200 -200 5400 400\">
 <path class=\"s0 l0\" d=\"M 0 0 L 5000 0\" fill=\"none\" stroke=\"#e6194b\" stroke-width=\"12\"><title>A</title></path>
 <circle cx=\"0\" cy=\"0\" r=\"10\" fill=\"#ffffff\" stroke=\"#000000\" stroke-width=\"4\"/>
@@ -19,7 +19,7 @@ const SMALLEST_MAP: &str = "\
 ";
 
 /// Its certificate.
-const SMALLEST_CERTIFICATE: &str = "\
+pub(crate) const SMALLEST_CERTIFICATE: &str = "\
 octimap 1
 graph 2 1 1
 walk 0 0 0 E50
@@ -30,7 +30,7 @@ parts 0
 ";
 
 /// The folder `feed` with two stations and a line.
-fn smallest_feed(alloc: Global) -> Result<Vec<(Text, Vec<u8>)>, NoMemory> {
+pub(crate) fn smallest_feed(alloc: Global) -> Result<Vec<(Text, Vec<u8>)>, NoMemory> {
     let mut files = Vec::new(alloc);
     let stops = "stop_id,stop_name,stop_lat,stop_lon\nX,X,0,0\nY,Y,0,0.010000\n";
     let stop_times = "trip_id,stop_id,stop_sequence\nA1,X,1\nA1,Y,2\n";
@@ -52,7 +52,7 @@ fn smallest_feed(alloc: Global) -> Result<Vec<(Text, Vec<u8>)>, NoMemory> {
 }
 
 /// The file of this path.
-fn at(alloc: Global, path: &str) -> Result<Target, NoMemory> {
+pub(crate) fn at(alloc: Global, path: &str) -> Result<Target, NoMemory> {
     Ok(Target::Path(Text::of(alloc, path)?))
 }
 
@@ -68,6 +68,22 @@ fn the_smallest_map_is_made(rt: HostRuntime) -> Result<(), Fail> {
     let certificate = sinks.written(&at(alloc, "map.cert")?).unwrap_or(b"");
     assert_eq!(rt; certificate, SMALLEST_CERTIFICATE.as_bytes());
     assert_eq!(rt; sinks.written(&Target::Said), None);
+    Ok(())
+}
+
+#[test]
+fn a_straight_map_is_not_moved(rt: HostRuntime) -> Result<(), Fail> {
+    let alloc = rt.alloc();
+    let words = words_of(alloc, "improve feed map.svg map.cert 5")?;
+    let mut files = SteadyFiles::with(smallest_feed(alloc)?);
+    let mut sinks = SteadySinks::none(alloc);
+    assert_eq!(rt; run_on(alloc, &words, &mut files, &mut sinks), 0);
+    let map = sinks.written(&at(alloc, "map.svg")?).unwrap_or(b"");
+    assert_eq!(rt; map, SMALLEST_MAP.as_bytes());
+    let certificate = sinks.written(&at(alloc, "map.cert")?).unwrap_or(b"");
+    assert_eq!(rt; certificate, SMALLEST_CERTIFICATE.as_bytes());
+    let said = sinks.written(&Target::Said).unwrap_or(b"");
+    assert_eq!(rt; said, b"improved 200 200 0\n".as_slice());
     Ok(())
 }
 

@@ -1,29 +1,28 @@
 //! All that the program does, over any files and sinks.
 
-ghost use Rattle.std.specs.Prelude.{◌≡◌, ◌≢◌, ◌⊎◌, None, Some, IfOk, IfSome, string_bytes};
+ghost use Rattle.std.specs.Prelude.{◌≡◌, ◌≢◌, ◌≤◌, ◌⊎◌, None, Some, Err, IfOk, IfSome, string_bytes};
 ghost use Rattle.files_door.specs.Fault.{Rose};
 ghost use Rattle.command_words.specs.Asked.{asked_by};
 ghost use Rattle.command_words.specs.Words.{asked_in};
 ghost use Rattle.map_cli.specs.Inputs.{input_path};
-ghost use Rattle.map_cli.specs.Answers.{alone};
+ghost use Rattle.map_cli.specs.Answers.{alone, answer_by, whole_by};
 ghost use Rattle.run_status.specs.Statuses.{status_of};
-ghost use Rattle.map_cli.specs.Commands.{work};
-ghost use Rattle.run_status.specs.Following.{Follows};
-ghost use Rattle.map_cli.specs.Promises.{Keeps, TakesSteps};
-ghost use Rattle.map_cli.specs.Ending.{Ends, IsAnswerTo, IsCaused, IsLineOf, IsOutOfMemory, IsReplyTo, IsWritten};
+ghost use Rattle.map_cli.specs.Promises.{TakesSteps};
+ghost use Rattle.map_cli.specs.Ending.{Ends, IsCaused, IsEndWritten, IsLineOf, IsOutOfMemory, IsReplyWith, IsScriptEnded, IsStatusSaid, IsWritten, status_after};
 ghost use Rattle.map_cli.specs.Headline.{MeansDone};
 
-use crate::answer::{Answer, Finished, Reply, answered, end_with, stopped, whole};
+use crate::answer::{Answer, Reply, end_with, status_at};
 use crate::inputs::{inputs_of, path_for};
-use command_run::{Ending, deliver, out_of_memory};
+use command_run::{Ending, Output, deliver, out_of_memory};
 use command_words::{Command, WordsFault, command_of};
 use files_door::{Files, Sinks};
+use improve_command::improve_map;
 use label_command::label_map;
-use map_base::{NoMemory, Steps};
+use map_base::{NoMemory, Sequence, Steps};
 use map_commands::{check_map, make_map};
 use page_command::show_map;
 use run_status::{Refusal, Status, line_of};
-use session_command::play_script;
+use session_command::{ScriptStop, play_script};
 use std::alloc::Global;
 use std::sync::ledger::Ledger;
 use table_commands::{print_line_graph, print_stations};
@@ -37,11 +36,11 @@ use trial_command::print_trial;
 /// fails, the line of standard output names the path. Where writing fails, each target holds a beginning of
 /// its bytes.
 ///
-/// Where `make` ends with status 0, the map that is written shows exactly the feed's line graph: a legal drawing, in
-/// which no line orders cost less, as the certificate beside it shows. Where `check` ends with status 0, the map at its
+/// Where `make` or `improve` ends with status 0, the map that is written shows exactly the feed's line graph: a legal drawing,
+/// in which no line orders cost less, as the certificate beside it shows. Where `check` ends with status 0, the map at its
 /// path is such a map, whoever made it and its certificate; and where `labels` ends with it, such a map is written with
-/// names at free places. Each draw of a `session` has the bytes of a fresh map with the edits that stand there; a bad line
-/// of its script ends it, and the draws before it are written. Where a file of edits is named, the feed is as these make it.
+/// names at free places. Each draw of a `session` has the bytes of a fresh map with the edits that stand there, and is written
+/// as soon as it is made; a bad line of its script ends it, and the draws before it stay. Where a file of edits is named, the feed is as these make it.
 /// `page` writes the bytes of the page's head, of the map and of the page's tail. `trial` reads and writes no file.
 pub fn run<F: Files, S: Sinks, L: Ledger>(
     alloc: Global,
@@ -73,7 +72,7 @@ pub fn run<F: Files, S: Sinks, L: Ledger>(
     ended_run(alloc, words, files, sinks, steps)
 }
 
-/// The run itself: an answer is made in memory, and then written.
+/// The run itself. Answers are made in memory and then written; a script's draws are written as they are made.
 fn ended_run<F: Files, S: Sinks, L: Ledger>(
     alloc: Global,
     words: &[String],
@@ -87,8 +86,118 @@ fn ended_run<F: Files, S: Sinks, L: Ledger>(
         (S.written sinks.old) (S.written sinks.new) result }
     ensures steps { TakesSteps (F.told files.old) (asked_in words.now) steps.old steps.new }
 {
-    match reply_of(alloc, words, files, steps) {
+    match command_of(alloc, words) {
+        Ok(command) => run_command(alloc, &command, files, sinks, steps),
+        Err(fault) => end_unread(alloc, fault, sinks),
+    }
+}
+
+/// Does the work of a command, to its end or to the bad line of a script, and writes what it comes to.
+fn run_command<F: Files, S: Sinks, L: Ledger>(
+    alloc: Global,
+    command: &Command<'_>,
+    files: &mut F,
+    sinks: &mut S,
+    steps: &mut Steps<L>,
+) -> Status
+    ensures ends { Ends (Some (asked_by command.now)) (F.told files.old)
+        (Rose (F.faults files.old) (F.faults files.new))
+        (Rose (S.faults sinks.old) (S.faults sinks.new))
+        (S.written sinks.old) (S.written sinks.new) result }
+    ensures steps { TakesSteps (F.told files.old) (Some (asked_by command.now)) steps.old steps.new }
+{
+    let inputs = inputs_of(command);
+    match command {
+        Command::Stations { .. } => {
+            let outcome = print_stations(alloc, &inputs, files);
+            write_outcome(alloc, command, outcome, sinks)
+        }
+        Command::Graph { .. } => {
+            let outcome = print_line_graph(alloc, &inputs, files);
+            write_outcome(alloc, command, outcome, sinks)
+        }
+        Command::Make {
+            files: map_files,
+            ..
+        } => {
+            let outcome = make_map(alloc, &inputs, map_files, files, steps);
+            write_outcome(alloc, command, outcome, sinks)
+        }
+        Command::Improve {
+            files: map_files,
+            moves,
+            ..
+        } => {
+            let outcome = improve_map(alloc, &inputs, map_files, *moves, files, steps);
+            write_outcome(alloc, command, outcome, sinks)
+        }
+        Command::Check { .. } => {
+            let outcome = check_map(alloc, &inputs, files);
+            write_outcome(alloc, command, outcome, sinks)
+        }
+        Command::Labels { out, .. } => {
+            let outcome = label_map(alloc, &inputs, out, files);
+            write_outcome(alloc, command, outcome, sinks)
+        }
+        Command::Session { out, .. } => {
+            let outcome = play_script(alloc, &inputs, out, files, sinks, steps);
+            end_script(alloc, command, outcome, sinks)
+        }
+        Command::Trial { number } => {
+            let outcome = print_trial(alloc, *number, steps);
+            write_outcome(alloc, command, outcome, sinks)
+        }
+        Command::Page { page, .. } => {
+            let outcome = show_map(alloc, &inputs, page, files);
+            write_outcome(alloc, command, outcome, sinks)
+        }
+    }
+}
+
+/// Writes what a command without a script came to: its outputs, or the line of its refusal.
+fn write_outcome<S: Sinks>(
+    alloc: Global,
+    command: &Command<'_>,
+    outcome: Result<Sequence<Output>, Refusal>,
+    sinks: &mut S,
+) -> Status
+    ensures written { IsEndWritten (asked_by command.now) (whole_by outcome) (Rose (S.faults sinks.old) (S.faults sinks.new))
+        (S.written sinks.old) (S.written sinks.new) result }
+    ensures later { S.faults sinks.old ≤ S.faults sinks.new }
+{
+    match reply_to(alloc, command, outcome) {
         Ok(reply) => write_reply(reply, sinks),
+        Err(NoMemory) => end_without_memory(sinks),
+    }
+}
+
+/// Ends a script whose draws were written as they were made: behind them comes the line of the status.
+fn end_script<S: Sinks>(
+    alloc: Global,
+    command: &Command<'_>,
+    outcome: Result<Option<u64>, ScriptStop>,
+    sinks: &mut S,
+) -> Status
+    ensures ended { IsScriptEnded (asked_by command.now) outcome (Rose (S.faults sinks.old) (S.faults sinks.new))
+        (S.written sinks.old) (S.written sinks.new) result }
+    ensures later { S.faults sinks.old ≤ S.faults sinks.new }
+{
+    match outcome {
+        Ok(bad_line) => say_status(alloc, status_at(bad_line), sinks),
+        Err(ScriptStop::Refused(refusal)) => { write_outcome(alloc, command, Err(refusal), sinks) }
+        Err(ScriptStop::WriteFault) => Status::WriteFault,
+        Err(ScriptStop::NoMemory) => end_without_memory(sinks),
+    }
+}
+
+/// Ends with the line of a status, behind outputs that are whole.
+fn say_status<S: Sinks>(alloc: Global, status: Status, sinks: &mut S) -> Status
+    ensures said { IsStatusSaid status (Rose (S.faults sinks.old) (S.faults sinks.new)) (S.written sinks.old) (S.written sinks.new) result
+        ⊎ IsOutOfMemory (S.written sinks.old) (S.written sinks.new) result }
+    ensures later { S.faults sinks.old ≤ S.faults sinks.new }
+{
+    match line_of(alloc, &status) {
+        Ok(line) => status_after(status, deliver(&[], line.as_str(), sinks)),
         Err(NoMemory) => end_without_memory(sinks),
     }
 }
@@ -98,113 +207,76 @@ fn write_reply<S: Sinks>(reply: Reply, sinks: &mut S) -> Status
     requires line { IsLineOf reply.answer.status (string_bytes reply.line) }
     ensures written { IsWritten reply.answer (Rose (S.faults sinks.old) (S.faults sinks.new))
         (S.written sinks.old) (S.written sinks.new) result }
+    ensures later { S.faults sinks.old ≤ S.faults sinks.new }
 {
     let Reply { answer, line } = reply;
     let Answer { status, outputs } = answer;
-    match deliver(outputs.as_slice(), line.as_str(), sinks) {
+    status_after(status, deliver(outputs.as_slice(), line.as_str(), sinks))
+}
+
+/// The status of a run by that of its answer, and by how the writing ended.
+fn status_after(status: Status, ending: Ending) -> Status
+    ensures { result ≡ status_after status ending }
+{
+    match ending {
         Ending::Whole => status,
         Ending::CutShort => Status::WriteFault,
         Ending::OutOfMemory => Status::NoMemory,
     }
 }
 
-/// Memory ran out before there was anything to write.
+/// Memory ran out, and nothing more is to be written but its line.
 fn end_without_memory<S: Sinks>(sinks: &mut S) -> Status
-    ensures { IsOutOfMemory (S.written sinks.old) (S.written sinks.new) result }
+    ensures memory { IsOutOfMemory (S.written sinks.old) (S.written sinks.new) result }
+    ensures later { S.faults sinks.old ≤ S.faults sinks.new }
 {
     let _ending = out_of_memory(sinks);
     Status::NoMemory
 }
 
-/// What the words ask for, worked out over the files.
-fn reply_of<F: Files, L: Ledger>(
-    alloc: Global,
-    words: &[String],
-    files: &mut F,
-    steps: &mut Steps<L>,
-) -> Result<Reply, NoMemory>
-    ensures reply { IfOk result (IsReplyTo (asked_in words.now) (F.told files.old)
-        (Rose (F.faults files.old) (F.faults files.new))) }
-    ensures steps { TakesSteps (F.told files.old) (asked_in words.now) steps.old steps.new }
+/// The words are not read: the text for the user is written.
+fn end_unread<S: Sinks>(alloc: Global, fault: WordsFault, sinks: &mut S) -> Status
+    ensures { ((fault ≢ WordsFault.NoMemory) × IsWritten (alone Status.Usage) (Rose (S.faults sinks.old) (S.faults sinks.new))
+        (S.written sinks.old) (S.written sinks.new) result) ⊎ IsOutOfMemory (S.written sinks.old) (S.written sinks.new) result }
 {
-    match command_of(alloc, words) {
-        Ok(command) => reply_to(alloc, &command, files, steps),
-        Err(fault) => unread(alloc, fault),
+    match fault {
+        WordsFault::Usage(line) => {
+            let answer = end_with(alloc, Status::Usage);
+            write_reply(Reply { answer, line }, sinks)
+        }
+        WordsFault::NoMemory => end_without_memory(sinks),
     }
 }
 
-/// What a command comes to over the files, with the line of its status.
-fn reply_to<F: Files, L: Ledger>(
+/// What a command without a script came to, with the line of its status.
+fn reply_to(
     alloc: Global,
     command: &Command<'_>,
-    files: &mut F,
-    steps: &mut Steps<L>,
+    outcome: Result<Sequence<Output>, Refusal>,
 ) -> Result<Reply, NoMemory>
-    ensures reply { IfOk result (IsReplyTo (Some (asked_by command.now)) (F.told files.old)
-        (Rose (F.faults files.old) (F.faults files.new))) }
-    ensures steps { TakesSteps (F.told files.old) (Some (asked_by command.now)) steps.old steps.new }
+    ensures reply { IfOk result (IsReplyWith (answer_by (input_path (asked_by command.now)) (whole_by outcome))) }
+    ensures memory { IfOk result (λ _. whole_by outcome ≢ Err Refusal.NoMemory) }
 {
-    let answer = answer_to(alloc, command, files, steps)?;
+    let answer = answer_to(alloc, command, outcome)?;
     let line = line_of(alloc, &answer.status)?;
     Ok(Reply { answer, line })
 }
 
-/// The words are not read: the text for the user is the line.
-fn unread(alloc: Global, fault: WordsFault) -> Result<Reply, NoMemory>
-    ensures usage { IfOk result (λ reply. reply.answer ≡ alone Status.Usage) }
-    ensures memory { IfOk result (λ _. fault ≢ WordsFault.NoMemory) }
-{
-    match fault {
-        WordsFault::Usage(line) => Ok(Reply {
-            answer: end_with(alloc, Status::Usage),
-            line,
-        }),
-        WordsFault::NoMemory => Err(NoMemory),
-    }
-}
-
-/// What a command comes to over the files.
-fn answer_to<F: Files, L: Ledger>(
+/// The answer by what a command without a script came to.
+fn answer_to(
     alloc: Global,
     command: &Command<'_>,
-    files: &mut F,
-    steps: &mut Steps<L>,
+    outcome: Result<Sequence<Output>, Refusal>,
 ) -> Result<Answer, NoMemory>
-    ensures answer { IfOk result (IsAnswerTo (Some (asked_by command.now)) (F.told files.old)
-        (Rose (F.faults files.old) (F.faults files.new))) }
-    ensures steps { TakesSteps (F.told files.old) (Some (asked_by command.now)) steps.old steps.new }
+    ensures answer { IfOk result (λ answer. answer ≡ answer_by (input_path (asked_by command.now)) (whole_by outcome)) }
+    ensures memory { IfOk result (λ _. whole_by outcome ≢ Err Refusal.NoMemory) }
 {
-    match carry_out(alloc, command, files, steps) {
-        Ok(finished) => Ok(answered(finished)),
+    match outcome {
+        Ok(outputs) => Ok(Answer {
+            status: Status::Done,
+            outputs,
+        }),
         Err(refusal) => refuse(alloc, command, refusal),
-    }
-}
-
-/// Does the work of a command, to its end or to the bad line of a script.
-fn carry_out<F: Files, L: Ledger>(
-    alloc: Global,
-    command: &Command<'_>,
-    files: &mut F,
-    steps: &mut Steps<L>,
-) -> Result<Finished, Refusal>
-    ensures follows { Follows (F.told files.old) (input_path (asked_by command.now))
-        (Rose (F.faults files.old) (F.faults files.new)) (λ finished. finished) (work (asked_by command.now)) result }
-    ensures keeps { Keeps (F.told files.old) (asked_by command.now) result }
-    ensures steps { TakesSteps (F.told files.old) (Some (asked_by command.now)) steps.old steps.new }
-{
-    let inputs = inputs_of(command);
-    match command {
-        Command::Stations { .. } => whole(print_stations(alloc, &inputs, files)),
-        Command::Graph { .. } => whole(print_line_graph(alloc, &inputs, files)),
-        Command::Make {
-            files: map_files,
-            ..
-        } => whole(make_map(alloc, &inputs, map_files, files, steps)),
-        Command::Check { .. } => whole(check_map(alloc, &inputs, files)),
-        Command::Labels { out, .. } => whole(label_map(alloc, &inputs, out, files)),
-        Command::Session { out, .. } => stopped(play_script(alloc, &inputs, out, files, steps)),
-        Command::Trial { number } => whole(print_trial(alloc, *number, steps)),
-        Command::Page { page, .. } => whole(show_map(alloc, &inputs, page, files)),
     }
 }
 

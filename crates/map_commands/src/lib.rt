@@ -7,3 +7,4 @@ mod outputs;
 
 pub use check_command::check_map;
 pub use make_command::make_map;
+pub use outputs::write_map;

@@ -12,6 +12,7 @@ mod SolveLemmas
 mod ImportanceLemmas
 mod DrawingLemmas
 mod UntangledLemmas
+mod MovedDrawings
 mod MadeLemmas
 mod KeepLemmas
 mod NoneLeft

@@ -16,7 +16,7 @@ use Rattle.kept_trees.proofs.HeldLists.{in_is_held}
 use Rattle.map_engine.specs.declared.fault.MakeFault.{MakeFault}
 use Rattle.map_engine.specs.Problems.{Drawn, drawn_outcome, untangled_problem}
 use Rattle.map_engine.specs.Solving.{SolvedPart, solved, with_solved, is_solvable, why_unsolved, solve_from, solve_outcome, parts_in}
-use Rattle.map_engine.specs.Making.{MapBytes, made_on, made_with, make_outcome}
+use Rattle.map_engine.specs.Making.{MapBytes, if_solved, make_outcome, solved_map, solved_on, solved_with}
 use Rattle.map_engine.specs.Keeping.{finished_in, finished_of, finished_parts, missing_branches, branches_left}
 use Rattle.map_engine.proofs.KeepLemmas.{missing_sum}
 
@@ -56,20 +56,20 @@ none_missing how budget held p done h there =
     (subst (λ (parts : List (List SegId)). All (Contains held) (map (held_as how p) parts)) (all_taken how budget p 0 (parts_in p) done h) there))
 
 -- where a map is made of a drawing, its parts are solved
-parts_solved : (feed : Feed) (choices : Choices) (drawn : Drawn) (outcome : Result (List SolvedPart) MakeFault) (made : MapBytes) → made_with feed choices drawn outcome ≡ Ok made
-    → (done : List SolvedPart) × (outcome ≡ Ok done)
-parts_solved feed choices drawn (Ok done) made h = (done, refl)
-parts_solved feed choices drawn (Err stop) made h = absurd cc
+parts_solved : (feed : Feed) (choices : Choices) (moves : ℕ) (drawn : Drawn) (outcome : Result (List SolvedPart) MakeFault) (made : MapBytes)
+    → if_solved (solved_map feed choices) (solved_with moves drawn outcome) ≡ Ok made → (done : List SolvedPart) × (outcome ≡ Ok done)
+parts_solved feed choices moves drawn (Ok done) made h = (done, refl)
+parts_solved feed choices moves drawn (Err stop) made h = absurd cc
 
-left_of : (feed : Feed) (choices : Choices) (how : Search) (drawn : Result Drawn MakeFault) (made : MapBytes) (held : List HeldPart) → made_on feed choices how drawn ≡ Ok made
-    → All (Contains held) (finished_in how choices.budget drawn) → missing_branches held how drawn ≡ 0
-left_of feed choices how (Err stop) made held h there = refl
-left_of feed choices how (Ok drawn) made held h there =
+left_of : (feed : Feed) (choices : Choices) (method : MethodChoices) (drawn : Result Drawn MakeFault) (made : MapBytes) (held : List HeldPart)
+    → if_solved (solved_map feed choices) (solved_on choices method drawn) ≡ Ok made → All (Contains held) (finished_in method.search choices.budget drawn) → missing_branches held method.search drawn ≡ 0
+left_of feed choices method (Err stop) made held h there = refl
+left_of feed choices method (Ok drawn) made held h there =
     let p : ProblemParts = untangled_problem drawn.problem in
-    let found = parts_solved feed choices drawn (solve_outcome how choices.budget p) made h in
-    missing_sum how held p (parts_in p) ∙ none_missing how choices.budget held p found.0 found.1 there
+    let found = parts_solved feed choices method.moves drawn (solve_outcome method.search choices.budget p) made h in
+    missing_sum method.search held p (parts_in p) ∙ none_missing method.search choices.budget held p found.0 found.1 there
 
 -- where the map of a feed is made and each part that it finishes is held, no branch node is left
 pub none_left : (feed : Feed) (choices : Choices) (method : MethodChoices) (made : MapBytes) (held : List HeldPart) → make_outcome feed choices method ≡ Ok made → All (Contains held) (finished_parts feed choices method)
     → branches_left held feed choices method ≡ 0
-none_left feed choices method made held h there = left_of feed choices method.search (drawn_outcome feed choices method) made held h there
+none_left feed choices method made held h there = left_of feed choices method (drawn_outcome feed choices method) made held h there

@@ -13,7 +13,7 @@ use Rattle.order_model.specs.declared.problem.ProblemParts.{ProblemParts}
 use Rattle.order_model.specs.Gathering.{part_lists}
 use Rattle.order_model.proofs.Placing.{length-part_lists}
 use Rattle.order_model.proofs.PartLists.{part_at}
-use Rattle.order_proof.specs.Plain.{PlainTree, plain, PlainPart, plain_part}
+use Rattle.order_proof.specs.Plain.{PlainTree, PlainPart, plain_part}
 use Rattle.order_proof.specs.Trees.{IsProofTree}
 use Rattle.order_search.specs.declared.found.Found.{Found}
 use Rattle.order_search.specs.declared.found.SearchFault.{SearchFault}

@@ -1,8 +1,7 @@
 -- What the untangling of a problem keeps: its orders, what they cost, and that they are best.
-use Rattle.std.proofs.Common.{◌≡◌, sym, subst, ℕ, ◌≤◌, List, arith}
+use Rattle.std.proofs.Common.{◌≡◌, sym, subst, List, arith}
 use Rattle.std.specs.List.{sum_by}
 use Rattle.map_base.specs.declared.ids.LineId.{LineId}
-use Rattle.order_values.specs.declared.rule.Rule.{Rule}
 use Rattle.order_model.specs.declared.problem.ProblemParts.{ProblemParts}
 use Rattle.order_model.specs.Problems.{choices, IsProblem}
 use Rattle.order_model.specs.Costs.{cost_of, AreOrders, AreBest}

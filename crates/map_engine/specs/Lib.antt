@@ -5,6 +5,7 @@ pub mod Solving
 pub mod Lifted
 pub mod Certificates
 pub mod DrawnLines
+pub mod Moving
 pub mod Making
 pub mod Stages
 pub mod FrontReadings
@@ -12,5 +13,6 @@ pub mod Readings
 pub mod Checking
 pub mod Keeping
 pub mod Promises
+pub mod Improving
 pub mod Wholes
 pub mod Labelling

@@ -1,7 +1,6 @@
 -- The map of a feed and its certificate; or why there is none.
 use Rattle.std.specs.Prelude.{◌≡◌, ℕ, List, Result, Ok, Err}
 use Rattle.map_base.specs.Settings.{Choices}
-use Rattle.map_method.specs.declared.search.Search.{Search}
 use Rattle.map_method.specs.Methods.{MethodChoices}
 use Rattle.transit_feed.specs.Feeds.{Feed}
 use Rattle.svg_writer.specs.Picture.{picture_text}
@@ -11,6 +10,7 @@ use Rattle.map_engine.specs.declared.fault.MakeFault.TheVariants as fault
 use Rattle.map_engine.specs.declared.made.Made.{Made}
 use Rattle.map_engine.specs.Tables.{names_by}
 use Rattle.map_engine.specs.Problems.{Drawn, drawn_outcome, untangled_problem}
+use Rattle.map_engine.specs.Moving.{after_moves}
 use Rattle.map_engine.specs.Solving.{SolvedPart, solve_outcome}
 use Rattle.map_engine.specs.Lifted.{lifted_by}
 use Rattle.map_engine.specs.Certificates.{certificate_of}
@@ -27,20 +27,38 @@ map_of feed choices drawn parts = record {
   certificate = certificate_text (certificate_of feed choices drawn parts);
 }
 
--- what comes of a drawing and the parts of its untangled problem
-abbrev pub made_with : Feed → Choices → Drawn → Result (List SolvedPart) MakeFault → Result MapBytes MakeFault
-made_with feed choices drawn (Ok parts) = Ok (map_of feed choices drawn parts)
-made_with feed choices drawn (Err stop) = Err stop
+-- a drawing with the solved parts of its untangled problem
+pub record SolvedMap : Type 0 where
+  pub drawn : Drawn
+  pub parts : List SolvedPart
 
-abbrev pub made_on : Feed → Choices → Search → Result Drawn MakeFault → Result MapBytes MakeFault
-made_on feed choices how (Ok drawn) = made_with feed choices drawn (solve_outcome how choices.budget (untangled_problem drawn.problem))
-made_on feed choices how (Err stop) = Err stop
+-- what comes of a drawing and the parts of its untangled problem: the drawing after at most so many moves, with the parts
+abbrev pub solved_with : ℕ → Drawn → Result (List SolvedPart) MakeFault → Result SolvedMap MakeFault
+solved_with moves drawn (Ok parts) = Ok (record { drawn = after_moves moves drawn; parts = parts })
+solved_with moves drawn (Err stop) = Err stop
 
--- The map of a feed and its certificate; or the first cause why there is none: a limit of the line graph, of cells, no
+abbrev pub solved_on : Choices → MethodChoices → Result Drawn MakeFault → Result SolvedMap MakeFault
+solved_on choices method (Ok drawn) = solved_with method.moves drawn (solve_outcome method.search choices.budget (untangled_problem drawn.problem))
+solved_on choices method (Err stop) = Err stop
+
+-- The drawing of a feed and its line orders; or the first cause why there is none: a limit of the line graph, of cells, no
 -- route, a limit of terms, or a part of the untangled problem that is over the limit of places or over the budget. It
--- never is want of memory.
+-- never is want of memory. The moves follow the routes, and no order depends on them.
+abbrev pub solved_outcome : Feed → Choices → MethodChoices → Result SolvedMap MakeFault
+solved_outcome feed choices method = solved_on choices method (drawn_outcome feed choices method)
+
+-- what is made of a drawing with its line orders, where they are there
+abbrev pub if_solved : {A : Type 0} → (SolvedMap → A) → Result SolvedMap MakeFault → Result A MakeFault
+if_solved makes (Ok solved) = Ok (makes solved)
+if_solved makes (Err stop) = Err stop
+
+-- the map and the certificate of a drawing with its line orders
+abbrev pub solved_map : Feed → Choices → SolvedMap → MapBytes
+solved_map feed choices solved = map_of feed choices solved.drawn solved.parts
+
+-- The map of a feed and its certificate; or the first cause why there is none.
 abbrev pub make_outcome : Feed → Choices → MethodChoices → Result MapBytes MakeFault
-make_outcome feed choices method = made_on feed choices method.search (drawn_outcome feed choices method)
+make_outcome feed choices method = if_solved (solved_map feed choices) (solved_outcome feed choices method)
 
 -- the bytes of what was made
 abbrev pub bytes_of : Made → MapBytes

@@ -1,10 +1,15 @@
 -- What stands between the steps of making a map.
-use Rattle.std.specs.Prelude.{◌≡◌, ℕ, false, true, List, [], ◌∷◌, ◌++◌, length, map, filter, drop, Result, Ok, Err}
+use Rattle.std.specs.Prelude.{◌≡◌, ◌≤◌, ◌<◌, ◌+◌, ◌^◌, ◌⊎◌, ℕ, false, true, All, None, List, [], ◌∷◌, ◌++◌, length, map, filter, drop, Result, Ok, Err}
 use Rattle.std.specs.List.{AllByRecursion}
 use Rattle.map_base.specs.declared.ids.SegId.{SegId}
 use Rattle.map_method.specs.declared.search.Search.{Search}
 use Rattle.order_model.specs.declared.problem.ProblemParts.{ProblemParts}
 use Rattle.transit_feed.specs.Feeds.{Feed}
+use Rattle.graph_core.specs.Consistent.{IsConsistent}
+use Rattle.octi_grid.specs.Walks.{IsWalk}
+use Rattle.octi_grid.specs.Legal.{first_illegal, legal}
+use Rattle.grid_board.specs.Points.{are_near}
+use Rattle.octi_moves.specs.Moves.{next_of}
 use Rattle.order_model.specs.Costs.{cost_of, AreOrders}
 use Rattle.svg_writer.specs.Picture.{picture_text}
 use Rattle.cert_file.specs.Plain.{PlainCertificate}
@@ -18,20 +23,45 @@ use Rattle.order_search.specs.Finding.{with_lists, IsLeast, AreAttained}
 use Rattle.order_search.specs.FoundParts.{part_in}
 use Rattle.map_engine.specs.declared.best_orders.BestOrders.{BestOrders}
 use Rattle.map_engine.specs.declared.drawn_map.DrawnMap.{DrawnMap}
+use Rattle.map_engine.specs.declared.improvement.Improvement.{Improvement}
+use Rattle.map_engine.specs.declared.improvement.ImprovedMap.{ImprovedMap}
 use Rattle.map_engine.specs.declared.solution.Solution.{Solution}
 use Rattle.map_engine.specs.declared.fault.MakeFault.{MakeFault}
 use Rattle.map_engine.specs.declared.fault.MakeFault.TheVariants as fault
 use Rattle.map_engine.specs.Problems.{Drawn, untangled_problem}
+use Rattle.map_engine.specs.Moving.{improvement_of, walks_after}
 use Rattle.kept_trees.specs.Results.{result_of}
 use Rattle.map_engine.specs.Solving.{SolvedPart, solved, with_solved, is_solvable, why_unsolved, orders_by, solve_from, solve_outcome, parts_in}
 use Rattle.map_engine.specs.Lifted.{lifted_by}
 use Rattle.map_engine.specs.Tables.{names_by}
 use Rattle.map_engine.specs.Certificates.{proof_part, proof_of, line_count, is_weighty, weighed_line, drawn_lines}
-use Rattle.map_engine.specs.Making.{HasCause, MapBytes}
+use Rattle.map_engine.specs.Making.{bytes_of, HasCause, MapBytes}
 
 -- a drawing and its problem, without what else is kept of it
 abbrev pub drawn_of : DrawnMap × ProblemParts → Drawn
 drawn_of d = record { graph = d.0.graph; walks = d.0.drawing.walks; problem = d.1 }
+
+-- a legal drawing, with a walk for each segment of a line graph that fits together
+pub record IsDrawing (d : DrawnMap) : Type 0 where
+  pub fits : IsConsistent d.graph
+  pub walks : All IsWalk d.drawing.walks
+  pub each : length d.drawing.walks ≡ length d.graph.ends
+  pub legal : legal d.graph d.drawing.walks ≡ true
+  pub first : first_illegal d.graph d.drawing.walks ≡ None
+
+-- a drawing after at most so many moves
+abbrev pub drawn_after : ℕ → DrawnMap → DrawnMap
+drawn_after moves d = record d { drawing = record { walks = walks_after moves d.graph d.drawing.walks } }
+
+-- A drawing came of another by at most so many moves. It is legal, at most four steps farther from the origin and no
+-- heavier, and all moves were made, or none makes it lighter.
+pub record IsMoved (moves : ℕ) (d : DrawnMap) (moved : DrawnMap × Improvement) : Type 0 where
+  pub drawn : moved.0 ≡ drawn_after moves d
+  pub drawing : IsDrawing moved.0
+  pub near : (most : ℕ) → are_near most d.drawing.walks ≡ true → are_near (most + 4) moved.0.drawing.walks ≡ true
+  pub improvement : moved.1 ≡ improvement_of moves d.graph d.drawing.walks
+  pub no_heavier : moved.1.after ≤ moved.1.before
+  pub to_the_end : (moved.1.made ≡ moves) ⊎ (next_of d.graph d.drawing.walks moved.0.drawing.walks ≡ None)
 
 -- the parts of a proof without where they lie in memory
 abbrev pub plain_parts : Solution → List PlainPart
@@ -107,6 +137,15 @@ map_by feed d best = record {
   svg = picture_text (names_by feed) d.graph d.drawing.walks best.orders.lists;
   certificate = certificate_text (certificate_by feed d best);
 }
+
+-- a drawing that was moved twice, and then written with these line orders
+pub record IsWritten (feed : Feed) (d : DrawnMap) (best : BestOrders) (first moves : ℕ) (improved : ImprovedMap) : Type 0 where
+  pub map : bytes_of improved.map ≡ map_by feed (drawn_after moves (drawn_after first d)) best
+  pub few : length feed.lines < 2 ^ 32
+  pub drawing : IsDrawing (drawn_after moves (drawn_after first d))
+  pub improvement : improved.improvement ≡ improvement_of moves d.graph (drawn_after first d).drawing.walks
+  pub no_heavier : improved.improvement.after ≤ improved.improvement.before
+  pub to_the_end : (improved.improvement.made ≡ moves) ⊎ (next_of d.graph (drawn_after first d).drawing.walks (drawn_after moves (drawn_after first d)).drawing.walks ≡ None)
 
 -- solved parts before what comes of those after them
 abbrev pub prepended : List SolvedPart → Result (List SolvedPart) MakeFault → Result (List SolvedPart) MakeFault

@@ -1,16 +1,15 @@
 //! From a feed to its drawing and the problem of its line orders.
 
-ghost use Rattle.std.specs.Prelude.{◌≡◌, length, true, All, None, IfOk, Ok};
-ghost use Rattle.graph_core.specs.Consistent.{IsConsistent};
+ghost use Rattle.std.specs.Prelude.{◌≡◌, true, All, IfOk, Ok};
 ghost use Rattle.order_model.specs.Problems.{IsProblem};
 ghost use Rattle.octi_grid.specs.Walks.{IsWalk};
-ghost use Rattle.octi_grid.specs.Legal.{first_illegal, legal};
+ghost use Rattle.grid_board.specs.Points.{are_near};
 ghost use Rattle.line_graph.specs.Outcome.{graph_outcome};
 ghost use Rattle.map_engine.specs.Tables.{AreOfFeed};
 ghost use Rattle.map_engine.specs.Tables.{importance_by};
 ghost use Rattle.map_engine.specs.Problems.{drawn_outcome, drawn_on, problem_of};
 ghost use Rattle.map_engine.specs.Making.{Gives};
-ghost use Rattle.map_engine.specs.Stages.{drawn_of};
+ghost use Rattle.map_engine.specs.Stages.{drawn_of, IsDrawing};
 
 use crate::drawn_map::DrawnMap;
 use crate::fault::MakeFault;
@@ -35,11 +34,8 @@ pub(crate) fn drawn_map(
     method: &Method,
 ) -> Result<(DrawnMap, Problem), MakeFault>
     ensures outcome { Gives drawn_of result (drawn_outcome tables.now settings.now method.now) }
-    ensures fits { IfOk result (λ d. IsConsistent d.0.graph) }
-    ensures walks { IfOk result (λ d. All IsWalk d.0.drawing.walks) }
-    ensures first { IfOk result (λ d. first_illegal d.0.graph d.0.drawing.walks ≡ None) }
-    ensures each { IfOk result (λ d. length d.0.drawing.walks ≡ length d.0.graph.ends) }
-    ensures legal { IfOk result (λ d. legal d.0.graph d.0.drawing.walks ≡ true) }
+    ensures drawing { IfOk result (λ d. IsDrawing d.0) }
+    ensures near { IfOk result (λ d. are_near 1800 d.0.drawing.walks ≡ true) }
     ensures lines { IfOk result (λ d. AreOfFeed tables.now d.0.graph) }
     ensures importance { IfOk result (λ d. d.0.importance.items ≡ importance_by tables.now settings.now) }
     ensures problem { IfOk result (λ d. d.1 ≡ problem_of tables.now settings.now d.0.graph) }
@@ -59,11 +55,8 @@ fn drawn_on_graph(
 ) -> Result<(DrawnMap, Problem), MakeFault>
     requires lines { AreOfFeed tables.now graph }
     ensures outcome { Gives drawn_of result (drawn_on tables.now settings.now method.now (Ok graph)) }
-    ensures fits { IfOk result (λ d. IsConsistent d.0.graph) }
-    ensures walks { IfOk result (λ d. All IsWalk d.0.drawing.walks) }
-    ensures first { IfOk result (λ d. first_illegal d.0.graph d.0.drawing.walks ≡ None) }
-    ensures each { IfOk result (λ d. length d.0.drawing.walks ≡ length d.0.graph.ends) }
-    ensures legal { IfOk result (λ d. legal d.0.graph d.0.drawing.walks ≡ true) }
+    ensures drawing { IfOk result (λ d. IsDrawing d.0) }
+    ensures near { IfOk result (λ d. are_near 1800 d.0.drawing.walks ≡ true) }
     ensures lines { IfOk result (λ d. AreOfFeed tables.now d.0.graph) }
     ensures importance { IfOk result (λ d. d.0.importance.items ≡ importance_by tables.now settings.now) }
     ensures problem { IfOk result (λ d. d.1 ≡ problem_of tables.now settings.now d.0.graph) }
@@ -84,7 +77,7 @@ fn drawn_on_graph(
 }
 
 /// What the type of walks keeps, of each of these: it has a step, and its points lie within 10,000 either way.
-fn are_walks(walks: &[Walk])
+pub(crate) fn are_walks(walks: &[Walk])
     ensures { All IsWalk walks.now }
 {
     for walk in walks {

@@ -1,4 +1,4 @@
-//! What definitions come to, as laws: of reading a certificate, and of what is kept from map to map.
+//! What definitions come to, as laws: of reading a certificate, of what is kept from map to map, and of moves.
 
 ghost use Rattle.std.specs.Prelude.{◌≡◌, ℕ, List, Ok, Err, All, Contains};
 ghost use Rattle.map_base.specs.Settings.{Choices};
@@ -9,7 +9,12 @@ ghost use Rattle.cert_file.specs.Plain.{PlainCertificate};
 ghost use Rattle.cert_file.specs.Readers.{IsTextOf};
 ghost use Rattle.cert_file.specs.Reading.{certificate_end};
 ghost use Rattle.map_engine.specs.Keeping.{finished_parts, branches_left};
+ghost use Rattle.map_engine.specs.Problems.{Drawn};
+ghost use Rattle.map_engine.specs.Solving.{SolvedPart};
+ghost use Rattle.map_engine.specs.Certificates.{certificate_of};
+ghost use Rattle.map_engine.specs.Moving.{after_moves, walks_after};
 ghost use Rattle.map_engine.specs.Making.{MapBytes, make_outcome};
+ghost use Rattle.map_engine.specs.Improving.{ImprovedBytes, improve_outcome};
 ghost use Rattle.map_engine.specs.Readings.{certificate_in};
 
 /// The text of a certificate in range is read as that certificate.
@@ -27,4 +32,16 @@ pub fn each_other_text_is_refused_at_its_first_wrong_line()
 pub fn what_was_made_is_not_searched_again()
     ensures { (feed : Feed) (choices : Choices) (method : MethodChoices) (made : MapBytes) (held : List HeldPart)
         → make_outcome feed choices method ≡ Ok made → All (Contains held) (finished_parts feed choices method) → branches_left held feed choices method ≡ 0 }
+{}
+
+/// Moves change the walks of a certificate alone: its orders, their cost and their proof stay.
+pub fn moves_change_walks_alone()
+    ensures { (feed : Feed) (choices : Choices) (drawn : Drawn) (parts : List SolvedPart) (moves : ℕ)
+        → certificate_of feed choices (after_moves moves drawn) parts ≡ record (certificate_of feed choices drawn parts) { walks = walks_after moves drawn.graph drawn.walks } }
+{}
+
+/// Where a map is made without moves and then improved by so many, it is the map that is made with so many.
+pub fn moves_follow_routes_or_come_later()
+    ensures { (feed : Feed) (choices : Choices) (method : MethodChoices) (moves : ℕ) (improved : ImprovedBytes)
+        → improve_outcome feed choices (record method { moves = 0 }) moves ≡ Ok improved → make_outcome feed choices (record method { moves = moves }) ≡ Ok improved.map }
 {}

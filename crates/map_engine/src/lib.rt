@@ -15,11 +15,13 @@ mod drawn_lines;
 mod drawn_map;
 mod fault;
 mod importance;
+mod improvement;
 mod items;
 mod labelled;
 mod laws;
 mod made;
 mod making;
+mod moving;
 mod names;
 mod promises;
 mod solution;
@@ -29,14 +31,16 @@ pub use checked::Checked;
 pub use checking::{check, check_certificate, check_on_graph};
 pub use fault::{CheckFault, CheckItem, MakeFault};
 pub use importance::importance_of;
+pub use improvement::{ImprovedMap, Improvement};
 pub use items::first_difference;
 pub use kept_trees::Kept;
 pub use labelled::{labels, labels_on_graph};
 pub use laws::{
     each_certificate_is_read_from_its_text, each_other_text_is_refused_at_its_first_wrong_line,
+    moves_change_walks_alone, moves_follow_routes_or_come_later,
     what_was_made_is_not_searched_again,
 };
 pub use made::Made;
-pub use making::make;
+pub use making::{make, make_improved};
 pub use names::names_of;
 pub use promises::a_solved_drawing_is_accepted;

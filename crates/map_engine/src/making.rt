@@ -1,11 +1,13 @@
 //! The map of a feed and its certificate.
 
-ghost use Rattle.std.specs.Prelude.{◌≡◌, ◌≤◌, ◌<◌, ◌+◌, ◌^◌, length, All, Contains, IfOk};
+ghost use Rattle.std.specs.Prelude.{◌≡◌, ◌≤◌, ◌<◌, ◌+◌, ◌^◌, length, true, All, Contains, IfOk};
+ghost use Rattle.grid_board.specs.Points.{are_near};
 ghost use Rattle.order_model.specs.Costs.{AreOrders};
 ghost use Rattle.map_engine.specs.Tables.{AreOfFeed};
 ghost use Rattle.map_engine.specs.Making.{bytes_of, make_outcome, Gives};
+ghost use Rattle.map_engine.specs.Improving.{improve_outcome, improved_bytes, IsImprovedMap};
 ghost use Rattle.map_engine.specs.Keeping.{finished_parts, HoldsFinished, branches_left};
-ghost use Rattle.map_engine.specs.Stages.{map_by};
+ghost use Rattle.map_engine.specs.Stages.{map_by, IsDrawing, IsWritten};
 ghost use Rattle.map_engine.specs.Promises.{IsMade};
 
 use crate::best_orders::{BestOrders, best_orders};
@@ -13,7 +15,9 @@ use crate::drawing::drawn_map;
 use crate::drawn_lines::{drawn_lines, weighty_lines};
 use crate::drawn_map::DrawnMap;
 use crate::fault::MakeFault;
+use crate::improvement::ImprovedMap;
 use crate::made::Made;
+use crate::moving::moved;
 use crate::names::names_of;
 use cert_file::{Certificate, write_certificate};
 use kept_trees::Kept;
@@ -46,9 +50,57 @@ pub fn make<L: Ledger>(
     ensures finished { HoldsFinished result (finished_parts tables.now settings.now method.now) kept.new }
     ensures steps { steps.new ≤ steps.old + branches_left kept.old tables.now settings.now method.now }
 {
+    let improved = make_improved(alloc, tables, settings, method, 0, kept, steps)?;
+    Ok(improved.map)
+}
+
+/// The map that `make` makes, and its certificate, after at most so many moves more on its drawing, and what these made
+/// of it. The line orders stay, and so does their proof. There is no map exactly where `make` makes none, for the same cause.
+pub fn make_improved<L: Ledger>(
+    alloc: Global,
+    tables: &Tables,
+    settings: &Settings,
+    method: &Method,
+    moves: u32,
+    kept: &mut Kept,
+    steps: &mut Steps<L>,
+) -> Result<ImprovedMap, MakeFault>
+    ensures outcome { Gives improved_bytes result (improve_outcome tables.now settings.now method.now moves) }
+
+    // The map keeps what `make` promises. Its drawing is no heavier than before these moves, and all of them were made,
+    // or none makes it lighter.
+    ensures improved { IfOk result (λ improved. IsImprovedMap tables.now settings.now method.now moves (improved_bytes improved)) }
+
+    // What is held stays, each part that was finished is held, and no part that is held is searched again.
+    ensures kept { All (Contains kept.new) kept.old }
+    ensures finished { HoldsFinished result (finished_parts tables.now settings.now method.now) kept.new }
+    ensures steps { steps.new ≤ steps.old + branches_left kept.old tables.now settings.now method.now }
+{
     let (drawn, problem) = drawn_map(alloc, tables, settings, method)?;
     let best = best_orders(alloc, problem, method.search, settings.budget, kept, steps)?;
-    Ok(written(alloc, tables, drawn, best)?)
+    Ok(moved_map(alloc, tables, drawn, best, method.moves, moves)?)
+}
+
+/// The map of a drawing and its certificate after so many moves and then so many more, and what the last ones made of it.
+fn moved_map(
+    alloc: Global,
+    tables: &Tables,
+    drawn: DrawnMap,
+    best: BestOrders,
+    first: u32,
+    moves: u32,
+) -> Result<ImprovedMap, NoMemory>
+    requires drawing { IsDrawing drawn }
+    requires near { are_near 1800 drawn.drawing.walks ≡ true }
+    requires of_feed { AreOfFeed tables.now drawn.graph }
+    requires lines { length drawn.importance.items ≡ length tables.now.lines }
+    requires orders { AreOrders drawn.graph.lines best.orders.lists }
+    ensures { IfOk result (IsWritten tables.now drawn best first moves) }
+{
+    let (drawn, _) = moved(alloc, drawn, first)?;
+    let (drawn, improvement) = moved(alloc, drawn, moves)?;
+    let map = written(alloc, tables, drawn, best)?;
+    Ok(ImprovedMap { map, improvement })
 }
 
 /// The map of a drawing and its certificate, by the line orders that were found.

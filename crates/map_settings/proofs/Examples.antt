@@ -30,6 +30,11 @@ of_map : with_table Map (parse_document (codes "budget = 20000\nnear = 20\nfines
 unfolding toml_on_literals
 of_map = refl
 
+no_moves : with_table Map (parse_document (codes "budget = 20000\nnear = 20\nfinest = 8\nmoves = 0\n"))
+    ≡ Ok (near_and_method (record { search = Rising; spread = Auto; finest = 8; moves = 0 }))
+unfolding toml_on_literals
+no_moves = refl
+
 of_method : with_table Make (parse_document (codes "search = \"rising\"\nspread = \"auto\"\nnear = 20\nfinest = 8\n"))
     ≡ Ok (near_and_method (record { search = Rising; spread = Auto; finest = 8; moves = 0 }))
 unfolding toml_on_literals
@@ -60,6 +65,15 @@ live_search = refl
 other_search : with_table Make (parse_document (codes "search = \"Rising\"\n")) ≡ Err (Key (codes "search"))
 unfolding toml_on_literals
 other_search = refl
+
+most_moves : with_table Make (parse_document (codes "near = 20\nmoves = 10000\n"))
+    ≡ Ok (near_and_method (record { search = Live; spread = Percent 0; finest = 4; moves = 10000 }))
+unfolding toml_on_literals
+most_moves = refl
+
+too_many_moves : with_table Make (parse_document (codes "moves = 10001\n")) ≡ Err (Key (codes "moves"))
+unfolding toml_on_literals
+too_many_moves = refl
 
 no_grid_between : with_table Map (parse_document (codes "finest = 12\n")) ≡ Err (Key (codes "finest"))
 unfolding toml_on_literals

@@ -8,7 +8,7 @@ use Rattle.map_method.specs.declared.search.Search.{Search}
 use Rattle.map_method.specs.declared.spread.Spread.{Spread}
 use Rattle.map_method.specs.Methods.{MethodChoices}
 use Rattle.toml.specs.Data.{Data}
-use Rattle.map_settings.specs.Values.{near_of, cell_of, budget_of, types_of, weights_of, importance_of, search_of, spread_of, finest_of}
+use Rattle.map_settings.specs.Values.{near_of, cell_of, budget_of, types_of, weights_of, importance_of, search_of, spread_of, finest_of, moves_of}
 
 -- a change of the settings of a map
 abbrev pub near_is : ℕ → Choices → Choices
@@ -42,6 +42,9 @@ spread_is spread method = record method { spread = spread }
 abbrev pub finest_is : ℕ → MethodChoices → MethodChoices
 finest_is finest method = record method { finest = finest }
 
+abbrev pub moves_are : ℕ → MethodChoices → MethodChoices
+moves_are moves method = record method { moves = moves }
+
 -- what an entry changes in the settings of a map: nothing where its key is none of theirs, or its value is of another type
 -- or out of range
 abbrev pub settings_change : List ℕ × Data → Option (Choices → Choices)
@@ -61,11 +64,12 @@ method_change entry =
     if bytes_eq entry.0 (codes "search") then option_map search_is (search_of entry.1)
     else if bytes_eq entry.0 (codes "spread") then option_map spread_is (spread_of entry.1)
     else if bytes_eq entry.0 (codes "finest") then option_map finest_is (finest_of entry.1)
+    else if bytes_eq entry.0 (codes "moves") then option_map moves_are (moves_of entry.1)
     else None
 
 -- the key says how a map is found
 abbrev pub is_of_method : List ℕ → Bool
-is_of_method key = bytes_eq key (codes "search") || bytes_eq key (codes "spread") || bytes_eq key (codes "finest")
+is_of_method key = bytes_eq key (codes "search") || bytes_eq key (codes "spread") || bytes_eq key (codes "finest") || bytes_eq key (codes "moves")
 
 -- a change of both
 abbrev pub Change : Type 0

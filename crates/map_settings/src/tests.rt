@@ -32,12 +32,12 @@ fn reads_every_key(rt: HostRuntime) -> Result<(), Fail> {
 
 #[test]
 fn reads_how_a_map_is_found(rt: HostRuntime) -> Result<(), Fail> {
-    let file = "search = \"rising\"\nspread = 35\nfinest = 16\n";
+    let file = "search = \"rising\"\nspread = 35\nfinest = 16\nmoves = 7\n";
     let method = read(rt.alloc(), file).ok().ok_or("read")?.method;
     assert_eq!(rt; method.search, Search::Rising);
     assert_eq!(rt; method.spread, Spread::Percent(35));
     assert_eq!(rt; method.finest, 16);
-    assert_eq!(rt; method.moves, 0);
+    assert_eq!(rt; method.moves, 7);
     let map = read_settings(rt.alloc(), b"finest = 8\n", Defaults::Map)
         .ok()
         .ok_or("read")?;
@@ -120,6 +120,11 @@ fn keeps_to_the_ends_of_each_range(rt: HostRuntime) -> Result<(), Fail> {
         ("finest = 8\n", true),
         ("finest = 16\n", true),
         ("finest = 32\n", false),
+        ("moves = -1\n", false),
+        ("moves = 0\n", true),
+        ("moves = 10000\n", true),
+        ("moves = 10001\n", false),
+        ("moves = \"auto\"\n", false),
         ("importance = { A = 0 }\n", false),
         ("importance = { A = 1 }\n", true),
         ("importance = { A = 16 }\n", true),

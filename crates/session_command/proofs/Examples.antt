@@ -12,7 +12,7 @@ use Rattle.map_engine.specs.declared.fault.MakeFault.TheVariants as fault
 use Rattle.run_status.specs.declared.refusal.Refusal.TheVariants as refused
 use Rattle.command_inputs.specs.declared.loaded.Loaded.{Loaded}
 use Rattle.session_command.specs.DrawTexts.{draw_text, draws_text}
-use Rattle.session_command.specs.SessionWorks.{draw_outputs, played_by, script_played}
+use Rattle.session_command.specs.SessionWorks.{draw_outputs, played_by, script_in}
 
 a_map : draw_text 11 (Ok (record { svg = codes "<svg/>\n"; certificate = codes "ab" })) ≡ codes "draw 11 7 2\n<svg/>\nab"
 unfolding digits
@@ -35,10 +35,10 @@ two_draws = refl
 abbrev no_feed : Loaded
 no_feed = record { settings = standard_choices; method = method_of Make; tables = record { stations = []; lines = []; patterns = []; shapes = [] } }
 
-missing_script : script_played (codes "out") no_feed None ≡ Err (refused.BadEdit 0)
+missing_script : script_in None ≡ Err (refused.BadEdit 0)
 missing_script = refl
 
-empty_script : script_played (codes "out") no_feed (Some []) ≡ Ok (record { outputs = draw_outputs (codes "out") []; bad = None })
+empty_script : played_by (codes "out") no_feed [] ≡ record { outputs = draw_outputs (codes "out") []; bad = None }
 empty_script = refl
 
 -- no line of the feed has this id

@@ -2,3 +2,4 @@ pub mod DrawTexts
 pub mod SessionWorks
 pub mod Stages
 pub mod Promises
+pub mod Playing

@@ -11,8 +11,13 @@ use Rattle.run_status.specs.declared.refusal.Refusal.{Refusal}
 use Rattle.run_status.specs.declared.refusal.Refusal.TheVariants as refused
 use Rattle.command_inputs.specs.declared.loaded.Loaded.{Loaded}
 use Rattle.command_inputs.specs.Loading.{file_work, load_work}
-use Rattle.session_command.specs.declared.played.Played.{Played}
 use Rattle.session_command.specs.DrawTexts.{draws_text}
+
+-- what a script comes to: its draws, one after another, to their file; and the number, from 1, of its first line that is neither
+-- a draw nor an edit that may come there, if it has one
+pub record Played : Type 0 where
+  pub outputs : List Output
+  pub bad : Option ℕ
 
 -- the text of all draws of a script
 abbrev pub session_text : Loaded → List ℕ → List ℕ
@@ -26,14 +31,19 @@ draw_outputs out text = record { to = Path out; bytes = text } ∷ []
 abbrev pub played_by : List ℕ → Loaded → List ℕ → Played
 played_by out loaded script = record { outputs = draw_outputs out (session_text loaded script); bad = (followed_in loaded.tables script).bad }
 
--- a script that is not there is as a bad line 0, and nothing is drawn
-abbrev pub script_played : List ℕ → Loaded → Option (List ℕ) → Result Played Refusal
-script_played out loaded None = Err (refused.BadEdit 0)
-script_played out loaded (Some script) = Ok (played_by out loaded script)
+-- a script that is not there is as a bad line 0
+abbrev pub script_in : Option (List ℕ) → Result (List ℕ) Refusal
+script_in None = Err (refused.BadEdit 0)
+script_in (Some script) = Ok script
+
+abbrev pub script_work : Work Input Refusal (List ℕ)
+script_work = do
+  file ← file_work input.Script
+  ends (script_in file)
 
 -- `session`: the settings and the tables come first, then the whole script is read, and then it is followed
 abbrev pub session_work : Chosen → List ℕ → Work Input Refusal Played
 session_work chosen out = do
   loaded ← load_work chosen
-  script ← file_work input.Script
-  ends (script_played out loaded script)
+  script ← script_work
+  ends (Ok (played_by out loaded script))

@@ -1,67 +1,58 @@
 //! The text of draws.
 
-ghost use Rattle.std.specs.Prelude.{◌≡◌, ◌≢◌, ◌++◌, [], IfOk, OnOk, Ok, Err, string_bytes};
+ghost use Rattle.std.specs.Prelude.{◌≡◌, ◌≢◌, ◌≤◌, ◌+◌, [], IfOk, OnOk, Ok, Err, string_bytes};
+ghost use Rattle.edit_session.specs.Sessions.{draw_outcome, branches_to_draw};
 ghost use Rattle.map_engine.specs.Making.{bytes_of};
 ghost use Rattle.run_status.specs.Refusals.{of_make};
 ghost use Rattle.run_status.specs.Statuses.{status_of};
 ghost use Rattle.session_command.specs.DrawTexts.{draw_text, map_line, refusal_line};
+ghost use Rattle.session_command.specs.Stages.{IsRedrawn};
 
-use map_base::NoMemory;
+use edit_session::Session;
+use map_base::{NoMemory, Steps};
 use map_engine::{Made, MakeFault};
 use run_status::{Status, line_of};
 use std::alloc::Global;
+use std::sync::ledger::Ledger;
 
-/// What was drawn: how many draws there were, and their text, one after another.
-#[derive(Drop)]
-pub(crate) struct Drawn {
-    pub count: u64,
-    pub text: Vec<u8>,
-}
-
-impl Drawn {
-    /// Nothing.
-    pub fn none(alloc: Global) -> Drawn
-        ensures count { result.count ≡ 0 }
-        ensures text { result.text.items ≡ [] }
-    {
-        Drawn {
-            count: 0,
-            text: Vec::new(alloc),
-        }
+/// Draws the map of a session, and gives the text of this draw, which has this number. A map that isn't made, for another
+/// cause than memory, is a draw all the same.
+pub(crate) fn text_of_draw<L: Ledger>(
+    alloc: Global,
+    session: &mut Session,
+    number: u64,
+    steps: &mut Steps<L>,
+) -> Result<Vec<u8>, NoMemory>
+    ensures text { IfOk result (λ text. text.items ≡ draw_text number (draw_outcome session.old)) }
+    ensures drawn { OnOk result (IsRedrawn session.old session.new) }
+    ensures steps { steps.new ≤ steps.old + branches_to_draw session.old }
+{
+    match session.draw(alloc, steps) {
+        Ok(made) => text_of_map(alloc, number, &made),
+        Err(fault) => text_of_refusal(alloc, number, fault),
     }
 }
 
-/// Appends the draw of this number, which gave a map.
-pub(crate) fn push_map(
-    alloc: Global,
-    text: &mut Vec<u8>,
-    number: u64,
-    made: &Made,
-) -> Result<(), NoMemory>
-    ensures { OnOk result (text.new.items ≡ text.old.items ++ draw_text number (Ok (bytes_of made.now))) }
+/// The text of the draw of this number, which gave a map.
+fn text_of_map(alloc: Global, number: u64, made: &Made) -> Result<Vec<u8>, NoMemory>
+    ensures { IfOk result (λ text. text.items ≡ draw_text number (Ok (bytes_of made.now))) }
 {
     let line = map_line(alloc, number, made)?;
-    text.extend_from_slice(line.as_str().as_bytes())?;
+    let mut text = line.as_str().as_bytes().to_vec(alloc)?;
     text.extend_from_slice(made.svg.as_slice())?;
     text.extend_from_slice(made.certificate.as_slice())?;
-    Ok(())
+    Ok(text)
 }
 
-/// Appends the draw of this number, which gave none.
-pub(crate) fn push_refusal(
-    alloc: Global,
-    text: &mut Vec<u8>,
-    number: u64,
-    fault: MakeFault,
-) -> Result<(), NoMemory>
-    ensures text { OnOk result (text.new.items ≡ text.old.items ++ draw_text number (Err fault)) }
-    ensures memory { OnOk result (fault ≢ MakeFault.NoMemory) }
+/// The text of the draw of this number, which gave none.
+fn text_of_refusal(alloc: Global, number: u64, fault: MakeFault) -> Result<Vec<u8>, NoMemory>
+    ensures text { IfOk result (λ text. text.items ≡ draw_text number (Err fault)) }
+    ensures memory { IfOk result (λ _. fault ≢ MakeFault.NoMemory) }
 {
     let line = refusal_line(alloc, fault)?;
     let line = line.as_str();
     let whole = format!(in alloc; "draw {number} refused: {line}")?;
-    text.extend_from_slice(whole.as_str().as_bytes())?;
-    Ok(())
+    Ok(whole.as_str().as_bytes().to_vec(alloc)?)
 }
 
 /// The line before a map and its certificate.

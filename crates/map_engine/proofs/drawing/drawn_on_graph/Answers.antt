@@ -69,6 +69,3 @@ returns-in_err-problem-clause-outcome c =
     let cause = subst (λ (o : Result ProblemParts Limit). terms.HasCause o stop) counted c.in_err-problem.ensures in
     let same = err_from_is_err_and c.from_residual-in_err-problem.result c.from_residual-in_err-problem.ensures.1 in
     rw (same.1, same.2) (not_counted c.args.tables.now choices c.args.method.now c.args.graph c.in_ok-drawing.drawing.walks stop routed cause)
-
-pub returns-clause-first : goal.returns-clause-first
-returns-clause-first c = (c.illegal_drawings_have_a_first_walk.ensures c.args.graph c.in_ok-drawing.drawing.walks).0 c.in_ok-drawing.ensures.legal

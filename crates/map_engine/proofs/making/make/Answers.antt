@@ -1,135 +1,27 @@
-use Rattle.std.proofs.Common.{◌≡◌, ◌∙◌, ℕ, ◌+◌, ◌≤◌, List, length, sum_by, All, Contains, sym, ap, subst, Ok, Err, arith}
-use Rattle.std.proofs.lemmas.List.{length-map}
-use Rattle.std.proofs.lemmas.List.Elements.{All-contains_itself}
 use Rattle.std.proofs.lemmas.Result.{err_from_is_err_and}
-use Rattle.map_base.specs.declared.ids.LineId.{LineId}
-use Rattle.map_base.specs.Settings.{Choices, IsImportance}
-use Rattle.transit_feed.specs.declared.line.Line.{Line}
-use Rattle.map_method.specs.Methods.{MethodChoices}
-use Rattle.order_model.specs.declared.problem.ProblemParts.{ProblemParts}
-use Rattle.kept_trees.specs.OwnTrees.{HeldPart}
-use Rattle.kept_trees.specs.Keeping.{branches_to_meet}
-use Rattle.order_model.specs.Costs.{AreOrders}
-use Rattle.map_engine.specs.declared.best_orders.BestOrders.{BestOrders}
+use Rattle.map_engine.specs.declared.improvement.ImprovedMap.{ImprovedMap}
 use Rattle.map_engine.specs.declared.made.Made.{Made}
-use Rattle.map_engine.specs.Tables.{importance_among}
-use Rattle.map_engine.specs.Problems.{untangled_problem}
-use Rattle.map_engine.specs.Solving.{solve_outcome, parts_in}
-use Rattle.map_engine.specs.Keeping.{finished_of, finished_parts, HoldsFinished}
-use Rattle.map_engine.specs.Making.{HasCause}
-use Rattle.map_engine.specs.Stages.{AreBestBy}
-use Rattle.map_engine.specs.Promises.{IsMade}
-use Rattle.map_engine.proofs.MadeLemmas.{outcome_is, not_drawn, not_solved}
-use Rattle.map_engine.proofs.KeepLemmas.{left_is, finished_is, nothing_finished, same_held}
-use Rattle.map_engine.proofs.Promised.{whole_is}
-use Rattle.map_engine.proofs.CertificateRanges.{made_by}
+use Rattle.map_engine.specs.Keeping.{finished_parts}
+use Rattle.map_engine.specs.Improving.{improved_bytes}
+use Rattle.map_engine.proofs.MadeLemmas.{made_of_none, none_of_none}
+use Rattle.map_engine.proofs.KeepLemmas.{same_held}
 use Rattle.map_engine.proofs.making.make.Goals as goal
 
-pub returns-in_err-drawn-clause-outcome : goal.returns-in_err-drawn-clause-outcome
-returns-in_err-drawn-clause-outcome g c =
+pub returns-in_err-improved-clause-outcome : goal.returns-in_err-improved-clause-outcome
+returns-in_err-improved-clause-outcome g c =
     let same = err_from_is_err_and c.from_residual.result c.from_residual.ensures.1 in
-    rw (same.1, same.2) (not_drawn c.args.tables.now c.args.settings.now c.args.method.now c.in_err-drawn.field-0.0 c.in_err-drawn.ensures.outcome)
+    rw (same.1, same.2) (none_of_none c.args.tables.now c.args.settings.now c.args.method.now c.in_err-improved.field-0.0 c.in_err-improved.ensures.outcome)
 
-pub returns-in_err-best-clause-outcome : goal.returns-in_err-best-clause-outcome
-returns-in_err-best-clause-outcome g c =
-    let e = c.in_err-best.field-0.0 in
-    let p = c.in_ok-drawn.problem in
-    let cause = subst (λ (m : MethodChoices). HasCause (solve_outcome m.search c.args.settings.now.budget (untangled_problem p)) e) c.method.view_is
-    (subst (λ (s : Choices). HasCause (solve_outcome c.method.inside.search s.budget (untangled_problem p)) e) c.settings.view_is c.in_err-best.ensures.found) in
-    let same = err_from_is_err_and c.from_residual-in_err-best.result c.from_residual-in_err-best.ensures.1 in
-    rw (same.1, same.2) (not_solved c.args.tables.now c.args.settings.now c.args.method.now c.in_ok-drawn.drawn p e c.in_ok-drawn.ensures.outcome cause)
-
-pub returns-in_err-best-clause-steps : goal.returns-in_err-best-clause-steps
-returns-in_err-best-clause-steps g c =
-    let p : ProblemParts = untangled_problem c.in_ok-drawn.problem in
-    let steps = subst (λ (m : MethodChoices). c.best_orders.new.steps ≤ c.args.steps.now + sum_by (branches_to_meet c.args.kept.now m.search p) (parts_in p)) c.method.view_is
-    c.best_orders.ensures.steps in
-    omega (
-      arith,
-      left_is c.args.kept.now c.args.tables.now c.args.settings.now c.args.method.now c.in_ok-drawn.drawn c.in_ok-drawn.problem c.in_ok-drawn.ensures.outcome,
-      steps,
-    )
-
-pub returns-in_err-written-clause-steps : goal.returns-in_err-written-clause-steps
-returns-in_err-written-clause-steps g c =
-    let p : ProblemParts = untangled_problem c.in_ok-drawn.problem in
-    let steps = subst (λ (m : MethodChoices). c.best_orders.new.steps ≤ c.args.steps.now + sum_by (branches_to_meet c.args.kept.now m.search p) (parts_in p)) c.method.view_is
-    c.best_orders.ensures.steps in
-    omega (
-      arith,
-      left_is c.args.kept.now c.args.tables.now c.args.settings.now c.args.method.now c.in_ok-drawn.drawn c.in_ok-drawn.problem c.in_ok-drawn.ensures.outcome,
-      steps,
-    )
-
-pub returns-clause-steps : goal.returns-clause-steps
-returns-clause-steps g c =
-    let p : ProblemParts = untangled_problem c.in_ok-drawn.problem in
-    let steps = subst (λ (m : MethodChoices). c.best_orders.new.steps ≤ c.args.steps.now + sum_by (branches_to_meet c.args.kept.now m.search p) (parts_in p)) c.method.view_is
-    c.best_orders.ensures.steps in
-    omega (
-      arith,
-      left_is c.args.kept.now c.args.tables.now c.args.settings.now c.args.method.now c.in_ok-drawn.drawn c.in_ok-drawn.problem c.in_ok-drawn.ensures.outcome,
-      steps,
-    )
-
-pub returns-in_err-drawn-clause-kept : goal.returns-in_err-drawn-clause-kept
-returns-in_err-drawn-clause-kept g c = All-contains_itself c.args.kept.now
-
-pub returns-in_err-drawn-clause-finished : goal.returns-in_err-drawn-clause-finished
-returns-in_err-drawn-clause-finished g c =
+pub returns-in_err-improved-clause-finished : goal.returns-in_err-improved-clause-finished
+returns-in_err-improved-clause-finished g c =
+    let e = c.in_err-improved.field-0.0 in
+    let parts = finished_parts c.args.tables.now c.args.settings.now c.args.method.now in
     let same = err_from_is_err_and c.from_residual.result c.from_residual.ensures.1 in
-    rw (same.1, same.2) (nothing_finished Made c.args.tables.now c.args.settings.now c.args.method.now c.args.kept.now c.in_err-drawn.field-0.0 c.in_err-drawn.ensures.outcome)
-
-pub returns-in_err-best-clause-finished : goal.returns-in_err-best-clause-finished
-returns-in_err-best-clause-finished g c =
-    let e = c.in_err-best.field-0.0 in
-    let p = c.in_ok-drawn.problem in
-    let held = c.best_orders.new.kept in
-    let of_problem = subst (λ (m : MethodChoices). HoldsFinished {X = BestOrders} (Err e) (finished_of m.search c.args.settings.now.budget (untangled_problem p)) held) c.method.view_is
-    (subst (λ (s : Choices). HoldsFinished {X = BestOrders} (Err e) (finished_of c.method.inside.search s.budget (untangled_problem p)) held) c.settings.view_is c.in_err-best.ensures.finished) in
-    let of_feed = subst (λ (parts : List HeldPart). HoldsFinished {X = BestOrders} (Err e) parts held) (sym (finished_is c.args.tables.now c.args.settings.now c.args.method.now c.in_ok-drawn.drawn p c.in_ok-drawn.ensures.outcome)) of_problem in
-    let same = err_from_is_err_and c.from_residual-in_err-best.result c.from_residual-in_err-best.ensures.1 in
-    rw (same.1, same.2) (same_held BestOrders Made e (finished_parts c.args.tables.now c.args.settings.now c.args.method.now) held of_feed)
-
-pub returns-clause-finished : goal.returns-clause-finished
-returns-clause-finished g c =
-    let p = c.in_ok-drawn.problem in
-    let held = c.best_orders.new.kept in
-    let of_problem = subst (λ (m : MethodChoices). All (Contains held) (finished_of m.search c.args.settings.now.budget (untangled_problem p))) c.method.view_is
-    (subst (λ (s : Choices). All (Contains held) (finished_of c.method.inside.search s.budget (untangled_problem p))) c.settings.view_is c.in_ok-best.ensures.finished) in
-    subst (λ (parts : List HeldPart). All (Contains held) parts) (sym (finished_is c.args.tables.now c.args.settings.now c.args.method.now c.in_ok-drawn.drawn p c.in_ok-drawn.ensures.outcome)) of_problem
-
-pub written-requires-clause-lines : goal.written-requires-clause-lines
-written-requires-clause-lines g c =
-    ap length c.in_ok-drawn.ensures.importance ∙ length-map c.args.tables.now.lines (λ (l : Line). importance_among c.args.settings.now.importance l.id)
-
-pub written-requires-clause-orders : goal.written-requires-clause-orders
-written-requires-clause-orders g c =
-    subst (λ (segs : List (List LineId)). AreOrders segs c.in_ok-best.best.orders.lists) (ap (λ (p : ProblemParts). p.segs) c.in_ok-drawn.ensures.problem) c.in_ok-best.ensures.orders
+    rw (same.1, same.2) (same_held ImprovedMap Made e parts c.make_improved.new.kept c.in_err-improved.ensures.finished)
 
 pub returns-clause-outcome : goal.returns-clause-outcome
 returns-clause-outcome g c =
-    let p = c.in_ok-drawn.problem in
-    let found = c.in_ok-best.ensures.found in
-    let solved = subst (λ (m : MethodChoices). solve_outcome m.search c.args.settings.now.budget (untangled_problem p) ≡ Ok found.0) c.method.view_is
-    (subst (λ (k : Choices). solve_outcome c.method.inside.search k.budget (untangled_problem p) ≡ Ok found.0) c.settings.view_is found.1) in
-    let best_is = subst (λ (m : MethodChoices). AreBestBy m.search p found.0 c.in_ok-best.best) c.method.view_is found.2 in
-    outcome_is c.args.tables.now c.args.settings.now c.args.method.now c.in_ok-drawn.drawn p c.in_ok-best.best found.0 c.in_ok-drawn.ensures.outcome solved c.in_ok-drawn.ensures.importance best_is
-    ∙ ap Ok (sym c.in_ok-written.ensures.bytes)
+    made_of_none c.args.tables.now c.args.settings.now c.args.method.now (improved_bytes c.in_ok-improved.improved) c.in_ok-improved.ensures.outcome
 
 pub returns-clause-made : goal.returns-clause-made
-returns-clause-made g c =
-    let feed = c.args.tables.now in
-    let choices = c.args.settings.now in
-    let d = c.in_ok-drawn.drawn in
-    let p = c.in_ok-drawn.problem in
-    let best = c.in_ok-best.best in
-    let found = c.in_ok-best.ensures.found in
-    let solved = subst (λ (m : MethodChoices). solve_outcome m.search c.args.settings.now.budget (untangled_problem p) ≡ Ok found.0) c.method.view_is
-    (subst (λ (k : Choices). solve_outcome c.method.inside.search k.budget (untangled_problem p) ≡ Ok found.0) c.settings.view_is found.1) in
-    let best_is = subst (λ (m : MethodChoices). AreBestBy m.search p found.0 c.in_ok-best.best) c.method.view_is found.2 in
-    let importance = subst (λ (k : Choices). All (λ (q : List ℕ × ℕ). IsImportance q.1) k.importance) c.settings.view_is c.settings.invariant.importance in
-    let whole = whole_is feed choices c.args.method.now d p best found.0 c.in_ok-drawn.ensures.outcome c.in_ok-drawn.ensures.each c.in_ok-drawn.ensures.legal c.in_ok-drawn.ensures.problem
-    c.in_ok-drawn.ensures.problem_fits solved best_is in
-    subst (IsMade feed choices) (sym c.in_ok-written.ensures.bytes)
-    (made_by c.args.method.now.search feed choices d p best found.0 whole c.in_ok-drawn.ensures.fits c.in_ok-drawn.ensures.walks c.in_ok-drawn.ensures.first c.in_ok-drawn.ensures.lines c.in_ok-written.ensures.few importance c.in_ok-drawn.ensures.importance solved best_is)
+returns-clause-made g c = c.in_ok-improved.ensures.improved.made

@@ -1,0 +1,25 @@
+use Rattle.std.proofs.Common.{ℕ, Option, subst}
+use Rattle.std.proofs.lemmas.Result.{err_from_is_err_and}
+use Rattle.files_door.specs.Acts.{puts}
+use Rattle.output_pieces.specs.Pieces.{DoesUpTo}
+use Rattle.edit_session.specs.Scripts.{draws_in}
+use Rattle.edit_session.specs.Sessions.{SessionState}
+use Rattle.session_command.specs.DrawTexts.{draws_text}
+use Rattle.session_command.specs.SessionWorks.{session_text}
+use Rattle.session_command.proofs.PlayLemmas.{begun_due, unbegun}
+use Rattle.session_command.proofs.session_command.play.Goals as goal
+
+pub returns-in_err-begin-clause-written : goal.returns-in_err-begin-clause-written
+returns-in_err-begin-clause-written g c =
+    unbegun c.args.out.now (session_text c.args.loaded c.args.script.now) (g.S.Sinks.written c.args.sinks.now) (g.S.Sinks.written c.begin.new.self) c.in_err-begin.field-0.0 c.from_residual-in_err-begin.result
+    (err_from_is_err_and c.from_residual-in_err-begin.result c.from_residual-in_err-begin.ensures.1) c.in_err-begin.ensures.refused
+
+pub returns-clause-written : goal.returns-clause-written
+returns-clause-written g c =
+    let mid = g.S.Sinks.written c.begin.new.self in
+    let now = g.S.Sinks.written c.follow_script.new.sinks in
+    let due = subst (λ (s : SessionState). DoesUpTo {T = Option ℕ} (puts (g.S.Sinks.current c.begin.new.self) (draws_text 1 (draws_in s.feed s.choices s.method c.args.script.now))) mid now c.follow_script.result)
+    c.begin-session.ensures c.follow_script.ensures.written in
+    begun_due c.args.out.now c.in_ok-of.field-0 (session_text c.args.loaded c.args.script.now) (g.S.Sinks.current c.begin.new.self)
+    (g.S.Sinks.written c.args.sinks.now) mid now c.follow_script.result
+    c.in_ok-of.ensures c.in_ok-begin.ensures.begun c.in_ok-begin.ensures.current due
