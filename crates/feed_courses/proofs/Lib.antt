@@ -11,3 +11,4 @@ mod SumLemmas
 pub mod WholeLemmas
 mod FeedLemmas
 pub mod ServedStations
+mod Examples

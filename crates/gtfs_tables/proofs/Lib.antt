@@ -7,3 +7,4 @@ pub mod GoodPatterns
 pub mod StepLemmas
 pub mod FewRows
 pub mod StepCases
+mod Examples

@@ -46,7 +46,7 @@ pub fn build(alloc: Global, tables: &Tables, settings: &Settings) -> Result<Line
 }
 
 /// The line graph of courses, of that many lines.
-fn graph_of_courses(
+pub fn graph_of_courses(
     alloc: Global,
     courses: &Courses,
     near: u32,

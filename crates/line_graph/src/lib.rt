@@ -15,6 +15,6 @@ mod samples;
 mod stretches;
 mod ways;
 
-pub use building::build;
+pub use building::{build, graph_of_courses};
 pub use fault::BuildFault;
 pub use print::print_graph;

@@ -1,12 +1,15 @@
 //! Known costs of points.
 
-ghost use Rattle.std.specs.Prelude.{◌≡◌, ◌<◌, Some, None, OnOk, length, replicate};
+ghost use Rattle.std.specs.Prelude.{◌≡◌, ◌<◌, Some, None, IfOk, OnOk, length, replicate};
 ghost use Rattle.net_paths.specs.Searching.{known_at, with_known};
 
 use map_base::NoMemory;
 use std::alloc::Global;
 use std::collections::HashMap;
 use std::marker::Model;
+
+/// For how many costs there is room at first. Most searches need no more.
+const ROOM: usize = 56;
 
 /// The costs of so many points, as far as they are known, seen as the list of them. Only known ones take memory.
 #[derive(Drop)]
@@ -25,14 +28,12 @@ impl Model for Known {
 }
 
 impl Known {
-    /// No known cost, of so many points.
-    pub(crate) fn none(alloc: Global, count: usize) -> Known
-        ensures { result ≡ replicate count None }
+    /// No known cost, of so many points, with room for those of a short stretch.
+    pub(crate) fn none(alloc: Global, count: usize) -> Result<Known, NoMemory>
+        ensures { IfOk result (λ known. known ≡ replicate count None) }
     {
-        Known {
-            costs: HashMap::new(alloc),
-            count,
-        }
+        let costs = HashMap::with_capacity(alloc, ROOM)?;
+        Ok(Known { costs, count })
     }
 
     /// The known cost of a point.

@@ -13,6 +13,9 @@ use map_base::NoMemory;
 use std::alloc::Global;
 use track_net::Net;
 
+/// How many points can wait before the queue grows.
+const ROOM: usize = 32;
+
 /// Notes, where nothing is known, the least costs at which `to` can be reached, as far as they are no greater than
 /// that of `from`. The search goes from `to` outwards and ends where what waits costs more than `from` does.
 pub(crate) fn note_costs_to(
@@ -30,7 +33,7 @@ pub(crate) fn note_costs_to(
     requires nothing_known { known.old ≡ replicate (length net.now.points) None }
     ensures { OnOk result (IsSearched (flags_along corridor.now net.now) net.now from to known.new) }
 {
-    let mut queue = Queue::new(alloc);
+    let mut queue = Queue::with_capacity(alloc, ROOM)?;
     search(net, corridor, from, to, known, &mut queue)
 }
 

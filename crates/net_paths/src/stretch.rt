@@ -33,7 +33,7 @@ pub fn stretch_path(
     ensures path { IfOk result (λ path. IsStretchPath near corridor.now net.now from to path.items) }
     ensures chosen { IfOk result (λ path. path.items ≡ stretch_path_of near corridor.now net.now from to) }
 {
-    let mut known = Known::none(alloc, net.len());
+    let mut known = Known::none(alloc, net.len())?;
     let corridor = Corridor::along(alloc, corridor, near)?;
     note_costs_to(alloc, net, &corridor, from, to, &mut known)?;
     walk(alloc, net, &corridor, &known, from)

@@ -155,10 +155,10 @@ same_cost samples s rest costs row swept place below (suc steps) floor at passed
     ∙ same_cost samples s rest costs row swept place below steps (floor + 1) (omega arith) (λ other above under. passed other (omega arith) under)
 
 -- the order of dictionaries, by the first places
-after_lesser : (i j : ℕ) (is js : List ℕ) → i < j → is_not_after (i ∷ is) (j ∷ js) ≡ true
+pub after_lesser : (i j : ℕ) (is js : List ℕ) → i < j → is_not_after (i ∷ is) (j ∷ js) ≡ true
 after_lesser i j is js h = ap (λ b. b || ((i == j) && is_not_after is js)) (lt-ltb i j h)
 
-after_same : (i j : ℕ) (is js : List ℕ) → i ≡ j → is_not_after is js ≡ true → is_not_after (i ∷ is) (j ∷ js) ≡ true
+pub after_same : (i j : ℕ) (is js : List ℕ) → i ≡ j → is_not_after is js ≡ true → is_not_after (i ∷ is) (j ∷ js) ≡ true
 after_same i j is js e later =
     ap (λ b. nat_lt i j || (b && is_not_after is js)) (eq-eqb i j e) ∙ ap (λ b. nat_lt i j || b) later ∙ or_true (nat_lt i j)
   where

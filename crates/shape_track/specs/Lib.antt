@@ -7,3 +7,4 @@ pub mod Choices
 pub mod Sweeps
 pub mod Rows
 pub mod Hops
+pub mod BestPlaces

@@ -2,7 +2,9 @@
 //! the hops from each station to the next.
 #![tactic(auto)]
 
+mod best_places;
 mod fault;
+mod nearby;
 mod piece;
 mod sampler;
 mod samples;

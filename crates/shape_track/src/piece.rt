@@ -17,6 +17,9 @@ pub(crate) fn parts(distance2: u64, near: u32) -> u64
     ensures fits { result ≤ 2 ^ 32 }
 {
     let near = u64::from(near);
+    if 4 * distance2 <= near * near {
+        return 1;
+    }
     let squares = (4 * distance2).div_ceil(near * near);
     root_above(squares.saturating_sub(1))
 }
@@ -47,6 +50,9 @@ pub(crate) fn part(a: Point, b: Point, count: u64, index: u64) -> Point
     requires in_range { index < count }
     ensures value { result ≡ part_point a b count index }
 {
+    if index == 0 {
+        return a;
+    }
     Point {
         x: along(a.x, b.x, count, index),
         y: along(a.y, b.y, count, index),

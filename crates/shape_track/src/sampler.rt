@@ -1,6 +1,6 @@
 //! Points that are kept one by one, without repeats, up to a greatest number.
 
-ghost use Rattle.std.specs.Prelude.{◌≡◌, ℕ, ◌<◌, ◌≤◌, [], IfErr, OnOk};
+ghost use Rattle.std.specs.Prelude.{◌≡◌, ℕ, ◌<◌, ◌≤◌, [], IfOk, IfErr, OnOk};
 ghost use Rattle.fixed_plane.specs.Plane.{IsInPlane};
 ghost use Rattle.shape_track.specs.Faults.{HasCause};
 ghost use Rattle.shape_track.specs.Samples.{is_point, is_repeat, piece_points};
@@ -8,7 +8,7 @@ ghost use Rattle.shape_track.specs.Samples.{is_point, is_repeat, piece_points};
 use crate::fault::SampleFault;
 use crate::piece::{part, parts};
 use fixed_plane::dist2;
-use map_base::{Limit, LimitKind, Point};
+use map_base::{Limit, LimitKind, NoMemory, Point};
 use std::alloc::Global;
 
 /// Samples that are kept, and how many were counted of the greatest allowed number.
@@ -25,17 +25,22 @@ impl Sampler {
     ghost use Rattle.std.specs.Prelude.{◌+◌, ◌++◌, ◌∷◌};
     ghost use Rattle.shape_track.specs.Sampling.{kept_by, with_point, with_points};
 
-    /// Nothing is kept, and `count` samples were counted elsewhere.
-    pub(crate) fn new(alloc: Global, count: u64, most: u64) -> Sampler
-        ensures kept { kept_by result ≡ record { points = []; before = None; count = count } }
-        ensures most { result.most ≡ most }
+    /// Nothing is kept, with room for so many samples, and `count` samples were counted elsewhere.
+    pub(crate) fn new(
+        alloc: Global,
+        room: usize,
+        count: u64,
+        most: u64,
+    ) -> Result<Sampler, NoMemory>
+        ensures kept { IfOk result (λ sampler. kept_by sampler ≡ record { points = []; before = None; count = count }) }
+        ensures most { IfOk result (λ sampler. sampler.most ≡ most) }
     {
-        Sampler {
-            kept: Vec::new(alloc),
+        Ok(Sampler {
+            kept: Vec::with_capacity(alloc, room)?,
             before: None,
             count,
             most,
-        }
+        })
     }
 
     /// Keeps a point, unless it equals the one before it.

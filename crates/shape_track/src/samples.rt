@@ -52,7 +52,7 @@ pub(crate) fn counted_samples(
     ensures within { IfOk result (λ sampler. sampler.count ≤ most) }
     ensures cause { IfErr result (λ fault. HasCause most (count + length (samples_of near points.now)) fault) }
 {
-    let mut sampler = Sampler::new(alloc, count, most);
+    let mut sampler = Sampler::new(alloc, points.len(), count, most)?;
     for index in 1..points.len() {
         sampler.keep_piece(points[index - 1], points[index], near)?;
     }

@@ -8,6 +8,7 @@ ghost use Rattle.map_base.specs.declared.point.Point.{Point};
 ghost use Rattle.shape_track.specs.Sweeps.{LeadsTo, taken_at};
 ghost use Rattle.shape_track.specs.Rows.{AreRows};
 
+use crate::nearby::near_snap;
 use crate::sweep::swept;
 use bit_flags::Flags;
 use map_base::{NoMemory, Point};
@@ -17,7 +18,7 @@ use std::alloc::Global;
 /// before it, so that no other such places have a lesser sum of the squared distances from each station to
 /// its sample; and of those with that sum the first in the order of dictionaries.
 ///
-/// It takes time, and a bit, for each station and sample.
+/// Where some stations are far from all samples, it takes time, and a bit, for each station and sample.
 pub fn snap(alloc: Global, samples: &[Point], stations: &[Point]) -> Result<Vec<u32>, NoMemory>
     requires some { 0 < length samples.now }
     requires short { length samples.now < 2 ^ 32 }
@@ -25,6 +26,20 @@ pub fn snap(alloc: Global, samples: &[Point], stations: &[Point]) -> Result<Vec<
     requires stations_in_plane { All IsInPlane stations.now }
     ensures snap { IfOk result (λ places. IsSnap samples.now stations.now places.items) }
     ensures chosen { IfOk result (λ places. places.items ≡ snap_of samples.now stations.now) }
+{
+    if let Some(places) = near_snap(alloc, samples, stations)? {
+        return Ok(places);
+    }
+    far_snap(alloc, samples, stations)
+}
+
+/// The snap, by a look at each sample for each station.
+fn far_snap(alloc: Global, samples: &[Point], stations: &[Point]) -> Result<Vec<u32>, NoMemory>
+    requires some { 0 < length samples.now }
+    requires short { length samples.now < 2 ^ 32 }
+    requires samples_in_plane { All IsInPlane samples.now }
+    requires stations_in_plane { All IsInPlane stations.now }
+    ensures { IfOk result (λ places. IsSnap samples.now stations.now places.items) }
 {
     let rows = rows_of(alloc, samples, stations)?;
     let mut places = Vec::new(alloc);

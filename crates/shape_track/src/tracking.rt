@@ -71,7 +71,7 @@ fn hop_course(
     ensures points { IfOk result (λ course. course.items ≡ hop_points samples.now station place next_station next_place) }
     ensures in_plane { IfOk result (λ course. All IsInPlane course.items) }
 {
-    let mut course = Vec::new(alloc);
+    let mut course = Vec::with_capacity(alloc, next_place - place + 3)?;
     course.push(station)?;
     course.extend_from_slice(&samples[place..next_place + 1])?;
     course.push(next_station)?;

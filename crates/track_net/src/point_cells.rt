@@ -1,9 +1,9 @@
 //! Points in square cells, of which some may be near.
 
-ghost use Rattle.std.specs.Prelude.{◌≡◌, ◌+◌, ◌%◌, ◌<◌, ◌≤◌, ◌++◌, ◌∷◌, [], IfOk, IfSome, OnOk, All, Contains, unsigned_abs, ℤ, if◌then◌else◌};
+ghost use Rattle.std.specs.Prelude.{◌≡◌, ℕ, ◌+◌, ◌%◌, ◌<◌, ◌≤◌, ◌++◌, ◌∷◌, [], IfOk, IfSome, OnOk, All, Contains, length, unsigned_abs, ℤ, if◌then◌else◌};
 ghost use Rattle.fixed_plane.specs.Plane.{IsInPlane};
-ghost use Rattle.track_net.specs.Nearness.{FindsNear, has_near};
-ghost use Rattle.track_net.specs.Cells.{AreKept, FindsAround, is_cell, listed};
+ghost use Rattle.track_net.specs.Nearness.{FindsNear, has_near, point_at};
+ghost use Rattle.track_net.specs.Cells.{AreKept, FindsAround, cell_of, is_cell, listed};
 
 use crate::cells::{Cell, cell_at, cell_beside};
 use crate::nearness::{are_near, near_point};
@@ -73,17 +73,62 @@ impl PointCells {
     }
 }
 
-/// For each cell of a size, in decimetres, its points.
+/// For each cell of a size, in decimetres, its points. Points that follow each other in one cell are kept at once.
 pub(crate) fn kept_of(alloc: Global, points: &[Point], size: u32) -> Result<Kept, NoMemory>
     requires in_plane { All IsInPlane points.now }
     requires some { 0 < size }
     ensures { IfOk result (AreKept size points.now) }
 {
     let mut cells = Kept::new(alloc);
-    for point in points {
-        keep(alloc, &mut cells, cell_at(*point, size), *point)?;
+    let mut next = 0;
+    while next < points.len() {
+        let cell = cell_at(points[next], size);
+        let end = run_end(points, next, cell, size);
+        keep_all(alloc, &mut cells, cell, &points[next..end])?;
+        next = end;
     }
     Ok(cells)
+}
+
+/// Where the points end that follow one in its cell.
+fn run_end(points: &[Point], start: usize, cell: Cell, size: u32) -> usize
+    requires in_plane { All IsInPlane points.now }
+    requires some { 0 < size }
+    requires in_range { start < length points.now }
+    requires cell { cell ≡ cell_of size (point_at points.now start) }
+    ensures further { start < result }
+    ensures within { result ≤ length points.now }
+    ensures run { (k : ℕ) → start ≤ k → k < result → cell_of size (point_at points.now k) ≡ cell }
+{
+    for end in start + 1..points.len() {
+        if !is_same(cell_at(points[end], size), cell) {
+            return end;
+        }
+    }
+    points.len()
+}
+
+/// Whether two cells are one.
+fn is_same(a: Cell, b: Cell) -> bool
+    ensures { result ≡ is_cell a b }
+{
+    if a.0 != b.0 {
+        return false;
+    }
+    a.1 == b.1
+}
+
+/// Keeps points for a cell, after those that are kept for it.
+fn keep_all(alloc: Global, cells: &mut Kept, cell: Cell, points: &[Point]) -> Result<(), NoMemory>
+    ensures { OnOk result ((other : ℤ × ℤ) → listed cells.new other ≡ (if is_cell cell other then listed cells.old other ++ points.now else listed cells.old other)) }
+{
+    if let Some(kept) = cells.get_mut(&cell) {
+        kept.extend_from_slice(points)?;
+        return Ok(());
+    }
+    let kept = Vec::from_slice(alloc, points)?;
+    cells.insert(cell, kept)?;
+    Ok(())
 }
 
 /// Keeps a point for a cell, after those that are kept for it.

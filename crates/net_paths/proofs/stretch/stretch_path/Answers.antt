@@ -1,4 +1,5 @@
-use Rattle.std.proofs.Common.{◌≡◌, ◌≢◌, ap, ◌∙◌, Result, Ok, Err, IfOk, arith}
+use Rattle.std.proofs.Common.{◌≡◌, ◌≢◌, ap, ◌∙◌, arith}
+use Rattle.std.proofs.lemmas.Result.{IfOk-weaker}
 use Rattle.net_paths.specs.Searching.{flags_along}
 use Rattle.net_paths.specs.Corridors.{CorridorParts}
 use Rattle.net_paths.specs.Stretches.{IsStretchPath}
@@ -8,11 +9,6 @@ use Rattle.net_paths.specs.Choices as choices
 use Rattle.net_paths.proofs.Choosing.{path_chosen}
 use Rattle.net_paths.proofs.Walked.{stretch_path_of, joined_in_range}
 use Rattle.net_paths.proofs.stretch.stretch_path.Goals as goal
-
--- what holds of an answer holds of it by what follows
-IfOk-weaker : {A E : Type 0} (P Q : A → Type 0) → ((v : A) → P v → Q v) → (r : Result A E) → IfOk r P → IfOk r Q
-IfOk-weaker P Q follows (Ok v) h = follows v h
-IfOk-weaker P Q follows (Err e) h = tt
 
 pub note_costs_to-requires-clause-from_in_range : goal.note_costs_to-requires-clause-from_in_range
 note_costs_to-requires-clause-from_in_range c =
@@ -27,18 +23,18 @@ returns-clause-path c =
     let net = c.args.net.now in
     let corridor = c.in_ok-corridor.corridor in
     let known = c.note_costs_to.new.known in
-    IfOk-weaker (λ path. IsWalked (flags_along corridor net) net known c.args.from path.items) (λ path. IsStretchPath c.args.near c.args.corridor.now net c.args.from c.args.to path.items)
+    IfOk-weaker c.walk.result (λ path. IsWalked (flags_along corridor net) net known c.args.from path.items) (λ path. IsStretchPath c.args.near c.args.corridor.now net c.args.from c.args.to path.items)
     (λ path walked.
     stretch_path_of c.args.near c.args.corridor.now net c.len.ensures.kept (flags_along corridor net) c.args.from c.args.to path.items
     (ap (λ (k : CorridorParts). flags_along k net) c.in_ok-corridor.ensures ∙ flags_along-is (record { near = c.args.near; samples = c.args.corridor.now }) net)
     (walked c.args.to c.in_ok-note_costs_to.ensures))
-    c.walk.result c.walk.ensures
+    c.walk.ensures
 
 pub returns-clause-chosen : goal.returns-clause-chosen
 returns-clause-chosen c =
     let net = c.args.net.now in
     let apart : c.args.from ≢ c.args.to = omega arith in
     let inside = joined_in_range net c.len.ensures.kept c.args.from c.args.to apart c.requires.joined in
-    IfOk-weaker (λ path. IsStretchPath c.args.near c.args.corridor.now net c.args.from c.args.to path.items) (λ path. path.items ≡ choices.stretch_path_of c.args.near c.args.corridor.now net c.args.from c.args.to)
+    IfOk-weaker c.walk.result (λ path. IsStretchPath c.args.near c.args.corridor.now net c.args.from c.args.to path.items) (λ path. path.items ≡ choices.stretch_path_of c.args.near c.args.corridor.now net c.args.from c.args.to)
     (λ path is. path_chosen c.args.near c.args.corridor.now net c.len.ensures.kept c.args.from c.args.to inside.0 path.items is)
-    c.walk.result (returns-clause-path c)
+    (returns-clause-path c)

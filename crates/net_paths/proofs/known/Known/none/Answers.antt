@@ -3,4 +3,4 @@ use Rattle.net_paths.proofs.CostTables.{costs_below-none}
 use Rattle.net_paths.proofs.known.Known.none.Goals as goal
 
 pub returns : goal.returns
-returns c = costs_below-none c.new.result c.args.count (λ s. search rules)
+returns c = costs_below-none c.in_ok-costs.costs c.args.count (λ s. search rules)

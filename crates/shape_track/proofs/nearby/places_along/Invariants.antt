@@ -1,6 +1,6 @@
 use Rattle.std.proofs.Common.{◌<◌, List, ◌++◌, ℕ, drop, length}
 use Rattle.shape_track.specs.Snaps.{IsSnapFrom}
-use Rattle.shape_track.proofs.snapping.snap.Given as goal
+use Rattle.shape_track.proofs.nearby.places_along.Given as goal
 
 abbrev pub invariant-loop-index : goal.invariant-loop-index
 invariant-loop-index l = record {
