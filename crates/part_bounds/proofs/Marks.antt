@@ -7,13 +7,13 @@ use Rattle.order_model.specs.declared.problem.ProblemParts.{ProblemParts}
 use Rattle.order_model.specs.declared.term.Term.{Term}
 use Rattle.order_model.specs.Prefixes.{Placement}
 use Rattle.pair_bounds.specs.declared.one_pair.Room.{Room}
-use Rattle.part_bounds.specs.declared.changes.Change.{Change}
-use Rattle.part_bounds.specs.declared.pair_terms.PairTerms.{PairTerms}
-use Rattle.part_bounds.specs.PairGroups.{groups_in}
+use Rattle.pair_shares.specs.declared.changes.Change.{Change}
+use Rattle.pair_shares.specs.declared.pair_terms.PairTerms.{PairTerms}
+use Rattle.pair_shares.specs.PairGroups.{groups_in}
 use Rattle.pair_bounds.specs.PriceNotes.{price_noted}
 use Rattle.pair_bounds.specs.Slots.{KeepsRoom}
 use Rattle.part_bounds.specs.KeptPrices.{has_number, cleared, is_changed_pair, AreMarked, AreNoted, IsPricedUp}
-use Rattle.part_bounds.proofs.KeptUp.{rooms_kept}
+use Rattle.pair_shares.proofs.KeptGroups.{rooms_kept}
 use Rattle.part_bounds.proofs.NotedPairs.{any_default}
 
 -- Marks.

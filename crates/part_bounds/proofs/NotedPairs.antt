@@ -24,17 +24,17 @@ use Rattle.order_bound.proofs.Worth.{each_taken, each_priced}
 use Rattle.order_bound.proofs.Completing.{same_pair, pair_itself}
 use Rattle.order_bound.proofs.Parts.{part_numbered}
 use Rattle.order_bound.proofs.Bounding.{AreNumbered, each_kept}
-use Rattle.part_bounds.specs.declared.changes.Change.{Change}
-use Rattle.part_bounds.specs.declared.pair_terms.PairTerms.{PairTerms}
-use Rattle.part_bounds.specs.Changes.{is_new_pair, is_changed}
-use Rattle.part_bounds.specs.PairGroups.{Group, KnowsOwn, terms_of_pair, group_of, groups_of, group_in, groups_in, no_group, IsGroup}
+use Rattle.pair_shares.specs.declared.changes.Change.{Change}
+use Rattle.pair_shares.specs.declared.pair_terms.PairTerms.{PairTerms}
+use Rattle.pair_shares.specs.Changes.{is_new_pair, is_changed}
+use Rattle.pair_shares.specs.PairGroups.{Group, KnowsOwn, terms_of_pair, group_of, groups_of, group_in, groups_in, no_group, IsGroup}
 use Rattle.pair_bounds.specs.PriceNotes.{price_over, listed_all}
 use Rattle.part_bounds.specs.KeptPrices.{has_number, cleared, AreMarked, IsNoted, AreNoted}
-use Rattle.part_bounds.proofs.OwnTerms.{own_cost, own_links, found_pair}
+use Rattle.pair_shares.proofs.OwnTerms.{own_cost, own_links, found_pair}
 use Rattle.pair_bounds.proofs.Noted.{over_none}
 use Rattle.pair_bounds.proofs.PairCosts.{all_among}
-use Rattle.part_bounds.proofs.KeptUp.{group_here, group_at}
-use Rattle.part_bounds.proofs.PairsKept.{unchanged}
+use Rattle.pair_shares.proofs.KeptGroups.{group_here, group_at}
+use Rattle.pair_shares.proofs.PairsKept.{unchanged}
 
 -- The prices of a pair depend on its own terms alone.
 

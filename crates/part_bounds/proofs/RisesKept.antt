@@ -20,24 +20,25 @@ use Rattle.order_model.specs.Problems.{IsTerm}
 use Rattle.order_bound.specs.Pairs.{AreApartSegments}
 use Rattle.order_bound.specs.Bounds.{bound_of}
 use Rattle.pair_bounds.specs.Counted.{settled_cost, settled_sum}
-use Rattle.part_bounds.specs.declared.changes.Change.{Change}
-use Rattle.part_bounds.specs.declared.pair_rows.PairHere.{PairHere}
-use Rattle.part_bounds.specs.declared.pair_terms.PairTerms.{PairTerms}
+use Rattle.pair_shares.specs.declared.changes.Change.{Change}
+use Rattle.pair_shares.specs.declared.pair_rows.PairHere.{PairHere}
+use Rattle.pair_shares.specs.declared.pair_terms.PairTerms.{PairTerms}
 use Rattle.part_bounds.specs.declared.rises.Rise.{Rise}
-use Rattle.part_bounds.specs.Changes.{is_new_pair, is_changed}
-use Rattle.part_bounds.specs.Meeting.{row_of, AreBySegment}
-use Rattle.part_bounds.specs.PairGroups.{Group, KnowsOwn, no_group, group_in, groups_in, groups_of, meets, terms_in, share_of, IsGroup}
-use Rattle.part_bounds.specs.Settled.{is_apart_on, aparts_on, AreByEnds}
-use Rattle.part_bounds.specs.Shares.{IsRow}
-use Rattle.part_bounds.specs.Rises.{rises_in, rise_at, AreFewer, IsForgotten, AreForgotten, AreApartsForgotten, HasForgotten, IsRiseMore, IsTrueRise, AreTrueRises}
-use Rattle.part_bounds.proofs.ApartLists.{settled_elsewhere}
-use Rattle.part_bounds.proofs.KeptUp.{group_at, group_here, whole_small}
-use Rattle.part_bounds.proofs.Meeting.{listed_each}
-use Rattle.part_bounds.proofs.OwnSegments.{SameElsewhere, share_kept}
-use Rattle.part_bounds.proofs.OwnTerms.{shares_bound}
-use Rattle.part_bounds.proofs.OwnUse.{not_own}
-use Rattle.part_bounds.proofs.PairsKept.{AreAlike, elsewhere_alike, share_alike}
-use Rattle.part_bounds.proofs.Renewed.{at_place, moved_on, row_is}
+use Rattle.pair_shares.specs.Changes.{is_new_pair, is_changed}
+use Rattle.pair_shares.specs.Meeting.{row_of, AreBySegment}
+use Rattle.pair_shares.specs.PairGroups.{Group, KnowsOwn, no_group, group_in, groups_in, groups_of, meets, terms_in, share_of, IsGroup}
+use Rattle.apart_sums.specs.Ends.{is_apart_on, aparts_on}
+use Rattle.pair_shares.specs.Shares.{IsRow}
+use Rattle.part_bounds.specs.Rises.{rises_in, rise_at, AreFewer, IsForgotten, AreForgotten, HasForgotten, IsRiseMore, IsTrueRise, AreTrueRises}
+use Rattle.apart_sums.proofs.Settling.{settled_elsewhere}
+use Rattle.pair_shares.proofs.KeptGroups.{group_at, group_here}
+use Rattle.part_bounds.proofs.KeptUp.{whole_small}
+use Rattle.pair_shares.proofs.Meeting.{listed_each}
+use Rattle.pair_shares.proofs.OwnSegments.{SameElsewhere, share_kept}
+use Rattle.pair_shares.proofs.OwnTerms.{shares_bound}
+use Rattle.pair_shares.proofs.OwnUse.{not_own}
+use Rattle.pair_shares.proofs.PairsKept.{AreAlike, elsewhere_alike, share_alike}
+use Rattle.pair_shares.proofs.Renewed.{at_place, moved_on, row_is}
 
 -- Tables of rises.
 
@@ -174,17 +175,6 @@ pairs_more c pairs row i n d g mid next below at here fewer this before k e s li
     get_or-any (x ∷ xs) zero d e h = refl
     get_or-any (x ∷ xs) (suc k) d e h = get_or-any xs k d e (omega (arith, h))
 
-pub aparts_more : (aparts : List Term) (i : ℕ) (t d : Term) (mid next : List (List (Option Rise))) → i < length aparts → t ≡ get_or aparts i d → AreFewer mid next
-    → ((s : SegId) → is_apart_on s t ≡ true → IsForgotten next s.0) → AreApartsForgotten (take i aparts) mid → AreApartsForgotten (take (i + 1) aparts) next
-aparts_more aparts i t d mid next below here fewer this before s any =
-    elim (or_cases (list_any (is_apart_on s) (take i aparts)) (is_apart_on s t || false) (sym (ap (list_any (is_apart_on s)) (take_more aparts i d below ∙ ap (λ u. take i aparts ++ u ∷ []) (sym here)) ∙ list_any-append (is_apart_on s) (take i aparts) (t ∷ [])) ∙ any)) [
-      | inl earlier ↦ still_forgotten mid next s.0 fewer (before s earlier)
-      | inr now ↦ elim (or_cases (is_apart_on s t) false now) [
-        | inl e ↦ this s e
-        | inr none ↦ absurd (true≢false (sym none))
-      ]
-    ]
-
 -- Two segments that share no changed pair and no Apart: what a line adds on one doesn't depend on the lines of the other.
 
 sums_crossed : (f g h k : Group → ℕ) (groups : List Group) → ((i : ℕ) → i < length groups → f (get_or groups i no_group) + g (get_or groups i no_group) ≡ h (get_or groups i no_group) + k (get_or groups i no_group))
@@ -220,11 +210,11 @@ settled_crossed segs p n ps ns s t (u ∷ terms) a b c d none = by_test (is_apar
         let parts = or_parts (is_apart_on s u.1) (list_any (is_apart_on s) (aparts_on t terms)) h in
         whole (omega (arith, settled_elsewhere segs p ps s u.1 c parts.0, settled_elsewhere segs n ns s u.1 d parts.0)) (rec parts.1)
 
-pub rises_kept : (segs placed next : List (List LineId)) (part : List SegId) (terms : List (ℕ × Term)) (pairs : List PairTerms) (c : Change) (t : SegId) (row : List PairHere) (aparts : List Term) (old new : List (List (Option Rise)))
-    → AreTrueRises segs part terms placed old → HasForgotten c pairs row aparts old new → c.seg ≡ t → length placed ≡ length segs → length next ≡ length segs → SameElsewhere t next placed
+pub rises_kept : (segs placed next : List (List LineId)) (part : List SegId) (terms : List (ℕ × Term)) (pairs : List PairTerms) (c : Change) (t : SegId) (row : List PairHere) (joined : List SegId) (old new : List (List (Option Rise)))
+    → AreTrueRises segs part terms placed old → HasForgotten c pairs row joined old new → c.seg ≡ t → length placed ≡ length segs → length next ≡ length segs → SameElsewhere t next placed
     → ((p : Pair) → is_new_pair c p ≡ false → AreAlike p.lesser p.greater (lines_on next t) (lines_on placed t)) → groups_in pairs ≡ groups_of terms → All (IsGroup segs part) (groups_in pairs) → All (KnowsOwn part) pairs
-    → IsRow (is_changed c) (groups_in pairs) row → aparts ≡ aparts_on t terms → AreTrueRises segs part terms next new
-rises_kept segs placed next part terms pairs c t row aparts old new all forgotten there each1 each2 moved alike grouped fit own has apart s i a n known within here noted = record {
+    → IsRow (is_changed c) (groups_in pairs) row → ((s : SegId) → s.0 ≢ t.0 → list_any (is_apart_on s) (aparts_on t terms) ≡ true → is_in joined s ≡ true) → AreTrueRises segs part terms next new
+rises_kept segs placed next part terms pairs c t row joined old new all forgotten there each1 each2 moved alike grouped fit own has joins s i a n known within here noted = record {
   rises = (let true_before = all s i a n known within here (forgotten.fewer.still s.0 i n noted) in let before = true_before.rises in omega (arith, before, crossed));
   small = (all s i a n known within here (forgotten.fewer.still s.0 i n noted)).small;
 }
@@ -313,7 +303,7 @@ rises_kept segs placed next part terms pairs c t row aparts old new all forgotte
       where
         by_test : (b : Bool) → list_any (is_apart_on s) (aparts_on t terms) ≡ b → b ≡ false
         by_test true e =
-            let gone : IsForgotten new s.0 = forgotten.settled s (ap (list_any (is_apart_on s)) apart ∙ e) in
+            let gone : IsForgotten new s.0 = forgotten.settled s (joins s (λ same. ne (sym same)) e) in
             absurd (not_noted (rise_at new s.0 i) n (gone.none i) noted)
         by_test false e = refl
 
@@ -325,14 +315,14 @@ rises_kept segs placed next part terms pairs c t row aparts old new all forgotte
         let b3 = ap (sum_by (share_of segs part next)) grouped in let b4 = ap (sum_by (share_of segs part ps)) grouped in
         omega (arith, sums, settled, b1, b2, b3, b4, shares_bound segs ns part terms, shares_bound segs placed part terms, shares_bound segs next part terms, shares_bound segs ps part terms)
 
--- The same by a row and a list of Aparts as they are looked up.
-pub rises_next : (segs placed next : List (List LineId)) (part : List SegId) (terms : List (ℕ × Term)) (pairs slice : List PairTerms) (rows : List (List PairHere)) (c : Change) (t : SegId) (row : List PairHere) (lists : List (List Term)) (aparts : List Term)
-    (old new : List (List (Option Rise))) → AreTrueRises segs part terms placed old → HasForgotten c slice row aparts old new → t.0 < length segs → c.seg ≡ t → length placed ≡ length segs → length next ≡ length segs → SameElsewhere t next placed
+-- The same by a row and by segments as they are looked up.
+pub rises_next : (segs placed next : List (List LineId)) (part : List SegId) (terms own_terms : List (ℕ × Term)) (pairs slice : List PairTerms) (rows : List (List PairHere)) (c : Change) (t : SegId) (row : List PairHere) (joined : List SegId)
+    (old new : List (List (Option Rise))) → AreTrueRises segs part terms placed old → HasForgotten c slice row joined old new → t.0 < length segs → c.seg ≡ t → length placed ≡ length segs → length next ≡ length segs → SameElsewhere t next placed
     → ((p : Pair) → is_new_pair c p ≡ false → AreAlike p.lesser p.greater (lines_on next t) (lines_on placed t)) → slice ≡ pairs → groups_in pairs ≡ groups_of terms → All (IsGroup segs part) (groups_in pairs) → All (KnowsOwn part) pairs
-    → AreBySegment (length segs) pairs rows → row ≡ row_of rows t → AreByEnds (length segs) terms lists → aparts ≡ get_or lists t.0 [] → AreTrueRises segs part terms next new
-rises_next segs placed next part terms pairs slice rows c t row lists aparts old new all forgotten known there each1 each2 moved alike same grouped fit own by_segment row_same by_ends aparts_same =
-    rises_kept segs placed next part terms pairs c t row aparts old new all (subst (λ (l : List PairTerms). HasForgotten c l row aparts old new) same forgotten) there each1 each2 moved alike grouped fit own
-    (row_is (length segs) segs part pairs pairs rows c t row by_segment known refl there row_same own fit) (aparts_same ∙ by_ends.on t known)
+    → AreBySegment (length segs) pairs rows → row ≡ row_of rows t → own_terms ≡ terms → ((s : SegId) → s.0 ≢ t.0 → list_any (is_apart_on s) (aparts_on t own_terms) ≡ true → is_in joined s ≡ true) → AreTrueRises segs part terms next new
+rises_next segs placed next part terms own_terms pairs slice rows c t row joined old new all forgotten known there each1 each2 moved alike same grouped fit own by_segment row_same terms_same joins =
+    rises_kept segs placed next part terms pairs c t row joined old new all (subst (λ (l : List PairTerms). HasForgotten c l row joined old new) same forgotten) there each1 each2 moved alike grouped fit own
+    (row_is (length segs) segs part pairs pairs rows c t row by_segment known refl there row_same own fit) (subst (λ l. (s : SegId) → s.0 ≢ t.0 → list_any (is_apart_on s) (aparts_on t l) ≡ true → is_in joined s ≡ true) terms_same joins)
 
 -- a rise more
 pub rises_noted : (segs : List (List LineId)) (part : List SegId) (terms : List (ℕ × Term)) (placed : List (List LineId)) (s : SegId) (i : ℕ) (a : LineId) (n : Rise) (old new : List (List (Option Rise))) → AreTrueRises segs part terms placed old

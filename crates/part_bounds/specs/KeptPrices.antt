@@ -10,13 +10,13 @@ use Rattle.order_model.specs.PartTerms.{is_in, part_terms, part_numbers}
 use Rattle.order_model.specs.Parts.{IsRisingPart}
 use Rattle.order_model.specs.Prefixes.{Placement, IsPrefixOf}
 use Rattle.order_bound.specs.CanonicalPrices.{pair_prices, price_among}
-use Rattle.part_bounds.specs.declared.changes.Change.{Change}
+use Rattle.pair_shares.specs.declared.changes.Change.{Change}
 use Rattle.pair_bounds.specs.declared.one_pair.Room.{Room}
-use Rattle.part_bounds.specs.declared.pair_terms.PairTerms.{PairTerms}
-use Rattle.part_bounds.specs.Changes.{is_new_pair}
-use Rattle.part_bounds.specs.PairGroups.{Group, KnowsOwn, groups_of, groups_in, no_group, IsGroup}
+use Rattle.pair_shares.specs.declared.pair_terms.PairTerms.{PairTerms}
+use Rattle.pair_shares.specs.Changes.{is_new_pair}
+use Rattle.pair_shares.specs.PairGroups.{Group, KnowsOwn, groups_of, groups_in, no_group, IsGroup}
 use Rattle.pair_bounds.specs.PriceNotes.{price_noted}
-use Rattle.part_bounds.specs.Shares.{HasRoomFor}
+use Rattle.pair_shares.specs.Shares.{HasRoomFor}
 
 -- one of these terms has this number
 abbrev pub has_number : List (ℕ × Term) → ℕ → Bool

@@ -1,9 +1,5 @@
 pub mod PartStates
-pub mod PairGroups
-pub mod Shares
-pub mod Changes
+pub mod Kept
 pub mod Settled
-pub mod Meeting
-pub mod ShareNotes
 pub mod Rises
 pub mod KeptPrices

@@ -1,7 +1,6 @@
 -- By how much the bound rises where a line is placed next, noted while nothing near changes.
 use Rattle.std.specs.Prelude.{◌≡◌, ℕ, ◌+◌, ◌<◌, ◌≤◌, true, List, [], length, map, Option, Some, None, ◌⊎◌, slice_index_or, Vec}
 use Rattle.std.specs.Global.{Global}
-use Rattle.std.specs.List.{list_any}
 use Rattle.map_base.specs.declared.ids.SegId.{SegId}
 use Rattle.map_base.specs.declared.ids.LineId.{LineId}
 use Rattle.order_model.specs.declared.term.Term.{Term}
@@ -9,13 +8,12 @@ use Rattle.order_model.specs.Problems.{lines_on}
 use Rattle.order_model.specs.PartTerms.{is_in}
 use Rattle.order_model.specs.Completions.{placed_more}
 use Rattle.order_bound.specs.Bounds.{bound_of}
-use Rattle.part_bounds.specs.declared.changes.Change.{Change}
-use Rattle.part_bounds.specs.declared.pair_rows.PairHere.{PairHere}
-use Rattle.part_bounds.specs.declared.pair_terms.PairTerms.{PairTerms}
+use Rattle.pair_shares.specs.declared.changes.Change.{Change}
+use Rattle.pair_shares.specs.declared.pair_rows.PairHere.{PairHere}
+use Rattle.pair_shares.specs.declared.pair_terms.PairTerms.{PairTerms}
 use Rattle.part_bounds.specs.declared.rises.Rise.{Rise}
-use Rattle.part_bounds.specs.Changes.{is_new_pair}
-use Rattle.part_bounds.specs.Meeting.{is_listed}
-use Rattle.part_bounds.specs.Settled.{is_apart_on}
+use Rattle.pair_shares.specs.Changes.{is_new_pair}
+use Rattle.pair_shares.specs.Meeting.{is_listed}
 
 -- rises as they lie in memory
 abbrev pub rises_in : List (Vec (Option Rise) Global) → List (List (Option Rise))
@@ -38,10 +36,6 @@ abbrev pub AreForgotten : Change → List PairTerms → List PairHere → List (
 AreForgotten c pairs row rises =
     (k : ℕ) (e : PairTerms) (s : SegId) → is_listed row k ≡ true → k < length pairs → e ≡ slice_index_or pairs k e → is_new_pair c e.pair ≡ true → is_in e.segs.items s ≡ true → IsForgotten rises s.0
 
--- nothing is noted on the segments of these Aparts
-abbrev pub AreApartsForgotten : List Term → List (List (Option Rise)) → Type 0
-AreApartsForgotten aparts rises = (s : SegId) → list_any (is_apart_on s) aparts ≡ true → IsForgotten rises s.0
-
 -- a rise more than those before, for the line at a place of a segment
 pub record IsRiseMore (s i : ℕ) (n : Rise) (old new : List (List (Option Rise))) : Type 0 where
   pub more : (t j : ℕ) (m : Rise) → rise_at new t j ≡ Some m → (rise_at old t j ≡ Some m) ⊎ ((t ≡ s) × ((j ≡ i) × (m ≡ n)))
@@ -57,9 +51,9 @@ AreTrueRises segs part terms placed rises =
     (s : SegId) (i : ℕ) (a : LineId) (n : Rise) → s.0 < length segs → i < length (lines_on segs s) → a ≡ slice_index_or (lines_on segs s) i a → rise_at rises s.0 i ≡ Some n → IsTrueRise segs part terms placed s a n
 
 -- what a placing changes is forgotten: what is noted on its segment, on the segments of the pairs that it changes, and on
--- those of the Aparts there
-pub record HasForgotten (c : Change) (pairs : List PairTerms) (row : List PairHere) (aparts : List Term) (old new : List (List (Option Rise))) : Type 0 where
+-- those joined to it by Aparts
+pub record HasForgotten (c : Change) (pairs : List PairTerms) (row : List PairHere) (joined : List SegId) (old new : List (List (Option Rise))) : Type 0 where
   pub fewer : AreFewer old new
   pub own : IsForgotten new c.seg.0
   pub changed : AreForgotten c pairs row new
-  pub settled : AreApartsForgotten aparts new
+  pub settled : (s : SegId) → is_in joined s ≡ true → IsForgotten new s.0

@@ -6,16 +6,10 @@
 //! pairs alone that have changed since. Both the bound and the prices are those of order_bound's definitions.
 #![tactic(auto)]
 
-mod aparts;
-mod changes;
-mod pair_rows;
-mod pair_terms;
 mod part_bounds;
 mod part_prices;
 mod prices;
 mod rises;
-mod share_notes;
-mod shares;
 mod stale_prices;
 
 pub use part_bounds::PartBounds;

@@ -1,6 +1,6 @@
 //! A part of a problem with the lines placed so far, and its bound.
 
-ghost use Rattle.std.specs.Prelude.{◌≡◌, ◌<◌, length, All, false, Contains, IfOk, slice_index_or, slice_set};
+ghost use Rattle.std.specs.Prelude.{◌≡◌, ◌<◌, length, sum_by, All, false, Contains, IfOk, IfSome, slice_index_or, slice_set};
 ghost use Rattle.map_base.specs.declared.ids.SegId.{SegId};
 ghost use Rattle.graph_core.specs.Consistent.{AreRising};
 ghost use Rattle.order_model.specs.Problems.{lines_on};
@@ -9,19 +9,20 @@ ghost use Rattle.order_model.specs.Parts.{IsRisingPart};
 ghost use Rattle.order_model.specs.PartTerms.{part_terms, part_numbers};
 ghost use Rattle.order_model.specs.Prefixes.{is_placed, is_left, first_placed, none_placed, without_last};
 ghost use Rattle.order_bound.specs.Bounds.{bound_of};
+ghost use Rattle.pair_shares.specs.PairGroups.{groups_of, share_of};
 ghost use Rattle.part_bounds.specs.PartStates.{state_more, with_placed, IsWell};
 
-use crate::aparts::{Aparts, aparts_by_end, aparts_on, moved, settled_on, settled_total};
-use crate::changes::{change_on, last_two, placed_count};
-use crate::pair_rows::{PairHere, pairs_by_segment};
-use crate::pair_terms::{PairTerms, find_segments, most_terms, pairs_of};
 use crate::part_prices::PartPrices;
 use crate::rises::{Rise, forget_near, line_at, no_rises, note_rise, rise_at};
-use crate::share_notes::{ShareNote, no_notes};
-use crate::shares::{fill_shares, renew_shares, sum_anew};
+use apart_sums::Aparts;
 use map_base::{LineId, NoMemory, SegId};
 use order_model::{Prefix, Problem};
 use pair_bounds::{NotedPrices, Room};
+use pair_shares::{
+    PairHere, PairTerms, ShareNote, change_on, fill_shares, find_segments, keys_of, last_two,
+    most_terms, next_line, no_notes, pairs_by_segment, pairs_of, placed_count, renew_shares,
+    sum_anew, sum_told,
+};
 use std::alloc::Global;
 use std::marker::Model;
 
@@ -44,26 +45,28 @@ pub struct PartBounds<'a> {
     total: u64,
     /// For each line of each segment by how much the bound rises where it is placed next, if that was asked for.
     rises: Vec<Vec<Option<Rise>>>,
+    /// The states of the pairs.
+    keys: Vec<Option<u64>>,
     /// What pairs added in states that were met.
     notes: Vec<Option<ShareNote>>,
     room: Room,
     /// The part's Aparts, with what the settled ones add to the bound.
-    aparts: Aparts,
+    aparts: Aparts<'a>,
 }
 
 impl<'a> Model for PartBounds<'a> {
     ghost use Rattle.std.specs.Vec.{vec_capacity};
     ghost use Rattle.order_model.specs.PartTerms.{part_terms};
     ghost use Rattle.part_bounds.specs.PartStates.{PartState};
-    ghost use Rattle.part_bounds.specs.Meeting.{rows_in};
+    ghost use Rattle.pair_shares.specs.Meeting.{rows_in};
     ghost use Rattle.part_bounds.specs.Rises.{rises_in};
-    ghost use Rattle.part_bounds.specs.Shares.{IsKeptUp};
+    ghost use Rattle.part_bounds.specs.Kept.{IsKeptUp};
 
     ghost Value = { PartState };
 
     ghost view = { λ b. record { segs = b.problem.now.segs; part = b.part.now; terms = part_terms b.problem.now.terms b.part.now; placed = b.prefix.placed } };
 
-    ghost invariant = { λ b. IsKeptUp b.problem.now b.part.now b.numbers.now b.prefix b.pairs.items b.shares.items (vec_capacity b.shares) b.total b.room b.aparts (rows_in b.rows.items) b.notes.items (rises_in b.rises.items) };
+    ghost invariant = { λ b. IsKeptUp b.problem.now b.part.now b.numbers.now b.prefix b.pairs.items b.shares.items (vec_capacity b.shares) b.total b.room b.aparts (rows_in b.rows.items) b.keys.items b.notes.items (rises_in b.rises.items) };
 }
 
 impl<'a> PartBounds<'a> {
@@ -97,10 +100,10 @@ impl<'a> PartBounds<'a> {
             &mut room,
         );
         let rows = pairs_by_segment(alloc, problem.segs().len(), pairs.as_slice())?;
-        let lists = aparts_by_end(alloc, problem, numbers)?;
+        let aparts = Aparts::of_terms(alloc, problem, numbers, &prefix)?;
+        let keys = keys_of(alloc, problem, &prefix, part, pairs.as_slice())?;
         let notes = no_notes(alloc, numbers.len())?;
         let rises = no_rises(alloc, problem)?;
-        let settled = settled_total(problem, &prefix, numbers);
         Ok(PartBounds {
             problem,
             part,
@@ -111,12 +114,10 @@ impl<'a> PartBounds<'a> {
             rises,
             shares,
             total,
+            keys,
             notes,
             room,
-            aparts: Aparts {
-                lists,
-                total: settled,
-            },
+            aparts,
         })
     }
 
@@ -124,7 +125,7 @@ impl<'a> PartBounds<'a> {
     pub fn bound(&self) -> u64
         ensures { result ≡ bound_of self.now.segs self.now.part self.now.terms self.now.placed }
     {
-        self.total + self.aparts.total
+        self.total + self.aparts.total()
     }
 
     /// The bound once a line of a segment is placed next, and the one that is then left there alone; neither is.
@@ -165,8 +166,7 @@ impl<'a> PartBounds<'a> {
         child
     }
 
-    /// The same, worked out anew.
-    #[tactic(auto, using(crate::proofs::Restored::restored, crate::proofs::Restored::chosen))]
+    /// The same, told from what is noted of the pairs, or worked out anew.
     fn bound_anew(&mut self, seg: SegId, line: LineId) -> u64
         requires rising { All AreRising self.old.segs }
         requires well { IsWell self.old.segs self.old.placed }
@@ -176,12 +176,28 @@ impl<'a> PartBounds<'a> {
         ensures bound { result ≡ bound_of self.old.segs self.old.part self.old.terms (placed_more self.old.segs self.old.placed seg line) }
         ensures kept { self.new ≡ self.old }
     {
-        let before = settled_on(self.problem, &self.prefix, &self.aparts, seg);
+        match self.pairs_with(seg, line) {
+            Some(total) => total + self.aparts.total_with(&self.prefix, seg, line),
+            None => self.bound_placed(seg, line),
+        }
+    }
+
+    /// The same, worked out anew: the line is placed and taken back.
+    #[tactic(auto, using(crate::proofs::Restored::restored, crate::proofs::Restored::chosen))]
+    fn bound_placed(&mut self, seg: SegId, line: LineId) -> u64
+        requires rising { All AreRising self.old.segs }
+        requires well { IsWell self.old.segs self.old.placed }
+        requires known { seg.0 < length self.old.segs }
+        requires line { Contains (lines_on self.old.segs seg) line }
+        requires unplaced { is_placed (lines_on self.old.placed seg) line ≡ false }
+        ensures bound { result ≡ bound_of self.old.segs self.old.part self.old.terms (placed_more self.old.segs self.old.placed seg line) }
+        ensures kept { self.new ≡ self.old }
+    {
+        let settled = self.aparts.total_with(&self.prefix, seg, line);
         let count = placed_count(self.problem, &self.prefix, seg);
         self.prefix.place(self.problem, seg, line);
         let last = last_two(self.problem, &self.prefix, seg);
         let change = change_on(self.problem, &self.prefix, seg, count, last);
-        let after = settled_on(self.problem, &self.prefix, &self.aparts, seg);
         let total = sum_anew(
             self.problem,
             &self.prefix,
@@ -195,7 +211,27 @@ impl<'a> PartBounds<'a> {
             &mut self.room,
         );
         self.prefix.take_back(self.problem, seg);
-        total + moved(self.aparts.total, before, after)
+        total + settled
+    }
+
+    /// What the pairs add once a line of a segment is placed next, if all of it is noted.
+    fn pairs_with(&self, seg: SegId, line: LineId) -> Option<u64>
+        requires known { seg.0 < length self.now.segs }
+        ensures { IfSome result (λ total. total ≡ sum_by (share_of self.now.segs self.now.part (placed_more self.now.segs self.now.placed seg line)) (groups_of self.now.terms)) }
+    {
+        let next = next_line(self.problem, &self.prefix, seg, line);
+        sum_told(
+            self.problem,
+            &self.prefix,
+            self.part,
+            &next,
+            self.pairs.as_slice(),
+            self.rows[seg.0 as usize].as_slice(),
+            self.shares.as_slice(),
+            self.total,
+            self.keys.as_slice(),
+            self.notes.as_slice(),
+        )
     }
 
     /// The same part with its canonical prices in place of its bound.
@@ -242,13 +278,11 @@ impl<'a> PartBounds<'a> {
         ensures state { self.new ≡ state_more self.old seg line }
         ensures well { IsWell self.new.segs self.new.placed }
     {
-        let before = settled_on(self.problem, &self.prefix, &self.aparts, seg);
+        self.aparts.place(&self.prefix, seg, line);
         let count = placed_count(self.problem, &self.prefix, seg);
         self.prefix.place(self.problem, seg, line);
         let last = last_two(self.problem, &self.prefix, seg);
         let change = change_on(self.problem, &self.prefix, seg, count, last);
-        let after = settled_on(self.problem, &self.prefix, &self.aparts, seg);
-        self.aparts.total = moved(self.aparts.total, before, after);
         self.total = renew_shares(
             self.problem,
             &self.prefix,
@@ -258,6 +292,7 @@ impl<'a> PartBounds<'a> {
             self.rows[seg.0 as usize].as_slice(),
             &mut self.shares,
             self.total,
+            &mut self.keys,
             &mut self.notes,
             &mut self.room,
         );
@@ -266,7 +301,7 @@ impl<'a> PartBounds<'a> {
             &change,
             self.pairs.as_slice(),
             self.rows[seg.0 as usize].as_slice(),
-            aparts_on(&self.aparts, seg),
+            self.aparts.joined(seg),
         );
     }
 
@@ -278,13 +313,11 @@ impl<'a> PartBounds<'a> {
         ensures state { self.new ≡ with_placed self.old (slice_set self.old.placed seg.0 (without_last (lines_on self.old.segs seg) (lines_on self.old.placed seg))) }
         ensures well { IsWell self.new.segs self.new.placed }
     {
-        let before = settled_on(self.problem, &self.prefix, &self.aparts, seg);
+        self.aparts.take_back(&self.prefix, seg);
         let last = last_two(self.problem, &self.prefix, seg);
         self.prefix.take_back(self.problem, seg);
         let count = placed_count(self.problem, &self.prefix, seg);
         let change = change_on(self.problem, &self.prefix, seg, count, last);
-        let after = settled_on(self.problem, &self.prefix, &self.aparts, seg);
-        self.aparts.total = moved(self.aparts.total, before, after);
         self.total = renew_shares(
             self.problem,
             &self.prefix,
@@ -294,6 +327,7 @@ impl<'a> PartBounds<'a> {
             self.rows[seg.0 as usize].as_slice(),
             &mut self.shares,
             self.total,
+            &mut self.keys,
             &mut self.notes,
             &mut self.room,
         );
@@ -302,7 +336,7 @@ impl<'a> PartBounds<'a> {
             &change,
             self.pairs.as_slice(),
             self.rows[seg.0 as usize].as_slice(),
-            aparts_on(&self.aparts, seg),
+            self.aparts.joined(seg),
         );
     }
 }

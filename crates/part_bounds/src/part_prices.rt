@@ -6,14 +6,13 @@ ghost use Rattle.order_model.specs.Prefixes.{is_placed, first_placed, without_la
 ghost use Rattle.order_bound.specs.CanonicalPrices.{prices_for};
 ghost use Rattle.part_bounds.specs.PartStates.{state_more, with_placed, IsWell};
 
-use crate::changes::{change_on, last_two, placed_count};
-use crate::pair_terms::PairTerms;
 use crate::prices::listed_all;
 use crate::stale_prices::{mark_changed, renew_prices};
 use map_base::{LineId, NoMemory, SegId};
 use order_model::{Prefix, Problem};
 use order_values::Prices;
 use pair_bounds::{NotedPrices, Room};
+use pair_shares::{PairTerms, change_on, last_two, placed_count};
 use std::alloc::Global;
 use std::marker::Model;
 

@@ -5,16 +5,13 @@ ghost use Rattle.std.specs.Prelude.{◌≡◌, ℕ, ◌<◌, ◌≤◌, [], true
 ghost use Rattle.map_base.specs.declared.ids.SegId.{SegId};
 ghost use Rattle.map_base.specs.declared.ids.LineId.{LineId};
 ghost use Rattle.order_model.specs.PartTerms.{is_in};
-ghost use Rattle.part_bounds.specs.declared.pair_rows.PairHere.{PairHere};
-ghost use Rattle.part_bounds.specs.Changes.{is_new_pair};
-ghost use Rattle.part_bounds.specs.Settled.{is_apart_on};
-ghost use Rattle.part_bounds.specs.Rises.{rises_in, rise_at, AreFewer, IsForgotten, AreForgotten, AreApartsForgotten, HasForgotten, IsRiseMore};
+ghost use Rattle.pair_shares.specs.declared.pair_rows.PairHere.{PairHere};
+ghost use Rattle.pair_shares.specs.Changes.{is_new_pair};
+ghost use Rattle.part_bounds.specs.Rises.{rises_in, rise_at, AreFewer, IsForgotten, AreForgotten, HasForgotten, IsRiseMore};
 
-use crate::changes::{Change, is_new_pair};
-use crate::pair_rows::PairHere;
-use crate::pair_terms::PairTerms;
 use map_base::{LineId, NoMemory, SegId};
-use order_model::{Problem, Term};
+use order_model::Problem;
+use pair_shares::{Change, PairHere, PairTerms, is_new_pair};
 use std::alloc::Global;
 
 /// The bound once a line is placed next, beside the bound before it, as both were when they were noted. Their difference
@@ -120,47 +117,21 @@ pub(crate) fn forget_changed(
     }
 }
 
-/// Forgets the rises on the segments of a term, if it is an Apart.
-#[tactic(auto, using(crate::proofs::RisesKept::still_forgotten, crate::proofs::RisesKept::fewer_on, crate::proofs::RisesKept::fewer_itself))]
-fn forget_apart(rises: &mut Vec<Vec<Option<Rise>>>, term: Term)
-    ensures fewer { AreFewer (rises_in rises.old.items) (rises_in rises.new.items) }
-    ensures forgotten { (s : SegId) → is_apart_on s term ≡ true → IsForgotten (rises_in rises.new.items) s.0 }
-{
-    match term {
-        Term::Side { .. } | Term::Link { .. } => {}
-        Term::Apart { seg, other, .. } => {
-            forget_on(rises, seg);
-            forget_on(rises, other);
-        }
-    }
-}
-
-/// Forgets the rises on the segments of Aparts.
-#[tactic(auto, using(crate::proofs::RisesKept::aparts_more, crate::proofs::RisesKept::fewer_on, crate::proofs::RisesKept::fewer_itself))]
-pub(crate) fn forget_aparts(rises: &mut Vec<Vec<Option<Rise>>>, aparts: &[Term])
-    ensures fewer { AreFewer (rises_in rises.old.items) (rises_in rises.new.items) }
-    ensures forgotten { AreApartsForgotten aparts.now (rises_in rises.new.items) }
-{
-    for term in aparts {
-        forget_apart(rises, *term);
-    }
-}
-
 /// Forgets the rises that a placing on a segment changes, once it is done or taken back: those on the segment, on the
-/// segments of the pairs that it changes, and on those of its Aparts.
+/// segments of the pairs that it changes, and on those joined to it by Aparts.
 pub(crate) fn forget_near(
     rises: &mut Vec<Vec<Option<Rise>>>,
     change: &Change,
     pairs: &[PairTerms],
     row: &[PairHere],
-    aparts: &[Term],
+    joined: &[SegId],
 )
     requires within { All (λ (n : PairHere). n.place < length pairs.now) row.now }
-    ensures near { HasForgotten change.now pairs.now row.now aparts.now (rises_in rises.old.items) (rises_in rises.new.items) }
+    ensures near { HasForgotten change.now pairs.now row.now joined.now (rises_in rises.old.items) (rises_in rises.new.items) }
 {
     forget_on(rises, change.seg);
     forget_changed(rises, change, pairs, row);
-    forget_aparts(rises, aparts);
+    forget_all(rises, joined);
 }
 
 /// The rise that is noted for the line at a place of a segment.

@@ -7,17 +7,16 @@ ghost use Rattle.order_model.specs.PartTerms.{part_terms};
 ghost use Rattle.order_model.specs.Prefixes.{IsPrefixOf};
 ghost use Rattle.order_bound.specs.Pairs.{AreApartSegments};
 ghost use Rattle.order_bound.specs.CanonicalPrices.{pair_prices};
-ghost use Rattle.part_bounds.specs.PairGroups.{KnowsOwn, group_in, groups_in, groups_of, terms_in, IsGroup};
+ghost use Rattle.pair_shares.specs.PairGroups.{KnowsOwn, group_in, groups_in, groups_of, terms_in, IsGroup};
 ghost use Rattle.pair_bounds.specs.PriceNotes.{price_noted, price_over};
 ghost use Rattle.part_bounds.specs.KeptPrices.{cleared, is_changed_pair, AreMarked, AreNoted};
 ghost use Rattle.pair_bounds.specs.Slots.{HasRoom, KeepsRoom};
-ghost use Rattle.part_bounds.specs.Shares.{HasRoomFor};
+ghost use Rattle.pair_shares.specs.Shares.{HasRoomFor};
 
-use crate::changes::{Change, is_changed};
-use crate::pair_terms::PairTerms;
 use map_base::SegId;
 use order_model::{Prefix, Problem, Term};
 use pair_bounds::{NotedPrices, Room, note_pair};
+use pair_shares::{Change, PairTerms, is_changed};
 
 /// Marks a pair as stale at its place, if a placing changes it.
 fn mark_at(change: &Change, entry: &PairTerms, stale: &mut Vec<bool>, place: usize)

@@ -1,6 +1,6 @@
 use Rattle.std.proofs.Common.{refl, ap, ◌∙◌}
 use Rattle.std.proofs.lemmas.List.{take_all}
-use Rattle.part_bounds.specs.Meeting.{is_listed}
+use Rattle.pair_shares.specs.Meeting.{is_listed}
 use Rattle.part_bounds.specs.Rises.{rises_in}
 use Rattle.part_bounds.proofs.RisesKept.{fewer_on, pairs_more}
 use Rattle.part_bounds.proofs.rises.forget_changed.Goals as goal

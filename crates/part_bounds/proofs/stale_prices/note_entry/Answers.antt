@@ -1,5 +1,5 @@
 use Rattle.std.proofs.Common.{ap, sym, ◌∙◌, length}
-use Rattle.part_bounds.proofs.OwnUse.{own_known, own_apart, own_inside, own_room}
+use Rattle.pair_shares.proofs.OwnUse.{own_known, own_apart, own_inside, own_room}
 use Rattle.part_bounds.proofs.OwnPrices.{own_prices_is}
 use Rattle.order_bound.specs.CanonicalPrices.{pair_prices}
 use Rattle.pair_bounds.specs.PriceNotes.{price_noted, price_over}

@@ -1,10 +1,10 @@
 use Rattle.std.proofs.Common.{◌<◌, length, set, false, refl, arith}
 use Rattle.std.proofs.lemmas.List.{length-map}
-use Rattle.part_bounds.specs.PairGroups.{Group, group_in, groups_in, terms_in, IsGroup}
+use Rattle.pair_shares.specs.PairGroups.{Group, group_in, groups_in, terms_in, IsGroup}
 use Rattle.pair_bounds.specs.PriceNotes.{price_noted}
 use Rattle.part_bounds.specs.KeptPrices.{cleared}
 use Rattle.pair_bounds.specs.Slots.{HasRoom}
-use Rattle.part_bounds.proofs.KeptUp.{group_at, group_here}
+use Rattle.pair_shares.proofs.KeptGroups.{group_at, group_here}
 use Rattle.part_bounds.proofs.NotedPairs.{renewed}
 use Rattle.part_bounds.proofs.stale_prices.renew_at.Goals as goal
 

@@ -1,5 +1,5 @@
-use Rattle.part_bounds.specs.PairGroups.{groups_in}
-use Rattle.part_bounds.proofs.KeptUp.{rooms_kept}
+use Rattle.pair_shares.specs.PairGroups.{groups_in}
+use Rattle.pair_shares.proofs.KeptGroups.{rooms_kept}
 use Rattle.part_bounds.proofs.stale_prices.renew_prices.Goals as goal
 
 pub renew_at-requires-clause-room : goal.renew_at-requires-clause-room

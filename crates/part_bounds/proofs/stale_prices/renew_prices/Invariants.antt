@@ -1,5 +1,5 @@
 use Rattle.std.proofs.Common.{◌≡◌, ◌<◌, ℕ, true, false, length, get_or}
-use Rattle.part_bounds.specs.PairGroups.{groups_in}
+use Rattle.pair_shares.specs.PairGroups.{groups_in}
 use Rattle.pair_bounds.specs.PriceNotes.{price_noted}
 use Rattle.part_bounds.specs.KeptPrices.{AreNoted}
 use Rattle.pair_bounds.specs.Slots.{KeepsRoom}

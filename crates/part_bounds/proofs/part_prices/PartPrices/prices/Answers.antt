@@ -5,11 +5,11 @@ use Rattle.order_model.specs.declared.term.Term.{Term}
 use Rattle.order_model.specs.PartTerms.{part_terms}
 use Rattle.order_bound.specs.CanonicalPrices.{prices_for}
 use Rattle.order_bound.proofs.Parts.{rising_apart, part_numbered}
-use Rattle.part_bounds.specs.declared.pair_terms.PairTerms.{PairTerms}
-use Rattle.part_bounds.specs.PairGroups.{group_in, groups_in}
+use Rattle.pair_shares.specs.declared.pair_terms.PairTerms.{PairTerms}
+use Rattle.pair_shares.specs.PairGroups.{group_in, groups_in}
 use Rattle.part_bounds.specs.PartStates.{PartState}
 use Rattle.pair_bounds.specs.PriceNotes.{price_noted}
-use Rattle.part_bounds.specs.Shares.{HasRoomFor}
+use Rattle.pair_shares.specs.Shares.{HasRoomFor}
 use Rattle.part_bounds.proofs.NotedPairs.{whole_noted, list_is, prices_rising}
 use Rattle.part_bounds.proofs.Marks.{priced_on}
 use Rattle.part_bounds.proofs.part_prices.PartPrices.prices.Goals as goal

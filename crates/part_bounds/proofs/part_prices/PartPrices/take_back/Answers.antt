@@ -3,13 +3,13 @@ use Rattle.order_model.specs.Problems.{lines_on}
 use Rattle.order_model.specs.Prefixes.{first_placed}
 use Rattle.part_bounds.specs.PartStates.{PartState}
 use Rattle.pair_bounds.specs.PriceNotes.{price_noted}
-use Rattle.part_bounds.specs.Changes.{IsChange}
-use Rattle.part_bounds.specs.declared.pair_terms.PairTerms.{PairTerms}
+use Rattle.pair_shares.specs.Changes.{IsChange}
+use Rattle.pair_shares.specs.declared.pair_terms.PairTerms.{PairTerms}
 use Rattle.part_bounds.specs.KeptPrices.{AreMarked}
-use Rattle.part_bounds.proofs.OwnSegments.{SameElsewhere}
-use Rattle.part_bounds.proofs.PairsKept.{is_taking}
+use Rattle.pair_shares.proofs.OwnSegments.{SameElsewhere}
+use Rattle.pair_shares.proofs.PairsKept.{is_taking}
 use Rattle.part_bounds.proofs.PricesKept.{left_by_taking}
-use Rattle.part_bounds.proofs.Renewed.{moved_on}
+use Rattle.pair_shares.proofs.Renewed.{moved_on}
 use Rattle.part_bounds.proofs.NotedPairs.{left_noted}
 use Rattle.part_bounds.proofs.part_prices.PartPrices.take_back.Goals as goal
 

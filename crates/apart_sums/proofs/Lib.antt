@@ -1,0 +1,9 @@
+mod Answers
+mod EndLists
+mod Moving
+mod Rising
+mod Listed
+pub mod Settling
+mod Standing
+mod Totals
+mod Placings

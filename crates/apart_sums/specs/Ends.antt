@@ -1,0 +1,92 @@
+-- The Aparts of a part by the segments of their ends and by their lines.
+use Rattle.std.specs.Prelude.{◌≡◌, ◌≢◌, ℕ, ◌+◌, ◌<◌, ◌==◌, Bool, true, false, ◌||◌, List, [], ◌∷◌, ◌++◌, length, Option, Some, None, if◌then◌else◌, slice_index_or}
+use Rattle.std.specs.List.{list_any}
+use Rattle.std.specs.Option.{option_map}
+use Rattle.map_base.specs.declared.ids.SegId.{SegId}
+use Rattle.map_base.specs.declared.ids.LineId.{LineId}
+use Rattle.order_model.specs.declared.term.Term.{Term}
+use Rattle.order_model.specs.declared.term.Term.TheVariants.{Side, Link, Apart}
+use Rattle.order_model.specs.PartTerms.{is_in}
+use Rattle.apart_sums.specs.declared.ends.ApartEnd.{ApartEnd}
+use Rattle.apart_sums.specs.declared.ends.LineEnds.{LineEnds}
+use Rattle.apart_sums.specs.declared.ends.SegmentEnds.{SegmentEnds}
+
+-- the term is an Apart with an end on the segment
+abbrev pub is_apart_on : SegId → Term → Bool
+is_apart_on s (Side seg first second w) = false
+is_apart_on s (Link seg other flip a b w) = false
+is_apart_on s (Apart seg other a b w) = seg.0 == s.0 || other.0 == s.0
+
+-- the Aparts with an end on a segment
+abbrev pub aparts_on : SegId → List (ℕ × Term) → List Term
+aparts_on s [] = []
+aparts_on s (t ∷ terms) = if is_apart_on s t.1 then t.1 ∷ aparts_on s terms else aparts_on s terms
+
+-- an Apart as one of its lines sees it from one of its ends: its other end, its other line, and its weight
+abbrev pub apart_end : SegId → LineId → ℕ → ApartEnd
+apart_end there beside weight = record { there = there; beside = beside; weight = weight }
+
+-- an Apart of two lines as a line sees it that is one of them
+abbrev pub seen_by : LineId → SegId → LineId → LineId → ℕ → List ApartEnd
+seen_by x there a b w =
+    (if a.0 == x.0 then apart_end there b w ∷ [] else []) ++ (if b.0 == x.0 then apart_end there a w ∷ [] else [])
+
+-- a term as a line on a segment sees it, if it is an Apart of that line with an end there
+abbrev pub end_seen : SegId → LineId → Term → List ApartEnd
+end_seen s x (Side seg first second w) = []
+end_seen s x (Link seg other flip a b w) = []
+end_seen s x (Apart seg other a b w) =
+    (if seg.0 == s.0 then seen_by x other a b w else []) ++ (if other.0 == s.0 then seen_by x seg a b w else [])
+
+-- all Aparts of a line with an end on a segment
+abbrev pub ends_seen : SegId → LineId → List (ℕ × Term) → List ApartEnd
+ends_seen s x [] = []
+ends_seen s x (t ∷ terms) = end_seen s x t.1 ++ ends_seen s x terms
+
+-- the ends that are listed for a line
+abbrev pub ends_by : List LineEnds → LineId → List ApartEnd
+ends_by [] x = []
+ends_by (own ∷ lines) x = if own.line.0 == x.0 then own.ends.items else ends_by lines x
+
+-- where a line stands among those that have ends
+abbrev pub place_by : List LineEnds → LineId → Option ℕ
+place_by [] x = None
+place_by (own ∷ lines) x = if own.line.0 == x.0 then Some 0 else option_map (λ i. 1 + i) (place_by lines x)
+
+-- for each of so many segments the Aparts that have an end there, by line, and the segments of their other ends
+pub record AreByEnds (count : ℕ) (terms : List (ℕ × Term)) (sides : List SegmentEnds) : Type 0 where
+  pub each : length sides ≡ count
+  pub on : (s : SegId) (e : SegmentEnds) (x : LineId) → s.0 < count → e ≡ slice_index_or sides s.0 e → ends_by e.lines.items x ≡ ends_seen s x terms
+  pub joined : (s u : SegId) (e : SegmentEnds) → s.0 < count → e ≡ slice_index_or sides s.0 e → u.0 ≢ s.0 → list_any (is_apart_on u) (aparts_on s terms) ≡ true
+      → is_in e.joined.items u ≡ true
+
+-- an Apart has two ends, on two of so many segments
+abbrev pub HasEnds : ℕ → Term → Type 0
+HasEnds count (Side seg first second w) = Unit {0}
+HasEnds count (Link seg other flip a b w) = Unit {0}
+HasEnds count (Apart seg other a b w) = (seg.0 < other.0) × (other.0 < count)
+
+-- an end more for a line
+pub record IsEndMore (line : LineId) (end : ApartEnd) (old new : List LineEnds) : Type 0 where
+  pub by : (x : LineId) → ends_by new x ≡ ends_by old x ++ (if line.0 == x.0 then end ∷ [] else [])
+
+-- a segment more
+pub record IsJoinMore (there : SegId) (old new : List SegId) : Type 0 where
+  pub here : is_in new there ≡ true
+  pub kept : (u : SegId) → is_in old u ≡ true → is_in new u ≡ true
+
+-- an Apart of two lines more, with its other end there
+pub record IsApartMore (there : SegId) (a b : LineId) (w : ℕ) (old new : SegmentEnds) : Type 0 where
+  pub by : (x : LineId) → ends_by new.lines.items x ≡ ends_by old.lines.items x ++ seen_by x there a b w
+  pub joins : IsJoinMore there old.joined.items new.joined.items
+
+-- a term more on a segment, if it is an Apart with an end there
+pub record IsTermMore (s : SegId) (t : Term) (old new : SegmentEnds) : Type 0 where
+  pub by : (x : LineId) → ends_by new.lines.items x ≡ ends_by old.lines.items x ++ end_seen s x t
+  pub kept : (u : SegId) → is_in old.joined.items u ≡ true → is_in new.joined.items u ≡ true
+  pub here : (u : SegId) → u.0 ≢ s.0 → is_apart_on s t ≡ true → is_apart_on u t ≡ true → is_in new.joined.items u ≡ true
+
+-- the same on each segment
+pub record AreMoreBy (t : Term) (old new : List SegmentEnds) : Type 0 where
+  pub each : length new ≡ length old
+  pub on : (s : SegId) (d e : SegmentEnds) → s.0 < length old → d ≡ slice_index_or old s.0 d → e ≡ slice_index_or new s.0 e → IsTermMore s t d e

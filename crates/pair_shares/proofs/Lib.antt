@@ -1,0 +1,11 @@
+pub mod Groups
+pub mod KeptGroups
+pub mod OwnSegments
+pub mod OwnTerms
+pub mod OwnUse
+pub mod PairsKept
+pub mod Meeting
+pub mod StatesNoted
+pub mod Renewed
+pub mod KeysKept
+pub mod ToldSums

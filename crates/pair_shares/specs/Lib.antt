@@ -1,0 +1,6 @@
+pub mod PairGroups
+pub mod Changes
+pub mod PairKeys
+pub mod Meeting
+pub mod ShareNotes
+pub mod Shares

@@ -1,0 +1,25 @@
+-- Shares of pairs, noted by the state of the pair.
+use Rattle.std.specs.Prelude.{◌≡◌, ℕ, ◌==◌, ◌&&◌, List, if◌then◌else◌, Option, Some, None, slice_index_or}
+use Rattle.map_base.specs.declared.ids.SegId.{SegId}
+use Rattle.map_base.specs.declared.ids.LineId.{LineId}
+use Rattle.pair_shares.specs.PairGroups.{Group, no_group, share_of}
+use Rattle.pair_shares.specs.PairKeys.{key_of}
+use Rattle.pair_shares.specs.declared.share_notes.ShareNote.{ShareNote}
+
+-- what a note says of the pair at a place with this key
+abbrev pub share_if : ℕ → ℕ → Option ShareNote → Option ℕ
+share_if place key None = None
+share_if place key (Some n) = if n.place == place && n.key == key then Some n.share else None
+
+-- what the note at a place among notes says
+abbrev pub noted_at : List (Option ShareNote) → ℕ → ℕ → ℕ → Option ℕ
+noted_at notes at place key = share_if place key (slice_index_or notes at None)
+
+-- the pair has this share under all prefixes with its key
+abbrev pub IsTrueNote : List (List LineId) → List SegId → List Group → ShareNote → Type 0
+IsTrueNote segs part groups n =
+    (placed : List (List LineId)) → key_of placed part (slice_index_or groups n.place no_group) ≡ n.key → n.share ≡ share_of segs part placed (slice_index_or groups n.place no_group)
+
+-- all notes are true
+abbrev pub AreTrueNotes : List (List LineId) → List SegId → List Group → List (Option ShareNote) → Type 0
+AreTrueNotes segs part groups notes = (i : ℕ) (n : ShareNote) → slice_index_or notes i None ≡ Some n → IsTrueNote segs part groups n

@@ -1,0 +1,93 @@
+//! The sum of what the pairs add, once a line is placed next, told from notes without placing it.
+
+ghost use Rattle.std.specs.Prelude.{◌≡◌, ◌<◌, ◌≤◌, ◌+◌, [], length, take, sum_by, All, Option, IfSome};
+ghost use Rattle.map_base.specs.declared.ids.SegId.{SegId};
+ghost use Rattle.order_model.specs.Completions.{placed_more};
+ghost use Rattle.order_bound.specs.Pairs.{AreApartSegments};
+ghost use Rattle.pair_shares.specs.PairGroups.{KnowsOwn, groups_in, terms_in, share_of, IsGroup};
+ghost use Rattle.pair_shares.specs.Meeting.{AreHere};
+ghost use Rattle.pair_shares.specs.PairKeys.{is_answered, AreKeys, IsNextLine};
+ghost use Rattle.pair_shares.specs.ShareNotes.{AreTrueNotes};
+ghost use Rattle.pair_shares.specs.Shares.{AreSharesBut, IsTrialSum, IsRow};
+
+use crate::next_lines::NextLine;
+use crate::pair_keys::{answer_after, key_at, key_with};
+use crate::pair_rows::PairHere;
+use crate::pair_terms::PairTerms;
+use crate::share_notes::{ShareNote, noted_at, slot_of};
+use map_base::SegId;
+use order_model::{Prefix, Problem};
+
+/// The sum once what the next pair of a row adds is that of the state in which a line is placed next; none where that is
+/// not noted.
+fn told_at(
+    problem: &Problem,
+    prefix: &Prefix,
+    part: &[SegId],
+    line: &NextLine,
+    pairs: &[PairTerms],
+    row: &[PairHere],
+    next: usize,
+    shares: &[u64],
+    total: u64,
+    keys: &[Option<u64>],
+    notes: &[Option<ShareNote>],
+) -> Option<u64>
+    requires line { IsNextLine problem.now.segs prefix.now.placed line.now }
+    requires apart { AreApartSegments part.now }
+    requires groups { All (IsGroup problem.now.segs part.now) (groups_in pairs.now) }
+    requires few { sum_by terms_in (groups_in pairs.now) ≤ 4000000 }
+    requires own { All (KnowsOwn part.now) pairs.now }
+    requires row { IsRow (is_answered line.now) (groups_in pairs.now) row.now }
+    requires here { AreHere line.now.seg pairs.now row.now }
+    requires keys { AreKeys prefix.now.placed part.now (groups_in pairs.now) keys.now }
+    requires notes { AreTrueNotes problem.now.segs part.now (groups_in pairs.now) notes.now }
+    requires within { next < length row.now }
+    requires stale { IsTrialSum (share_of problem.now.segs part.now (placed_more problem.now.segs prefix.now.placed line.now.seg line.now.line)) (is_answered line.now) (take next row.now) (groups_in pairs.now) shares.now total }
+    ensures { IfSome result (IsTrialSum (share_of problem.now.segs part.now (placed_more problem.now.segs prefix.now.placed line.now.seg line.now.line)) (is_answered line.now) (take (next + 1) row.now) (groups_in pairs.now) shares.now) }
+{
+    let here = row[next];
+    let answer = answer_after(line, here.pair);
+    if answer == 0 {
+        return Some(total);
+    }
+    let key = key_with(key_at(keys, here.place), here.weight, answer)?;
+    let at = slot_of(notes.len(), here.place, key);
+    let share = noted_at(notes, at, here.place, key)?;
+    Some(total - shares[here.place] + share)
+}
+
+/// The sum of what the pairs add once a line is placed next on its segment, whose pairs stand in `row`; none where
+/// something of it is not noted.
+pub fn sum_told(
+    problem: &Problem,
+    prefix: &Prefix,
+    part: &[SegId],
+    line: &NextLine,
+    pairs: &[PairTerms],
+    row: &[PairHere],
+    shares: &[u64],
+    total: u64,
+    keys: &[Option<u64>],
+    notes: &[Option<ShareNote>],
+) -> Option<u64>
+    requires line { IsNextLine problem.now.segs prefix.now.placed line.now }
+    requires apart { AreApartSegments part.now }
+    requires groups { All (IsGroup problem.now.segs part.now) (groups_in pairs.now) }
+    requires few { sum_by terms_in (groups_in pairs.now) ≤ 4000000 }
+    requires own { All (KnowsOwn part.now) pairs.now }
+    requires row { IsRow (is_answered line.now) (groups_in pairs.now) row.now }
+    requires here { AreHere line.now.seg pairs.now row.now }
+    requires keys { AreKeys prefix.now.placed part.now (groups_in pairs.now) keys.now }
+    requires notes { AreTrueNotes problem.now.segs part.now (groups_in pairs.now) notes.now }
+    requires stale { AreSharesBut (share_of problem.now.segs part.now (placed_more problem.now.segs prefix.now.placed line.now.seg line.now.line)) (is_answered line.now) [] (groups_in pairs.now) shares.now total }
+    ensures { IfSome result (λ sum. sum ≡ sum_by (share_of problem.now.segs part.now (placed_more problem.now.segs prefix.now.placed line.now.seg line.now.line)) (groups_in pairs.now)) }
+{
+    let mut sum = total;
+    for next in 0..row.len() {
+        sum = told_at(
+            problem, prefix, part, line, pairs, row, next, shares, sum, keys, notes,
+        )?;
+    }
+    Some(sum)
+}

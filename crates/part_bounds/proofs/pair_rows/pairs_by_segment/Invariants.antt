@@ -1,6 +1,0 @@
-use Rattle.std.proofs.Common.{take}
-use Rattle.part_bounds.specs.Meeting.{rows_in, AreBySegment}
-use Rattle.part_bounds.proofs.pair_rows.pairs_by_segment.Given as goal
-
-abbrev pub invariant-loop-place : goal.invariant-loop-place
-invariant-loop-place l = AreBySegment l.count (take l.place l.pairs) (rows_in l.rows.items)
