@@ -1,22 +1,25 @@
 -- Sums over the segments round a node.
-use Rattle.std.proofs.Common.{◌≡◌, ◌∙◌, ℕ, suc, ◌+◌, ◌≤◌, ◌<◌, Bool, true, false, cond, List, [], ◌∷◌, drop, get_or, length, slice_get, Some, refl, sym, ap, subst, arith}
+use Rattle.std.proofs.Common.{◌≡◌, ◌∙◌, ℕ, suc, ◌+◌, ◌≤◌, ◌<◌, Bool, true, false, cond, eqb, pos, List, [], ◌∷◌, drop, get_or, length, slice_get, Some, refl, sym, ap, subst, arith}
 use Rattle.std.specs.List.{sum_by}
 use Rattle.std.proofs.lemmas.List.{drop_all, drop_more}
 use Rattle.std.proofs.lemmas.List.Elements.{All-from_recursion}
 use Rattle.std.proofs.lemmas.List.Sorted.{length_permutation}
 use Rattle.std.proofs.lemmas.List.Sums.{sum_by-cons}
+use Rattle.std.proofs.lemmas.List.FromFn.{get_or-map-range_with_len}
 use Rattle.std.proofs.lemmas.Option.{get_or_from_slice_get, slice_get_read}
 use Rattle.map_base.specs.declared.ids.NodeId.{NodeId}
 use Rattle.map_base.specs.declared.ids.SegId.{SegId}
 use Rattle.graph_core.specs.declared.parts.GraphParts.{GraphParts}
 use Rattle.graph_core.specs.Consistent.{IsConsistent}
 use Rattle.graph_core.specs.Round.{ends_at, segments_at, segments_from}
+use Rattle.octi_grid.specs.declared.point.GridPoint.{GridPoint}
 use Rattle.octi_grid.specs.Walks.{PlainWalk}
-use Rattle.drawing_weights.specs.Drawn.{IsDrawn, IsShort}
-use Rattle.drawing_weights.proofs.DrawnFacts.{no_way, round_there, walks_once}
+use Rattle.drawing_weights.specs.Drawn.{points_all, IsDrawn, IsShort}
+use Rattle.drawing_weights.specs.Weights.{point_of}
+use Rattle.drawing_weights.proofs.DrawnFacts.{no_ends, no_way, round_there, walks_once}
 use Rattle.drawing_weights.proofs.ShortWalks.{short_walks}
 use Rattle.grid_board.specs.Points.{are_near}
-use Rattle.octi_moves.specs.Lightest.{round_of, walk_of}
+use Rattle.octi_moves.specs.Lightest.{ends_of, other_end, point_at, round_of, walk_of}
 
 -- the sum of an element and of those after it
 pub sum_next : (f : SegId → ℕ) (xs : List SegId) (i : ℕ) (d : SegId) → i < length xs → sum_by f (drop i xs) ≡ f (get_or xs i d) + sum_by f (drop (i + 1) xs)
@@ -52,3 +55,14 @@ short_at graph walks drawn near i w h e = subst IsShort (sym e) (All-from_recurs
 
 pub walk_is : (walks : List PlainWalk) (s : SegId) (w : PlainWalk) → s.0 < length walks → w ≡ get_or walks s.0 w → walk_of walks s ≡ w
 walk_is walks s w h e = get_or_from_slice_get walks s.0 w no_way (slice_get_read walks (length walks) s.0 w refl h e)
+
+-- the point of the other end, in a list of all points
+pub other_read : (graph : GraphParts) → IsConsistent graph → (walks : List PlainWalk) (points : List GridPoint) → points ≡ points_all graph walks → (s : SegId) (n : ℕ) → s.0 < length graph.ends
+    → point_at points (other_end (ends_of graph s) n) ≡ point_of graph walks (other_end (ends_of graph s) n)
+other_read graph fit walks points is s n h =
+    ap (λ (ps : List GridPoint). point_at ps (other_end (ends_of graph s) n)) is
+    ∙ get_or-map-range_with_len (point_of graph walks) 0 (length graph.kinds) (other_end (ends_of graph s) n) (other_end (ends_of graph s) n) (record { x = pos 0; y = pos 0 }) (by_test (eqb (ends_of graph s).0.0 n)) (omega arith)
+  where
+    by_test : (b : Bool) → cond b (ends_of graph s).1.0 (ends_of graph s).0.0 < length graph.kinds
+    by_test true = (fit.ends s.0 no_ends h).1
+    by_test false = let e = fit.ends s.0 no_ends h in omega (arith, e.0, e.1)

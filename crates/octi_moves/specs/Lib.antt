@@ -1,4 +1,4 @@
 pub mod Moves
-pub mod Standing
 pub mod Lightest
+pub mod Standing
 pub mod Improving

@@ -27,6 +27,10 @@ abbrev pub weight_at : GraphParts → List PlainWalk → List PlainWalk → ℕ 
 weight_at graph first walks n =
     apart_weight (point_of graph first n) (point_of graph walks n) + sum_by (λ s. walk_weight (walk_of walks s)) (round_of graph n)
 
+-- the point of a node, by its number
+abbrev pub point_at : List GridPoint → ℕ → GridPoint
+point_at points n = slice_index_or points n (record { x = pos 0; y = pos 0 })
+
 -- the end of a segment that is not node n
 abbrev pub other_end : NodeId × NodeId → ℕ → ℕ
 other_end e n = if e.0.0 == n then e.1.0 else e.0.0

@@ -7,16 +7,16 @@ ghost use Rattle.grid_board.specs.Points.{are_near};
 ghost use Rattle.drawing_weights.specs.Weights.{weight_of};
 ghost use Rattle.octi_moves.specs.Improving.{IsImproved};
 ghost use Rattle.octi_moves.specs.Moves.{first_of_node, next_of};
-ghost use Rattle.octi_moves.specs.Standing.{IsField, IsStanding};
+ghost use Rattle.octi_moves.specs.Standing.{IsField, IsMover, IsStand, IsStanding};
 
 use crate::attempt::lighter_walks;
 use crate::bounds::board_bounds;
 use crate::directions::DIRECTIONS;
-use crate::field::Field;
+use crate::field::{Field, Mover, Stand};
 use crate::improved::Improved;
 use crate::lightest::weight_at;
 use crate::rerouting::copy_of;
-use drawing_weights::weight_of;
+use drawing_weights::{point_of, points_of, weight_of};
 use graph_core::LineGraph;
 use map_base::{NoMemory, NodeId, Sequence};
 use octi_grid::{Drawing, Walk};
@@ -112,8 +112,27 @@ fn next_walks(
     requires weight { weight ≡ weight_of field.graph.now field.first.now walks.now }
     ensures { IfOk result (λ found. option_map (λ v. v.items) found ≡ next_of field.entry.graph.now field.entry.first.now walks.now) }
 {
+    let points = points_of(alloc, field.graph, walks)?;
+    let stand = Stand {
+        walks,
+        points: &points,
+        weight,
+    };
+    first_of_nodes(alloc, field, stand)
+}
+
+/// The same, where the points of the nodes are known.
+fn first_of_nodes(
+    alloc: Global,
+    field: Field<'_>,
+    stand: Stand<'_>,
+) -> Result<Option<Vec<Walk>>, NoMemory>
+    requires field { IsField field }
+    requires stand { IsStand field stand }
+    ensures { IfOk result (λ found. option_map (λ v. v.items) found ≡ next_of field.entry.graph.now field.entry.first.now stand.entry.walks.now) }
+{
     for n in 0..field.graph.nodes() {
-        let found = first_of_node(alloc, field, walks, weight, NodeId(n))?;
+        let found = first_of_node(alloc, field, stand, mover(field, stand, NodeId(n)))?;
         if found.is_some() {
             return Ok(found);
         }
@@ -121,24 +140,37 @@ fn next_walks(
     Ok(None)
 }
 
+/// What is known of a node before it moves.
+fn mover(field: Field<'_>, stand: Stand<'_>, n: NodeId) -> Mover
+    requires field { IsField field }
+    requires stand { IsStand field stand }
+    requires node { n.0 < length field.graph.now.kinds }
+    ensures mover { IsMover field.entry stand.entry result }
+    ensures node { result.n ≡ n }
+{
+    Mover {
+        n,
+        first: point_of(field.graph, field.first, n),
+        from: point_of(field.graph, stand.walks, n),
+        here: weight_at(field, stand.walks, n),
+    }
+}
+
 /// The same of one node.
 fn first_of_node(
     alloc: Global,
     field: Field<'_>,
-    walks: &[Walk],
-    weight: u64,
-    n: NodeId,
+    stand: Stand<'_>,
+    mover: Mover,
 ) -> Result<Option<Vec<Walk>>, NoMemory>
     requires field { IsField field }
-    requires standing { IsStanding field walks.now }
-    requires weight { weight ≡ weight_of field.graph.now field.first.now walks.now }
-    requires node { n.0 < length field.graph.now.kinds }
+    requires stand { IsStand field stand }
+    requires mover { IsMover field stand mover }
     ensures { IfOk result (λ found. option_map (λ v. v.items) found
-        ≡ first_of_node field.entry.graph.now field.entry.first.now walks.now n.0 directions) }
+        ≡ first_of_node field.entry.graph.now field.entry.first.now stand.entry.walks.now mover.n.0 directions) }
 {
-    let here = weight_at(field, walks, n);
     for dir in &DIRECTIONS {
-        let found = lighter_walks(alloc, field, walks, weight, n, here, *dir)?;
+        let found = lighter_walks(alloc, field, stand, mover, *dir)?;
         if found.is_some() {
             return Ok(found);
         }

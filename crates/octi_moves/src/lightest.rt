@@ -3,13 +3,12 @@
 ghost use Rattle.std.specs.Prelude.{◌≡◌, ◌<◌, ◌^◌, length, nat_lt, true};
 ghost use Rattle.graph_core.specs.Consistent.{IsConsistent};
 ghost use Rattle.grid_board.specs.Boards.{contains};
-ghost use Rattle.drawing_weights.specs.Drawn.{IsDrawn};
-ghost use Rattle.drawing_weights.specs.Weights.{least_weight, point_of};
-ghost use Rattle.octi_moves.specs.Lightest.{ends_of, least_after, other_end, weight_at};
-ghost use Rattle.octi_moves.specs.Standing.{IsField, IsStanding};
+ghost use Rattle.drawing_weights.specs.Weights.{least_weight};
+ghost use Rattle.octi_moves.specs.Lightest.{ends_of, least_after, other_end, point_at, weight_at};
+ghost use Rattle.octi_moves.specs.Standing.{IsField, IsMover, IsStand, IsStanding};
 
-use crate::field::Field;
-use drawing_weights::{apart_weight, least_weight, node_weight, point_of, walk_weight};
+use crate::field::{Field, Mover, Stand};
+use drawing_weights::{apart_weight, least_weight, node_weight, walk_weight};
 use graph_core::LineGraph;
 use map_base::{NodeId, SegId};
 use octi_grid::{GridPoint, Walk};
@@ -17,19 +16,17 @@ use octi_grid::{GridPoint, Walk};
 /// Whether a node and the walks at it may weigh less than they do where the node stands at a point.
 pub(crate) fn may_get_lighter(
     field: Field<'_>,
-    walks: &[Walk],
-    n: NodeId,
-    here: u64,
+    stand: Stand<'_>,
+    mover: Mover,
     to: GridPoint,
 ) -> bool
     requires field { IsField field }
-    requires standing { IsStanding field walks.now }
-    requires node { n.0 < length field.graph.now.kinds }
-    requires here { here ≡ weight_at field.graph.now field.first.now walks.now n.0 }
+    requires stand { IsStand field stand }
+    requires mover { IsMover field stand mover }
     requires place { contains field.bounds to ≡ true }
-    ensures { result ≡ nat_lt (least_after field.entry.graph.now field.entry.first.now walks.now n.0 to) (weight_at field.entry.graph.now field.entry.first.now walks.now n.0) }
+    ensures { result ≡ nat_lt (least_after field.entry.graph.now field.entry.first.now stand.entry.walks.now mover.n.0 to) mover.here }
 {
-    least_after(field, walks, n, to) < here
+    least_after(field, stand, mover, to) < mover.here
 }
 
 /// What a node and the walks at it weigh.
@@ -47,29 +44,29 @@ pub(crate) fn weight_at(field: Field<'_>, walks: &[Walk], n: NodeId) -> u64
 }
 
 /// What a node and the walks at it weigh at least where the node stands at a point.
-fn least_after(field: Field<'_>, walks: &[Walk], n: NodeId, to: GridPoint) -> u64
+fn least_after(field: Field<'_>, stand: Stand<'_>, mover: Mover, to: GridPoint) -> u64
     requires field { IsField field }
-    requires standing { IsStanding field walks.now }
-    requires node { n.0 < length field.graph.now.kinds }
+    requires stand { IsStand field stand }
+    requires mover { IsMover field stand mover }
     requires place { contains field.bounds to ≡ true }
-    ensures { result ≡ least_after field.entry.graph.now field.entry.first.now walks.now n.0 to }
+    ensures { result ≡ least_after field.entry.graph.now field.entry.first.now stand.entry.walks.now mover.n.0 to }
 {
-    let mut total = apart_weight(point_of(field.graph, field.first, n), to);
-    for s in field.graph.round(n) {
-        total += least_to(field.graph, walks, n, to, *s);
+    let mut total = apart_weight(mover.first, to);
+    for s in field.graph.round(mover.n) {
+        total += least_to(field.graph, stand.points, mover.n, to, *s);
     }
     total
 }
 
-/// What each walk of a segment weighs at least from a point of one of its ends.
-fn least_to(graph: &LineGraph, walks: &[Walk], n: NodeId, from: GridPoint, s: SegId) -> u64
+/// What each walk of a segment weighs at least from a point of one of its ends, where nodes stand at these points.
+fn least_to(graph: &LineGraph, points: &[GridPoint], n: NodeId, from: GridPoint, s: SegId) -> u64
     requires graph { IsConsistent graph.now }
-    requires drawn { IsDrawn graph.now walks.now }
+    requires each { length points.now ≡ length graph.now.kinds }
     requires segment { s.0 < length graph.now.ends }
-    ensures weight { result ≡ least_weight from (point_of graph.now walks.now (other_end (ends_of graph.now s) n.0)) }
+    ensures weight { result ≡ least_weight from (point_at points.now (other_end (ends_of graph.now s) n.0)) }
     ensures small { result < 2 ^ 41 }
 {
-    least_weight(from, point_of(graph, walks, other_end(graph, s, n)))
+    least_weight(from, points[other_end(graph, s, n).0 as usize])
 }
 
 /// The end of a segment that is not this one.

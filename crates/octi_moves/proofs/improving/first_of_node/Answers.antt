@@ -13,8 +13,8 @@ pub loop-dir-preserved : goal.loop-dir-preserved
 loop-dir-preserved c =
     let graph = c.args.field.graph.now in
     let first = c.args.field.first.now in
-    let walks = c.args.walks.now in
-    let n = c.args.n.0 in
+    let walks = c.args.stand.walks.now in
+    let n = c.args.mover.n.0 in
     let i = c.loop-dir.dir-index in
     let d : Dir = get_or directions i dir.N in
     let rest = first_of_node graph first walks n (drop (i + 1) directions) in

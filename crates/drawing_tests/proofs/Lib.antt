@@ -1,0 +1,4 @@
+mod Each
+mod Listed
+mod Consistency
+mod Drawn

@@ -1,0 +1,11 @@
+//! Tests of what is made of a drawing that stands: nodes that move until it is lightest, and names beside its stations.
+#![tactic(auto)]
+
+#[cfg(test)]
+mod drawings;
+#[cfg(test)]
+mod graphs;
+#[cfg(test)]
+mod label_tests;
+#[cfg(test)]
+mod move_tests;
