@@ -9,7 +9,7 @@ ghost use Rattle.edit_session.specs.Sessions.{begun, with_edit, with_held, IsRef
 use crate::due::is_due;
 use map_base::{Settings, Steps};
 use map_edits::{Edit, EditStop, edited, stand};
-use map_engine::{Kept, Made, MakeFault, make};
+use map_engine::{Kept, LastDrawing, Made, MakeFault, make_again};
 use map_method::{MapSettings, Method};
 use std::alloc::Global;
 use std::marker::Model;
@@ -17,7 +17,7 @@ use std::sync::ledger::Ledger;
 use transit_feed::Tables;
 
 /// The tables and settings of a feed, how its maps are found, the edits that stand, in their order, and what draws found
-/// of parts. Contracts see it as these five. Each standing edit has its values in range and names a line or
+/// of parts. Contracts see it as these five. Beside them stands what was drawn last, which shows in nothing. Each standing edit has its values in range and names a line or
 /// station of the tables, and none of them is an undo.
 #[derive(Drop)]
 pub struct Session {
@@ -25,6 +25,7 @@ pub struct Session {
     settings: Settings,
     method: Method,
     standing: Vec<Edit>,
+    last: LastDrawing,
     kept: Kept,
 }
 
@@ -48,6 +49,7 @@ impl Session {
             settings: settings.settings,
             method: settings.method,
             standing: Vec::new(alloc),
+            last: LastDrawing::none(),
             kept: Kept::none(alloc),
         }
     }
@@ -117,11 +119,12 @@ impl Session {
     {
         let standing = self.standing.as_slice();
         let (tables, settings) = edited(alloc, &self.tables, &self.settings, standing)?;
-        make(
+        make_again(
             alloc,
             &tables,
             &settings,
             &self.method,
+            &mut self.last,
             &mut self.kept,
             steps,
         )

@@ -15,23 +15,24 @@ use crate::drawn_map::DrawnMap;
 use crate::fault::MakeFault;
 use crate::importance::importance_of;
 use graph_core::LineGraph;
-use line_graph::build;
+use kept_drawing::{KeptWalks, LastDrawing};
 use map_base::Settings;
 use map_method::Method;
 use octi_grid::{Walk, illegal_drawings_have_a_first_walk};
 use order_model::Problem;
 use order_terms::terms_of;
-use segment_router::route;
 use std::alloc::Global;
 use transit_feed::Tables;
 
 /// The line graph of a feed, its drawing, and the problem of its line orders: what comes first of a limit of the line
-/// graph or of the grid's cells, a segment without a walk, and a limit of terms, is answered.
+/// graph or of the grid's cells, a segment without a walk, and a limit of terms, is answered. What was drawn last is taken
+/// again where it is the same.
 pub(crate) fn drawn_map(
     alloc: Global,
     tables: &Tables,
     settings: &Settings,
     method: &Method,
+    last: &mut LastDrawing,
 ) -> Result<(DrawnMap, Problem), MakeFault>
     ensures outcome { Gives drawn_of result (drawn_outcome tables.now settings.now method.now) }
     ensures drawing { IfOk result (λ d. IsDrawing d.0) }
@@ -41,8 +42,8 @@ pub(crate) fn drawn_map(
     ensures problem { IfOk result (λ d. d.1 ≡ problem_of tables.now settings.now d.0.graph) }
     ensures problem_fits { IfOk result (λ d. IsProblem d.1) }
 {
-    let graph = build(alloc, tables, settings)?;
-    drawn_on_graph(alloc, tables, settings, method, graph)
+    let graph = last.graph.build(alloc, tables, settings)?;
+    drawn_on_graph(alloc, tables, settings, method, graph, &mut last.walks)
 }
 
 /// The same from the line graph on.
@@ -52,6 +53,7 @@ fn drawn_on_graph(
     settings: &Settings,
     method: &Method,
     graph: LineGraph,
+    last: &mut KeptWalks,
 ) -> Result<(DrawnMap, Problem), MakeFault>
     requires lines { AreOfFeed tables.now graph }
     ensures outcome { Gives drawn_of result (drawn_on tables.now settings.now method.now (Ok graph)) }
@@ -63,7 +65,7 @@ fn drawn_on_graph(
     ensures problem_fits { IfOk result (λ d. IsProblem d.1) }
 {
     let _nodes = graph.nodes();
-    let drawing = route(alloc, &graph, settings.cell, method.spread, method.finest)?;
+    let drawing = last.route(alloc, &graph, settings.cell, method.spread, method.finest)?;
     are_walks(drawing.walks.as_slice());
     illegal_drawings_have_a_first_walk();
     let importance = importance_of(alloc, tables, settings)?;

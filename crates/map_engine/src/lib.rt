@@ -4,7 +4,8 @@
 //! certificate. The problem of the line orders is untangled first, by rules that keep its least cost: the parts of the
 //! untangled problem are solved, and their orders are lifted. `check` says yes only where the drawing is legal, no line orders cost less and the map is the picture that
 //! is due, whoever made them; else it names the first item that is refused. `Kept` holds what was found of the parts of
-//! a problem from one map to the next, so that no part is searched twice, and never changes a byte.
+//! a problem from one map to the next, so that no part is searched twice, and `LastDrawing` the line graph and the drawing
+//! that were made last; neither ever changes a byte.
 #![tactic(auto)]
 
 mod best_orders;
@@ -33,6 +34,7 @@ pub use fault::{CheckFault, CheckItem, MakeFault};
 pub use importance::importance_of;
 pub use improvement::{ImprovedMap, Improvement};
 pub use items::first_difference;
+pub use kept_drawing::LastDrawing;
 pub use kept_trees::Kept;
 pub use labelled::{labels, labels_on_graph};
 pub use laws::{
@@ -41,6 +43,6 @@ pub use laws::{
     what_was_made_is_not_searched_again,
 };
 pub use made::Made;
-pub use making::{make, make_improved};
+pub use making::{make, make_again, make_improved};
 pub use names::names_of;
 pub use promises::a_solved_drawing_is_accepted;

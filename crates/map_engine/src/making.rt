@@ -20,6 +20,7 @@ use crate::made::Made;
 use crate::moving::moved;
 use crate::names::names_of;
 use cert_file::{Certificate, write_certificate};
+use kept_drawing::LastDrawing;
 use kept_trees::Kept;
 use map_base::{NoMemory, Sequence, Settings, Steps};
 use map_method::Method;
@@ -50,7 +51,33 @@ pub fn make<L: Ledger>(
     ensures finished { HoldsFinished result (finished_parts tables.now settings.now method.now) kept.new }
     ensures steps { steps.new ≤ steps.old + branches_left kept.old tables.now settings.now method.now }
 {
-    let improved = make_improved(alloc, tables, settings, method, 0, kept, steps)?;
+    let mut last = LastDrawing::never();
+    make_again(alloc, tables, settings, method, &mut last, kept, steps)
+}
+
+/// The same where a map of the feed may have been drawn before: what `last` holds of the line graph and the drawing is taken
+/// again where nothing changed on which they depend. It changes none of what is made.
+pub fn make_again<L: Ledger>(
+    alloc: Global,
+    tables: &Tables,
+    settings: &Settings,
+    method: &Method,
+    last: &mut LastDrawing,
+    kept: &mut Kept,
+    steps: &mut Steps<L>,
+) -> Result<Made, MakeFault>
+    ensures outcome { Gives bytes_of result (make_outcome tables.now settings.now method.now) }
+
+    // The map shows exactly the feed's line graph, in a legal drawing, and no line orders of it cost less; and the check
+    // says yes to the map and its certificate.
+    ensures made { IfOk result (λ made. IsMade tables.now settings.now (bytes_of made)) }
+
+    // What is held stays, each part that was finished is held, and no part that is held is searched again.
+    ensures kept { All (Contains kept.new) kept.old }
+    ensures finished { HoldsFinished result (finished_parts tables.now settings.now method.now) kept.new }
+    ensures steps { steps.new ≤ steps.old + branches_left kept.old tables.now settings.now method.now }
+{
+    let improved = make_with(alloc, tables, settings, method, 0, last, kept, steps)?;
     Ok(improved.map)
 }
 
@@ -76,7 +103,35 @@ pub fn make_improved<L: Ledger>(
     ensures finished { HoldsFinished result (finished_parts tables.now settings.now method.now) kept.new }
     ensures steps { steps.new ≤ steps.old + branches_left kept.old tables.now settings.now method.now }
 {
-    let (drawn, problem) = drawn_map(alloc, tables, settings, method)?;
+    let mut last = LastDrawing::never();
+    make_with(
+        alloc, tables, settings, method, moves, &mut last, kept, steps,
+    )
+}
+
+/// The same over what was drawn last.
+fn make_with<L: Ledger>(
+    alloc: Global,
+    tables: &Tables,
+    settings: &Settings,
+    method: &Method,
+    moves: u32,
+    last: &mut LastDrawing,
+    kept: &mut Kept,
+    steps: &mut Steps<L>,
+) -> Result<ImprovedMap, MakeFault>
+    ensures outcome { Gives improved_bytes result (improve_outcome tables.now settings.now method.now moves) }
+
+    // The map keeps what `make` promises. Its drawing is no heavier than before these moves, and all of them were made,
+    // or none makes it lighter.
+    ensures improved { IfOk result (λ improved. IsImprovedMap tables.now settings.now method.now moves (improved_bytes improved)) }
+
+    // What is held stays, each part that was finished is held, and no part that is held is searched again.
+    ensures kept { All (Contains kept.new) kept.old }
+    ensures finished { HoldsFinished result (finished_parts tables.now settings.now method.now) kept.new }
+    ensures steps { steps.new ≤ steps.old + branches_left kept.old tables.now settings.now method.now }
+{
+    let (drawn, problem) = drawn_map(alloc, tables, settings, method, last)?;
     let best = best_orders(alloc, problem, method.search, settings.budget, kept, steps)?;
     Ok(moved_map(alloc, tables, drawn, best, method.moves, moves)?)
 }

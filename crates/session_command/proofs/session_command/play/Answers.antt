@@ -1,11 +1,12 @@
-use Rattle.std.proofs.Common.{ℕ, Option, subst}
+use Rattle.std.proofs.Common.{◌≡◌, ℕ, All, Option, IfOk, OnOk, subst}
 use Rattle.std.proofs.lemmas.Result.{err_from_is_err_and}
 use Rattle.files_door.specs.Acts.{puts}
 use Rattle.output_pieces.specs.Pieces.{DoesUpTo}
-use Rattle.edit_session.specs.Scripts.{draws_in}
+use Rattle.edit_session.specs.Scripts.{draws_in, followed_in}
 use Rattle.edit_session.specs.Sessions.{SessionState}
 use Rattle.session_command.specs.DrawTexts.{draws_text}
 use Rattle.session_command.specs.SessionWorks.{session_text}
+use Rattle.session_command.specs.Promises.{KeepsPromise}
 use Rattle.session_command.proofs.PlayLemmas.{begun_due, unbegun}
 use Rattle.session_command.proofs.session_command.play.Goals as goal
 
@@ -23,3 +24,11 @@ returns-clause-written g c =
     begun_due c.args.out.now c.in_ok-of.field-0 (session_text c.args.loaded c.args.script.now) (g.S.Sinks.current c.begin.new.self)
     (g.S.Sinks.written c.args.sinks.now) mid now c.follow_script.result
     c.in_ok-of.ensures c.in_ok-begin.ensures.begun c.in_ok-begin.ensures.current due
+
+pub returns-clause-bad : goal.returns-clause-bad
+returns-clause-bad g c =
+    subst (λ (s : SessionState). IfOk c.follow_script.result (λ bad. bad ≡ (followed_in s.feed c.args.script.now).bad)) c.begin-session.ensures c.follow_script.ensures.bad
+
+pub returns-clause-kept : goal.returns-clause-kept
+returns-clause-kept g c =
+    subst (λ (s : SessionState). OnOk c.follow_script.result (All (KeepsPromise s.feed s.choices s.method) (followed_in s.feed c.args.script.now).draws)) c.begin-session.ensures c.follow_script.ensures.kept

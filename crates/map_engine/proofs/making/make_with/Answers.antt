@@ -25,7 +25,7 @@ use Rattle.map_engine.proofs.MovedDrawings.{whole_moved}
 use Rattle.map_engine.proofs.KeepLemmas.{left_is, finished_is, nothing_finished, same_held}
 use Rattle.map_engine.proofs.Promised.{whole_is}
 use Rattle.map_engine.proofs.CertificateRanges.{made_by}
-use Rattle.map_engine.proofs.making.make_improved.Goals as goal
+use Rattle.map_engine.proofs.making.make_with.Goals as goal
 
 pub returns-in_err-drawn-clause-outcome : goal.returns-in_err-drawn-clause-outcome
 returns-in_err-drawn-clause-outcome g c =
