@@ -1,7 +1,7 @@
 #!/usr/bin/env python3
 """Compares `octimap graph` with another program on small random feeds.
 
-    bench/agree.py [--feeds N] [--seed S] [--work FOLDER] PROGRAM
+    bench/agree.py [--feeds N] [--seed S] [--work FOLDER] [--ours PROGRAM] PROGRAM
 
 Makes N feeds of a few stations and lines, with and without shapes, with stations on one point, stations that a
 trip visits twice, and trips that turn back; runs this repository's program and `PROGRAM graph FEED` on each; and
@@ -84,6 +84,7 @@ def main():
     parser.add_argument("--feeds", type=int, default=500)
     parser.add_argument("--seed", type=int, default=1)
     parser.add_argument("--work", default=os.path.join(tempfile.gettempdir(), "octimap-agree"))
+    parser.add_argument("--ours", default=OURS)
     parser.add_argument("program", metavar="PROGRAM")
     given = parser.parse_args()
     others = 0
@@ -91,7 +92,7 @@ def main():
         folder = os.path.join(given.work, str(seed))
         os.makedirs(folder, exist_ok=True)
         write_feed(folder, random.Random(seed))
-        ours = subprocess.run([OURS, "graph", folder], capture_output=True)
+        ours = subprocess.run([given.ours, "graph", folder], capture_output=True)
         theirs = subprocess.run([given.program, "graph", folder], capture_output=True)
         if (ours.returncode, ours.stdout) == (theirs.returncode, theirs.stdout):
             shutil.rmtree(folder)
