@@ -5,7 +5,7 @@ ghost use Rattle.gtfs_fields.specs.Records.{records_of};
 ghost use Rattle.gtfs_fields.specs.RowByRow.{IsReading, Reads, row_read, rows_to_come};
 
 use crate::records::{read_next, reader_of};
-use crate::rows::Rows;
+use crate::row::Row;
 use csv::{ByteRecord, Reader};
 use map_base::NoMemory;
 use std::alloc::Global;
@@ -14,8 +14,7 @@ use std::alloc::Global;
 #[derive(Drop)]
 pub struct RowReader<'a> {
     reader: Reader<&'a [u8]>,
-    buffer: ByteRecord,
-    row: Rows,
+    row: ByteRecord,
 }
 
 impl<'a> RowReader<'a> {
@@ -27,29 +26,25 @@ impl<'a> RowReader<'a> {
     {
         RowReader {
             reader: reader_of(alloc, bytes),
-            buffer: ByteRecord::new(alloc),
-            row: Rows::new(alloc),
+            row: ByteRecord::new(alloc),
         }
     }
 
     /// Reads the next row, and says whether there was one. Where memory is wanting, no more can be read.
-    #[tactic(auto, unfolding(crate::specs::RowByRow::IsReading, crate::specs::RowByRow::rows_to_come))]
+    #[tactic(auto, unfolding(crate::specs::RowByRow::IsReading, crate::specs::RowByRow::rows_to_come, crate::specs::RowByRow::row_read))]
     pub fn next(&mut self) -> Result<bool, NoMemory>
         requires { IsReading self.old }
         ensures reading { OnOk result (IsReading self.new) }
         ensures reads { IfOk result (λ found. Reads self.old found self.new) }
     {
-        let found = read_next(&mut self.reader, &mut self.buffer)?;
-        if found {
-            self.row.hold(&self.buffer)?;
-        }
-        Ok(found)
+        read_next(&mut self.reader, &mut self.row)
     }
 
-    /// The row that was read last, as the only one of a table.
-    pub fn row(&self) -> &Rows
-        ensures { result.now ≡ row_read self.now }
+    /// The row that was read last.
+    #[tactic(auto, unfolding(crate::specs::RowByRow::row_read))]
+    pub fn row(&self) -> Row<'_>
+        ensures { result ≡ row_read self.now }
     {
-        &self.row
+        Row::of(&self.row)
     }
 }

@@ -1,12 +1,12 @@
 //! The rows of a table.
 
 ghost use Rattle.std.specs.Prelude.{◌≡◌, ◌==◌, ℕ, ◌<◌, [], ◌∷◌, ◌++◌, List, length, OnOk, IfOk, Some, true, slice_index_or};
-ghost use Rattle.std.specs.Str.{is_utf8};
 ghost use Rattle.csv.specs.Records.{fields_of};
 ghost use Rattle.gtfs_fields.specs.Records.{records_of, width_of, field_of, is_text};
 
 use crate::pieces::{Pieces, bounds_of};
 use crate::records::{read_next, reader_of};
+use crate::text::is_utf8;
 use csv::ByteRecord;
 use map_base::NoMemory;
 use std::alloc::Global;
@@ -33,29 +33,6 @@ impl Model for Rows {
 }
 
 impl Rows {
-    /// No row.
-    pub(crate) fn new(alloc: Global) -> Rows
-        ensures { result ≡ [] }
-    {
-        Rows {
-            fields: Pieces::new(alloc),
-            ends: Vec::new(alloc),
-        }
-    }
-
-    /// Has a record as its only row, or none where memory is wanting.
-    pub(crate) fn hold(&mut self, row: &ByteRecord) -> Result<(), NoMemory>
-        ensures { OnOk result (self.new ≡ fields_of row.now ∷ []) }
-    {
-        clear(&mut self.fields, &mut self.ends);
-        let width = place_of(row.len())?;
-        if push_fields(&mut self.fields, row).is_err() || self.ends.push(width).is_err() {
-            clear(&mut self.fields, &mut self.ends);
-            return Err(NoMemory);
-        }
-        Ok(())
-    }
-
     /// How many rows there are.
     pub fn len(&self) -> usize
         ensures { result ≡ length self.now }
@@ -118,21 +95,6 @@ impl Rows {
         }
         true
     }
-}
-
-// Takes all fields and all ends away.
-fn clear(fields: &mut Pieces, ends: &mut Vec<u32>)
-    ensures fields { fields.new ≡ [] }
-    ensures ends { ends.new.items ≡ [] }
-{
-    fields.clear();
-    ends.clear();
-}
-
-fn is_utf8(bytes: &[u8]) -> bool
-    ensures { result ≡ is_utf8 bytes.now }
-{
-    str::from_utf8(bytes).is_ok()
 }
 
 // Adds a record's fields at the end.

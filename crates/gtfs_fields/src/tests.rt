@@ -147,14 +147,22 @@ fn rows(rt: HostRuntime) -> Result<(), Fail> {
 
 #[test]
 fn rows_one_at_a_time(rt: HostRuntime) -> Result<(), Fail> {
-    let mut reader = RowReader::new(rt.alloc(), b"id,name\r\n\r\n7,\"A, B\"\n");
+    let file = b"id,name\r\n\r\n7,\"A, B\",\"\"\"C\"\"\"d\n\"8";
+    let mut reader = RowReader::new(rt.alloc(), file);
     assert!(rt; reader.next().map_err(|_| "memory is there")?);
-    assert_eq!(rt; reader.row().width(0), 2);
-    assert_eq!(rt; reader.row().field(0, 1), b"name".as_slice());
+    assert_eq!(rt; reader.row().len(), 2);
+    let name = reader.row().field(1);
+    assert_eq!(rt; name, b"name".as_slice());
+    assert!(rt; reader.next().map_err(|_| "memory is there")?);
+    assert_eq!(rt; reader.row().len(), 3);
+    let quoted = reader.row().field(1);
+    assert_eq!(rt; quoted, b"A, B".as_slice());
+    let quotes = reader.row().field(2);
+    assert_eq!(rt; quotes, b"\"C\"d".as_slice());
     assert!(rt; reader.next().map_err(|_| "memory is there")?);
     assert_eq!(rt; reader.row().len(), 1);
-    assert_eq!(rt; reader.row().width(0), 2);
-    assert_eq!(rt; reader.row().field(0, 1), b"A, B".as_slice());
+    let unfinished = reader.row().field(0);
+    assert_eq!(rt; unfinished, b"8".as_slice());
     assert!(rt; !reader.next().map_err(|_| "memory is there")?);
     Ok(())
 }

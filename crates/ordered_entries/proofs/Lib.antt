@@ -2,3 +2,6 @@ pub mod Rising
 pub mod Places
 pub mod OrderLemmas
 pub mod Values
+pub mod RunLemmas
+mod RisingPairs
+mod Examples

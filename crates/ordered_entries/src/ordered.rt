@@ -5,7 +5,7 @@ ghost use Rattle.ordered_entries.specs.Entries.{places_of, entry_at, AreDistinct
 ghost use Rattle.ordered_entries.specs.Order.{IsOrderOf, IsRank};
 
 use crate::entry::Entry;
-use crate::placed::places_in_order;
+use crate::order::places_in_order;
 use crate::ranks::rank;
 use crate::repeats::first_repeat;
 use map_base::NoMemory;
@@ -33,7 +33,8 @@ impl Model for OrderedEntries {
 }
 
 impl OrderedEntries {
-    /// Puts entries in order, in n log n for n of them. While this works it takes 16 bytes an entry beside them.
+    /// Puts entries in order: in n where the runs that they stand in, each of one key and rising numbers, are few, and
+    /// in n log n at most. While this works it takes 12 bytes an entry and 16 a run beside them.
     pub fn of(alloc: Global, entries: Vec<Entry>) -> Result<OrderedEntries, NoMemory>
         requires { length entries.items ≤ 2 ^ 32 }
         ensures { IfOk result (λ ordered. ordered ≡ entries.items) }

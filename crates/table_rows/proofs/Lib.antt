@@ -5,3 +5,4 @@ pub mod RowLemmas
 pub mod FolderLemmas
 pub mod DistinctIds
 pub mod FirstLemmas
+mod Examples

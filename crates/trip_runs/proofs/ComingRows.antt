@@ -1,13 +1,7 @@
 -- The rows of a table that is read row by row.
-use Rattle.std.proofs.Common.{◌≡◌, ℕ, zero, suc, ◌+◌, ◌<◌, ◌≤◌, List, [], ◌∷◌, ◌++◌, drop, length, ap, ◌∙◌, refl, arith}
+use Rattle.std.proofs.Common.{◌≡◌, ℕ, zero, suc, ◌+◌, ◌<◌, ◌≤◌, List, [], ◌∷◌, drop, length, ap, ◌∙◌, arith}
 use Rattle.std.proofs.lemmas.List.{length-drop}
 use Rattle.table_rows.specs.Cells.{Row, row_at}
-
--- a table of one row that was read, and the rows to come
-pub behind_first : (head rest : List Row) → length head ≡ 1 → drop 1 (head ++ rest) ≡ rest
-behind_first [] rest one = absurd (omega (arith, one))
-behind_first (row ∷ []) rest one = refl
-behind_first (row ∷ other ∷ head) rest one = absurd (omega (arith, one))
 
 -- the row that comes next stands at the place up to which the rows were read
 pub next_row : (rows : List Row) (place : ℕ) (row : Row) (rest : List Row) → drop place rows ≡ row ∷ rest

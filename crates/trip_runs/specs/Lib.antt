@@ -1,5 +1,6 @@
 pub mod Rising
 pub mod Reads
+pub mod PlaceRuns
 pub mod Shapes
 pub mod ShapeReads
 pub mod KeptShapes

@@ -1,23 +1,26 @@
 //! The first bad row of a table whose rows may repeat each other.
 
-ghost use Rattle.std.specs.Prelude.{◌≡◌, ◌<◌, length, slice_index, option_map, IfSome};
+ghost use Rattle.std.specs.Prelude.{◌≡◌, ◌<◌, ◌≤◌, ◌^◌, length, slice_index, option_map, IfSome};
 ghost use Rattle.trip_runs.specs.Reads.{first_refused};
 
+use crate::places::Places;
 use table_rows::Why;
 
 /// The first bad row, told the first of the rows read that repeats an earlier one, if one does, the place of each row
 /// that was read, and what is wrong with the row at which reading stopped.
 pub(crate) fn first_refused(
     repeat: Option<usize>,
-    places: &[u32],
+    places: &Places,
     upto: usize,
     stopped: Option<Why>,
 ) -> Option<(usize, Why)>
-    requires { IfSome repeat (λ read. read < length places.now) }
-    ensures { result ≡ first_refused (option_map (slice_index places.now) repeat) (option_map (λ why. (upto, why)) stopped) }
+    requires within { IfSome repeat (λ read. read < length places.now) }
+    requires few { upto ≤ 2 ^ 32 }
+    ensures first { result ≡ first_refused (option_map (slice_index places.now) repeat) (option_map (λ why. (upto, why)) stopped) }
+    ensures low { IfSome result (λ bad. bad.0 < 2 ^ 33) }
 {
     if let Some(read) = repeat {
-        return Some((places[read] as usize, Why::RepeatedSequence));
+        return Some((places.at(read), Why::RepeatedSequence));
     }
     match stopped {
         None => None,

@@ -11,6 +11,8 @@
 mod first_refused;
 mod known;
 mod last_trip;
+mod place_run;
+mod places;
 mod reads;
 mod shape_columns;
 mod shape_file;

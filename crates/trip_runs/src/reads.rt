@@ -2,6 +2,7 @@
 
 ghost use Rattle.std.specs.Prelude.{◌≡◌, ◌++◌, [], option_to_list, option_map, OnOk};
 
+use crate::places::Places;
 use map_base::{NoMemory, Sequence};
 use ordered_entries::Entry;
 use std::alloc::Global;
@@ -28,7 +29,7 @@ pub(crate) struct Reads<T> {
     /// The value of each such row.
     pub(crate) values: Sequence<T>,
     /// The place of each such row.
-    pub(crate) places: Sequence<u32>,
+    pub(crate) places: Places,
 }
 
 /// What was read of the rows so far: of each that is read in full its entry, its value and its place.
@@ -36,7 +37,7 @@ pub(crate) struct Reads<T> {
 pub(crate) struct ReadsSoFar<T> {
     pub(crate) entries: Vec<Entry>,
     pub(crate) values: Vec<T>,
-    pub(crate) places: Vec<u32>,
+    pub(crate) places: Places,
 }
 
 impl<T: Copy> ReadsSoFar<T> {
@@ -44,12 +45,12 @@ impl<T: Copy> ReadsSoFar<T> {
     pub(crate) fn new(alloc: Global) -> ReadsSoFar<T>
         ensures entries { result.entries.items ≡ [] }
         ensures values { result.values.items ≡ [] }
-        ensures places { result.places.items ≡ [] }
+        ensures places { result.places ≡ [] }
     {
         ReadsSoFar {
             entries: Vec::new(alloc),
             values: Vec::new(alloc),
-            places: Vec::new(alloc),
+            places: Places::new(alloc),
         }
     }
 
@@ -57,7 +58,7 @@ impl<T: Copy> ReadsSoFar<T> {
     pub(crate) fn note(&mut self, place: u32, read: Option<Read<T>>) -> Result<(), NoMemory>
         ensures entries { OnOk result (self.new.entries.items ≡ self.old.entries.items ++ option_to_list (option_map (λ r. r.entry) read)) }
         ensures values { OnOk result (self.new.values.items ≡ self.old.values.items ++ option_to_list (option_map (λ r. r.value) read)) }
-        ensures places { OnOk result (self.new.places.items ≡ self.old.places.items ++ option_to_list (option_map (λ _. place) read)) }
+        ensures places { OnOk result (self.new.places ≡ self.old.places ++ option_to_list (option_map (λ _. place) read)) }
     {
         if let Some(read) = read {
             self.entries.push(read.entry)?;
@@ -73,14 +74,14 @@ impl<T: Copy> ReadsSoFar<T> {
         ensures stopped { result.stopped ≡ stopped }
         ensures entries { result.entries ≡ self.entries.items }
         ensures values { result.values ≡ self.values.items }
-        ensures places { result.places ≡ self.places.items }
+        ensures places { result.places ≡ self.places }
     {
         Reads {
             upto,
             stopped,
             entries: Sequence::of(self.entries),
             values: Sequence::of(self.values),
-            places: Sequence::of(self.places),
+            places: self.places,
         }
     }
 }

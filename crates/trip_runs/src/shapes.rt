@@ -38,8 +38,7 @@ fn shapes_of_rows(
     let reads = read_shapes(alloc, named, rows, columns)?;
     let ordered = OrderedEntries::of(alloc, reads.entries.into_vec())?;
     let repeat = ordered.first_repeat();
-    let places = reads.places.as_slice();
-    if let Some(bad) = first_refused(repeat, places, reads.upto, reads.stopped) {
+    if let Some(bad) = first_refused(repeat, &reads.places, reads.upto, reads.stopped) {
         return Err(bad_row(Table::Shapes, bad.0, bad.1));
     }
     let ids = in_order_of_rows(alloc, named, rows, columns)?;

@@ -66,8 +66,7 @@ pub(crate) fn stop_times_in(
     let reads = read_stop_times(alloc, trips, stops, bytes)?;
     let ordered = OrderedEntries::of(alloc, reads.entries.into_vec())?;
     let repeat = ordered.first_repeat();
-    let places = reads.places.as_slice();
-    if let Some(bad) = first_refused(repeat, places, reads.upto, reads.stopped) {
+    if let Some(bad) = first_refused(repeat, &reads.places, reads.upto, reads.stopped) {
         return Err(bad_row(Table::StopTimes, bad.0, bad.1));
     }
     let count = trips.lines.as_slice().len();

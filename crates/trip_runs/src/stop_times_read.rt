@@ -1,7 +1,7 @@
 //! The rows of `stop_times.txt` are read, one after another, up to the first that is bad by itself.
 
 ghost use Rattle.std.specs.Prelude.{◌≡◌, ◌≤◌, ◌<◌, ◌^◌, None, length, IfOk, IfErr};
-ghost use Rattle.gtfs_fields.specs.RowByRow.{IsReading, row_read};
+ghost use Rattle.gtfs_fields.specs.RowByRow.{IsReading};
 ghost use Rattle.table_rows.specs.Values.{rows_of};
 ghost use Rattle.table_rows.specs.Outcome.{Refuses, never};
 ghost use Rattle.trip_runs.specs.RowsFrom.{rows_from};
@@ -17,7 +17,7 @@ use map_base::{NoMemory, StationId};
 use route_tables::KnownTrips;
 use std::alloc::Global;
 use stop_table::KnownStops;
-use table_rows::{FeedFault, Table, Why, bad_row, field_in, header_reason, row_reader_of};
+use table_rows::{FeedFault, Table, Why, bad_row, field_of, reason_of_header, row_reader_of};
 
 /// What the rows say that are read in full, up to the first row that is bad by itself, or the last. The header was
 /// read.
@@ -29,7 +29,6 @@ fn read_rows(
     columns: &StopTimeColumns,
 ) -> Result<Reads<StationId>, NoMemory>
     requires reading { IsReading reader.old }
-    requires header { length (row_read reader.old) ≡ 1 }
     requires few_rows { length (rows_from reader.old) ≤ 2 ^ 32 }
     requires few_trips { length trips.now.ids ≤ 2 ^ 32 }
     requires columns { columns.now ≡ stop_time_columns (rows_from reader.old) }
@@ -40,8 +39,9 @@ fn read_rows(
     let mut last = LastTrip::new(alloc, trips);
     let mut place = 1;
     while reader.next()? {
-        let trip = last.next(trips, field_in(reader.row(), 0, columns.trip))?;
-        match read_row(trips, stops, reader.row(), columns, trip) {
+        let row = reader.row();
+        let trip = last.next(trips, field_of(&row, columns.trip))?;
+        match read_row(trips, stops, &row, columns, trip) {
             Ok(read) => so_far.note(place as u32, read)?,
             Err(why) => return Ok(so_far.up_to(place, Some(why))),
         }
@@ -68,9 +68,10 @@ pub(crate) fn read_stop_times(
     if !reader.next()? {
         return Err(bad_row(Table::StopTimes, 0, Why::MissingColumn));
     }
-    let columns = stop_time_columns(reader.row());
+    let header = reader.row();
+    let columns = stop_time_columns(&header);
     let required = [columns.trip, columns.stop, columns.sequence];
-    if let Some(why) = header_reason(reader.row(), &required) {
+    if let Some(why) = reason_of_header(&header, &required) {
         return Err(bad_row(Table::StopTimes, 0, why));
     }
     Ok(read_rows(alloc, trips, stops, &mut reader, &columns)?)

@@ -25,6 +25,6 @@ loop-row-preserved c =
           (entry_says named columns) c.loop-row.auto.row (omega arith) c.loop-row.invariant.entries says c.in_ok-note-in-Ok.ensures.entries;
       points = read_more (is_read named columns) (point_in columns) (λ (r : Read (ℤ × ℤ)). r.value) (read_in named columns) rows row c.loop-row.so_far.values.items c.note.new.self.values.items c.in-Ok.read
           (point_says named columns) c.loop-row.auto.row (omega arith) c.loop-row.invariant.points says c.in_ok-note-in-Ok.ensures.values;
-      places = place_more (is_read named columns) (read_in named columns) rows row c.loop-row.so_far.places.items c.note.new.self.places.items c.in-Ok.read
+      places = place_more (is_read named columns) (read_in named columns) rows row c.loop-row.so_far.places c.note.new.self.places c.in-Ok.read
           (read_says named columns) c.loop-row.auto.row c.loop-row.invariant.places says c.in_ok-note-in-Ok.ensures.places;
     }

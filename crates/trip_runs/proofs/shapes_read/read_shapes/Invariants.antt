@@ -12,5 +12,5 @@ invariant-loop-row l = record {
   good : first_below (own_reason_at l.named l.rows) l.row ≡ None;
   entries : l.so_far.entries.items ≡ map (entry_in l.named l.columns) (filter (is_read l.named l.columns) (rows_before l.row l.rows));
   points : l.so_far.values.items ≡ map (point_in l.columns) (filter (is_read l.named l.columns) (rows_before l.row l.rows));
-  places : l.so_far.places.items ≡ places_before (is_read l.named l.columns) l.row l.rows;
+  places : l.so_far.places ≡ places_before (is_read l.named l.columns) l.row l.rows;
 }

@@ -1,4 +1,4 @@
-use Rattle.std.proofs.Common.{◌∙◌, ◌≡◌, ℕ, List, Option, Some, None, Ok, ap, sym, subst, arith, get_or, option_map, map, filter, drop, IfSome, MatchOption, length, ◌<◌}
+use Rattle.std.proofs.Common.{◌∙◌, ◌≡◌, ℕ, List, Option, Some, None, Ok, ap, sym, subst, arith, get_or, option_map, map, filter, drop, MatchOption, length}
 use Rattle.ordered_entries.specs.declared.entry.Entry.{Entry}
 use Rattle.ordered_entries.specs.Entries.{AreDistinct, IsFirstRepeat}
 use Rattle.table_rows.specs.declared.why.Why.{Why}
@@ -21,12 +21,14 @@ of-requires c =
     few_read (is_read c.args.trips.now (stop_time_columns (rows_of c.args.bytes.items))) (entry_in c.args.trips.now (stop_time_columns (rows_of c.args.bytes.items))) reads.upto (rows_of c.args.bytes.items) 4294967296 c.into_vec.result.items c.requires.few
     (c.into_vec.ensures ∙ c.in_ok-reads.ensures.read.entries)
 
-pub first_refused-requires : goal.first_refused-requires
-first_refused-requires c =
+pub first_refused-requires-clause-few : goal.first_refused-requires-clause-few
+first_refused-requires-clause-few c = omega (arith, c.in_ok-reads.ensures.read.within, c.requires.few)
+
+pub first_refused-requires-clause-within : goal.first_refused-requires-clause-within
+first_refused-requires-clause-within c =
     let reads = c.in_ok-reads.reads in
     let repeats = subst (λ (es : List Entry). MatchOption c.first_repeat-repeat.result (AreDistinct es) (IsFirstRepeat es)) (c.in_ok-ordered.ensures ∙ c.into_vec.ensures) c.first_repeat-repeat.ensures in
-    subst (λ (places : List ℕ). IfSome c.first_repeat-repeat.result (λ read. read < length places)) (sym c.as_slice-places.ensures)
-    (repeat_within c.args.trips.now c.args.stops.now (rows_of c.args.bytes.items) reads c.first_repeat-repeat.result c.in_ok-reads.ensures.read repeats)
+    repeat_within c.args.trips.now c.args.stops.now (rows_of c.args.bytes.items) reads c.first_repeat-repeat.result c.in_ok-reads.ensures.read repeats
 
 pub returns-in-Some : goal.returns-in-Some
 returns-in-Some c =
@@ -34,8 +36,7 @@ returns-in-Some c =
     let repeats = subst (λ (es : List Entry). MatchOption c.first_repeat-repeat.result (AreDistinct es) (IsFirstRepeat es)) (c.in_ok-ordered.ensures ∙ c.into_vec.ensures) c.first_repeat-repeat.ensures in
     let stopped : Option (ℕ × Why) = option_map (λ why. (reads.upto, why)) reads.stopped in
     let found : first_refused (option_map (λ k. get_or reads.places k 0) c.first_repeat-repeat.result) stopped ≡ Some c.in-Some.bad =
-    ap (λ (places : List ℕ). first_refused (option_map (λ k. get_or places k 0) c.first_repeat-repeat.result) stopped) (sym c.as_slice-places.ensures)
-    ∙ sym c.first_refused.ensures ∙ c.in-Some.is in
+    sym c.first_refused.ensures.first ∙ c.in-Some.is in
     refused c.args.trips.now c.args.stops.now (rows_of c.args.bytes.items) reads c.first_repeat-repeat.result c.in-Some.bad c.bad_row.result c.in_ok-reads.ensures.header c.in_ok-reads.ensures.read repeats found c.bad_row.ensures
 
 pub returns : goal.returns
@@ -47,8 +48,7 @@ returns c =
     let repeats = subst (λ (es : List Entry). MatchOption c.first_repeat-repeat.result (AreDistinct es) (IsFirstRepeat es)) (c.in_ok-ordered.ensures ∙ c.into_vec.ensures) c.first_repeat-repeat.ensures in
     let stopped : Option (ℕ × Why) = option_map (λ why. (reads.upto, why)) reads.stopped in
     let none : first_refused (option_map (λ k. get_or reads.places k 0) c.first_repeat-repeat.result) stopped ≡ None =
-    ap (λ (places : List ℕ). first_refused (option_map (λ k. get_or places k 0) c.first_repeat-repeat.result) stopped) (sym c.as_slice-places.ensures)
-    ∙ sym c.first_refused.ensures ∙ c.in_default.is in
+    sym c.first_refused.ensures.first ∙ c.in_default.is in
     let all : reads.upto ≡ length rows =
     all_read trips stops rows reads c.in_ok-reads.ensures.read (none_refused c.first_repeat-repeat.result (λ k. get_or reads.places k 0) reads.upto reads.stopped none) in
     let behind : rows_before reads.upto rows ≡ drop 1 rows = rows_before-all reads.upto rows (omega (arith, all)) in

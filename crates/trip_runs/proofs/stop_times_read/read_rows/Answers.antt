@@ -1,13 +1,13 @@
-use Rattle.std.proofs.Common.{◌≡◌, ◌∙◌, ap, sym, arith}
+use Rattle.std.proofs.Common.{◌≡◌, ◌∙◌, ap, sym, arith, length}
 use Rattle.map_base.specs.declared.ids.StationId.{StationId}
-use Rattle.gtfs_fields.specs.RowByRow.{rows_to_come}
+use Rattle.gtfs_fields.specs.RowByRow.{row_read, rows_to_come}
 use Rattle.table_rows.specs.Cells.{row_at}
 use Rattle.table_rows.proofs.ReasonLemmas.{first_below-more}
 use Rattle.trip_runs.specs.declared.reads.Read.{Read}
 use Rattle.trip_runs.specs.RowsFrom.{rows_from}
 use Rattle.trip_runs.specs.StopTimes.{is_read, station_at}
 use Rattle.trip_runs.specs.StopTimeReads.{own_reason, own_reason_at, entry_in, read_in}
-use Rattle.trip_runs.proofs.ComingRows.{next_row}
+use Rattle.trip_runs.proofs.ComingRows.{next_row, no_row}
 use Rattle.trip_runs.proofs.ReadLemmas.{read_more, place_more}
 use Rattle.trip_runs.proofs.StopTimeLemmas.{entry_says, station_says, read_says, own_behind}
 use Rattle.trip_runs.proofs.stop_times_read.read_rows.Goals as goal
@@ -21,8 +21,8 @@ returns-in-Err c =
     let place = c.loop-last.place in
     let so_far = c.loop-last.invariant in
     let takes = rw c.if-branch.true at c.in_ok-next.ensures.reads in
-    let found = next_row rows place takes.0 (rows_to_come c.next.new.self) (so_far.coming ∙ takes.2) in
-    let same : row_at c.row-in-loop-last.result.now 0 ≡ row_at rows place = ap (λ rs. row_at rs 0) (c.row-in-loop-last.ensures ∙ takes.1) ∙ sym found.1 in
+    let found = next_row rows place (row_read c.next.new.self) (rows_to_come c.next.new.self) (so_far.coming ∙ takes) in
+    let same : c.row-row.result ≡ row_at rows place = c.row-row.ensures ∙ sym found.1 in
     record {
       within = rw c.up_to.ensures.upto so_far.within;
       passed = rw c.up_to.ensures.upto so_far.good;
@@ -45,8 +45,8 @@ loop-last-preserved c =
     let place = c.loop-last.place in
     let so_far = c.loop-last.invariant in
     let takes = rw c.if-branch.true at c.in_ok-next.ensures.reads in
-    let found = next_row rows place takes.0 (rows_to_come c.next.new.self) (so_far.coming ∙ takes.2) in
-    let same : row_at c.row-in-loop-last.result.now 0 ≡ row_at rows place = ap (λ rs. row_at rs 0) (c.row-in-loop-last.ensures ∙ takes.1) ∙ sym found.1 in
+    let found = next_row rows place (row_read c.next.new.self) (rows_to_come c.next.new.self) (so_far.coming ∙ takes) in
+    let same : c.row-row.result ≡ row_at rows place = c.row-row.ensures ∙ sym found.1 in
     let says = c.in-Ok.ensures.read ∙ ap (read_in trips stops columns) same in
     record {
       reading = c.in_ok-next.ensures.reading;
@@ -61,6 +61,22 @@ loop-last-preserved c =
           (entry_says trips stops columns) so_far.from found.0 so_far.entries says c.in_ok-note-in-Ok.ensures.entries;
       stations = read_more (is_read trips columns) (station_at stops columns) (λ (r : Read StationId). r.value) (read_in trips stops columns) rows place c.loop-last.so_far.values.items c.note.new.self.values.items c.in-Ok.read
           (station_says trips stops columns) so_far.from found.0 so_far.stations says c.in_ok-note-in-Ok.ensures.values;
-      places = place_more (is_read trips columns) (read_in trips stops columns) rows place c.loop-last.so_far.places.items c.note.new.self.places.items c.in-Ok.read
+      places = place_more (is_read trips columns) (read_in trips stops columns) rows place c.loop-last.so_far.places c.note.new.self.places c.in-Ok.read
           (read_says trips stops columns) so_far.from so_far.places says c.in_ok-note-in-Ok.ensures.places;
+    }
+
+pub returns : goal.returns
+returns c =
+    let rows = rows_from c.args.reader.now in
+    let place = c.loop-last.place in
+    let so_far = c.loop-last.invariant in
+    let none = rw c.if-branch.false at c.in_ok-next.ensures.reads in
+    let all : place ≡ length rows = no_row rows place so_far.within (so_far.coming ∙ none) in
+    record {
+      within = rw c.up_to-2.ensures.upto so_far.within;
+      passed = rw c.up_to-2.ensures.upto so_far.good;
+      stopped = rw (c.up_to-2.ensures.stopped, c.up_to-2.ensures.upto) all;
+      entries = rw (c.up_to-2.ensures.upto, ← c.requires.columns) (c.up_to-2.ensures.entries ∙ so_far.entries);
+      stations = rw (c.up_to-2.ensures.upto, ← c.requires.columns) (c.up_to-2.ensures.values ∙ so_far.stations);
+      places = rw (c.up_to-2.ensures.upto, ← c.requires.columns) (c.up_to-2.ensures.places ∙ so_far.places);
     }

@@ -21,7 +21,7 @@ invariant-loop-last l =
       good : first_below (own_reason_at l.trips l.stops rows) l.place ≡ None;
       entries : l.so_far.entries.items ≡ map (entry_in l.trips l.columns) (filter (is_read l.trips l.columns) (rows_before l.place rows));
       stations : l.so_far.values.items ≡ map (station_at l.stops l.columns) (filter (is_read l.trips l.columns) (rows_before l.place rows));
-      places : l.so_far.places.items ≡ places_before (is_read l.trips l.columns) l.place rows;
+      places : l.so_far.places ≡ places_before (is_read l.trips l.columns) l.place rows;
     }
 
 abbrev pub decreases-loop-last : goal.decreases-loop-last

@@ -1,8 +1,8 @@
-use Rattle.std.proofs.Common.{◌≡◌, ◌∙◌, ◌∷◌, ◌++◌, List, ap, sym, subst, refl, arith}
-use Rattle.gtfs_fields.specs.RowByRow.{rows_to_come}
+use Rattle.std.proofs.Common.{◌≡◌, ◌∙◌, ◌∷◌, [], List, ap, sym, subst, refl, arith}
+use Rattle.gtfs_fields.specs.RowByRow.{row_read, rows_to_come}
 use Rattle.table_rows.specs.declared.why.Table.TheVariants.{StopTimes}
 use Rattle.table_rows.specs.Values.{rows_of}
-use Rattle.table_rows.specs.Cells.{Row, row_at}
+use Rattle.table_rows.specs.Cells.{Row}
 use Rattle.table_rows.specs.Outcome.{Refuses, never}
 use Rattle.table_rows.specs.Reasons.{header_reason}
 use Rattle.table_rows.proofs.ReasonLemmas.{Refuses-bad}
@@ -16,21 +16,21 @@ returns-in-Some-clause-refused c =
     let trips = c.args.trips.now in
     let stops = c.args.stops.now in
     let takes = rw c.if-not-branch.false at c.in_ok-next.ensures.reads in
-    let rest = rows_to_come c.next.new.self in
-    let rows : List Row = takes.0 ∷ rest in
-    let all : rows_of c.args.bytes.items ≡ rows = ap rows_of (sym c.deref.ensures.value) ∙ sym c.row_reader_of-reader.ensures.all ∙ takes.2 in
+    let header = row_read c.next.new.self in
+    let rows : List Row = header ∷ rows_to_come c.next.new.self in
+    let all : rows_of c.args.bytes.items ≡ rows = ap rows_of (sym c.deref.ensures.value) ∙ sym c.row_reader_of-reader.ensures.all ∙ takes in
     subst (λ (rs : List Row). Refuses never c.bad_row-in-Some.result (stop_times_of trips stops rs)) (sym all)
     (Refuses-bad StopTimes (stop_times_reason trips stops rows) rows (trip_stations trips stops rows) 0 c.in-Some.why c.bad_row-in-Some.result
     (omega arith)
     refl
-    (ap (λ columns. header_reason (required_columns columns) takes.0) (ap stop_time_columns (sym (c.row.ensures ∙ takes.1)) ∙ sym c.stop_time_columns-columns.ensures)
-    ∙ ap (λ rs. header_reason (required_columns c.stop_time_columns-columns.result) (row_at rs 0)) (sym (c.row-2.ensures ∙ takes.1))
-    ∙ sym c.header_reason.ensures ∙ c.in-Some.is)
+    (ap (λ columns. header_reason (required_columns columns) header) (ap (λ (row : Row). stop_time_columns (row ∷ [])) (sym c.row-header.ensures) ∙ sym c.stop_time_columns-columns.ensures)
+    ∙ ap (header_reason (required_columns c.stop_time_columns-columns.result)) (sym c.row-header.ensures)
+    ∙ sym c.reason_of_header.ensures ∙ c.in-Some.is)
     c.bad_row-in-Some.ensures)
 
 pub returns-clause-read : goal.returns-clause-read
 returns-clause-read c =
     let takes = rw c.if-not-branch.false at c.in_ok-next.ensures.reads in
     let whole : rows_from c.next.new.self ≡ rows_of c.args.bytes.items =
-    ap (λ (rs : List Row). rs ++ rows_to_come c.next.new.self) takes.1 ∙ sym takes.2 ∙ c.row_reader_of-reader.ensures.all ∙ ap rows_of c.deref.ensures.value in
+    sym takes ∙ c.row_reader_of-reader.ensures.all ∙ ap rows_of c.deref.ensures.value in
     subst (λ (rs : List Row). AreReads c.args.trips.now c.args.stops.now rs c.in_ok-read_rows.field-0) whole c.in_ok-read_rows.ensures

@@ -1,7 +1,7 @@
 use Rattle.std.proofs.Common.{◌≡◌, ◌∙◌}
 use Rattle.std.specs.Str.{IsValidUpTo, valid_up_to}
 use Rattle.gtfs_fields.proofs.TextRows.{is_utf8-is_ok}
-use Rattle.gtfs_fields.proofs.rows.is_utf8.Goals as goal
+use Rattle.gtfs_fields.proofs.text.is_utf8.Goals as goal
 
 pub returns : goal.returns
 returns c =
