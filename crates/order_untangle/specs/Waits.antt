@@ -38,6 +38,10 @@ IsLeastDivide divides e = (d : ℕ) → has_divide divides d ≡ true → e ≤ 
 abbrev pub StillWait : List (ℕ × ℕ) → List (ℕ × ℕ) → Type 0
 StillWait old new = (e f : ℕ) → has_merge old e f ≡ true → has_merge new e f ≡ true
 
+-- the merges either way of two segments wait
+abbrev pub PairWaits : List (ℕ × ℕ) → SegId × SegId → Type 0
+PairWaits merges pair = (has_merge merges pair.0.0 pair.1.0 ≡ true) × (has_merge merges pair.1.0 pair.0.0 ≡ true)
+
 -- the merges either way of the two segments of a Link wait
 abbrev pub LinkWaits : List (ℕ × ℕ) → Term → Type 0
 LinkWaits merges (Side seg first second w) = Unit {0}

@@ -1,7 +1,7 @@
 //! The rules that are still to be looked at.
 
-ghost use Rattle.std.specs.Prelude.{◌≡◌, ℕ, [], All, None, OnOk, IfSome, Some, drop, ◌||◌, ◌==◌, slice_get};
-ghost use Rattle.order_untangle.specs.Waits.{has_merge, has_divide, is_merge, IsLeastMerge, IsLeastDivide, StillWait, LinkWaits};
+ghost use Rattle.std.specs.Prelude.{◌≡◌, ℕ, [], All, None, OnOk, IfOk, IfSome, Some, drop, ◌||◌, ◌==◌, slice_get};
+ghost use Rattle.order_untangle.specs.Waits.{has_merge, has_divide, is_merge, IsLeastMerge, IsLeastDivide, StillWait, LinkWaits, PairWaits};
 
 use map_base::{NoMemory, SegId};
 use order_model::Term;
@@ -83,30 +83,56 @@ fn add_divide(divides: &mut BTreeSet<u32>, seg: SegId) -> Result<(), NoMemory>
     Ok(())
 }
 
-/// Adds the merges either way of the two segments of each Link.
+/// Adds the merges either way of the two segments of each Link. Links of the same two segments mostly follow each other.
 fn add_links(merges: &mut BTreeSet<(u32, u32)>, terms: &[Term]) -> Result<(), NoMemory>
     ensures kept { OnOk result (StillWait merges.old.keys merges.new.keys) }
     ensures links { OnOk result (All (LinkWaits merges.new.keys) terms.now) }
 {
+    let mut last = None;
     for term in terms {
-        add_link(merges, *term)?;
+        last = add_link(merges, last, *term)?;
     }
     Ok(())
 }
 
-/// Adds the merges either way of the two segments of a Link, and none for another term.
-fn add_link(merges: &mut BTreeSet<(u32, u32)>, term: Term) -> Result<(), NoMemory>
+/// Adds the merges either way of the two segments of a Link, and none for another term. The segments that were added last
+/// come in, and those that were then added last go out.
+fn add_link(
+    merges: &mut BTreeSet<(u32, u32)>,
+    last: Option<(SegId, SegId)>,
+    term: Term,
+) -> Result<Option<(SegId, SegId)>, NoMemory>
+    requires waits { IfSome last (PairWaits merges.old.keys) }
+    ensures waits { IfOk result (λ last. IfSome last (PairWaits merges.new.keys)) }
     ensures kept { OnOk result (StillWait merges.old.keys merges.new.keys) }
     ensures link { OnOk result (LinkWaits merges.new.keys term) }
 {
     match term {
-        Term::Link { seg, other, .. } => {
-            add_merge(merges, seg, other)?;
-            add_merge(merges, other, seg)?;
-            Ok(())
-        }
-        Term::Side { .. } | Term::Apart { .. } => Ok(()),
+        Term::Link { seg, other, .. } => add_pair(merges, last, seg, other),
+        Term::Side { .. } | Term::Apart { .. } => Ok(last),
     }
+}
+
+/// Adds the merges either way of two segments, which may have been added last.
+fn add_pair(
+    merges: &mut BTreeSet<(u32, u32)>,
+    last: Option<(SegId, SegId)>,
+    seg: SegId,
+    other: SegId,
+) -> Result<Option<(SegId, SegId)>, NoMemory>
+    requires waits { IfSome last (PairWaits merges.old.keys) }
+    ensures waits { IfOk result (λ last. IfSome last (PairWaits merges.new.keys)) }
+    ensures kept { OnOk result (StillWait merges.old.keys merges.new.keys) }
+    ensures pair { OnOk result (PairWaits merges.new.keys (seg, other)) }
+{
+    if let Some((a, b)) = last {
+        if a == seg && b == other {
+            return Ok(last);
+        }
+    }
+    add_merge(merges, seg, other)?;
+    add_merge(merges, other, seg)?;
+    Ok(Some((seg, other)))
 }
 
 /// Adds a merge.
