@@ -1,4 +1,5 @@
 mod Answers
+mod Examples
 mod EndLists
 mod Moving
 mod Rising

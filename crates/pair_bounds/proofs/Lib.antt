@@ -1,9 +1,13 @@
 mod TermLooks
 mod Mapped
 mod Collected
-mod Gathered
-mod WalkSteps
 mod PricedSlots
+mod Placed
+mod Gathered
+mod ClassSteps
+mod ListSteps
+mod WalkSteps
+mod WalkTurns
 pub mod PairCosts
 pub mod Noted
 mod Opened

@@ -5,7 +5,8 @@ ghost use Rattle.std.specs.Prelude.{ℤ, pos, ◌+ℤ◌, ◌-ℤ◌, ◌≤ℤ�
 ghost use Rattle.std.specs.Vec.{vec_len, vec_capacity};
 ghost use Rattle.order_bound.specs.CanonicalPrices.{cut_to, turned_by, price_for};
 ghost use Rattle.order_bound.specs.declared.pairs.ChildLink.{ChildLink};
-ghost use Rattle.pair_bounds.specs.Slots.{rise_in, with_child, with_children, slot_least, IsSmall};
+ghost use Rattle.order_bound.specs.Pairs.{AreApartSegments};
+ghost use Rattle.pair_bounds.specs.Slots.{rise_in, slot_segs, with_child, with_children, slot_least, IsSmall};
 ghost use Rattle.order_bound.specs.Values.{int_sum};
 ghost use Rattle.pair_bounds.specs.PriceNotes.{price_noted, price_over, priced_in};
 
@@ -55,7 +56,8 @@ fn price_for(child: ChildLink, rise: i64) -> i64
 
 /// Prices the Link to a child by what the child costs, and adds the shares of the price. Answers the price.
 fn price_child(slots: &mut [Slot], child: ChildLink) -> i64
-    requires { All (IsSmall (2 ^ 60)) slots.old }
+    requires small { All (IsSmall (2 ^ 59)) slots.old }
+    requires apart { AreApartSegments (slot_segs slots.old) }
     ensures slots { slots.new ≡ with_child child slots.old }
     ensures price { result ≡ price_for child (rise_in slots.old child.child) }
 {
@@ -67,6 +69,7 @@ fn price_child(slots: &mut [Slot], child: ChildLink) -> i64
 /// Prices the Links to children from the last to the first, and adds the shares of the prices.
 pub(crate) fn price_children(slots: &mut [Slot], children: &mut Vec<ChildLink>)
     requires small { All (IsSmall (2 ^ 41)) slots.old }
+    requires apart { AreApartSegments (slot_segs slots.old) }
     requires light { All (λ (c : ChildLink). c.link.weight ≤ 256000) children.old.items }
     requires few { vec_len children.old ≤ 4000000 }
     ensures slots { slots.new ≡ with_children children.old.items slots.old }
@@ -85,6 +88,7 @@ pub(crate) fn note_children(
     noted: &mut NotedPrices,
 )
     requires small { All (IsSmall (2 ^ 41)) slots.old }
+    requires apart { AreApartSegments (slot_segs slots.old) }
     requires light { All (λ (c : ChildLink). c.link.weight ≤ 256000) children.old.items }
     requires few { vec_len children.old ≤ 4000000 }
     ensures each { length noted.new.prices.items ≡ length noted.old.prices.items }

@@ -1,32 +1,43 @@
 //! The terms of a pair gathered: what they cost where they are decided, what the pair costs on each segment where it is
 //! open, and its kept Links.
 
-ghost use Rattle.std.specs.Prelude.{◌≡◌, true, ◌<◌, ◌≤◌, ◌+◌, ◌*◌, ◌^◌, ℕ, length, map, All, sum_by};
+ghost use Rattle.std.specs.Prelude.{◌≡◌, true, ◌<◌, ◌≤◌, ◌+◌, ◌++◌, ◌∷◌, [], ◌*◌, ◌^◌, ℕ, length, map, All, sum_by};
 ghost use Rattle.std.specs.Vec.{vec_len, vec_capacity};
 ghost use Rattle.order_model.specs.declared.term.Term.{Term};
 ghost use Rattle.map_base.specs.declared.ids.SegId.{SegId};
 ghost use Rattle.pair_bounds.specs.TermLooks.{look_decided};
-ghost use Rattle.pair_bounds.specs.Slots.{slots_after, links_after, IsSmall, IsCollected};
-ghost use Rattle.order_bound.specs.Pairs.{pair_in, open_segments};
-ghost use Rattle.order_model.specs.PartTerms.{is_of};
+ghost use Rattle.pair_bounds.specs.Slots.{slot_segs, slots_after, links_after, IsWithin, IsSmall, IsCollected};
+ghost use Rattle.pair_bounds.specs.Classes.{IsClassed, IsClassAt, IsUpward};
+ghost use Rattle.order_bound.specs.Pairs.{pair_in, open_segments, kept, labels_after, AreApartSegments};
+ghost use Rattle.order_model.specs.PartTerms.{is_in, is_of};
 ghost use Rattle.order_model.specs.Prefixes.{IsPrefixOf};
 ghost use Rattle.order_model.specs.Problems.{IsTerm};
-ghost use Rattle.pair_bounds.specs.declared.term_look.TermLook.TheVariants.{Between};
 
+use crate::classes::{class_each, class_of, join};
 use crate::opening::open_slots;
-use crate::slots::{Slot, add_cost, label_in, relabel};
+use crate::places::place_of;
+use crate::slots::{Slot, add_cost};
 use crate::term_look::{TermLook, look_at};
 use map_base::SegId;
 use order_bound::{OpenLink, Pair};
 use order_model::{Prefix, Problem, Term};
 
 /// Adds a term to what is gathered: answers what it costs where it is decided.
-pub(crate) fn gather(look: TermLook, slots: &mut [Slot], links: &mut Vec<OpenLink>) -> u32
+pub(crate) fn gather(
+    look: TermLook,
+    slots: &mut [Slot],
+    classes: &mut [usize],
+    links: &mut Vec<OpenLink>,
+) -> u32
     requires small { All (IsSmall (2 ^ 60)) slots.old }
+    requires apart { AreApartSegments (slot_segs slots.old) }
+    requires within { IsWithin (slot_segs slots.old) look }
+    requires classed { IsClassed (slot_segs slots.old) links.old.items classes.old }
     requires room { vec_len links.old < vec_capacity links.old }
     ensures cost { result ≡ look_decided look }
     ensures slots { slots.new ≡ slots_after look slots.old }
-    ensures links { links.new.items ≡ links_after look slots.old links.old.items }
+    ensures links { links.new.items ≡ links_after look links.old.items }
+    ensures classed { IsClassed (slot_segs slots.old) links.new.items classes.new }
     ensures room { vec_capacity links.old ≤ vec_capacity links.new }
     ensures few { vec_len links.new ≤ vec_len links.old + 1 }
 {
@@ -41,25 +52,42 @@ pub(crate) fn gather(look: TermLook, slots: &mut [Slot], links: &mut Vec<OpenLin
             0
         }
         TermLook::Between(link) => {
-            keep(link, slots, links);
+            keep(link, slots, classes, links);
             0
         }
     }
 }
 
 /// Keeps a Link, if it closes no cycle of segments with those kept before it.
-fn keep(link: OpenLink, slots: &mut [Slot], links: &mut Vec<OpenLink>)
+fn keep(link: OpenLink, slots: &[Slot], classes: &mut [usize], links: &mut Vec<OpenLink>)
+    requires here { is_in (slot_segs slots.now) link.seg ≡ true }
+    requires there { is_in (slot_segs slots.now) link.other ≡ true }
+    requires classed { IsClassed (slot_segs slots.now) links.old.items classes.old }
     requires room { vec_len links.old < vec_capacity links.old }
-    ensures slots { slots.new ≡ slots_after (Between link) slots.old }
-    ensures links { links.new.items ≡ links_after (Between link) slots.old links.old.items }
+    ensures links { links.new.items ≡ links.old.items ++ kept (labels_after (λ s. s) links.old.items) (link ∷ []) }
+    ensures classed { IsClassed (slot_segs slots.now) links.new.items classes.new }
     ensures room { vec_capacity links.old ≤ vec_capacity links.new }
     ensures few { vec_len links.new ≤ vec_len links.old + 1 }
 {
-    let here = label_in(slots, link.seg);
-    let there = label_in(slots, link.other);
+    let here = class_at(slots, classes, link.seg);
+    let there = class_at(slots, classes, link.other);
     if here != there {
-        let _ = links.push(link);
-        relabel(slots, here, there);
+        links.push_reserved(link);
+        join(classes, here, there);
+    }
+}
+
+/// The class of a segment's slot.
+fn class_at(slots: &[Slot], classes: &[usize], seg: SegId) -> usize
+    requires known { is_in (slot_segs slots.now) seg ≡ true }
+    requires each { length classes.now ≡ length slots.now }
+    requires upward { IsUpward classes.now }
+    ensures class { IsClassAt slots.now classes.now seg result }
+    ensures within { result < length classes.now }
+{
+    match place_of(slots, seg) {
+        Some(place) => class_of(classes, place),
+        None => 0,
     }
 }
 
@@ -72,27 +100,33 @@ pub(crate) fn collect(
     pair: Pair,
     terms: &[(u32, Term)],
     slots: &mut Vec<Slot>,
+    classes: &mut Vec<usize>,
     links: &mut Vec<OpenLink>,
 ) -> u64
     requires fits { IsPrefixOf problem.now.segs prefix.now }
     requires part { All (λ (s : SegId). s.0 < length problem.now.segs) part.now }
+    requires apart { AreApartSegments part.now }
     requires known { All (λ (t : ℕ × Term). IsTerm problem.now.segs t.1) terms.now }
     requires inside { All (λ (t : ℕ × Term). is_of part.now t.1 ≡ true) terms.now }
     requires mine { All (λ (t : ℕ × Term). pair ≡ pair_in t.1) terms.now }
     requires few { length terms.now ≤ 4000000 }
     requires slots_room { length part.now ≤ vec_capacity slots.old }
+    requires classes_room { length part.now ≤ vec_capacity classes.old }
     requires links_room { length terms.now ≤ vec_capacity links.old }
     ensures collected { IsCollected problem.now.segs prefix.now.placed pair (open_segments problem.now.segs prefix.now.placed part.now pair) terms.now result slots.new.items links.new.items }
     ensures small { result ≤ 4294967296 * length terms.now }
     ensures slots_room { vec_capacity slots.old ≤ vec_capacity slots.new }
+    ensures classes_room { vec_capacity classes.old ≤ vec_capacity classes.new }
     ensures links_room { vec_capacity links.old ≤ vec_capacity links.new }
 {
     open_slots(problem, prefix, part, pair, slots);
+    class_each(slots.as_slice(), classes);
     links.clear();
     let mut base: u64 = 0;
     for (number, term) in terms {
         let look = look_at(problem, prefix, *number, *term);
-        base += u64::from(gather(look, slots.as_mut_slice(), links));
+        let classes = classes.as_mut_slice();
+        base += u64::from(gather(look, slots.as_mut_slice(), classes, links));
     }
     base
 }

@@ -7,10 +7,13 @@
 #![tactic(auto)]
 
 mod child_prices;
+mod classes;
 mod collecting;
+mod link_lists;
 mod noted_prices;
 mod one_pair;
 mod opening;
+mod places;
 mod slots;
 mod term_look;
 mod walking;

@@ -14,12 +14,13 @@ ghost use Rattle.order_bound.specs.Pairs.{AreApartSegments};
 ghost use Rattle.order_bound.specs.Values.{int_sum};
 ghost use Rattle.order_bound.specs.CanonicalPrices.{children_of, pair_prices};
 ghost use Rattle.order_bound.specs.declared.pairs.ChildLink.{ChildLink};
-ghost use Rattle.pair_bounds.specs.Slots.{slot_least, IsSmall, IsCollected, HasRoom, KeepsRoom};
+ghost use Rattle.pair_bounds.specs.Slots.{slot_least, IsSmall, IsBetween, IsCollected, HasRoom, KeepsRoom, slot_segs};
 ghost use Rattle.pair_bounds.specs.PriceNotes.{price_noted, price_over};
 ghost use Rattle.pair_bounds.specs.Counted.{counted_sum};
 
 use crate::child_prices::{least_sum, note_children, price_children};
 use crate::collecting::collect;
+use crate::link_lists::{NextLinks, list_links};
 use crate::noted_prices::NotedPrices;
 use crate::slots::Slot;
 use crate::walking::walk;
@@ -28,11 +29,15 @@ use order_bound::{ChildLink, OpenLink, Pair};
 use order_model::{Prefix, Problem, Term};
 use std::alloc::Global;
 
-/// Room to work out the bounds of pairs.
+/// Room to work out the bounds of pairs: slots with their classes and the firsts of their Links, Links with those next on
+/// their lists, and the segments that wait in a walk with the children that it found.
 #[derive(Drop)]
 pub struct Room {
     pub slots: Vec<Slot>,
+    pub classes: Vec<usize>,
+    pub firsts: Vec<Option<usize>>,
     pub links: Vec<OpenLink>,
+    pub nexts: Vec<NextLinks>,
     pub waiting: Vec<SegId>,
     pub children: Vec<ChildLink>,
 }
@@ -45,7 +50,10 @@ impl Room {
     {
         Ok(Room {
             slots: Vec::with_capacity(alloc, segments)?,
+            classes: Vec::with_capacity(alloc, segments)?,
+            firsts: Vec::with_capacity(alloc, segments)?,
             links: Vec::with_capacity(alloc, terms)?,
+            nexts: Vec::with_capacity(alloc, terms)?,
             waiting: Vec::with_capacity(alloc, segments + terms)?,
             children: Vec::with_capacity(alloc, terms)?,
         })
@@ -62,8 +70,35 @@ fn push_slots(slots: &[Slot], waiting: &mut Vec<SegId>)
     let mut left = slots.len();
     while left > 0 {
         left -= 1;
-        let _ = waiting.push(slots[left].seg);
+        waiting.push_reserved(slots[left].seg);
     }
+}
+
+/// Lists the children of the trees of kept Links, each tree with its first slot as its root.
+fn list_children(
+    slots: &[Slot],
+    links: &[OpenLink],
+    firsts: &mut Vec<Option<usize>>,
+    nexts: &mut Vec<NextLinks>,
+    waiting: &mut Vec<SegId>,
+    children: &mut Vec<ChildLink>,
+)
+    requires apart { AreApartSegments (slot_segs slots.now) }
+    requires between { All (IsBetween (slot_segs slots.now)) links.now }
+    requires firsts_room { length slots.now ≤ vec_capacity firsts.old }
+    requires nexts_room { length links.now ≤ vec_capacity nexts.old }
+    requires waiting_room { length slots.now + length links.now ≤ vec_capacity waiting.old }
+    requires children_room { length links.now ≤ vec_capacity children.old }
+    ensures children { children.new.items ≡ children_of (slot_segs slots.now) links.now }
+    ensures firsts_room { vec_capacity firsts.old ≤ vec_capacity firsts.new }
+    ensures nexts_room { vec_capacity nexts.old ≤ vec_capacity nexts.new }
+    ensures waiting_room { vec_capacity waiting.old ≤ vec_capacity waiting.new }
+    ensures children_room { vec_capacity children.old ≤ vec_capacity children.new }
+{
+    list_links(slots, links, firsts, nexts);
+    push_slots(slots, waiting);
+    children.clear();
+    walk(slots, links, nexts.as_slice(), firsts, waiting, children);
 }
 
 /// Gathers a pair of lines on a part: its slots, and the trees of its kept Links, each child after its parent. Answers
@@ -78,6 +113,7 @@ fn plan_pair(
 ) -> u64
     requires fits { IsPrefixOf problem.now.segs prefix.now }
     requires part { All (λ (s : SegId). s.0 < length problem.now.segs) part.now }
+    requires apart { AreApartSegments part.now }
     requires known { All (λ (t : ℕ × Term). IsTerm problem.now.segs t.1) terms.now }
     requires inside { All (λ (t : ℕ × Term). is_of part.now t.1 ≡ true) terms.now }
     requires mine { All (λ (t : ℕ × Term). pair ≡ pair_in t.1) terms.now }
@@ -86,6 +122,7 @@ fn plan_pair(
     ensures collected { IsCollected problem.now.segs prefix.now.placed pair (open_segments problem.now.segs prefix.now.placed part.now pair) terms.now result room.new.slots.items (kept_links prefix.now.placed pair terms.now) }
     ensures children { room.new.children.items ≡ children_of (open_segments problem.now.segs prefix.now.placed part.now pair) (kept_links prefix.now.placed pair terms.now) }
     ensures small { All (IsSmall (2 ^ 41)) room.new.slots.items }
+    ensures apart { AreApartSegments (slot_segs room.new.slots.items) }
     ensures light { All (λ (c : ChildLink). c.link.weight ≤ 256000) room.new.children.items }
     ensures few { vec_len room.new.children ≤ 4000000 }
     ensures room { KeepsRoom room.old room.new }
@@ -97,11 +134,17 @@ fn plan_pair(
         pair,
         terms,
         &mut room.slots,
+        &mut room.classes,
         &mut room.links,
     );
-    push_slots(room.slots.as_slice(), &mut room.waiting);
-    room.children.clear();
-    walk(&mut room.waiting, &mut room.links, &mut room.children);
+    list_children(
+        room.slots.as_slice(),
+        room.links.as_slice(),
+        &mut room.firsts,
+        &mut room.nexts,
+        &mut room.waiting,
+        &mut room.children,
+    );
     decided
 }
 

@@ -1,30 +1,18 @@
 //! The walk over the trees of kept Links: each segment but the roots with the Link to its parent, parents first.
 
-ghost use Rattle.std.specs.Prelude.{◌≡◌, ◌<◌, ◌≤◌, ◌+◌, ◌++◌, ◌∷◌, [], ℕ, not, length, map, filter, reverse};
+ghost use Rattle.std.specs.Prelude.{◌≡◌, ◌<◌, ◌≤◌, ◌+◌, ◌++◌, ◌∷◌, [], true, ℕ, length, map, filter, reverse, drop, take, All, Option, IfSome};
 ghost use Rattle.std.specs.Vec.{vec_len, vec_capacity};
 ghost use Rattle.map_base.specs.declared.ids.SegId.{SegId};
-ghost use Rattle.order_bound.specs.declared.pairs.OpenLink.{OpenLink};
-ghost use Rattle.order_bound.specs.CanonicalPrices.{ends_at, far_end, child_link, walked};
+ghost use Rattle.order_bound.specs.declared.pairs.ChildLink.{ChildLink};
+ghost use Rattle.order_bound.specs.Pairs.{AreApartSegments};
+ghost use Rattle.order_bound.specs.CanonicalPrices.{ends_at, child_link, walked};
+ghost use Rattle.pair_bounds.specs.Slots.{slot_segs, IsBetween};
+ghost use Rattle.pair_bounds.specs.LinkLists.{links_from, is_next_child, IsOnList, AreFirst, AreNext};
 
+use crate::link_lists::{NextLinks, first_at, next_along, replace_first};
+use crate::slots::Slot;
 use map_base::SegId;
 use order_bound::{ChildLink, OpenLink};
-
-/// Whether a Link ends at a segment.
-pub(crate) fn ends_at(seg: SegId, link: OpenLink) -> bool
-    ensures { result ≡ ends_at seg link }
-{
-    if link.seg.0 == seg.0 {
-        return true;
-    }
-    link.other.0 == seg.0
-}
-
-/// Whether a Link doesn't end at a segment.
-fn is_elsewhere(seg: SegId, link: OpenLink) -> bool
-    ensures { result ≡ not (ends_at seg link) }
-{
-    !ends_at(seg, link)
-}
 
 /// A Link of a parent, with the child.
 fn child_link(parent: SegId, link: OpenLink) -> ChildLink
@@ -38,76 +26,99 @@ fn child_link(parent: SegId, link: OpenLink) -> ChildLink
     ChildLink { child, link }
 }
 
-/// Adds the children of a segment by the Links that are left.
-fn push_children(parent: SegId, links: &[OpenLink], children: &mut Vec<ChildLink>)
-    requires room { vec_len children.old + length links.now ≤ vec_capacity children.old }
-    ensures items { children.new.items ≡ children.old.items ++ map (child_link parent) (filter (ends_at parent) links.now) }
-    ensures room { vec_capacity children.old ≤ vec_capacity children.new }
-{
-    for link in links {
-        push_child(parent, *link, children);
-    }
-}
-
-/// Adds the child of a segment by a Link, if it ends there.
-fn push_child(parent: SegId, link: OpenLink, children: &mut Vec<ChildLink>)
-    requires room { vec_len children.old < vec_capacity children.old }
-    ensures items { children.new.items ≡ children.old.items ++ map (child_link parent) (filter (ends_at parent) (link ∷ [])) }
-    ensures room { vec_capacity children.old ≤ vec_capacity children.new }
-{
-    if ends_at(parent, link) {
-        let _ = children.push(child_link(parent, link));
-    }
-}
-
-/// Lets the far ends of a segment's Links wait, the first of them last, so that it comes in turn first.
-fn push_waiting(parent: SegId, links: &[OpenLink], waiting: &mut Vec<SegId>)
-    requires room { vec_len waiting.old + length links.now ≤ vec_capacity waiting.old }
-    ensures items { waiting.new.items ≡ waiting.old.items ++ reverse (map (far_end parent) (filter (ends_at parent) links.now)) }
-    ensures room { vec_capacity waiting.old ≤ vec_capacity waiting.new }
-{
-    let mut left = links.len();
-    while left > 0 {
-        left -= 1;
-        push_far_end(parent, links[left], waiting);
-    }
-}
-
-/// Lets the far end of a segment's Link wait, if the Link ends there.
-fn push_far_end(parent: SegId, link: OpenLink, waiting: &mut Vec<SegId>)
-    requires room { vec_len waiting.old < vec_capacity waiting.old }
-    ensures items { waiting.new.items ≡ waiting.old.items ++ map (far_end parent) (filter (ends_at parent) (link ∷ [])) }
-    ensures room { vec_capacity waiting.old ≤ vec_capacity waiting.new }
-{
-    if ends_at(parent, link) {
-        let _ = waiting.push(child_link(parent, link).child);
-    }
-}
-
-/// Leaves the Links that don't end at a segment.
-fn leave_others(parent: SegId, links: &mut Vec<OpenLink>)
-    ensures items { links.new.items ≡ filter (λ l. not (ends_at parent l)) links.old.items }
-    ensures room { vec_capacity links.new ≡ vec_capacity links.old }
-{
-    links.retain(|link| is_elsewhere(parent, *link));
-}
-
-/// Walks on from the segments that wait, the last of them first, until none waits.
-pub(crate) fn walk(
-    waiting: &mut Vec<SegId>,
-    links: &mut Vec<OpenLink>,
+/// Adds the child of a segment by a Link, if the child's list is not emptied.
+fn push_child(
+    parent: SegId,
+    link: OpenLink,
+    slots: &[Slot],
+    firsts: &[Option<usize>],
     children: &mut Vec<ChildLink>,
 )
-    requires waiting { vec_len waiting.old + vec_len links.old ≤ vec_capacity waiting.old }
-    requires children { vec_len children.old + vec_len links.old ≤ vec_capacity children.old }
-    ensures items { children.new.items ≡ children.old.items ++ walked (vec_len waiting.old + vec_len links.old) (reverse waiting.old.items) links.old.items }
+    requires apart { AreApartSegments (slot_segs slots.now) }
+    requires each { length firsts.now ≡ length slots.now }
+    requires ends { ends_at parent link ≡ true }
+    requires room { vec_len children.old + length (filter (is_next_child parent (slot_segs slots.now) firsts.now) (link ∷ [])) ≤ vec_capacity children.old }
+    ensures items { children.new.items ≡ children.old.items ++ map (child_link parent) (filter (is_next_child parent (slot_segs slots.now) firsts.now) (link ∷ [])) }
+    ensures room { vec_capacity children.old ≤ vec_capacity children.new }
+{
+    let child = child_link(parent, link);
+    if first_at(slots, child.child, firsts).is_some() {
+        children.push_reserved(child);
+    }
+}
+
+/// Adds the children of a segment by the Links on its list, but for those whose own lists are emptied.
+fn push_children(
+    parent: SegId,
+    first: Option<usize>,
+    slots: &[Slot],
+    links: &[OpenLink],
+    nexts: &[NextLinks],
+    firsts: &[Option<usize>],
+    children: &mut Vec<ChildLink>,
+)
+    requires apart { AreApartSegments (slot_segs slots.now) }
+    requires each { length firsts.now ≡ length slots.now }
+    requires nexts { AreNext links.now 0 nexts.now }
+    requires first { IfSome first (IsOnList parent links.now) }
+    requires room { vec_len children.old + length (filter (is_next_child parent (slot_segs slots.now) firsts.now) (links_from first links.now)) ≤ vec_capacity children.old }
+    ensures items { children.new.items ≡ children.old.items ++ map (child_link parent) (filter (is_next_child parent (slot_segs slots.now) firsts.now) (links_from first links.now)) }
+    ensures room { vec_capacity children.old ≤ vec_capacity children.new }
+{
+    let mut at = first;
+    while let Some(place) = at {
+        let link = links[place];
+        push_child(parent, link, slots, firsts, children);
+        at = next_along(parent, link, nexts[place]);
+    }
+}
+
+/// Lets children wait, the first of them last, so that it comes in turn first.
+fn push_waiting(children: &[ChildLink], waiting: &mut Vec<SegId>)
+    requires room { vec_len waiting.old + length children.now ≤ vec_capacity waiting.old }
+    ensures items { waiting.new.items ≡ waiting.old.items ++ reverse (map (λ (c : ChildLink). c.child) children.now) }
+    ensures room { vec_capacity waiting.old ≤ vec_capacity waiting.new }
+{
+    let mut left = children.len();
+    while left > 0 {
+        left -= 1;
+        waiting.push_reserved(children[left].child);
+    }
+}
+
+/// Walks on from the segments that wait, the last of them first, until none waits. A segment that came in turn has an
+/// empty list from then on.
+pub(crate) fn walk(
+    slots: &[Slot],
+    links: &[OpenLink],
+    nexts: &[NextLinks],
+    firsts: &mut Vec<Option<usize>>,
+    waiting: &mut Vec<SegId>,
+    children: &mut Vec<ChildLink>,
+)
+    requires apart { AreApartSegments (slot_segs slots.now) }
+    requires between { All (IsBetween (slot_segs slots.now)) links.now }
+    requires firsts { AreFirst (slot_segs slots.now) links.now [] 0 firsts.old.items }
+    requires nexts { AreNext links.now 0 nexts.now }
+    requires waiting { vec_len waiting.old + length links.now ≤ vec_capacity waiting.old }
+    requires children { vec_len children.old + length links.now ≤ vec_capacity children.old }
+    ensures items { children.new.items ≡ children.old.items ++ walked (vec_len waiting.old + length links.now) (reverse waiting.old.items) links.now }
+    ensures firsts { vec_capacity firsts.new ≡ vec_capacity firsts.old }
     ensures waiting { vec_capacity waiting.old ≤ vec_capacity waiting.new }
-    ensures links { vec_capacity links.old ≤ vec_capacity links.new }
     ensures children { vec_capacity children.old ≤ vec_capacity children.new }
 {
     while let Some(parent) = waiting.pop() {
-        push_children(parent, links, children);
-        push_waiting(parent, links, waiting);
-        leave_others(parent, links);
+        let start = children.len();
+        let first = replace_first(slots, parent, None, firsts);
+        push_children(
+            parent,
+            first,
+            slots,
+            links,
+            nexts,
+            firsts.as_slice(),
+            children,
+        );
+        push_waiting(&children[start..], waiting);
     }
 }

@@ -3,7 +3,10 @@ use Rattle.std.specs.List.{All}
 use Rattle.std.specs.Vec.{vec_len}
 use Rattle.std.proofs.lemmas.List.Elements.{All-pop}
 use Rattle.order_bound.specs.declared.pairs.ChildLink.{ChildLink}
-use Rattle.pair_bounds.specs.Slots.{with_children, IsSmall}
+use Rattle.order_bound.specs.Pairs.{AreApartSegments}
+use Rattle.order_bound.specs.CanonicalPrices.{price_for}
+use Rattle.pair_bounds.proofs.Placed.{segs_shared}
+use Rattle.pair_bounds.specs.Slots.{slot_segs, rise_in, with_children, IsSmall}
 use Rattle.pair_bounds.proofs.PricedSlots.{children_push, child_small}
 use Rattle.pair_bounds.proofs.child_prices.price_children.Goals as goal
 
@@ -18,6 +21,7 @@ loop-child-preserved c =
       small = subst (λ m. All (IsSmall m) c.price_child.new.slots) fewer
           (subst (All (IsSmall ((2199023255552 + 524288 * (vec_len c.args.children.now - vec_len c.loop-child.children)) + 524288))) (sym c.price_child.ensures.slots)
           (child_small (2199023255552 + 524288 * (vec_len c.args.children.now - vec_len c.loop-child.children)) c.in-Some.child c.loop-child.slots light.1 c.loop-child.invariant.small));
+      apart = subst AreApartSegments (sym (ap slot_segs c.price_child.ensures.slots ∙ segs_shared c.in-Some.child.link (price_for c.in-Some.child (rise_in c.loop-child.slots c.in-Some.child.child)) c.loop-child.slots)) c.loop-child.invariant.apart;
       light = light.0;
       few = omega (arith, c.in-Some.ensures.cases, c.loop-child.invariant.few);
       room = omega (arith, c.in-Some.ensures.capacity, c.loop-child.invariant.room);

@@ -1,14 +1,17 @@
 use Rattle.std.proofs.Common.{◌^◌, ◌∙◌, length, drop, refl, sym, ap, subst, arith}
 use Rattle.std.specs.List.{All}
-use Rattle.order_bound.specs.Pairs.{kept_links}
+use Rattle.order_bound.specs.Pairs.{kept_links, AreApartSegments}
 use Rattle.order_bound.specs.Values.{int_sum}
-use Rattle.pair_bounds.specs.Slots.{slot_least, IsSmall}
+use Rattle.pair_bounds.specs.Slots.{slot_segs, slot_least, IsSmall}
 use Rattle.pair_bounds.proofs.Gathered.{take_front}
 use Rattle.pair_bounds.proofs.PairCosts.{pair_total}
 use Rattle.pair_bounds.proofs.one_pair.price_pair.Goals as goal
 
 pub price_children-requires-clause-small : goal.price_children-requires-clause-small
 price_children-requires-clause-small c = subst (All (IsSmall (2 ^ 41))) (sym c.as_mut_slice.ensures.value) c.plan_pair-decided.ensures.small
+
+pub price_children-requires-clause-apart : goal.price_children-requires-clause-apart
+price_children-requires-clause-apart c = subst (λ slots. AreApartSegments (slot_segs slots)) (sym c.as_mut_slice.ensures.value) c.plan_pair-decided.ensures.apart
 
 pub returns-clause-decided : goal.returns-clause-decided
 returns-clause-decided c = c.plan_pair-decided.ensures.collected.base_is
