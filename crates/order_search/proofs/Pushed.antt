@@ -34,7 +34,8 @@ on_lines [] i d below = absurd (omega (arith, below))
 on_lines (x ∷ lines) zero d below = (0, omega arith, refl)
 on_lines (x ∷ lines) (suc i) d below = let rest = on_lines lines i d (omega (arith, below)) in (suc rest.0, omega (arith, rest.1), rest.2)
 
-has_at : (lines : List LineId) (i : ℕ) (d : LineId) → i < length lines → is_placed lines (get_or lines i d) ≡ true
+-- each of some lines is one of them
+pub has_at : (lines : List LineId) (i : ℕ) (d : LineId) → i < length lines → is_placed lines (get_or lines i d) ≡ true
 has_at [] i d below = absurd (omega (arith, below))
 has_at (x ∷ lines) zero d below = rw (eq-eqb x.0 x.0 refl) refl
 has_at (x ∷ lines) (suc i) d below = later (x.0 == (get_or lines i d).0) (is_placed lines (get_or lines i d)) (has_at lines i d (omega (arith, below)))

@@ -13,7 +13,9 @@ use Rattle.order_bound.specs.CanonicalPrices.{pair_prices, price_among}
 use Rattle.pair_shares.specs.declared.changes.Change.{Change}
 use Rattle.pair_bounds.specs.declared.one_pair.Room.{Room}
 use Rattle.pair_shares.specs.declared.pair_terms.PairTerms.{PairTerms}
+use Rattle.pair_shares.specs.declared.pair_rows.PairHere.{PairHere}
 use Rattle.pair_shares.specs.Changes.{is_new_pair}
+use Rattle.pair_shares.specs.Meeting.{is_listed, AreBySegment}
 use Rattle.pair_shares.specs.PairGroups.{Group, KnowsOwn, groups_of, groups_in, no_group, IsGroup}
 use Rattle.pair_bounds.specs.PriceNotes.{price_noted}
 use Rattle.pair_shares.specs.Shares.{HasRoomFor}
@@ -36,6 +38,12 @@ pub record AreMarked (c : Change) (pairs : List PairTerms) (count : ℕ) (before
   pub still : (k : ℕ) → slice_index_or after k true ≡ false → slice_index_or before k true ≡ false
   pub marked : (k : ℕ) (e : PairTerms) → k < count → k < length pairs → e ≡ slice_index_or pairs k e → slice_index_or after k true ≡ false → is_changed_pair c e ≡ false
 
+-- so it is for the pairs at the places of a row
+pub record AreMarkedOn (c : Change) (pairs : List PairTerms) (row : List PairHere) (before after : List Bool) : Type 0 where
+  pub each : length after ≡ length before
+  pub still : (k : ℕ) → slice_index_or after k true ≡ false → slice_index_or before k true ≡ false
+  pub marked : (k : ℕ) (e : PairTerms) → is_listed row k ≡ true → k < length pairs → e ≡ slice_index_or pairs k e → slice_index_or after k true ≡ false → is_changed_pair c e ≡ false
+
 -- each term of a pair has its canonical price
 abbrev pub IsNoted : List (List LineId) → List (List LineId) → List SegId → (ℕ → ℤ) → Group → Type 0
 IsNoted segs placed part price g = All (λ (t : ℕ × Term). price t.0 ≡ price_among (pair_prices segs placed part g.1 g.0) t.0) g.1
@@ -46,7 +54,7 @@ AreNoted segs placed part price groups stale =
     (k : ℕ) → k < length groups → slice_index_or stale k true ≡ false → IsNoted segs placed part price (slice_index_or groups k no_group)
 
 -- the pairs of a part, whose prices are noted by number, but for those that are stale
-pub record IsPricedUp (problem : ProblemParts) (part : List SegId) (numbers : List ℕ) (prefix : Placement) (pairs : List PairTerms) (room : Room) (noted : List ℤ) (stale : List Bool) : Type 0 where
+pub record IsPricedUp (problem : ProblemParts) (part : List SegId) (numbers : List ℕ) (prefix : Placement) (pairs : List PairTerms) (rows : List (List PairHere)) (room : Room) (noted : List ℤ) (stale : List Bool) : Type 0 where
   pub fits : IsPrefixOf problem.segs prefix
   pub known : All (λ (s : SegId). s.0 < length problem.segs) part
   pub rises : IsRisingPart part
@@ -54,6 +62,7 @@ pub record IsPricedUp (problem : ProblemParts) (part : List SegId) (numbers : Li
   pub grouped : groups_in pairs ≡ groups_of (part_terms problem.terms part)
   pub groups : All (IsGroup problem.segs part) (groups_in pairs)
   pub own : All (KnowsOwn part) pairs
+  pub by_segment : AreBySegment (length problem.segs) pairs rows
   pub has_room : HasRoomFor part (groups_in pairs) room
   pub enough : length noted ≡ length problem.terms
   pub each : length stale ≡ length pairs

@@ -1,5 +1,5 @@
 -- By how much the bound rises where a line is placed next, noted while nothing near changes.
-use Rattle.std.specs.Prelude.{◌≡◌, ℕ, ◌+◌, ◌<◌, ◌≤◌, true, List, [], length, map, Option, Some, None, ◌⊎◌, slice_index_or, Vec}
+use Rattle.std.specs.Prelude.{◌≡◌, ℕ, ◌+◌, ◌<◌, ◌≤◌, ◌==◌, Bool, true, ◌||◌, List, [], length, map, Option, Some, None, ◌⊎◌, slice_index_or, Vec}
 use Rattle.std.specs.Global.{Global}
 use Rattle.map_base.specs.declared.ids.SegId.{SegId}
 use Rattle.map_base.specs.declared.ids.LineId.{LineId}
@@ -7,6 +7,7 @@ use Rattle.order_model.specs.declared.term.Term.{Term}
 use Rattle.order_model.specs.Problems.{lines_on}
 use Rattle.order_model.specs.PartTerms.{is_in}
 use Rattle.order_model.specs.Completions.{placed_more}
+use Rattle.order_bound.specs.declared.pairs.Pair.{Pair}
 use Rattle.order_bound.specs.Bounds.{bound_of}
 use Rattle.pair_shares.specs.declared.changes.Change.{Change}
 use Rattle.pair_shares.specs.declared.pair_rows.PairHere.{PairHere}
@@ -31,10 +32,18 @@ pub record AreFewer (old new : List (List (Option Rise))) : Type 0 where
 pub record IsForgotten (rises : List (List (Option Rise))) (s : ℕ) : Type 0 where
   pub none : (i : ℕ) → rise_at rises s i ≡ None
 
--- nothing is noted on the segments of those pairs of a row that a placing changes
-abbrev pub AreForgotten : Change → List PairTerms → List PairHere → List (List (Option Rise)) → Type 0
-AreForgotten c pairs row rises =
-    (k : ℕ) (e : PairTerms) (s : SegId) → is_listed row k ≡ true → k < length pairs → e ≡ slice_index_or pairs k e → is_new_pair c e.pair ≡ true → is_in e.segs.items s ≡ true → IsForgotten rises s.0
+-- the line is one of a pair's
+abbrev pub is_of_pair : LineId → Pair → Bool
+is_of_pair a p = a.0 == p.lesser.0 || a.0 == p.greater.0
+
+-- nothing is noted for the lines of a pair on a segment with these lines, nor for any line there if two are left
+pub record IsForgottenFor (lines placed : List LineId) (s : ℕ) (p : Pair) (rises : List (List (Option Rise))) : Type 0 where
+  pub none : (i : ℕ) (a : LineId) → i < length lines → a ≡ slice_index_or lines i a → (is_of_pair a p ≡ true) ⊎ (length placed + 2 ≡ length lines) → rise_at rises s i ≡ None
+
+-- so it is on the segments of those pairs of a row that a placing changes
+abbrev pub AreForgotten : List (List LineId) → List (List LineId) → Change → List PairTerms → List PairHere → List (List (Option Rise)) → Type 0
+AreForgotten segs placed c pairs row rises =
+    (k : ℕ) (e : PairTerms) (s : SegId) → is_listed row k ≡ true → k < length pairs → e ≡ slice_index_or pairs k e → is_new_pair c e.pair ≡ true → is_in e.segs.items s ≡ true → IsForgottenFor (lines_on segs s) (lines_on placed s) s.0 e.pair rises
 
 -- a rise more than those before, for the line at a place of a segment
 pub record IsRiseMore (s i : ℕ) (n : Rise) (old new : List (List (Option Rise))) : Type 0 where
@@ -50,10 +59,10 @@ abbrev pub AreTrueRises : List (List LineId) → List SegId → List (ℕ × Ter
 AreTrueRises segs part terms placed rises =
     (s : SegId) (i : ℕ) (a : LineId) (n : Rise) → s.0 < length segs → i < length (lines_on segs s) → a ≡ slice_index_or (lines_on segs s) i a → rise_at rises s.0 i ≡ Some n → IsTrueRise segs part terms placed s a n
 
--- what a placing changes is forgotten: what is noted on its segment, on the segments of the pairs that it changes, and on
--- those joined to it by Aparts
-pub record HasForgotten (c : Change) (pairs : List PairTerms) (row : List PairHere) (joined : List SegId) (old new : List (List (Option Rise))) : Type 0 where
+-- what a placing changes is forgotten: what is noted on its segment, for the lines of the pairs that it changes on their
+-- segments, and on the segments joined to it by Aparts
+pub record HasForgotten (segs placed : List (List LineId)) (c : Change) (pairs : List PairTerms) (row : List PairHere) (joined : List SegId) (old new : List (List (Option Rise))) : Type 0 where
   pub fewer : AreFewer old new
   pub own : IsForgotten new c.seg.0
-  pub changed : AreForgotten c pairs row new
+  pub changed : AreForgotten segs placed c pairs row new
   pub settled : (s : SegId) → is_in joined s ≡ true → IsForgotten new s.0

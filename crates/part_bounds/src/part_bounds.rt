@@ -7,7 +7,7 @@ ghost use Rattle.order_model.specs.Problems.{lines_on};
 ghost use Rattle.order_model.specs.Completions.{placed_more};
 ghost use Rattle.order_model.specs.Parts.{IsRisingPart};
 ghost use Rattle.order_model.specs.PartTerms.{part_terms, part_numbers};
-ghost use Rattle.order_model.specs.Prefixes.{is_placed, is_left, first_placed, none_placed, without_last};
+ghost use Rattle.order_model.specs.Prefixes.{is_placed, is_unplaced, is_left, first_placed, none_placed, without_last};
 ghost use Rattle.order_bound.specs.Bounds.{bound_of};
 ghost use Rattle.pair_shares.specs.PairGroups.{groups_of, share_of};
 ghost use Rattle.part_bounds.specs.PartStates.{state_more, with_placed, IsWell};
@@ -19,9 +19,9 @@ use map_base::{LineId, NoMemory, SegId};
 use order_model::{Prefix, Problem};
 use pair_bounds::{NotedPrices, Room};
 use pair_shares::{
-    PairHere, PairTerms, ShareNote, change_on, fill_shares, find_segments, keys_of, last_two,
-    most_terms, next_line, no_notes, pairs_by_segment, pairs_of, placed_count, renew_shares,
-    sum_anew, sum_told,
+    PairTerms, SegmentPairs, ShareNote, change_on, fill_shares, find_segments, has_line, keys_of,
+    last_two, most_terms, next_line, no_notes, pairs_by_segment, pairs_for, pairs_of, placed_count,
+    renew_shares, sum_anew, sum_told,
 };
 use std::alloc::Global;
 use std::marker::Model;
@@ -38,7 +38,7 @@ pub struct PartBounds<'a> {
     /// The pairs of lines of the part's terms.
     pairs: Vec<PairTerms>,
     /// For each segment of the problem the pairs that have a term there.
-    rows: Vec<Vec<PairHere>>,
+    rows: Vec<SegmentPairs>,
     /// What each pair adds to the bound beside its Aparts.
     shares: Vec<u64>,
     /// The sum of these.
@@ -58,7 +58,7 @@ impl<'a> Model for PartBounds<'a> {
     ghost use Rattle.std.specs.Vec.{vec_capacity};
     ghost use Rattle.order_model.specs.PartTerms.{part_terms};
     ghost use Rattle.part_bounds.specs.PartStates.{PartState};
-    ghost use Rattle.pair_shares.specs.Meeting.{rows_in};
+    ghost use Rattle.pair_shares.specs.SegmentRows.{pairs_in};
     ghost use Rattle.part_bounds.specs.Rises.{rises_in};
     ghost use Rattle.part_bounds.specs.Kept.{IsKeptUp};
 
@@ -66,7 +66,7 @@ impl<'a> Model for PartBounds<'a> {
 
     ghost view = { λ b. record { segs = b.problem.now.segs; part = b.part.now; terms = part_terms b.problem.now.terms b.part.now; placed = b.prefix.placed } };
 
-    ghost invariant = { λ b. IsKeptUp b.problem.now b.part.now b.numbers.now b.prefix b.pairs.items b.shares.items (vec_capacity b.shares) b.total b.room b.aparts (rows_in b.rows.items) b.keys.items b.notes.items (rises_in b.rises.items) };
+    ghost invariant = { λ b. IsKeptUp b.problem.now b.part.now b.numbers.now b.prefix b.pairs.items b.shares.items (vec_capacity b.shares) b.total b.room b.aparts (pairs_in b.rows.items) b.keys.items b.notes.items (rises_in b.rises.items) };
 }
 
 impl<'a> PartBounds<'a> {
@@ -99,7 +99,7 @@ impl<'a> PartBounds<'a> {
             &mut shares,
             &mut room,
         );
-        let rows = pairs_by_segment(alloc, problem.segs().len(), pairs.as_slice())?;
+        let rows = pairs_by_segment(alloc, problem, pairs.as_slice())?;
         let aparts = Aparts::of_terms(alloc, problem, numbers, &prefix)?;
         let keys = keys_of(alloc, problem, &prefix, part, pairs.as_slice())?;
         let notes = no_notes(alloc, numbers.len())?;
@@ -140,13 +140,14 @@ impl<'a> PartBounds<'a> {
     {
         let segs = self.problem.segs();
         match line_at(segs[seg.0 as usize].as_slice(), line) {
-            Some(at) => self.bound_noted(seg, line, at),
-            None => self.bound_anew(seg, line),
+            Some(at) => self.bound_with_at(seg, line, at),
+            None => self.bound_placed(seg, line),
         }
     }
 
-    /// The same from what is noted for the line, which stands at this place of the segment, if it is; else it is noted.
-    fn bound_noted(&mut self, seg: SegId, line: LineId, at: usize) -> u64
+    /// The same for a caller who knows at which place of the segment the line stands. It is told from what is noted for the
+    /// line, if it is; else it is noted.
+    pub fn bound_with_at(&mut self, seg: SegId, line: LineId, at: usize) -> u64
         requires rising { All AreRising self.old.segs }
         requires well { IsWell self.old.segs self.old.placed }
         requires known { seg.0 < length self.old.segs }
@@ -161,13 +162,13 @@ impl<'a> PartBounds<'a> {
         if let Some(rise) = rise_at(&self.rises, seg, at) {
             return bound + rise.child - rise.bound;
         }
-        let child = self.bound_anew(seg, line);
+        let child = self.bound_anew(seg, line, at);
         note_rise(&mut self.rises, seg, at, Rise { bound, child });
         child
     }
 
     /// The same, told from what is noted of the pairs, or worked out anew.
-    fn bound_anew(&mut self, seg: SegId, line: LineId) -> u64
+    fn bound_anew(&mut self, seg: SegId, line: LineId, at: usize) -> u64
         requires rising { All AreRising self.old.segs }
         requires well { IsWell self.old.segs self.old.placed }
         requires known { seg.0 < length self.old.segs }
@@ -176,7 +177,7 @@ impl<'a> PartBounds<'a> {
         ensures bound { result ≡ bound_of self.old.segs self.old.part self.old.terms (placed_more self.old.segs self.old.placed seg line) }
         ensures kept { self.new ≡ self.old }
     {
-        match self.pairs_with(seg, line) {
+        match self.pairs_with(seg, line, at) {
             Some(total) => total + self.aparts.total_with(&self.prefix, seg, line),
             None => self.bound_placed(seg, line),
         }
@@ -204,7 +205,7 @@ impl<'a> PartBounds<'a> {
             self.part,
             &change,
             self.pairs.as_slice(),
-            self.rows[seg.0 as usize].as_slice(),
+            self.rows[seg.0 as usize].all.as_slice(),
             &self.shares,
             self.total,
             &mut self.notes,
@@ -214,19 +215,20 @@ impl<'a> PartBounds<'a> {
         total + settled
     }
 
-    /// What the pairs add once a line of a segment is placed next, if all of it is noted.
-    fn pairs_with(&self, seg: SegId, line: LineId) -> Option<u64>
+    /// What the pairs add once the line at a place of a segment is placed next, if all of it is noted.
+    fn pairs_with(&self, seg: SegId, line: LineId, at: usize) -> Option<u64>
         requires known { seg.0 < length self.now.segs }
         ensures { IfSome result (λ total. total ≡ sum_by (share_of self.now.segs self.now.part (placed_more self.now.segs self.now.placed seg line)) (groups_of self.now.terms)) }
     {
         let next = next_line(self.problem, &self.prefix, seg, line);
+        let row = pairs_for(&self.rows[seg.0 as usize], &next, at);
         sum_told(
             self.problem,
             &self.prefix,
             self.part,
             &next,
             self.pairs.as_slice(),
-            self.rows[seg.0 as usize].as_slice(),
+            row,
             self.shares.as_slice(),
             self.total,
             self.keys.as_slice(),
@@ -246,6 +248,7 @@ impl<'a> PartBounds<'a> {
             numbers: self.numbers,
             prefix: self.prefix,
             pairs: self.pairs,
+            rows: self.rows,
             room: self.room,
             noted,
             stale,
@@ -269,6 +272,14 @@ impl<'a> PartBounds<'a> {
         self.prefix.is_left(self.problem, seg, line)
     }
 
+    /// Whether a line is not placed on a segment, for a caller who knows whether it stands there.
+    pub fn is_unplaced(&self, seg: SegId, line: LineId) -> bool
+        requires { seg.0 < length self.now.placed }
+        ensures { result ≡ is_unplaced (lines_on self.now.placed seg) line }
+    {
+        !has_line(self.prefix.placed(seg), line)
+    }
+
     /// Places a line of a segment next, and the one that is then left there alone.
     pub fn place(&mut self, seg: SegId, line: LineId)
         requires well { IsWell self.old.segs self.old.placed }
@@ -289,7 +300,7 @@ impl<'a> PartBounds<'a> {
             self.part,
             &change,
             self.pairs.as_slice(),
-            self.rows[seg.0 as usize].as_slice(),
+            self.rows[seg.0 as usize].all.as_slice(),
             &mut self.shares,
             self.total,
             &mut self.keys,
@@ -298,9 +309,11 @@ impl<'a> PartBounds<'a> {
         );
         forget_near(
             &mut self.rises,
+            self.problem,
+            &self.prefix,
             &change,
             self.pairs.as_slice(),
-            self.rows[seg.0 as usize].as_slice(),
+            self.rows[seg.0 as usize].all.as_slice(),
             self.aparts.joined(seg),
         );
     }
@@ -324,7 +337,7 @@ impl<'a> PartBounds<'a> {
             self.part,
             &change,
             self.pairs.as_slice(),
-            self.rows[seg.0 as usize].as_slice(),
+            self.rows[seg.0 as usize].all.as_slice(),
             &mut self.shares,
             self.total,
             &mut self.keys,
@@ -333,9 +346,11 @@ impl<'a> PartBounds<'a> {
         );
         forget_near(
             &mut self.rises,
+            self.problem,
+            &self.prefix,
             &change,
             self.pairs.as_slice(),
-            self.rows[seg.0 as usize].as_slice(),
+            self.rows[seg.0 as usize].all.as_slice(),
             self.aparts.joined(seg),
         );
     }

@@ -12,7 +12,7 @@ use map_base::{LineId, NoMemory, SegId};
 use order_model::{Prefix, Problem};
 use order_values::Prices;
 use pair_bounds::{NotedPrices, Room};
-use pair_shares::{PairTerms, change_on, last_two, placed_count};
+use pair_shares::{PairTerms, SegmentPairs, change_on, last_two, placed_count};
 use std::alloc::Global;
 use std::marker::Model;
 
@@ -27,6 +27,8 @@ pub struct PartPrices<'a> {
     pub(crate) prefix: Prefix,
     /// The pairs of lines of the part's terms.
     pub(crate) pairs: Vec<PairTerms>,
+    /// For each segment of the problem the pairs that have a term there.
+    pub(crate) rows: Vec<SegmentPairs>,
     pub(crate) room: Room,
     /// The prices of the part's terms, but for those of stale pairs.
     pub(crate) noted: NotedPrices,
@@ -37,13 +39,14 @@ pub struct PartPrices<'a> {
 impl<'a> Model for PartPrices<'a> {
     ghost use Rattle.order_model.specs.PartTerms.{part_terms};
     ghost use Rattle.part_bounds.specs.PartStates.{PartState};
+    ghost use Rattle.pair_shares.specs.SegmentRows.{pairs_in};
     ghost use Rattle.part_bounds.specs.KeptPrices.{IsPricedUp};
 
     ghost Value = { PartState };
 
     ghost view = { λ b. record { segs = b.problem.now.segs; part = b.part.now; terms = part_terms b.problem.now.terms b.part.now; placed = b.prefix.placed } };
 
-    ghost invariant = { λ b. IsPricedUp b.problem.now b.part.now b.numbers.now b.prefix b.pairs.items b.room b.noted.prices.items b.stale.items };
+    ghost invariant = { λ b. IsPricedUp b.problem.now b.part.now b.numbers.now b.prefix b.pairs.items (pairs_in b.rows.items) b.room b.noted.prices.items b.stale.items };
 }
 
 impl<'a> PartPrices<'a> {
@@ -78,7 +81,12 @@ impl<'a> PartPrices<'a> {
         self.prefix.place(self.problem, seg, line);
         let last = last_two(self.problem, &self.prefix, seg);
         let change = change_on(self.problem, &self.prefix, seg, count, last);
-        mark_changed(&change, self.pairs.as_slice(), &mut self.stale);
+        mark_changed(
+            &change,
+            self.pairs.as_slice(),
+            self.rows[seg.0 as usize].all.as_slice(),
+            &mut self.stale,
+        );
     }
 
     /// Takes back what the last placing on a segment placed. There is one that was not taken back.
@@ -93,6 +101,11 @@ impl<'a> PartPrices<'a> {
         self.prefix.take_back(self.problem, seg);
         let count = placed_count(self.problem, &self.prefix, seg);
         let change = change_on(self.problem, &self.prefix, seg, count, last);
-        mark_changed(&change, self.pairs.as_slice(), &mut self.stale);
+        mark_changed(
+            &change,
+            self.pairs.as_slice(),
+            self.rows[seg.0 as usize].all.as_slice(),
+            &mut self.stale,
+        );
     }
 }

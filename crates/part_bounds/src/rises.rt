@@ -4,13 +4,16 @@
 ghost use Rattle.std.specs.Prelude.{◌≡◌, ℕ, ◌<◌, ◌≤◌, [], true, List, length, All, Option, Some, None, IfSome, IfOk, OnOk, slice_index_or, slice_set};
 ghost use Rattle.map_base.specs.declared.ids.SegId.{SegId};
 ghost use Rattle.map_base.specs.declared.ids.LineId.{LineId};
+ghost use Rattle.order_model.specs.Problems.{lines_on};
 ghost use Rattle.order_model.specs.PartTerms.{is_in};
+ghost use Rattle.order_model.specs.Prefixes.{IsPrefixOf};
 ghost use Rattle.pair_shares.specs.declared.pair_rows.PairHere.{PairHere};
 ghost use Rattle.pair_shares.specs.Changes.{is_new_pair};
-ghost use Rattle.part_bounds.specs.Rises.{rises_in, rise_at, AreFewer, IsForgotten, AreForgotten, HasForgotten, IsRiseMore};
+ghost use Rattle.part_bounds.specs.Rises.{rises_in, rise_at, is_of_pair, AreFewer, IsForgotten, IsForgottenFor, AreForgotten, HasForgotten, IsRiseMore};
 
 use map_base::{LineId, NoMemory, SegId};
-use order_model::Problem;
+use order_bound::Pair;
+use order_model::{Prefix, Problem};
 use pair_shares::{Change, PairHere, PairTerms, is_new_pair};
 use std::alloc::Global;
 
@@ -89,48 +92,155 @@ fn forget_all(rises: &mut Vec<Vec<Option<Rise>>>, segs: &[SegId])
     }
 }
 
-/// Forgets the rises on the segments of a pair, if a placing changes it.
-#[tactic(auto, using(crate::proofs::RisesKept::fewer_itself))]
-fn forget_pair(rises: &mut Vec<Vec<Option<Rise>>>, change: &Change, entry: &PairTerms)
-    ensures fewer { AreFewer (rises_in rises.old.items) (rises_in rises.new.items) }
-    ensures forgotten { is_new_pair change.now entry.now.pair ≡ true → (s : SegId) → is_in entry.now.segs.items s ≡ true → IsForgotten (rises_in rises.new.items) s.0 }
+/// Takes away the rise at a place of a row.
+fn clear_at(row: &mut Vec<Option<Rise>>, at: usize)
+    ensures { row.new.items ≡ slice_set row.old.items at None }
 {
-    if is_new_pair(change, entry.pair) {
-        forget_all(rises, entry.segs.as_slice());
+    if at < row.len() {
+        row[at] = None;
     }
 }
 
-/// Forgets the rises on the segments of those pairs of a row that a placing changes.
-#[tactic(auto, using(crate::proofs::RisesKept::pairs_more, crate::proofs::RisesKept::fewer_on, crate::proofs::RisesKept::fewer_itself))]
+/// Forgets the rise of the line at a place of a segment.
+#[tactic(auto, using(crate::proofs::RisesKept::at_fewer, crate::proofs::RisesKept::at_none, crate::proofs::RisesKept::none_past, crate::proofs::RisesKept::fewer_itself))]
+fn forget_at(rises: &mut Vec<Vec<Option<Rise>>>, seg: SegId, at: usize)
+    ensures fewer { AreFewer (rises_in rises.old.items) (rises_in rises.new.items) }
+    ensures none { rise_at (rises_in rises.new.items) seg.0 at ≡ None }
+{
+    if (seg.0 as usize) < rises.len() {
+        clear_at(&mut rises[seg.0 as usize], at);
+    }
+}
+
+/// Whether a line is one of a pair's.
+fn is_of_pair(line: LineId, pair: Pair) -> bool
+    ensures { result ≡ is_of_pair line pair }
+{
+    if line.0 == pair.lesser.0 {
+        return true;
+    }
+    line.0 == pair.greater.0
+}
+
+/// Forgets the rise of a line, which stands at this place of a segment, if it is one of a pair's.
+#[tactic(auto, using(crate::proofs::RisesKept::fewer_itself))]
+fn forget_if(rises: &mut Vec<Vec<Option<Rise>>>, seg: SegId, at: usize, line: LineId, pair: Pair)
+    ensures fewer { AreFewer (rises_in rises.old.items) (rises_in rises.new.items) }
+    ensures none { is_of_pair line pair ≡ true → rise_at (rises_in rises.new.items) seg.0 at ≡ None }
+{
+    if is_of_pair(line, pair) {
+        forget_at(rises, seg, at);
+    }
+}
+
+/// Forgets the rises of the lines of a pair on a segment with these lines.
+fn forget_lines(rises: &mut Vec<Vec<Option<Rise>>>, seg: SegId, lines: &[LineId], pair: Pair)
+    ensures fewer { AreFewer (rises_in rises.old.items) (rises_in rises.new.items) }
+    ensures none { (i : ℕ) (a : LineId) → i < length lines.now → a ≡ slice_index_or lines.now i a → is_of_pair a pair ≡ true → rise_at (rises_in rises.new.items) seg.0 i ≡ None }
+{
+    for at in 0..lines.len() {
+        forget_if(rises, seg, at, lines[at], pair);
+    }
+}
+
+/// Forgets the rises that a change of a pair changes on a segment: those of its lines, and all of them if two lines are
+/// left there, as the placing of one then places the other, too.
+#[tactic(auto, using(crate::proofs::RisesKept::for_none, crate::proofs::RisesKept::for_all, crate::proofs::RisesKept::for_lines, crate::proofs::RisesKept::fewer_itself))]
+fn forget_for(
+    rises: &mut Vec<Vec<Option<Rise>>>,
+    problem: &Problem,
+    prefix: &Prefix,
+    seg: SegId,
+    pair: Pair,
+)
+    requires fits { IsPrefixOf problem.now.segs prefix.now }
+    ensures fewer { AreFewer (rises_in rises.old.items) (rises_in rises.new.items) }
+    ensures forgotten { IsForgottenFor (lines_on problem.now.segs seg) (lines_on prefix.now.placed seg) seg.0 pair (rises_in rises.new.items) }
+{
+    let segs = problem.segs();
+    if seg.0 as usize >= segs.len() {
+        return;
+    }
+    let lines = segs[seg.0 as usize].as_slice();
+    if prefix.placed(seg).len() + 2 == lines.len() {
+        forget_on(rises, seg);
+        return;
+    }
+    forget_lines(rises, seg, lines, pair);
+}
+
+/// Forgets the rises that a change of a pair changes on its segments.
+fn forget_each(
+    rises: &mut Vec<Vec<Option<Rise>>>,
+    problem: &Problem,
+    prefix: &Prefix,
+    segs: &[SegId],
+    pair: Pair,
+)
+    requires fits { IsPrefixOf problem.now.segs prefix.now }
+    ensures fewer { AreFewer (rises_in rises.old.items) (rises_in rises.new.items) }
+    ensures forgotten { (s : SegId) → is_in segs.now s ≡ true → IsForgottenFor (lines_on problem.now.segs s) (lines_on prefix.now.placed s) s.0 pair (rises_in rises.new.items) }
+{
+    for seg in segs {
+        forget_for(rises, problem, prefix, *seg, pair);
+    }
+}
+
+/// Forgets the rises that a change of a pair changes on its segments, if a placing changes it.
+#[tactic(auto, using(crate::proofs::RisesKept::fewer_itself))]
+fn forget_pair(
+    rises: &mut Vec<Vec<Option<Rise>>>,
+    problem: &Problem,
+    prefix: &Prefix,
+    change: &Change,
+    entry: &PairTerms,
+)
+    requires fits { IsPrefixOf problem.now.segs prefix.now }
+    ensures fewer { AreFewer (rises_in rises.old.items) (rises_in rises.new.items) }
+    ensures forgotten { is_new_pair change.now entry.now.pair ≡ true → (s : SegId) → is_in entry.now.segs.items s ≡ true → IsForgottenFor (lines_on problem.now.segs s) (lines_on prefix.now.placed s) s.0 entry.now.pair (rises_in rises.new.items) }
+{
+    if is_new_pair(change, entry.pair) {
+        forget_each(rises, problem, prefix, entry.segs.as_slice(), entry.pair);
+    }
+}
+
+/// Forgets what those pairs of a row change that a placing changes.
+#[tactic(auto, using(crate::proofs::RisesKept::fewer_on, crate::proofs::RisesKept::fewer_itself))]
 pub(crate) fn forget_changed(
     rises: &mut Vec<Vec<Option<Rise>>>,
+    problem: &Problem,
+    prefix: &Prefix,
     change: &Change,
     pairs: &[PairTerms],
     row: &[PairHere],
 )
+    requires fits { IsPrefixOf problem.now.segs prefix.now }
     requires within { All (λ (n : PairHere). n.place < length pairs.now) row.now }
     ensures fewer { AreFewer (rises_in rises.old.items) (rises_in rises.new.items) }
-    ensures forgotten { AreForgotten change.now pairs.now row.now (rises_in rises.new.items) }
+    ensures forgotten { AreForgotten problem.now.segs prefix.now.placed change.now pairs.now row.now (rises_in rises.new.items) }
 {
     for here in row {
-        forget_pair(rises, change, &pairs[here.place]);
+        forget_pair(rises, problem, prefix, change, &pairs[here.place]);
     }
 }
 
-/// Forgets the rises that a placing on a segment changes, once it is done or taken back: those on the segment, on the
-/// segments of the pairs that it changes, and on those joined to it by Aparts.
+/// Forgets the rises that a placing on a segment changes, once it is done or taken back: those on the segment, those of
+/// the lines of the pairs that it changes on their segments, and those on the segments joined to it by Aparts.
 pub(crate) fn forget_near(
     rises: &mut Vec<Vec<Option<Rise>>>,
+    problem: &Problem,
+    prefix: &Prefix,
     change: &Change,
     pairs: &[PairTerms],
     row: &[PairHere],
     joined: &[SegId],
 )
+    requires fits { IsPrefixOf problem.now.segs prefix.now }
     requires within { All (λ (n : PairHere). n.place < length pairs.now) row.now }
-    ensures near { HasForgotten change.now pairs.now row.now joined.now (rises_in rises.old.items) (rises_in rises.new.items) }
+    ensures near { HasForgotten problem.now.segs prefix.now.placed change.now pairs.now row.now joined.now (rises_in rises.old.items) (rises_in rises.new.items) }
 {
     forget_on(rises, change.seg);
-    forget_changed(rises, change, pairs, row);
+    forget_changed(rises, problem, prefix, change, pairs, row);
     forget_all(rises, joined);
 }
 

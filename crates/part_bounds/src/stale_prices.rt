@@ -7,16 +7,17 @@ ghost use Rattle.order_model.specs.PartTerms.{part_terms};
 ghost use Rattle.order_model.specs.Prefixes.{IsPrefixOf};
 ghost use Rattle.order_bound.specs.Pairs.{AreApartSegments};
 ghost use Rattle.order_bound.specs.CanonicalPrices.{pair_prices};
+ghost use Rattle.pair_shares.specs.declared.pair_rows.PairHere.{PairHere};
 ghost use Rattle.pair_shares.specs.PairGroups.{KnowsOwn, group_in, groups_in, groups_of, terms_in, IsGroup};
 ghost use Rattle.pair_bounds.specs.PriceNotes.{price_noted, price_over};
-ghost use Rattle.part_bounds.specs.KeptPrices.{cleared, is_changed_pair, AreMarked, AreNoted};
+ghost use Rattle.part_bounds.specs.KeptPrices.{cleared, is_changed_pair, AreMarkedOn, AreNoted};
 ghost use Rattle.pair_bounds.specs.Slots.{HasRoom, KeepsRoom};
 ghost use Rattle.pair_shares.specs.Shares.{HasRoomFor};
 
 use map_base::SegId;
 use order_model::{Prefix, Problem, Term};
 use pair_bounds::{NotedPrices, Room, note_pair};
-use pair_shares::{Change, PairTerms, is_changed};
+use pair_shares::{Change, PairHere, PairTerms, is_changed};
 
 /// Marks a pair as stale at its place, if a placing changes it.
 fn mark_at(change: &Change, entry: &PairTerms, stale: &mut Vec<bool>, place: usize)
@@ -30,13 +31,19 @@ fn mark_at(change: &Change, entry: &PairTerms, stale: &mut Vec<bool>, place: usi
     }
 }
 
-/// Marks those pairs as stale that a placing changes, once it is done or taken back.
-pub(crate) fn mark_changed(change: &Change, pairs: &[PairTerms], stale: &mut Vec<bool>)
-    requires { length stale.old.items ≡ length pairs.now }
-    ensures { AreMarked change.now pairs.now (length pairs.now) stale.old.items stale.new.items }
+/// Marks those pairs of a row as stale that a placing changes, once it is done or taken back.
+pub(crate) fn mark_changed(
+    change: &Change,
+    pairs: &[PairTerms],
+    row: &[PairHere],
+    stale: &mut Vec<bool>,
+)
+    requires each { length stale.old.items ≡ length pairs.now }
+    requires within { All (λ (n : PairHere). n.place < length pairs.now) row.now }
+    ensures { AreMarkedOn change.now pairs.now row.now stale.old.items stale.new.items }
 {
-    for place in 0..pairs.len() {
-        mark_at(change, &pairs[place], stale, place);
+    for here in row {
+        mark_at(change, &pairs[here.place], stale, here.place);
     }
 }
 

@@ -1,5 +1,5 @@
 -- The steps of a choice, from candidate to candidate.
-use Rattle.std.proofs.Common.{◌≡◌, ℕ, ◌+◌, ◌<◌, true, false, cond, List, length, map, take, get_or, refl, sym, ◌∙◌, ap, subst, arith, Some, None, Option, option_map}
+use Rattle.std.proofs.Common.{◌≡◌, ℕ, ◌+◌, ◌<◌, true, false, true≢false, cond, List, length, map, take, get_or, refl, sym, ◌∙◌, ap, subst, arith, Some, None, Option, option_map}
 use Rattle.std.specs.Ordering.{is_gt, nat_cmp, ordering_then}
 use Rattle.map_base.specs.declared.ids.SegId.{SegId}
 use Rattle.order_search.specs.declared.child.Child.{Child}
@@ -10,10 +10,10 @@ use Rattle.rising_search.specs.declared.walk_state.Walk.{Walk}
 use Rattle.rising_search.specs.declared.choosing.Candidate.{Candidate}
 use Rattle.rising_search.specs.Around.{placed_on}
 use Rattle.rising_search.specs.Candidates.{IsCandidate, IsCandidateIf, IsCandidateOver, IsFullIf, first_bound, floor_of}
-use Rattle.rising_search.specs.Choosing.{JoinedPart, children_on, list_on, list_order, is_end, bounds_below, is_shut, is_over, preferred, chosen}
+use Rattle.rising_search.specs.Choosing.{JoinedPart, list_on, list_order, is_end, bounds_below, is_shut, is_over, preferred, chosen}
 use Rattle.rising_search.specs.Walking.{part_of, bare, IsUnderWay}
 use Rattle.rising_search.proofs.Chosen.{IsBestOf, best_skips, best_takes, shut_chosen}
-use Rattle.rising_search.proofs.Floors.{none_below, first_in_order, is_lost}
+use Rattle.rising_search.proofs.Lows.{AreByBound, in_order_by_bound, under_lost}
 
 abbrev none : SegId
 none = record { 0 = 0 }
@@ -43,23 +43,23 @@ module _ (w : Walk) (u : IsUnderWay w) where
         subst (λ (l : List SegId). IsBestOf (bare w.bounds) w.above w.bounds.placed (take (i + 1) l) best) (sym u.part)
         (best_skips (bare w.bounds) w.above w.bounds.placed i none s inside refl best so_far_there e)
 
-    -- a segment on which a child has a bound below all of those of the best one
+    -- a segment whose children are under the floor of the best one
     pub passed : (o : Option Candidate) → best ≡ option_map (λ c. c.seg) o → IsCandidateIf w.bounds o → IsFullIf w.above o
         → is_open mid.bounds.segs mid.bounds.placed (get_or w.part.now i none) ≡ true → IsCandidateOver mid.bounds (get_or w.part.now i none) (floor_of o) None → IsBest (i + 1) best
-    passed None is of_best full opens low =
-        absurd (none_below (map (child_at (part_of mid.bounds) mid.bounds.placed (get_or w.part.now i none))
-        (lines_left (lines_on mid.bounds.segs (get_or w.part.now i none)) (lines_on mid.bounds.placed (get_or w.part.now i none)))) low)
+    passed None is of_best full opens low = absurd (true≢false (sym low))
     passed (Some c) is of_best full opens low =
         let p : JoinedPart = bare w.bounds in
         let s : SegId = get_or w.bounds.part i none in
         let at : get_or w.part.now i none ≡ s = ap (λ (l : List SegId). get_or l i none) u.part in
         let open_here : is_open w.bounds.segs w.bounds.placed s ≡ true =
         ap (is_open w.bounds.segs w.bounds.placed) (sym at) ∙ ap (λ (m : Walk). is_open m.bounds.segs m.bounds.placed (get_or w.part.now i none)) (sym same) ∙ opens in
-        let low_here : IsCandidateOver w.bounds s (first_bound c.children.items) None =
-        subst (λ (v : SegId). IsCandidateOver w.bounds v (first_bound c.children.items) None) at
-        (subst (λ (m : Walk). IsCandidateOver m.bounds (get_or w.part.now i none) (first_bound c.children.items) None) same low) in
-        let lost = is_lost w.above (children_on (part_of w.bounds) w.bounds.placed s) c.children.items (nat_cmp (placed_on w.bounds.placed (p.around s)) (placed_on w.bounds.placed (p.around c.seg)))
-        (first_in_order (first_bound c.children.items) _ low_here) full in
+        let low_here : IsCandidateOver w.bounds s (floor_of (Some c)) None =
+        subst (λ (v : SegId). IsCandidateOver w.bounds v (floor_of (Some c)) None) at
+        (subst (λ (m : Walk). IsCandidateOver m.bounds (get_or w.part.now i none) (floor_of (Some c)) None) same low) in
+        let by_bound : AreByBound c.children.items = subst AreByBound (sym of_best.children_are)
+        (in_order_by_bound (map (child_at (part_of w.bounds) w.bounds.placed c.seg) (lines_left (lines_on w.bounds.segs c.seg) (lines_on w.bounds.placed c.seg)))) in
+        let lost = under_lost w.above (record { bound = first_bound c.children.items; count = c.low }) (map (child_at (part_of w.bounds) w.bounds.placed s) (lines_left (lines_on w.bounds.segs s) (lines_on w.bounds.placed s))) c.children.items
+        (nat_cmp (placed_on w.bounds.placed (p.around s)) (placed_on w.bounds.placed (p.around c.seg))) refl of_best.low_is by_bound full low_here in
         let under : is_over p w.above w.bounds.placed s c.seg ≡ false =
         ap (λ (l : List Child). is_gt (ordering_then (list_order (list_on p.bounded w.above w.bounds.placed s) (bounds_below w.above l))
         (nat_cmp (placed_on w.bounds.placed (p.around s)) (placed_on w.bounds.placed (p.around c.seg))))) (sym of_best.children_are) ∙ lost.1 in

@@ -1,10 +1,10 @@
 -- A segment is left where the bound of one of its children is below all of those of the best segment.
-use Rattle.std.proofs.Common.{◌≡◌, ℕ, zero, suc, ◌<◌, ◌≤◌, nat_lt, ◌==◌, ◌||◌, Bool, true, false, true≢false, cond, List, [], ◌∷◌, ◌++◌, map, take, refl, sym, ◌∙◌, ap, arith, eqb-true}
-use Rattle.std.specs.Prelude.{not, Contains}
+use Rattle.std.proofs.Common.{◌≡◌, ℕ, ◌<◌, ◌≤◌, nat_lt, ◌==◌, ◌&&◌, ◌||◌, Bool, true, false, true≢false, cond, List, [], ◌∷◌, ◌++◌, length, map, get_or, refl, sym, subst, ◌∙◌, ap, arith, eqb-true}
+use Rattle.std.specs.Prelude.{Contains}
 use Rattle.std.specs.declared.cmp.Ordering.{Ordering}
 use Rattle.std.specs.declared.cmp.Ordering.TheVariants.{Less, Equal, Greater}
 use Rattle.std.specs.Ordering.{is_lt, is_gt, nat_cmp, ordering_then}
-use Rattle.std.proofs.lemmas.Bool.{lt-ltb, ltb-true, ltb-false, or_parts}
+use Rattle.std.proofs.lemmas.Bool.{lt-ltb, ltb-true, ltb-false}
 use Rattle.map_base.specs.declared.ids.LineId.{LineId}
 use Rattle.order_model.specs.Places.{has_line}
 use Rattle.order_model.specs.Prefixes.{is_placed, is_unplaced, is_left}
@@ -12,25 +12,12 @@ use Rattle.order_model.proofs.Lines.{both_true, not_true, same_line}
 use Rattle.order_model.proofs.PrefixLemmas.{contains_placed}
 use Rattle.order_search.specs.declared.child.Child.{Child}
 use Rattle.order_search.specs.Left.{lines_left}
+use Rattle.order_search.proofs.Pushed.{has_at}
 use Rattle.order_search.specs.Children.{child_order, with_child, in_order}
 use Rattle.rising_search.specs.Choosing.{bounds_below, list_order, is_end}
 use Rattle.rising_search.specs.Candidates.{first_bound, has_below}
 
--- Bounds below t among more children.
-
-pub none_below : (children : List Child) → has_below 0 children ≡ true → ⊥
-none_below [] h = true≢false (sym h)
-none_below (c ∷ children) h = by_test (nat_lt c.bound 0) refl h (none_below children)
-  where
-    by_test : (b : Bool) → nat_lt c.bound 0 ≡ b → (b || has_below 0 children) ≡ true → (has_below 0 children ≡ true → ⊥) → ⊥
-    by_test true e g rest = absurd (omega (arith, ltb-true c.bound 0 e))
-    by_test false e g rest = rest g
-
-pub below_neither : (t : ℕ) (xs ys : List Child) → has_below t xs ≡ false → has_below t ys ≡ false → has_below t (xs ++ ys) ≡ false
-below_neither t [] ys h g = g
-below_neither t (x ∷ xs) ys h g =
-    let both = or_parts (nat_lt x.bound t) (has_below t xs) h in
-    ap (λ b. b || has_below t (xs ++ ys)) both.0 ∙ below_neither t xs ys both.1 g
+-- A bound below t among more children.
 
 pub below_second : (t : ℕ) (xs ys : List Child) → has_below t ys ≡ true → has_below t (xs ++ ys) ≡ true
 below_second t [] ys g = g
@@ -40,41 +27,16 @@ below_second t (x ∷ xs) ys g = by_test (nat_lt x.bound t) (below_second t xs y
     by_test true h = refl
     by_test false h = h
 
--- a push that answers whether no bound below t was met
-not_there : (b : Bool) → not b ≡ true → b ≡ false
-not_there true h = absurd (true≢false (sym h))
-not_there false h = refl
-
-pub is_there : (b : Bool) → not b ≡ false → b ≡ true
-is_there true h = refl
-is_there false h = absurd (true≢false h)
-
-pub pushed_over : (t : ℕ) (xs ys new : List Child) (b : Bool) → new ≡ xs ++ ys → b ≡ not (has_below t ys) → b ≡ true → has_below t xs ≡ false → has_below t new ≡ false
-pushed_over t xs ys new b e over passes so_far = ap (has_below t) e ∙ below_neither t xs ys so_far (not_there (has_below t ys) (sym over ∙ passes))
-
--- what holds of the first lines holds of all
-pub below_first : (t : ℕ) (f : LineId → Child) (lines placed : List LineId) (k : ℕ) → has_below t (map f (lines_left (take k lines) placed)) ≡ true
-    → has_below t (map f (lines_left lines placed)) ≡ true
-below_first t f [] placed zero h = h
-below_first t f [] placed (suc k) h = h
-below_first t f (a ∷ lines) placed zero h = absurd (true≢false (sym h))
-below_first t f (a ∷ lines) placed (suc k) h = by_test (is_unplaced placed a) h (below_first t f lines placed k)
-  where
-    by_bound : (b : Bool) → (b || has_below t (map f (lines_left (take k lines) placed))) ≡ true → (has_below t (map f (lines_left (take k lines) placed)) ≡ true → has_below t (map f (lines_left lines placed)) ≡ true)
-        → (b || has_below t (map f (lines_left lines placed))) ≡ true
-    by_bound true g rest = refl
-    by_bound false g rest = rest g
-
-    by_test : (b : Bool) → has_below t (map f (cond b (a ∷ lines_left (take k lines) placed) (lines_left (take k lines) placed))) ≡ true
-        → (has_below t (map f (lines_left (take k lines) placed)) ≡ true → has_below t (map f (lines_left lines placed)) ≡ true) → has_below t (map f (cond b (a ∷ lines_left lines placed) (lines_left lines placed))) ≡ true
-    by_test true g rest = by_bound (nat_lt (f a).bound t) g rest
-    by_test false g rest = rest g
-
 -- A line that is left has its child among them.
 
 pub left_is_on : (lines placed : List LineId) (a : LineId) → is_left lines placed a ≡ true → Contains lines a × (is_placed placed a ≡ false)
 left_is_on lines placed a h =
     let both = both_true (has_line lines a) (is_unplaced placed a) h in (contains_placed lines a both.0, not_true (is_placed placed a) both.1)
+
+-- a line that stands on a segment is left where it is not placed
+pub left_here : (lines placed : List LineId) (a : LineId) (i : ℕ) → i < length lines → a ≡ get_or lines i a → is_left lines placed a ≡ is_unplaced placed a
+left_here lines placed a i below here =
+    let on : has_line lines a ≡ true = subst (λ (v : LineId). is_placed lines v ≡ true) (sym here) (has_at lines i a below) in ap (λ b. b && is_unplaced placed a) on
 
 left_low : (t : ℕ) (f : LineId → Child) (placed : List LineId) (a : LineId) → is_unplaced placed a ≡ true → (f a).bound < t → (ls : List LineId) → has_line ls a ≡ true
     → has_below t (map f (lines_left ls placed)) ≡ true
@@ -105,7 +67,7 @@ left_below t f lines placed a h low =
 
 -- The first of children that stand in their order.
 
-is_less : (a b k l : ℕ) → is_lt (ordering_then (nat_cmp a b) (nat_cmp k l)) ≡ true → a ≤ b
+pub is_less : (a b k l : ℕ) → is_lt (ordering_then (nat_cmp a b) (nat_cmp k l)) ≡ true → a ≤ b
 is_less a b k l h = by_tests (nat_lt a b) refl (a == b) refl h
   where
     by_tests : (x : Bool) → nat_lt a b ≡ x → (y : Bool) → (a == b) ≡ y → is_lt (ordering_then (cond x Less (cond y Equal Greater)) (nat_cmp k l)) ≡ true → a ≤ b
@@ -113,7 +75,7 @@ is_less a b k l h = by_tests (nat_lt a b) refl (a == b) refl h
     by_tests false e true f g = omega (arith, eqb-true a b f)
     by_tests false e false f g = absurd (true≢false (sym g))
 
-is_no_less : (a b k l : ℕ) → is_lt (ordering_then (nat_cmp a b) (nat_cmp k l)) ≡ false → b ≤ a
+pub is_no_less : (a b k l : ℕ) → is_lt (ordering_then (nat_cmp a b) (nat_cmp k l)) ≡ false → b ≤ a
 is_no_less a b k l h = by_test (nat_lt a b) refl h
   where
     by_test : (x : Bool) → nat_lt a b ≡ x → is_lt (ordering_then (cond x Less (cond (a == b) Equal Greater)) (nat_cmp k l)) ≡ false → b ≤ a

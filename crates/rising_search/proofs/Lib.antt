@@ -11,6 +11,7 @@ pub mod Arounds
 pub mod Turns
 pub mod AroundLines
 pub mod Floors
+pub mod Lows
 pub mod Choices
 pub mod RiseSteps
 pub mod Begun

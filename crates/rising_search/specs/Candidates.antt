@@ -1,5 +1,6 @@
 -- Segments at which a prefix may be split, with what is known of them.
-use Rattle.std.specs.Prelude.{◌≡◌, ℕ, nat_lt, Bool, true, false, List, [], ◌∷◌, map, if◌then◌else◌, slice_get, Option, Some, None}
+use Rattle.std.specs.Prelude.{◌≡◌, ℕ, ◌+◌, nat_lt, nat_le, Bool, true, false, ◌||◌, List, [], ◌∷◌, ◌++◌, map, count_by, if◌then◌else◌, slice_get, Option, Some, None, Vec}
+use Rattle.std.specs.Global.{Global}
 use Rattle.std.specs.List.{list_any}
 use Rattle.map_base.specs.declared.ids.SegId.{SegId}
 use Rattle.order_model.specs.Problems.{lines_on}
@@ -9,13 +10,24 @@ use Rattle.order_search.specs.declared.child.Child.{Child}
 use Rattle.order_search.specs.Left.{lines_left}
 use Rattle.order_search.specs.LiveTrees.{child_at}
 use Rattle.rising_search.specs.declared.choosing.Candidate.{Candidate}
+use Rattle.rising_search.specs.declared.choosing.Floor.{Floor}
 use Rattle.rising_search.specs.Around.{around, placed_on}
 use Rattle.rising_search.specs.Choosing.{children_on, bounds_below, list_order, is_end}
 use Rattle.rising_search.specs.Walking.{part_of}
 
+-- the bound of the first, 0 where there is none
+abbrev pub first_bound : List Child → ℕ
+first_bound [] = 0
+first_bound (c ∷ children) = c.bound
+
+-- how many of these have a bound up to t
+abbrev pub up_to : ℕ → List Child → ℕ
+up_to t children = count_by (λ (c : Child). nat_le c.bound t) children
+
 -- the lines around the segment, and its children, are those of the prefix
 pub record IsCandidate (b : PartState) (c : Candidate) : Type 0 where
   pub lines : c.around ≡ placed_on b.placed (around b.terms c.seg)
+  pub low_is : c.low ≡ up_to (first_bound c.children.items) c.children.items
   pub children_are : c.children.items ≡ children_on (part_of b) b.placed c.seg
 
 -- the same, where there is one
@@ -37,28 +49,48 @@ if_below t (Some c) = if nat_lt c.bound t then Some c.bound else None
 abbrev pub bound_below : ℕ → List Child → ℕ → Option ℕ
 bound_below t children k = if_below t (slice_get children k)
 
--- the bound of the first, 0 where there is none
-abbrev pub first_bound : List Child → ℕ
-first_bound [] = 0
-first_bound (c ∷ children) = c.bound
-
--- the least bound of the children of a candidate
-abbrev pub floor_of : Option Candidate → ℕ
-floor_of None = 0
-floor_of (Some c) = first_bound c.children.items
+-- the least bound of the children of a candidate, and how many of them have it
+abbrev pub floor_of : Option Candidate → Option Floor
+floor_of None = None
+floor_of (Some c) = Some (record { bound = first_bound c.children.items; count = c.low })
 
 -- one of these has a bound below t
 abbrev pub has_below : ℕ → List Child → Bool
 has_below t children = list_any (λ (c : Child). nat_lt c.bound t) children
 
--- the children, unless one has a bound below t
-abbrev pub unless_below : ℕ → List Child → Option (List Child)
-unless_below t children = if has_below t children then None else Some children
+-- the child has a bound up to that of a floor
+abbrev pub is_low : Option Floor → Child → Bool
+is_low None c = false
+is_low (Some f) c = nat_le c.bound f.bound
 
--- the segment as a candidate; or nothing, as a child on it has a bound below t
-abbrev pub IsCandidateOver : PartState → SegId → ℕ → Option Candidate → Type 0
-IsCandidateOver b s t None = has_below t (map (child_at (part_of b) b.placed s) (lines_left (lines_on b.segs s) (lines_on b.placed s))) ≡ true
-IsCandidateOver b s t (Some c) = (c.seg ≡ s) × IsCandidate b c
+-- how many of these do
+abbrev pub low_in : Option Floor → List Child → ℕ
+low_in f children = count_by (is_low f) children
+
+-- one of these has a bound below that of a floor, or more of them than it counts have a bound up to it
+abbrev pub is_under : Option Floor → List Child → Bool
+is_under None children = false
+is_under (Some f) children = has_below f.bound children || nat_lt f.count (up_to f.bound children)
+
+-- how many have a bound up to that of a floor, with one more of this bound; none where they are then under the floor
+abbrev pub low_with : Option Floor → ℕ → ℕ → Option ℕ
+low_with None low bound = Some low
+low_with (Some f) low bound = if nat_lt bound f.bound then None else if nat_lt f.bound bound then Some low else if nat_lt low f.count then Some (low + 1) else None
+
+-- the children as a list; or nothing, as they are under a floor
+abbrev pub IsListOver : Option Floor → List Child → Option (Vec Child Global) → Type 0
+IsListOver f children None = is_under f children ≡ true
+IsListOver f children (Some list) = list.items ≡ children
+
+-- these are added, and it is told how many are then up to a floor; or nothing, as they are then under it
+abbrev pub IsPushed : Option Floor → List Child → List Child → List Child → Option ℕ → Type 0
+IsPushed f old more new None = is_under f (old ++ more) ≡ true
+IsPushed f old more new (Some low) = (new ≡ old ++ more) × (low ≡ low_in f new)
+
+-- the segment as a candidate; or nothing, as its children are under a floor
+abbrev pub IsCandidateOver : PartState → SegId → Option Floor → Option Candidate → Type 0
+IsCandidateOver b s f None = is_under f (map (child_at (part_of b) b.placed s) (lines_left (lines_on b.segs s) (lines_on b.placed s))) ≡ true
+IsCandidateOver b s f (Some c) = (c.seg ≡ s) × IsCandidate b c
 
 -- one of its children has a bound below t
 abbrev pub IsFull : ℕ → Candidate → Type 0

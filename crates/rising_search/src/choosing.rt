@@ -1,6 +1,6 @@
 //! At which segment a prefix is split.
 
-ghost use Rattle.std.specs.Prelude.{◌≡◌, ℕ, ◌+◌, ◌<◌, ◌≤◌, ◌++◌, not, nat_lt, true, [], length, map, take, Contains, Option, Some, None, option_map, IfOk, OnOk, if◌then◌else◌};
+ghost use Rattle.std.specs.Prelude.{◌≡◌, ℕ, ◌+◌, ◌<◌, ◌≤◌, ◌++◌, not, nat_lt, true, [], length, map, take, slice_index_or, Option, Some, None, option_map, IfOk, OnOk, if◌then◌else◌};
 ghost use Rattle.std.specs.declared.cmp.Ordering.{Ordering};
 ghost use Rattle.map_base.specs.declared.ids.SegId.{SegId};
 ghost use Rattle.order_model.specs.Problems.{lines_on};
@@ -10,7 +10,7 @@ ghost use Rattle.order_search.specs.Children.{child_if};
 ghost use Rattle.order_search.specs.LiveTrees.{child_at};
 ghost use Rattle.rising_search.specs.Around.{around, placed_on};
 ghost use Rattle.rising_search.specs.Choosing.{children_on, bounds_below, list_order, is_end, is_over, preferred, chosen};
-ghost use Rattle.rising_search.specs.Candidates.{IsCandidate, IsCandidateIf, IsCandidateOver, IsFull, IsFullIf, is_over_of, bound_below, has_below, floor_of, unless_below, first_bound};
+ghost use Rattle.rising_search.specs.Candidates.{IsCandidate, IsCandidateIf, IsCandidateOver, IsFull, IsFullIf, IsListOver, IsPushed, is_over_of, bound_below, has_below, up_to, floor_of, low_with, low_in, is_under, first_bound};
 ghost use Rattle.part_bounds.specs.PartStates.{PartState};
 ghost use Rattle.rising_search.specs.Walking.{part_of, bare, IsUnderWay};
 
@@ -19,22 +19,35 @@ use map_base::{LineId, NoMemory, SegId};
 use order_search::{Child, put_in_order};
 use std::alloc::Global;
 use std::cmp::Ordering;
+use std::mem;
 
-/// A segment at which a prefix may be split, with the lines placed around it and its children, by bound, then by line.
+/// A segment at which a prefix may be split, with the lines placed around it, how many of its children have the least bound
+/// of them all, and its children, by bound, then by line.
 #[derive(Debug, Drop)]
 pub(crate) struct Candidate {
     pub(crate) seg: SegId,
     pub(crate) around: u64,
+    pub(crate) low: usize,
     pub(crate) children: Vec<Child>,
 }
 
+/// The least bound of the children of a candidate, and how many of them have it. A segment with a child below it, or with
+/// more children at it, is not preferred to the candidate.
+#[derive(Clone, Copy)]
+pub(crate) struct Floor {
+    pub(crate) bound: u64,
+    pub(crate) count: usize,
+}
+
 /// The segment at which the prefix of a walk is split, with its children; none where the prefix is complete. A segment is
-/// left as soon as the bound of one of its children is below all of those of the best segment so far. The child whose line
-/// a segment was left for last is tried first; what these lines are changes nothing of the answer.
+/// left as soon as one of its children has a bound below all of those of the best segment so far, or more of them than there
+/// have the least of those. The child for which a
+/// segment was left last is tried first, by the place of its line on the segment; what these places are changes nothing of
+/// the answer. Two lists of children serve all segments in turn: that of the best one, and a spare one.
 pub(crate) fn choose(
     alloc: Global,
     walk: &mut Walk,
-    hints: &mut [LineId],
+    hints: &mut [usize],
 ) -> Result<Option<Candidate>, NoMemory>
     requires under_way { IsUnderWay walk.old }
     ensures chosen { IfOk result (λ r. option_map (λ c. c.seg) r ≡ chosen (bare walk.old.bounds) walk.old.above walk.old.bounds.placed) }
@@ -43,29 +56,61 @@ pub(crate) fn choose(
 {
     let part = walk.part;
     let mut best = None;
+    let mut spare = Vec::new(alloc);
     for seg in part {
         if !is_open(walk, *seg) {
             continue;
         }
         let floor = floor_of(&best);
-        let Some(candidate) = candidate_over(alloc, walk, *seg, floor, hints)? else {
+        let Some(candidate) = candidate_over(alloc, walk, *seg, floor, hints, &mut spare)? else {
             continue;
         };
         if is_shut(candidate.children.as_slice(), walk.above) {
             return Ok(Some(candidate));
         }
-        best = Some(preferred(best, candidate, walk.above));
+        best = Some(preferred(best, candidate, walk.above, &mut spare));
     }
     Ok(best)
 }
 
-/// The least bound of the children of a candidate; 0 where there is none.
-fn floor_of(best: &Option<Candidate>) -> u64
+/// The floor of a candidate, if there is one.
+fn floor_of(best: &Option<Candidate>) -> Option<Floor>
     ensures { result ≡ floor_of best.now }
 {
     match best {
-        Some(candidate) => first_bound(candidate.children.as_slice()),
-        None => 0,
+        Some(candidate) => Some(Floor {
+            bound: first_bound(candidate.children.as_slice()),
+            count: candidate.low,
+        }),
+        None => None,
+    }
+}
+
+/// How many of some children have a bound up to this.
+fn up_to(children: &[Child], bound: u64) -> usize
+    ensures { result ≡ up_to bound children.now }
+{
+    children.iter().filter(|child| child.bound <= bound).count()
+}
+
+/// How many children up to a floor there are with one more of this bound, where there were so many; none where the segment is
+/// then under the floor.
+fn low_with(floor: Option<Floor>, low: usize, bound: u64) -> Option<usize>
+    ensures { result ≡ low_with floor low bound }
+{
+    let Some(floor) = floor else {
+        return Some(low);
+    };
+    if bound < floor.bound {
+        return None;
+    }
+    if bound > floor.bound {
+        return Some(low);
+    }
+    if low < floor.count {
+        Some(low + 1)
+    } else {
+        None
     }
 }
 
@@ -79,45 +124,62 @@ fn first_bound(children: &[Child]) -> u64
     }
 }
 
-/// A segment of the part on which a line is left, as one at which the prefix may be split; nothing where the bound of one
-/// of its children is below `floor`.
+/// A segment of the part on which a line is left, as one at which the prefix may be split; nothing where it is
+/// under the floor. Its children take the room of the spare list.
 fn candidate_over(
     alloc: Global,
     walk: &mut Walk,
     seg: SegId,
-    floor: u64,
-    hints: &mut [LineId],
+    floor: Option<Floor>,
+    hints: &mut [usize],
+    spare: &mut Vec<Child>,
 ) -> Result<Option<Candidate>, NoMemory>
     requires under_way { IsUnderWay walk.old }
     requires known { seg.0 < length walk.old.bounds.segs }
     ensures candidate { IfOk result (IsCandidateOver walk.old.bounds seg floor) }
     ensures kept { walk.new ≡ walk.old }
 {
-    if is_hint_below(walk, seg, floor, hints) {
+    if is_hint_under(walk, seg, floor, hints) {
         return Ok(None);
     }
-    let Some(children) = children_over(alloc, walk, seg, floor, hints)? else {
+    let room = mem::replace(spare, Vec::new(alloc));
+    let Some(mut children) = children_over(walk, seg, floor, hints, room)? else {
         return Ok(None);
     };
     let around = lines_around(walk, seg);
-    let mut children = children;
     put_in_order(children.as_mut_slice());
+    let low = up_to(children.as_slice(), first_bound(children.as_slice()));
     Ok(Some(Candidate {
         seg,
         around,
+        low,
         children,
     }))
 }
 
-/// Notes the line for which a segment was left.
-fn set_hint(hints: &mut [LineId], seg: SegId, line: LineId) {
+/// Notes the place of the line for which a segment was left.
+fn set_hint(hints: &mut [usize], seg: SegId, at: usize) {
     if let Some(hint) = hints.get_mut(seg.0 as usize) {
-        *hint = line;
+        *hint = at;
     }
 }
 
-/// Whether the child of the line that is noted for a segment has a bound below `floor`.
-fn is_hint_below(walk: &mut Walk, seg: SegId, floor: u64, hints: &[LineId]) -> bool
+/// Whether the child of the line at the place that is noted for a segment puts the segment under a floor.
+fn is_hint_under(walk: &mut Walk, seg: SegId, floor: Option<Floor>, hints: &[usize]) -> bool
+    requires under_way { IsUnderWay walk.old }
+    requires known { seg.0 < length walk.old.bounds.segs }
+    ensures under { result ≡ true → is_under floor (map (child_at (part_of walk.old.bounds) walk.old.bounds.placed seg)
+        (lines_left (lines_on walk.old.bounds.segs seg) (lines_on walk.old.bounds.placed seg))) ≡ true }
+    ensures kept { walk.new ≡ walk.old }
+{
+    match floor {
+        Some(floor) => is_hint_below(walk, seg, floor.bound, hints),
+        None => false,
+    }
+}
+
+/// Whether the child of the line at the place that is noted for a segment has a bound below `floor`.
+fn is_hint_below(walk: &mut Walk, seg: SegId, floor: u64, hints: &[usize]) -> bool
     requires under_way { IsUnderWay walk.old }
     requires known { seg.0 < length walk.old.bounds.segs }
     ensures below { result ≡ true → has_below floor (map (child_at (part_of walk.old.bounds) walk.old.bounds.placed seg)
@@ -125,27 +187,58 @@ fn is_hint_below(walk: &mut Walk, seg: SegId, floor: u64, hints: &[LineId]) -> b
     ensures kept { walk.new ≡ walk.old }
 {
     match hints.get(seg.0 as usize) {
-        Some(line) => is_child_below(walk, seg, *line, floor),
+        Some(at) => is_place_below(walk, seg, *at, floor),
         None => false,
     }
 }
 
-/// Whether a line is left on a segment, and the child that places it has a bound below `floor`.
-fn is_child_below(walk: &mut Walk, seg: SegId, line: LineId, floor: u64) -> bool
+/// Whether a line stands at a place of a segment and is left there, and the child that places it has a bound below `floor`.
+fn is_place_below(walk: &mut Walk, seg: SegId, at: usize, floor: u64) -> bool
     requires under_way { IsUnderWay walk.old }
     requires known { seg.0 < length walk.old.bounds.segs }
     ensures below { result ≡ true → has_below floor (map (child_at (part_of walk.old.bounds) walk.old.bounds.placed seg)
         (lines_left (lines_on walk.old.bounds.segs seg) (lines_on walk.old.bounds.placed seg))) ≡ true }
     ensures kept { walk.new ≡ walk.old }
 {
-    if !walk.bounds.is_left(seg, line) {
+    let problem = walk.problem;
+    let segs = problem.segs();
+    let lines = segs[seg.0 as usize].as_slice();
+    if at >= lines.len() {
         return false;
     }
-    let bound = walk.bounds.bound_with(seg, line);
+    is_child_below(walk, seg, lines[at], at, floor)
+}
+
+/// Whether the line at a place of a segment is left there, and the child that places it has a bound below `floor`.
+fn is_child_below(walk: &mut Walk, seg: SegId, line: LineId, at: usize, floor: u64) -> bool
+    requires under_way { IsUnderWay walk.old }
+    requires known { seg.0 < length walk.old.bounds.segs }
+    requires within { at < length (lines_on walk.old.bounds.segs seg) }
+    requires here { line ≡ slice_index_or (lines_on walk.old.bounds.segs seg) at line }
+    ensures below { result ≡ true → has_below floor (map (child_at (part_of walk.old.bounds) walk.old.bounds.placed seg)
+        (lines_left (lines_on walk.old.bounds.segs seg) (lines_on walk.old.bounds.placed seg))) ≡ true }
+    ensures kept { walk.new ≡ walk.old }
+{
+    if !is_left_at(walk, seg, line, at) {
+        return false;
+    }
+    let bound = walk.bounds.bound_with_at(seg, line, at);
     if bound >= floor {
         return false;
     }
     true
+}
+
+/// Whether the line at a place of a segment is left there.
+#[tactic(auto, using(crate::proofs::Floors::left_here))]
+fn is_left_at(walk: &Walk, seg: SegId, line: LineId, at: usize) -> bool
+    requires under_way { IsUnderWay walk.now }
+    requires known { seg.0 < length walk.now.bounds.segs }
+    requires within { at < length (lines_on walk.now.bounds.segs seg) }
+    requires here { line ≡ slice_index_or (lines_on walk.now.bounds.segs seg) at line }
+    ensures { result ≡ is_left (lines_on walk.now.bounds.segs seg) (lines_on walk.now.bounds.placed seg) line }
+{
+    walk.bounds.is_unplaced(seg, line)
 }
 
 /// How many lines are placed around a segment.
@@ -161,61 +254,66 @@ fn lines_around(walk: &Walk, seg: SegId) -> u64
     total
 }
 
-/// The children of the prefix that place a line next on a segment, by line; nothing where the bound of one is below
-/// `floor`.
+/// The children of the prefix that place a line next on a segment, by line, in the room of an old list; nothing where the
+/// segment is under the floor.
 fn children_over(
-    alloc: Global,
     walk: &mut Walk,
     seg: SegId,
-    floor: u64,
-    hints: &mut [LineId],
+    floor: Option<Floor>,
+    hints: &mut [usize],
+    room: Vec<Child>,
 ) -> Result<Option<Vec<Child>>, NoMemory>
     requires under_way { IsUnderWay walk.old }
     requires known { seg.0 < length walk.old.bounds.segs }
-    ensures children { IfOk result (λ r. option_map (λ children. children.items) r ≡ unless_below floor (map (child_at (part_of walk.old.bounds) walk.old.bounds.placed seg)
+    ensures children { IfOk result (IsListOver floor (map (child_at (part_of walk.old.bounds) walk.old.bounds.placed seg)
         (lines_left (lines_on walk.old.bounds.segs seg) (lines_on walk.old.bounds.placed seg)))) }
     ensures kept { walk.new ≡ walk.old }
 {
     let problem = walk.problem;
     let segs = problem.segs();
     let lines = segs[seg.0 as usize].as_slice();
-    let mut children = Vec::with_capacity(alloc, lines.len())?;
-    for line in lines {
-        if !push_child(walk, seg, *line, floor, &mut children)? {
-            set_hint(hints, seg, *line);
+    let mut children = room;
+    children.clear();
+    let mut low = 0;
+    for at in 0..lines.len() {
+        let Some(more) = push_child(walk, seg, lines[at], at, floor, low, &mut children)? else {
+            set_hint(hints, seg, at);
             return Ok(None);
-        }
+        };
+        low = more;
     }
     Ok(Some(children))
 }
 
-/// Adds the child that places a line next on its segment, if the line is left. Answers whether its bound is then not below
-/// `floor`; else nothing is added.
+/// Adds the child that places the line at a place of its segment next, if the line is left. Answers how many children up to
+/// the floor there are then, where there were so many; where the segment is then under the floor, nothing is added.
 fn push_child(
     walk: &mut Walk,
     seg: SegId,
     line: LineId,
-    floor: u64,
+    at: usize,
+    floor: Option<Floor>,
+    low: usize,
     children: &mut Vec<Child>,
-) -> Result<bool, NoMemory>
+) -> Result<Option<usize>, NoMemory>
     requires under_way { IsUnderWay walk.old }
     requires known { seg.0 < length walk.old.bounds.segs }
-    requires line { Contains (lines_on walk.old.bounds.segs seg) line }
-    ensures over { IfOk result (λ over. over ≡ not (has_below floor
-        (child_if (is_left (lines_on walk.old.bounds.segs seg) (lines_on walk.old.bounds.placed seg) line) (child_at (part_of walk.old.bounds) walk.old.bounds.placed seg line)))) }
-    ensures children { IfOk result (λ over. over ≡ true → children.new.items ≡ children.old.items
-        ++ child_if (is_left (lines_on walk.old.bounds.segs seg) (lines_on walk.old.bounds.placed seg) line) (child_at (part_of walk.old.bounds) walk.old.bounds.placed seg line)) }
+    requires within { at < length (lines_on walk.old.bounds.segs seg) }
+    requires here { line ≡ slice_index_or (lines_on walk.old.bounds.segs seg) at line }
+    requires low { low ≡ low_in floor children.old.items }
+    ensures pushed { IfOk result (IsPushed floor children.old.items
+        (child_if (is_left (lines_on walk.old.bounds.segs seg) (lines_on walk.old.bounds.placed seg) line) (child_at (part_of walk.old.bounds) walk.old.bounds.placed seg line)) children.new.items) }
     ensures kept { walk.new ≡ walk.old }
 {
-    if !walk.bounds.is_left(seg, line) {
-        return Ok(true);
+    if !is_left_at(walk, seg, line, at) {
+        return Ok(Some(low));
     }
-    let bound = walk.bounds.bound_with(seg, line);
-    if bound < floor {
-        return Ok(false);
-    }
+    let bound = walk.bounds.bound_with_at(seg, line, at);
+    let Some(more) = low_with(floor, low, bound) else {
+        return Ok(None);
+    };
     children.push(Child { bound, line })?;
-    Ok(true)
+    Ok(Some(more))
 }
 
 /// Whether none of the children, which stand by bound, has a bound below this.
@@ -228,8 +326,13 @@ fn is_shut(children: &[Child], above: u64) -> bool
     }
 }
 
-/// The candidate that is preferred: the earlier one, unless the later one is over it.
-fn preferred(best: Option<Candidate>, candidate: Candidate, above: u64) -> Candidate
+/// The candidate that is preferred: the earlier one, unless the later one is over it. The list of the other one is spare.
+fn preferred(
+    best: Option<Candidate>,
+    candidate: Candidate,
+    above: u64,
+    spare: &mut Vec<Child>,
+) -> Candidate
     ensures seg { (b : PartState) → IsCandidateIf b best → IsCandidate b candidate
         → result.seg ≡ preferred (is_over (bare b) above b.placed) (option_map (λ c. c.seg) best) candidate.seg }
     ensures candidate { (b : PartState) → IsCandidateIf b best → IsCandidate b candidate → IsCandidate b result }
@@ -239,8 +342,10 @@ fn preferred(best: Option<Candidate>, candidate: Candidate, above: u64) -> Candi
         None => candidate,
         Some(best) => {
             if is_over(&candidate, &best, above) {
+                *spare = best.children;
                 candidate
             } else {
+                *spare = candidate.children;
                 best
             }
         }

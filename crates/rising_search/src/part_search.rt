@@ -18,7 +18,7 @@ use crate::around::segments_around;
 use crate::rising::rise;
 use crate::shown::Shown;
 use crate::walk_state::Walk;
-use map_base::{Limit, LimitKind, LineId, NoMemory, SegId, Sequence, Steps};
+use map_base::{Limit, LimitKind, NoMemory, SegId, Sequence, Steps};
 use order_model::{Orders, Problem};
 use order_search::{
     Found, SearchFault, is_deep, number_cost, number_lists, numbers_of_part, priced,
@@ -105,7 +105,7 @@ fn rising_search<L: Ledger>(
 {
     let mut walk = begin(alloc, problem, part, numbers, budget)?;
     let cost = number_cost(problem, numbers);
-    let mut hints = vec![in alloc; LineId(0); problem.segs().len()]?;
+    let mut hints = vec![in alloc; 0_usize; problem.segs().len()]?;
     let shown = rise(alloc, &mut walk, cost, hints.as_mut_slice(), steps)?;
     Ok(found(alloc, walk, &shown)?)
 }

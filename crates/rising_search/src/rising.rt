@@ -12,7 +12,7 @@ ghost use Rattle.rising_search.specs.Walking.{part_of, bare, due_at, IsUnderWay,
 use crate::shown::Shown;
 use crate::walk_state::Walk;
 use crate::walking::{closed, walk_from};
-use map_base::{LineId, Steps};
+use map_base::Steps;
 use order_search::SearchFault;
 use std::alloc::Global;
 use std::sync::ledger::Ledger;
@@ -23,7 +23,7 @@ pub(crate) fn rise<L: Ledger>(
     alloc: Global,
     walk: &mut Walk,
     number_cost: u64,
-    hints: &mut [LineId],
+    hints: &mut [usize],
     steps: &mut Steps<L>,
 ) -> Result<Shown, SearchFault>
     requires begun { IsBegun walk.old }
@@ -53,7 +53,7 @@ fn walk_above<L: Ledger>(
     alloc: Global,
     walk: &mut Walk,
     target: u64,
-    hints: &mut [LineId],
+    hints: &mut [usize],
     steps: &mut Steps<L>,
 ) -> Result<Option<Shown>, SearchFault>
     requires under_way { IsUnderWay walk.old }

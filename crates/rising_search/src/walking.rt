@@ -30,7 +30,7 @@ use std::sync::ledger::Ledger;
 pub(crate) fn walk_from<L: Ledger>(
     alloc: Global,
     walk: &mut Walk,
-    hints: &mut [LineId],
+    hints: &mut [usize],
     steps: &mut Steps<L>,
 ) -> Result<Option<Tree>, SearchFault>
     requires under_way { IsUnderWay walk.old }
@@ -99,7 +99,7 @@ fn walk_split<L: Ledger>(
     alloc: Global,
     walk: &mut Walk,
     candidate: Candidate,
-    hints: &mut [LineId],
+    hints: &mut [usize],
     steps: &mut Steps<L>,
 ) -> Result<Option<Tree>, SearchFault>
     requires under_way { IsUnderWay walk.old }
@@ -140,7 +140,7 @@ fn walk_cases<L: Ledger>(
     walk: &mut Walk,
     seg: SegId,
     children: &[Child],
-    hints: &mut [LineId],
+    hints: &mut [usize],
     steps: &mut Steps<L>,
 ) -> Result<Option<Vec<(LineId, Tree)>>, SearchFault>
     requires under_way { IsUnderWay walk.old }
@@ -171,7 +171,7 @@ fn walk_case<L: Ledger>(
     walk: &mut Walk,
     seg: SegId,
     child: Child,
-    hints: &mut [LineId],
+    hints: &mut [usize],
     steps: &mut Steps<L>,
 ) -> Result<Option<Tree>, SearchFault>
     requires under_way { IsUnderWay walk.old }

@@ -19,11 +19,11 @@ use Rattle.part_bounds.specs.Settled.{AreSettled}
 use Rattle.pair_shares.specs.Changes.{is_changed, IsChange}
 use Rattle.pair_shares.proofs.OwnSegments.{SameElsewhere}
 use Rattle.pair_shares.proofs.PairsKept.{is_placing, left_by_placing, more_placed}
-use Rattle.pair_shares.specs.Meeting.{rows_in}
+use Rattle.pair_shares.specs.SegmentRows.{pairs_in}
 use Rattle.pair_shares.specs.PairKeys.{AreKeys}
 use Rattle.pair_shares.specs.ShareNotes.{AreTrueNotes}
 use Rattle.part_bounds.specs.Rises.{rises_in, AreTrueRises}
-use Rattle.pair_shares.proofs.Meeting.{row_here, row_below}
+use Rattle.pair_shares.proofs.LineRows.{row_in_pairs, pairs_below}
 use Rattle.pair_shares.proofs.Renewed.{moved_on, stale_on, row_is}
 use Rattle.part_bounds.proofs.part_bounds.PartBounds.bound_placed.Goals as goal
 
@@ -60,10 +60,10 @@ sum_anew-total-requires-clause-stale c =
 
 pub sum_anew-total-requires-clause-row : goal.sum_anew-total-requires-clause-row
 sum_anew-total-requires-clause-row c =
-    row_is (length c.self.inside.problem.now.segs) c.self.inside.problem.now.segs c.self.inside.part.now c.self.inside.pairs.items c.as_slice.result.now (rows_in c.self.inside.rows.items) c.change_on-change.result c.args.seg c.as_slice-2.result.now
+    row_is (length c.self.inside.problem.now.segs) c.self.inside.problem.now.segs c.self.inside.part.now c.self.inside.pairs.items c.as_slice.result.now (pairs_in c.self.inside.rows.items) c.change_on-change.result c.args.seg c.as_slice-2.result.now
     c.self.invariant.by_segment (subst (λ (b : PartState). c.args.seg.0 < length b.segs) (sym c.self.view_is) c.requires.known) c.as_slice.ensures.value c.change_on-change.ensures.seg
-    (row_here c.self.inside.rows.items c.args.seg.0 c.index.result.now c.as_slice-2.result.now
-    (row_below (length c.self.inside.problem.now.segs) c.self.inside.pairs.items c.self.inside.rows.items c.args.seg c.self.invariant.by_segment (subst (λ (b : PartState). c.args.seg.0 < length b.segs) (sym c.self.view_is) c.requires.known))
+    (row_in_pairs c.self.inside.rows.items c.args.seg.0 c.index.result.now c.as_slice-2.result.now
+    (pairs_below (length c.self.inside.problem.now.segs) c.self.inside.pairs.items c.self.inside.rows.items c.args.seg c.self.invariant.by_segment (subst (λ (b : PartState). c.args.seg.0 < length b.segs) (sym c.self.view_is) c.requires.known))
     c.index.ensures c.as_slice-2.ensures.value) c.self.invariant.own c.self.invariant.groups
 
 pub sum_anew-total-requires-clause-notes : goal.sum_anew-total-requires-clause-notes
@@ -81,7 +81,7 @@ invariant_of-self c =
     ∙ taken_back segs c.self.inside.prefix.placed c.args.seg c.args.line (subst (λ (b : PartState). IsWell b.segs b.placed) (sym c.self.view_is) c.requires.well)
     (subst (λ (b : PartState). c.args.seg.0 < length b.segs) (sym c.self.view_is) c.requires.known) (subst (λ (b : PartState). All AreRising b.segs) (sym c.self.view_is) c.requires.rising)) in
     kept_up c.self.inside.problem.now c.self.inside.part.now c.self.inside.numbers.now c.self.inside.prefix c.take_back.new.self c.self.inside.pairs.items c.self.inside.shares.items c.self.inside.shares.items
-    (vec_capacity c.self.inside.shares) (vec_capacity c.self.inside.shares) c.self.inside.total c.self.inside.total c.self.inside.room c.sum_anew-total.new.room c.self.inside.aparts c.self.inside.aparts (rows_in c.self.inside.rows.items) c.self.inside.keys.items c.self.inside.keys.items c.self.inside.notes.items c.sum_anew-total.new.notes.items (rises_in c.self.inside.rises.items) (rises_in c.self.inside.rises.items)
+    (vec_capacity c.self.inside.shares) (vec_capacity c.self.inside.shares) c.self.inside.total c.self.inside.total c.self.inside.room c.sum_anew-total.new.room c.self.inside.aparts c.self.inside.aparts (pairs_in c.self.inside.rows.items) c.self.inside.keys.items c.self.inside.keys.items c.self.inside.notes.items c.sum_anew-total.new.notes.items (rises_in c.self.inside.rises.items) (rises_in c.self.inside.rises.items)
     c.self.invariant c.take_back.ensures.fits (c.self.invariant.shares_are ∙ ap (λ l. map (share_of segs c.self.inside.part.now l) (groups_in c.self.inside.pairs.items)) (sym back))
     (c.self.invariant.total_is ∙ ap (λ l. sum_by (share_of segs c.self.inside.part.now l) (groups_in c.self.inside.pairs.items)) (sym back)) (omega arith) c.sum_anew-total.ensures.room
     (subst (λ l. AreSettled segs l (part_terms c.self.inside.problem.now.terms c.self.inside.part.now) c.self.inside.aparts) (sym back) c.self.invariant.settled)

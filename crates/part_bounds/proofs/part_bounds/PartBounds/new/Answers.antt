@@ -11,7 +11,8 @@ use Rattle.pair_shares.specs.PairGroups.{Group, KnowsOwn, HasOwn, terms_in, grou
 use Rattle.std.proofs.lemmas.List.{length-map}
 use Rattle.part_bounds.specs.Rises.{rises_in, rise_at}
 use Rattle.part_bounds.proofs.RisesKept.{not_noted}
-use Rattle.pair_shares.specs.Meeting.{rows_in, AreBySegment}
+use Rattle.pair_shares.specs.Meeting.{AreBySegment}
+use Rattle.pair_shares.specs.SegmentRows.{pairs_in}
 use Rattle.pair_shares.specs.PairKeys.{AreKeys}
 use Rattle.pair_shares.proofs.Renewed.{has_own}
 use Rattle.pair_shares.proofs.KeptGroups.{terms_few, part_groups, part_few, each_few, room_for}
@@ -65,7 +66,7 @@ pub invariant_of-result : goal.invariant_of-result
 invariant_of-result c =
     let f = share_of c.args.problem.now.segs c.args.part.now c.in_ok-prefix.prefix.placed in
     begun c.args.problem.now c.args.part.now c.args.numbers.now c.in_ok-prefix.prefix c.find_segments.new.pairs.items c.fill_shares-total.new.shares.items (vec_capacity c.in_ok-shares.shares) (vec_capacity c.fill_shares-total.new.shares)
-    c.fill_shares-total.result c.most_terms.result c.in_ok-room.room c.fill_shares-total.new.room c.in_ok-aparts.aparts (rows_in c.in_ok-rows.rows.items) c.in_ok-keys.keys.items c.in_ok-notes.notes.items (rises_in c.in_ok-rises.rises.items) c.in_ok-prefix.ensures.fits c.requires.known c.requires.rising c.pairs_of.ensures.fits c.requires.numbers
+    c.fill_shares-total.result c.most_terms.result c.in_ok-room.room c.fill_shares-total.new.room c.in_ok-aparts.aparts (pairs_in c.in_ok-rows.rows.items) c.in_ok-keys.keys.items c.in_ok-notes.notes.items (rises_in c.in_ok-rises.rises.items) c.in_ok-prefix.ensures.fits c.requires.known c.requires.rising c.pairs_of.ensures.fits c.requires.numbers
     (grouped c.args.problem.now.terms c.args.part.now c.args.numbers.now c.find_segments.new.pairs.items c.find_segments.new.pairs.items c.requires.numbers (c.find_segments.ensures.same ∙ c.in_ok-pairs.ensures.grouped) refl)
     (c.fill_shares-total.ensures.shares ∙ ap (λ l. map f (groups_in l)) c.as_slice-2.ensures.value) (c.fill_shares-total.ensures.total ∙ ap (λ l. sum_by f (groups_in l)) c.as_slice-2.ensures.value)
     c.in_ok-find_segments.ensures.own
@@ -76,13 +77,12 @@ invariant_of-result c =
       terms_are = c.in_ok-aparts.ensures.terms ∙ mine c.args.problem.now.terms c.args.part.now c.args.numbers.now c.requires.numbers;
       total_is = c.in_ok-aparts.ensures.total;
     })
-    (subst (λ n. AreBySegment n c.find_segments.new.pairs.items (rows_in c.in_ok-rows.rows.items)) (ap length c.segs.ensures.lists)
-    (subst (λ l. AreBySegment (length c.segs.result.now) l (rows_in c.in_ok-rows.rows.items)) c.as_slice-3.ensures.value c.in_ok-rows.ensures))
+    (subst (λ l. AreBySegment (length c.args.problem.now.segs) l (pairs_in c.in_ok-rows.rows.items)) c.as_slice-3.ensures.value c.in_ok-rows.ensures)
     (subst (λ (l : List PairTerms). AreKeys c.in_ok-prefix.prefix.placed c.args.part.now (groups_in l) c.in_ok-keys.keys.items) c.as_slice-4.ensures.value c.in_ok-keys.ensures)
     (c.in_ok-notes.ensures c.args.problem.now.segs c.args.part.now (groups_in c.find_segments.new.pairs.items))
     (λ s i a n known within here noted. absurd (not_noted (rise_at (rises_in c.in_ok-rises.rises.items) s.0 i) n ((c.in_ok-rises.ensures s.0).none i) noted))
 
 pub pairs_by_segment-requires : goal.pairs_by_segment-requires
 pairs_by_segment-requires c =
-    subst (All (HasOwn (length c.segs.result.now))) (sym c.as_slice-3.ensures.value) (has_own (length c.segs.result.now) c.args.part.now c.find_segments.new.pairs.items c.in_ok-find_segments.ensures.own
-    (subst (λ n. All (λ (s : SegId). s.0 < n) c.args.part.now) (sym (ap length c.segs.ensures.lists)) c.requires.known) (rising_apart c.args.part.now c.requires.rising))
+    subst (All (HasOwn (length c.args.problem.now.segs))) (sym c.as_slice-3.ensures.value)
+    (has_own (length c.args.problem.now.segs) c.args.part.now c.find_segments.new.pairs.items c.in_ok-find_segments.ensures.own c.requires.known (rising_apart c.args.part.now c.requires.rising))

@@ -1,4 +1,4 @@
-use Rattle.std.proofs.Common.{◌≡◌, ◌<◌, not, ◌==◌, List, length, map, ap, sym, subst, ◌∙◌, arith}
+use Rattle.std.proofs.Common.{◌≡◌, ◌<◌, not, ◌==◌, List, length, map, refl, ap, sym, subst, ◌∙◌, arith}
 use Rattle.std.specs.Prelude.{sum_by}
 use Rattle.std.specs.List.{All}
 use Rattle.std.specs.Option.{IfSome}
@@ -13,8 +13,12 @@ use Rattle.pair_shares.specs.PairGroups.{KnowsOwn, groups_of, groups_in, terms_i
 use Rattle.pair_shares.specs.PairKeys.{answer_after, fresh_lines, is_answered, AreKeys}
 use Rattle.pair_shares.specs.ShareNotes.{AreTrueNotes}
 use Rattle.part_bounds.specs.PartStates.{PartState}
-use Rattle.pair_shares.specs.Meeting.{rows_in, AreHere}
-use Rattle.pair_shares.proofs.Meeting.{row_here, row_below, row_are}
+use Rattle.pair_shares.specs.Meeting.{row_of, AreHere}
+use Rattle.pair_shares.specs.Shares.{IsRow}
+use Rattle.pair_shares.specs.declared.pair_rows.PairHere.{PairHere}
+use Rattle.pair_shares.specs.SegmentRows.{pairs_in}
+use Rattle.pair_shares.proofs.LineRows.{row_for_line, here_for_line, row_in_pairs, pairs_below}
+use Rattle.pair_shares.proofs.Meeting.{row_are}
 use Rattle.pair_shares.proofs.Renewed.{stale_on, row_for}
 use Rattle.pair_shares.proofs.ToldSums.{share_told, told_is}
 use Rattle.part_bounds.proofs.part_bounds.PartBounds.pairs_with.Goals as goal
@@ -33,34 +37,47 @@ sum_told-requires-clause-few c = omega (arith, c.self.invariant.few, ap (λ (l :
 
 pub sum_told-requires-clause-keys : goal.sum_told-requires-clause-keys
 sum_told-requires-clause-keys c =
-    subst (λ l. AreKeys c.self.inside.prefix.placed c.self.inside.part.now (groups_in c.as_slice.result.now) l) (sym c.as_slice-4.ensures.value) (subst (λ (l : List PairTerms). AreKeys c.self.inside.prefix.placed c.self.inside.part.now (groups_in l) c.self.inside.keys.items) (sym c.as_slice.ensures.value) c.self.invariant.keys_are)
+    subst (λ l. AreKeys c.self.inside.prefix.placed c.self.inside.part.now (groups_in c.as_slice.result.now) l) (sym c.as_slice-3.ensures.value) (subst (λ (l : List PairTerms). AreKeys c.self.inside.prefix.placed c.self.inside.part.now (groups_in l) c.self.inside.keys.items) (sym c.as_slice.ensures.value) c.self.invariant.keys_are)
 
 pub sum_told-requires-clause-notes : goal.sum_told-requires-clause-notes
 sum_told-requires-clause-notes c =
-    subst (λ l. AreTrueNotes c.self.inside.problem.now.segs c.self.inside.part.now (groups_in c.as_slice.result.now) l) (sym c.as_slice-5.ensures.value) (subst (λ (l : List PairTerms). AreTrueNotes c.self.inside.problem.now.segs c.self.inside.part.now (groups_in l) c.self.inside.notes.items) (sym c.as_slice.ensures.value) c.self.invariant.notes_are)
+    subst (λ l. AreTrueNotes c.self.inside.problem.now.segs c.self.inside.part.now (groups_in c.as_slice.result.now) l) (sym c.as_slice-4.ensures.value) (subst (λ (l : List PairTerms). AreTrueNotes c.self.inside.problem.now.segs c.self.inside.part.now (groups_in l) c.self.inside.notes.items) (sym c.as_slice.ensures.value) c.self.invariant.notes_are)
 
 pub sum_told-requires-clause-row : goal.sum_told-requires-clause-row
 sum_told-requires-clause-row c =
-    row_for (length c.self.inside.problem.now.segs) c.self.inside.problem.now.segs c.self.inside.part.now c.self.inside.pairs.items c.as_slice.result.now (rows_in c.self.inside.rows.items) (is_answered c.next_line-next.result) c.args.seg c.as_slice-2.result.now
-    c.self.invariant.by_segment (subst (λ (b : PartState). c.args.seg.0 < length b.segs) (sym c.self.view_is) c.requires.known) c.as_slice.ensures.value
+    let known = subst (λ (b : PartState). c.args.seg.0 < length b.segs) (sym c.self.view_is) c.requires.known in
+    let all : List PairHere = c.index.result.now.all.items in
+    let is : all ≡ row_of (pairs_in c.self.inside.rows.items) c.args.seg =
+    row_in_pairs c.self.inside.rows.items c.args.seg.0 c.index.result.now all (pairs_below (length c.self.inside.problem.now.segs) c.self.inside.pairs.items c.self.inside.rows.items c.args.seg c.self.invariant.by_segment known) c.index.ensures refl in
+    subst (λ (l : List PairTerms). IsRow (is_answered c.next_line-next.result) (groups_in l) c.pairs_for-row.result.now) (sym c.as_slice.ensures.value)
+    (row_for_line c.next_line-next.result c.args.seg c.self.inside.pairs.items all c.pairs_for-row.result.now
+    (row_for (length c.self.inside.problem.now.segs) c.self.inside.problem.now.segs c.self.inside.part.now c.self.inside.pairs.items c.self.inside.pairs.items (pairs_in c.self.inside.rows.items) (is_answered c.next_line-next.result) c.args.seg all
+    c.self.invariant.by_segment known refl
     (λ g h. ap (meets g.1) (sym c.next_line-next.ensures.seg) ∙ (and_parts (not (answer_after c.next_line-next.result.known.now (fresh_lines c.next_line-next.result) g.0 == 0)) (meets g.1 c.next_line-next.result.seg) h).1)
-    (row_here c.self.inside.rows.items c.args.seg.0 c.index.result.now c.as_slice-2.result.now
-    (row_below (length c.self.inside.problem.now.segs) c.self.inside.pairs.items c.self.inside.rows.items c.args.seg c.self.invariant.by_segment (subst (λ (b : PartState). c.args.seg.0 < length b.segs) (sym c.self.view_is) c.requires.known)) c.index.ensures c.as_slice-2.ensures.value) c.self.invariant.own c.self.invariant.groups
+    is c.self.invariant.own c.self.invariant.groups)
+    (subst (AreHere c.args.seg c.self.inside.pairs.items) (sym is) (row_are (length c.self.inside.problem.now.segs) c.self.inside.pairs.items (pairs_in c.self.inside.rows.items) c.args.seg c.self.invariant.by_segment known))
+    c.pairs_for-row.ensures)
 
 pub sum_told-requires-clause-here : goal.sum_told-requires-clause-here
 sum_told-requires-clause-here c =
-    subst (λ (s : SegId). AreHere s c.as_slice.result.now c.as_slice-2.result.now) (sym c.next_line-next.ensures.seg) (subst (λ (l : List PairTerms). AreHere c.args.seg l c.as_slice-2.result.now) (sym c.as_slice.ensures.value)
-    (subst (AreHere c.args.seg c.self.inside.pairs.items) (sym (row_here c.self.inside.rows.items c.args.seg.0 c.index.result.now c.as_slice-2.result.now
-    (row_below (length c.self.inside.problem.now.segs) c.self.inside.pairs.items c.self.inside.rows.items c.args.seg c.self.invariant.by_segment (subst (λ (b : PartState). c.args.seg.0 < length b.segs) (sym c.self.view_is) c.requires.known)) c.index.ensures c.as_slice-2.ensures.value)) (row_are (length c.self.inside.problem.now.segs) c.self.inside.pairs.items (rows_in c.self.inside.rows.items) c.args.seg c.self.invariant.by_segment (subst (λ (b : PartState). c.args.seg.0 < length b.segs) (sym c.self.view_is) c.requires.known))))
+    let known = subst (λ (b : PartState). c.args.seg.0 < length b.segs) (sym c.self.view_is) c.requires.known in
+    let all : List PairHere = c.index.result.now.all.items in
+    let is : all ≡ row_of (pairs_in c.self.inside.rows.items) c.args.seg =
+    row_in_pairs c.self.inside.rows.items c.args.seg.0 c.index.result.now all (pairs_below (length c.self.inside.problem.now.segs) c.self.inside.pairs.items c.self.inside.rows.items c.args.seg c.self.invariant.by_segment known) c.index.ensures refl in
+    subst (λ (s : SegId). AreHere s c.as_slice.result.now c.pairs_for-row.result.now) (sym c.next_line-next.ensures.seg)
+    (subst (λ (l : List PairTerms). AreHere c.args.seg l c.pairs_for-row.result.now) (sym c.as_slice.ensures.value)
+    (here_for_line c.next_line-next.result c.args.seg c.self.inside.pairs.items all c.pairs_for-row.result.now
+    (subst (AreHere c.args.seg c.self.inside.pairs.items) (sym is) (row_are (length c.self.inside.problem.now.segs) c.self.inside.pairs.items (pairs_in c.self.inside.rows.items) c.args.seg c.self.invariant.by_segment known))
+    c.pairs_for-row.ensures))
 
 pub sum_told-requires-clause-stale : goal.sum_told-requires-clause-stale
 sum_told-requires-clause-stale c =
     let f = share_of c.self.inside.problem.now.segs c.self.inside.part.now c.self.inside.prefix.placed in
     let slice : c.as_slice.result.now ≡ c.self.inside.pairs.items = c.as_slice.ensures.value in
-    stale_on c.self.inside.problem.now.segs c.self.inside.prefix.placed (placed_more c.self.inside.problem.now.segs c.self.inside.prefix.placed c.next_line-next.result.seg c.next_line-next.result.line) c.self.inside.part.now (is_answered c.next_line-next.result) (groups_in c.as_slice.result.now) c.as_slice-3.result.now c.self.inside.total (rising_apart c.self.inside.part.now c.self.invariant.rises)
+    stale_on c.self.inside.problem.now.segs c.self.inside.prefix.placed (placed_more c.self.inside.problem.now.segs c.self.inside.prefix.placed c.next_line-next.result.seg c.next_line-next.result.line) c.self.inside.part.now (is_answered c.next_line-next.result) (groups_in c.as_slice.result.now) c.as_slice-2.result.now c.self.inside.total (rising_apart c.self.inside.part.now c.self.invariant.rises)
     (subst (λ (l : List PairTerms). All (IsGroup c.self.inside.problem.now.segs c.self.inside.part.now) (groups_in l)) (sym slice) c.self.invariant.groups)
     (λ g fit none. share_told c.self.inside.problem.now.segs c.self.inside.prefix.placed c.self.inside.part.now c.next_line-next.result g c.next_line-next.ensures.next fit none)
-    (c.as_slice-3.ensures.value ∙ (c.self.invariant.shares_are ∙ ap (λ l. map f (groups_in l)) (sym slice))) (c.self.invariant.total_is ∙ ap (λ l. sum_by f (groups_in l)) (sym slice))
+    (c.as_slice-2.ensures.value ∙ (c.self.invariant.shares_are ∙ ap (λ l. map f (groups_in l)) (sym slice))) (c.self.invariant.total_is ∙ ap (λ l. sum_by f (groups_in l)) (sym slice))
 
 pub returns : goal.returns
 returns c =

@@ -17,11 +17,12 @@ use Rattle.pair_shares.proofs.PairsKept.{alike_back, alike_unchanged, is_placing
 use Rattle.pair_shares.specs.declared.pair_rows.PairHere.{PairHere}
 use Rattle.part_bounds.specs.Rises.{rises_in}
 use Rattle.part_bounds.proofs.RisesKept.{rises_next}
-use Rattle.pair_shares.specs.Meeting.{rows_in}
+use Rattle.pair_shares.specs.SegmentRows.{pairs_in}
 use Rattle.pair_shares.specs.PairKeys.{AreKeys}
 use Rattle.pair_shares.specs.ShareNotes.{AreTrueNotes}
 use Rattle.pair_shares.proofs.KeysKept.{keys_begin, key_left}
-use Rattle.pair_shares.proofs.Meeting.{row_here, row_below, row_within}
+use Rattle.pair_shares.proofs.LineRows.{row_in_pairs, pairs_below}
+use Rattle.pair_shares.proofs.Meeting.{row_within}
 use Rattle.pair_shares.proofs.Renewed.{moved_on, stale_on, row_is}
 use Rattle.part_bounds.proofs.part_bounds.PartBounds.place.Goals as goal
 
@@ -69,10 +70,10 @@ renew_shares-self-inside-requires-clause-keys c =
 
 pub renew_shares-self-inside-requires-clause-row : goal.renew_shares-self-inside-requires-clause-row
 renew_shares-self-inside-requires-clause-row c =
-    row_is (length c.self.inside.problem.now.segs) c.self.inside.problem.now.segs c.self.inside.part.now c.self.inside.pairs.items c.as_slice.result.now (rows_in c.self.inside.rows.items) c.change_on-change.result c.args.seg c.as_slice-2.result.now
+    row_is (length c.self.inside.problem.now.segs) c.self.inside.problem.now.segs c.self.inside.part.now c.self.inside.pairs.items c.as_slice.result.now (pairs_in c.self.inside.rows.items) c.change_on-change.result c.args.seg c.as_slice-2.result.now
     c.self.invariant.by_segment (subst (λ (b : PartState). c.args.seg.0 < length b.segs) (sym c.self.view_is) c.requires.known) c.as_slice.ensures.value c.change_on-change.ensures.seg
-    (row_here c.self.inside.rows.items c.args.seg.0 c.index.result.now c.as_slice-2.result.now
-    (row_below (length c.self.inside.problem.now.segs) c.self.inside.pairs.items c.self.inside.rows.items c.args.seg c.self.invariant.by_segment (subst (λ (b : PartState). c.args.seg.0 < length b.segs) (sym c.self.view_is) c.requires.known))
+    (row_in_pairs c.self.inside.rows.items c.args.seg.0 c.index.result.now c.as_slice-2.result.now
+    (pairs_below (length c.self.inside.problem.now.segs) c.self.inside.pairs.items c.self.inside.rows.items c.args.seg c.self.invariant.by_segment (subst (λ (b : PartState). c.args.seg.0 < length b.segs) (sym c.self.view_is) c.requires.known))
     c.index.ensures c.as_slice-2.ensures.value) c.self.invariant.own c.self.invariant.groups
 
 pub renew_shares-self-inside-requires-clause-notes : goal.renew_shares-self-inside-requires-clause-notes
@@ -82,12 +83,11 @@ renew_shares-self-inside-requires-clause-notes c =
 pub renew_shares-self-inside-requires-clause-own : goal.renew_shares-self-inside-requires-clause-own
 renew_shares-self-inside-requires-clause-own c = subst (All (KnowsOwn c.self.inside.part.now)) (sym c.as_slice.ensures.value) c.self.invariant.own
 
-pub forget_near-requires : goal.forget_near-requires
-forget_near-requires c = record {
-  within = subst (λ (l : List PairTerms). All (λ (n : PairHere). n.place < length l) c.as_slice-4.result.now) (sym c.as_slice-3.ensures.value) (subst (All (λ (n : PairHere). n.place < length c.self.inside.pairs.items))
-      (sym (row_here c.self.inside.rows.items c.args.seg.0 c.index-2.result.now c.as_slice-4.result.now (row_below (length c.self.inside.problem.now.segs) c.self.inside.pairs.items c.self.inside.rows.items c.args.seg c.self.invariant.by_segment (subst (λ (b : PartState). c.args.seg.0 < length b.segs) (sym c.self.view_is) c.requires.known)) c.index-2.ensures c.as_slice-4.ensures.value))
-      (row_within (length c.self.inside.problem.now.segs) c.self.inside.pairs.items (rows_in c.self.inside.rows.items) c.args.seg c.self.invariant.by_segment (subst (λ (b : PartState). c.args.seg.0 < length b.segs) (sym c.self.view_is) c.requires.known)));
-}
+pub forget_near-requires-clause-within : goal.forget_near-requires-clause-within
+forget_near-requires-clause-within c =
+    subst (λ (l : List PairTerms). All (λ (n : PairHere). n.place < length l) c.as_slice-4.result.now) (sym c.as_slice-3.ensures.value) (subst (All (λ (n : PairHere). n.place < length c.self.inside.pairs.items))
+    (sym (row_in_pairs c.self.inside.rows.items c.args.seg.0 c.index-2.result.now c.as_slice-4.result.now (pairs_below (length c.self.inside.problem.now.segs) c.self.inside.pairs.items c.self.inside.rows.items c.args.seg c.self.invariant.by_segment (subst (λ (b : PartState). c.args.seg.0 < length b.segs) (sym c.self.view_is) c.requires.known)) c.index-2.ensures c.as_slice-4.ensures.value))
+    (row_within (length c.self.inside.problem.now.segs) c.self.inside.pairs.items (pairs_in c.self.inside.rows.items) c.args.seg c.self.invariant.by_segment (subst (λ (b : PartState). c.args.seg.0 < length b.segs) (sym c.self.view_is) c.requires.known)))
 
 pub invariant_of-self : goal.invariant_of-self
 invariant_of-self c =
@@ -96,15 +96,15 @@ invariant_of-self c =
     is_placing c.self.inside.problem.now.segs c.self.inside.prefix.placed c.place-2.new.self.placed c.args.seg c.args.line c.change_on-change.result c.placed_count-count.result c.last_two-last.result below c.place-2.ensures.placed c.placed_count-count.ensures c.change_on-change.ensures.known c.change_on-change.ensures.last c.last_two-last.ensures.last c.last_two-last.ensures.before in
     let f = share_of c.self.inside.problem.now.segs c.self.inside.part.now c.place-2.new.self.placed in
     kept_up c.self.inside.problem.now c.self.inside.part.now c.self.inside.numbers.now c.self.inside.prefix c.place-2.new.self c.self.inside.pairs.items c.self.inside.shares.items c.renew_shares-self-inside.new.shares.items
-    (vec_capacity c.self.inside.shares) (vec_capacity c.renew_shares-self-inside.new.shares) c.self.inside.total c.renew_shares-self-inside.result c.self.inside.room c.renew_shares-self-inside.new.room c.self.inside.aparts _ (rows_in c.self.inside.rows.items) c.self.inside.keys.items c.renew_shares-self-inside.new.keys.items c.self.inside.notes.items c.renew_shares-self-inside.new.notes.items (rises_in c.self.inside.rises.items) (rises_in c.forget_near.new.rises.items)
+    (vec_capacity c.self.inside.shares) (vec_capacity c.renew_shares-self-inside.new.shares) c.self.inside.total c.renew_shares-self-inside.result c.self.inside.room c.renew_shares-self-inside.new.room c.self.inside.aparts _ (pairs_in c.self.inside.rows.items) c.self.inside.keys.items c.renew_shares-self-inside.new.keys.items c.self.inside.notes.items c.renew_shares-self-inside.new.notes.items (rises_in c.self.inside.rises.items) (rises_in c.forget_near.new.rises.items)
     c.self.invariant c.place-2.ensures.fits (c.renew_shares-self-inside.ensures.shares ∙ ap (λ l. map f (groups_in l)) c.as_slice.ensures.value)
     (c.renew_shares-self-inside.ensures.total ∙ ap (λ l. sum_by f (groups_in l)) c.as_slice.ensures.value) c.renew_shares-self-inside.ensures.places c.renew_shares-self-inside.ensures.room
     (settled_next c.self.inside.problem.now.segs c.self.inside.prefix.placed (part_terms c.self.inside.problem.now.terms c.self.inside.part.now) c.self.inside.aparts c.place.new.self (λ l. placed_more l c.self.inside.prefix.placed c.args.seg c.args.line) c.place-2.new.self.placed c.self.invariant.settled c.place.ensures.segs c.place.ensures.terms c.place-2.ensures.placed c.place.ensures.total)
     (subst (λ (l : List PairTerms). AreKeys c.place-2.new.self.placed c.self.inside.part.now (groups_in l) c.renew_shares-self-inside.new.keys.items) c.as_slice.ensures.value c.renew_shares-self-inside.ensures.keys)
     (subst (λ (l : List PairTerms). AreTrueNotes c.self.inside.problem.now.segs c.self.inside.part.now (groups_in l) c.renew_shares-self-inside.new.notes.items) c.as_slice.ensures.value c.renew_shares-self-inside.ensures.notes)
-    (rises_next c.self.inside.problem.now.segs c.self.inside.prefix.placed c.place-2.new.self.placed c.self.inside.part.now (part_terms c.self.inside.problem.now.terms c.self.inside.part.now) _ c.self.inside.pairs.items c.as_slice-3.result.now (rows_in c.self.inside.rows.items)
+    (rises_next c.self.inside.problem.now.segs c.self.inside.prefix.placed c.place-2.new.self.placed c.self.inside.part.now (part_terms c.self.inside.problem.now.terms c.self.inside.part.now) _ c.self.inside.pairs.items c.as_slice-3.result.now (pairs_in c.self.inside.rows.items)
     c.change_on-change.result c.args.seg c.as_slice-4.result.now c.joined.result.now (rises_in c.self.inside.rises.items) (rises_in c.forget_near.new.rises.items)
     c.self.invariant.rises_are c.forget_near.ensures.near (subst (λ (b : PartState). c.args.seg.0 < length b.segs) (sym c.self.view_is) c.requires.known) c.change_on-change.ensures.seg c.self.invariant.fits.each c.place-2.ensures.fits.each
     (moved_on c.self.inside.prefix.placed c.place-2.new.self.placed c.args.seg _ c.place-2.ensures.placed) (λ p none. alike_back p.lesser p.greater (lines_on c.self.inside.prefix.placed c.args.seg) (lines_on c.place-2.new.self.placed c.args.seg) (alike_unchanged (lines_on c.self.inside.prefix.placed c.args.seg) (lines_on c.place-2.new.self.placed c.args.seg) c.change_on-change.result p change none)) c.as_slice-3.ensures.value c.self.invariant.grouped c.self.invariant.groups c.self.invariant.own c.self.invariant.by_segment
-    (row_here c.self.inside.rows.items c.args.seg.0 c.index-2.result.now c.as_slice-4.result.now (row_below (length c.self.inside.problem.now.segs) c.self.inside.pairs.items c.self.inside.rows.items c.args.seg c.self.invariant.by_segment (subst (λ (b : PartState). c.args.seg.0 < length b.segs) (sym c.self.view_is) c.requires.known))
+    (row_in_pairs c.self.inside.rows.items c.args.seg.0 c.index-2.result.now c.as_slice-4.result.now (pairs_below (length c.self.inside.problem.now.segs) c.self.inside.pairs.items c.self.inside.rows.items c.args.seg c.self.invariant.by_segment (subst (λ (b : PartState). c.args.seg.0 < length b.segs) (sym c.self.view_is) c.requires.known))
     c.index-2.ensures c.as_slice-4.ensures.value) (c.place.ensures.terms ∙ c.self.invariant.settled.terms_are) c.joined.ensures)

@@ -9,6 +9,7 @@ use Rattle.pair_shares.specs.declared.pair_terms.PairTerms.{PairTerms}
 use Rattle.pair_shares.specs.PairGroups.{group_in, groups_in}
 use Rattle.part_bounds.specs.PartStates.{PartState}
 use Rattle.pair_bounds.specs.PriceNotes.{price_noted}
+use Rattle.pair_shares.specs.SegmentRows.{pairs_in}
 use Rattle.pair_shares.specs.Shares.{HasRoomFor}
 use Rattle.part_bounds.proofs.NotedPairs.{whole_noted, list_is, prices_rising}
 use Rattle.part_bounds.proofs.Marks.{priced_on}
@@ -30,7 +31,7 @@ renew_prices-requires-clause-room c = subst (λ (l : List PairTerms). HasRoomFor
 
 pub invariant_of-self : goal.invariant_of-self
 invariant_of-self c =
-    priced_on c.self.inside.problem.now c.self.inside.part.now c.self.inside.numbers.now c.self.inside.prefix c.self.inside.pairs.items c.as_slice.result.now c.self.inside.room c.renew_prices.new.room c.self.inside.noted.prices.items
+    priced_on c.self.inside.problem.now c.self.inside.part.now c.self.inside.numbers.now c.self.inside.prefix c.self.inside.pairs.items c.as_slice.result.now (pairs_in c.self.inside.rows.items) c.self.inside.room c.renew_prices.new.room c.self.inside.noted.prices.items
     c.renew_prices.new.noted.prices.items c.self.inside.stale.items c.renew_prices.new.stale.items c.self.invariant c.as_slice.ensures.value c.renew_prices.ensures.enough c.renew_prices.ensures.each c.renew_prices.ensures.noted c.renew_prices.ensures.room
 
 pub of-requires : goal.of-requires
@@ -40,7 +41,7 @@ of-requires c =
 
 pub invariant_of-self-2 : goal.invariant_of-self-2
 invariant_of-self-2 c =
-    priced_on c.self.inside.problem.now c.self.inside.part.now c.self.inside.numbers.now c.self.inside.prefix c.self.inside.pairs.items c.as_slice.result.now c.self.inside.room c.renew_prices.new.room c.self.inside.noted.prices.items
+    priced_on c.self.inside.problem.now c.self.inside.part.now c.self.inside.numbers.now c.self.inside.prefix c.self.inside.pairs.items c.as_slice.result.now (pairs_in c.self.inside.rows.items) c.self.inside.room c.renew_prices.new.room c.self.inside.noted.prices.items
     c.renew_prices.new.noted.prices.items c.self.inside.stale.items c.renew_prices.new.stale.items c.self.invariant c.as_slice.ensures.value c.renew_prices.ensures.enough c.renew_prices.ensures.each c.renew_prices.ensures.noted c.renew_prices.ensures.room
 
 pub returns-clause-prices : goal.returns-clause-prices

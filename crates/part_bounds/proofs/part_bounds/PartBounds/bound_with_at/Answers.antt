@@ -7,12 +7,12 @@ use Rattle.order_bound.specs.Bounds.{bound_of}
 use Rattle.order_bound.proofs.Parts.{rising_apart}
 use Rattle.pair_shares.specs.PairGroups.{groups_in}
 use Rattle.part_bounds.specs.PartStates.{PartState}
-use Rattle.pair_shares.specs.Meeting.{rows_in}
+use Rattle.pair_shares.specs.SegmentRows.{pairs_in}
 use Rattle.part_bounds.specs.Rises.{rises_in, IsTrueRise}
 use Rattle.pair_shares.proofs.KeptGroups.{kept_itself}
 use Rattle.part_bounds.proofs.KeptUp.{kept_up}
 use Rattle.part_bounds.proofs.RisesKept.{rises_noted, bounds_small}
-use Rattle.part_bounds.proofs.part_bounds.PartBounds.bound_noted.Goals as goal
+use Rattle.part_bounds.proofs.part_bounds.PartBounds.bound_with_at.Goals as goal
 
 pub overflow_add-result : goal.overflow_add-result
 overflow_add-result c =
@@ -68,7 +68,7 @@ invariant_of-self c =
     (rising_apart part whole.rises) whole.groups whole.few whole.known_terms whole.few_terms whole.grouped in
     kept_up c.self-2.inside.problem.now part c.self-2.inside.numbers.now c.self-2.inside.prefix c.self-2.inside.prefix c.self-2.inside.pairs.items c.self-2.inside.shares.items c.self-2.inside.shares.items
     (vec_capacity c.self-2.inside.shares) (vec_capacity c.self-2.inside.shares) c.self-2.inside.total c.self-2.inside.total c.self-2.inside.room c.self-2.inside.room c.self-2.inside.aparts c.self-2.inside.aparts
-    (rows_in c.self-2.inside.rows.items) c.self-2.inside.keys.items c.self-2.inside.keys.items c.self-2.inside.notes.items c.self-2.inside.notes.items (rises_in c.self-2.inside.rises.items) (rises_in c.note_rise.new.rises.items)
+    (pairs_in c.self-2.inside.rows.items) c.self-2.inside.keys.items c.self-2.inside.keys.items c.self-2.inside.notes.items c.self-2.inside.notes.items (rises_in c.self-2.inside.rises.items) (rises_in c.note_rise.new.rises.items)
     whole whole.fits whole.shares_are whole.total_is (omega arith) (kept_itself c.self-2.inside.room) whole.settled whole.keys_are whole.notes_are
     (rises_noted segs part terms placed c.args.seg c.args.at c.args.line _ (rises_in c.self-2.inside.rises.items) (rises_in c.note_rise.new.rises.items) whole.rises_are c.note_rise.ensures
     (subst (λ (b : PartState). c.args.at < length (lines_on b.segs c.args.seg)) (sym same) c.requires.within)
