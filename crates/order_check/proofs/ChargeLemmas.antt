@@ -1,11 +1,10 @@
 -- What a term adds to slots is its share there.
-use Rattle.std.proofs.Common.{◌≡◌, ◌≢◌, ℕ, zero, suc, ◌+◌, ◌*◌, ◌<◌, ◌≤◌, ◌==◌, ◌&&◌, ◌||◌, not, Bool, true, false, cond, List, [], ◌∷◌, ◌++◌, length, map, take, get_or, refl, sym, ◌∙◌, ap, subst, arith, true≢false, eqb-true, eq-eqb, Option, Some, None}
-use Rattle.std.specs.Prelude.{ℤ, pos, ◌+ℤ◌, ◌-ℤ◌, unsigned_abs, nat_lt}
-use Rattle.std.specs.List.{All}
-use Rattle.std.proofs.lemmas.Bool.{and_parts, or_parts, eqb-false}
+use Rattle.std.proofs.Common.{◌≡◌, ◌≢◌, ℕ, zero, suc, ◌<◌, ◌==◌, ◌&&◌, ◌||◌, not, Bool, true, false, cond, List, [], ◌∷◌, length, get_or, refl, sym, ◌∙◌, ap, arith, true≢false, eqb-true, Some, None}
+use Rattle.std.specs.Prelude.{ℤ, pos, ◌+ℤ◌, ◌-ℤ◌, nat_lt}
+use Rattle.std.proofs.lemmas.Bool.{and_parts, eqb-false}
 use Rattle.std.proofs.lemmas.Bool.Decides.{nat_tests}
 use Rattle.std.proofs.lemmas.Int.{ints}
-use Rattle.std.proofs.lemmas.List.{take_more, get_or_default}
+use Rattle.std.proofs.lemmas.List.{get_or_default}
 use Rattle.map_base.specs.declared.ids.SegId.{SegId}
 use Rattle.map_base.specs.declared.ids.LineId.{LineId}
 use Rattle.order_model.specs.declared.term.Term.{Term}
@@ -16,14 +15,12 @@ use Rattle.order_model.specs.Looks.{is_decided}
 use Rattle.order_bound.specs.declared.pairs.Pair.{Pair}
 use Rattle.order_bound.specs.declared.pairs.OpenLink.{OpenLink}
 use Rattle.order_bound.specs.Pairs.{pair_of, is_pair}
-use Rattle.order_bound.specs.Bounds.{open_cost}
 use Rattle.order_bound.specs.Values.{price_at, share, int_sum}
 use Rattle.order_bound.proofs.Completing.{same_pair}
 use Rattle.order_check.specs.declared.slot.Slot.{Slot}
-use Rattle.order_check.specs.declared.slot.Charge.{Charge}
 use Rattle.order_check.specs.declared.slot.Charges.{Charges}
 use Rattle.order_check.specs.Slots.{slot_of, pair_at, is_slot, has_slot, AreApartSlots, StandsAt, HasEnds, slot_share, charge_on}
-use Rattle.order_check.specs.Charges.{no_charge, decided_charges, one_charge, open_charges, looked, link_charges, charges_by}
+use Rattle.order_check.specs.Charges.{no_charge, decided_charges, one_charge, link_charges, charges_by}
 use Rattle.order_check.proofs.SlotSums.{same_slot, slot_itself}
 use Rattle.order_check.proofs.SlotValues.{slot_tests}
 

@@ -1,18 +1,16 @@
 -- What the terms of a part add to a slot, one by one.
-use Rattle.std.proofs.Common.{◌≡◌, ℕ, zero, suc, ◌+◌, ◌*◌, ◌<◌, ◌≤◌, ◌==◌, ◌&&◌, Bool, true, false, cond, List, [], ◌∷◌, ◌++◌, length, map, take, get_or, refl, sym, ◌∙◌, ap, subst, arith, Option, Some, None}
+use Rattle.std.proofs.Common.{◌≡◌, ℕ, zero, suc, ◌+◌, ◌*◌, ◌<◌, ◌≤◌, ◌==◌, ◌&&◌, Bool, true, false, cond, List, [], ◌∷◌, ◌++◌, length, map, take, get_or, refl, sym, ◌∙◌, ap, arith, Option, Some, None}
 use Rattle.std.specs.Prelude.{ℤ, pos, ◌+ℤ◌, ◌-ℤ◌, unsigned_abs, nat_lt}
-use Rattle.std.specs.List.{All, sum_by}
+use Rattle.std.specs.List.{All}
 use Rattle.std.proofs.lemmas.Int.{ints}
-use Rattle.std.proofs.lemmas.List.{take_more, map_push, take_all, length-take-le}
-use Rattle.std.proofs.lemmas.List.Sums.{sum_by-append, sum_by-cons}
-use Rattle.map_base.specs.declared.ids.SegId.{SegId}
+use Rattle.std.proofs.lemmas.List.{take_more, map_push}
 use Rattle.map_base.specs.declared.ids.LineId.{LineId}
 use Rattle.order_model.specs.declared.term.Term.{Term}
 use Rattle.order_model.specs.declared.term.Term.TheVariants.{Side, Link, Apart}
 use Rattle.order_model.specs.Problems.{lines_on, IsTerm}
-use Rattle.order_model.specs.Costs.{same_answer, comes_before, term_cost}
+use Rattle.order_model.specs.Costs.{same_answer, comes_before}
 use Rattle.order_model.specs.Looks.{is_decided, neighbours_on}
-use Rattle.order_bound.specs.Decided.{apart_cost, decided_cost, decided_sum}
+use Rattle.order_bound.specs.Decided.{apart_cost, decided_cost}
 use Rattle.order_bound.specs.Values.{price_at, int_sum}
 use Rattle.order_bound.proofs.IntSums.{int_sum-append}
 use Rattle.order_check.specs.declared.slot.Slot.{Slot}
@@ -20,10 +18,10 @@ use Rattle.order_check.specs.declared.slot.PartTerm.{PartTerm}
 use Rattle.order_check.specs.declared.slot.Charge.{Charge}
 use Rattle.order_check.specs.declared.slot.Charges.{Charges}
 use Rattle.order_check.specs.Slots.{plain_term, AreApartSlots, HasEnds, slot_share, slot_total, charge_on}
-use Rattle.order_check.specs.Charges.{no_charge, decided_charges, one_charge, open_charges, looked, link_charges, charges_by}
-use Rattle.order_check.specs.Charging.{no_part_term, charges_at, added_at, charged, AreTerms}
+use Rattle.order_check.specs.Charges.{no_charge, decided_charges, one_charge, looked, link_charges, charges_by}
+use Rattle.order_check.specs.Charging.{no_part_term, added_at, charged, AreTerms}
 use Rattle.order_check.proofs.ChargeLemmas.{nothing_charged, adds_share}
-use Rattle.order_check.proofs.SignedSums.{abs_sum, sum_more}
+use Rattle.order_check.proofs.SignedSums.{abs_sum}
 
 -- How much is added.
 
@@ -127,31 +125,7 @@ decided_is segs placed (Link seg other flip a b w) here there y = by_tests (is_d
     by_tests false false = refl
 decided_is segs placed (Apart seg other a b w) here there y = refl
 
--- one decided term more
-pub decided_more : (segs placed : List (List LineId)) (table : List PartTerm) (i : ℕ) → i < length table
-    → decided_sum segs placed (map plain_term (take (i + 1) table)) ≡ decided_sum segs placed (map plain_term (take i table)) + decided_cost segs placed (get_or table i no_part_term).term
-decided_more segs placed table i below =
-    let f : ℕ × Term → ℕ = λ t. decided_cost segs placed t.1 in
-    let t : PartTerm = get_or table i no_part_term in
-    let one : sum_by f (plain_term t ∷ []) ≡ decided_cost segs placed t.term + sum_by f [] = sum_by-cons f (plain_term t) [] in
-    ap (λ l. sum_by f (map plain_term l)) (take_more table i no_part_term below) ∙ ap (sum_by f) (map_push plain_term (take i table) t)
-    ∙ sum_by-append f (map plain_term (take i table)) (plain_term t ∷ []) ∙ (omega (arith, one))
-
 -- The sums.
-
-charged_next : (segs placed : List (List LineId)) (table : List PartTerm) (prices : List ℤ) (i k : ℕ) (x : Bool)
-    → charged segs placed table prices (i + 1) k x ≡ charged segs placed table prices i k x +ℤ added_at segs placed table prices i k x
-charged_next segs placed table prices i k x = let e : i + 1 ≡ suc i = omega arith in ap (λ n. charged segs placed table prices n k x) e
-
-pub charged_more : (segs placed : List (List LineId)) (table : List PartTerm) (prices : List ℤ) (i k : ℕ) (x : Bool) (a b c : ℤ)
-    → a ≡ charged segs placed table prices i k x → b ≡ a +ℤ charge_on (charges_at segs placed table prices i).here k x
-    → c ≡ b +ℤ charge_on (charges_at segs placed table prices i).there k x → c ≡ charged segs placed table prices (i + 1) k x
-charged_more segs placed table prices i k x a b c p q r =
-    last a b c (charged segs placed table prices i k x) (charge_on (charges_at segs placed table prices i).here k x) (charge_on (charges_at segs placed table prices i).there k x) p q r
-    ∙ sym (charged_next segs placed table prices i k x)
-  where
-    last : (a b c s u v : ℤ) → a ≡ s → b ≡ a +ℤ u → c ≡ b +ℤ v → c ≡ s +ℤ (u +ℤ v)
-    last a b c s u v p q r = omega (arith, ints)
 
 pub small_charged : (segs placed : List (List LineId)) (table : List PartTerm) (prices : List ℤ) (i k : ℕ) (x : Bool) → AreTerms segs table
     → ((j : ℕ) → j < length table → unsigned_abs (get_or prices j (pos 0)) ≤ 256000) → i ≤ length table → unsigned_abs (charged segs placed table prices i k x) ≤ 256000 * i

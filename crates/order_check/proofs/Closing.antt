@@ -1,18 +1,17 @@
 -- What the tables of a Close come to.
-use Rattle.std.proofs.Common.{◌≡◌, ℕ, zero, suc, ◌+◌, ◌*◌, ◌<◌, ◌≤◌, Bool, true, false, cond, List, [], ◌∷◌, length, map, take, get_or, refl, sym, ◌∙◌, ap, subst, arith, Some, None}
-use Rattle.std.specs.Prelude.{ℤ, pos, ◌+ℤ◌, int_le, unsigned_abs}
-use Rattle.std.specs.List.{All, AllByRecursion}
-use Rattle.std.proofs.lemmas.Int.{ints}
+use Rattle.std.proofs.Common.{◌≡◌, ℕ, zero, suc, ◌<◌, ◌≤◌, Bool, true, false, cond, List, [], ◌∷◌, length, map, get_or, refl, sym, ◌∙◌, ap, subst, arith, Some, None}
+use Rattle.std.specs.Prelude.{ℤ, pos, ◌+ℤ◌, int_le}
+use Rattle.std.specs.List.{AllByRecursion}
 use Rattle.std.proofs.lemmas.List.{take_all, get_or-map, length-map}
 use Rattle.map_base.specs.declared.ids.SegId.{SegId}
 use Rattle.map_base.specs.declared.ids.LineId.{LineId}
 use Rattle.order_model.specs.declared.term.Term.{Term}
-use Rattle.order_model.specs.Problems.{IsTerm, IsProblem}
-use Rattle.order_model.specs.PartTerms.{part_terms, part_numbers, plain_terms}
+use Rattle.order_model.specs.Problems.{IsTerm}
+use Rattle.order_model.specs.PartTerms.{part_terms, plain_terms}
 use Rattle.order_model.proofs.KeptTerms.{part_terms_fit, part_terms_few}
 use Rattle.order_bound.specs.Decided.{decided_sum}
 use Rattle.order_bound.specs.Pairs.{pairs_of}
-use Rattle.order_bound.specs.Values.{price_at, int_sum, least_answer, are_allowed, value, value_of, pair_value}
+use Rattle.order_bound.specs.Values.{price_at, int_sum, least_answer, are_allowed, value_of, pair_value}
 use Rattle.order_bound.specs.Accepting.{Question, reaches, is_closed}
 use Rattle.order_bound.proofs.Bounding.{AreNumbered}
 use Rattle.order_bound.proofs.Completing.{IsPart}
@@ -22,9 +21,8 @@ use Rattle.order_check.specs.declared.slot.PartTerm.{PartTerm}
 use Rattle.order_check.specs.declared.slot.SlotCost.{SlotCost}
 use Rattle.order_check.specs.declared.asked.Asked.{Asked}
 use Rattle.order_check.specs.Asking.{question_of, IsAsked}
-use Rattle.order_check.specs.Slots.{plain_term, slots_of, slot_total, slots_value, slot_of, no_cost, cost_in, cost_at}
+use Rattle.order_check.specs.Slots.{plain_term, slot_total, slots_value, slot_of, no_cost, cost_in, cost_at}
 use Rattle.order_check.specs.Charging.{no_part_term, charged, AreTerms}
-use Rattle.order_check.specs.PartTables.{IsPartTable}
 use Rattle.order_check.specs.Prices.{AreRisingNumbers, AreNumbersOf}
 use Rattle.order_check.proofs.SlotValues.{slots_apart, value_by_slots}
 use Rattle.order_check.proofs.SignedSums.{sums_by_place}

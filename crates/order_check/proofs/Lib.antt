@@ -7,6 +7,8 @@ pub mod Charging
 pub mod PriceLemmas
 pub mod RuleTurns
 mod Closing
+mod Counting
+mod Pricing
 mod Nodes
 mod Walks
 mod Totals

@@ -1,8 +1,8 @@
 -- Prices, one by one, at the terms of their numbers.
-use Rattle.std.proofs.Common.{◌≡◌, ◌≢◌, ℕ, zero, suc, ◌+◌, ◌<◌, ◌≤◌, ◌==◌, ◌&&◌, ◌||◌, not, nat_le, Bool, true, false, cond, List, [], ◌∷◌, ◌++◌, length, map, take, drop, set, get_or, refl, sym, ◌∙◌, ap, subst, arith, true≢false, eqb-true, eq-eqb, inl, inr, ◌⊎◌}
+use Rattle.std.proofs.Common.{◌≡◌, ◌≢◌, ℕ, zero, suc, ◌+◌, ◌<◌, ◌≤◌, ◌==◌, ◌&&◌, ◌||◌, not, nat_le, Bool, true, false, cond, List, [], ◌∷◌, ◌++◌, length, map, take, set, get_or, refl, sym, ◌∙◌, ap, subst, arith, true≢false, eqb-true, eq-eqb, inl, inr, ◌⊎◌}
 use Rattle.std.specs.Prelude.{ℤ, pos, unsigned_abs}
-use Rattle.std.specs.List.{All, list_all, list_any}
-use Rattle.std.proofs.lemmas.Bool.{and_parts, and_from, or_cases, or_left, or_right, eqb-false, leb-true, cases_lt}
+use Rattle.std.specs.List.{list_all, list_any}
+use Rattle.std.proofs.lemmas.Bool.{and_parts, and_from, eqb-false, leb-true, cases_lt}
 use Rattle.std.proofs.lemmas.Int.{ints}
 use Rattle.std.proofs.lemmas.List.{get_or-map, length-map, get_or-set_same, get_or-set_other, length-set, take_more, length-take-le, get_or-take}
 use Rattle.map_base.specs.declared.ids.LineId.{LineId}
@@ -15,7 +15,8 @@ use Rattle.order_bound.specs.Values.{price_at, allows, are_allowed}
 use Rattle.order_check.specs.declared.slot.PartTerm.{PartTerm}
 use Rattle.order_check.specs.Slots.{plain_term}
 use Rattle.order_check.specs.Charging.{no_part_term, AreTerms}
-use Rattle.order_check.specs.Prices.{may_have, AreRisingNumbers, AreNumbersOf, IsPlaceOf}
+use Rattle.order_check.specs.Prices.{may_have, AreNumbersOf}
+use Rattle.order_check.specs.Pricing.{AreSpread}
 
 same_or_other : (i j : ℕ) → (i ≡ j) ⊎ (i ≢ j)
 same_or_other i j = by_test (i == j) refl
@@ -64,7 +65,7 @@ one_allows placed (t ∷ table) q (suc i) below here others =
     ap (λ b. b || is_allowed placed (map plain_term table) q) (allows_other placed q t.number t.term (others 0 (omega arith) (λ e. omega (arith, e))))
     ∙ one_allows placed table q i (omega (arith, below)) here (λ j h n. others (suc j) (omega (arith, h)) (λ e. n (omega (arith, e))))
 
-number_read : (table : List PartTerm) (numbers : List ℕ) (i : ℕ) → map (λ (t : PartTerm). t.number) table ≡ numbers → i < length table
+pub number_read : (table : List PartTerm) (numbers : List ℕ) (i : ℕ) → map (λ (t : PartTerm). t.number) table ≡ numbers → i < length table
     → get_or numbers i 0 ≡ (get_or table i no_part_term).number
 number_read table numbers i listed below = ap (λ ns. get_or ns i 0) (sym listed) ∙ get_or-map (λ (t : PartTerm). t.number) table i no_part_term 0 below
 
@@ -127,7 +128,7 @@ price_push (r ∷ qs) q n under = by_tests (r.0 == n) refl (q.0 == n) refl (pric
     by_tests true e false f rest = refl
     by_tests false e t f rest = rest
 
-rising_all : (qs : List (ℕ × ℤ)) → AreRisingPrices qs → (i j : ℕ) → i < j → j < length qs → (get_or qs i (0, pos 0)).0 < (get_or qs j (0, pos 0)).0
+pub rising_all : (qs : List (ℕ × ℤ)) → AreRisingPrices qs → (i j : ℕ) → i < j → j < length qs → (get_or qs i (0, pos 0)).0 < (get_or qs j (0, pos 0)).0
 rising_all [] h i j below known = absurd (omega (arith, known))
 rising_all (q ∷ []) h i j below known = absurd (omega (arith, below, known))
 rising_all (q ∷ r ∷ qs) h zero zero below known = absurd (omega (arith, below))
@@ -137,13 +138,6 @@ rising_all (q ∷ r ∷ qs) h zero (suc (suc j)) below known =
 rising_all (q ∷ r ∷ qs) h (suc i) zero below known = absurd (omega (arith, below))
 rising_all (q ∷ r ∷ qs) h (suc i) (suc j) below known = rising_all (r ∷ qs) h.1 i j (omega (arith, below)) (omega (arith, known))
 
--- these prices are allowed, and the table tells the price of each term
-pub record AreSpread (placed : List (List LineId)) (table : List PartTerm) (qs : List (ℕ × ℤ)) (prices : List ℤ) : Type 0 where
-  pub each : length prices ≡ length table
-  pub allowed : are_allowed placed (map plain_term table) qs ≡ true
-  pub told : (i : ℕ) → i < length table → get_or prices i (pos 0) ≡ price_at qs (get_or table i no_part_term).number
-  pub small : (i : ℕ) → i < length table → unsigned_abs (get_or prices i (pos 0)) ≤ 256000
-
 pub spread_none : (placed : List (List LineId)) (table : List PartTerm) (prices : List ℤ) → length prices ≡ length table → ((i : ℕ) → get_or prices i (pos 0) ≡ pos 0) → AreSpread placed table [] prices
 spread_none placed table prices each none = record {
   each = each;
@@ -152,7 +146,7 @@ spread_none placed table prices each none = record {
   small = λ i h. (let is = none i in rw is (omega (arith, ints)));
 }
 
-small_allowed : (segs placed : List (List LineId)) (t : Term) (y : ℤ) → IsTerm segs t → may_have placed t y ≡ true → unsigned_abs y ≤ 256000
+pub small_allowed : (segs placed : List (List LineId)) (t : Term) (y : ℤ) → IsTerm segs t → may_have placed t y ≡ true → unsigned_abs y ≤ 256000
 small_allowed segs placed (Side seg first second w) y fits h = absurd (true≢false (sym h))
 small_allowed segs placed (Link seg other flip a b w) y fits h =
     let most = leb-true (unsigned_abs y) w (and_parts (not (is_decided placed seg a b || is_decided placed other a b)) (nat_le (unsigned_abs y) w) h).1 in

@@ -1,5 +1,5 @@
 -- Rules that apply in turn, and the number of the first that does not.
-use Rattle.std.proofs.Common.{◌≡◌, ◌∙◌, ap, sym, refl, ℕ, zero, suc, ◌+◌, ◌<◌, ◌≤◌, Bool, true, false, cond, List, [], ◌∷◌, length, arith, Option, Some, None}
+use Rattle.std.proofs.Common.{◌≡◌, ◌∙◌, ap, refl, ℕ, ◌+◌, ◌≤◌, Bool, true, false, cond, List, [], ◌∷◌, length, arith, Some, None}
 use Rattle.std.specs.List.{sum_by}
 use Rattle.order_values.specs.declared.rule.Rule.{Rule}
 use Rattle.order_model.specs.declared.problem.ProblemParts.{ProblemParts}

@@ -1,7 +1,6 @@
 -- The value of prices is a sum over the slots of the terms.
 use Rattle.std.proofs.Common.{◌≡◌, ℕ, ◌+◌, ◌==◌, ◌&&◌, ◌||◌, not, Bool, true, false, cond, List, [], ◌∷◌, ◌++◌, map, filter, refl, sym, ◌∙◌, ap, subst, arith, true≢false, eqb-true, eq-eqb, inl, inr, ◌⊎◌}
 use Rattle.std.specs.Prelude.{ℤ, pos, ◌+ℤ◌, nat_lt}
-use Rattle.std.specs.Int.{int_min}
 use Rattle.std.specs.List.{list_any, flat_map, sum_by, Contains}
 use Rattle.std.proofs.lemmas.Bool.{and_parts, and_from, or_cases, or_parts, or_left, or_right}
 use Rattle.std.proofs.lemmas.Int.{ints}
@@ -25,7 +24,7 @@ use Rattle.order_bound.proofs.Worth.{AreApartSegments}
 use Rattle.order_bound.proofs.Completing.{IsPart, AreApartPairs, same_pair, pair_itself, pairs_apart, apart_filter, on_placed}
 use Rattle.order_check.specs.declared.slot.Slot.{Slot}
 use Rattle.order_check.specs.Slots.{slot_on, slot_of, pair_at, is_slot, has_slot, noted, with_slots, slots_after, slots_of, AreApartSlots, slot_share, slot_total, slots_value}
-use Rattle.order_check.proofs.SlotSums.{same_slot, slot_itself, slot_turned, has_noted, apart_noted, sums_same}
+use Rattle.order_check.proofs.SlotSums.{same_slot, slot_itself, has_noted, apart_noted, sums_same}
 
 -- What a term adds on a slot that is not at one of its open ends.
 

@@ -1,7 +1,5 @@
 -- One more term in a table of a part's terms.
-use Rattle.std.proofs.Common.{◌≡◌, ℕ, suc, ◌+◌, ◌*◌, ◌<◌, ◌≤◌, ◌==◌, Bool, true, false, cond, List, [], ◌∷◌, ◌++◌, length, map, take, get_or, refl, sym, ◌∙◌, ap, subst, arith, length-append, Some}
-use Rattle.std.specs.Prelude.{slice_get}
-use Rattle.std.specs.List.{All}
+use Rattle.std.proofs.Common.{◌≡◌, ℕ, ◌+◌, ◌*◌, ◌<◌, ◌≤◌, Bool, true, false, cond, List, [], ◌∷◌, ◌++◌, length, take, get_or, refl, sym, ◌∙◌, ap, subst, arith, length-append}
 use Rattle.std.proofs.lemmas.List.{get_or_append_left, take_more, map_push}
 use Rattle.std.proofs.lemmas.List.Elements.{All-nil, All-push}
 use Rattle.order_model.specs.declared.term.Term.{Term}
@@ -9,7 +7,7 @@ use Rattle.order_model.specs.declared.term.Term.TheVariants.{Side, Link, Apart}
 use Rattle.order_model.specs.PartTerms.{terms_by_number, no_term}
 use Rattle.order_check.specs.declared.slot.Slot.{Slot}
 use Rattle.order_check.specs.declared.slot.PartTerm.{PartTerm}
-use Rattle.order_check.specs.Slots.{slot_of, is_slot, has_slot, noted, with_slots, slots_after, slots_of, StandsAt, HasEnds, plain_term}
+use Rattle.order_check.specs.Slots.{slot_of, has_slot, noted, with_slots, slots_after, slots_of, StandsAt, HasEnds, plain_term}
 use Rattle.order_check.specs.PartTables.{IsPartTable}
 
 -- Slots that are noted keep their places.

@@ -19,7 +19,7 @@ use Rattle.order_model.specs.Completions.{placed_more}
 use Rattle.order_bound.specs.Accepting.{Question, is_closed, are_those_left, is_split, after_line, first_of, failing, failing_case}
 use Rattle.order_model.proofs.Lines.{both_true, either_true, not_true, same_line}
 use Rattle.order_check.specs.Children.{child_lines}
-use Rattle.order_check.specs.Walking.{IsWalked}
+use Rattle.order_check.specs.Walking.{IsWalked, split_test}
 
 -- Trees as plain ones.
 
@@ -63,10 +63,6 @@ pub split_walked : (q : Question) (placed : List (List LineId)) (tree : Tree) (s
     → IsWalked (failing q placed (plain tree)) before after b
 split_walked q placed tree seg children before after b is h =
     rw (is, plain-Split seg children) h
-
--- the test of a Split speaks of the lines of its children
-abbrev pub split_test : Question → List (List LineId) → SegId → List LineId → Bool
-split_test q placed s these = is_in q.part s && (nat_lt 0 (length these) && are_those_left (lines_on q.segs s) (lines_on placed s) these)
 
 not_split_fails : (q : Question) (placed : List (List LineId)) (s : SegId) (children : List (LineId × Tree))
     → split_test q placed s (child_lines children) ≡ false → failing q placed (split s (plain_children children)) ≡ Some []

@@ -1,5 +1,5 @@
 -- What a tree is asked to show.
-use Rattle.std.specs.Prelude.{◌≡◌, ℤ, ◌<◌, List, length, map, All}
+use Rattle.std.specs.Prelude.{◌≡◌, ◌<◌, List, length, All}
 use Rattle.map_base.specs.declared.ids.SegId.{SegId}
 use Rattle.order_model.specs.Problems.{IsProblem}
 use Rattle.order_model.specs.Parts.{IsRisingPart}
@@ -23,7 +23,7 @@ pub record IsAsked (asked : Asked) : Type 0 where
   pub terms : asked.terms.now ≡ part_numbers asked.problem.now.terms asked.part.now
   pub table : IsPartTable (part_terms asked.problem.now.terms asked.part.now) asked.table.now.terms.items asked.table.now.slots.keys
 
--- tables with a place for each term and for each slot of the part
-pub record HaveTables (asked : Asked) (shares : List ℤ) (costs : List SlotCost) : Type 0 where
-  pub each_term : length shares ≡ length asked.table.now.terms.items
-  pub each_slot : length costs ≡ length asked.table.now.slots.keys
+-- two tables with a place for each slot of the part
+pub record HaveTables (asked : Asked) (costs trial : List SlotCost) : Type 0 where
+  pub costs_each : length costs ≡ length asked.table.now.slots.keys
+  pub trial_each : length trial ≡ length asked.table.now.slots.keys

@@ -52,3 +52,9 @@ charges_by segs placed (Link seg other flip a b w) here there price =
     link_charges here there (looked placed seg a b) (looked placed other a b) flip w price
 charges_by segs placed (Apart seg other a b w) here there price =
     decided_charges (apart_cost w (neighbours_on (lines_on segs seg) (lines_on placed seg) a b) (neighbours_on (lines_on segs other) (lines_on placed other) a b))
+
+-- what an open Link adds under its price
+abbrev pub price_charges : Term → ℕ → ℕ → ℤ → Charges
+price_charges (Side seg first second w) here there price = decided_charges 0
+price_charges (Link seg other flip a b w) here there price = open_charges here there flip price
+price_charges (Apart seg other a b w) here there price = decided_charges 0

@@ -1,6 +1,6 @@
 -- What the first terms of a part add to a slot, as a checker sums it.
-use Rattle.std.specs.Prelude.{ℕ, zero, suc, ◌≤◌, ◌<◌, Bool, List, length, All, slice_index_or}
-use Rattle.std.specs.Prelude.{ℤ, pos, ◌+ℤ◌, unsigned_abs}
+use Rattle.std.specs.Prelude.{ℕ, zero, suc, Bool, List, All, slice_index_or}
+use Rattle.std.specs.Prelude.{ℤ, pos, ◌+ℤ◌}
 use Rattle.map_base.specs.declared.ids.LineId.{LineId}
 use Rattle.order_model.specs.Problems.{IsTerm}
 use Rattle.order_model.specs.PartTerms.{no_term}
@@ -27,10 +27,6 @@ added_at segs placed table prices i k x =
 abbrev pub charged : List (List LineId) → List (List LineId) → List PartTerm → List ℤ → ℕ → ℕ → Bool → ℤ
 charged segs placed table prices zero k x = pos 0
 charged segs placed table prices (suc i) k x = charged segs placed table prices i k x +ℤ added_at segs placed table prices i k x
-
--- no price is above the greatest weight either way
-abbrev pub AreSmall : List ℤ → Type 0
-AreSmall prices = (i : ℕ) → i < length prices → unsigned_abs (slice_index_or prices i (pos 0)) ≤ 256000
 
 -- the terms are the problem's
 abbrev pub AreTerms : List (List LineId) → List PartTerm → Type 0

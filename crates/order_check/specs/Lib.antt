@@ -3,6 +3,8 @@ pub mod PartTables
 pub mod Charges
 pub mod Charging
 pub mod Prices
+pub mod Counting
+pub mod Pricing
 pub mod Asking
 pub mod Children
 pub mod Walking

@@ -1,5 +1,5 @@
 -- The terms of a part with the slots at their ends, as a checker keeps them.
-use Rattle.std.specs.Prelude.{◌≡◌, ℕ, ◌<◌, List, length, map, All}
+use Rattle.std.specs.Prelude.{◌≡◌, ℕ, List, map, All}
 use Rattle.order_model.specs.declared.term.Term.{Term}
 use Rattle.order_check.specs.declared.slot.Slot.{Slot}
 use Rattle.order_check.specs.declared.slot.PartTerm.{PartTerm}

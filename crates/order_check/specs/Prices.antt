@@ -1,5 +1,5 @@
 -- Prices of the terms of a part, found by number.
-use Rattle.std.specs.Prelude.{◌≡◌, ◌≢◌, ℕ, ◌<◌, ◌≤◌, nat_le, Bool, true, false, ◌&&◌, ◌||◌, not, List, length, map, slice_index_or, Option, Some, None}
+use Rattle.std.specs.Prelude.{◌≡◌, ◌≢◌, ℕ, ◌<◌, nat_le, Bool, false, ◌&&◌, ◌||◌, not, List, length, map, slice_index_or, Option, Some, None}
 use Rattle.std.specs.Prelude.{ℤ, unsigned_abs}
 use Rattle.map_base.specs.declared.ids.LineId.{LineId}
 use Rattle.order_model.specs.declared.term.Term.{Term}

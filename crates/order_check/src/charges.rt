@@ -5,7 +5,7 @@ ghost use Rattle.order_model.specs.declared.term.Term.TheVariants.{Side};
 ghost use Rattle.order_model.specs.Problems.{IsOn, IsSide, IsTerm};
 ghost use Rattle.order_model.specs.Prefixes.{IsPrefixOf};
 ghost use Rattle.order_bound.specs.Decided.{apart_cost};
-ghost use Rattle.order_check.specs.Charges.{no_charge, decided_charges, one_charge, open_charges, looked, link_charges, charges_by};
+ghost use Rattle.order_check.specs.Charges.{no_charge, decided_charges, one_charge, open_charges, looked, link_charges, charges_by, price_charges};
 
 use crate::slot::{Charge, Charges, PartTerm};
 use map_base::{LineId, SegId};
@@ -114,6 +114,17 @@ fn link_charges(
         (Some(first), None) => one_charge(t.there, flip == first, i64::from(w)),
         (None, Some(first_too)) => one_charge(t.here, flip == first_too, i64::from(w)),
         (None, None) => open_charges(t.here, t.there, flip, price),
+    }
+}
+
+/// What an open Link adds under its price.
+pub(crate) fn price_charges(t: PartTerm, price: i64) -> Charges
+    requires { unsigned_abs price ≤ 256000 }
+    ensures { result ≡ price_charges t.term t.here t.there price }
+{
+    match t.term {
+        Term::Link { flip, .. } => open_charges(t.here, t.there, flip, price),
+        Term::Side { .. } | Term::Apart { .. } => decided_charges(0),
     }
 }
 

@@ -14,6 +14,7 @@ mod refusal;
 mod rules;
 mod slot;
 mod slot_costs;
+mod tally;
 mod term_prices;
 mod total;
 mod walk;

@@ -18,6 +18,7 @@ use crate::asked::Asked;
 use crate::part_table::part_table;
 use crate::refusal::{ProofItem, ProofStop};
 use crate::slot::SlotCost;
+use crate::tally::first_tally;
 use crate::walk::walk;
 use map_base::{SegId, Sequence};
 use order_model::{Prefix, Problem};
@@ -90,12 +91,20 @@ fn check_tree(
         lesser_first: 0,
         greater_first: 0,
     };
-    let mut shares = vec![in alloc; 0_i64; asked.table.terms.len()]?;
     let mut costs = vec![in alloc; nothing; asked.table.slots.len()]?;
+    let mut trial = vec![in alloc; nothing; asked.table.slots.len()]?;
     let mut way = Vec::new(alloc);
-    let shares = shares.as_mut_slice();
     let costs = costs.as_mut_slice();
-    if walk(asked, prefix, shares, costs, &mut way, tree)? {
+    let decided = first_tally(asked, prefix, costs);
+    if walk(
+        asked,
+        prefix,
+        decided,
+        costs,
+        trial.as_mut_slice(),
+        &mut way,
+        tree,
+    )? {
         return Ok(());
     }
     Err(ProofStop::Refuted(ProofItem::Part {

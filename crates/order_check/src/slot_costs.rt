@@ -1,48 +1,111 @@
 //! What a part's terms add to its slots, for a prefix.
 
-ghost use Rattle.std.specs.Prelude.{◌≡◌, ◌<◌, ◌≤◌, ◌+ℤ◌, ◌^◌, ℕ, Bool, length, map, All, unsigned_abs, pos, if◌then◌else◌};
+ghost use Rattle.std.specs.Prelude.{◌≡◌, ◌<◌, ◌≤◌, ◌+ℤ◌, ◌^◌, ℕ, Bool, length, sum_by, unsigned_abs, pos, if◌then◌else◌};
 ghost use Rattle.order_model.specs.Problems.{IsTerm};
 ghost use Rattle.order_model.specs.Costs.{same_answer};
 ghost use Rattle.order_model.specs.Prefixes.{IsPrefixOf};
-ghost use Rattle.order_bound.specs.Decided.{decided_sum};
 ghost use Rattle.order_bound.specs.Values.{int_sum, least_answer};
-ghost use Rattle.order_check.specs.Slots.{plain_term, no_cost, cost_in, cost_at, charge_on};
-ghost use Rattle.order_check.specs.Charging.{charged, AreSmall, AreTerms};
+ghost use Rattle.order_check.specs.Slots.{cost_in, cost_at, charge_on};
+ghost use Rattle.order_check.specs.Charging.{AreTerms};
+ghost use Rattle.order_check.specs.Counting.{is_on, counts, counted_by, decided_by, shifted, turned, AreSmallCosts};
 
 use crate::charges::charges;
 use crate::slot::{Charge, PartTerm, SlotCost};
-use order_model::{Prefix, Problem};
+use map_base::SegId;
+use order_model::{Prefix, Problem, Term};
 
-/// Writes into the table of slots what the terms add for a prefix, under the price of each, and sums the decided terms.
-pub(crate) fn charge_all(
+/// Adds to the table of slots what the terms that count add for a prefix, with no prices, or takes it off again. Sums those
+/// of them that are decided.
+pub(crate) fn count(
     problem: &Problem,
     prefix: &Prefix,
     terms: &[PartTerm],
-    prices: &[i64],
+    which: Option<SegId>,
     costs: &mut [SlotCost],
+    off: bool,
 ) -> u64
     requires fits { IsPrefixOf problem.now.segs prefix.now }
     requires terms { AreTerms problem.now.segs terms.now }
     requires few { length terms.now ≤ 4000000 }
-    requires each { length prices.now ≡ length terms.now }
-    requires small { AreSmall prices.now }
-    ensures decided { result ≡ decided_sum problem.now.segs prefix.now.placed (map plain_term terms.now) }
+    requires small { AreSmallCosts costs.old }
+    ensures decided { result ≡ sum_by (decided_by which problem.now.segs prefix.now.placed) terms.now }
     ensures most { result ≤ 1024000000000 }
-    ensures slots { (k : ℕ) → k < length costs.old → (x : Bool) → cost_at costs.new k x ≡ charged problem.now.segs prefix.now.placed terms.now prices.now (length terms.now) k x }
+    ensures slots { (k : ℕ) → k < length costs.old → (x : Bool)
+        → cost_at costs.new k x ≡ shifted off (cost_at costs.old k x) (int_sum (counted_by which problem.now.segs prefix.now.placed k x) terms.now) }
 {
-    clear(costs);
     let mut decided: u64 = 0;
     for i in 0..terms.len() {
-        let added = charges(problem, prefix, terms[i], prices[i]);
-        decided += added.decided;
-        add(costs, added.here);
-        add(costs, added.there);
+        decided += count_term(problem, prefix, terms[i], which, costs, off);
     }
     decided
 }
 
+/// The same of one term: what it costs where it counts and is decided.
+fn count_term(
+    problem: &Problem,
+    prefix: &Prefix,
+    t: PartTerm,
+    which: Option<SegId>,
+    costs: &mut [SlotCost],
+    off: bool,
+) -> u64
+    requires fits { IsPrefixOf problem.now.segs prefix.now }
+    requires term { IsTerm problem.now.segs t.term }
+    requires small { (k : ℕ) (x : Bool) → k < length costs.old → unsigned_abs (cost_at costs.old k x) ≤ 2 ^ 60 }
+    ensures decided { result ≡ decided_by which problem.now.segs prefix.now.placed t }
+    ensures most { result ≤ 256000 }
+    ensures slots { (k : ℕ) → k < length costs.old → (x : Bool)
+        → cost_at costs.new k x ≡ shifted off (cost_at costs.old k x) (counted_by which problem.now.segs prefix.now.placed k x t) }
+{
+    if !counts(which, t.term) {
+        return 0;
+    }
+    let added = charges(problem, prefix, t, 0);
+    add(costs, turned(added.here, off));
+    add(costs, turned(added.there, off));
+    added.decided
+}
+
+/// Whether a term counts: where a segment is named, it has to be on it.
+fn counts(which: Option<SegId>, term: Term) -> bool
+    ensures { result ≡ counts which term }
+{
+    match which {
+        None => true,
+        Some(s) => is_on(s, term),
+    }
+}
+
+/// Whether a term is on a segment.
+fn is_on(s: SegId, term: Term) -> bool
+    ensures { result ≡ is_on s.0 term }
+{
+    match term {
+        Term::Side { seg, .. } => seg.0 == s.0,
+        Term::Link { seg, other, .. } | Term::Apart { seg, other, .. } => {
+            seg.0 == s.0 || other.0 == s.0
+        }
+    }
+}
+
+/// A charge, or where it is taken off its contrary.
+fn turned(charge: Charge, off: bool) -> Charge
+    requires { unsigned_abs charge.amount ≤ 256000 }
+    ensures { result ≡ turned off charge }
+{
+    if off {
+        Charge {
+            slot: charge.slot,
+            lesser_first: charge.lesser_first,
+            amount: 0 - charge.amount,
+        }
+    } else {
+        charge
+    }
+}
+
 /// Nothing costs anything yet.
-fn clear(costs: &mut [SlotCost])
+pub(crate) fn clear(costs: &mut [SlotCost])
     ensures { (k : ℕ) (x : Bool) → cost_at costs.new k x ≡ pos 0 }
 {
     for k in 0..costs.len() {
@@ -54,7 +117,7 @@ fn clear(costs: &mut [SlotCost])
 }
 
 /// Adds a charge to its slot, if there is such a slot.
-fn add(costs: &mut [SlotCost], charge: Charge)
+pub(crate) fn add(costs: &mut [SlotCost], charge: Charge)
     requires small { (k : ℕ) (x : Bool) → k < length costs.old → unsigned_abs (cost_at costs.old k x) ≤ 2 ^ 61 }
     requires amount { unsigned_abs charge.amount ≤ 256000 }
     ensures { (k : ℕ) → k < length costs.old → (x : Bool) → cost_at costs.new k x ≡ cost_at costs.old k x +ℤ charge_on charge k x }
@@ -111,7 +174,7 @@ pub(crate) fn sum(a: i64, b: i64) -> i64
 /// The sum over the slots of what the cheaper order of their lines costs.
 pub(crate) fn least_sum(costs: &[SlotCost]) -> i64
     requires few { length costs.now ≤ 8000000 }
-    requires small { (k : ℕ) (x : Bool) → k < length costs.now → unsigned_abs (cost_at costs.now k x) ≤ 1024000000000 }
+    requires small { AreSmallCosts costs.now }
     ensures sum { result ≡ int_sum (λ c. least_answer (cost_in c)) costs.now }
     ensures most { unsigned_abs result ≤ 8192000000000000000 }
 {

@@ -1,37 +1,40 @@
-//! The price of each term of a part.
+//! The prices of a part's terms.
 
-ghost use Rattle.std.specs.Prelude.{◌≡◌, ◌<◌, ◌≤◌, ℕ, true, length, map, unsigned_abs, pos, slice_index_or};
+ghost use Rattle.std.specs.Prelude.{◌≡◌, ◌<◌, ◌≤◌, ◌+ℤ◌, ℕ, Bool, true, length, map, unsigned_abs};
 ghost use Rattle.order_model.specs.Problems.{IsTerm};
 ghost use Rattle.order_model.specs.Prefixes.{IsPrefixOf};
 ghost use Rattle.order_values.specs.PriceLists.{AreRisingPrices};
-ghost use Rattle.order_bound.specs.Values.{price_at, are_allowed};
-ghost use Rattle.order_check.specs.Slots.{plain_term};
-ghost use Rattle.order_check.specs.Charging.{no_part_term, AreTerms};
+ghost use Rattle.order_bound.specs.Values.{int_sum, are_allowed};
+ghost use Rattle.order_check.specs.Slots.{plain_term, cost_at};
+ghost use Rattle.order_check.specs.Charging.{AreTerms};
+ghost use Rattle.order_check.specs.Counting.{added_by, AreSmallCosts};
 ghost use Rattle.order_check.specs.Prices.{may_have, AreNumbersOf, AreRisingNumbers, IsPlaceOf};
+ghost use Rattle.order_check.specs.Pricing.{priced_by, ArePriced};
 
-use crate::slot::PartTerm;
+use crate::charges::price_charges;
+use crate::slot::{PartTerm, SlotCost};
+use crate::slot_costs::add;
 use order_model::{Prefix, Problem, Term};
 
-/// Whether all prices are allowed: each on an open Link of these terms, at most its weight either way. Then the price of
-/// each term is written into the table, 0 where it has none.
+/// Whether all prices are allowed: each on an open Link of these terms, at most its weight either way. Then what they add
+/// is added to the table of slots, in which stands what the terms add with no prices.
 pub(crate) fn spread(
     problem: &Problem,
     prefix: &Prefix,
     numbers: &[u32],
     terms: &[PartTerm],
     list: &[(u32, i64)],
-    prices: &mut [i64],
+    costs: &mut [SlotCost],
 ) -> bool
     requires fits { IsPrefixOf problem.now.segs prefix.now }
     requires terms { AreTerms problem.now.segs terms.now }
+    requires few { length terms.now ≤ 4000000 }
     requires numbers { AreNumbersOf terms.now numbers.now }
-    requires each { length prices.old ≡ length terms.now }
     requires rising { AreRisingPrices list.now }
+    requires plain { (k : ℕ) → k < length costs.old → (x : Bool) → cost_at costs.old k x ≡ int_sum (added_by problem.now.segs prefix.now.placed k x) terms.now }
     ensures allowed { result ≡ are_allowed prefix.now.placed (map plain_term terms.now) list.now }
-    ensures told { result ≡ true → (i : ℕ) → i < length terms.now → slice_index_or prices.new i (pos 0) ≡ price_at list.now (slice_index_or terms.now i no_part_term).number }
-    ensures small { result ≡ true → (i : ℕ) → i < length terms.now → unsigned_abs (slice_index_or prices.new i (pos 0)) ≤ 256000 }
+    ensures priced { result ≡ true → ArePriced problem.now.segs prefix.now.placed terms.now list.now costs.new }
 {
-    clear(prices);
     for j in 0..list.len() {
         let Some(i) = place_of(numbers, list[j].0) else {
             return false;
@@ -40,9 +43,21 @@ pub(crate) fn spread(
         if !may_have(problem, prefix, terms[i].term, price) {
             return false;
         }
-        prices[i] = price;
+        add_price(terms[i], price, costs);
     }
     true
+}
+
+/// Adds what an open Link adds under its price.
+fn add_price(t: PartTerm, price: i64, costs: &mut [SlotCost])
+    requires price { unsigned_abs price ≤ 256000 }
+    requires small { AreSmallCosts costs.old }
+    ensures { (k : ℕ) → k < length costs.old → (x : Bool)
+        → cost_at costs.new k x ≡ cost_at costs.old k x +ℤ priced_by k x t price }
+{
+    let added = price_charges(t, price);
+    add(costs, added.here);
+    add(costs, added.there);
 }
 
 /// The price beside a number.
@@ -50,15 +65,6 @@ fn price_of(entry: (u32, i64)) -> i64
     ensures { result ≡ entry.1 }
 {
     entry.1
-}
-
-/// No term has a price yet.
-fn clear(prices: &mut [i64])
-    ensures { (i : ℕ) → slice_index_or prices.new i (pos 0) ≡ pos 0 }
-{
-    for i in 0..prices.len() {
-        prices[i] = 0;
-    }
 }
 
 /// Where a number stands among rising ones.

@@ -1,6 +1,6 @@
 //! The walk over a tree, node by node in the order of the text.
 
-ghost use Rattle.std.specs.Prelude.{◌≡◌, ◌<◌, length, false, Contains, IfOk};
+ghost use Rattle.std.specs.Prelude.{◌≡◌, ◌<◌, length, true, false, Contains, IfOk, Some};
 ghost use Rattle.order_model.specs.Problems.{lines_on};
 ghost use Rattle.order_model.specs.Prefixes.{IsPrefixOf, is_placed};
 ghost use Rattle.order_proof.specs.Plain.{split, plain, plain_children};
@@ -8,50 +8,66 @@ ghost use Rattle.order_proof.specs.Trees.{IsTree};
 ghost use Rattle.order_model.specs.Completions.{placed_more};
 ghost use Rattle.order_bound.specs.Accepting.{after_line, failing};
 ghost use Rattle.order_check.specs.Asking.{question_of, IsAsked, HaveTables};
-ghost use Rattle.order_check.specs.Walking.{IsWalked};
+ghost use Rattle.order_check.specs.Children.{child_lines};
+ghost use Rattle.order_check.specs.Counting.{IsTally, IsTallyBeside};
+ghost use Rattle.order_check.specs.Walking.{IsWalked, split_test};
 
 use crate::asked::Asked;
 use crate::close::is_closed;
 use crate::node::is_split;
 use crate::slot::SlotCost;
+use crate::tally::{put_on, take_off};
 use map_base::{LineId, NoMemory, SegId};
 use order_model::Prefix;
 use order_proof::Tree;
 
-/// Whether a tree is accepted for a prefix. Where it is not, the lines on the way to the first node that fails are
-/// added to `way`. The prefix is left as it was; the tables have a place for each term and for each slot of the part.
+/// Whether a tree is accepted for a prefix, whose tally is at hand. Where it is not, the lines on the way to the first node
+/// that fails are added to `way`. The prefix and the tally are left as they were.
 #[cycle(walk)]
 pub(crate) fn walk(
     asked: &Asked,
     prefix: &mut Prefix,
-    shares: &mut [i64],
+    decided: u64,
     costs: &mut [SlotCost],
+    trial: &mut [SlotCost],
     way: &mut Vec<LineId>,
     tree: &Tree,
 ) -> Result<bool, NoMemory>
     requires asked { IsAsked asked.now }
     requires fits { IsPrefixOf asked.now.problem.now.segs prefix.old }
     requires tree { IsTree (plain tree.now) }
-    requires tables { HaveTables asked.now shares.old costs.old }
+    requires tally { IsTally asked.now prefix.old.placed decided costs.old }
+    requires tables { HaveTables asked.now costs.old trial.old }
     ensures fits { IsPrefixOf asked.now.problem.now.segs prefix.new }
     ensures placed { prefix.new.placed ≡ prefix.old.placed }
+    ensures tally { IsTally asked.now prefix.new.placed decided costs.new }
     ensures walked { IfOk result (IsWalked (failing (question_of asked.now) prefix.old.placed (plain tree.now)) way.old.items way.new.items) }
 {
     match tree {
-        Tree::Close { prices } => Ok(is_closed(asked, prefix, shares, costs, prices)),
+        Tree::Close { prices } => Ok(is_closed(asked, prefix, decided, costs, trial, prices)),
         Tree::Split { seg, children } => {
-            walk_split(asked, prefix, shares, costs, way, *seg, children.as_slice())
+            walk_split(
+                asked,
+                prefix,
+                decided,
+                costs,
+                trial,
+                way,
+                *seg,
+                children.as_slice(),
+            )
         }
     }
 }
 
-/// The same of a Split.
+/// The same of a Split. The terms on its segment are taken off the tally while its cases are walked.
 #[cycle(walk)]
 fn walk_split(
     asked: &Asked,
     prefix: &mut Prefix,
-    shares: &mut [i64],
+    decided: u64,
     costs: &mut [SlotCost],
+    trial: &mut [SlotCost],
     way: &mut Vec<LineId>,
     seg: SegId,
     children: &[(LineId, Tree)],
@@ -59,29 +75,63 @@ fn walk_split(
     requires asked { IsAsked asked.now }
     requires fits { IsPrefixOf asked.now.problem.now.segs prefix.old }
     requires tree { IsTree (split seg (plain_children children.now)) }
-    requires tables { HaveTables asked.now shares.old costs.old }
+    requires tally { IsTally asked.now prefix.old.placed decided costs.old }
+    requires tables { HaveTables asked.now costs.old trial.old }
     ensures fits { IsPrefixOf asked.now.problem.now.segs prefix.new }
     ensures placed { prefix.new.placed ≡ prefix.old.placed }
+    ensures tally { IsTally asked.now prefix.new.placed decided costs.new }
     ensures walked { IfOk result (IsWalked (failing (question_of asked.now) prefix.old.placed (split seg (plain_children children.now))) way.old.items way.new.items) }
 {
     if !is_split(asked, prefix, seg, children) {
         return Ok(false);
     }
+    let beside = take_off(asked, prefix, seg, decided, costs);
+    let outcome = walk_cases(asked, prefix, beside, costs, trial, way, seg, children);
+    let _same = put_on(asked, prefix, Some(seg), beside, costs);
+    outcome
+}
+
+/// The same of the cases of a Split that holds, over the tally of the terms beside its segment.
+#[cycle(walk)]
+fn walk_cases(
+    asked: &Asked,
+    prefix: &mut Prefix,
+    beside: u64,
+    costs: &mut [SlotCost],
+    trial: &mut [SlotCost],
+    way: &mut Vec<LineId>,
+    seg: SegId,
+    children: &[(LineId, Tree)],
+) -> Result<bool, NoMemory>
+    requires asked { IsAsked asked.now }
+    requires fits { IsPrefixOf asked.now.problem.now.segs prefix.old }
+    requires tree { IsTree (split seg (plain_children children.now)) }
+    requires holds { split_test (question_of asked.now) prefix.old.placed seg (child_lines children.now) ≡ true }
+    requires tally { IsTallyBeside (Some seg) asked.now prefix.old.placed beside costs.old }
+    requires tables { HaveTables asked.now costs.old trial.old }
+    ensures fits { IsPrefixOf asked.now.problem.now.segs prefix.new }
+    ensures placed { prefix.new.placed ≡ prefix.old.placed }
+    ensures tally { IsTallyBeside (Some seg) asked.now prefix.new.placed beside costs.new }
+    ensures walked { IfOk result (IsWalked (failing (question_of asked.now) prefix.old.placed (split seg (plain_children children.now))) way.old.items way.new.items) }
+{
     for child in children {
-        if !walk_case(asked, prefix, shares, costs, way, seg, child.0, &child.1)? {
+        if !walk_case(
+            asked, prefix, beside, costs, trial, way, seg, child.0, &child.1,
+        )? {
             return Ok(false);
         }
     }
     Ok(true)
 }
 
-/// The same of a case of a Split, whose line is placed while its tree is walked.
+/// The same of one case, whose line is placed while its tree is walked.
 #[cycle(walk)]
 fn walk_case(
     asked: &Asked,
     prefix: &mut Prefix,
-    shares: &mut [i64],
+    beside: u64,
     costs: &mut [SlotCost],
+    trial: &mut [SlotCost],
     way: &mut Vec<LineId>,
     seg: SegId,
     line: LineId,
@@ -93,15 +143,19 @@ fn walk_case(
     requires line { Contains (lines_on asked.now.problem.now.segs seg) line }
     requires unplaced { is_placed (lines_on prefix.old.placed seg) line ≡ false }
     requires tree { IsTree (plain tree.now) }
-    requires tables { HaveTables asked.now shares.old costs.old }
+    requires tally { IsTallyBeside (Some seg) asked.now prefix.old.placed beside costs.old }
+    requires tables { HaveTables asked.now costs.old trial.old }
     ensures fits { IsPrefixOf asked.now.problem.now.segs prefix.new }
     ensures placed { prefix.new.placed ≡ prefix.old.placed }
+    ensures tally { IsTallyBeside (Some seg) asked.now prefix.new.placed beside costs.new }
     ensures walked { IfOk result (IsWalked (after_line line (failing (question_of asked.now)
         (placed_more asked.now.problem.now.segs prefix.old.placed seg line) (plain tree.now))) way.old.items way.new.items) }
 {
     way.push(line)?;
     prefix.place(asked.problem, seg, line);
-    let outcome = walk(asked, prefix, shares, costs, way, tree);
+    let decided = put_on(asked, prefix, Some(seg), beside, costs);
+    let outcome = walk(asked, prefix, decided, costs, trial, way, tree);
+    let _same = take_off(asked, prefix, seg, decided, costs);
     prefix.take_back(asked.problem, seg);
     if !outcome? {
         return Ok(false);

@@ -1,4 +1,4 @@
-use Rattle.std.proofs.Common.{◌≡◌, ℕ, ◌+◌, ◌≤◌, List, length, take, ap, sym, subst, arith, get_or, refl}
+use Rattle.std.proofs.Common.{◌≡◌, ℕ, List, length, take, ap, sym, subst, arith, get_or, refl}
 use Rattle.std.proofs.lemmas.List.{length-map, length-take-le}
 use Rattle.order_model.specs.declared.term.Term.{Term}
 use Rattle.order_model.specs.PartTerms.{terms_by_number, no_term}

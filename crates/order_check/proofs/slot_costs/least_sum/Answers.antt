@@ -1,7 +1,6 @@
-use Rattle.std.proofs.Common.{◌≡◌, ◌∙◌, ap, get_or, true, false, arith, FitsSigned, w64, to_z, of_z}
+use Rattle.std.proofs.Common.{◌≡◌, true, false, arith, FitsSigned, w64, to_z, of_z}
 use Rattle.std.proofs.lemmas.Int.{ints, to_z-of_z}
 use Rattle.order_check.proofs.SignedSums.{sum_more}
-use Rattle.std.specs.Prelude.{◌+ℤ◌}
 use Rattle.order_check.specs.Slots.{no_cost, cost_in}
 use Rattle.order_bound.specs.Values.{least_answer}
 use Rattle.order_check.proofs.slot_costs.least_sum.Goals as goal

@@ -1,6 +1,6 @@
-use Rattle.std.proofs.Common.{◌≡◌, length, take}
-use Rattle.order_check.proofs.PriceLemmas.{AreSpread}
+use Rattle.std.proofs.Common.{take}
+use Rattle.order_check.specs.Pricing.{ArePriced}
 use Rattle.order_check.proofs.term_prices.spread.Given as goal
 
 abbrev pub invariant-loop-j : goal.invariant-loop-j
-invariant-loop-j l = AreSpread l.prefix.placed l.terms (take l.j l.list) l.prices
+invariant-loop-j l = ArePriced l.problem.segs l.prefix.placed l.terms (take l.j l.list) l.costs

@@ -4,15 +4,16 @@ use Rattle.std.proofs.lemmas.Result.{IfOk-weaker}
 use Rattle.map_base.specs.declared.ids.SegId.{SegId}
 use Rattle.map_base.specs.declared.ids.LineId.{LineId}
 use Rattle.order_model.specs.Problems.{lines_on}
-use Rattle.order_model.specs.Prefixes.{is_placed}
+use Rattle.order_model.specs.Prefixes.{is_placed, with_line, without_last}
 use Rattle.order_proof.specs.declared.tree.Tree.{Tree, the_lemmas}
 use Rattle.order_proof.specs.Plain.{split, plain, plain_children}
 use Rattle.order_bound.specs.Accepting.{Question, failing}
 use Rattle.order_bound.proofs.Sound.{rising_at, all_in}
-use Rattle.order_check.specs.Asking.{question_of}
+use Rattle.order_check.specs.Asking.{question_of, HaveTables}
 use Rattle.order_check.specs.Children.{child_lines}
-use Rattle.order_check.specs.Walking.{IsWalked}
-use Rattle.order_check.proofs.Walks.{distinct_children, child_is_tree, split_walked, not_split_walked, split_test, case_next, of_part, case_refused, cases_passed, case_restored, chosen_walked}
+use Rattle.order_check.specs.Walking.{IsWalked, split_test}
+use Rattle.order_check.proofs.Counting.{beside_stays, case_tally, split_tally}
+use Rattle.order_check.proofs.Walks.{distinct_children, child_is_tree, split_walked, not_split_walked, case_next, of_part, case_refused, cases_passed, case_restored, chosen_walked}
 use Rattle.order_check.proofs.walk.+walk.Goals as goal
 
 pub walk-returns-in-Split-clause-walked : goal.walk-returns-in-Split-clause-walked
@@ -56,10 +57,10 @@ walk_split-returns-then-not-is_split-clause-walked t c =
 pub walk_split-is_split-requires-clause-distinct : goal.walk_split-is_split-requires-clause-distinct
 walk_split-is_split-requires-clause-distinct t c = distinct_children c.args.seg c.args.children.now c.requires.tree
 
-pub walk_split-walk_case-requires : goal.walk_split-walk_case-requires
-walk_split-walk_case-requires t c =
+pub walk_cases-walk_case-requires : goal.walk_cases-walk_case-requires
+walk_cases-walk_case-requires t c =
     let q : Question = question_of c.args.asked.now in
-    let holds : split_test q c.args.prefix.now.placed c.args.seg (child_lines c.args.children.now) ≡ true = sym c.is_split.ensures ∙ c.if-not-is_split.false in
+    let holds : split_test q c.args.prefix.now.placed c.args.seg (child_lines c.args.children.now) ≡ true = c.requires.holds in
     let next = case_next q c.args.prefix.now.placed c.args.seg c.args.children.now c.loop-child.child-index c.child-item.result holds c.loop-child-test.true in
     let child = c.child-item.result in
     let on = subst (λ (x : LineId × Tree). Contains (lines_on c.args.asked.now.problem.now.segs c.args.seg) x.0) (sym c.child-item.is) next.on in
@@ -73,25 +74,25 @@ walk_split-walk_case-requires t c =
           c.loop-child.invariant.0,
           (
             all_in (λ (s : SegId). s.0 < length c.args.asked.now.problem.now.segs) c.args.asked.now.part.now c.args.seg c.requires.asked.known part,
-            (on, (rw c.loop-child.invariant.1 fresh, (tree, c.loop-child.invariant.4))),
+            (on, (rw c.loop-child.invariant.1 fresh, (tree, (c.loop-child.invariant.5, c.loop-child.invariant.4)))),
           ),
         ),
       ),
     )
 
-pub walk_split-returns-then-not-branch-clause-walked : goal.walk_split-returns-then-not-branch-clause-walked
-walk_split-returns-then-not-branch-clause-walked t c =
+pub walk_cases-returns-then-not-branch-clause-walked : goal.walk_cases-returns-then-not-branch-clause-walked
+walk_cases-returns-then-not-branch-clause-walked t c =
     let q : Question = question_of c.args.asked.now in
-    let holds : split_test q c.args.prefix.now.placed c.args.seg (child_lines c.args.children.now) ≡ true = sym c.is_split.ensures ∙ c.if-not-is_split.false in
+    let holds : split_test q c.args.prefix.now.placed c.args.seg (child_lines c.args.children.now) ≡ true = c.requires.holds in
     case_refused q c.args.prefix.now.placed c.loop-child.prefix.placed c.args.seg c.args.children.now c.loop-child.child-index c.child-item.result
     c.args.way.now.items c.loop-child.way.items c.walk_case.new.way.items c.in_ok-walk_case.field-0
     c.loop-child-test.true holds c.loop-child.invariant.3 c.child-item.is c.loop-child.invariant.1 c.loop-child.invariant.2 c.if-not-branch.true
     c.in_ok-walk_case.ensures.walked
 
-pub walk_split-returns-clause-walked : goal.walk_split-returns-clause-walked
-walk_split-returns-clause-walked t c =
+pub walk_cases-returns-clause-walked : goal.walk_cases-returns-clause-walked
+walk_cases-returns-clause-walked t c =
     let q : Question = question_of c.args.asked.now in
-    let holds : split_test q c.args.prefix.now.placed c.args.seg (child_lines c.args.children.now) ≡ true = sym c.is_split.ensures ∙ c.if-not-is_split.false in
+    let holds : split_test q c.args.prefix.now.placed c.args.seg (child_lines c.args.children.now) ≡ true = c.requires.holds in
     let way : IsWalked (failing q c.args.prefix.now.placed (split c.args.seg (plain_children c.args.children.now))) c.args.way.now.items c.args.way.now.items true =
     cases_passed q c.args.prefix.now.placed c.args.seg c.args.children.now c.loop-child.child-index c.args.way.now.items
     (omega (arith, c.loop-child-test.false)) holds c.loop-child.invariant.3 in
@@ -102,3 +103,53 @@ walk_case-take_back-requires-clause-some t c =
     let s = c.args.seg in
     chosen_walked c.args.asked.now.problem.now.segs c.args.prefix.now.placed c.place.new.self.placed c.walk-outcome.new.prefix.placed s c.args.line
     (omega (arith, c.requires.seg, c.requires.fits.each)) (c.requires.fits.lines s.0 c.requires.seg) c.requires.line c.requires.unplaced c.place.ensures.placed c.walk-outcome.ensures.placed
+
+pub walk_split-walk_cases-outcome-requires : goal.walk_split-walk_cases-outcome-requires
+walk_split-walk_cases-outcome-requires t c =
+    let holds : split_test (question_of c.args.asked.now) c.args.prefix.now.placed c.args.seg (child_lines c.args.children.now) ≡ true = sym c.is_split.ensures ∙ c.if-not-is_split.false in
+    let tables : HaveTables c.args.asked.now c.take_off-beside.new.costs c.args.trial.now = record {
+      costs_each = omega (arith, c.requires.tables.costs_each, c.take_off-beside.auto.costs);
+      trial_each = c.requires.tables.trial_each;
+    } in
+    (search (rules, the_lemmas), (c.requires.asked, (c.requires.fits, (c.requires.tree, (holds, (c.take_off-beside.ensures, tables))))))
+
+pub walk_case-put_on-decided-requires-clause-tally : goal.walk_case-put_on-decided-requires-clause-tally
+walk_case-put_on-decided-requires-clause-tally t c =
+    let segs : List (List LineId) = c.args.asked.now.problem.now.segs in
+    beside_stays c.args.seg c.args.asked.now c.args.prefix.now.placed c.place.new.self.placed (with_line (lines_on segs c.args.seg) (lines_on c.args.prefix.now.placed c.args.seg) c.args.line)
+    c.args.beside c.args.costs.now c.place.ensures.placed c.requires.tally
+
+pub walk_split-returns-clause-tally : goal.walk_split-returns-clause-tally
+walk_split-returns-clause-tally t c =
+    split_tally c.args.asked.now c.args.prefix.now.placed c.walk_cases-outcome.new.prefix.placed c.args.decided c.put_on-same.result c.args.costs.now c.put_on-same.new.costs c.requires.tally c.put_on-same.ensures
+    c.walk_cases-outcome.ensures.placed
+
+pub walk_case-returns-in_err-outcome-clause-tally : goal.walk_case-returns-in_err-outcome-clause-tally
+walk_case-returns-in_err-outcome-clause-tally t c =
+    let s = c.args.seg in
+    let segs : List (List LineId) = c.args.asked.now.problem.now.segs in
+    case_tally s c.args.asked.now c.args.prefix.now.placed c.walk-outcome.new.prefix.placed c.take_back.new.self.placed (without_last (lines_on segs s) (lines_on c.walk-outcome.new.prefix.placed s))
+    c.args.beside c.take_off-same.result c.args.costs.now c.take_off-same.new.costs c.requires.tally c.take_off-same.ensures c.take_back.ensures.placed
+    (case_restored segs c.args.prefix.now.placed c.place.new.self.placed c.walk-outcome.new.prefix.placed c.take_back.new.self.placed s c.args.line
+    (omega (arith, c.requires.seg, c.requires.fits.each)) (rising_at segs s.0 c.requires.asked.problem.rising) (c.requires.fits.lines s.0 c.requires.seg)
+    c.place.ensures.placed c.walk-outcome.ensures.placed c.take_back.ensures.placed)
+
+pub walk_case-returns-then-not-branch-clause-tally : goal.walk_case-returns-then-not-branch-clause-tally
+walk_case-returns-then-not-branch-clause-tally t c =
+    let s = c.args.seg in
+    let segs : List (List LineId) = c.args.asked.now.problem.now.segs in
+    case_tally s c.args.asked.now c.args.prefix.now.placed c.walk-outcome.new.prefix.placed c.take_back.new.self.placed (without_last (lines_on segs s) (lines_on c.walk-outcome.new.prefix.placed s))
+    c.args.beside c.take_off-same.result c.args.costs.now c.take_off-same.new.costs c.requires.tally c.take_off-same.ensures c.take_back.ensures.placed
+    (case_restored segs c.args.prefix.now.placed c.place.new.self.placed c.walk-outcome.new.prefix.placed c.take_back.new.self.placed s c.args.line
+    (omega (arith, c.requires.seg, c.requires.fits.each)) (rising_at segs s.0 c.requires.asked.problem.rising) (c.requires.fits.lines s.0 c.requires.seg)
+    c.place.ensures.placed c.walk-outcome.ensures.placed c.take_back.ensures.placed)
+
+pub walk_case-returns-clause-tally : goal.walk_case-returns-clause-tally
+walk_case-returns-clause-tally t c =
+    let s = c.args.seg in
+    let segs : List (List LineId) = c.args.asked.now.problem.now.segs in
+    case_tally s c.args.asked.now c.args.prefix.now.placed c.walk-outcome.new.prefix.placed c.take_back.new.self.placed (without_last (lines_on segs s) (lines_on c.walk-outcome.new.prefix.placed s))
+    c.args.beside c.take_off-same.result c.args.costs.now c.take_off-same.new.costs c.requires.tally c.take_off-same.ensures c.take_back.ensures.placed
+    (case_restored segs c.args.prefix.now.placed c.place.new.self.placed c.walk-outcome.new.prefix.placed c.take_back.new.self.placed s c.args.line
+    (omega (arith, c.requires.seg, c.requires.fits.each)) (rising_at segs s.0 c.requires.asked.problem.rising) (c.requires.fits.lines s.0 c.requires.seg)
+    c.place.ensures.placed c.walk-outcome.ensures.placed c.take_back.ensures.placed)
