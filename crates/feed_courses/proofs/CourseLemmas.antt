@@ -17,8 +17,8 @@ use Rattle.feed_courses.specs.Outcome.{place_of, stop_places, point_at, stop_poi
 use Rattle.feed_courses.specs.Fit.{IsCourse}
 use Rattle.feed_courses.specs.Faults.{IsAbove}
 use Rattle.feed_courses.specs.Tables.{place_in, IsPlaceTable, AreUsed}
-use Rattle.feed_courses.specs.declared.fault.CourseFault.{CourseFault}
-use Rattle.feed_courses.specs.declared.fault.CourseFault.TheVariants.{Limit as AboveLimit, NoMemory}
+use Rattle.map_base.specs.declared.limit_fault.LimitFault.{LimitFault}
+use Rattle.map_base.specs.declared.limit_fault.LimitFault.TheVariants.{Limit as AboveLimit, NoMemory}
 use Rattle.feed_courses.specs.declared.used.Used.{Used}
 use Rattle.feed_courses.proofs.Served.{stop_places-in_range, stop_places-apart}
 
@@ -95,10 +95,10 @@ IsCourse-made near feed pattern used stops stations hops are shown is stops_is s
 
 -- ---- limits
 
-pub IsAbove-same : (kind : LimitKind) (most m n : ℕ) (fault : CourseFault) → m ≡ n → IsAbove kind most m fault → IsAbove kind most n fault
+pub IsAbove-same : (kind : LimitKind) (most m n : ℕ) (fault : LimitFault) → m ≡ n → IsAbove kind most m fault → IsAbove kind most n fault
 IsAbove-same kind most m n fault same = subst (λ (k : ℕ). IsAbove kind most k fault) same
 
 -- where a part is above what is left, the whole is above all of it
-pub IsAbove-whole : (kind : LimitKind) (left before part most whole : ℕ) (fault : CourseFault) → left + before ≡ most → before + part ≤ whole → IsAbove kind left part fault → IsAbove kind most whole fault
+pub IsAbove-whole : (kind : LimitKind) (left before part most whole : ℕ) (fault : LimitFault) → left + before ≡ most → before + part ≤ whole → IsAbove kind left part fault → IsAbove kind most whole fault
 IsAbove-whole kind left before part most whole (AboveLimit limit) sum within cause = (cause.0, omega (arith, cause.1))
 IsAbove-whole kind left before part most whole NoMemory sum within cause = tt

@@ -8,6 +8,7 @@ use Rattle.map_base.specs.declared.limit.Limit.{Limit}
 use Rattle.map_base.specs.declared.limit.LimitKind.{LimitKind}
 use Rattle.map_base.specs.declared.limit.LimitKind.TheVariants.{Lines, Stations, Samples}
 use Rattle.map_base.specs.declared.point.Point.{Point}
+use Rattle.map_base.specs.Faults.{HasCause}
 use Rattle.map_base.specs.Limits.{limit_most, limit_of, unless_above}
 use Rattle.shape_track.specs.Hops.{total_of}
 use Rattle.fixed_plane.specs.Plane.{IsInPlane}
@@ -16,12 +17,12 @@ use Rattle.transit_feed.specs.Feeds.{Feed}
 use Rattle.feed_courses.specs.Shown.{shown_patterns, lines_with, shown_lines, stations_in, used_stations}
 use Rattle.feed_courses.specs.Places.{used_points}
 use Rattle.feed_courses.specs.Outcome.{course_of, course_samples, course_hops, sample_count, sample_total, station_numbered, courses_of, courses_outcome}
-use Rattle.feed_courses.specs.Faults.{IsAbove, HasCause}
+use Rattle.feed_courses.specs.Faults.{IsAbove}
 use Rattle.feed_courses.specs.Fit.{AreDistinct, IsCourse, hop_total, AreFit}
 use Rattle.feed_courses.specs.declared.courses.Course.{Course}
 use Rattle.feed_courses.specs.declared.courses.Courses.{Courses}
-use Rattle.feed_courses.specs.declared.fault.CourseFault.{CourseFault}
-use Rattle.feed_courses.specs.declared.fault.CourseFault.TheVariants.{Limit as AboveLimit, NoMemory}
+use Rattle.map_base.specs.declared.limit_fault.LimitFault.{LimitFault}
+use Rattle.map_base.specs.declared.limit_fault.LimitFault.TheVariants.{Limit as AboveLimit, NoMemory}
 use Rattle.feed_courses.proofs.Served.{length-used_points}
 use Rattle.feed_courses.proofs.SumLemmas.{sum_by-below}
 
@@ -71,7 +72,7 @@ unfolding courses_outcome
 within_limits near feed lines stations samples =
     within-next Lines (length (shown_lines feed)) _ lines ∙ within-next Stations (length (used_stations feed)) _ stations ∙ within-next Samples (sample_total near feed) _ samples
 
-pub HasCause-above : (kind : LimitKind) (most count : ℕ) (fault : CourseFault) (outcome : Result Courses Limit) → IsAbove kind most count fault → (most < count → outcome ≡ Err (limit_of kind)) → HasCause outcome fault
+pub HasCause-above : (kind : LimitKind) (most count : ℕ) (fault : LimitFault) (outcome : Result Courses Limit) → IsAbove kind most count fault → (most < count → outcome ≡ Err (limit_of kind)) → HasCause outcome fault
 HasCause-above kind most count (AboveLimit limit) outcome cause refused = refused cause.1 ∙ ap Err (sym cause.0)
 HasCause-above kind most count NoMemory outcome cause refused = tt
 

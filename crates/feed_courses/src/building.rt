@@ -1,23 +1,24 @@
 //! The courses of all patterns that are shown.
 
 ghost use Rattle.std.specs.Prelude.{◌≡◌, ◌+◌, ◌<◌, ◌≤◌, Ok, IfOk, IfErr, All, Contains, length, map, sum_by};
+ghost use Rattle.map_base.specs.Faults.{HasCause};
 ghost use Rattle.map_base.specs.declared.limit.LimitKind.TheVariants.{Samples};
 ghost use Rattle.fixed_plane.specs.Plane.{IsInPlane};
 ghost use Rattle.transit_feed.specs.Feeds.{IsPattern};
 ghost use Rattle.feed_courses.specs.Shown.{shown_patterns};
 ghost use Rattle.feed_courses.specs.Places.{used_points};
 ghost use Rattle.feed_courses.specs.Outcome.{course_of, course_points, courses_outcome, sample_count, sample_total, stop_points};
-ghost use Rattle.feed_courses.specs.Faults.{HasCause, IsAbove};
+ghost use Rattle.feed_courses.specs.Faults.{IsAbove};
 ghost use Rattle.feed_courses.specs.Fit.{AreFit, AreServed, IsCourse};
 ghost use Rattle.feed_courses.specs.Tables.{AreUsed};
 
+use crate::counts::check_count;
 use crate::courses::{Course, Courses};
-use crate::fault::{CourseFault, check_count};
 use crate::hops::hops_along;
 use crate::plane::{feed_band, shape_points};
 use crate::shown::{lines_with, shown_patterns, stations_in};
 use crate::used::{Used, points_at, station_ids, stop_places, used_of};
-use map_base::{LimitKind, NoMemory, Point, Sequence};
+use map_base::{LimitFault, LimitKind, NoMemory, Point, Sequence};
 use std::alloc::Global;
 use transit_feed::{Pattern, Tables};
 
@@ -31,7 +32,7 @@ use transit_feed::{Pattern, Tables};
 /// There is a limit where more than 1,000 lines are shown, where these use more than 10,000 stations, or where courses
 /// and hops have more than 4,000,000 samples in all, the first of these in this order. Those numbers are this project's
 /// own.
-pub fn courses_of(alloc: Global, tables: &Tables, near: u32) -> Result<Courses, CourseFault>
+pub fn courses_of(alloc: Global, tables: &Tables, near: u32) -> Result<Courses, LimitFault>
     requires near_low { 20 ≤ near }
     requires near_high { near ≤ 20000 }
     ensures courses { IfOk result (λ courses. courses_outcome near tables.now ≡ Ok courses) }
@@ -65,7 +66,7 @@ fn shown_courses(
     used: &Used,
     shown: &[&Pattern],
     near: u32,
-) -> Result<Vec<Course>, CourseFault>
+) -> Result<Vec<Course>, LimitFault>
     requires used { AreUsed tables.now used.now }
     requires in_plane { All IsInPlane used.now.points.items }
     requires shown { map (λ pattern. pattern.now) shown.now ≡ shown_patterns tables.now }
@@ -94,7 +95,7 @@ fn course_of(
     pattern: &Pattern,
     near: u32,
     left: u64,
-) -> Result<(Course, u64), CourseFault>
+) -> Result<(Course, u64), LimitFault>
     requires used { AreUsed tables.now used.now }
     requires in_plane { All IsInPlane used.now.points.items }
     requires shown { Contains (shown_patterns tables.now) pattern.now }

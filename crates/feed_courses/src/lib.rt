@@ -4,8 +4,8 @@
 
 mod apart;
 mod building;
+mod counts;
 mod courses;
-mod fault;
 mod flags;
 mod hops;
 mod plane;
@@ -14,7 +14,7 @@ mod used;
 
 pub use building::courses_of;
 pub use courses::{Course, Courses};
-pub use fault::CourseFault;
+pub use map_base::LimitFault as CourseFault;
 
 #[cfg(test)]
 mod tests;

@@ -12,7 +12,7 @@ use Rattle.graph_core.specs.declared.parts.NodeKind.{NodeKind}
 use Rattle.graph_core.specs.Consistent.{IsConsistent}
 use Rattle.feed_courses.specs.declared.courses.Courses.{Courses}
 use Rattle.feed_courses.specs.Outcome.{courses_outcome}
-use Rattle.line_graph.specs.declared.fault.BuildFault.{BuildFault}
+use Rattle.map_base.specs.declared.limit_fault.LimitFault.{LimitFault}
 use Rattle.line_graph.proofs.FeedLines.{lines_of_feed}
 use Rattle.line_graph.specs.Outcome.{net_of_courses, graph_over_net, graph_of_courses, graph_outcome}
 use Rattle.kept_drawing.specs.Keeping.{IsGraphOf}
@@ -48,6 +48,6 @@ outcome_is near lines feed all count is =
     ap (graph_of_courses near (length feed.lines)) is ∙ sym (ap (λ (n : ℕ). graph_over_net near n all (net_of_courses near all)) count)
 
 -- the lines of the graph that is given are lines of the feed
-pub lines_where : (near : ℕ) (feed : Feed) (result : Result GraphParts BuildFault) → IfOk result (λ graph. graph_outcome near feed ≡ Ok graph) → IfOk result (λ graph. All (All (λ (a : LineId). a.0 < length feed.lines)) graph.lines)
+pub lines_where : (near : ℕ) (feed : Feed) (result : Result GraphParts LimitFault) → IfOk result (λ graph. graph_outcome near feed ≡ Ok graph) → IfOk result (λ graph. All (All (λ (a : LineId). a.0 < length feed.lines)) graph.lines)
 lines_where near feed (Ok graph) is = lines_of_feed near feed graph is
 lines_where near feed (Err fault) is = tt

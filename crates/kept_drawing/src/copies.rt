@@ -12,6 +12,7 @@ use std::alloc::Global;
 pub(crate) fn copy_of_graph(alloc: Global, graph: &LineGraph) -> Result<LineGraph, NoMemory>
     ensures { IfOk result (λ copy. copy ≡ graph.now) }
 {
+    // Any count of the graph tells the laws that its copy needs.
     let _nodes = graph.nodes();
     let kinds = node_kinds(alloc, graph)?;
     let places = node_places(alloc, graph)?;

@@ -4,15 +4,15 @@ ghost use Rattle.std.specs.Prelude.{◌≡◌, ◌<◌, ◌≤◌, length, All, 
 ghost use Rattle.map_base.specs.declared.ids.LineId.{LineId as Line};
 ghost use Rattle.feed_courses.specs.Fit.{AreFit, AreServed};
 ghost use Rattle.line_graph.specs.Outcome.{graph_outcome, graph_over_net, net_of_courses as net_of};
-ghost use Rattle.line_graph.specs.Faults.{HasCause};
+ghost use Rattle.map_base.specs.Faults.{HasCause};
 ghost use Rattle.kept_drawing.specs.Keeping.{IsGraphOf};
 
 use crate::copies::copy_of_graph;
 use crate::same_courses::are_same_courses;
 use feed_courses::{Courses, courses_of};
 use graph_core::LineGraph;
-use line_graph::{BuildFault, build, graph_of_courses};
-use map_base::{NoMemory, Settings};
+use line_graph::{build, graph_of_courses};
+use map_base::{LimitFault, NoMemory, Settings};
 use std::alloc::Global;
 use std::marker::Model;
 use transit_feed::Tables;
@@ -89,7 +89,7 @@ impl KeptGraph {
         alloc: Global,
         tables: &Tables,
         settings: &Settings,
-    ) -> Result<LineGraph, BuildFault>
+    ) -> Result<LineGraph, LimitFault>
         ensures graph { IfOk result (λ graph. graph_outcome settings.now.near tables.now ≡ Ok graph) }
         ensures cause { IfErr result (λ fault. HasCause (graph_outcome settings.now.near tables.now) fault) }
         ensures lines { IfOk result (λ graph. All (All (λ (a : Line). a.0 < length tables.now.lines)) graph.lines) }
@@ -109,7 +109,7 @@ impl KeptGraph {
         courses: Courses,
         near: u32,
         lines: u32,
-    ) -> Result<LineGraph, BuildFault>
+    ) -> Result<LineGraph, LimitFault>
         requires fit { AreFit near courses }
         requires served { AreServed lines courses }
         requires near_low { 20 ≤ near }

@@ -11,7 +11,7 @@ use Rattle.feed_courses.specs.declared.courses.Courses.{Courses}
 use Rattle.way_network.specs.Chains.{Network}
 use Rattle.way_network.specs.Segments.{lines_of, line_numbered, segment_chains}
 use Rattle.way_network.specs.Graphs.{graph_over}
-use Rattle.line_graph.specs.declared.fault.BuildFault.{BuildFault}
+use Rattle.map_base.specs.declared.limit_fault.LimitFault.{LimitFault}
 use Rattle.feed_courses.specs.Outcome.{courses_outcome}
 use Rattle.line_graph.specs.Outcome.{net_of_courses, graph_over_net, graph_of_courses, graph_outcome, network_of, all_passages}
 use Rattle.line_graph.proofs.Outcomes.{passed, same_parts}
@@ -48,7 +48,7 @@ lines_below near lines all over parts is =
     subst (λ (g : GraphParts). All (All (λ (a : LineId). a.0 < lines)) g.lines) (same_parts made parts segments)
     (All-map (All (λ (a : LineId). a.0 < lines)) (lines_of net) (segment_chains over.points net) (λ k d below. chain_below net (get_or (segment_chains over.points net) k d)))
 
-pub below_where : (near lines count : ℕ) (all : Courses) (over : NetParts) (result : Result GraphParts BuildFault) → lines ≡ count →
+pub below_where : (near lines count : ℕ) (all : Courses) (over : NetParts) (result : Result GraphParts LimitFault) → lines ≡ count →
     IfOk result (λ parts. graph_over_net near lines all over ≡ Ok parts) → IfOk result (λ parts. All (All (λ (a : LineId). a.0 < count)) parts.lines)
 below_where near lines count all over (Ok parts) same is =
     subst (λ (n : ℕ). All (All (λ (a : LineId). a.0 < n)) parts.lines) same (lines_below near lines all over parts is)

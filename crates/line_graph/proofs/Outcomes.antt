@@ -6,34 +6,30 @@ use Rattle.std.proofs.lemmas.Option.{slice_get_cases}
 use Rattle.map_base.specs.declared.ids.StationId.{StationId}
 use Rattle.map_base.specs.declared.limit.Limit.{Limit}
 use Rattle.map_base.specs.declared.limit.LimitKind.TheVariants.{NetPoints}
+use Rattle.map_base.specs.declared.limit_fault.LimitFault.{LimitFault}
+use Rattle.map_base.specs.declared.limit_fault.LimitFault.TheVariants as fault
+use Rattle.map_base.specs.Faults.{HasCause}
 use Rattle.transit_feed.specs.declared.station.Station.{Station}
 use Rattle.transit_feed.specs.Feeds.{Feed}
 use Rattle.graph_core.specs.declared.parts.GraphParts.{GraphParts}
 use Rattle.track_net.specs.Nets.{NetParts}
 use Rattle.track_net.specs.Faults.{HasCause as HasNetCause}
-use Rattle.track_net.specs.declared.fault.NetFault.{NetFault}
-use Rattle.track_net.specs.declared.fault.NetFault.TheVariants as net
 use Rattle.feed_courses.specs.declared.courses.Courses.{Courses}
-use Rattle.feed_courses.specs.declared.fault.CourseFault.{CourseFault}
-use Rattle.feed_courses.specs.declared.fault.CourseFault.TheVariants as courses
-use Rattle.feed_courses.specs.Faults.{HasCause as HasCourseCause}
 use Rattle.feed_courses.specs.Outcome.{courses_outcome}
 use Rattle.feed_courses.proofs.ServedStations.{are_known}
 use Rattle.feed_courses.proofs.WholeLemmas.{within-next, above-limit}
 use Rattle.way_network.specs.Graphs.{kind_of, kind_at, graph_over, graph_within}
 use Rattle.way_network.specs.Segments.{nodes_of}
-use Rattle.line_graph.specs.declared.fault.BuildFault.{BuildFault}
 use Rattle.line_graph.specs.Outcome.{net_of_courses, network_of, all_passages, graph_over_net, graph_of_courses, graph_outcome}
-use Rattle.line_graph.specs.Faults.{of_courses, of_net, HasCause}
 use Rattle.line_graph.specs.Text.{IsKnown}
 use Rattle.line_graph.specs.Rides.{KeepsCourses, AreKept, KeepsOutcome, KeepsLines}
 
 -- ---- the net
 
 -- a net of too many points is refused
-pub net_refused : (near lines : ℕ) (all : Courses) (over : NetParts) (fault : NetFault) → HasNetCause (length over.points) fault → HasCause (graph_over_net near lines all over) (of_net fault)
-net_refused near lines all over (net.Limit limit) cause = above-limit NetPoints (length over.points) _ cause.1 ∙ sym (ap Err cause.0)
-net_refused near lines all over net.NoMemory cause = tt
+pub net_refused : (near lines : ℕ) (all : Courses) (over : NetParts) (fault : LimitFault) → HasNetCause (length over.points) fault → HasCause (graph_over_net near lines all over) fault
+net_refused near lines all over (fault.Limit limit) cause = above-limit NetPoints (length over.points) _ cause.1 ∙ sym (ap Err cause.0)
+net_refused near lines all over fault.NoMemory cause = tt
 
 -- else the outcome is that of the graph over it
 pub net_fits : (near lines : ℕ) (all : Courses) (over : NetParts) → length over.points ≤ 100000 →
@@ -43,9 +39,9 @@ net_fits near lines all over few = within-next NetPoints (length over.points) _ 
 -- ---- courses
 
 -- courses that are refused refuse the graph
-pub courses_refused : (near : ℕ) (feed : Feed) (fault : CourseFault) → HasCourseCause (courses_outcome near feed) fault → HasCause (graph_outcome near feed) (of_courses fault)
-courses_refused near feed (courses.Limit limit) cause = ap (graph_of_courses near (length feed.lines)) cause
-courses_refused near feed courses.NoMemory cause = tt
+pub courses_refused : (near : ℕ) (feed : Feed) (fault : LimitFault) → HasCause (courses_outcome near feed) fault → HasCause (graph_outcome near feed) fault
+courses_refused near feed (fault.Limit limit) cause = ap (graph_of_courses near (length feed.lines)) cause
+courses_refused near feed fault.NoMemory cause = tt
 
 -- else the outcome is that of the courses
 pub outcome_is : (near lines : ℕ) (feed : Feed) (all : Courses) → lines ≡ length feed.lines → courses_outcome near feed ≡ Ok all → graph_outcome near feed ≡ graph_over_net near lines all (net_of_courses near all)
@@ -85,7 +81,7 @@ stations_known near lines feed all over parts is_all is =
     subst (λ (g : GraphParts). All (IsKnown feed.stations) g.kinds) (same_parts made parts segments)
     (All-map (IsKnown feed.stations) (kind_at all.stations) (nodes_of (network_of near lines all over)) (λ k d below. kind_known feed.stations all.stations (get_or (nodes_of (network_of near lines all over)) k d) known))
 
-pub known_where : (near lines : ℕ) (feed : Feed) (all : Courses) (over : NetParts) (result : Result GraphParts BuildFault) → courses_outcome near feed ≡ Ok all →
+pub known_where : (near lines : ℕ) (feed : Feed) (all : Courses) (over : NetParts) (result : Result GraphParts LimitFault) → courses_outcome near feed ≡ Ok all →
     IfOk result (λ parts. graph_over_net near lines all over ≡ Ok parts) → IfOk result (λ parts. All (IsKnown feed.stations) parts.kinds)
 known_where near lines feed all over (Ok parts) is_all is = stations_known near lines feed all over parts is_all is
 known_where near lines feed all over (Err fault) is_all is = tt
@@ -104,7 +100,7 @@ keeps_lines near lines feed all parts count is_all is kept =
     (subst (λ (n : ℕ). KeepsCourses near n all (net_of_courses near all) parts) count
     (subst (KeepsCourses near lines all (net_of_courses near all)) (same_parts made parts segments) kept))
 
-pub kept_where : (near lines : ℕ) (feed : Feed) (all : Courses) (result : Result GraphParts BuildFault) → lines ≡ length feed.lines → courses_outcome near feed ≡ Ok all →
+pub kept_where : (near lines : ℕ) (feed : Feed) (all : Courses) (result : Result GraphParts LimitFault) → lines ≡ length feed.lines → courses_outcome near feed ≡ Ok all →
     IfOk result (λ parts. graph_over_net near lines all (net_of_courses near all) ≡ Ok parts) → IfOk result (λ parts. AreKept near lines all (net_of_courses near all)) → IfOk result (λ parts. KeepsLines near feed parts)
 kept_where near lines feed all (Ok parts) count is_all is kept = keeps_lines near lines feed all parts count is_all is kept
 kept_where near lines feed all (Err fault) count is_all is kept = tt

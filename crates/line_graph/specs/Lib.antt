@@ -2,7 +2,6 @@ pub mod Legs
 pub mod Handing
 pub mod Outcome
 pub mod Text
-pub mod Faults
 pub mod StretchTables
 pub mod Premises
 pub mod Rides

@@ -6,16 +6,15 @@ ghost use Rattle.track_net.specs.Laws.{HasOwnDirections, JoinsStations};
 ghost use Rattle.feed_courses.specs.Fit.{AreFit, AreServed};
 ghost use Rattle.way_network.specs.Graphs.{graph_over, graph_within};
 ghost use Rattle.line_graph.specs.Outcome.{all_passages, all_samples, graph_outcome, graph_over_net, net_of_courses as net_of, network_of};
-ghost use Rattle.line_graph.specs.Faults.{HasCause};
+ghost use Rattle.map_base.specs.Faults.{HasCause};
 ghost use Rattle.line_graph.specs.Rides.{AreKept, KeepsLines};
 ghost use Rattle.line_graph.specs.Text.{IsKnown};
 
 use crate::course_net::net_of_courses;
-use crate::fault::BuildFault;
 use crate::network::network;
 use feed_courses::{Courses, courses_of};
 use graph_core::LineGraph;
-use map_base::Settings;
+use map_base::{LimitFault, Settings};
 use std::alloc::Global;
 use track_net::Net;
 use transit_feed::Tables;
@@ -30,7 +29,7 @@ use way_network::graph_of;
 ///
 /// There is a limit where the feed has more lines, stations, samples, net points, nodes or segments than are worked
 /// on, the first of these in this order.
-pub fn build(alloc: Global, tables: &Tables, settings: &Settings) -> Result<LineGraph, BuildFault>
+pub fn build(alloc: Global, tables: &Tables, settings: &Settings) -> Result<LineGraph, LimitFault>
     ensures graph { IfOk result (λ graph. graph_outcome settings.now.near tables.now ≡ Ok graph) }
     ensures cause { IfErr result (λ fault. HasCause (graph_outcome settings.now.near tables.now) fault) }
 
@@ -51,7 +50,7 @@ pub fn graph_of_courses(
     courses: &Courses,
     near: u32,
     lines: u32,
-) -> Result<LineGraph, BuildFault>
+) -> Result<LineGraph, LimitFault>
     requires fit { AreFit near courses.now }
     requires served { AreServed lines courses.now }
     requires near_low { 20 ≤ near }
@@ -71,7 +70,7 @@ fn graph_of_net(
     net: &Net,
     near: u32,
     lines: u32,
-) -> Result<LineGraph, BuildFault>
+) -> Result<LineGraph, LimitFault>
     requires fit { AreFit near courses.now }
     requires served { AreServed lines courses.now }
     requires net { net.now ≡ net_of near courses.now }

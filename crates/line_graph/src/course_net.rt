@@ -8,12 +8,13 @@ ghost use Rattle.line_graph.specs.Outcome.{all_samples, net_of_courses};
 
 use crate::samples::all_samples;
 use feed_courses::Courses;
+use map_base::LimitFault;
 use std::alloc::Global;
-use track_net::{Net, NetFault, net_of};
+use track_net::{Net, net_of};
 
 /// The net over the stations of courses and their samples. There is a limit where it has more than 100,000 points.
 /// `near` is in decimetres.
-pub(crate) fn net_of_courses(alloc: Global, courses: &Courses, near: u32) -> Result<Net, NetFault>
+pub(crate) fn net_of_courses(alloc: Global, courses: &Courses, near: u32) -> Result<Net, LimitFault>
     requires fit { AreFit near courses.now }
     requires near_low { 20 ≤ near }
     requires near_high { near ≤ 20000 }

@@ -6,7 +6,6 @@
 
 mod building;
 mod course_net;
-mod fault;
 mod legs;
 mod network;
 mod passages;
@@ -16,5 +15,5 @@ mod stretches;
 mod ways;
 
 pub use building::{build, graph_of_courses};
-pub use fault::BuildFault;
+pub use map_base::LimitFault as BuildFault;
 pub use print::print_graph;

@@ -3,29 +3,26 @@ use Rattle.std.proofs.Common.{◌≡◌, ◌∙◌, ap, subst, List, Result, Ok,
 use Rattle.map_base.specs.declared.limit.Limit.{Limit}
 use Rattle.map_base.specs.declared.limit_fault.LimitFault.{LimitFault}
 use Rattle.map_base.specs.declared.limit_fault.LimitFault.TheVariants as limit
-use Rattle.map_base.specs.Faults as terms
+use Rattle.map_base.specs.Faults as limits
 use Rattle.map_base.specs.Settings.{Choices}
 use Rattle.map_method.specs.Methods.{MethodChoices}
 use Rattle.transit_feed.specs.Feeds.{Feed}
 use Rattle.graph_core.specs.declared.parts.GraphParts.{GraphParts}
-use Rattle.line_graph.specs.declared.fault.BuildFault.{BuildFault}
-use Rattle.line_graph.specs.declared.fault.BuildFault.TheVariants as build
 use Rattle.line_graph.specs.Outcome.{graph_outcome}
-use Rattle.line_graph.specs.Faults as graph
 use Rattle.octi_grid.specs.Walks.{PlainWalk}
 use Rattle.segment_router.specs.declared.fault.RouteFault.{RouteFault}
 use Rattle.segment_router.specs.declared.fault.RouteFault.TheVariants as route
 use Rattle.segment_router.specs.Routing.{route_outcome}
 use Rattle.segment_router.specs.Routing as routing
 use Rattle.order_model.specs.declared.problem.ProblemParts.{ProblemParts}
-use Rattle.map_engine.specs.Faults.{of_build, of_route, of_terms}
+use Rattle.map_engine.specs.Faults.{of_limit, of_route}
 use Rattle.map_engine.specs.Problems.{Drawn, drawn_with, routed_by, drawn_on, drawn_outcome, problem_within}
 use Rattle.map_engine.specs.Making.{HasCause}
 
 -- a line graph that is refused refuses the drawing
-pub not_built : (feed : Feed) (choices : Choices) (method : MethodChoices) (stop : BuildFault) → graph.HasCause (graph_outcome choices.near feed) stop → HasCause (drawn_outcome feed choices method) (of_build stop)
-not_built feed choices method (build.Limit l) h = ap (drawn_on feed choices method) h
-not_built feed choices method build.NoMemory h = tt
+pub not_built : (feed : Feed) (choices : Choices) (method : MethodChoices) (stop : LimitFault) → limits.HasCause (graph_outcome choices.near feed) stop → HasCause (drawn_outcome feed choices method) (of_limit stop)
+not_built feed choices method (limit.Limit l) h = ap (drawn_on feed choices method) h
+not_built feed choices method limit.NoMemory h = tt
 
 -- a line graph that is there draws what is drawn on it
 pub drawn_from : (feed : Feed) (choices : Choices) (method : MethodChoices) (parts : GraphParts) → graph_outcome choices.near feed ≡ Ok parts → drawn_outcome feed choices method ≡ drawn_on feed choices method (Ok parts)
@@ -40,7 +37,7 @@ not_routed feed choices method parts route.NoMemory h = tt
 
 -- too many terms refuse it
 pub not_counted : (feed : Feed) (choices : Choices) (method : MethodChoices) (parts : GraphParts) (walks : List PlainWalk) (stop : LimitFault) → route_outcome parts choices.cell method.spread method.finest ≡ Ok walks
-    → terms.HasCause (problem_within feed choices parts) stop → HasCause (drawn_on feed choices method (Ok parts)) (of_terms stop)
+    → limits.HasCause (problem_within feed choices parts) stop → HasCause (drawn_on feed choices method (Ok parts)) (of_limit stop)
 not_counted feed choices method parts walks (limit.Limit l) routed h = ap (routed_by feed choices parts) routed ∙ ap (drawn_with parts walks) h
 not_counted feed choices method parts walks limit.NoMemory routed h = tt
 

@@ -2,8 +2,6 @@
 use Rattle.std.specs.Prelude.{ℕ}
 use Rattle.map_base.specs.declared.limit_fault.LimitFault.{LimitFault}
 use Rattle.map_base.specs.declared.limit_fault.LimitFault.TheVariants as limit
-use Rattle.line_graph.specs.declared.fault.BuildFault.{BuildFault}
-use Rattle.line_graph.specs.declared.fault.BuildFault.TheVariants as build
 use Rattle.segment_router.specs.declared.fault.RouteFault.{RouteFault}
 use Rattle.segment_router.specs.declared.fault.RouteFault.TheVariants as route
 use Rattle.order_search.specs.declared.found.SearchFault.{SearchFault}
@@ -21,18 +19,14 @@ use Rattle.map_engine.specs.declared.fault.CheckFault.{CheckFault}
 use Rattle.map_engine.specs.declared.fault.CheckFault.TheVariants as check
 
 -- why no map is made
-abbrev pub of_build : BuildFault → MakeFault
-of_build (build.Limit l) = make.Limit l
-of_build build.NoMemory = make.NoMemory
+abbrev pub of_limit : LimitFault → MakeFault
+of_limit (limit.Limit l) = make.Limit l
+of_limit limit.NoMemory = make.NoMemory
 
 abbrev pub of_route : RouteFault → MakeFault
 of_route (route.NoRoute seg) = make.NoRoute seg
 of_route (route.Limit l) = make.Limit l
 of_route route.NoMemory = make.NoMemory
-
-abbrev pub of_terms : LimitFault → MakeFault
-of_terms (limit.Limit l) = make.Limit l
-of_terms limit.NoMemory = make.NoMemory
 
 -- why part k is not solved
 abbrev pub of_search : ℕ → SearchFault → MakeFault
@@ -41,9 +35,9 @@ of_search k (search.TooDeep l) = make.Limit l
 of_search k search.NoMemory = make.NoMemory
 
 -- why a map is not accepted
-abbrev pub graph_stop : BuildFault → CheckFault
-graph_stop (build.Limit l) = check.Limit l
-graph_stop build.NoMemory = check.NoMemory
+abbrev pub limit_stop : LimitFault → CheckFault
+limit_stop (limit.Limit l) = check.Limit l
+limit_stop limit.NoMemory = check.NoMemory
 
 abbrev pub text_stop : BadText → CheckFault
 text_stop (bad.At at) = check.Refuted (item.Text at)
@@ -52,10 +46,6 @@ text_stop bad.NoMemory = check.NoMemory
 abbrev pub drawing_stop : DrawingStop → CheckFault
 drawing_stop (drawing.Bad seg why) = check.Refuted (item.Walk seg why)
 drawing_stop drawing.NoMemory = check.NoMemory
-
-abbrev pub terms_stop : LimitFault → CheckFault
-terms_stop (limit.Limit l) = check.Limit l
-terms_stop limit.NoMemory = check.NoMemory
 
 abbrev pub proof_stop : ProofStop → CheckFault
 proof_stop (proof.Refuted i) = check.Refuted (item.Proof i)

@@ -3,10 +3,9 @@
 ghost use Rattle.std.specs.Prelude.{◌≡◌};
 ghost use Rattle.map_engine.specs.declared.fault.MakeFault.TheVariants.{NoMemory as OutOfMemory};
 ghost use Rattle.map_engine.specs.declared.fault.CheckFault.TheVariants.{NoMemory as WantOfMemory};
-ghost use Rattle.map_engine.specs.Faults.{of_build, of_route, of_terms, graph_stop, text_stop, drawing_stop, terms_stop, proof_stop};
+ghost use Rattle.map_engine.specs.Faults.{of_limit, of_route, limit_stop, text_stop, drawing_stop, proof_stop};
 
 use decimal_text::BadText;
-use line_graph::BuildFault;
 use map_base::{Limit, LimitFault, NoMemory, SegId};
 use octi_grid::{DrawWhy, DrawingStop};
 use order_check::{ProofItem, ProofStop};
@@ -83,17 +82,6 @@ impl<T: Drop> From<AllocFailed<T>> for MakeFault {
     }
 }
 
-impl From<BuildFault> for MakeFault {
-    ghost from_gives = { λ stop fault. fault ≡ of_build stop };
-
-    fn from(stop: BuildFault) -> MakeFault {
-        match stop {
-            BuildFault::Limit(limit) => MakeFault::Limit(limit),
-            BuildFault::NoMemory => MakeFault::NoMemory,
-        }
-    }
-}
-
 impl From<RouteFault> for MakeFault {
     ghost from_gives = { λ stop fault. fault ≡ of_route stop };
 
@@ -107,7 +95,7 @@ impl From<RouteFault> for MakeFault {
 }
 
 impl From<LimitFault> for MakeFault {
-    ghost from_gives = { λ stop fault. fault ≡ of_terms stop };
+    ghost from_gives = { λ stop fault. fault ≡ of_limit stop };
 
     fn from(stop: LimitFault) -> MakeFault {
         match stop {
@@ -141,17 +129,6 @@ impl<T: Drop> From<AllocFailed<T>> for CheckFault {
     }
 }
 
-impl From<BuildFault> for CheckFault {
-    ghost from_gives = { λ stop fault. fault ≡ graph_stop stop };
-
-    fn from(stop: BuildFault) -> CheckFault {
-        match stop {
-            BuildFault::Limit(limit) => CheckFault::Limit(limit),
-            BuildFault::NoMemory => CheckFault::NoMemory,
-        }
-    }
-}
-
 impl From<BadText> for CheckFault {
     ghost from_gives = { λ stop fault. fault ≡ text_stop stop };
 
@@ -175,7 +152,7 @@ impl From<DrawingStop> for CheckFault {
 }
 
 impl From<LimitFault> for CheckFault {
-    ghost from_gives = { λ stop fault. fault ≡ terms_stop stop };
+    ghost from_gives = { λ stop fault. fault ≡ limit_stop stop };
 
     fn from(stop: LimitFault) -> CheckFault {
         match stop {

@@ -9,8 +9,8 @@ use Rattle.map_settings.specs.declared.fault.SettingsFault.{SettingsFault}
 use Rattle.map_settings.specs.declared.fault.SettingsFault.TheVariants as settings
 use Rattle.map_edits.specs.declared.fault.EditsFault.{EditsFault}
 use Rattle.map_edits.specs.declared.fault.EditsFault.TheVariants as edits
-use Rattle.line_graph.specs.declared.fault.BuildFault.{BuildFault}
-use Rattle.line_graph.specs.declared.fault.BuildFault.TheVariants as build
+use Rattle.map_base.specs.declared.limit_fault.LimitFault.{LimitFault}
+use Rattle.map_base.specs.declared.limit_fault.LimitFault.TheVariants as limit
 use Rattle.map_engine.specs.declared.fault.MakeFault.{MakeFault}
 use Rattle.map_engine.specs.declared.fault.MakeFault.TheVariants as make
 use Rattle.map_engine.specs.declared.fault.CheckFault.{CheckFault}
@@ -39,9 +39,9 @@ of_edits (edits.BadEdit line) = refused.BadEdit line
 of_edits edits.NoMemory = refused.NoMemory
 
 -- a line graph that is refused
-abbrev pub of_build : BuildFault → Refusal
-of_build (build.Limit limit) = refused.Limit limit
-of_build build.NoMemory = refused.NoMemory
+abbrev pub of_limit : LimitFault → Refusal
+of_limit (limit.Limit l) = refused.Limit l
+of_limit limit.NoMemory = refused.NoMemory
 
 -- a map that is not made
 abbrev pub of_make : MakeFault → Refusal

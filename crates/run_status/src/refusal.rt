@@ -2,12 +2,11 @@
 
 ghost use Rattle.std.specs.Prelude.{◌≡◌};
 ghost use Rattle.run_status.specs.declared.refusal.Refusal.TheVariants as refused;
-ghost use Rattle.run_status.specs.Refusals.{of_build, of_check, of_edits, of_feed, of_make, of_settings};
+ghost use Rattle.run_status.specs.Refusals.{of_check, of_edits, of_feed, of_limit, of_make, of_settings};
 
 use crate::input::Input;
 use crate::item::Item;
-use line_graph::BuildFault;
-use map_base::{Limit, NoMemory, SegId};
+use map_base::{Limit, LimitFault, NoMemory, SegId};
 use map_edits::EditsFault;
 use map_engine::{CheckFault, MakeFault};
 use map_settings::{SettingsFault, SettingsWhy};
@@ -86,13 +85,13 @@ impl From<EditsFault> for Refusal {
     }
 }
 
-impl From<BuildFault> for Refusal {
-    ghost from_gives = { λ fault refusal. refusal ≡ of_build fault };
+impl From<LimitFault> for Refusal {
+    ghost from_gives = { λ fault refusal. refusal ≡ of_limit fault };
 
-    fn from(fault: BuildFault) -> Refusal {
+    fn from(fault: LimitFault) -> Refusal {
         match fault {
-            BuildFault::Limit(limit) => Refusal::Limit(limit),
-            BuildFault::NoMemory => Refusal::NoMemory,
+            LimitFault::Limit(limit) => Refusal::Limit(limit),
+            LimitFault::NoMemory => Refusal::NoMemory,
         }
     }
 }

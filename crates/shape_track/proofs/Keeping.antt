@@ -3,8 +3,8 @@ use Rattle.std.proofs.Common.{◌≡◌, refl, sym, ◌∙◌, ap, ℕ, suc, ◌
 use Rattle.std.proofs.Math.Nat.{le_trans, le_refl}
 use Rattle.std.specs.List.{range_with_len}
 use Rattle.map_base.specs.declared.point.Point.{Point}
-use Rattle.shape_track.specs.declared.fault.SampleFault.{SampleFault}
-use Rattle.shape_track.specs.declared.fault.SampleFault.TheVariants.{Limit as AboveLimit, NoMemory}
+use Rattle.map_base.specs.declared.limit_fault.LimitFault.{LimitFault}
+use Rattle.map_base.specs.declared.limit_fault.LimitFault.TheVariants.{Limit as AboveLimit, NoMemory}
 use Rattle.shape_track.specs.Faults.{HasCause}
 use Rattle.shape_track.specs.Samples.{part_point, part_points, is_repeat, without_repeats}
 use Rattle.shape_track.specs.Sampling.{Kept, with_point, with_points}
@@ -43,7 +43,7 @@ with_points-append k [] qs = refl
 with_points-append k (p ∷ ps) qs = with_points-append (with_point k p) ps qs
 
 -- a fault that has its cause has it also where there are more samples
-pub HasCause-more : (most m n : ℕ) (fault : SampleFault) → m ≤ n → HasCause most m fault → HasCause most n fault
+pub HasCause-more : (most m n : ℕ) (fault : LimitFault) → m ≤ n → HasCause most m fault → HasCause most n fault
 HasCause-more most m n (AboveLimit limit) more cause = (cause.0, (omega arith))
 HasCause-more most m n NoMemory more cause = tt
 

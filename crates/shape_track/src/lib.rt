@@ -3,7 +3,6 @@
 #![tactic(auto)]
 
 mod best_places;
-mod fault;
 mod nearby;
 mod piece;
 mod sampler;
@@ -12,7 +11,7 @@ mod snapping;
 mod sweep;
 mod tracking;
 
-pub use fault::SampleFault;
+pub use map_base::LimitFault as SampleFault;
 pub use samples::sample;
 pub use snapping::{snap, snap_is_one};
 pub use tracking::track;

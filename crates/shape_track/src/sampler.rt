@@ -5,10 +5,9 @@ ghost use Rattle.fixed_plane.specs.Plane.{IsInPlane};
 ghost use Rattle.shape_track.specs.Faults.{HasCause};
 ghost use Rattle.shape_track.specs.Samples.{is_point, is_repeat, piece_points};
 
-use crate::fault::SampleFault;
 use crate::piece::{part, parts};
 use fixed_plane::dist2;
-use map_base::{Limit, LimitKind, NoMemory, Point};
+use map_base::{Limit, LimitFault, LimitKind, NoMemory, Point};
 use std::alloc::Global;
 
 /// Samples that are kept, and how many were counted of the greatest allowed number.
@@ -44,7 +43,7 @@ impl Sampler {
     }
 
     /// Keeps a point, unless it equals the one before it.
-    pub(crate) fn keep(&mut self, point: Point) -> Result<(), SampleFault>
+    pub(crate) fn keep(&mut self, point: Point) -> Result<(), LimitFault>
         requires counted { self.old.count ≤ self.old.most }
         ensures kept { OnOk result (kept_by self.new ≡ with_point (kept_by self.old) point) }
         ensures counted { OnOk result (self.new.count ≤ self.old.most) }
@@ -56,7 +55,7 @@ impl Sampler {
         if repeated { Ok(()) } else { self.store(point) }
     }
 
-    fn store(&mut self, point: Point) -> Result<(), SampleFault>
+    fn store(&mut self, point: Point) -> Result<(), LimitFault>
         requires counted { self.old.count ≤ self.old.most }
         ensures kept { OnOk result (self.new.kept.items ≡ self.old.kept.items ++ point ∷ []) }
         ensures before { OnOk result (self.new.before ≡ self.old.before) }
@@ -74,7 +73,7 @@ impl Sampler {
     }
 
     /// Keeps where the parts of the way from `a` to `b` begin.
-    pub(crate) fn keep_piece(&mut self, a: Point, b: Point, near: u32) -> Result<(), SampleFault>
+    pub(crate) fn keep_piece(&mut self, a: Point, b: Point, near: u32) -> Result<(), LimitFault>
         requires a_in_plane { IsInPlane a }
         requires b_in_plane { IsInPlane b }
         requires near_low { 20 ≤ near }
@@ -93,10 +92,10 @@ impl Sampler {
 }
 
 /// What is reported of more samples than the greatest allowed number.
-fn above(most: u64) -> SampleFault
+fn above(most: u64) -> LimitFault
     ensures { (count : ℕ) → most < count → HasCause most count result }
 {
-    SampleFault::Limit(Limit {
+    LimitFault::Limit(Limit {
         what: LimitKind::Samples,
         found: most.saturating_add(1),
         most,

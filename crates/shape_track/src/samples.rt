@@ -5,9 +5,8 @@ ghost use Rattle.fixed_plane.specs.Plane.{IsInPlane};
 ghost use Rattle.shape_track.specs.Faults.{HasCause};
 ghost use Rattle.shape_track.specs.Samples.{Joins, first_of, last_of, samples_of};
 
-use crate::fault::SampleFault;
 use crate::sampler::Sampler;
-use map_base::Point;
+use map_base::{LimitFault, Point};
 use std::alloc::Global;
 
 /// The samples of a list of points: each straight piece is cut into the least number of parts of at most
@@ -19,7 +18,7 @@ pub fn sample(
     points: &[Point],
     near: u32,
     most: u64,
-) -> Result<Vec<Point>, SampleFault>
+) -> Result<Vec<Point>, LimitFault>
     requires some { 0 < length points.now }
     requires in_plane { All IsInPlane points.now }
     requires near_low { 20 ≤ near }
@@ -42,7 +41,7 @@ pub(crate) fn counted_samples(
     near: u32,
     count: u64,
     most: u64,
-) -> Result<Sampler, SampleFault>
+) -> Result<Sampler, LimitFault>
     requires some { 0 < length points.now }
     requires in_plane { All IsInPlane points.now }
     requires near_low { 20 ≤ near }

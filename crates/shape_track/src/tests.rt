@@ -4,7 +4,7 @@ ghost use Rattle.std.specs.Prelude.{◌≡◌, ◌<◌, IfOk, length, All};
 ghost use Rattle.fixed_plane.specs.Plane.{IsInPlane};
 
 use super::*;
-use map_base::{Limit, LimitKind, Point};
+use map_base::{Limit, LimitFault, LimitKind, Point};
 use std::alloc::{AllocError, Global};
 use std::test::Fail;
 
@@ -41,7 +41,7 @@ fn quarters_of_a_piece(rt: HostRuntime) -> Result<(), Fail> {
         most: 4,
     };
     assert!(rt;
-        matches!(sample(rt.alloc(), &points, 500, 4), Err(SampleFault::Limit(l)) if l == limit)
+        matches!(sample(rt.alloc(), &points, 500, 4), Err(LimitFault::Limit(l)) if l == limit)
     );
     Ok(())
 }
@@ -88,7 +88,7 @@ fn two_hops(rt: HostRuntime) -> Result<(), Fail> {
         most: 5,
     };
     assert!(rt;
-        matches!(track(rt.alloc(), &samples, &stations, &places, 500, 5), Err(SampleFault::Limit(l)) if l == limit)
+        matches!(track(rt.alloc(), &samples, &stations, &places, 500, 5), Err(LimitFault::Limit(l)) if l == limit)
     );
     Ok(())
 }

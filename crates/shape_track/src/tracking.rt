@@ -6,9 +6,8 @@ ghost use Rattle.shape_track.specs.Faults.{HasCause};
 ghost use Rattle.shape_track.specs.Snaps.{ArePlacesFrom};
 ghost use Rattle.shape_track.specs.Hops.{AreJoined, hop_points, hops_of, total_of};
 
-use crate::fault::SampleFault;
 use crate::samples::counted_samples;
-use map_base::{NoMemory, Point};
+use map_base::{LimitFault, NoMemory, Point};
 use std::alloc::Global;
 
 /// The hops of a pattern, one for each station but the last: the samples of the list of the station, the
@@ -21,7 +20,7 @@ pub fn track(
     places: &[u32],
     near: u32,
     most: u64,
-) -> Result<Vec<Vec<Point>>, SampleFault>
+) -> Result<Vec<Vec<Point>>, LimitFault>
     requires samples_in_plane { All IsInPlane samples.now }
     requires stations_in_plane { All IsInPlane stations.now }
     requires placed { ArePlacesFrom 0 (length samples.now) stations.now places.now }

@@ -4,8 +4,8 @@ use Rattle.std.proofs.Math.Nat.{le_trans, le_refl}
 use Rattle.std.proofs.lemmas.List.{take-append-drop}
 use Rattle.std.proofs.lemmas.List.Sums.{fold-append, fold_more}
 use Rattle.map_base.specs.declared.point.Point.{Point}
-use Rattle.track_net.specs.declared.fault.NetFault.{NetFault}
-use Rattle.track_net.specs.declared.fault.NetFault.TheVariants.{Limit as AboveLimit, NoMemory}
+use Rattle.map_base.specs.declared.limit_fault.LimitFault.{LimitFault}
+use Rattle.map_base.specs.declared.limit_fault.LimitFault.TheVariants.{Limit as AboveLimit, NoMemory}
 use Rattle.track_net.specs.Nearness.{has_near}
 use Rattle.track_net.specs.Nets.{with_sample, net_points}
 use Rattle.track_net.specs.Faults.{HasCause}
@@ -27,7 +27,7 @@ pub length-with_new_sample : (near : ℕ) (ps : List Point) (p : Point) → has_
 length-with_new_sample near ps p none = ap (λ b. length (cond b ps (ps ++ p ∷ []))) none ∙ length-append ps (p ∷ [])
 
 -- a fault that has its cause has it also where there are more points
-pub HasCause-more : (m n : ℕ) (fault : NetFault) → m ≤ n → HasCause m fault → HasCause n fault
+pub HasCause-more : (m n : ℕ) (fault : LimitFault) → m ≤ n → HasCause m fault → HasCause n fault
 HasCause-more m n (AboveLimit limit) more cause = (cause.0, (omega arith))
 HasCause-more m n NoMemory more cause = tt
 

@@ -7,10 +7,9 @@ ghost use Rattle.track_net.specs.Laws.{HasOwnDirections, IsPlanar, JoinsStations
 ghost use Rattle.track_net.specs.Faults.{HasCause};
 
 use crate::edges::edges_over;
-use crate::fault::NetFault;
 use crate::net::Net;
 use crate::thinning::thinned;
-use map_base::Point;
+use map_base::{LimitFault, Point};
 use std::alloc::Global;
 
 /// The net over stations and samples. Its points are the stations in their order, and then, in the order of the
@@ -25,7 +24,7 @@ pub fn net_of(
     stations: &[Point],
     samples: &[Point],
     near: u32,
-) -> Result<Net, NetFault>
+) -> Result<Net, LimitFault>
     requires distinct { AreDistinct stations.now }
     requires stations_in_plane { All IsInPlane stations.now }
     requires samples_in_plane { All IsInPlane samples.now }

@@ -7,7 +7,6 @@ mod buckets;
 mod building;
 mod cells;
 mod edges;
-mod fault;
 mod nearest;
 mod nearness;
 mod net;
@@ -16,6 +15,6 @@ mod thinning;
 
 pub use buckets::Buckets;
 pub use building::net_of;
-pub use fault::NetFault;
+pub use map_base::LimitFault as NetFault;
 pub use net::Net;
 pub use point_cells::PointCells;

@@ -7,9 +7,8 @@ ghost use Rattle.track_net.specs.Cells.{AreKept};
 ghost use Rattle.track_net.specs.Faults.{HasCause};
 
 use crate::cells::cell_at;
-use crate::fault::NetFault;
 use crate::point_cells::{Kept, keep, kept_of, near_in_cells};
-use map_base::{Limit, LimitKind, Point};
+use map_base::{Limit, LimitFault, LimitKind, Point};
 use std::alloc::Global;
 
 /// The greatest allowed number of net points.
@@ -21,7 +20,7 @@ pub(crate) fn thinned(
     stations: &[Point],
     samples: &[Point],
     near: u32,
-) -> Result<Vec<Point>, NetFault>
+) -> Result<Vec<Point>, LimitFault>
     requires stations_in_plane { All IsInPlane stations.now }
     requires samples_in_plane { All IsInPlane samples.now }
     requires some { 0 < near }
@@ -52,7 +51,7 @@ fn add_sample(
     last: Option<Point>,
     sample: Point,
     near: u32,
-) -> Result<Point, NetFault>
+) -> Result<Point, LimitFault>
     requires points_in_plane { All IsInPlane points.old.items }
     requires sample_in_plane { IsInPlane sample }
     requires few { vec_len points.old ≤ 100000 }
@@ -78,10 +77,10 @@ fn add_sample(
 }
 
 /// What is reported of more net points than the greatest allowed number.
-fn too_many() -> NetFault
+fn too_many() -> LimitFault
     ensures { (count : ℕ) → 100000 < count → HasCause count result }
 {
-    NetFault::Limit(Limit {
+    LimitFault::Limit(Limit {
         what: LimitKind::NetPoints,
         found: 100_001,
         most: 100_000,

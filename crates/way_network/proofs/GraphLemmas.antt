@@ -10,6 +10,7 @@ use Rattle.map_base.specs.declared.point.Point.{Point}
 use Rattle.map_base.specs.declared.limit.Limit.{Limit}
 use Rattle.map_base.specs.declared.limit.LimitKind.{LimitKind}
 use Rattle.map_base.specs.declared.limit.LimitKind.TheVariants.{Nodes, Segments}
+use Rattle.map_base.specs.Faults.{HasCause}
 use Rattle.map_base.specs.Limits.{limit_most, limit_of, unless_above}
 use Rattle.graph_core.specs.declared.parts.Join.{Join}
 use Rattle.graph_core.specs.declared.parts.GraphParts.{GraphParts}
@@ -17,8 +18,8 @@ use Rattle.graph_core.specs.Consistent.{IsConsistent}
 use Rattle.way_network.specs.declared.way.Way.{Way}
 use Rattle.way_network.specs.declared.way.Passage.{Passage}
 use Rattle.way_network.specs.declared.edges.UsedEdge.{UsedEdge}
-use Rattle.way_network.specs.declared.fault.GraphFault.{GraphFault}
-use Rattle.way_network.specs.declared.fault.GraphFault.TheVariants.{Limit as AboveLimit, NoMemory}
+use Rattle.map_base.specs.declared.limit_fault.LimitFault.{LimitFault}
+use Rattle.map_base.specs.declared.limit_fault.LimitFault.TheVariants.{Limit as AboveLimit, NoMemory}
 use Rattle.way_network.specs.Edges.{runs_over, is_used, line_runs_over}
 use Rattle.way_network.specs.Chains.{Network, has_node}
 use Rattle.way_network.specs.Segments.{nodes_of, segment_chains, ends_of}
@@ -31,7 +32,7 @@ use Rattle.way_network.specs.Rows.{all_chains, AreEdgesOver}
 use Rattle.way_network.specs.Numbers.{EndsBelow}
 use Rattle.way_network.specs.Crossings.{crossing_of, is_passage_at, joins_among, IsWithin}
 use Rattle.way_network.specs.RowGraphs.{crossings_at, row_graph, AreNodesOver, ArePassages}
-use Rattle.way_network.specs.Faults.{IsAbove, HasCause}
+use Rattle.way_network.specs.Faults.{IsAbove}
 use Rattle.way_network.specs.Premises.{IsNetwork, IsPassage}
 use Rattle.way_network.proofs.RisingLists.{has_filtered}
 use Rattle.way_network.proofs.NodeLemmas.{nodes_told}
@@ -48,18 +49,18 @@ above-limit kind count next above = ap (λ (b : Bool). cond b next (Err (limit_o
 within-limit : {A : Type 0} (kind : LimitKind) (count : ℕ) (next : Result A Limit) → count ≤ limit_most kind → unless_above kind count next ≡ next
 within-limit kind count next within = ap (λ (b : Bool). cond b next (Err (limit_of kind))) (le-leb count (limit_most kind) within)
 
-HasCause-above : (kind : LimitKind) (count : ℕ) (fault : GraphFault) (outcome : Result GraphParts Limit) → IsAbove kind count fault → (limit_most kind < count → outcome ≡ Err (limit_of kind)) → HasCause outcome fault
+HasCause-above : (kind : LimitKind) (count : ℕ) (fault : LimitFault) (outcome : Result GraphParts Limit) → IsAbove kind count fault → (limit_most kind < count → outcome ≡ Err (limit_of kind)) → HasCause outcome fault
 HasCause-above kind count (AboveLimit limit) outcome cause refused = refused cause.1 ∙ ap Err (sym cause.0)
 HasCause-above kind count NoMemory outcome cause refused = tt
 
 -- too many nodes
-pub nodes_cause : (parts : GraphParts) (count : ℕ) (fault : GraphFault) → count ≡ length parts.kinds → IsAbove Nodes count fault → HasCause (graph_within parts) fault
+pub nodes_cause : (parts : GraphParts) (count : ℕ) (fault : LimitFault) → count ≡ length parts.kinds → IsAbove Nodes count fault → HasCause (graph_within parts) fault
 nodes_cause parts count fault same cause =
     HasCause-above Nodes count fault (graph_within parts) cause
     (λ above. above-limit Nodes (length parts.kinds) (unless_above Segments (length parts.ends) (Ok parts)) (subst (λ (n : ℕ). 10000 < n) same above))
 
 -- too many segments
-pub segments_cause : (parts : GraphParts) (count : ℕ) (fault : GraphFault) → length parts.kinds ≤ 10000 → count ≡ length parts.ends → IsAbove Segments count fault → HasCause (graph_within parts) fault
+pub segments_cause : (parts : GraphParts) (count : ℕ) (fault : LimitFault) → length parts.kinds ≤ 10000 → count ≡ length parts.ends → IsAbove Segments count fault → HasCause (graph_within parts) fault
 segments_cause parts count fault few same cause =
     HasCause-above Segments count fault (graph_within parts) cause
     (λ above. within-limit Nodes (length parts.kinds) (unless_above Segments (length parts.ends) (Ok parts)) few

@@ -1,20 +1,21 @@
 //! The line graph of a network of ways.
 
 ghost use Rattle.std.specs.Prelude.{◌≡◌, ◌<◌, ◌≤◌, ◌^◌, Ok, IfOk, IfErr, All, length, map};
+ghost use Rattle.map_base.specs.Faults.{HasCause};
 ghost use Rattle.map_base.specs.declared.limit.LimitKind.TheVariants.{Nodes as CountOfNodes, Segments as CountOfSegments};
 ghost use Rattle.track_net.specs.Nearness.{point_at};
 ghost use Rattle.way_network.specs.Graphs.{network_over, kind_at as kind_at_of, graph_over, graph_within};
 ghost use Rattle.way_network.specs.Premises.{IsNetwork, IsPassage};
-ghost use Rattle.way_network.specs.Faults.{HasCause, IsAbove};
+ghost use Rattle.way_network.specs.Faults.{IsAbove};
 ghost use Rattle.way_network.specs.Nodes.{node_points_in};
 ghost use Rattle.way_network.specs.Rows.{all_chains};
 ghost use Rattle.way_network.specs.Numbers.{EndsBelow};
 ghost use Rattle.way_network.specs.Crossings.{joins_among};
 ghost use Rattle.way_network.specs.RowGraphs.{crossings_at, row_graph, AreNodesOver, ArePassages};
 
+use crate::counts::check_count;
 use crate::crossings::crossings_of;
 use crate::edge_table::{EdgeTable, edge_table};
-use crate::fault::{GraphFault, check_count};
 use crate::joins::joins_of;
 use crate::nodes::{Nodes, nodes_of};
 use crate::numbers::Segments;
@@ -22,7 +23,7 @@ use crate::rounds::{ends_of, lines_of, rounds_of};
 use crate::segments::chains_of;
 use crate::way::{Passage, Way};
 use graph_core::{GraphParts, Join, LineGraph, NodeKind};
-use map_base::{LimitKind, NoMemory, Point, Sequence, StationId};
+use map_base::{LimitFault, LimitKind, NoMemory, Point, Sequence, StationId};
 use std::alloc::Global;
 
 /// The line graph of a network of ways over the points of a net, of which the first are the stations, in order. The
@@ -42,7 +43,7 @@ pub fn graph_of(
     lines: u32,
     ways: &[Way],
     passages: &[Passage],
-) -> Result<LineGraph, GraphFault>
+) -> Result<LineGraph, LimitFault>
     requires network { IsNetwork points.now (network_over stations.now points.now lines ways.now) }
     requires passages { All (IsPassage (network_over stations.now points.now lines ways.now)) passages.now }
     ensures graph { IfOk result (λ graph. graph_within (graph_over stations.now points.now (network_over stations.now points.now lines ways.now) passages.now) ≡ Ok graph) }
@@ -57,7 +58,7 @@ pub fn graph_of(
 }
 
 /// The nodes among the points of a table of used edges, if they are no more than are worked on.
-fn few_nodes(alloc: Global, stations: u32, table: &EdgeTable) -> Result<Nodes, GraphFault>
+fn few_nodes(alloc: Global, stations: u32, table: &EdgeTable) -> Result<Nodes, LimitFault>
     requires { length table.now ≤ 2 ^ 32 }
     ensures nodes { IfOk result (λ nodes. nodes ≡ record { points = length table.now; nodes = node_points_in stations table.now }) }
     ensures few { IfOk result (λ _. length (node_points_in stations table.now) ≤ 10000) }
@@ -74,7 +75,7 @@ fn few_segments(
     points: &[Point],
     table: &EdgeTable,
     nodes: &Nodes,
-) -> Result<Segments, GraphFault>
+) -> Result<Segments, LimitFault>
     requires { AreNodesOver points.now table.now nodes.now }
     ensures segments { IfOk result (λ segments. segments ≡ all_chains points.now table.now nodes.now.nodes) }
     ensures few { IfOk result (λ _. length (all_chains points.now table.now nodes.now.nodes) ≤ 20000) }

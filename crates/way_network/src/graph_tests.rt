@@ -7,7 +7,7 @@ ghost use Rattle.way_network.specs.PremiseTests.{is_network, is_passage, two_way
 
 use super::*;
 use graph_core::{Join, LineGraph, NodeKind};
-use map_base::{LineId, NoMemory, NodeId, Point, SegId, Sequence, StationId};
+use map_base::{LimitFault, LineId, NoMemory, NodeId, Point, SegId, Sequence, StationId};
 use std::alloc::Global;
 use std::test::Fail;
 
@@ -34,7 +34,7 @@ fn graph_of_two(
     first: &[u32],
     second: &[u32],
     passages: &[Passage],
-) -> Result<LineGraph, GraphFault>
+) -> Result<LineGraph, LimitFault>
     requires network { IsTrue (is_network points.now (network_over stations.now points.now 2 (ways_of_two first.now second.now))) }
     requires passages { IsTrue (list_all (is_passage (network_over stations.now points.now 2 (ways_of_two first.now second.now))) passages.now) }
 {

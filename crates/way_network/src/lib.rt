@@ -4,11 +4,11 @@
 
 mod around;
 mod chains;
+mod counts;
 mod crossings;
 mod edge_table;
 mod edge_use;
 mod edges;
-mod fault;
 mod graph;
 mod joins;
 mod laws;
@@ -19,12 +19,12 @@ mod rounds;
 mod segments;
 mod way;
 
-pub use fault::GraphFault;
 pub use graph::graph_of;
 pub use laws::{
     edges_are_on_one_segment, lines_are_on_the_segments_of_their_ways,
     segments_have_the_lines_of_their_edges, used_edges_are_on_segments,
 };
+pub use map_base::LimitFault as GraphFault;
 pub use way::{Passage, Way};
 
 #[cfg(test)]

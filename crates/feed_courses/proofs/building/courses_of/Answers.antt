@@ -9,7 +9,7 @@ use Rattle.feed_courses.specs.Fit.{AreDistinct, IsCourse}
 use Rattle.std.proofs.lemmas.List.Elements.{All-same}
 use Rattle.feed_courses.specs.Shown.{shown_patterns, shown_lines, used_stations}
 use Rattle.feed_courses.specs.Outcome.{courses_outcome, sample_total, station_numbered}
-use Rattle.feed_courses.specs.Faults.{HasCause}
+use Rattle.map_base.specs.Faults.{HasCause}
 use Rattle.feed_courses.proofs.Served.{ArePatterns-shown}
 use Rattle.feed_courses.proofs.ServedStations.{are_served}
 use Rattle.feed_courses.proofs.WholeLemmas.{shown-hold, lines_are, stations_are, too_many_lines, too_many_stations, too_many_samples, within_limits, HasCause-above, courses_are, AreFit-made}

@@ -6,7 +6,7 @@ use Rattle.fixed_plane.specs.Plane.{IsInPlane}
 use Rattle.shape_track.specs.Samples.{samples_of}
 use Rattle.shape_track.specs.Hops.{hops_of, total_of}
 use Rattle.feed_courses.specs.Outcome.{hops_along}
-use Rattle.feed_courses.specs.Faults.{fault_of, IsAbove}
+use Rattle.feed_courses.specs.Faults.{IsAbove}
 use Rattle.feed_courses.proofs.HopsAlong.{hops_along-is, IsAbove-hops}
 use Rattle.feed_courses.proofs.hops.hops_along.Goals as goal
 
@@ -21,7 +21,7 @@ returns-in_err-hops-clause-cause c =
     let count : c.len.result ≡ length samples = c.len.ensures ∙ sym c.deref.ensures.len ∙ ap length (c.deref.ensures.value ∙ made) in
     let within : length samples ≤ c.args.left = omega (arith, count, c.in_ok-samples.ensures.within, c.len.ensures) in
     let rest : c.args.left - c.len.result ≡ c.args.left - length samples = ap (λ (n : ℕ). c.args.left - n) count in
-    let cause : IsAbove Samples c.args.left (length samples + total_of (hops_along near samples stations)) (fault_of c.in_err-hops.field-0.0) =
+    let cause : IsAbove Samples c.args.left (length samples + total_of (hops_along near samples stations)) c.in_err-hops.field-0.0 =
     IsAbove-hops c.args.left (length samples) (c.args.left - c.len.result) (total_of (hops_of near c.deref-2.result.now stations c.deref-3.result.now)) (total_of (hops_along near samples stations)) c.in_err-hops.field-0.0
     within rest (ap total_of hops_is) c.in_err-hops.ensures.cause in
     search (rules, cause)

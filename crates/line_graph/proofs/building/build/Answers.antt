@@ -4,7 +4,7 @@ use Rattle.map_base.specs.Settings.{Choices}
 use Rattle.transit_feed.specs.Feeds.{Feed}
 use Rattle.graph_core.specs.declared.parts.GraphParts.{GraphParts}
 use Rattle.line_graph.specs.Outcome.{net_of_courses, graph_outcome}
-use Rattle.line_graph.specs.Faults.{HasCause}
+use Rattle.map_base.specs.Faults.{HasCause}
 use Rattle.line_graph.specs.Rides.{KeepsLines}
 use Rattle.line_graph.proofs.Outcomes.{outcome_is, known_where, kept_where}
 use Rattle.line_graph.proofs.FeedLines.{below_where}

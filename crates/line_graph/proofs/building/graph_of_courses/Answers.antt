@@ -2,7 +2,7 @@ use Rattle.std.proofs.Common.{◌≡◌, ◌∙◌, sym, ap, subst, Ok, Result, 
 use Rattle.map_base.specs.declared.limit.Limit.{Limit}
 use Rattle.graph_core.specs.declared.parts.GraphParts.{GraphParts}
 use Rattle.line_graph.specs.Outcome.{graph_over_net}
-use Rattle.line_graph.specs.Faults.{HasCause}
+use Rattle.map_base.specs.Faults.{HasCause}
 use Rattle.line_graph.specs.Rides.{AreKept}
 use Rattle.track_net.specs.Nets.{NetParts}
 use Rattle.line_graph.proofs.Outcomes.{net_fits}

@@ -3,7 +3,7 @@ use Rattle.way_network.specs.Segments.{nodes_of, segment_chains}
 use Rattle.way_network.specs.Nodes.{node_points_in}
 use Rattle.way_network.specs.Rows.{all_chains}
 use Rattle.way_network.specs.Graphs.{network_over, graph_over, graph_within}
-use Rattle.way_network.specs.Faults.{HasCause}
+use Rattle.map_base.specs.Faults.{HasCause}
 use Rattle.way_network.proofs.NetworkRows.{length-edge_table}
 use Rattle.way_network.proofs.GraphLemmas.{table_is, nodes_found, nodes_are, nodes_over, chains_found, chains_end_below, passages_are, graph_made, graph_fits, graph_is_whole, node_count, segment_count, nodes_cause, segments_cause}
 use Rattle.way_network.proofs.graph.graph_of.Goals as goal

@@ -4,7 +4,7 @@ use Rattle.map_base.specs.Settings.{Choices}
 use Rattle.transit_feed.specs.Feeds.{Feed}
 use Rattle.graph_core.specs.declared.parts.GraphParts.{GraphParts}
 use Rattle.line_graph.specs.Outcome.{graph_outcome}
-use Rattle.line_graph.specs.Faults.{HasCause}
+use Rattle.map_base.specs.Faults.{HasCause}
 use Rattle.kept_drawing.proofs.Graphs.{lines_where, outcome_is}
 use Rattle.kept_drawing.proofs.kept_graph.KeptGraph.build.Goals as goal
 
