@@ -9,3 +9,4 @@ pub mod StatesNoted
 pub mod Renewed
 pub mod KeysKept
 pub mod ToldSums
+pub mod LineRows

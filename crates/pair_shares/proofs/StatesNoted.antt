@@ -14,9 +14,10 @@ use Rattle.order_model.specs.Prefixes.{is_placed}
 use Rattle.order_model.specs.PartTerms.{is_in, is_of}
 use Rattle.order_bound.specs.declared.pairs.Pair.{Pair}
 use Rattle.pair_shares.specs.PairGroups.{Group, own_segments, no_group, share_of, IsGroup}
+use Rattle.pair_shares.specs.declared.share_notes.NotePlaces.{NotePlaces}
 use Rattle.pair_shares.specs.declared.share_notes.ShareNote.{ShareNote}
 use Rattle.pair_shares.specs.PairKeys.{first_in, key_on, key_of}
-use Rattle.pair_shares.specs.ShareNotes.{share_if, noted_at, IsTrueNote, AreTrueNotes}
+use Rattle.pair_shares.specs.ShareNotes.{share_if, noted_at, told_first, noted_in, with_note, IsTrueNote, AreTrueNotes}
 use Rattle.pair_shares.proofs.OwnUse.{own_inside, own_share}
 use Rattle.pair_shares.proofs.PairsKept.{AreAlike, AreSeenAlike, share_seen}
 
@@ -106,7 +107,7 @@ share_by_key segs one two part g fit e =
 -- Notes.
 
 -- a note more
-pub true_more : (segs : List (List LineId)) (part : List SegId) (groups : List Group) (notes fresh : List (Option ShareNote)) (at : ℕ) (n : ShareNote) → AreTrueNotes segs part groups notes → fresh ≡ set notes at (Some n)
+true_more : (segs : List (List LineId)) (part : List SegId) (groups : List Group) (notes fresh : List (Option ShareNote)) (at : ℕ) (n : ShareNote) → AreTrueNotes segs part groups notes → fresh ≡ set notes at (Some n)
     → IsTrueNote segs part groups n → AreTrueNotes segs part groups fresh
 true_more segs part groups notes fresh at n all e this i m is = by_test (i == at) refl
   where
@@ -126,8 +127,28 @@ true_more segs part groups notes fresh at n all e this i m is = by_test (i == at
         let ne : i ≢ at = λ same. true≢false (sym (eq-eqb i at same) ∙ other) in
         all i m (sym (get_or-set_other notes at i (Some n) None ne) ∙ held)
 
+-- a note at another place, too
+true_moved : (segs : List (List LineId)) (part : List SegId) (groups : List Group) (notes : List (Option ShareNote)) (from to : ℕ) → AreTrueNotes segs part groups notes → AreTrueNotes segs part groups (set notes to (get_or notes from None))
+true_moved segs part groups notes from to all i m is = by_test (i == to) refl
+  where
+    by_length : (b : Bool) → nat_lt to (length notes) ≡ b → i ≡ to → IsTrueNote segs part groups m
+    by_length true h same = all from m (sym (get_or-set_same notes to (get_or notes from None) None (ltb-true to (length notes) h)) ∙ (ap (λ k. get_or (set notes to (get_or notes from None)) k None) (sym same) ∙ is))
+    by_length false h same = all i m (ap (λ l. get_or l i None) (sym (set_past notes to (get_or notes from None) (ltb-false to (length notes) h))) ∙ is)
+
+    by_test : (b : Bool) → (i == to) ≡ b → IsTrueNote segs part groups m
+    by_test true same = by_length (nat_lt to (length notes)) refl (eqb-true i to same)
+    by_test false other =
+        let ne : i ≢ to = λ same. true≢false (sym (eq-eqb i to same) ∙ other) in
+        all i m (sym (get_or-set_other notes to i (get_or notes from None) None ne) ∙ is)
+
+-- one more at the first of two places
+pub true_with : (segs : List (List LineId)) (part : List SegId) (groups : List Group) (notes fresh : List (Option ShareNote)) (places : NotePlaces) (n : ShareNote) → AreTrueNotes segs part groups notes → fresh ≡ with_note notes places n
+    → IsTrueNote segs part groups n → AreTrueNotes segs part groups fresh
+true_with segs part groups notes fresh places n all e this =
+    true_more segs part groups (set notes places.second (get_or notes places.first None)) fresh places.first n (true_moved segs part groups notes places.first places.second all) e this
+
 -- what a note says is so
-pub noted_true : (segs placed : List (List LineId)) (part : List SegId) (groups : List Group) (notes : List (Option ShareNote)) (at place key share : ℕ) → AreTrueNotes segs part groups notes
+noted_true : (segs placed : List (List LineId)) (part : List SegId) (groups : List Group) (notes : List (Option ShareNote)) (at place key share : ℕ) → AreTrueNotes segs part groups notes
     → noted_at notes at place key ≡ Some share → key ≡ key_of placed part (get_or groups place no_group) → share ≡ share_of segs part placed (get_or groups place no_group)
 noted_true segs placed part groups notes at place key share all says is = by_note (get_or notes at None) refl says
   where
@@ -143,3 +164,12 @@ noted_true segs placed part groups notes at place key share all says is = by_not
             let told : n.share ≡ share = cc in
             sym told ∙ (all at n e placed (ap (λ k. key_of placed part (get_or groups k no_group)) here ∙ (sym is ∙ sym keyed)) ∙ ap (λ k. share_of segs part placed (get_or groups k no_group)) here)
         by_test false t h = absurd (cc)
+
+-- so is what one of two says
+pub noted_in_true : (segs placed : List (List LineId)) (part : List SegId) (groups : List Group) (notes : List (Option ShareNote)) (places : NotePlaces) (place key share : ℕ) → AreTrueNotes segs part groups notes
+    → noted_in notes places place key ≡ Some share → key ≡ key_of placed part (get_or groups place no_group) → share ≡ share_of segs part placed (get_or groups place no_group)
+noted_in_true segs placed part groups notes places place key share all says is = by_first (noted_at notes places.first place key) refl says
+  where
+    by_first : (o : Option ℕ) → noted_at notes places.first place key ≡ o → told_first o (noted_at notes places.second place key) ≡ Some share → share ≡ share_of segs part placed (get_or groups place no_group)
+    by_first None e h = noted_true segs placed part groups notes places.second place key share all h is
+    by_first (Some v) e h = noted_true segs placed part groups notes places.first place key share all (e ∙ h) is

@@ -13,9 +13,10 @@ use Rattle.pair_shares.specs.declared.next_lines.NextLine.{NextLine}
 use Rattle.order_bound.specs.declared.pairs.Pair.{Pair}
 use Rattle.pair_shares.specs.declared.pair_rows.PairHere.{PairHere}
 use Rattle.pair_shares.specs.declared.pair_terms.PairTerms.{PairTerms}
+use Rattle.pair_shares.specs.declared.share_notes.NotePlaces.{NotePlaces}
 use Rattle.pair_shares.specs.declared.share_notes.ShareNote.{ShareNote}
 use Rattle.pair_shares.specs.Meeting.{pair_here, AreHere}
-use Rattle.pair_shares.specs.ShareNotes.{noted_at, AreTrueNotes}
+use Rattle.pair_shares.specs.ShareNotes.{noted_in, AreTrueNotes}
 use Rattle.pair_shares.specs.PairGroups.{Group, KnowsOwn, no_group, group_in, groups_in, meets, own_segments, share_of, IsGroup}
 use Rattle.pair_shares.specs.PairKeys.{first_in, key_of, weight_on, answer_after, fresh_lines, is_answered, IsKeyWith, AreKeys, IsNextLine}
 use Rattle.pair_shares.proofs.KeptGroups.{group_here}
@@ -23,7 +24,7 @@ use Rattle.pair_shares.proofs.KeysKept.{key_alike, key_moved, first_after}
 use Rattle.pair_shares.proofs.OwnSegments.{SameElsewhere, share_kept}
 use Rattle.pair_shares.proofs.OwnUse.{own_apart}
 use Rattle.pair_shares.proofs.Renewed.{moved_on, at_place}
-use Rattle.pair_shares.proofs.StatesNoted.{share_by_key, noted_true}
+use Rattle.pair_shares.proofs.StatesNoted.{share_by_key, noted_in_true}
 
 -- The state in which the line is placed.
 
@@ -91,12 +92,12 @@ pub unanswered : (n : NextLine) (g : Group) → answer_after n.known.now (fresh_
 unanswered n g e = ap (λ m. not (m == 0) && meets g.1 n.seg) e
 
 -- the share of a pair once the line is placed, as it is noted
-pub share_noted : (segs placed : List (List LineId)) (part : List SegId) (n : NextLine) (groups : List Group) (keys : List (Option ℕ)) (notes : List (Option ShareNote)) (place key answer at share : ℕ) (pair : Pair) (held weight : Option ℕ)
+pub share_noted : (segs placed : List (List LineId)) (part : List SegId) (n : NextLine) (groups : List Group) (keys : List (Option ℕ)) (notes : List (Option ShareNote)) (place key answer share : ℕ) (places : NotePlaces) (pair : Pair) (held weight : Option ℕ)
     → AreApartSegments part → IsNextLine segs placed n → AreKeys placed part groups keys → AreTrueNotes segs part groups notes → place < length groups → answer ≡ answer_after n.known.now (fresh_lines n) pair
     → (pair ≡ (get_or groups place no_group).0) × (weight ≡ weight_on (own_segments part (get_or groups place no_group).1) n.seg) → held ≡ get_or keys place None → IsKeyWith held weight answer key
-    → Some share ≡ noted_at notes at place key → share ≡ share_of segs part (placed_more segs placed n.seg n.line) (get_or groups place no_group)
-share_noted segs placed part n groups keys notes place key answer at share pair held weight apart ok are all below e1 here e2 has says =
-    noted_true segs (placed_more segs placed n.seg n.line) part groups notes at place key share all (sym says)
+    → Some share ≡ noted_in notes places place key → share ≡ share_of segs part (placed_more segs placed n.seg n.line) (get_or groups place no_group)
+share_noted segs placed part n groups keys notes place key answer share places pair held weight apart ok are all below e1 here e2 has says =
+    noted_in_true segs (placed_more segs placed n.seg n.line) part groups notes places place key share all (sym says)
     (key_told segs placed part n groups keys place key answer weight apart ok are below (e1 ∙ ap (answer_after n.known.now (fresh_lines n)) here.0) here.1 (subst (λ o. IsKeyWith o weight answer key) e2 has))
 
 -- a sum that is told is another that is the same

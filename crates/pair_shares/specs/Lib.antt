@@ -4,3 +4,5 @@ pub mod PairKeys
 pub mod Meeting
 pub mod ShareNotes
 pub mod Shares
+pub mod LineRows
+pub mod SegmentRows

@@ -1,9 +1,10 @@
 -- Shares of pairs, noted by the state of the pair.
-use Rattle.std.specs.Prelude.{◌≡◌, ℕ, ◌==◌, ◌&&◌, List, if◌then◌else◌, Option, Some, None, slice_index_or}
+use Rattle.std.specs.Prelude.{◌≡◌, ℕ, ◌==◌, ◌&&◌, List, if◌then◌else◌, Option, Some, None, slice_index_or, slice_set}
 use Rattle.map_base.specs.declared.ids.SegId.{SegId}
 use Rattle.map_base.specs.declared.ids.LineId.{LineId}
 use Rattle.pair_shares.specs.PairGroups.{Group, no_group, share_of}
 use Rattle.pair_shares.specs.PairKeys.{key_of}
+use Rattle.pair_shares.specs.declared.share_notes.NotePlaces.{NotePlaces}
 use Rattle.pair_shares.specs.declared.share_notes.ShareNote.{ShareNote}
 
 -- what a note says of the pair at a place with this key
@@ -14,6 +15,19 @@ share_if place key (Some n) = if n.place == place && n.key == key then Some n.sh
 -- what the note at a place among notes says
 abbrev pub noted_at : List (Option ShareNote) → ℕ → ℕ → ℕ → Option ℕ
 noted_at notes at place key = share_if place key (slice_index_or notes at None)
+
+-- the first of two answers, where there is one
+abbrev pub told_first : Option ℕ → Option ℕ → Option ℕ
+told_first None other = other
+told_first (Some share) other = Some share
+
+-- what the notes at two places say, the first of them first
+abbrev pub noted_in : List (Option ShareNote) → NotePlaces → ℕ → ℕ → Option ℕ
+noted_in notes places place key = told_first (noted_at notes places.first place key) (noted_at notes places.second place key)
+
+-- notes with one more at the first of two places; what stood there goes to the second one
+abbrev pub with_note : List (Option ShareNote) → NotePlaces → ShareNote → List (Option ShareNote)
+with_note notes places n = slice_set (slice_set notes places.second (slice_index_or notes places.first None)) places.first (Some n)
 
 -- the pair has this share under all prefixes with its key
 abbrev pub IsTrueNote : List (List LineId) → List SegId → List Group → ShareNote → Type 0

@@ -23,7 +23,7 @@ pub struct PairHere {
 }
 
 /// For each of so many segments the pairs that have a term there.
-pub fn pairs_by_segment(
+pub(crate) fn rows_by_segment(
     alloc: Global,
     count: usize,
     pairs: &[PairTerms],

@@ -1,10 +1,10 @@
 //! Shares of pairs, noted by the state of the pair: a search meets the same few states of a pair again and again.
 
-ghost use Rattle.std.specs.Prelude.{◌≡◌, List, Some, IfOk, slice_set};
+ghost use Rattle.std.specs.Prelude.{◌≡◌, List, Some, None, IfOk, slice_index_or, slice_set};
 ghost use Rattle.map_base.specs.declared.ids.SegId.{SegId};
 ghost use Rattle.map_base.specs.declared.ids.LineId.{LineId};
 ghost use Rattle.pair_shares.specs.PairGroups.{Group};
-ghost use Rattle.pair_shares.specs.ShareNotes.{share_if, noted_at, AreTrueNotes};
+ghost use Rattle.pair_shares.specs.ShareNotes.{share_if, noted_at, noted_in, with_note, AreTrueNotes};
 
 use map_base::NoMemory;
 use std::alloc::Global;
@@ -26,11 +26,23 @@ pub fn no_notes(alloc: Global, terms: usize) -> Result<Vec<Option<ShareNote>>, N
     Ok(notes)
 }
 
-/// Where among so many notes that of a pair and a key stands, if it is noted. Any place is right.
-pub fn slot_of(count: usize, place: usize, key: u64) -> usize {
+/// Where among notes one is looked for: at the one place, then at the other. A new note takes the first place, and what stood
+/// there the second; so what was noted last stays longer.
+#[derive(Clone, Copy)]
+pub struct NotePlaces {
+    pub first: usize,
+    pub second: usize,
+}
+
+/// Where among so many notes that of a pair and a key stands, if it is noted. Any places are right.
+pub fn places_of(count: usize, place: usize, key: u64) -> NotePlaces {
     let mixed = key.wrapping_mul(0x9e37_79b9_7f4a_7c15)
         ^ (place as u64).wrapping_mul(0xc2b2_ae3d_27d4_eb4f);
-    ((mixed >> 32).wrapping_mul(count as u64) >> 32) as usize
+    let first = ((mixed >> 32).wrapping_mul(count as u64) >> 32) as usize;
+    NotePlaces {
+        first,
+        second: first ^ 1,
+    }
 }
 
 /// What a note says of the pair at a place with this key.
@@ -50,7 +62,7 @@ fn share_if(note: Option<ShareNote>, place: usize, key: u64) -> Option<u64>
 }
 
 /// What the note at a place among notes says of the pair with this key.
-pub fn noted_at(notes: &[Option<ShareNote>], at: usize, place: usize, key: u64) -> Option<u64>
+fn noted_at(notes: &[Option<ShareNote>], at: usize, place: usize, key: u64) -> Option<u64>
     ensures { result ≡ noted_at notes.now at place key }
 {
     if at < notes.len() {
@@ -60,11 +72,42 @@ pub fn noted_at(notes: &[Option<ShareNote>], at: usize, place: usize, key: u64) 
     }
 }
 
-/// Writes a note at a place among notes, if it is one.
-pub fn note_at(notes: &mut Vec<Option<ShareNote>>, at: usize, note: ShareNote)
-    ensures { notes.new.items ≡ slice_set notes.old.items at (Some note) }
+/// What the notes at two places say of the pair with this key, the first of them first.
+pub fn noted_in(
+    notes: &[Option<ShareNote>],
+    places: NotePlaces,
+    place: usize,
+    key: u64,
+) -> Option<u64>
+    ensures { result ≡ noted_in notes.now places place key }
+{
+    if let Some(share) = noted_at(notes, places.first, place, key) {
+        return Some(share);
+    }
+    noted_at(notes, places.second, place, key)
+}
+
+/// The note at a place, if there is one.
+fn note_at(notes: &[Option<ShareNote>], at: usize) -> Option<ShareNote>
+    ensures { result ≡ slice_index_or notes.now at None }
+{
+    if at < notes.len() { notes[at] } else { None }
+}
+
+/// Writes what stands at a place among notes, if there is such a place.
+fn put_note(notes: &mut Vec<Option<ShareNote>>, at: usize, note: Option<ShareNote>)
+    ensures { notes.new.items ≡ slice_set notes.old.items at note }
 {
     if at < notes.len() {
-        notes[at] = Some(note);
+        notes[at] = note;
     }
+}
+
+/// Writes a note at the first of two places. What stood there goes to the second one.
+pub fn note_in(notes: &mut Vec<Option<ShareNote>>, places: NotePlaces, note: ShareNote)
+    ensures { notes.new.items ≡ with_note notes.old.items places note }
+{
+    let old = note_at(notes.as_slice(), places.first);
+    put_note(notes, places.second, old);
+    put_note(notes, places.first, Some(note));
 }

@@ -17,7 +17,7 @@ use crate::changes::{Change, is_new_pair};
 use crate::pair_keys::{key_on, put_key};
 use crate::pair_rows::PairHere;
 use crate::pair_terms::PairTerms;
-use crate::share_notes::{ShareNote, note_at, noted_at, slot_of};
+use crate::share_notes::{ShareNote, note_in, noted_in, places_of};
 use map_base::SegId;
 use order_model::{Prefix, Problem};
 use pair_bounds::{Room, bound_of_pair};
@@ -138,12 +138,12 @@ fn share_noted(
     let Some(key) = key else {
         return share_of(problem, prefix, part, entry, room);
     };
-    let at = slot_of(notes.len(), place, key);
-    if let Some(share) = noted_at(notes.as_slice(), at, place, key) {
+    let places = places_of(notes.len(), place, key);
+    if let Some(share) = noted_in(notes.as_slice(), places, place, key) {
         return share;
     }
     let share = share_of(problem, prefix, part, entry, room);
-    note_at(notes, at, ShareNote { place, key, share });
+    note_in(notes, places, ShareNote { place, key, share });
     share
 }
 

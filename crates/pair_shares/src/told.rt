@@ -14,7 +14,7 @@ use crate::next_lines::NextLine;
 use crate::pair_keys::{answer_after, key_at, key_with};
 use crate::pair_rows::PairHere;
 use crate::pair_terms::PairTerms;
-use crate::share_notes::{ShareNote, noted_at, slot_of};
+use crate::share_notes::{ShareNote, noted_in, places_of};
 use map_base::SegId;
 use order_model::{Prefix, Problem};
 
@@ -52,8 +52,8 @@ fn told_at(
         return Some(total);
     }
     let key = key_with(key_at(keys, here.place), here.weight, answer)?;
-    let at = slot_of(notes.len(), here.place, key);
-    let share = noted_at(notes, at, here.place, key)?;
+    let places = places_of(notes.len(), here.place, key);
+    let share = noted_in(notes, places, here.place, key)?;
     Some(total - shares[here.place] + share)
 }
 

@@ -20,7 +20,7 @@ overflow_sub-result c = (trial_small (share_of c.args.problem.now.segs c.args.pa
 
 pub overflow_add-result : goal.overflow_add-result
 overflow_add-result c =
-    let share = share_noted c.args.problem.now.segs c.args.prefix.now.placed c.args.part.now c.args.line.now (groups_in c.args.pairs.now) c.args.keys.now c.args.notes.now (get_or c.args.row.now c.args.next no_here).place c.in_ok-key.key c.answer_after-answer.result c.slot_of-at.result c.in_ok-share.share (get_or c.args.row.now c.args.next no_here).pair c.key_at.result (get_or c.args.row.now c.args.next no_here).weight
+    let share = share_noted c.args.problem.now.segs c.args.prefix.now.placed c.args.part.now c.args.line.now (groups_in c.args.pairs.now) c.args.keys.now c.args.notes.now (get_or c.args.row.now c.args.next no_here).place c.in_ok-key.key c.answer_after-answer.result c.in_ok-share.share c.places_of-places.result (get_or c.args.row.now c.args.next no_here).pair c.key_at.result (get_or c.args.row.now c.args.next no_here).weight
     c.requires.apart c.requires.line c.requires.keys c.requires.notes (c.requires.row.within c.args.next no_here c.requires.within) c.answer_after-answer.ensures.value (here_told c.args.part.now c.args.line.now.seg c.args.pairs.now c.args.row.now c.args.next no_here c.requires.within (omega (arith, c.requires.row.within c.args.next no_here c.requires.within, length-map c.args.pairs.now group_in)) c.requires.here c.requires.own) c.key_at.ensures c.in_ok-key.ensures c.in_ok-share.ensures in
     let some : c.in_ok-share.share ≤ 1024000 * terms_in (get_or (groups_in c.args.pairs.now) (get_or c.args.row.now c.args.next no_here).place no_group) = group_small c.args.problem.now.segs (placed_more c.args.problem.now.segs c.args.prefix.now.placed c.args.line.now.seg c.args.line.now.line) c.args.part.now (groups_in c.args.pairs.now) (get_or c.args.row.now c.args.next no_here).place c.in_ok-share.share c.requires.apart c.requires.groups (c.requires.row.within c.args.next no_here c.requires.within) share in
     let few = term_few (groups_in c.args.pairs.now) (get_or c.args.row.now c.args.next no_here).place c.requires.few in
@@ -31,7 +31,7 @@ overflow_add-result c =
 
 pub returns : goal.returns
 returns c =
-    let share = share_noted c.args.problem.now.segs c.args.prefix.now.placed c.args.part.now c.args.line.now (groups_in c.args.pairs.now) c.args.keys.now c.args.notes.now (get_or c.args.row.now c.args.next no_here).place c.in_ok-key.key c.answer_after-answer.result c.slot_of-at.result c.in_ok-share.share (get_or c.args.row.now c.args.next no_here).pair c.key_at.result (get_or c.args.row.now c.args.next no_here).weight
+    let share = share_noted c.args.problem.now.segs c.args.prefix.now.placed c.args.part.now c.args.line.now (groups_in c.args.pairs.now) c.args.keys.now c.args.notes.now (get_or c.args.row.now c.args.next no_here).place c.in_ok-key.key c.answer_after-answer.result c.in_ok-share.share c.places_of-places.result (get_or c.args.row.now c.args.next no_here).pair c.key_at.result (get_or c.args.row.now c.args.next no_here).weight
     c.requires.apart c.requires.line c.requires.keys c.requires.notes (c.requires.row.within c.args.next no_here c.requires.within) c.answer_after-answer.ensures.value (here_told c.args.part.now c.args.line.now.seg c.args.pairs.now c.args.row.now c.args.next no_here c.requires.within (omega (arith, c.requires.row.within c.args.next no_here c.requires.within, length-map c.args.pairs.now group_in)) c.requires.here c.requires.own) c.key_at.ensures c.in_ok-key.ensures c.in_ok-share.ensures in
     let some : c.in_ok-share.share ≤ 1024000 * terms_in (get_or (groups_in c.args.pairs.now) (get_or c.args.row.now c.args.next no_here).place no_group) = group_small c.args.problem.now.segs (placed_more c.args.problem.now.segs c.args.prefix.now.placed c.args.line.now.seg c.args.line.now.line) c.args.part.now (groups_in c.args.pairs.now) (get_or c.args.row.now c.args.next no_here).place c.in_ok-share.share c.requires.apart c.requires.groups (c.requires.row.within c.args.next no_here c.requires.within) share in
     let small = trial_small (share_of c.args.problem.now.segs c.args.part.now (placed_more c.args.problem.now.segs c.args.prefix.now.placed c.args.line.now.seg c.args.line.now.line)) (is_answered c.args.line.now) c.args.row.now c.args.next (get_or c.args.row.now c.args.next no_here) no_here (groups_in c.args.pairs.now) c.args.shares.now c.args.total c.requires.row.once c.requires.within refl c.requires.stale c.requires.few in

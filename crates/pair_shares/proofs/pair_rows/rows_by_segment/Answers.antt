@@ -1,6 +1,6 @@
 use Rattle.pair_shares.specs.Meeting.{rows_in}
 use Rattle.pair_shares.proofs.Meeting.{by_segment_more}
-use Rattle.pair_shares.proofs.pair_rows.pairs_by_segment.Goals as goal
+use Rattle.pair_shares.proofs.pair_rows.rows_by_segment.Goals as goal
 
 pub loop-place-preserved : goal.loop-place-preserved
 loop-place-preserved c =

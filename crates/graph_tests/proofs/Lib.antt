@@ -1,0 +1,3 @@
+mod FeedExamples
+mod RoundExamples
+mod TextExamples

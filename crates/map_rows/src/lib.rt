@@ -1,0 +1,16 @@
+//! Maps of small feeds whose certificates are known: each is made from the text of its feed, and checked. Nothing stands on
+//! this crate.
+#![tactic(auto)]
+
+#[cfg(test)]
+mod answers;
+#[cfg(test)]
+mod city;
+#[cfg(test)]
+mod city_tests;
+#[cfg(test)]
+mod feeds;
+#[cfg(test)]
+mod known_tests;
+#[cfg(test)]
+mod refused_tests;

@@ -1,0 +1,83 @@
+//! Rules of problems, in turn, and rules that don't apply.
+
+use crate::answers::{checked_text, untangled_text};
+use crate::known;
+use crate::known::Small;
+use crate::problems::problem_of;
+use std::alloc::Global;
+use std::test::Fail;
+
+/// The orders of a small problem where what untangling leaves has the number order, and the rules.
+fn untangled(alloc: Global, small: Small) -> Result<String, Fail> {
+    let problem = problem_of(alloc, small.lines, small.terms)?;
+    untangled_text(alloc, problem)
+}
+
+#[test]
+fn lines_that_agree_share_an_order_and_are_set_apart(rt: HostRuntime) -> Result<(), Fail> {
+    let told = untangled(rt.alloc(), known::AGREEING)?;
+    assert_eq!(rt;
+        told.as_str(),
+        "/ 0/ 0 1/ 1/ 0 1/ 0/ 1\nrules 2\nmerge 1 3 0\ndivide 1 0\nparts 0\n"
+    );
+    Ok(())
+}
+
+#[test]
+fn lines_part_at_a_junction_without_crossing(rt: HostRuntime) -> Result<(), Fail> {
+    let told = untangled(rt.alloc(), known::JUNCTION)?;
+    assert_eq!(rt;
+        told.as_str(),
+        "/ 1 0/ 0/ 1\nrules 1\ndivide 0 1\nparts 0\n"
+    );
+    Ok(())
+}
+
+#[test]
+fn no_rule_applies_where_it_would_cost(rt: HostRuntime) -> Result<(), Fail> {
+    let alloc = rt.alloc();
+    let told = untangled(alloc, known::CROSSING)?;
+    assert_eq!(rt; told.as_str(), "/ 0/ 0 1/ 1/ 0 1/ 1/ 0\nrules 0\nparts 0\n");
+    let told = untangled(alloc, known::SEPARATION)?;
+    assert_eq!(rt; told.as_str(), "/ 0 1 2/ 0 2/ 1\nrules 0\nparts 0\n");
+    let told = untangled(alloc, known::TWO_PAIRS)?;
+    assert_eq!(rt;
+        told.as_str(),
+        "/ 0 1 2 3/ 0 1 4/ 2 3 4\nrules 0\nparts 0\n"
+    );
+    Ok(())
+}
+
+/// Rules that don't apply where two lines have to cross: of segments and lines that there are not, of a segment with
+/// itself, of no lines, of all lines of a segment and of lines that aren't on it, and those that would cost more than they
+/// spare.
+const WRONG: [&str; 11] = [
+    "merge 1 4294967295 0",
+    "merge 4294967295 1 0",
+    "merge 1 1 0",
+    "merge 0 1 0",
+    "merge 1 3 0",
+    "merge 1 3 1",
+    "divide 4294967295 0",
+    "divide 1",
+    "divide 1 0 1",
+    "divide 1 4294967295",
+    "divide 0 0",
+];
+
+/// What the checker says of a proof of one rule and no parts where two lines have to cross.
+fn of_rule(alloc: Global, rule: &str) -> Result<String, Fail> {
+    let text = format!(in alloc; "rules 1\n{rule}\nparts 0\n")?;
+    let problem = problem_of(alloc, known::CROSSING.lines, known::CROSSING.terms)?;
+    checked_text(alloc, problem, text.as_bytes())
+}
+
+#[test]
+fn rules_that_do_not_apply_are_refused(rt: HostRuntime) -> Result<(), Fail> {
+    let alloc = rt.alloc();
+    for rule in WRONG {
+        let told = of_rule(alloc, rule)?;
+        assert_eq!(rt; told.as_str(), "rule 0", "{rule}");
+    }
+    Ok(())
+}

@@ -1,0 +1,90 @@
+//! Searches of which the orders, the proof and the branch nodes are known.
+
+use crate::answers::searched_text;
+use crate::known;
+use crate::known::Small;
+use crate::problems::problem_of;
+use std::alloc::Global;
+use std::test::Fail;
+
+/// What a search of a small problem by at most so many branch nodes tells.
+fn searched(alloc: Global, small: Small, budget: u16) -> Result<String, Fail> {
+    let problem = problem_of(alloc, small.lines, small.terms)?;
+    searched_text(alloc, problem, budget)
+}
+
+/// Whether a search tells so as soon as it may have this number of branch nodes, and is spent below it.
+fn is_known(alloc: Global, small: Small, branches: u16, told: &str) -> Result<bool, Fail> {
+    if branches > 0 {
+        let spent = format!(in alloc; "spent {branches}")?;
+        if searched(alloc, small, branches - 1)?.as_str() != spent.as_str() {
+            return Ok(false);
+        }
+    }
+    let found = searched(alloc, small, branches)?;
+    Ok(found.as_str() == told)
+}
+
+#[test]
+fn two_lines_that_cross_are_ordered(rt: HostRuntime) -> Result<(), Fail> {
+    let told =
+        "/ 0 1/ 1 0\nrules 0\nparts 1\npart 1 1 3\nsplit 1 2\ntake 0\nsplit 3 2\ntake 1\nclose 0\ntake 0\nclose 0\ntake 1\nclose 0\nbranches 2\n";
+    assert!(rt; is_known(rt.alloc(), known::CROSSING, 2, told)?);
+    Ok(())
+}
+
+#[test]
+fn two_lines_with_all_three_connections_are_ordered(rt: HostRuntime) -> Result<(), Fail> {
+    let told =
+        "/ 0 1/ 0 1/ 1 0\nrules 0\nparts 1\npart 21 0 1 2\nsplit 0 2\ntake 0\nsplit 1 2\ntake 0\nsplit 2 2\ntake 1\nclose 0\ntake 0\nclose 0\ntake 1\nclose 0\ntake 1\nclose 1 8 12\nbranches 3\n";
+    assert!(rt; is_known(rt.alloc(), known::CONNECTIONS, 3, told)?);
+    Ok(())
+}
+
+#[test]
+fn lines_that_go_on_together_are_neighbours(rt: HostRuntime) -> Result<(), Fail> {
+    let told =
+        "/ 0 2 1/ 0 2\nrules 0\nparts 1\npart 0 0 1\nsplit 0 3\ntake 0\nsplit 0 2\ntake 2\nsplit 1 2\ntake 0\nclose 0\ntake 2\nclose 0\ntake 1\nclose 0\ntake 2\nclose 0\ntake 1\nclose 0\nbranches 3\n";
+    assert!(rt; is_known(rt.alloc(), known::SEPARATION, 3, told)?);
+    Ok(())
+}
+
+#[test]
+fn the_number_order_wins_a_tie(rt: HostRuntime) -> Result<(), Fail> {
+    let told = "/ 0 1\nrules 0\nparts 1\npart 3 1\nclose 0\nbranches 0\n";
+    assert!(rt; is_known(rt.alloc(), known::TIE, 0, told)?);
+    Ok(())
+}
+
+#[test]
+fn an_important_line_stands_where_it_crosses_none(rt: HostRuntime) -> Result<(), Fail> {
+    let told =
+        "/ 0 1 2/ 0 2\nrules 0\nparts 1\npart 9 1 4\nsplit 1 3\ntake 0\nsplit 1 2\ntake 1\nclose 0\ntake 2\nclose 0\ntake 1\nclose 0\ntake 2\nclose 0\nbranches 2\n";
+    assert!(rt; is_known(rt.alloc(), known::IMPORTANT, 2, told)?);
+    Ok(())
+}
+
+/// Whether what a search tells begins with these orders and this part, and it has so many branch nodes.
+fn begins(alloc: Global, small: Small, told: &str) -> Result<bool, Fail> {
+    let found = searched(alloc, small, 1000)?;
+    Ok(found.as_str().starts_with(told))
+}
+
+#[test]
+fn a_line_of_no_importance_stands_outside_where_it_ends(rt: HostRuntime) -> Result<(), Fail> {
+    let alloc = rt.alloc();
+    let told = "/ 0 2 1/ 0 2\nrules 0\nparts 1\npart 3 1 4\n";
+    assert!(rt; begins(alloc, known::ENDING, told)?);
+    let spent = searched(alloc, known::ENDING, 2)?;
+    assert_eq!(rt; spent.as_str(), "spent 3");
+    let found = searched(alloc, known::ENDING, 3)?;
+    assert!(rt; found.as_str().ends_with("branches 3\n"));
+    Ok(())
+}
+
+#[test]
+fn two_pairs_are_better_mixed(rt: HostRuntime) -> Result<(), Fail> {
+    let told = "/ 0 2 1 3/ 0 4 1/ 2 4 3\nrules 0\nparts 1\npart 5 0 1 2\n";
+    assert!(rt; begins(rt.alloc(), known::TWO_PAIRS, told)?);
+    Ok(())
+}
