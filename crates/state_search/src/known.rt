@@ -43,8 +43,7 @@ impl Known {
         requires { at < length self.now }
         ensures { result ≡ known_at self.now at }
     {
-        let row = Row::or_unknown(self.rows.get(&(at / 9)).copied());
-        row.of((at % 9) as u8)
+        Row::known_in(self.rows.get(&(at / 9)), (at % 9) as u8)
     }
 
     /// Notes the cost of a spot.

@@ -1,6 +1,7 @@
 //! Rows of costs.
 
 ghost use Rattle.std.specs.Prelude.{◌≡◌, ◌<◌, length};
+ghost use Rattle.std.specs.Option.{option_copied};
 ghost use Rattle.state_search.specs.Searching.{known_at, with_known};
 ghost use Rattle.state_search.specs.Rows.{costs_of};
 
@@ -30,11 +31,22 @@ impl Row {
     }
 
     /// The known cost of a spot.
-    pub fn of(self, arrival: u8) -> Option<u64>
+    pub fn of(&self, arrival: u8) -> Option<u64>
         requires { arrival < 9 }
-        ensures { result ≡ known_at self.costs arrival }
+        ensures { result ≡ known_at self.now.costs arrival }
     {
         self.costs[usize::from(arrival)]
+    }
+
+    /// The known cost of a spot of a row; none where there is no row.
+    pub fn known_in(row: Option<&Row>, arrival: u8) -> Option<u64>
+        requires { arrival < 9 }
+        ensures { result ≡ known_at (costs_of (option_copied row.entry)) arrival }
+    {
+        match row {
+            None => None,
+            Some(row) => row.of(arrival),
+        }
     }
 
     /// Notes the cost of a spot.
