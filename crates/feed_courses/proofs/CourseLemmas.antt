@@ -6,14 +6,14 @@ use Rattle.map_base.specs.declared.ids.StationId.{StationId}
 use Rattle.map_base.specs.declared.point.Point.{Point}
 use Rattle.map_base.specs.declared.limit.LimitKind.{LimitKind}
 use Rattle.fixed_plane.specs.Plane.{IsInPlane}
-use Rattle.shape_track.specs.Samples.{samples_of}
+use Rattle.shape_track.specs.Samples.{point_at, samples_of}
 use Rattle.shape_track.specs.Hops.{AreJoined, total_of}
 use Rattle.transit_feed.specs.declared.pattern.Pattern.{Pattern}
 use Rattle.transit_feed.specs.declared.shape.Shape.{Shape}
 use Rattle.transit_feed.specs.Feeds.{Feed, IsPattern, NamesShape}
 use Rattle.feed_courses.specs.Shown.{shown_patterns, used_stations}
 use Rattle.feed_courses.specs.Places.{feed_band, used_points}
-use Rattle.feed_courses.specs.Outcome.{place_of, stop_places, point_at, stop_points, shape_points, course_points, course_samples, hops_along, course_hops, course_of, sample_count}
+use Rattle.feed_courses.specs.Outcome.{place_of, stop_places, stop_points, shape_points, course_points, course_samples, hops_along, course_hops, course_of, sample_count}
 use Rattle.feed_courses.specs.Fit.{IsCourse}
 use Rattle.feed_courses.specs.Faults.{IsAbove}
 use Rattle.feed_courses.specs.Tables.{place_in, IsPlaceTable, AreUsed}

@@ -12,8 +12,7 @@ use Rattle.std.proofs.lemmas.Map.Keys.{IsDistinct-from_apart}
 use Rattle.std.proofs.lemmas.Map.Made.{length-le_from_is_member}
 use Rattle.map_base.specs.declared.point.Point.{Point}
 use Rattle.fixed_plane.specs.Plane.{IsInPlane}
-use Rattle.shape_track.specs.Samples.{is_point}
-use Rattle.feed_courses.specs.Outcome.{point_at}
+use Rattle.shape_track.specs.Samples.{point_at, is_point}
 use Rattle.feed_courses.specs.Places.{is_taken, right_of, first_free, with_point}
 use Rattle.feed_courses.specs.Fit.{AreDistinct}
 use Rattle.feed_courses.specs.Runs.{IsOnEarth, moved_right, IsRun, LeadsPast, PointMap, AreKept}

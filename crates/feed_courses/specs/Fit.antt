@@ -5,7 +5,7 @@ use Rattle.map_base.specs.declared.ids.LineId.{LineId}
 use Rattle.map_base.specs.declared.point.Point.{Point}
 use Rattle.fixed_plane.specs.Plane.{IsInPlane}
 use Rattle.shape_track.specs.Hops.{AreJoined, total_of}
-use Rattle.feed_courses.specs.Outcome.{point_at}
+use Rattle.shape_track.specs.Samples.{point_at}
 use Rattle.feed_courses.specs.declared.courses.Course.{Course}
 use Rattle.feed_courses.specs.declared.courses.Courses.{Courses}
 

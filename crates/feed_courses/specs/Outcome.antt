@@ -1,12 +1,12 @@
 -- The courses of a feed's patterns, or the limit that is met first.
-use Rattle.std.specs.Prelude.{ℕ, ℤ, ◌+◌, ◌==◌, List, [], length, map, sum_by, Option, Some, None, unwrap_or, position, slice_get, slice_index_or, Result, Ok, pos}
+use Rattle.std.specs.Prelude.{ℕ, ℤ, ◌+◌, ◌==◌, List, [], length, map, sum_by, Option, Some, None, unwrap_or, position, slice_get, Result, Ok}
 use Rattle.map_base.specs.declared.ids.StationId.{StationId}
 use Rattle.map_base.specs.declared.point.Point.{Point}
 use Rattle.map_base.specs.declared.limit.Limit.{Limit}
 use Rattle.map_base.specs.declared.limit.LimitKind.TheVariants.{Lines, Stations, Samples}
 use Rattle.map_base.specs.Limits.{unless_above}
 use Rattle.fixed_plane.specs.Plane.{projected}
-use Rattle.shape_track.specs.Samples.{samples_of}
+use Rattle.shape_track.specs.Samples.{point_at, samples_of}
 use Rattle.shape_track.specs.Choices.{snap_of}
 use Rattle.shape_track.specs.Hops.{hops_of, total_of}
 use Rattle.transit_feed.specs.declared.pattern.Pattern.{Pattern}
@@ -24,10 +24,6 @@ place_of used station = unwrap_or (position (λ n. n == station.0) used) 0
 -- the places of a pattern's stations among the used ones
 abbrev pub stop_places : Feed → Pattern → List ℕ
 stop_places feed pattern = map (place_of (used_stations feed)) pattern.stops
-
--- the used point at a place
-abbrev pub point_at : List Point → ℕ → Point
-point_at points place = slice_index_or points place (record { x = pos 0; y = pos 0 })
 
 -- the points of a pattern's stations
 abbrev pub stop_points : Feed → Pattern → List Point

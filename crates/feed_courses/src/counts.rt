@@ -17,8 +17,8 @@ pub(crate) fn check_count(kind: LimitKind, count: usize) -> Result<(), LimitFaul
     Ok(())
 }
 
-/// A fault of sampling a course: its limit is that of the samples of all courses.
-pub(crate) fn of_course(fault: LimitFault) -> LimitFault
+/// A fault of sampling one course, as a fault of all courses: its limit is that of the samples of all.
+pub(crate) fn as_fault_of_all_courses(fault: LimitFault) -> LimitFault
     ensures { result ≡ fault_of fault }
 {
     match fault {

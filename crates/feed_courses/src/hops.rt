@@ -9,7 +9,7 @@ ghost use Rattle.shape_track.specs.Hops.{AreJoined, hops_of, total_of};
 ghost use Rattle.feed_courses.specs.Outcome.{hops_along};
 ghost use Rattle.feed_courses.specs.Faults.{IsAbove};
 
-use crate::counts::of_course;
+use crate::counts::as_fault_of_all_courses;
 use map_base::{LimitFault, NoMemory, Point, Sequence};
 use shape_track::{sample, snap, track};
 use std::alloc::Global;
@@ -64,7 +64,7 @@ fn course_samples(
 {
     match sample(alloc, course, near, left) {
         Ok(samples) => Ok(samples),
-        Err(fault) => Err(of_course(fault)),
+        Err(fault) => Err(as_fault_of_all_courses(fault)),
     }
 }
 
@@ -89,7 +89,7 @@ fn course_hops(
 {
     match track(alloc, samples, stations, places, near, left) {
         Ok(hops) => Ok(hops),
-        Err(fault) => Err(of_course(fault)),
+        Err(fault) => Err(as_fault_of_all_courses(fault)),
     }
 }
 

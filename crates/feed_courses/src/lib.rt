@@ -15,6 +15,3 @@ mod used;
 pub use building::courses_of;
 pub use courses::{Course, Courses};
 pub use map_base::LimitFault as CourseFault;
-
-#[cfg(test)]
-mod tests;

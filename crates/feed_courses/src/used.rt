@@ -1,11 +1,12 @@
 //! The used stations of a feed.
 
-ghost use Rattle.std.specs.Prelude.{◌≡◌, ◌<◌, ◌≤◌, ◌^◌, ℕ, IfOk, All, length, map};
+ghost use Rattle.std.specs.Prelude.{◌≡◌, ◌<◌, ◌≤◌, ◌^◌, IfOk, All, length, map};
 ghost use Rattle.fixed_plane.specs.Plane.{IsInPlane};
 ghost use Rattle.map_base.specs.declared.ids.StationId.{StationId};
 ghost use Rattle.feed_courses.specs.Fit.{AreDistinct};
 ghost use Rattle.feed_courses.specs.Shown.{used_stations};
-ghost use Rattle.feed_courses.specs.Outcome.{point_at, station_numbered};
+ghost use Rattle.shape_track.specs.Samples.{point_at};
+ghost use Rattle.feed_courses.specs.Outcome.{station_numbered};
 ghost use Rattle.feed_courses.specs.Tables.{AreUsed, IsPlaceTable, place_in};
 
 use crate::apart::moved_apart;

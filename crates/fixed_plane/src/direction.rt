@@ -61,25 +61,3 @@ fn cross(a: Point, b: Point) -> i64
 {
     less(product(a.x, b.y), product(a.y, b.x))
 }
-
-#[cfg(test)]
-mod tests {
-    use super::*;
-
-    #[test]
-    fn round_a_point(rt: HostRuntime) {
-        let from = Point { x: 5, y: -5 };
-        let north = Point { x: 5, y: 2 };
-        let north_east = Point { x: 8, y: -2 };
-        let south = Point { x: 5, y: -6 };
-        let west = Point { x: -4, y: -5 };
-        assert_eq!(rt; clockwise(from, north, north_east), Ordering::Less);
-        assert_eq!(rt; clockwise(from, south, north_east), Ordering::Greater);
-        assert_eq!(rt; clockwise(from, south, west), Ordering::Less);
-        assert_eq!(rt; clockwise(from, west, north), Ordering::Greater);
-        assert_eq!(rt;
-            clockwise(from, north_east, Point { x: 6, y: -4 }),
-            Ordering::Equal
-        );
-    }
-}

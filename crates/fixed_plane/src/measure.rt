@@ -67,19 +67,3 @@ pub(crate) fn less(whole: i64, part: i64) -> i64
 {
     whole - part
 }
-
-#[cfg(test)]
-mod tests {
-    use super::*;
-
-    #[test]
-    fn distances_and_sides(rt: HostRuntime) {
-        let origin = Point { x: 0, y: 0 };
-        let east = Point { x: 40, y: 0 };
-        let north = Point { x: 0, y: 30 };
-        assert_eq!(rt; dist2(east, north), 2_500);
-        assert_eq!(rt; side(origin, east, north), 1_200);
-        assert_eq!(rt; side(origin, north, east), -1_200);
-        assert_eq!(rt; side(origin, east, Point { x: -7, y: 0 }), 0);
-    }
-}

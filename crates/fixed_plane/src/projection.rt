@@ -54,32 +54,3 @@ fn quotient(value: i64, parts: u32) -> i64
 {
     value.div_euclid(i64::from(parts))
 }
-
-#[cfg(test)]
-mod tests {
-    use super::*;
-
-    #[test]
-    fn bands(rt: HostRuntime) {
-        let cases = [
-            (0, 0),
-            (2_499_999, 0),
-            (2_500_000, 1),
-            (-2_500_000, 1),
-            (52_000_000, 10),
-            (-90_000_000, 18),
-        ];
-        for (lat, band) in cases {
-            assert_eq!(rt; band_of(lat), band);
-        }
-    }
-
-    #[test]
-    fn points(rt: HostRuntime) {
-        assert_eq!(rt; project(-100, 0, 0), Point { x: 0, y: -112 });
-        assert_eq!(rt; project(0, 10_000, 0), Point { x: 11_132, y: 0 });
-        assert_eq!(rt; project(4_492, 0, 0), Point { x: 0, y: 5_000 });
-        assert_eq!(rt; project(8_984, 0, 0), Point { x: 0, y: 10_000 });
-        assert_eq!(rt; project(0, -1, 18), Point { x: -1, y: 0 });
-    }
-}

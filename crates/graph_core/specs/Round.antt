@@ -16,6 +16,6 @@ segments_from i n (e ∷ es) = if ends_at n e then record { 0 = i } ∷ segments
 abbrev pub segments_at : ℕ → List (NodeId × NodeId) → List SegId
 segments_at n ends = segments_from 0 n ends
 
--- wherever s stands in the round, r stands k places clockwise after it
+-- s stands at some place of the round, and r stands k places clockwise after it
 abbrev pub IsAfter : List SegId → SegId → ℕ → SegId → Type 0
 IsAfter round s k r = (i : ℕ) × (slice_get round i ≡ Some s) × (slice_get round ((i + k) % length round) ≡ Some r)

@@ -25,6 +25,3 @@ pub use row_reader::RowReader;
 pub use rows::{Rows, read_rows};
 pub use spaces::trim_spaces;
 pub use whole_number::whole;
-
-#[cfg(test)]
-mod tests;

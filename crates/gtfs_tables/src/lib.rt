@@ -19,6 +19,3 @@ pub use stop_table::read_stations;
 pub use table_rows::{FeedFault, Table, Why};
 pub use transit_feed::{Line, Pattern, Shape, Station, Tables};
 pub use whole_feed::read_tables;
-
-#[cfg(test)]
-mod feed_tests;

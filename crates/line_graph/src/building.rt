@@ -81,11 +81,12 @@ fn graph_of_net(
     ensures cause { IfErr result (λ fault. HasCause (graph_within (graph_over courses.now.stations net.now.points (network_of near lines courses.now net.now) (all_passages near courses.now net.now))) fault) }
     ensures kept { IfOk result (λ _. AreKept near lines courses.now net.now) }
 {
+    let points = net.points();
     let traced = network(alloc, courses, net, near, lines)?;
     let stations = courses.stations.as_slice();
     let graph = graph_of(
         alloc,
-        &traced.points,
+        points,
         stations,
         lines,
         &traced.ways,

@@ -13,24 +13,22 @@ use crate::legs::stretches_of;
 use crate::passages::passages_of;
 use crate::ways::ways_over;
 use feed_courses::Courses;
-use map_base::{NoMemory, Point};
+use map_base::NoMemory;
 use std::alloc::Global;
 use track_net::Net;
 use way_network::{Passage, Way};
 
-/// The points of a net, the ways that lines take over it, and where they go on from edge to edge.
+/// The ways that lines take over a net, and where they go on from edge to edge.
 #[derive(Drop)]
 pub(crate) struct Traced {
-    /// The points of the net.
-    pub(crate) points: Vec<Point>,
     /// The ways of all stretches, in the order of first sight.
     pub(crate) ways: Vec<Way>,
     /// The passages along the ways, and from each leg of a course to the next.
     pub(crate) passages: Vec<Passage>,
 }
 
-/// The ways of courses over the net of their samples, and all passages, with the points of the net. `near` is in
-/// decimetres, and there are `lines` lines.
+/// The ways of courses over the net of their samples, and all passages. `near` is in decimetres, and there are `lines`
+/// lines.
 pub(crate) fn network(
     alloc: Global,
     courses: &Courses,
@@ -38,13 +36,13 @@ pub(crate) fn network(
     near: u32,
     lines: u32,
 ) -> Result<Traced, NoMemory>
+    requires kept { IsNet net.now }
     requires fit { AreFit near courses.now }
     requires served { AreServed lines courses.now }
     requires net { net.now ≡ net_of_courses near courses.now }
     requires directions { HasOwnDirections net.now }
     requires joined { JoinsStations near courses.now.points (all_samples courses.now.courses) net.now }
     requires near_high { near ≤ 20000 }
-    ensures points { IfOk result (λ traced. traced.points.items ≡ net.now.points) }
     ensures ways { IfOk result (λ traced. traced.ways.items ≡ ways_of near net.now (all_legs courses.now.courses)) }
     ensures passages { IfOk result (λ traced. traced.passages.items ≡ all_passages near courses.now net.now) }
 
@@ -55,26 +53,8 @@ pub(crate) fn network(
     // Its graph keeps the line of each course.
     ensures kept { IfOk result (λ _. AreKept near lines courses.now net.now) }
 {
-    let points = net_points(alloc, net)?;
     let table = stretches_of(alloc, courses.courses.as_slice())?;
     let ways = ways_over(alloc, &table, net, near)?;
     let passages = passages_of(alloc, courses.courses.as_slice(), &table, &ways)?;
-    Ok(Traced {
-        points,
-        ways,
-        passages,
-    })
-}
-
-/// The points of a net, in order.
-fn net_points(alloc: Global, net: &Net) -> Result<Vec<Point>, NoMemory>
-    ensures points { IfOk result (λ points. points.items ≡ net.now.points) }
-    ensures kept { IsNet net.now }
-{
-    let count = net.len() as u32;
-    let mut points = Vec::new(alloc);
-    for i in 0..count {
-        points.push(net.point(i))?;
-    }
-    Ok(points)
+    Ok(Traced { ways, passages })
 }

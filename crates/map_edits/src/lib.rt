@@ -25,6 +25,3 @@ pub use effects::edited;
 pub use fault::{EditStop, EditsFault};
 pub use reading::{ScriptLine, read_edit, read_script_line};
 pub use script::{next_line, read_edits, stand};
-
-#[cfg(test)]
-mod tests;

@@ -9,8 +9,6 @@
 mod entries;
 mod fault;
 mod reading;
-#[cfg(test)]
-mod tests;
 mod values;
 
 pub use fault::{SettingsFault, SettingsWhy};

@@ -1,10 +1,10 @@
--- Costs by flags, and tables of known costs in maps.
-use Rattle.std.proofs.Common.{◌≡◌, refl, sym, ◌∙◌, ap, ℕ, zero, suc, ◌+◌, ◌*◌, ◌<◌, ◌⊎◌, inl, inr, Bool, true, false, cond, nat_eq, ◌&&◌, List, Option, Some, None, length, get_or, set, replicate, pos, arith, length-set, get_or-set_same, get_or-set_other}
+-- What edges cost, and tables of known costs in maps.
+use Rattle.std.proofs.Common.{◌≡◌, refl, sym, ◌∙◌, ap, ℕ, zero, suc, ◌+◌, ◌*◌, ◌<◌, ◌⊎◌, inl, inr, Bool, true, false, cond, nat_eq, ◌&&◌, List, Option, Some, None, length, get_or, set, replicate, arith, length-set, get_or-set_same, get_or-set_other}
 use Rattle.std.specs.declared.hash.FoldHasher.{FoldHasher}
 use Rattle.std.specs.declared.hash.BuildHasherDefault.{BuildHasherDefault}
 use Rattle.std.specs.HashMap.{get, HashMap}
 use Rattle.std.proofs.lemmas.Bool.{cases_eq, eq-eqb, ne_eqb}
-use Rattle.std.proofs.lemmas.List.{get_or-map, same_lists, length-replicate}
+use Rattle.std.proofs.lemmas.List.{same_lists, length-replicate}
 use Rattle.std.proofs.lemmas.List.FromFn.{length-map-range_with_len, get_or-map-range_with_len}
 use Rattle.map_base.specs.declared.point.Point.{Point}
 use Rattle.fixed_plane.specs.Measures.{dist2_of}
@@ -12,27 +12,7 @@ use Rattle.fixed_plane.proofs.Distances.{dist2_of_comm}
 use Rattle.track_net.specs.Nearness.{point_at}
 use Rattle.track_net.specs.Nets.{NetParts}
 use Rattle.net_paths.specs.Corridors.{is_in_corridor, edge_cost, CorridorParts}
-use Rattle.net_paths.specs.Searching.{flags_of, flags_along, flagged_cost, known_at, costs_below}
-
--- the costs by flags are those along the corridor
-pub cost_by_flags : (near : ℕ) (corridor : List Point) (net : NetParts) (a b : ℕ) → a < length net.points → b < length net.points →
-    flagged_cost (flags_of near corridor net.points) net.points a b ≡ edge_cost near corridor (point_at net.points a) (point_at net.points b)
-cost_by_flags near corridor net a b a_in b_in =
-    let p = point_at net.points a in
-    let q = point_at net.points b in
-    ap (λ t. cond (t && get_or (flags_of near corridor net.points) b false) (dist2_of p q) (8 * dist2_of p q))
-    (get_or-map (is_in_corridor near corridor) net.points a (record { x = pos 0; y = pos 0 }) false a_in)
-    ∙ ap (λ t. cond (is_in_corridor near corridor p && t) (dist2_of p q) (8 * dist2_of p q))
-    (get_or-map (is_in_corridor near corridor) net.points b (record { x = pos 0; y = pos 0 }) false b_in)
-
-pub flags_along-is : (corridor : CorridorParts) (net : NetParts) → flags_along corridor net ≡ flags_of corridor.near corridor.samples net.points
-unfolding flags_along
-flags_along-is corridor net = refl
-
-pub cost_by_flags_along : (corridor : CorridorParts) (net : NetParts) (a b : ℕ) → a < length net.points → b < length net.points →
-    flagged_cost (flags_along corridor net) net.points a b ≡ edge_cost corridor.near corridor.samples (point_at net.points a) (point_at net.points b)
-unfolding flags_along
-cost_by_flags_along corridor net a b a_in b_in = cost_by_flags corridor.near corridor.samples net a b a_in b_in
+use Rattle.net_paths.specs.Searching.{cost_along, known_at, costs_below}
 
 both_ways_round : (a b : Bool) → (a && b) ≡ (b && a)
 both_ways_round true true = refl
@@ -46,12 +26,11 @@ edge_cost-comm near corridor p q =
     ap (λ (n : ℕ). cond (is_in_corridor near corridor p && is_in_corridor near corridor q) n (8 * n)) (dist2_of_comm p q)
     ∙ ap (λ b. cond b (dist2_of q p) (8 * dist2_of q p)) (both_ways_round (is_in_corridor near corridor p) (is_in_corridor near corridor q))
 
--- so it is the cost by the flags of its ends
-pub cost_at : (corridor : CorridorParts) (net : NetParts) (a b : ℕ) (p q : Point) (n : ℕ) → a < length net.points → b < length net.points → p ≡ point_at net.points a → q ≡ point_at net.points b →
-    n ≡ edge_cost corridor.near corridor.samples p q → n ≡ flagged_cost (flags_along corridor net) net.points a b
-cost_at corridor net a b p q n a_in b_in p_is q_is is =
+-- what an edge costs, by the numbers of its ends
+pub cost_at : (corridor : CorridorParts) (net : NetParts) (a b : ℕ) (p q : Point) (n : ℕ) → p ≡ point_at net.points a → q ≡ point_at net.points b →
+    n ≡ edge_cost corridor.near corridor.samples p q → n ≡ cost_along corridor net.points a b
+cost_at corridor net a b p q n p_is q_is is =
     is ∙ ap (λ (r : Point). edge_cost corridor.near corridor.samples r q) p_is ∙ ap (edge_cost corridor.near corridor.samples (point_at net.points a)) q_is
-    ∙ sym (cost_by_flags_along corridor net a b a_in b_in)
 
 abbrev Costs : Type 0
 Costs = HashMap ℕ ℕ (BuildHasherDefault FoldHasher)

@@ -1,5 +1,5 @@
 -- Steps over the edges of a net.
-use Rattle.std.proofs.Common.{◌≡◌, refl, sym, ◌∙◌, ap, subst, ℕ, ◌+◌, ◌*◌, ◌<◌, ◌≤◌, ◌⊎◌, inl, inr, Bool, true, false, cond, ◌&&◌, List, [], ◌∷◌, get_or, arith}
+use Rattle.std.proofs.Common.{◌≡◌, refl, sym, ◌∙◌, ap, subst, ℕ, ◌+◌, ◌*◌, ◌<◌, ◌≤◌, ◌⊎◌, inl, inr, Bool, true, false, cond, ◌&&◌, List, [], ◌∷◌, arith}
 use Rattle.std.proofs.lemmas.Bool.{cases_lt}
 use Rattle.fixed_plane.specs.Measures.{dist2_of}
 use Rattle.least_path.specs.Paths.{Path, IsWeighted}
@@ -7,7 +7,8 @@ use Rattle.track_net.specs.Nearness.{point_at}
 use Rattle.track_net.specs.Nets.{NetParts, IsNet, net_over, HasEdge, Leads}
 use Rattle.track_net.proofs.EdgeFacts.{IsEdge, IsEdge_symm, edge_of_net, has_edge_from, net_has_edge}
 use Rattle.track_net.proofs.Squares.{same_where_none}
-use Rattle.net_paths.specs.Searching.{flagged_cost, IsFlaggedStep}
+use Rattle.net_paths.specs.Corridors.{is_in_corridor, CorridorParts}
+use Rattle.net_paths.specs.Searching.{cost_along, StepAlong}
 
 -- a net is the net over its points
 whole_net : (net : NetParts) (kept : IsNet net) → net ≡ net_over kept.near net.points
@@ -42,18 +43,18 @@ not_free b d h = of_test b
     of_test false = omega arith
 
 -- steps are weighted
-pub steps_are_weighted : (flags : List Bool) (net : NetParts) → IsNet net → IsWeighted (IsFlaggedStep flags net)
-steps_are_weighted flags net kept = record {
+pub steps_are_weighted : (corridor : CorridorParts) (net : NetParts) → IsNet net → IsWeighted (StepAlong corridor net)
+steps_are_weighted corridor net kept = record {
   one_state = λ a l s t c d p q. p.leads_to ∙ sym q.leads_to;
   one_cost = λ a l s t c d p q. p.cost ∙ sym q.cost;
   not_free = λ a l s c p.
       subst (λ (n : ℕ). 1 ≤ n) (sym p.cost)
-      (not_free (get_or flags a false && get_or flags l false) (dist2_of (point_at net.points a) (point_at net.points l)) (apart net kept a l p.edge));
+      (not_free (is_in_corridor corridor.near corridor.samples (point_at net.points a) && is_in_corridor corridor.near corridor.samples (point_at net.points l)) (dist2_of (point_at net.points a) (point_at net.points l)) (apart net kept a l p.edge));
 }
 
 -- what the net joins, a path leads to
-pub path_of_leads : (flags : List Bool) (net : NetParts) (i j : ℕ) (ks : List ℕ) → Leads net i j ks → (c : ℕ) × Path (IsFlaggedStep flags net) i j ks c
-path_of_leads flags net i j [] h = (0, (h, refl))
-path_of_leads flags net i j (k ∷ ks) h =
-    let rest = path_of_leads flags net k j ks h.1 in
-    (flagged_cost flags net.points i k + rest.0, (k, flagged_cost flags net.points i k, rest.0, record { edge = h.0; leads_to = refl; cost = refl }, rest.1, refl))
+pub path_of_leads : (corridor : CorridorParts) (net : NetParts) (i j : ℕ) (ks : List ℕ) → Leads net i j ks → (c : ℕ) × Path (StepAlong corridor net) i j ks c
+path_of_leads corridor net i j [] h = (0, (h, refl))
+path_of_leads corridor net i j (k ∷ ks) h =
+    let rest = path_of_leads corridor net k j ks h.1 in
+    (cost_along corridor net.points i k + rest.0, (k, cost_along corridor net.points i k, rest.0, record { edge = h.0; leads_to = refl; cost = refl }, rest.1, refl))

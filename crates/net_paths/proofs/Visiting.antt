@@ -1,34 +1,16 @@
 -- A stretch path visits no point twice.
-use Rattle.std.proofs.Common.{◌≡◌, refl, sym, ◌∙◌, subst, ℕ, ◌+◌, ◌*◌, ◌<◌, ◌≤◌, Bool, true, false, cond, eqb, ◌&&◌, List, [], ◌∷◌, ◌⊎◌, inl, inr, arith}
+use Rattle.std.proofs.Common.{◌≡◌, refl, sym, ◌∙◌, subst, ℕ, ◌+◌, ◌<◌, ◌≤◌, false, eqb, List, [], ◌∷◌, arith}
 use Rattle.std.specs.List.{IsDistinct, AllByRecursion}
-use Rattle.std.proofs.lemmas.Bool.{ne_eqb, cases_lt}
+use Rattle.std.proofs.lemmas.Bool.{ne_eqb}
 use Rattle.std.proofs.lemmas.Map.Keys.{IsDistinct-cons, IsDistinct-from_apart}
 use Rattle.map_base.specs.declared.point.Point.{Point}
-use Rattle.fixed_plane.specs.Measures.{dist2_of}
 use Rattle.least_path.specs.Paths.{Path}
-use Rattle.track_net.specs.Nearness.{point_at}
 use Rattle.track_net.specs.Nets.{NetParts, IsNet}
-use Rattle.track_net.proofs.EdgeFacts.{IsEdge}
-use Rattle.track_net.proofs.Squares.{same_where_none}
-use Rattle.net_paths.specs.Corridors.{is_in_corridor}
 use Rattle.net_paths.specs.Stretches.{IsStep, IsStretchPath}
-use Rattle.net_paths.proofs.NetSteps.{edge_of}
-
-some_cost : (b : Bool) (d : ℕ) → 0 < d → 0 < cond b d (8 * d)
-some_cost true d h = h
-some_cost false d h = omega arith
+use Rattle.net_paths.proofs.NetSteps.{steps_are_weighted}
 
 no_step_free : (near : ℕ) (corridor : List Point) (net : NetParts) (kept : IsNet net) (a l s c : ℕ) → IsStep near corridor net a l s c → 0 < c
-no_step_free near corridor net kept a l s c step =
-    subst (λ (n : ℕ). 0 < n) (sym step.cost)
-    (some_cost (is_in_corridor near corridor (point_at net.points a) && is_in_corridor near corridor (point_at net.points l)) (dist2_of (point_at net.points a) (point_at net.points l)) (of_order (cases_lt 0 (dist2_of (point_at net.points a) (point_at net.points l)))))
-  where
-    e : IsEdge kept.near net.points a l
-    e = edge_of net kept a l step.edge
-
-    of_order : (0 < dist2_of (point_at net.points a) (point_at net.points l)) ⊎ (dist2_of (point_at net.points a) (point_at net.points l) ≤ 0) → 0 < dist2_of (point_at net.points a) (point_at net.points l)
-    of_order (inl h) = h
-    of_order (inr h) = absurd (e.apart (kept.distinct a l e.i_in e.j_in (same_where_none (point_at net.points a) (point_at net.points l) (omega arith))))
+no_step_free near corridor net kept a l s c step = (steps_are_weighted (record { near = near; samples = corridor }) net kept).not_free a l s c step
 
 -- no path from the one point to the other costs less
 abbrev IsLeast : ℕ → List Point → NetParts → ℕ → ℕ → ℕ → Type 0

@@ -1,5 +1,5 @@
 -- The search for least costs: what is known, what waits, and what is left to be followed.
-use Rattle.std.specs.Prelude.{◌≡◌, ℕ, ◌+◌, ◌*◌, ◌<◌, ◌≤◌, ◌⊎◌, Bool, false, nat_eq, ◌&&◌, if◌then◌else◌, List, ◌∷◌, Option, Some, None, length, map, Contains, IsPermutation, slice_index_or, slice_set, sum_by}
+use Rattle.std.specs.Prelude.{◌≡◌, ℕ, ◌+◌, ◌*◌, ◌<◌, ◌≤◌, ◌⊎◌, nat_eq, List, ◌∷◌, Option, Some, None, length, map, Contains, IsPermutation, slice_index_or, slice_set, sum_by}
 use Rattle.std.specs.declared.cmp.Ordering.{Ordering}
 use Rattle.std.specs.declared.cmp.Reverse.{Reverse}
 use Rattle.std.specs.List.{range_with_len}
@@ -10,29 +10,18 @@ use Rattle.std.specs.Ordering.{nat_cmp, ordering_then}
 use Rattle.map_base.specs.declared.point.Point.{Point}
 use Rattle.least_path.specs.Orders.{AtMost}
 use Rattle.least_path.specs.Paths.{Path, AreLeastCosts}
-use Rattle.fixed_plane.specs.Measures.{dist2_of}
 use Rattle.track_net.specs.Nearness.{point_at}
-use Rattle.track_net.specs.Nets.{NetParts, HasEdge}
-use Rattle.net_paths.specs.Corridors.{is_in_corridor, CorridorParts}
+use Rattle.track_net.specs.Nets.{NetParts}
+use Rattle.net_paths.specs.Corridors.{edge_cost, CorridorParts}
+use Rattle.net_paths.specs.Stretches.{IsStep}
 
--- for each point whether it lies in the corridor
-abbrev pub flags_of : ℕ → List Point → List Point → List Bool
-flags_of near corridor ps = map (is_in_corridor near corridor) ps
+-- the cost of the edge between two points along a corridor
+abbrev pub cost_along : CorridorParts → List Point → ℕ → ℕ → ℕ
+cost_along corridor ps a b = edge_cost corridor.near corridor.samples (point_at ps a) (point_at ps b)
 
--- the same for the points of a net
-unfoldable pub flags_along : CorridorParts → NetParts → List Bool
-flags_along corridor net = flags_of corridor.near corridor.samples net.points
-
--- the cost of an edge by the flags of its ends
-abbrev pub flagged_cost : List Bool → List Point → ℕ → ℕ → ℕ
-flagged_cost flags ps a b =
-    if slice_index_or flags a false && slice_index_or flags b false then dist2_of (point_at ps a) (point_at ps b) else 8 * dist2_of (point_at ps a) (point_at ps b)
-
--- an edge of the net leads from point a to point s, whose number is its label, at its cost by the flags
-pub record IsFlaggedStep (flags : List Bool) (net : NetParts) (a l s c : ℕ) : Type 0 where
-  pub edge : HasEdge net a l
-  pub leads_to : s ≡ l
-  pub cost : c ≡ flagged_cost flags net.points a l
+-- the steps over the edges of a net along a corridor
+abbrev pub StepAlong : CorridorParts → NetParts → ℕ → ℕ → ℕ → ℕ → Type 0
+StepAlong corridor net = IsStep corridor.near corridor.samples net
 
 -- the known cost of a point
 abbrev pub known_at : List (Option ℕ) → ℕ → Option ℕ
@@ -91,17 +80,17 @@ abbrev pub height_of : ℕ → List (Option ℕ) → ℕ
 height_of top table = sum_by (height_at top) table
 
 -- each step that leads to a point of this cost is followed by a known cost of the point that it comes from
-abbrev pub IsFollowed : List Bool → NetParts → List (Option ℕ) → ℕ → ℕ → Type 0
-IsFollowed flags net table s k = (a l c : ℕ) → IsFlaggedStep flags net a l s c → AtMost (known_at table a) (c + k)
+abbrev pub IsFollowed : CorridorParts → NetParts → List (Option ℕ) → ℕ → ℕ → Type 0
+IsFollowed corridor net table s k = (a l c : ℕ) → StepAlong corridor net a l s c → AtMost (known_at table a) (c + k)
 
 -- the state of a search for the least costs to a point
-pub record IsSearch (flags : List Bool) (net : NetParts) (to : ℕ) (table : List (Option ℕ)) (queue : List (Reverse (ℕ × ℕ))) (excepted : ℕ → ℕ → Type 0) : Type 0 where
+pub record IsSearch (corridor : CorridorParts) (net : NetParts) (to : ℕ) (table : List (Option ℕ)) (queue : List (Reverse (ℕ × ℕ))) (excepted : ℕ → ℕ → Type 0) : Type 0 where
   pub each : length table ≡ length net.points
-  pub attained : (s k : ℕ) → known_at table s ≡ Some k → (labels : List ℕ) × Path (IsFlaggedStep flags net) s to labels k
+  pub attained : (s k : ℕ) → known_at table s ≡ Some k → (labels : List ℕ) × Path (StepAlong corridor net) s to labels k
   pub target : AtMost (known_at table to) 0
   pub bounded : (s k : ℕ) → known_at table s ≡ Some k → k + dearest * unknowns_of table ≤ dearest * length table
   pub in_range : (s k : ℕ) → Waits queue s k → s < length table
-  pub settled : (s k : ℕ) → known_at table s ≡ Some k → Waits queue s k ⊎ (IsFollowed flags net table s k ⊎ excepted s k)
+  pub settled : (s k : ℕ) → known_at table s ≡ Some k → Waits queue s k ⊎ (IsFollowed corridor net table s k ⊎ excepted s k)
 
 -- what is left to do: twice what can be lowered, and what waits
 abbrev pub left_of : List (Option ℕ) → List (Reverse (ℕ × ℕ)) → ℕ
@@ -116,14 +105,14 @@ abbrev pub nothing : ℕ → ℕ → Type 0
 nothing s k = ⊥
 
 -- the search is over: the cost of one point is known, and within it what is known are the least costs
-pub record IsSearched (flags : List Bool) (net : NetParts) (from to : ℕ) (table : List (Option ℕ)) : Type 0 where
+pub record IsSearched (corridor : CorridorParts) (net : NetParts) (from to : ℕ) (table : List (Option ℕ)) : Type 0 where
   pub cost : ℕ
   pub known : known_at table from ≡ Some cost
   pub each : length table ≡ length net.points
-  pub least : AreLeastCosts (IsFlaggedStep flags net) to cost (known_at table)
+  pub least : AreLeastCosts (StepAlong corridor net) to cost (known_at table)
 
 -- the edges of a point with its known cost were followed: a search in whose state only this was left out goes on,
 -- with no more left to do
-abbrev pub IsSpread : List Bool → NetParts → ℕ → ℕ → List (Option ℕ) → List (Reverse (ℕ × ℕ)) → List (Option ℕ) → List (Reverse (ℕ × ℕ)) → Type 0
-IsSpread flags net at cost table queue new longer =
-    (to : ℕ) → IsSearch flags net to table queue (is_point_at at cost) → IsSearch flags net to new longer nothing × (left_of new longer ≤ left_of table queue)
+abbrev pub IsSpread : CorridorParts → NetParts → ℕ → ℕ → List (Option ℕ) → List (Reverse (ℕ × ℕ)) → List (Option ℕ) → List (Reverse (ℕ × ℕ)) → Type 0
+IsSpread corridor net at cost table queue new longer =
+    (to : ℕ) → IsSearch corridor net to table queue (is_point_at at cost) → IsSearch corridor net to new longer nothing × (left_of new longer ≤ left_of table queue)

@@ -1,9 +1,9 @@
 //! The search for the least costs at which one point can be reached from others.
 
-ghost use Rattle.std.specs.Prelude.{◌≡◌, ◌*◌, ◌<◌, ◌≤◌, ◌↔◌, Some, None, [], IsTrue, IfOk, OnOk, length, replicate};
+ghost use Rattle.std.specs.Prelude.{◌≡◌, ◌*◌, ◌<◌, ◌≤◌, ◌↔◌, Some, None, [], IsTrue, OnOk, length, replicate};
 ghost use Rattle.std.specs.BinaryHeap.{IsHeap, heap_items};
 ghost use Rattle.track_net.specs.Nets.{IsNet, Joins};
-ghost use Rattle.net_paths.specs.Searching.{IsSearched, IsSpread, dearest, flags_along, known_at, queue_cmp};
+ghost use Rattle.net_paths.specs.Searching.{IsSearched, IsSpread, dearest, known_at, queue_cmp};
 
 use crate::corridor::Corridor;
 use crate::costs::cost_between;
@@ -31,7 +31,7 @@ pub(crate) fn note_costs_to(
     requires to_in_range { to < length net.now.points }
     requires joined { Joins net.now from to }
     requires nothing_known { known.old ≡ replicate (length net.now.points) None }
-    ensures { OnOk result (IsSearched (flags_along corridor.now net.now) net.now from to known.new) }
+    ensures { OnOk result (IsSearched corridor.now net.now from to known.new) }
 {
     let mut queue = Queue::with_capacity(alloc, ROOM)?;
     search(net, corridor, from, to, known, &mut queue)
@@ -53,7 +53,7 @@ fn search(
     requires nothing_known { known.old ≡ replicate (length net.now.points) None }
     requires nothing_waits { heap_items queue.old ≡ [] }
     requires order { IsHeap queue_cmp (heap_items queue.old) }
-    ensures { OnOk result (IsSearched (flags_along corridor.now net.now) net.now from to known.new) }
+    ensures { OnOk result (IsSearched corridor.now net.now from to known.new) }
 {
     lower(known, queue, to, 0)?;
     while let Some((cost, at)) = next(queue, known.of(from)) {
@@ -90,7 +90,7 @@ fn spread(
     requires bounded { cost ≤ dearest * 100000 }
     requires order { IsHeap queue_cmp (heap_items queue.old) }
     ensures order { OnOk result (IsHeap queue_cmp (heap_items queue.new)) }
-    ensures spread { OnOk result (IsSpread (flags_along corridor.now net.now) net.now at cost known.old (heap_items queue.old) known.new (heap_items queue.new)) }
+    ensures spread { OnOk result (IsSpread corridor.now net.now at cost known.old (heap_items queue.old) known.new (heap_items queue.new)) }
 {
     let here = corridor.place_of(net.point(at));
     for next in net.edges_of(at) {

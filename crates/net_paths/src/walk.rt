@@ -1,8 +1,7 @@
 //! The walk along known costs.
 
-ghost use Rattle.std.specs.Prelude.{◌≡◌, ℕ, ◌+◌, ◌<◌, ◌≤◌, ◌↔◌, Some, IsTrue, IfOk, IfSome, IfNone, length};
+ghost use Rattle.std.specs.Prelude.{◌≡◌, ℕ, ◌+◌, ◌<◌, ◌↔◌, Some, IsTrue, IfOk, IfSome, IfNone, length};
 ghost use Rattle.track_net.specs.Nets.{HasEdge, IsNet};
-ghost use Rattle.net_paths.specs.Searching.{flags_along};
 ghost use Rattle.net_paths.specs.Walking.{DifferBy, IsLeastStep, IsWalked, KeepsCost};
 
 use crate::corridor::Corridor;
@@ -24,7 +23,7 @@ pub(crate) fn walk(
     requires kept { IsNet net.now }
     requires from_in_range { from < length net.now.points }
     requires cost_each { length known.now ≡ length net.now.points }
-    ensures { IfOk result (λ path. IsWalked (flags_along corridor.now net.now) net.now known.now from path.items) }
+    ensures { IfOk result (λ path. IsWalked corridor.now net.now known.now from path.items) }
 {
     let mut path = Vec::new(alloc);
     path.push(from)?;
@@ -41,8 +40,8 @@ fn next_point(net: &Net, corridor: &Corridor, known: &Known, at: u32) -> Option<
     requires kept { IsNet net.now }
     requires in_range { at < length net.now.points }
     requires cost_each { length known.now ≡ length net.now.points }
-    ensures least { IfSome result (IsLeastStep (flags_along corridor.now net.now) net.now known.now at) }
-    ensures none { IfNone result ((other : ℕ) → HasEdge net.now at other → KeepsCost (flags_along corridor.now net.now) net.now known.now at other → ⊥) }
+    ensures least { IfSome result (IsLeastStep corridor.now net.now known.now at) }
+    ensures none { IfNone result ((other : ℕ) → HasEdge net.now at other → KeepsCost corridor.now net.now known.now at other → ⊥) }
 {
     let here = corridor.place_of(net.point(at));
     for next in net.edges_of(at) {

@@ -1,3 +1,4 @@
+pub mod RisingLists
 pub mod Rising
 pub mod Places
 pub mod OrderLemmas

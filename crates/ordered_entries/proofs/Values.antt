@@ -3,7 +3,8 @@ use Rattle.std.proofs.Common.{◌≡◌, ℕ, suc, ◌==◌, Bool, true, false, 
 use Rattle.std.proofs.lemmas.List.{length-append}
 use Rattle.ordered_entries.specs.declared.entry.Entry.{Entry}
 use Rattle.ordered_entries.specs.declared.placed.Placed.{Placed}
-use Rattle.ordered_entries.specs.Entries.{with_one, by_rising, is_of, placed_from, places_of}
+use Rattle.ordered_entries.specs.Rising.{with_one, by_rising}
+use Rattle.ordered_entries.specs.Entries.{is_of, placed_from, places_of}
 
 map_map : {A B C : Type 0} (f : B → C) (g : A → B) (xs : List A) → map f (map g xs) ≡ map (λ x. f (g x)) xs
 map_map f g [] = refl

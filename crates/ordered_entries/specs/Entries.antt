@@ -1,9 +1,9 @@
 -- Entries with a key and a sequence number: which of them comes again, and where those of a key stand.
-use Rattle.std.specs.Prelude.{◌≡◌, ℕ, suc, ◌<◌, ◌==◌, Bool, List, [], ◌∷◌, length, map, filter, if◌then◌else◌}
-use Rattle.std.specs.Prelude.{nat_lt}
+use Rattle.std.specs.Prelude.{◌≡◌, ℕ, suc, ◌<◌, ◌==◌, Bool, List, [], ◌∷◌, length, map, filter}
 use Rattle.std.specs.List.{slice_index_or}
 use Rattle.ordered_entries.specs.declared.entry.Entry.{Entry}
 use Rattle.ordered_entries.specs.declared.placed.Placed.{Placed}
+use Rattle.ordered_entries.specs.Rising.{by_rising}
 
 -- the entry at a place
 abbrev pub entry_at : List Entry → ℕ → Entry
@@ -34,16 +34,6 @@ placed_from place (entry ∷ rest) = at_place place entry ∷ placed_from (suc p
 
 abbrev pub is_of : ℕ → Placed → Bool
 is_of key entry = entry.key == key
-
--- with one more in front of those whose number is not lesser
-abbrev pub with_one : {A : Type 0} → (A → ℕ) → A → List A → List A
-with_one number x [] = x ∷ []
-with_one number x (y ∷ ys) = if nat_lt (number y) (number x) then y ∷ with_one number x ys else x ∷ y ∷ ys
-
--- a list by rising numbers; those of one number stay in their order
-abbrev pub by_rising : {A : Type 0} → (A → ℕ) → List A → List A
-by_rising number [] = []
-by_rising number (x ∷ xs) = with_one number x (by_rising number xs)
 
 -- the places of a key's entries by rising sequence numbers; those of one number in the order of the places
 abbrev pub places_of : List Entry → ℕ → List ℕ

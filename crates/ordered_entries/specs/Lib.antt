@@ -1,3 +1,4 @@
+pub mod Rising
 pub mod Entries
 pub mod Order
 pub mod Runs

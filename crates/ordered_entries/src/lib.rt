@@ -15,6 +15,3 @@ mod runs;
 
 pub use entry::Entry;
 pub use ordered::OrderedEntries;
-
-#[cfg(test)]
-mod tests;

@@ -1,14 +1,10 @@
 -- The pieces of a course are kept one by one.
-use Rattle.std.proofs.Common.{◌≡◌, sym, ◌∙◌, ap, subst, ℕ, ◌+◌, ◌-◌, ◌<◌, ◌≤◌, List, [], ◌∷◌, length, get_or, drop, None, pos, arith, drop-cons, add-one}
+use Rattle.std.proofs.Common.{◌≡◌, sym, ◌∙◌, ap, subst, ℕ, ◌+◌, ◌-◌, ◌<◌, ◌≤◌, List, [], ◌∷◌, length, drop, None, pos, arith, drop-cons, add-one}
 use Rattle.std.proofs.lemmas.List.{drop_all}
 use Rattle.map_base.specs.declared.point.Point.{Point}
-use Rattle.shape_track.specs.Samples.{piece_points, cut_points, samples_of}
+use Rattle.shape_track.specs.Samples.{point_at, piece_points, cut_points, samples_of}
 use Rattle.shape_track.specs.Sampling.{Kept, with_point, with_points}
 use Rattle.shape_track.proofs.Keeping.{with_points-append, points-with_points, count-with_points_is, count-with_points}
-
--- what stands at a place
-abbrev pub point_at : List Point → ℕ → Point
-point_at ps i = get_or ps i (record { x = pos 0; y = pos 0 })
 
 -- a list from a place on begins with what stands there
 pub from_place : (ps : List Point) (i : ℕ) → i < length ps → drop i ps ≡ point_at ps i ∷ drop (i + 1) ps

@@ -4,10 +4,9 @@ use Rattle.std.specs.Global.{Global}
 use Rattle.std.proofs.lemmas.List.{map-append}
 use Rattle.std.proofs.lemmas.List.Sums.{sum_by-append}
 use Rattle.map_base.specs.declared.point.Point.{Point}
-use Rattle.shape_track.specs.Samples.{samples_of}
+use Rattle.shape_track.specs.Samples.{point_at, samples_of}
 use Rattle.shape_track.specs.Snaps.{ArePlacesFrom}
 use Rattle.shape_track.specs.Hops.{hop_points, hops_of, total_of}
-use Rattle.shape_track.proofs.Courses.{point_at}
 
 -- ---- places
 

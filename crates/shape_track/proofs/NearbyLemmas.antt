@@ -9,7 +9,8 @@ use Rattle.shape_track.specs.declared.best_places.BestPlace.{BestPlace}
 use Rattle.shape_track.specs.Snaps.{IsSnapFrom}
 use Rattle.shape_track.specs.Sweeps.{IsLeastCost}
 use Rattle.shape_track.specs.BestPlaces.{entry_at, IsRow, BeginsSnaps, AreLed, LeadsOn, IsPlaceFrom, IsRowOf, AreRowsOf}
-use Rattle.shape_track.proofs.Courses.{point_at, from_place}
+use Rattle.shape_track.specs.Samples.{point_at}
+use Rattle.shape_track.proofs.Courses.{from_place}
 use Rattle.shape_track.proofs.Leading.{no_stations}
 use Rattle.shape_track.proofs.RowLemmas.{one_before}
 

@@ -8,7 +8,8 @@ use Rattle.map_base.specs.declared.point.Point.{Point}
 use Rattle.shape_track.specs.Snaps.{IsSnapFrom}
 use Rattle.shape_track.specs.Sweeps.{taken_at, LeadsTo, Leads}
 use Rattle.shape_track.specs.Rows.{LeadsFirst, AreRows}
-use Rattle.shape_track.proofs.Courses.{point_at, from_place}
+use Rattle.shape_track.specs.Samples.{point_at}
+use Rattle.shape_track.proofs.Courses.{from_place}
 
 -- what is written to a whole slice of a vector is all of it
 pub written_whole : (xs ys : List ℕ) (n : ℕ) → length xs ≡ n → length ys ≡ n → take n (xs ++ drop (length xs) ys) ≡ xs

@@ -1,5 +1,5 @@
 -- The samples of a list of points, and what it is for points to join two ends.
-use Rattle.std.specs.Prelude.{◌≡◌, ℕ, zero, suc, ◌+◌, ◌*◌, ◌≤◌, Bool, true, false, ◌&&◌, if◌then◌else◌, nat_le, pos, ◌+ℤ◌, ◌-ℤ◌, ◌*ℤ◌, List, [], ◌∷◌, ◌++◌, map, Option, Some, None}
+use Rattle.std.specs.Prelude.{◌≡◌, ℕ, zero, suc, ◌+◌, ◌*◌, ◌≤◌, Bool, true, false, ◌&&◌, if◌then◌else◌, nat_le, pos, ◌+ℤ◌, ◌-ℤ◌, ◌*ℤ◌, List, [], ◌∷◌, ◌++◌, map, Option, Some, None, slice_index_or}
 use Rattle.std.specs.List.{range_with_len}
 use Rattle.std.specs.Ordering.{int_eq}
 use Rattle.map_base.specs.declared.point.Point.{Point}
@@ -39,6 +39,10 @@ abbrev pub cut_points : ℕ → List Point → List Point
 cut_points near [] = []
 cut_points near (p ∷ []) = p ∷ []
 cut_points near (p ∷ q ∷ ps) = piece_points near p q ++ cut_points near (q ∷ ps)
+
+-- the point at a place
+abbrev pub point_at : List Point → ℕ → Point
+point_at points place = slice_index_or points place (record { x = pos 0; y = pos 0 })
 
 abbrev pub is_point : Point → Point → Bool
 is_point p q = int_eq p.x q.x && int_eq p.y q.y

@@ -15,6 +15,3 @@ pub use map_base::LimitFault as SampleFault;
 pub use samples::sample;
 pub use snapping::{snap, snap_is_one};
 pub use tracking::track;
-
-#[cfg(test)]
-mod tests;

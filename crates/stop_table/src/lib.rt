@@ -19,6 +19,3 @@ pub use known::{FeedStops, KnownStops};
 pub use stops::read_stations;
 pub use table_rows::{FeedFault, Table, Why};
 pub use transit_feed::Station;
-
-#[cfg(test)]
-mod tests;

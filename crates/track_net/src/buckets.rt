@@ -166,23 +166,3 @@ fn keep_near(
     }
     Ok(())
 }
-
-#[cfg(test)]
-mod tests {
-    use super::*;
-    use std::test::Fail;
-
-    #[test]
-    fn nearer_than_the_size(rt: HostRuntime) -> Result<(), Fail> {
-        let points = [
-            Point { x: 0, y: 0 },
-            Point { x: 499, y: 0 },
-            Point { x: 500, y: 0 },
-        ];
-        let buckets = Buckets::of(rt.alloc(), &points, 500)?;
-        let numbers = buckets.near(rt.alloc(), Point { x: 0, y: 0 }, 500)?;
-        let shown = numbers.as_slice();
-        assert_eq!(rt; shown, [0, 1].as_slice());
-        Ok(())
-    }
-}

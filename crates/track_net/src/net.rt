@@ -47,6 +47,14 @@ impl Net {
         self.points.is_empty()
     }
 
+    /// The points, in order.
+    pub fn points(&self) -> &[Point]
+        ensures points { result.now ≡ self.now.points }
+        ensures kept { IsNet self.now }
+    {
+        self.points.as_slice()
+    }
+
     /// The point of a number.
     pub fn point(&self, i: u32) -> Point
         requires { i < length self.now.points }

@@ -205,20 +205,3 @@ fn near_in_cell(cells: &Kept, cell: Cell, at: Point, within: u32) -> Option<Poin
         Some(points) => near_point(points, at, within),
     }
 }
-
-#[cfg(test)]
-mod tests {
-    use super::*;
-    use std::test::Fail;
-
-    #[test]
-    fn at_the_distance_and_below(rt: HostRuntime) -> Result<(), Fail> {
-        let points = [Point { x: 500, y: 0 }, Point { x: -1, y: -1 }];
-        let cells = PointCells::of(rt.alloc(), &points, 500)?;
-        assert!(rt; cells.has_near(Point { x: 999, y: 0 }, 500));
-        assert!(rt; !cells.has_near(Point { x: 1000, y: 0 }, 500));
-        assert!(rt; cells.has_near(Point { x: -500, y: -1 }, 500));
-        assert!(rt; !cells.has_near(Point { x: -501, y: -1 }, 500));
-        Ok(())
-    }
-}

@@ -9,8 +9,6 @@ mod folder;
 mod lattice;
 mod rows;
 mod summary;
-#[cfg(test)]
-mod tests;
 mod walks;
 
 pub use folder::trial_files;

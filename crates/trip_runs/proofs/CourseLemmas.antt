@@ -1,5 +1,5 @@
 -- The shapes that are kept, and their points.
-use Rattle.std.proofs.Common.{◌≡◌, ℕ, ℤ, pos, suc, ◌+◌, ◌-◌, ◌<◌, ◌≤◌, ◌==◌, ◌&&◌, ◌||◌, ◌⊎◌, inl, inr, Bool, true, false, cond, eqb, ltb, nat_le, List, [], ◌∷◌, ◌++◌, length, get_or, map, filter, take, drop, bytes_eq, Option, Some, unwrap_or, refl, sym, ◌∙◌, ap, arith, true≢false, append-nil}
+use Rattle.std.proofs.Common.{◌≡◌, ℕ, ℤ, pos, ◌+◌, ◌-◌, ◌<◌, ◌≤◌, ◌==◌, ◌&&◌, ◌||◌, ◌⊎◌, inl, inr, Bool, true, false, cond, eqb, nat_le, List, [], ◌∷◌, ◌++◌, length, get_or, map, filter, take, drop, bytes_eq, Option, Some, unwrap_or, refl, sym, ◌∙◌, ap, arith, true≢false, append-nil}
 use Rattle.std.specs.List.{All}
 use Rattle.std.proofs.lemmas.Bool.{cases_lt}
 use Rattle.std.proofs.lemmas.Bool.Decides.{nat_tests}
@@ -7,6 +7,8 @@ use Rattle.std.proofs.lemmas.List.{length-append, length-map, map-append, take_m
 use Rattle.std.proofs.lemmas.List.Elements.{All-nil, All-cons, All-head, All-tail, All-filter, filter-append}
 use Rattle.transit_feed.specs.declared.shape.Shape.{Shape}
 use Rattle.ordered_entries.specs.declared.entry.Entry.{Entry}
+use Rattle.ordered_entries.specs.Rising.{by_rising}
+use Rattle.ordered_entries.proofs.RisingLists.{length-by_rising}
 use Rattle.ordered_entries.proofs.Values.{values_in_order}
 use Rattle.table_rows.specs.Firsts.{firsts, firsts_behind}
 use Rattle.table_rows.specs.Ids.{is_among, place_among, noted, AreSame}
@@ -15,13 +17,12 @@ use Rattle.table_rows.proofs.FirstLemmas.{All-firsts}
 use Rattle.trip_runs.specs.declared.shape_columns.ShapeColumns.{ShapeColumns}
 use Rattle.route_tables.specs.declared.known.KnownTrips.{KnownTrips}
 use Rattle.trip_runs.specs.declared.known.KnownShapes.{KnownShapes}
-use Rattle.trip_runs.specs.Rising.{with_one, by_rising}
 use Rattle.trip_runs.specs.Shapes.{shape_columns, sequence_in, point_in, rows_of_shape, points_of_shape, named_shapes, kept_shapes, shape_of, known_shapes}
 use Rattle.trip_runs.specs.ShapeReads.{is_known, is_read, entry_in}
 use Rattle.trip_runs.specs.KeptShapes.{point_there, places_of_id, shape_at, kept_ids, shapes_of_ids, AreEachNew}
 use Rattle.trip_runs.proofs.PlaceLemmas.{same_bytes, bytes_same}
 use Rattle.trip_runs.proofs.ShapeLemmas.{known_place, same_id, named_is}
-use Rattle.trip_runs.proofs.StationLemmas.{rising_as, filter_both}
+use Rattle.trip_runs.proofs.StationLemmas.{filter_both}
 
 -- One more id is looked at.
 
@@ -127,16 +128,6 @@ filter_same : {A : Type 0} (p q : A → Bool) (xs : List A) → ((x : A) → p x
 filter_same p q [] same = refl
 filter_same p q (x ∷ xs) same = ap (λ b. cond b (x ∷ filter p xs) (filter p xs)) (same x) ∙ ap (λ rest. cond (q x) (x ∷ rest) rest) (filter_same p q xs same)
 
-length-with_one : {A : Type 0} (number : A → ℕ) (x : A) (ys : List A) → length (with_one number x ys) ≡ suc (length ys)
-length-with_one number x [] = refl
-length-with_one number x (y ∷ ys) =
-    elim (ltb (number y) (number x)) as (λ b. length (cond b (y ∷ with_one number x ys) (x ∷ y ∷ ys)) ≡ suc (length (y ∷ ys)))
-    [ true ↦ ap suc (length-with_one number x ys) | false ↦ refl ]
-
-length-by_rising : {A : Type 0} (number : A → ℕ) (xs : List A) → length (by_rising number xs) ≡ length xs
-length-by_rising number [] = refl
-length-by_rising number (x ∷ xs) = length-with_one number x (by_rising number xs) ∙ ap suc (length-by_rising number xs)
-
 module _ (named : List (List ℕ)) (c : ShapeColumns) (rows : List Row) where
   abbrev read_rows : List Row
   read_rows = filter (is_read named c) (drop 1 rows)
@@ -196,10 +187,7 @@ module _ (named : List (List ℕ)) (c : ShapeColumns) (rows : List Row) where
   points_are : (id : List ℕ) → IsKnown id → map (point_there points) (places_of_id named entries id) ≡ points_of_shape c rows id
   points_are id known =
       values_in_order (entry_in named c) (point_in c) (pos 0, pos 0) read_rows (unwrap_or (place_among named id) 0)
-      ∙ ap (map (point_in c)) (
-      rising_as (λ row. (entry_in named c row).sequence) (filter (λ row. (entry_in named c row).key == unwrap_or (place_among named id) 0) read_rows)
-      ∙ ap (by_rising (λ row. unwrap_or (sequence_in c row) 0)) (rows_are id known)
-      )
+      ∙ ap (λ read. map (point_in c) (by_rising (λ row. unwrap_or (sequence_in c row) 0) read)) (rows_are id known)
 
   counts_are : (id : List ℕ) → IsKnown id → length (places_of_id named entries id) ≡ length (rows_of_shape c rows id)
   counts_are id known =

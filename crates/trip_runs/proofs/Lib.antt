@@ -1,4 +1,3 @@
-pub mod RisingLemmas
 pub mod ReadLemmas
 pub mod ComingRows
 pub mod PlaceLemmas

@@ -1,31 +1,21 @@
 -- The stations of each trip, gathered by the trips' numbers.
-use Rattle.std.proofs.Common.{◌≡◌, ℕ, zero, suc, ◌+◌, ◌<◌, ◌≤◌, ◌==◌, ◌&&◌, Bool, true, false, cond, eqb, ltb, List, [], ◌∷◌, ◌++◌, length, get_or, map, filter, take, drop, bytes_eq, Some, unwrap_or, refl, sym, ◌∙◌, ap, arith, true≢false}
+use Rattle.std.proofs.Common.{◌≡◌, ℕ, zero, suc, ◌+◌, ◌<◌, ◌≤◌, ◌==◌, ◌&&◌, Bool, true, false, cond, eqb, List, [], ◌∷◌, ◌++◌, length, get_or, map, filter, take, drop, bytes_eq, Some, unwrap_or, refl, sym, ◌∙◌, ap, arith, true≢false}
 use Rattle.std.proofs.lemmas.Bool.Decides.{nat_tests}
 use Rattle.std.proofs.lemmas.List.{take_more, take_all, map-append}
 use Rattle.map_base.specs.declared.ids.StationId.{StationId}
 use Rattle.ordered_entries.specs.declared.entry.Entry.{Entry}
-use Rattle.ordered_entries.specs.Entries as ordered
 use Rattle.ordered_entries.proofs.Values.{values_in_order}
 use Rattle.table_rows.specs.Cells.{Row, field_in}
 use Rattle.trip_runs.specs.declared.stop_time_columns.StopTimeColumns.{StopTimeColumns}
 use Rattle.stop_table.specs.declared.known.KnownStops.{KnownStops}
 use Rattle.route_tables.specs.declared.known.KnownTrips.{KnownTrips}
-use Rattle.trip_runs.specs.Rising.{with_one, by_rising}
+use Rattle.ordered_entries.specs.Rising.{by_rising}
 use Rattle.trip_runs.specs.StopTimes.{stop_time_columns, is_read, sequence_in, station_at, stations_of_trip, trip_stations}
 use Rattle.trip_runs.specs.StopTimeReads.{entry_in, AreNumbered}
 use Rattle.trip_runs.specs.StationsOfTrips.{stations_of_key, stations_by_key}
 use Rattle.route_tables.specs.Trips.{trip_place}
 use Rattle.trip_runs.proofs.PlaceLemmas.{same_bytes, bytes_same, placed_among}
 use Rattle.trip_runs.proofs.StopTimeLemmas.{read_place}
-
--- the order of entries is that of rows
-with_one_as : {A : Type 0} (number : A → ℕ) (x : A) (xs : List A) → ordered.with_one number x xs ≡ with_one number x xs
-with_one_as number x [] = refl
-with_one_as number x (y ∷ ys) = ap (λ rest. cond (ltb (number y) (number x)) (y ∷ rest) (x ∷ y ∷ ys)) (with_one_as number x ys)
-
-pub rising_as : {A : Type 0} (number : A → ℕ) (xs : List A) → ordered.by_rising number xs ≡ by_rising number xs
-rising_as number [] = refl
-rising_as number (x ∷ xs) = with_one_as number x (ordered.by_rising number xs) ∙ ap (with_one number x) (rising_as number xs)
 
 -- a filter after another
 pub filter_both : {A : Type 0} (p q r : A → Bool) (xs : List A) → ((x : A) → p x ≡ true → q x ≡ r x) → filter q (filter p xs) ≡ filter (λ x. p x && r x) xs
@@ -70,11 +60,8 @@ module _ (trips : KnownTrips) (stops : KnownStops) (numbered : AreNumbered trips
       ≡ stations_of_trip trips stops c rows (get_or trips.ids k [])
   key_stations rows k l =
       values_in_order (entry_in trips c) (station_at stops c) (record { 0 = 0 }) (filter (is_read trips c) (drop 1 rows)) k
-      ∙ ap (map (station_at stops c)) (
-      rising_as (λ row. (entry_in trips c row).sequence) (filter (λ row. (entry_in trips c row).key == k) (filter (is_read trips c) (drop 1 rows)))
-      ∙ ap (by_rising (λ row. unwrap_or (sequence_in c row) 0))
+      ∙ ap (λ read. map (station_at stops c) (by_rising (λ row. unwrap_or (sequence_in c row) 0) read))
       (filter_both (is_read trips c) (λ row. (entry_in trips c row).key == k) (λ row. bytes_eq (get_or trips.ids k []) (field_in row c.trip)) (drop 1 rows) (key_is k l))
-      )
 
   first_stations : (rows : List Row) (n : ℕ) → n ≤ length trips.ids
       → stations_by_key (map (station_at stops c) (filter (is_read trips c) (drop 1 rows))) (map (entry_in trips c) (filter (is_read trips c) (drop 1 rows))) n

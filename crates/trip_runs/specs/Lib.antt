@@ -1,4 +1,3 @@
-pub mod Rising
 pub mod Reads
 pub mod PlaceRuns
 pub mod Shapes

@@ -15,7 +15,7 @@ use Rattle.trip_runs.specs.declared.shape_columns.ShapeColumns.{ShapeColumns}
 use Rattle.route_tables.specs.declared.known.KnownTrips.{KnownTrips}
 use Rattle.trip_runs.specs.declared.known.KnownShapes.{KnownShapes}
 use Rattle.table_rows.specs.Degrees.{latitude_of, longitude_of}
-use Rattle.trip_runs.specs.Rising.{by_rising}
+use Rattle.ordered_entries.specs.Rising.{by_rising}
 use Rattle.route_tables.specs.Trips.{is_named}
 
 -- where the columns stand

@@ -17,7 +17,7 @@ use Rattle.trip_runs.specs.declared.stop_time_columns.StopTimeColumns.{StopTimeC
 use Rattle.stop_table.specs.declared.known.KnownStops.{KnownStops}
 use Rattle.route_tables.specs.declared.known.KnownTrips.{KnownTrips}
 use Rattle.stop_table.specs.Leads.{station_of_id}
-use Rattle.trip_runs.specs.Rising.{by_rising}
+use Rattle.ordered_entries.specs.Rising.{by_rising}
 use Rattle.trip_runs.specs.Shapes.{is_same_number}
 use Rattle.route_tables.specs.Trips.{is_selected}
 

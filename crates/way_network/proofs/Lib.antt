@@ -26,4 +26,3 @@ mod ConsistencySegments
 mod ConsistencyParts
 pub mod Consistency
 mod GraphLemmas
-mod PremiseLemmas

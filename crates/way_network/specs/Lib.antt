@@ -14,4 +14,3 @@ pub mod Pieces
 pub mod Laws
 pub mod RowGraphs
 pub mod Faults
-pub mod PremiseTests

@@ -1,7 +1,7 @@
 -- The uses of edges by lines, in order, and what they say of each edge.
-use Rattle.std.specs.Prelude.{◌≡◌, ℕ, ◌<◌, ◌≤◌, ◌==◌, ◌&&◌, ◌||◌, nat_lt, Bool, true, false, List, [], ◌∷◌, length, map, All, IsPermutation}
-use Rattle.std.specs.List.{flat_map, list_any, slice_index_or}
-use Rattle.std.specs.List.Sorted.{IsSortedBy, IsStrictlyIncreasing}
+use Rattle.std.specs.Prelude.{◌≡◌, ℕ, ◌==◌, ◌&&◌, ◌||◌, nat_lt, Bool, true, false, List, [], ◌∷◌, map, All, IsPermutation}
+use Rattle.std.specs.List.{flat_map, list_any}
+use Rattle.std.specs.List.Sorted.{IsSortedBy, IsStrictlyIncreasing, IsPartitionPoint}
 use Rattle.std.specs.Ordering.{is_lt, nat_cmp, ordering_then}
 use Rattle.way_network.specs.declared.way.Way.{Way}
 use Rattle.way_network.specs.declared.edges.UsedEdge.{UsedEdge}
@@ -73,13 +73,6 @@ pub record IsRowOf (uses : List EdgeUse) (p : ℕ) (row : List UsedEdge) : Type 
 abbrev pub stands_before : ℕ → ℕ → EdgeUse → Bool
 stands_before p q u = nat_lt u.from p || ((u.from == p) && nat_lt u.to q)
 
--- of uses in order, so many stand before those of the edge from p to q, within these bounds
-pub record IsBetween (uses : List EdgeUse) (p q low high : ℕ) : Type 0 where
-  pub bounds : low ≤ high
-  pub within : high ≤ length uses
-  pub below : (k : ℕ) (d : EdgeUse) → k < low → stands_before p q (slice_index_or uses k d) ≡ true
-  pub above : (k : ℕ) (d : EdgeUse) → high ≤ k → k < length uses → stands_before p q (slice_index_or uses k d) ≡ false
-
--- so many stand before them
+-- of uses in order, so many stand before those of the edge from p to q
 abbrev pub IsRank : List EdgeUse → ℕ → ℕ → ℕ → Type 0
-IsRank uses p q rank = IsBetween uses p q rank rank
+IsRank uses p q rank = IsPartitionPoint (λ u. stands_before p q u ≡ true) (λ u. stands_before p q u ≡ false) uses rank

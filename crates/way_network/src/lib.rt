@@ -26,6 +26,3 @@ pub use laws::{
 };
 pub use map_base::LimitFault as GraphFault;
 pub use way::{Passage, Way};
-
-#[cfg(test)]
-mod graph_tests;

@@ -1,9 +1,8 @@
 //! Where the uses of an edge stand among uses in order.
 
-ghost use Rattle.std.specs.Prelude.{◌≡◌, ◌<◌, ◌+◌, ◌==◌, Bool, if◌then◌else◌, filter};
+ghost use Rattle.std.specs.Prelude.{◌≡◌, ◌≤◌, filter, length};
 ghost use Rattle.std.specs.List.Sorted.{IsSortedBy};
-ghost use Rattle.way_network.specs.declared.edge_use.EdgeUse.{EdgeUse};
-ghost use Rattle.way_network.specs.Uses.{IsBetween, IsRank, is_from, is_over, stands_before, use_is_before};
+ghost use Rattle.way_network.specs.Uses.{IsRank, is_from, is_over, stands_before, use_is_before};
 
 use crate::edge_use::EdgeUse;
 
@@ -17,31 +16,13 @@ fn stands_before(u: EdgeUse, p: u64, q: u64) -> bool
     from < p
 }
 
-// The bounds of a search once its middle was looked at.
-fn narrowed(low: usize, high: usize, middle: usize, is_below: bool) -> (usize, usize)
-    requires { middle < high }
-    ensures { result ≡ (if is_below then (middle + 1, high) else (low, middle)) }
-{
-    if is_below {
-        (middle + 1, high)
-    } else {
-        (low, middle)
-    }
-}
-
 /// How many uses stand before those of the edge from `p` to `q`.
 fn rank(uses: &[EdgeUse], p: u64, q: u64) -> usize
     requires { IsSortedBy use_is_before uses.now }
-    ensures { IsRank uses.now p q result }
+    ensures within { result ≤ length uses.now }
+    ensures parted { IsRank uses.now p q result }
 {
-    let mut low = 0;
-    let mut high = uses.len();
-    while low < high {
-        let middle = low + (high - low) / 2;
-        let is_below = stands_before(uses[middle], p, q);
-        (low, high) = narrowed(low, high, middle, is_below);
-    }
-    low
+    uses.partition_point(|u| stands_before(*u, p, q))
 }
 
 /// The uses of edges from point `p`.

@@ -2,11 +2,11 @@ use Rattle.std.proofs.Common.{◌≡◌, ◌∙◌, sym, refl, ap, subst, ℕ, �
 use Rattle.map_base.specs.declared.ids.StationId.{StationId}
 use Rattle.map_base.specs.declared.point.Point.{Point}
 use Rattle.map_base.specs.declared.limit.LimitKind.TheVariants.{Samples}
-use Rattle.shape_track.specs.Samples.{samples_of}
+use Rattle.shape_track.specs.Samples.{point_at, samples_of}
 use Rattle.shape_track.specs.Hops.{total_of}
 use Rattle.transit_feed.specs.declared.pattern.Pattern.{Pattern}
 use Rattle.transit_feed.specs.Feeds.{Feed}
-use Rattle.feed_courses.specs.Outcome.{stop_places, point_at, stop_points, course_points, course_hops, hops_along, sample_count}
+use Rattle.feed_courses.specs.Outcome.{stop_places, stop_points, course_points, course_hops, hops_along, sample_count}
 use Rattle.feed_courses.specs.Faults.{IsAbove}
 use Rattle.feed_courses.specs.Tables.{place_in, AreUsed}
 use Rattle.feed_courses.specs.declared.used.Used.{Used}

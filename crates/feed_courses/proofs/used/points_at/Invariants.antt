@@ -1,6 +1,6 @@
 use Rattle.std.proofs.Common.{◌≡◌, All, map, take}
 use Rattle.fixed_plane.specs.Plane.{IsInPlane}
-use Rattle.feed_courses.specs.Outcome.{point_at}
+use Rattle.shape_track.specs.Samples.{point_at}
 use Rattle.feed_courses.proofs.used.points_at.Given as goal
 
 abbrev pub invariant-loop-place : goal.invariant-loop-place

@@ -20,7 +20,7 @@ stretches_of-requires c = subst (λ (courses : List Course). All HasHops courses
 pub ways_over-requires-clause-asked : goal.ways_over-requires-clause-asked
 ways_over-requires-clause-asked c =
     asked_told c.args.near c.args.lines c.args.courses.now c.args.net.now c.in_ok-table.table c.as_slice.result.now
-    (ready c.args.near c.args.lines c.args.courses.now c.args.net.now c.net_points.ensures.kept c.requires.fit c.requires.served c.requires.net c.requires.directions c.requires.joined)
+    (ready c.args.near c.args.lines c.args.courses.now c.args.net.now c.requires.kept c.requires.fit c.requires.served c.requires.net c.requires.directions c.requires.joined)
     c.in_ok-table.ensures c.as_slice.ensures
 
 pub passages_of-requires : goal.passages_of-requires
@@ -38,17 +38,17 @@ returns-clause-passages c =
 pub returns-clause-network : goal.returns-clause-network
 returns-clause-network c =
     network_told c.args.near c.args.lines c.args.courses.now c.args.net.now c.in_ok-table.table c.as_slice.result.now
-    (ready c.args.near c.args.lines c.args.courses.now c.args.net.now c.net_points.ensures.kept c.requires.fit c.requires.served c.requires.net c.requires.directions c.requires.joined)
+    (ready c.args.near c.args.lines c.args.courses.now c.args.net.now c.requires.kept c.requires.fit c.requires.served c.requires.net c.requires.directions c.requires.joined)
     c.in_ok-table.ensures c.as_slice.ensures c.in_ok-ways.ensures.led
 
 pub returns-clause-are_passages : goal.returns-clause-are_passages
 returns-clause-are_passages c =
     are_passages_told c.args.near c.args.lines c.args.courses.now c.args.net.now c.in_ok-table.table c.as_slice.result.now
-    (ready c.args.near c.args.lines c.args.courses.now c.args.net.now c.net_points.ensures.kept c.requires.fit c.requires.served c.requires.net c.requires.directions c.requires.joined)
+    (ready c.args.near c.args.lines c.args.courses.now c.args.net.now c.requires.kept c.requires.fit c.requires.served c.requires.net c.requires.directions c.requires.joined)
     c.in_ok-table.ensures c.as_slice.ensures c.in_ok-ways.ensures.led
 
 pub returns-clause-kept : goal.returns-clause-kept
 returns-clause-kept c =
     kept_told c.args.near c.args.lines c.args.courses.now c.args.net.now c.in_ok-table.table c.as_slice.result.now
-    (ready c.args.near c.args.lines c.args.courses.now c.args.net.now c.net_points.ensures.kept c.requires.fit c.requires.served c.requires.net c.requires.directions c.requires.joined)
+    (ready c.args.near c.args.lines c.args.courses.now c.args.net.now c.requires.kept c.requires.fit c.requires.served c.requires.net c.requires.directions c.requires.joined)
     c.in_ok-table.ensures c.as_slice.ensures c.in_ok-ways.ensures.led

@@ -1,13 +1,11 @@
-use Rattle.std.proofs.Common.{◌≡◌, ◌≢◌, ap, ◌∙◌, arith}
+use Rattle.std.proofs.Common.{◌≡◌, ◌≢◌, subst, arith}
 use Rattle.std.proofs.lemmas.Result.{IfOk-weaker}
-use Rattle.net_paths.specs.Searching.{flags_along}
 use Rattle.net_paths.specs.Corridors.{CorridorParts}
 use Rattle.net_paths.specs.Stretches.{IsStretchPath}
 use Rattle.net_paths.specs.Walking.{IsWalked}
-use Rattle.net_paths.proofs.CostTables.{flags_along-is}
 use Rattle.net_paths.specs.Choices as choices
 use Rattle.net_paths.proofs.Choosing.{path_chosen}
-use Rattle.net_paths.proofs.Walked.{stretch_path_of, joined_in_range}
+use Rattle.net_paths.proofs.Walked.{joined_in_range}
 use Rattle.net_paths.proofs.stretch.stretch_path.Goals as goal
 
 pub note_costs_to-requires-clause-from_in_range : goal.note_costs_to-requires-clause-from_in_range
@@ -23,11 +21,9 @@ returns-clause-path c =
     let net = c.args.net.now in
     let corridor = c.in_ok-corridor.corridor in
     let known = c.note_costs_to.new.known in
-    IfOk-weaker c.walk.result (λ path. IsWalked (flags_along corridor net) net known c.args.from path.items) (λ path. IsStretchPath c.args.near c.args.corridor.now net c.args.from c.args.to path.items)
+    IfOk-weaker c.walk.result (λ path. IsWalked corridor net known c.args.from path.items) (λ path. IsStretchPath c.args.near c.args.corridor.now net c.args.from c.args.to path.items)
     (λ path walked.
-    stretch_path_of c.args.near c.args.corridor.now net c.len.ensures.kept (flags_along corridor net) c.args.from c.args.to path.items
-    (ap (λ (k : CorridorParts). flags_along k net) c.in_ok-corridor.ensures ∙ flags_along-is (record { near = c.args.near; samples = c.args.corridor.now }) net)
-    (walked c.args.to c.in_ok-note_costs_to.ensures))
+    subst (λ (k : CorridorParts). IsStretchPath k.near k.samples net c.args.from c.args.to path.items) c.in_ok-corridor.ensures (walked c.args.to c.in_ok-note_costs_to.ensures))
     c.walk.ensures
 
 pub returns-clause-chosen : goal.returns-clause-chosen

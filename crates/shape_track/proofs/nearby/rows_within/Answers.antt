@@ -3,7 +3,7 @@ use Rattle.std.specs.Global.{Global}
 use Rattle.std.specs.Option.{IfSome}
 use Rattle.shape_track.specs.declared.best_places.BestPlace.{BestPlace}
 use Rattle.shape_track.specs.BestPlaces.{IsRow, LeadsOn, AreRowsOf}
-use Rattle.shape_track.proofs.Courses.{point_at}
+use Rattle.shape_track.specs.Samples.{point_at}
 use Rattle.shape_track.proofs.NearbyLemmas.{rows_begun, rows_go_on}
 use Rattle.shape_track.proofs.nearby.rows_within.Goals as goal
 

@@ -1,10 +1,10 @@
 use Rattle.std.proofs.Common.{◌≡◌, refl, sym, ◌∙◌, ap, subst, ℕ, ◌+◌, ◌-◌, ◌<◌, ◌≤◌, List, [], None, drop, length, arith, rules}
 use Rattle.map_base.specs.declared.point.Point.{Point}
 use Rattle.shape_track.specs.Faults.{HasCause}
-use Rattle.shape_track.specs.Samples.{piece_points, cut_points, samples_of}
+use Rattle.shape_track.specs.Samples.{point_at, piece_points, cut_points, samples_of}
 use Rattle.shape_track.specs.Sampling.{Kept, kept_by, with_point, with_points}
 use Rattle.shape_track.proofs.Keeping.{HasCause-more}
-use Rattle.shape_track.proofs.Courses.{point_at, course_step, course_end, kept_from_nothing, kept_of_part}
+use Rattle.shape_track.proofs.Courses.{course_step, course_end, kept_from_nothing, kept_of_part}
 use Rattle.shape_track.proofs.samples.counted_samples.Goals as goal
 
 pub loop-index-preserved : goal.loop-index-preserved

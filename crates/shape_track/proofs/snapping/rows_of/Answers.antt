@@ -2,7 +2,7 @@ use Rattle.std.proofs.Common.{◌≡◌, sym, ◌∙◌, ap, subst, ℕ, ◌+◌
 use Rattle.map_base.specs.declared.point.Point.{Point}
 use Rattle.shape_track.specs.Sweeps.{AreLeastCosts, AreBounded, IsSweptDown, Leads}
 use Rattle.shape_track.specs.Rows.{LeadsFirst, AreRows}
-use Rattle.shape_track.proofs.Courses.{point_at}
+use Rattle.shape_track.specs.Samples.{point_at}
 use Rattle.shape_track.proofs.Leading.{swept_least, leads_of}
 use Rattle.shape_track.proofs.RowLemmas.{written_whole, rows_pushed, one_before}
 use Rattle.shape_track.proofs.snapping.rows_of.Goals as goal

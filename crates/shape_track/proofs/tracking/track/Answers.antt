@@ -2,10 +2,9 @@ use Rattle.std.proofs.Common.{◌≡◌, sym, ◌∙◌, ap, subst, ℕ, suc, �
 use Rattle.std.specs.Global.{Global}
 use Rattle.map_base.specs.declared.point.Point.{Point}
 use Rattle.shape_track.specs.Faults.{HasCause}
-use Rattle.shape_track.specs.Samples.{samples_of}
+use Rattle.shape_track.specs.Samples.{point_at, samples_of}
 use Rattle.shape_track.specs.Hops.{hop_points, hops_of, total_of}
 use Rattle.shape_track.proofs.Keeping.{HasCause-more}
-use Rattle.shape_track.proofs.Courses.{point_at}
 use Rattle.shape_track.proofs.HopLemmas.{places_count, place_in_range, places_rise, hop_at, hops_of-end, lists_of, hops_pushed, total_pushed, hop_counted}
 use Rattle.std.specs.List.{All}
 use Rattle.std.proofs.lemmas.List.{length-map, get_or-map}

@@ -1,8 +1,10 @@
-use Rattle.std.proofs.Common.{arith}
-use Rattle.way_network.proofs.UseOrder.{narrower}
+use Rattle.std.proofs.Common.{rules}
+use Rattle.std.proofs.lemmas.List.Sorted.{IsPartitionPoint-from_clause}
+use Rattle.way_network.specs.Uses.{stands_before}
+use Rattle.way_network.proofs.UseOrder.{uses_parted}
 use Rattle.way_network.proofs.ranks.rank.Goals as goal
 
-pub loop-low-preserved : goal.loop-low-preserved
-loop-low-preserved c =
-    narrower c.args.uses.now c.requires c.args.p c.args.q c.loop-low.low c.loop-low.high _ _ c.narrowed.result _ c.loop-low.invariant (omega arith) (omega (arith, c.loop-low-test.true)) c.stands_before-is_below.ensures
-    c.narrowed.ensures
+pub returns-clause-parted : goal.returns-clause-parted
+returns-clause-parted c =
+    IsPartitionPoint-from_clause (stands_before c.args.p c.args.q) c.args.uses.now c.partition_point.result c.partition_point.ensures.partitioned
+    (uses_parted c.args.uses.now c.args.p c.args.q c.requires) (λ a r q called. search rules)

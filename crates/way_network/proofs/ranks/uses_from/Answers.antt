@@ -4,12 +4,12 @@ use Rattle.way_network.proofs.UseOrder.{uses_from_are}
 use Rattle.way_network.proofs.ranks.uses_from.Goals as goal
 
 pub slice_bounds-result-count : goal.slice_bounds-result-count
-slice_bounds-result-count c = (uses_from_are c.args.uses.now c.from-p.result c.rank-low.result c.rank-high.result c.rank-low.ensures c.rank-high.ensures).0
+slice_bounds-result-count c = (uses_from_are c.args.uses.now c.from-p.result c.rank-low.result c.rank-high.result c.rank-low.ensures.within c.rank-high.ensures.within c.rank-low.ensures.parted c.rank-high.ensures.parted).0
 
 pub slice_bounds-result-start : goal.slice_bounds-result-start
 slice_bounds-result-start c = let le : c.rank-low.result ≤ c.rank-high.result = slice_bounds-result-count c in search rules
 
 pub returns : goal.returns
 returns c =
-    (uses_from_are c.args.uses.now c.from-p.result c.rank-low.result c.rank-high.result c.rank-low.ensures c.rank-high.ensures).1
+    (uses_from_are c.args.uses.now c.from-p.result c.rank-low.result c.rank-high.result c.rank-low.ensures.within c.rank-high.ensures.within c.rank-low.ensures.parted c.rank-high.ensures.parted).1
     ∙ ap (λ (p : ℕ). filter (is_from p) c.args.uses.now) c.from-p.ensures

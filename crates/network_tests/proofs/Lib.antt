@@ -1,0 +1,2 @@
+mod PremiseLemmas
+mod SmallFeed

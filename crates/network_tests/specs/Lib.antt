@@ -1,0 +1,2 @@
+pub mod PremiseTests
+pub mod SmallFeeds
