@@ -20,6 +20,3 @@ pub use laws::{
 };
 pub use whole::read_certificate;
 pub use writing::write_certificate;
-
-#[cfg(test)]
-mod tests;

@@ -14,6 +14,3 @@ pub use lines::{first_line, first_word, front_line, next_word};
 pub use numbers::{from_to, natural_within, number_of};
 pub use refusal::bad_text;
 pub use writing::{end_line, push_integer, push_natural, push_next_integer, push_next_natural};
-
-#[cfg(test)]
-mod tests;

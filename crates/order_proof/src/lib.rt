@@ -19,6 +19,3 @@ pub use proof::{Part, Proof};
 pub use reading::read_proof;
 pub use tree::Tree;
 pub use writing::write_proof;
-
-#[cfg(test)]
-mod tests;

@@ -1,4 +1,4 @@
-use super::*;
+use decimal_text::{end_line, front_line, push_natural, push_next_integer, push_next_natural};
 use std::test::Fail;
 
 #[test]

@@ -1,4 +1,4 @@
-use super::*;
+use cert_file::{read_certificate, write_certificate};
 use decimal_text::BadText;
 use std::test::Fail;
 

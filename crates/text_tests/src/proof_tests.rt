@@ -1,5 +1,5 @@
-use super::*;
 use map_base::NoMemory;
+use order_proof::{BadText, read_proof, write_proof};
 use std::alloc::Global;
 use std::test::Fail;
 
