@@ -5,7 +5,7 @@ use Rattle.std.specs.List.{All, list_any}
 use Rattle.std.specs.Option.{option_map}
 use Rattle.std.proofs.Math.ListN.{set}
 use Rattle.std.proofs.lemmas.Bool.{or_cases, or_left, or_right, ne_eqb, eqb-false}
-use Rattle.std.proofs.lemmas.List.{take_more, append-nil, length-set, map_push, get_or-set_same, get_or-set_other, length-append}
+use Rattle.std.proofs.lemmas.List.{take_more, append-nil, length-set, length-take-le, map_push, get_or-set_same, get_or-set_other, length-append}
 use Rattle.std.proofs.lemmas.List.Folds.{list_any-append}
 use Rattle.map_base.specs.declared.ids.SegId.{SegId}
 use Rattle.map_base.specs.declared.ids.LineId.{LineId}
@@ -124,11 +124,11 @@ pushed_line (l ∷ lines) x e end place line one y = by_test (l.line.0 == x.0) r
             sym (append-nil l.ends.items) ∙ ap (λ b. l.ends.items ++ cond b (end ∷ []) []) (sym other)
 
 -- two ends more, of the two lines of an Apart
-pub both_seen : (there : SegId) (a b : LineId) (w : ℕ) (one two three : List LineEnds) (first second : ApartEnd) → first ≡ apart_end there b w → second ≡ apart_end there a w → IsEndMore a first one two → IsEndMore b second two three
-    → (x : LineId) → ends_by three x ≡ ends_by one x ++ seen_by x there a b w
-both_seen there a b w one two three first second e1 e2 m1 m2 x =
+pub both_seen : (k : ℕ) (lesser : Bool) (there : SegId) (a b : LineId) (w : ℕ) (one two three : List LineEnds) (first second : ApartEnd) → first ≡ apart_end k lesser there b w → second ≡ apart_end k lesser there a w → IsEndMore a first one two → IsEndMore b second two three
+    → (x : LineId) → ends_by three x ≡ ends_by one x ++ seen_by x k lesser there a b w
+both_seen k lesser there a b w one two three first second e1 e2 m1 m2 x =
     m2.by x ∙ (ap (λ l. l ++ cond (b.0 == x.0) (second ∷ []) []) (m1.by x) ∙ (append_assoc (ends_by one x) (cond (a.0 == x.0) (first ∷ []) []) (cond (b.0 == x.0) (second ∷ []) [])
-    ∙ (ap (λ f. ends_by one x ++ (cond (a.0 == x.0) (f ∷ []) [] ++ cond (b.0 == x.0) (second ∷ []) [])) e1 ∙ ap (λ f. ends_by one x ++ (cond (a.0 == x.0) (apart_end there b w ∷ []) [] ++ cond (b.0 == x.0) (f ∷ []) [])) e2)))
+    ∙ (ap (λ f. ends_by one x ++ (cond (a.0 == x.0) (f ∷ []) [] ++ cond (b.0 == x.0) (second ∷ []) [])) e1 ∙ ap (λ f. ends_by one x ++ (cond (a.0 == x.0) (apart_end k lesser there b w ∷ []) [] ++ cond (b.0 == x.0) (f ∷ []) [])) e2)))
 
 -- A segment more.
 
@@ -148,19 +148,19 @@ last_among (x ∷ segs) (suc k) last seg below at same = or_right (x.0 == seg.0)
 
 -- A term more on each segment.
 
-pub none_more : (t : Term) (old : List SegmentEnds) → ((s : SegId) (x : LineId) → end_seen s x t ≡ []) → ((s : SegId) → is_apart_on s t ≡ false) → AreMoreBy t old old
-none_more t old nothing none = record { each = refl; on = λ s d e known at_d at_e. same s d e (at_d ∙ (any_default old s.0 d e known ∙ sym at_e)) }
+pub none_more : (k : ℕ) (t : Term) (old : List SegmentEnds) → ((s : SegId) (x : LineId) → end_seen s x k t ≡ []) → ((s : SegId) → is_apart_on s t ≡ false) → AreMoreBy k t old old
+none_more k t old nothing none = record { each = refl; on = λ s d e known at_d at_e. same s d e (at_d ∙ (any_default old s.0 d e known ∙ sym at_e)) }
   where
     any_default : (xs : List SegmentEnds) (k : ℕ) (d e : SegmentEnds) → k < length xs → get_or xs k d ≡ get_or xs k e
     any_default [] k d e h = absurd (omega (arith, h))
     any_default (x ∷ xs) zero d e h = refl
     any_default (x ∷ xs) (suc k) d e h = any_default xs k d e (omega (arith, h))
 
-    same : (s : SegId) (d e : SegmentEnds) → d ≡ e → IsTermMore s t d e
+    same : (s : SegId) (d e : SegmentEnds) → d ≡ e → IsTermMore s k t d e
     same s d e is = record {
-      by = λ x. ap (λ (k : SegmentEnds). ends_by k.lines.items x) (sym is) ∙ (sym (append-nil (ends_by d.lines.items x)) ∙ ap (λ l. ends_by d.lines.items x ++ l) (sym (nothing s x)));
-      kept = λ u h. ap (λ (k : SegmentEnds). is_in k.joined.items u) (sym is) ∙ h;
-      here = λ u ne h k. absurd (true≢false (sym h ∙ none s));
+      by = λ x. ap (λ (m : SegmentEnds). ends_by m.lines.items x) (sym is) ∙ (sym (append-nil (ends_by d.lines.items x)) ∙ ap (λ l. ends_by d.lines.items x ++ l) (sym (nothing s x)));
+      kept = λ u h. ap (λ (m : SegmentEnds). is_in m.joined.items u) (sym is) ∙ h;
+      here = λ u ne h g. absurd (true≢false (sym h ∙ none s));
     }
 
 any_side : (xs : List SegmentEnds) (k : ℕ) (d e : SegmentEnds) → k < length xs → get_or xs k d ≡ get_or xs k e
@@ -168,10 +168,10 @@ any_side [] k d e h = absurd (omega (arith, h))
 any_side (x ∷ xs) zero d e h = refl
 any_side (x ∷ xs) (suc k) d e h = any_side xs k d e (omega (arith, h))
 
-pub both_more : (seg other : SegId) (a b : LineId) (w : ℕ) (sides one two : List SegmentEnds) (g g2 h h2 : SegmentEnds) → seg.0 < other.0 → other.0 < length sides
-    → g ≡ get_or sides seg.0 g → one ≡ set sides seg.0 g2 → IsApartMore other a b w g g2 → h ≡ get_or one other.0 h → two ≡ set one other.0 h2 → IsApartMore seg a b w h h2
-    → AreMoreBy (Apart seg other a b w) sides two
-both_more seg other a b w sides one two g g2 h h2 rises known at_g e1 m1 at_h e2 m2 = record {
+pub both_more : (k : ℕ) (seg other : SegId) (a b : LineId) (w : ℕ) (sides one two : List SegmentEnds) (g g2 h h2 : SegmentEnds) → seg.0 < other.0 → other.0 < length sides
+    → g ≡ get_or sides seg.0 g → one ≡ set sides seg.0 g2 → IsApartMore k true other a b w g g2 → h ≡ get_or one other.0 h → two ≡ set one other.0 h2 → IsApartMore k false seg a b w h h2
+    → AreMoreBy k (Apart seg other a b w) sides two
+both_more k seg other a b w sides one two g g2 h h2 rises known at_g e1 m1 at_h e2 m2 = record {
   each = ap length e2 ∙ (length-set one other.0 h2 ∙ (ap length e1 ∙ length-set sides seg.0 g2));
   on = λ s d e within at_d at_e. by_tests s d e within at_d at_e (seg.0 == s.0) refl (other.0 == s.0) refl;
 }
@@ -209,17 +209,17 @@ both_more seg other a b w sides one two g g2 h h2 rises known at_g e1 m1 at_h e2
     turned_or false false = refl
 
     seen : SegId → LineId → Bool → Bool → List ApartEnd
-    seen s x p q = cond p (seen_by x other a b w) [] ++ cond q (seen_by x seg a b w) []
+    seen s x p q = cond p (seen_by x k true other a b w) [] ++ cond q (seen_by x k false seg a b w) []
 
-    by_tests : (s : SegId) (d e : SegmentEnds) → s.0 < length sides → d ≡ get_or sides s.0 d → e ≡ get_or two s.0 e → (p : Bool) → (seg.0 == s.0) ≡ p → (q : Bool) → (other.0 == s.0) ≡ q → IsTermMore s (Apart seg other a b w) d e
+    by_tests : (s : SegId) (d e : SegmentEnds) → s.0 < length sides → d ≡ get_or sides s.0 d → e ≡ get_or two s.0 e → (p : Bool) → (seg.0 == s.0) ≡ p → (q : Bool) → (other.0 == s.0) ≡ q → IsTermMore s k (Apart seg other a b w) d e
     by_tests s d e within at_d at_e true p true q = absurd (differ (eqb-true seg.0 s.0 p ∙ sym (eqb-true other.0 s.0 q)))
     by_tests s d e within at_d at_e true p false q =
         let here : seg.0 ≡ s.0 = eqb-true seg.0 s.0 p in
         let old : g ≡ d = at_g ∙ (any_side sides seg.0 g d (omega (arith, rises, known)) ∙ (ap (λ k. get_or sides k d) here ∙ sym at_d)) in
         let new : g2 ≡ e = sym (first_read e) ∙ (ap (λ k. get_or two k e) here ∙ sym at_e) in
-        let more : IsApartMore other a b w d e = subst (λ (k : SegmentEnds). IsApartMore other a b w k e) old (subst (IsApartMore other a b w g) new m1) in
+        let more : IsApartMore k true other a b w d e = subst (λ (m : SegmentEnds). IsApartMore k true other a b w m e) old (subst (IsApartMore k true other a b w g) new m1) in
         record {
-          by = λ x. more.by x ∙ (ap (λ l. ends_by d.lines.items x ++ l) (sym (append-nil (seen_by x other a b w)))
+          by = λ x. more.by x ∙ (ap (λ l. ends_by d.lines.items x ++ l) (sym (append-nil (seen_by x k true other a b w)))
               ∙ (ap (λ r. ends_by d.lines.items x ++ seen s x true r) (sym q) ∙ ap (λ r. ends_by d.lines.items x ++ seen s x r (other.0 == s.0)) (sym p)));
           kept = more.joins.kept;
           here = λ u ne on_s on_u. subst (λ (k : SegId). is_in e.joined.items k ≡ true) (the_other u seg other (λ same. ne (same ∙ here)) on_u) more.joins.here;
@@ -228,7 +228,7 @@ both_more seg other a b w sides one two g g2 h h2 rises known at_g e1 m1 at_h e2
         let here : other.0 ≡ s.0 = eqb-true other.0 s.0 q in
         let old : h ≡ d = second_old ∙ (any_side sides other.0 h d known ∙ (ap (λ k. get_or sides k d) here ∙ sym at_d)) in
         let new : h2 ≡ e = sym (second_read e) ∙ (ap (λ k. get_or two k e) here ∙ sym at_e) in
-        let more : IsApartMore seg a b w d e = subst (λ (k : SegmentEnds). IsApartMore seg a b w k e) old (subst (IsApartMore seg a b w h) new m2) in
+        let more : IsApartMore k false seg a b w d e = subst (λ (m : SegmentEnds). IsApartMore k false seg a b w m e) old (subst (IsApartMore k false seg a b w h) new m2) in
         record {
           by = λ x. more.by x ∙ (ap (λ r. ends_by d.lines.items x ++ seen s x false r) (sym q) ∙ ap (λ r. ends_by d.lines.items x ++ seen s x r (other.0 == s.0)) (sym p));
           kept = more.joins.kept;
@@ -239,17 +239,18 @@ both_more seg other a b w sides one two g g2 h h2 rises known at_g e1 m1 at_h e2
         ap (λ l. get_or l s.0 e) e2 ∙ (get_or-set_other one other.0 s.0 h2 e (λ same. eqb-false other.0 s.0 q (sym same)) ∙ (ap (λ l. get_or l s.0 e) e1 ∙ get_or-set_other sides seg.0 s.0 g2 e (λ same. eqb-false seg.0 s.0 p (sym same)))) in
         let is : d ≡ e = at_d ∙ (any_side sides s.0 d e within ∙ (sym kept ∙ sym at_e)) in
         record {
-          by = λ x. ap (λ (k : SegmentEnds). ends_by k.lines.items x) (sym is) ∙ (sym (append-nil (ends_by d.lines.items x))
+          by = λ x. ap (λ (m : SegmentEnds). ends_by m.lines.items x) (sym is) ∙ (sym (append-nil (ends_by d.lines.items x))
               ∙ (ap (λ r. ends_by d.lines.items x ++ seen s x false r) (sym q) ∙ ap (λ r. ends_by d.lines.items x ++ seen s x r (other.0 == s.0)) (sym p)));
-          kept = λ u k. ap (λ (m : SegmentEnds). is_in m.joined.items u) (sym is) ∙ k;
+          kept = λ u g. ap (λ (m : SegmentEnds). is_in m.joined.items u) (sym is) ∙ g;
           here = λ u ne on_s on_u. absurd (true≢false (sym on_s ∙ (ap (λ r. r || other.0 == s.0) p ∙ q)));
         }
 
 -- All terms.
 
-ends_push : (s : SegId) (x : LineId) (done : List (ℕ × Term)) (t : ℕ × Term) → ends_seen s x (done ++ t ∷ []) ≡ ends_seen s x done ++ end_seen s x t.1
-ends_push s x [] t = append-nil (end_seen s x t.1)
-ends_push s x (u ∷ done) t = ap (λ l. end_seen s x u.1 ++ l) (ends_push s x done t) ∙ sym (append_assoc (end_seen s x u.1) (ends_seen s x done) (end_seen s x t.1))
+ends_push : (s : SegId) (x : LineId) (k m : ℕ) (done : List (ℕ × Term)) (t : ℕ × Term) → m ≡ k + length done → ends_seen s x k (done ++ t ∷ []) ≡ ends_seen s x k done ++ end_seen s x m t.1
+ends_push s x k m [] t e = (let here : k ≡ m = omega (arith, e) in append-nil (end_seen s x k t.1) ∙ ap (λ n. end_seen s x n t.1) here)
+ends_push s x k m (u ∷ done) t e =
+    ap (λ l. end_seen s x k u.1 ++ l) (ends_push s x (k + 1) m done t (omega (arith, e))) ∙ sym (append_assoc (end_seen s x k u.1) (ends_seen s x (k + 1) done) (end_seen s x m t.1))
 
 -- an Apart of these or the last one
 joined_push : (s u : SegId) (done : List (ℕ × Term)) (t : ℕ × Term) → list_any (is_apart_on u) (aparts_on s (done ++ t ∷ [])) ≡ true
@@ -273,11 +274,11 @@ joined_push s u (v ∷ done) t h = by_test (is_apart_on s v.1) h (joined_push s 
       ]
     ]
 
-pub by_ends_more : (count : ℕ) (done : List (ℕ × Term)) (t : ℕ × Term) (old new : List SegmentEnds) → AreByEnds count done old → AreMoreBy t.1 old new → AreByEnds count (done ++ t ∷ []) new
+pub by_ends_more : (count : ℕ) (done : List (ℕ × Term)) (t : ℕ × Term) (old new : List SegmentEnds) → AreByEnds count done old → AreMoreBy (length done) t.1 old new → AreByEnds count (done ++ t ∷ []) new
 by_ends_more count done t old new ok more = record {
   each = more.each ∙ ok.each;
   on = λ s e x known at. (let within : s.0 < length old = omega (arith, known, ok.each) in let d : SegmentEnds = get_or old s.0 e in let here : d ≡ get_or old s.0 d = any_side old s.0 e d within in
-      (more.on s d e within here at).by x ∙ (ap (λ l. l ++ end_seen s x t.1) (ok.on s d x known here) ∙ sym (ends_push s x done t)));
+      (more.on s d e within here at).by x ∙ (ap (λ l. l ++ end_seen s x (length done) t.1) (ok.on s d x known here) ∙ sym (ends_push s x 0 (length done) done t (omega arith))));
   joined = λ s u e known at ne h. (let within : s.0 < length old = omega (arith, known, ok.each) in let d : SegmentEnds = get_or old s.0 e in let here : d ≡ get_or old s.0 d = any_side old s.0 e d within in
       elim (joined_push s u done t h) [
         | inl before ↦ (more.on s d e within here at).kept u (ok.joined s u d known here ne before)
@@ -285,14 +286,19 @@ by_ends_more count done t old new ok more = record {
       ]);
 }
 
+few_by : (terms : List Term) (numbers : List ℕ) → length (terms_by_number terms numbers) ≡ length numbers
+few_by terms [] = refl
+few_by terms (n ∷ numbers) = ap suc (few_by terms numbers)
+
 pub by_ends_next : (count : ℕ) (terms held : List Term) (numbers : List ℕ) (i n : ℕ) (d : Term) (old new : List SegmentEnds) → i < length numbers → All (λ n. n < length terms) numbers → held ≡ terms
-    → AreByEnds count (terms_by_number terms (take i numbers)) old → AreMoreBy (get_or held (get_or numbers i n) d) old new → AreByEnds count (terms_by_number terms (take (i + 1) numbers)) new
+    → AreByEnds count (terms_by_number terms (take i numbers)) old → AreMoreBy i (get_or held (get_or numbers i n) d) old new → AreByEnds count (terms_by_number terms (take (i + 1) numbers)) new
 by_ends_next count terms held numbers i n d old new below known e ok more =
     let k : ℕ = get_or numbers i n in
     let Q : Term → ℕ × Term = λ t. (k, t) in
     let same : get_or held k d ≡ get_or terms k no_term = ap (λ l. get_or l k d) e ∙ get_or-any terms k d no_term (known i n below) in
+    let many : length (terms_by_number terms (take i numbers)) ≡ i = omega (arith, few_by terms (take i numbers), length-take-le i numbers (omega (arith, below))) in
     subst (λ l. AreByEnds count l new) (sym (ap (terms_by_number terms) (take_more numbers i n below) ∙ map_push (λ n. (n, get_or terms n no_term)) (take i numbers) k))
-    (by_ends_more count (terms_by_number terms (take i numbers)) (Q (get_or terms k no_term)) old new ok (subst (λ t. AreMoreBy t old new) same more))
+    (by_ends_more count (terms_by_number terms (take i numbers)) (Q (get_or terms k no_term)) old new ok (subst (λ j. AreMoreBy j (get_or terms k no_term) old new) (sym many) (subst (λ t. AreMoreBy i t old new) same more)))
   where
     get_or-any : (xs : List Term) (k : ℕ) (d e : Term) → k < length xs → get_or xs k d ≡ get_or xs k e
     get_or-any [] k d e h = absurd (omega (arith, h))

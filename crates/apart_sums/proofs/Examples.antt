@@ -32,10 +32,10 @@ terms = (0, Apart (seg 0) (seg 1) (line 0) (line 1) 5) ∷ (1, Side (seg 0) (lin
 
 -- What a line sees.
 
-seen_from_first : ends_seen (seg 0) (line 0) terms ≡ apart_end (seg 1) (line 1) 5 ∷ apart_end (seg 1) (line 2) 7 ∷ []
+seen_from_first : ends_seen (seg 0) (line 0) 0 terms ≡ apart_end 0 true (seg 1) (line 1) 5 ∷ apart_end 2 true (seg 1) (line 2) 7 ∷ []
 seen_from_first = refl
 
-seen_from_second : ends_seen (seg 1) (line 3) terms ≡ apart_end (seg 0) (line 1) 11 ∷ apart_end (seg 0) (line 2) 13 ∷ []
+seen_from_second : ends_seen (seg 1) (line 3) 0 terms ≡ apart_end 3 false (seg 0) (line 1) 11 ∷ apart_end 4 false (seg 0) (line 2) 13 ∷ []
 seen_from_second = refl
 
 -- Placings on the first segment: what they add is what the total rises by.
@@ -47,7 +47,7 @@ abbrev step : List LineId → LineId → Step
 step first next = record { seg = seg 0; last = last_of first; line = next; leaves_two = false }
 
 abbrev rise : List LineId → LineId → ℕ
-rise first next = rise_of segs (placed first) (λ x. ends_seen (seg 0) x terms) (step first next)
+rise first next = rise_of segs (placed first) (λ x. ends_seen (seg 0) x 0 terms) (step first next)
 
 -- a first line settles nothing while three are left
 first_line : rise [] (line 0) ≡ 0
@@ -65,7 +65,7 @@ beside_one : rise (line 0 ∷ []) (line 1) ≡ 7
 beside_one = refl
 
 -- which leaves 2 and 3, neighbours here and not there
-left_two : rise_of segs (placed (line 0 ∷ [])) (λ x. ends_seen (seg 0) x terms) (record { seg = seg 0; last = Some (line 0); line = line 1; leaves_two = true }) ≡ 20
+left_two : rise_of segs (placed (line 0 ∷ [])) (λ x. ends_seen (seg 0) x 0 terms) (record { seg = seg 0; last = Some (line 0); line = line 1; leaves_two = true }) ≡ 20
 left_two = refl
 
 left_total : settled_sum segs (placed_more segs (placed (line 0 ∷ [])) (seg 0) (line 1)) terms ≡ 20

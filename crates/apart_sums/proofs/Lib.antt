@@ -8,3 +8,7 @@ pub mod Settling
 mod Standing
 mod Totals
 mod Placings
+mod Noting
+mod Answering
+mod Keeping
+mod Moves

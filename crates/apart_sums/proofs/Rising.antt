@@ -114,7 +114,7 @@ module _ (segs placed : List (List LineId)) (s : SegId) (line : LineId) (apart :
   before = lines_on placed s
 
   -- two lines of the segment, and the other segment of an Apart of them
-  module _ (u : SegId) (a b : LineId) (w : ℕ) (ne : a.0 ≢ b.0) (apart_there : AreApart (lines_on placed u)) where
+  module _ (k : ℕ) (lesser : Bool) (u : SegId) (a b : LineId) (w : ℕ) (ne : a.0 ≢ b.0) (apart_there : AreApart (lines_on placed u)) where
     abbrev there : Option Bool
     there = neighbours_on (lines_on segs u) (lines_on placed u) a b
 
@@ -129,10 +129,10 @@ module _ (segs placed : List (List LineId)) (s : SegId) (line : LineId) (apart :
 
     -- by the last placed line
     pub last_adds : (o : Option LineId) → last_of before ≡ o
-        → sum_of (last_cost segs placed s line) (λ x. seen_by x u a b w) o ≡ apart_cost w (by_last_line (is_placed before a) (is_placed before b) (a.0 == line.0) (b.0 == line.0) (is_the o a) (is_the o b)) there
+        → sum_of (last_cost segs placed s line) (λ x. seen_by x k lesser u a b w) o ≡ apart_cost w (by_last_line (is_placed before a) (is_placed before b) (a.0 == line.0) (b.0 == line.0) (is_the o a) (is_the o b)) there
     last_adds None e = refl
     last_adds (Some l) e =
-        two_seen (last_cost segs placed s line l) (a.0 == l.0) (b.0 == l.0) (apart_end u b w) (apart_end u a w)
+        two_seen (last_cost segs placed s line l) (a.0 == l.0) (b.0 == l.0) (apart_end k lesser u b w) (apart_end k lesser u a w)
         ∙ (by_tests (a.0 == l.0) refl (b.0 == l.0) refl ∙ ap (λ (p : Bool). apart_cost w (by_last_line (is_placed before a) (is_placed before b) (a.0 == line.0) (b.0 == line.0) p (b.0 == l.0)) there) (turned a.0 l.0)
         ∙ ap (λ (p : Bool). apart_cost w (by_last_line (is_placed before a) (is_placed before b) (a.0 == line.0) (b.0 == line.0) (l.0 == a.0) p) there) (turned b.0 l.0))
       where
@@ -141,7 +141,7 @@ module _ (segs placed : List (List LineId)) (s : SegId) (line : LineId) (apart :
         settles c x o false = refl
 
         by_tests : (p : Bool) → (a.0 == l.0) ≡ p → (q : Bool) → (b.0 == l.0) ≡ q
-            → cond p (last_cost segs placed s line l (apart_end u b w)) 0 + cond q (last_cost segs placed s line l (apart_end u a w)) 0
+            → cond p (last_cost segs placed s line l (apart_end k lesser u b w)) 0 + cond q (last_cost segs placed s line l (apart_end k lesser u a w)) 0
             ≡ apart_cost w (by_last_line (is_placed before a) (is_placed before b) (a.0 == line.0) (b.0 == line.0) p q) there
         by_tests true f true g = absurd (true≢false (sym g ∙ other_line l f))
         by_tests false f false g = refl
@@ -149,19 +149,19 @@ module _ (segs placed : List (List LineId)) (s : SegId) (line : LineId) (apart :
             let is : a ≡ l = same_line a l f in
             let first : comes_before before l b ≡ not (is_placed before b) = before_last before l b apart e (turned l.0 b.0 ∙ g) in
             let answer : neighbours_on (lines_on segs u) (lines_on placed u) l b ≡ there = ap (λ k. neighbours_on (lines_on segs u) (lines_on placed u) k b) (sym is) in
-            let one : last_cost segs placed s line l (apart_end u b w) ≡ cond (not (is_placed before b)) (apart_cost w (Some (b.0 == line.0)) there) 0 =
+            let one : last_cost segs placed s line l (apart_end k lesser u b w) ≡ cond (not (is_placed before b)) (apart_cost w (Some (b.0 == line.0)) there) 0 =
             ap (λ (p : Bool). cond p (apart_cost w (Some (b.0 == line.0)) (neighbours_on (lines_on segs u) (lines_on placed u) l b)) 0) first ∙ ap (λ o. cond (not (is_placed before b)) (apart_cost w (Some (b.0 == line.0)) o) 0) answer in
             omega (arith, one, settles b (b.0 == line.0) there (is_placed before b))
         by_tests false f true g =
             let is : b ≡ l = same_line b l g in
             let first : comes_before before l a ≡ not (is_placed before a) = before_last before l a apart e (turned l.0 a.0 ∙ f) in
             let answer : neighbours_on (lines_on segs u) (lines_on placed u) l a ≡ there = ap (λ k. neighbours_on (lines_on segs u) (lines_on placed u) k a) (sym is) ∙ there_turned in
-            let one : last_cost segs placed s line l (apart_end u a w) ≡ cond (not (is_placed before a)) (apart_cost w (Some (a.0 == line.0)) there) 0 =
+            let one : last_cost segs placed s line l (apart_end k lesser u a w) ≡ cond (not (is_placed before a)) (apart_cost w (Some (a.0 == line.0)) there) 0 =
             ap (λ (p : Bool). cond p (apart_cost w (Some (a.0 == line.0)) (neighbours_on (lines_on segs u) (lines_on placed u) l a)) 0) first ∙ ap (λ o. cond (not (is_placed before a)) (apart_cost w (Some (a.0 == line.0)) o) 0) answer in
             omega (arith, one, settles a (a.0 == line.0) there (is_placed before a))
 
     -- by being left
-    three_left : (x : LineId) → length before + 3 ≡ length lines → All (Contains lines) before → Contains lines line → is_placed before line ≡ false → Contains lines a → Contains lines b → Contains lines x
+    pub three_left : (x : LineId) → length before + 3 ≡ length lines → All (Contains lines) before → Contains lines line → is_placed before line ≡ false → Contains lines a → Contains lines b → Contains lines x
         → is_left_then before line a ≡ true → is_left_then before line b ≡ true → is_left_then before line x ≡ true → (a.0 == x.0) ≡ false → (b.0 == x.0) ≡ false → ⊥
     three_left x count known on free on_a on_b on_x left_a left_b left_x ne_a ne_b =
         let pa = left_parts a left_a in let pb = left_parts b left_b in let px = left_parts x left_x in
@@ -187,7 +187,7 @@ module _ (segs placed : List (List LineId)) (s : SegId) (line : LineId) (apart :
             by_tests false e false f h = (e, f)
 
     pub left_adds : (two : Bool) → (length before + 3 == length lines) ≡ two → All (Contains lines) before → Contains lines line → is_placed before line ≡ false → Contains lines a → Contains lines b
-        → cond two (sum_of (left_cost segs placed s line) (λ x. seen_by x u a b w) (first_left lines before line)) 0
+        → cond two (sum_of (left_cost segs placed s line) (λ x. seen_by x k lesser u a b w) (first_left lines before line)) 0
         ≡ apart_cost w (by_being_left (is_placed before a) (is_placed before b) (a.0 == line.0) (b.0 == line.0) two) there
     left_adds false e known on free on_a on_b = ap (λ (p : Bool). apart_cost w (cond p (Some true) None) there) (sym (none (((not (is_placed before a)) && not (is_placed before b)) && ((not (a.0 == line.0)) && not (b.0 == line.0)))))
       where
@@ -216,24 +216,24 @@ module _ (segs placed : List (List LineId)) (s : SegId) (line : LineId) (apart :
         all_false all c (k, below, is) = ap (is_left_then before line) (sym is) ∙ all k c below
 
         by_found : ((x : LineId) × (find (is_left_then before line) lines ≡ Some x) × Contains lines x × (is_left_then before line x ≡ true)) ⊎ ((find (is_left_then before line) lines ≡ None) × All (λ c. is_left_then before line c ≡ false) lines)
-            → sum_of (left_cost segs placed s line) (λ x. seen_by x u a b w) (first_left lines before line)
+            → sum_of (left_cost segs placed s line) (λ x. seen_by x k lesser u a b w) (first_left lines before line)
             ≡ apart_cost w (by_being_left (is_placed before a) (is_placed before b) (a.0 == line.0) (b.0 == line.0) true) there
         by_found (inr h) =
-            ap (sum_of (left_cost segs placed s line) (λ x. seen_by x u a b w)) h.0
+            ap (sum_of (left_cost segs placed s line) (λ x. seen_by x k lesser u a b w)) h.0
             ∙ (ap (λ (p : Bool). apart_cost w (cond (p && is_left_then before line b) (Some true) None) there) (sym (all_false h.1 a on_a)) ∙ answered)
         by_found (inl (x, is, on_x, left_x)) =
-            ap (sum_of (left_cost segs placed s line) (λ x. seen_by x u a b w)) is
-            ∙ (two_seen (left_cost segs placed s line x) (a.0 == x.0) (b.0 == x.0) (apart_end u b w) (apart_end u a w) ∙ (by_tests (a.0 == x.0) refl (b.0 == x.0) refl ∙ answered))
+            ap (sum_of (left_cost segs placed s line) (λ x. seen_by x k lesser u a b w)) is
+            ∙ (two_seen (left_cost segs placed s line x) (a.0 == x.0) (b.0 == x.0) (apart_end k lesser u b w) (apart_end k lesser u a w) ∙ (by_tests (a.0 == x.0) refl (b.0 == x.0) refl ∙ answered))
           where
             by_tests : (p : Bool) → (a.0 == x.0) ≡ p → (q : Bool) → (b.0 == x.0) ≡ q
-                → cond p (left_cost segs placed s line x (apart_end u b w)) 0 + cond q (left_cost segs placed s line x (apart_end u a w)) 0
+                → cond p (left_cost segs placed s line x (apart_end k lesser u b w)) 0 + cond q (left_cost segs placed s line x (apart_end k lesser u a w)) 0
                 ≡ apart_cost w (cond (is_left_then before line a && is_left_then before line b) (Some true) None) there
             by_tests true f true g = absurd (true≢false (sym g ∙ other_line x f))
             by_tests true f false g =
                 let this : a ≡ x = same_line a x f in
                 let left : is_left_then before line a ≡ true = ap (is_left_then before line) this ∙ left_x in
                 let answer : neighbours_on (lines_on segs u) (lines_on placed u) x b ≡ there = ap (λ k. neighbours_on (lines_on segs u) (lines_on placed u) k b) (sym this) in
-                let one : left_cost segs placed s line x (apart_end u b w) ≡ cond (is_left_then before line b) (apart_cost w (Some true) there) 0 = ap (λ o. cond (is_left_then before line b) (apart_cost w (Some true) o) 0) answer in
+                let one : left_cost segs placed s line x (apart_end k lesser u b w) ≡ cond (is_left_then before line b) (apart_cost w (Some true) there) 0 = ap (λ o. cond (is_left_then before line b) (apart_cost w (Some true) o) 0) answer in
                 let both : apart_cost w (cond (is_left_then before line b) (Some true) None) there ≡ apart_cost w (cond (is_left_then before line a && is_left_then before line b) (Some true) None) there =
                 ap (λ (p : Bool). apart_cost w (cond (p && is_left_then before line b) (Some true) None) there) (sym left) in
                 omega (arith, one, settles there (is_left_then before line b), both)
@@ -241,7 +241,7 @@ module _ (segs placed : List (List LineId)) (s : SegId) (line : LineId) (apart :
                 let this : b ≡ x = same_line b x g in
                 let left : is_left_then before line b ≡ true = ap (is_left_then before line) this ∙ left_x in
                 let answer : neighbours_on (lines_on segs u) (lines_on placed u) x a ≡ there = ap (λ k. neighbours_on (lines_on segs u) (lines_on placed u) k a) (sym this) ∙ there_turned in
-                let one : left_cost segs placed s line x (apart_end u a w) ≡ cond (is_left_then before line a) (apart_cost w (Some true) there) 0 = ap (λ o. cond (is_left_then before line a) (apart_cost w (Some true) o) 0) answer in
+                let one : left_cost segs placed s line x (apart_end k lesser u a w) ≡ cond (is_left_then before line a) (apart_cost w (Some true) there) 0 = ap (λ o. cond (is_left_then before line a) (apart_cost w (Some true) o) 0) answer in
                 let both : apart_cost w (cond (is_left_then before line a) (Some true) None) there ≡ apart_cost w (cond (is_left_then before line a && is_left_then before line b) (Some true) None) there =
                 ap (λ (p : Bool). apart_cost w (cond p (Some true) None) there) (sym (and_true (is_left_then before line a)) ∙ ap (λ p. is_left_then before line a && p) (sym left)) in
                 omega (arith, one, settles there (is_left_then before line a), both)

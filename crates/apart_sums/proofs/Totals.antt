@@ -68,34 +68,34 @@ module _ (segs placed next : List (List LineId)) (s : SegId) (line : LineId) (he
       by_two false = omega (arith, both_sums (last_cost segs placed s line) f g (last_of before))
 
   -- an Apart of two lines of the segment
-  one_added : (u : SegId) (a b : LineId) (w : ℕ) → a.0 ≢ b.0 → Contains lines a → Contains lines b
+  one_added : (k : ℕ) (lesser : Bool) (u : SegId) (a b : LineId) (w : ℕ) → a.0 ≢ b.0 → Contains lines a → Contains lines b
       → apart_cost w (neighbours_on lines after a b) (neighbours_on (lines_on segs u) (lines_on placed u) a b)
-      ≡ apart_cost w (neighbours_on lines before a b) (neighbours_on (lines_on segs u) (lines_on placed u) a b) + added (λ x. seen_by x u a b w)
-  one_added u a b w ne on_a on_b =
+      ≡ apart_cost w (neighbours_on lines before a b) (neighbours_on (lines_on segs u) (lines_on placed u) a b) + added (λ x. seen_by x k lesser u a b w)
+  one_added k lesser u a b w ne on_a on_b =
       let there : Option Bool = neighbours_on (lines_on segs u) (lines_on placed u) a b in
       let pa : Bool = is_placed before a in let pb : Bool = is_placed before b in
       let moved = cost_moved w (neighbours_on lines before a b) (neighbours_on lines after a b) (fresh_by pa pb (a.0 == line.0) (b.0 == line.0) (place_of before a) (place_of before b) (length before) (length lines)) there
       (step_moved lines before after line a b step on_a on_b ne) in
       let parts = cost_parts w pa pb (a.0 == line.0) (b.0 == line.0) (place_of before a) (place_of before b) (length before) (length lines) there in
-      let last = last_adds segs placed s line step.apart_before u a b w ne (apart u) (last_of before) refl in
-      let left = left_adds segs placed s line step.apart_before u a b w ne (apart u) two refl known here step.free on_a on_b in
+      let last = last_adds segs placed s line step.apart_before k lesser u a b w ne (apart u) (last_of before) refl in
+      let left = left_adds segs placed s line step.apart_before k lesser u a b w ne (apart u) two refl known here step.free on_a on_b in
       let first = ap (λ (p : Bool). apart_cost w (by_last_line pa pb (a.0 == line.0) (b.0 == line.0) p (pb && (place_of before b + 1 == length before))) there) (last_is before a step.apart_before) in
       let second = ap (λ (p : Bool). apart_cost w (by_last_line pa pb (a.0 == line.0) (b.0 == line.0) (is_the (last_of before) a) p) there) (last_is before b step.apart_before) in
       omega (arith, moved, parts, last, left, first, second)
 
   -- a term
-  term_added : (t : Term) → IsTerm segs t → settled_cost segs next t ≡ settled_cost segs placed t + added (λ x. end_seen s x t)
-  term_added (Side seg first second w) ok = omega (arith, none_added)
-  term_added (Link seg other flip a b w) ok = omega (arith, none_added)
-  term_added (Apart seg other a b w) ok = by_tests (seg.0 == s.0) refl (other.0 == s.0) refl
+  term_added : (k : ℕ) (t : Term) → IsTerm segs t → settled_cost segs next t ≡ settled_cost segs placed t + added (λ x. end_seen s x k t)
+  term_added k (Side seg first second w) ok = omega (arith, none_added)
+  term_added k (Link seg other flip a b w) ok = omega (arith, none_added)
+  term_added k (Apart seg other a b w) ok = by_tests (seg.0 == s.0) refl (other.0 == s.0) refl
     where
       ne : a.0 ≢ b.0
       ne e = absurd (let below = ok.a_below in omega (arith, below, e))
 
       seen : Bool → Bool → LineId → List ApartEnd
-      seen p q x = cond p (seen_by x other a b w) [] ++ cond q (seen_by x seg a b w) []
+      seen p q x = cond p (seen_by x k true other a b w) [] ++ cond q (seen_by x k false seg a b w) []
 
-      shown : (p q : Bool) → (seg.0 == s.0) ≡ p → (other.0 == s.0) ≡ q → added (λ x. end_seen s x (Apart seg other a b w)) ≡ added (λ x. seen p q x)
+      shown : (p q : Bool) → (seg.0 == s.0) ≡ p → (other.0 == s.0) ≡ q → added (λ x. end_seen s x k (Apart seg other a b w)) ≡ added (λ x. seen p q x)
       shown p q e f = ap (λ (r : Bool). added (λ x. seen r (other.0 == s.0) x)) e ∙ ap (λ (r : Bool). added (λ x. seen p r x)) f
 
       placed_there : (u : SegId) → (u.0 == s.0) ≡ false → neighbours_on (lines_on segs u) (lines_on next u) a b ≡ neighbours_on (lines_on segs u) (lines_on placed u) a b
@@ -108,23 +108,23 @@ module _ (segs placed next : List (List LineId)) (s : SegId) (line : LineId) (he
       contains_here u c e on = subst (λ k. Contains (get_or segs k []) c) (eqb-true u.0 s.0 e) on
 
       by_tests : (p : Bool) → (seg.0 == s.0) ≡ p → (q : Bool) → (other.0 == s.0) ≡ q
-          → settled_cost segs next (Apart seg other a b w) ≡ settled_cost segs placed (Apart seg other a b w) + added (λ x. end_seen s x (Apart seg other a b w))
+          → settled_cost segs next (Apart seg other a b w) ≡ settled_cost segs placed (Apart seg other a b w) + added (λ x. end_seen s x k (Apart seg other a b w))
       by_tests true e true f = absurd (let below = ok.seg_below in omega (arith, below, eqb-true seg.0 s.0 e, eqb-true other.0 s.0 f))
       by_tests true e false f =
           let there : Option Bool = neighbours_on (lines_on segs other) (lines_on placed other) a b in
           let now = ap (λ o. apart_cost w o (neighbours_on (lines_on segs other) (lines_on next other) a b)) (on_here seg e next) in
           let now_there = ap (apart_cost w (neighbours_on lines after a b)) (placed_there other f) in
           let was = ap (λ o. apart_cost w o there) (on_here seg e placed) in
-          let more = one_added other a b w ne (contains_here seg a e ok.a_on) (contains_here seg b e ok.b_on) in
+          let more = one_added k true other a b w ne (contains_here seg a e ok.a_on) (contains_here seg b e ok.b_on) in
           let sums = shown true false e f in
-          let plain = ap added (fun_ext (λ x. append-nil (seen_by x other a b w))) in
+          let plain = ap added (fun_ext (λ x. append-nil (seen_by x k true other a b w))) in
           omega (arith, now, now_there, was, more, sums, plain)
       by_tests false e true f =
           let there : Option Bool = neighbours_on (lines_on segs seg) (lines_on placed seg) a b in
           let now = ap (apart_cost w (neighbours_on (lines_on segs seg) (lines_on next seg) a b)) (on_here other f next) in
           let now_there = ap (λ o. apart_cost w o (neighbours_on lines after a b)) (placed_there seg e) in
           let was = ap (apart_cost w there) (on_here other f placed) in
-          let more = one_added seg a b w ne (contains_here other a f ok.a_on_other) (contains_here other b f ok.b_on_other) in
+          let more = one_added k false seg a b w ne (contains_here other a f ok.a_on_other) (contains_here other b f ok.b_on_other) in
           let sums = shown false true e f in
           omega (arith, now, now_there, was, more, sums, cost_turned w there (neighbours_on lines after a b), cost_turned w there (neighbours_on lines before a b))
       by_tests false e false f =
@@ -134,18 +134,18 @@ module _ (segs placed next : List (List LineId)) (s : SegId) (line : LineId) (he
           omega (arith, one, two, sums, none_added)
 
   -- all terms
-  pub total_added : (terms : List (ℕ × Term)) → All (λ (t : ℕ × Term). IsTerm segs t.1) terms → settled_sum segs next terms ≡ settled_sum segs placed terms + added (λ x. ends_seen s x terms)
-  total_added [] ok = omega (arith, none_added)
-  total_added (t ∷ terms) ok =
-      let one = term_added t.1 (All-head (λ (t : ℕ × Term). IsTerm segs t.1) t terms ok) in
-      let rest = total_added terms (All-tail (λ (t : ℕ × Term). IsTerm segs t.1) t terms ok) in
+  pub total_added : (k : ℕ) (terms : List (ℕ × Term)) → All (λ (t : ℕ × Term). IsTerm segs t.1) terms → settled_sum segs next terms ≡ settled_sum segs placed terms + added (λ x. ends_seen s x k terms)
+  total_added k [] ok = omega (arith, none_added)
+  total_added k (t ∷ terms) ok =
+      let one = term_added k t.1 (All-head (λ (t : ℕ × Term). IsTerm segs t.1) t terms ok) in
+      let rest = total_added (k + 1) terms (All-tail (λ (t : ℕ × Term). IsTerm segs t.1) t terms ok) in
       let now = sum_by-cons (λ (t : ℕ × Term). settled_cost segs next t.1) t terms in
       let was = sum_by-cons (λ (t : ℕ × Term). settled_cost segs placed t.1) t terms in
-      omega (arith, one, rest, now, was, both_added (λ x. end_seen s x t.1) (λ x. ends_seen s x terms))
+      omega (arith, one, rest, now, was, both_added (λ x. end_seen s x k t.1) (λ x. ends_seen s x (k + 1) terms))
 
   -- The same told by the placed lines after it.
 
-  leaves_two_after : (length after + 2 == length lines) ≡ two
+  pub leaves_two_after : (length after + 2 == length lines) ≡ two
   leaves_two_after = elim step.shape [
     | inl alone ↦ (let count : length after ≡ length before + 1 = omega (arith, ap length step.is, length-append before (line ∷ step.rest), ap length alone.0) in
         ap (λ n. n == length lines) (omega (arith, count)))
@@ -153,7 +153,7 @@ module _ (segs placed next : List (List LineId)) (s : SegId) (line : LineId) (he
         ne_eqb (length after + 2) (length lines) (λ e. absurd (omega (arith, e, count, all))) ∙ sym (ne_eqb (length before + 3) (length lines) (λ e. absurd (omega (arith, e, all)))))
   ]
 
-  last_same : (l : LineId) (e : ApartEnd) → last_of before ≡ Some l → IsEnd segs s l e → last_cost segs next s line l e ≡ last_cost segs placed s line l e
+  pub last_same : (l : LineId) (e : ApartEnd) → last_of before ≡ Some l → IsEnd segs s l e → last_cost segs next s line l e ≡ last_cost segs placed s line l e
   last_same l e is ok =
       let first : comes_before after l e.beside ≡ comes_before before l e.beside =
       ap (λ m. comes_before m l e.beside) step.is ∙ before_known before (line ∷ step.rest) l e.beside (or_left (is_placed before l) (is_placed before e.beside) (last_placed_there before l is)) in
@@ -161,7 +161,7 @@ module _ (segs placed next : List (List LineId)) (s : SegId) (line : LineId) (he
       ap (λ (p : Bool). cond p (apart_cost e.weight (Some (e.beside.0 == line.0)) (neighbours_on (lines_on segs e.there) (lines_on next e.there) l e.beside)) 0) first
       ∙ ap (λ m. cond (comes_before before l e.beside) (apart_cost e.weight (Some (e.beside.0 == line.0)) (neighbours_on (lines_on segs e.there) m l e.beside)) 0) there
 
-  left_then_same : length after ≡ length before + 1 → (c : LineId) → is_left_then after line c ≡ is_left_then before line c
+  pub left_then_same : length after ≡ length before + 1 → (c : LineId) → is_left_then after line c ≡ is_left_then before line c
   left_then_same count c = elim step.shape [
     | inr whole ↦ absurd (omega (arith, ap length step.is, length-append before (line ∷ step.rest), ap length whole.1, count))
     | inl alone ↦ ap (λ l. not (is_placed l c) && not (c.0 == line.0)) (step.is ∙ ap (λ r. before ++ line ∷ r) alone.0) ∙ (ap (λ (p : Bool). not p && not (c.0 == line.0)) (has_append before (line ∷ []) c) ∙ by_test (c.0 == line.0) refl (is_placed before c))

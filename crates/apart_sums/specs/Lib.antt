@@ -1,3 +1,4 @@
 pub mod Ends
 pub mod Rises
+pub mod NotedAnswers
 pub mod Totals

@@ -6,17 +6,21 @@ use Rattle.order_model.specs.declared.term.Term.{Term}
 use Rattle.order_model.specs.PartTerms.{terms_by_number}
 use Rattle.pair_bounds.specs.Counted.{settled_sum}
 use Rattle.apart_sums.specs.declared.ends.SegmentEnds.{SegmentEnds}
+use Rattle.apart_sums.specs.declared.noted_answers.NotedAnswers.{NotedAnswers}
 use Rattle.apart_sums.specs.Ends.{AreByEnds}
+use Rattle.apart_sums.specs.NotedAnswers.{AreAnswered}
 
--- terms of a problem, and what their settled Aparts cost
+-- terms of a problem, whether the lines of each Apart are neighbours on its two segments, and what those cost that are settled
 pub record ApartTotal : Type 0 where
   pub segs : List (List LineId)
   pub terms : List (ℕ × Term)
+  pub answers : List NotedAnswers
   pub total : ℕ
 
--- the total is that under these placed lines
-abbrev pub IsTotal : ApartTotal → List (List LineId) → Type 0
-IsTotal a placed = a.total ≡ settled_sum a.segs placed a.terms
+-- the answers and the total are those under these placed lines
+pub record IsTotal (a : ApartTotal) (placed : List (List LineId)) : Type 0 where
+  pub answered : AreAnswered a.segs placed a.terms a.answers
+  pub total : a.total ≡ settled_sum a.segs placed a.terms
 
 -- terms of a problem by number, not too many, by the ends of their Aparts
 pub record AreListed (problem : ProblemParts) (numbers : List ℕ) (sides : List SegmentEnds) : Type 0 where

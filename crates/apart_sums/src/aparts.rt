@@ -12,6 +12,7 @@ ghost use Rattle.apart_sums.specs.Ends.{is_apart_on, aparts_on};
 ghost use Rattle.apart_sums.specs.Totals.{IsTotal};
 
 use crate::ends::{SegmentEnds, ends_by_segment};
+use crate::noted_answers::{Change, NotedAnswers, answers_of, change_step};
 use crate::rises::rise;
 use crate::settled::settled_total;
 use crate::steps::{Step, last_step, step_to};
@@ -21,7 +22,8 @@ use std::alloc::Global;
 use std::marker::Model;
 
 /// The Aparts of a part of a problem, with what those cost that are settled. It is seen as the lines of the problem's
-/// segments, the terms that it was made of behind their numbers, and the total.
+/// segments, the terms that it was made of behind their numbers, whether the lines of each Apart are neighbours on its two
+/// segments, and the total.
 #[derive(Drop)]
 pub struct Aparts<'a> {
     problem: &'a Problem,
@@ -29,6 +31,8 @@ pub struct Aparts<'a> {
     numbers: &'a [u32],
     /// For each segment of the problem the Aparts that have an end there.
     sides: Vec<SegmentEnds>,
+    /// For each of the terms whether the lines of the Apart are neighbours on its two segments.
+    answers: Vec<NotedAnswers>,
     /// What the settled ones cost.
     total: u64,
 }
@@ -39,7 +43,7 @@ impl<'a> Model for Aparts<'a> {
 
     ghost Value = { ApartTotal };
 
-    ghost view = { λ a. record { segs = a.problem.now.segs; terms = terms_by_number a.problem.now.terms a.numbers.now; total = a.total } };
+    ghost view = { λ a. record { segs = a.problem.now.segs; terms = terms_by_number a.problem.now.terms a.numbers.now; answers = a.answers.items; total = a.total } };
 
     ghost invariant = { λ a. AreListed a.problem.now a.numbers.now a.sides.items };
 }
@@ -60,11 +64,13 @@ impl<'a> Aparts<'a> {
         ensures total { IfOk result (λ a. IsTotal a prefix.now.placed) }
     {
         let sides = ends_by_segment(alloc, problem, numbers)?;
+        let answers = answers_of(alloc, problem, prefix, numbers)?;
         let total = settled_total(problem, prefix, numbers);
         Ok(Aparts {
             problem,
             numbers,
             sides,
+            answers,
             total,
         })
     }
@@ -88,7 +94,8 @@ impl<'a> Aparts<'a> {
     {
         let step = step_to(self.problem, prefix, seg, line);
         let side = &self.sides[seg.0 as usize];
-        self.total + rise(self.problem, prefix, side.lines.as_slice(), step)
+        let lines = side.lines.as_slice();
+        self.total + rise(self.problem, prefix, self.answers.as_slice(), lines, step)
     }
 
     /// Keeps the total up where a line of a segment is placed next. Call it before the line is placed.
@@ -102,7 +109,22 @@ impl<'a> Aparts<'a> {
         ensures terms { self.new.terms ≡ self.old.terms }
         ensures total { IsTotal self.new (placed_more self.old.segs prefix.now.placed seg line) }
     {
-        self.total = self.total_with(prefix, seg, line);
+        let total = self.total_with(prefix, seg, line);
+        let step = step_to(self.problem, prefix, seg, line);
+        let side = &self.sides[seg.0 as usize];
+        let lines = side.lines.as_slice();
+        let settle = Change::Settle(step.line);
+        let put = Change::Put(step.line, Some(true));
+        change_step(
+            self.problem,
+            prefix,
+            lines,
+            step,
+            settle,
+            put,
+            &mut self.answers,
+        );
+        self.total = total;
     }
 
     /// Keeps the total up where the last placing on a segment is taken back. Call it before it is.
@@ -117,7 +139,19 @@ impl<'a> Aparts<'a> {
     {
         let step = last_step(self.problem, prefix, seg);
         let side = &self.sides[seg.0 as usize];
-        let rise = rise(self.problem, prefix, side.lines.as_slice(), step);
+        let lines = side.lines.as_slice();
+        let forget = Change::Forget;
+        let put = Change::Put(step.line, None);
+        change_step(
+            self.problem,
+            prefix,
+            lines,
+            step,
+            forget,
+            put,
+            &mut self.answers,
+        );
+        let rise = rise(self.problem, prefix, self.answers.as_slice(), lines, step);
         self.total -= rise;
     }
 

@@ -1,6 +1,6 @@
 //! The ends of Aparts, by segments and lines.
 
-ghost use Rattle.std.specs.Prelude.{◌≡◌, ◌<◌, [], length, true, All, IfOk, IfSome, OnOk};
+ghost use Rattle.std.specs.Prelude.{◌≡◌, ◌<◌, ◌≤◌, [], length, true, All, IfOk, IfSome, OnOk};
 ghost use Rattle.order_model.specs.PartTerms.{is_in, terms_by_number};
 ghost use Rattle.apart_sums.specs.Ends.{ends_by, place_by, HasEnds, AreByEnds, AreMoreBy, IsEndMore, IsApartMore, IsJoinMore};
 
@@ -8,10 +8,16 @@ use map_base::{LineId, NoMemory, SegId};
 use order_model::{Problem, Term};
 use std::alloc::Global;
 
-/// An Apart as one of its lines sees it from one of its ends: its other end, its other line, and its weight.
+/// An Apart as one of its lines sees it from one of its ends.
 #[derive(Clone, Copy)]
 pub(crate) struct ApartEnd {
+    /// Where the Apart stands among the terms.
+    pub(crate) number: u32,
+    /// Whether this end is the lesser of its two.
+    pub(crate) lesser: bool,
+    /// Its other end.
     pub(crate) there: SegId,
+    /// Its other line.
     pub(crate) beside: LineId,
     pub(crate) weight: u32,
 }
@@ -39,13 +45,15 @@ pub(crate) fn ends_by_segment(
     problem: &Problem,
     numbers: &[u32],
 ) -> Result<Vec<SegmentEnds>, NoMemory>
-    requires { All (λ n. n < length problem.now.terms) numbers.now }
+    requires known { All (λ n. n < length problem.now.terms) numbers.now }
+    requires few { length numbers.now ≤ 4000000 }
     ensures { IfOk result (λ sides. AreByEnds (length problem.now.segs) (terms_by_number problem.now.terms numbers.now) sides.items) }
 {
     let terms = problem.terms();
     let mut sides = no_ends(alloc, problem.segs().len())?;
-    for n in numbers {
-        add_apart(alloc, &mut sides, terms[*n as usize])?;
+    for k in 0..numbers.len() {
+        let term = terms[numbers[k] as usize];
+        add_apart(alloc, &mut sides, k as u32, term)?;
     }
     Ok(sides)
 }
@@ -65,11 +73,16 @@ fn no_ends(alloc: Global, count: usize) -> Result<Vec<SegmentEnds>, NoMemory>
     Ok(sides)
 }
 
-/// Adds a term to the segments of its ends, if it is an Apart.
+/// Adds the term at a place to the segments of its ends, if it is an Apart.
 #[tactic(auto, using(crate::proofs::EndLists::none_more, crate::proofs::EndLists::both_more))]
-fn add_apart(alloc: Global, sides: &mut Vec<SegmentEnds>, term: Term) -> Result<(), NoMemory>
+fn add_apart(
+    alloc: Global,
+    sides: &mut Vec<SegmentEnds>,
+    number: u32,
+    term: Term,
+) -> Result<(), NoMemory>
     requires { HasEnds (length sides.old.items) term }
-    ensures { OnOk result (AreMoreBy term sides.old.items sides.new.items) }
+    ensures { OnOk result (AreMoreBy number term sides.old.items sides.new.items) }
 {
     match term {
         Term::Side { .. } | Term::Link { .. } => Ok(()),
@@ -80,8 +93,26 @@ fn add_apart(alloc: Global, sides: &mut Vec<SegmentEnds>, term: Term) -> Result<
             b,
             w,
         } => {
-            add_end(alloc, &mut sides[seg.0 as usize], other, a, b, w)?;
-            add_end(alloc, &mut sides[other.0 as usize], seg, a, b, w)
+            add_end(
+                alloc,
+                &mut sides[seg.0 as usize],
+                number,
+                true,
+                other,
+                a,
+                b,
+                w,
+            )?;
+            add_end(
+                alloc,
+                &mut sides[other.0 as usize],
+                number,
+                false,
+                seg,
+                a,
+                b,
+                w,
+            )
         }
     }
 }
@@ -91,22 +122,28 @@ fn add_apart(alloc: Global, sides: &mut Vec<SegmentEnds>, term: Term) -> Result<
 fn add_end(
     alloc: Global,
     side: &mut SegmentEnds,
+    number: u32,
+    lesser: bool,
     there: SegId,
     a: LineId,
     b: LineId,
     weight: u32,
 ) -> Result<(), NoMemory>
-    ensures { OnOk result (IsApartMore there a b weight side.old side.new) }
+    ensures { OnOk result (IsApartMore number lesser there a b weight side.old side.new) }
 {
     join(&mut side.joined, there)?;
     let lines = &mut side.lines;
     let seen_by_a = ApartEnd {
+        number,
+        lesser,
         there,
         beside: b,
         weight,
     };
     push_end(alloc, lines, a, seen_by_a)?;
     let seen_by_b = ApartEnd {
+        number,
+        lesser,
         there,
         beside: a,
         weight,

@@ -1,9 +1,9 @@
 -- Classes of slots, and how two of them are joined.
-use Rattle.std.proofs.Common.{◌≡◌, ◌≢◌, ℕ, zero, suc, ◌+◌, ◌<◌, ◌≤◌, ◌==◌, Bool, true, false, cond, ◌||◌, List, [], ◌∷◌, ◌++◌, length, refl, sym, ap, ◌∙◌, ◌⊎◌, inl, inr, arith, eqb-true, eq-eqb, true≢false, get_or-set_same, get_or-set_other, ltb-true}
+use Rattle.std.proofs.Common.{◌≡◌, ◌≢◌, ℕ, zero, suc, ◌<◌, ◌≤◌, ◌==◌, Bool, true, false, cond, ◌||◌, List, [], ◌∷◌, ◌++◌, length, refl, sym, ap, ◌∙◌, ◌⊎◌, inl, inr, arith, eqb-true, eq-eqb, true≢false, get_or-set_same, get_or-set_other, ltb-true}
 use Rattle.std.specs.Prelude.{nat_lt}
 use Rattle.std.proofs.Math.ListN.{set}
 use Rattle.std.proofs.lemmas.Bool.{cases_eq, ltb-false}
-use Rattle.std.proofs.lemmas.List.{length-set, get_or_past, get_or_push, get_or_append_left}
+use Rattle.std.proofs.lemmas.List.{length-set, get_or_past}
 use Rattle.map_base.specs.declared.ids.SegId.{SegId}
 use Rattle.order_bound.specs.Pairs.{AreApartSegments, joined, kept, labels_after}
 use Rattle.order_bound.specs.declared.pairs.OpenLink.{OpenLink}
@@ -273,11 +273,3 @@ each_classed segs classes apart each inside = record {
         by_test : (t : Bool) → (i == j) ≡ t → t ≡ (seg_number segs i == seg_number segs j)
         by_test true e = sym (eq-eqb (seg_number segs i) (seg_number segs j) (ap (seg_number segs) (eqb-true i j e)))
         by_test false e = sym (is_false (seg_number segs i == seg_number segs j) (λ t. true≢false (sym (eq-eqb i j (numbers_differ segs apart i j h k (eqb-true (seg_number segs i) (seg_number segs j) t))) ∙ e)))
-
--- one place more leads to itself
-pub own_push : (xs : List ℕ) (n : ℕ) → length xs ≡ n → ((place : ℕ) → place < n → up xs place ≡ place) → (place : ℕ) → place < n + 1 → up (xs ++ n ∷ []) place ≡ place
-own_push xs n e own place h = by_case (cases_eq place n)
-  where
-    by_case : (place ≡ n) ⊎ (place ≢ n) → up (xs ++ n ∷ []) place ≡ place
-    by_case (inl k) = get_or_push xs n place place (e ∙ sym k) ∙ sym k
-    by_case (inr ne) = get_or_append_left xs (n ∷ []) place place (omega (arith, h, ne, e)) ∙ own place (omega (arith, h, ne))

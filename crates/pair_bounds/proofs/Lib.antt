@@ -6,6 +6,7 @@ mod Placed
 mod Gathered
 mod ClassSteps
 mod ListSteps
+mod Waiting
 mod WalkSteps
 mod WalkTurns
 pub mod PairCosts

@@ -62,12 +62,6 @@ first_set (t ∷ segs) (g ∷ firsts) seg s (suc p) f apart each h e known =
     by_test true k q rest = sym (ap (λ b. cond b f g) (other (eqb-true t.0 s.0 k)))
     by_test false k q rest = rest q
 
--- what is noted for a segment without a slot changes nothing for others
-pub first_elsewhere : (segs : List SegId) (firsts : List (Option ℕ)) (seg s : SegId) (f : Option ℕ) → is_in segs seg ≡ false → is_in segs s ≡ true → first_at segs firsts s ≡ cond (seg.0 == s.0) f (first_at segs firsts s)
-first_elsewhere segs firsts seg s f h known =
-    let other : (seg.0 == s.0) ≡ false = is_false (seg.0 == s.0) (λ k. true≢false (sym known ∙ (sym (same_in segs seg s (eqb-true seg.0 s.0 k)) ∙ h))) in
-    rw other refl
-
 pub none_first : (segs : List SegId) (firsts : List (Option ℕ)) → ((k : ℕ) → get_or firsts k None ≡ None) → (s : SegId) → first_at segs firsts s ≡ None
 none_first [] firsts none s = refl
 none_first (t ∷ segs) [] none s = refl

@@ -120,15 +120,6 @@ share_both (x ∷ slots) l y h =
     one true e = rw (elsewhere e) refl
     one false e = two (l.other.0 == x.seg.0) e refl
 
--- those at one are, where the Link has both ends there
-pub share_once : (slots : List Slot) (l : OpenLink) (y : ℤ) → (l.other.0 == l.seg.0) ≡ true → map (shared_at l.seg l y) slots ≡ map (slot_shared l y) slots
-share_once [] l y h = refl
-share_once (x ∷ slots) l y h = ap (λ z. z ∷ map (shared_at l.seg l y) slots) (one (l.seg.0 == x.seg.0) refl) ∙ ap (λ zs. slot_shared l y x ∷ zs) (share_once slots l y h)
-  where
-    one : (t : Bool) → (l.seg.0 == x.seg.0) ≡ t → cond t (slot_shared l y x) x ≡ slot_shared l y x
-    one true e = refl
-    one false e = unshared l y x (rw (e, ap (λ n. n == x.seg.0) (eqb-true l.other.0 l.seg.0 h) ∙ e) refl)
-
 -- Rises.
 
 pub rise_missing : (slots : List Slot) (seg : SegId) → is_in (slot_segs slots) seg ≡ false → pos 0 ≡ rise_in slots seg

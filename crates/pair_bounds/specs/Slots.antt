@@ -6,6 +6,8 @@ use Rattle.std.specs.Prelude.{ℤ, pos, ◌+ℤ◌, ◌-ℤ◌, ◌≤ℤ◌}
 use Rattle.map_base.specs.declared.ids.SegId.{SegId}
 use Rattle.pair_bounds.specs.declared.slots.Slot.{Slot}
 use Rattle.pair_bounds.specs.declared.one_pair.Room.{Room}
+use Rattle.pair_bounds.specs.declared.places.PlacedSegment.{PlacedSegment}
+use Rattle.pair_bounds.specs.declared.places.PlacedChild.{PlacedChild}
 use Rattle.pair_bounds.specs.declared.term_look.TermLook.{TermLook}
 use Rattle.pair_bounds.specs.declared.term_look.TermLook.TheVariants.{Decided, OnSegment, Between}
 use Rattle.map_base.specs.declared.ids.LineId.{LineId}
@@ -32,6 +34,13 @@ slots_of cost segs = map (λ s. slot_at (λ s x. pos (cost s x)) s) segs
 -- the segments of slots
 abbrev pub slot_segs : List Slot → List SegId
 slot_segs slots = map (λ (s : Slot). s.seg) slots
+
+-- the segments that wait, and the Links to children, without the places of their slots
+abbrev pub placed_segs : List PlacedSegment → List SegId
+placed_segs segs = map (λ (s : PlacedSegment). s.seg) segs
+
+abbrev pub child_links : List PlacedChild → List ChildLink
+child_links children = map (λ (c : PlacedChild). c.child) children
 
 -- the slot of a segment stands at this place
 pub record IsPlaceOf (slots : List Slot) (seg : SegId) (place : ℕ) : Type 0 where
@@ -113,7 +122,7 @@ abbrev pub slots_room : Room → ℕ
 slots_room room = min (vec_capacity room.slots) (min (vec_capacity room.classes) (vec_capacity room.firsts))
 
 abbrev pub links_room : Room → ℕ
-links_room room = min (vec_capacity room.links) (vec_capacity room.nexts)
+links_room room = min (vec_capacity room.links) (min (vec_capacity room.places) (vec_capacity room.nexts))
 
 -- there is room for a pair's slots on so many segments, and its Links among so many terms
 pub record HasRoom (segments terms : ℕ) (room : Room) : Type 0 where

@@ -9,7 +9,7 @@ ghost use Rattle.order_bound.specs.CanonicalPrices.{ends_at};
 ghost use Rattle.pair_bounds.specs.Slots.{slot_segs, IsBetween};
 ghost use Rattle.pair_bounds.specs.LinkLists.{first_at, next_by, next_along, AreNext, AreFirst};
 
-use crate::places::place_of;
+use crate::places::{LinkPlaces, place_near};
 use crate::slots::Slot;
 use map_base::SegId;
 use order_bound::OpenLink;
@@ -25,11 +25,13 @@ pub struct NextLinks {
 pub(crate) fn list_links(
     slots: &[Slot],
     links: &[OpenLink],
+    places: &[LinkPlaces],
     firsts: &mut Vec<Option<usize>>,
     nexts: &mut Vec<NextLinks>,
 )
     requires apart { AreApartSegments (slot_segs slots.now) }
     requires between { All (IsBetween (slot_segs slots.now)) links.now }
+    requires places { length places.now ≡ length links.now }
     requires firsts_room { length slots.now ≤ vec_capacity firsts.old }
     requires nexts_room { length links.now ≤ vec_capacity nexts.old }
     ensures firsts { AreFirst (slot_segs slots.now) links.now [] 0 firsts.new.items }
@@ -42,7 +44,7 @@ pub(crate) fn list_links(
     let mut left = links.len();
     while left > 0 {
         left -= 1;
-        let next = put_first(slots, links, left, firsts);
+        let next = put_first(slots, links, left, places[left], firsts);
         nexts[left] = next;
     }
 }
@@ -80,6 +82,7 @@ fn put_first(
     slots: &[Slot],
     links: &[OpenLink],
     place: usize,
+    near: LinkPlaces,
     firsts: &mut Vec<Option<usize>>,
 ) -> NextLinks
     requires apart { AreApartSegments (slot_segs slots.now) }
@@ -91,27 +94,33 @@ fn put_first(
     ensures room { vec_capacity firsts.new ≡ vec_capacity firsts.old }
 {
     let link = links[place];
-    let here = replace_first(slots, link.seg, Some(place), firsts);
-    let there = replace_first(slots, link.other, Some(place), firsts);
+    let here = replace_first(slots, link.seg, near.here, Some(place), firsts);
+    let there = replace_first(slots, link.other, near.there, Some(place), firsts);
     NextLinks { here, there }
 }
 
-/// The place of the first Link of a segment.
-pub(crate) fn first_at(slots: &[Slot], seg: SegId, firsts: &[Option<usize>]) -> Option<usize>
+/// The place of the first Link of a segment, whose slot is thought to stand near.
+pub(crate) fn first_at(
+    slots: &[Slot],
+    seg: SegId,
+    near: usize,
+    firsts: &[Option<usize>],
+) -> Option<usize>
     requires apart { AreApartSegments (slot_segs slots.now) }
     requires each { length firsts.now ≡ length slots.now }
     ensures { result ≡ first_at (slot_segs slots.now) firsts.now seg }
 {
-    match place_of(slots, seg) {
+    match place_near(slots, seg, near) {
         Some(place) => firsts[place],
         None => None,
     }
 }
 
-/// Sets the place of the first Link of a segment, if it has a slot. Answers which it was before.
+/// Sets the place of the first Link of a segment, if it has a slot, which is thought to stand near. Answers which it was before.
 pub(crate) fn replace_first(
     slots: &[Slot],
     seg: SegId,
+    near: usize,
     first: Option<usize>,
     firsts: &mut Vec<Option<usize>>,
 ) -> Option<usize>
@@ -123,7 +132,7 @@ pub(crate) fn replace_first(
     ensures each { vec_len firsts.new ≡ vec_len firsts.old }
     ensures room { vec_capacity firsts.new ≡ vec_capacity firsts.old }
 {
-    match place_of(slots, seg) {
+    match place_near(slots, seg, near) {
         Some(place) => {
             let before = firsts[place];
             firsts[place] = first;

@@ -14,7 +14,7 @@ ghost use Rattle.order_bound.specs.Pairs.{AreApartSegments};
 ghost use Rattle.order_bound.specs.Values.{int_sum};
 ghost use Rattle.order_bound.specs.CanonicalPrices.{children_of, pair_prices};
 ghost use Rattle.order_bound.specs.declared.pairs.ChildLink.{ChildLink};
-ghost use Rattle.pair_bounds.specs.Slots.{slot_least, IsSmall, IsBetween, IsCollected, HasRoom, KeepsRoom, slot_segs};
+ghost use Rattle.pair_bounds.specs.Slots.{slot_least, IsSmall, IsBetween, IsCollected, HasRoom, KeepsRoom, slot_segs, placed_segs, child_links};
 ghost use Rattle.pair_bounds.specs.PriceNotes.{price_noted, price_over};
 ghost use Rattle.pair_bounds.specs.Counted.{counted_sum};
 
@@ -22,24 +22,26 @@ use crate::child_prices::{least_sum, note_children, price_children};
 use crate::collecting::collect;
 use crate::link_lists::{NextLinks, list_links};
 use crate::noted_prices::NotedPrices;
+use crate::places::{LinkPlaces, PlacedChild, PlacedSegment};
 use crate::slots::Slot;
 use crate::walking::walk;
 use map_base::{NoMemory, SegId};
-use order_bound::{ChildLink, OpenLink, Pair};
+use order_bound::{OpenLink, Pair};
 use order_model::{Prefix, Problem, Term};
 use std::alloc::Global;
 
-/// Room to work out the bounds of pairs: slots with their classes and the firsts of their Links, Links with those next on
-/// their lists, and the segments that wait in a walk with the children that it found.
+/// Room to work out the bounds of pairs: slots with their classes and the firsts of their Links, Links with the places of
+/// their slots and those next on their lists, and the segments that wait in a walk with the children that it found.
 #[derive(Drop)]
 pub struct Room {
     pub slots: Vec<Slot>,
     pub classes: Vec<usize>,
     pub firsts: Vec<Option<usize>>,
     pub links: Vec<OpenLink>,
+    pub places: Vec<LinkPlaces>,
     pub nexts: Vec<NextLinks>,
-    pub waiting: Vec<SegId>,
-    pub children: Vec<ChildLink>,
+    pub waiting: Vec<PlacedSegment>,
+    pub children: Vec<PlacedChild>,
 }
 
 impl Room {
@@ -53,6 +55,7 @@ impl Room {
             classes: Vec::with_capacity(alloc, segments)?,
             firsts: Vec::with_capacity(alloc, segments)?,
             links: Vec::with_capacity(alloc, terms)?,
+            places: Vec::with_capacity(alloc, terms)?,
             nexts: Vec::with_capacity(alloc, terms)?,
             waiting: Vec::with_capacity(alloc, segments + terms)?,
             children: Vec::with_capacity(alloc, terms)?,
@@ -61,16 +64,19 @@ impl Room {
 }
 
 /// Lets all slots' segments wait, the first of them last.
-fn push_slots(slots: &[Slot], waiting: &mut Vec<SegId>)
+fn push_slots(slots: &[Slot], waiting: &mut Vec<PlacedSegment>)
     requires room { length slots.now ≤ vec_capacity waiting.old }
-    ensures items { waiting.new.items ≡ reverse (map (λ (s : Slot). s.seg) slots.now) }
+    ensures items { placed_segs waiting.new.items ≡ reverse (slot_segs slots.now) }
     ensures room { vec_capacity waiting.old ≤ vec_capacity waiting.new }
 {
     waiting.clear();
     let mut left = slots.len();
     while left > 0 {
         left -= 1;
-        waiting.push_reserved(slots[left].seg);
+        waiting.push_reserved(PlacedSegment {
+            seg: slots[left].seg,
+            place: left,
+        });
     }
 }
 
@@ -78,27 +84,37 @@ fn push_slots(slots: &[Slot], waiting: &mut Vec<SegId>)
 fn list_children(
     slots: &[Slot],
     links: &[OpenLink],
+    places: &[LinkPlaces],
     firsts: &mut Vec<Option<usize>>,
     nexts: &mut Vec<NextLinks>,
-    waiting: &mut Vec<SegId>,
-    children: &mut Vec<ChildLink>,
+    waiting: &mut Vec<PlacedSegment>,
+    children: &mut Vec<PlacedChild>,
 )
     requires apart { AreApartSegments (slot_segs slots.now) }
     requires between { All (IsBetween (slot_segs slots.now)) links.now }
+    requires places { length places.now ≡ length links.now }
     requires firsts_room { length slots.now ≤ vec_capacity firsts.old }
     requires nexts_room { length links.now ≤ vec_capacity nexts.old }
     requires waiting_room { length slots.now + length links.now ≤ vec_capacity waiting.old }
     requires children_room { length links.now ≤ vec_capacity children.old }
-    ensures children { children.new.items ≡ children_of (slot_segs slots.now) links.now }
+    ensures children { child_links children.new.items ≡ children_of (slot_segs slots.now) links.now }
     ensures firsts_room { vec_capacity firsts.old ≤ vec_capacity firsts.new }
     ensures nexts_room { vec_capacity nexts.old ≤ vec_capacity nexts.new }
     ensures waiting_room { vec_capacity waiting.old ≤ vec_capacity waiting.new }
     ensures children_room { vec_capacity children.old ≤ vec_capacity children.new }
 {
-    list_links(slots, links, firsts, nexts);
+    list_links(slots, links, places, firsts, nexts);
     push_slots(slots, waiting);
     children.clear();
-    walk(slots, links, nexts.as_slice(), firsts, waiting, children);
+    walk(
+        slots,
+        links,
+        places,
+        nexts.as_slice(),
+        firsts,
+        waiting,
+        children,
+    );
 }
 
 /// Gathers a pair of lines on a part: its slots, and the trees of its kept Links, each child after its parent. Answers
@@ -120,10 +136,10 @@ fn plan_pair(
     requires few { length terms.now ≤ 4000000 }
     requires room { HasRoom (length part.now) (length terms.now) room.old }
     ensures collected { IsCollected problem.now.segs prefix.now.placed pair (open_segments problem.now.segs prefix.now.placed part.now pair) terms.now result room.new.slots.items (kept_links prefix.now.placed pair terms.now) }
-    ensures children { room.new.children.items ≡ children_of (open_segments problem.now.segs prefix.now.placed part.now pair) (kept_links prefix.now.placed pair terms.now) }
+    ensures children { child_links room.new.children.items ≡ children_of (open_segments problem.now.segs prefix.now.placed part.now pair) (kept_links prefix.now.placed pair terms.now) }
     ensures small { All (IsSmall (2 ^ 41)) room.new.slots.items }
     ensures apart { AreApartSegments (slot_segs room.new.slots.items) }
-    ensures light { All (λ (c : ChildLink). c.link.weight ≤ 256000) room.new.children.items }
+    ensures light { All (λ (c : ChildLink). c.link.weight ≤ 256000) (child_links room.new.children.items) }
     ensures few { vec_len room.new.children ≤ 4000000 }
     ensures room { KeepsRoom room.old room.new }
 {
@@ -136,10 +152,12 @@ fn plan_pair(
         &mut room.slots,
         &mut room.classes,
         &mut room.links,
+        &mut room.places,
     );
     list_children(
         room.slots.as_slice(),
         room.links.as_slice(),
+        room.places.as_slice(),
         &mut room.firsts,
         &mut room.nexts,
         &mut room.waiting,

@@ -6,7 +6,7 @@ ghost use Rattle.pair_bounds.specs.Slots.{slot_more, slot_shared, shared_at, ris
 ghost use Rattle.order_bound.specs.Pairs.{AreApartSegments};
 ghost use Rattle.order_bound.specs.Values.{share};
 
-use crate::places::place_of;
+use crate::places::{LinkPlaces, place_near, place_of};
 use map_base::SegId;
 use order_bound::OpenLink;
 
@@ -64,15 +64,16 @@ pub(crate) fn add_cost(slots: &mut [Slot], seg: SegId, lesser_first: u32, greate
     }
 }
 
-/// By how much a segment costs more where the greater line stands first, 0 where it has no slot.
-pub(crate) fn rise_in(slots: &[Slot], seg: SegId) -> i64
+/// By how much a segment costs more where the greater line stands first, 0 where it has no slot; the slot is thought to stand
+/// near.
+pub(crate) fn rise_in(slots: &[Slot], seg: SegId, near: usize) -> i64
     requires small { All (IsSmall (2 ^ 60)) slots.now }
     requires apart { AreApartSegments (slot_segs slots.now) }
     ensures value { result ≡ rise_in slots.now seg }
     ensures low { (pos 0 -ℤ pos (2 ^ 62)) ≤ℤ result }
     ensures high { result ≤ℤ pos (2 ^ 62) }
 {
-    match place_of(slots, seg) {
+    match place_near(slots, seg, near) {
         Some(place) => rise(slots[place]),
         None => 0,
     }
@@ -123,29 +124,29 @@ fn shared(slot: Slot, link: OpenLink, price: i64) -> Slot
     }
 }
 
-/// Adds the shares of a price on a Link that a segment has.
-fn share_at(slots: &mut [Slot], seg: SegId, link: OpenLink, price: i64)
+/// Adds the shares of a price on a Link that a segment has, whose slot is thought to stand near.
+fn share_at(slots: &mut [Slot], seg: SegId, near: usize, link: OpenLink, price: i64)
     requires small { All (IsSmall (2 ^ 60)) slots.old }
     requires apart { AreApartSegments (slot_segs slots.old) }
     requires low { (pos 0 -ℤ pos (2 ^ 32)) ≤ℤ price }
     requires high { price ≤ℤ pos (2 ^ 32) }
     ensures { slots.new ≡ map (shared_at seg link price) slots.old }
 {
-    if let Some(place) = place_of(slots, seg) {
+    if let Some(place) = place_near(slots, seg, near) {
         slots[place] = shared(slots[place], link, price);
     }
 }
 
 /// Adds the shares of a price on a Link, on both its segments.
-pub(crate) fn add_shares(slots: &mut [Slot], link: OpenLink, price: i64)
+pub(crate) fn add_shares(slots: &mut [Slot], link: OpenLink, near: LinkPlaces, price: i64)
     requires small { All (IsSmall (2 ^ 59)) slots.old }
     requires apart { AreApartSegments (slot_segs slots.old) }
     requires low { (pos 0 -ℤ pos (2 ^ 32)) ≤ℤ price }
     requires high { price ≤ℤ pos (2 ^ 32) }
     ensures { slots.new ≡ map (slot_shared link price) slots.old }
 {
-    share_at(slots, link.seg, link, price);
+    share_at(slots, link.seg, near.here, link, price);
     if link.other.0 != link.seg.0 {
-        share_at(slots, link.other, link, price);
+        share_at(slots, link.other, near.there, link, price);
     }
 }

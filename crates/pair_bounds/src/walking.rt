@@ -3,13 +3,14 @@
 ghost use Rattle.std.specs.Prelude.{◌≡◌, ◌<◌, ◌≤◌, ◌+◌, ◌++◌, ◌∷◌, [], true, ℕ, length, map, filter, reverse, drop, take, All, Option, IfSome};
 ghost use Rattle.std.specs.Vec.{vec_len, vec_capacity};
 ghost use Rattle.map_base.specs.declared.ids.SegId.{SegId};
-ghost use Rattle.order_bound.specs.declared.pairs.ChildLink.{ChildLink};
+ghost use Rattle.pair_bounds.specs.declared.places.PlacedChild.{PlacedChild};
 ghost use Rattle.order_bound.specs.Pairs.{AreApartSegments};
 ghost use Rattle.order_bound.specs.CanonicalPrices.{ends_at, child_link, walked};
-ghost use Rattle.pair_bounds.specs.Slots.{slot_segs, IsBetween};
+ghost use Rattle.pair_bounds.specs.Slots.{slot_segs, placed_segs, child_links, IsBetween};
 ghost use Rattle.pair_bounds.specs.LinkLists.{links_from, is_next_child, IsOnList, AreFirst, AreNext};
 
 use crate::link_lists::{NextLinks, first_at, next_along, replace_first};
+use crate::places::{LinkPlaces, PlacedChild, PlacedSegment};
 use crate::slots::Slot;
 use map_base::SegId;
 use order_bound::{ChildLink, OpenLink};
@@ -27,23 +28,26 @@ fn child_link(parent: SegId, link: OpenLink) -> ChildLink
 }
 
 /// Adds the child of a segment by a Link, if the child's list is not emptied.
+#[tactic(auto, using(crate::proofs::Waiting::links_push))]
 fn push_child(
     parent: SegId,
     link: OpenLink,
+    places: LinkPlaces,
     slots: &[Slot],
     firsts: &[Option<usize>],
-    children: &mut Vec<ChildLink>,
+    children: &mut Vec<PlacedChild>,
 )
     requires apart { AreApartSegments (slot_segs slots.now) }
     requires each { length firsts.now ≡ length slots.now }
     requires ends { ends_at parent link ≡ true }
     requires room { vec_len children.old + length (filter (is_next_child parent (slot_segs slots.now) firsts.now) (link ∷ [])) ≤ vec_capacity children.old }
-    ensures items { children.new.items ≡ children.old.items ++ map (child_link parent) (filter (is_next_child parent (slot_segs slots.now) firsts.now) (link ∷ [])) }
+    ensures items { child_links children.new.items ≡ child_links children.old.items ++ map (child_link parent) (filter (is_next_child parent (slot_segs slots.now) firsts.now) (link ∷ [])) }
     ensures room { vec_capacity children.old ≤ vec_capacity children.new }
 {
     let child = child_link(parent, link);
-    if first_at(slots, child.child, firsts).is_some() {
-        children.push_reserved(child);
+    let placed = PlacedChild { child, places };
+    if first_at(slots, child.child, placed.place(), firsts).is_some() {
+        children.push_reserved(placed);
     }
 }
 
@@ -53,36 +57,42 @@ fn push_children(
     first: Option<usize>,
     slots: &[Slot],
     links: &[OpenLink],
+    places: &[LinkPlaces],
     nexts: &[NextLinks],
     firsts: &[Option<usize>],
-    children: &mut Vec<ChildLink>,
+    children: &mut Vec<PlacedChild>,
 )
     requires apart { AreApartSegments (slot_segs slots.now) }
     requires each { length firsts.now ≡ length slots.now }
+    requires places { length places.now ≡ length links.now }
     requires nexts { AreNext links.now 0 nexts.now }
     requires first { IfSome first (IsOnList parent links.now) }
     requires room { vec_len children.old + length (filter (is_next_child parent (slot_segs slots.now) firsts.now) (links_from first links.now)) ≤ vec_capacity children.old }
-    ensures items { children.new.items ≡ children.old.items ++ map (child_link parent) (filter (is_next_child parent (slot_segs slots.now) firsts.now) (links_from first links.now)) }
+    ensures items { child_links children.new.items ≡ child_links children.old.items ++ map (child_link parent) (filter (is_next_child parent (slot_segs slots.now) firsts.now) (links_from first links.now)) }
     ensures room { vec_capacity children.old ≤ vec_capacity children.new }
 {
     let mut at = first;
     while let Some(place) = at {
         let link = links[place];
-        push_child(parent, link, slots, firsts, children);
+        push_child(parent, link, places[place], slots, firsts, children);
         at = next_along(parent, link, nexts[place]);
     }
 }
 
 /// Lets children wait, the first of them last, so that it comes in turn first.
-fn push_waiting(children: &[ChildLink], waiting: &mut Vec<SegId>)
+fn push_waiting(children: &[PlacedChild], waiting: &mut Vec<PlacedSegment>)
     requires room { vec_len waiting.old + length children.now ≤ vec_capacity waiting.old }
-    ensures items { waiting.new.items ≡ waiting.old.items ++ reverse (map (λ (c : ChildLink). c.child) children.now) }
+    ensures items { placed_segs waiting.new.items ≡ placed_segs waiting.old.items ++ reverse (map (λ (c : PlacedChild). c.child.child) children.now) }
     ensures room { vec_capacity waiting.old ≤ vec_capacity waiting.new }
 {
     let mut left = children.len();
     while left > 0 {
         left -= 1;
-        waiting.push_reserved(children[left].child);
+        let child = children[left];
+        waiting.push_reserved(PlacedSegment {
+            seg: child.child.child,
+            place: child.place(),
+        });
     }
 }
 
@@ -91,30 +101,33 @@ fn push_waiting(children: &[ChildLink], waiting: &mut Vec<SegId>)
 pub(crate) fn walk(
     slots: &[Slot],
     links: &[OpenLink],
+    places: &[LinkPlaces],
     nexts: &[NextLinks],
     firsts: &mut Vec<Option<usize>>,
-    waiting: &mut Vec<SegId>,
-    children: &mut Vec<ChildLink>,
+    waiting: &mut Vec<PlacedSegment>,
+    children: &mut Vec<PlacedChild>,
 )
     requires apart { AreApartSegments (slot_segs slots.now) }
     requires between { All (IsBetween (slot_segs slots.now)) links.now }
+    requires places { length places.now ≡ length links.now }
     requires firsts { AreFirst (slot_segs slots.now) links.now [] 0 firsts.old.items }
     requires nexts { AreNext links.now 0 nexts.now }
     requires waiting { vec_len waiting.old + length links.now ≤ vec_capacity waiting.old }
     requires children { vec_len children.old + length links.now ≤ vec_capacity children.old }
-    ensures items { children.new.items ≡ children.old.items ++ walked (vec_len waiting.old + length links.now) (reverse waiting.old.items) links.now }
+    ensures items { child_links children.new.items ≡ child_links children.old.items ++ walked (vec_len waiting.old + length links.now) (reverse (placed_segs waiting.old.items)) links.now }
     ensures firsts { vec_capacity firsts.new ≡ vec_capacity firsts.old }
     ensures waiting { vec_capacity waiting.old ≤ vec_capacity waiting.new }
     ensures children { vec_capacity children.old ≤ vec_capacity children.new }
 {
     while let Some(parent) = waiting.pop() {
         let start = children.len();
-        let first = replace_first(slots, parent, None, firsts);
+        let first = replace_first(slots, parent.seg, parent.place, None, firsts);
         push_children(
-            parent,
+            parent.seg,
             first,
             slots,
             links,
+            places,
             nexts,
             firsts.as_slice(),
             children,

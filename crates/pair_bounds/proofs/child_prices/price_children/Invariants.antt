@@ -3,15 +3,15 @@ use Rattle.std.specs.List.{All}
 use Rattle.std.specs.Vec.{vec_len, vec_capacity}
 use Rattle.order_bound.specs.declared.pairs.ChildLink.{ChildLink}
 use Rattle.order_bound.specs.Pairs.{AreApartSegments}
-use Rattle.pair_bounds.specs.Slots.{slot_segs, with_children, IsSmall}
+use Rattle.pair_bounds.specs.Slots.{slot_segs, child_links, with_children, IsSmall}
 use Rattle.pair_bounds.proofs.child_prices.price_children.Given as goal
 
 abbrev pub invariant-loop-child : goal.invariant-loop-child
 invariant-loop-child l = record {
-  slots : with_children l.children.items l.slots ≡ with_children l.initial.children.items l.initial.slots;
+  slots : with_children (child_links l.children.items) l.slots ≡ with_children (child_links l.initial.children.items) l.initial.slots;
   small : All (IsSmall (2199023255552 + 524288 * (vec_len l.initial.children - vec_len l.children))) l.slots;
   apart : AreApartSegments (slot_segs l.slots);
-  light : All (λ (c : ChildLink). c.link.weight ≤ 256000) l.children.items;
+  light : All (λ (c : ChildLink). c.link.weight ≤ 256000) (child_links l.children.items);
   few : vec_len l.children ≤ vec_len l.initial.children;
   room : vec_capacity l.initial.children ≤ vec_capacity l.children;
 }

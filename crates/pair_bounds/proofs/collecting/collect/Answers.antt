@@ -14,7 +14,7 @@ use Rattle.pair_bounds.proofs.collecting.collect.Goals as goal
 
 pub gather-requires-clause-small : goal.gather-requires-clause-small
 gather-requires-clause-small c =
-    subst (All (IsSmall (2 ^ 60))) (sym c.as_mut_slice.ensures.value)
+    subst (All (IsSmall (2 ^ 60))) (sym c.as_mut_slice-slots.ensures.value)
     (all_higher (2 ^ 41) (2 ^ 60) c.loop-number.slots.items (lit≤ tt)
     (collected_small c.args.problem.now.segs c.args.prefix.now.placed c.args.pair (open_segments c.args.problem.now.segs c.args.prefix.now.placed c.args.part.now c.args.pair)
     (take c.loop-number.number-index c.args.terms.now) c.loop-number.base c.loop-number.slots.items c.loop-number.links.items c.loop-number.invariant.collected
@@ -38,32 +38,34 @@ class_each-requires-clause-room c =
 
 pub gather-requires-clause-apart : goal.gather-requires-clause-apart
 gather-requires-clause-apart c =
-    subst (λ slots. AreApartSegments (slot_segs slots)) (sym c.as_mut_slice.ensures.value)
+    subst (λ slots. AreApartSegments (slot_segs slots)) (sym c.as_mut_slice-slots.ensures.value)
     (collected_apart c.args.problem.now.segs c.args.prefix.now.placed c.args.part.now c.args.pair (take c.loop-number.number-index c.args.terms.now) c.loop-number.base c.loop-number.slots.items c.loop-number.links.items
     c.requires.apart c.loop-number.invariant.collected)
 
 pub gather-requires-clause-within : goal.gather-requires-clause-within
 gather-requires-clause-within c =
-    next_within c.args.problem.now.segs c.args.prefix.now.placed c.args.part.now c.args.pair c.args.terms.now c.loop-number.number-index _ c.as_mut_slice.result.now c.look_at-look.result
+    next_within c.args.problem.now.segs c.args.prefix.now.placed c.args.part.now c.args.pair c.args.terms.now c.loop-number.number-index _ c.as_mut_slice-slots.result.now c.look_at-look.result
     (omega arith) c.requires.known c.requires.inside c.requires.mine c.look_at-look.ensures
-    (ap slot_segs c.as_mut_slice.ensures.value
+    (ap slot_segs c.as_mut_slice-slots.ensures.value
     ∙ collected_segs c.args.problem.now.segs c.args.prefix.now.placed (open_segments c.args.problem.now.segs c.args.prefix.now.placed c.args.part.now c.args.pair) c.args.pair (take c.loop-number.number-index c.args.terms.now) c.loop-number.base c.loop-number.slots.items c.loop-number.links.items
     c.loop-number.invariant.collected)
 
 pub loop-number-preserved : goal.loop-number-preserved
 loop-number-preserved c = record {
   collected = gather_next c.args.problem.now.segs c.args.prefix.now.placed c.args.part.now c.args.pair c.args.terms.now c.loop-number.number-index _ c.loop-number.base _
-      c.loop-number.slots.items c.as_mut_slice.result.now c.gather.new.slots _ c.loop-number.links.items c.gather.new.links.items c.look_at-look.result
+      c.loop-number.slots.items c.as_mut_slice-slots.result.now c.gather.new.slots _ c.loop-number.links.items c.gather.new.links.items c.look_at-look.result
       c.loop-number.invariant.collected (omega arith) c.requires.known c.requires.mine c.look_at-look.ensures
-      (ap (λ n. c.loop-number.base + n) (c.from-base.ensures ∙ c.gather.ensures.cost)) c.as_mut_slice.ensures.value c.gather.ensures.slots
-      (take_front c.gather.new.slots (drop (length c.gather.new.slots) c.loop-number.slots.items) c.loop-number.slots.len (omega (arith, c.gather.auto.slots, c.as_mut_slice.ensures.len)))
+      (ap (λ n. c.loop-number.base + n) (c.from-base.ensures ∙ c.gather.ensures.cost)) c.as_mut_slice-slots.ensures.value c.gather.ensures.slots
+      (take_front c.gather.new.slots (drop (length c.gather.new.slots) c.loop-number.slots.items) c.loop-number.slots.len (omega (arith, c.gather.auto.slots, c.as_mut_slice-slots.ensures.len)))
       c.gather.ensures.links;
-  classed = classed_next c.look_at-look.result c.as_mut_slice.result.now c.gather.new.slots _ c.gather.new.links.items c.gather.new.classes _ c.gather.ensures.classed c.gather.ensures.slots
-      (take_front c.gather.new.slots (drop (length c.gather.new.slots) c.loop-number.slots.items) c.loop-number.slots.len (omega (arith, c.gather.auto.slots, c.as_mut_slice.ensures.len)))
+  classed = classed_next c.look_at-look.result c.as_mut_slice-slots.result.now c.gather.new.slots _ c.gather.new.links.items c.gather.new.classes _ c.gather.ensures.classed c.gather.ensures.slots
+      (take_front c.gather.new.slots (drop (length c.gather.new.slots) c.loop-number.slots.items) c.loop-number.slots.len (omega (arith, c.gather.auto.slots, c.as_mut_slice-slots.ensures.len)))
       (take_front c.gather.new.classes (drop (length c.gather.new.classes) c.loop-number.classes.items) c.loop-number.classes.len (omega (arith, c.gather.auto.classes, c.as_mut_slice-classes.ensures.len)));
+  each = c.gather.ensures.each;
   few = omega (arith, c.gather.ensures.few, c.loop-number.invariant.few);
   small = (let below : c.gather.result < 4294967296 = search rules in omega (arith, below, c.from-base.ensures, c.loop-number.invariant.small));
   slots_room = c.loop-number.invariant.slots_room;
   classes_room = c.loop-number.invariant.classes_room;
   links_room = omega (arith, c.gather.ensures.room, c.loop-number.invariant.links_room);
+  places_room = omega (arith, c.gather.ensures.places_room, c.loop-number.invariant.places_room);
 }

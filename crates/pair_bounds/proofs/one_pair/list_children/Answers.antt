@@ -4,8 +4,9 @@ use Rattle.std.proofs.lemmas.List.{reverse-reverse, length-reverse}
 use Rattle.order_bound.specs.CanonicalPrices.{walked}
 use Rattle.order_bound.specs.declared.pairs.ChildLink.{ChildLink}
 use Rattle.map_base.specs.declared.ids.SegId.{SegId}
-use Rattle.pair_bounds.specs.Slots.{slot_segs}
+use Rattle.pair_bounds.specs.Slots.{slot_segs, placed_segs, child_links}
 use Rattle.pair_bounds.specs.LinkLists.{AreNext}
+use Rattle.pair_bounds.proofs.Waiting.{length_placed}
 use Rattle.pair_bounds.proofs.Placed.{length_segs}
 use Rattle.pair_bounds.proofs.one_pair.list_children.Goals as goal
 
@@ -19,6 +20,7 @@ walk-requires-clause-waiting c =
       ap length c.push_slots.ensures.items,
       length-reverse (slot_segs c.args.slots.now),
       length_segs c.args.slots.now,
+      length_placed c.push_slots.new.waiting.items,
       c.push_slots.new.waiting.ok.0,
       c.push_slots.ensures.room,
       c.requires.waiting_room,
@@ -26,8 +28,8 @@ walk-requires-clause-waiting c =
 
 pub returns-clause-children : goal.returns-clause-children
 returns-clause-children c =
-    let back : reverse c.push_slots.new.waiting.items ≡ slot_segs c.args.slots.now = ap reverse c.push_slots.ensures.items ∙ reverse-reverse (slot_segs c.args.slots.now) in
+    let back : reverse (placed_segs c.push_slots.new.waiting.items) ≡ slot_segs c.args.slots.now = ap reverse c.push_slots.ensures.items ∙ reverse-reverse (slot_segs c.args.slots.now) in
     let count : vec_len c.push_slots.new.waiting + length c.args.links.now ≡ length (slot_segs c.args.slots.now) + length c.args.links.now =
-    omega (arith, ap length c.push_slots.ensures.items, length-reverse (slot_segs c.args.slots.now), c.push_slots.new.waiting.ok.0) in
-    c.walk.ensures.items ∙ (ap (λ (cs : List ChildLink). cs ++ walked (vec_len c.push_slots.new.waiting + length c.args.links.now) (reverse c.push_slots.new.waiting.items) c.args.links.now) c.clear.ensures.items
-    ∙ (ap (λ n. walked n (reverse c.push_slots.new.waiting.items) c.args.links.now) count ∙ ap (λ (ss : List SegId). walked (length (slot_segs c.args.slots.now) + length c.args.links.now) ss c.args.links.now) back))
+    omega (arith, ap length c.push_slots.ensures.items, length-reverse (slot_segs c.args.slots.now), length_placed c.push_slots.new.waiting.items, c.push_slots.new.waiting.ok.0) in
+    c.walk.ensures.items ∙ (ap (λ (cs : List ChildLink). cs ++ walked (vec_len c.push_slots.new.waiting + length c.args.links.now) (reverse (placed_segs c.push_slots.new.waiting.items)) c.args.links.now) (ap child_links c.clear.ensures.items)
+    ∙ (ap (λ n. walked n (reverse (placed_segs c.push_slots.new.waiting.items)) c.args.links.now) count ∙ ap (λ (ss : List SegId). walked (length (slot_segs c.args.slots.now) + length c.args.links.now) ss c.args.links.now) back))

@@ -2,9 +2,10 @@ use Rattle.std.proofs.Common.{◌≡◌, ◌∙◌, ◌+◌, List, length, sym, 
 use Rattle.std.specs.List.{All}
 use Rattle.order_bound.specs.Pairs.{open_segments, AreApartSegments}
 use Rattle.order_bound.specs.CanonicalPrices.{children_of}
+use Rattle.pair_bounds.proofs.Waiting.{length_children}
 use Rattle.pair_bounds.proofs.Collected.{collected_small}
 use Rattle.pair_bounds.proofs.PairCosts.{length_slots, few_links, length_walked, light_children, collected_apart, collected_between, children_listed}
-use Rattle.pair_bounds.specs.Slots.{slot_segs, IsBetween, IsCollected}
+use Rattle.pair_bounds.specs.Slots.{slot_segs, child_links, IsBetween, IsCollected}
 use Rattle.map_base.specs.declared.ids.SegId.{SegId}
 use Rattle.pair_bounds.proofs.one_pair.plan_pair.Goals as goal
 
@@ -43,10 +44,10 @@ list_children-requires-clause-children_room c =
 abbrev open_on : goal.After-list_children → List SegId
 open_on c = open_segments c.args.problem.now.segs c.args.prefix.now.placed c.args.part.now c.args.pair
 
-children_are : (c : goal.After-list_children) → c.list_children.new.children.items ≡ children_of (open_on c) c.collect-decided.new.links.items
+children_are : (c : goal.After-list_children) → child_links c.list_children.new.children.items ≡ children_of (open_on c) c.collect-decided.new.links.items
 children_are c =
     children_listed c.args.problem.now.segs c.args.prefix.now.placed (open_on c) c.args.pair c.args.terms.now c.collect-decided.result c.collect-decided.new.slots.items c.collect-decided.new.links.items
-    c.list_children.new.children.items c.collect-decided.ensures.collected
+    (child_links c.list_children.new.children.items) c.collect-decided.ensures.collected
     (c.list_children.ensures.children ∙ (ap (λ slots. children_of (slot_segs slots) c.as_slice-2.result.now) c.as_slice.ensures.value ∙ ap (children_of (slot_segs c.collect-decided.new.slots.items)) c.as_slice-2.ensures.value))
 
 pub returns-clause-collected : goal.returns-clause-collected
@@ -69,7 +70,7 @@ returns-clause-apart c =
 pub returns-clause-light : goal.returns-clause-light
 returns-clause-light c =
     light_children c.args.problem.now.segs c.args.prefix.now.placed (open_on c) c.args.pair c.args.terms.now c.collect-decided.result c.collect-decided.new.slots.items c.collect-decided.new.links.items
-    c.list_children.new.children.items c.collect-decided.ensures.collected c.requires.known (children_are c)
+    (child_links c.list_children.new.children.items) c.collect-decided.ensures.collected c.requires.known (children_are c)
 
 pub returns-clause-few : goal.returns-clause-few
 returns-clause-few c =
@@ -79,6 +80,7 @@ returns-clause-few c =
       links,
       ap length (children_are c),
       length_walked (length (open_on c) + length c.collect-decided.new.links.items) (open_on c) c.collect-decided.new.links.items,
+      length_children c.list_children.new.children.items,
       c.list_children.new.children.ok.0,
       c.requires.few,
     )

@@ -2,7 +2,7 @@ use Rattle.std.proofs.Common.{◌^◌, ◌∙◌, length, drop, refl, sym, ap, s
 use Rattle.std.specs.List.{All}
 use Rattle.order_bound.specs.Pairs.{kept_links, AreApartSegments}
 use Rattle.order_bound.specs.Values.{int_sum}
-use Rattle.pair_bounds.specs.Slots.{slot_segs, slot_least, IsSmall}
+use Rattle.pair_bounds.specs.Slots.{slot_segs, child_links, slot_least, IsSmall}
 use Rattle.pair_bounds.proofs.Gathered.{take_front}
 use Rattle.pair_bounds.proofs.PairCosts.{pair_total}
 use Rattle.pair_bounds.proofs.one_pair.price_pair.Goals as goal
@@ -22,7 +22,7 @@ returns-clause-least c =
     (omega (arith, c.price_children.auto.slots, ap length c.as_mut_slice.ensures.value, c.plan_pair-decided.new.room.slots.ok.0)) in
     ap (int_sum slot_least) back
     ∙ pair_total c.args.problem.now.segs c.args.prefix.now.placed c.args.part.now c.args.pair c.args.terms.now c.plan_pair-decided.result c.plan_pair-decided.new.room.slots.items c.as_mut_slice.result.now c.price_children.new.slots c.price_children.new.slots
-    (kept_links c.args.prefix.now.placed c.args.pair c.args.terms.now) c.plan_pair-decided.new.room.children.items (int_sum slot_least c.price_children.new.slots) c.requires.apart c.requires.known c.requires.inside c.plan_pair-decided.ensures.collected
+    (kept_links c.args.prefix.now.placed c.args.pair c.args.terms.now) (child_links c.plan_pair-decided.new.room.children.items) (int_sum slot_least c.price_children.new.slots) c.requires.apart c.requires.known c.requires.inside c.plan_pair-decided.ensures.collected
     c.plan_pair-decided.ensures.children c.as_mut_slice.ensures.value c.price_children.ensures.slots refl refl
 
 pub returns-clause-small : goal.returns-clause-small
