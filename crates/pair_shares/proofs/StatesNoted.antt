@@ -17,7 +17,7 @@ use Rattle.pair_shares.specs.PairGroups.{Group, own_segments, no_group, share_of
 use Rattle.pair_shares.specs.declared.share_notes.NotePlaces.{NotePlaces}
 use Rattle.pair_shares.specs.declared.share_notes.ShareNote.{ShareNote}
 use Rattle.pair_shares.specs.PairKeys.{first_in, key_on, key_of}
-use Rattle.pair_shares.specs.ShareNotes.{share_if, noted_at, told_first, noted_in, with_note, IsTrueNote, AreTrueNotes}
+use Rattle.pair_shares.specs.ShareNotes.{share_if, noted_at, told_first, noted_in, moved, with_note, IsTrueNote, AreTrueNotes}
 use Rattle.pair_shares.proofs.OwnUse.{own_inside, own_share}
 use Rattle.pair_shares.proofs.PairsKept.{AreAlike, AreSeenAlike, share_seen}
 
@@ -128,7 +128,7 @@ true_more segs part groups notes fresh at n all e this i m is = by_test (i == at
         all i m (sym (get_or-set_other notes at i (Some n) None ne) ∙ held)
 
 -- a note at another place, too
-true_moved : (segs : List (List LineId)) (part : List SegId) (groups : List Group) (notes : List (Option ShareNote)) (from to : ℕ) → AreTrueNotes segs part groups notes → AreTrueNotes segs part groups (set notes to (get_or notes from None))
+true_moved : (segs : List (List LineId)) (part : List SegId) (groups : List Group) (notes : List (Option ShareNote)) (from to : ℕ) → AreTrueNotes segs part groups notes → AreTrueNotes segs part groups (moved notes from to)
 true_moved segs part groups notes from to all i m is = by_test (i == to) refl
   where
     by_length : (b : Bool) → nat_lt to (length notes) ≡ b → i ≡ to → IsTrueNote segs part groups m
@@ -141,11 +141,15 @@ true_moved segs part groups notes from to all i m is = by_test (i == to) refl
         let ne : i ≢ to = λ same. true≢false (sym (eq-eqb i to same) ∙ other) in
         all i m (sym (get_or-set_other notes to i (get_or notes from None) None ne) ∙ is)
 
--- one more at the first of two places
+-- one more at the first of some places
 pub true_with : (segs : List (List LineId)) (part : List SegId) (groups : List Group) (notes fresh : List (Option ShareNote)) (places : NotePlaces) (n : ShareNote) → AreTrueNotes segs part groups notes → fresh ≡ with_note notes places n
     → IsTrueNote segs part groups n → AreTrueNotes segs part groups fresh
 true_with segs part groups notes fresh places n all e this =
-    true_more segs part groups (set notes places.second (get_or notes places.first None)) fresh places.first n (true_moved segs part groups notes places.first places.second all) e this
+    let one : List (Option ShareNote) = moved notes places.third places.fourth in
+    let two : List (Option ShareNote) = moved one places.second places.third in
+    let three : List (Option ShareNote) = moved two places.first places.second in
+    true_more segs part groups three fresh places.first n
+    (true_moved segs part groups two places.first places.second (true_moved segs part groups one places.second places.third (true_moved segs part groups notes places.third places.fourth all))) e this
 
 -- what a note says is so
 noted_true : (segs placed : List (List LineId)) (part : List SegId) (groups : List Group) (notes : List (Option ShareNote)) (at place key share : ℕ) → AreTrueNotes segs part groups notes
@@ -165,11 +169,20 @@ noted_true segs placed part groups notes at place key share all says is = by_not
             sym told ∙ (all at n e placed (ap (λ k. key_of placed part (get_or groups k no_group)) here ∙ (sym is ∙ sym keyed)) ∙ ap (λ k. share_of segs part placed (get_or groups k no_group)) here)
         by_test false t h = absurd (cc)
 
--- so is what one of two says
+-- so is what one of some says
 pub noted_in_true : (segs placed : List (List LineId)) (part : List SegId) (groups : List Group) (notes : List (Option ShareNote)) (places : NotePlaces) (place key share : ℕ) → AreTrueNotes segs part groups notes
     → noted_in notes places place key ≡ Some share → key ≡ key_of placed part (get_or groups place no_group) → share ≡ share_of segs part placed (get_or groups place no_group)
-noted_in_true segs placed part groups notes places place key share all says is = by_first (noted_at notes places.first place key) refl says
+noted_in_true segs placed part groups notes places place key share all says is =
+    by_first (at places.first) (told_first (at places.second) (told_first (at places.third) (at places.fourth))) (told places.first)
+    (λ g. by_first (at places.second) (told_first (at places.third) (at places.fourth)) (told places.second) (λ h. by_first (at places.third) (at places.fourth) (told places.third) (told places.fourth) h) g) says
   where
-    by_first : (o : Option ℕ) → noted_at notes places.first place key ≡ o → told_first o (noted_at notes places.second place key) ≡ Some share → share ≡ share_of segs part placed (get_or groups place no_group)
-    by_first None e h = noted_true segs placed part groups notes places.second place key share all h is
-    by_first (Some v) e h = noted_true segs placed part groups notes places.first place key share all (e ∙ h) is
+    at : ℕ → Option ℕ
+    at k = noted_at notes k place key
+
+    told : (k : ℕ) → at k ≡ Some share → share ≡ share_of segs part placed (get_or groups place no_group)
+    told k h = noted_true segs placed part groups notes k place key share all h is
+
+    by_first : (o other : Option ℕ) → (o ≡ Some share → share ≡ share_of segs part placed (get_or groups place no_group)) → (other ≡ Some share → share ≡ share_of segs part placed (get_or groups place no_group))
+        → told_first o other ≡ Some share → share ≡ share_of segs part placed (get_or groups place no_group)
+    by_first None other one more h = more h
+    by_first (Some v) other one more h = one h

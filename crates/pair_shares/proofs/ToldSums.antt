@@ -1,8 +1,11 @@
 -- What the pairs add once a line is placed next, told without placing it.
-use Rattle.std.proofs.Common.{◌≡◌, ℕ, ◌+◌, ◌*◌, ◌<◌, ◌==◌, not, Bool, true, false, ◌&&◌, List, [], ◌++◌, length, get_or, Option, Some, None, refl, sym, ap, subst, ◌∙◌, inl, inr, arith, eqb-true, true≢false, get_or-set_same}
+use Rattle.std.proofs.Common.{◌≡◌, ℕ, ◌+◌, ◌*◌, ◌<◌, ◌==◌, not, Bool, true, false, ◌&&◌, List, [], ◌++◌, length, get_or, Option, Some, None, refl, sym, ap, subst, ◌∙◌, inl, inr, arith, eqb-true, true≢false, get_or-set_same, get_or-set_other, eq-eqb, ◌≢◌, ◌≤◌, take}
 use Rattle.std.specs.List.{All}
 use Rattle.std.specs.Option.{IfSome}
-use Rattle.std.proofs.lemmas.Bool.{and_cases}
+use Rattle.std.specs.Prelude.{nat_lt}
+use Rattle.std.proofs.Math.ListN.{set, get_or-eq_default}
+use Rattle.std.proofs.lemmas.Bool.{and_cases, ltb-true, ltb-false}
+use Rattle.std.proofs.lemmas.List.{set_past}
 use Rattle.map_base.specs.declared.ids.SegId.{SegId}
 use Rattle.map_base.specs.declared.ids.LineId.{LineId}
 use Rattle.order_model.specs.Problems.{lines_on}
@@ -16,10 +19,13 @@ use Rattle.pair_shares.specs.declared.pair_terms.PairTerms.{PairTerms}
 use Rattle.pair_shares.specs.declared.share_notes.NotePlaces.{NotePlaces}
 use Rattle.pair_shares.specs.declared.share_notes.ShareNote.{ShareNote}
 use Rattle.pair_shares.specs.Meeting.{pair_here, AreHere}
+use Rattle.pair_shares.specs.declared.told.PairState.{PairState}
+use Rattle.pair_shares.specs.PairStates.{IsToldFrom, IsRaisedAlike, AreStatesOf}
 use Rattle.pair_shares.specs.ShareNotes.{noted_in, AreTrueNotes}
 use Rattle.pair_shares.specs.PairGroups.{Group, KnowsOwn, no_group, group_in, groups_in, meets, own_segments, share_of, IsGroup}
 use Rattle.pair_shares.specs.PairKeys.{first_in, key_of, weight_on, answer_after, fresh_lines, is_answered, IsKeyWith, AreKeys, IsNextLine}
 use Rattle.pair_shares.proofs.KeptGroups.{group_here}
+use Rattle.pair_shares.proofs.Meeting.{listed_each}
 use Rattle.pair_shares.proofs.KeysKept.{key_alike, key_moved, first_after}
 use Rattle.pair_shares.proofs.OwnSegments.{SameElsewhere, share_kept}
 use Rattle.pair_shares.proofs.OwnUse.{own_apart}
@@ -54,20 +60,24 @@ share_told segs placed part n g ok fit none = elim (and_cases (not (answer_after
     plain m = omega arith
 
 -- the key of a pair once the line is placed
+key_from : (segs placed : List (List LineId)) (part : List SegId) (n : NextLine) (g : Group) (key answer : ℕ) (held weight : Option ℕ) → AreApartSegments part → IsNextLine segs placed n
+    → IfSome held (λ k. k ≡ key_of placed part g) → answer ≡ answer_after n.known.now (fresh_lines n) g.0 → weight ≡ weight_on (own_segments part g.1) n.seg
+    → IsKeyWith held weight answer key → key ≡ key_of (placed_more segs placed n.seg n.line) part g
+key_from segs placed part n g key answer None weight apart ok is e1 e2 has = absurd has
+key_from segs placed part n g key answer (Some old) None apart ok is e1 e2 has = absurd has
+key_from segs placed part n g key answer (Some old) (Some x) apart ok is e1 e2 has =
+    let moved = key_moved g.0 placed (placed_more segs placed n.seg n.line) n.seg n.known.now (fresh_lines n) (own_segments part g.1) x (own_apart part g.1 (own_segments part g.1) refl apart) (elsewhere_same segs placed n) (sym ok.known_is) (lines_after segs placed n ok) (sym e2) in
+    has ∙ (ap (λ m. m + answer * x) is ∙ (ap (λ m. key_of placed part g + m * x) e1 ∙ sym moved))
+
 pub key_told : (segs placed : List (List LineId)) (part : List SegId) (n : NextLine) (groups : List Group) (keys : List (Option ℕ)) (place key answer : ℕ) (weight : Option ℕ) → AreApartSegments part → IsNextLine segs placed n
     → AreKeys placed part groups keys → place < length groups → answer ≡ answer_after n.known.now (fresh_lines n) (get_or groups place no_group).0 → weight ≡ weight_on (own_segments part (get_or groups place no_group).1) n.seg
     → IsKeyWith (get_or keys place None) weight answer key → key ≡ key_of (placed_more segs placed n.seg n.line) part (get_or groups place no_group)
-key_told segs placed part n groups keys place key answer weight apart ok are below e1 e2 has = by_cases (get_or keys place None) refl weight e2 has
+key_told segs placed part n groups keys place key answer weight apart ok are below e1 e2 has =
+    key_from segs placed part n (get_or groups place no_group) key answer (get_or keys place None) weight apart ok (by_key (get_or keys place None) refl) e1 e2 has
   where
-    g : Group
-    g = get_or groups place no_group
-
-    by_cases : (o : Option ℕ) → get_or keys place None ≡ o → (v : Option ℕ) → v ≡ weight_on (own_segments part g.1) n.seg → IsKeyWith o v answer key → key ≡ key_of (placed_more segs placed n.seg n.line) part g
-    by_cases None at v w h = absurd h
-    by_cases (Some old) at None w h = absurd h
-    by_cases (Some old) at (Some x) w h =
-        let moved = key_moved g.0 placed (placed_more segs placed n.seg n.line) n.seg n.known.now (fresh_lines n) (own_segments part g.1) x (own_apart part g.1 (own_segments part g.1) refl apart) (elsewhere_same segs placed n) (sym ok.known_is) (lines_after segs placed n ok) (sym w) in
-        h ∙ (ap (λ m. m + answer * x) (are.are place old below at) ∙ (ap (λ m. key_of placed part g + m * x) e1 ∙ sym moved))
+    by_key : (o : Option ℕ) → get_or keys place None ≡ o → IfSome o (λ k. k ≡ key_of placed part (get_or groups place no_group))
+    by_key None at = tt
+    by_key (Some k) at = are.are place k below at
 
 -- Each of a row.
 
@@ -103,3 +113,64 @@ share_noted segs placed part n groups keys notes place key answer share places p
 -- a sum that is told is another that is the same
 pub told_is : (told : Option ℕ) (v w : ℕ) → IfSome told (λ sum. sum ≡ v) → v ≡ w → IfSome told (λ sum. sum ≡ w)
 told_is told v w h e = subst (λ u. IfSome told (λ sum. sum ≡ u)) e h
+
+-- Told from a state.
+
+-- a pair that the line does not decide
+pub state_kept : (n : NextLine) (here : PairHere) (state : PairState) (notes : List (Option ShareNote)) → answer_after n.known.now (fresh_lines n) here.pair ≡ 0 → IsToldFrom n here state notes (Some state.share)
+state_kept n here state notes none segs placed part groups apart fit all ok is =
+    let g : Group = get_or groups here.place no_group in
+    is.share_is ∙ sym (share_told segs placed part n g ok (fit here.place no_group is.within) (unanswered n g (ap (answer_after n.known.now (fresh_lines n)) (sym is.pair_is) ∙ none)))
+
+-- nothing is told
+pub none_told : (n : NextLine) (here : PairHere) (state : PairState) (notes : List (Option ShareNote)) → IsToldFrom n here state notes None
+none_told n here state notes segs placed part groups apart fit all ok is = tt
+
+-- a pair whose next state is noted
+pub state_noted : (n : NextLine) (here : PairHere) (state : PairState) (notes : List (Option ShareNote)) (answer key : ℕ) (places : NotePlaces) (told : Option ℕ) → answer ≡ answer_after n.known.now (fresh_lines n) here.pair
+    → IsKeyWith state.key here.weight answer key → told ≡ noted_in notes places here.place key → IsToldFrom n here state notes told
+state_noted n here state notes answer key places told e has says segs placed part groups apart fit all ok is = by_told told says
+  where
+    g : Group
+    g = get_or groups here.place no_group
+
+    by_told : (o : Option ℕ) → o ≡ noted_in notes places here.place key → IfSome o (λ share. share ≡ share_of segs part (placed_more segs placed n.seg n.line) g)
+    by_told None h = tt
+    by_told (Some share) h =
+        noted_in_true segs (placed_more segs placed n.seg n.line) part groups notes places here.place key share all (sym h)
+        (key_from segs placed part n g key answer state.key here.weight apart ok is.keyed (e ∙ ap (answer_after n.known.now (fresh_lines n)) is.pair_is) is.weight_is has)
+
+-- both are told, and rise alike
+pub both_raised : (n : NextLine) (here : PairHere) (one two : PairState) (notes : List (Option ShareNote)) (v w : ℕ) → IsToldFrom n here one notes (Some v) → IsToldFrom n here two notes (Some w) → w + one.share ≡ two.share + v → IsRaisedAlike n here one two notes
+both_raised n here one two notes v w first second level segs before after part groups apart fit all ok1 ok2 is1 is2 =
+    let a = first segs before part groups apart fit all ok1 is1 in
+    let b = second segs after part groups apart fit all ok2 is2 in
+    omega (arith, a, b, is1.share_is, is2.share_is, level)
+
+-- States are noted, one after the other.
+
+pub states_more : (row : List PairHere) (i : ℕ) (n d : PairHere) (keys : List (Option ℕ)) (shares : List ℕ) (states fresh : List (Option PairState)) (state : PairState) → i < length row → n ≡ get_or row i d → AreStatesOf (take i row) keys shares states
+    → state.key ≡ get_or keys n.place None → state.share ≡ get_or shares n.place 0 → fresh ≡ set states n.place (Some state) → AreStatesOf (take (i + 1) row) keys shares fresh
+states_more row i n d keys shares states fresh state below at before key share is =
+    listed_each IsSo row i n d below at (λ k h. at_each k (k == n.place) refl (before k h)) this
+  where
+    Fits : ℕ → PairState → Type 0
+    Fits k s = (s.key ≡ get_or keys k None) × (s.share ≡ get_or shares k 0)
+
+    IsSo : ℕ → Type 0
+    IsSo k = IfSome (get_or fresh k None) (Fits k)
+
+    by_length : (b : Bool) → nat_lt n.place (length states) ≡ b → IfSome (get_or (set states n.place (Some state)) n.place None) (Fits n.place)
+    by_length true within = subst (λ o. IfSome o (Fits n.place)) (sym (get_or-set_same states n.place (Some state) None (ltb-true n.place (length states) within))) (key, share)
+    by_length false past =
+        let beyond : length states ≤ n.place = ltb-false n.place (length states) past in
+        subst (λ o. IfSome o (Fits n.place)) (sym (ap (λ l. get_or l n.place None) (set_past states n.place (Some state) beyond) ∙ get_or-eq_default states None beyond)) tt
+
+    this : IsSo n.place
+    this = subst (λ l. IfSome (get_or l n.place None) (Fits n.place)) (sym is) (by_length (nat_lt n.place (length states)) refl)
+
+    at_each : (k : ℕ) (b : Bool) → (k == n.place) ≡ b → IfSome (get_or states k None) (Fits k) → IsSo k
+    at_each k true e h = subst IsSo (sym (eqb-true k n.place e)) this
+    at_each k false e h =
+        let ne : k ≢ n.place = λ same. true≢false (sym (eq-eqb k n.place same) ∙ e) in
+        subst (λ l. IfSome (get_or l k None) (Fits k)) (sym is) (subst (λ o. IfSome o (Fits k)) (sym (get_or-set_other states n.place k (Some state) None ne)) h)

@@ -6,3 +6,4 @@ pub mod ShareNotes
 pub mod Shares
 pub mod LineRows
 pub mod SegmentRows
+pub mod PairStates

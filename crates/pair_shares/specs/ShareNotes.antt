@@ -21,13 +21,21 @@ abbrev pub told_first : Option ℕ → Option ℕ → Option ℕ
 told_first None other = other
 told_first (Some share) other = Some share
 
--- what the notes at two places say, the first of them first
+-- what the notes at some places say, the first of them first
 abbrev pub noted_in : List (Option ShareNote) → NotePlaces → ℕ → ℕ → Option ℕ
-noted_in notes places place key = told_first (noted_at notes places.first place key) (noted_at notes places.second place key)
+noted_in notes places place key =
+    told_first (noted_at notes places.first place key)
+    (told_first (noted_at notes places.second place key)
+    (told_first (noted_at notes places.third place key) (noted_at notes places.fourth place key)))
 
--- notes with one more at the first of two places; what stood there goes to the second one
+-- notes with what stands at one place at another, too
+abbrev pub moved : List (Option ShareNote) → ℕ → ℕ → List (Option ShareNote)
+moved notes from to = slice_set notes to (slice_index_or notes from None)
+
+-- notes with one more at the first of some places; what stood there goes to the second one, and so on
 abbrev pub with_note : List (Option ShareNote) → NotePlaces → ShareNote → List (Option ShareNote)
-with_note notes places n = slice_set (slice_set notes places.second (slice_index_or notes places.first None)) places.first (Some n)
+with_note notes places n =
+    slice_set (moved (moved (moved notes places.third places.fourth) places.second places.third) places.first places.second) places.first (Some n)
 
 -- the pair has this share under all prefixes with its key
 abbrev pub IsTrueNote : List (List LineId) → List SegId → List Group → ShareNote → Type 0

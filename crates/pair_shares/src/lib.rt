@@ -19,11 +19,11 @@ mod told;
 
 pub use changes::{Change, change_on, has_line, is_changed, is_new_pair, last_two, placed_count};
 pub use next_lines::{NextLine, next_line};
-pub use pair_keys::keys_of;
+pub use pair_keys::{key_at, keys_of, thrice};
 pub use pair_rows::PairHere;
 pub use pair_terms::{PairTerms, find_segments, most_terms, pairs_of};
 pub use pairs_by_line::{pairs_by_segment, pairs_for};
 pub use segment_pairs::{LinePairs, SegmentPairs};
 pub use share_notes::{ShareNote, no_notes};
 pub use shares::{fill_shares, renew_shares, sum_anew};
-pub use told::sum_told;
+pub use told::{PairState, is_raised_alike, note_states, state_at, sum_told};

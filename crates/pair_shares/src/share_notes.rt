@@ -4,7 +4,7 @@ ghost use Rattle.std.specs.Prelude.{◌≡◌, List, Some, None, IfOk, slice_ind
 ghost use Rattle.map_base.specs.declared.ids.SegId.{SegId};
 ghost use Rattle.map_base.specs.declared.ids.LineId.{LineId};
 ghost use Rattle.pair_shares.specs.PairGroups.{Group};
-ghost use Rattle.pair_shares.specs.ShareNotes.{share_if, noted_at, noted_in, with_note, AreTrueNotes};
+ghost use Rattle.pair_shares.specs.ShareNotes.{share_if, noted_at, noted_in, moved, with_note, AreTrueNotes};
 
 use map_base::NoMemory;
 use std::alloc::Global;
@@ -26,12 +26,14 @@ pub fn no_notes(alloc: Global, terms: usize) -> Result<Vec<Option<ShareNote>>, N
     Ok(notes)
 }
 
-/// Where among notes one is looked for: at the one place, then at the other. A new note takes the first place, and what stood
-/// there the second; so what was noted last stays longer.
+/// Where among notes one is looked for, one place after the other. A new note takes the first place, and what stood there the
+/// next, and so on; so what was noted last stays longest.
 #[derive(Clone, Copy)]
 pub struct NotePlaces {
     pub first: usize,
     pub second: usize,
+    pub third: usize,
+    pub fourth: usize,
 }
 
 /// Where among so many notes that of a pair and a key stands, if it is noted. Any places are right.
@@ -42,6 +44,8 @@ pub fn places_of(count: usize, place: usize, key: u64) -> NotePlaces {
     NotePlaces {
         first,
         second: first ^ 1,
+        third: first ^ 2,
+        fourth: first ^ 3,
     }
 }
 
@@ -72,7 +76,7 @@ fn noted_at(notes: &[Option<ShareNote>], at: usize, place: usize, key: u64) -> O
     }
 }
 
-/// What the notes at two places say of the pair with this key, the first of them first.
+/// What the notes at some places say of the pair with this key, the first of them first.
 pub fn noted_in(
     notes: &[Option<ShareNote>],
     places: NotePlaces,
@@ -84,7 +88,13 @@ pub fn noted_in(
     if let Some(share) = noted_at(notes, places.first, place, key) {
         return Some(share);
     }
-    noted_at(notes, places.second, place, key)
+    if let Some(share) = noted_at(notes, places.second, place, key) {
+        return Some(share);
+    }
+    if let Some(share) = noted_at(notes, places.third, place, key) {
+        return Some(share);
+    }
+    noted_at(notes, places.fourth, place, key)
 }
 
 /// The note at a place, if there is one.
@@ -103,11 +113,20 @@ fn put_note(notes: &mut Vec<Option<ShareNote>>, at: usize, note: Option<ShareNot
     }
 }
 
-/// Writes a note at the first of two places. What stood there goes to the second one.
+/// Writes at one place what stands at another.
+fn move_note(notes: &mut Vec<Option<ShareNote>>, from: usize, to: usize)
+    ensures { notes.new.items ≡ moved notes.old.items from to }
+{
+    let old = note_at(notes.as_slice(), from);
+    put_note(notes, to, old);
+}
+
+/// Writes a note at the first of some places. What stood there goes to the second one, and so on.
 pub fn note_in(notes: &mut Vec<Option<ShareNote>>, places: NotePlaces, note: ShareNote)
     ensures { notes.new.items ≡ with_note notes.old.items places note }
 {
-    let old = note_at(notes.as_slice(), places.first);
-    put_note(notes, places.second, old);
+    move_note(notes, places.third, places.fourth);
+    move_note(notes, places.second, places.third);
+    move_note(notes, places.first, places.second);
     put_note(notes, places.first, Some(note));
 }

@@ -49,7 +49,7 @@ whole_bound segs placed part terms groups total settled e1 e2 e3 =
 
 -- what the settled Aparts cost
 pub settled_is : (segs placed : List (List LineId)) (terms : List (ℕ × Term)) (aparts : ApartTotal) → AreSettled segs placed terms aparts → aparts.total ≡ settled_sum segs placed terms
-settled_is segs placed terms aparts ok = ok.total_is ∙ (ap (λ l. settled_sum l placed aparts.terms) ok.segs_are ∙ ap (settled_sum segs placed) ok.terms_are)
+settled_is segs placed terms aparts ok = ok.total_is.total ∙ (ap (λ l. settled_sum l placed aparts.terms) ok.segs_are ∙ ap (settled_sum segs placed) ok.terms_are)
 
 -- its sum with that of the settled Aparts is the bound
 pub bound_is : (problem : ProblemParts) (part : List SegId) (numbers : List ℕ) (prefix : Placement) (pairs : List PairTerms) (shares : List ℕ) (places total : ℕ) (room : Room) (aparts : ApartTotal) (rows : List (List PairHere)) (keys : List (Option ℕ)) (notes : List (Option ShareNote)) (noted_rises : List (List (Option Rise)))

@@ -5,3 +5,6 @@ mod PricesKept
 mod RisesKept
 mod OwnPrices
 pub mod Restored
+pub mod RaisedAlike
+pub mod RiseTables
+pub mod Foregone

@@ -20,6 +20,8 @@ use Rattle.pair_shares.specs.Shares.{HasRoomFor}
 use Rattle.part_bounds.specs.declared.rises.Rise.{Rise}
 use Rattle.part_bounds.specs.Rises.{AreTrueRises}
 use Rattle.part_bounds.specs.Settled.{AreSettled}
+use Rattle.part_bounds.specs.declared.undo.Frame.{Frame}
+use Rattle.part_bounds.specs.Undoing.{AreSaved}
 
 -- the numbers of a part's terms, and its pairs with what each adds to the bound of a prefix, and the sum, with room for so many
 -- shares; its Aparts; and for each segment the pairs that have a term there; the keys of pairs; notes of shares; and rises
@@ -43,3 +45,8 @@ pub record IsKeptUp (problem : ProblemParts) (part : List SegId) (numbers : List
   pub keys_are : AreKeys prefix.placed part (groups_in pairs) keys
   pub notes_are : AreTrueNotes problem.segs part (groups_in pairs) notes
   pub rises_are : AreTrueRises problem.segs part (part_terms problem.terms part) prefix.placed noted_rises
+
+-- the same with what the last placings forgot
+pub record IsKept (problem : ProblemParts) (part : List SegId) (numbers : List ℕ) (prefix : Placement) (pairs : List PairTerms) (shares : List ℕ) (places total : ℕ) (room : Room) (aparts : ApartTotal) (rows : List (List PairHere)) (keys : List (Option ℕ)) (notes : List (Option ShareNote)) (noted_rises : List (List (Option Rise))) (frames : List Frame) : Type 0 where
+  pub kept : IsKeptUp problem part numbers prefix pairs shares places total room aparts rows keys notes noted_rises
+  pub saved : AreSaved problem.segs part (part_terms problem.terms part) prefix.placed frames

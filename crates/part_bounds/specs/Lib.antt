@@ -3,3 +3,4 @@ pub mod Kept
 pub mod Settled
 pub mod Rises
 pub mod KeptPrices
+pub mod Undoing

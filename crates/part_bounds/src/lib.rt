@@ -11,6 +11,8 @@ mod part_prices;
 mod prices;
 mod rises;
 mod stale_prices;
+mod turns;
+mod undo;
 
 pub use part_bounds::PartBounds;
 pub use part_prices::PartPrices;

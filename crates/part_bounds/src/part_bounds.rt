@@ -14,14 +14,16 @@ ghost use Rattle.part_bounds.specs.PartStates.{state_more, with_placed, IsWell};
 
 use crate::part_prices::PartPrices;
 use crate::rises::{Rise, forget_near, line_at, no_rises, note_rise, rise_at};
+use crate::turns::Turned;
+use crate::undo::{Frame, Log, Undo, begin_log, pop_frame, push_frame, settle};
 use apart_sums::Aparts;
 use map_base::{LineId, NoMemory, SegId};
 use order_model::{Prefix, Problem};
 use pair_bounds::{NotedPrices, Room};
 use pair_shares::{
-    PairTerms, SegmentPairs, ShareNote, change_on, fill_shares, find_segments, has_line, keys_of,
-    last_two, most_terms, next_line, no_notes, pairs_by_segment, pairs_for, pairs_of, placed_count,
-    renew_shares, sum_anew, sum_told,
+    PairState, PairTerms, SegmentPairs, ShareNote, change_on, fill_shares, find_segments, has_line,
+    keys_of, last_two, most_terms, next_line, no_notes, note_states, pairs_by_segment, pairs_for,
+    pairs_of, placed_count, renew_shares, sum_anew, sum_told,
 };
 use std::alloc::Global;
 use std::marker::Model;
@@ -49,6 +51,15 @@ pub struct PartBounds<'a> {
     keys: Vec<Option<u64>>,
     /// What pairs added in states that were met.
     notes: Vec<Option<ShareNote>>,
+    /// The states before the last placing of pairs that it may have changed.
+    before: Vec<Option<PairState>>,
+    /// What the placing under way forgets.
+    log: Log,
+    /// The last placings that are not taken back, in turn, with what they forgot.
+    frames: Vec<Frame>,
+    /// Room for logs.
+    spares: Vec<Vec<Undo>>,
+    alloc: Global,
     room: Room,
     /// The part's Aparts, with what the settled ones add to the bound.
     aparts: Aparts<'a>,
@@ -60,13 +71,13 @@ impl<'a> Model for PartBounds<'a> {
     ghost use Rattle.part_bounds.specs.PartStates.{PartState};
     ghost use Rattle.pair_shares.specs.SegmentRows.{pairs_in};
     ghost use Rattle.part_bounds.specs.Rises.{rises_in};
-    ghost use Rattle.part_bounds.specs.Kept.{IsKeptUp};
+    ghost use Rattle.part_bounds.specs.Kept.{IsKept};
 
     ghost Value = { PartState };
 
     ghost view = { λ b. record { segs = b.problem.now.segs; part = b.part.now; terms = part_terms b.problem.now.terms b.part.now; placed = b.prefix.placed } };
 
-    ghost invariant = { λ b. IsKeptUp b.problem.now b.part.now b.numbers.now b.prefix b.pairs.items b.shares.items (vec_capacity b.shares) b.total b.room b.aparts (pairs_in b.rows.items) b.keys.items b.notes.items (rises_in b.rises.items) };
+    ghost invariant = { λ b. IsKept b.problem.now b.part.now b.numbers.now b.prefix b.pairs.items b.shares.items (vec_capacity b.shares) b.total b.room b.aparts (pairs_in b.rows.items) b.keys.items b.notes.items (rises_in b.rises.items) b.frames.items };
 }
 
 impl<'a> PartBounds<'a> {
@@ -103,6 +114,11 @@ impl<'a> PartBounds<'a> {
         let aparts = Aparts::of_terms(alloc, problem, numbers, &prefix)?;
         let keys = keys_of(alloc, problem, &prefix, part, pairs.as_slice())?;
         let notes = no_notes(alloc, numbers.len())?;
+        let before = vec![in alloc; None; pairs.len()]?;
+        let log = Log {
+            entries: Vec::new(alloc),
+            whole: true,
+        };
         let rises = no_rises(alloc, problem)?;
         Ok(PartBounds {
             problem,
@@ -116,6 +132,11 @@ impl<'a> PartBounds<'a> {
             total,
             keys,
             notes,
+            before,
+            log,
+            frames: Vec::new(alloc),
+            spares: Vec::new(alloc),
+            alloc,
             room,
             aparts,
         })
@@ -145,8 +166,24 @@ impl<'a> PartBounds<'a> {
         }
     }
 
+    /// The same for the line at a place of the segment, where it is noted.
+    #[inline]
+    pub fn bound_noted(&self, seg: SegId, at: usize) -> Option<u64>
+        requires known { seg.0 < length self.now.segs }
+        requires within { at < length (lines_on self.now.segs seg) }
+        ensures { IfSome result (λ bound. (line : LineId) → line ≡ slice_index_or (lines_on self.now.segs seg) at line
+            → bound ≡ bound_of self.now.segs self.now.part self.now.terms (placed_more self.now.segs self.now.placed seg line)) }
+    {
+        let bound = self.bound();
+        match rise_at(&self.rises, seg, at) {
+            Some(rise) => Some(bound + rise.child - rise.bound),
+            None => None,
+        }
+    }
+
     /// The same for a caller who knows at which place of the segment the line stands. It is told from what is noted for the
     /// line, if it is; else it is noted.
+    #[inline]
     pub fn bound_with_at(&mut self, seg: SegId, line: LineId, at: usize) -> u64
         requires rising { All AreRising self.old.segs }
         requires well { IsWell self.old.segs self.old.placed }
@@ -158,10 +195,26 @@ impl<'a> PartBounds<'a> {
         ensures bound { result ≡ bound_of self.old.segs self.old.part self.old.terms (placed_more self.old.segs self.old.placed seg line) }
         ensures kept { self.new ≡ self.old }
     {
-        let bound = self.bound();
-        if let Some(rise) = rise_at(&self.rises, seg, at) {
-            return bound + rise.child - rise.bound;
+        match self.bound_noted(seg, at) {
+            Some(bound) => bound,
+            None => self.note_bound(seg, line, at),
         }
+    }
+
+    /// The same, which is noted.
+    #[inline(never)]
+    fn note_bound(&mut self, seg: SegId, line: LineId, at: usize) -> u64
+        requires rising { All AreRising self.old.segs }
+        requires well { IsWell self.old.segs self.old.placed }
+        requires known { seg.0 < length self.old.segs }
+        requires line { Contains (lines_on self.old.segs seg) line }
+        requires unplaced { is_placed (lines_on self.old.placed seg) line ≡ false }
+        requires within { at < length (lines_on self.old.segs seg) }
+        requires here { line ≡ slice_index_or (lines_on self.old.segs seg) at line }
+        ensures bound { result ≡ bound_of self.old.segs self.old.part self.old.terms (placed_more self.old.segs self.old.placed seg line) }
+        ensures kept { self.new ≡ self.old }
+    {
+        let bound = self.bound();
         let child = self.bound_anew(seg, line, at);
         note_rise(&mut self.rises, seg, at, Rise { bound, child });
         child
@@ -184,6 +237,7 @@ impl<'a> PartBounds<'a> {
     }
 
     /// The same, worked out anew: the line is placed and taken back.
+    #[inline(never)]
     #[tactic(auto, using(crate::proofs::Restored::restored, crate::proofs::Restored::chosen))]
     fn bound_placed(&mut self, seg: SegId, line: LineId) -> u64
         requires rising { All AreRising self.old.segs }
@@ -290,6 +344,13 @@ impl<'a> PartBounds<'a> {
         ensures well { IsWell self.new.segs self.new.placed }
     {
         self.aparts.place(&self.prefix, seg, line);
+        note_states(
+            self.rows[seg.0 as usize].all.as_slice(),
+            self.keys.as_slice(),
+            self.shares.as_slice(),
+            &mut self.before,
+        );
+        begin_log(&mut self.log, &mut self.spares);
         let count = placed_count(self.problem, &self.prefix, seg);
         self.prefix.place(self.problem, seg, line);
         let last = last_two(self.problem, &self.prefix, seg);
@@ -307,15 +368,24 @@ impl<'a> PartBounds<'a> {
             &mut self.notes,
             &mut self.room,
         );
+        let turned = Turned {
+            before: self.before.as_slice(),
+            keys: self.keys.as_slice(),
+            shares: self.shares.as_slice(),
+            notes: self.notes.as_slice(),
+        };
         forget_near(
             &mut self.rises,
+            &mut self.log,
             self.problem,
             &self.prefix,
             &change,
             self.pairs.as_slice(),
             self.rows[seg.0 as usize].all.as_slice(),
+            &turned,
             self.aparts.joined(seg),
         );
+        push_frame(self.alloc, &mut self.frames, &mut self.log, seg);
     }
 
     /// Takes back what the last placing on a segment placed. There is one that was not taken back.
@@ -327,6 +397,13 @@ impl<'a> PartBounds<'a> {
         ensures well { IsWell self.new.segs self.new.placed }
     {
         self.aparts.take_back(&self.prefix, seg);
+        note_states(
+            self.rows[seg.0 as usize].all.as_slice(),
+            self.keys.as_slice(),
+            self.shares.as_slice(),
+            &mut self.before,
+        );
+        let frame = pop_frame(&mut self.frames, seg);
         let last = last_two(self.problem, &self.prefix, seg);
         self.prefix.take_back(self.problem, seg);
         let count = placed_count(self.problem, &self.prefix, seg);
@@ -344,14 +421,24 @@ impl<'a> PartBounds<'a> {
             &mut self.notes,
             &mut self.room,
         );
-        forget_near(
+        let turned = Turned {
+            before: self.before.as_slice(),
+            keys: self.keys.as_slice(),
+            shares: self.shares.as_slice(),
+            notes: self.notes.as_slice(),
+        };
+        settle(
             &mut self.rises,
+            &mut self.log,
             self.problem,
             &self.prefix,
             &change,
             self.pairs.as_slice(),
             self.rows[seg.0 as usize].all.as_slice(),
+            &turned,
             self.aparts.joined(seg),
+            frame,
+            &mut self.spares,
         );
     }
 }

@@ -1,5 +1,5 @@
 -- The steps of a choice, from candidate to candidate.
-use Rattle.std.proofs.Common.{◌≡◌, ℕ, ◌+◌, ◌<◌, true, false, true≢false, cond, List, length, map, take, get_or, refl, sym, ◌∙◌, ap, subst, arith, Some, None, Option, option_map}
+use Rattle.std.proofs.Common.{◌≡◌, ℕ, ◌+◌, ◌<◌, inl, inr, true, false, true≢false, cond, List, length, map, take, get_or, refl, sym, ◌∙◌, ap, subst, arith, Some, None, Option, option_map}
 use Rattle.std.specs.Ordering.{is_gt, nat_cmp, ordering_then}
 use Rattle.map_base.specs.declared.ids.SegId.{SegId}
 use Rattle.order_search.specs.declared.child.Child.{Child}
@@ -9,11 +9,13 @@ use Rattle.order_search.specs.LiveTrees.{child_at}
 use Rattle.rising_search.specs.declared.walk_state.Walk.{Walk}
 use Rattle.rising_search.specs.declared.choosing.Candidate.{Candidate}
 use Rattle.rising_search.specs.Around.{placed_on}
-use Rattle.rising_search.specs.Candidates.{IsCandidate, IsCandidateIf, IsCandidateOver, IsFullIf, first_bound, floor_of}
+use Rattle.rising_search.specs.Candidates.{IsCandidate, IsCandidateIf, IsCandidateOver, IsFullIf, first_bound}
 use Rattle.rising_search.specs.Choosing.{JoinedPart, list_on, list_order, is_end, bounds_below, is_shut, is_over, preferred, chosen}
 use Rattle.rising_search.specs.Walking.{part_of, bare, IsUnderWay}
 use Rattle.rising_search.proofs.Chosen.{IsBestOf, best_skips, best_takes, shut_chosen}
+use Rattle.order_search.specs.Children.{in_order}
 use Rattle.rising_search.proofs.Lows.{AreByBound, in_order_by_bound, under_lost}
+use Rattle.rising_search.proofs.Matches.{matched_lost}
 
 abbrev none : SegId
 none = record { 0 = 0 }
@@ -45,21 +47,24 @@ module _ (w : Walk) (u : IsUnderWay w) where
 
     -- a segment whose children are under the floor of the best one
     pub passed : (o : Option Candidate) → best ≡ option_map (λ c. c.seg) o → IsCandidateIf w.bounds o → IsFullIf w.above o
-        → is_open mid.bounds.segs mid.bounds.placed (get_or w.part.now i none) ≡ true → IsCandidateOver mid.bounds (get_or w.part.now i none) (floor_of o) None → IsBest (i + 1) best
-    passed None is of_best full opens low = absurd (true≢false (sym low))
+        → is_open mid.bounds.segs mid.bounds.placed (get_or w.part.now i none) ≡ true → IsCandidateOver mid.above mid.bounds (get_or w.part.now i none) o None → IsBest (i + 1) best
+    passed None is of_best full opens (inl low) = absurd (true≢false (sym low))
+    passed None is of_best full opens (inr none_matched) = absurd none_matched
     passed (Some c) is of_best full opens low =
         let p : JoinedPart = bare w.bounds in
         let s : SegId = get_or w.bounds.part i none in
         let at : get_or w.part.now i none ≡ s = ap (λ (l : List SegId). get_or l i none) u.part in
         let open_here : is_open w.bounds.segs w.bounds.placed s ≡ true =
         ap (is_open w.bounds.segs w.bounds.placed) (sym at) ∙ ap (λ (m : Walk). is_open m.bounds.segs m.bounds.placed (get_or w.part.now i none)) (sym same) ∙ opens in
-        let low_here : IsCandidateOver w.bounds s (floor_of (Some c)) None =
-        subst (λ (v : SegId). IsCandidateOver w.bounds v (floor_of (Some c)) None) at
-        (subst (λ (m : Walk). IsCandidateOver m.bounds (get_or w.part.now i none) (floor_of (Some c)) None) same low) in
+        let low_here : IsCandidateOver w.above w.bounds s (Some c) None =
+        subst (λ (v : SegId). IsCandidateOver w.above w.bounds v (Some c) None) at
+        (subst (λ (m : Walk). IsCandidateOver m.above m.bounds (get_or w.part.now i none) (Some c) None) same low) in
         let by_bound : AreByBound c.children.items = subst AreByBound (sym of_best.children_are)
         (in_order_by_bound (map (child_at (part_of w.bounds) w.bounds.placed c.seg) (lines_left (lines_on w.bounds.segs c.seg) (lines_on w.bounds.placed c.seg)))) in
-        let lost = under_lost w.above (record { bound = first_bound c.children.items; count = c.low }) (map (child_at (part_of w.bounds) w.bounds.placed s) (lines_left (lines_on w.bounds.segs s) (lines_on w.bounds.placed s))) c.children.items
-        (nat_cmp (placed_on w.bounds.placed (p.around s)) (placed_on w.bounds.placed (p.around c.seg))) refl of_best.low_is by_bound full low_here in
+        let all : List Child = map (child_at (part_of w.bounds) w.bounds.placed s) (lines_left (lines_on w.bounds.segs s) (lines_on w.bounds.placed s)) in
+        let lost : (is_end (bounds_below w.above (in_order all)) ≡ false) × (is_gt (ordering_then (list_order (bounds_below w.above (in_order all)) (bounds_below w.above c.children.items))
+        (nat_cmp (placed_on w.bounds.placed (p.around s)) (placed_on w.bounds.placed (p.around c.seg)))) ≡ false) =
+        by_low s c of_best full by_bound low_here in
         let under : is_over p w.above w.bounds.placed s c.seg ≡ false =
         ap (λ (l : List Child). is_gt (ordering_then (list_order (list_on p.bounded w.above w.bounds.placed s) (bounds_below w.above l))
         (nat_cmp (placed_on w.bounds.placed (p.around s)) (placed_on w.bounds.placed (p.around c.seg))))) (sym of_best.children_are) ∙ lost.1 in
@@ -69,6 +74,17 @@ module _ (w : Walk) (u : IsUnderWay w) where
         let again : IsBestOf p w.above w.bounds.placed (take (i + 1) w.bounds.part) best =
         subst (IsBestOf p w.above w.bounds.placed (take (i + 1) w.bounds.part)) (ap (λ (v : SegId). Some v) stays ∙ sym is) next in
         subst (λ (l : List SegId). IsBestOf p w.above w.bounds.placed (take (i + 1) l) best) (sym u.part) again
+      where
+        by_low : (s : SegId) (c : Candidate) → IsCandidate w.bounds c → is_end (bounds_below w.above c.children.items) ≡ false → AreByBound c.children.items → IsCandidateOver w.above w.bounds s (Some c) None
+            → (is_end (bounds_below w.above (in_order (map (child_at (part_of w.bounds) w.bounds.placed s) (lines_left (lines_on w.bounds.segs s) (lines_on w.bounds.placed s))))) ≡ false)
+            × (is_gt (ordering_then (list_order (bounds_below w.above (in_order (map (child_at (part_of w.bounds) w.bounds.placed s) (lines_left (lines_on w.bounds.segs s) (lines_on w.bounds.placed s))))) (bounds_below w.above c.children.items))
+            (nat_cmp (placed_on w.bounds.placed ((bare w.bounds).around s)) (placed_on w.bounds.placed ((bare w.bounds).around c.seg)))) ≡ false)
+        by_low s c of_best full by_bound (inl low) =
+            under_lost w.above (record { bound = first_bound c.children.items; count = c.low }) (map (child_at (part_of w.bounds) w.bounds.placed s) (lines_left (lines_on w.bounds.segs s) (lines_on w.bounds.placed s))) c.children.items
+            (nat_cmp (placed_on w.bounds.placed ((bare w.bounds).around s)) (placed_on w.bounds.placed ((bare w.bounds).around c.seg))) refl of_best.low_is by_bound full low
+        by_low s c of_best full by_bound (inr matched) =
+            matched_lost w.above (map (child_at (part_of w.bounds) w.bounds.placed s) (lines_left (lines_on w.bounds.segs s) (lines_on w.bounds.placed s))) c.children.items
+            (placed_on w.bounds.placed ((bare w.bounds).around s)) (placed_on w.bounds.placed ((bare w.bounds).around c.seg)) by_bound full matched.0 (let few = matched.1 in omega (arith, few, of_best.lines))
 
     module _ (c : Candidate) (at : c.seg ≡ get_or w.part.now i none) (opens : is_open mid.bounds.segs mid.bounds.placed (get_or w.part.now i none) ≡ true)
         (candidate : IsCandidate mid.bounds c) (after : Walk) (kept : after ≡ mid) where

@@ -1,6 +1,5 @@
 -- A segment is left where the bound of one of its children is below all of those of the best segment.
-use Rattle.std.proofs.Common.{◌≡◌, ℕ, ◌<◌, ◌≤◌, nat_lt, ◌==◌, ◌&&◌, ◌||◌, Bool, true, false, true≢false, cond, List, [], ◌∷◌, ◌++◌, length, map, get_or, refl, sym, subst, ◌∙◌, ap, arith, eqb-true}
-use Rattle.std.specs.Prelude.{Contains}
+use Rattle.std.proofs.Common.{◌≡◌, ℕ, ◌<◌, ◌≤◌, nat_lt, ◌==◌, ◌&&◌, ◌||◌, Bool, true, false, true≢false, cond, List, [], ◌∷◌, ◌++◌, length, get_or, refl, sym, subst, ap, arith, eqb-true}
 use Rattle.std.specs.declared.cmp.Ordering.{Ordering}
 use Rattle.std.specs.declared.cmp.Ordering.TheVariants.{Less, Equal, Greater}
 use Rattle.std.specs.Ordering.{is_lt, is_gt, nat_cmp, ordering_then}
@@ -8,10 +7,7 @@ use Rattle.std.proofs.lemmas.Bool.{lt-ltb, ltb-true, ltb-false}
 use Rattle.map_base.specs.declared.ids.LineId.{LineId}
 use Rattle.order_model.specs.Places.{has_line}
 use Rattle.order_model.specs.Prefixes.{is_placed, is_unplaced, is_left}
-use Rattle.order_model.proofs.Lines.{both_true, not_true, same_line}
-use Rattle.order_model.proofs.PrefixLemmas.{contains_placed}
 use Rattle.order_search.specs.declared.child.Child.{Child}
-use Rattle.order_search.specs.Left.{lines_left}
 use Rattle.order_search.proofs.Pushed.{has_at}
 use Rattle.order_search.specs.Children.{child_order, with_child, in_order}
 use Rattle.rising_search.specs.Choosing.{bounds_below, list_order, is_end}
@@ -27,43 +23,10 @@ below_second t (x ∷ xs) ys g = by_test (nat_lt x.bound t) (below_second t xs y
     by_test true h = refl
     by_test false h = h
 
--- A line that is left has its child among them.
-
-pub left_is_on : (lines placed : List LineId) (a : LineId) → is_left lines placed a ≡ true → Contains lines a × (is_placed placed a ≡ false)
-left_is_on lines placed a h =
-    let both = both_true (has_line lines a) (is_unplaced placed a) h in (contains_placed lines a both.0, not_true (is_placed placed a) both.1)
-
 -- a line that stands on a segment is left where it is not placed
 pub left_here : (lines placed : List LineId) (a : LineId) (i : ℕ) → i < length lines → a ≡ get_or lines i a → is_left lines placed a ≡ is_unplaced placed a
 left_here lines placed a i below here =
     let on : has_line lines a ≡ true = subst (λ (v : LineId). is_placed lines v ≡ true) (sym here) (has_at lines i a below) in ap (λ b. b && is_unplaced placed a) on
-
-left_low : (t : ℕ) (f : LineId → Child) (placed : List LineId) (a : LineId) → is_unplaced placed a ≡ true → (f a).bound < t → (ls : List LineId) → has_line ls a ≡ true
-    → has_below t (map f (lines_left ls placed)) ≡ true
-left_low t f placed a fresh low [] h = absurd (true≢false (sym h))
-left_low t f placed a fresh low (b ∷ ls) h = by_line (b.0 == a.0) refl h (left_low t f placed a fresh low ls)
-  where
-    either : (x y : Bool) → y ≡ true → (x || y) ≡ true
-    either true y g = refl
-    either false y g = g
-
-    later : (x : Bool) → has_below t (map f (lines_left ls placed)) ≡ true → has_below t (map f (cond x (b ∷ lines_left ls placed) (lines_left ls placed))) ≡ true
-    later true g = either (nat_lt (f b).bound t) (has_below t (map f (lines_left ls placed))) g
-    later false g = g
-
-    by_line : (x : Bool) → (b.0 == a.0) ≡ x → (x || has_line ls a) ≡ true → (has_line ls a ≡ true → has_below t (map f (lines_left ls placed)) ≡ true)
-        → has_below t (map f (cond (is_unplaced placed b) (b ∷ lines_left ls placed) (lines_left ls placed))) ≡ true
-    by_line true e g rest =
-        let same : b ≡ a = same_line b a e in
-        let kept : is_unplaced placed b ≡ true = ap (is_unplaced placed) same ∙ fresh in
-        let under : nat_lt (f b).bound t ≡ true = ap (λ (v : LineId). nat_lt (f v).bound t) same ∙ lt-ltb (f a).bound t low in
-        ap (λ x. has_below t (map f (cond x (b ∷ lines_left ls placed) (lines_left ls placed)))) kept ∙ ap (λ x. x || has_below t (map f (lines_left ls placed))) under
-    by_line false e g rest = later (is_unplaced placed b) (rest g)
-
-pub left_below : (t : ℕ) (f : LineId → Child) (lines placed : List LineId) (a : LineId) → is_left lines placed a ≡ true → (f a).bound < t
-    → has_below t (map f (lines_left lines placed)) ≡ true
-left_below t f lines placed a h low =
-    let both = both_true (has_line lines a) (is_unplaced placed a) h in left_low t f placed a both.1 low lines both.0
 
 -- The first of children that stand in their order.
 

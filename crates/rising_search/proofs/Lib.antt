@@ -12,6 +12,7 @@ pub mod Turns
 pub mod AroundLines
 pub mod Floors
 pub mod Lows
+pub mod Matches
 pub mod Choices
 pub mod RiseSteps
 pub mod Begun

@@ -18,18 +18,18 @@ use Rattle.order_search.specs.Children.{child_order, child_if, with_child, in_or
 use Rattle.order_search.proofs.Ordered.{sum_by-in_order}
 use Rattle.rising_search.specs.declared.choosing.Floor.{Floor}
 use Rattle.rising_search.specs.Choosing.{bounds_below, list_order, is_end}
-use Rattle.rising_search.specs.Candidates.{first_bound, has_below, up_to, is_low, low_in, low_with, is_under, IsPushed}
+use Rattle.rising_search.specs.Candidates.{first_bound, has_below, up_to, is_low, low_in, low_with, is_under, IsPushed, IsLowWith}
 use Rattle.rising_search.proofs.Floors.{below_second, FirstBelow, first_in_order, is_less, is_no_less, is_lost}
 
 -- A child with a bound up to t counts.
 
-abbrev one : ℕ → Child → ℕ
+abbrev pub one : ℕ → Child → ℕ
 one t c = cond (nat_le c.bound t) 1 0
 
-one_low : (t : ℕ) (c : Child) → c.bound ≤ t → one t c ≡ 1
+pub one_low : (t : ℕ) (c : Child) → c.bound ≤ t → one t c ≡ 1
 one_low t c h = ap (λ b. cond b 1 0) (le-leb c.bound t h)
 
-one_high : (t : ℕ) (c : Child) → t < c.bound → one t c ≡ 0
+pub one_high : (t : ℕ) (c : Child) → t < c.bound → one t c ≡ 0
 one_high t c h = ap (λ b. cond b 1 0) (false_from_ne_true (nat_le c.bound t) (λ e. absurd (omega (arith, h, leb-true c.bound t e))))
 
 one_more : (t : ℕ) (xs : List Child) (c : Child) → sum_by (one t) (xs ++ c ∷ []) ≡ sum_by (one t) xs + one t c
@@ -37,7 +37,7 @@ one_more t xs c = omega (arith, sum_by-append (one t) xs (c ∷ []), sum_by-cons
 
 -- A child more.
 
-pub low_kept : (f : Option Floor) (xs : List Child) (c : Child) (low n : ℕ) → low ≡ low_in f xs → low_with f low c.bound ≡ Some n → n ≡ low_in f (xs ++ c ∷ [])
+low_kept : (f : Option Floor) (xs : List Child) (c : Child) (low n : ℕ) → low ≡ low_in f xs → low_with f low c.bound ≡ Some n → n ≡ low_in f (xs ++ c ∷ [])
 low_kept None xs c low n e h =
     let same : low ≡ n = cc in
     let none : Child → ℕ = λ x. cond (is_low None x) 1 0 in
@@ -60,11 +60,30 @@ low_kept (Some f) xs c low n e h = by_below (nat_lt c.bound f.bound) h
     by_below true g = absurd (cc)
     by_below false g = by_above (nat_lt f.bound c.bound) refl g
 
-pub low_lost : (f : Option Floor) (xs : List Child) (c : Child) (low : ℕ) → low ≡ low_in f xs → low_with f low c.bound ≡ None → is_under f (xs ++ c ∷ []) ≡ true
+-- the same of a number that there are at least
+low_up : (f : Floor) (xs : List Child) (c : Child) (low n : ℕ) → low ≤ low_in (Some f) xs → low_with (Some f) low c.bound ≡ Some n → n ≤ low_in (Some f) (xs ++ c ∷ [])
+low_up f xs c low n e h = by_below (nat_lt c.bound f.bound) h
+  where
+    so_far : low ≤ sum_by (one f.bound) xs
+    so_far = e
+
+    by_count : (b : Bool) → nat_lt f.bound c.bound ≡ false → cond b (Some (low + 1)) None ≡ Some n → n ≤ sum_by (one f.bound) (xs ++ c ∷ [])
+    by_count true level g = let same : low + 1 ≡ n = cc in omega (arith, same, so_far, one_more f.bound xs c, one_low f.bound c (ltb-false f.bound c.bound level))
+    by_count false level g = absurd (cc)
+
+    by_above : (b : Bool) → nat_lt f.bound c.bound ≡ b → cond b (Some low) (cond (nat_lt low f.count) (Some (low + 1)) None) ≡ Some n → n ≤ sum_by (one f.bound) (xs ++ c ∷ [])
+    by_above true high g = let same : low ≡ n = cc in omega (arith, same, so_far, one_more f.bound xs c)
+    by_above false level g = by_count (nat_lt low f.count) level g
+
+    by_below : (b : Bool) → cond b None (cond (nat_lt f.bound c.bound) (Some low) (cond (nat_lt low f.count) (Some (low + 1)) None)) ≡ Some n → n ≤ sum_by (one f.bound) (xs ++ c ∷ [])
+    by_below true g = absurd (cc)
+    by_below false g = by_above (nat_lt f.bound c.bound) refl g
+
+low_lost : (f : Option Floor) (xs : List Child) (c : Child) (low : ℕ) → low ≤ low_in f xs → low_with f low c.bound ≡ None → is_under f (xs ++ c ∷ []) ≡ true
 low_lost None xs c low e h = absurd (cc)
 low_lost (Some f) xs c low e h = by_below (nat_lt c.bound f.bound) refl h
   where
-    so_far : low ≡ sum_by (one f.bound) xs
+    so_far : low ≤ sum_by (one f.bound) xs
     so_far = e
 
     by_count : (b : Bool) → nat_lt low f.count ≡ b → nat_lt f.bound c.bound ≡ false → cond b (Some (low + 1)) None ≡ None → is_under (Some f) (xs ++ c ∷ []) ≡ true
@@ -89,14 +108,29 @@ pushed_none f old new t x low none e is =
 
 pub pushed_lost : (f : Option Floor) (old new : List Child) (t : Bool) (x : Child) (low bound : ℕ) → t ≡ true → x.bound ≡ bound → low ≡ low_in f old → low_with f low bound ≡ None → IsPushed f old (child_if t x) new None
 pushed_lost f old new t x low bound there e is lost =
-    subst (λ b. IsPushed f old (child_if b x) new None) (sym there) (low_lost f old x low is (ap (low_with f low) e ∙ lost))
+    subst (λ b. IsPushed f old (child_if b x) new None) (sym there) (low_lost f old x low (omega (arith, is)) (ap (low_with f low) e ∙ lost))
 
 pub pushed_one : (f : Option Floor) (old new : List Child) (t : Bool) (x y : Child) (low n : ℕ) → t ≡ true → x ≡ y → new ≡ old ++ y ∷ [] → low ≡ low_in f old → low_with f low y.bound ≡ Some n → IsPushed f old (child_if t x) new (Some n)
 pushed_one f old new t x y low n there same e is kept =
     subst (λ b. IsPushed f old (child_if b x) new (Some n)) (sym there) (subst (λ (z : Child). (new ≡ old ++ z ∷ []) × (n ≡ low_in f new)) (sym same) (e, low_kept f old y low n is kept ∙ ap (low_in f) (sym e)))
 
+-- what a noted child comes to: it is passed over, or so many are up to the floor with it, or it puts them under the floor
+pub noted_same : (f : Option Floor) (old more : List Child) (low : ℕ) → low ≤ low_in f old → IsLowWith f old more (Some low)
+noted_same f old more low h = let counts : Child → ℕ = λ x. cond (is_low f x) 1 0 in
+    let so_far : low ≤ sum_by counts old = h in
+    let all : low ≤ sum_by counts (old ++ more) = omega (arith, so_far, sum_by-append counts old more) in all
+
+pub noted_more : (f : Floor) (old : List Child) (t : Bool) (x : Child) (low bound : ℕ) → t ≡ true → x.bound ≡ bound → low ≤ low_in (Some f) old → IsLowWith (Some f) old (child_if t x) (low_with (Some f) low bound)
+noted_more f old t x low bound there e h =
+    subst (λ n. IsLowWith (Some f) old (child_if t x) (low_with (Some f) low n)) e
+    (subst (λ b. IsLowWith (Some f) old (child_if b x) (low_with (Some f) low x.bound)) (sym there) (by_result (low_with (Some f) low x.bound) refl))
+  where
+    by_result : (r : Option ℕ) → low_with (Some f) low x.bound ≡ r → IsLowWith (Some f) old (x ∷ []) r
+    by_result None lost = low_lost (Some f) old x low h lost
+    by_result (Some n) kept = low_up f old x low n h kept
+
 -- one below a floor is enough
-pub under_below : (f : Floor) (xs : List Child) → has_below f.bound xs ≡ true → is_under (Some f) xs ≡ true
+under_below : (f : Floor) (xs : List Child) → has_below f.bound xs ≡ true → is_under (Some f) xs ≡ true
 under_below f xs h = or_left (has_below f.bound xs) (nat_lt f.count (up_to f.bound xs)) h
 
 -- What is under a floor is so with more.
@@ -123,7 +157,7 @@ under_first f g lines placed k h =
 -- Children by bound.
 
 -- none of these has a bound below t
-abbrev AreOver : ℕ → List Child → Type 0
+abbrev pub AreOver : ℕ → List Child → Type 0
 AreOver t [] = Unit {0}
 AreOver t (x ∷ xs) = (t ≤ x.bound) × AreOver t xs
 
@@ -168,17 +202,17 @@ pub in_order_by_bound : (xs : List Child) → AreByBound (in_order xs)
 in_order_by_bound [] = tt
 in_order_by_bound (x ∷ xs) = by_bound_with x (in_order xs) (in_order_by_bound xs)
 
-none_up_to : (t n : ℕ) (xs : List Child) → t < n → AreOver n xs → sum_by (one t) xs ≡ 0
+pub none_up_to : (t n : ℕ) (xs : List Child) → t < n → AreOver n xs → sum_by (one t) xs ≡ 0
 none_up_to t n [] h all = refl
 none_up_to t n (x ∷ xs) h all =
     let first : n ≤ x.bound = all.0 in omega (arith, sum_by-cons (one t) x xs, one_high t x (omega (arith, h, first)), none_up_to t n xs h all.1)
 
 -- The list of such a segment is less.
 
-is_before : (a b : ℕ) → a < b → nat_cmp a b ≡ Less
+pub is_before : (a b : ℕ) → a < b → nat_cmp a b ≡ Less
 is_before a b h = ap (λ c. cond c Less (cond (a == b) Equal Greater)) (lt-ltb a b h)
 
-is_level : (a b : ℕ) → a ≡ b → nat_cmp a b ≡ Equal
+pub is_level : (a b : ℕ) → a ≡ b → nat_cmp a b ≡ Equal
 is_level a b e =
     ap (λ c. cond c Less (cond (a == b) Equal Greater)) (false_from_ne_true (nat_lt a b) (λ h. absurd (omega (arith, e, ltb-true a b h)))) ∙ ap (λ c. cond c Equal Greater) (eq-eqb a b e)
 

@@ -1,6 +1,5 @@
 -- Segments at which a prefix may be split, with what is known of them.
-use Rattle.std.specs.Prelude.{◌≡◌, ℕ, ◌+◌, nat_lt, nat_le, Bool, true, false, ◌||◌, List, [], ◌∷◌, ◌++◌, map, count_by, if◌then◌else◌, slice_get, Option, Some, None, Vec}
-use Rattle.std.specs.Global.{Global}
+use Rattle.std.specs.Prelude.{◌≡◌, ℕ, ◌+◌, ◌<◌, ◌≤◌, ◌⊎◌, nat_lt, nat_le, Bool, true, false, ◌||◌, List, [], ◌∷◌, ◌++◌, map, count_by, if◌then◌else◌, slice_get, Option, Some, None}
 use Rattle.std.specs.List.{list_any}
 use Rattle.map_base.specs.declared.ids.SegId.{SegId}
 use Rattle.order_model.specs.Problems.{lines_on}
@@ -77,20 +76,51 @@ abbrev pub low_with : Option Floor → ℕ → ℕ → Option ℕ
 low_with None low bound = Some low
 low_with (Some f) low bound = if nat_lt bound f.bound then None else if nat_lt f.bound bound then Some low else if nat_lt low f.count then Some (low + 1) else None
 
--- the children as a list; or nothing, as they are under a floor
-abbrev pub IsListOver : Option Floor → List Child → Option (Vec Child Global) → Type 0
-IsListOver f children None = is_under f children ≡ true
-IsListOver f children (Some list) = list.items ≡ children
+-- the children are listed; or not, as they are under a floor
+abbrev pub IsListOver : Option Floor → List Child → List Child → Bool → Type 0
+IsListOver f children list false = is_under f children ≡ true
+IsListOver f children list true = list ≡ children
 
 -- these are added, and it is told how many are then up to a floor; or nothing, as they are then under it
 abbrev pub IsPushed : Option Floor → List Child → List Child → List Child → Option ℕ → Type 0
 IsPushed f old more new None = is_under f (old ++ more) ≡ true
 IsPushed f old more new (Some low) = (new ≡ old ++ more) × (low ≡ low_in f new)
 
--- the segment as a candidate; or nothing, as its children are under a floor
-abbrev pub IsCandidateOver : PartState → SegId → Option Floor → Option Candidate → Type 0
-IsCandidateOver b s f None = is_under f (map (child_at (part_of b) b.placed s) (lines_left (lines_on b.segs s) (lines_on b.placed s))) ≡ true
-IsCandidateOver b s f (Some c) = (c.seg ≡ s) × IsCandidate b c
+-- at least so many are up to a floor with these; or nothing, as they are then under it
+abbrev pub IsLowWith : Option Floor → List Child → List Child → Option ℕ → Type 0
+IsLowWith f old more None = is_under f (old ++ more) ≡ true
+IsLowWith f old more (Some low) = low ≤ low_in f (old ++ more)
+
+-- how many of these bounds are up to t
+abbrev pub bounds_up_to : ℕ → List ℕ → ℕ
+bounds_up_to t bounds = count_by (λ b. nat_le b t) bounds
+
+-- of these bounds no more are up to any number than of the children's
+abbrev pub AreAmong : List ℕ → List Child → Type 0
+AreAmong bounds children = (t : ℕ) → bounds_up_to t bounds ≤ up_to t children
+
+-- of children, as far as their bounds are below t, each has a match among some bounds: so many and one more of these are up to its bound,
+-- then two more, and so on
+abbrev pub AreMatchedFrom : ℕ → List ℕ → ℕ → List Child → Type 0
+AreMatchedFrom t bounds k [] = Unit {0}
+AreMatchedFrom t bounds k (c ∷ children) = nat_lt c.bound t ≡ true → (k < bounds_up_to c.bound bounds) × AreMatchedFrom t bounds (k + 1) children
+
+-- the same among the bounds of children
+abbrev pub AreMetFrom : ℕ → List Child → ℕ → List Child → Type 0
+AreMetFrom t own k [] = Unit {0}
+AreMetFrom t own k (c ∷ children) = nat_lt c.bound t ≡ true → (k < up_to c.bound own) × AreMetFrom t own (k + 1) children
+
+-- each child of a candidate has a match among those of a segment, around which no more lines are placed
+abbrev pub IsMatchedBy : ℕ → PartState → SegId → Option Candidate → Type 0
+IsMatchedBy t b s None = ⊥
+IsMatchedBy t b s (Some c) =
+    AreMetFrom t (map (child_at (part_of b) b.placed s) (lines_left (lines_on b.segs s) (lines_on b.placed s))) 0 c.children.items × (placed_on b.placed (around b.terms s) ≤ c.around)
+
+-- the segment as a candidate; or nothing, as its children are under the floor of the best one, or match them
+abbrev pub IsCandidateOver : ℕ → PartState → SegId → Option Candidate → Option Candidate → Type 0
+IsCandidateOver t b s best None =
+    (is_under (floor_of best) (map (child_at (part_of b) b.placed s) (lines_left (lines_on b.segs s) (lines_on b.placed s))) ≡ true) ⊎ IsMatchedBy t b s best
+IsCandidateOver t b s best (Some c) = (c.seg ≡ s) × IsCandidate b c
 
 -- one of its children has a bound below t
 abbrev pub IsFull : ℕ → Candidate → Type 0

@@ -1,6 +1,6 @@
 //! At which segment a prefix is split.
 
-ghost use Rattle.std.specs.Prelude.{◌≡◌, ℕ, ◌+◌, ◌<◌, ◌≤◌, ◌++◌, not, nat_lt, true, [], length, map, take, slice_index_or, Option, Some, None, option_map, IfOk, OnOk, if◌then◌else◌};
+ghost use Rattle.std.specs.Prelude.{◌≡◌, ℕ, ◌+◌, ◌<◌, ◌≤◌, ◌++◌, not, nat_lt, true, List, [], length, map, take, slice_index_or, Option, Some, None, option_map, IfOk, OnOk, if◌then◌else◌};
 ghost use Rattle.std.specs.declared.cmp.Ordering.{Ordering};
 ghost use Rattle.map_base.specs.declared.ids.SegId.{SegId};
 ghost use Rattle.order_model.specs.Problems.{lines_on};
@@ -10,7 +10,7 @@ ghost use Rattle.order_search.specs.Children.{child_if};
 ghost use Rattle.order_search.specs.LiveTrees.{child_at};
 ghost use Rattle.rising_search.specs.Around.{around, placed_on};
 ghost use Rattle.rising_search.specs.Choosing.{children_on, bounds_below, list_order, is_end, is_over, preferred, chosen};
-ghost use Rattle.rising_search.specs.Candidates.{IsCandidate, IsCandidateIf, IsCandidateOver, IsFull, IsFullIf, IsListOver, IsPushed, is_over_of, bound_below, has_below, up_to, floor_of, low_with, low_in, is_under, first_bound};
+ghost use Rattle.rising_search.specs.Candidates.{IsCandidate, IsCandidateIf, IsCandidateOver, IsFull, IsFullIf, IsListOver, IsPushed, IsLowWith, IsMatchedBy, AreAmong, AreMatchedFrom, bounds_up_to, is_over_of, bound_below, has_below, up_to, floor_of, low_with, low_in, is_under, first_bound};
 ghost use Rattle.part_bounds.specs.PartStates.{PartState};
 ghost use Rattle.rising_search.specs.Walking.{part_of, bare, IsUnderWay};
 
@@ -41,14 +41,9 @@ pub(crate) struct Floor {
 
 /// The segment at which the prefix of a walk is split, with its children; none where the prefix is complete. A segment is
 /// left as soon as one of its children has a bound below all of those of the best segment so far, or more of them than there
-/// have the least of those. The child for which a
-/// segment was left last is tried first, by the place of its line on the segment; what these places are changes nothing of
-/// the answer. Two lists of children serve all segments in turn: that of the best one, and a spare one.
-pub(crate) fn choose(
-    alloc: Global,
-    walk: &mut Walk,
-    hints: &mut [usize],
-) -> Result<Option<Candidate>, NoMemory>
+/// have the least of those; or as each bound of the best segment's list has its match in one of its children, not above it, and
+/// no more lines are placed around it. Two lists of children serve all segments in turn: that of the best one, and a spare one.
+pub(crate) fn choose(alloc: Global, walk: &mut Walk) -> Result<Option<Candidate>, NoMemory>
     requires under_way { IsUnderWay walk.old }
     ensures chosen { IfOk result (λ r. option_map (λ c. c.seg) r ≡ chosen (bare walk.old.bounds) walk.old.above walk.old.bounds.placed) }
     ensures candidate { IfOk result (IsCandidateIf walk.old.bounds) }
@@ -57,12 +52,13 @@ pub(crate) fn choose(
     let part = walk.part;
     let mut best = None;
     let mut spare = Vec::new(alloc);
+    let mut noted = Vec::new(alloc);
     for seg in part {
         if !is_open(walk, *seg) {
             continue;
         }
-        let floor = floor_of(&best);
-        let Some(candidate) = candidate_over(alloc, walk, *seg, floor, hints, &mut spare)? else {
+        let Some(candidate) = candidate_over(alloc, walk, *seg, &best, &mut noted, &mut spare)?
+        else {
             continue;
         };
         if is_shut(candidate.children.as_slice(), walk.above) {
@@ -125,27 +121,31 @@ fn first_bound(children: &[Child]) -> u64
 }
 
 /// A segment of the part on which a line is left, as one at which the prefix may be split; nothing where it is
-/// under the floor. Its children take the room of the spare list.
+/// not preferred to the best one so far. Its children take the room of the spare list.
 fn candidate_over(
     alloc: Global,
     walk: &mut Walk,
     seg: SegId,
-    floor: Option<Floor>,
-    hints: &mut [usize],
+    best: &Option<Candidate>,
+    noted: &mut Vec<u64>,
     spare: &mut Vec<Child>,
 ) -> Result<Option<Candidate>, NoMemory>
     requires under_way { IsUnderWay walk.old }
     requires known { seg.0 < length walk.old.bounds.segs }
-    ensures candidate { IfOk result (IsCandidateOver walk.old.bounds seg floor) }
+    ensures candidate { IfOk result (IsCandidateOver walk.old.above walk.old.bounds seg best.now) }
     ensures kept { walk.new ≡ walk.old }
 {
-    if is_hint_under(walk, seg, floor, hints) {
+    let floor = floor_of(best);
+    if is_noted_under(walk, seg, floor) {
         return Ok(None);
     }
-    let room = mem::replace(spare, Vec::new(alloc));
-    let Some(mut children) = children_over(walk, seg, floor, hints, room)? else {
+    if is_matched(walk, seg, best, noted)? {
         return Ok(None);
-    };
+    }
+    if !gather_over(walk, seg, floor, spare)? {
+        return Ok(None);
+    }
+    let mut children = mem::replace(spare, Vec::new(alloc));
     let around = lines_around(walk, seg);
     put_in_order(children.as_mut_slice());
     let low = up_to(children.as_slice(), first_bound(children.as_slice()));
@@ -157,76 +157,140 @@ fn candidate_over(
     }))
 }
 
-/// Notes the place of the line for which a segment was left.
-fn set_hint(hints: &mut [usize], seg: SegId, at: usize) {
-    if let Some(hint) = hints.get_mut(seg.0 as usize) {
-        *hint = at;
+/// Whether each bound of the list of the best segment so far has its match in a child of a segment whose bound is noted, and not
+/// above it, and no more lines are placed around the segment.
+fn is_matched(
+    walk: &Walk,
+    seg: SegId,
+    best: &Option<Candidate>,
+    noted: &mut Vec<u64>,
+) -> Result<bool, NoMemory>
+    requires under_way { IsUnderWay walk.now }
+    requires known { seg.0 < length walk.now.bounds.segs }
+    ensures { IfOk result (λ r. r ≡ true → IsMatchedBy walk.now.above walk.now.bounds seg best.now) }
+{
+    let Some(best) = best else {
+        return Ok(false);
+    };
+    note_bounds(walk, seg, noted)?;
+    if !are_matched(noted.as_slice(), best.children.as_slice(), walk.above) {
+        return Ok(false);
     }
+    Ok(lines_around(walk, seg) <= best.around)
 }
 
-/// Whether the child of the line at the place that is noted for a segment puts the segment under a floor.
-fn is_hint_under(walk: &mut Walk, seg: SegId, floor: Option<Floor>, hints: &[usize]) -> bool
-    requires under_way { IsUnderWay walk.old }
-    requires known { seg.0 < length walk.old.bounds.segs }
-    ensures under { result ≡ true → is_under floor (map (child_at (part_of walk.old.bounds) walk.old.bounds.placed seg)
-        (lines_left (lines_on walk.old.bounds.segs seg) (lines_on walk.old.bounds.placed seg))) ≡ true }
-    ensures kept { walk.new ≡ walk.old }
+/// Lists the noted bounds of the children of a segment.
+fn note_bounds(walk: &Walk, seg: SegId, noted: &mut Vec<u64>) -> Result<(), NoMemory>
+    requires under_way { IsUnderWay walk.now }
+    requires known { seg.0 < length walk.now.bounds.segs }
+    ensures { OnOk result (AreAmong noted.new.items (map (child_at (part_of walk.now.bounds) walk.now.bounds.placed seg)
+        (lines_left (lines_on walk.now.bounds.segs seg) (lines_on walk.now.bounds.placed seg)))) }
 {
-    match floor {
-        Some(floor) => is_hint_below(walk, seg, floor.bound, hints),
-        None => false,
-    }
-}
-
-/// Whether the child of the line at the place that is noted for a segment has a bound below `floor`.
-fn is_hint_below(walk: &mut Walk, seg: SegId, floor: u64, hints: &[usize]) -> bool
-    requires under_way { IsUnderWay walk.old }
-    requires known { seg.0 < length walk.old.bounds.segs }
-    ensures below { result ≡ true → has_below floor (map (child_at (part_of walk.old.bounds) walk.old.bounds.placed seg)
-        (lines_left (lines_on walk.old.bounds.segs seg) (lines_on walk.old.bounds.placed seg))) ≡ true }
-    ensures kept { walk.new ≡ walk.old }
-{
-    match hints.get(seg.0 as usize) {
-        Some(at) => is_place_below(walk, seg, *at, floor),
-        None => false,
-    }
-}
-
-/// Whether a line stands at a place of a segment and is left there, and the child that places it has a bound below `floor`.
-fn is_place_below(walk: &mut Walk, seg: SegId, at: usize, floor: u64) -> bool
-    requires under_way { IsUnderWay walk.old }
-    requires known { seg.0 < length walk.old.bounds.segs }
-    ensures below { result ≡ true → has_below floor (map (child_at (part_of walk.old.bounds) walk.old.bounds.placed seg)
-        (lines_left (lines_on walk.old.bounds.segs seg) (lines_on walk.old.bounds.placed seg))) ≡ true }
-    ensures kept { walk.new ≡ walk.old }
-{
-    let problem = walk.problem;
-    let segs = problem.segs();
+    let segs = walk.problem.segs();
     let lines = segs[seg.0 as usize].as_slice();
-    if at >= lines.len() {
-        return false;
+    noted.clear();
+    for at in 0..lines.len() {
+        push_noted(walk, seg, lines[at], at, noted)?;
     }
-    is_child_below(walk, seg, lines[at], at, floor)
+    Ok(())
 }
 
-/// Whether the line at a place of a segment is left there, and the child that places it has a bound below `floor`.
-fn is_child_below(walk: &mut Walk, seg: SegId, line: LineId, at: usize, floor: u64) -> bool
-    requires under_way { IsUnderWay walk.old }
-    requires known { seg.0 < length walk.old.bounds.segs }
-    requires within { at < length (lines_on walk.old.bounds.segs seg) }
-    requires here { line ≡ slice_index_or (lines_on walk.old.bounds.segs seg) at line }
-    ensures below { result ≡ true → has_below floor (map (child_at (part_of walk.old.bounds) walk.old.bounds.placed seg)
-        (lines_left (lines_on walk.old.bounds.segs seg) (lines_on walk.old.bounds.placed seg))) ≡ true }
-    ensures kept { walk.new ≡ walk.old }
+/// Adds the bound of the child that places the line at a place of its segment next, if the line is left and the bound is noted.
+fn push_noted(
+    walk: &Walk,
+    seg: SegId,
+    line: LineId,
+    at: usize,
+    noted: &mut Vec<u64>,
+) -> Result<(), NoMemory>
+    requires under_way { IsUnderWay walk.now }
+    requires known { seg.0 < length walk.now.bounds.segs }
+    requires within { at < length (lines_on walk.now.bounds.segs seg) }
+    requires here { line ≡ slice_index_or (lines_on walk.now.bounds.segs seg) at line }
+    ensures { OnOk result ((old : List Child) → AreAmong noted.old.items old → AreAmong noted.new.items (old ++ child_if (is_left (lines_on walk.now.bounds.segs seg) (lines_on walk.now.bounds.placed seg) line) (child_at (part_of walk.now.bounds) walk.now.bounds.placed seg line))) }
 {
+    let Some(bound) = walk.bounds.bound_noted(seg, at) else {
+        return Ok(());
+    };
     if !is_left_at(walk, seg, line, at) {
-        return false;
+        return Ok(());
     }
-    let bound = walk.bounds.bound_with_at(seg, line, at);
-    if bound >= floor {
-        return false;
+    noted.push(bound)?;
+    Ok(())
+}
+
+/// How many of some bounds are up to this.
+fn count_up_to(bounds: &[u64], bound: u64) -> usize
+    ensures { result ≡ bounds_up_to bound bounds.now }
+{
+    bounds.iter().filter(|own| **own <= bound).count()
+}
+
+/// Whether each of the children, which stand by bound, whose bound is below this has a match among some bounds.
+fn are_matched(bounds: &[u64], children: &[Child], above: u64) -> bool
+    ensures { result ≡ true → AreMatchedFrom above bounds.now 0 children.now }
+{
+    for k in 0..children.len() {
+        let bound = children[k].bound;
+        if bound >= above {
+            return true;
+        }
+        if count_up_to(bounds, bound) <= k {
+            return false;
+        }
     }
     true
+}
+
+/// Whether a segment is under a floor by those of its children alone whose bounds are noted.
+fn is_noted_under(walk: &Walk, seg: SegId, floor: Option<Floor>) -> bool
+    requires under_way { IsUnderWay walk.now }
+    requires known { seg.0 < length walk.now.bounds.segs }
+    ensures under { result ≡ true → is_under floor (map (child_at (part_of walk.now.bounds) walk.now.bounds.placed seg)
+        (lines_left (lines_on walk.now.bounds.segs seg) (lines_on walk.now.bounds.placed seg))) ≡ true }
+{
+    let Some(least) = floor else {
+        return false;
+    };
+    let segs = walk.problem.segs();
+    let lines = segs[seg.0 as usize].as_slice();
+    let mut low = 0;
+    for at in 0..lines.len() {
+        let Some(more) = low_noted(walk, seg, lines[at], at, least, low) else {
+            return true;
+        };
+        low = more;
+    }
+    false
+}
+
+/// At least how many children up to a floor there are with the one that places the line at a place of its segment next, where
+/// there were so many at least; none where the segment is then under the floor.
+fn low_noted(
+    walk: &Walk,
+    seg: SegId,
+    line: LineId,
+    at: usize,
+    floor: Floor,
+    low: usize,
+) -> Option<usize>
+    requires under_way { IsUnderWay walk.now }
+    requires known { seg.0 < length walk.now.bounds.segs }
+    requires within { at < length (lines_on walk.now.bounds.segs seg) }
+    requires here { line ≡ slice_index_or (lines_on walk.now.bounds.segs seg) at line }
+    ensures { (old : List Child) → low ≤ low_in (Some floor) old → IsLowWith (Some floor) old
+        (child_if (is_left (lines_on walk.now.bounds.segs seg) (lines_on walk.now.bounds.placed seg) line) (child_at (part_of walk.now.bounds) walk.now.bounds.placed seg line)) result }
+{
+    let Some(bound) = walk.bounds.bound_noted(seg, at) else {
+        return Some(low);
+    };
+    if bound > floor.bound {
+        return Some(low);
+    }
+    if !is_left_at(walk, seg, line, at) {
+        return Some(low);
+    }
+    low_with(Some(floor), low, bound)
 }
 
 /// Whether the line at a place of a segment is left there.
@@ -254,35 +318,32 @@ fn lines_around(walk: &Walk, seg: SegId) -> u64
     total
 }
 
-/// The children of the prefix that place a line next on a segment, by line, in the room of an old list; nothing where the
-/// segment is under the floor.
-fn children_over(
+/// Gathers the children of the prefix that place a line next on a segment, by line, in the room of an old list. Answers
+/// false where the segment is under the floor.
+fn gather_over(
     walk: &mut Walk,
     seg: SegId,
     floor: Option<Floor>,
-    hints: &mut [usize],
-    room: Vec<Child>,
-) -> Result<Option<Vec<Child>>, NoMemory>
+    children: &mut Vec<Child>,
+) -> Result<bool, NoMemory>
     requires under_way { IsUnderWay walk.old }
     requires known { seg.0 < length walk.old.bounds.segs }
     ensures children { IfOk result (IsListOver floor (map (child_at (part_of walk.old.bounds) walk.old.bounds.placed seg)
-        (lines_left (lines_on walk.old.bounds.segs seg) (lines_on walk.old.bounds.placed seg)))) }
+        (lines_left (lines_on walk.old.bounds.segs seg) (lines_on walk.old.bounds.placed seg))) children.new.items) }
     ensures kept { walk.new ≡ walk.old }
 {
     let problem = walk.problem;
     let segs = problem.segs();
     let lines = segs[seg.0 as usize].as_slice();
-    let mut children = room;
     children.clear();
     let mut low = 0;
     for at in 0..lines.len() {
-        let Some(more) = push_child(walk, seg, lines[at], at, floor, low, &mut children)? else {
-            set_hint(hints, seg, at);
-            return Ok(None);
+        let Some(more) = push_child(walk, seg, lines[at], at, floor, low, children)? else {
+            return Ok(false);
         };
         low = more;
     }
-    Ok(Some(children))
+    Ok(true)
 }
 
 /// Adds the child that places the line at a place of its segment next, if the line is left. Answers how many children up to

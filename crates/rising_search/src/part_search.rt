@@ -105,8 +105,7 @@ fn rising_search<L: Ledger>(
 {
     let mut walk = begin(alloc, problem, part, numbers, budget)?;
     let cost = number_cost(problem, numbers);
-    let mut hints = vec![in alloc; 0_usize; problem.segs().len()]?;
-    let shown = rise(alloc, &mut walk, cost, hints.as_mut_slice(), steps)?;
+    let shown = rise(alloc, &mut walk, cost, steps)?;
     Ok(found(alloc, walk, &shown)?)
 }
 

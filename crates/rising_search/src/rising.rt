@@ -23,7 +23,6 @@ pub(crate) fn rise<L: Ledger>(
     alloc: Global,
     walk: &mut Walk,
     number_cost: u64,
-    hints: &mut [usize],
     steps: &mut Steps<L>,
 ) -> Result<Shown, SearchFault>
     requires begun { IsBegun walk.old }
@@ -39,7 +38,7 @@ pub(crate) fn rise<L: Ledger>(
     let tree = closed(alloc, walk, target);
     let mut shown = Shown { target, tree };
     while shown.target < number_cost {
-        match walk_above(alloc, walk, shown.target, hints, steps)? {
+        match walk_above(alloc, walk, shown.target, steps)? {
             None => return Ok(shown),
             Some(next) => shown = next,
         }
@@ -53,7 +52,6 @@ fn walk_above<L: Ledger>(
     alloc: Global,
     walk: &mut Walk,
     target: u64,
-    hints: &mut [usize],
     steps: &mut Steps<L>,
 ) -> Result<Option<Shown>, SearchFault>
     requires under_way { IsUnderWay walk.old }
@@ -66,7 +64,7 @@ fn walk_above<L: Ledger>(
 {
     walk.above = target + 1;
     walk.least = None;
-    match walk_from(alloc, walk, hints, steps)? {
+    match walk_from(alloc, walk, steps)? {
         None => Ok(None),
         Some(tree) => Ok(Some(Shown {
             target: walk.least.unwrap_or(target),

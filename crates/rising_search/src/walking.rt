@@ -30,7 +30,6 @@ use std::sync::ledger::Ledger;
 pub(crate) fn walk_from<L: Ledger>(
     alloc: Global,
     walk: &mut Walk,
-    hints: &mut [usize],
     steps: &mut Steps<L>,
 ) -> Result<Option<Tree>, SearchFault>
     requires under_way { IsUnderWay walk.old }
@@ -44,12 +43,12 @@ pub(crate) fn walk_from<L: Ledger>(
     if bound >= walk.above {
         return Ok(Some(closed(alloc, walk, bound)));
     }
-    match choose(alloc, walk, hints)? {
+    match choose(alloc, walk)? {
         None => {
             meet(alloc, walk)?;
             Ok(None)
         }
-        Some(candidate) => walk_split(alloc, walk, candidate, hints, steps),
+        Some(candidate) => walk_split(alloc, walk, candidate, steps),
     }
 }
 
@@ -99,7 +98,6 @@ fn walk_split<L: Ledger>(
     alloc: Global,
     walk: &mut Walk,
     candidate: Candidate,
-    hints: &mut [usize],
     steps: &mut Steps<L>,
 ) -> Result<Option<Tree>, SearchFault>
     requires under_way { IsUnderWay walk.old }
@@ -120,14 +118,7 @@ fn walk_split<L: Ledger>(
     walk.spent += 1;
     steps.tick();
     let seg = candidate.seg;
-    match walk_cases(
-        alloc,
-        walk,
-        seg,
-        candidate.children.as_slice(),
-        hints,
-        steps,
-    )? {
+    match walk_cases(alloc, walk, seg, candidate.children.as_slice(), steps)? {
         None => Ok(None),
         Some(children) => Ok(Some(Tree::Split { seg, children })),
     }
@@ -140,7 +131,6 @@ fn walk_cases<L: Ledger>(
     walk: &mut Walk,
     seg: SegId,
     children: &[Child],
-    hints: &mut [usize],
     steps: &mut Steps<L>,
 ) -> Result<Option<Vec<(LineId, Tree)>>, SearchFault>
     requires under_way { IsUnderWay walk.old }
@@ -155,7 +145,7 @@ fn walk_cases<L: Ledger>(
 {
     let mut cases = Vec::with_capacity(alloc, children.len())?;
     for child in children {
-        match walk_case(alloc, walk, seg, *child, hints, steps)? {
+        match walk_case(alloc, walk, seg, *child, steps)? {
             None => return Ok(None),
             Some(tree) => cases.push((child.line, tree))?,
         }
@@ -171,7 +161,6 @@ fn walk_case<L: Ledger>(
     walk: &mut Walk,
     seg: SegId,
     child: Child,
-    hints: &mut [usize],
     steps: &mut Steps<L>,
 ) -> Result<Option<Tree>, SearchFault>
     requires under_way { IsUnderWay walk.old }
@@ -189,7 +178,7 @@ fn walk_case<L: Ledger>(
         return Ok(Some(closed(alloc, walk, child.bound)));
     }
     walk.bounds.place(seg, child.line);
-    let walked = walk_from(alloc, walk, hints, steps)?;
+    let walked = walk_from(alloc, walk, steps)?;
     walk.bounds.take_back(seg);
     Ok(walked)
 }

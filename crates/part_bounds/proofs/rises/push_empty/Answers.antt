@@ -1,4 +1,4 @@
-use Rattle.part_bounds.proofs.RisesKept.{row_pushed}
+use Rattle.part_bounds.proofs.RiseTables.{row_pushed}
 use Rattle.part_bounds.proofs.rises.push_empty.Goals as goal
 
 pub returns : goal.returns

@@ -1,4 +1,4 @@
-use Rattle.std.proofs.Common.{◌≡◌, ◌+◌, ◌∙◌, refl, ap, sym, subst, false, Some, None, Option, option_map, List, ℕ, get_or}
+use Rattle.std.proofs.Common.{◌≡◌, ◌+◌, ◌∙◌, refl, ap, sym, subst, false, Some, Option, option_map, List, ℕ, get_or}
 use Rattle.map_base.specs.declared.ids.SegId.{SegId}
 use Rattle.order_search.specs.declared.child.Child.{Child}
 use Rattle.rising_search.specs.declared.walk_state.Walk.{Walk}
@@ -14,7 +14,7 @@ returns-then-is_shut-clause-chosen c =
     let w : Walk = c.args.walk.now in
     let best : Option SegId = option_map (λ (b : Candidate). b.seg) c.loop-seg.best in
     let s : SegId = get_or w.part.now c.loop-seg.seg-index (record { 0 = 0 }) in
-    let over = subst (IsCandidateOver c.loop-seg.walk.bounds s c.floor_of-floor.result) c.in-Some.is c.in_ok-candidate.ensures.candidate in
+    let over = subst (IsCandidateOver c.loop-seg.walk.above c.loop-seg.walk.bounds s c.loop-seg.best) c.in-Some.is c.in_ok-candidate.ensures.candidate in
     shut_is_chosen w c.requires.under_way c.loop-seg.walk c.loop-seg.invariant.same c.loop-seg.seg-index c.loop-seg-test.true best c.loop-seg.invariant.best_is
     c.in-Some.candidate over.0 (sym c.is_open.ensures ∙ c.if-not-is_open.false) over.1
     c.candidate_over.new.walk c.candidate_over.ensures.kept
@@ -27,7 +27,7 @@ loop-seg-preserved c =
     let one : Candidate = c.in-Some.candidate in
     let after : Walk = c.candidate_over.new.walk in
     let s : SegId = get_or w.part.now c.loop-seg.seg-index (record { 0 = 0 }) in
-    let over = subst (IsCandidateOver c.loop-seg.walk.bounds s c.floor_of-floor.result) c.in-Some.is c.in_ok-candidate.ensures.candidate in
+    let over = subst (IsCandidateOver c.loop-seg.walk.above c.loop-seg.walk.bounds s c.loop-seg.best) c.in-Some.is c.in_ok-candidate.ensures.candidate in
     let full : is_end (bounds_below after.above one.children.items) ≡ false =
     ap (λ (l : List Child). is_end (bounds_below after.above l)) (sym c.as_slice.ensures.value) ∙ sym c.is_shut.ensures ∙ c.if-is_shut.false in
     let next : IsBest w c.requires.under_way (c.loop-seg.seg-index + 1) _ =
@@ -49,8 +49,7 @@ loop-seg-preserved-in_default c =
     let w : Walk = c.args.walk.now in
     let best : Option SegId = option_map (λ (b : Candidate). b.seg) c.loop-seg.best in
     let s : SegId = get_or w.part.now c.loop-seg.seg-index (record { 0 = 0 }) in
-    let low = subst (λ n. IsCandidateOver c.loop-seg.walk.bounds s n None) c.floor_of-floor.ensures
-    (subst (IsCandidateOver c.loop-seg.walk.bounds s c.floor_of-floor.result) c.in_default.is c.in_ok-candidate.ensures.candidate) in
+    let low = subst (IsCandidateOver c.loop-seg.walk.above c.loop-seg.walk.bounds s c.loop-seg.best) c.in_default.is c.in_ok-candidate.ensures.candidate in
     record {
       same = c.candidate_over.ensures.kept ∙ c.loop-seg.invariant.same;
       best_is = passed w c.requires.under_way c.loop-seg.walk c.loop-seg.invariant.same c.loop-seg.seg-index c.loop-seg-test.true best c.loop-seg.invariant.best_is

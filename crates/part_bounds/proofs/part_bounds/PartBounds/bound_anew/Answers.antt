@@ -20,9 +20,9 @@ overflow_add-result c =
     let pairs : c.in-Some.total ≡ sum_by (share_of segs part next) (groups_of terms) =
     c.in-Some.ensures ∙ sym (ap (λ (b : PartState). sum_by (share_of b.segs b.part (placed_more b.segs b.placed c.args.seg c.args.line)) (groups_of b.terms)) c.self.view_is) in
     let settled : c.total_with.result ≡ settled_sum segs next terms =
-    settled_with segs c.self.inside.prefix.placed terms c.self.inside.aparts c.args.seg c.args.line next c.total_with.result c.self.invariant.settled refl c.total_with.ensures in
-    let most : c.in-Some.total + c.total_with.result ≤ 8192000000000 = whole_small segs next part terms (groups_of terms) c.in-Some.total c.total_with.result (rising_apart part c.self.invariant.rises)
-    (subst (All (IsGroup segs part)) c.self.invariant.grouped c.self.invariant.groups) (subst (λ l. sum_by terms_in l ≤ 4000000) c.self.invariant.grouped c.self.invariant.few) c.self.invariant.known_terms c.self.invariant.few_terms pairs settled in
+    settled_with segs c.self.inside.prefix.placed terms c.self.inside.aparts c.args.seg c.args.line next c.total_with.result c.self.invariant.kept.settled refl c.total_with.ensures in
+    let most : c.in-Some.total + c.total_with.result ≤ 8192000000000 = whole_small segs next part terms (groups_of terms) c.in-Some.total c.total_with.result (rising_apart part c.self.invariant.kept.rises)
+    (subst (All (IsGroup segs part)) c.self.invariant.kept.grouped c.self.invariant.kept.groups) (subst (λ l. sum_by terms_in l ≤ 4000000) c.self.invariant.kept.grouped c.self.invariant.kept.few) c.self.invariant.kept.known_terms c.self.invariant.kept.few_terms pairs settled in
     search rules
 
 pub returns-in-Some-clause-bound : goal.returns-in-Some-clause-bound
@@ -34,6 +34,6 @@ returns-in-Some-clause-bound c =
     let pairs : c.in-Some.total ≡ sum_by (share_of segs part next) (groups_of terms) =
     c.in-Some.ensures ∙ sym (ap (λ (b : PartState). sum_by (share_of b.segs b.part (placed_more b.segs b.placed c.args.seg c.args.line)) (groups_of b.terms)) c.self.view_is) in
     let settled : c.total_with.result ≡ settled_sum segs next terms =
-    settled_with segs c.self.inside.prefix.placed terms c.self.inside.aparts c.args.seg c.args.line next c.total_with.result c.self.invariant.settled refl c.total_with.ensures in
+    settled_with segs c.self.inside.prefix.placed terms c.self.inside.aparts c.args.seg c.args.line next c.total_with.result c.self.invariant.kept.settled refl c.total_with.ensures in
     whole_bound segs next part terms (groups_of terms) c.in-Some.total c.total_with.result refl pairs settled
     ∙ ap (λ (b : PartState). bound_of b.segs b.part b.terms (placed_more b.segs b.placed c.args.seg c.args.line)) c.self.view_is

@@ -24,38 +24,38 @@ use Rattle.pair_shares.proofs.ToldSums.{share_told, told_is}
 use Rattle.part_bounds.proofs.part_bounds.PartBounds.pairs_with.Goals as goal
 
 pub sum_told-requires-clause-apart : goal.sum_told-requires-clause-apart
-sum_told-requires-clause-apart c = rising_apart c.self.inside.part.now c.self.invariant.rises
+sum_told-requires-clause-apart c = rising_apart c.self.inside.part.now c.self.invariant.kept.rises
 
 pub sum_told-requires-clause-own : goal.sum_told-requires-clause-own
-sum_told-requires-clause-own c = subst (All (KnowsOwn c.self.inside.part.now)) (sym c.as_slice.ensures.value) c.self.invariant.own
+sum_told-requires-clause-own c = subst (All (KnowsOwn c.self.inside.part.now)) (sym c.as_slice.ensures.value) c.self.invariant.kept.own
 
 pub sum_told-requires-clause-groups : goal.sum_told-requires-clause-groups
-sum_told-requires-clause-groups c = subst (λ (l : List PairTerms). All (IsGroup c.self.inside.problem.now.segs c.self.inside.part.now) (groups_in l)) (sym c.as_slice.ensures.value) c.self.invariant.groups
+sum_told-requires-clause-groups c = subst (λ (l : List PairTerms). All (IsGroup c.self.inside.problem.now.segs c.self.inside.part.now) (groups_in l)) (sym c.as_slice.ensures.value) c.self.invariant.kept.groups
 
 pub sum_told-requires-clause-few : goal.sum_told-requires-clause-few
-sum_told-requires-clause-few c = omega (arith, c.self.invariant.few, ap (λ (l : List PairTerms). sum_by terms_in (groups_in l)) c.as_slice.ensures.value)
+sum_told-requires-clause-few c = omega (arith, c.self.invariant.kept.few, ap (λ (l : List PairTerms). sum_by terms_in (groups_in l)) c.as_slice.ensures.value)
 
 pub sum_told-requires-clause-keys : goal.sum_told-requires-clause-keys
 sum_told-requires-clause-keys c =
-    subst (λ l. AreKeys c.self.inside.prefix.placed c.self.inside.part.now (groups_in c.as_slice.result.now) l) (sym c.as_slice-3.ensures.value) (subst (λ (l : List PairTerms). AreKeys c.self.inside.prefix.placed c.self.inside.part.now (groups_in l) c.self.inside.keys.items) (sym c.as_slice.ensures.value) c.self.invariant.keys_are)
+    subst (λ l. AreKeys c.self.inside.prefix.placed c.self.inside.part.now (groups_in c.as_slice.result.now) l) (sym c.as_slice-3.ensures.value) (subst (λ (l : List PairTerms). AreKeys c.self.inside.prefix.placed c.self.inside.part.now (groups_in l) c.self.inside.keys.items) (sym c.as_slice.ensures.value) c.self.invariant.kept.keys_are)
 
 pub sum_told-requires-clause-notes : goal.sum_told-requires-clause-notes
 sum_told-requires-clause-notes c =
-    subst (λ l. AreTrueNotes c.self.inside.problem.now.segs c.self.inside.part.now (groups_in c.as_slice.result.now) l) (sym c.as_slice-4.ensures.value) (subst (λ (l : List PairTerms). AreTrueNotes c.self.inside.problem.now.segs c.self.inside.part.now (groups_in l) c.self.inside.notes.items) (sym c.as_slice.ensures.value) c.self.invariant.notes_are)
+    subst (λ l. AreTrueNotes c.self.inside.problem.now.segs c.self.inside.part.now (groups_in c.as_slice.result.now) l) (sym c.as_slice-4.ensures.value) (subst (λ (l : List PairTerms). AreTrueNotes c.self.inside.problem.now.segs c.self.inside.part.now (groups_in l) c.self.inside.notes.items) (sym c.as_slice.ensures.value) c.self.invariant.kept.notes_are)
 
 pub sum_told-requires-clause-row : goal.sum_told-requires-clause-row
 sum_told-requires-clause-row c =
     let known = subst (λ (b : PartState). c.args.seg.0 < length b.segs) (sym c.self.view_is) c.requires.known in
     let all : List PairHere = c.index.result.now.all.items in
     let is : all ≡ row_of (pairs_in c.self.inside.rows.items) c.args.seg =
-    row_in_pairs c.self.inside.rows.items c.args.seg.0 c.index.result.now all (pairs_below (length c.self.inside.problem.now.segs) c.self.inside.pairs.items c.self.inside.rows.items c.args.seg c.self.invariant.by_segment known) c.index.ensures refl in
+    row_in_pairs c.self.inside.rows.items c.args.seg.0 c.index.result.now all (pairs_below (length c.self.inside.problem.now.segs) c.self.inside.pairs.items c.self.inside.rows.items c.args.seg c.self.invariant.kept.by_segment known) c.index.ensures refl in
     subst (λ (l : List PairTerms). IsRow (is_answered c.next_line-next.result) (groups_in l) c.pairs_for-row.result.now) (sym c.as_slice.ensures.value)
     (row_for_line c.next_line-next.result c.args.seg c.self.inside.pairs.items all c.pairs_for-row.result.now
     (row_for (length c.self.inside.problem.now.segs) c.self.inside.problem.now.segs c.self.inside.part.now c.self.inside.pairs.items c.self.inside.pairs.items (pairs_in c.self.inside.rows.items) (is_answered c.next_line-next.result) c.args.seg all
-    c.self.invariant.by_segment known refl
+    c.self.invariant.kept.by_segment known refl
     (λ g h. ap (meets g.1) (sym c.next_line-next.ensures.seg) ∙ (and_parts (not (answer_after c.next_line-next.result.known.now (fresh_lines c.next_line-next.result) g.0 == 0)) (meets g.1 c.next_line-next.result.seg) h).1)
-    is c.self.invariant.own c.self.invariant.groups)
-    (subst (AreHere c.args.seg c.self.inside.pairs.items) (sym is) (row_are (length c.self.inside.problem.now.segs) c.self.inside.pairs.items (pairs_in c.self.inside.rows.items) c.args.seg c.self.invariant.by_segment known))
+    is c.self.invariant.kept.own c.self.invariant.kept.groups)
+    (subst (AreHere c.args.seg c.self.inside.pairs.items) (sym is) (row_are (length c.self.inside.problem.now.segs) c.self.inside.pairs.items (pairs_in c.self.inside.rows.items) c.args.seg c.self.invariant.kept.by_segment known))
     c.pairs_for-row.ensures)
 
 pub sum_told-requires-clause-here : goal.sum_told-requires-clause-here
@@ -63,21 +63,21 @@ sum_told-requires-clause-here c =
     let known = subst (λ (b : PartState). c.args.seg.0 < length b.segs) (sym c.self.view_is) c.requires.known in
     let all : List PairHere = c.index.result.now.all.items in
     let is : all ≡ row_of (pairs_in c.self.inside.rows.items) c.args.seg =
-    row_in_pairs c.self.inside.rows.items c.args.seg.0 c.index.result.now all (pairs_below (length c.self.inside.problem.now.segs) c.self.inside.pairs.items c.self.inside.rows.items c.args.seg c.self.invariant.by_segment known) c.index.ensures refl in
+    row_in_pairs c.self.inside.rows.items c.args.seg.0 c.index.result.now all (pairs_below (length c.self.inside.problem.now.segs) c.self.inside.pairs.items c.self.inside.rows.items c.args.seg c.self.invariant.kept.by_segment known) c.index.ensures refl in
     subst (λ (s : SegId). AreHere s c.as_slice.result.now c.pairs_for-row.result.now) (sym c.next_line-next.ensures.seg)
     (subst (λ (l : List PairTerms). AreHere c.args.seg l c.pairs_for-row.result.now) (sym c.as_slice.ensures.value)
     (here_for_line c.next_line-next.result c.args.seg c.self.inside.pairs.items all c.pairs_for-row.result.now
-    (subst (AreHere c.args.seg c.self.inside.pairs.items) (sym is) (row_are (length c.self.inside.problem.now.segs) c.self.inside.pairs.items (pairs_in c.self.inside.rows.items) c.args.seg c.self.invariant.by_segment known))
+    (subst (AreHere c.args.seg c.self.inside.pairs.items) (sym is) (row_are (length c.self.inside.problem.now.segs) c.self.inside.pairs.items (pairs_in c.self.inside.rows.items) c.args.seg c.self.invariant.kept.by_segment known))
     c.pairs_for-row.ensures))
 
 pub sum_told-requires-clause-stale : goal.sum_told-requires-clause-stale
 sum_told-requires-clause-stale c =
     let f = share_of c.self.inside.problem.now.segs c.self.inside.part.now c.self.inside.prefix.placed in
     let slice : c.as_slice.result.now ≡ c.self.inside.pairs.items = c.as_slice.ensures.value in
-    stale_on c.self.inside.problem.now.segs c.self.inside.prefix.placed (placed_more c.self.inside.problem.now.segs c.self.inside.prefix.placed c.next_line-next.result.seg c.next_line-next.result.line) c.self.inside.part.now (is_answered c.next_line-next.result) (groups_in c.as_slice.result.now) c.as_slice-2.result.now c.self.inside.total (rising_apart c.self.inside.part.now c.self.invariant.rises)
-    (subst (λ (l : List PairTerms). All (IsGroup c.self.inside.problem.now.segs c.self.inside.part.now) (groups_in l)) (sym slice) c.self.invariant.groups)
+    stale_on c.self.inside.problem.now.segs c.self.inside.prefix.placed (placed_more c.self.inside.problem.now.segs c.self.inside.prefix.placed c.next_line-next.result.seg c.next_line-next.result.line) c.self.inside.part.now (is_answered c.next_line-next.result) (groups_in c.as_slice.result.now) c.as_slice-2.result.now c.self.inside.total (rising_apart c.self.inside.part.now c.self.invariant.kept.rises)
+    (subst (λ (l : List PairTerms). All (IsGroup c.self.inside.problem.now.segs c.self.inside.part.now) (groups_in l)) (sym slice) c.self.invariant.kept.groups)
     (λ g fit none. share_told c.self.inside.problem.now.segs c.self.inside.prefix.placed c.self.inside.part.now c.next_line-next.result g c.next_line-next.ensures.next fit none)
-    (c.as_slice-2.ensures.value ∙ (c.self.invariant.shares_are ∙ ap (λ l. map f (groups_in l)) (sym slice))) (c.self.invariant.total_is ∙ ap (λ l. sum_by f (groups_in l)) (sym slice))
+    (c.as_slice-2.ensures.value ∙ (c.self.invariant.kept.shares_are ∙ ap (λ l. map f (groups_in l)) (sym slice))) (c.self.invariant.kept.total_is ∙ ap (λ l. sum_by f (groups_in l)) (sym slice))
 
 pub returns : goal.returns
 returns c =
@@ -86,4 +86,4 @@ returns c =
     c.sum_told.ensures
     (ap (λ (s : SegId). sum_by (share_of c.self.inside.problem.now.segs c.self.inside.part.now (placed_more c.self.inside.problem.now.segs c.self.inside.prefix.placed s c.next_line-next.result.line)) (groups_in c.as_slice.result.now)) c.next_line-next.ensures.seg
     ∙ (ap (λ (a : LineId). sum_by (share_of c.self.inside.problem.now.segs c.self.inside.part.now (placed_more c.self.inside.problem.now.segs c.self.inside.prefix.placed c.args.seg a)) (groups_in c.as_slice.result.now)) c.next_line-next.ensures.line
-    ∙ ap (sum_by (share_of c.self.inside.problem.now.segs c.self.inside.part.now (placed_more c.self.inside.problem.now.segs c.self.inside.prefix.placed c.args.seg c.args.line))) (ap groups_in c.as_slice.ensures.value ∙ c.self.invariant.grouped))))
+    ∙ ap (sum_by (share_of c.self.inside.problem.now.segs c.self.inside.part.now (placed_more c.self.inside.problem.now.segs c.self.inside.prefix.placed c.args.seg c.args.line))) (ap groups_in c.as_slice.ensures.value ∙ c.self.invariant.kept.grouped))))
