@@ -1,16 +1,24 @@
 -- What a prefix knows: placed lines stand, left to right, before all lines that are not placed.
-use Rattle.std.specs.Prelude.{ℕ, ◌+◌, ◌==◌, Bool, true, false, ◌||◌, List, length, Option, Some, None, if◌then◌else◌}
+use Rattle.std.specs.Prelude.{ℕ, ◌+◌, ◌==◌, nat_lt, Bool, true, false, ◌||◌, List, length, Option, Some, None, if◌then◌else◌}
 use Rattle.map_base.specs.declared.ids.SegId.{SegId}
 use Rattle.map_base.specs.declared.ids.LineId.{LineId}
 use Rattle.order_model.specs.Problems.{lines_on}
 use Rattle.order_model.specs.Places.{place_of, no_place, are_adjacent}
-use Rattle.order_model.specs.Costs.{are_neighbours}
+use Rattle.order_model.specs.Costs.{comes_before, are_neighbours}
 use Rattle.order_model.specs.Prefixes.{is_placed}
 
 -- a pair of lines is decided on a segment where at least one of the two is placed: which of them stands first there is
 -- then what `comes_before` says of the placed lines
 abbrev pub is_decided : List (List LineId) → SegId → LineId → LineId → Bool
 is_decided placed s a b = is_placed (lines_on placed s) a || is_placed (lines_on placed s) b
+
+-- whether the first of two lines stands first, where that is decided
+abbrev pub first_of : List LineId → LineId → LineId → Option Bool
+first_of placed a b = if is_placed placed a || is_placed placed b then Some (comes_before placed a b) else None
+
+-- the same on a segment
+abbrev pub stands_first : List (List LineId) → SegId → LineId → LineId → Option Bool
+stands_first placed s a b = first_of (lines_on placed s) a b
 
 -- the line is the last of those that are placed
 abbrev pub is_last : List LineId → LineId → Bool
@@ -30,6 +38,9 @@ neighbours_on lines placed a b =
     else None
 
 -- The same by the places of two lines, and by how many of how many lines are placed.
+
+abbrev pub first_at : ℕ → ℕ → Option Bool
+first_at i j = if i == no_place then (if j == no_place then None else Some (nat_lt i j)) else Some (nat_lt i j)
 
 abbrev pub beside_unplaced_at : ℕ → ℕ → Option Bool
 beside_unplaced_at i placed = if i + 1 == placed then None else Some false

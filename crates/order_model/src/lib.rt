@@ -25,6 +25,7 @@ pub use orders::Orders;
 pub use part_numbers::numbers_of;
 pub use part_terms::terms_by_part;
 pub use parts::{a_problem_has_one_list_of_parts, parts_of};
+pub use places::NO_PLACE;
 pub use prefix::{Prefix, taking_back_undoes_placing};
 pub use problem::{Problem, ProblemParts};
 pub use table_costs::cost_by_tables;

@@ -10,7 +10,7 @@ use map_base::{LineId, NoMemory, Sequence};
 use std::alloc::Global;
 
 /// What stands in a table for a line that has no place.
-pub(crate) const NO_PLACE: u32 = u32::MAX;
+pub const NO_PLACE: u32 = u32::MAX;
 
 /// For each segment the place of each of its lines in the segment's order.
 pub(crate) fn places_of(

@@ -5,7 +5,8 @@ ghost use Rattle.graph_core.specs.Consistent.{AreRising};
 ghost use Rattle.map_base.specs.declared.ids.LineId.{LineId};
 ghost use Rattle.order_model.specs.Problems.{lines_on, IsOn};
 ghost use Rattle.order_model.specs.Costs.{comes_before};
-ghost use Rattle.order_model.specs.Looks.{is_decided, neighbours_on};
+ghost use Rattle.order_model.specs.Places.{no_place, places_in};
+ghost use Rattle.order_model.specs.Looks.{is_decided, stands_first, neighbours_on};
 ghost use Rattle.order_model.specs.Prefixes.{is_placed, is_left, first_placed, none_placed, with_line, without_last, ArePlacedLines, IsPrefixOf};
 
 use crate::problem::Problem;
@@ -79,6 +80,16 @@ impl Prefix {
         part.placed()
     }
 
+    /// The place of each line of a segment among the lines placed there, `NO_PLACE` for a line that is not placed.
+    pub fn places(&self, seg: SegId) -> &[u32]
+        requires { seg.0 < length self.now.placed }
+        ensures places { result.now ≡ places_in (lines_on self.now.segs seg) (lines_on self.now.placed seg) }
+        ensures short { length (lines_on self.now.placed seg) < no_place }
+    {
+        let part = &self.parts[seg.0 as usize];
+        part.places()
+    }
+
     /// Whether one of two lines of a segment of its problem is placed there, so that it is known which stands first.
     pub fn is_decided(&self, problem: &Problem, seg: SegId, a: LineId, b: LineId) -> bool
         requires fits { IsPrefixOf problem.now.segs self.now }
@@ -102,6 +113,19 @@ impl Prefix {
     {
         let part = &self.parts[seg.0 as usize];
         part.comes_before(a, b)
+    }
+
+    /// Whether the first of two lines of a segment of its problem stands first there, where one of them is placed.
+    pub fn stands_first(&self, problem: &Problem, seg: SegId, a: LineId, b: LineId) -> Option<bool>
+        requires fits { IsPrefixOf problem.now.segs self.now }
+        requires known { seg.0 < length problem.now.segs }
+        requires a_on { IsOn problem.now.segs seg a }
+        requires b_on { IsOn problem.now.segs seg b }
+        requires differ { a.0 ≢ b.0 }
+        ensures { result ≡ stands_first self.now.placed seg a b }
+    {
+        let part = &self.parts[seg.0 as usize];
+        part.stands_first(a, b)
     }
 
     /// Whether two lines of a segment of its problem are neighbours in all orders that go on from this prefix, or in

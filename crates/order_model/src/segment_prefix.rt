@@ -6,7 +6,7 @@ ghost use Rattle.map_base.specs.declared.ids.LineId.{LineId};
 ghost use Rattle.graph_core.specs.Consistent.{AreRising};
 ghost use Rattle.order_model.specs.Costs.{comes_before};
 ghost use Rattle.order_model.specs.Places.{no_place, place_in, places_in, first_without_place, is_left_by};
-ghost use Rattle.order_model.specs.Looks.{neighbours_on, neighbours_at, beside_unplaced_at};
+ghost use Rattle.order_model.specs.Looks.{first_of, first_at, neighbours_on, neighbours_at, beside_unplaced_at};
 ghost use Rattle.order_model.specs.Prefixes.{is_placed, is_unplaced, is_left, with_last, first_placed, with_line, without_last, AreApart, ArePlacedLines, unchosen, segment_placement};
 
 use crate::places::NO_PLACE;
@@ -88,6 +88,14 @@ impl SegmentPrefix {
         self.placed.as_slice()
     }
 
+    /// The place of each line of the segment among the placed ones, or that it has none.
+    pub(crate) fn places(&self) -> &[u32]
+        ensures places { result.now ≡ places_in self.now.lines self.now.placed }
+        ensures short { length self.now.placed < no_place }
+    {
+        self.places.as_slice()
+    }
+
     /// The place of a line of the segment among the placed ones, or that it has none.
     fn place_of(&self, line: LineId) -> u32
         requires { Contains self.now.lines line }
@@ -119,6 +127,19 @@ impl SegmentPrefix {
         self.place_of(a) < self.place_of(b)
     }
 
+    /// Whether the first of two different lines of the segment stands first, where that is decided.
+    pub(crate) fn stands_first(&self, a: LineId, b: LineId) -> Option<bool>
+        requires a_on { Contains self.now.lines a }
+        requires b_on { Contains self.now.lines b }
+        requires differ { a.0 ≢ b.0 }
+        ensures { result ≡ first_of self.now.placed a b }
+    {
+        if self.placed.is_empty() {
+            return None;
+        }
+        first_at(self.place_of(a), self.place_of(b))
+    }
+
     /// Whether two different lines of the segment are neighbours, where that is settled.
     pub(crate) fn neighbours(&self, a: LineId, b: LineId) -> Option<bool>
         requires a_on { Contains self.now.lines a }
@@ -135,8 +156,23 @@ impl SegmentPrefix {
     pub(crate) fn is_left(&self, line: LineId) -> bool
         ensures { result ≡ is_left self.now.lines self.now.placed line }
     {
+        if self.placed.len() == self.lines.len() {
+            return false;
+        }
         is_left_on(self.lines.as_slice(), self.places.as_slice(), line)
     }
+}
+
+/// Whether the first of two lines stands first, by their places.
+fn first_at(i: u32, j: u32) -> Option<bool>
+    ensures { result ≡ first_at i j }
+{
+    if i == NO_PLACE {
+        if j == NO_PLACE {
+            return None;
+        }
+    }
+    Some(i < j)
 }
 
 /// Whether two lines are neighbours, by their places, where so many lines of so many are placed.

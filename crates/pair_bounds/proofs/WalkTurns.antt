@@ -364,9 +364,6 @@ module _ (segs : List SegId) (links : List OpenLink) (parent : SegId) (firsts : 
   rest_is : filter passes (drop place links) ≡ filter passes (get_or links place no_link ∷ []) ++ filter passes (links_from next links)
   rest_is = rest_found parent links passes place next (λ l k. ap (λ t. t && is_some (first_at segs firsts (far_end parent l))) k) on.within next_is
 
-  pub child_fits : (room : ℕ) → length children + length (filter passes (drop place links)) ≤ room → length children + length (filter passes (get_or links place no_link ∷ [])) ≤ room
-  child_fits room h = omega (arith, h, ap length rest_is, length-append (filter passes (get_or links place no_link ∷ [])) (filter passes (links_from next links)))
-
   module _ (children2 : List ChildLink) (added : children2 ≡ children ++ map (child_link parent) (filter passes (get_or links place no_link ∷ []))) where
     pub rest_fits : (room room2 : ℕ) → length children + length (filter passes (drop place links)) ≤ room → room ≤ room2 → length children2 + length (filter passes (links_from next links)) ≤ room2
     rest_fits room room2 h k =

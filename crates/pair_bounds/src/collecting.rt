@@ -15,7 +15,7 @@ ghost use Rattle.order_model.specs.Problems.{IsTerm};
 
 use crate::classes::{class_each, class_of, join};
 use crate::opening::open_slots;
-use crate::places::{LinkPlaces, place_of};
+use crate::places::{LinkPlaces, place_near};
 use crate::slots::{Slot, add_cost};
 use crate::term_look::{TermLook, look_at};
 use map_base::SegId;
@@ -84,8 +84,9 @@ fn keep(
     ensures places_room { vec_capacity places.old ≤ vec_capacity places.new }
     ensures few { vec_len links.new ≤ vec_len links.old + 1 }
 {
-    let here = slot_of(slots, link.seg);
-    let there = slot_of(slots, link.other);
+    // Links stand mostly in the order of their segments, each where the one before it ends.
+    let here = slot_of(slots, link.seg, last_there(places.as_slice()));
+    let there = slot_of(slots, link.other, here + 1);
     let class_here = class_at(slots, classes, link.seg, here);
     let class_there = class_at(slots, classes, link.other, there);
     if class_here != class_there {
@@ -95,12 +96,20 @@ fn keep(
     }
 }
 
-/// The place of the slot of a segment that has one.
-fn slot_of(slots: &[Slot], seg: SegId) -> usize
+/// Where the last of some Links ends.
+fn last_there(places: &[LinkPlaces]) -> usize {
+    match places.last() {
+        Some(last) => last.there,
+        None => 0,
+    }
+}
+
+/// The place of the slot of a segment that has one, which is thought to stand near.
+fn slot_of(slots: &[Slot], seg: SegId, near: usize) -> usize
     requires { is_in (slot_segs slots.now) seg ≡ true }
     ensures { IsPlaceOf slots.now seg result }
 {
-    match place_of(slots, seg) {
+    match place_near(slots, seg, near) {
         Some(place) => place,
         None => 0,
     }

@@ -71,23 +71,22 @@ fn side_look(
     requires side { IsSide problem.now.segs seg first second w }
     ensures { result ≡ side_look prefix.now.placed seg first second w }
 {
-    if prefix.is_decided(problem, seg, first, second) {
-        if prefix.comes_before(problem, seg, second, first) {
-            TermLook::Decided(w)
-        } else {
-            TermLook::Decided(0)
-        }
-    } else if first.0 < second.0 {
-        TermLook::OnSegment {
-            seg,
-            lesser_first: 0,
-            greater_first: w,
-        }
-    } else {
-        TermLook::OnSegment {
-            seg,
-            lesser_first: w,
-            greater_first: 0,
+    match prefix.stands_first(problem, seg, second, first) {
+        Some(turned) => TermLook::Decided(if turned { w } else { 0 }),
+        None => {
+            if first.0 < second.0 {
+                TermLook::OnSegment {
+                    seg,
+                    lesser_first: 0,
+                    greater_first: w,
+                }
+            } else {
+                TermLook::OnSegment {
+                    seg,
+                    lesser_first: w,
+                    greater_first: 0,
+                }
+            }
         }
     }
 }
@@ -109,30 +108,23 @@ fn link_look(problem: &Problem, prefix: &Prefix, link: OpenLink, a: LineId, b: L
     requires link { IsPair problem.now.segs link.seg link.other a b link.weight }
     ensures { result ≡ link_look prefix.now.placed link a b }
 {
-    let decided = prefix.is_decided(problem, link.seg, a, b);
-    let decided_there = prefix.is_decided(problem, link.other, a, b);
-    match (decided, decided_there) {
-        (false, false) => TermLook::Between(link),
-        (true, false) => {
-            let here = prefix.comes_before(problem, link.seg, a, b);
-            TermLook::OnSegment {
+    let there = prefix.stands_first(problem, link.other, a, b);
+    match prefix.stands_first(problem, link.seg, a, b) {
+        Some(here) => match there {
+            Some(there) => TermLook::Decided(link_by(link, here, there)),
+            None => TermLook::OnSegment {
                 seg: link.other,
                 lesser_first: link_by(link, here, true),
                 greater_first: link_by(link, here, false),
-            }
-        }
-        (false, true) => {
-            let there = prefix.comes_before(problem, link.other, a, b);
-            TermLook::OnSegment {
+            },
+        },
+        None => match there {
+            Some(there) => TermLook::OnSegment {
                 seg: link.seg,
                 lesser_first: link_by(link, true, there),
                 greater_first: link_by(link, false, there),
-            }
-        }
-        (true, true) => {
-            let here = prefix.comes_before(problem, link.seg, a, b);
-            let there = prefix.comes_before(problem, link.other, a, b);
-            TermLook::Decided(link_by(link, here, there))
-        }
+            },
+            None => TermLook::Between(link),
+        },
     }
 }

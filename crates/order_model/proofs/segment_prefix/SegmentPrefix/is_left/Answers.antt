@@ -1,9 +1,15 @@
-use Rattle.std.proofs.Common.{◌<◌, ◌∙◌, ap, length, arith}
+use Rattle.std.proofs.Common.{◌≡◌, ◌<◌, ◌∙◌, ap, length, arith}
 use Rattle.order_model.specs.Places.{no_place, is_left_by}
 use Rattle.order_model.specs.Prefixes.{SegmentPlacement, is_left}
 use Rattle.order_model.proofs.PrefixLemmas.{few_apart}
 use Rattle.order_model.proofs.TableLemmas.{left_is}
+use Rattle.order_model.proofs.LookLemmas.{none_left}
 use Rattle.order_model.proofs.segment_prefix.SegmentPrefix.is_left.Goals as goal
+
+pub returns-then-len : goal.returns-then-len
+returns-then-len c =
+    let whole : length c.self.inside.placed.items ≡ length c.self.inside.lines.items = omega (arith, c.if-len.true, c.len.ensures, c.len-2.ensures, c.self.inside.placed.ok.0, c.self.inside.lines.ok.0) in
+    none_left c.self.inside.lines.items c.self.inside.placed.items c.args.line c.self.invariant.fits whole ∙ ap (λ (p : SegmentPlacement). is_left p.lines p.placed c.args.line) c.self.view_is
 
 pub returns : goal.returns
 returns c =
