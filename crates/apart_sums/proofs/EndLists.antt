@@ -1,6 +1,6 @@
 -- The ends of Aparts, as they are listed by segments and lines.
 use Rattle.std.proofs.Common.{◌≡◌, ◌≢◌, ℕ, zero, suc, ◌+◌, ◌<◌, ◌==◌, Bool, true, false, cond, ◌||◌, ◌⊎◌, List, [], ◌∷◌, ◌++◌, length, take, get_or, refl, sym, ap, subst, ◌∙◌, inl, inr, arith, eqb-true, eq-eqb, true≢false, append_assoc}
-use Rattle.std.specs.Prelude.{Option, Some, None}
+use Rattle.std.specs.Prelude.{Option, Some, None, IfSome}
 use Rattle.std.specs.List.{All, list_any}
 use Rattle.std.specs.Option.{option_map}
 use Rattle.std.proofs.Math.ListN.{set}
@@ -16,28 +16,52 @@ use Rattle.order_model.specs.PartTerms.{is_in, no_term, terms_by_number}
 use Rattle.apart_sums.specs.declared.ends.ApartEnd.{ApartEnd}
 use Rattle.apart_sums.specs.declared.ends.LineEnds.{LineEnds}
 use Rattle.apart_sums.specs.declared.ends.SegmentEnds.{SegmentEnds}
-use Rattle.apart_sums.specs.Ends.{is_apart_on, aparts_on, apart_end, seen_by, end_seen, ends_seen, ends_by, place_by, AreByEnds, HasEnds, IsEndMore, IsJoinMore, IsApartMore, IsTermMore, AreMoreBy}
+use Rattle.apart_sums.specs.Ends.{is_apart_on, aparts_on, apart_end, seen_by, end_seen, ends_seen, ends_by, place_by, found_or, AreByEnds, HasEnds, IsEndMore, IsJoinMore, IsApartMore, IsTermMore, AreMoreBy}
 
 -- The place of a line among those that have ends.
 
-pub first_here : (lines : List LineEnds) (x : LineId) (i : ℕ) (e : LineEnds) → ((k : ℕ) (d : LineEnds) → k < i → d ≡ get_or lines k d → d.line.0 ≢ x.0) → i < length lines
-    → e ≡ get_or lines i e → e.line.0 ≡ x.0 → place_by lines x ≡ Some i
-first_here [] x i e before below at here = absurd (omega (arith, below))
-first_here (l ∷ lines) x zero e before below at here =
-    ap (λ t. cond t (Some 0) (option_map (λ (i : ℕ). 1 + i) (place_by lines x))) (eq-eqb l.line.0 x.0 (ap (λ (d : LineEnds). d.line.0) (sym at) ∙ here))
-first_here (l ∷ lines) x (suc i) e before below at here =
-    let rest : place_by lines x ≡ Some i = first_here lines x i e (λ k d h. before (suc k) d (omega (arith, h))) (omega (arith, below)) at here in
-    ap (λ t. cond t (Some 0) (option_map (λ (i : ℕ). 1 + i) (place_by lines x))) (ne_eqb l.line.0 x.0 (before 0 l (omega arith) refl))
-    ∙ ap (option_map (λ (i : ℕ). 1 + i)) rest ∙ ap (λ (k : ℕ). Some k) (suc_of i)
-  where
-    suc_of : (k : ℕ) → 1 + k ≡ suc k
-    suc_of k = omega arith
+mapped_or : (o : Option ℕ) (b : Bool) (n : ℕ) → option_map (λ (i : ℕ). 1 + i) (found_or o b n) ≡ found_or (option_map (λ (i : ℕ). 1 + i) o) b (suc n)
+mapped_or (Some i) b n = refl
+mapped_or None true n = let same : 1 + n ≡ suc n = omega arith in ap (λ (k : ℕ). Some k) same
+mapped_or None false n = refl
 
-pub first_nowhere : (lines : List LineEnds) (x : LineId) → ((k : ℕ) (d : LineEnds) → k < length lines → d ≡ get_or lines k d → d.line.0 ≢ x.0) → place_by lines x ≡ None
-first_nowhere [] x all = refl
-first_nowhere (l ∷ lines) x all =
-    ap (λ t. cond t (Some 0) (option_map (λ (i : ℕ). 1 + i) (place_by lines x))) (ne_eqb l.line.0 x.0 (all 0 l (omega arith) refl))
-    ∙ ap (option_map (λ (i : ℕ). 1 + i)) (first_nowhere lines x (λ k d h. all (suc k) d (omega (arith, h))))
+-- with one more
+place_last : (lines : List LineEnds) (l : LineEnds) (x : LineId) → place_by (lines ++ l ∷ []) x ≡ found_or (place_by lines x) (l.line.0 == x.0) (length lines)
+place_last [] l x = by_test (l.line.0 == x.0)
+  where
+    by_test : (b : Bool) → cond b (Some 0) (option_map (λ (i : ℕ). 1 + i) None) ≡ cond b (Some 0) None
+    by_test true = refl
+    by_test false = refl
+place_last (y ∷ lines) l x = by_test (y.line.0 == x.0) (place_last lines l x)
+  where
+    by_test : (b : Bool) → place_by (lines ++ l ∷ []) x ≡ found_or (place_by lines x) (l.line.0 == x.0) (length lines)
+        → cond b (Some 0) (option_map (λ (i : ℕ). 1 + i) (place_by (lines ++ l ∷ []) x))
+        ≡ found_or (cond b (Some 0) (option_map (λ (i : ℕ). 1 + i) (place_by lines x))) (l.line.0 == x.0) (suc (length lines))
+    by_test true h = refl
+    by_test false h = ap (option_map (λ (i : ℕ). 1 + i)) h ∙ mapped_or (place_by lines x) (l.line.0 == x.0) (length lines)
+
+pub place_more : (lines : List LineEnds) (x : LineId) (i : ℕ) (l : LineEnds) (found : Option ℕ) → i < length lines → l ≡ get_or lines i l → found ≡ place_by (take i lines) x
+    → found_or found (l.line.0 == x.0) i ≡ place_by (take (i + 1) lines) x
+place_more lines x i l found below is h =
+    ap (λ o. found_or o (l.line.0 == x.0) i) h
+    ∙ (ap (found_or (place_by (take i lines) x) (l.line.0 == x.0)) (sym (length-take-le i lines (omega (arith, below))))
+    ∙ (sym (place_last (take i lines) l x) ∙ sym (ap (λ ls. place_by ls x) (take_more lines i l below ∙ ap (λ (e : LineEnds). take i lines ++ e ∷ []) (sym is)))))
+
+place_within : (lines : List LineEnds) (x : LineId) (i : ℕ) → place_by lines x ≡ Some i → i < length lines
+place_within [] x i h = absurd (cc)
+place_within (y ∷ lines) x i h = by_test (y.line.0 == x.0) h (place_within lines x)
+  where
+    by_rest : (o : Option ℕ) → place_by lines x ≡ o → option_map (λ (i : ℕ). 1 + i) o ≡ Some i → ((k : ℕ) → place_by lines x ≡ Some k → k < length lines) → i < suc (length lines)
+    by_rest None f e rest = absurd (cc)
+    by_rest (Some k) f e rest = let same : 1 + k ≡ i = cc in let below = rest k f in omega (arith, same, below)
+
+    by_test : (b : Bool) → cond b (Some 0) (option_map (λ (i : ℕ). 1 + i) (place_by lines x)) ≡ Some i → ((k : ℕ) → place_by lines x ≡ Some k → k < length lines) → i < suc (length lines)
+    by_test true e rest = let same : 0 ≡ i = cc in omega (arith, same)
+    by_test false e rest = by_rest (place_by lines x) refl e rest
+
+pub all_within : (lines : List LineEnds) (x : LineId) (o : Option ℕ) → o ≡ place_by lines x → IfSome o (λ i. i < length lines)
+all_within lines x None e = tt
+all_within lines x (Some i) e = place_within lines x i (sym e)
 
 -- what is listed at the place of a line
 mapped_some : (o : Option ℕ) (i : ℕ) → option_map (λ (k : ℕ). 1 + k) o ≡ Some (suc i) → o ≡ Some i

@@ -1,5 +1,5 @@
 -- A small part, with what placings add to its Aparts worked out by hand.
-use Rattle.std.specs.Prelude.{◌≡◌, ℕ, List, [], ◌∷◌, refl, true, false, Some}
+use Rattle.std.specs.Prelude.{◌≡◌, ℕ, Bool, List, [], ◌∷◌, refl, true, false, Option, Some, None}
 use Rattle.map_base.specs.declared.ids.SegId.{SegId}
 use Rattle.map_base.specs.declared.ids.LineId.{LineId}
 use Rattle.order_model.specs.declared.term.Term.{Term}
@@ -7,8 +7,11 @@ use Rattle.order_model.specs.declared.term.Term.TheVariants.{Side, Apart}
 use Rattle.order_model.specs.Completions.{placed_more}
 use Rattle.pair_bounds.specs.Counted.{settled_sum}
 use Rattle.apart_sums.specs.declared.steps.Step.{Step}
+use Rattle.apart_sums.specs.declared.noted_answers.NotedAnswers.{NotedAnswers}
+use Rattle.apart_sums.specs.declared.noted_answers.Change.TheVariants.{Settle, Forget, Put}
 use Rattle.apart_sums.specs.Ends.{apart_end, ends_seen}
 use Rattle.apart_sums.specs.Rises.{last_of, first_left, rise_of}
+use Rattle.apart_sums.specs.NotedAnswers.{none_noted, changed_by, rise_noted}
 
 abbrev seg : ℕ → SegId
 seg i = record { 0 = i }
@@ -83,3 +86,26 @@ last_total = refl
 
 first_left_is : first_left four (line 0 ∷ []) (line 1) ≡ Some (line 2)
 first_left_is = refl
+
+-- The answers that are noted: behind line 0, line 1, which leaves 2 and 3.
+
+abbrev on_both : Option Bool → Option Bool → NotedAnswers
+on_both here there = record { at_lesser = here; at_greater = there }
+
+abbrev before : List NotedAnswers
+before = on_both None (Some true) ∷ none_noted ∷ on_both None (Some true) ∷ on_both None (Some true) ∷ on_both None (Some false) ∷ []
+
+abbrev after : List NotedAnswers
+after = on_both (Some true) (Some true) ∷ none_noted ∷ on_both (Some false) (Some true) ∷ on_both None (Some true) ∷ on_both (Some true) (Some false) ∷ []
+
+abbrev leaving_two : Step
+leaving_two = record { seg = seg 0; last = Some (line 0); line = line 1; leaves_two = true }
+
+noted_rise : rise_noted four (line 0 ∷ []) before (λ x. ends_seen (seg 0) x 0 terms) leaving_two ≡ 20
+noted_rise = refl
+
+settled_answers : changed_by four (line 0 ∷ []) (λ x. ends_seen (seg 0) x 0 terms) leaving_two (Settle (line 1)) (Put (line 1) (Some true)) before ≡ after
+settled_answers = refl
+
+forgotten_answers : changed_by four (line 0 ∷ line 1 ∷ []) (λ x. ends_seen (seg 0) x 0 terms) leaving_two Forget (Put (line 1) None) after ≡ before
+forgotten_answers = refl

@@ -141,9 +141,6 @@ total_small problem numbers sides placed fits listed =
 
 -- The ends on one segment.
 
-pub side_known : (problem : ProblemParts) (numbers : List ℕ) (sides : List SegmentEnds) (s : SegId) → AreListed problem numbers sides → s.0 < length problem.segs → s.0 < length sides
-side_known problem numbers sides s listed known = omega (arith, known, listed.by_ends.each)
-
 pub side_ends : (problem : ProblemParts) (numbers : List ℕ) (sides : List SegmentEnds) (s : SegId) (side : SegmentEnds) → IsProblem problem → AreListed problem numbers sides → s.0 < length problem.segs → side ≡ get_or sides s.0 side
     → AreEnds problem.segs s side.lines.items
 side_ends problem numbers sides s side fits listed known at = record {

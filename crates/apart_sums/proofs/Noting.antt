@@ -16,7 +16,7 @@ use Rattle.apart_sums.specs.declared.ends.ApartEnd.{ApartEnd}
 use Rattle.apart_sums.specs.declared.noted_answers.NotedAnswers.{NotedAnswers}
 use Rattle.apart_sums.specs.declared.noted_answers.Change.{Change}
 use Rattle.apart_sums.specs.Ends.{apart_end, seen_by, end_seen, ends_seen}
-use Rattle.apart_sums.specs.NotedAnswers.{none_noted, here_in, answer_here, with_here, put_here, change_at, changed_at, changed_of, IsAnswered, AreAnswered, IsTold, IsNoted}
+use Rattle.apart_sums.specs.NotedAnswers.{none_noted, here_in, answer_here, with_here, put_here, change_at, changed_at, changed_of, IsAnswered, AreAnswered, IsTold}
 use Rattle.apart_sums.proofs.Rising.{neighbours_turned}
 
 -- The ends that a line sees, by the noted answers of their term.
@@ -164,9 +164,6 @@ rows_changed f s x k (u ∷ terms) answers (suc j) t within below at =
     ∙ (subst (λ n. get_or (changed_at f mid (ends_seen s x (k + 1) terms)) n none_noted ≡ row f (end_seen s x n t.1) (get_or mid n none_noted)) next later ∙ ap (row f (end_seen s x (k + suc j) t.1)) kept)
 
 -- The changes so far.
-
-pub within_now : (f : Changing) (answers now : List NotedAnswers) (ends done : List ApartEnd) (i : ℕ) (d : ApartEnd) → All (IsNoted (length answers)) ends → i < length ends → now ≡ changed_at f answers done → (get_or ends i d).number < length now
-within_now f answers now ends done i d all below is = let here = (all i d below).within in omega (arith, here, ap length is, length_changed f answers done)
 
 pub changed_next : (f : Changing) (answers now slice new : List NotedAnswers) (ends : List ApartEnd) (i : ℕ) (d : ApartEnd) (here put : Option Bool) → i < length ends → now ≡ changed_at f answers (take i ends) → slice ≡ now
     → here ≡ answer_here slice (get_or ends i d) → put ≡ f (get_or ends i d) here → new ≡ put_here now (get_or ends i d) put → new ≡ changed_at f answers (take (i + 1) ends)

@@ -1,11 +1,13 @@
 -- Where lines stand among placed lines.
-use Rattle.std.proofs.Common.{◌≡◌, ℕ, suc, ◌+◌, ◌-◌, ◌<◌, ◌==◌, Bool, true, false, cond, not, ◌||◌, ◌&&◌, List, [], ◌∷◌, ◌++◌, length, refl, sym, ap, ◌∙◌, arith, eqb-true, eq-eqb, true≢false}
+use Rattle.std.proofs.Common.{◌≡◌, ℕ, suc, ◌+◌, ◌-◌, ◌<◌, ◌==◌, Bool, true, false, cond, not, ◌||◌, ◌&&◌, List, [], ◌∷◌, ◌++◌, length, get_or, refl, sym, ap, ◌∙◌, arith, eqb-true, eq-eqb, true≢false}
 use Rattle.std.specs.Prelude.{Option, Some, None, slice_get}
+use Rattle.std.proofs.lemmas.List.{get_or-map}
 use Rattle.std.proofs.lemmas.Bool.{or_parts, or_left, or_right, ne_eqb, eqb-false}
 use Rattle.map_base.specs.declared.ids.LineId.{LineId}
 use Rattle.order_model.specs.Costs.{comes_before}
-use Rattle.order_model.specs.Places.{place_of}
-use Rattle.order_model.specs.Prefixes.{is_placed, AreApart}
+use Rattle.order_model.specs.Places.{place_of, no_place, place_in, places_in}
+use Rattle.order_model.specs.Prefixes.{is_placed, is_unplaced, AreApart}
+use Rattle.order_model.proofs.TableLemmas.{no_place_is}
 use Rattle.apart_sums.specs.Rises.{last_of}
 
 -- the last of some lines, as it is read
@@ -16,6 +18,17 @@ last_read (x ∷ y ∷ xs) =
     let here : length (x ∷ y ∷ xs) - 1 ≡ suc (length xs) = omega arith in
     let there : length xs ≡ length (y ∷ xs) - 1 = omega arith in
     ap (slice_get (x ∷ y ∷ xs)) here ∙ (ap (slice_get (y ∷ xs)) there ∙ last_read (y ∷ xs))
+
+-- a line is free where the table says that it has no place
+pub free_by_table : (lines placed : List LineId) (places : List ℕ) (a : LineId) (i : ℕ) → places ≡ places_in lines placed → length placed < no_place → i < length lines → a ≡ get_or lines i a
+    → (get_or places i 0 == no_place) ≡ is_unplaced placed a
+free_by_table lines placed places a i are short below here =
+    ap (λ t. get_or t i 0 == no_place) are
+    ∙ (ap (λ n. n == no_place) (get_or-map (place_in placed) lines i a 0 below ∙ ap (place_in placed) (sym here)) ∙ no_place_is placed a short)
+
+pub and_still : (b t : Bool) → t ≡ false → b ≡ (b && not t)
+and_still true t h = sym (ap not h)
+and_still false t h = refl
 
 -- Places in a list and in one that begins with it.
 

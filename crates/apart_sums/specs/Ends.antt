@@ -54,6 +54,11 @@ abbrev pub place_by : List LineEnds → LineId → Option ℕ
 place_by [] x = None
 place_by (own ∷ lines) x = if own.line.0 == x.0 then Some 0 else option_map (λ i. 1 + i) (place_by lines x)
 
+-- the place that was found, or else this one, if it is the one that is looked for
+abbrev pub found_or : Option ℕ → Bool → ℕ → Option ℕ
+found_or (Some i) is at = Some i
+found_or None is at = if is then Some at else None
+
 -- for each of so many segments the Aparts that have an end there, by line, and the segments of their other ends
 pub record AreByEnds (count : ℕ) (terms : List (ℕ × Term)) (sides : List SegmentEnds) : Type 0 where
   pub each : length sides ≡ count

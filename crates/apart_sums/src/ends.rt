@@ -2,7 +2,7 @@
 
 ghost use Rattle.std.specs.Prelude.{◌≡◌, ◌<◌, ◌≤◌, [], length, true, All, IfOk, IfSome, OnOk};
 ghost use Rattle.order_model.specs.PartTerms.{is_in, terms_by_number};
-ghost use Rattle.apart_sums.specs.Ends.{ends_by, place_by, HasEnds, AreByEnds, AreMoreBy, IsEndMore, IsApartMore, IsJoinMore};
+ghost use Rattle.apart_sums.specs.Ends.{ends_by, place_by, found_or, HasEnds, AreByEnds, AreMoreBy, IsEndMore, IsApartMore, IsJoinMore};
 
 use map_base::{LineId, NoMemory, SegId};
 use order_model::{Problem, Term};
@@ -196,17 +196,26 @@ fn push_end(
     Ok(())
 }
 
-/// Where a line stands among those that have ends.
+/// Where a line stands among those that have ends. All are looked at, as they are few: so there is no branch on which it is.
 fn place_of(lines: &[LineEnds], line: LineId) -> Option<usize>
     ensures place { result ≡ place_by lines.now line }
     ensures within { IfSome result (λ i. i < length lines.now) }
 {
+    let mut found = None;
     for i in 0..lines.len() {
-        if lines[i].line.0 == line.0 {
-            return Some(i);
-        }
+        found = found_or(found, lines[i].line.0 == line.0, i);
     }
-    None
+    found
+}
+
+/// The place that was found, or else this one, if it is the one that is looked for.
+fn found_or(found: Option<usize>, is: bool, at: usize) -> Option<usize>
+    ensures { result ≡ found_or found is at }
+{
+    match found {
+        Some(i) => Some(i),
+        None => { if is { Some(at) } else { None } }
+    }
 }
 
 /// The ends of a line.

@@ -1,6 +1,7 @@
 //! The answers of Aparts: whether their lines are neighbours on their two segments, where that is settled.
 
 ghost use Rattle.std.specs.Prelude.{◌≡◌, ◌<◌, ◌≤◌, length, All, IfOk};
+ghost use Rattle.order_model.specs.Costs.{comes_before};
 ghost use Rattle.order_model.specs.Problems.{lines_on, IsTerm};
 ghost use Rattle.order_model.specs.PartTerms.{terms_by_number};
 ghost use Rattle.order_model.specs.Prefixes.{IsPrefixOf};
@@ -205,7 +206,7 @@ fn changed(
             }
         }
         Change::Forget => {
-            if prefix.comes_before(problem, seg, own, end.beside) {
+            if stands_before(prefix.placed(seg), own, end.beside) {
                 None
             } else {
                 here
@@ -219,6 +220,21 @@ fn changed(
             }
         }
     }
+}
+
+/// Whether of some placed lines one stands before another, or without it.
+fn stands_before(placed: &[LineId], own: LineId, other: LineId) -> bool
+    ensures { result ≡ comes_before placed.now own other }
+{
+    for line in placed {
+        if line.0 == own.0 {
+            return true;
+        }
+        if line.0 == other.0 {
+            return false;
+        }
+    }
+    false
 }
 
 /// Puts an answer at an end.

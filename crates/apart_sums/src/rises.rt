@@ -1,6 +1,6 @@
 //! What a placing adds to what the settled Aparts cost.
 
-ghost use Rattle.std.specs.Prelude.{◌≡◌, ◌<◌, ◌≤◌, ◌*◌, length, sum_by, All};
+ghost use Rattle.std.specs.Prelude.{◌≡◌, ◌<◌, ◌≤◌, ◌*◌, length, sum_by, All, slice_index_or};
 ghost use Rattle.order_model.specs.Problems.{lines_on, IsOn};
 ghost use Rattle.order_model.specs.Prefixes.{IsPrefixOf};
 ghost use Rattle.apart_sums.specs.declared.ends.ApartEnd.{ApartEnd};
@@ -10,10 +10,10 @@ ghost use Rattle.apart_sums.specs.NotedAnswers.{last_noted, left_noted, rise_not
 
 use crate::ends::{ApartEnd, LineEnds, ends_of};
 use crate::noted_answers::{NotedAnswers, answer_here, answer_there};
-use crate::settled::apart_cost;
+use crate::settled::cost_with;
 use crate::steps::Step;
 use map_base::{LineId, SegId};
-use order_model::{Prefix, Problem};
+use order_model::{NO_PLACE, Prefix, Problem};
 
 /// What a placing adds to what the Aparts of its segment cost that are settled, as they are listed by line, by their answers
 /// before it. The prefix, with it or without, tells which lines are left.
@@ -70,19 +70,18 @@ fn last_sum(answers: &[NotedAnswers], line: LineId, ends: &[ApartEnd]) -> u64
     total
 }
 
-/// What one of them adds.
-#[tactic(auto, using(crate::proofs::Answers::none_there))]
+/// What one of them adds: its cost is at hand before it is known whether it is settled here already, so that there is one choice.
 fn last_cost(answers: &[NotedAnswers], line: LineId, end: ApartEnd) -> u32
     requires { IsNoted (length answers.now) end }
     ensures value { result ≡ last_noted answers.now line end }
     ensures most { result ≤ 256000 }
 {
-    match answer_here(answers, end) {
-        Some(_) => 0,
-        None => match answer_there(answers, end) {
-            None => 0,
-            Some(there) => apart_cost(end.weight, end.beside.0 == line.0, there),
-        },
+    let there = answer_there(answers, end);
+    let cost = cost_with(end.weight, end.beside.0 == line.0, there);
+    if answer_here(answers, end).is_none() {
+        cost
+    } else {
+        0
     }
 }
 
@@ -130,12 +129,33 @@ pub(crate) fn first_left(
 {
     let segs = problem.segs();
     let lines = segs[seg.0 as usize].as_slice();
-    for own in lines {
-        if is_left_then(problem, prefix, seg, line, *own) {
-            return Some(*own);
+    for i in 0..lines.len() {
+        if is_left_at(problem, prefix, seg, line, lines[i], i) {
+            return Some(lines[i]);
         }
     }
     None
+}
+
+/// Whether the line at a place of a segment is left where another is placed next.
+fn is_left_at(
+    problem: &Problem,
+    prefix: &Prefix,
+    seg: SegId,
+    line: LineId,
+    own: LineId,
+    at: usize,
+) -> bool
+    requires fits { IsPrefixOf problem.now.segs prefix.now }
+    requires known { seg.0 < length problem.now.segs }
+    requires within { at < length (lines_on problem.now.segs seg) }
+    requires here { own ≡ slice_index_or (lines_on problem.now.segs seg) at own }
+    ensures { result ≡ is_left_then (lines_on prefix.now.placed seg) line own }
+{
+    if own.0 == line.0 {
+        return false;
+    }
+    prefix.places(seg)[at] == NO_PLACE
 }
 
 /// Whether a line of a segment is left where another is placed next.
@@ -183,7 +203,6 @@ fn left_sum(
 }
 
 /// What one of them adds.
-#[tactic(auto, using(crate::proofs::Answers::none_there))]
 fn left_cost(
     problem: &Problem,
     prefix: &Prefix,
@@ -200,14 +219,13 @@ fn left_cost(
     ensures value { result ≡ left_noted (lines_on prefix.now.placed seg) answers.now line end }
     ensures most { result ≤ 256000 }
 {
-    match answer_there(answers, end) {
-        None => 0,
-        Some(there) => {
-            if is_left_then(problem, prefix, seg, line, end.beside) {
-                apart_cost(end.weight, true, there)
-            } else {
-                0
-            }
-        }
+    let cost = cost_with(end.weight, true, answer_there(answers, end));
+    if cost == 0 {
+        return 0;
+    }
+    if is_left_then(problem, prefix, seg, line, end.beside) {
+        cost
+    } else {
+        0
     }
 }

@@ -55,9 +55,21 @@ fn settled_cost(problem: &Problem, prefix: &Prefix, term: Term) -> u32
 }
 
 /// What an Apart costs whose lines are neighbours on its two segments or aren't.
-pub(crate) fn apart_cost(weight: u32, here: bool, there: bool) -> u32
+fn apart_cost(weight: u32, here: bool, there: bool) -> u32
     ensures value { result ≡ apart_cost weight (Some here) (Some there) }
     ensures most { result ≤ weight }
 {
     if here == there { 0 } else { weight }
+}
+
+/// The same where it may not be settled there: then it costs nothing yet.
+#[tactic(auto, using(crate::proofs::Answers::none_there))]
+pub(crate) fn cost_with(weight: u32, here: bool, there: Option<bool>) -> u32
+    ensures value { result ≡ apart_cost weight (Some here) there }
+    ensures most { result ≤ weight }
+{
+    match there {
+        Some(there) => apart_cost(weight, here, there),
+        None => 0,
+    }
 }

@@ -4,7 +4,7 @@ use Rattle.std.specs.Prelude.{nat_lt}
 use Rattle.std.specs.Option.{IfSome}
 use Rattle.std.proofs.Math.ListN.{set}
 use Rattle.std.proofs.Math.Nat.{mul_comm, mul_assoc}
-use Rattle.std.proofs.lemmas.Bool.{or_parts, and_cases}
+use Rattle.std.proofs.lemmas.Bool.{or_parts, and_cases, ltb-true, lt-ltb}
 use Rattle.std.proofs.lemmas.List.{take_more, length-set, map_push}
 use Rattle.map_base.specs.declared.ids.SegId.{SegId}
 use Rattle.map_base.specs.declared.ids.LineId.{LineId}
@@ -19,10 +19,11 @@ use Rattle.pair_shares.specs.declared.pair_terms.PairTerms.{PairTerms}
 use Rattle.pair_shares.specs.Changes.{is_new_pair, is_changed}
 use Rattle.pair_shares.specs.Meeting.{is_listed}
 use Rattle.pair_shares.specs.PairGroups.{Group, KnowsOwn, no_group, group_in, groups_in, meets, own_segments}
-use Rattle.pair_shares.specs.PairKeys.{first_in, key_on, key_of, thrice, weight_on, answer_after, AreKeys, AreKeysBut}
+use Rattle.pair_shares.specs.PairKeys.{first_in, key_on, key_of, thrice, weight_on, answer_after, IsKeyWith, AreKeys, AreKeysBut}
 use Rattle.pair_shares.specs.Shares.{IsRow}
 use Rattle.pair_shares.proofs.Meeting.{listed_each}
 use Rattle.pair_shares.proofs.OwnSegments.{SameElsewhere}
+use Rattle.pair_shares.proofs.OwnUse.{own_apart}
 use Rattle.pair_shares.proofs.PairsKept.{AreAlike}
 use Rattle.pair_shares.proofs.StatesNoted.{decided_by, before_by, first_small}
 
@@ -101,6 +102,15 @@ key_moved p one two s known fresh (t ∷ segs) w apart same before after has = b
         let rest = later three.below three.is in
         let times = thrice_times (answer_after known fresh p) three.below w three.times in
         omega (arith, first, rest, times)
+
+-- the key of a pair of the part, told from that before it
+pub key_step : (one two : List (List LineId)) (part : List SegId) (s : SegId) (known fresh : List LineId) (g : Group) (key answer : ℕ) (held weight : Option ℕ) → AreApartSegments part → SameElsewhere s two one → lines_on one s ≡ known
+    → lines_on two s ≡ known ++ fresh → IfSome held (λ k. k ≡ key_of one part g) → answer ≡ answer_after known fresh g.0 → weight ≡ weight_on (own_segments part g.1) s → IsKeyWith held weight answer key → key ≡ key_of two part g
+key_step one two part s known fresh g key answer None weight apart same before after is e1 e2 has = absurd has
+key_step one two part s known fresh g key answer (Some old) None apart same before after is e1 e2 has = absurd has
+key_step one two part s known fresh g key answer (Some old) (Some x) apart same before after is e1 e2 has =
+    let moved = key_moved g.0 one two s known fresh (own_segments part g.1) x (own_apart part g.1 (own_segments part g.1) refl apart) same before after (sym e2) in
+    has ∙ (ap (λ m. m + answer * x) is ∙ (ap (λ m. key_of one part g + m * x) e1 ∙ sym moved))
 
 -- Pairs that a placing leaves keep their keys.
 
@@ -210,6 +220,28 @@ keys_all placed part stale here done groups keys row all ok = record {
     at : (k key : ℕ) → k < length groups → get_or keys k None ≡ Some key → (b : Bool) → stale (get_or groups k no_group) ≡ b → key ≡ key_of placed part (get_or groups k no_group)
     at k key below is true e = ok.early k key (ap (λ l. is_listed l k) all ∙ row.covers k below e) below is
     at k key below is false e = ok.beside k key below e is
+
+-- The keys of all pairs, written anew.
+
+pub keys_unfilled : (placed : List (List LineId)) (part : List SegId) (groups : List Group) (keys : List (Option ℕ)) → length keys ≡ length groups → AreKeysBut placed part (λ g. true) (λ k. nat_lt k 0) groups keys
+keys_unfilled placed part groups keys each = record {
+  each = each;
+  early = λ k key early below has. absurd (omega (arith, ltb-true k 0 early));
+  beside = λ k key below none has. absurd (true≢false none);
+}
+
+pub key_filled : (placed : List (List LineId)) (part : List SegId) (groups : List Group) (i : ℕ) (keys fresh : List (Option ℕ)) (key : Option ℕ) → i < length groups → AreKeysBut placed part (λ g. true) (λ k. nat_lt k i) groups keys
+    → IfSome key (λ k. k ≡ key_of placed part (get_or groups i no_group)) → fresh ≡ set keys i key → AreKeysBut placed part (λ g. true) (λ k. nat_lt k (i + 1)) groups fresh
+key_filled placed part groups i keys fresh key below ok is e =
+    subst (AreKeysBut placed part (λ g. true) (λ k. nat_lt k (i + 1)) groups) (sym e) (record {
+      each = length-set keys i key ∙ ok.each;
+      early = λ k x early within has. key_each keys i key (λ j o. j < i + 1 → (y : ℕ) → j < length groups → o ≡ Some y → y ≡ key_of placed part (get_or groups j no_group)) (omega (arith, below, ok.each))
+          (λ l y b has. some_is key (key_of placed part (get_or groups i no_group)) y is has) (λ j ne l y b has. ok.early j y (lt-ltb j i (omega (arith, l, ne))) b has) k (ltb-true k (i + 1) early) x within has;
+      beside = λ k x within none has. absurd (true≢false none);
+    })
+
+pub keys_filled : (placed : List (List LineId)) (part : List SegId) (groups : List Group) (i : ℕ) (keys : List (Option ℕ)) → length groups ≤ i → AreKeysBut placed part (λ g. true) (λ k. nat_lt k i) groups keys → AreKeys placed part groups keys
+keys_filled placed part groups i keys all ok = record { each = ok.each; are = λ k key below has. ok.early k key (lt-ltb k i (omega (arith, below, all))) below has }
 
 -- The keys of all pairs.
 

@@ -9,4 +9,8 @@ pub mod StatesNoted
 pub mod Renewed
 pub mod KeysKept
 pub mod ToldSums
+pub mod PairLooks
 pub mod LineRows
+pub mod ChangedRows
+pub mod KeySteps
+pub mod LastTwo

@@ -1,11 +1,10 @@
 -- The pairs of a segment that have a line are all that its placing decides there, where it is placed alone.
-use Rattle.std.proofs.Common.{◌≡◌, ℕ, ◌<◌, ◌==◌, ◌||◌, Bool, true, false, cond, List, [], ◌∷◌, length, get_or, Option, None, refl, sym, ap, subst, ◌∙◌, inl, inr, arith, eqb-true, true≢false}
+use Rattle.std.proofs.Common.{◌≡◌, ℕ, ◌<◌, ◌==◌, ◌||◌, Bool, true, false, cond, List, [], ◌∷◌, length, get_or, refl, sym, ap, subst, ◌∙◌, arith, eqb-true, true≢false}
 use Rattle.std.specs.Prelude.{not}
 use Rattle.std.specs.List.{All, filter}
-use Rattle.std.specs.Option.{option_to_list}
 use Rattle.std.proofs.lemmas.List.{length-map, get_or-map}
 use Rattle.std.proofs.lemmas.List.Elements.{All-head, All-tail, All-filter}
-use Rattle.std.proofs.lemmas.Bool.{and_parts, or_left, or_right}
+use Rattle.std.proofs.lemmas.Bool.{or_left, or_right}
 use Rattle.map_base.specs.declared.ids.SegId.{SegId}
 use Rattle.map_base.specs.declared.ids.LineId.{LineId}
 use Rattle.order_bound.specs.declared.pairs.Pair.{Pair}
@@ -14,10 +13,10 @@ use Rattle.pair_shares.specs.declared.next_lines.NextLine.{NextLine}
 use Rattle.pair_shares.specs.declared.pair_rows.PairHere.{PairHere}
 use Rattle.pair_shares.specs.declared.pair_terms.PairTerms.{PairTerms}
 use Rattle.pair_shares.specs.declared.segment_pairs.SegmentPairs.{SegmentPairs}
-use Rattle.pair_shares.specs.LineRows.{is_with, IsRowFor}
+use Rattle.pair_shares.specs.LineRows.{is_with}
 use Rattle.pair_shares.specs.Meeting.{pair_here, is_listed, AreOnce, AreBySegment, AreHere}
-use Rattle.pair_shares.specs.PairGroups.{Group, no_group, group_in, groups_in, meets}
-use Rattle.pair_shares.specs.PairKeys.{first_in, answer_after, fresh_lines, is_answered}
+use Rattle.pair_shares.specs.PairGroups.{Group, no_group, group_in, groups_in}
+use Rattle.pair_shares.specs.PairKeys.{first_in, answer_after, is_answered}
 use Rattle.pair_shares.specs.SegmentRows.{pairs_in}
 use Rattle.pair_shares.specs.Shares.{IsRow}
 use Rattle.pair_shares.proofs.KeptGroups.{group_here}
@@ -70,42 +69,38 @@ decided_with known a p h = by_known (first_in known p == 0) h
     by_known true g = by_lesser (a.0 == p.lesser.0) g
     by_known false g = absurd (true≢false (sym g))
 
--- The row for a line.
-
--- it has each pair that the line decides
-pub row_for_line : (n : NextLine) (s : SegId) (pairs : List PairTerms) (all row : List PairHere) → IsRow (is_answered n) (groups_in pairs) all → AreHere s pairs all → IsRowFor n all row → IsRow (is_answered n) (groups_in pairs) row
-row_for_line n s pairs all row ok are for_line = elim for_line [
-  | inl e ↦ subst (IsRow (is_answered n) (groups_in pairs)) (sym e) ok
-  | inr some ↦ subst (IsRow (is_answered n) (groups_in pairs)) (sym some.1) (record {
-    within = All-filter (is_with n.line) (λ (m : PairHere). m.place < length (groups_in pairs)) all ok.within;
-    once = once_some (is_with n.line) all ok.once;
-    covers = λ k below answered. listed_some (is_with n.line) all k (mine some.0 k below answered) (ok.covers k below answered);
-  })
-]
+-- it has each stale pair, where all of these pass the test
+pub some_of_row : (stale : Group → Bool) (p : PairHere → Bool) (s : SegId) (pairs : List PairTerms) (all row : List PairHere) → IsRow stale (groups_in pairs) all → AreHere s pairs all
+    → ((k : ℕ) (m : PairHere) → k < length (groups_in pairs) → m.pair ≡ (get_or (groups_in pairs) k no_group).0 → stale (get_or (groups_in pairs) k no_group) ≡ true → p m ≡ true) → row ≡ filter p all → IsRow stale (groups_in pairs) row
+some_of_row stale p s pairs all row ok are passes is = subst (IsRow stale (groups_in pairs)) (sym is) (record {
+  within = All-filter p (λ (m : PairHere). m.place < length (groups_in pairs)) all ok.within;
+  once = once_some p all ok.once;
+  covers = λ k below changed. listed_some p all k (mine k below changed) (ok.covers k below changed);
+})
   where
-    mine : n.last ≡ None → (k : ℕ) → k < length (groups_in pairs) → is_answered n (get_or (groups_in pairs) k no_group) ≡ true → All (λ (m : PairHere). m.place ≡ k → is_with n.line m ≡ true) all
-    mine alone k below answered i d within at =
-        let near : k < length pairs = omega (arith, below, length-map pairs group_in) in
-        of_pair (at_place pairs k near) near
+    mine : (k : ℕ) → k < length (groups_in pairs) → stale (get_or (groups_in pairs) k no_group) ≡ true → All (λ (m : PairHere). m.place ≡ k → p m ≡ true) all
+    mine k below changed i d within at = let near : k < length pairs = omega (arith, below, length-map pairs group_in) in of_pair (at_place pairs k near) near
       where
-        of_pair : (e : PairTerms) × (e ≡ get_or pairs k e) → k < length pairs → is_with n.line (get_or all i d) ≡ true
+        of_pair : (e : PairTerms) × (e ≡ get_or pairs k e) → k < length pairs → p (get_or all i d) ≡ true
         of_pair (e, here) near =
             let m : PairHere = get_or all i d in
             let is : m ≡ pair_here s m.place e = are i d within e (here ∙ ap (λ j. get_or pairs j e) (sym at)) in
-            let pair : m.pair ≡ e.pair = ap (λ (v : PairHere). v.pair) is in
             let group : get_or (groups_in pairs) k no_group ≡ group_in e = group_here pairs k e near here in
-            let both = and_parts (not (answer_after n.known.now (fresh_lines n) (get_or (groups_in pairs) k no_group).0 == 0)) (meets (get_or (groups_in pairs) k no_group).1 n.seg) answered in
-            let fresh : fresh_lines n ≡ n.line ∷ [] = ap (λ (o : Option LineId). n.line ∷ option_to_list o) alone in
-            let first : not (answer_after n.known.now (n.line ∷ []) e.pair == 0) ≡ true =
-            subst (λ (l : List LineId). not (answer_after n.known.now l e.pair == 0) ≡ true) fresh (subst (λ (g : Group). not (answer_after n.known.now (fresh_lines n) g.0 == 0) ≡ true) group both.0) in
-            subst (λ (p : Pair). (n.line.0 == p.lesser.0 || n.line.0 == p.greater.0) ≡ true) (sym pair) (decided_with n.known.now n.line e.pair first)
+            passes k m below (ap (λ (v : PairHere). v.pair) is ∙ ap (λ (g : Group). g.0) (sym group)) changed
 
--- and each of them is the pair at its place
-pub here_for_line : (n : NextLine) (s : SegId) (pairs : List PairTerms) (all row : List PairHere) → AreHere s pairs all → IsRowFor n all row → AreHere s pairs row
-here_for_line n s pairs all row are for_line = elim for_line [
-  | inl e ↦ subst (AreHere s pairs) (sym e) are
-  | inr some ↦ subst (AreHere s pairs) (sym some.1) (All-filter (is_with n.line) (λ (m : PairHere). (e : PairTerms) → e ≡ get_or pairs m.place e → m ≡ pair_here s m.place e) all are)
-]
+-- The row for a line.
+
+-- it has each pair that the line decides, where these are of the line
+pub row_of_own : (n : NextLine) (s : SegId) (pairs : List PairTerms) (all row : List PairHere) → IsRow (is_answered n) (groups_in pairs) all → AreHere s pairs all
+    → ((g : Group) (k : ℕ) → k < length (groups_in pairs) → g ≡ get_or (groups_in pairs) k no_group → is_answered n g ≡ true → (n.line.0 == g.0.lesser.0 || n.line.0 == g.0.greater.0) ≡ true)
+    → row ≡ filter (is_with n.line) all → IsRow (is_answered n) (groups_in pairs) row
+row_of_own n s pairs all row ok are own is =
+    some_of_row (is_answered n) (is_with n.line) s pairs all row ok are
+    (λ k m below pair answered. subst (λ (p : Pair). (n.line.0 == p.lesser.0 || n.line.0 == p.greater.0) ≡ true) (sym pair) (own (get_or (groups_in pairs) k no_group) k below refl answered)) is
+
+-- those that have a line are
+pub here_some : (p : PairHere → Bool) (s : SegId) (pairs : List PairTerms) (all row : List PairHere) → AreHere s pairs all → row ≡ filter p all → AreHere s pairs row
+here_some p s pairs all row are is = subst (AreHere s pairs) (sym is) (All-filter p (λ (m : PairHere). (e : PairTerms) → e ≡ get_or pairs m.place e → m ≡ pair_here s m.place e) all are)
 
 -- Rows as they lie in memory.
 

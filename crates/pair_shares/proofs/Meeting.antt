@@ -60,7 +60,7 @@ pub more_begins : (k : ℕ) (e : PairTerms) (rows : List (List PairHere)) → Ha
 more_begins k e rows = record { each = refl; on = λ s known. sym (append-nil (row_of rows s)) }
 
 -- segments that stand once are not among those before them
-once_before : (segs : List SegId) (i : ℕ) (d : SegId) → AreApartSegments segs → i < length segs → is_in (take i segs) (get_or segs i d) ≡ false
+pub once_before : (segs : List SegId) (i : ℕ) (d : SegId) → AreApartSegments segs → i < length segs → is_in (take i segs) (get_or segs i d) ≡ false
 once_before [] i d apart below = absurd (omega (arith, below))
 once_before (t ∷ segs) zero d apart below = refl
 once_before (t ∷ segs) (suc i) d apart below =

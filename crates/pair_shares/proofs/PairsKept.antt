@@ -1,7 +1,7 @@
 -- A pair of lines keeps its share where a placing changes nothing of it.
 use Rattle.std.proofs.Common.{◌≡◌, ℕ, ◌+◌, ◌-◌, ◌<◌, ◌≤◌, ◌==◌, not, Bool, true, false, cond, ◌||◌, ◌&&◌, List, [], ◌∷◌, ◌++◌, length, take, drop, set, get_or, Option, Some, None, refl, sym, ap, subst, ◌∙◌, inl, inr, arith, eqb-true, eq-eqb, true≢false, length-append, append_assoc, get_or-append-add, get_or-set_same}
 use Rattle.std.specs.Prelude.{sum_by, nat_lt}
-use Rattle.std.specs.List.{All, find}
+use Rattle.std.specs.List.{All, find, list_any}
 use Rattle.std.specs.Option.{option_to_list}
 use Rattle.std.proofs.Math.Path.{fun_ext}
 use Rattle.std.proofs.Math.Seq.{take-append_seam}
@@ -34,6 +34,17 @@ use Rattle.pair_shares.proofs.OwnUse.{not_own}
 use Rattle.order_model.specs.PartTerms.{is_in, is_of}
 
 -- What a pair sees of the placed lines of a segment.
+
+-- one of two lines is placed
+pub either_placed : (placed : List LineId) (p : Pair) → list_any (λ (x : LineId). x.0 == p.lesser.0 || x.0 == p.greater.0) placed ≡ (is_placed placed p.lesser || is_placed placed p.greater)
+either_placed [] p = refl
+either_placed (x ∷ placed) p = by_tests (x.0 == p.lesser.0) (x.0 == p.greater.0) (either_placed placed p)
+  where
+    by_tests : (a b : Bool) → list_any (λ (x : LineId). x.0 == p.lesser.0 || x.0 == p.greater.0) placed ≡ (is_placed placed p.lesser || is_placed placed p.greater)
+        → ((a || b) || list_any (λ (x : LineId). x.0 == p.lesser.0 || x.0 == p.greater.0) placed) ≡ ((a || is_placed placed p.lesser) || (b || is_placed placed p.greater))
+    by_tests true b rest = refl
+    by_tests false true rest = sym (or_right (is_placed placed p.lesser) true refl)
+    by_tests false false rest = rest
 
 -- both lists decide two lines or neither does, and they answer alike
 pub record AreAlike (a b : LineId) (one two : List LineId) : Type 0 where
@@ -202,7 +213,7 @@ alike_beside known rest a b h g = record {
 
 -- The last two lines are all that a placing places.
 
-at_end : (before after rest : List LineId) (k n : ℕ) (d : LineId) → after ≡ before ++ rest → length rest ≡ n + k → get_or after (length after - k) d ≡ get_or rest n d
+pub at_end : (before after rest : List LineId) (k n : ℕ) (d : LineId) → after ≡ before ++ rest → length rest ≡ n + k → get_or after (length after - k) d ≡ get_or rest n d
 at_end before after rest k n d e f =
     let place : length after - k ≡ length before + n = omega (arith, ap length e, length-append before rest, f) in
     ap (λ l. get_or l (length after - k) d) e ∙ (ap (λ i. get_or (before ++ rest) i d) place ∙ get_or-append-add before rest n d)

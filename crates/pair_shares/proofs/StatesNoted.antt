@@ -14,10 +14,10 @@ use Rattle.order_model.specs.Prefixes.{is_placed}
 use Rattle.order_model.specs.PartTerms.{is_in, is_of}
 use Rattle.order_bound.specs.declared.pairs.Pair.{Pair}
 use Rattle.pair_shares.specs.PairGroups.{Group, own_segments, no_group, share_of, IsGroup}
-use Rattle.pair_shares.specs.declared.share_notes.NotePlaces.{NotePlaces}
+use Rattle.pair_shares.specs.declared.share_notes.NoteSet.{NoteSet}
 use Rattle.pair_shares.specs.declared.share_notes.ShareNote.{ShareNote}
 use Rattle.pair_shares.specs.PairKeys.{first_in, key_on, key_of}
-use Rattle.pair_shares.specs.ShareNotes.{share_if, noted_at, told_first, noted_in, moved, with_note, IsTrueNote, AreTrueNotes}
+use Rattle.pair_shares.specs.ShareNotes.{no_pair, no_set, is_note_of, note_among, count_among, share_in, noted_in, set_with, with_note, IsTrueNote, IsTrueSet, AreTrueNotes}
 use Rattle.pair_shares.proofs.OwnUse.{own_inside, own_share}
 use Rattle.pair_shares.proofs.PairsKept.{AreAlike, AreSeenAlike, share_seen}
 
@@ -107,82 +107,70 @@ share_by_key segs one two part g fit e =
 -- Notes.
 
 -- a note more
-true_more : (segs : List (List LineId)) (part : List SegId) (groups : List Group) (notes fresh : List (Option ShareNote)) (at : ℕ) (n : ShareNote) → AreTrueNotes segs part groups notes → fresh ≡ set notes at (Some n)
-    → IsTrueNote segs part groups n → AreTrueNotes segs part groups fresh
-true_more segs part groups notes fresh at n all e this i m is = by_test (i == at) refl
+pub true_with : (segs : List (List LineId)) (part : List SegId) (groups : List Group) (notes fresh : List NoteSet) (at place key share : ℕ) → AreTrueNotes segs part groups notes → fresh ≡ with_note notes at place key share
+    → ((placed : List (List LineId)) → key_of placed part (get_or groups place no_group) ≡ key → share ≡ share_of segs part placed (get_or groups place no_group)) → AreTrueNotes segs part groups fresh
+true_with segs part groups notes fresh at place key share all e this i =
+    subst (λ l. IsTrueSet segs part groups (get_or l i no_set)) (sym e) (by_small (nat_lt place no_pair && nat_lt share no_pair))
   where
-    held : get_or (set notes at (Some n)) i None ≡ Some m
-    held = ap (λ l. get_or l i None) (sym e) ∙ is
+    more : NoteSet
+    more = set_with (get_or notes at no_set) (record { key = key; place = place; share = share })
 
-    some_same : (o : Option ShareNote) → o ≡ Some n → o ≡ Some m → IsTrueNote segs part groups m
-    some_same o a b = let same : n ≡ m = cc in subst (IsTrueNote segs part groups) same this
+    more_true : IsTrueSet segs part groups more
+    more_true = record { first = λ ne. this; second = (all at).first; third = (all at).second; fourth = (all at).third }
 
-    by_length : (b : Bool) → nat_lt at (length notes) ≡ b → i ≡ at → IsTrueNote segs part groups m
-    by_length true h same = some_same (get_or (set notes at (Some n)) i None) (ap (λ k. get_or (set notes at (Some n)) k None) same ∙ get_or-set_same notes at (Some n) None (ltb-true at (length notes) h)) held
-    by_length false h same = all i m (ap (λ l. get_or l i None) (sym (set_past notes at (Some n) (ltb-false at (length notes) h))) ∙ held)
+    by_length : (b : Bool) → nat_lt at (length notes) ≡ b → i ≡ at → IsTrueSet segs part groups (get_or (set notes at more) i no_set)
+    by_length true h same = subst (λ k. IsTrueSet segs part groups (get_or (set notes at more) k no_set)) (sym same) (subst (IsTrueSet segs part groups) (sym (get_or-set_same notes at more no_set (ltb-true at (length notes) h))) more_true)
+    by_length false h same = subst (λ l. IsTrueSet segs part groups (get_or l i no_set)) (sym (set_past notes at more (ltb-false at (length notes) h))) (all i)
 
-    by_test : (b : Bool) → (i == at) ≡ b → IsTrueNote segs part groups m
+    by_test : (b : Bool) → (i == at) ≡ b → IsTrueSet segs part groups (get_or (set notes at more) i no_set)
     by_test true same = by_length (nat_lt at (length notes)) refl (eqb-true i at same)
     by_test false other =
         let ne : i ≢ at = λ same. true≢false (sym (eq-eqb i at same) ∙ other) in
-        all i m (sym (get_or-set_other notes at i (Some n) None ne) ∙ held)
+        subst (IsTrueSet segs part groups) (sym (get_or-set_other notes at i more no_set ne)) (all i)
 
--- a note at another place, too
-true_moved : (segs : List (List LineId)) (part : List SegId) (groups : List Group) (notes : List (Option ShareNote)) (from to : ℕ) → AreTrueNotes segs part groups notes → AreTrueNotes segs part groups (moved notes from to)
-true_moved segs part groups notes from to all i m is = by_test (i == to) refl
-  where
-    by_length : (b : Bool) → nat_lt to (length notes) ≡ b → i ≡ to → IsTrueNote segs part groups m
-    by_length true h same = all from m (sym (get_or-set_same notes to (get_or notes from None) None (ltb-true to (length notes) h)) ∙ (ap (λ k. get_or (set notes to (get_or notes from None)) k None) (sym same) ∙ is))
-    by_length false h same = all i m (ap (λ l. get_or l i None) (sym (set_past notes to (get_or notes from None) (ltb-false to (length notes) h))) ∙ is)
-
-    by_test : (b : Bool) → (i == to) ≡ b → IsTrueNote segs part groups m
-    by_test true same = by_length (nat_lt to (length notes)) refl (eqb-true i to same)
-    by_test false other =
-        let ne : i ≢ to = λ same. true≢false (sym (eq-eqb i to same) ∙ other) in
-        all i m (sym (get_or-set_other notes to i (get_or notes from None) None ne) ∙ is)
-
--- one more at the first of some places
-pub true_with : (segs : List (List LineId)) (part : List SegId) (groups : List Group) (notes fresh : List (Option ShareNote)) (places : NotePlaces) (n : ShareNote) → AreTrueNotes segs part groups notes → fresh ≡ with_note notes places n
-    → IsTrueNote segs part groups n → AreTrueNotes segs part groups fresh
-true_with segs part groups notes fresh places n all e this =
-    let one : List (Option ShareNote) = moved notes places.third places.fourth in
-    let two : List (Option ShareNote) = moved one places.second places.third in
-    let three : List (Option ShareNote) = moved two places.first places.second in
-    true_more segs part groups three fresh places.first n
-    (true_moved segs part groups two places.first places.second (true_moved segs part groups one places.second places.third (true_moved segs part groups notes places.third places.fourth all))) e this
+    by_small : (b : Bool) → IsTrueSet segs part groups (get_or (cond b (set notes at more) notes) i no_set)
+    by_small true = by_test (i == at) refl
+    by_small false = all i
 
 -- what a note says is so
-noted_true : (segs placed : List (List LineId)) (part : List SegId) (groups : List Group) (notes : List (Option ShareNote)) (at place key share : ℕ) → AreTrueNotes segs part groups notes
-    → noted_at notes at place key ≡ Some share → key ≡ key_of placed part (get_or groups place no_group) → share ≡ share_of segs part placed (get_or groups place no_group)
-noted_true segs placed part groups notes at place key share all says is = by_note (get_or notes at None) refl says
+pub noted_in_true : (segs placed : List (List LineId)) (part : List SegId) (groups : List Group) (notes : List NoteSet) (at place key share : ℕ) → AreTrueNotes segs part groups notes
+    → noted_in notes at place key ≡ Some share → key ≡ key_of placed part (get_or groups place no_group) → share ≡ share_of segs part placed (get_or groups place no_group)
+noted_in_true segs placed part groups notes at place key share all says is = by_place (nat_lt place no_pair) refl says
   where
-    by_note : (o : Option ShareNote) → get_or notes at None ≡ o → share_if place key o ≡ Some share → share ≡ share_of segs part placed (get_or groups place no_group)
-    by_note None e h = absurd (cc)
-    by_note (Some n) e h = by_test (n.place == place && n.key == key) refl h
-      where
-        by_test : (b : Bool) → (n.place == place && n.key == key) ≡ b → cond b (Some n.share) None ≡ Some share → share ≡ share_of segs part placed (get_or groups place no_group)
-        by_test true t h =
-            let parts = and_parts (n.place == place) (n.key == key) t in
-            let here : n.place ≡ place = eqb-true n.place place parts.0 in
-            let keyed : n.key ≡ key = eqb-true n.key key parts.1 in
-            let told : n.share ≡ share = cc in
-            sym told ∙ (all at n e placed (ap (λ k. key_of placed part (get_or groups k no_group)) here ∙ (sym is ∙ sym keyed)) ∙ ap (λ k. share_of segs part placed (get_or groups k no_group)) here)
-        by_test false t h = absurd (cc)
+    of_note : (n : ShareNote) → nat_lt place no_pair ≡ true → IsTrueNote segs part groups n → is_note_of place key n ≡ true → n.share ≡ share → share ≡ share_of segs part placed (get_or groups place no_group)
+    of_note n small so t told =
+        let parts = and_parts (n.key == key) (n.place == place) t in
+        let keyed : n.key ≡ key = eqb-true n.key key parts.0 in
+        let here : n.place ≡ place = eqb-true n.place place parts.1 in
+        let below = ltb-true place no_pair small in
+        let ne : n.place ≢ no_pair = λ e. omega (arith, below, here, e) in
+        sym told ∙ (so ne placed (ap (λ k. key_of placed part (get_or groups k no_group)) here ∙ (sym is ∙ sym keyed)) ∙ ap (λ k. share_of segs part placed (get_or groups k no_group)) here)
 
--- so is what one of some says
-pub noted_in_true : (segs placed : List (List LineId)) (part : List SegId) (groups : List Group) (notes : List (Option ShareNote)) (places : NotePlaces) (place key share : ℕ) → AreTrueNotes segs part groups notes
-    → noted_in notes places place key ≡ Some share → key ≡ key_of placed part (get_or groups place no_group) → share ≡ share_of segs part placed (get_or groups place no_group)
-noted_in_true segs placed part groups notes places place key share all says is =
-    by_first (at places.first) (told_first (at places.second) (told_first (at places.third) (at places.fourth))) (told places.first)
-    (λ g. by_first (at places.second) (told_first (at places.third) (at places.fourth)) (told places.second) (λ h. by_first (at places.third) (at places.fourth) (told places.third) (told places.fourth) h) g) says
-  where
-    at : ℕ → Option ℕ
-    at k = noted_at notes k place key
+    -- where one is, the chosen one is
+    chosen : (s : NoteSet) (a b c d : Bool) → is_note_of place key s.first ≡ a → is_note_of place key s.second ≡ b → is_note_of place key s.third ≡ c → is_note_of place key s.fourth ≡ d
+        → (((cond a 1 0 + cond b 1 0) + (cond c 1 0 + cond d 1 0)) == 0) ≡ false → is_note_of place key (cond a s.first (cond b s.second (cond c s.third s.fourth))) ≡ true
+    chosen s true b c d e f g h some = e
+    chosen s false true c d e f g h some = f
+    chosen s false false true d e f g h some = g
+    chosen s false false false true e f g h some = h
+    chosen s false false false false e f g h some = absurd (true≢false some)
 
-    told : (k : ℕ) → at k ≡ Some share → share ≡ share_of segs part placed (get_or groups place no_group)
-    told k h = noted_true segs placed part groups notes k place key share all h is
+    among : (s : NoteSet) (a b c : Bool) → IsTrueSet segs part groups s → IsTrueNote segs part groups (cond a s.first (cond b s.second (cond c s.third s.fourth)))
+    among s true b c so = so.first
+    among s false true c so = so.second
+    among s false false true so = so.third
+    among s false false false so = so.fourth
 
-    by_first : (o other : Option ℕ) → (o ≡ Some share → share ≡ share_of segs part placed (get_or groups place no_group)) → (other ≡ Some share → share ≡ share_of segs part placed (get_or groups place no_group))
-        → told_first o other ≡ Some share → share ≡ share_of segs part placed (get_or groups place no_group)
-    by_first None other one more h = more h
-    by_first (Some v) other one more h = one h
+    by_count : (s : NoteSet) (b : Bool) → nat_lt place no_pair ≡ true → IsTrueSet segs part groups s → (count_among place key s == 0) ≡ b → cond b None (Some (note_among place key s).share) ≡ Some share → share ≡ share_of segs part placed (get_or groups place no_group)
+    by_count s true small so e h = absurd (cc)
+    by_count s false small so e h =
+        let told : (note_among place key s).share ≡ share = cc in
+        of_note (note_among place key s) small (among s (is_note_of place key s.first) (is_note_of place key s.second) (is_note_of place key s.third) so)
+        (chosen s (is_note_of place key s.first) (is_note_of place key s.second) (is_note_of place key s.third) (is_note_of place key s.fourth) refl refl refl refl e) told
+
+    of_set : (s : NoteSet) → nat_lt place no_pair ≡ true → IsTrueSet segs part groups s → share_in place key s ≡ Some share → share ≡ share_of segs part placed (get_or groups place no_group)
+    of_set s small so h = by_count s (count_among place key s == 0) small so refl h
+
+    by_place : (b : Bool) → nat_lt place no_pair ≡ b → cond b (share_in place key (get_or notes at no_set)) None ≡ Some share → share ≡ share_of segs part placed (get_or groups place no_group)
+    by_place true small h = of_set (get_or notes at no_set) small (all at) h
+    by_place false small h = absurd (cc)

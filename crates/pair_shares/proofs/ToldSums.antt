@@ -1,5 +1,5 @@
 -- What the pairs add once a line is placed next, told without placing it.
-use Rattle.std.proofs.Common.{◌≡◌, ℕ, ◌+◌, ◌*◌, ◌<◌, ◌==◌, not, Bool, true, false, ◌&&◌, List, [], ◌++◌, length, get_or, Option, Some, None, refl, sym, ap, subst, ◌∙◌, inl, inr, arith, eqb-true, true≢false, get_or-set_same, get_or-set_other, eq-eqb, ◌≢◌, ◌≤◌, take}
+use Rattle.std.proofs.Common.{◌≡◌, ℕ, ◌+◌, ◌<◌, ◌==◌, not, Bool, true, false, ◌&&◌, List, [], ◌++◌, length, get_or, Option, Some, None, refl, sym, ap, subst, ◌∙◌, inl, inr, arith, eqb-true, true≢false, get_or-set_same, get_or-set_other, eq-eqb, ◌≢◌, ◌≤◌, take}
 use Rattle.std.specs.List.{All}
 use Rattle.std.specs.Option.{IfSome}
 use Rattle.std.specs.Prelude.{nat_lt}
@@ -16,19 +16,17 @@ use Rattle.pair_shares.specs.declared.next_lines.NextLine.{NextLine}
 use Rattle.order_bound.specs.declared.pairs.Pair.{Pair}
 use Rattle.pair_shares.specs.declared.pair_rows.PairHere.{PairHere}
 use Rattle.pair_shares.specs.declared.pair_terms.PairTerms.{PairTerms}
-use Rattle.pair_shares.specs.declared.share_notes.NotePlaces.{NotePlaces}
-use Rattle.pair_shares.specs.declared.share_notes.ShareNote.{ShareNote}
+use Rattle.pair_shares.specs.declared.share_notes.NoteSet.{NoteSet}
 use Rattle.pair_shares.specs.Meeting.{pair_here, AreHere}
 use Rattle.pair_shares.specs.declared.told.PairState.{PairState}
-use Rattle.pair_shares.specs.PairStates.{IsToldFrom, IsRaisedAlike, AreStatesOf}
-use Rattle.pair_shares.specs.ShareNotes.{noted_in, AreTrueNotes}
+use Rattle.pair_shares.specs.PairStates.{IsToldFrom, AreStatesOf}
+use Rattle.pair_shares.specs.ShareNotes.{noted_in}
 use Rattle.pair_shares.specs.PairGroups.{Group, KnowsOwn, no_group, group_in, groups_in, meets, own_segments, share_of, IsGroup}
 use Rattle.pair_shares.specs.PairKeys.{first_in, key_of, weight_on, answer_after, fresh_lines, is_answered, IsKeyWith, AreKeys, IsNextLine}
 use Rattle.pair_shares.proofs.KeptGroups.{group_here}
 use Rattle.pair_shares.proofs.Meeting.{listed_each}
-use Rattle.pair_shares.proofs.KeysKept.{key_alike, key_moved, first_after}
+use Rattle.pair_shares.proofs.KeysKept.{key_alike, key_step, first_after}
 use Rattle.pair_shares.proofs.OwnSegments.{SameElsewhere, share_kept}
-use Rattle.pair_shares.proofs.OwnUse.{own_apart}
 use Rattle.pair_shares.proofs.Renewed.{moved_on, at_place}
 use Rattle.pair_shares.proofs.StatesNoted.{share_by_key, noted_in_true}
 
@@ -63,11 +61,8 @@ share_told segs placed part n g ok fit none = elim (and_cases (not (answer_after
 key_from : (segs placed : List (List LineId)) (part : List SegId) (n : NextLine) (g : Group) (key answer : ℕ) (held weight : Option ℕ) → AreApartSegments part → IsNextLine segs placed n
     → IfSome held (λ k. k ≡ key_of placed part g) → answer ≡ answer_after n.known.now (fresh_lines n) g.0 → weight ≡ weight_on (own_segments part g.1) n.seg
     → IsKeyWith held weight answer key → key ≡ key_of (placed_more segs placed n.seg n.line) part g
-key_from segs placed part n g key answer None weight apart ok is e1 e2 has = absurd has
-key_from segs placed part n g key answer (Some old) None apart ok is e1 e2 has = absurd has
-key_from segs placed part n g key answer (Some old) (Some x) apart ok is e1 e2 has =
-    let moved = key_moved g.0 placed (placed_more segs placed n.seg n.line) n.seg n.known.now (fresh_lines n) (own_segments part g.1) x (own_apart part g.1 (own_segments part g.1) refl apart) (elsewhere_same segs placed n) (sym ok.known_is) (lines_after segs placed n ok) (sym e2) in
-    has ∙ (ap (λ m. m + answer * x) is ∙ (ap (λ m. key_of placed part g + m * x) e1 ∙ sym moved))
+key_from segs placed part n g key answer held weight apart ok is e1 e2 has =
+    key_step placed (placed_more segs placed n.seg n.line) part n.seg n.known.now (fresh_lines n) g key answer held weight apart (elsewhere_same segs placed n) (sym ok.known_is) (lines_after segs placed n ok) is e1 e2 has
 
 pub key_told : (segs placed : List (List LineId)) (part : List SegId) (n : NextLine) (groups : List Group) (keys : List (Option ℕ)) (place key answer : ℕ) (weight : Option ℕ) → AreApartSegments part → IsNextLine segs placed n
     → AreKeys placed part groups keys → place < length groups → answer ≡ answer_after n.known.now (fresh_lines n) (get_or groups place no_group).0 → weight ≡ weight_on (own_segments part (get_or groups place no_group).1) n.seg
@@ -101,14 +96,13 @@ here_told part s pairs row i d near below here own = by_entry (at_place pairs (g
 pub unanswered : (n : NextLine) (g : Group) → answer_after n.known.now (fresh_lines n) g.0 ≡ 0 → is_answered n g ≡ false
 unanswered n g e = ap (λ m. not (m == 0) && meets g.1 n.seg) e
 
--- the share of a pair once the line is placed, as it is noted
-pub share_noted : (segs placed : List (List LineId)) (part : List SegId) (n : NextLine) (groups : List Group) (keys : List (Option ℕ)) (notes : List (Option ShareNote)) (place key answer share : ℕ) (places : NotePlaces) (pair : Pair) (held weight : Option ℕ)
-    → AreApartSegments part → IsNextLine segs placed n → AreKeys placed part groups keys → AreTrueNotes segs part groups notes → place < length groups → answer ≡ answer_after n.known.now (fresh_lines n) pair
+-- the key of a pair once the line is placed, with its answer
+pub key_answered : (segs placed : List (List LineId)) (part : List SegId) (n : NextLine) (groups : List Group) (keys : List (Option ℕ)) (place key answer : ℕ) (pair : Pair) (held weight : Option ℕ)
+    → AreApartSegments part → IsNextLine segs placed n → AreKeys placed part groups keys → place < length groups → answer ≡ answer_after n.known.now (fresh_lines n) pair
     → (pair ≡ (get_or groups place no_group).0) × (weight ≡ weight_on (own_segments part (get_or groups place no_group).1) n.seg) → held ≡ get_or keys place None → IsKeyWith held weight answer key
-    → Some share ≡ noted_in notes places place key → share ≡ share_of segs part (placed_more segs placed n.seg n.line) (get_or groups place no_group)
-share_noted segs placed part n groups keys notes place key answer share places pair held weight apart ok are all below e1 here e2 has says =
-    noted_in_true segs (placed_more segs placed n.seg n.line) part groups notes places place key share all (sym says)
-    (key_told segs placed part n groups keys place key answer weight apart ok are below (e1 ∙ ap (answer_after n.known.now (fresh_lines n)) here.0) here.1 (subst (λ o. IsKeyWith o weight answer key) e2 has))
+    → key ≡ key_of (placed_more segs placed n.seg n.line) part (get_or groups place no_group)
+key_answered segs placed part n groups keys place key answer pair held weight apart ok are below e1 here e2 has =
+    key_told segs placed part n groups keys place key answer weight apart ok are below (e1 ∙ ap (answer_after n.known.now (fresh_lines n)) here.0) here.1 (subst (λ o. IsKeyWith o weight answer key) e2 has)
 
 -- a sum that is told is another that is the same
 pub told_is : (told : Option ℕ) (v w : ℕ) → IfSome told (λ sum. sum ≡ v) → v ≡ w → IfSome told (λ sum. sum ≡ w)
@@ -117,35 +111,28 @@ told_is told v w h e = subst (λ u. IfSome told (λ sum. sum ≡ u)) e h
 -- Told from a state.
 
 -- a pair that the line does not decide
-pub state_kept : (n : NextLine) (here : PairHere) (state : PairState) (notes : List (Option ShareNote)) → answer_after n.known.now (fresh_lines n) here.pair ≡ 0 → IsToldFrom n here state notes (Some state.share)
+pub state_kept : (n : NextLine) (here : PairHere) (state : PairState) (notes : List NoteSet) → answer_after n.known.now (fresh_lines n) here.pair ≡ 0 → IsToldFrom n here state notes (Some state.share)
 state_kept n here state notes none segs placed part groups apart fit all ok is =
     let g : Group = get_or groups here.place no_group in
     is.share_is ∙ sym (share_told segs placed part n g ok (fit here.place no_group is.within) (unanswered n g (ap (answer_after n.known.now (fresh_lines n)) (sym is.pair_is) ∙ none)))
 
 -- nothing is told
-pub none_told : (n : NextLine) (here : PairHere) (state : PairState) (notes : List (Option ShareNote)) → IsToldFrom n here state notes None
+pub none_told : (n : NextLine) (here : PairHere) (state : PairState) (notes : List NoteSet) → IsToldFrom n here state notes None
 none_told n here state notes segs placed part groups apart fit all ok is = tt
 
 -- a pair whose next state is noted
-pub state_noted : (n : NextLine) (here : PairHere) (state : PairState) (notes : List (Option ShareNote)) (answer key : ℕ) (places : NotePlaces) (told : Option ℕ) → answer ≡ answer_after n.known.now (fresh_lines n) here.pair
-    → IsKeyWith state.key here.weight answer key → told ≡ noted_in notes places here.place key → IsToldFrom n here state notes told
-state_noted n here state notes answer key places told e has says segs placed part groups apart fit all ok is = by_told told says
+pub state_noted : (n : NextLine) (here : PairHere) (state : PairState) (notes : List NoteSet) (answer key at : ℕ) (told : Option ℕ) → answer ≡ answer_after n.known.now (fresh_lines n) here.pair
+    → IsKeyWith state.key here.weight answer key → told ≡ noted_in notes at here.place key → IsToldFrom n here state notes told
+state_noted n here state notes answer key at told e has says segs placed part groups apart fit all ok is = by_told told says
   where
     g : Group
     g = get_or groups here.place no_group
 
-    by_told : (o : Option ℕ) → o ≡ noted_in notes places here.place key → IfSome o (λ share. share ≡ share_of segs part (placed_more segs placed n.seg n.line) g)
+    by_told : (o : Option ℕ) → o ≡ noted_in notes at here.place key → IfSome o (λ share. share ≡ share_of segs part (placed_more segs placed n.seg n.line) g)
     by_told None h = tt
     by_told (Some share) h =
-        noted_in_true segs (placed_more segs placed n.seg n.line) part groups notes places here.place key share all (sym h)
+        noted_in_true segs (placed_more segs placed n.seg n.line) part groups notes at here.place key share all (sym h)
         (key_from segs placed part n g key answer state.key here.weight apart ok is.keyed (e ∙ ap (answer_after n.known.now (fresh_lines n)) is.pair_is) is.weight_is has)
-
--- both are told, and rise alike
-pub both_raised : (n : NextLine) (here : PairHere) (one two : PairState) (notes : List (Option ShareNote)) (v w : ℕ) → IsToldFrom n here one notes (Some v) → IsToldFrom n here two notes (Some w) → w + one.share ≡ two.share + v → IsRaisedAlike n here one two notes
-both_raised n here one two notes v w first second level segs before after part groups apart fit all ok1 ok2 is1 is2 =
-    let a = first segs before part groups apart fit all ok1 is1 in
-    let b = second segs after part groups apart fit all ok2 is2 in
-    omega (arith, a, b, is1.share_is, is2.share_is, level)
 
 -- States are noted, one after the other.
 

@@ -1,9 +1,13 @@
 pub mod PairGroups
 pub mod Changes
 pub mod PairKeys
+pub mod PlaceTables
+pub mod PairLooks
 pub mod Meeting
 pub mod ShareNotes
 pub mod Shares
 pub mod LineRows
+pub mod ChangedRows
 pub mod SegmentRows
 pub mod PairStates
+pub mod KeySteps

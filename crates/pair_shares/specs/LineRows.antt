@@ -1,9 +1,8 @@
 -- The pairs of a segment that have a line.
-use Rattle.std.specs.Prelude.{◌≡◌, ◌==◌, Bool, ◌||◌, List, filter, All, None, ◌⊎◌}
+use Rattle.std.specs.Prelude.{◌≡◌, ◌==◌, Bool, ◌||◌, List, filter, All}
 use Rattle.map_base.specs.declared.ids.LineId.{LineId}
-use Rattle.pair_shares.specs.declared.next_lines.NextLine.{NextLine}
 use Rattle.pair_shares.specs.declared.pair_rows.PairHere.{PairHere}
-use Rattle.pair_shares.specs.declared.segment_pairs.LinePairs.{LinePairs}
+use Rattle.pair_shares.specs.declared.line_pairs.LinePairs.{LinePairs}
 
 -- the line is one of the pair's
 abbrev pub is_with : LineId → PairHere → Bool
@@ -12,7 +11,3 @@ is_with a n = a.0 == n.pair.lesser.0 || a.0 == n.pair.greater.0
 -- each list has the pairs of a row that have its line
 abbrev pub AreOfLines : List PairHere → List LinePairs → Type 0
 AreOfLines row list = All (λ (e : LinePairs). e.pairs.items ≡ filter (is_with e.line) row) list
-
--- all pairs of a row, or those of a line that is placed alone
-abbrev pub IsRowFor : NextLine → List PairHere → List PairHere → Type 0
-IsRowFor n all row = (row ≡ all) ⊎ ((n.last ≡ None) × (row ≡ filter (is_with n.line) all))

@@ -6,7 +6,7 @@ use Rattle.order_model.specs.Completions.{placed_more}
 use Rattle.order_bound.specs.Pairs.{AreApartSegments}
 use Rattle.pair_shares.specs.declared.next_lines.NextLine.{NextLine}
 use Rattle.pair_shares.specs.declared.pair_rows.PairHere.{PairHere}
-use Rattle.pair_shares.specs.declared.share_notes.ShareNote.{ShareNote}
+use Rattle.pair_shares.specs.declared.share_notes.NoteSet.{NoteSet}
 use Rattle.pair_shares.specs.declared.told.PairState.{PairState}
 use Rattle.pair_shares.specs.PairGroups.{Group, no_group, own_segments, share_of, IsGroup}
 use Rattle.pair_shares.specs.PairKeys.{key_of, weight_on, IsNextLine}
@@ -22,19 +22,11 @@ pub record IsPairState (segs : List (List LineId)) (part : List SegId) (groups :
   pub share_is : state.share ≡ share_of segs part placed (slice_index_or groups here.place no_group)
 
 -- what is told from a state is what the pair adds once the line is placed, under all placed lines under which it has the state
-abbrev pub IsToldFrom : NextLine → PairHere → PairState → List (Option ShareNote) → Option ℕ → Type 0
+abbrev pub IsToldFrom : NextLine → PairHere → PairState → List NoteSet → Option ℕ → Type 0
 IsToldFrom n here state notes told =
     (segs placed : List (List LineId)) (part : List SegId) (groups : List Group) → AreApartSegments part → All (IsGroup segs part) groups → AreTrueNotes segs part groups notes → IsNextLine segs placed n
     → IsPairState segs part groups n.seg here placed state
     → IfSome told (λ share. share ≡ share_of segs part (placed_more segs placed n.seg n.line) (slice_index_or groups here.place no_group))
-
--- the placing of the line raises what the pair adds by as much from one state as from the other
-abbrev pub IsRaisedAlike : NextLine → PairHere → PairState → PairState → List (Option ShareNote) → Type 0
-IsRaisedAlike n here one two notes =
-    (segs before after : List (List LineId)) (part : List SegId) (groups : List Group) → AreApartSegments part → All (IsGroup segs part) groups → AreTrueNotes segs part groups notes → IsNextLine segs before n → IsNextLine segs after n
-    → IsPairState segs part groups n.seg here before one → IsPairState segs part groups n.seg here after two
-    → share_of segs part (placed_more segs after n.seg n.line) (slice_index_or groups here.place no_group) + share_of segs part before (slice_index_or groups here.place no_group)
-    ≡ share_of segs part after (slice_index_or groups here.place no_group) + share_of segs part (placed_more segs before n.seg n.line) (slice_index_or groups here.place no_group)
 
 -- the states of the pairs of a row are noted, where they are, as these keys and shares tell them
 abbrev pub AreStatesOf : List PairHere → List (Option ℕ) → List ℕ → List (Option PairState) → Type 0

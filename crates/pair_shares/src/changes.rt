@@ -1,13 +1,11 @@
 //! What a placing changes on a segment: the pairs of lines that are decided there with it, and not without.
 
-ghost use Rattle.std.specs.Prelude.{◌≡◌, ◌<◌, ◌≤◌, ◌-◌, ◌&&◌, ◌||◌, length, take, slice_index_or};
+ghost use Rattle.std.specs.Prelude.{◌≡◌, ◌<◌, ◌≤◌, ◌-◌, ◌==◌, ◌&&◌, ◌||◌, length, take, slice_index_or};
 ghost use Rattle.order_model.specs.Places.{has_line};
 ghost use Rattle.order_model.specs.Problems.{lines_on};
-ghost use Rattle.order_model.specs.PartTerms.{is_in};
 ghost use Rattle.order_model.specs.Prefixes.{IsPrefixOf};
 ghost use Rattle.pair_shares.specs.Changes.{is_among_last, has_among_last, is_known, is_new_pair};
 
-use crate::pair_terms::{PairTerms, is_in};
 use map_base::{LineId, SegId};
 use order_bound::Pair;
 use order_model::{Prefix, Problem};
@@ -76,16 +74,6 @@ pub fn change_on<'a>(
     }
 }
 
-/// Whether a pair is decided on the segment with the placing and not without, and has a term there.
-pub fn is_changed(change: &Change, entry: &PairTerms) -> bool
-    ensures { result ≡ is_new_pair change.now entry.now.pair && is_in entry.now.segs.items change.now.seg }
-{
-    if !is_new_pair(change, entry.pair) {
-        return false;
-    }
-    is_in(entry.segs.as_slice(), change.seg)
-}
-
 /// Whether a pair is decided with the placing and not without.
 pub fn is_new_pair(change: &Change, pair: Pair) -> bool
     ensures { result ≡ is_new_pair change.now pair }
@@ -120,10 +108,22 @@ fn is_among_last(change: &Change, line: LineId) -> bool
 fn is_known(change: &Change, pair: Pair) -> bool
     ensures { result ≡ is_known change.now pair }
 {
-    if has_line(change.known, pair.lesser) {
+    for line in change.known {
+        if is_of(*line, pair) {
+            return true;
+        }
+    }
+    false
+}
+
+/// Whether a line is one of a pair's.
+fn is_of(line: LineId, pair: Pair) -> bool
+    ensures { result ≡ (line.0 == pair.lesser.0 || line.0 == pair.greater.0) }
+{
+    if line.0 == pair.lesser.0 {
         return true;
     }
-    has_line(change.known, pair.greater)
+    line.0 == pair.greater.0
 }
 
 /// Whether a line is one of these.

@@ -5,9 +5,11 @@ ghost use Rattle.std.specs.Option.{option_to_list};
 ghost use Rattle.map_base.specs.declared.ids.SegId.{SegId};
 ghost use Rattle.map_base.specs.declared.ids.LineId.{LineId};
 ghost use Rattle.order_model.specs.Prefixes.{IsPrefixOf};
-ghost use Rattle.pair_shares.specs.PairGroups.{KnowsOwn, groups_in};
-ghost use Rattle.pair_shares.specs.PairKeys.{first_in, key_on, thrice, answer_after, fresh_lines, IsKeyWith, AreKeys};
+ghost use Rattle.pair_shares.specs.KeySteps.{last_answer};
+ghost use Rattle.pair_shares.specs.PairGroups.{KnowsOwn, no_group, groups_in};
+ghost use Rattle.pair_shares.specs.PairKeys.{first_in, key_on, key_of, thrice, answer_after, fresh_lines, IsKeyWith, AreKeys};
 
+use crate::changes::Change;
 use crate::next_lines::NextLine;
 use crate::pair_terms::PairTerms;
 use map_base::{LineId, NoMemory, SegId};
@@ -101,8 +103,16 @@ fn first_fresh(line: LineId, last: Option<LineId>, pair: Pair) -> u64
     }
 }
 
+/// Which line of a pair stands first among the last two that are placed with a placing.
+pub fn last_answer(change: &Change, pair: Pair) -> u64
+    ensures value { result ≡ last_answer change.now pair }
+    ensures small { result ≤ 2 }
+{
+    first_fresh(change.last.1, Some(change.last.0), pair)
+}
+
 /// Which line of a pair this is: 1 for the lesser, 2 for the greater, 0 for neither.
-fn answer_of(line: LineId, pair: Pair) -> u64
+pub fn answer_of(line: LineId, pair: Pair) -> u64
     ensures value { result ≡ first_in (line ∷ []) pair }
     ensures small { result ≤ 2 }
 {
@@ -153,4 +163,42 @@ pub fn keys_of(
         keys.push(key_on(problem, prefix, entry.pair, entry.segs.as_slice()))?;
     }
     Ok(keys)
+}
+
+/// The state of the pair at a place as a number, if there is room for it.
+fn key_here(
+    problem: &Problem,
+    prefix: &Prefix,
+    part: &[SegId],
+    pairs: &[PairTerms],
+    place: usize,
+) -> Option<u64>
+    requires fits { IsPrefixOf problem.now.segs prefix.now }
+    requires part { All (λ (s : SegId). s.0 < length problem.now.segs) part.now }
+    requires own { All (KnowsOwn part.now) pairs.now }
+    requires within { place < length pairs.now }
+    ensures { IfSome result (λ key. key ≡ key_of prefix.now.placed part.now (slice_index_or (groups_in pairs.now) place no_group)) }
+{
+    let entry = &pairs[place];
+    key_on(problem, prefix, entry.pair, entry.segs.as_slice())
+}
+
+/// Writes the keys of all pairs anew.
+pub fn fill_keys(
+    problem: &Problem,
+    prefix: &Prefix,
+    part: &[SegId],
+    pairs: &[PairTerms],
+    keys: &mut Vec<Option<u64>>,
+)
+    requires fits { IsPrefixOf problem.now.segs prefix.now }
+    requires part { All (λ (s : SegId). s.0 < length problem.now.segs) part.now }
+    requires own { All (KnowsOwn part.now) pairs.now }
+    requires each { length keys.old.items ≡ length (groups_in pairs.now) }
+    ensures { AreKeys prefix.now.placed part.now (groups_in pairs.now) keys.new.items }
+{
+    for place in 0..pairs.len() {
+        let key = key_here(problem, prefix, part, pairs, place);
+        put_key(keys, place, key);
+    }
 }

@@ -24,6 +24,15 @@ pub struct PairTerms {
     pub terms: Vec<(u32, Term)>,
     /// The segments of the part on which its terms have ends.
     pub segs: Vec<SegId>,
+    /// For each of these where its two lines are thought to stand there.
+    pub places: Vec<PairPlaces>,
+}
+
+/// Where the two lines of a pair are thought to stand among the lines of a segment: to be tested where it is used.
+#[derive(Debug, Clone, Copy)]
+pub struct PairPlaces {
+    pub lesser: usize,
+    pub greater: usize,
 }
 
 /// The pairs of lines of these terms of a problem, in the order in which they stand first, each with its terms.
@@ -45,9 +54,10 @@ pub fn pairs_of(
     Ok(pairs)
 }
 
-/// Finds for each pair the segments of a part on which its terms have ends.
+/// Finds for each pair the segments of a part of a problem on which its terms have ends.
 pub fn find_segments(
     alloc: Global,
+    problem: &Problem,
     part: &[SegId],
     pairs: &mut Vec<PairTerms>,
 ) -> Result<(), NoMemory>
@@ -55,7 +65,7 @@ pub fn find_segments(
     ensures own { OnOk result (All (KnowsOwn part.now) pairs.new.items) }
 {
     for place in 0..pairs.len() {
-        find_at(alloc, part, pairs, place)?;
+        find_at(alloc, problem, part, pairs, place)?;
     }
     Ok(())
 }
@@ -63,6 +73,7 @@ pub fn find_segments(
 /// Finds the segments of the pair at a place.
 fn find_at(
     alloc: Global,
+    problem: &Problem,
     part: &[SegId],
     pairs: &mut Vec<PairTerms>,
     place: usize,
@@ -73,9 +84,46 @@ fn find_at(
     ensures own { OnOk result (AllWithin (KnowsOwn part.now) pairs.old.items 0 place → AllWithin (KnowsOwn part.now) pairs.new.items 0 (place + 1)) }
 {
     let segs = own_segments(alloc, part, pairs[place].terms.as_slice())?;
+    let places = places_on(alloc, problem, pairs[place].pair, segs.as_slice())?;
     let entry = &mut pairs[place];
     entry.segs = segs;
+    entry.places = places;
     Ok(())
+}
+
+/// Where the lines of a pair stand on these segments of a problem.
+fn places_on(
+    alloc: Global,
+    problem: &Problem,
+    pair: Pair,
+    segs: &[SegId],
+) -> Result<Vec<PairPlaces>, NoMemory> {
+    let mut places = Vec::with_capacity(alloc, segs.len())?;
+    for seg in segs {
+        places.push(PairPlaces {
+            lesser: place_on(problem, *seg, pair.lesser),
+            greater: place_on(problem, *seg, pair.greater),
+        })?;
+    }
+    Ok(places)
+}
+
+/// The place of a line among those of a segment of a problem, if it is one of them.
+fn place_on(problem: &Problem, seg: SegId, line: LineId) -> usize {
+    match problem.segs().get(seg.0 as usize) {
+        Some(lines) => first_place(lines.as_slice(), line),
+        None => 0,
+    }
+}
+
+/// The first place at which a line stands among these, if it is one of them.
+fn first_place(lines: &[LineId], line: LineId) -> usize {
+    for (at, own) in lines.iter().enumerate() {
+        if own.0 == line.0 {
+            return at;
+        }
+    }
+    0
 }
 
 /// The segments of a part on which one of these terms has an end.
@@ -177,6 +225,7 @@ fn note(
             pair,
             terms: Vec::new(alloc),
             segs: Vec::new(alloc),
+            places: Vec::new(alloc),
         })?;
     }
     Ok(place)

@@ -1,15 +1,16 @@
 //! Listing the pairs of a part by segment, and those of a segment by line.
 
-ghost use Rattle.std.specs.Prelude.{◌≡◌, length, filter, All, IfOk, OnOk};
-ghost use Rattle.pair_shares.specs.LineRows.{is_with, AreOfLines, IsRowFor};
+ghost use Rattle.std.specs.Prelude.{◌≡◌, length, filter, All, IfOk, IfSome, OnOk};
+ghost use Rattle.pair_shares.specs.LineRows.{is_with, AreOfLines};
 ghost use Rattle.pair_shares.specs.Meeting.{rows_in, AreBySegment};
 ghost use Rattle.pair_shares.specs.PairGroups.{HasOwn};
 ghost use Rattle.pair_shares.specs.SegmentRows.{pairs_in};
 
-use crate::next_lines::NextLine;
+use crate::line_pairs::LinePairs;
+use crate::pair_looks::looks_of;
 use crate::pair_rows::{PairHere, rows_by_segment};
 use crate::pair_terms::PairTerms;
-use crate::segment_pairs::{LinePairs, SegmentPairs};
+use crate::segment_pairs::SegmentPairs;
 use map_base::{LineId, NoMemory};
 use order_model::Problem;
 use std::alloc::Global;
@@ -79,15 +80,16 @@ fn pairs_of_lines(
         return Ok(list);
     }
     for line in lines {
-        push_line(alloc, &mut list, *line, row)?;
+        push_line(alloc, &mut list, lines, *line, row)?;
     }
     Ok(list)
 }
 
-/// Adds the pairs of a row that have a line.
+/// Adds the pairs of a row that have a line of a segment with these lines.
 fn push_line(
     alloc: Global,
     list: &mut Vec<LinePairs>,
+    lines: &[LineId],
     line: LineId,
     row: &[PairHere],
 ) -> Result<(), NoMemory>
@@ -95,7 +97,8 @@ fn push_line(
     ensures { OnOk result (AreOfLines row.now list.new.items) }
 {
     let pairs = pairs_of_line(alloc, line, row)?;
-    list.push(LinePairs { line, pairs })?;
+    let looks = looks_of(alloc, lines, line, pairs.as_slice())?;
+    list.push(LinePairs { line, pairs, looks })?;
     Ok(())
 }
 
@@ -121,20 +124,21 @@ fn is_with(line: LineId, here: PairHere) -> bool
     line.0 == here.pair.greater.0
 }
 
-/// Pairs of a segment among which all are that the placing of a line there decides: those of the line, where it stands at this
-/// place of the segment and is placed alone; else all.
-pub fn pairs_for<'a>(here: &'a SegmentPairs, next: &NextLine, at: usize) -> &'a [PairHere]
-    ensures { IsRowFor next.now here.now.all.items result.now }
+/// The pairs of the line to be placed next, which stands at this place of the segment, if they are listed by themselves.
+pub(crate) fn own_pairs<'a>(
+    here: &'a SegmentPairs,
+    line: LineId,
+    at: usize,
+) -> Option<&'a LinePairs>
+    ensures line { IfSome result (λ own. own.now.line ≡ line) }
+    ensures pairs { IfSome result (λ own. own.now.pairs.items ≡ filter (is_with line) here.now.all.items) }
 {
-    if next.last.is_some() {
-        return here.all.as_slice();
-    }
     if at >= here.by_line.len() {
-        return here.all.as_slice();
+        return None;
     }
     let own = &here.by_line[at];
-    if own.line.0 != next.line.0 {
-        return here.all.as_slice();
+    if own.line.0 != line.0 {
+        return None;
     }
-    own.pairs.as_slice()
+    Some(own)
 }

@@ -2,8 +2,8 @@
 
 ghost use Rattle.pair_shares.specs.LineRows.{AreOfLines};
 
+use crate::line_pairs::LinePairs;
 use crate::pair_rows::PairHere;
-use map_base::LineId;
 
 /// The pairs of a part that have a term on a segment.
 #[derive(Drop)]
@@ -14,11 +14,4 @@ pub struct SegmentPairs {
     pub by_line: Vec<LinePairs>,
 
     ghost of_lines: { AreOfLines all.items by_line.items },
-}
-
-/// The pairs of a line that have a term on a segment.
-#[derive(Drop)]
-pub struct LinePairs {
-    pub line: LineId,
-    pub pairs: Vec<PairHere>,
 }

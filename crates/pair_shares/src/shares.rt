@@ -1,6 +1,6 @@
 //! What the pairs of lines of a part add to its bound.
 
-ghost use Rattle.std.specs.Prelude.{◌≡◌, ◌<◌, ◌≤◌, ◌*◌, ◌+◌, ◌++◌, ◌∷◌, [], length, map, take, sum_by, All, Option, Some, None, IfSome, slice_index_or};
+ghost use Rattle.std.specs.Prelude.{◌≡◌, ◌<◌, ◌≤◌, ◌*◌, ◌+◌, ◌++◌, ◌∷◌, [], length, map, take, drop, sum_by, All, Option, Some, None, IfSome, slice_index_or};
 ghost use Rattle.std.specs.Vec.{vec_len, vec_capacity};
 ghost use Rattle.map_base.specs.declared.ids.SegId.{SegId};
 ghost use Rattle.order_model.specs.Prefixes.{IsPrefixOf};
@@ -8,16 +8,17 @@ ghost use Rattle.order_bound.specs.Pairs.{AreApartSegments};
 ghost use Rattle.pair_shares.specs.PairGroups.{KnowsOwn, no_group, group_in, groups_in, terms_in, share_of, IsGroup};
 ghost use Rattle.pair_bounds.specs.Slots.{HasRoom, KeepsRoom};
 ghost use Rattle.pair_shares.specs.Changes.{is_changed};
-ghost use Rattle.pair_shares.specs.Meeting.{is_listed};
+ghost use Rattle.pair_shares.specs.KeySteps.{AreKeysBefore};
+ghost use Rattle.pair_shares.specs.Meeting.{is_listed, AreHere};
 ghost use Rattle.pair_shares.specs.PairKeys.{key_of, AreKeys, AreKeysBut};
 ghost use Rattle.pair_shares.specs.ShareNotes.{AreTrueNotes};
 ghost use Rattle.pair_shares.specs.Shares.{HasRoomFor, AreSharesBut, IsTrialSum, IsRow};
 
 use crate::changes::{Change, is_new_pair};
-use crate::pair_keys::{key_on, put_key};
+use crate::pair_keys::{key_at, key_with, last_answer, put_key};
 use crate::pair_rows::PairHere;
 use crate::pair_terms::PairTerms;
-use crate::share_notes::{ShareNote, note_in, noted_in, places_of};
+use crate::share_notes::{NoteSet, note_in, noted_in, set_for};
 use map_base::SegId;
 use order_model::{Prefix, Problem};
 use pair_bounds::{Room, bound_of_pair};
@@ -91,24 +92,6 @@ pub fn fill_shares(
     total
 }
 
-/// The state of the pair at a place.
-fn key_here(
-    problem: &Problem,
-    prefix: &Prefix,
-    part: &[SegId],
-    pairs: &[PairTerms],
-    place: usize,
-) -> Option<u64>
-    requires fits { IsPrefixOf problem.now.segs prefix.now }
-    requires part { All (λ (s : SegId). s.0 < length problem.now.segs) part.now }
-    requires own { All (KnowsOwn part.now) pairs.now }
-    requires within { place < length pairs.now }
-    ensures { IfSome result (λ key. key ≡ key_of prefix.now.placed part.now (slice_index_or (groups_in pairs.now) place no_group)) }
-{
-    let entry = &pairs[place];
-    key_on(problem, prefix, entry.pair, entry.segs.as_slice())
-}
-
 /// What the pair at a place adds to the bound, from a note if there is one for its state; else it is noted.
 fn share_noted(
     problem: &Problem,
@@ -117,7 +100,7 @@ fn share_noted(
     pairs: &[PairTerms],
     place: usize,
     key: Option<u64>,
-    notes: &mut Vec<Option<ShareNote>>,
+    notes: &mut Vec<NoteSet>,
     room: &mut Room,
 ) -> u64
     requires fits { IsPrefixOf problem.now.segs prefix.now }
@@ -138,12 +121,12 @@ fn share_noted(
     let Some(key) = key else {
         return share_of(problem, prefix, part, entry, room);
     };
-    let places = places_of(notes.len(), place, key);
-    if let Some(share) = noted_in(notes.as_slice(), places, place, key) {
+    let at = set_for(notes.len(), place, key);
+    if let Some(share) = noted_in(notes.as_slice(), at, place, key) {
         return share;
     }
     let share = share_of(problem, prefix, part, entry, room);
-    note_in(notes, places, ShareNote { place, key, share });
+    note_in(notes, at, place, key, share);
     share
 }
 
@@ -159,7 +142,7 @@ fn renew_at(
     shares: &mut Vec<u64>,
     total: u64,
     keys: &mut Vec<Option<u64>>,
-    notes: &mut Vec<Option<ShareNote>>,
+    notes: &mut Vec<NoteSet>,
     room: &mut Room,
 ) -> u64
     requires fits { IsPrefixOf problem.now.segs prefix.now }
@@ -171,20 +154,25 @@ fn renew_at(
     requires room { HasRoomFor part.now (groups_in pairs.now) room.old }
     requires notes { AreTrueNotes problem.now.segs part.now (groups_in pairs.now) notes.old.items }
     requires row { IsRow (is_changed change.now) (groups_in pairs.now) row.now }
+    requires here { AreHere change.now.seg pairs.now row.now }
     requires within { next < length row.now }
     requires stale { AreSharesBut (share_of problem.now.segs part.now prefix.now.placed) (is_changed change.now) (take next row.now) (groups_in pairs.now) shares.old.items total }
     requires keys { AreKeysBut prefix.now.placed part.now (is_changed change.now) (is_listed (take next row.now)) (groups_in pairs.now) keys.old.items }
+    requires before { AreKeysBefore prefix.now.placed part.now change.now (groups_in pairs.now) (drop next row.now) keys.old.items }
     ensures renewed { AreSharesBut (share_of problem.now.segs part.now prefix.now.placed) (is_changed change.now) (take (next + 1) row.now) (groups_in pairs.now) shares.new.items result }
     ensures keys { AreKeysBut prefix.now.placed part.now (is_changed change.now) (is_listed (take (next + 1) row.now)) (groups_in pairs.now) keys.new.items }
+    ensures before { AreKeysBefore prefix.now.placed part.now change.now (groups_in pairs.now) (drop (next + 1) row.now) keys.new.items }
     ensures places { vec_capacity shares.old ≤ vec_capacity shares.new }
     ensures notes { AreTrueNotes problem.now.segs part.now (groups_in pairs.now) notes.new.items }
     ensures room { KeepsRoom room.old room.new }
 {
-    let place = row[next].place;
-    if !is_new_pair(change, pairs[place].pair) {
+    let here = row[next];
+    if !is_new_pair(change, here.pair) {
         return total;
     }
-    let key = key_here(problem, prefix, part, pairs, place);
+    let place = here.place;
+    let answer = last_answer(change, here.pair);
+    let key = key_with(key_at(keys.as_slice(), place), here.weight, answer);
     put_key(keys, place, key);
     let share = share_noted(problem, prefix, part, pairs, place, key, notes, room);
     let renewed = total - shares[place] + share;
@@ -192,7 +180,8 @@ fn renew_at(
     renewed
 }
 
-/// Works out anew what those pairs add that a placing changes, once it is done or taken back. Answers the sum.
+/// Works out anew what those pairs add that a placing changes, once it is done: the key of each has its answer more. Answers the
+/// sum.
 pub fn renew_shares(
     problem: &Problem,
     prefix: &Prefix,
@@ -203,7 +192,7 @@ pub fn renew_shares(
     shares: &mut Vec<u64>,
     total: u64,
     keys: &mut Vec<Option<u64>>,
-    notes: &mut Vec<Option<ShareNote>>,
+    notes: &mut Vec<NoteSet>,
     room: &mut Room,
 ) -> u64
     requires fits { IsPrefixOf problem.now.segs prefix.now }
@@ -215,8 +204,10 @@ pub fn renew_shares(
     requires room { HasRoomFor part.now (groups_in pairs.now) room.old }
     requires notes { AreTrueNotes problem.now.segs part.now (groups_in pairs.now) notes.old.items }
     requires row { IsRow (is_changed change.now) (groups_in pairs.now) row.now }
+    requires here { AreHere change.now.seg pairs.now row.now }
     requires stale { AreSharesBut (share_of problem.now.segs part.now prefix.now.placed) (is_changed change.now) [] (groups_in pairs.now) shares.old.items total }
     requires keys { AreKeysBut prefix.now.placed part.now (is_changed change.now) (is_listed []) (groups_in pairs.now) keys.old.items }
+    requires before { AreKeysBefore prefix.now.placed part.now change.now (groups_in pairs.now) row.now keys.old.items }
     ensures shares { shares.new.items ≡ map (share_of problem.now.segs part.now prefix.now.placed) (groups_in pairs.now) }
     ensures total { result ≡ sum_by (share_of problem.now.segs part.now prefix.now.placed) (groups_in pairs.now) }
     ensures keys { AreKeys prefix.now.placed part.now (groups_in pairs.now) keys.new.items }
@@ -244,7 +235,8 @@ fn sum_at(
     next: usize,
     shares: &Vec<u64>,
     total: u64,
-    notes: &mut Vec<Option<ShareNote>>,
+    keys: &[Option<u64>],
+    notes: &mut Vec<NoteSet>,
     room: &mut Room,
 ) -> u64
     requires fits { IsPrefixOf problem.now.segs prefix.now }
@@ -256,22 +248,27 @@ fn sum_at(
     requires room { HasRoomFor part.now (groups_in pairs.now) room.old }
     requires notes { AreTrueNotes problem.now.segs part.now (groups_in pairs.now) notes.old.items }
     requires row { IsRow (is_changed change.now) (groups_in pairs.now) row.now }
+    requires here { AreHere change.now.seg pairs.now row.now }
+    requires before { AreKeysBefore prefix.now.placed part.now change.now (groups_in pairs.now) row.now keys.now }
     requires within { next < length row.now }
     requires stale { IsTrialSum (share_of problem.now.segs part.now prefix.now.placed) (is_changed change.now) (take next row.now) (groups_in pairs.now) shares.now.items total }
     ensures renewed { IsTrialSum (share_of problem.now.segs part.now prefix.now.placed) (is_changed change.now) (take (next + 1) row.now) (groups_in pairs.now) shares.now.items result }
     ensures notes { AreTrueNotes problem.now.segs part.now (groups_in pairs.now) notes.new.items }
     ensures room { KeepsRoom room.old room.new }
 {
-    let place = row[next].place;
-    if !is_new_pair(change, pairs[place].pair) {
+    let here = row[next];
+    if !is_new_pair(change, here.pair) {
         return total;
     }
-    let key = key_here(problem, prefix, part, pairs, place);
+    let place = here.place;
+    let answer = last_answer(change, here.pair);
+    let key = key_with(key_at(keys, place), here.weight, answer);
     let share = share_noted(problem, prefix, part, pairs, place, key, notes, room);
     total - shares[place] + share
 }
 
-/// The sum once what those pairs add is worked out anew that a placing changes. What is kept of each pair stays.
+/// The sum once what those pairs add is worked out anew that a placing changes, from their keys before it. What is kept of each
+/// pair stays.
 pub fn sum_anew(
     problem: &Problem,
     prefix: &Prefix,
@@ -281,7 +278,8 @@ pub fn sum_anew(
     row: &[PairHere],
     shares: &Vec<u64>,
     total: u64,
-    notes: &mut Vec<Option<ShareNote>>,
+    keys: &[Option<u64>],
+    notes: &mut Vec<NoteSet>,
     room: &mut Room,
 ) -> u64
     requires fits { IsPrefixOf problem.now.segs prefix.now }
@@ -293,6 +291,8 @@ pub fn sum_anew(
     requires room { HasRoomFor part.now (groups_in pairs.now) room.old }
     requires notes { AreTrueNotes problem.now.segs part.now (groups_in pairs.now) notes.old.items }
     requires row { IsRow (is_changed change.now) (groups_in pairs.now) row.now }
+    requires here { AreHere change.now.seg pairs.now row.now }
+    requires before { AreKeysBefore prefix.now.placed part.now change.now (groups_in pairs.now) row.now keys.now }
     requires stale { AreSharesBut (share_of problem.now.segs part.now prefix.now.placed) (is_changed change.now) [] (groups_in pairs.now) shares.now.items total }
     ensures total { result ≡ sum_by (share_of problem.now.segs part.now prefix.now.placed) (groups_in pairs.now) }
     ensures notes { AreTrueNotes problem.now.segs part.now (groups_in pairs.now) notes.new.items }
@@ -301,7 +301,7 @@ pub fn sum_anew(
     let mut sum = total;
     for next in 0..row.len() {
         sum = sum_at(
-            problem, prefix, part, change, pairs, row, next, shares, sum, notes, room,
+            problem, prefix, part, change, pairs, row, next, shares, sum, keys, notes, room,
         );
     }
     sum

@@ -21,7 +21,7 @@ use Rattle.pair_shares.specs.declared.pair_terms.PairTerms.{PairTerms}
 use Rattle.pair_shares.specs.PairGroups.{Group, KnowsOwn, groups_of, groups_in, terms_in, share_of, IsGroup}
 use Rattle.pair_bounds.specs.Slots.{HasRoom, KeepsRoom}
 use Rattle.pair_shares.specs.declared.pair_rows.PairHere.{PairHere}
-use Rattle.pair_shares.specs.declared.share_notes.ShareNote.{ShareNote}
+use Rattle.pair_shares.specs.declared.share_notes.NoteSet.{NoteSet}
 use Rattle.pair_shares.specs.PairKeys.{AreKeys}
 use Rattle.pair_shares.specs.ShareNotes.{AreTrueNotes}
 use Rattle.part_bounds.specs.declared.rises.Rise.{Rise}
@@ -52,7 +52,7 @@ pub settled_is : (segs placed : List (List LineId)) (terms : List (ℕ × Term))
 settled_is segs placed terms aparts ok = ok.total_is.total ∙ (ap (λ l. settled_sum l placed aparts.terms) ok.segs_are ∙ ap (settled_sum segs placed) ok.terms_are)
 
 -- its sum with that of the settled Aparts is the bound
-pub bound_is : (problem : ProblemParts) (part : List SegId) (numbers : List ℕ) (prefix : Placement) (pairs : List PairTerms) (shares : List ℕ) (places total : ℕ) (room : Room) (aparts : ApartTotal) (rows : List (List PairHere)) (keys : List (Option ℕ)) (notes : List (Option ShareNote)) (noted_rises : List (List (Option Rise)))
+pub bound_is : (problem : ProblemParts) (part : List SegId) (numbers : List ℕ) (prefix : Placement) (pairs : List PairTerms) (shares : List ℕ) (places total : ℕ) (room : Room) (aparts : ApartTotal) (rows : List (List PairHere)) (keys : List (Option ℕ)) (notes : List NoteSet) (noted_rises : List (List (Option Rise)))
     → IsKeptUp problem part numbers prefix pairs shares places total room aparts rows keys notes noted_rises → total + aparts.total ≡ bound_of problem.segs part (part_terms problem.terms part) prefix.placed
 bound_is problem part numbers prefix pairs shares places total room aparts rows keys notes noted_rises ok =
     whole_bound problem.segs prefix.placed part (part_terms problem.terms part) (groups_in pairs) total aparts.total ok.grouped ok.total_is (settled_is problem.segs prefix.placed (part_terms problem.terms part) aparts ok.settled)
@@ -71,13 +71,13 @@ pub whole_small : (segs placed : List (List LineId)) (part : List SegId) (terms 
 whole_small segs placed part terms groups total settled apart fit few known few_terms e1 e2 =
     omega (arith, e1, e2, few, few_terms, groups_small segs placed part groups apart fit, settled_small segs placed terms known)
 
-pub bound_small : (problem : ProblemParts) (part : List SegId) (numbers : List ℕ) (prefix : Placement) (pairs : List PairTerms) (shares : List ℕ) (places total : ℕ) (room : Room) (aparts : ApartTotal) (rows : List (List PairHere)) (keys : List (Option ℕ)) (notes : List (Option ShareNote)) (noted_rises : List (List (Option Rise)))
+pub bound_small : (problem : ProblemParts) (part : List SegId) (numbers : List ℕ) (prefix : Placement) (pairs : List PairTerms) (shares : List ℕ) (places total : ℕ) (room : Room) (aparts : ApartTotal) (rows : List (List PairHere)) (keys : List (Option ℕ)) (notes : List NoteSet) (noted_rises : List (List (Option Rise)))
     → IsKeptUp problem part numbers prefix pairs shares places total room aparts rows keys notes noted_rises → total + aparts.total ≤ 8192000000000
 bound_small problem part numbers prefix pairs shares places total room aparts rows keys notes noted_rises ok =
     whole_small problem.segs prefix.placed part (part_terms problem.terms part) (groups_in pairs) total aparts.total (rising_apart part ok.rises) ok.groups ok.few ok.known_terms ok.few_terms ok.total_is (settled_is problem.segs prefix.placed (part_terms problem.terms part) aparts ok.settled)
 
 -- it begins
-pub begun : (problem : ProblemParts) (part : List SegId) (numbers : List ℕ) (prefix : Placement) (pairs : List PairTerms) (shares : List ℕ) (places places2 total most : ℕ) (room room2 : Room) (aparts : ApartTotal) (rows : List (List PairHere)) (keys : List (Option ℕ)) (notes : List (Option ShareNote)) (noted_rises : List (List (Option Rise)))
+pub begun : (problem : ProblemParts) (part : List SegId) (numbers : List ℕ) (prefix : Placement) (pairs : List PairTerms) (shares : List ℕ) (places places2 total most : ℕ) (room room2 : Room) (aparts : ApartTotal) (rows : List (List PairHere)) (keys : List (Option ℕ)) (notes : List NoteSet) (noted_rises : List (List (Option Rise)))
     → IsPrefixOf problem.segs prefix → All (λ (s : SegId). s.0 < length problem.segs) part → IsRisingPart part → IsProblem problem → numbers ≡ part_numbers problem.terms part → groups_in pairs ≡ groups_of (part_terms problem.terms part)
     → shares ≡ map (share_of problem.segs part prefix.placed) (groups_in pairs) → total ≡ sum_by (share_of problem.segs part prefix.placed) (groups_in pairs) → All (KnowsOwn part) pairs → length pairs ≤ places → places ≤ places2
     → All (λ (g : Group). terms_in g ≤ most) (groups_in pairs) → HasRoom (length part) most room → KeepsRoom room room2 → AreSettled problem.segs prefix.placed (part_terms problem.terms part) aparts
@@ -105,7 +105,7 @@ begun problem part numbers prefix pairs shares places places2 total most room ro
 }
 
 -- it goes on with another prefix
-pub kept_up : (problem : ProblemParts) (part : List SegId) (numbers : List ℕ) (prefix next : Placement) (pairs : List PairTerms) (shares fresh : List ℕ) (places places2 total total2 : ℕ) (room room2 : Room) (aparts aparts2 : ApartTotal) (rows : List (List PairHere)) (keys keys2 : List (Option ℕ)) (notes notes2 : List (Option ShareNote)) (noted_rises noted_rises2 : List (List (Option Rise)))
+pub kept_up : (problem : ProblemParts) (part : List SegId) (numbers : List ℕ) (prefix next : Placement) (pairs : List PairTerms) (shares fresh : List ℕ) (places places2 total total2 : ℕ) (room room2 : Room) (aparts aparts2 : ApartTotal) (rows : List (List PairHere)) (keys keys2 : List (Option ℕ)) (notes notes2 : List NoteSet) (noted_rises noted_rises2 : List (List (Option Rise)))
     → IsKeptUp problem part numbers prefix pairs shares places total room aparts rows keys notes noted_rises → IsPrefixOf problem.segs next → fresh ≡ map (share_of problem.segs part next.placed) (groups_in pairs)
     → total2 ≡ sum_by (share_of problem.segs part next.placed) (groups_in pairs) → places ≤ places2 → KeepsRoom room room2 → AreSettled problem.segs next.placed (part_terms problem.terms part) aparts2
     → AreKeys next.placed part (groups_in pairs) keys2 → AreTrueNotes problem.segs part (groups_in pairs) notes2 → AreTrueRises problem.segs part (part_terms problem.terms part) next.placed noted_rises2

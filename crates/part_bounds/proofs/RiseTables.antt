@@ -40,52 +40,8 @@ fewer_itself rows = record { still = λ s i n h. h }
 pub fewer_on : (a b c : List (List (Option Rise))) → AreFewer a b → AreFewer b c → AreFewer a c
 fewer_on a b c h k = record { still = λ s i n e. h.still s i n (k.still s i n e) }
 
--- no rise at a place of a row
-cleared_here : (row : List (Option Rise)) (i : ℕ) → get_or (set row i None) i None ≡ None
-cleared_here row i = by_length (nat_lt i (length row)) refl
-  where
-    by_length : (b : Bool) → nat_lt i (length row) ≡ b → get_or (set row i None) i None ≡ None
-    by_length true within = get_or-set_same row i None None (ltb-true i (length row) within)
-    by_length false past = let h : length row ≤ i = ltb-false i (length row) past in ap (λ l. get_or l i None) (set_past row i None h) ∙ beyond row i h
-
-set_at : (rows : List (List (Option Rise))) (k i : ℕ) → k < length rows → AreFewer rows (set rows k (set (get_or rows k []) i None)) × (rise_at (set rows k (set (get_or rows k []) i None)) k i ≡ None)
-set_at rows k i below = (record { still = λ s j n h. by_test s j n h (s == k) refl }, here i ∙ cleared_here (get_or rows k []) i)
-  where
-    fresh : List (List (Option Rise))
-    fresh = set rows k (set (get_or rows k []) i None)
-
-    here : (j : ℕ) → rise_at fresh k j ≡ get_or (set (get_or rows k []) i None) j None
-    here j = ap (λ l. get_or l j None) (get_or-set_same rows k (set (get_or rows k []) i None) [] below)
-
-    at_row : (j : ℕ) (n : Rise) → get_or (set (get_or rows k []) i None) j None ≡ Some n → (b : Bool) → (j == i) ≡ b → rise_at rows k j ≡ Some n
-    at_row j n h false e = let ne : j ≢ i = λ is. true≢false (sym (eq-eqb j i is) ∙ e) in sym (get_or-set_other (get_or rows k []) i j None None ne) ∙ h
-    at_row j n h true e = absurd (not_noted (get_or (set (get_or rows k []) i None) j None) n (ap (λ p. get_or (set (get_or rows k []) i None) p None) (eqb-true j i e) ∙ cleared_here (get_or rows k []) i) h)
-
-    by_test : (s j : ℕ) (n : Rise) → rise_at fresh s j ≡ Some n → (b : Bool) → (s == k) ≡ b → rise_at rows s j ≡ Some n
-    by_test s j n h false e = let ne : s ≢ k = λ is. true≢false (sym (eq-eqb s k is) ∙ e) in ap (λ l. get_or l j None) (sym (get_or-set_other rows k s (set (get_or rows k []) i None) [] ne)) ∙ h
-    by_test s j n h true e =
-        let same : s ≡ k = eqb-true s k e in
-        ap (λ p. rise_at rows p j) same ∙ at_row j n (sym (here j) ∙ (ap (λ p. rise_at fresh p j) (sym same) ∙ h)) (j == i) refl
-
-at_cleared : (rises : List (Vec (Option Rise) Global)) (k i : ℕ) (g v : Vec (Option Rise) Global) → k < length rises → g ≡ get_or rises k g → v.items ≡ set g.items i None
-    → AreFewer (rises_in rises) (rises_in (set rises k v)) × (rise_at (rises_in (set rises k v)) k i ≡ None)
-at_cleared rises k i g v below here is =
-    let P : List (List (Option Rise)) → Type 0 = λ l. AreFewer (rises_in rises) l × (rise_at l k i ≡ None) in
-    let at : get_or (rises_in rises) k [] ≡ g.items = get_or-map (λ (v : Vec (Option Rise) Global). v.items) rises k g [] below ∙ ap (λ (v : Vec (Option Rise) Global). v.items) (sym here) in
-    subst P (sym (map-set (λ (v : Vec (Option Rise) Global). v.items) rises k v ∙ ap (set (rises_in rises) k) (is ∙ ap (λ l. set l i None) (sym at))))
-    (set_at (rises_in rises) k i (omega (arith, below, length-map rises (λ (v : Vec (Option Rise) Global). v.items))))
-
-pub at_fewer : (rises : List (Vec (Option Rise) Global)) (k i : ℕ) (g v : Vec (Option Rise) Global) → k < length rises → g ≡ get_or rises k g → v.items ≡ set g.items i None → AreFewer (rises_in rises) (rises_in (set rises k v))
-at_fewer rises k i g v below here is = (at_cleared rises k i g v below here is).0
-
-pub at_none : (rises : List (Vec (Option Rise) Global)) (k i : ℕ) (g v : Vec (Option Rise) Global) → k < length rises → g ≡ get_or rises k g → v.items ≡ set g.items i None → rise_at (rises_in (set rises k v)) k i ≡ None
-at_none rises k i g v below here is = (at_cleared rises k i g v below here is).1
-
 pub none_beyond : (rises : List (Vec (Option Rise) Global)) (k : ℕ) → length rises ≤ k → IsEmpty (rises_in rises) k
 none_beyond rises k h = record { none = λ i. beyond_rows (rises_in rises) k i (omega (arith, h, length-map rises (λ (v : Vec (Option Rise) Global). v.items))) }
-
-pub none_past : (rises : List (Vec (Option Rise) Global)) (k i : ℕ) → length rises ≤ k → rise_at (rises_in rises) k i ≡ None
-none_past rises k i h = (none_beyond rises k h).none i
 
 -- a row more without rises
 pub row_pushed : (rises new : List (Vec (Option Rise) Global)) (v : Vec (Option Rise) Global) → ((s : ℕ) → IsEmpty (rises_in rises) s) → ((i : ℕ) → get_or v.items i None ≡ None) → new ≡ rises ++ v ∷ [] → (s : ℕ) → IsEmpty (rises_in new) s

@@ -13,7 +13,7 @@ use Rattle.pair_shares.specs.declared.pair_terms.PairTerms.{PairTerms}
 use Rattle.pair_shares.specs.PairGroups.{KnowsOwn, groups_of, groups_in, terms_in, share_of, IsGroup}
 use Rattle.pair_shares.specs.declared.pair_rows.PairHere.{PairHere}
 use Rattle.pair_shares.specs.Meeting.{AreBySegment}
-use Rattle.pair_shares.specs.declared.share_notes.ShareNote.{ShareNote}
+use Rattle.pair_shares.specs.declared.share_notes.NoteSet.{NoteSet}
 use Rattle.pair_shares.specs.PairKeys.{AreKeys}
 use Rattle.pair_shares.specs.ShareNotes.{AreTrueNotes}
 use Rattle.pair_shares.specs.Shares.{HasRoomFor}
@@ -25,7 +25,7 @@ use Rattle.part_bounds.specs.Undoing.{AreSaved}
 
 -- the numbers of a part's terms, and its pairs with what each adds to the bound of a prefix, and the sum, with room for so many
 -- shares; its Aparts; and for each segment the pairs that have a term there; the keys of pairs; notes of shares; and rises
-pub record IsKeptUp (problem : ProblemParts) (part : List SegId) (numbers : List ℕ) (prefix : Placement) (pairs : List PairTerms) (shares : List ℕ) (places total : ℕ) (room : Room) (aparts : ApartTotal) (rows : List (List PairHere)) (keys : List (Option ℕ)) (notes : List (Option ShareNote)) (noted_rises : List (List (Option Rise))) : Type 0 where
+pub record IsKeptUp (problem : ProblemParts) (part : List SegId) (numbers : List ℕ) (prefix : Placement) (pairs : List PairTerms) (shares : List ℕ) (places total : ℕ) (room : Room) (aparts : ApartTotal) (rows : List (List PairHere)) (keys : List (Option ℕ)) (notes : List NoteSet) (noted_rises : List (List (Option Rise))) : Type 0 where
   pub fits : IsPrefixOf problem.segs prefix
   pub known : All (λ (s : SegId). s.0 < length problem.segs) part
   pub rises : IsRisingPart part
@@ -47,6 +47,6 @@ pub record IsKeptUp (problem : ProblemParts) (part : List SegId) (numbers : List
   pub rises_are : AreTrueRises problem.segs part (part_terms problem.terms part) prefix.placed noted_rises
 
 -- the same with what the last placings forgot
-pub record IsKept (problem : ProblemParts) (part : List SegId) (numbers : List ℕ) (prefix : Placement) (pairs : List PairTerms) (shares : List ℕ) (places total : ℕ) (room : Room) (aparts : ApartTotal) (rows : List (List PairHere)) (keys : List (Option ℕ)) (notes : List (Option ShareNote)) (noted_rises : List (List (Option Rise))) (frames : List Frame) : Type 0 where
+pub record IsKept (problem : ProblemParts) (part : List SegId) (numbers : List ℕ) (prefix : Placement) (pairs : List PairTerms) (shares : List ℕ) (places total : ℕ) (room : Room) (aparts : ApartTotal) (rows : List (List PairHere)) (keys : List (Option ℕ)) (notes : List NoteSet) (noted_rises : List (List (Option Rise))) (frames : List Frame) : Type 0 where
   pub kept : IsKeptUp problem part numbers prefix pairs shares places total room aparts rows keys notes noted_rises
   pub saved : AreSaved problem.segs part (part_terms problem.terms part) prefix.placed frames

@@ -4,3 +4,4 @@ pub mod Settled
 pub mod Rises
 pub mod KeptPrices
 pub mod Undoing
+pub mod SavedStates

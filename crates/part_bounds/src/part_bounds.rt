@@ -1,6 +1,6 @@
 //! A part of a problem with the lines placed so far, and its bound.
 
-ghost use Rattle.std.specs.Prelude.{◌≡◌, ◌<◌, length, sum_by, All, false, Contains, IfOk, IfSome, slice_index_or, slice_set};
+ghost use Rattle.std.specs.Prelude.{◌≡◌, ◌<◌, length, sum_by, All, true, false, Contains, IfOk, IfSome, slice_index_or, slice_set};
 ghost use Rattle.map_base.specs.declared.ids.SegId.{SegId};
 ghost use Rattle.graph_core.specs.Consistent.{AreRising};
 ghost use Rattle.order_model.specs.Problems.{lines_on};
@@ -12,18 +12,21 @@ ghost use Rattle.order_bound.specs.Bounds.{bound_of};
 ghost use Rattle.pair_shares.specs.PairGroups.{groups_of, share_of};
 ghost use Rattle.part_bounds.specs.PartStates.{state_more, with_placed, IsWell};
 
+use crate::changed_rows::pairs_changed;
+use crate::moving::forget_near;
 use crate::part_prices::PartPrices;
-use crate::rises::{Rise, forget_near, line_at, no_rises, note_rise, rise_at};
+use crate::rises::{Rise, line_at, no_rises, note_rise, rise_at};
+use crate::saved_states::{SavedState, note_states, put_states, save_states};
 use crate::turns::Turned;
-use crate::undo::{Frame, Log, Undo, begin_log, pop_frame, push_frame, settle};
+use crate::undo::{Frame, Log, begin_log, pop_frame, push_frame, restore};
 use apart_sums::Aparts;
 use map_base::{LineId, NoMemory, SegId};
-use order_model::{Prefix, Problem};
+use order_model::{NO_PLACE, Prefix, Problem};
 use pair_bounds::{NotedPrices, Room};
 use pair_shares::{
-    PairState, PairTerms, SegmentPairs, ShareNote, change_on, fill_shares, find_segments, has_line,
-    keys_of, last_two, most_terms, next_line, no_notes, note_states, pairs_by_segment, pairs_for,
-    pairs_of, placed_count, renew_shares, sum_anew, sum_told,
+    NoteSet, PairState, PairTerms, SegmentPairs, change_on, fill_keys, fill_shares, find_segments,
+    has_line, keys_of, last_two, most_terms, next_line, no_notes, pairs_by_segment, pairs_of,
+    placed_count, renew_shares, sum_anew, sum_told,
 };
 use std::alloc::Global;
 use std::marker::Model;
@@ -50,15 +53,17 @@ pub struct PartBounds<'a> {
     /// The states of the pairs.
     keys: Vec<Option<u64>>,
     /// What pairs added in states that were met.
-    notes: Vec<Option<ShareNote>>,
+    notes: Vec<NoteSet>,
     /// The states before the last placing of pairs that it may have changed.
     before: Vec<Option<PairState>>,
     /// What the placing under way forgets.
     log: Log,
-    /// The last placings that are not taken back, in turn, with what they forgot.
+    /// The states before it of the pairs that it may change.
+    saved: Vec<SavedState>,
+    /// The last placings that are not taken back, in turn, with what they forgot and changed.
     frames: Vec<Frame>,
-    /// Room for logs.
-    spares: Vec<Vec<Undo>>,
+    /// Old frames, for their room.
+    spares: Vec<Frame>,
     alloc: Global,
     room: Room,
     /// The part's Aparts, with what the settled ones add to the bound.
@@ -99,7 +104,7 @@ impl<'a> PartBounds<'a> {
     {
         let prefix = Prefix::none(alloc, problem)?;
         let mut pairs = pairs_of(alloc, problem, numbers)?;
-        find_segments(alloc, part, &mut pairs)?;
+        find_segments(alloc, problem, part, &mut pairs)?;
         let mut shares = Vec::with_capacity(alloc, pairs.len())?;
         let mut room = Room::with_capacity(alloc, part.len(), most_terms(pairs.as_slice()))?;
         let total = fill_shares(
@@ -134,6 +139,7 @@ impl<'a> PartBounds<'a> {
             notes,
             before,
             log,
+            saved: Vec::new(alloc),
             frames: Vec::new(alloc),
             spares: Vec::new(alloc),
             alloc,
@@ -253,15 +259,17 @@ impl<'a> PartBounds<'a> {
         self.prefix.place(self.problem, seg, line);
         let last = last_two(self.problem, &self.prefix, seg);
         let change = change_on(self.problem, &self.prefix, seg, count, last);
+        let row = pairs_changed(&self.rows[seg.0 as usize], &change);
         let total = sum_anew(
             self.problem,
             &self.prefix,
             self.part,
             &change,
             self.pairs.as_slice(),
-            self.rows[seg.0 as usize].all.as_slice(),
+            row,
             &self.shares,
             self.total,
+            self.keys.as_slice(),
             &mut self.notes,
             &mut self.room,
         );
@@ -271,18 +279,21 @@ impl<'a> PartBounds<'a> {
 
     /// What the pairs add once the line at a place of a segment is placed next, if all of it is noted.
     fn pairs_with(&self, seg: SegId, line: LineId, at: usize) -> Option<u64>
+        requires rising { All AreRising self.now.segs }
         requires known { seg.0 < length self.now.segs }
+        requires line { Contains (lines_on self.now.segs seg) line }
+        requires unplaced { is_placed (lines_on self.now.placed seg) line ≡ false }
         ensures { IfSome result (λ total. total ≡ sum_by (share_of self.now.segs self.now.part (placed_more self.now.segs self.now.placed seg line)) (groups_of self.now.terms)) }
     {
         let next = next_line(self.problem, &self.prefix, seg, line);
-        let row = pairs_for(&self.rows[seg.0 as usize], &next, at);
         sum_told(
             self.problem,
             &self.prefix,
             self.part,
             &next,
             self.pairs.as_slice(),
-            row,
+            &self.rows[seg.0 as usize],
+            at,
             self.shares.as_slice(),
             self.total,
             self.keys.as_slice(),
@@ -334,6 +345,17 @@ impl<'a> PartBounds<'a> {
         !has_line(self.prefix.placed(seg), line)
     }
 
+    /// The same for a caller who knows at which place of the segment the line stands: one look into a table.
+    #[inline]
+    pub fn is_unplaced_at(&self, seg: SegId, line: LineId, at: usize) -> bool
+        requires known { seg.0 < length self.now.placed }
+        requires within { at < length (lines_on self.now.segs seg) }
+        requires here { line ≡ slice_index_or (lines_on self.now.segs seg) at line }
+        ensures { result ≡ is_unplaced (lines_on self.now.placed seg) line }
+    {
+        self.prefix.places(seg)[at] == NO_PLACE
+    }
+
     /// Places a line of a segment next, and the one that is then left there alone.
     pub fn place(&mut self, seg: SegId, line: LineId)
         requires well { IsWell self.old.segs self.old.placed }
@@ -344,24 +366,32 @@ impl<'a> PartBounds<'a> {
         ensures well { IsWell self.new.segs self.new.placed }
     {
         self.aparts.place(&self.prefix, seg, line);
-        note_states(
-            self.rows[seg.0 as usize].all.as_slice(),
-            self.keys.as_slice(),
-            self.shares.as_slice(),
-            &mut self.before,
-        );
-        begin_log(&mut self.log, &mut self.spares);
+        begin_log(&mut self.log, &mut self.saved, &mut self.spares);
         let count = placed_count(self.problem, &self.prefix, seg);
         self.prefix.place(self.problem, seg, line);
         let last = last_two(self.problem, &self.prefix, seg);
         let change = change_on(self.problem, &self.prefix, seg, count, last);
+        let row = pairs_changed(&self.rows[seg.0 as usize], &change);
+        note_states(
+            row,
+            self.keys.as_slice(),
+            self.shares.as_slice(),
+            &mut self.before,
+        );
+        let saved = save_states(
+            row,
+            self.keys.as_slice(),
+            self.shares.as_slice(),
+            &mut self.saved,
+        );
+        let before = self.total;
         self.total = renew_shares(
             self.problem,
             &self.prefix,
             self.part,
             &change,
             self.pairs.as_slice(),
-            self.rows[seg.0 as usize].all.as_slice(),
+            row,
             &mut self.shares,
             self.total,
             &mut self.keys,
@@ -381,11 +411,19 @@ impl<'a> PartBounds<'a> {
             &self.prefix,
             &change,
             self.pairs.as_slice(),
-            self.rows[seg.0 as usize].all.as_slice(),
+            row,
             &turned,
             self.aparts.joined(seg),
         );
-        push_frame(self.alloc, &mut self.frames, &mut self.log, seg);
+        push_frame(
+            self.alloc,
+            &mut self.frames,
+            &mut self.log,
+            &mut self.saved,
+            saved,
+            seg,
+            before,
+        );
     }
 
     /// Takes back what the last placing on a segment placed. There is one that was not taken back.
@@ -396,49 +434,59 @@ impl<'a> PartBounds<'a> {
         ensures state { self.new ≡ with_placed self.old (slice_set self.old.placed seg.0 (without_last (lines_on self.old.segs seg) (lines_on self.old.placed seg))) }
         ensures well { IsWell self.new.segs self.new.placed }
     {
+        if !self.put_back(seg) {
+            self.take_back_anew(seg);
+        }
+    }
+
+    /// Takes back the last placing as it was kept, if it was kept and was on this segment. Answers whether it did.
+    fn put_back(&mut self, seg: SegId) -> bool
+        requires well { IsWell self.old.segs self.old.placed }
+        requires known { seg.0 < length self.old.segs }
+        requires some { length (first_placed (lines_on self.old.segs seg)) < length (lines_on self.old.placed seg) }
+        ensures state { result ≡ true → self.new ≡ with_placed self.old (slice_set self.old.placed seg.0 (without_last (lines_on self.old.segs seg) (lines_on self.old.placed seg))) }
+        ensures well { IsWell self.new.segs self.new.placed }
+        ensures kept { result ≡ false → self.new ≡ self.old }
+    {
+        let Some(frame) = pop_frame(&mut self.frames, seg) else {
+            return false;
+        };
         self.aparts.take_back(&self.prefix, seg);
-        note_states(
-            self.rows[seg.0 as usize].all.as_slice(),
-            self.keys.as_slice(),
-            self.shares.as_slice(),
-            &mut self.before,
-        );
-        let frame = pop_frame(&mut self.frames, seg);
-        let last = last_two(self.problem, &self.prefix, seg);
         self.prefix.take_back(self.problem, seg);
-        let count = placed_count(self.problem, &self.prefix, seg);
-        let change = change_on(self.problem, &self.prefix, seg, count, last);
-        self.total = renew_shares(
+        self.total = frame.total;
+        put_states(&mut self.keys, &mut self.shares, frame.states.as_slice());
+        restore(&mut self.rises, frame.entries.as_slice());
+        let _ = self.spares.push(frame);
+        true
+    }
+
+    /// Takes back the last placing on a segment, and works all out anew. No rise is noted any longer.
+    #[inline(never)]
+    fn take_back_anew(&mut self, seg: SegId)
+        requires well { IsWell self.old.segs self.old.placed }
+        requires known { seg.0 < length self.old.segs }
+        requires some { length (first_placed (lines_on self.old.segs seg)) < length (lines_on self.old.placed seg) }
+        ensures state { self.new ≡ with_placed self.old (slice_set self.old.placed seg.0 (without_last (lines_on self.old.segs seg) (lines_on self.old.placed seg))) }
+        ensures well { IsWell self.new.segs self.new.placed }
+    {
+        self.frames.clear();
+        self.rises.clear();
+        self.aparts.take_back(&self.prefix, seg);
+        self.prefix.take_back(self.problem, seg);
+        self.total = fill_shares(
             self.problem,
             &self.prefix,
             self.part,
-            &change,
             self.pairs.as_slice(),
-            self.rows[seg.0 as usize].all.as_slice(),
             &mut self.shares,
-            self.total,
-            &mut self.keys,
-            &mut self.notes,
             &mut self.room,
         );
-        let turned = Turned {
-            before: self.before.as_slice(),
-            keys: self.keys.as_slice(),
-            shares: self.shares.as_slice(),
-            notes: self.notes.as_slice(),
-        };
-        settle(
-            &mut self.rises,
-            &mut self.log,
+        fill_keys(
             self.problem,
             &self.prefix,
-            &change,
+            self.part,
             self.pairs.as_slice(),
-            self.rows[seg.0 as usize].all.as_slice(),
-            &turned,
-            self.aparts.joined(seg),
-            frame,
-            &mut self.spares,
+            &mut self.keys,
         );
     }
 }

@@ -17,7 +17,17 @@ ghost use Rattle.pair_shares.specs.Shares.{HasRoomFor};
 use map_base::SegId;
 use order_model::{Prefix, Problem, Term};
 use pair_bounds::{NotedPrices, Room, note_pair};
-use pair_shares::{Change, PairHere, PairTerms, is_changed};
+use pair_shares::{Change, PairHere, PairTerms, is_in, is_new_pair};
+
+/// Whether a placing decides a pair on its segment, and the pair has a term there.
+fn is_changed(change: &Change, entry: &PairTerms) -> bool
+    ensures { result ≡ is_changed_pair change.now entry.now }
+{
+    if !is_new_pair(change, entry.pair) {
+        return false;
+    }
+    is_in(entry.segs.as_slice(), change.seg)
+}
 
 /// Marks a pair as stale at its place, if a placing changes it.
 fn mark_at(change: &Change, entry: &PairTerms, stale: &mut Vec<bool>, place: usize)

@@ -1,18 +1,12 @@
-//! What a placing forgets, noted so that it comes back where the placing is taken back.
+//! What a placing forgets and changes, noted so that it comes back where the placing is taken back.
 
-ghost use Rattle.std.specs.Prelude.{◌≡◌, ◌<◌, [], true, length, All};
-ghost use Rattle.order_model.specs.Prefixes.{IsPrefixOf};
-ghost use Rattle.order_bound.specs.Pairs.{AreApartSegments};
-ghost use Rattle.pair_shares.specs.declared.pair_rows.PairHere.{PairHere};
-ghost use Rattle.pair_shares.specs.declared.pair_terms.PairTerms.{PairTerms};
-ghost use Rattle.part_bounds.specs.Rises.{rises_in, noted_by};
-ghost use Rattle.part_bounds.specs.Undoing.{IsLogMore, IsPopped, IsPushed, IsRestored, IsSettled};
+ghost use Rattle.std.specs.Prelude.{◌≡◌, ◌&&◌, [], true};
+ghost use Rattle.part_bounds.specs.Rises.{rises_in};
+ghost use Rattle.part_bounds.specs.Undoing.{IsLogMore, IsPopped, IsPushed, IsRestored};
 
-use crate::rises::{Rise, forget_near, put_back};
-use crate::turns::Turned;
+use crate::rises::{Rise, put_back};
+use crate::saved_states::SavedState;
 use map_base::SegId;
-use order_model::{Prefix, Problem};
-use pair_shares::{Change, PairHere, PairTerms};
 use std::alloc::Global;
 use std::mem;
 
@@ -31,11 +25,14 @@ pub struct Log {
     pub whole: bool,
 }
 
-/// A placing that is not taken back yet, with all that it forgot.
+/// A placing that is not taken back yet, with all that it forgot, the states before it of the pairs that it changed, and what
+/// all pairs added then.
 #[derive(Drop)]
 pub struct Frame {
     pub seg: SegId,
     pub entries: Vec<Undo>,
+    pub states: Vec<SavedState>,
+    pub total: u64,
 }
 
 /// Adds what is noted for the line at a place of a segment, if there is memory; else the log is no longer whole.
@@ -47,38 +44,59 @@ pub(crate) fn log_rise(log: &mut Log, seg: SegId, at: usize, rise: Option<Rise>)
     }
 }
 
-/// Begins a log, in the room of an old one if there is one.
-pub(crate) fn begin_log(log: &mut Log, spares: &mut Vec<Vec<Undo>>)
+/// Begins a log, and gives room for states, in that of an old frame if there is one.
+pub(crate) fn begin_log(log: &mut Log, states: &mut Vec<SavedState>, spares: &mut Vec<Frame>)
     ensures entries { log.new.entries.items ≡ [] }
     ensures whole { log.new.whole ≡ true }
 {
     if let Some(spare) = spares.pop() {
-        log.entries = spare;
+        log.entries = spare.entries;
+        *states = spare.states;
     }
     log.entries.clear();
     log.whole = true;
 }
 
-/// Keeps a log as that of the last placing. Where it is not whole, or there is no memory, none is kept.
-pub(crate) fn push_frame(alloc: Global, frames: &mut Vec<Frame>, log: &mut Log, seg: SegId)
-    ensures { IsPushed seg log.old frames.old.items frames.new.items }
+/// Keeps the last placing, with its log and the states that were saved. Where these are not whole, or there is no memory, none is
+/// kept.
+pub(crate) fn push_frame(
+    alloc: Global,
+    frames: &mut Vec<Frame>,
+    log: &mut Log,
+    states: &mut Vec<SavedState>,
+    saved: bool,
+    seg: SegId,
+    total: u64,
+)
+    ensures { IsPushed (log.old.whole && saved) (record { seg = seg; entries = log.old.entries; states = states.old; total = total }) frames.old.items frames.new.items }
 {
     if !log.whole {
         frames.clear();
         return;
     }
+    if !saved {
+        frames.clear();
+        return;
+    }
     let entries = mem::replace(&mut log.entries, Vec::new(alloc));
-    if frames.push(Frame { seg, entries }).is_err() {
+    let states = mem::replace(states, Vec::new(alloc));
+    let frame = Frame {
+        seg,
+        entries,
+        states,
+        total,
+    };
+    if frames.push(frame).is_err() {
         frames.clear();
     }
 }
 
-/// Takes the log of the last placing, if one is kept and it was on this segment; else none is kept any longer.
-pub(crate) fn pop_frame(frames: &mut Vec<Frame>, seg: SegId) -> Option<Vec<Undo>>
+/// Takes the last placing, if it is kept and was on this segment; else none is kept any longer.
+pub(crate) fn pop_frame(frames: &mut Vec<Frame>, seg: SegId) -> Option<Frame>
     ensures { IsPopped seg frames.old.items frames.new.items result }
 {
     match frames.pop() {
-        Some(frame) if frame.seg.0 == seg.0 => Some(frame.entries),
+        Some(frame) if frame.seg.0 == seg.0 => Some(frame),
         _ => {
             frames.clear();
             None
@@ -95,36 +113,5 @@ pub(crate) fn restore(rises: &mut Vec<Vec<Option<Rise>>>, entries: &[Undo])
         left -= 1;
         let entry = entries[left];
         put_back(rises, entry.seg, entry.at, entry.rise);
-    }
-}
-
-/// Settles the rises once a placing is taken back: as the log of the placing says, if there is one; else those that it changes
-/// are forgotten.
-pub(crate) fn settle(
-    rises: &mut Vec<Vec<Option<Rise>>>,
-    log: &mut Log,
-    problem: &Problem,
-    prefix: &Prefix,
-    change: &Change,
-    pairs: &[PairTerms],
-    row: &[PairHere],
-    turned: &Turned,
-    joined: &[SegId],
-    frame: Option<Vec<Undo>>,
-    spares: &mut Vec<Vec<Undo>>,
-)
-    requires fits { IsPrefixOf problem.now.segs prefix.now }
-    requires within { All (λ (n : PairHere). n.place < length pairs.now) row.now }
-    requires apart { All (λ (e : PairTerms). AreApartSegments e.segs.items) pairs.now }
-    ensures { IsSettled problem.now.segs prefix.now.placed change.now pairs.now row.now turned.now joined.now frame (noted_by rises.old.items log.old) (noted_by rises.new.items log.new) }
-{
-    match frame {
-        None => forget_near(
-            rises, log, problem, prefix, change, pairs, row, turned, joined,
-        ),
-        Some(entries) => {
-            restore(rises, entries.as_slice());
-            let _ = spares.push(entries);
-        }
     }
 }

@@ -1,5 +1,5 @@
 -- A segment is left where more of its children have the least bound of the best segment's, or one below it, than there.
-use Rattle.std.proofs.Common.{◌≡◌, ℕ, ◌+◌, ◌<◌, ◌≤◌, nat_lt, ◌==◌, ◌||◌, Bool, true, false, true≢false, cond, List, [], ◌∷◌, ◌++◌, map, take, drop, refl, sym, ◌∙◌, ap, subst, arith, eq-eqb, Option, Some, None}
+use Rattle.std.proofs.Common.{◌≡◌, ℕ, ◌+◌, ◌-◌, ◌<◌, ◌≤◌, nat_lt, ◌==◌, ◌||◌, Bool, true, false, true≢false, cond, List, [], ◌∷◌, ◌++◌, map, take, drop, refl, sym, ◌∙◌, ap, subst, arith, eq-eqb, Option, Some, None}
 use Rattle.std.specs.Prelude.{nat_le}
 use Rattle.std.specs.List.{sum_by}
 use Rattle.std.specs.declared.cmp.Ordering.{Ordering}
@@ -18,7 +18,7 @@ use Rattle.order_search.specs.Children.{child_order, child_if, with_child, in_or
 use Rattle.order_search.proofs.Ordered.{sum_by-in_order}
 use Rattle.rising_search.specs.declared.choosing.Floor.{Floor}
 use Rattle.rising_search.specs.Choosing.{bounds_below, list_order, is_end}
-use Rattle.rising_search.specs.Candidates.{first_bound, has_below, up_to, is_low, low_in, low_with, is_under, IsPushed, IsLowWith}
+use Rattle.rising_search.specs.Candidates.{first_bound, has_below, up_to, bounds_up_to, is_low, low_in, low_with, is_under, IsPushed, AreAmong}
 use Rattle.rising_search.proofs.Floors.{below_second, FirstBelow, first_in_order, is_less, is_no_less, is_lost}
 
 -- A child with a bound up to t counts.
@@ -60,25 +60,6 @@ low_kept (Some f) xs c low n e h = by_below (nat_lt c.bound f.bound) h
     by_below true g = absurd (cc)
     by_below false g = by_above (nat_lt f.bound c.bound) refl g
 
--- the same of a number that there are at least
-low_up : (f : Floor) (xs : List Child) (c : Child) (low n : ℕ) → low ≤ low_in (Some f) xs → low_with (Some f) low c.bound ≡ Some n → n ≤ low_in (Some f) (xs ++ c ∷ [])
-low_up f xs c low n e h = by_below (nat_lt c.bound f.bound) h
-  where
-    so_far : low ≤ sum_by (one f.bound) xs
-    so_far = e
-
-    by_count : (b : Bool) → nat_lt f.bound c.bound ≡ false → cond b (Some (low + 1)) None ≡ Some n → n ≤ sum_by (one f.bound) (xs ++ c ∷ [])
-    by_count true level g = let same : low + 1 ≡ n = cc in omega (arith, same, so_far, one_more f.bound xs c, one_low f.bound c (ltb-false f.bound c.bound level))
-    by_count false level g = absurd (cc)
-
-    by_above : (b : Bool) → nat_lt f.bound c.bound ≡ b → cond b (Some low) (cond (nat_lt low f.count) (Some (low + 1)) None) ≡ Some n → n ≤ sum_by (one f.bound) (xs ++ c ∷ [])
-    by_above true high g = let same : low ≡ n = cc in omega (arith, same, so_far, one_more f.bound xs c)
-    by_above false level g = by_count (nat_lt low f.count) level g
-
-    by_below : (b : Bool) → cond b None (cond (nat_lt f.bound c.bound) (Some low) (cond (nat_lt low f.count) (Some (low + 1)) None)) ≡ Some n → n ≤ sum_by (one f.bound) (xs ++ c ∷ [])
-    by_below true g = absurd (cc)
-    by_below false g = by_above (nat_lt f.bound c.bound) refl g
-
 low_lost : (f : Option Floor) (xs : List Child) (c : Child) (low : ℕ) → low ≤ low_in f xs → low_with f low c.bound ≡ None → is_under f (xs ++ c ∷ []) ≡ true
 low_lost None xs c low e h = absurd (cc)
 low_lost (Some f) xs c low e h = by_below (nat_lt c.bound f.bound) refl h
@@ -113,21 +94,6 @@ pushed_lost f old new t x low bound there e is lost =
 pub pushed_one : (f : Option Floor) (old new : List Child) (t : Bool) (x y : Child) (low n : ℕ) → t ≡ true → x ≡ y → new ≡ old ++ y ∷ [] → low ≡ low_in f old → low_with f low y.bound ≡ Some n → IsPushed f old (child_if t x) new (Some n)
 pushed_one f old new t x y low n there same e is kept =
     subst (λ b. IsPushed f old (child_if b x) new (Some n)) (sym there) (subst (λ (z : Child). (new ≡ old ++ z ∷ []) × (n ≡ low_in f new)) (sym same) (e, low_kept f old y low n is kept ∙ ap (low_in f) (sym e)))
-
--- what a noted child comes to: it is passed over, or so many are up to the floor with it, or it puts them under the floor
-pub noted_same : (f : Option Floor) (old more : List Child) (low : ℕ) → low ≤ low_in f old → IsLowWith f old more (Some low)
-noted_same f old more low h = let counts : Child → ℕ = λ x. cond (is_low f x) 1 0 in
-    let so_far : low ≤ sum_by counts old = h in
-    let all : low ≤ sum_by counts (old ++ more) = omega (arith, so_far, sum_by-append counts old more) in all
-
-pub noted_more : (f : Floor) (old : List Child) (t : Bool) (x : Child) (low bound : ℕ) → t ≡ true → x.bound ≡ bound → low ≤ low_in (Some f) old → IsLowWith (Some f) old (child_if t x) (low_with (Some f) low bound)
-noted_more f old t x low bound there e h =
-    subst (λ n. IsLowWith (Some f) old (child_if t x) (low_with (Some f) low n)) e
-    (subst (λ b. IsLowWith (Some f) old (child_if b x) (low_with (Some f) low x.bound)) (sym there) (by_result (low_with (Some f) low x.bound) refl))
-  where
-    by_result : (r : Option ℕ) → low_with (Some f) low x.bound ≡ r → IsLowWith (Some f) old (x ∷ []) r
-    by_result None lost = low_lost (Some f) old x low h lost
-    by_result (Some n) kept = low_up f old x low n h kept
 
 -- one below a floor is enough
 under_below : (f : Floor) (xs : List Child) → has_below f.bound xs ≡ true → is_under (Some f) xs ≡ true
@@ -206,6 +172,27 @@ pub none_up_to : (t n : ℕ) (xs : List Child) → t < n → AreOver n xs → su
 none_up_to t n [] h all = refl
 none_up_to t n (x ∷ xs) h all =
     let first : n ≤ x.bound = all.0 in omega (arith, sum_by-cons (one t) x xs, one_high t x (omega (arith, h, first)), none_up_to t n xs h all.1)
+
+-- Bounds of some children put all of them under a floor.
+
+-- by how many of them are up to it
+pub under_by_count : (f : Floor) (bounds : List ℕ) (children : List Child) → AreAmong bounds children → f.count < bounds_up_to f.bound bounds → is_under (Some f) children ≡ true
+under_by_count f bounds children among h =
+    let all : bounds_up_to f.bound bounds ≤ sum_by (one f.bound) children = among f.bound in
+    or_right (has_below f.bound children) (nat_lt f.count (up_to f.bound children)) (lt-ltb f.count (sum_by (one f.bound) children) (omega (arith, all, h)))
+
+below_some : (t n : ℕ) (xs : List Child) → n < t → 0 < sum_by (one n) xs → has_below t xs ≡ true
+below_some t n xs low some = by_test (has_below t xs) refl
+  where
+    by_test : (b : Bool) → has_below t xs ≡ b → b ≡ true
+    by_test true e = refl
+    by_test false e = absurd (omega (arith, some, none_up_to n t xs low (over_none t xs e)))
+
+-- by one that is below it
+pub under_by_least : (f : Floor) (bounds : List ℕ) (children : List Child) → AreAmong bounds children → 0 < f.bound → 0 < bounds_up_to (f.bound - 1) bounds → is_under (Some f) children ≡ true
+under_by_least f bounds children among some h =
+    let all : bounds_up_to (f.bound - 1) bounds ≤ sum_by (one (f.bound - 1)) children = among (f.bound - 1) in
+    under_below f children (below_some f.bound (f.bound - 1) children (omega arith) (omega (arith, all, h)))
 
 -- The list of such a segment is less.
 

@@ -1,16 +1,21 @@
 -- A segment is not preferred to one whose bounds have their matches among its own.
-use Rattle.std.proofs.Common.{◌≡◌, ℕ, ◌+◌, ◌<◌, ◌≤◌, nat_lt, ◌==◌, Bool, true, false, true≢false, cond, List, [], ◌∷◌, ◌++◌, length, drop, get_or, refl, sym, ◌∙◌, ap, subst, ◌⊎◌, inl, inr, arith, eq-eqb}
+use Rattle.std.proofs.Common.{◌≡◌, ℕ, ◌+◌, ◌<◌, ◌≤◌, nat_lt, ◌==◌, Bool, true, false, true≢false, cond, List, [], ◌∷◌, ◌++◌, length, map, take, drop, get_or, refl, sym, ◌∙◌, ap, subst, ◌⊎◌, inl, inr, arith, eq-eqb}
 use Rattle.std.specs.Prelude.{nat_le}
 use Rattle.std.specs.List.{sum_by}
 use Rattle.std.specs.declared.cmp.Ordering.{Ordering}
 use Rattle.std.specs.declared.cmp.Ordering.TheVariants.{Less, Equal, Greater}
 use Rattle.std.specs.Ordering.{is_gt, nat_cmp, ordering_then}
 use Rattle.std.proofs.lemmas.Bool.{lt-ltb, ltb-true, ltb-false}
-use Rattle.std.proofs.lemmas.List.{drop_all, drop_more}
+use Rattle.std.proofs.lemmas.List.{drop_all, drop_more, take-take, take-append-drop, map-append}
+use Rattle.std.proofs.lemmas.List.Elements.{filter-append}
 use Rattle.std.proofs.lemmas.List.Sums.{sum_by-append, sum_by-cons}
+use Rattle.map_base.specs.declared.ids.LineId.{LineId}
+use Rattle.order_model.specs.Prefixes.{is_unplaced, is_left}
 use Rattle.order_search.specs.declared.child.Child.{Child}
+use Rattle.order_search.specs.Left.{lines_left}
 use Rattle.order_search.specs.Children.{child_if, in_order}
 use Rattle.order_search.proofs.Ordered.{sum_by-in_order}
+use Rattle.order_search.proofs.Pushed.{left_more}
 use Rattle.rising_search.specs.Choosing.{bounds_below, list_order, is_end}
 use Rattle.rising_search.specs.Candidates.{up_to, bounds_up_to, AreAmong, AreMatchedFrom, AreMetFrom}
 use Rattle.rising_search.proofs.Lows.{one, one_low, one_high, none_up_to, is_before, is_level, AreOver, AreByBound, in_order_by_bound}
@@ -40,6 +45,34 @@ among_more bounds fresh old there x b is e more h t =
     let all : sum_by mine (bounds ++ b ∷ []) ≤ sum_by (one t) (old ++ x ∷ []) =
     omega (arith, so_far, same, sum_by-append mine bounds (b ∷ []), sum_by-cons mine b [], sum_by-append (one t) old (x ∷ []), sum_by-cons (one t) x []) in
     subst (λ l. bounds_up_to t l ≤ up_to t (old ++ child_if there x)) (sym more) (subst (λ c. sum_by mine (bounds ++ b ∷ []) ≤ sum_by (one t) (old ++ child_if c x)) (sym is) all)
+
+-- Bounds of the children of some lines of a segment.
+
+-- what holds of the first lines holds of all
+among_front : (bounds : List ℕ) (f : LineId → Child) (lines placed : List LineId) (k : ℕ) → AreAmong bounds (map f (lines_left (take k lines) placed)) → AreAmong bounds (map f (lines_left lines placed))
+among_front bounds f lines placed k h =
+    let parts : map f (lines_left lines placed) ≡ map f (lines_left (take k lines) placed) ++ map f (lines_left (drop k lines) placed) =
+    ap (λ l. map f (lines_left l placed)) (sym (take-append-drop k lines))
+    ∙ (ap (map f) (filter-append (is_unplaced placed) (take k lines) (drop k lines)) ∙ map-append f (lines_left (take k lines) placed) (lines_left (drop k lines) placed)) in
+    subst (AreAmong bounds) (sym parts) (among_same bounds (map f (lines_left (take k lines) placed)) (map f (lines_left (drop k lines) placed)) h)
+
+among_next : (bounds : List ℕ) (f : LineId → Child) (lines placed : List LineId) (i : ℕ) (a : LineId) (m : ℕ) → i < length lines → a ≡ get_or lines i a → is_left lines placed a ≡ true → (f a).bound ≡ m
+    → AreAmong bounds (map f (lines_left (take i lines) placed)) → AreAmong (bounds ++ m ∷ []) (map f (lines_left (take (i + 1) lines) placed))
+among_next bounds f lines placed i a m inside here left is h =
+    let old : List Child = map f (lines_left (take i lines) placed) in
+    let all : map f (lines_left (take (i + 1) lines) placed) ≡ old ++ child_if (is_left lines placed a) (f a) =
+    left_more f lines placed i a inside ∙ ap (λ v. old ++ child_if (is_left lines placed v) (f v)) (sym here) in
+    subst (AreAmong (bounds ++ m ∷ [])) (sym all) (among_more bounds (bounds ++ m ∷ []) old (is_left lines placed a) (f a) m left is refl h)
+
+-- those of two lines that are left
+pub among_two : (f : LineId → Child) (lines placed : List LineId) (i j : ℕ) (a b : LineId) (m n : ℕ) → i < j → j < length lines → a ≡ get_or lines i a → b ≡ get_or lines j b
+    → is_left lines placed a ≡ true → is_left lines placed b ≡ true → (f a).bound ≡ m → (f b).bound ≡ n → AreAmong (m ∷ n ∷ []) (map f (lines_left lines placed))
+among_two f lines placed i j a b m n below inside a_here b_here a_left b_left a_is b_is =
+    let first : AreAmong (m ∷ []) (map f (lines_left (take (i + 1) lines) placed)) =
+    among_next [] f lines placed i a m (omega (arith, below, inside)) a_here a_left a_is (none_among (map f (lines_left (take i lines) placed))) in
+    let so_far : AreAmong (m ∷ []) (map f (lines_left (take j lines) placed)) =
+    among_front (m ∷ []) f (take j lines) placed (i + 1) (subst (λ l. AreAmong (m ∷ []) (map f (lines_left l placed))) (sym (take-take (i + 1) j lines (omega (arith, below)))) first) in
+    among_front (m ∷ n ∷ []) f lines placed (j + 1) (among_next (m ∷ []) f lines placed j b n inside b_here b_left b_is so_far)
 
 -- matches among bounds are matches among the children's
 pub met_by : (t : ℕ) (bounds : List ℕ) (own : List Child) (k : ℕ) (children : List Child) → AreAmong bounds own → AreMatchedFrom t bounds k children → AreMetFrom t own k children

@@ -86,11 +86,6 @@ abbrev pub IsPushed : Option Floor → List Child → List Child → List Child 
 IsPushed f old more new None = is_under f (old ++ more) ≡ true
 IsPushed f old more new (Some low) = (new ≡ old ++ more) × (low ≡ low_in f new)
 
--- at least so many are up to a floor with these; or nothing, as they are then under it
-abbrev pub IsLowWith : Option Floor → List Child → List Child → Option ℕ → Type 0
-IsLowWith f old more None = is_under f (old ++ more) ≡ true
-IsLowWith f old more (Some low) = low ≤ low_in f (old ++ more)
-
 -- how many of these bounds are up to t
 abbrev pub bounds_up_to : ℕ → List ℕ → ℕ
 bounds_up_to t bounds = count_by (λ b. nat_le b t) bounds

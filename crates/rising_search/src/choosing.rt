@@ -1,6 +1,6 @@
 //! At which segment a prefix is split.
 
-ghost use Rattle.std.specs.Prelude.{◌≡◌, ℕ, ◌+◌, ◌<◌, ◌≤◌, ◌++◌, not, nat_lt, true, List, [], length, map, take, slice_index_or, Option, Some, None, option_map, IfOk, OnOk, if◌then◌else◌};
+ghost use Rattle.std.specs.Prelude.{◌≡◌, ℕ, ◌+◌, ◌<◌, true, length, map, slice_index_or, Option, Some, None, option_map, IfOk};
 ghost use Rattle.std.specs.declared.cmp.Ordering.{Ordering};
 ghost use Rattle.map_base.specs.declared.ids.SegId.{SegId};
 ghost use Rattle.order_model.specs.Problems.{lines_on};
@@ -9,17 +9,18 @@ ghost use Rattle.order_search.specs.Left.{is_open, lines_left};
 ghost use Rattle.order_search.specs.Children.{child_if};
 ghost use Rattle.order_search.specs.LiveTrees.{child_at};
 ghost use Rattle.rising_search.specs.Around.{around, placed_on};
-ghost use Rattle.rising_search.specs.Choosing.{children_on, bounds_below, list_order, is_end, is_over, preferred, chosen};
-ghost use Rattle.rising_search.specs.Candidates.{IsCandidate, IsCandidateIf, IsCandidateOver, IsFull, IsFullIf, IsListOver, IsPushed, IsLowWith, IsMatchedBy, AreAmong, AreMatchedFrom, bounds_up_to, is_over_of, bound_below, has_below, up_to, floor_of, low_with, low_in, is_under, first_bound};
+ghost use Rattle.rising_search.specs.Choosing.{bounds_below, list_order, is_end, is_over, preferred, chosen};
+ghost use Rattle.rising_search.specs.Candidates.{IsCandidate, IsCandidateIf, IsCandidateOver, IsFull, IsFullIf, IsListOver, IsPushed, is_over_of, bound_below, up_to, floor_of, low_with, low_in, first_bound};
 ghost use Rattle.part_bounds.specs.PartStates.{PartState};
 ghost use Rattle.rising_search.specs.Walking.{part_of, bare, IsUnderWay};
 
+use crate::scratch::Scratch;
+use crate::screens::is_left_out;
 use crate::walk_state::{Walk, is_open};
 use map_base::{LineId, NoMemory, SegId};
 use order_search::{Child, put_in_order};
 use std::alloc::Global;
 use std::cmp::Ordering;
-use std::mem;
 
 /// A segment at which a prefix may be split, with the lines placed around it, how many of its children have the least bound
 /// of them all, and its children, by bound, then by line.
@@ -43,7 +44,11 @@ pub(crate) struct Floor {
 /// left as soon as one of its children has a bound below all of those of the best segment so far, or more of them than there
 /// have the least of those; or as each bound of the best segment's list has its match in one of its children, not above it, and
 /// no more lines are placed around it. Two lists of children serve all segments in turn: that of the best one, and a spare one.
-pub(crate) fn choose(alloc: Global, walk: &mut Walk) -> Result<Option<Candidate>, NoMemory>
+pub(crate) fn choose(
+    alloc: Global,
+    walk: &mut Walk,
+    scratch: &mut Scratch,
+) -> Result<Option<Candidate>, NoMemory>
     requires under_way { IsUnderWay walk.old }
     ensures chosen { IfOk result (λ r. option_map (λ c. c.seg) r ≡ chosen (bare walk.old.bounds) walk.old.above walk.old.bounds.placed) }
     ensures candidate { IfOk result (IsCandidateIf walk.old.bounds) }
@@ -51,20 +56,17 @@ pub(crate) fn choose(alloc: Global, walk: &mut Walk) -> Result<Option<Candidate>
 {
     let part = walk.part;
     let mut best = None;
-    let mut spare = Vec::new(alloc);
-    let mut noted = Vec::new(alloc);
     for seg in part {
         if !is_open(walk, *seg) {
             continue;
         }
-        let Some(candidate) = candidate_over(alloc, walk, *seg, &best, &mut noted, &mut spare)?
-        else {
+        let Some(candidate) = candidate_over(alloc, walk, *seg, &best, scratch)? else {
             continue;
         };
         if is_shut(candidate.children.as_slice(), walk.above) {
             return Ok(Some(candidate));
         }
-        best = Some(preferred(best, candidate, walk.above, &mut spare));
+        best = Some(preferred(best, candidate, walk.above, scratch));
     }
     Ok(best)
 }
@@ -74,11 +76,18 @@ fn floor_of(best: &Option<Candidate>) -> Option<Floor>
     ensures { result ≡ floor_of best.now }
 {
     match best {
-        Some(candidate) => Some(Floor {
-            bound: first_bound(candidate.children.as_slice()),
-            count: candidate.low,
-        }),
+        Some(candidate) => Some(floor_in(candidate)),
         None => None,
+    }
+}
+
+/// The floor of a candidate.
+pub(crate) fn floor_in(candidate: &Candidate) -> Floor
+    ensures { Some result ≡ floor_of (Some candidate.now) }
+{
+    Floor {
+        bound: first_bound(candidate.children.as_slice()),
+        count: candidate.low,
     }
 }
 
@@ -86,7 +95,13 @@ fn floor_of(best: &Option<Candidate>) -> Option<Floor>
 fn up_to(children: &[Child], bound: u64) -> usize
     ensures { result ≡ up_to bound children.now }
 {
-    children.iter().filter(|child| child.bound <= bound).count()
+    let mut count = 0;
+    for child in children {
+        if child.bound <= bound {
+            count += 1;
+        }
+    }
+    count
 }
 
 /// How many children up to a floor there are with one more of this bound, where there were so many; none where the segment is
@@ -127,25 +142,21 @@ fn candidate_over(
     walk: &mut Walk,
     seg: SegId,
     best: &Option<Candidate>,
-    noted: &mut Vec<u64>,
-    spare: &mut Vec<Child>,
+    scratch: &mut Scratch,
 ) -> Result<Option<Candidate>, NoMemory>
     requires under_way { IsUnderWay walk.old }
     requires known { seg.0 < length walk.old.bounds.segs }
     ensures candidate { IfOk result (IsCandidateOver walk.old.above walk.old.bounds seg best.now) }
     ensures kept { walk.new ≡ walk.old }
 {
+    if is_left_out(walk, seg, best, scratch)? {
+        return Ok(None);
+    }
     let floor = floor_of(best);
-    if is_noted_under(walk, seg, floor) {
+    if !gather_over(walk, seg, floor, &mut scratch.spare)? {
         return Ok(None);
     }
-    if is_matched(walk, seg, best, noted)? {
-        return Ok(None);
-    }
-    if !gather_over(walk, seg, floor, spare)? {
-        return Ok(None);
-    }
-    let mut children = mem::replace(spare, Vec::new(alloc));
+    let mut children = scratch.take_spare(alloc);
     let around = lines_around(walk, seg);
     put_in_order(children.as_mut_slice());
     let low = up_to(children.as_slice(), first_bound(children.as_slice()));
@@ -157,156 +168,20 @@ fn candidate_over(
     }))
 }
 
-/// Whether each bound of the list of the best segment so far has its match in a child of a segment whose bound is noted, and not
-/// above it, and no more lines are placed around the segment.
-fn is_matched(
-    walk: &Walk,
-    seg: SegId,
-    best: &Option<Candidate>,
-    noted: &mut Vec<u64>,
-) -> Result<bool, NoMemory>
-    requires under_way { IsUnderWay walk.now }
-    requires known { seg.0 < length walk.now.bounds.segs }
-    ensures { IfOk result (λ r. r ≡ true → IsMatchedBy walk.now.above walk.now.bounds seg best.now) }
-{
-    let Some(best) = best else {
-        return Ok(false);
-    };
-    note_bounds(walk, seg, noted)?;
-    if !are_matched(noted.as_slice(), best.children.as_slice(), walk.above) {
-        return Ok(false);
-    }
-    Ok(lines_around(walk, seg) <= best.around)
-}
-
-/// Lists the noted bounds of the children of a segment.
-fn note_bounds(walk: &Walk, seg: SegId, noted: &mut Vec<u64>) -> Result<(), NoMemory>
-    requires under_way { IsUnderWay walk.now }
-    requires known { seg.0 < length walk.now.bounds.segs }
-    ensures { OnOk result (AreAmong noted.new.items (map (child_at (part_of walk.now.bounds) walk.now.bounds.placed seg)
-        (lines_left (lines_on walk.now.bounds.segs seg) (lines_on walk.now.bounds.placed seg)))) }
-{
-    let segs = walk.problem.segs();
-    let lines = segs[seg.0 as usize].as_slice();
-    noted.clear();
-    for at in 0..lines.len() {
-        push_noted(walk, seg, lines[at], at, noted)?;
-    }
-    Ok(())
-}
-
-/// Adds the bound of the child that places the line at a place of its segment next, if the line is left and the bound is noted.
-fn push_noted(
-    walk: &Walk,
-    seg: SegId,
-    line: LineId,
-    at: usize,
-    noted: &mut Vec<u64>,
-) -> Result<(), NoMemory>
-    requires under_way { IsUnderWay walk.now }
-    requires known { seg.0 < length walk.now.bounds.segs }
-    requires within { at < length (lines_on walk.now.bounds.segs seg) }
-    requires here { line ≡ slice_index_or (lines_on walk.now.bounds.segs seg) at line }
-    ensures { OnOk result ((old : List Child) → AreAmong noted.old.items old → AreAmong noted.new.items (old ++ child_if (is_left (lines_on walk.now.bounds.segs seg) (lines_on walk.now.bounds.placed seg) line) (child_at (part_of walk.now.bounds) walk.now.bounds.placed seg line))) }
-{
-    let Some(bound) = walk.bounds.bound_noted(seg, at) else {
-        return Ok(());
-    };
-    if !is_left_at(walk, seg, line, at) {
-        return Ok(());
-    }
-    noted.push(bound)?;
-    Ok(())
-}
-
-/// How many of some bounds are up to this.
-fn count_up_to(bounds: &[u64], bound: u64) -> usize
-    ensures { result ≡ bounds_up_to bound bounds.now }
-{
-    bounds.iter().filter(|own| **own <= bound).count()
-}
-
-/// Whether each of the children, which stand by bound, whose bound is below this has a match among some bounds.
-fn are_matched(bounds: &[u64], children: &[Child], above: u64) -> bool
-    ensures { result ≡ true → AreMatchedFrom above bounds.now 0 children.now }
-{
-    for k in 0..children.len() {
-        let bound = children[k].bound;
-        if bound >= above {
-            return true;
-        }
-        if count_up_to(bounds, bound) <= k {
-            return false;
-        }
-    }
-    true
-}
-
-/// Whether a segment is under a floor by those of its children alone whose bounds are noted.
-fn is_noted_under(walk: &Walk, seg: SegId, floor: Option<Floor>) -> bool
-    requires under_way { IsUnderWay walk.now }
-    requires known { seg.0 < length walk.now.bounds.segs }
-    ensures under { result ≡ true → is_under floor (map (child_at (part_of walk.now.bounds) walk.now.bounds.placed seg)
-        (lines_left (lines_on walk.now.bounds.segs seg) (lines_on walk.now.bounds.placed seg))) ≡ true }
-{
-    let Some(least) = floor else {
-        return false;
-    };
-    let segs = walk.problem.segs();
-    let lines = segs[seg.0 as usize].as_slice();
-    let mut low = 0;
-    for at in 0..lines.len() {
-        let Some(more) = low_noted(walk, seg, lines[at], at, least, low) else {
-            return true;
-        };
-        low = more;
-    }
-    false
-}
-
-/// At least how many children up to a floor there are with the one that places the line at a place of its segment next, where
-/// there were so many at least; none where the segment is then under the floor.
-fn low_noted(
-    walk: &Walk,
-    seg: SegId,
-    line: LineId,
-    at: usize,
-    floor: Floor,
-    low: usize,
-) -> Option<usize>
-    requires under_way { IsUnderWay walk.now }
-    requires known { seg.0 < length walk.now.bounds.segs }
-    requires within { at < length (lines_on walk.now.bounds.segs seg) }
-    requires here { line ≡ slice_index_or (lines_on walk.now.bounds.segs seg) at line }
-    ensures { (old : List Child) → low ≤ low_in (Some floor) old → IsLowWith (Some floor) old
-        (child_if (is_left (lines_on walk.now.bounds.segs seg) (lines_on walk.now.bounds.placed seg) line) (child_at (part_of walk.now.bounds) walk.now.bounds.placed seg line)) result }
-{
-    let Some(bound) = walk.bounds.bound_noted(seg, at) else {
-        return Some(low);
-    };
-    if bound > floor.bound {
-        return Some(low);
-    }
-    if !is_left_at(walk, seg, line, at) {
-        return Some(low);
-    }
-    low_with(Some(floor), low, bound)
-}
-
 /// Whether the line at a place of a segment is left there.
 #[tactic(auto, using(crate::proofs::Floors::left_here))]
-fn is_left_at(walk: &Walk, seg: SegId, line: LineId, at: usize) -> bool
+pub(crate) fn is_left_at(walk: &Walk, seg: SegId, line: LineId, at: usize) -> bool
     requires under_way { IsUnderWay walk.now }
     requires known { seg.0 < length walk.now.bounds.segs }
     requires within { at < length (lines_on walk.now.bounds.segs seg) }
     requires here { line ≡ slice_index_or (lines_on walk.now.bounds.segs seg) at line }
     ensures { result ≡ is_left (lines_on walk.now.bounds.segs seg) (lines_on walk.now.bounds.placed seg) line }
 {
-    walk.bounds.is_unplaced(seg, line)
+    walk.bounds.is_unplaced_at(seg, line, at)
 }
 
 /// How many lines are placed around a segment.
-fn lines_around(walk: &Walk, seg: SegId) -> u64
+pub(crate) fn lines_around(walk: &Walk, seg: SegId) -> u64
     requires under_way { IsUnderWay walk.now }
     requires known { seg.0 < length walk.now.bounds.segs }
     ensures { result ≡ placed_on walk.now.bounds.placed (around walk.now.bounds.terms seg) }
@@ -387,12 +262,12 @@ fn is_shut(children: &[Child], above: u64) -> bool
     }
 }
 
-/// The candidate that is preferred: the earlier one, unless the later one is over it. The list of the other one is spare.
+/// The candidate that is preferred: the earlier one, unless the later one is over it. The list of the other one is given back.
 fn preferred(
     best: Option<Candidate>,
     candidate: Candidate,
     above: u64,
-    spare: &mut Vec<Child>,
+    scratch: &mut Scratch,
 ) -> Candidate
     ensures seg { (b : PartState) → IsCandidateIf b best → IsCandidate b candidate
         → result.seg ≡ preferred (is_over (bare b) above b.placed) (option_map (λ c. c.seg) best) candidate.seg }
@@ -403,10 +278,10 @@ fn preferred(
         None => candidate,
         Some(best) => {
             if is_over(&candidate, &best, above) {
-                *spare = best.children;
+                scratch.give_back(best.children);
                 candidate
             } else {
-                *spare = candidate.children;
+                scratch.give_back(candidate.children);
                 best
             }
         }

@@ -12,6 +12,8 @@ mod choosing;
 mod laws;
 mod part_search;
 mod rising;
+mod scratch;
+mod screens;
 mod shown;
 mod walk_state;
 mod walking;

@@ -16,6 +16,7 @@ ghost use Rattle.rising_search.specs.Walking.{part_of, IsUnderWay, IsBegun, IsBe
 
 use crate::around::segments_around;
 use crate::rising::rise;
+use crate::scratch::Scratch;
 use crate::shown::Shown;
 use crate::walk_state::Walk;
 use map_base::{Limit, LimitKind, NoMemory, SegId, Sequence, Steps};
@@ -105,7 +106,8 @@ fn rising_search<L: Ledger>(
 {
     let mut walk = begin(alloc, problem, part, numbers, budget)?;
     let cost = number_cost(problem, numbers);
-    let shown = rise(alloc, &mut walk, cost, steps)?;
+    let mut scratch = Scratch::new(alloc, problem)?;
+    let shown = rise(alloc, &mut walk, cost, &mut scratch, steps)?;
     Ok(found(alloc, walk, &shown)?)
 }
 

@@ -9,6 +9,7 @@ ghost use Rattle.rising_search.specs.Rising.{risen};
 ghost use Rattle.rising_search.specs.RisingWalks.{branches_of};
 ghost use Rattle.rising_search.specs.Walking.{part_of, bare, due_at, IsUnderWay, IsBegun, IsKept, HasTurned, IsNext, risen_by};
 
+use crate::scratch::Scratch;
 use crate::shown::Shown;
 use crate::walk_state::Walk;
 use crate::walking::{closed, walk_from};
@@ -23,6 +24,7 @@ pub(crate) fn rise<L: Ledger>(
     alloc: Global,
     walk: &mut Walk,
     number_cost: u64,
+    scratch: &mut Scratch,
     steps: &mut Steps<L>,
 ) -> Result<Shown, SearchFault>
     requires begun { IsBegun walk.old }
@@ -38,7 +40,7 @@ pub(crate) fn rise<L: Ledger>(
     let tree = closed(alloc, walk, target);
     let mut shown = Shown { target, tree };
     while shown.target < number_cost {
-        match walk_above(alloc, walk, shown.target, steps)? {
+        match walk_above(alloc, walk, shown.target, scratch, steps)? {
             None => return Ok(shown),
             Some(next) => shown = next,
         }
@@ -52,6 +54,7 @@ fn walk_above<L: Ledger>(
     alloc: Global,
     walk: &mut Walk,
     target: u64,
+    scratch: &mut Scratch,
     steps: &mut Steps<L>,
 ) -> Result<Option<Shown>, SearchFault>
     requires under_way { IsUnderWay walk.old }
@@ -64,7 +67,7 @@ fn walk_above<L: Ledger>(
 {
     walk.above = target + 1;
     walk.least = None;
-    match walk_from(alloc, walk, steps)? {
+    match walk_from(alloc, walk, scratch, steps)? {
         None => Ok(None),
         Some(tree) => Ok(Some(Shown {
             target: walk.least.unwrap_or(target),

@@ -16,6 +16,7 @@ ghost use Rattle.rising_search.specs.RisingWalks.{branches_of};
 ghost use Rattle.rising_search.specs.Walking.{part_of, bare, due, due_case, due_cases, tree_of, cases_in, branches_in_cases, AreBounded, IsUnderWay, IsKept, HasWalked, HasWalkedCases};
 
 use crate::choosing::{Candidate, choose};
+use crate::scratch::Scratch;
 use crate::walk_state::Walk;
 use map_base::{LineId, NoMemory, SegId, Sequence, Steps};
 use order_proof::Tree;
@@ -30,6 +31,7 @@ use std::sync::ledger::Ledger;
 pub(crate) fn walk_from<L: Ledger>(
     alloc: Global,
     walk: &mut Walk,
+    scratch: &mut Scratch,
     steps: &mut Steps<L>,
 ) -> Result<Option<Tree>, SearchFault>
     requires under_way { IsUnderWay walk.old }
@@ -43,12 +45,12 @@ pub(crate) fn walk_from<L: Ledger>(
     if bound >= walk.above {
         return Ok(Some(closed(alloc, walk, bound)));
     }
-    match choose(alloc, walk)? {
+    match choose(alloc, walk, scratch)? {
         None => {
             meet(alloc, walk)?;
             Ok(None)
         }
-        Some(candidate) => walk_split(alloc, walk, candidate, steps),
+        Some(candidate) => walk_split(alloc, walk, candidate, scratch, steps),
     }
 }
 
@@ -98,6 +100,7 @@ fn walk_split<L: Ledger>(
     alloc: Global,
     walk: &mut Walk,
     candidate: Candidate,
+    scratch: &mut Scratch,
     steps: &mut Steps<L>,
 ) -> Result<Option<Tree>, SearchFault>
     requires under_way { IsUnderWay walk.old }
@@ -118,7 +121,10 @@ fn walk_split<L: Ledger>(
     walk.spent += 1;
     steps.tick();
     let seg = candidate.seg;
-    match walk_cases(alloc, walk, seg, candidate.children.as_slice(), steps)? {
+    let children = candidate.children;
+    let walked = walk_cases(alloc, walk, seg, children.as_slice(), scratch, steps)?;
+    scratch.give_back(children);
+    match walked {
         None => Ok(None),
         Some(children) => Ok(Some(Tree::Split { seg, children })),
     }
@@ -131,6 +137,7 @@ fn walk_cases<L: Ledger>(
     walk: &mut Walk,
     seg: SegId,
     children: &[Child],
+    scratch: &mut Scratch,
     steps: &mut Steps<L>,
 ) -> Result<Option<Vec<(LineId, Tree)>>, SearchFault>
     requires under_way { IsUnderWay walk.old }
@@ -145,7 +152,7 @@ fn walk_cases<L: Ledger>(
 {
     let mut cases = Vec::with_capacity(alloc, children.len())?;
     for child in children {
-        match walk_case(alloc, walk, seg, *child, steps)? {
+        match walk_case(alloc, walk, seg, *child, scratch, steps)? {
             None => return Ok(None),
             Some(tree) => cases.push((child.line, tree))?,
         }
@@ -161,6 +168,7 @@ fn walk_case<L: Ledger>(
     walk: &mut Walk,
     seg: SegId,
     child: Child,
+    scratch: &mut Scratch,
     steps: &mut Steps<L>,
 ) -> Result<Option<Tree>, SearchFault>
     requires under_way { IsUnderWay walk.old }
@@ -178,7 +186,7 @@ fn walk_case<L: Ledger>(
         return Ok(Some(closed(alloc, walk, child.bound)));
     }
     walk.bounds.place(seg, child.line);
-    let walked = walk_from(alloc, walk, steps)?;
+    let walked = walk_from(alloc, walk, scratch, steps)?;
     walk.bounds.take_back(seg);
     Ok(walked)
 }

@@ -1,11 +1,18 @@
-use Rattle.std.proofs.Common.{sym, ap, ◌∙◌, arith}
+use Rattle.std.proofs.Common.{◌∙◌, ◌==◌, ap, sym}
+use Rattle.std.proofs.lemmas.List.{take_all}
 use Rattle.apart_sums.specs.declared.ends.LineEnds.{LineEnds}
-use Rattle.apart_sums.proofs.EndLists.{first_here, first_nowhere}
+use Rattle.apart_sums.specs.Ends.{place_by, found_or}
+use Rattle.apart_sums.proofs.EndLists.{place_more, all_within}
 use Rattle.apart_sums.proofs.ends.place_of.Goals as goal
 
-pub returns-then-lines-i-clause-place : goal.returns-then-lines-i-clause-place
-returns-then-lines-i-clause-place c =
-    sym (first_here c.args.lines.now c.args.line c.loop-i.i c.index-lines-i.result c.loop-i.invariant (omega (arith, c.loop-i-test.true)) c.index-lines-i.is (ap (λ (d : LineEnds). d.line.0) c.index-lines-i.is ∙ c.if-lines-i.true))
+pub loop-i-preserved : goal.loop-i-preserved
+loop-i-preserved c =
+    c.found_or-found.ensures ∙ ap (λ (e : LineEnds). found_or c.loop-i.found (e.line.0 == c.args.line.0) c.loop-i.i) (sym c.index-lines-i.is)
+    ∙ place_more c.args.lines.now c.args.line c.loop-i.i c.index-lines-i.result c.loop-i.found c.loop-i-test.true c.index-lines-i.is c.loop-i.invariant
 
 pub returns-clause-place : goal.returns-clause-place
-returns-clause-place c = sym (first_nowhere c.args.lines.now c.args.line (λ k d h. c.loop-i.invariant k d (omega (arith, h, c.loop-i-test.false))))
+returns-clause-place c = c.loop-i.invariant ∙ ap (λ ls. place_by ls c.args.line) (take_all c.loop-i.i c.args.lines.now c.loop-i-test.false)
+
+pub returns-clause-within : goal.returns-clause-within
+returns-clause-within c =
+    all_within c.args.lines.now c.args.line c.loop-i.found (c.loop-i.invariant ∙ ap (λ ls. place_by ls c.args.line) (take_all c.loop-i.i c.args.lines.now c.loop-i-test.false))

@@ -6,23 +6,23 @@ use Rattle.apart_sums.specs.Rises.{is_left_then}
 use Rattle.apart_sums.proofs.Rising.{find_found, find_more}
 use Rattle.apart_sums.proofs.rises.first_left.Goals as goal
 
-pub returns-then-is_left_then : goal.returns-then-is_left_then
-returns-then-is_left_then c =
+pub returns-then-is_left_at : goal.returns-then-is_left_at
+returns-then-is_left_at c =
     let lines : c.as_slice-lines.result.now ≡ lines_on c.args.problem.now.segs c.args.seg =
     c.as_slice-lines.ensures ∙ lines_at_segment c.args.problem.now.segs c.args.seg.0 c.index-segs-seg.result c.requires.known (c.index-segs-seg.is ∙ ap (λ l. get_or l c.args.seg.0 c.index-segs-seg.result) c.segs-segs.ensures.lists) in
     let p : LineId → Bool = is_left_then (lines_on c.args.prefix.now.placed c.args.seg) c.args.line in
     let d : LineId = record { 0 = 0 } in
-    let i : ℕ = c.loop-own.own-index in
+    let i : ℕ = c.loop-i.i in
     ap (λ l. Some (get_or l i d)) lines
-    ∙ sym (find_found p (lines_on c.args.problem.now.segs c.args.seg) i d (subst (λ l. i < length l) lines c.loop-own-test.true) c.loop-own.invariant
-    (ap (λ l. p (get_or l i d)) (sym lines) ∙ (sym c.is_left_then.ensures ∙ c.if-is_left_then.true)))
+    ∙ sym (find_found p (lines_on c.args.problem.now.segs c.args.seg) i d (subst (λ l. i < length l) lines c.loop-i-test.true) c.loop-i.invariant
+    (ap (λ l. p (get_or l i d)) (sym lines) ∙ (sym c.is_left_at.ensures ∙ c.if-is_left_at.true)))
 
-pub loop-own-preserved : goal.loop-own-preserved
-loop-own-preserved c =
+pub loop-i-preserved : goal.loop-i-preserved
+loop-i-preserved c =
     let lines : c.as_slice-lines.result.now ≡ lines_on c.args.problem.now.segs c.args.seg =
     c.as_slice-lines.ensures ∙ lines_at_segment c.args.problem.now.segs c.args.seg.0 c.index-segs-seg.result c.requires.known (c.index-segs-seg.is ∙ ap (λ l. get_or l c.args.seg.0 c.index-segs-seg.result) c.segs-segs.ensures.lists) in
     let p : LineId → Bool = is_left_then (lines_on c.args.prefix.now.placed c.args.seg) c.args.line in
     let d : LineId = record { 0 = 0 } in
-    let i : ℕ = c.loop-own.own-index in
-    find_more p (lines_on c.args.problem.now.segs c.args.seg) i d (subst (λ l. i < length l) lines c.loop-own-test.true) c.loop-own.invariant
-    (ap (λ l. p (get_or l i d)) (sym lines) ∙ (sym c.is_left_then.ensures ∙ c.if-is_left_then.false))
+    let i : ℕ = c.loop-i.i in
+    find_more p (lines_on c.args.problem.now.segs c.args.seg) i d (subst (λ l. i < length l) lines c.loop-i-test.true) c.loop-i.invariant
+    (ap (λ l. p (get_or l i d)) (sym lines) ∙ (sym c.is_left_at.ensures ∙ c.if-is_left_at.false))

@@ -14,6 +14,7 @@ pub loop-next-preserved : goal.loop-next-preserved
 loop-next-preserved c = record {
   stale = c.renew_at-sum.ensures.renewed;
   keys = c.renew_at-sum.ensures.keys;
+  before = c.renew_at-sum.ensures.before;
   places = omega (arith, c.loop-next.invariant.places, c.renew_at-sum.ensures.places);
   notes = c.renew_at-sum.ensures.notes;
   room = kept_on c.args.room.now c.loop-next.room c.renew_at-sum.new.room c.loop-next.invariant.room c.renew_at-sum.ensures.room;

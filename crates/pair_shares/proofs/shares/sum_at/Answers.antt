@@ -1,26 +1,34 @@
-use Rattle.std.proofs.Common.{◌≡◌, ◌≤◌, ◌+◌, ◌-◌, ◌<◌, ◌&&◌, false, length, get_or, refl, sym, ap, ◌∙◌, arith, rules}
+use Rattle.std.proofs.Common.{◌≡◌, ◌≤◌, ◌+◌, ◌-◌, ◌<◌, ◌&&◌, false, length, get_or, refl, sym, ap, subst, ◌∙◌, arith, rules}
+use Rattle.std.specs.Option.{IfSome}
+use Rattle.order_bound.specs.declared.pairs.Pair.{Pair}
 use Rattle.std.proofs.lemmas.List.{length-map}
 use Rattle.std.proofs.lemmas.Grind.{get_or_default_zero}
 use Rattle.pair_shares.specs.PairGroups.{no_group, group_in, groups_in, meets, share_of}
-use Rattle.pair_shares.specs.declared.pair_terms.PairTerms.{PairTerms}
+use Rattle.pair_shares.specs.PairKeys.{IsKeyWith}
 use Rattle.pair_shares.specs.Changes.{is_new_pair, is_changed}
-use Rattle.pair_shares.proofs.KeptGroups.{group_here}
+use Rattle.pair_shares.specs.KeySteps.{last_answer}
+use Rattle.pair_shares.proofs.KeySteps.{key_told_at}
+use Rattle.pair_shares.proofs.ToldSums.{here_told}
 use Rattle.pair_shares.proofs.Meeting.{no_here}
 use Rattle.pair_shares.proofs.Renewed.{trial_stays, trial_renewed, trial_small, term_few}
 use Rattle.pair_shares.proofs.shares.sum_at.Goals as goal
 
-pub key_here-key-requires-clause-within : goal.key_here-key-requires-clause-within
-key_here-key-requires-clause-within c = omega (arith, c.requires.row.within c.args.next no_here c.requires.within, length-map c.args.pairs.now group_in)
-
 pub share_noted-share-requires-clause-within : goal.share_noted-share-requires-clause-within
 share_noted-share-requires-clause-within c = omega (arith, c.requires.row.within c.args.next no_here c.requires.within, length-map c.args.pairs.now group_in)
 
+pub share_noted-share-requires-clause-keyed : goal.share_noted-share-requires-clause-keyed
+share_noted-share-requires-clause-keyed c =
+    key_told_at c.args.prefix.now.placed c.args.part.now c.args.change.now (groups_in c.args.pairs.now) c.args.row.now c.args.next no_here c.args.keys.now c.requires.within c.requires.before
+    (sym c.is_new_pair.ensures ∙ c.if-not-is_new_pair.false) c.key_with-key.result
+    (subst (λ o. IfSome c.key_with-key.result (IsKeyWith o (get_or c.args.row.now c.args.next no_here).weight (last_answer c.args.change.now (get_or c.args.row.now c.args.next no_here).pair))) c.key_at.ensures
+    (subst (λ k. IfSome c.key_with-key.result (IsKeyWith c.key_at.result (get_or c.args.row.now c.args.next no_here).weight k)) c.last_answer-answer.ensures.value c.key_with-key.ensures))
+
 pub returns-then-not-is_new_pair-clause-renewed : goal.returns-then-not-is_new_pair-clause-renewed
 returns-then-not-is_new_pair-clause-renewed c =
-    let here = group_here c.args.pairs.now (get_or c.args.row.now c.args.next no_here).place c.index-pairs-place.result (omega (arith, c.requires.row.within c.args.next no_here c.requires.within, length-map c.args.pairs.now group_in)) c.index-pairs-place.is in
+    let told = here_told c.args.part.now c.args.change.now.seg c.args.pairs.now c.args.row.now c.args.next no_here c.requires.within (omega (arith, c.requires.row.within c.args.next no_here c.requires.within, length-map c.args.pairs.now group_in)) c.requires.here c.requires.own in
     let none : is_changed c.args.change.now (get_or (groups_in c.args.pairs.now) (get_or c.args.row.now c.args.next no_here).place no_group) ≡ false =
-    ap (is_changed c.args.change.now) here ∙ (ap (λ (e : PairTerms). is_new_pair c.args.change.now e.pair && meets c.index-pairs-place.result.terms.items c.args.change.now.seg) c.index-pairs-place.is
-    ∙ ap (λ b. b && meets c.index-pairs-place.result.terms.items c.args.change.now.seg) (sym c.is_new_pair.ensures ∙ c.if-not-is_new_pair.true)) in
+    ap (λ (p : Pair). is_new_pair c.args.change.now p && meets (get_or (groups_in c.args.pairs.now) (get_or c.args.row.now c.args.next no_here).place no_group).1 c.args.change.now.seg) (sym told.0)
+    ∙ ap (λ b. b && meets (get_or (groups_in c.args.pairs.now) (get_or c.args.row.now c.args.next no_here).place no_group).1 c.args.change.now.seg) (sym c.is_new_pair.ensures ∙ c.if-not-is_new_pair.true) in
     trial_stays (share_of c.args.problem.now.segs c.args.part.now c.args.prefix.now.placed) (is_changed c.args.change.now) c.args.row.now c.args.next (get_or c.args.row.now c.args.next no_here) no_here (groups_in c.args.pairs.now) c.args.shares.now.items c.args.total c.requires.within refl c.requires.stale none
 
 pub overflow_add-result : goal.overflow_add-result

@@ -207,24 +207,24 @@ walk_split-walk_cases-requires g t c =
     let bounded = all_bounded old.bounds s c.as_slice.result.now children in
     search rules
 
-pub walk_split-returns-in_err-walk_cases-clause-most : goal.walk_split-returns-in_err-walk_cases-clause-most
-walk_split-returns-in_err-walk_cases-clause-most g t c =
+pub walk_split-returns-in_err-walked-clause-most : goal.walk_split-returns-in_err-walked-clause-most
+walk_split-returns-in_err-walked-clause-most g t c =
     let old : Walk = c.args.walk.now in
     let s : SegId = c.args.candidate.seg in
     let children : List Child = c.as_slice.result.now in
     let whole = due_split old c.requires.under_way s children c.requires.below c.requires.at (c.as_slice.ensures.value ∙ c.requires.candidate.children_are) in
     omega (arith, c.walk_cases.ensures.most, ap branches_of whole, split_branches s (due_cases s children old))
 
-pub walk_split-returns-in_err-walk_cases-clause-stop : goal.walk_split-returns-in_err-walk_cases-clause-stop
-walk_split-returns-in_err-walk_cases-clause-stop g t c =
+pub walk_split-returns-in_err-walked-clause-stop : goal.walk_split-returns-in_err-walked-clause-stop
+walk_split-returns-in_err-walked-clause-stop g t c =
     let old : Walk = c.args.walk.now in
     let s : SegId = c.args.candidate.seg in
     let children : List Child = c.as_slice.result.now in
     let whole = due_split old c.requires.under_way s children c.requires.below c.requires.at (c.as_slice.ensures.value ∙ c.requires.candidate.children_are) in
     let p = err_from_is_err_and c.from_residual.result c.from_residual.ensures.1 in
     rw (p.1, p.2)
-    (stop_later old.budget old.budget (old.spent + 1 + branches_in_cases (due_cases s children old)) (old.spent + branches_of (due old)) c.in_err-walk_cases.field-0.0 refl
-    (omega (arith, ap branches_of whole, split_branches s (due_cases s children old))) c.in_err-walk_cases.ensures.stop)
+    (stop_later old.budget old.budget (old.spent + 1 + branches_in_cases (due_cases s children old)) (old.spent + branches_of (due old)) c.in_err-walked.field-0.0 refl
+    (omega (arith, ap branches_of whole, split_branches s (due_cases s children old))) c.in_err-walked.ensures.stop)
 
 pub walk_split-returns-in-None-clause-most : goal.walk_split-returns-in-None-clause-most
 walk_split-returns-in-None-clause-most g t c =
@@ -241,7 +241,7 @@ walk_split-returns-in-None-clause-tree g t c =
     let children : List Child = c.as_slice.result.now in
     let whole = due_split old c.requires.under_way s children c.requires.below c.requires.at (c.as_slice.ensures.value ∙ c.requires.candidate.children_are) in
     let plain_all : Vec (LineId × Tree) Global → List (LineId × PlainTree) = λ v. map (λ (x : LineId × Tree). (x.0, plain x.1)) v.items in
-    let none : cases_in (due_cases s children old) ≡ None = sym c.in_ok-walk_cases.ensures.cases ∙ ap (option_map plain_all) c.in-None.is in
+    let none : cases_in (due_cases s children old) ≡ None = sym c.in_ok-walked.ensures.cases ∙ ap (option_map plain_all) c.in-None.is in
     sym (ap tree_of whole ∙ split_meets s (due_cases s children old) none)
 
 pub walk_split-returns-in-None-clause-walked : goal.walk_split-returns-in-None-clause-walked
@@ -253,29 +253,29 @@ walk_split-returns-in-None-clause-walked g t c =
     let new : Walk = c.walk_cases.new.walk in
     let whole = due_split old c.requires.under_way s children c.requires.below c.requires.at (c.as_slice.ensures.value ∙ c.requires.candidate.children_are) in
     subst (HasWalked old new old.bounds.placed) (sym whole)
-    (split_walked old one new s (due_cases s children old) c.requires.under_way refl refl refl refl refl refl c.in_ok-walk_cases.ensures.walked)
+    (split_walked old one new s (due_cases s children old) c.requires.under_way refl refl refl refl refl refl c.in_ok-walked.ensures.walked)
 
-pub walk_split-returns-clause-most : goal.walk_split-returns-clause-most
-walk_split-returns-clause-most g t c =
+pub walk_split-returns-in-Some-clause-most : goal.walk_split-returns-in-Some-clause-most
+walk_split-returns-in-Some-clause-most g t c =
     let old : Walk = c.args.walk.now in
     let s : SegId = c.args.candidate.seg in
     let children : List Child = c.as_slice.result.now in
     let whole = due_split old c.requires.under_way s children c.requires.below c.requires.at (c.as_slice.ensures.value ∙ c.requires.candidate.children_are) in
     omega (arith, c.walk_cases.ensures.most, ap branches_of whole, split_branches s (due_cases s children old))
 
-pub walk_split-returns-clause-tree : goal.walk_split-returns-clause-tree
-walk_split-returns-clause-tree g t c =
+pub walk_split-returns-in-Some-clause-tree : goal.walk_split-returns-in-Some-clause-tree
+walk_split-returns-in-Some-clause-tree g t c =
     let old : Walk = c.args.walk.now in
     let s : SegId = c.args.candidate.seg in
     let children : List Child = c.as_slice.result.now in
     let whole = due_split old c.requires.under_way s children c.requires.below c.requires.at (c.as_slice.ensures.value ∙ c.requires.candidate.children_are) in
     let plain_all : Vec (LineId × Tree) Global → List (LineId × PlainTree) = λ v. map (λ (x : LineId × Tree). (x.0, plain x.1)) v.items in
-    let some : cases_in (due_cases s children old) ≡ Some (plain_all c.in-Some.children) = sym c.in_ok-walk_cases.ensures.cases ∙ ap (option_map plain_all) c.in-Some.is in
+    let some : cases_in (due_cases s children old) ≡ Some (plain_all c.in-Some.children) = sym c.in_ok-walked.ensures.cases ∙ ap (option_map plain_all) c.in-Some.is in
     ap (λ (x : PlainTree). Some x) (plain-Split s c.in-Some.children)
     ∙ sym (ap tree_of whole ∙ split_tree s (due_cases s children old) (plain_all c.in-Some.children) some)
 
-pub walk_split-returns-clause-walked : goal.walk_split-returns-clause-walked
-walk_split-returns-clause-walked g t c =
+pub walk_split-returns-in-Some-clause-walked : goal.walk_split-returns-in-Some-clause-walked
+walk_split-returns-in-Some-clause-walked g t c =
     let old : Walk = c.args.walk.now in
     let s : SegId = c.args.candidate.seg in
     let children : List Child = c.as_slice.result.now in
@@ -283,4 +283,4 @@ walk_split-returns-clause-walked g t c =
     let new : Walk = c.walk_cases.new.walk in
     let whole = due_split old c.requires.under_way s children c.requires.below c.requires.at (c.as_slice.ensures.value ∙ c.requires.candidate.children_are) in
     subst (HasWalked old new old.bounds.placed) (sym whole)
-    (split_walked old one new s (due_cases s children old) c.requires.under_way refl refl refl refl refl refl c.in_ok-walk_cases.ensures.walked)
+    (split_walked old one new s (due_cases s children old) c.requires.under_way refl refl refl refl refl refl c.in_ok-walked.ensures.walked)

@@ -23,8 +23,13 @@ use Rattle.pair_shares.specs.SegmentRows.{pairs_in}
 use Rattle.pair_shares.specs.PairKeys.{AreKeys}
 use Rattle.pair_shares.specs.ShareNotes.{AreTrueNotes}
 use Rattle.part_bounds.specs.Rises.{rises_in, AreTrueRises}
-use Rattle.pair_shares.proofs.LineRows.{row_in_pairs, pairs_below}
-use Rattle.pair_shares.proofs.Renewed.{moved_on, stale_on, row_is}
+use Rattle.map_base.specs.declared.ids.SegId.{SegId}
+use Rattle.pair_shares.specs.KeySteps.{AreKeysBefore}
+use Rattle.pair_shares.specs.Meeting.{AreHere}
+use Rattle.pair_shares.specs.Shares.{IsRow}
+use Rattle.pair_shares.proofs.ChangedRows.{here_changed, row_changed, row_places}
+use Rattle.pair_shares.proofs.KeySteps.{keys_wait}
+use Rattle.pair_shares.proofs.Renewed.{moved_on, stale_on}
 use Rattle.part_bounds.specs.Undoing.{AreSaved}
 use Rattle.part_bounds.proofs.part_bounds.PartBounds.bound_placed.Goals as goal
 
@@ -61,11 +66,29 @@ sum_anew-total-requires-clause-stale c =
 
 pub sum_anew-total-requires-clause-row : goal.sum_anew-total-requires-clause-row
 sum_anew-total-requires-clause-row c =
-    row_is (length c.self.inside.problem.now.segs) c.self.inside.problem.now.segs c.self.inside.part.now c.self.inside.pairs.items c.as_slice.result.now (pairs_in c.self.inside.rows.items) c.change_on-change.result c.args.seg c.as_slice-2.result.now
-    c.self.invariant.kept.by_segment (subst (λ (b : PartState). c.args.seg.0 < length b.segs) (sym c.self.view_is) c.requires.known) c.as_slice.ensures.value c.change_on-change.ensures.seg
-    (row_in_pairs c.self.inside.rows.items c.args.seg.0 c.index.result.now c.as_slice-2.result.now
-    (pairs_below (length c.self.inside.problem.now.segs) c.self.inside.pairs.items c.self.inside.rows.items c.args.seg c.self.invariant.kept.by_segment (subst (λ (b : PartState). c.args.seg.0 < length b.segs) (sym c.self.view_is) c.requires.known))
-    c.index.ensures c.as_slice-2.ensures.value) c.self.invariant.kept.own c.self.invariant.kept.groups
+    subst (λ (l : List PairTerms). IsRow (is_changed c.change_on-change.result) (groups_in l) c.pairs_changed-row.result.now) (sym c.as_slice.ensures.value)
+    (row_changed (length c.self.inside.problem.now.segs) c.self.inside.problem.now.segs c.self.inside.part.now c.self.inside.pairs.items c.self.inside.rows.items c.change_on-change.result c.args.seg c.index.result.now c.pairs_changed-row.result.now
+    c.self.invariant.kept.by_segment (subst (λ (b : PartState). c.args.seg.0 < length b.segs) (sym c.self.view_is) c.requires.known) c.change_on-change.ensures.seg c.index.ensures c.pairs_changed-row.ensures c.self.invariant.kept.own c.self.invariant.kept.groups)
+
+pub sum_anew-total-requires-clause-here : goal.sum_anew-total-requires-clause-here
+sum_anew-total-requires-clause-here c =
+    subst (λ (s : SegId). AreHere s c.as_slice.result.now c.pairs_changed-row.result.now) (sym c.change_on-change.ensures.seg) (subst (λ (l : List PairTerms). AreHere c.args.seg l c.pairs_changed-row.result.now) (sym c.as_slice.ensures.value)
+    (here_changed (length c.self.inside.problem.now.segs) c.self.inside.pairs.items c.self.inside.rows.items c.change_on-change.result c.args.seg c.index.result.now c.pairs_changed-row.result.now c.self.invariant.kept.by_segment (subst (λ (b : PartState). c.args.seg.0 < length b.segs) (sym c.self.view_is) c.requires.known) c.index.ensures c.pairs_changed-row.ensures))
+
+pub sum_anew-total-requires-clause-before : goal.sum_anew-total-requires-clause-before
+sum_anew-total-requires-clause-before c =
+    let moved : SameElsewhere c.args.seg c.place.new.self.placed c.self.inside.prefix.placed = moved_on c.self.inside.prefix.placed c.place.new.self.placed c.args.seg _ c.place.ensures.placed in
+    let below : c.args.seg.0 < length c.self.inside.prefix.placed = (let each = c.self.invariant.kept.fits.each in let known : c.args.seg.0 < length c.self.inside.problem.now.segs = subst (λ (b : PartState). c.args.seg.0 < length b.segs) (sym c.self.view_is) c.requires.known in omega (arith, each, known)) in
+    let change : IsChange (lines_on c.self.inside.prefix.placed c.args.seg) (lines_on c.place.new.self.placed c.args.seg) c.change_on-change.result =
+    is_placing c.self.inside.problem.now.segs c.self.inside.prefix.placed c.place.new.self.placed c.args.seg c.args.line c.change_on-change.result c.placed_count-count.result c.last_two-last.result below c.place.ensures.placed c.placed_count-count.ensures c.change_on-change.ensures.known c.change_on-change.ensures.last c.last_two-last.ensures.last c.last_two-last.ensures.before in
+    subst (λ (l : List PairTerms). AreKeysBefore c.place.new.self.placed c.self.inside.part.now c.change_on-change.result (groups_in l) c.pairs_changed-row.result.now c.as_slice-2.result.now) (sym c.as_slice.ensures.value)
+    (subst (AreKeysBefore c.place.new.self.placed c.self.inside.part.now c.change_on-change.result (groups_in c.self.inside.pairs.items) c.pairs_changed-row.result.now) (sym c.as_slice-2.ensures.value)
+    (keys_wait c.self.inside.prefix.placed c.place.new.self.placed c.self.inside.part.now c.change_on-change.result c.args.seg c.self.inside.pairs.items c.pairs_changed-row.result.now c.self.inside.keys.items (rising_apart c.self.inside.part.now c.self.invariant.kept.rises) change
+    (more_placed c.self.inside.problem.now.segs c.self.inside.prefix.placed c.place.new.self.placed c.args.seg c.args.line below c.place.ensures.placed) moved
+    (here_changed (length c.self.inside.problem.now.segs) c.self.inside.pairs.items c.self.inside.rows.items c.change_on-change.result c.args.seg c.index.result.now c.pairs_changed-row.result.now c.self.invariant.kept.by_segment (subst (λ (b : PartState). c.args.seg.0 < length b.segs) (sym c.self.view_is) c.requires.known) c.index.ensures c.pairs_changed-row.ensures)
+    c.self.invariant.kept.own (row_places (is_changed c.change_on-change.result) c.self.inside.pairs.items c.pairs_changed-row.result.now
+    (row_changed (length c.self.inside.problem.now.segs) c.self.inside.problem.now.segs c.self.inside.part.now c.self.inside.pairs.items c.self.inside.rows.items c.change_on-change.result c.args.seg c.index.result.now c.pairs_changed-row.result.now
+    c.self.invariant.kept.by_segment (subst (λ (b : PartState). c.args.seg.0 < length b.segs) (sym c.self.view_is) c.requires.known) c.change_on-change.ensures.seg c.index.ensures c.pairs_changed-row.ensures c.self.invariant.kept.own c.self.invariant.kept.groups)) c.self.invariant.kept.keys_are))
 
 pub sum_anew-total-requires-clause-notes : goal.sum_anew-total-requires-clause-notes
 sum_anew-total-requires-clause-notes c =

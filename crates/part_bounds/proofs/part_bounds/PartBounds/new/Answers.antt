@@ -84,7 +84,7 @@ invariant_of-result c =
           (subst (λ (l : List PairTerms). AreKeys c.in_ok-prefix.prefix.placed c.args.part.now (groups_in l) c.in_ok-keys.keys.items) c.as_slice-4.ensures.value c.in_ok-keys.ensures)
           (c.in_ok-notes.ensures c.args.problem.now.segs c.args.part.now (groups_in c.find_segments.new.pairs.items))
           (λ s i a n known within here noted. absurd (not_noted (rise_at (rises_in c.in_ok-rises.rises.items) s.0 i) n ((c.in_ok-rises.ensures s.0).none i) noted));
-      saved = subst (AreSaved c.args.problem.now.segs c.args.part.now (part_terms c.args.problem.now.terms c.args.part.now) c.in_ok-prefix.prefix.placed) (sym c.new-2.ensures.items) tt;
+      saved = subst (AreSaved c.args.problem.now.segs c.args.part.now (part_terms c.args.problem.now.terms c.args.part.now) c.in_ok-prefix.prefix.placed) (sym c.new-3.ensures.items) tt;
     }
 
 pub pairs_by_segment-requires : goal.pairs_by_segment-requires

@@ -1,11 +1,14 @@
-use Rattle.std.proofs.Common.{◌≡◌, ◌<◌, not, ◌==◌, List, length, map, refl, ap, sym, subst, ◌∙◌, arith}
+use Rattle.std.proofs.Common.{◌≡◌, ◌<◌, not, false, ◌==◌, List, [], length, map, refl, ap, sym, subst, ◌∙◌, arith}
 use Rattle.std.specs.Prelude.{sum_by}
-use Rattle.std.specs.List.{All}
+use Rattle.std.specs.List.{All, Contains}
 use Rattle.std.specs.Option.{IfSome}
 use Rattle.std.proofs.lemmas.Bool.{and_parts}
 use Rattle.map_base.specs.declared.ids.SegId.{SegId}
 use Rattle.map_base.specs.declared.ids.LineId.{LineId}
+use Rattle.graph_core.specs.Consistent.{AreRising}
 use Rattle.order_model.specs.PartTerms.{part_terms}
+use Rattle.order_model.specs.Prefixes.{is_placed}
+use Rattle.order_model.specs.Problems.{lines_on}
 use Rattle.order_model.specs.Completions.{placed_more}
 use Rattle.order_bound.proofs.Parts.{rising_apart}
 use Rattle.pair_shares.specs.declared.pair_terms.PairTerms.{PairTerms}
@@ -17,7 +20,7 @@ use Rattle.pair_shares.specs.Meeting.{row_of, AreHere}
 use Rattle.pair_shares.specs.Shares.{IsRow}
 use Rattle.pair_shares.specs.declared.pair_rows.PairHere.{PairHere}
 use Rattle.pair_shares.specs.SegmentRows.{pairs_in}
-use Rattle.pair_shares.proofs.LineRows.{row_for_line, here_for_line, row_in_pairs, pairs_below}
+use Rattle.pair_shares.proofs.LineRows.{row_in_pairs, pairs_below}
 use Rattle.pair_shares.proofs.Meeting.{row_are}
 use Rattle.pair_shares.proofs.Renewed.{stale_on, row_for}
 use Rattle.pair_shares.proofs.ToldSums.{share_told, told_is}
@@ -49,14 +52,11 @@ sum_told-requires-clause-row c =
     let all : List PairHere = c.index.result.now.all.items in
     let is : all ≡ row_of (pairs_in c.self.inside.rows.items) c.args.seg =
     row_in_pairs c.self.inside.rows.items c.args.seg.0 c.index.result.now all (pairs_below (length c.self.inside.problem.now.segs) c.self.inside.pairs.items c.self.inside.rows.items c.args.seg c.self.invariant.kept.by_segment known) c.index.ensures refl in
-    subst (λ (l : List PairTerms). IsRow (is_answered c.next_line-next.result) (groups_in l) c.pairs_for-row.result.now) (sym c.as_slice.ensures.value)
-    (row_for_line c.next_line-next.result c.args.seg c.self.inside.pairs.items all c.pairs_for-row.result.now
+    subst (λ (l : List PairTerms). IsRow (is_answered c.next_line-next.result) (groups_in l) all) (sym c.as_slice.ensures.value)
     (row_for (length c.self.inside.problem.now.segs) c.self.inside.problem.now.segs c.self.inside.part.now c.self.inside.pairs.items c.self.inside.pairs.items (pairs_in c.self.inside.rows.items) (is_answered c.next_line-next.result) c.args.seg all
     c.self.invariant.kept.by_segment known refl
     (λ g h. ap (meets g.1) (sym c.next_line-next.ensures.seg) ∙ (and_parts (not (answer_after c.next_line-next.result.known.now (fresh_lines c.next_line-next.result) g.0 == 0)) (meets g.1 c.next_line-next.result.seg) h).1)
     is c.self.invariant.kept.own c.self.invariant.kept.groups)
-    (subst (AreHere c.args.seg c.self.inside.pairs.items) (sym is) (row_are (length c.self.inside.problem.now.segs) c.self.inside.pairs.items (pairs_in c.self.inside.rows.items) c.args.seg c.self.invariant.kept.by_segment known))
-    c.pairs_for-row.ensures)
 
 pub sum_told-requires-clause-here : goal.sum_told-requires-clause-here
 sum_told-requires-clause-here c =
@@ -64,11 +64,27 @@ sum_told-requires-clause-here c =
     let all : List PairHere = c.index.result.now.all.items in
     let is : all ≡ row_of (pairs_in c.self.inside.rows.items) c.args.seg =
     row_in_pairs c.self.inside.rows.items c.args.seg.0 c.index.result.now all (pairs_below (length c.self.inside.problem.now.segs) c.self.inside.pairs.items c.self.inside.rows.items c.args.seg c.self.invariant.kept.by_segment known) c.index.ensures refl in
-    subst (λ (s : SegId). AreHere s c.as_slice.result.now c.pairs_for-row.result.now) (sym c.next_line-next.ensures.seg)
-    (subst (λ (l : List PairTerms). AreHere c.args.seg l c.pairs_for-row.result.now) (sym c.as_slice.ensures.value)
-    (here_for_line c.next_line-next.result c.args.seg c.self.inside.pairs.items all c.pairs_for-row.result.now
-    (subst (AreHere c.args.seg c.self.inside.pairs.items) (sym is) (row_are (length c.self.inside.problem.now.segs) c.self.inside.pairs.items (pairs_in c.self.inside.rows.items) c.args.seg c.self.invariant.kept.by_segment known))
-    c.pairs_for-row.ensures))
+    subst (λ (s : SegId). AreHere s c.as_slice.result.now all) (sym c.next_line-next.ensures.seg)
+    (subst (λ (l : List PairTerms). AreHere c.args.seg l all) (sym c.as_slice.ensures.value)
+    (subst (AreHere c.args.seg c.self.inside.pairs.items) (sym is) (row_are (length c.self.inside.problem.now.segs) c.self.inside.pairs.items (pairs_in c.self.inside.rows.items) c.args.seg c.self.invariant.kept.by_segment known)))
+
+pub sum_told-requires-clause-rising : goal.sum_told-requires-clause-rising
+sum_told-requires-clause-rising c =
+    let known = subst (λ (b : PartState). c.args.seg.0 < length b.segs) (sym c.self.view_is) c.requires.known in
+    subst (λ (s : SegId). AreRising (lines_on c.self.inside.problem.now.segs s)) (sym c.next_line-next.ensures.seg)
+    (subst (λ (b : PartState). All AreRising b.segs) (sym c.self.view_is) c.requires.rising c.args.seg.0 [] known)
+
+pub sum_told-requires-clause-on : goal.sum_told-requires-clause-on
+sum_told-requires-clause-on c =
+    subst (λ (s : SegId). Contains (lines_on c.self.inside.problem.now.segs s) c.next_line-next.result.line) (sym c.next_line-next.ensures.seg)
+    (subst (Contains (lines_on c.self.inside.problem.now.segs c.args.seg)) (sym c.next_line-next.ensures.line)
+    (subst (λ (b : PartState). Contains (lines_on b.segs c.args.seg) c.args.line) (sym c.self.view_is) c.requires.line))
+
+pub sum_told-requires-clause-unplaced : goal.sum_told-requires-clause-unplaced
+sum_told-requires-clause-unplaced c =
+    subst (λ (s : SegId). is_placed (lines_on c.self.inside.prefix.placed s) c.next_line-next.result.line ≡ false) (sym c.next_line-next.ensures.seg)
+    (subst (λ (a : LineId). is_placed (lines_on c.self.inside.prefix.placed c.args.seg) a ≡ false) (sym c.next_line-next.ensures.line)
+    (subst (λ (b : PartState). is_placed (lines_on b.placed c.args.seg) c.args.line ≡ false) (sym c.self.view_is) c.requires.unplaced))
 
 pub sum_told-requires-clause-stale : goal.sum_told-requires-clause-stale
 sum_told-requires-clause-stale c =
