@@ -2,7 +2,8 @@
 
 ghost use Rattle.std.specs.Prelude.{◌≡◌, ◌≤◌, ◌++◌, All, IfOk, OnOk, vec_len, unsigned_abs};
 ghost use Rattle.transit_feed.specs.Feeds.{IsPlaced};
-ghost use Rattle.table_commands.specs.Stations.{feed_band, station_line, stations_text};
+ghost use Rattle.feed_courses.specs.Places.{feed_band};
+ghost use Rattle.table_commands.specs.Stations.{station_line, stations_text};
 
 use fixed_plane::{band_of, project};
 use gtfs_tables::Station;

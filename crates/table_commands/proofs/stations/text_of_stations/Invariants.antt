@@ -1,6 +1,7 @@
 use Rattle.std.proofs.Common.{◌≡◌, take}
 use Rattle.std.specs.List.{flat_map}
-use Rattle.table_commands.specs.Stations.{feed_band, station_line}
+use Rattle.feed_courses.specs.Places.{feed_band}
+use Rattle.table_commands.specs.Stations.{station_line}
 use Rattle.table_commands.proofs.stations.text_of_stations.Given as goal
 
 abbrev pub invariant-loop-station : goal.invariant-loop-station
