@@ -4,6 +4,3 @@
 mod flags;
 
 pub use flags::Flags;
-
-#[cfg(test)]
-mod tests;

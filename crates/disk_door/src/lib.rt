@@ -4,8 +4,6 @@
 mod disk_files;
 mod disk_sinks;
 mod failures;
-#[cfg(test)]
-mod tests;
 
 pub use disk_files::DiskFiles;
 pub use disk_sinks::DiskSinks;

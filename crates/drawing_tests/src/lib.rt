@@ -1,4 +1,5 @@
-//! Tests of what is made of a drawing that stands: nodes that move until it is lightest, and names beside its stations.
+//! Tests of what is made of a drawing that stands: nodes that move until it is lightest, lines beside its walks, and names
+//! beside its stations.
 #![tactic(auto)]
 
 #[cfg(test)]
@@ -9,3 +10,5 @@ mod graphs;
 mod label_tests;
 #[cfg(test)]
 mod move_tests;
+#[cfg(test)]
+mod offset_tests;

@@ -25,6 +25,3 @@ pub use steady_sinks::SteadySinks;
 pub use stop::Stop;
 pub use target::Target;
 pub use writing::{WriteStop, write_all};
-
-#[cfg(test)]
-mod tests;

@@ -10,6 +10,3 @@ mod shift;
 pub use corner::Corner;
 pub use laws::{a_corner_is_where_both_lines_meet, an_end_is_on_its_line};
 pub use path::{line_path, path_end, path_start, put_path};
-
-#[cfg(test)]
-mod tests;

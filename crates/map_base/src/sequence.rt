@@ -41,27 +41,3 @@ impl<T> Sequence<T> {
         self.held
     }
 }
-
-#[cfg(test)]
-mod tests {
-    use super::*;
-    use std::test::Fail;
-
-    #[test]
-    fn gives_back_what_it_holds(rt: HostRuntime) -> Result<(), Fail> {
-        let mut inner = Vec::new(rt.alloc());
-        inner.push(3_u32)?;
-        inner.push(1)?;
-        let inner = Sequence::of(inner);
-        let shown = inner.as_slice();
-        assert_eq!(rt; shown, [3, 1].as_slice());
-
-        let mut outer = Vec::new(rt.alloc());
-        outer.push(inner)?;
-        let outer = Sequence::of(outer).into_vec();
-        assert_eq!(rt; outer.len(), 1);
-        let first = outer[0].as_slice();
-        assert_eq!(rt; first, [3, 1].as_slice());
-        Ok(())
-    }
-}

@@ -80,19 +80,3 @@ impl Settings {
         })
     }
 }
-
-#[cfg(test)]
-mod tests {
-    use super::*;
-    use std::test::Fail;
-
-    #[test]
-    fn standard_settings_are_made(rt: HostRuntime) -> Result<(), Fail> {
-        let settings = Settings::standard(rt.alloc())?;
-        assert_eq!(rt; settings.near, 500);
-        let types = settings.types.as_slice();
-        assert_eq!(rt; types, [0, 1, 2, 5, 6, 7, 12].as_slice());
-        assert_eq!(rt; settings.importance.as_slice().len(), 0);
-        Ok(())
-    }
-}

@@ -37,19 +37,3 @@ impl Text {
         self.held.as_str()
     }
 }
-
-#[cfg(test)]
-mod tests {
-    use super::*;
-    use std::test::Fail;
-
-    #[test]
-    fn holds_what_it_was_given(rt: HostRuntime) -> Result<(), Fail> {
-        for text in ["", "Main St", "Zürich \"HB\"\r\n"] {
-            let held = Text::of(rt.alloc(), text)?;
-            let shown = held.as_str();
-            assert_eq!(rt; shown, text);
-        }
-        Ok(())
-    }
-}

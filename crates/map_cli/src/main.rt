@@ -1,26 +1,12 @@
-//! The program octimap: it reads an unpacked GTFS Schedule feed and prints what a command asks for. `run`
-//! does all that the program does, over any files and sinks; `main` hands it the disk and standard output.
+//! The program octimap: it reads an unpacked GTFS Schedule feed and prints what a command asks for. `run` of map_run does all
+//! that the program does, over any files and sinks; `main` hands it the disk and standard output.
 #![tactic(auto)]
 
 ghost use Rattle.std.specs.Prelude.{◌≡◌, ◌<◌};
 
-mod answer;
-#[cfg(test)]
-mod graph_tests;
-mod inputs;
-mod laws;
-#[cfg(test)]
-mod map_tests;
-#[cfg(test)]
-mod page_tests;
-mod run;
-#[cfg(test)]
-mod session_tests;
-#[cfg(test)]
-mod tests;
-
 use disk_door::{DiskFiles, DiskSinks};
 use map_base::Steps;
+use map_run::run;
 use run_status::Status;
 use std::marker::Brand;
 use std::process::ExitCode;
@@ -53,7 +39,7 @@ fn run_counted<L: Ledger>(rt: &HostRuntime, words: &[String], blank: Blank) -> S
     let mut files = DiskFiles::new(rt);
     let mut sinks = DiskSinks::new(rt, rt.alloc());
     let mut steps = Steps::<L>::open(blank);
-    run::run(rt.alloc(), words, &mut files, &mut sinks, &mut steps)
+    run(rt.alloc(), words, &mut files, &mut sinks, &mut steps)
 }
 
 /// The words are no text, or there is no memory for them.

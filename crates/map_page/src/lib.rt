@@ -6,6 +6,3 @@ mod page;
 mod tail;
 
 pub use page::page_of;
-
-#[cfg(test)]
-mod tests;

@@ -69,26 +69,3 @@ fn push_byte(text: &mut Vec<u8>, byte: u8) -> Result<(), NoMemory>
     }
     Ok(())
 }
-
-#[cfg(test)]
-mod tests {
-    use super::*;
-    use std::test::Fail;
-
-    #[test]
-    fn points_and_ids(rt: HostRuntime) -> Result<(), Fail> {
-        let mut text = Vec::new(rt.alloc());
-        let mut numbers = String::new(rt.alloc());
-        push_line(
-            &mut text,
-            &mut numbers,
-            Point { x: 0, y: -112 },
-            "a\tb \u{e9}",
-        )?;
-        push_point(&mut text, &mut numbers, Point { x: 5000, y: 0 })?;
-        push_number(&mut text, &mut numbers, 4_294_967_295)?;
-        let shown = str::from_utf8(text.as_slice()).ok().ok_or("text")?;
-        assert_eq!(rt; shown, "0 -112 a\u{fffd}b \u{e9}\n5000 0 4294967295");
-        Ok(())
-    }
-}

@@ -39,35 +39,3 @@ impl Model for Tables {
       shapes = t.shapes.items;
     }) };
 }
-
-#[cfg(test)]
-mod tests {
-    use super::*;
-    use map_base::{LineId, Sequence, StationId, Text};
-    use std::test::Fail;
-
-    #[test]
-    fn tables_of_two_stations(rt: HostRuntime) -> Result<(), Fail> {
-        let mut stations = Vec::new(rt.alloc());
-        stations.push(Station {
-            id: Text::of(rt.alloc(), "X")?,
-            name: Text::of(rt.alloc(), "North")?,
-            lat: 10_000,
-            lon: 0,
-        })?;
-        stations.push(Station {
-            id: Text::of(rt.alloc(), "Y")?,
-            name: Text::of(rt.alloc(), "South")?,
-            lat: 0,
-            lon: 0,
-        })?;
-        let tables = Tables {
-            stations,
-            lines: Vec::new(rt.alloc()),
-            patterns: Vec::new(rt.alloc()),
-            shapes: Vec::new(rt.alloc()),
-        };
-        assert_eq!(rt; tables.stations.len(), 2);
-        Ok(())
-    }
-}

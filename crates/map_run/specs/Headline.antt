@@ -1,0 +1,115 @@
+-- What a user may rely on where a run ends with status 0, in the words of the feed.
+use Rattle.std.specs.Prelude.{◌≡◌, ℕ, None, List, [], ◌++◌, length, Option, Some, IfSome, unwrap_or, true, ⊤, Ok}
+use Rattle.map_base.specs.declared.limit.LimitKind.TheVariants.{File}
+use Rattle.map_base.specs.Limits.{is_within}
+use Rattle.map_method.specs.declared.defaults.Defaults.TheVariants.{Make}
+use Rattle.files_door.specs.declared.target.Target.TheVariants.{Said, Path}
+use Rattle.files_door.specs.Files.{file_at}
+use Rattle.files_door.specs.Targets.{Written, held_by}
+use Rattle.table_rows.specs.declared.why.Table.{Table}
+use Rattle.table_rows.specs.Folder.{path_in}
+use Rattle.map_engine.specs.Making.{MapBytes, make_outcome}
+use Rattle.map_engine.specs.Promises.{IsMade}
+use Rattle.map_engine.specs.Improving.{ImprovedBytes, improve_outcome, IsImprovedMap}
+use Rattle.map_engine.specs.Labelling.{IsLabelledMap}
+use Rattle.edit_session.specs.Scripts.{followed_in}
+use Rattle.session_command.specs.SessionWorks.{session_text}
+use Rattle.session_command.specs.Promises.{KeepDraws}
+use Rattle.command_inputs.specs.declared.loaded.Loaded.{Loaded}
+use Rattle.command_words.specs.Asked.{Asked, stations, graph, make, improve, check, labels, session, trial, page}
+use Rattle.command_paths.specs.Paths.{Chosen, MapPaths}
+use Rattle.map_commands.specs.MapWorks.{best_line}
+use Rattle.improve_command.specs.ImproveWorks.{improved_line}
+use Rattle.command_inputs.specs.Loading.{Loads}
+use Rattle.map_run.specs.Inputs.{inputs_of}
+use Rattle.map_commands.specs.Promises.{IsAccepted}
+
+-- The map of a feed is written, and its certificate: those that are defined for the feed's tables. The map shows exactly
+-- the line graph of these tables, in a legal drawing; no line orders cost less, as the certificate shows: the check says yes
+-- to both. The two files hold the two.
+pub record IsMapWritten (told : Option (List (List ℕ × List ℕ))) (asked : Asked) (paths : MapPaths) (new : Written) : Type 0 where
+  pub loaded : Loaded
+  pub loads : Loads told (inputs_of asked) loaded
+  pub made : MapBytes
+  pub defined : make_outcome loaded.tables loaded.settings loaded.method ≡ Ok made
+  pub is_made : IsMade loaded.tables loaded.settings made
+  pub map : held_by (Path paths.picture) new ≡ Some made.svg
+  pub certificate : held_by (Path paths.certificate) new ≡ Some made.certificate
+
+-- The map of a feed is written after more moves on its drawing, and its certificate: those that are defined for the feed's
+-- tables. The map shows exactly the line graph of these tables, in a legal drawing that is no heavier than that of `make`; no
+-- line orders cost less, and the check says yes to both. The two files hold the two, and the line that tells of the moves is
+-- printed behind what standard output held.
+pub record IsImprovedMapWritten (told : Option (List (List ℕ × List ℕ))) (asked : Asked) (paths : MapPaths) (moves : ℕ) (old new : Written) : Type 0 where
+  pub loaded : Loaded
+  pub loads : Loads told (inputs_of asked) loaded
+  pub improved : ImprovedBytes
+  pub defined : improve_outcome loaded.tables loaded.settings loaded.method moves ≡ Ok improved
+  pub is_improved : IsImprovedMap loaded.tables loaded.settings loaded.method moves improved
+  pub map : held_by (Path paths.picture) new ≡ Some improved.map.svg
+  pub certificate : held_by (Path paths.certificate) new ≡ Some improved.map.certificate
+  pub printed : held_by Said new ≡ Some (unwrap_or (held_by Said old) [] ++ improved_line improved.improvement)
+
+-- a cost is printed behind what standard output held
+abbrev pub SaysBest : Written → Written → ℕ → Type 0
+SaysBest old new cost = held_by Said new ≡ Some (unwrap_or (held_by Said old) [] ++ best_line cost)
+
+-- The map that lies at the path of `check` is accepted with its certificate, whoever made the two: it shows exactly the line
+-- graph of the feed's tables, in a legal drawing, with line orders of the cost that is printed, and none cost less.
+pub record IsMapAccepted (told : Option (List (List ℕ × List ℕ))) (asked : Asked) (paths : MapPaths) (old new : Written) : Type 0 where
+  pub loaded : Loaded
+  pub loads : Loads told (inputs_of asked) loaded
+  pub picture : List ℕ
+  pub lies : IfSome told (λ files. file_at files paths.picture ≡ Some picture)
+  pub cost : ℕ
+  pub accepted : IsAccepted told (inputs_of asked) loaded picture cost
+  pub printed : SaysBest old new cost
+
+-- A map with its names is written, by the certificate that lies at its path, whoever made that: it shows exactly the line
+-- graph of the feed's tables, in a legal drawing, no line orders cost less, and its names stand at free places.
+pub record IsLabelledMapWritten (told : Option (List (List ℕ × List ℕ))) (asked : Asked) (path out : List ℕ) (new : Written) : Type 0 where
+  pub loaded : Loaded
+  pub loads : Loads told (inputs_of asked) loaded
+  pub certificate : List ℕ
+  pub lies : IfSome told (λ files. file_at files path ≡ Some certificate)
+  pub map : List ℕ
+  pub is_labelled : IsLabelledMap loaded.tables loaded.settings map certificate
+  pub holds : held_by (Path out) new ≡ Some map
+
+-- A script was followed to its end, and its draws are written: each has the bytes of a fresh map with the edits that stand
+-- there, which shows exactly the line graph that these make, in a legal drawing, and no line orders cost less.
+pub record IsSessionWritten (told : Option (List (List ℕ × List ℕ))) (asked : Asked) (path out : List ℕ) (new : Written) : Type 0 where
+  pub loaded : Loaded
+  pub loads : Loads told (inputs_of asked) loaded
+  pub script : List ℕ
+  pub lies : IfSome told (λ files. file_at files path ≡ Some script)
+  pub followed : (followed_in loaded.tables script).bad ≡ None
+  pub kept : KeepDraws loaded script
+  pub holds : held_by (Path out) new ≡ Some (session_text loaded script)
+
+-- what status 0 means, by the command
+abbrev pub MeansDone : Option (List (List ℕ × List ℕ)) → Asked → Written → Written → Type 0
+MeansDone told (stations feed) old new = ⊤
+MeansDone told (graph feed chosen) old new = ⊤
+MeansDone told (make feed paths chosen) old new = IsMapWritten told (make feed paths chosen) paths new
+MeansDone told (improve feed paths moves chosen) old new = IsImprovedMapWritten told (improve feed paths moves chosen) paths moves old new
+MeansDone told (labels feed certificate out chosen) old new = IsLabelledMapWritten told (labels feed certificate out chosen) certificate out new
+MeansDone told (session feed script out chosen) old new = IsSessionWritten told (session feed script out chosen) script out new
+MeansDone told (trial number) old new = ⊤
+MeansDone told (page picture html) old new = ⊤
+MeansDone told (check feed paths chosen) old new = IsMapAccepted told (check feed paths chosen) paths old new
+
+-- what is chosen for a check of a map: the files that were chosen for the map
+abbrev pub to_check : Chosen → Chosen
+to_check chosen = record chosen { defaults = Make }
+
+-- Later files: the feed and the files of settings and of edits, if they are named, are as they were, and the map and the certificate lie at their paths as a run of `make`
+-- left them, none of the two longer than a file may be.
+pub record LieAsMade (files later : List (List ℕ × List ℕ)) (feed : List ℕ) (paths : MapPaths) (chosen : Chosen) (new : Written) : Type 0 where
+  pub same_feed : (table : Table) → file_at later (path_in feed table) ≡ file_at files (path_in feed table)
+  pub same_settings : IfSome chosen.settings (λ path. file_at later path ≡ file_at files path)
+  pub same_edits : IfSome chosen.edits (λ path. file_at later path ≡ file_at files path)
+  pub map : file_at later paths.picture ≡ held_by (Path paths.picture) new
+  pub certificate : file_at later paths.certificate ≡ held_by (Path paths.certificate) new
+  pub map_fits : IfSome (held_by (Path paths.picture) new) (λ bytes. is_within File (length bytes) ≡ true)
+  pub certificate_fits : IfSome (held_by (Path paths.certificate) new) (λ bytes. is_within File (length bytes) ≡ true)
