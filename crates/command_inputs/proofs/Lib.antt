@@ -2,4 +2,3 @@ pub mod FileLemmas
 pub mod TableLemmas
 pub mod LoadLemmas
 pub mod EditLemmas
-mod Examples

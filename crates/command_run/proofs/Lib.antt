@@ -1,4 +1,3 @@
 pub mod WorkLemmas
 pub mod ActLemmas
 pub mod HeldLemmas
-mod Examples

@@ -2,4 +2,3 @@ pub mod Apart
 mod Reading
 mod Numbers
 mod Building
-mod Examples

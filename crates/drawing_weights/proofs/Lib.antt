@@ -3,4 +3,3 @@ pub mod LeastWeights
 pub mod ShortWalks
 pub mod DrawnFacts
 pub mod Sums
-mod Examples

@@ -1,4 +1,3 @@
-mod Examples
 mod SessionLemmas
 pub mod ScriptLemmas
 mod LawLemmas

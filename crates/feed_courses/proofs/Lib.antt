@@ -11,4 +11,3 @@ mod SumLemmas
 pub mod WholeLemmas
 mod FeedLemmas
 pub mod ServedStations
-mod Examples

@@ -1,5 +1,4 @@
 pub mod Acts
-mod Examples
 pub mod Faults
 mod Kept
 mod Places

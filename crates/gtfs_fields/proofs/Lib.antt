@@ -9,4 +9,3 @@ pub mod TextParts
 pub mod ScaledNumbers
 pub mod Counts
 pub mod TextRows
-mod Examples

@@ -7,4 +7,3 @@ pub mod GoodPatterns
 pub mod StepLemmas
 pub mod FewRows
 pub mod StepCases
-mod Examples

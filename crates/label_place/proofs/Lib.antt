@@ -1,4 +1,3 @@
-mod Examples
 mod Tests
 mod Orders
 mod Numbers

@@ -2,4 +2,3 @@ pub mod Costs
 pub mod Walks
 pub mod Same
 pub mod Chosen
-mod Examples

@@ -1,3 +1,2 @@
-mod Examples
 pub mod Paths
 pub mod Meeting

@@ -10,4 +10,3 @@ pub mod RangeLemmas
 pub mod MadeLemmas
 pub mod LineRanges
 pub mod ScriptLemmas
-mod Examples

@@ -1,4 +1,3 @@
-mod Examples
 mod DrawnLemmas
 mod ItemLemmas
 mod HeldOrders

@@ -5,4 +5,3 @@ pub mod HeadlineLemmas
 pub mod DoneLemmas
 pub mod SaysYes
 pub mod ArmLemmas
-mod Examples

@@ -1,5 +1,4 @@
 mod ChangeLemmas
-mod Examples
 mod EachLemmas
 mod ImportanceLemmas
 mod KeyLemmas

@@ -5,6 +5,5 @@ mod Searches
 mod Spreading
 mod Rising
 mod Walked
-mod Examples
 mod Choosing
 pub mod Visiting

@@ -8,4 +8,3 @@ mod Rooms
 pub mod GridLemmas
 pub mod HomeFacts
 pub mod SpreadLemmas
-mod Examples

@@ -10,5 +10,4 @@ mod SweepLemmas
 mod CheckLemmas
 mod CheckSteps
 pub mod PortsLemmas
-mod Examples
 mod Fronts

@@ -17,4 +17,3 @@ mod MovedUse
 mod Firsts
 mod Found
 mod Moving
-mod Examples

@@ -5,4 +5,3 @@ pub mod OrderLemmas
 pub mod Values
 pub mod RunLemmas
 mod RisingPairs
-mod Examples

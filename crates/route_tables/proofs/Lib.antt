@@ -1,3 +1,2 @@
 pub mod RouteLemmas
 pub mod TripLemmas
-mod Examples

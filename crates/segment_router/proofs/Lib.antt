@@ -16,4 +16,3 @@ pub mod LegalRoutes
 pub mod Again
 mod NearRoutes
 mod ShownLemmas
-mod Examples

@@ -1,4 +1,3 @@
-mod Examples
 mod EditLemmas
 mod LineLemmas
 pub mod PlayLemmas

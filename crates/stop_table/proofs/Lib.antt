@@ -1,4 +1,3 @@
 pub mod StopLemmas
-mod StopExamples
 pub mod PlacedLemmas
 pub mod LeadLemmas

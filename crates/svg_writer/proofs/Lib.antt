@@ -1,4 +1,3 @@
-mod Examples
 pub mod Appends
 pub mod Written
 pub mod Ranges

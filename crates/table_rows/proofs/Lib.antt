@@ -5,4 +5,3 @@ pub mod RowLemmas
 pub mod FolderLemmas
 pub mod DistinctIds
 pub mod FirstLemmas
-mod Examples

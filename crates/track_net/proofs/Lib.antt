@@ -11,4 +11,3 @@ mod CellsAround
 mod SameLists
 pub mod Finding
 pub mod Joining
-mod Examples

@@ -1,4 +1,3 @@
 mod DrawLemmas
 mod WalkLemmas
 mod FolderLemmas
-mod Examples

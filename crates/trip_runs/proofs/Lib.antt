@@ -6,4 +6,3 @@ pub mod StopTimeLemmas
 pub mod StationLemmas
 pub mod ShapeLemmas
 pub mod CourseLemmas
-mod Examples

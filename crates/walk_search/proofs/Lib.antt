@@ -1,4 +1,3 @@
-mod Examples
 pub mod Turning
 pub mod LeastReach
 pub mod Numbered

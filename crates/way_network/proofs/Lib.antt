@@ -1,4 +1,3 @@
-mod GraphExamples
 pub mod RisingLists
 mod Parts
 mod CrossingOrder

@@ -1,0 +1,9 @@
+mod Grids
+mod FreeWalks
+mod Homes
+mod Routes
+mod Weights
+mod Moves
+mod Offsets
+mod Pictures
+mod Labels

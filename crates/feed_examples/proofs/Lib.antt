@@ -1,0 +1,11 @@
+mod Fields
+mod Entries
+mod Rows
+mod Routes
+mod Stops
+mod Trips
+mod Patterns
+mod Doors
+mod Edits
+mod SettingsFiles
+mod Trials

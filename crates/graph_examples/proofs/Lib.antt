@@ -1,0 +1,10 @@
+mod FeedExamples
+mod RoundExamples
+mod TextExamples
+mod Planes
+mod Paths
+mod Tracks
+mod Nets
+mod Stretches
+mod Courses
+mod Ways

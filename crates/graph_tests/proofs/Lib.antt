@@ -1,3 +1,0 @@
-mod FeedExamples
-mod RoundExamples
-mod TextExamples

@@ -1,3 +1,0 @@
-//! Worked examples of the definitions that line graphs stand on: of feeds, of rounds and of texts. Each is proved by
-//! computing what the definition gives. Nothing runs here, and nothing stands on this crate.
-#![tactic(auto)]
