@@ -31,10 +31,10 @@ def text_of(path):
         return ""
 
 
-def place_of(process):
-    """(parent, seconds) of a process, by /proc."""
+def state_of(process):
+    """(parent, seconds, start) of a process, by /proc."""
     fields = text_of(f"/proc/{process}/stat").rpartition(")")[2].split()
-    return (int(fields[1]), (int(fields[11]) + int(fields[12])) / TICK) if len(fields) > 12 else (0, 0.0)
+    return (int(fields[1]), (int(fields[11]) + int(fields[12])) / TICK, fields[19]) if len(fields) > 19 else (0, 0.0, "")
 
 
 def work_of(process):
@@ -60,28 +60,23 @@ class Sampler:
         self.seconds, self.peaks = collections.Counter(), collections.Counter()
 
     def look(self):
-        parents, times = {self.top: 0}, {}
-        for name in os.listdir("/proc"):
-            if name.isdigit():
-                parents[int(name)], times[int(name)] = place_of(name)
-        for process, spent in times.items():
+        states = {int(name): state_of(name) for name in os.listdir("/proc") if name.isdigit()}
+        parents = {process: state[0] for process, state in states.items()}
+        for process, (parent, spent, start) in states.items():
             if process != self.top and self.is_below(process, parents):
-                self.add(process, spent, parents)
+                self.add((process, start), (parent, states.get(parent, (0, 0, ""))[2]), spent)
 
     def is_below(self, process, parents):
         while process in parents and process != self.top:
             process = parents[process]
         return process == self.top
 
-    def add(self, process, spent, parents):
-        key = (process, text_of(f"/proc/{process}/stat").rpartition(")")[2].split()[19:20] and process)
-        work = self.works.get(process) or work_of(process) or self.works.get(parents[process]) or ("", "other")
+    def add(self, process, parent, spent):
+        work = self.works.get(process) or work_of(process[0]) or self.works.get(parent) or ("", "other")
         self.works[process] = work
-        before = self.seen.get(key, 0.0)
-        if spent > before:
-            self.seconds[work] += spent - before
-        self.seen[key] = spent
-        memory = re.search(r"VmHWM:\s+(\d+)", text_of(f"/proc/{process}/status"))
+        self.seconds[work] += max(0.0, spent - self.seen.get(process, 0.0))
+        self.seen[process] = spent
+        memory = re.search(r"VmHWM:\s+(\d+)", text_of(f"/proc/{process[0]}/status"))
         if memory:
             self.peaks[work] = max(self.peaks[work], int(memory[1]) // 1024)
 

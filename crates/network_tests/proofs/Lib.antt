@@ -1,2 +1,1 @@
-mod PremiseLemmas
 mod SmallFeed

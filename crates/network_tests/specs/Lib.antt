@@ -1,2 +1,1 @@
-pub mod PremiseTests
 pub mod SmallFeeds

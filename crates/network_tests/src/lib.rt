@@ -1,4 +1,4 @@
-//! Tests of the crates that make courses, the net, its paths and the network of ways: each call that takes memory once,
+//! Tests of the crates that make courses, the net and its paths: each call that takes memory once,
 //! and points, distances and directions of the plane. The expected values were worked by hand.
 #![tactic(auto)]
 
@@ -12,5 +12,3 @@ mod path_tests;
 mod plane_tests;
 #[cfg(test)]
 mod track_tests;
-#[cfg(test)]
-mod way_tests;

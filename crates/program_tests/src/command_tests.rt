@@ -2,9 +2,9 @@
 
 ghost use Rattle.std.specs.Prelude.{◌≡◌, ◌<◌};
 
-use map_run::run;
 use files_door::{Files, MemoryFiles, MemorySinks, Sinks, SteadyFiles, SteadySinks, Target};
 use map_base::{NoMemory, Steps, Text};
+use map_run::run;
 use std::alloc::{AllocError, Global};
 use std::marker::Brand;
 use std::sync::ledger::{Blank, Ledger};

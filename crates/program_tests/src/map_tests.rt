@@ -1,7 +1,7 @@
 //! The commands `make` and `check` over files in memory.
 
-use crate::graph_tests::put_file;
 use crate::command_tests::{run_on, words_of};
+use crate::graph_tests::put_file;
 use files_door::{MemorySinks, SteadyFiles, SteadySinks, Target};
 use map_base::{NoMemory, Text};
 use std::alloc::Global;

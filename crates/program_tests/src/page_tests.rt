@@ -1,7 +1,7 @@
 //! The commands `page` and `trial` over files in memory.
 
-use crate::graph_tests::put_file;
 use crate::command_tests::{run_on, words_of};
+use crate::graph_tests::put_file;
 use files_door::{SteadyFiles, SteadySinks, Target};
 use map_base::{NoMemory, Text};
 use map_page::page_of;

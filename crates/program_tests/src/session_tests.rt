@@ -1,8 +1,8 @@
 //! The command `session` over files in memory.
 
+use crate::command_tests::{run_on, words_of};
 use crate::graph_tests::put_file;
 use crate::map_tests::{SMALLEST_CERTIFICATE, SMALLEST_MAP, at, smallest_feed};
-use crate::command_tests::{run_on, words_of};
 use files_door::{MemorySinks, SteadyFiles, Target};
 use std::alloc::Global;
 use std::test::Fail;

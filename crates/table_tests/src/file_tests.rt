@@ -1,7 +1,8 @@
 //! Files and sinks in memory.
 
 use files_door::{
-    DoorFault, MemoryFiles, MemorySinks, Sinks, SteadyFiles, SteadySinks, Target, WriteStop, read_all, write_all,
+    DoorFault, MemoryFiles, MemorySinks, Sinks, SteadyFiles, SteadySinks, Target, WriteStop,
+    read_all, write_all,
 };
 use map_base::{Limit, LimitKind, Text};
 use std::alloc::Global;
