@@ -3,8 +3,8 @@
 
     docs/gallery/ways.py FEED <GRAPH >SVG
 
-GRAPH is what `octimap graph FEED` prints; the colours of lines are those of FEED/routes.txt. Segments are drawn straight
-from node to node, their lines side by side in the order of their numbers.
+GRAPH is what `octimap graph FEED` prints; the colours of lines are those of FEED/routes.txt. Segments are drawn
+straight from node to node, their lines side by side in the order of their numbers.
 """
 import csv
 import math
@@ -34,7 +34,8 @@ for lower, upper, lines in segments:
     for place, line in enumerate(lines):
         aside = (place - (len(lines) - 1) / 2) * BESIDE
         dx, dy = -(y1 - y0) / long * aside, (x1 - x0) / long * aside
-        print(f'<path d="M {x0 + dx:.1f} {y0 + dy:.1f} L {x1 + dx:.1f} {y1 + dy:.1f}" stroke="#{colours[line]}" stroke-width="{BESIDE}"/>')
+        way = f"M {x0 + dx:.1f} {y0 + dy:.1f} L {x1 + dx:.1f} {y1 + dy:.1f}"
+        print(f'<path d="{way}" stroke="#{colours[line]}" stroke-width="{BESIDE}"/>')
 for (x, y), (_, _, station) in zip(points, nodes):
     if station:
         print(f'<circle cx="{x:.1f}" cy="{y:.1f}" r="4" fill="#ffffff" stroke="#000000" stroke-width="1.5"/>')
