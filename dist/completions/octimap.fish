@@ -25,6 +25,13 @@ function __octimap_in -a command
     test (count $words) -ge 2; and test "$words[2]" = $command
 end
 
+# The files with an ending and the folders; or all files, where there is none of them.
+function __octimap_files -a ending
+    set -l files (__fish_complete_path (commandline -ct))
+    string match -r -- ".*(?:\.$ending|/)(?:\t.*)?\$" $files
+    or printf '%s\n' $files
+end
+
 complete -c octimap -f
 complete -c octimap -s h -l help -d 'Print help'
 complete -c octimap -n 'test (count (commandline -opc)) -eq 1' -a map -d 'Make the map of a feed, and a certificate that its line orders cost least'
@@ -42,22 +49,22 @@ complete -c octimap -n '__octimap_at help 1' -a 'map make improve check labels s
 complete -c octimap -n '__octimap_in map' -l settings -r -F -d 'A file of settings in TOML, such as examples/settings.toml'
 complete -c octimap -n '__octimap_in map' -l edits -r -F -d 'A file of edits, one a line, such as examples/edits.txt; they are done to the tables and settings first'
 complete -c octimap -n '__octimap_at map 1' -a '(__fish_complete_directories (commandline -ct))'
-complete -c octimap -n '__octimap_at map 2' -a '(__fish_complete_suffix .svg)'
+complete -c octimap -n '__octimap_at map 2' -a '(__octimap_files svg)'
 complete -c octimap -n '__octimap_at map 3' -F
 complete -c octimap -n '__octimap_in make' -l settings -r -F -d 'A file of settings in TOML, such as examples/settings.toml'
 complete -c octimap -n '__octimap_in make' -l edits -r -F -d 'A file of edits, one a line, such as examples/edits.txt; they are done to the tables and settings first'
 complete -c octimap -n '__octimap_at make 1' -a '(__fish_complete_directories (commandline -ct))'
-complete -c octimap -n '__octimap_at make 2' -a '(__fish_complete_suffix .svg)'
+complete -c octimap -n '__octimap_at make 2' -a '(__octimap_files svg)'
 complete -c octimap -n '__octimap_at make 3' -F
 complete -c octimap -n '__octimap_in improve' -l settings -r -F -d 'A file of settings in TOML, such as examples/settings.toml'
 complete -c octimap -n '__octimap_in improve' -l edits -r -F -d 'A file of edits, one a line, such as examples/edits.txt; they are done to the tables and settings first'
 complete -c octimap -n '__octimap_at improve 1' -a '(__fish_complete_directories (commandline -ct))'
-complete -c octimap -n '__octimap_at improve 2' -a '(__fish_complete_suffix .svg)'
+complete -c octimap -n '__octimap_at improve 2' -a '(__octimap_files svg)'
 complete -c octimap -n '__octimap_at improve 3' -F
 complete -c octimap -n '__octimap_in check' -l settings -r -F -d 'A file of settings in TOML, such as examples/settings.toml'
 complete -c octimap -n '__octimap_in check' -l edits -r -F -d 'A file of edits, one a line, such as examples/edits.txt; they are done to the tables and settings first'
 complete -c octimap -n '__octimap_at check 1' -a '(__fish_complete_directories (commandline -ct))'
-complete -c octimap -n '__octimap_at check 2' -a '(__fish_complete_suffix .svg)'
+complete -c octimap -n '__octimap_at check 2' -a '(__octimap_files svg)'
 complete -c octimap -n '__octimap_at check 3' -F
 complete -c octimap -n '__octimap_in labels' -l settings -r -F -d 'A file of settings in TOML, such as examples/settings.toml'
 complete -c octimap -n '__octimap_in labels' -l edits -r -F -d 'A file of edits, one a line, such as examples/edits.txt; they are done to the tables and settings first'
@@ -72,5 +79,5 @@ complete -c octimap -n '__octimap_in graph' -l settings -r -F -d 'A file of sett
 complete -c octimap -n '__octimap_in graph' -l edits -r -F -d 'A file of edits, one a line, such as examples/edits.txt; they are done to the tables and settings first'
 complete -c octimap -n '__octimap_at graph 1' -a '(__fish_complete_directories (commandline -ct))'
 complete -c octimap -n '__octimap_at stations 1' -a '(__fish_complete_directories (commandline -ct))'
-complete -c octimap -n '__octimap_at page 1' -a '(__fish_complete_suffix .svg)'
-complete -c octimap -n '__octimap_at page 2' -a '(__fish_complete_suffix .html)'
+complete -c octimap -n '__octimap_at page 1' -a '(__octimap_files svg)'
+complete -c octimap -n '__octimap_at page 2' -a '(__octimap_files html)'
