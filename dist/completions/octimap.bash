@@ -17,10 +17,10 @@ _octimap_offer()
 _octimap()
 {
     local current=${COMP_WORDS[COMP_CWORD]} before=${COMP_WORDS[COMP_CWORD - 1]}
-    local commands='map make improve check labels session graph stations page trial help' options='' kinds=() place=0 at
+    local commands='map make improve check labels session graph stations page trial help' alone='--help' options='' kinds=() place=0 at
     COMPREPLY=()
     if ((COMP_CWORD == 1)); then
-        mapfile -t COMPREPLY < <(compgen -W "$commands --help" -- "$current")
+        mapfile -t COMPREPLY < <(compgen -W "$commands $alone" -- "$current")
         return
     fi
     case ${COMP_WORDS[1]} in
