@@ -1,9 +1,7 @@
 mod Grids
 mod FreeWalks
 mod Homes
-mod Routes
 mod Weights
 mod Moves
 mod Offsets
 mod Pictures
-mod Labels

@@ -1,3 +1,4 @@
+mod Examples
 mod Tests
 mod Orders
 mod Numbers

@@ -16,3 +16,4 @@ pub mod LegalRoutes
 pub mod Again
 mod NearRoutes
 mod ShownLemmas
+mod Examples
