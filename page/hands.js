@@ -5,7 +5,7 @@ function takeHold(view, panel) {
 
   function pointAt(thing, x, y) {
     tip.hidden = !thing;
-    tip.textContent = thing?.name;
+    tip.textContent = thing ? inWords(thing) : '';
     tip.style.transform = `translate(${x}px, ${y}px) translate(${x > view.width / 2 ? -105 : 5}%, .8rem)`;
     panel.point(thing);
   }
@@ -32,7 +32,7 @@ function takeHold(view, panel) {
     view.zoom(span([x, y]) / span(from), (x + other[0]) / 2, (y + other[1]) / 2, true);
   });
   on(glass, 'pointerup', ({ pointerId, offsetX, offsetY }) => {
-    if (fingers.delete(pointerId) && travelled < 4) panel.choose(view.at(offsetX, offsetY));
+    if (fingers.delete(pointerId) && travelled < 4) panel.toggle(view.at(offsetX, offsetY));
   });
   on(glass, 'pointerleave', ({ pointerId }) => {
     fingers.delete(pointerId);
@@ -45,7 +45,7 @@ function takeHold(view, panel) {
     view.zoom(Math.exp(-pixels * (event.ctrlKey ? .01 : .002)), event.offsetX, event.offsetY);
   });
 
-  const acts = { closer: () => view.zoom(1.5), farther: () => view.zoom(1 / 1.5), whole: () => view.go(view.whole()) };
+  const acts = { closer: () => view.zoom(1.5), farther: () => view.zoom(1 / 1.5), whole: () => view.show() };
   for (const id in acts) on(byId(id), 'click', acts[id]);
   const keys = {
     '+': acts.closer, '-': acts.farther, 0: acts.whole, Escape: () => panel.choose(),
@@ -57,12 +57,16 @@ function takeHold(view, panel) {
     event.preventDefault();
     keys[key]();
   });
+  for (const kind of ['png', 'svg']) on(byId(kind), 'click', () => savePicture(view, byId('name').textContent, kind));
 
   on(window, 'beforeprint', () => {
-    byId('legend').open = true;
+    view.isPrinting = byId('legend').open = true;
     view.settle({ scale: Math.min(1000 / view.map.width, 620 / view.map.height), x: 0, y: 0 }, view.map.width, view.map.height);
   });
-  on(window, 'afterprint', () => view.settle());
+  on(window, 'afterprint', () => {
+    view.isPrinting = false;
+    view.settle();
+  });
 }
 
 /* What follows this script is the picture, as text. */

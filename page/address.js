@@ -1,0 +1,34 @@
+/* The names of lines and stations behind # in the page's address: #line/NAME and #station/NAME, and behind it the place
+   among those of one name, from the second on. */
+class Address {
+  constructor({ lines, stations }) {
+    this.things = new Map();
+    this.keys = new Map();
+    const inOrder = things => [...things].sort((a, b) => collator.compare(inWords(a), inWords(b)));
+    for (const thing of [...inOrder(lines), ...inOrder(stations)]) this.add(thing);
+  }
+
+  add(thing) {
+    let number = 1;
+    while (this.things.has(keyOf(thing.kind, thing.name, number))) number++;
+    this.keys.set(thing, keyOf(thing.kind, thing.name, number));
+    this.things.set(this.keys.get(thing), thing);
+  }
+
+  /* What the address names, and how: nothing where it names none. */
+  read() {
+    const [kind, name = '', number = '1'] = location.hash.slice(1).split('/').map(decoded);
+    return { name, thing: this.things.get(keyOf(kind, name, Number(number))) || this.things.get(keyOf(kind, name, 1)) };
+  }
+
+  write(thing) {
+    const wanted = thing ? `#${this.keys.get(thing)}` : '';
+    if (this.read().thing !== thing) location.hash = wanted;
+  }
+}
+
+const keyOf = (kind, name, number) => [kind, encodeURIComponent(name), ...number > 1 ? [number] : []].join('/');
+
+function decoded(text) {
+  try { return decodeURIComponent(text); } catch { return text; }
+}

@@ -1,0 +1,83 @@
+const PAPER = '#ffffff', INK = '#16181d', LONGEST = 4096;
+
+/* What is seen; or the whole map, where all of it is, as large as it takes for all its names (at most 4096 pixels). */
+function frameOf(view) {
+  const { map, now, width, height } = view, isWhole = Math.abs(now.scale / view.whole().scale - 1) < .01;
+  const part = { left: map.left - now.x / now.scale, top: map.top - now.y / now.scale, width: width / now.scale, height: height / now.scale };
+  if (!isWhole) return { ...part, scale: now.scale, settled: now };
+  const sizes = [1200, 1700, 2400, 3400, LONGEST].map(size => size / Math.max(map.width, map.height));
+  const named = map.stations.filter(({ name }) => name).length;
+  const scale = sizes.find(size => namesAt(view, size) === named) || sizes[sizes.length - 1];
+  return { ...map, scale, settled: { scale, x: 0, y: 0 } };
+}
+
+function namesAt(view, scale) {
+  view.settle({ scale, x: 0, y: 0 }, view.map.width, view.map.height);
+  return view.layers[0].placed.length;
+}
+
+/* All that is to be drawn, in order, on white paper: strokes, names, and a veil over the map below what is lifted. */
+function* shapesOf({ layers, look, lifted }) {
+  for (const layer of lifted ? layers : [layers[0]]) {
+    if (layer !== layers[0]) yield { veil: .8 };
+    for (const [i, { edge }] of layer.lines.entries()) {
+      if (edge?.paper === 'on-white') yield { d: layer.texts[i], colour: edge.colour, width: look.edge };
+    }
+    for (const [i, { colour }] of layer.lines.entries()) yield { d: layer.texts[i], colour, width: look.stroke };
+    for (const [i, radius] of layer.radii.entries()) yield { d: layer.marks[i], colour: INK, width: look.rimOf(radius) };
+    for (const [i, radius] of layer.radii.entries()) yield { d: layer.marks[i], colour: PAPER, width: look.fillOf(radius) };
+    for (const { station, x, y } of layer.placed) yield { name: station.name, x, y, colour: PAPER, width: look.letters / 3 };
+    for (const { station, x, y } of layer.placed) yield { name: station.name, x, y, colour: INK };
+  }
+}
+
+const escaped = text => text.replace(/[^\t\n\r -\ud7ff\ue000-\ufffd\u{10000}-\u{10ffff}]/gu, '\ufffd')
+  .replace(/[&<>"]/g, sign => `&#${sign.charCodeAt()};`);
+
+function asSvg(shapes, { left, top, width, height, scale }, { letters }, title) {
+  const box = `x="${left}" y="${top}" width="${width}" height="${height}" fill="${PAPER}"`;
+  const rows = [...shapes].map(({ d, name, veil, x, y, colour, width: wide }) => {
+    const stroke = wide === undefined ? '' : ` stroke="${colour}" stroke-width="${wide}"`;
+    if (d) return `<path d="${d}" fill="none"${stroke}/>`;
+    if (veil) return `<rect ${box} fill-opacity="${veil}"/>`;
+    return `<text x="${x}" y="${y}" fill="${colour}"${stroke}>${escaped(name)}</text>`;
+  });
+  return [
+    `<svg xmlns="http://www.w3.org/2000/svg" viewBox="${left} ${top} ${width} ${height}" width="${Math.round(width * scale)}" `
+    + `height="${Math.round(height * scale)}" font-family="system-ui, sans-serif" font-size="${letters}" `
+    + 'stroke-linecap="round" stroke-linejoin="round">',
+    `<title>${escaped(title)}</title>`, `<rect ${box}/>`, ...rows, '</svg>', '',
+  ].join('\n');
+}
+
+function asPng(shapes, { left, top, width, height, scale }, { letters }) {
+  const most = LONGEST / (Math.max(width, height) * scale), fine = scale * Math.min(2, most);
+  const canvas = new OffscreenCanvas(Math.ceil(width * fine), Math.ceil(height * fine)), ink = canvas.getContext('2d');
+  const cover = alpha => Object.assign(ink, { fillStyle: PAPER, globalAlpha: alpha }).fillRect(left, top, width, height);
+  ink.setTransform(fine, 0, 0, fine, -left * fine, -top * fine);
+  cover(1);
+  for (const { d, name, veil, x, y, colour, width: wide } of shapes) {
+    Object.assign(ink, {
+      globalAlpha: 1, strokeStyle: colour, fillStyle: colour, lineWidth: wide || 1, lineCap: 'round', lineJoin: 'round',
+      font: `${letters}px system-ui, sans-serif`,
+    });
+    if (d) ink.stroke(new Path2D(d));
+    else if (veil) cover(veil);
+    else if (wide) ink.strokeText(name, x, y);
+    else ink.fillText(name, x, y);
+  }
+  return canvas.convertToBlob({ type: 'image/png' });
+}
+
+/* Saves a picture under the map's name, and that of what is lifted. */
+async function savePicture(view, name, kind) {
+  const frame = frameOf(view), title = [name, view.lifted && inWords(view.lifted)].filter(Boolean).join(' - ');
+  view.settle(frame.settled, frame.width, frame.height);
+  const shapes = [...shapesOf(view)], { look } = view;
+  view.settle();
+  const blob = kind === 'png' ? await asPng(shapes, frame, look)
+    : new Blob([asSvg(shapes, frame, look, title)], { type: 'image/svg+xml' });
+  const link = make('a', { href: URL.createObjectURL(blob), download: `${title.replace(/[\\/:*?"<>|]+/g, ' ')}.${kind}` });
+  link.click();
+  setTimeout(() => URL.revokeObjectURL(link.href), 60000);
+}
