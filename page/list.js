@@ -27,11 +27,11 @@ class List {
   button(thing, but) {
     const name = make('bdi', { textContent: titleOf(thing) });
     if (thing.kind === 'line') {
-      return make('button', { thing }, swatchOf(thing), name, ...thing.word ? [make('small', {}, thing.word)] : []);
+      return make('button', { thing, type: 'button' }, swatchOf(thing), name, ...thing.word ? [make('small', {}, thing.word)] : []);
     }
     const lines = byName(thing.lines).filter(line => line !== but), last = lines.length - 1;
     const words = lines.map((line, i) => make('span', {}, swatchOf(line), titleOf(line) + (i < last || thing.near ? ', ' : '')));
-    return make('button', { thing }, name, ' ', make('small', {}, ...words, thing.near || ''));
+    return make('button', { thing, type: 'button' }, name, ' ', make('small', {}, ...words, thing.near || ''));
   }
 }
 

@@ -6,6 +6,7 @@ class Panel {
     const { map } = Object.assign(this, { view }).view, choose = thing => this.choose(thing), point = thing => this.point(thing);
     tellApart(map);
     if (map.name) Object.assign(byId('name'), { textContent: map.name, className: 'own' });
+    document.title = byId('name').textContent;
     byId('size').textContent = `Lines: ${map.lines.length}, stations: ${map.stations.length}`;
     this.search = new Search(map, { choose, point });
     this.parts = new List(byId('parts'), { choose, point });

@@ -1,19 +1,16 @@
 const PAPER = '#ffffff', INK = '#16181d', LONGEST = 4096;
 
-/* What is seen; or the whole map, where all of it is, as large as it takes for all its names (at most 4096 pixels). */
+/* What is seen; or the whole map, where all of it is, at 80 pixels a step of its grid (from 1200 to 4096 in all). */
 function frameOf(view) {
-  const { map, now, width, height } = view, isWhole = Math.abs(now.scale / view.whole().scale - 1) < .01;
-  const part = { left: map.left - now.x / now.scale, top: map.top - now.y / now.scale, width: width / now.scale, height: height / now.scale };
-  if (!isWhole) return { ...part, scale: now.scale, settled: now };
-  const sizes = [1200, 1700, 2400, 3400, LONGEST].map(size => size / Math.max(map.width, map.height));
-  const named = map.stations.filter(({ name }) => name).length;
-  const scale = sizes.find(size => namesAt(view, size) === named) || sizes[sizes.length - 1];
-  return { ...map, scale, settled: { scale, x: 0, y: 0 } };
-}
-
-function namesAt(view, scale) {
-  view.settle({ scale, x: 0, y: 0 }, view.map.width, view.map.height);
-  return view.layers[0].placed.length;
+  const { map, now, width, height } = view, longest = Math.max(map.width, map.height);
+  if (Math.abs(now.scale / view.whole().scale - 1) < .01) {
+    const scale = Math.max(1200 / longest, Math.min(80 / map.step, LONGEST / longest));
+    return { ...map, scale, settled: { scale, x: 0, y: 0 } };
+  }
+  return {
+    left: map.left - now.x / now.scale, top: map.top - now.y / now.scale,
+    width: width / now.scale, height: height / now.scale, scale: now.scale, settled: now,
+  };
 }
 
 /* All that is to be drawn, in order, on white paper: strokes, names, and a veil over the map below what is lifted. */
