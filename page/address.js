@@ -21,9 +21,9 @@ class Address {
     return { name, thing: this.things.get(keyOf(kind, name, Number(number))) || this.things.get(keyOf(kind, name, 1)) };
   }
 
+  /* A step of its own on the way back. The focus stays, which an assignment to the address would take away. */
   write(thing) {
-    const wanted = thing ? `#${this.keys.get(thing)}` : '';
-    if (this.read().thing !== thing) location.hash = wanted;
+    if (this.read().thing !== thing) history.pushState(null, '', `#${this.keys.get(thing) || ''}`);
   }
 }
 

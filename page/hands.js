@@ -57,7 +57,7 @@ function takeHold(view, panel) {
     event.preventDefault();
     keys[key]();
   });
-  for (const kind of ['png', 'svg']) on(byId(kind), 'click', () => savePicture(view, byId('name').textContent, kind));
+  for (const kind of ['png', 'svg']) on(byId(kind), 'click', () => savePicture(view, kind));
 
   on(window, 'beforeprint', () => {
     view.isPrinting = byId('legend').open = true;

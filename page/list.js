@@ -1,5 +1,7 @@
 /* The element of a line's colour. */
-const swatchOf = ({ colour, edge }) => make('i', { style: `color: ${colour}; --edge: ${edge?.colour}`, className: edge?.paper || '' });
+const swatchOf = ({ colour, edge }) => (
+  make('i', { style: `color: ${colour}; --edge: ${edge?.colour}`, className: edge?.paper || '' })
+);
 
 /* A list of lines and stations, a button each: a line with its colour, a station with its lines but one, in words and
    colours. Arrow keys, Home and End go through it. */
@@ -25,19 +27,19 @@ class List {
   }
 
   button(thing, but) {
-    const name = make('bdi', { textContent: titleOf(thing) });
+    const about = { thing, type: 'button' }, name = make('bdi', { textContent: titleOf(thing) });
     if (thing.kind === 'line') {
-      return make('button', { thing, type: 'button' }, swatchOf(thing), name, ...thing.word ? [make('small', {}, thing.word)] : []);
+      return make('button', about, swatchOf(thing), name, ...thing.word ? [' ', make('small', {}, thing.word)] : []);
     }
-    const lines = byName(thing.lines).filter(line => line !== but), last = lines.length - 1;
-    const words = lines.map((line, i) => make('span', {}, swatchOf(line), titleOf(line) + (i < last || thing.near ? ', ' : '')));
-    return make('button', { thing, type: 'button' }, name, ' ', make('small', {}, ...words, thing.near || ''));
+    const lines = byName(thing.lines).filter(line => line !== but), count = lines.length + (thing.near ? 1 : 0);
+    const words = lines.map((line, i) => make('span', {}, swatchOf(line), titleOf(line), i + 1 < count ? ', ' : ''));
+    return make('button', about, name, ...count > 0 ? [' ', make('small', {}, ...words, thing.near || '')] : []);
   }
 }
 
 /* Where a key leads from a place of a list of so many, -1 being none; -1 where the key is not for lists. */
 function stepBy(key, i, length) {
   if (length === 0) return -1;
-  const places = { ArrowDown: (i + 1) % length, ArrowUp: (Math.max(i, 0) + length - 1) % length, Home: 0, End: length - 1 };
-  return places[key] ?? -1;
+  const before = (Math.max(i, 0) + length - 1) % length;
+  return { ArrowDown: (i + 1) % length, ArrowUp: before, Home: 0, End: length - 1 }[key] ?? -1;
 }

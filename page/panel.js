@@ -1,9 +1,19 @@
 const isNarrow = () => matchMedia('(max-width: 44rem)').matches;
 
+/* What the list of a line, or of a station, is of: a poster tells where lines call, a map only where they run. */
+const NOTES = {
+  calls: { line: 'Stations where it calls', station: 'Lines that call here' },
+  ways: {
+    line: 'Stations on its way. It may pass some without calling.',
+    station: 'Lines through here. A circle covers all lines of a bundle: some may pass without calling.',
+  },
+};
+
 /* A search, what was chosen, the legend. */
 class Panel {
   constructor(view) {
-    const { map } = Object.assign(this, { view }).view, choose = thing => this.choose(thing), point = thing => this.point(thing);
+    const { map } = view, choose = thing => this.choose(thing), point = thing => this.point(thing);
+    this.view = view;
     tellApart(map);
     if (map.name) Object.assign(byId('name'), { textContent: map.name, className: 'own' });
     document.title = byId('name').textContent;
@@ -38,8 +48,8 @@ class Panel {
 
   /* Chooses a line or a station, or none. */
   choose(thing, isHeld) {
-    const { view, search, legend } = this, { activeElement } = document, card = byId('card');
-    if (!card.contains(activeElement)) this.opener = activeElement;
+    const { view, search, legend } = this, card = byId('card'), isInside = card.contains(document.activeElement);
+    if (!isInside) this.opener = document.activeElement;
     this.chosen = thing;
     for (const button of legend.buttons()) button.setAttribute('aria-pressed', button.thing === thing);
     document.title = [thing && inWords(thing), byId('name').textContent].filter(Boolean).join(' - ');
@@ -50,7 +60,7 @@ class Panel {
       byId('legend').open = false;
       search.box.blur();
     }
-    if (card.contains(activeElement)) (thing ? byId('chosen') : isNarrow() ? view.frame : this.opener).focus();
+    if (isInside) (thing ? byId('chosen') : isNarrow() ? view.frame : this.opener).focus();
     view.refit();
     view.lift(thing);
     if (thing) view.seek(thing, isHeld);
@@ -59,11 +69,9 @@ class Panel {
 
   /* The card of a line with its stations, or of a station with its lines. */
   tell(thing) {
-    const { tellsCalls } = this.view.map, isLine = thing.kind === 'line', parts = isLine ? thing.stations : byName(thing.lines);
+    const isLine = thing.kind === 'line', parts = isLine ? thing.stations : byName(thing.lines);
     byId('chosen').textContent = titleOf(thing);
-    byId('note').textContent = tellsCalls ? isLine ? 'Stations where it calls' : 'Lines that call here'
-      : isLine ? 'Stations on its way (it may pass some without calling)'
-        : 'Lines through here (the circle covers all lines side by side; some may pass without calling)';
+    byId('note').textContent = NOTES[this.view.map.tellsCalls ? 'calls' : 'ways'][thing.kind];
     this.parts.show(parts, isLine ? thing : undefined);
     byId('said').textContent = `${inWords(thing)}. ${isLine ? 'Stations' : 'Lines'}: ${parts.length}`;
   }

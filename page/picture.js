@@ -66,8 +66,8 @@ function standsBy(text, { x, y, radius }) {
   return left - reach <= x && x <= right + reach && base - 20 - reach <= y && y <= base + reach;
 }
 
-/* A poster tells the lines that call at a station, and has its marker over their feet: their ends there. A station where
-   none calls has no marker. */
+/* A poster tells the lines that call at a station, and has its marker over their feet: their ends there. A station
+   where none calls has no marker, and is left out. */
 function posterStation(group, lines) {
   const calling = group.className.baseVal.split(' ').slice(1).flatMap(word => lines.get(word.slice(1)) || []);
   const marker = group.querySelector('path'), points = numbersOf(marker, 'd');

@@ -21,10 +21,12 @@ function* shapesOf({ layers, look, lifted }) {
       if (edge?.paper === 'on-white') yield { d: layer.texts[i], colour: edge.colour, width: look.edge };
     }
     for (const [i, { colour }] of layer.lines.entries()) yield { d: layer.texts[i], colour, width: look.stroke };
-    for (const [i, radius] of layer.radii.entries()) yield { d: layer.marks[i], colour: INK, width: look.rimOf(radius) };
-    for (const [i, radius] of layer.radii.entries()) yield { d: layer.marks[i], colour: PAPER, width: look.fillOf(radius) };
-    for (const { station, x, y } of layer.placed) yield { name: station.name, x, y, colour: PAPER, width: look.letters / 3 };
-    for (const { station, x, y } of layer.placed) yield { name: station.name, x, y, colour: INK };
+    for (const [colour, widthOf] of [[INK, look.rimOf], [PAPER, look.fillOf]]) {
+      for (const [i, radius] of layer.radii.entries()) yield { d: layer.marks[i], colour, width: widthOf(radius) };
+    }
+    const names = layer.placed.map(({ station, x, y }) => ({ name: station.name, x, y }));
+    for (const name of names) yield { ...name, colour: PAPER, width: look.letters / 3 };
+    for (const name of names) yield { ...name, colour: INK };
   }
 }
 
@@ -39,10 +41,10 @@ function asSvg(shapes, { left, top, width, height, scale }, { letters }, title) 
     if (veil) return `<rect ${box} fill-opacity="${veil}"/>`;
     return `<text x="${x}" y="${y}" fill="${colour}"${stroke}>${escaped(name)}</text>`;
   });
+  const size = `width="${Math.round(width * scale)}" height="${Math.round(height * scale)}"`;
   return [
-    `<svg xmlns="http://www.w3.org/2000/svg" viewBox="${left} ${top} ${width} ${height}" width="${Math.round(width * scale)}" `
-    + `height="${Math.round(height * scale)}" font-family="system-ui, sans-serif" font-size="${letters}" `
-    + 'stroke-linecap="round" stroke-linejoin="round">',
+    `<svg xmlns="http://www.w3.org/2000/svg" viewBox="${left} ${top} ${width} ${height}" ${size} `
+    + `font-family="system-ui, sans-serif" font-size="${letters}" stroke-linecap="round" stroke-linejoin="round">`,
     `<title>${escaped(title)}</title>`, `<rect ${box}/>`, ...rows, '</svg>', '',
   ].join('\n');
 }
@@ -66,15 +68,16 @@ function asPng(shapes, { left, top, width, height, scale }, { letters }) {
   return canvas.convertToBlob({ type: 'image/png' });
 }
 
-/* Saves a picture under the map's name, and that of what is lifted. */
-async function savePicture(view, name, kind) {
-  const frame = frameOf(view), title = [name, view.lifted && inWords(view.lifted)].filter(Boolean).join(' - ');
+/* Saves a picture under the page's title. */
+async function savePicture(view, kind) {
+  const { title } = document, frame = frameOf(view);
   view.settle(frame.settled, frame.width, frame.height);
   const shapes = [...shapesOf(view)], { look } = view;
   view.settle();
   const blob = kind === 'png' ? await asPng(shapes, frame, look)
     : new Blob([asSvg(shapes, frame, look, title)], { type: 'image/svg+xml' });
-  const link = make('a', { href: URL.createObjectURL(blob), download: `${title.replace(/[\\/:*?"<>|]+/g, ' ')}.${kind}` });
+  const link = make('a', { href: URL.createObjectURL(blob) });
+  link.download = `${title.replace(/[\\/:*?"<>|]+/g, ' ')}.${kind}`;
   link.click();
   setTimeout(() => URL.revokeObjectURL(link.href), 60000);
 }

@@ -22,7 +22,8 @@ class View {
   /* What is aimed at is shown again in a frame of another size; else what was in the middle stays there. */
   refit() {
     const { clientWidth: width, clientHeight: height } = this.frame;
-    if (!width || !height || this.isPrinting || (width === this.width && height === this.height)) return;
+    const isSame = width === this.width && height === this.height;
+    if (!width || !height || isSame || this.isPrinting) return;
     const right = (width - this.width) / 2, down = (height - this.height) / 2;
     Object.assign(this, { width, height });
     this.base ??= this.whole().scale;
@@ -34,12 +35,13 @@ class View {
   lookAt(scale) {
     const { step, widest } = this.map, room = Math.max(1, Math.min(5, 11 / widest * (step / 200)));
     const wanted = Math.max(3.6, Math.min(12 * scale, 10)) / (12 * scale);
-    const spread = Number(Math.min(wanted, room).toPrecision(this.isLarge ? 1 : 3)), rim = Math.max(4 * spread, 1 / scale);
-    const stroke = Math.max(12 * spread, 2.2 / scale), rimOf = radius => 2 * spread * radius + rim;
+    const spread = Number(Math.min(wanted, room).toPrecision(this.isLarge ? 1 : 3));
+    const stroke = Math.max(12 * spread, 2.2 / scale), rim = Math.max(4 * spread, 1 / scale);
+    const rimOf = radius => 2 * spread * radius + rim;
     return {
-      spread, stroke, edge: stroke + Math.max(2 * spread, 2 / scale), rimOf, fillOf: radius => Math.max(0, rimOf(radius) - 2 * rim),
-      reachOf: ({ reach }) => rimOf(reach) / 2, letters: Math.max(12 / scale, Math.min(20, 16 / scale)),
-      most: scale < 2 * this.whole().scale ? .7 : 9,
+      spread, stroke, edge: stroke + Math.max(2 * spread, 2 / scale),
+      rimOf, fillOf: radius => Math.max(0, rimOf(radius) - 2 * rim), reachOf: ({ reach }) => rimOf(reach) / 2,
+      letters: Math.max(12 / scale, Math.min(20, 16 / scale)), most: scale < 2 * this.whole().scale ? .7 : 9,
     };
   }
 
@@ -79,9 +81,10 @@ class View {
       this.show(() => this.whole({ left: thing.x, top: thing.y, width: 0, height: 0 }, near), isHeld);
       return;
     }
-    const box = boxOf(thing.ways.map(({ centre }) => centre)), { map, rest } = this;
-    const left = rest.x + (box.left - map.left) * rest.scale, top = rest.y + (box.top - map.top) * rest.scale;
-    const isSeen = left >= 0 && top >= 0 && left + box.width * rest.scale <= this.width && top + box.height * rest.scale <= this.height;
+    const box = boxOf(thing.ways.map(({ centre }) => centre)), { map, rest: { x, y, scale } } = this;
+    const left = x + (box.left - map.left) * scale, top = y + (box.top - map.top) * scale;
+    const right = left + box.width * scale, bottom = top + box.height * scale;
+    const isSeen = left >= 0 && top >= 0 && right <= this.width && bottom <= this.height;
     if (!isSeen) this.show(() => this.whole(box, near), isHeld);
   }
 
@@ -112,7 +115,10 @@ class View {
   /* Draws all for a scale, with names half a frame beyond what is seen. */
   settle({ scale, x, y } = this.now, width = this.width / scale, height = this.height / scale) {
     const { left, top } = this.map, look = this.lookAt(scale), more = look.most > 1 ? .5 : 0, whole = 1 + 2 * more;
-    const part = { left: left - x / scale - more * width, top: top - y / scale - more * height, width: whole * width, height: whole * height };
+    const part = {
+      left: left - x / scale - more * width, top: top - y / scale - more * height,
+      width: whole * width, height: whole * height,
+    };
     for (const layer of this.layers) layer.draw(look, part);
     this.look = look;
     this.plane.classList.remove('moving');

@@ -7,7 +7,9 @@ function centreWays(ways) {
   for (const { line, points } of ways) {
     const shift = centre.map((value, i) => (points[i] ?? value) - value);
     line.ways.push({ centre, shift });
-    for (const i of [0, centre.length - 2]) line.ends.set(placeOf(points, i), [centre.slice(i, i + 2), shift.slice(i, i + 2)]);
+    for (const i of [0, centre.length - 2]) {
+      line.ends.set(placeOf(points, i), [centre.slice(i, i + 2), shift.slice(i, i + 2)]);
+    }
   }
 }
 
@@ -30,16 +32,18 @@ function listStations(line, stationAt) {
     if (!met.has(place)) waiting.push(...next.get(place));
     met.add(place);
   }
-  line.stations = [...met].flatMap(place => stationAt.get(place) || []).filter(({ isTold, lines }) => !isTold || lines.has(line));
+  const stations = [...met].flatMap(place => stationAt.get(place) || []);
+  line.stations = stations.filter(({ isTold, lines }) => !isTold || lines.has(line));
   for (const station of line.stations) station.lines.add(line);
 }
 
 /* The rectangle round all lines and stations, a little wider, and the step of the grid: what divides all places, from
    20 to 200. */
 function sheetOf(lines, stations) {
-  const box = boxOf([...lines.flatMap(({ ways }) => ways.map(({ centre }) => centre)), ...stations.map(({ x, y }) => [x, y])]);
+  const centres = lines.flatMap(({ ways }) => ways.map(({ centre }) => centre));
+  const box = boxOf([...centres, ...stations.map(({ x, y }) => [x, y])]);
   let step = 0;
-  for (const value of new Set(lines.flatMap(({ ways }) => ways.flatMap(({ centre }) => centre)))) {
+  for (const value of new Set(centres.flat())) {
     for (let rest = Math.round(Math.abs(value)); rest > 0;) [step, rest] = [rest, step % rest];
   }
   return { ...box, step: Math.max(20, Math.min(step || 200, 200)) };

@@ -12,8 +12,8 @@ function alike(things, wordsOf) {
   return [...groups.values()].filter(({ length }) => length > 1).flat();
 }
 
-/* Things of one name are told apart in words: lines by where they begin and end, stations by their lines, and where these
-   are the same too by the nearest station of another name. */
+/* Things of one name are told apart in words: lines by where they begin and end, stations by their lines, and where
+   these are the same too by the nearest station of another name. */
 function tellApart({ lines, stations }) {
   for (const line of alike(lines, titleOf)) {
     const [first, last] = [line.stations[0], line.stations[line.stations.length - 1]];
@@ -21,7 +21,8 @@ function tellApart({ lines, stations }) {
   }
   for (const station of alike(stations, titleOf)) station.word = linesInWords(station.lines);
   for (const station of alike(stations, one => `${one.name} ${linesInWords(one.lines)}`)) {
-    const away = ({ x, y, name }) => name && name !== station.name ? Math.hypot(x - station.x, y - station.y) : Infinity;
+    const isOther = ({ name }) => name && name !== station.name;
+    const away = one => isOther(one) ? Math.hypot(one.x - station.x, one.y - station.y) : Infinity;
     const near = stations.reduce((best, one) => away(one) < away(best) ? one : best);
     if (away(near) < Infinity) station.near = `near ${near.name}`;
   }
