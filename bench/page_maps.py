@@ -1,13 +1,16 @@
-"""Pictures that bench/page.py makes up: small ones with what is told of them, a lattice city of any size, copies of a map."""
+"""Pictures that bench/page.py makes up: small ones, a lattice city of any size, copies of a map."""
 import re
 
 HEAD = '<svg xmlns="http://www.w3.org/2000/svg" version="1.1" viewBox="{}">\n'
 MAP = (HEAD.format("-200 -200 1400 400") +
-       '<path class="s0 l0" d="M 0 0 L 1000 0" fill="none" stroke="#e6194b" stroke-width="12"><title>{line}</title></path>\n'
+       '<path class="s0 l0" d="M 0 0 L 1000 0" fill="none" stroke="#e6194b" stroke-width="12">'
+       '<title>{line}</title></path>\n'
        '<circle cx="0" cy="0" r="10" fill="#ffffff" stroke="#000000" stroke-width="4"/>\n'
        '<circle cx="1000" cy="0" r="10" fill="#ffffff" stroke="#000000" stroke-width="4"/>\n'
-       '<text x="14" y="-14" font-size="20">{name}</text>\n<text x="1014" y="-14" font-size="20">Other</text>\n</svg>\n')
-COLOURS = ["ffffff", "f0f0f0", "ffe600", "9bd3f0", "f58231", "6cbe45", "e6194b", "808080", "0039a6", "000075", "15181c", "000000"]
+       '<text x="14" y="-14" font-size="20">{name}</text>\n'
+       '<text x="1014" y="-14" font-size="20">Other</text>\n</svg>\n')
+COLOURS = ["ffffff", "f0f0f0", "ffe600", "9bd3f0", "f58231", "6cbe45", "e6194b", "808080", "0039a6", "000075", "15181c",
+           "000000"]
 FIRST = ("Abbey Bridge Castle Duke East Ferry Garden Harbour Iron Jubilee King Lake Market North Orchard Palace "
          "Quarry River South Temple Upper Valley West York Zoo Angel Baker Church Denmark Euston Forest Grange").split()
 SECOND = ("Gate Street Square Road Park Hill Green Cross Lane Town Common Heath Wharf Junction Bank Court "
@@ -15,7 +18,7 @@ SECOND = ("Gate Street Square Road Park Hill Green Cross Lane Town Common Heath 
 
 
 class Network:
-    """Lines by name and colour; stations at grid points with the lines that call; straight segments with their lines."""
+    """Lines by name and colour; stations at grid points with the lines that call; segments with their lines."""
 
     def __init__(self):
         self.lines, self.stations, self.segments = [], [], []
@@ -24,7 +27,8 @@ class Network:
         return sorted(self.lines[line][0] for line in self.stations[station][2])
 
     def passes(self, station):
-        return sorted({self.lines[line][0] for low, high, lines in self.segments for line in lines if station in (low, high)})
+        there = [lines for low, high, lines in self.segments if station in (low, high)]
+        return sorted({self.lines[line][0] for lines in there for line in lines})
 
     def foot(self, station, segment, line, pitch):
         """Where a line ends on a segment: 14 units from the next one of the same segment."""
@@ -35,7 +39,7 @@ class Network:
         return (pitch * at[0] - (shift if xx == x else 0), pitch * at[1] + (shift if yy == y else 0))
 
     def ways(self, pitch, kind):
-        """The lines of all segments, then the joins between two segments of a line at a station, of a map or a poster."""
+        """The lines of all segments, then the joins between two segments of a line at a station."""
         at = {}
         for number, (low, high, lines) in enumerate(self.segments):
             for line in lines:
@@ -59,7 +63,8 @@ class Network:
             yield f'<path class="{name}" d="{way(ends)}" fill="none" stroke="#{line[1]}" stroke-width="12"{title}'
         rows = list(self.ways(pitch, path))
         for _, (x, y), _ in self.stations:
-            rows.append(f'<circle cx="{x * pitch}" cy="{y * pitch}" r="24" fill="#ffffff" stroke="#000000" stroke-width="4"/>')
+            rows.append(f'<circle cx="{x * pitch}" cy="{y * pitch}" r="24" fill="#ffffff" stroke="#000000" '
+                        'stroke-width="4"/>')
         for name, (x, y), _ in self.stations:
             rows.append(f'<text x="{x * pitch + 28}" y="{y * pitch - 28}" font-size="20">{name}</text>')
         return (HEAD.format(self.box(pitch)) + "\n".join(rows) + "\n</svg>\n").encode()
@@ -71,21 +76,26 @@ class Network:
             title = f"><title>{line[0]}</title></path>" if line[0] else "/>"
             yield f'<path class="{name}" d="{way(ends)}" stroke="#{line[1]}"{title}'
         rows = ['<g id="lines" fill="none" stroke-linejoin="round" stroke-linecap="round" stroke-width="12">',
-                *self.ways(pitch, path), '</g>', '<g id="stations" fill="none" stroke-linejoin="round" stroke-linecap="round">']
+                *self.ways(pitch, path), '</g>',
+                '<g id="stations" fill="none" stroke-linejoin="round" stroke-linecap="round">']
         for number, (name, _, calling) in enumerate(self.stations):
-            rows.append(f'<g class="{" ".join([f"n{number}"] + [f"l{line}" for line in sorted(calling)])}"><title>{name}</title>')
+            classes = " ".join([f"n{number}", *(f"l{line}" for line in sorted(calling))])
+            rows.append(f'<g class="{classes}"><title>{name}</title>')
             feet = list(dict.fromkeys(self.feet[number, line][0] for line in sorted(calling)))
             if feet:
                 marker = way(feet * 2 if len(feet) == 1 else feet)
-                rows += [f'<path d="{marker}" stroke="#000000" stroke-width="20"/>', f'<path d="{marker}" stroke="#ffffff" stroke-width="12"/>']
+                rows += [f'<path d="{marker}" stroke="#000000" stroke-width="20"/>',
+                         f'<path d="{marker}" stroke="#ffffff" stroke-width="12"/>']
             rows.append("</g>")
         rows += ["</g>", '<g id="names" font-size="30" fill="#000000">']
         for name, (x, y), _ in self.stations[::2]:
-            rows.append(f'<text x="{x * pitch + 16}" y="{y * pitch + 9}">{name}<tspan dx="9" fill="#444444" font-weight="bold">X</tspan></text>')
+            rows.append(f'<text x="{x * pitch + 16}" y="{y * pitch + 9}">{name}'
+                        '<tspan dx="9" fill="#444444" font-weight="bold">X</tspan></text>')
         rows += ["</g>", '<g id="legend" font-size="30" fill="#000000">']
         for number, (name, colour) in enumerate(self.lines):
-            rows += [f'<path d="M 0 {-900 - 45 * number} L 60 {-900 - 45 * number}" stroke="#{colour}" stroke-width="12"/>',
-                     f'<text x="90" y="{-891 - 45 * number}">Legend {name}</text>']
+            y = -900 - 45 * number
+            rows += [f'<path d="M 0 {y} L 60 {y}" stroke="#{colour}" stroke-width="12"/>',
+                     f'<text x="90" y="{y + 9}">Legend {name}</text>']
         return (HEAD.format(self.box(pitch)) + "\n".join([*rows, "</g>", "</svg>", ""])).encode()
 
 
@@ -94,8 +104,8 @@ def way(places):
 
 
 def city(side):
-    """A lattice of side times side stations: a line down each column, and along each row one line or three side by side, of
-    which the third is an express that calls at every second station."""
+    """A lattice of side times side stations: a line down each column, and along each row one line or three side by
+    side, of which the third is an express that calls at every second station."""
     net = Network()
     for x in range(side):
         net.lines.append((f"{x + 1}", COLOURS[x % len(COLOURS)]))
@@ -117,13 +127,12 @@ def city(side):
 
 
 def streets():
-    """Four stations of one name, on three lines that run by one of them without calling, and two shuttles of one name."""
+    """Four stations of one name on three lines, which run by some stations without calling; two lines of one name."""
     net = Network()
     net.lines = [("2", "ee352e"), ("3", "ffffff"), ("A", "000000"), ("S", "808080"), ("S", "808080")]
-    for x, (name, calling) in enumerate([("Wall St", {0, 1}), ("Fulton St", {0, 1}), ("Park Pl", {1}), ("Fulton St", {0}), ("Chambers St", {0, 1})]):
-        net.stations.append((name, (2 * x, 0), calling))
-    for x, (name, calling) in enumerate([("Canal St", {2}), ("Fulton St", {2}), ("Broad St", {2}), ("Fulton St", {2}), ("High St", {2})]):
-        net.stations.append((name, (2 * x, 4), calling))
+    rows = [("Wall St", {0, 1}), ("Fulton St", {0, 1}), ("Park Pl", {1}), ("Fulton St", {0}), ("Chambers St", {0, 1}),
+            ("Canal St", {2}), ("Fulton St", {2}), ("Broad St", {2}), ("Fulton St", {2}), ("High St", {2})]
+    net.stations = [(name, (2 * (i % 5), 4 * (i // 5)), calling) for i, (name, calling) in enumerate(rows)]
     net.segments = [(x, x + 1, [0, 1]) for x in range(4)] + [(x + 5, x + 6, [2]) for x in range(4)]
     for line, names in [(3, ["Times Sq", "Grand Central"]), (4, ["Franklin Av", "Prospect Park"])]:
         first = len(net.stations)
@@ -151,14 +160,15 @@ def copies(svg, size):
     parts = {"path": [], "circle": [], "text": []}
     for k in range(side * side):
         right, down = k % side * width, k // side * height
+        numbered = lambda found: f'class="{found[1]}{int(found[2]) + 1000 * k} l{int(found[3]) + 100 * k}"'
         moved = lambda found: f"{int(found[1]) + right} {int(found[2]) + down}"
         for line in lines[1:]:
             kind = re.match(r"<(path|circle|text)", line)
             if kind:
-                line = re.sub(r'class="(.)(\d+) l(\d+)"', lambda f: f'class="{f[1]}{int(f[2]) + 1000 * k} l{int(f[3]) + 100 * k}"', line)
+                line = re.sub(r'class="(.)(\d+) l(\d+)"', numbered, line)
                 line = re.sub(r"(?<=[ML] )(-?\d+) (-?\d+)", moved, line)
                 line = re.sub(r'x="(-?\d+)"', lambda f: f'x="{int(f[1]) + right}"', line)
                 line = re.sub(r'y="(-?\d+)"', lambda f: f'y="{int(f[1]) + down}"', line)
                 parts[kind[1]].append(line)
-    head = f'<svg xmlns="http://www.w3.org/2000/svg" version="1.1" viewBox="{left} {top} {width * side} {height * side}">'
-    return "\n".join([head, *parts["path"], *parts["circle"], *parts["text"], "</svg>", ""]).encode()
+    head = HEAD.format(f"{left} {top} {width * side} {height * side}")
+    return head.encode() + "\n".join([*parts["path"], *parts["circle"], *parts["text"], "</svg>", ""]).encode()

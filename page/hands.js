@@ -49,7 +49,8 @@ function takeHold(view, panel) {
   for (const id in acts) on(byId(id), 'click', acts[id]);
   const keys = {
     '+': acts.closer, '-': acts.farther, 0: acts.whole, Escape: () => panel.choose(),
-    ArrowLeft: () => view.move(120, 0), ArrowRight: () => view.move(-120, 0), ArrowUp: () => view.move(0, 120), ArrowDown: () => view.move(0, -120),
+    ArrowLeft: () => view.move(120, 0), ArrowRight: () => view.move(-120, 0),
+    ArrowUp: () => view.move(0, 120), ArrowDown: () => view.move(0, -120),
   };
   on(window, 'keydown', event => {
     const { key, target } = event, isTyped = target.id === 'find' && key !== 'Escape';
@@ -61,7 +62,8 @@ function takeHold(view, panel) {
 
   on(window, 'beforeprint', () => {
     view.isPrinting = byId('legend').open = true;
-    view.settle({ scale: Math.min(1000 / view.map.width, 620 / view.map.height), x: 0, y: 0 }, view.map.width, view.map.height);
+    const { width, height } = view.map, scale = Math.min(1000 / width, 620 / height);
+    view.settle({ scale, x: 0, y: 0 }, width, height);
   });
   on(window, 'afterprint', () => {
     view.isPrinting = false;

@@ -25,7 +25,10 @@ class Squares {
 }
 
 /* Places of a name, best first: the way from its marker, the parts of it left of there and above. */
-const SIDES = [[1, 0, 0, .5], [-1, 0, 1, .5], [.7, -.7, 0, 1], [.7, .7, 0, 0], [-.7, -.7, 1, 1], [-.7, .7, 1, 0], [0, -1, .5, 1], [0, 1, .5, 0]];
+const SIDES = [
+  [1, 0, 0, .5], [-1, 0, 1, .5], [.7, -.7, 0, 1], [.7, .7, 0, 0],
+  [-.7, -.7, 1, 1], [-.7, .7, 1, 0], [0, -1, .5, 1], [0, 1, .5, 0],
+];
 const pen = Object.assign(new OffscreenCanvas(1, 1).getContext('2d'), { lineCap: 'round', lineJoin: 'round' });
 
 /* Names, those of more lines first, where least is crossed and nothing taken. Some find none. */
@@ -40,7 +43,8 @@ function placeNames(stations, squares, { letters, reachOf, most }) {
     const away = reachOf(station) + letters / 3, width = station.ems * letters, height = letters * 1.1;
     let best, least = most * station.lines.size;
     SIDES.forEach(([right, down, before, above], side) => {
-      const place = [station.x + right * away - before * width, station.y + down * away - above * height, width, height];
+      const [x, y] = [station.x + right * away - before * width, station.y + down * away - above * height];
+      const place = [x, y, width, height];
       const over = squares.crossed(...place) * squares.side / width + side / 20;
       if (over < least) [best, least] = [place, over];
     });

@@ -52,7 +52,10 @@ function asSvg(shapes, { left, top, width, height, scale }, { letters }, title) 
 function asPng(shapes, { left, top, width, height, scale }, { letters }) {
   const most = LONGEST / (Math.max(width, height) * scale), fine = scale * Math.min(2, most);
   const canvas = new OffscreenCanvas(Math.ceil(width * fine), Math.ceil(height * fine)), ink = canvas.getContext('2d');
-  const cover = alpha => Object.assign(ink, { fillStyle: PAPER, globalAlpha: alpha }).fillRect(left, top, width, height);
+  const cover = globalAlpha => {
+    Object.assign(ink, { fillStyle: PAPER, globalAlpha });
+    ink.fillRect(left, top, width, height);
+  };
   ink.setTransform(fine, 0, 0, fine, -left * fine, -top * fine);
   cover(1);
   for (const { d, name, veil, x, y, colour, width: wide } of shapes) {
