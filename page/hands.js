@@ -60,14 +60,18 @@ function takeHold(view, panel) {
   });
   for (const kind of ['png', 'svg']) on(byId(kind), 'click', () => savePicture(view, kind));
 
+  const legend = byId('legend'), before = {};
   on(window, 'beforeprint', () => {
-    view.isPrinting = byId('legend').open = true;
+    Object.assign(before, { isOpen: legend.open, lifted: view.lifted });
+    view.isPrinting = legend.open = true;
+    view.lift();
     const { width, height } = view.map, scale = Math.min(1000 / width, 620 / height);
     view.settle({ scale, x: 0, y: 0 }, width, height);
   });
   on(window, 'afterprint', () => {
     view.isPrinting = false;
-    view.settle();
+    legend.open = before.isOpen;
+    view.lift(before.lifted);
   });
 }
 
@@ -76,6 +80,7 @@ on(document, 'DOMContentLoaded', () => {
   const source = byId('picture'), map = readPicture(source.textContent);
   source.remove();
   byId('trouble').hidden = map !== null;
+  byId('panel').hidden = map === null;
   if (!map) return;
   const view = new View(byId('view'), byId('plane'), map);
   takeHold(view, new Panel(view));
