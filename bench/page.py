@@ -17,6 +17,7 @@ import struct
 import sys
 import threading
 import time
+from html import unescape
 from urllib.parse import quote
 from xml.etree import ElementTree
 
@@ -39,8 +40,9 @@ def hold(what, holds):
 
 def names_of(svg):
     """The names of the stations of a map or a poster."""
-    groups = re.findall(rb'<g class="n[^>]*><title>([^<&]*)<', svg)
-    return [text.decode() for text in groups or re.findall(rb"<text[^>]*>([^<&]*)<", svg)]
+    groups = re.findall(rb'<g class="n\d+ [^>]*><title>([^<]*)<', svg)
+    texts = [text.decode() for text in groups or re.findall(rb"<text[^>]*>([^<]*)<", svg)]
+    return [" ".join(unescape(text).split()) for text in texts]
 
 
 def try_map(page, name, svg):
@@ -65,8 +67,15 @@ def try_map(page, name, svg):
     page.shot(name + "-line")
     hold(f"{name}: a chosen line lists its stations", len(page.all("#parts button")) > 1)
     frame.send_keys(Keys.ESCAPE)
+    told = page.script("""
+        return [...document.querySelectorAll('#lines button')].flatMap(button => {
+            button.click();
+            return [...document.querySelectorAll('#parts bdi')].map(one => one.textContent);
+        });""")
+    hold(f"{name}: the lists of lines have all names", set(told) - {"No name"} == {name for name in names_of(svg) if name})
+    frame.send_keys(Keys.ESCAPE)
     find, last = page.one("find"), [text for text in names_of(svg) if len(text) >= 4][-1]
-    find.send_keys(last.upper()[:6])
+    find.send_keys(last.upper())
     found = page.texts("#found bdi")
     hold(f"{name}: the search finds {last}", last in found)
     find.send_keys(Keys.ENTER)
@@ -165,7 +174,7 @@ def try_free_names(page):
     net = page_maps.streets()
     rows = net.map().decode().split("\n")
     texts = [i for i, row in enumerate(rows) if row.startswith("<text")]
-    rows[texts[4]] = '<text x="1628" y="48" font-size="20">Chambers St</text>'
+    rows[texts[4]] = '<text x="1628" y="48" font-size="20">Chambers St</text>'  # below to the right
     for i in sorted([texts[0], texts[5], texts[6]], reverse=True):
         del rows[i]
     page.open("free", "\n".join(rows).encode())

@@ -51,19 +51,21 @@ function mapStations(root) {
     return { kind: 'station', x, y, radius, feet: [[0, 0]], name: '', lines: new Set() };
   }).filter(({ radius }) => radius >= 0);
   const texts = [...root.querySelectorAll('text')], isWhole = texts.length === stations.length;
-  let next = 0;
+  let last = -1;
   for (const text of texts) {
+    let next = last + 1;
     while (next < stations.length && !isWhole && !standsBy(text, stations[next])) next++;
-    if (next < stations.length) stations[next++].name = wordsOf(text);
+    if (next < stations.length) stations[last = next].name = wordsOf(text);
   }
   return stations;
 }
 
-/* Is this the name of this station? A name is 12 wide for each character, 20 high, and 4 from its marker. */
-function standsBy(text, { x, y, radius }) {
-  const [left, base] = ['x', 'y'].map(name => numbersOf(text, name)[0]), reach = radius + 5;
-  const right = left + 12 * [...text.textContent].length;
-  return left - reach <= x && x <= right + reach && base - 20 - reach <= y && y <= base + reach;
+/* Does a name stand at one of the eight places round this station? It is 12 wide for each character. */
+function standsBy(text, station) {
+  const right = numbersOf(text, 'x')[0] - station.x, down = numbersOf(text, 'y')[0] - station.y;
+  const away = station.radius + 4, width = 12 * [...text.textContent].length;
+  if (right === away || right === -away - width) return [-away, 8, away + 20].includes(down);
+  return right === -width / 2 && [-away - 4, away + 20].includes(down);
 }
 
 /* A poster tells the lines that call at a station, and has its marker over their feet: their ends there. A station
