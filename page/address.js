@@ -4,15 +4,14 @@ class Address {
   constructor({ lines, stations }) {
     this.things = new Map();
     this.keys = new Map();
-    const inOrder = things => [...things].sort((a, b) => collator.compare(inWords(a), inWords(b)));
-    for (const thing of [...inOrder(lines), ...inOrder(stations)]) this.add(thing);
-  }
-
-  add(thing) {
-    let number = 1;
-    while (this.things.has(keyOf(thing.kind, thing.name, number))) number++;
-    this.keys.set(thing, keyOf(thing.kind, thing.name, number));
-    this.things.set(this.keys.get(thing), thing);
+    const counts = new Map(), wordsOf = ({ name, word = '' }) => `${name} ${word}`;
+    const inOrder = things => [...things].sort((a, b) => collator.compare(wordsOf(a), wordsOf(b)));
+    for (const thing of [...inOrder(lines), ...inOrder(stations)]) {
+      const first = keyOf(thing.kind, thing.name, 1), count = (counts.get(first) || 0) + 1;
+      counts.set(first, count);
+      this.keys.set(thing, keyOf(thing.kind, thing.name, count));
+      this.things.set(this.keys.get(thing), thing);
+    }
   }
 
   /* What the address names, and how: nothing where it names none. */

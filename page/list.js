@@ -31,9 +31,10 @@ class List {
     if (thing.kind === 'line') {
       return make('button', about, swatchOf(thing), name, ...thing.word ? [' ', make('small', {}, thing.word)] : []);
     }
-    const lines = byName(thing.lines).filter(line => line !== but), count = lines.length + (thing.near ? 1 : 0);
+    const near = nearOf(thing), lines = byName(thing.lines).filter(line => line !== but);
+    const count = lines.length + (near ? 1 : 0);
     const words = lines.map((line, i) => make('span', {}, swatchOf(line), titleOf(line), i + 1 < count ? ', ' : ''));
-    return make('button', about, name, ...count > 0 ? [' ', make('small', {}, ...words, thing.near || '')] : []);
+    return make('button', about, name, ...count > 0 ? [' ', make('small', {}, ...words, near)] : []);
   }
 }
 

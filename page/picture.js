@@ -49,7 +49,7 @@ function mapStations(root) {
   const stations = [...root.querySelectorAll('circle')].map(circle => {
     const [x, y, radius] = ['cx', 'cy', 'r'].map(name => numbersOf(circle, name)[0]);
     return { kind: 'station', x, y, radius, feet: [[0, 0]], name: '', lines: new Set() };
-  }).filter(({ radius }) => radius >= 0);
+  }).filter(({ x, y, radius }) => radius >= 0 && Number.isFinite(x + y));
   const texts = [...root.querySelectorAll('text')], isWhole = texts.length === stations.length;
   let last = -1;
   for (const text of texts) {

@@ -51,6 +51,7 @@ class Search {
   }
 
   press(event) {
+    if (event.isComposing) return;
     const buttons = this.list.buttons(), active = this.active(), isCaret = /^(Home|End)$/.test(event.key) && !active;
     const next = isCaret ? -1 : stepBy(event.key, buttons.indexOf(active), buttons.length);
     if (next >= 0) this.mark(buttons[next]);

@@ -3,12 +3,16 @@ const byName = things => [...things].sort((a, b) => collator.compare(a.name, b.n
 const titleOf = ({ name }) => name || 'No name';
 const folded = text => text.normalize('NFD').replace(/\p{M}/gu, '').toLowerCase().replaceAll('\u00df', 'ss').trim();
 const linesInWords = lines => byName(lines).map(titleOf).join(', ');
-const inWords = thing => [titleOf(thing), thing.word, thing.near].filter(Boolean).join(', ');
+const inWords = thing => [titleOf(thing), thing.word, nearOf(thing)].filter(Boolean).join(', ');
 
 /* The things whose words others have too. */
 function alike(things, wordsOf) {
   const groups = new Map();
-  for (const thing of things) groups.set(wordsOf(thing), [...groups.get(wordsOf(thing)) || [], thing]);
+  for (const thing of things) {
+    const words = wordsOf(thing), group = groups.get(words);
+    if (group) group.push(thing);
+    else groups.set(words, [thing]);
+  }
   return [...groups.values()].filter(({ length }) => length > 1).flat();
 }
 
@@ -20,10 +24,14 @@ function tellApart({ lines, stations }) {
     if (first !== last) line.word = `${titleOf(first)} to ${titleOf(last)}`;
   }
   for (const station of alike(stations, titleOf)) station.word = linesInWords(station.lines);
-  for (const station of alike(stations, one => `${one.name} ${linesInWords(one.lines)}`)) {
-    const isOther = ({ name }) => name && name !== station.name;
-    const away = one => isOther(one) ? Math.hypot(one.x - station.x, one.y - station.y) : Infinity;
-    const near = stations.reduce((best, one) => away(one) < away(best) ? one : best);
-    if (away(near) < Infinity) station.near = `near ${near.name}`;
+  for (const station of alike(stations, one => `${one.name} ${linesInWords(one.lines)}`)) station.others = stations;
+}
+
+function nearOf({ x, y, name, others = [] }) {
+  let near = '', least = Infinity;
+  for (const one of others) {
+    const away = Math.hypot(one.x - x, one.y - y);
+    if (one.name && one.name !== name && away < least) [near, least] = [`near ${one.name}`, away];
   }
+  return near;
 }

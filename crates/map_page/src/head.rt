@@ -6,7 +6,7 @@ pub const HEAD: &str = "\
 <html lang=\"en\">\n\
 <head>\n\
 <meta charset=\"utf-8\">\n\
-<meta http-equiv=\"Content-Security-Policy\" content=\"default-src 'none'; script-src 'sha256-DnKalYTqOMWWI0nEh4yC0did2SSe8j1jO0VsTMnT2k8='; style-src 'sha256-3SHiJ/PktFbecWg/6+CaixtZ1pC/HZS8Ja030gzZXiA='; base-uri 'none'; form-action 'none'\">\n\
+<meta http-equiv=\"Content-Security-Policy\" content=\"default-src 'none'; script-src 'sha256-pc192ohMafbF7SvniVpMXzHYih4oV4qWdZRoChAkrR0='; style-src 'sha256-3SHiJ/PktFbecWg/6+CaixtZ1pC/HZS8Ja030gzZXiA='; base-uri 'none'; form-action 'none'\">\n\
 <meta name=\"viewport\" content=\"width=device-width, initial-scale=1\">\n\
 <title>Transit map</title>\n\
 <style>\n\
@@ -190,21 +190,23 @@ function mapStations(root) {\n\
 \x20 const stations = [...root.querySelectorAll('circle')].map(circle => {\n\
 \x20   const [x, y, radius] = ['cx', 'cy', 'r'].map(name => numbersOf(circle, name)[0]);\n\
 \x20   return { kind: 'station', x, y, radius, feet: [[0, 0]], name: '', lines: new Set() };\n\
-\x20 }).filter(({ radius }) => radius >= 0);\n\
+\x20 }).filter(({ x, y, radius }) => radius >= 0 && Number.isFinite(x + y));\n\
 \x20 const texts = [...root.querySelectorAll('text')], isWhole = texts.length === stations.length;\n\
-\x20 let next = 0;\n\
+\x20 let last = -1;\n\
 \x20 for (const text of texts) {\n\
+\x20   let next = last + 1;\n\
 \x20   while (next < stations.length && !isWhole && !standsBy(text, stations[next])) next++;\n\
-\x20   if (next < stations.length) stations[next++].name = wordsOf(text);\n\
+\x20   if (next < stations.length) stations[last = next].name = wordsOf(text);\n\
 \x20 }\n\
 \x20 return stations;\n\
 }\n\
 \n\
-/* Is this the name of this station? A name is 12 wide for each character, 20 high, and 4 from its marker. */\n\
-function standsBy(text, { x, y, radius }) {\n\
-\x20 const [left, base] = ['x', 'y'].map(name => numbersOf(text, name)[0]), reach = radius + 5;\n\
-\x20 const right = left + 12 * [...text.textContent].length;\n\
-\x20 return left - reach <= x && x <= right + reach && base - 20 - reach <= y && y <= base + reach;\n\
+/* Does a name stand at one of the eight places round this station? It is 12 wide for each character. */\n\
+function standsBy(text, station) {\n\
+\x20 const right = numbersOf(text, 'x')[0] - station.x, down = numbersOf(text, 'y')[0] - station.y;\n\
+\x20 const away = station.radius + 4, width = 12 * [...text.textContent].length;\n\
+\x20 if (right === away || right === -away - width) return [-away, 8, away + 20].includes(down);\n\
+\x20 return right === -width / 2 && [-away - 4, away + 20].includes(down);\n\
 }\n\
 \n\
 /* A poster tells the lines that call at a station, and has its marker over their feet: their ends there. A station\n\
@@ -335,12 +337,16 @@ const byName = things => [...things].sort((a, b) => collator.compare(a.name, b.n
 const titleOf = ({ name }) => name || 'No name';\n\
 const folded = text => text.normalize('NFD').replace(/\\p{M}/gu, '').toLowerCase().replaceAll('\\u00df', 'ss').trim();\n\
 const linesInWords = lines => byName(lines).map(titleOf).join(', ');\n\
-const inWords = thing => [titleOf(thing), thing.word, thing.near].filter(Boolean).join(', ');\n\
+const inWords = thing => [titleOf(thing), thing.word, nearOf(thing)].filter(Boolean).join(', ');\n\
 \n\
 /* The things whose words others have too. */\n\
 function alike(things, wordsOf) {\n\
 \x20 const groups = new Map();\n\
-\x20 for (const thing of things) groups.set(wordsOf(thing), [...groups.get(wordsOf(thing)) || [], thing]);\n\
+\x20 for (const thing of things) {\n\
+\x20   const words = wordsOf(thing), group = groups.get(words);\n\
+\x20   if (group) group.push(thing);\n\
+\x20   else groups.set(words, [thing]);\n\
+\x20 }\n\
 \x20 return [...groups.values()].filter(({ length }) => length > 1).flat();\n\
 }\n\
 \n\
@@ -352,12 +358,16 @@ function tellApart({ lines, stations }) {\n\
 \x20   if (first !== last) line.word = `${titleOf(first)} to ${titleOf(last)}`;\n\
 \x20 }\n\
 \x20 for (const station of alike(stations, titleOf)) station.word = linesInWords(station.lines);\n\
-\x20 for (const station of alike(stations, one => `${one.name} ${linesInWords(one.lines)}`)) {\n\
-\x20   const isOther = ({ name }) => name && name !== station.name;\n\
-\x20   const away = one => isOther(one) ? Math.hypot(one.x - station.x, one.y - station.y) : Infinity;\n\
-\x20   const near = stations.reduce((best, one) => away(one) < away(best) ? one : best);\n\
-\x20   if (away(near) < Infinity) station.near = `near ${near.name}`;\n\
+\x20 for (const station of alike(stations, one => `${one.name} ${linesInWords(one.lines)}`)) station.others = stations;\n\
+}\n\
+\n\
+function nearOf({ x, y, name, others = [] }) {\n\
+\x20 let near = '', least = Infinity;\n\
+\x20 for (const one of others) {\n\
+\x20   const away = Math.hypot(one.x - x, one.y - y);\n\
+\x20   if (one.name && one.name !== name && away < least) [near, least] = [`near ${one.name}`, away];\n\
 \x20 }\n\
+\x20 return near;\n\
 }\n\
 \n\
 /* A part of the sheet in squares: empty (0), crossed by lines, or taken (Infinity). */\n\
@@ -642,9 +652,10 @@ class List {\n\
 \x20   if (thing.kind === 'line') {\n\
 \x20     return make('button', about, swatchOf(thing), name, ...thing.word ? [' ', make('small', {}, thing.word)] : []);\n\
 \x20   }\n\
-\x20   const lines = byName(thing.lines).filter(line => line !== but), count = lines.length + (thing.near ? 1 : 0);\n\
+\x20   const near = nearOf(thing), lines = byName(thing.lines).filter(line => line !== but);\n\
+\x20   const count = lines.length + (near ? 1 : 0);\n\
 \x20   const words = lines.map((line, i) => make('span', {}, swatchOf(line), titleOf(line), i + 1 < count ? ', ' : ''));\n\
-\x20   return make('button', about, name, ...count > 0 ? [' ', make('small', {}, ...words, thing.near || '')] : []);\n\
+\x20   return make('button', about, name, ...count > 0 ? [' ', make('small', {}, ...words, near)] : []);\n\
 \x20 }\n\
 }\n\
 \n\
@@ -708,6 +719,7 @@ class Search {\n\
 \x20 }\n\
 \n\
 \x20 press(event) {\n\
+\x20   if (event.isComposing) return;\n\
 \x20   const buttons = this.list.buttons(), active = this.active(), isCaret = /^(Home|End)$/.test(event.key) && !active;\n\
 \x20   const next = isCaret ? -1 : stepBy(event.key, buttons.indexOf(active), buttons.length);\n\
 \x20   if (next >= 0) this.mark(buttons[next]);\n\
@@ -723,15 +735,14 @@ class Address {\n\
 \x20 constructor({ lines, stations }) {\n\
 \x20   this.things = new Map();\n\
 \x20   this.keys = new Map();\n\
-\x20   const inOrder = things => [...things].sort((a, b) => collator.compare(inWords(a), inWords(b)));\n\
-\x20   for (const thing of [...inOrder(lines), ...inOrder(stations)]) this.add(thing);\n\
-\x20 }\n\
-\n\
-\x20 add(thing) {\n\
-\x20   let number = 1;\n\
-\x20   while (this.things.has(keyOf(thing.kind, thing.name, number))) number++;\n\
-\x20   this.keys.set(thing, keyOf(thing.kind, thing.name, number));\n\
-\x20   this.things.set(this.keys.get(thing), thing);\n\
+\x20   const counts = new Map(), wordsOf = ({ name, word = '' }) => `${name} ${word}`;\n\
+\x20   const inOrder = things => [...things].sort((a, b) => collator.compare(wordsOf(a), wordsOf(b)));\n\
+\x20   for (const thing of [...inOrder(lines), ...inOrder(stations)]) {\n\
+\x20     const first = keyOf(thing.kind, thing.name, 1), count = (counts.get(first) || 0) + 1;\n\
+\x20     counts.set(first, count);\n\
+\x20     this.keys.set(thing, keyOf(thing.kind, thing.name, count));\n\
+\x20     this.things.set(this.keys.get(thing), thing);\n\
+\x20   }\n\
 \x20 }\n\
 \n\
 \x20 /* What the address names, and how: nothing where it names none. */\n\
