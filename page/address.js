@@ -4,14 +4,11 @@ class Address {
   constructor({ lines, stations }) {
     this.things = new Map();
     this.keys = new Map();
-    const counts = new Map(), wordsOf = ({ name, word = '' }) => `${name} ${word}`;
-    const inOrder = things => [...things].sort((a, b) => collator.compare(wordsOf(a), wordsOf(b)));
-    for (const thing of [...inOrder(lines), ...inOrder(stations)]) {
-      const first = keyOf(thing.kind, thing.name, 1), count = (counts.get(first) || 0) + 1;
-      counts.set(first, count);
-      this.keys.set(thing, keyOf(thing.kind, thing.name, count));
-      this.things.set(this.keys.get(thing), thing);
+    for (const group of groupsOf([...lines, ...stations], ({ kind, name }) => keyOf(kind, name, 1))) {
+      group.sort((a, b) => collator.compare(a.word || '', b.word || ''));
+      group.forEach((thing, i) => this.keys.set(thing, keyOf(thing.kind, thing.name, i + 1)));
     }
+    for (const [thing, key] of this.keys) this.things.set(key, thing);
   }
 
   /* What the address names, and how: nothing where it names none. */

@@ -2,11 +2,9 @@ const SHOWN = 20;
 
 /* The search box, and the list of what it finds. Arrow keys go through the list while the box is typed into. */
 class Search {
-  constructor({ lines, stations }, hands) {
-    this.box = byId('find');
-    this.point = hands.point;
+  constructor(map, hands) {
+    Object.assign(this, { map, box: byId('find'), point: hands.point });
     this.list = new List(byId('found'), hands);
-    this.things = [...byName(lines), ...byName(stations)].map(thing => [thing, folded(thing.name)]);
     on(this.box, 'input', () => this.find());
     on(this.box, 'keydown', event => this.press(event));
     on(byId('hits'), 'mousedown', event => event.preventDefault());
@@ -25,7 +23,9 @@ class Search {
 
   /* Names that begin so come first. */
   find() {
-    const wanted = folded(this.box.value), met = this.things.filter(([, name]) => wanted && name.includes(wanted));
+    const { lines, stations } = this.map, wanted = folded(this.box.value);
+    this.things ??= [...byName(lines), ...byName(stations)].map(thing => [thing, folded(thing.name)]);
+    const met = this.things.filter(([, name]) => wanted && name.includes(wanted));
     const begun = met.filter(([, name]) => name.startsWith(wanted));
     this.list.show([...new Set([...begun, ...met])].slice(0, SHOWN).map(([thing]) => thing));
     this.list.buttons().forEach((button, i) => {

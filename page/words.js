@@ -5,16 +5,19 @@ const folded = text => text.normalize('NFD').replace(/\p{M}/gu, '').toLowerCase(
 const linesInWords = lines => byName(lines).map(titleOf).join(', ');
 const inWords = thing => [titleOf(thing), thing.word, nearOf(thing)].filter(Boolean).join(', ');
 
-/* The things whose words others have too. */
-function alike(things, wordsOf) {
+/* Things by their words, in their order. */
+function groupsOf(things, wordsOf) {
   const groups = new Map();
   for (const thing of things) {
     const words = wordsOf(thing), group = groups.get(words);
     if (group) group.push(thing);
     else groups.set(words, [thing]);
   }
-  return [...groups.values()].filter(({ length }) => length > 1).flat();
+  return [...groups.values()];
 }
+
+/* The things whose words others have too. */
+const alike = (things, wordsOf) => groupsOf(things, wordsOf).filter(({ length }) => length > 1).flat();
 
 /* Things of one name are told apart in words: lines by where they begin and end, stations by their lines, and where
    these are the same too by the nearest station of another name. */
@@ -23,8 +26,9 @@ function tellApart({ lines, stations }) {
     const [first, last] = [line.stations[0], line.stations[line.stations.length - 1]];
     if (first !== last) line.word = `${titleOf(first)} to ${titleOf(last)}`;
   }
-  for (const station of alike(stations, titleOf)) station.word = linesInWords(station.lines);
-  for (const station of alike(stations, one => `${one.name} ${linesInWords(one.lines)}`)) station.others = stations;
+  const named = alike(stations, titleOf);
+  for (const station of named) station.word = linesInWords(station.lines);
+  for (const station of alike(named, inWords)) station.others = stations;
 }
 
 function nearOf({ x, y, name, others = [] }) {

@@ -6,7 +6,7 @@ pub const HEAD: &str = "\
 <html lang=\"en\">\n\
 <head>\n\
 <meta charset=\"utf-8\">\n\
-<meta http-equiv=\"Content-Security-Policy\" content=\"default-src 'none'; script-src 'sha256-pc192ohMafbF7SvniVpMXzHYih4oV4qWdZRoChAkrR0='; style-src 'sha256-3SHiJ/PktFbecWg/6+CaixtZ1pC/HZS8Ja030gzZXiA='; base-uri 'none'; form-action 'none'\">\n\
+<meta http-equiv=\"Content-Security-Policy\" content=\"default-src 'none'; script-src 'sha256-az3+yK2jBFZ6AiFFCScrhT0RNPaVsGiG8Zvpp1pv6eA='; style-src 'sha256-3SHiJ/PktFbecWg/6+CaixtZ1pC/HZS8Ja030gzZXiA='; base-uri 'none'; form-action 'none'\">\n\
 <meta name=\"viewport\" content=\"width=device-width, initial-scale=1\">\n\
 <title>Transit map</title>\n\
 <style>\n\
@@ -339,16 +339,19 @@ const folded = text => text.normalize('NFD').replace(/\\p{M}/gu, '').toLowerCase
 const linesInWords = lines => byName(lines).map(titleOf).join(', ');\n\
 const inWords = thing => [titleOf(thing), thing.word, nearOf(thing)].filter(Boolean).join(', ');\n\
 \n\
-/* The things whose words others have too. */\n\
-function alike(things, wordsOf) {\n\
+/* Things by their words, in their order. */\n\
+function groupsOf(things, wordsOf) {\n\
 \x20 const groups = new Map();\n\
 \x20 for (const thing of things) {\n\
 \x20   const words = wordsOf(thing), group = groups.get(words);\n\
 \x20   if (group) group.push(thing);\n\
 \x20   else groups.set(words, [thing]);\n\
 \x20 }\n\
-\x20 return [...groups.values()].filter(({ length }) => length > 1).flat();\n\
+\x20 return [...groups.values()];\n\
 }\n\
+\n\
+/* The things whose words others have too. */\n\
+const alike = (things, wordsOf) => groupsOf(things, wordsOf).filter(({ length }) => length > 1).flat();\n\
 \n\
 /* Things of one name are told apart in words: lines by where they begin and end, stations by their lines, and where\n\
 \x20  these are the same too by the nearest station of another name. */\n\
@@ -357,8 +360,9 @@ function tellApart({ lines, stations }) {\n\
 \x20   const [first, last] = [line.stations[0], line.stations[line.stations.length - 1]];\n\
 \x20   if (first !== last) line.word = `${titleOf(first)} to ${titleOf(last)}`;\n\
 \x20 }\n\
-\x20 for (const station of alike(stations, titleOf)) station.word = linesInWords(station.lines);\n\
-\x20 for (const station of alike(stations, one => `${one.name} ${linesInWords(one.lines)}`)) station.others = stations;\n\
+\x20 const named = alike(stations, titleOf);\n\
+\x20 for (const station of named) station.word = linesInWords(station.lines);\n\
+\x20 for (const station of alike(named, inWords)) station.others = stations;\n\
 }\n\
 \n\
 function nearOf({ x, y, name, others = [] }) {\n\
@@ -670,11 +674,9 @@ const SHOWN = 20;\n\
 \n\
 /* The search box, and the list of what it finds. Arrow keys go through the list while the box is typed into. */\n\
 class Search {\n\
-\x20 constructor({ lines, stations }, hands) {\n\
-\x20   this.box = byId('find');\n\
-\x20   this.point = hands.point;\n\
+\x20 constructor(map, hands) {\n\
+\x20   Object.assign(this, { map, box: byId('find'), point: hands.point });\n\
 \x20   this.list = new List(byId('found'), hands);\n\
-\x20   this.things = [...byName(lines), ...byName(stations)].map(thing => [thing, folded(thing.name)]);\n\
 \x20   on(this.box, 'input', () => this.find());\n\
 \x20   on(this.box, 'keydown', event => this.press(event));\n\
 \x20   on(byId('hits'), 'mousedown', event => event.preventDefault());\n\
@@ -693,7 +695,9 @@ class Search {\n\
 \n\
 \x20 /* Names that begin so come first. */\n\
 \x20 find() {\n\
-\x20   const wanted = folded(this.box.value), met = this.things.filter(([, name]) => wanted && name.includes(wanted));\n\
+\x20   const { lines, stations } = this.map, wanted = folded(this.box.value);\n\
+\x20   this.things ??= [...byName(lines), ...byName(stations)].map(thing => [thing, folded(thing.name)]);\n\
+\x20   const met = this.things.filter(([, name]) => wanted && name.includes(wanted));\n\
 \x20   const begun = met.filter(([, name]) => name.startsWith(wanted));\n\
 \x20   this.list.show([...new Set([...begun, ...met])].slice(0, SHOWN).map(([thing]) => thing));\n\
 \x20   this.list.buttons().forEach((button, i) => {\n\
@@ -735,14 +739,11 @@ class Address {\n\
 \x20 constructor({ lines, stations }) {\n\
 \x20   this.things = new Map();\n\
 \x20   this.keys = new Map();\n\
-\x20   const counts = new Map(), wordsOf = ({ name, word = '' }) => `${name} ${word}`;\n\
-\x20   const inOrder = things => [...things].sort((a, b) => collator.compare(wordsOf(a), wordsOf(b)));\n\
-\x20   for (const thing of [...inOrder(lines), ...inOrder(stations)]) {\n\
-\x20     const first = keyOf(thing.kind, thing.name, 1), count = (counts.get(first) || 0) + 1;\n\
-\x20     counts.set(first, count);\n\
-\x20     this.keys.set(thing, keyOf(thing.kind, thing.name, count));\n\
-\x20     this.things.set(this.keys.get(thing), thing);\n\
+\x20   for (const group of groupsOf([...lines, ...stations], ({ kind, name }) => keyOf(kind, name, 1))) {\n\
+\x20     group.sort((a, b) => collator.compare(a.word || '', b.word || ''));\n\
+\x20     group.forEach((thing, i) => this.keys.set(thing, keyOf(thing.kind, thing.name, i + 1)));\n\
 \x20   }\n\
+\x20   for (const [thing, key] of this.keys) this.things.set(key, thing);\n\
 \x20 }\n\
 \n\
 \x20 /* What the address names, and how: nothing where it names none. */\n\
