@@ -1,5 +1,6 @@
 /* Where a station's marker lies: over the feet of its lines, each as far from its middle as its line is. */
 const feetOf = ({ x, y, feet }, spread) => feet.map(([right, down]) => [x + right * spread, y + down * spread]);
+const circleAt = ([x, y], r) => `M${x - r} ${y}a${r} ${r} 0 1 0 ${2 * r} 0a${r} ${r} 0 1 0 ${-2 * r} 0z`;
 const rounded = places => 'M' + places.map(place => place.map(Math.round).join(' ')).join('L');
 
 /* Lines and stations as shapes, with names where there is room. */
@@ -17,6 +18,7 @@ class Layer {
     if (this.spread !== look.spread) { this.spreadOut(look.spread); this.draw(look, part); return; }
     edges.setAttribute('stroke-width', look.edge);
     routes.setAttribute('stroke-width', look.stroke);
+    markers.lastElementChild.setAttribute('stroke-width', look.rim);
     radii.forEach((radius, i) => {
       markers.children[i].setAttribute('stroke-width', look.rimOf(radius));
       markers.children[i + radii.length].setAttribute('stroke-width', look.fillOf(radius));
@@ -29,7 +31,8 @@ class Layer {
     this.placed.forEach(({ station }, i) => { names.children[i].textContent = station.name; });
   }
 
-  /* The ways of lines, the edges below all of them, and the markers by size: all rims below all that fills them. */
+  /* The ways of lines, the edges below all of them, and the markers: those over several feet by size, all rims below all
+     that fills them, then the circles in one. */
   spreadOut(spread) {
     this.spread = spread;
     this.texts = this.lines.map(({ ways }) => ways.map(({ centre, shift }) => (
@@ -41,12 +44,16 @@ class Layer {
       const { edge } = this.lines[i];
       return edge ? `<path class="${edge.paper}" color="${edge.colour}" d="${text}"/>` : '';
     }).join('');
-    this.radii = [...new Set(this.stations.map(({ radius }) => radius))];
-    this.marks = this.radii.map(wanted => this.stations.flatMap(station => (
-      station.radius === wanted ? `${rounded(feetOf(station, spread))}h.01` : []
+    const wide = this.stations.filter(({ feet }) => feet.length > 1);
+    this.radii = [...new Set(wide.map(({ radius }) => radius))];
+    this.marks = this.radii.map(wanted => wide.flatMap(station => (
+      station.radius === wanted ? rounded(feetOf(station, spread)) : []
     )).join(''));
+    this.circles = this.stations.flatMap(station => (
+      station.feet.length > 1 ? [] : circleAt(feetOf(station, spread)[0], station.radius * spread)
+    )).join('');
     this.markers.innerHTML = ['rim', 'fill'].map(kind => (
       this.marks.map(text => `<path class="${kind}" d="${text}"/>`).join('')
-    )).join('');
+    )).join('') + `<path class="circle" d="${this.circles}"/>`;
   }
 }

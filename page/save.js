@@ -24,6 +24,7 @@ function* shapesOf({ layers, look, lifted }) {
     for (const [colour, widthOf] of [[INK, look.rimOf], [PAPER, look.fillOf]]) {
       for (const [i, radius] of layer.radii.entries()) yield { d: layer.marks[i], colour, width: widthOf(radius) };
     }
+    if (layer.circles) yield { d: layer.circles, fill: PAPER, colour: INK, width: look.rim };
     const names = layer.placed.map(({ station, x, y }) => ({ name: station.name, x, y }));
     for (const name of names) yield { ...name, colour: PAPER, width: look.letters / 3 };
     for (const name of names) yield { ...name, colour: INK };
@@ -35,9 +36,9 @@ const escaped = text => text.replace(/[^\t\n\r -\ud7ff\ue000-\ufffd\u{10000}-\u{
 
 function asSvg(shapes, { left, top, width, height, scale }, { letters }, title) {
   const box = `x="${left}" y="${top}" width="${width}" height="${height}" fill="${PAPER}"`;
-  const rows = [...shapes].map(({ d, name, veil, x, y, colour, width: wide }) => {
+  const rows = [...shapes].map(({ d, fill = 'none', name, veil, x, y, colour, width: wide }) => {
     const stroke = wide === undefined ? '' : ` stroke="${colour}" stroke-width="${wide}"`;
-    if (d) return `<path d="${d}" fill="none"${stroke}/>`;
+    if (d) return `<path d="${d}" fill="${fill}"${stroke}/>`;
     if (veil) return `<rect ${box} fill-opacity="${veil}"/>`;
     return `<text x="${x}" y="${y}" fill="${colour}"${stroke}>${escaped(name)}</text>`;
   });
@@ -58,11 +59,12 @@ function asPng(shapes, { left, top, width, height, scale }, { letters }) {
   };
   ink.setTransform(fine, 0, 0, fine, -left * fine, -top * fine);
   cover(1);
-  for (const { d, name, veil, x, y, colour, width: wide } of shapes) {
+  for (const { d, fill, name, veil, x, y, colour, width: wide } of shapes) {
     Object.assign(ink, {
-      globalAlpha: 1, strokeStyle: colour, fillStyle: colour, lineWidth: wide || 1, lineCap: 'round', lineJoin: 'round',
+      globalAlpha: 1, strokeStyle: colour, fillStyle: fill || colour, lineWidth: wide || 1, lineCap: 'round', lineJoin: 'round',
       font: `${letters}px system-ui, sans-serif`,
     });
+    if (fill) ink.fill(new Path2D(d));
     if (d) ink.stroke(new Path2D(d));
     else if (veil) cover(veil);
     else if (wide) ink.strokeText(name, x, y);

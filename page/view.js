@@ -39,7 +39,7 @@ class View {
     const stroke = Math.max(12 * spread, 2.2 / scale), rim = Math.max(4 * spread, 1 / scale);
     const rimOf = radius => 2 * spread * radius + rim;
     return {
-      spread, stroke, edge: stroke + Math.max(2 * spread, 2 / scale),
+      spread, stroke, rim, edge: stroke + Math.max(2 * spread, 2 / scale),
       rimOf, fillOf: radius => Math.max(0, rimOf(radius) - 2 * rim), reachOf: ({ reach }) => rimOf(reach) / 2,
       letters: Math.max(12 / scale, Math.min(20, 16 / scale)), most: scale < 2 * this.whole().scale ? .7 : 9,
     };
