@@ -31,8 +31,8 @@ class Layer {
     this.placed.forEach(({ station }, i) => { names.children[i].textContent = station.name; });
   }
 
-  /* The ways of lines, the edges below all of them, and the markers: those over several feet by size, all rims below all
-     that fills them, then the circles in one. */
+  /* The ways of lines, the edges below all of them, and the markers: those over several feet by size, all rims below
+     all that fills them, then the circles as one. */
   spreadOut(spread) {
     this.spread = spread;
     this.texts = this.lines.map(({ ways }) => ways.map(({ centre, shift }) => (

@@ -61,8 +61,8 @@ function asPng(shapes, { left, top, width, height, scale }, { letters }) {
   cover(1);
   for (const { d, fill, name, veil, x, y, colour, width: wide } of shapes) {
     Object.assign(ink, {
-      globalAlpha: 1, strokeStyle: colour, fillStyle: fill || colour, lineWidth: wide || 1, lineCap: 'round', lineJoin: 'round',
-      font: `${letters}px system-ui, sans-serif`,
+      globalAlpha: 1, strokeStyle: colour, fillStyle: fill || colour, lineWidth: wide || 1,
+      lineCap: 'round', lineJoin: 'round', font: `${letters}px system-ui, sans-serif`,
     });
     if (fill) ink.fill(new Path2D(d));
     if (d) ink.stroke(new Path2D(d));

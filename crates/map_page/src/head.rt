@@ -6,7 +6,7 @@ pub const HEAD: &str = "\
 <html lang=\"en\">\n\
 <head>\n\
 <meta charset=\"utf-8\">\n\
-<meta http-equiv=\"Content-Security-Policy\" content=\"default-src 'none'; script-src 'sha256-az3+yK2jBFZ6AiFFCScrhT0RNPaVsGiG8Zvpp1pv6eA='; style-src 'sha256-3SHiJ/PktFbecWg/6+CaixtZ1pC/HZS8Ja030gzZXiA='; base-uri 'none'; form-action 'none'\">\n\
+<meta http-equiv=\"Content-Security-Policy\" content=\"default-src 'none'; script-src 'sha256-n3Q2rZNv4/axt10Gq5+XCtDJVZ4J39A2GISoen148Os='; style-src 'sha256-vV4q9SbETdn/y9piFa3/nbm+Ab3jIbD6vRv55mft4Ts='; base-uri 'none'; form-action 'none'\">\n\
 <meta name=\"viewport\" content=\"width=device-width, initial-scale=1\">\n\
 <title>Transit map</title>\n\
 <style>\n\
@@ -54,6 +54,7 @@ i { display: inline-block; width: .7rem; height: .7rem; border: 1px solid transp
 svg path { fill: none; stroke: currentColor; }\n\
 .markers .rim { stroke: var(--ink); }\n\
 .markers .fill { stroke: var(--paper); }\n\
+.markers .circle { fill: var(--paper); stroke: var(--ink); }\n\
 .names { fill: var(--ink); stroke: var(--paper); paint-order: stroke; }\n\
 #glass { inset: 0; cursor: grab; touch-action: none; }\n\
 #tip { left: 0; top: 0; max-width: 20rem; padding: .25rem .6rem; border-radius: 6px; background: var(--ink); color: var(--paper); pointer-events: none; }\n\
@@ -431,6 +432,7 @@ function placeNames(stations, squares, { letters, reachOf, most }) {\n\
 \n\
 /* Where a station's marker lies: over the feet of its lines, each as far from its middle as its line is. */\n\
 const feetOf = ({ x, y, feet }, spread) => feet.map(([right, down]) => [x + right * spread, y + down * spread]);\n\
+const circleAt = ([x, y], r) => `M${x - r} ${y}a${r} ${r} 0 1 0 ${2 * r} 0a${r} ${r} 0 1 0 ${-2 * r} 0z`;\n\
 const rounded = places => 'M' + places.map(place => place.map(Math.round).join(' ')).join('L');\n\
 \n\
 /* Lines and stations as shapes, with names where there is room. */\n\
@@ -448,6 +450,7 @@ class Layer {\n\
 \x20   if (this.spread !== look.spread) { this.spreadOut(look.spread); this.draw(look, part); return; }\n\
 \x20   edges.setAttribute('stroke-width', look.edge);\n\
 \x20   routes.setAttribute('stroke-width', look.stroke);\n\
+\x20   markers.lastElementChild.setAttribute('stroke-width', look.rim);\n\
 \x20   radii.forEach((radius, i) => {\n\
 \x20     markers.children[i].setAttribute('stroke-width', look.rimOf(radius));\n\
 \x20     markers.children[i + radii.length].setAttribute('stroke-width', look.fillOf(radius));\n\
@@ -460,7 +463,8 @@ class Layer {\n\
 \x20   this.placed.forEach(({ station }, i) => { names.children[i].textContent = station.name; });\n\
 \x20 }\n\
 \n\
-\x20 /* The ways of lines, the edges below all of them, and the markers by size: all rims below all that fills them. */\n\
+\x20 /* The ways of lines, the edges below all of them, and the markers: those over several feet by size, all rims below\n\
+\x20    all that fills them, then the circles as one. */\n\
 \x20 spreadOut(spread) {\n\
 \x20   this.spread = spread;\n\
 \x20   this.texts = this.lines.map(({ ways }) => ways.map(({ centre, shift }) => (\n\
@@ -472,13 +476,17 @@ class Layer {\n\
 \x20     const { edge } = this.lines[i];\n\
 \x20     return edge ? `<path class=\"${edge.paper}\" color=\"${edge.colour}\" d=\"${text}\"/>` : '';\n\
 \x20   }).join('');\n\
-\x20   this.radii = [...new Set(this.stations.map(({ radius }) => radius))];\n\
-\x20   this.marks = this.radii.map(wanted => this.stations.flatMap(station => (\n\
-\x20     station.radius === wanted ? `${rounded(feetOf(station, spread))}h.01` : []\n\
+\x20   const wide = this.stations.filter(({ feet }) => feet.length > 1);\n\
+\x20   this.radii = [...new Set(wide.map(({ radius }) => radius))];\n\
+\x20   this.marks = this.radii.map(wanted => wide.flatMap(station => (\n\
+\x20     station.radius === wanted ? rounded(feetOf(station, spread)) : []\n\
 \x20   )).join(''));\n\
+\x20   this.circles = this.stations.flatMap(station => (\n\
+\x20     station.feet.length > 1 ? [] : circleAt(feetOf(station, spread)[0], station.radius * spread)\n\
+\x20   )).join('');\n\
 \x20   this.markers.innerHTML = ['rim', 'fill'].map(kind => (\n\
 \x20     this.marks.map(text => `<path class=\"${kind}\" d=\"${text}\"/>`).join('')\n\
-\x20   )).join('');\n\
+\x20   )).join('') + `<path class=\"circle\" d=\"${this.circles}\"/>`;\n\
 \x20 }\n\
 }\n\
 \n\
@@ -523,7 +531,7 @@ class View {\n\
 \x20   const stroke = Math.max(12 * spread, 2.2 / scale), rim = Math.max(4 * spread, 1 / scale);\n\
 \x20   const rimOf = radius => 2 * spread * radius + rim;\n\
 \x20   return {\n\
-\x20     spread, stroke, edge: stroke + Math.max(2 * spread, 2 / scale),\n\
+\x20     spread, stroke, rim, edge: stroke + Math.max(2 * spread, 2 / scale),\n\
 \x20     rimOf, fillOf: radius => Math.max(0, rimOf(radius) - 2 * rim), reachOf: ({ reach }) => rimOf(reach) / 2,\n\
 \x20     letters: Math.max(12 / scale, Math.min(20, 16 / scale)), most: scale < 2 * this.whole().scale ? .7 : 9,\n\
 \x20   };\n\
@@ -869,6 +877,7 @@ function* shapesOf({ layers, look, lifted }) {\n\
 \x20   for (const [colour, widthOf] of [[INK, look.rimOf], [PAPER, look.fillOf]]) {\n\
 \x20     for (const [i, radius] of layer.radii.entries()) yield { d: layer.marks[i], colour, width: widthOf(radius) };\n\
 \x20   }\n\
+\x20   if (layer.circles) yield { d: layer.circles, fill: PAPER, colour: INK, width: look.rim };\n\
 \x20   const names = layer.placed.map(({ station, x, y }) => ({ name: station.name, x, y }));\n\
 \x20   for (const name of names) yield { ...name, colour: PAPER, width: look.letters / 3 };\n\
 \x20   for (const name of names) yield { ...name, colour: INK };\n\
@@ -880,9 +889,9 @@ const escaped = text => text.replace(/[^\\t\\n\\r -\\ud7ff\\ue000-\\ufffd\\u{100
 \n\
 function asSvg(shapes, { left, top, width, height, scale }, { letters }, title) {\n\
 \x20 const box = `x=\"${left}\" y=\"${top}\" width=\"${width}\" height=\"${height}\" fill=\"${PAPER}\"`;\n\
-\x20 const rows = [...shapes].map(({ d, name, veil, x, y, colour, width: wide }) => {\n\
+\x20 const rows = [...shapes].map(({ d, fill = 'none', name, veil, x, y, colour, width: wide }) => {\n\
 \x20   const stroke = wide === undefined ? '' : ` stroke=\"${colour}\" stroke-width=\"${wide}\"`;\n\
-\x20   if (d) return `<path d=\"${d}\" fill=\"none\"${stroke}/>`;\n\
+\x20   if (d) return `<path d=\"${d}\" fill=\"${fill}\"${stroke}/>`;\n\
 \x20   if (veil) return `<rect ${box} fill-opacity=\"${veil}\"/>`;\n\
 \x20   return `<text x=\"${x}\" y=\"${y}\" fill=\"${colour}\"${stroke}>${escaped(name)}</text>`;\n\
 \x20 });\n\
@@ -903,11 +912,12 @@ function asPng(shapes, { left, top, width, height, scale }, { letters }) {\n\
 \x20 };\n\
 \x20 ink.setTransform(fine, 0, 0, fine, -left * fine, -top * fine);\n\
 \x20 cover(1);\n\
-\x20 for (const { d, name, veil, x, y, colour, width: wide } of shapes) {\n\
+\x20 for (const { d, fill, name, veil, x, y, colour, width: wide } of shapes) {\n\
 \x20   Object.assign(ink, {\n\
-\x20     globalAlpha: 1, strokeStyle: colour, fillStyle: colour, lineWidth: wide || 1, lineCap: 'round', lineJoin: 'round',\n\
-\x20     font: `${letters}px system-ui, sans-serif`,\n\
+\x20     globalAlpha: 1, strokeStyle: colour, fillStyle: fill || colour, lineWidth: wide || 1,\n\
+\x20     lineCap: 'round', lineJoin: 'round', font: `${letters}px system-ui, sans-serif`,\n\
 \x20   });\n\
+\x20   if (fill) ink.fill(new Path2D(d));\n\
 \x20   if (d) ink.stroke(new Path2D(d));\n\
 \x20   else if (veil) cover(veil);\n\
 \x20   else if (wide) ink.strokeText(name, x, y);\n\
