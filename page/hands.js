@@ -5,7 +5,7 @@ function takeHold(view, panel) {
 
   function pointAt(thing, x, y) {
     tip.hidden = !thing;
-    tip.textContent = thing?.name;
+    tip.textContent = thing ? inWords(thing) : '';
     tip.style.transform = `translate(${x}px, ${y}px) translate(${x > view.width / 2 ? -105 : 5}%, .8rem)`;
     panel.point(thing);
   }
@@ -32,7 +32,7 @@ function takeHold(view, panel) {
     view.zoom(span([x, y]) / span(from), (x + other[0]) / 2, (y + other[1]) / 2, true);
   });
   on(glass, 'pointerup', ({ pointerId, offsetX, offsetY }) => {
-    if (fingers.delete(pointerId) && travelled < 4) panel.choose(view.at(offsetX, offsetY));
+    if (fingers.delete(pointerId) && travelled < 4) panel.toggle(view.at(offsetX, offsetY));
   });
   on(glass, 'pointerleave', ({ pointerId }) => {
     fingers.delete(pointerId);
@@ -45,11 +45,12 @@ function takeHold(view, panel) {
     view.zoom(Math.exp(-pixels * (event.ctrlKey ? .01 : .002)), event.offsetX, event.offsetY);
   });
 
-  const acts = { closer: () => view.zoom(1.5), farther: () => view.zoom(1 / 1.5), whole: () => view.go(view.whole()) };
+  const acts = { closer: () => view.zoom(1.5), farther: () => view.zoom(1 / 1.5), whole: () => view.show() };
   for (const id in acts) on(byId(id), 'click', acts[id]);
   const keys = {
     '+': acts.closer, '-': acts.farther, 0: acts.whole, Escape: () => panel.choose(),
-    ArrowLeft: () => view.move(120, 0), ArrowRight: () => view.move(-120, 0), ArrowUp: () => view.move(0, 120), ArrowDown: () => view.move(0, -120),
+    ArrowLeft: () => view.move(120, 0), ArrowRight: () => view.move(-120, 0),
+    ArrowUp: () => view.move(0, 120), ArrowDown: () => view.move(0, -120),
   };
   on(window, 'keydown', event => {
     const { key, target } = event, isTyped = target.id === 'find' && key !== 'Escape';
@@ -57,12 +58,21 @@ function takeHold(view, panel) {
     event.preventDefault();
     keys[key]();
   });
+  for (const kind of ['png', 'svg']) on(byId(kind), 'click', () => savePicture(view, kind));
 
+  const legend = byId('legend'), before = {};
   on(window, 'beforeprint', () => {
-    byId('legend').open = true;
-    view.settle({ scale: Math.min(1000 / view.map.width, 620 / view.map.height), x: 0, y: 0 }, view.map.width, view.map.height);
+    Object.assign(before, { isOpen: legend.open, lifted: view.lifted });
+    view.isPrinting = legend.open = true;
+    view.lift();
+    const { width, height } = view.map, scale = Math.min(1000 / width, 620 / height);
+    view.settle({ scale, x: 0, y: 0 }, width, height);
   });
-  on(window, 'afterprint', () => view.settle());
+  on(window, 'afterprint', () => {
+    view.isPrinting = false;
+    legend.open = before.isOpen;
+    view.lift(before.lifted);
+  });
 }
 
 /* What follows this script is the picture, as text. */
@@ -70,6 +80,7 @@ on(document, 'DOMContentLoaded', () => {
   const source = byId('picture'), map = readPicture(source.textContent);
   source.remove();
   byId('trouble').hidden = map !== null;
+  byId('panel').hidden = map === null;
   if (!map) return;
   const view = new View(byId('view'), byId('plane'), map);
   takeHold(view, new Panel(view));

@@ -25,8 +25,11 @@ class Squares {
 }
 
 /* Places of a name, best first: the way from its marker, the parts of it left of there and above. */
-const SIDES = [[1, 0, 0, .5], [-1, 0, 1, .5], [.7, -.7, 0, 1], [.7, .7, 0, 0], [-.7, -.7, 1, 1], [-.7, .7, 1, 0], [0, -1, .5, 1], [0, 1, .5, 0]];
-const pen = new OffscreenCanvas(1, 1).getContext('2d');
+const SIDES = [
+  [1, 0, 0, .5], [-1, 0, 1, .5], [.7, -.7, 0, 1], [.7, .7, 0, 0],
+  [-.7, -.7, 1, 1], [-.7, .7, 1, 0], [0, -1, .5, 1], [0, 1, .5, 0],
+];
+const pen = Object.assign(new OffscreenCanvas(1, 1).getContext('2d'), { lineCap: 'round', lineJoin: 'round' });
 
 /* Names, those of more lines first, where least is crossed and nothing taken. Some find none. */
 function placeNames(stations, squares, { letters, reachOf, most }) {
@@ -35,12 +38,13 @@ function placeNames(stations, squares, { letters, reachOf, most }) {
     squares.crossed(station.x - reach, station.y - reach, 2 * reach, 2 * reach, true);
   }
   pen.font = '100px system-ui, sans-serif';
-  return [...stations].sort((a, b) => b.lines.size - a.lines.size).flatMap(station => {
+  return stations.filter(({ name }) => name).sort((a, b) => b.lines.size - a.lines.size).flatMap(station => {
     station.ems ??= pen.measureText(station.name).width / 100;
     const away = reachOf(station) + letters / 3, width = station.ems * letters, height = letters * 1.1;
     let best, least = most * station.lines.size;
     SIDES.forEach(([right, down, before, above], side) => {
-      const place = [station.x + right * away - before * width, station.y + down * away - above * height, width, height];
+      const [x, y] = [station.x + right * away - before * width, station.y + down * away - above * height];
+      const place = [x, y, width, height];
       const over = squares.crossed(...place) * squares.side / width + side / 20;
       if (over < least) [best, least] = [place, over];
     });

@@ -1,70 +1,46 @@
-/* Lines and stations as shapes, with names where there is room. */
-class Layer {
-  constructor(root, { left, top, width, height }) {
-    root.setAttribute('viewBox', `${left} ${top} ${width} ${height}`);
-    [this.routes, this.markers, this.names] = root.children;
-    this.show([], []);
-  }
-
-  show(lines, stations) { Object.assign(this, { lines, stations, spread: 0 }); }
-
-  draw(look, part) {
-    const { routes, markers, names } = this;
-    if (this.spread !== look.spread) this.spreadOut(look);
-    routes.setAttribute('stroke-width', look.stroke);
-    markers.setAttribute('stroke-width', look.rim);
-    names.setAttribute('font-size', look.letters);
-    names.setAttribute('stroke-width', look.letters / 3);
-    const placed = placeNames(this.stations, new Squares(part, look.letters / 3, this.courses), look)
-      .filter(({ station }) => !this.unnamed?.includes(station));
-    names.innerHTML = placed.map(({ x, y }) => `<text x="${x}" y="${y}"/>`).join('');
-    placed.forEach(({ station }, i) => { names.children[i].textContent = station.name; });
-  }
-
-  spreadOut({ spread, radiusOf }) {
-    this.spread = spread;
-    const texts = this.lines.map(({ ways }) => ways.map(({ centre, shift }) => (
-      'M' + centre.map((value, i) => Math.round(value + shift[i] * spread))
-    )).join(''));
-    this.courses = texts.map(text => new Path2D(text));
-    this.routes.innerHTML = texts.map((text, i) => `<path color="${this.lines[i].colour}" d="${text}"/>`).join('');
-    this.markers.setAttribute('d', this.stations.map(station => {
-      const r = radiusOf(station);
-      return `M${station.x - r} ${station.y}a${r} ${r} 0 1 0 ${2 * r} 0a${r} ${r} 0 1 0 ${-2 * r} 0z`;
-    }).join(''));
-  }
-}
-
-/* The map in its frame: its place and scale (pixels a unit), now and at rest. */
+/* The map in its frame: its place and scale (pixels a unit), now and at rest; what it aims at stays in sight where the
+   frame changes. */
 class View {
   constructor(frame, plane, map) {
     Object.assign(this, { frame, plane, map, isLarge: map.lines.flatMap(line => line.ways).length > 3000 });
     this.layers = [...plane.children].map(root => new Layer(root, map));
     this.layers[0].show(map.lines, map.stations);
-    this.resize();
-    on(window, 'resize', () => this.resize());
+    this.aim = () => this.whole();
+    this.refit();
+    new ResizeObserver(() => this.refit()).observe(frame);
   }
 
-  whole() {
-    const { width, height, map } = this, scale = Math.min((width - 80) / map.width, height / map.height);
-    return { scale, x: (width - map.width * scale) / 2, y: (height - map.height * scale) / 2 };
+  whole(box = this.map, most = Infinity) {
+    const { width, height, map } = this, room = width - Math.min(80, width * .12);
+    const scale = Math.min(room / box.width, height / box.height, most);
+    return {
+      scale, x: (width - box.width * scale) / 2 - (box.left - map.left) * scale,
+      y: (height - box.height * scale) / 2 - (box.top - map.top) * scale,
+    };
   }
 
-  resize() {
-    const isWhole = !this.rest || this.rest.scale === this.whole().scale;
-    ({ clientWidth: this.width, clientHeight: this.height } = this.frame);
+  /* What is aimed at is shown again in a frame of another size; else what was in the middle stays there. */
+  refit() {
+    const { clientWidth: width, clientHeight: height } = this.frame;
+    const isSame = width === this.width && height === this.height;
+    if (!width || !height || isSame || this.isPrinting) return;
+    const right = (width - this.width) / 2, down = (height - this.height) / 2;
+    Object.assign(this, { width, height });
     this.base ??= this.whole().scale;
     for (const { style } of this.plane.children) style.width = `${this.map.width * this.base}px`;
-    this.go(isWhole ? this.whole() : this.rest, true);
+    this.go(this.aim?.() || { scale: this.rest.scale, x: this.rest.x + right, y: this.rest.y + down }, true);
   }
 
   /* Lines are neither too thin nor too fat, and bundles cover nothing beside them. */
   lookAt(scale) {
-    const wanted = Math.max(3.6, Math.min(12 * scale, 10)) / (12 * scale), room = Math.max(1, Math.min(5, 11 / this.map.widest));
-    const spread = Number(Math.min(wanted, room).toPrecision(this.isLarge ? 1 : 3)), rim = Math.max(4 * spread, 1 / scale);
-    const radiusOf = ({ radius, lines }) => spread * Math.max(radius, 3 + 7 * Math.sqrt(lines.size));
+    const { step, widest } = this.map, room = Math.max(1, Math.min(5, 11 / widest * (step / 200)));
+    const wanted = Math.max(3.6, Math.min(12 * scale, 10)) / (12 * scale);
+    const spread = Number(Math.min(wanted, room).toPrecision(this.isLarge ? 1 : 3));
+    const stroke = Math.max(12 * spread, 2.2 / scale), rim = Math.max(4 * spread, 1 / scale);
+    const rimOf = radius => 2 * spread * radius + rim;
     return {
-      spread, rim, radiusOf, reachOf: station => radiusOf(station) + rim / 2, stroke: Math.max(12 * spread, 2.2 / scale),
+      spread, stroke, rim, edge: stroke + Math.max(2 * spread, 2 / scale),
+      rimOf, fillOf: radius => Math.max(0, rimOf(radius) - 2 * rim), reachOf: ({ reach }) => rimOf(reach) / 2,
       letters: Math.max(12 / scale, Math.min(20, 16 / scale)), most: scale < 2 * this.whole().scale ? .7 : 9,
     };
   }
@@ -77,25 +53,45 @@ class View {
     this.asked ||= requestAnimationFrame(now => this.step(now));
   }
 
+  show(aim = () => this.whole(), isHeld) {
+    this.aim = aim;
+    this.go(aim(), isHeld);
+  }
+
   move(right, down, isHeld) {
     const { scale, x, y } = this.rest;
+    this.aim = null;
     this.go({ scale, x: x + right, y: y + down }, isHeld);
   }
 
   zoom(factor, x = this.width / 2, y = this.height / 2, isHeld) {
     const { rest } = this, least = this.whole().scale * .8;
     const scale = Math.max(least, Math.min(rest.scale * factor, Math.max(2.5, 2 * least))), grown = scale / rest.scale;
+    this.aim = null;
     this.go({ scale, x: x - (x - rest.x) * grown, y: y - (y - rest.y) * grown }, isHeld);
   }
 
-  centre({ x, y }) {
-    const { map } = this, scale = Math.max(this.rest.scale, Math.min(.3, 6 * this.whole().scale));
-    this.go({ scale, x: this.width / 2 - (x - map.left) * scale, y: this.height / 2 - (y - map.top) * scale });
+  /* A scale at which a step of the grid is well seen, or this one where it is larger. */
+  near() { return Math.max(this.rest.scale, Math.min(60 / this.map.step, 6 * this.whole().scale)); }
+
+  /* Shows a station in the middle; a line, where not all of it is in sight, as large as it fits. */
+  seek(thing, isHeld) {
+    const near = this.near();
+    if (thing.kind === 'station') {
+      this.show(() => this.whole({ left: thing.x, top: thing.y, width: 0, height: 0 }, near), isHeld);
+      return;
+    }
+    const box = boxOf(thing.ways.map(({ centre }) => centre)), { map, rest: { x, y, scale } } = this;
+    const left = x + (box.left - map.left) * scale, top = y + (box.top - map.top) * scale;
+    const right = left + box.width * scale, bottom = top + box.height * scale;
+    const isSeen = left >= 0 && top >= 0 && right <= this.width && bottom <= this.height;
+    if (!isSeen) this.show(() => this.whole(box, near), isHeld);
   }
 
   /* Lifts a line with its stations, or a station with its lines, out of a fading map. */
   lift(thing) {
     const things = thing ? [thing] : [];
+    this.lifted = thing;
     this.plane.classList.toggle('dim', Boolean(thing));
     this.layers[1].show([...thing?.lines || things], this.layers[0].unnamed = thing?.stations || things);
     this.settle();
@@ -119,20 +115,26 @@ class View {
   /* Draws all for a scale, with names half a frame beyond what is seen. */
   settle({ scale, x, y } = this.now, width = this.width / scale, height = this.height / scale) {
     const { left, top } = this.map, look = this.lookAt(scale), more = look.most > 1 ? .5 : 0, whole = 1 + 2 * more;
-    const part = { left: left - x / scale - more * width, top: top - y / scale - more * height, width: whole * width, height: whole * height };
+    const part = {
+      left: left - x / scale - more * width, top: top - y / scale - more * height,
+      width: whole * width, height: whole * height,
+    };
     for (const layer of this.layers) layer.draw(look, part);
+    this.look = look;
     this.plane.classList.remove('moving');
   }
 
   /* The station or line near a place. */
   at(right, down) {
-    const { now, map } = this, { reachOf, stroke } = this.lookAt(now.scale);
+    const { now, map } = this, { spread, reachOf, rimOf, stroke } = this.lookAt(now.scale), more = 4 / now.scale;
     const x = (right - now.x) / now.scale + map.left, y = (down - now.y) / now.scale + map.top;
-    const station = map.stations.find(one => Math.hypot(one.x - x, one.y - y) < reachOf(one) + 4 / now.scale);
-    const lineWithin = width => {
+    const isOn = (path, width) => {
       pen.lineWidth = width;
-      return map.lines.find((_, i) => pen.isPointInStroke(this.layers[0].courses[i], x, y));
+      return pen.isPointInStroke(path, x, y);
     };
+    const station = map.stations.find(one => Math.hypot(one.x - x, one.y - y) < reachOf(one) + more
+      && isOn(new Path2D(`${rounded(feetOf(one, spread))}h.01`), rimOf(one.radius) + 2 * more));
+    const lineWithin = width => map.lines.find((_, i) => isOn(this.layers[0].courses[i], width));
     return station || lineWithin(stroke) || lineWithin(stroke + 12 / now.scale);
   }
 }

@@ -1,0 +1,59 @@
+/* Where a station's marker lies: over the feet of its lines, each as far from its middle as its line is. */
+const feetOf = ({ x, y, feet }, spread) => feet.map(([right, down]) => [x + right * spread, y + down * spread]);
+const circleAt = ([x, y], r) => `M${x - r} ${y}a${r} ${r} 0 1 0 ${2 * r} 0a${r} ${r} 0 1 0 ${-2 * r} 0z`;
+const rounded = places => 'M' + places.map(place => place.map(Math.round).join(' ')).join('L');
+
+/* Lines and stations as shapes, with names where there is room. */
+class Layer {
+  constructor(root, { left, top, width, height }) {
+    root.setAttribute('viewBox', `${left} ${top} ${width} ${height}`);
+    [this.edges, this.routes, this.markers, this.names] = root.children;
+    this.show([], []);
+  }
+
+  show(lines, stations) { Object.assign(this, { lines, stations, spread: 0 }); }
+
+  draw(look, part) {
+    const { edges, routes, markers, names, radii } = this;
+    if (this.spread !== look.spread) { this.spreadOut(look.spread); this.draw(look, part); return; }
+    edges.setAttribute('stroke-width', look.edge);
+    routes.setAttribute('stroke-width', look.stroke);
+    markers.lastElementChild.setAttribute('stroke-width', look.rim);
+    radii.forEach((radius, i) => {
+      markers.children[i].setAttribute('stroke-width', look.rimOf(radius));
+      markers.children[i + radii.length].setAttribute('stroke-width', look.fillOf(radius));
+    });
+    names.setAttribute('font-size', look.letters);
+    names.setAttribute('stroke-width', look.letters / 3);
+    this.placed = placeNames(this.stations, new Squares(part, look.letters / 3, this.courses), look)
+      .filter(({ station }) => !this.unnamed?.includes(station));
+    names.innerHTML = this.placed.map(({ x, y }) => `<text x="${x}" y="${y}"/>`).join('');
+    this.placed.forEach(({ station }, i) => { names.children[i].textContent = station.name; });
+  }
+
+  /* The ways of lines, the edges below all of them, and the markers: those over several feet by size, all rims below
+     all that fills them, then the circles as one. */
+  spreadOut(spread) {
+    this.spread = spread;
+    this.texts = this.lines.map(({ ways }) => ways.map(({ centre, shift }) => (
+      'M' + centre.map((value, i) => Math.round(value + shift[i] * spread))
+    )).join(''));
+    this.courses = this.texts.map(text => new Path2D(text));
+    this.routes.innerHTML = this.texts.map((text, i) => `<path color="${this.lines[i].colour}" d="${text}"/>`).join('');
+    this.edges.innerHTML = this.texts.map((text, i) => {
+      const { edge } = this.lines[i];
+      return edge ? `<path class="${edge.paper}" color="${edge.colour}" d="${text}"/>` : '';
+    }).join('');
+    const wide = this.stations.filter(({ feet }) => feet.length > 1);
+    this.radii = [...new Set(wide.map(({ radius }) => radius))];
+    this.marks = this.radii.map(wanted => wide.flatMap(station => (
+      station.radius === wanted ? rounded(feetOf(station, spread)) : []
+    )).join(''));
+    this.circles = this.stations.flatMap(station => (
+      station.feet.length > 1 ? [] : circleAt(feetOf(station, spread)[0], station.radius * spread)
+    )).join('');
+    this.markers.innerHTML = ['rim', 'fill'].map(kind => (
+      this.marks.map(text => `<path class="${kind}" d="${text}"/>`).join('')
+    )).join('') + `<path class="circle" d="${this.circles}"/>`;
+  }
+}

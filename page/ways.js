@@ -1,0 +1,64 @@
+const placeOf = (points, i) => `${points[i]},${points[i + 1]}`;
+
+/* The lines of a segment lie evenly about its middle: how far each is shifted from there. */
+function centreWays(ways) {
+  const first = ways[0].points, last = ways[ways.length - 1].points;
+  const centre = first.map((value, i) => (value + (last[i] ?? value)) / 2);
+  for (const { line, points } of ways) {
+    const shift = centre.map((value, i) => (points[i] ?? value) - value);
+    line.ways.push({ centre, shift });
+    for (const i of [0, centre.length - 2]) {
+      line.ends.set(placeOf(points, i), [centre.slice(i, i + 2), shift.slice(i, i + 2)]);
+    }
+  }
+}
+
+/* A join leads between ends of a line, shifted with both. */
+function linkJoin({ line, points }) {
+  const [from, to] = [0, 2].map(i => line.ends.get(placeOf(points, i)) || [points.slice(i, i + 2), [0, 0]]);
+  line.ways.push({ centre: [...from[0], ...to[0]], shift: [...from[1], ...to[1]] });
+}
+
+/* Lists the stations of a line from an end on, branch by branch: those where it calls, where that is told. */
+function listStations(line, stationAt) {
+  const next = new Map(), met = new Set();
+  for (const { centre } of line.ways) {
+    const ends = [placeOf(centre, 0), placeOf(centre, centre.length - 2)];
+    ends.forEach((end, i) => next.set(end, [...next.get(end) || [], ends[1 - i]]));
+  }
+  const waiting = [...next.keys()].sort((a, b) => next.get(b).length - next.get(a).length);
+  while (waiting.length > 0) {
+    const place = waiting.pop();
+    if (!met.has(place)) waiting.push(...next.get(place));
+    met.add(place);
+  }
+  const stations = [...met].flatMap(place => stationAt.get(place) || []);
+  line.stations = stations.filter(({ isTold, lines }) => !isTold || lines.has(line));
+  for (const station of line.stations) station.lines.add(line);
+}
+
+/* The rectangle round all lines and stations, a little wider, and the step of the grid: what divides all places, from
+   20 to 200. */
+function sheetOf(lines, stations) {
+  const centres = lines.flatMap(({ ways }) => ways.map(({ centre }) => centre));
+  const box = boxOf([...centres, ...stations.map(({ x, y }) => [x, y])]);
+  let step = 0;
+  for (const value of new Set(centres.flat())) {
+    for (let rest = Math.round(Math.abs(value)); rest > 0;) [step, rest] = [rest, step % rest];
+  }
+  return { ...box, step: Math.max(20, Math.min(step || 200, 200)) };
+}
+
+/* The rectangle round all these places, 200 wider on each side. */
+function boxOf(runs) {
+  const least = [Infinity, Infinity], most = [-Infinity, -Infinity];
+  for (const run of runs) {
+    run.forEach((value, i) => {
+      least[i % 2] = Math.min(least[i % 2], value);
+      most[i % 2] = Math.max(most[i % 2], value);
+    });
+  }
+  return {
+    left: least[0] - 200, top: least[1] - 200, width: most[0] - least[0] + 400, height: most[1] - least[1] + 400,
+  };
+}
