@@ -72,10 +72,10 @@ trial_app = with_rule (new_app (codes "trial")) number_operand
 abbrev pub page_app : App
 page_app = with_rule (with_rule (new_app (codes "page")) (operand (codes "SVG"))) (operand (codes "HTML"))
 
--- the program before its commands: a command is required, and without one its help is shown
+-- the program before its commands: a command is required, and without one its help is shown; it tells its version
 abbrev pub octimap_alone : App
 octimap_alone = record {
-  top = record (new_shape (codes "octimap")) { no_binary_name = true; subcommand_required = true; arg_required_else_help = true };
+  top = record (new_shape (codes "octimap")) { no_binary_name = true; has_version = true; subcommand_required = true; arg_required_else_help = true };
   subs = [];
 }
 

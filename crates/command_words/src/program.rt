@@ -51,6 +51,7 @@ fn alone<'a>(alloc: Global) -> Result<Command<'a>, AllocError>
     Ok(
         program
             .about(help::PROGRAM)
+            .version(help::VERSION)
             .after_help(help::AFTER_PROGRAM)
             .no_binary_name(true)
             .subcommand_required(true)
