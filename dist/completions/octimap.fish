@@ -34,6 +34,7 @@ end
 
 complete -c octimap -f
 complete -c octimap -s h -l help -d 'Print help'
+complete -c octimap -s V -l version -d 'Print version'
 complete -c octimap -n 'test (count (commandline -opc)) -eq 1' -a map -d 'Make the map of a feed, and a certificate that its line orders cost least'
 complete -c octimap -n 'test (count (commandline -opc)) -eq 1' -a make -d 'Make the map of a feed by other settings than `map` has'
 complete -c octimap -n 'test (count (commandline -opc)) -eq 1' -a improve -d 'Make the map of a feed, and its drawing straighter'

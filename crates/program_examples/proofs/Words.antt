@@ -146,6 +146,15 @@ help_of_a_command : asked (codes "make" ∷ codes "--help" ∷ []) ≡ None
 unfolding clap_on_literals asked faults met octimap_app
 help_of_a_command = refl
 
+-- nor is the version
+the_version_is_asked : asked (codes "--version" ∷ []) ≡ None
+unfolding clap_on_literals asked faults met octimap_app
+the_version_is_asked = refl
+
+a_command_tells_no_version : asked (codes "stations" ∷ codes "feed" ∷ codes "-V" ∷ []) ≡ None
+unfolding clap_on_literals asked faults met octimap_app
+a_command_tells_no_version = refl
+
 nothing_is_asked : asked ([]) ≡ None
 unfolding clap_on_literals asked faults met octimap_app
 nothing_is_asked = refl
