@@ -3,7 +3,8 @@
  * OCTIMAP_REFUSE    KIND K HOW ERRNO: the kind by its number below; the call, counted from 1, or 0 for none; `once` or `on`;
  *                   the errno, or 0 for a short transfer (of one byte), or -1 for a transfer of nothing.
  * OCTIMAP_COUNTS    a file of eight bytes for each kind, to which the numbers of calls are written as they come.
- * OCTIMAP_CALLS     a file that gets a line for each call of opening, reading, writing and so on: KIND K DESCRIPTOR PATH.
+ * OCTIMAP_CALLS     a file that gets a line for each call but those for memory: KIND K NUMBER RESULT PATH; NUMBER is the
+ *                   flags of an opening, and the descriptor of another call.
  *
  * Calls are counted from where main is about to begin. A refused close closes all the same, as Linux does it.
  */
@@ -43,19 +44,23 @@ static int refuses(int kind)
     return kind == refused_kind && (on ? count >= first : count == first);
 }
 
-static void note(int kind, int fd, const char *path)
-{
-    char line[4400];
-    if (!armed || calls < 0)
-        return;
-    int length = snprintf(line, sizeof line, "%d %lu %d %s\n", kind, (unsigned long)counts[kind], fd, path);
-    syscall(SYS_write, calls, line, (size_t)length);
-}
-
 static long refuse(void)
 {
     errno = code;
     return -1;
+}
+
+/* The result of a call, noted. */
+static long noted(int kind, int number, const char *path, long result)
+{
+    char line[4400];
+    int kept = errno;
+    if (armed && calls >= 0) {
+        int length = snprintf(line, sizeof line, "%d %lu %d %ld %s\n", kind, (unsigned long)counts[kind], number, result, path);
+        syscall(SYS_write, calls, line, (size_t)length);
+    }
+    errno = kept;
+    return result;
 }
 
 void *malloc(size_t size)
@@ -103,11 +108,7 @@ void *mmap(void *at, size_t size, int prot, int flags, int fd, off_t offset)
 
 static int opened(int dir, const char *path, int flags, int mode)
 {
-    int refused = refuses(OPEN);
-    note(OPEN, flags, path);
-    if (refused)
-        return refuse();
-    return syscall(SYS_openat, dir, path, flags, mode);
+    return noted(OPEN, flags, path, refuses(OPEN) ? refuse() : syscall(SYS_openat, dir, path, flags, mode));
 }
 
 int open(const char *path, int flags, ...)
@@ -128,111 +129,75 @@ int open64(const char *path, int flags, ...)
     return opened(AT_FDCWD, path, flags, mode);
 }
 
-int openat(int dir, const char *path, int flags, ...)
+/* A transfer by a system call: as it is asked for, short, of nothing, or refused. */
+static ssize_t moved(int kind, long number, int fd, void *bytes, size_t size)
 {
-    va_list rest;
-    va_start(rest, flags);
-    int mode = flags & (O_CREAT | O_TMPFILE) ? va_arg(rest, int) : 0;
-    va_end(rest);
-    return opened(dir, path, flags, mode);
-}
-
-/* A transfer: refused, short, or of nothing. */
-static size_t moved(int kind, int fd, size_t size, int *stopped)
-{
-    int refused = refuses(kind);
-    note(kind, fd, "");
-    *stopped = refused && code != 0;
-    if (refused && code == 0 && size > 1)
-        return 1;
-    return size;
+    if (!refuses(kind))
+        return noted(kind, fd, "", syscall(number, fd, bytes, size));
+    if (code > 0)
+        return noted(kind, fd, "", refuse());
+    return noted(kind, fd, "", code < 0 ? 0 : syscall(number, fd, bytes, size > 1 ? 1 : size));
 }
 
 ssize_t read(int fd, void *into, size_t size)
 {
-    int stopped;
-    size = moved(READ, fd, size, &stopped);
-    if (stopped)
-        return code < 0 ? 0 : refuse();
-    return syscall(SYS_read, fd, into, size);
+    return moved(READ, SYS_read, fd, into, size);
 }
 
 ssize_t write(int fd, const void *from, size_t size)
 {
-    int stopped;
-    size = moved(WRITE, fd, size, &stopped);
-    if (stopped)
-        return code < 0 ? 0 : refuse();
-    return syscall(SYS_write, fd, from, size);
+    return moved(WRITE, SYS_write, fd, (void *)from, size);
 }
 
 ssize_t __write(int fd, const void *from, size_t size)
 {
-    return write(fd, from, size);
+    return moved(WRITE, SYS_write, fd, (void *)from, size);
 }
 
 int close(int fd)
 {
-    int refused = refuses(CLOSE);
-    note(CLOSE, fd, "");
     int done = syscall(SYS_close, fd);
-    return refused ? refuse() : done;
+    return noted(CLOSE, fd, "", refuses(CLOSE) ? refuse() : done);
 }
 
 int rename(const char *from, const char *to)
 {
-    int refused = refuses(RENAME);
-    note(RENAME, 0, to);
-    return refused ? refuse() : syscall(SYS_rename, from, to);
+    return noted(RENAME, 0, to, refuses(RENAME) ? refuse() : syscall(SYS_rename, from, to));
 }
 
 int fsync(int fd)
 {
-    int refused = refuses(SYNC);
-    note(SYNC, fd, "");
-    return refused ? refuse() : syscall(SYS_fsync, fd);
+    return noted(SYNC, fd, "", refuses(SYNC) ? refuse() : syscall(SYS_fsync, fd));
 }
 
 int fdatasync(int fd)
 {
-    int refused = refuses(SYNC);
-    note(SYNC, fd, "");
-    return refused ? refuse() : syscall(SYS_fdatasync, fd);
+    return noted(SYNC, fd, "", refuses(SYNC) ? refuse() : syscall(SYS_fdatasync, fd));
 }
 
 int link(const char *from, const char *to)
 {
-    int refused = refuses(LINK);
-    note(LINK, 0, to);
-    return refused ? refuse() : syscall(SYS_link, from, to);
+    return noted(LINK, 0, to, refuses(LINK) ? refuse() : syscall(SYS_link, from, to));
 }
 
 int unlink(const char *path)
 {
-    int refused = refuses(REMOVE);
-    note(REMOVE, 0, path);
-    return refused ? refuse() : syscall(SYS_unlink, path);
+    return noted(REMOVE, 0, path, refuses(REMOVE) ? refuse() : syscall(SYS_unlink, path));
 }
 
 int statx(int dir, const char *restrict path, int flags, unsigned mask, struct statx *restrict found)
 {
-    int refused = refuses(STAT);
-    note(STAT, dir, path);
-    return refused ? refuse() : syscall(SYS_statx, dir, path, flags, mask, found);
+    return noted(STAT, dir, path, refuses(STAT) ? refuse() : syscall(SYS_statx, dir, path, flags, mask, found));
 }
 
 int fchmod(int fd, mode_t mode)
 {
-    int refused = refuses(MODE);
-    note(MODE, fd, "");
-    return refused ? refuse() : syscall(SYS_fchmod, fd, mode);
+    return noted(MODE, fd, "", refuses(MODE) ? refuse() : syscall(SYS_fchmod, fd, mode));
 }
 
 ssize_t readlink(const char *restrict path, char *restrict into, size_t size)
 {
-    int refused = refuses(RESOLVE);
-    note(RESOLVE, 0, path);
-    return refused ? refuse() : syscall(SYS_readlink, path, into, size);
+    return noted(RESOLVE, 0, path, refuses(RESOLVE) ? refuse() : syscall(SYS_readlink, path, into, size));
 }
 
 __attribute__((constructor)) static void arm(void)

@@ -128,13 +128,13 @@ class Program:
         return dict(zip(KINDS, struct.unpack(f"{len(KINDS)}Q", self.shared[:])))
 
     def calls(self, words):
-        """The calls of a run: (kind, number, descriptor or flags, path)."""
+        """The calls of a run: (kind, which one of its kind, descriptor or flags, result, path)."""
         if os.path.exists(self.call_file):
             os.remove(self.call_file)
         self.run(words, log=True)
         with open(self.call_file) as file:
-            lines = [line.rstrip("\n").split(" ", 3) for line in file]
-        return [(KINDS[int(kind)], int(count), int(number), path) for kind, count, number, path in lines]
+            lines = [line.rstrip("\n").split(" ", 4) for line in file]
+        return [(KINDS[int(kind)], int(count), int(number), int(result), path) for kind, count, number, result, path in lines]
 
     def set_outputs(self, outputs, stand):
         """Outputs as they are before a run: each holds its old text, or is not there."""
@@ -185,8 +185,9 @@ class Judge:
         if left:
             sys.exit(f"{self.words}: it leaves {left}")
 
-    def fault(self, status, said, stand, statuses):
-        """What is wrong of a run that may end with one of these statuses, or empty."""
+    def fault(self, status, said, stand, statuses, line_may_be_cut=False):
+        """What is wrong of a run that may end with one of these statuses, or empty. The line that names a status other than 0
+        is said behind the work, and the status stands where it can't be written."""
         held, left = self.program.outputs(self.names)
         old = {name: OLD for name in self.names} if stand else {}
         if status is None or status < 0:
@@ -196,7 +197,8 @@ class Judge:
         if left:
             return f"left {left}"
         if status == self.status:
-            return "" if (held, said) == (self.held, self.said) else "ordinary status and other bytes"
+            is_said = said == self.said or (line_may_be_cut and self.said.startswith(said))
+            return "" if held == self.held and is_said else "ordinary status and other bytes"
         if self.is_session and held != old:
             return "" if self.held["out"].startswith(held.get("out", OLD)) else "other bytes in OUT"
         return "" if held == old else "torn outputs"
