@@ -115,7 +115,7 @@ fn refuse_clash(rt: &HostRuntime, clash: &Clash) -> Status
 {
     let output = clash.output.as_str();
     let other = clash.other.as_str();
-    let _not_shown = println!(rt; "error: {output} would be written, and is one file with {other}\n\nFor more information, try '--help'.");
+    let _not_shown = println!(rt; "error: the output {output} is one file with {other}\n\nFor more information, try '--help'.");
     Status::Usage
 }
 
