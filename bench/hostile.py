@@ -136,16 +136,15 @@ def trunk_of_lines(lines, segments):
 
 
 def certificate_of_many_lines(lines):
-    """A certificate whose tree places each of many lines on one segment, one after another."""
-    files = trunk_of_lines(lines, 1)
+    """A certificate whose tree places each of many lines on one segment, one after another; they all go on along another one."""
+    files = feed([(48, 16), (48.01, 16.005), (48.02, 16)], [(f"L{k:04}", [0, 1, 2], None) for k in range(lines)])
 
     def certificate(made):
         front = made[: made.index(b"rules ")]
         orders = [line.split() for line in front.split(b"\n") if line.startswith(b"order ")]
-        widest = max(orders, key=len)
-        tree = b"".join(b"split %s 1\ntake %d\n" % (widest[1], k) for k in range(len(widest) - 2))
-        segments = b" ".join(line[1] for line in orders if len(line) > 3)
-        return front + b"rules 0\nparts 1\npart 1 " + segments + b"\n" + tree + b"close 0\n"
+        first = orders[0]
+        tree = b"split %s %d\n" % (first[1], lines) + b"".join(b"take %d\nclose 0\n" % k for k in range(lines))
+        return front + b"rules 0\nparts 1\npart 0 " + b" ".join(line[1] for line in orders) + b"\n" + tree
 
     return files, "check feed svg cert", certificate
 
@@ -273,7 +272,7 @@ FAMILIES = {family.__name__: family for family in [
     bad_row_at_the_end, long_script, kept_edits, many_draws, long_edits, deep_settings, dotted_settings, many_settings, great_grid,
     moves_of_a_mesh,
 ]}
-for count in (100, 200, 400, 1_000):
+for count in (250, 500, 1_000):
     FAMILIES[f"certificate_of_{count}_lines"] = lambda count=count: certificate_of_many_lines(count)
 FAMILIES["trunk_of_1000_lines"] = lambda: (trunk_of_lines(1_000, 10), MAKE)
 
