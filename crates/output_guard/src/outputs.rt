@@ -1,5 +1,9 @@
 //! What each command writes.
 
+ghost use Rattle.std.specs.Prelude.{◌≡◌, None, Some};
+ghost use Rattle.command_words.specs.Asked.{asked_by};
+ghost use Rattle.output_guard.specs.Guarded.{outputs_by, outputs_of};
+
 use command_words::Command;
 
 /// The files that a command writes.
@@ -12,7 +16,9 @@ pub struct Outputs<'a> {
 }
 
 /// The files that a command writes.
-pub fn outputs_of<'a>(command: &Command<'a>) -> Outputs<'a> {
+pub fn outputs_of<'a>(command: &Command<'a>) -> Outputs<'a>
+    ensures { outputs_by result ≡ outputs_of (asked_by command.now) }
+{
     match command {
         Command::Make { files, .. } => two(files.picture, files.certificate),
         Command::Improve { files, .. } => two(files.picture, files.certificate),
@@ -27,7 +33,9 @@ pub fn outputs_of<'a>(command: &Command<'a>) -> Outputs<'a> {
 }
 
 /// No file.
-fn none<'a>() -> Outputs<'a> {
+fn none<'a>() -> Outputs<'a>
+    ensures { outputs_by result ≡ record { first = None; second = None } }
+{
     Outputs {
         first: None,
         second: None,
@@ -35,7 +43,9 @@ fn none<'a>() -> Outputs<'a> {
 }
 
 /// One file.
-fn one<'a>(path: &'a str) -> Outputs<'a> {
+fn one<'a>(path: &'a str) -> Outputs<'a>
+    ensures { outputs_by result ≡ record { first = Some path.entry.now; second = None } }
+{
     Outputs {
         first: Some(path),
         second: None,
@@ -43,7 +53,9 @@ fn one<'a>(path: &'a str) -> Outputs<'a> {
 }
 
 /// A map and its certificate.
-fn two<'a>(picture: &'a str, certificate: &'a str) -> Outputs<'a> {
+fn two<'a>(picture: &'a str, certificate: &'a str) -> Outputs<'a>
+    ensures { outputs_by result ≡ record { first = Some picture.entry.now; second = Some certificate.entry.now } }
+{
     Outputs {
         first: Some(picture),
         second: Some(certificate),
