@@ -2,7 +2,7 @@
 //! that the program does, over any files and sinks; `main` hands it the disk and standard output.
 #![tactic(auto)]
 
-ghost use Rattle.std.specs.Prelude.{◌≡◌, ◌<◌, Ok, Err};
+ghost use Rattle.std.specs.Prelude.{◌≡◌, ◌<◌, ◌⊎◌, false, IsErrOf, OnOk};
 
 use command_words::command_of;
 use disk_door::{DiskFiles, DiskLeads, DiskSinks};
@@ -72,6 +72,7 @@ fn run_on_disk<L: Ledger>(rt: &HostRuntime, words: &[String], blank: Blank) -> S
 fn is_put_in_place<R: rt::Files + Print>(status: &Status, words: &[String], sinks: &DiskSinks<R>) -> bool
 where
     R::File: IntoRawFd,
+    ensures well { result ≡ false → (status.now ≡ Status.WriteFault) ⊎ (status.now ≡ Status.NoMemory) }
 {
     match status {
         Status::WriteFault | Status::NoMemory => is_session(words) && sinks.holds_bytes(),
@@ -89,9 +90,9 @@ fn is_session(words: &[String]) -> bool {
 
 /// The status of a run whose outputs were put in their places, or could not be.
 fn status_after(status: Status, placed: Result<(), Stop>) -> Status
-    ensures placed { placed ≡ Ok record {} → result ≡ status }
-    ensures failed { placed ≡ Err Stop.Failed → result ≡ Status.WriteFault }
-    ensures memory { placed ≡ Err Stop.NoMemory → result ≡ Status.NoMemory }
+    ensures placed { OnOk placed (result ≡ status) }
+    ensures failed { IsErrOf placed Stop.Failed → result ≡ Status.WriteFault }
+    ensures memory { IsErrOf placed Stop.NoMemory → result ≡ Status.NoMemory }
 {
     match placed {
         Ok(()) => status,
