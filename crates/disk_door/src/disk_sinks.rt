@@ -15,11 +15,9 @@ use files_door::{Sinks, Stop, Target};
 use map_base::Text;
 use std::alloc::Global;
 use std::fs::OpenFile;
-use std::io;
 use std::io::{ErrorKind, Write};
-use std::mem;
 use std::os::fd::IntoRawFd;
-use std::rt;
+use std::{io, mem, rt};
 
 /// Where the next bytes go.
 #[derive(Drop)]
@@ -183,7 +181,9 @@ fn say<R: rt::Files + Print>(rt: &R, piece: &[u8], most: u64) -> io::Result<usiz
 {
     if most < u64::MAX {
         match rt.metadata("/dev/stdout") {
-            Ok(found) if is_full(&found, most) => { return Err(io::Error::from(ErrorKind::FileTooLarge)) }
+            Ok(found) if is_full(&found, most) => {
+                return Err(io::Error::from(ErrorKind::FileTooLarge))
+            }
             _ => {}
         }
     }

@@ -6,11 +6,10 @@ use crate::paths::folder_of;
 use crate::retries::write_once;
 use std::alloc::Global;
 use std::fs::{OpenFile, OpenOptions, Permissions};
-use std::io;
 use std::io::{ErrorKind, Write};
 use std::os::fd::IntoRawFd;
 use std::path::{Path, PathBuf};
-use std::rt;
+use std::{io, rt};
 
 /// How many names are tried for a new file, in case that other runs have taken some.
 const MOST_NAMES: u32 = 10_000;

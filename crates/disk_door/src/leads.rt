@@ -6,11 +6,10 @@ use crate::paths::{Way, folder_of, way_of};
 use map_base::NoMemory;
 use std::alloc::Global;
 use std::fs::Metadata;
-use std::io;
 use std::io::ErrorKind;
 use std::os::unix::fs::MetadataExt;
 use std::path::PathBuf;
-use std::rt;
+use std::{io, rt};
 
 /// Tells which paths lead to one file.
 pub trait Leads {

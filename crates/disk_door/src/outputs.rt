@@ -4,11 +4,10 @@ use crate::draft::Draft;
 use crate::paths::{Way, way_of};
 use std::alloc::Global;
 use std::fs::{File, OpenFile, OpenOptions};
-use std::io;
 use std::io::{ErrorKind, Write};
 use std::os::fd::IntoRawFd;
 use std::path::PathBuf;
-use std::rt;
+use std::{io, rt};
 
 /// How the file of a path is written to.
 #[derive(Drop)]
@@ -31,11 +30,7 @@ where
 }
 
 /// Begins to write to the file of a path at whose end is no symbolic link.
-fn output_in<R: rt::Files>(
-    rt: &R,
-    alloc: Global,
-    target: PathBuf,
-) -> io::Result<Output<R::File>>
+fn output_in<R: rt::Files>(rt: &R, alloc: Global, target: PathBuf) -> io::Result<Output<R::File>>
 where
     R::File: IntoRawFd,
 {

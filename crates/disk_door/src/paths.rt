@@ -1,11 +1,9 @@
 //! Where paths lead.
 
 use std::alloc::Global;
-use std::fs;
-use std::io;
 use std::io::ErrorKind;
 use std::path::{Path, PathBuf};
-use std::rt;
+use std::{fs, io, rt};
 
 /// How many symbolic links are followed one after another, as by Linux.
 const MOST_LINKS: u32 = 40;

@@ -3,12 +3,10 @@
 use crate::draft::{Closed, link_beside, move_beside, remove};
 use crate::paths::folder_of;
 use std::alloc::Global;
-use std::fs;
 use std::fs::OpenFile;
-use std::io;
 use std::io::ErrorKind;
 use std::path::{Path, PathBuf};
-use std::rt;
+use std::{fs, io, rt};
 
 /// Puts each draft in its place, in turn. Where one can't be, the drafts before it are taken back, so that the old files stand, and
 /// all drafts are removed.

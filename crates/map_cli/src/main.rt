@@ -69,7 +69,11 @@ fn run_on_disk<L: Ledger>(rt: &HostRuntime, words: &[String], blank: Blank) -> S
 
 /// Whether what a run wrote is put in its place. Where writing failed or memory ran out, a map and its certificate are not whole,
 /// and what stood there stays. A session keeps each map that it drew, however it ends, where it drew any.
-fn is_put_in_place<R: rt::Files + Print>(status: &Status, words: &[String], sinks: &DiskSinks<R>) -> bool
+fn is_put_in_place<R: rt::Files + Print>(
+    status: &Status,
+    words: &[String],
+    sinks: &DiskSinks<R>,
+) -> bool
 where
     R::File: IntoRawFd,
     ensures well { result ≡ false → (status.now ≡ Status.WriteFault) ⊎ (status.now ≡ Status.NoMemory) }
@@ -116,7 +120,9 @@ fn refuse_clash(rt: &HostRuntime, clash: &Clash) -> Status
 {
     let output = clash.output.as_str();
     let other = clash.other.as_str();
-    let _not_shown = println!(rt; "error: the output {output} is one file with {other}\n\nFor more information, try '--help'.");
+    let _not_shown = println!(rt;
+        "error: the output {output} is one file with {other}\n\nFor more information, try '--help'."
+    );
     Status::Usage
 }
 

@@ -36,7 +36,12 @@ fn a_file_in_no_folder_is_not_written(rt: HostRuntime) -> Result<(), Fail> {
 }
 
 /// Writes a text to the file of a path.
-fn write_to(rt: &HostRuntime, sinks: &mut DiskSinks<&HostRuntime>, path: &str, text: &str) -> Result<(), Fail> {
+fn write_to(
+    rt: &HostRuntime,
+    sinks: &mut DiskSinks<&HostRuntime>,
+    path: &str,
+    text: &str,
+) -> Result<(), Fail> {
     let target = Target::Path(Text::of(rt.alloc(), path)?);
     if sinks.begin(&target).is_err() {
         return Err(Fail::from("the file is not begun"));
@@ -61,7 +66,12 @@ fn files_of_the_disk_are_put_in_place(rt: HostRuntime) -> Result<(), Fail> {
     fs::write(&rt, "octimap-test-new/map.svg", "old")?;
     symlink(&rt, "to", "octimap-test-new/link")?;
     let mut sinks = DiskSinks::new(&rt, rt.alloc());
-    write_to(&rt, &mut sinks, "octimap-test-new/map.svg", "<svg>longer</svg>\n")?;
+    write_to(
+        &rt,
+        &mut sinks,
+        "octimap-test-new/map.svg",
+        "<svg>longer</svg>\n",
+    )?;
     write_to(&rt, &mut sinks, "octimap-test-new/map.svg", "<svg/>\n")?;
     write_to(&rt, &mut sinks, "octimap-test-new/link", "linked")?;
     write_to(&rt, &mut sinks, "/dev/null", "nothing")?;
