@@ -3,12 +3,12 @@
 
     bench/hostile.py [--seconds S] [--memory MIB] [--only WORD] [--work FOLDER] [--ours PROGRAM] [PROGRAM ..]
 
-Each family is a feed with a command, and what else the command reads: long trips, courses from pole to pole, courses that cross in
-many places, many lines through few stations, many stations on one point, long ids and names, tables of many columns and of quotes,
-certificates whose trees place many lines, long scripts and edits, deep settings. Runs the command with a limit of S seconds (120)
-and of memory (4096 MiB), by this repository's program and each PROGRAM, and prints the bytes of the input, the status, what was said, the time and the
-peak of memory. Ends with 1 where a run of this repository's program was ended by a signal or by the limit, or printed or wrote
-other bytes than a PROGRAM.
+Each family is a feed with a command, and what else the command reads: long trips, courses from pole to pole, courses
+that cross in many places, many lines through few stations, many stations on one point, long ids and names, tables of many
+columns and of quotes, certificates whose trees place many lines, long scripts and edits, deep settings. Runs the command
+with a limit of S seconds (120) and of memory (4096 MiB), by this repository's program and each PROGRAM, and prints the
+bytes of the input, the status, what was said, the time and the peak of memory. Ends with 1 where a run of this
+repository's program was ended by a signal or by the limit, or printed or wrote other bytes than a PROGRAM.
 """
 import argparse
 import hashlib

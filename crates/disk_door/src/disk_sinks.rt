@@ -35,8 +35,9 @@ enum Place<F: Drop> {
 /// Standard output, and the files of the disk. Nothing is told of what they hold. The count rises at each
 /// error of the system that is answered as a failure, and at each write that takes nothing.
 ///
-/// A file of the disk is written beside its target, and stands there from `put_in_place` on; until then, and where that fails, and
-/// after `discard`, the target is what it was. Each draft is synced and closed before the next target is begun.
+/// A file of the disk is written beside its target, and stands there from `put_in_place` on; until then, and where
+/// that fails, and after `discard`, the target is what it was. Each draft is synced and closed before the next target
+/// is begun.
 #[derive(Drop)]
 pub struct DiskSinks<R: rt::Files + Print> {
     rt: R,
@@ -66,8 +67,8 @@ where
         }
     }
 
-    /// Puts all that was written in its place: each file that was begun is the new one, and its bytes are on the disk. Where that
-    /// fails, each is what it was before this run. No target is current then.
+    /// Puts all that was written in its place: each file that was begun is the new one, and its bytes are on the disk.
+    /// Where that fails, each is what it was before this run. No target is current then.
     pub fn put_in_place(&mut self) -> Result<(), Stop>
         ensures nowhere { ⟦<DiskSinks<R> as Sinks>⟧.current self.new ≡ None }
         ensures cause { HasCause (⟦<DiskSinks<R> as Sinks>⟧.faults self.old) (⟦<DiskSinks<R> as Sinks>⟧.faults self.new) result }

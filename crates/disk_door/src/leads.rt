@@ -78,7 +78,8 @@ fn is_one_file(spot: &Spot, other: &Spot) -> bool {
     }
 }
 
-/// What lies at a path. Where the disk does not tell, nothing is known of it; the run that reads or writes it will fail.
+/// What lies at a path. Where the disk does not tell, nothing is known of it; the run that reads or writes it will
+/// fail.
 fn spot_of<R: rt::Files>(rt: &R, alloc: Global, path: &str) -> Result<Spot, NoMemory> {
     match found_at(rt, alloc, path) {
         Ok(spot) => Ok(spot),

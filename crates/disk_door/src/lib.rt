@@ -1,5 +1,6 @@
-//! The files of the disk and standard output, as the files and sinks that a run works over. A file is written beside its target,
-//! and put in its place with all others of the run, or not at all. `DiskLeads` tells which paths lead to one file.
+//! The files of the disk and standard output, as the files and sinks that a run works over. A file is written beside
+//! its target, and put in its place with all others of the run, or not at all. `DiskLeads` tells which paths lead to
+//! one file.
 #![tactic(auto)]
 
 mod disk_files;

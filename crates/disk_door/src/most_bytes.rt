@@ -5,7 +5,8 @@ use std::fs::Metadata;
 /// The number of the resource `RLIMIT_FSIZE`.
 const FILE_SIZE: i32 = 1;
 
-/// The length that the system lets this process give a file, in bytes: a write behind it would end the process by a signal.
+/// The length that the system lets this process give a file, in bytes: a write behind it would end the process by a
+/// signal.
 pub fn most_bytes() -> u64 {
     let mut limit = libc::types::rlimit {
         rlim_cur: u64::MAX,

@@ -8,8 +8,8 @@ use std::io::ErrorKind;
 use std::path::{Path, PathBuf};
 use std::{fs, io, rt};
 
-/// Puts each draft in its place, in turn. Where one can't be, the drafts before it are taken back, so that the old files stand, and
-/// all drafts are removed.
+/// Puts each draft in its place, in turn. Where one can't be, the drafts before it are taken back, so that the old
+/// files stand, and all drafts are removed.
 pub fn place_all<R: rt::Files>(rt: &R, alloc: Global, drafts: &[Closed]) -> io::Result<()> {
     let mut kept = Vec::new(alloc);
     match place_each(rt, alloc, drafts, &mut kept) {
@@ -31,8 +31,8 @@ pub fn remove_all<R: rt::Files>(rt: &R, drafts: &[Closed]) {
     }
 }
 
-/// Puts each draft in its place, in turn, and keeps what was there under another name, if anything; `kept` has a name, or none,
-/// for each draft that is in place. Then sees to it that the folders are on the disk as well.
+/// Puts each draft in its place, in turn, and keeps what was there under another name, if anything; `kept` has a name,
+/// or none, for each draft that is in place. Then sees to it that the folders are on the disk as well.
 fn place_each<R: rt::Files>(
     rt: &R,
     alloc: Global,

@@ -1,5 +1,5 @@
-//! The program octimap: it reads an unpacked GTFS Schedule feed and prints what a command asks for. `run` of map_run does all
-//! that the program does, over any files and sinks; `main` hands it the disk and standard output.
+//! The program octimap: it reads an unpacked GTFS Schedule feed and prints what a command asks for. `run` of map_run
+//! does all that the program does, over any files and sinks; `main` hands it the disk and standard output.
 #![tactic(auto)]
 
 ghost use Rattle.std.specs.Prelude.{◌≡◌, ◌<◌, ◌⊎◌, false, IsErrOf, OnOk};
@@ -67,8 +67,8 @@ fn run_on_disk<L: Ledger>(rt: &HostRuntime, words: &[String], blank: Blank) -> S
     status
 }
 
-/// Whether what a run wrote is put in its place. Where writing failed or memory ran out, a map and its certificate are not whole,
-/// and what stood there stays. A session keeps each map that it drew, however it ends, where it drew any.
+/// Whether what a run wrote is put in its place. Where writing failed or memory ran out, a map and its certificate are
+/// not whole, and what stood there stays. A session keeps each map that it drew, however it ends, where it drew any.
 fn is_put_in_place<R: rt::Files + Print>(
     status: &Status,
     words: &[String],
@@ -105,8 +105,8 @@ fn status_after(status: Status, placed: Result<(), Stop>) -> Status
     }
 }
 
-/// An output of what the words ask for that is one file with an input, or with the other output. Words that are not read are told by
-/// the run.
+/// An output of what the words ask for that is one file with an input, or with the other output. Words that are not
+/// read are told by the run.
 fn clash_in(rt: &HostRuntime, words: &[String]) -> Result<Option<Clash>, NoMemory> {
     match command_of(rt.alloc(), words) {
         Ok(command) => clash_of(rt.alloc(), &command, &DiskLeads::new(rt, rt.alloc())),

@@ -22,8 +22,8 @@ pub struct Clash {
     pub other: Text,
 }
 
-/// An output of a command that is one file with something that the command reads, or with its other output; none where there is no
-/// such output.
+/// An output of a command that is one file with something that the command reads, or with its other output; none where
+/// there is no such output.
 pub fn clash_of<D: Leads>(
     alloc: Global,
     command: &Command<'_>,
