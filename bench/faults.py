@@ -35,27 +35,34 @@ ERRORS = {
     "resolve": "EACCES EFAULT EINVAL EIO ELOOP ENAMETOOLONG ENOENT ENOMEM ENOTDIR",
 }
 TRANSFERS = {"read": [SHORT], "write": [SHORT, NOTHING]}
-LASTING = {"open": "EACCES ENOENT", "read": "EIO", "write": "ENOSPC EIO"}
+# A file that can never be removed is left.
+LASTING = {"open": "EACCES ENOENT", "read": "EIO", "write": "ENOSPC EIO", "remove": ""}
 ABSENT = (errno.ENOENT, errno.ENOTDIR)
 
 
 class Call:
-    """A call of a run, and the file that it is about."""
+    """A call of a run, and the file that it is about: an input, a draft of an output (or standard output), or another one."""
 
-    def __init__(self, kind, number, path, writes):
-        self.kind, self.number, self.path, self.writes = kind, number, path, writes
+    def __init__(self, kind, number, path, role):
+        self.kind, self.number, self.path, self.role = kind, number, path, role
+
+
+def role_of(program, path, flags):
+    if path.split("/")[0] in program.inputs and flags & os.O_ACCMODE == os.O_RDONLY and os.path.isfile(path):
+        return "input"
+    return "draft" if flags & os.O_CREAT else "other"
 
 
 def calls_of(program, words):
-    """The calls of a run, each with its file: its path, and whether it is written to."""
-    opened, calls = {0: ("", False), 1: ("standard output", True)}, []
+    """The calls of a run, each with its file."""
+    opened, calls = {1: ("standard output", "draft")}, []
     for kind, number, about, result, path in program.calls(words):
         if kind == "open":
-            writes = about & os.O_ACCMODE != os.O_RDONLY
-            opened[result] = (path, writes)
+            named = path, role_of(program, path, about)
+            opened[result] = named
         else:
-            path, writes = opened.get(about, ("", False)) if not path else (path, True)
-        calls.append(Call(kind, number, path, writes))
+            named = (path, "other") if path else opened.get(about, ("", "other"))
+        calls.append(Call(kind, number, *named))
     return calls
 
 
@@ -76,7 +83,7 @@ def is_line(judge, call):
 def statuses(program, judge, call, code, lasts):
     """The statuses that a run may have, and what it has to print where that is known."""
     ordinary = judge.status
-    is_input = not call.writes and os.path.isfile(call.path)
+    is_input = call.role == "input"
     if code == SHORT or code == errno.EINTR:
         return (ordinary,), None
     if code == errno.ENOMEM:
@@ -88,7 +95,9 @@ def statuses(program, judge, call, code, lasts):
     if call.kind == "write":
         return ((ordinary,) if is_line(judge, call) else (8,)), None
     if call.kind == "close":
-        return ((8,) if call.writes else (ordinary,)), None
+        return ((8,) if call.role == "draft" else (ordinary,)), None
+    if call.kind == "rename" or (call.kind == "sync" and call.role == "draft"):
+        return (8,), None
     # What only prepares an output, or cleans up behind it, may be passed over.
     return (8, ordinary), None
 
