@@ -94,7 +94,7 @@ def statuses(program, judge, call, code, lasts):
         return (7,), b"read fault: " + call.path.encode() + b"\n"
     if call.kind == "write":
         return ((ordinary,) if is_line(judge, call) else (8,)), None
-    if call.kind == "close":
+    if call.kind == "close" and not lasts:
         return ((8,) if call.role == "draft" else (ordinary,)), None
     if call.kind == "rename" or (call.kind == "sync" and call.role == "draft"):
         return (8,), None
