@@ -5,7 +5,7 @@ ghost use Rattle.files_door.specs.Fault.{HasCause};
 ghost use Rattle.files_door.specs.declared.target.Target.TheVariants.{Path};
 ghost use Rattle.disk_door.specs.Places.{target_of};
 
-use crate::draft::{Closed, Draft, close};
+use crate::draft::{Closed, Draft};
 use crate::failures::stop_of;
 use crate::most_bytes::{is_full, most_bytes};
 use crate::outputs::{Output, output_at};
@@ -16,7 +16,6 @@ use map_base::Text;
 use std::alloc::Global;
 use std::fs::OpenFile;
 use std::io::{ErrorKind, Write};
-use std::os::fd::IntoRawFd;
 use std::{io, mem, rt};
 
 /// Where the next bytes go.
@@ -48,21 +47,19 @@ pub struct DiskSinks<R: rt::Files + Print> {
     failures: u64,
 }
 
-impl<R: rt::Files + Print> DiskSinks<R>
-where
-    R::File: IntoRawFd,
-{
+impl<R: rt::Files + Print> DiskSinks<R> {
     /// The targets that `rt` reaches; none is current, and the count is 0.
     pub fn new(rt: R, alloc: Global) -> DiskSinks<R>
         ensures nowhere { ⟦<DiskSinks<R> as Sinks>⟧.current result ≡ None }
         ensures count { ⟦<DiskSinks<R> as Sinks>⟧.faults result ≡ 0 }
     {
+        let most = most_bytes(&rt);
         DiskSinks {
             rt,
             alloc,
             place: Place::Nowhere,
             drafts: Vec::new(alloc),
-            most: most_bytes(),
+            most,
             failures: 0,
         }
     }
@@ -124,7 +121,7 @@ where
                 let closed = draft.close(&self.rt)?;
                 Ok(self.drafts.push(closed)?)
             }
-            Place::Straight(_, file) => close(file),
+            Place::Straight(_, file) => sync_straight(&file),
             Place::Nowhere | Place::Said => Ok(()),
         }
     }
@@ -191,6 +188,14 @@ fn say<R: rt::Files + Print>(rt: &R, piece: &[u8], most: u64) -> io::Result<usiz
     write_once(&mut io::writer(rt), piece)
 }
 
+/// Sees to it that the bytes of an open file are on the disk, if it is a file of a disk.
+fn sync_straight<F: OpenFile>(file: &F) -> io::Result<()> {
+    if file.metadata()?.is_file() {
+        file.sync_all()?;
+    }
+    Ok(())
+}
+
 /// Writes once to an open file, unless that is a file of the disk and as long as it may be.
 fn write_straight<F: Write + OpenFile>(file: &mut F, piece: &[u8], most: u64) -> io::Result<usize>
     ensures bound { IfOk result (λ count. count ≤ length piece.now) }
@@ -201,10 +206,7 @@ fn write_straight<F: Write + OpenFile>(file: &mut F, piece: &[u8], most: u64) ->
     write_once(file, piece)
 }
 
-impl<R: rt::Files + Print> Sinks for DiskSinks<R>
-where
-    R::File: IntoRawFd,
-{
+impl<R: rt::Files + Print> Sinks for DiskSinks<R> {
     ghost written = { λ sinks. None };
 
     ghost current = { λ sinks. target_of sinks.place };

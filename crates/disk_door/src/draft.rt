@@ -7,7 +7,6 @@ use crate::retries::write_once;
 use std::alloc::Global;
 use std::fs::{OpenFile, OpenOptions, Permissions};
 use std::io::{ErrorKind, Write};
-use std::os::fd::IntoRawFd;
 use std::path::{Path, PathBuf};
 use std::{io, rt};
 
@@ -34,7 +33,7 @@ pub struct Closed {
     pub length: u64,
 }
 
-impl<F: Write + OpenFile + IntoRawFd + Drop> Draft<F> {
+impl<F: Write + OpenFile + Drop> Draft<F> {
     /// Begins an empty file to replace `target`, with these permissions, or else those of any new file.
     pub fn begin<R: rt::Files<File = F>>(
         rt: &R,
@@ -77,7 +76,7 @@ impl<F: Write + OpenFile + IntoRawFd + Drop> Draft<F> {
             file,
             length,
         } = self;
-        match sync_and_close(file) {
+        match file.sync_all() {
             Ok(()) => Ok(Closed {
                 target,
                 beside,
@@ -156,22 +155,4 @@ pub fn remove<R: rt::Files>(rt: &R, path: &PathBuf) {
     if rt.remove_file(path.as_str()).is_err() {
         let _left = rt.remove_file(path.as_str());
     }
-}
-
-/// Sees to it that a file's bytes are on the disk, and closes it.
-fn sync_and_close<F: OpenFile + IntoRawFd + Drop>(file: F) -> io::Result<()> {
-    file.sync_all()?;
-    close(file)
-}
-
-/// Closes a file, and tells what the system says of that. An interrupted closing has closed it.
-pub fn close<F: IntoRawFd>(file: F) -> io::Result<()> {
-    if libc::close(file.into_raw_fd()) == 0 {
-        return Ok(());
-    }
-    let error = io::Error::from_raw_os_error(os::errno());
-    if error.kind() == ErrorKind::Interrupted {
-        return Ok(());
-    }
-    Err(error)
 }

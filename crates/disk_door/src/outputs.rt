@@ -5,7 +5,6 @@ use crate::paths::{Way, way_of};
 use std::alloc::Global;
 use std::fs::{File, OpenFile, OpenOptions};
 use std::io::{ErrorKind, Write};
-use std::os::fd::IntoRawFd;
 use std::path::PathBuf;
 use std::{io, rt};
 
@@ -19,10 +18,7 @@ pub enum Output<F: Drop> {
 }
 
 /// Begins to write to the file of a path. A file that is there has to be one that may be written to.
-pub fn output_at<R: rt::Files>(rt: &R, alloc: Global, path: &str) -> io::Result<Output<R::File>>
-where
-    R::File: IntoRawFd,
-{
+pub fn output_at<R: rt::Files>(rt: &R, alloc: Global, path: &str) -> io::Result<Output<R::File>> {
     match way_of(rt, alloc, path)? {
         Way::Opened => Ok(Output::Straight(File::create(rt, path)?)),
         Way::File(target) => output_in(rt, alloc, target),
@@ -30,10 +26,7 @@ where
 }
 
 /// Begins to write to the file of a path at whose end is no symbolic link.
-fn output_in<R: rt::Files>(rt: &R, alloc: Global, target: PathBuf) -> io::Result<Output<R::File>>
-where
-    R::File: IntoRawFd,
-{
+fn output_in<R: rt::Files>(rt: &R, alloc: Global, target: PathBuf) -> io::Result<Output<R::File>> {
     let mut options = OpenOptions::new();
     options.write(true);
     match options.open(rt, target.as_str()) {
@@ -51,10 +44,7 @@ fn output_over<R: rt::Files>(
     alloc: Global,
     target: PathBuf,
     file: R::File,
-) -> io::Result<Output<R::File>>
-where
-    R::File: IntoRawFd,
-{
+) -> io::Result<Output<R::File>> {
     let found = file.metadata()?;
     if !found.is_file() {
         return Ok(Output::Straight(file));

@@ -12,7 +12,6 @@ use map_run::run;
 use output_guard::{Clash, clash_of};
 use run_status::Status;
 use std::marker::Brand;
-use std::os::fd::IntoRawFd;
 use std::process::ExitCode;
 use std::sync::ledger::{Blank, Ledger};
 use std::{env, io, rt};
@@ -74,8 +73,6 @@ fn is_put_in_place<R: rt::Files + Print>(
     words: &[String],
     sinks: &DiskSinks<R>,
 ) -> bool
-where
-    R::File: IntoRawFd,
     ensures well { result ≡ false → (status.now ≡ Status.WriteFault) ⊎ (status.now ≡ Status.NoMemory) }
 {
     match status {
