@@ -86,6 +86,9 @@ def statuses(program, judge, call, code, lasts):
     is_input = call.role == "input"
     if code == SHORT or code == errno.EINTR:
         return (ordinary,), None
+    # All was synced before it is closed; and where no limits are told, there are none.
+    if call.kind == "close" or call.path == "/proc/self/limits":
+        return (ordinary,), None
     if code == errno.ENOMEM:
         return (9, ordinary) if call.kind in ("remove", "link", "mode", "stat") else (9,), None
     if is_input and call.kind == "open" and code in ABSENT:
@@ -94,8 +97,6 @@ def statuses(program, judge, call, code, lasts):
         return (7,), b"read fault: " + call.path.encode() + b"\n"
     if call.kind == "write":
         return ((ordinary,) if is_line(judge, call) else (8,)), None
-    if call.kind == "close" and not lasts:
-        return ((8,) if call.role == "draft" else (ordinary,)), None
     if call.kind == "rename" or (call.kind == "sync" and call.role == "draft"):
         return (8,), None
     # What only prepares an output, or cleans up behind it, may be passed over.
