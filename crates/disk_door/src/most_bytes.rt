@@ -4,7 +4,7 @@ ghost use Rattle.std.specs.Prelude.{◌≤◌, length, IfOk};
 
 use crate::retries::read_once;
 use std::fs::{File, Metadata};
-use std::{io, rt, str};
+use std::{io, rt};
 
 /// Where the system tells, in lines of ASCII, what limits it sets to this process.
 const LIMITS: &str = "/proc/self/limits";
@@ -34,8 +34,7 @@ fn read_limits<R: rt::Files>(rt: &R, into: &mut [u8]) -> io::Result<usize>
 /// The greatest length of a file by these lines, if they tell one.
 fn limit_in(lines: &[u8]) -> Option<u64> {
     let lines = str::from_utf8(lines).ok()?;
-    let line = lines.lines().find(|line| line.starts_with(FILE_SIZE))?;
-    let rest = line.strip_prefix(FILE_SIZE)?;
+    let rest = lines.lines().find_map(|line| line.strip_prefix(FILE_SIZE))?;
     rest.split_whitespace().next()?.parse().ok()
 }
 
