@@ -3,7 +3,7 @@
 use std::alloc::Global;
 use std::io::ErrorKind;
 use std::path::{Path, PathBuf};
-use std::{fs, io, rt};
+use std::{io, rt};
 
 /// How many symbolic links are followed one after another, as by Linux.
 const MOST_LINKS: u32 = 40;
