@@ -84,7 +84,7 @@ fn each_room_holds_a_beginning_of_map_and_certificate(rt: HostRuntime) -> Result
         }
         assert_eq!(rt; held.as_slice(), &whole[..room]);
     }
-    let (status, ..) = made_in(alloc, whole.len() as u64)?;
+    let (status, _, _) = made_in(alloc, whole.len() as u64)?;
     assert_eq!(rt; status, 0);
     Ok(())
 }
