@@ -8,4 +8,5 @@ use Rattle.disk_door.specs.declared.disk_sinks.Place.TheVariants as place
 abbrev pub target_of : {F : Type 0} → Place F → Option Target
 target_of place.Nowhere = None
 target_of place.Said = Some target.Said
-target_of (place.Path path file) = Some (target.Path path)
+target_of (place.Draft path draft) = Some (target.Path path)
+target_of (place.Straight path file) = Some (target.Path path)

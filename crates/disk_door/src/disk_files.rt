@@ -3,9 +3,9 @@
 ghost use Rattle.std.specs.Prelude.{◌≡◌, [], Some};
 
 use crate::failures::{stop_of, unopened};
+use crate::retries::read_once;
 use files_door::{Files, Stop};
 use std::fs::File;
-use std::io::Read;
 use std::rt;
 
 /// The files of the disk. Nothing is told of what they hold. The count rises at each error of the system
@@ -55,7 +55,7 @@ impl<R: rt::Files> Files for DiskFiles<R> {
         let Some(file) = &mut self.begun else {
             return Ok(0);
         };
-        match file.read(into) {
+        match read_once(file, into) {
             Ok(count) => Ok(count),
             Err(error) => {
                 self.begun = None;

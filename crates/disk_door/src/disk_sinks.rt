@@ -1,17 +1,22 @@
 //! Standard output and real files, to be written.
 
-ghost use Rattle.std.specs.Prelude.{◌≡◌, ◌≤◌, None, Some, IfOk, IsErrOf};
-ghost use Rattle.files_door.specs.Fault.{Rose};
+ghost use Rattle.std.specs.Prelude.{◌≡◌, ◌≤◌, None, Some, length, IfOk, IsErr, IsSome};
+ghost use Rattle.files_door.specs.Fault.{HasCause};
 ghost use Rattle.files_door.specs.declared.target.Target.TheVariants.{Path};
 ghost use Rattle.disk_door.specs.Places.{target_of};
 
+use crate::draft::{Closed, Draft};
 use crate::failures::stop_of;
+use crate::most_bytes::{is_full, most_bytes};
+use crate::outputs::{Output, output_at};
+use crate::placing::{place_all, remove_all};
+use crate::retries::write_once;
 use files_door::{Sinks, Stop, Target};
 use map_base::Text;
 use std::alloc::Global;
-use std::fs::File;
-use std::io::Write;
-use std::rt;
+use std::fs::OpenFile;
+use std::io::{ErrorKind, Write};
+use std::{io, mem, rt};
 
 /// Where the next bytes go.
 #[derive(Drop)]
@@ -20,17 +25,25 @@ enum Place<F: Drop> {
     Nowhere,
     /// To standard output.
     Said,
-    /// To the file of this path.
-    Path(Text, F),
+    /// To a draft beside the file of this path.
+    Draft(Text, Draft<F>),
+    /// To what this path leads to: a terminal, a pipe, a device, or a file that was given open.
+    Straight(Text, F),
 }
 
 /// Standard output, and the files of the disk. Nothing is told of what they hold. The count rises at each
 /// error of the system that is answered as a failure, and at each write that takes nothing.
+///
+/// A file of the disk is written beside its target, and stands there from `put_in_place` on; until then, and where
+/// that fails, and after `discard`, the target is what it was. Each draft is synced and closed before the next target
+/// is begun.
 #[derive(Drop)]
 pub struct DiskSinks<R: rt::Files + Print> {
     rt: R,
     alloc: Global,
     place: Place<R::File>,
+    drafts: Vec<Closed>,
+    most: u64,
     failures: u64,
 }
 
@@ -40,29 +53,157 @@ impl<R: rt::Files + Print> DiskSinks<R> {
         ensures nowhere { ⟦<DiskSinks<R> as Sinks>⟧.current result ≡ None }
         ensures count { ⟦<DiskSinks<R> as Sinks>⟧.faults result ≡ 0 }
     {
+        let most = most_bytes(&rt);
         DiskSinks {
             rt,
             alloc,
             place: Place::Nowhere,
+            drafts: Vec::new(alloc),
+            most,
             failures: 0,
         }
     }
 
-    /// Makes the file of a path, and empties it where it is there.
-    fn create(&mut self, path: &Text) -> Result<Place<R::File>, Stop>
-        ensures place { IfOk result (λ made. target_of made ≡ Some (Path path.now)) }
-        ensures nowhere { self.new.place ≡ self.old.place }
-        ensures later { self.old.failures ≤ self.new.failures }
-        ensures failed { IsErrOf result Stop.Failed → Rose self.old.failures self.new.failures }
+    /// Puts all that was written in its place: each file that was begun is the new one, and its bytes are on the disk.
+    /// Where that fails, each is what it was before this run. No target is current then.
+    pub fn put_in_place(&mut self) -> Result<(), Stop>
+        ensures nowhere { ⟦<DiskSinks<R> as Sinks>⟧.current self.new ≡ None }
+        ensures cause { HasCause (⟦<DiskSinks<R> as Sinks>⟧.faults self.old) (⟦<DiskSinks<R> as Sinks>⟧.faults self.new) result }
     {
-        let Ok(kept) = Text::of(self.alloc, path.as_str()) else {
-            return Err(Stop::NoMemory);
-        };
-        match File::create(&self.rt, path.as_str()) {
-            Ok(file) => Ok(Place::Path(kept, file)),
+        match self.settle() {
+            Ok(()) => Ok(()),
             Err(error) => Err(stop_of(&mut self.failures, &error)),
         }
     }
+
+    /// Forgets what was written: each file that was begun is what it was before this run. No target is current then.
+    pub fn discard(&mut self)
+        ensures nowhere { ⟦<DiskSinks<R> as Sinks>⟧.current self.new ≡ None }
+        ensures count { ⟦<DiskSinks<R> as Sinks>⟧.faults self.new ≡ ⟦<DiskSinks<R> as Sinks>⟧.faults self.old }
+    {
+        if let Place::Draft(_, draft) = mem::replace(&mut self.place, Place::Nowhere) {
+            draft.discard(&self.rt);
+        }
+        remove_all(&self.rt, &self.drafts);
+        self.drafts.clear();
+    }
+
+    /// Whether a byte was written to a file that is not in its place yet.
+    pub fn holds_bytes(&self) -> bool {
+        let is_begun = match &self.place {
+            Place::Draft(_, draft) => draft.has_bytes(),
+            _ => false,
+        };
+        is_begun || self.drafts.iter().any(|draft| draft.length > 0)
+    }
+
+    /// Closes the current target, and puts all drafts in their places.
+    fn settle(&mut self) -> io::Result<()>
+        ensures nowhere { target_of self.new.place ≡ None }
+        ensures count { self.new.failures ≡ self.old.failures }
+    {
+        let left = self.leave();
+        let drafts = mem::replace(&mut self.drafts, Vec::new(self.alloc));
+        if let Err(error) = left {
+            remove_all(&self.rt, &drafts);
+            return Err(error);
+        }
+        place_all(&self.rt, self.alloc, &drafts)
+    }
+
+    /// Closes the current target. No target is current then.
+    fn leave(&mut self) -> io::Result<()>
+        ensures nowhere { target_of self.new.place ≡ None }
+        ensures count { self.new.failures ≡ self.old.failures }
+    {
+        match mem::replace(&mut self.place, Place::Nowhere) {
+            Place::Draft(_, draft) => {
+                let closed = draft.close(&self.rt)?;
+                Ok(self.drafts.push(closed)?)
+            }
+            Place::Straight(_, file) => sync_straight(&file),
+            Place::Nowhere | Place::Said => Ok(()),
+        }
+    }
+
+    /// Begins to write to the file of a path.
+    fn open(&mut self, path: &Text) -> io::Result<Place<R::File>>
+        ensures place { IfOk result (λ made. target_of made ≡ Some (Path path.now)) }
+        ensures nowhere { self.new.place ≡ self.old.place }
+        ensures count { self.new.failures ≡ self.old.failures }
+    {
+        // Room for this draft where it is closed.
+        self.drafts.reserve(1)?;
+        let Ok(kept) = Text::of(self.alloc, path.as_str()) else {
+            return Err(io::Error::from(ErrorKind::OutOfMemory));
+        };
+        match output_at(&self.rt, self.alloc, path.as_str())? {
+            Output::Draft(draft) => Ok(Place::Draft(kept, draft)),
+            Output::Straight(file) => Ok(Place::Straight(kept, file)),
+        }
+    }
+
+    /// Makes a target the current one.
+    fn turn_to(&mut self, to: &Target) -> io::Result<()>
+        ensures current { IfOk result (λ _. target_of self.new.place ≡ Some to.now) }
+        ensures refused { IsErr result → target_of self.new.place ≡ None }
+        ensures count { self.new.failures ≡ self.old.failures }
+    {
+        self.leave()?;
+        self.place = match to {
+            Target::Said => Place::Said,
+            Target::Path(path) => self.open(path)?,
+        };
+        Ok(())
+    }
+
+    /// Writes once to the current target.
+    fn append(&mut self, piece: &[u8]) -> io::Result<usize>
+        requires { IsSome (target_of self.old.place) }
+        ensures bound { IfOk result (λ count. count ≤ length piece.now) }
+        ensures current { target_of self.new.place ≡ target_of self.old.place }
+        ensures count { self.new.failures ≡ self.old.failures }
+    {
+        match &mut self.place {
+            Place::Nowhere => unreachable!(),
+            Place::Said => say(&self.rt, piece, self.most),
+            Place::Draft(_, draft) => draft.write(piece, self.most),
+            Place::Straight(_, file) => write_straight(file, piece, self.most),
+        }
+    }
+}
+
+/// Writes once to standard output, unless that is a file of the disk and as long as it may be.
+fn say<R: rt::Files + Print>(rt: &R, piece: &[u8], most: u64) -> io::Result<usize>
+    ensures bound { IfOk result (λ count. count ≤ length piece.now) }
+{
+    if most < u64::MAX {
+        match rt.metadata("/dev/stdout") {
+            Ok(found) if is_full(&found, most) => {
+                return Err(io::Error::from(ErrorKind::FileTooLarge))
+            }
+            _ => {}
+        }
+    }
+    write_once(&mut io::writer(rt), piece)
+}
+
+/// Sees to it that the bytes of an open file are on the disk, if it is a file of a disk.
+fn sync_straight<F: OpenFile>(file: &F) -> io::Result<()> {
+    if file.metadata()?.is_file() {
+        file.sync_all()?;
+    }
+    Ok(())
+}
+
+/// Writes once to an open file, unless that is a file of the disk and as long as it may be.
+fn write_straight<F: Write + OpenFile>(file: &mut F, piece: &[u8], most: u64) -> io::Result<usize>
+    ensures bound { IfOk result (λ count. count ≤ length piece.now) }
+{
+    if most < u64::MAX && is_full(&file.metadata()?, most) {
+        return Err(io::Error::from(ErrorKind::FileTooLarge));
+    }
+    write_once(file, piece)
 }
 
 impl<R: rt::Files + Print> Sinks for DiskSinks<R> {
@@ -73,21 +214,14 @@ impl<R: rt::Files + Print> Sinks for DiskSinks<R> {
     ghost faults = { λ sinks. sinks.failures };
 
     fn begin(&mut self, to: &Target) -> Result<(), Stop> {
-        self.place = Place::Nowhere;
-        self.place = match to {
-            Target::Said => Place::Said,
-            Target::Path(path) => self.create(path)?,
-        };
-        Ok(())
+        match self.turn_to(to) {
+            Ok(()) => Ok(()),
+            Err(error) => Err(stop_of(&mut self.failures, &error)),
+        }
     }
 
     fn write(&mut self, piece: &[u8]) -> Result<usize, Stop> {
-        let written = match &mut self.place {
-            Place::Nowhere => unreachable!(),
-            Place::Said => self.rt.write_some(piece),
-            Place::Path(_, file) => file.write(piece),
-        };
-        match written {
+        match self.append(piece) {
             Ok(count) => {
                 if count == 0 && !piece.is_empty() {
                     self.failures = self.failures.saturating_add(1);

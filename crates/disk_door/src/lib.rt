@@ -1,9 +1,19 @@
-//! The files of the disk and standard output, as the files and sinks that a run works over.
+//! The files of the disk and standard output, as the files and sinks that a run works over. A file is written beside
+//! its target, and put in its place with all others of the run, or not at all. `DiskLeads` tells which paths lead to
+//! one file.
 #![tactic(auto)]
 
 mod disk_files;
 mod disk_sinks;
+mod draft;
 mod failures;
+mod leads;
+mod most_bytes;
+mod outputs;
+mod paths;
+mod placing;
+mod retries;
 
 pub use disk_files::DiskFiles;
 pub use disk_sinks::DiskSinks;
+pub use leads::{DiskLeads, Leads};

@@ -1,17 +1,20 @@
-//! The program octimap: it reads an unpacked GTFS Schedule feed and prints what a command asks for. `run` of map_run does all
-//! that the program does, over any files and sinks; `main` hands it the disk and standard output.
+//! The program octimap: it reads an unpacked GTFS Schedule feed and prints what a command asks for. `run` of map_run
+//! does all that the program does, over any files and sinks; `main` hands it the disk and standard output.
 #![tactic(auto)]
 
-ghost use Rattle.std.specs.Prelude.{◌≡◌, ◌<◌};
+ghost use Rattle.std.specs.Prelude.{◌≡◌, ◌<◌, ◌⊎◌, false, IsErrOf, OnOk};
 
-use disk_door::{DiskFiles, DiskSinks};
-use map_base::Steps;
+use command_words::command_of;
+use disk_door::{DiskFiles, DiskLeads, DiskSinks};
+use files_door::Stop;
+use map_base::{NoMemory, Steps};
 use map_run::run;
+use output_guard::{Clash, clash_of};
 use run_status::Status;
 use std::marker::Brand;
 use std::process::ExitCode;
 use std::sync::ledger::{Blank, Ledger};
-use std::{env, io};
+use std::{env, io, rt};
 
 fn main(rt: HostRuntime) -> ExitCode {
     let status = match words_of(&rt) {
@@ -30,8 +33,24 @@ fn words_of(rt: &HostRuntime) -> io::Result<Vec<String>> {
     Ok(words)
 }
 
-/// Runs over the disk and standard output, with a counter of steps at 0.
+/// Runs over the disk and standard output, with a counter of steps at 0, unless the run would write over what it reads.
 fn run_counted<L: Ledger>(rt: &HostRuntime, words: &[String], blank: Blank) -> Status
+    requires name { blank.name ≡ L.name }
+    requires parts { blank.parts ≡ L.parts }
+    requires some_part { 0 < blank.parts }
+{
+    match clash_in(rt, words) {
+        Ok(None) => run_on_disk::<L>(rt, words, blank),
+        Ok(Some(clash)) => refuse_clash(rt, &clash),
+        Err(NoMemory) => {
+            let _not_shown = println!(rt; "no memory");
+            Status::NoMemory
+        }
+    }
+}
+
+/// Runs over the disk and standard output, with a counter of steps at 0, and puts what it wrote in its place.
+fn run_on_disk<L: Ledger>(rt: &HostRuntime, words: &[String], blank: Blank) -> Status
     requires name { blank.name ≡ L.name }
     requires parts { blank.parts ≡ L.parts }
     requires some_part { 0 < blank.parts }
@@ -39,7 +58,69 @@ fn run_counted<L: Ledger>(rt: &HostRuntime, words: &[String], blank: Blank) -> S
     let mut files = DiskFiles::new(rt);
     let mut sinks = DiskSinks::new(rt, rt.alloc());
     let mut steps = Steps::<L>::open(blank);
-    run(rt.alloc(), words, &mut files, &mut sinks, &mut steps)
+    let status = run(rt.alloc(), words, &mut files, &mut sinks, &mut steps);
+    if is_put_in_place(&status, words, &sinks) {
+        return status_after(status, sinks.put_in_place());
+    }
+    sinks.discard();
+    status
+}
+
+/// Whether what a run wrote is put in its place. Where writing failed or memory ran out, a map and its certificate are
+/// not whole, and what stood there stays. A session keeps each map that it drew, however it ends, where it drew any.
+fn is_put_in_place<R: rt::Files + Print>(
+    status: &Status,
+    words: &[String],
+    sinks: &DiskSinks<R>,
+) -> bool
+    ensures well { result ≡ false → (status.now ≡ Status.WriteFault) ⊎ (status.now ≡ Status.NoMemory) }
+{
+    match status {
+        Status::WriteFault | Status::NoMemory => is_session(words) && sinks.holds_bytes(),
+        _ => true,
+    }
+}
+
+/// Whether the words ask for a session.
+fn is_session(words: &[String]) -> bool {
+    match words.first() {
+        Some(word) => word.as_str() == "session",
+        None => false,
+    }
+}
+
+/// The status of a run whose outputs were put in their places, or could not be.
+fn status_after(status: Status, placed: Result<(), Stop>) -> Status
+    ensures placed { OnOk placed (result ≡ status) }
+    ensures failed { IsErrOf placed Stop.Failed → result ≡ Status.WriteFault }
+    ensures memory { IsErrOf placed Stop.NoMemory → result ≡ Status.NoMemory }
+{
+    match placed {
+        Ok(()) => status,
+        Err(Stop::Failed) => Status::WriteFault,
+        Err(Stop::NoMemory) => Status::NoMemory,
+    }
+}
+
+/// An output of what the words ask for that is one file with an input, or with the other output. Words that are not
+/// read are told by the run.
+fn clash_in(rt: &HostRuntime, words: &[String]) -> Result<Option<Clash>, NoMemory> {
+    match command_of(rt.alloc(), words) {
+        Ok(command) => clash_of(rt.alloc(), &command, &DiskLeads::new(rt, rt.alloc())),
+        Err(_) => Ok(None),
+    }
+}
+
+/// Says which paths are one file.
+fn refuse_clash(rt: &HostRuntime, clash: &Clash) -> Status
+    ensures { result ≡ Status.Usage }
+{
+    let output = clash.output.as_str();
+    let other = clash.other.as_str();
+    let _not_shown = println!(rt;
+        "error: the output {output} is one file with {other}\n\nFor more information, try '--help'."
+    );
+    Status::Usage
 }
 
 /// The words are no text, or there is no memory for them.

@@ -7,6 +7,8 @@ mod command_tests;
 #[cfg(test)]
 mod disk_tests;
 #[cfg(test)]
+mod fault_tests;
+#[cfg(test)]
 mod graph_tests;
 #[cfg(test)]
 mod map_tests;

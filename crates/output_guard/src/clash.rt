@@ -1,0 +1,167 @@
+//! Which output of a command is a file that it reads, or its other output.
+
+ghost use Rattle.std.specs.Prelude.{◌≡◌, IfOk, IfSome, OnOk, is_some, list_any};
+ghost use Rattle.command_words.specs.Asked.{asked_by};
+ghost use Rattle.output_guard.specs.Guarded.{clashes, has_feed, has_certificate, has_picture, has_script, is_read, outputs_of, paths_read, with_read, with_tables};
+
+use crate::outputs::outputs_of;
+use command_words::Command;
+use disk_door::Leads;
+use map_base::{NoMemory, Text};
+use map_run::{inputs_of, path_for};
+use run_status::Input;
+use std::alloc::Global;
+use table_rows::Table;
+
+/// Two paths of a command that lead to one file.
+#[derive(Debug, Drop)]
+pub struct Clash {
+    /// A path that is written.
+    pub output: Text,
+    /// A path that is read, or that is written as well.
+    pub other: Text,
+}
+
+/// An output of a command that is one file with something that the command reads, or with its other output; none where
+/// there is no such output.
+pub fn clash_of<D: Leads>(
+    alloc: Global,
+    command: &Command<'_>,
+    disk: &D,
+) -> Result<Option<Clash>, NoMemory>
+    ensures { IfOk result (λ found. IfSome (D.same disk.now) (λ same.
+        is_some found ≡ clashes same (outputs_of (asked_by command.now)) (paths_read (asked_by command.now)))) }
+{
+    let outputs = outputs_of(command);
+    let Some(first) = outputs.first else {
+        return Ok(None);
+    };
+    let mut others = input_paths(alloc, command)?;
+    if let Some(clash) = clash_among(alloc, disk, first, &others)? {
+        return Ok(Some(clash));
+    }
+    let Some(second) = outputs.second else {
+        return Ok(None);
+    };
+    others.push(Text::of(alloc, first)?)?;
+    clash_among(alloc, disk, second, &others)
+}
+
+/// The first of some paths that is one file with an output, if any.
+#[tactic(auto, using(std::proofs::lemmas::List::at_drop_more))]
+fn clash_among<D: Leads>(
+    alloc: Global,
+    disk: &D,
+    output: &str,
+    others: &[Text],
+) -> Result<Option<Clash>, NoMemory>
+    ensures { IfOk result (λ found. IfSome (D.same disk.now) (λ same. is_some found ≡ list_any (same output.now) others.now)) }
+{
+    for other in others {
+        if disk.are_one(output, other.as_str())? {
+            return Ok(Some(Clash {
+                output: Text::of(alloc, output)?,
+                other: Text::of(alloc, other.as_str())?,
+            }));
+        }
+    }
+    Ok(None)
+}
+
+/// The paths of all that a command may read.
+fn input_paths(alloc: Global, command: &Command<'_>) -> Result<Vec<Text>, NoMemory>
+    ensures { IfOk result (λ paths. paths.items ≡ paths_read (asked_by command.now)) }
+{
+    let mut paths = Vec::new(alloc);
+    push_read(alloc, command, Input::Settings, &mut paths)?;
+    push_read(alloc, command, Input::Edits, &mut paths)?;
+    push_tables(alloc, command, &mut paths)?;
+    push_read(alloc, command, Input::Script, &mut paths)?;
+    push_read(alloc, command, Input::Certificate, &mut paths)?;
+    push_read(alloc, command, Input::Picture, &mut paths)?;
+    Ok(paths)
+}
+
+/// Appends the paths of the tables, where a command reads a feed.
+fn push_tables(alloc: Global, command: &Command<'_>, paths: &mut Vec<Text>) -> Result<(), NoMemory>
+    ensures { OnOk result (paths.new.items ≡ with_tables (asked_by command.now) paths.old.items) }
+{
+    push_read(alloc, command, Input::Table(Table::Routes), paths)?;
+    push_read(alloc, command, Input::Table(Table::Stops), paths)?;
+    push_read(alloc, command, Input::Table(Table::Trips), paths)?;
+    push_read(alloc, command, Input::Table(Table::Shapes), paths)?;
+    push_read(alloc, command, Input::Table(Table::StopTimes), paths)?;
+    Ok(())
+}
+
+/// Appends the path of an input, where a command may read it.
+fn push_read(
+    alloc: Global,
+    command: &Command<'_>,
+    input: Input,
+    paths: &mut Vec<Text>,
+) -> Result<(), NoMemory>
+    ensures { OnOk result (paths.new.items ≡ with_read (asked_by command.now) paths.old.items input) }
+{
+    if is_read(command, input) {
+        paths.push(path_for(alloc, command, input)?)?;
+    }
+    Ok(())
+}
+
+/// Whether a command may read an input.
+fn is_read(command: &Command<'_>, input: Input) -> bool
+    ensures { result ≡ is_read (asked_by command.now) input }
+{
+    match input {
+        Input::Settings => inputs_of(command).options.settings.is_some(),
+        Input::Edits => inputs_of(command).options.edits.is_some(),
+        Input::Table(_) => has_feed(command),
+        Input::Script => has_script(command),
+        Input::Certificate => has_certificate(command),
+        Input::Picture => has_picture(command),
+    }
+}
+
+/// Whether a command reads a feed.
+fn has_feed(command: &Command<'_>) -> bool
+    ensures { result ≡ has_feed (asked_by command.now) }
+{
+    match command {
+        Command::Trial { .. } => false,
+        Command::Page { .. } => false,
+        _ => true,
+    }
+}
+
+/// Whether a command follows a script.
+fn has_script(command: &Command<'_>) -> bool
+    ensures { result ≡ has_script (asked_by command.now) }
+{
+    match command {
+        Command::Session { .. } => true,
+        _ => false,
+    }
+}
+
+/// Whether a command reads a certificate.
+fn has_certificate(command: &Command<'_>) -> bool
+    ensures { result ≡ has_certificate (asked_by command.now) }
+{
+    match command {
+        Command::Check { .. } => true,
+        Command::Labels { .. } => true,
+        _ => false,
+    }
+}
+
+/// Whether a command reads a map.
+fn has_picture(command: &Command<'_>) -> bool
+    ensures { result ≡ has_picture (asked_by command.now) }
+{
+    match command {
+        Command::Check { .. } => true,
+        Command::Page { .. } => true,
+        _ => false,
+    }
+}
