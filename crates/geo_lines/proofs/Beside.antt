@@ -1,0 +1,93 @@
+-- The corners of a line lie beside the points of its course.
+use Rattle.std.proofs.Common.{◌≡◌, refl, sym, ap, subst, ℕ, zero, suc, ◌+◌, ◌*◌, ◌≤◌, ℤ, pos, negsuc, ◌+ℤ◌, ◌-ℤ◌, ◌*ℤ◌, ◌≤ℤ◌, ◌<ℤ◌, unsigned_abs, Bool, true, false, List, [], ◌∷◌, ◌++◌, length, arith}
+use Rattle.std.specs.Prelude.{All, int_le, if◌then◌else◌}
+use Rattle.std.specs.Ordering.{int_eq}
+use Rattle.std.proofs.lemmas.Int.{ints, unsigned_abs-mul}
+use Rattle.map_base.specs.declared.point.Point.{Point}
+use Rattle.geo_lines.specs.declared.shift.Shift.{Shift}
+use Rattle.geo_lines.specs.Shifts.{width_of, shift_of, moved, onward_of, meeting_of, meets_near, corners_at, IsBeside, IsWithin}
+use Rattle.geo_lines.specs.Courses.{path_start, path_end, inner_corners, all_corners, AreBeside, StaysBeside}
+use Rattle.geo_lines.proofs.Quotients.{shift_within, meeting_shift_within}
+
+-- a shifted point lies as far from the point as it is shifted
+moved_beside : (most : ℕ) (p : Point) (o : Shift) → IsWithin most o → IsBeside most p (moved p o)
+moved_beside most p o within = record { across = same p.x o.x most within.across; along = same p.y o.y most within.along }
+  where
+    same : (x d : ℤ) (n : ℕ) → unsigned_abs d ≤ n → unsigned_abs ((x +ℤ d) -ℤ x) ≤ n
+    same x d n h = omega (arith, ints, h)
+
+itself_beside : (most : ℕ) (p : Point) → IsBeside most p p
+itself_beside most p = record { across = none p.x most; along = none p.y most }
+  where
+    none : (x : ℤ) (n : ℕ) → unsigned_abs (x -ℤ x) ≤ n
+    none x n = omega (arith, ints)
+
+wider : (m n : ℕ) (o : Shift) → m ≤ n → IsWithin m o → IsWithin n o
+wider m n o h within = record { across = omega (arith, h, within.across); along = omega (arith, h, within.along) }
+
+-- a line that runs beside its course meets itself only where the shifted pieces go on into one another
+pub some_onward : (w onward : ℤ) → int_eq w (pos 0) ≡ false → int_le (w *ℤ w) (pos 2 *ℤ onward) ≡ true → pos 0 <ℤ onward
+some_onward (pos zero) onward apart near = cc
+some_onward (pos (suc n)) onward apart near = by_test (suc n * suc n) onward (omega arith) near
+  where
+    by_test : (m : ℕ) (onward : ℤ) → 0 < m → int_le (pos m) (pos 2 *ℤ onward) ≡ true → pos 0 <ℤ onward
+    by_test m onward some near = grind (arith, ints)
+some_onward (negsuc n) onward apart near = by_test (suc n * suc n) onward (omega arith) near
+  where
+    by_test : (m : ℕ) (onward : ℤ) → 0 < m → int_le (pos m) (pos 2 *ℤ onward) ≡ true → pos 0 <ℤ onward
+    by_test m onward some near = grind (arith, ints)
+
+pub near_where : (x y : ℤ) → int_le x y ≡ true → x ≤ℤ y
+near_where x y e = grind (arith, ints)
+
+-- the corners at a point, by both tests
+corners_beside : (most : ℕ) (w : ℤ) (p : Point) (o q : Shift) → 4 * unsigned_abs w ≤ most → IsWithin (unsigned_abs w) o → IsWithin (unsigned_abs w) q
+    → All (IsBeside most p) (corners_at w p o q)
+corners_beside most w p o q enough before behind = by_tests (int_eq w (pos 0)) (meets_near w o q) refl refl
+  where
+    one : (corner : Point) → IsBeside most p corner → All (IsBeside most p) (corner ∷ [])
+    one corner beside = search (rules, beside)
+
+    near : int_eq w (pos 0) ≡ false → meets_near w o q ≡ true → IsBeside most p (moved p (meeting_of w o q))
+    near apart meets =
+        moved_beside most p (meeting_of w o q) (wider (4 * unsigned_abs w) most (meeting_of w o q) enough
+        (meeting_shift_within w o q before behind (some_onward w (onward_of w o q) apart meets) (near_where (w *ℤ w) (pos 2 *ℤ onward_of w o q) meets)))
+
+    by_tests : (none meets : Bool) → int_eq w (pos 0) ≡ none → meets_near w o q ≡ meets
+        → All (IsBeside most p) (if none then p ∷ [] else if meets then moved p (meeting_of w o q) ∷ [] else moved p o ∷ moved p q ∷ [])
+    by_tests true meets e f = one p (itself_beside most p)
+    by_tests false true e f = one (moved p (meeting_of w o q)) (near e f)
+    by_tests false false e f =
+        let first = moved_beside most p o (wider (unsigned_abs w) most o (omega (arith, enough)) before) in
+        let second = moved_beside most p q (wider (unsigned_abs w) most q (omega (arith, enough)) behind) in
+        search (rules, first, second)
+
+behind_beside : (most : ℕ) (w : ℤ) (a b : Point) (rest : List Point) → 4 * unsigned_abs w ≤ most
+    → AreBeside most (b ∷ rest) (inner_corners w (a ∷ b ∷ rest) ++ (path_end w (a ∷ b ∷ rest) ∷ []) ∷ [])
+behind_beside most w a b [] enough = (one, tt)
+  where
+    beside : IsBeside most b (moved b (shift_of w a b))
+    beside = moved_beside most b (shift_of w a b) (wider (unsigned_abs w) most (shift_of w a b) (omega (arith, enough)) (shift_within w a b))
+
+    one : All (IsBeside most b) (moved b (shift_of w a b) ∷ [])
+    one = search (rules, beside)
+behind_beside most w a b (c ∷ rest) enough =
+    (corners_beside most w b (shift_of w a b) (shift_of w b c) enough (shift_within w a b) (shift_within w b c), behind_beside most w b c rest enough)
+
+all_beside : (most : ℕ) (w : ℤ) (a b : Point) (rest : List Point) → 4 * unsigned_abs w ≤ most → AreBeside most (a ∷ b ∷ rest) (all_corners w (a ∷ b ∷ rest))
+all_beside most w a b rest enough = (one, behind_beside most w a b rest enough)
+  where
+    beside : IsBeside most a (moved a (shift_of w a b))
+    beside = moved_beside most a (shift_of w a b) (wider (unsigned_abs w) most (shift_of w a b) (omega (arith, enough)) (shift_within w a b))
+
+    one : All (IsBeside most a) (moved a (shift_of w a b) ∷ [])
+    one = search (rules, beside)
+
+pub stays_beside : (k : ℤ) (points : List Point) → 2 ≤ length points → StaysBeside k points
+stays_beside k [] long = absurd (omega arith)
+stays_beside k (a ∷ []) long = absurd (omega arith)
+stays_beside k (a ∷ b ∷ rest) long =
+    all_beside (240 * unsigned_abs k) (width_of k) a b rest (enough (unsigned_abs (pos 30 *ℤ k)) (unsigned_abs k) (unsigned_abs-mul (pos 30) k))
+  where
+    enough : (m n : ℕ) → m ≡ 30 * n → 4 * m ≤ 240 * n
+    enough m n e = omega (arith, e)
