@@ -3,6 +3,7 @@ use Rattle.std.proofs.Common.{◌≡◌, refl, sym, ap, subst, ℕ, zero, suc, �
 use Rattle.std.specs.Prelude.{All, int_le, if◌then◌else◌}
 use Rattle.std.specs.Ordering.{int_eq}
 use Rattle.std.proofs.lemmas.Int.{ints, unsigned_abs-mul}
+use Rattle.std.proofs.lemmas.List.Elements.{All-cons, All-nil}
 use Rattle.map_base.specs.declared.point.Point.{Point}
 use Rattle.geo_lines.specs.declared.shift.Shift.{Shift}
 use Rattle.geo_lines.specs.Shifts.{width_of, shift_of, moved, onward_of, meeting_of, meets_near, corners_at, IsBeside, IsWithin}
@@ -46,7 +47,7 @@ corners_beside : (most : ℕ) (w : ℤ) (p : Point) (o q : Shift) → 4 * unsign
 corners_beside most w p o q enough before behind = by_tests (int_eq w (pos 0)) (meets_near w o q) refl refl
   where
     one : (corner : Point) → IsBeside most p corner → All (IsBeside most p) (corner ∷ [])
-    one corner beside = search (rules, beside)
+    one corner beside = All-cons (IsBeside most p) corner [] beside (All-nil (IsBeside most p))
 
     near : int_eq w (pos 0) ≡ false → meets_near w o q ≡ true → IsBeside most p (moved p (meeting_of w o q))
     near apart meets =
@@ -60,7 +61,7 @@ corners_beside most w p o q enough before behind = by_tests (int_eq w (pos 0)) (
     by_tests false false e f =
         let first = moved_beside most p o (wider (unsigned_abs w) most o (omega (arith, enough)) before) in
         let second = moved_beside most p q (wider (unsigned_abs w) most q (omega (arith, enough)) behind) in
-        search (rules, first, second)
+        All-cons (IsBeside most p) (moved p o) (moved p q ∷ []) first (one (moved p q) second)
 
 behind_beside : (most : ℕ) (w : ℤ) (a b : Point) (rest : List Point) → 4 * unsigned_abs w ≤ most
     → AreBeside most (b ∷ rest) (inner_corners w (a ∷ b ∷ rest) ++ (path_end w (a ∷ b ∷ rest) ∷ []) ∷ [])
@@ -70,7 +71,7 @@ behind_beside most w a b [] enough = (one, tt)
     beside = moved_beside most b (shift_of w a b) (wider (unsigned_abs w) most (shift_of w a b) (omega (arith, enough)) (shift_within w a b))
 
     one : All (IsBeside most b) (moved b (shift_of w a b) ∷ [])
-    one = search (rules, beside)
+    one = All-cons (IsBeside most b) (moved b (shift_of w a b)) [] beside (All-nil (IsBeside most b))
 behind_beside most w a b (c ∷ rest) enough =
     (corners_beside most w b (shift_of w a b) (shift_of w b c) enough (shift_within w a b) (shift_within w b c), behind_beside most w b c rest enough)
 
@@ -81,7 +82,7 @@ all_beside most w a b rest enough = (one, behind_beside most w a b rest enough)
     beside = moved_beside most a (shift_of w a b) (wider (unsigned_abs w) most (shift_of w a b) (omega (arith, enough)) (shift_within w a b))
 
     one : All (IsBeside most a) (moved a (shift_of w a b) ∷ [])
-    one = search (rules, beside)
+    one = All-cons (IsBeside most a) (moved a (shift_of w a b)) [] beside (All-nil (IsBeside most a))
 
 pub stays_beside : (k : ℤ) (points : List Point) → 2 ≤ length points → StaysBeside k points
 stays_beside k [] long = absurd (omega arith)

@@ -1,7 +1,8 @@
 -- Lines beside the courses of segments, point by point.
-use Rattle.std.specs.Prelude.{◌≡◌, ◌≢◌, ℕ, ◌*◌, ℤ, pos, neg_ℤ, unsigned_abs, List, [], ◌∷◌, ◌++◌, reverse, All}
+use Rattle.std.specs.Prelude.{◌≡◌, ◌≢◌, ℕ, ◌*◌, ◌≤◌, ℤ, pos, neg_ℤ, unsigned_abs, List, [], ◌∷◌, ◌++◌, length, reverse, All}
 use Rattle.std.specs.List.{flat_map}
 use Rattle.map_base.specs.declared.point.Point.{Point}
+use Rattle.fixed_plane.specs.Plane.{IsInPlane}
 use Rattle.geo_lines.specs.Shifts.{width_of, shift_of, moved, corners_at, IsBeside}
 
 -- each point of a course lies apart from the next
@@ -9,6 +10,12 @@ abbrev pub AreApart : List Point → Type 0
 AreApart [] = Unit {0}
 AreApart (a ∷ []) = Unit {0}
 AreApart (a ∷ b ∷ rest) = (a ≢ b) × AreApart (b ∷ rest)
+
+-- the course of a segment: at least two points of the plane, each apart from the next
+pub record IsCourse (points : List Point) : Type 0 where
+  pub long : 2 ≤ length points
+  pub in_plane : All IsInPlane points
+  pub apart : AreApart points
 
 -- Of the path of a line that runs w units to the right of a course:
 

@@ -1,10 +1,10 @@
 //! The path of a line beside a course.
 
-ghost use Rattle.std.specs.Prelude.{◌≡◌, ◌++◌, ◌+◌, ◌<◌, ◌≤◌, length, unsigned_abs, All, IfOk, OnOk};
+ghost use Rattle.std.specs.Prelude.{◌≡◌, ◌++◌, ◌+◌, ◌<◌, ◌≤◌, length, unsigned_abs, IfOk, OnOk};
 ghost use Rattle.fixed_plane.specs.Plane.{IsInPlane};
 ghost use Rattle.track_net.specs.Nearness.{point_at};
 ghost use Rattle.geo_lines.specs.Shifts.{corners_at, shift_of, width_of, IsWithin};
-ghost use Rattle.geo_lines.specs.Courses.{path_end, path_start, shifted_path, AreApart};
+ghost use Rattle.geo_lines.specs.Courses.{path_end, path_start, shifted_path, IsCourse};
 
 use crate::pieces::{meeting_of, meets_near, moved, onward_of, shift_of, width_of};
 use crate::shift::Shift;
@@ -16,9 +16,7 @@ use std::alloc::Global;
 /// point between, it turns where the shifted pieces meet, or, at a turn that is sharper than 120 degrees, goes from the end
 /// of the one to the beginning of the other.
 pub fn shift_path(alloc: Global, points: &[Point], k: i32) -> Result<Vec<Point>, NoMemory>
-    requires long { 2 ≤ length points.now }
-    requires in_plane { All IsInPlane points.now }
-    requires apart { AreApart points.now }
+    requires course { IsCourse points.now }
     requires places { unsigned_abs k ≤ 10000 }
     ensures { IfOk result (λ path. path.items ≡ shifted_path k points.now) }
 {
@@ -29,9 +27,7 @@ pub fn shift_path(alloc: Global, points: &[Point], k: i32) -> Result<Vec<Point>,
 
 /// The same, in place of what `path` held.
 pub fn put_path(path: &mut Vec<Point>, points: &[Point], k: i32) -> Result<(), NoMemory>
-    requires long { 2 ≤ length points.now }
-    requires in_plane { All IsInPlane points.now }
-    requires apart { AreApart points.now }
+    requires course { IsCourse points.now }
     requires places { unsigned_abs k ≤ 10000 }
     ensures { OnOk result (path.new.items ≡ shifted_path k points.now) }
 {
@@ -50,9 +46,7 @@ pub fn put_path(path: &mut Vec<Point>, points: &[Point], k: i32) -> Result<(), N
 
 /// Where this path begins: its first corner.
 pub fn path_start(points: &[Point], k: i32) -> Point
-    requires long { 2 ≤ length points.now }
-    requires in_plane { All IsInPlane points.now }
-    requires apart { AreApart points.now }
+    requires course { IsCourse points.now }
     requires places { unsigned_abs k ≤ 10000 }
     ensures { result ≡ path_start (width_of k) points.now }
 {
@@ -61,9 +55,7 @@ pub fn path_start(points: &[Point], k: i32) -> Point
 
 /// Where it ends: its last corner.
 pub fn path_end(points: &[Point], k: i32) -> Point
-    requires long { 2 ≤ length points.now }
-    requires in_plane { All IsInPlane points.now }
-    requires apart { AreApart points.now }
+    requires course { IsCourse points.now }
     requires places { unsigned_abs k ≤ 10000 }
     ensures { result ≡ path_end (width_of k) points.now }
 {
@@ -74,8 +66,7 @@ pub fn path_end(points: &[Point], k: i32) -> Point
 /// How the piece of a course is shifted that begins at point i.
 fn piece_at(points: &[Point], i: usize, width: i64) -> Shift
     requires piece { i + 1 < length points.now }
-    requires in_plane { All IsInPlane points.now }
-    requires apart { AreApart points.now }
+    requires course { IsCourse points.now }
     requires width { unsigned_abs width ≤ 300000 }
     ensures value { result ≡ shift_of width (point_at points.now i) (point_at points.now (i + 1)) }
     ensures beside { IsWithin (unsigned_abs width) result }
