@@ -8,7 +8,7 @@ ghost use Rattle.svg_writer.specs.Elements.{AreBounds};
 ghost use Rattle.svg_writer.specs.Picture.{bounds_with, bounds_of, widened};
 
 use crate::bounds::Bounds;
-use crate::scene::drawn;
+use crate::grid::drawn;
 use line_offsets::Corner;
 use octi_grid::{GridPoint, Walk, run_end};
 
@@ -68,7 +68,7 @@ fn with_point(bounds: Option<Bounds>, p: GridPoint) -> Bounds
 }
 
 /// Bounds, widened to hold a point.
-fn widened(held: Bounds, corner: Corner) -> Bounds
+pub fn widened(held: Bounds, corner: Corner) -> Bounds
     requires held { AreBounds held }
     requires x { unsigned_abs corner.x ≤ 1099511627776 }
     requires y { unsigned_abs corner.y ≤ 1099511627776 }
