@@ -2,16 +2,14 @@
 use Rattle.std.specs.Prelude.{ℕ, ◌+◌, ◌≤◌, ℤ, pos, ◌-ℤ◌, ◌*◌, List, [], length, slice_get, unwrap_or}
 use Rattle.map_base.specs.declared.ids.LineId.{LineId}
 use Rattle.line_offsets.specs.declared.corner.Corner.{Corner}
-use Rattle.svg_writer.specs.declared.bounds.Bounds.{Bounds}
 
 -- Where lines run and nodes lie: of a line that stands k places to the right of segment s its path, where it starts and
--- where it ends; the centre of a node; and the bounds of all.
+-- where it ends; and the centre of a node.
 pub record Courses : Type 0 where
   pub path : ℕ → ℤ → List Corner
   pub start : ℕ → ℤ → Corner
   pub end : ℕ → ℤ → Corner
   pub centre : ℕ → Corner
-  pub bounds : Bounds
 
 -- the order of segment s
 abbrev pub order_at : List (List LineId) → ℕ → List LineId

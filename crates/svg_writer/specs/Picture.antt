@@ -31,9 +31,12 @@ bounds_at c = record { left = c.x; right = c.x; top = c.y; bottom = c.y }
 abbrev pub widened : Bounds → Corner → Bounds
 widened b c = record { left = int_min b.left c.x; right = int_max b.right c.x; top = int_min b.top c.y; bottom = int_max b.bottom c.y }
 
+abbrev pub bounds_with_corner : Option Bounds → Corner → Option Bounds
+bounds_with_corner None c = Some (bounds_at c)
+bounds_with_corner (Some b) c = Some (widened b c)
+
 abbrev pub bounds_with : Option Bounds → GridPoint → Option Bounds
-bounds_with None p = Some (bounds_at (drawn p))
-bounds_with (Some b) p = Some (widened b (drawn p))
+bounds_with bounds p = bounds_with_corner bounds (drawn p)
 
 abbrev pub origin : Corner
 origin = record { x = pos 0; y = pos 0 }
@@ -198,9 +201,9 @@ abbrev pub elements_with : Style → Names → GraphParts → Courses → List (
 elements_with style names g courses orders frame labels =
     Head frame ∷ (all_lines names g courses orders ++ (all_joins names g courses orders ++ (all_markers style g courses ++ (labels ++ Tail ∷ []))))
 
--- the same where the head shows all that is drawn, and each name stands beside its marker
-abbrev pub elements : Style → Names → GraphParts → Courses → List (List LineId) → List Element
-elements style names g courses orders = elements_with style names g courses orders courses.bounds (all_labels style names g courses)
+-- the same where each name stands beside its marker
+abbrev pub elements : Style → Names → GraphParts → Courses → List (List LineId) → Bounds → List Element
+elements style names g courses orders frame = elements_with style names g courses orders frame (all_labels style names g courses)
 
 -- ---- maps on the grid
 
@@ -211,12 +214,11 @@ grid_courses g walks = record {
   start = λ s k. path_start (walk_at walks s) k;
   end = λ s k. path_end (walk_at walks s) k;
   centre = λ n. centre_of g walks n;
-  bounds = bounds_of walks;
 }
 
 -- the picture's text
 abbrev pub picture_text : Names → GraphParts → List PlainWalk → List (List LineId) → List ℕ
-picture_text names g walks orders = texts grid_style (elements grid_style names g (grid_courses g walks) orders)
+picture_text names g walks orders = texts grid_style (elements grid_style names g (grid_courses g walks) orders (bounds_of walks))
 
 -- the same where the head shows these bounds, and the names of stations stand at these places
 abbrev pub placed_text : Names → GraphParts → List PlainWalk → List (List LineId) → Bounds → List (Option Corner) → List ℕ

@@ -2,9 +2,7 @@
 
 ghost use Rattle.std.specs.Prelude.{◌≡◌, ◌≤◌, ℤ, unsigned_abs, OnOk};
 ghost use Rattle.svg_writer.specs.Courses.{Courses};
-ghost use Rattle.svg_writer.specs.Elements.{AreBounds};
 
-use crate::bounds::Bounds;
 use line_offsets::Corner;
 use map_base::{NoMemory, NodeId};
 
@@ -36,9 +34,4 @@ pub trait Drawn: Drop {
         ensures value { result ≡ (courses self.now).centre n.0 }
         ensures across { unsigned_abs result.x ≤ 1099511627776 }
         ensures down { unsigned_abs result.y ≤ 1099511627776 };
-
-    /// The bounds of all that is drawn.
-    fn bounds(&self) -> Bounds
-        ensures value { result ≡ (courses self.now).bounds }
-        ensures small { AreBounds result };
 }

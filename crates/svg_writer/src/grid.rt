@@ -5,10 +5,8 @@ ghost use Rattle.line_offsets.specs.Paths.{line_path, path_end, path_start};
 ghost use Rattle.line_offsets.specs.Shifts.{drawn};
 ghost use Rattle.svg_writer.specs.Picture.{centre_of, first_of, put_at, walk_at};
 
-use crate::bounds::Bounds;
 use crate::drawn::Drawn;
 use crate::scene::{ends_of, round_of};
-use crate::walked::bounds_of;
 use graph_core::LineGraph;
 use line_offsets::{Corner, path_end, path_start, put_path};
 use map_base::{NoMemory, NodeId, SegId, Sequence};
@@ -42,10 +40,6 @@ impl Drawn for GridDrawing<'_> {
 
     fn centre(&self, n: NodeId) -> Corner {
         centre_of(self.graph, self.drawing, n)
-    }
-
-    fn bounds(&self) -> Bounds {
-        bounds_of(self.drawing.walks.as_slice())
     }
 }
 

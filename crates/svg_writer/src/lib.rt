@@ -25,5 +25,5 @@ pub use names::Names;
 pub use scene::{ends_of, station_name};
 pub use stations::radius_of;
 pub use style::{Style, grid_style};
-pub use walked::{bounds_of, widened};
+pub use walked::{bounds_of, with_corner};
 pub use whole::{picture, picture_of, picture_with};

@@ -14,6 +14,7 @@ use crate::names::Names;
 use crate::scene::Scene;
 use crate::stations::{push_all_labels, push_all_markers, push_placed_labels};
 use crate::style::{Style, grid_style};
+use crate::walked::bounds_of;
 use graph_core::LineGraph;
 use line_offsets::Corner;
 use map_base::NoMemory;
@@ -22,8 +23,8 @@ use order_model::Orders;
 use std::alloc::Global;
 
 /// The picture of a line graph as SVG 1.1 in a style, with a drawing, an order for each of its segments, and names that
-/// hold each of its stations and lines. In order: each line of each segment, each line from segment to segment at each
-/// node, the markers of stations, and their names.
+/// hold each of its stations and lines. It shows the bounds `frame`, and in order: each line of each segment, each line
+/// from segment to segment at each node, the markers of stations, and their names.
 pub fn picture_of<D: Drawn>(
     alloc: Global,
     style: Style,
@@ -31,9 +32,11 @@ pub fn picture_of<D: Drawn>(
     names: &Names,
     drawn: &D,
     orders: &Orders,
+    frame: Bounds,
 ) -> Result<Vec<u8>, NoMemory>
-    requires { AreInReach (D.Reaches drawn.now) orders.now.lists }
-    ensures { IfOk result (λ text. text.items ≡ texts style (elements style names.now graph.now (D.courses drawn.now) orders.now.lists)) }
+    requires reach { AreInReach (D.Reaches drawn.now) orders.now.lists }
+    requires frame { AreBounds frame }
+    ensures { IfOk result (λ text. text.items ≡ texts style (elements style names.now graph.now (D.courses drawn.now) orders.now.lists frame)) }
 {
     let scene = Scene {
         style,
@@ -43,7 +46,7 @@ pub fn picture_of<D: Drawn>(
         orders,
     };
     let mut text = String::new(alloc);
-    push_map(alloc, &mut text, &scene, drawn.bounds())?;
+    push_map(alloc, &mut text, &scene, frame)?;
     push_all_labels(&mut text, &scene)?;
     push_tail(&mut text, style)?;
     Ok(text.into_bytes())
@@ -60,7 +63,8 @@ pub fn picture(
     ensures { IfOk result (λ text. text.items ≡ picture_text names.now graph.now drawing.now.walks orders.now.lists) }
 {
     let drawn = GridDrawing { graph, drawing };
-    picture_of(alloc, grid_style(), graph, names, &drawn, orders)
+    let frame = bounds_of(drawing.walks.as_slice());
+    picture_of(alloc, grid_style(), graph, names, &drawn, orders, frame)
 }
 
 /// The same where it shows the bounds `frame`, and the names of stations begin at `spots`, one for each node: a name with

@@ -1,5 +1,4 @@
 use Rattle.std.proofs.Common.{◌≡◌, ℕ, List, ◌++◌, string_bytes, ap, sym, ◌∙◌}
-use Rattle.svg_writer.specs.declared.bounds.Bounds.{Bounds}
 use Rattle.svg_writer.specs.Elements.{Head, Tail, element_text, texts}
 use Rattle.svg_writer.specs.Picture.{all_lines, all_joins, all_markers, all_labels}
 use Rattle.svg_writer.proofs.Appends.{grew3}
@@ -18,6 +17,5 @@ returns g c =
     let made : c.into_bytes.result.items ≡ string_bytes c.push_tail.new.text = ap (λ v. v.items) c.into_bytes.ensures.value in
     made
     ∙ grew3 _ _ _ _ _ _ _ c.in_ok-push_map.ensures c.in_ok-push_all_labels.ensures c.in_ok-push_tail.ensures
-    ∙ ap (λ (bytes : List ℕ). bytes ++ ((element_text style (Head c.bounds.result) ++ lines) ++ behind)) c.new-text.ensures.bytes
-    ∙ ap (λ (b : Bounds). (element_text style (Head b) ++ lines) ++ behind) c.bounds.ensures.value
-    ∙ sym (in_order style (Head d.bounds) (all_lines n graph d o) (all_joins n graph d o) (all_markers style graph d) (all_labels style n graph d) Tail)
+    ∙ ap (λ (bytes : List ℕ). bytes ++ ((element_text style (Head c.args.frame) ++ lines) ++ behind)) c.new-text.ensures.bytes
+    ∙ sym (in_order style (Head c.args.frame) (all_lines n graph d o) (all_joins n graph d o) (all_markers style graph d) (all_labels style n graph d) Tail)
