@@ -5,5 +5,6 @@ mod Routes
 mod Weights
 mod Moves
 mod Offsets
+mod CourseLines
 mod Pictures
 mod Labels

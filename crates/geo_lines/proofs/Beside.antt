@@ -3,11 +3,12 @@ use Rattle.std.proofs.Common.{◌≡◌, refl, sym, ap, subst, ℕ, zero, suc, �
 use Rattle.std.specs.Prelude.{All, int_le, if◌then◌else◌}
 use Rattle.std.specs.Ordering.{int_eq}
 use Rattle.std.proofs.lemmas.Int.{ints, unsigned_abs-mul}
-use Rattle.std.proofs.lemmas.List.Elements.{All-cons, All-nil}
+use Rattle.std.proofs.lemmas.List.Elements.{All-append, All-cons, All-head, All-nil, All-tail, All-weaker}
 use Rattle.map_base.specs.declared.point.Point.{Point}
+use Rattle.fixed_plane.specs.Plane.{IsInPlane}
 use Rattle.geo_lines.specs.declared.shift.Shift.{Shift}
 use Rattle.geo_lines.specs.Shifts.{width_of, shift_of, moved, onward_of, meeting_of, meets_near, corners_at, IsBeside, IsWithin}
-use Rattle.geo_lines.specs.Courses.{path_start, path_end, inner_corners, all_corners, AreBeside, StaysBeside}
+use Rattle.geo_lines.specs.Courses.{path_start, path_end, inner_corners, all_corners, one_after_another, shifted_path, AreBeside, StaysBeside, IsCourse, IsNearPlane}
 use Rattle.geo_lines.proofs.Quotients.{shift_within, meeting_shift_within}
 
 -- a shifted point lies as far from the point as it is shifted
@@ -84,6 +85,29 @@ all_beside most w a b rest enough = (one, behind_beside most w a b rest enough)
     one : All (IsBeside most a) (moved a (shift_of w a b) ∷ [])
     one = All-cons (IsBeside most a) (moved a (shift_of w a b)) [] beside (All-nil (IsBeside most a))
 
+-- corners beside points of the plane lie near the plane
+corner_near : (most : ℕ) (p : Point) → IsInPlane p → most ≤ 2400000 → (corner : Point) → IsBeside most p corner → IsNearPlane corner
+corner_near most p inside few corner beside = record {
+  across = near p.x corner.x most few inside.across beside.across;
+  along = near p.y corner.y most few inside.along beside.along;
+}
+  where
+    near : (x z : ℤ) (most : ℕ) → most ≤ 2400000 → unsigned_abs x ≤ 300000000 → unsigned_abs (z -ℤ x) ≤ most → unsigned_abs z ≤ 302400000
+    near x z most few inside beside = omega (arith, ints, few, inside, beside)
+
+corners_near : (most : ℕ) (points : List Point) (lists : List (List Point)) → most ≤ 2400000 → All IsInPlane points → AreBeside most points lists → All IsNearPlane (one_after_another lists)
+corners_near most [] [] few inside beside = All-nil IsNearPlane
+corners_near most [] (corners ∷ lists) few inside beside = absurd beside
+corners_near most (p ∷ points) [] few inside beside = absurd beside
+corners_near most (p ∷ points) (corners ∷ lists) few inside beside =
+    All-append IsNearPlane corners (one_after_another lists)
+    (All-weaker (IsBeside most p) IsNearPlane (corner_near most p (All-head IsInPlane p points inside) few) corners beside.0)
+    (corners_near most points lists few (All-tail IsInPlane p points inside) beside.1)
+
+-- a shifted point of the plane
+pub moved_near : (p : Point) (o : Shift) → IsInPlane p → IsWithin 2400000 o → IsNearPlane (moved p o)
+moved_near p o inside within = corner_near 2400000 p inside (omega arith) (moved p o) (moved_beside 2400000 p o within)
+
 pub stays_beside : (k : ℤ) (points : List Point) → 2 ≤ length points → StaysBeside k points
 stays_beside k [] long = absurd (omega arith)
 stays_beside k (a ∷ []) long = absurd (omega arith)
@@ -92,3 +116,10 @@ stays_beside k (a ∷ b ∷ rest) long =
   where
     enough : (m n : ℕ) → m ≡ 30 * n → 4 * m ≤ 240 * n
     enough m n e = omega (arith, e)
+
+-- the whole path
+pub path_near : (k : ℤ) (points : List Point) → IsCourse points → unsigned_abs k ≤ 10000 → All IsNearPlane (shifted_path k points)
+path_near k [] is few = absurd (let long = is.long in omega arith)
+path_near k (a ∷ []) is few = absurd (let long = is.long in omega arith)
+path_near k (a ∷ b ∷ rest) is few =
+    corners_near (240 * unsigned_abs k) (a ∷ b ∷ rest) (all_corners (width_of k) (a ∷ b ∷ rest)) (omega (arith, few)) is.in_plane (stays_beside k (a ∷ b ∷ rest) is.long)

@@ -3,3 +3,4 @@ pub mod Quotients
 pub mod Turning
 pub mod Beside
 pub mod Steps
+mod CourseRows

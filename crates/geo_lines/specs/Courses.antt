@@ -64,6 +64,11 @@ AreBeside most (p ∷ points) (corners ∷ lists) = All (IsBeside most p) corner
 abbrev pub StaysBeside : ℤ → List Point → Type 0
 StaysBeside k points = AreBeside (240 * unsigned_abs k) points (all_corners (width_of k) points)
 
+-- a point lies within 302,400,000 units of the origin along each axis
+pub record IsNearPlane (p : Point) : Type 0 where
+  pub across : unsigned_abs p.x ≤ 302400000
+  pub along : unsigned_abs p.y ≤ 302400000
+
 -- the line that stands as far to the left of the course when that is walked the other way is the same line
 abbrev pub TurnsRound : ℤ → List Point → Type 0
 TurnsRound k points = shifted_path (neg_ℤ k) (reverse points) ≡ reverse (shifted_path k points)

@@ -1,10 +1,10 @@
 //! The path of a line beside a course.
 
-ghost use Rattle.std.specs.Prelude.{◌≡◌, ◌++◌, ◌+◌, ◌<◌, ◌≤◌, length, unsigned_abs, IfOk, OnOk};
+ghost use Rattle.std.specs.Prelude.{◌≡◌, ◌++◌, ◌+◌, ◌<◌, ◌≤◌, length, unsigned_abs, All, IfOk, OnOk};
 ghost use Rattle.fixed_plane.specs.Plane.{IsInPlane};
 ghost use Rattle.track_net.specs.Nearness.{point_at};
 ghost use Rattle.geo_lines.specs.Shifts.{corners_at, shift_of, width_of, IsWithin};
-ghost use Rattle.geo_lines.specs.Courses.{path_end, path_start, shifted_path, IsCourse};
+ghost use Rattle.geo_lines.specs.Courses.{path_end, path_start, shifted_path, IsCourse, IsNearPlane};
 
 use crate::pieces::{meeting_of, meets_near, moved, onward_of, shift_of, width_of};
 use crate::shift::Shift;
@@ -18,7 +18,8 @@ use std::alloc::Global;
 pub fn shift_path(alloc: Global, points: &[Point], k: i32) -> Result<Vec<Point>, NoMemory>
     requires course { IsCourse points.now }
     requires places { unsigned_abs k ≤ 10000 }
-    ensures { IfOk result (λ path. path.items ≡ shifted_path k points.now) }
+    ensures path { IfOk result (λ path. path.items ≡ shifted_path k points.now) }
+    ensures near { IfOk result (λ path. All IsNearPlane path.items) }
 {
     let mut path = Vec::new(alloc);
     put_path(&mut path, points, k)?;
@@ -48,7 +49,8 @@ pub fn put_path(path: &mut Vec<Point>, points: &[Point], k: i32) -> Result<(), N
 pub fn path_start(points: &[Point], k: i32) -> Point
     requires course { IsCourse points.now }
     requires places { unsigned_abs k ≤ 10000 }
-    ensures { result ≡ path_start (width_of k) points.now }
+    ensures corner { result ≡ path_start (width_of k) points.now }
+    ensures near { IsNearPlane result }
 {
     moved(points[0], piece_at(points, 0, width_of(k)))
 }
@@ -57,7 +59,8 @@ pub fn path_start(points: &[Point], k: i32) -> Point
 pub fn path_end(points: &[Point], k: i32) -> Point
     requires course { IsCourse points.now }
     requires places { unsigned_abs k ≤ 10000 }
-    ensures { result ≡ path_end (width_of k) points.now }
+    ensures corner { result ≡ path_end (width_of k) points.now }
+    ensures near { IsNearPlane result }
 {
     let last = points.len() - 1;
     moved(points[last], piece_at(points, last - 1, width_of(k)))

@@ -1,7 +1,7 @@
 //! Drawings in the plane.
 
-ghost use Rattle.std.specs.Prelude.{◌≡◌, ◌++◌, ◌≤◌, map, unsigned_abs, OnOk};
-ghost use Rattle.geo_lines.specs.Courses.{IsCourse};
+ghost use Rattle.std.specs.Prelude.{◌≡◌, ◌++◌, map, All, OnOk};
+ghost use Rattle.geo_lines.specs.Courses.{IsNearPlane};
 ghost use Rattle.geo_map.specs.GeoMap.{drawn, place_at};
 
 use geo_lines::{path_end, path_start, shift_path};
@@ -58,6 +58,7 @@ impl Drawn for PlaneDrawing<'_> {
 
 /// Appends points of the plane as they are drawn.
 fn push_drawn(path: &mut Vec<Corner>, points: &[Point]) -> Result<(), NoMemory>
+    requires { All IsNearPlane points.now }
     ensures { OnOk result (path.new.items ≡ path.old.items ++ map drawn points.now) }
 {
     for point in points {
@@ -68,20 +69,16 @@ fn push_drawn(path: &mut Vec<Corner>, points: &[Point]) -> Result<(), NoMemory>
 
 /// A point of the plane as it is drawn: north is above.
 pub(crate) fn drawn(p: Point) -> Corner
-    requires { unsigned_abs p.y ≤ 1099511627776 }
+    requires { IsNearPlane p }
     ensures { result ≡ drawn p }
 {
-    Corner {
-        x: p.x,
-        y: 0 - p.y,
-    }
+    Corner { x: p.x, y: 0 - p.y }
 }
 
 /// Where a node lies.
 fn place_of(graph: &LineGraph, n: NodeId) -> Point
     ensures value { result ≡ place_at graph.now.places n.0 }
-    ensures across { unsigned_abs result.x ≤ 300000000 }
-    ensures along { unsigned_abs result.y ≤ 300000000 }
+    ensures near { IsNearPlane result }
 {
     if n.0 < graph.nodes() {
         graph.place(n)

@@ -114,11 +114,7 @@ pub(crate) fn push_quoted(text: &mut String, number: u16) -> Result<(), NoMemory
 }
 
 /// Appends how lines are drawn, in a colour.
-pub(crate) fn push_stroke(
-    text: &mut String,
-    style: Style,
-    colour: &[u8],
-) -> Result<(), NoMemory>
+pub(crate) fn push_stroke(text: &mut String, style: Style, colour: &[u8]) -> Result<(), NoMemory>
     ensures { OnOk result (string_bytes text.new ≡ string_bytes text.old ++ stroke_text style colour.now) }
 {
     text.push_str("\" fill=\"none\" stroke=\"")?;

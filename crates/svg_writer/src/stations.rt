@@ -14,7 +14,10 @@ use line_offsets::Corner;
 use map_base::{NoMemory, NodeId, SegId};
 
 /// Appends the marker of each station.
-pub(crate) fn push_all_markers<D: Drawn>(text: &mut String, scene: &Scene<'_, D>) -> Result<(), NoMemory>
+pub(crate) fn push_all_markers<D: Drawn>(
+    text: &mut String,
+    scene: &Scene<'_, D>,
+) -> Result<(), NoMemory>
     ensures { OnOk result (string_bytes text.new ≡ string_bytes text.old ++ texts scene.now.style (all_markers scene.now.style scene.now.graph.now (D.courses scene.now.drawn.now))) }
 {
     for n in 0..scene.graph.nodes() {
@@ -33,7 +36,12 @@ fn push_marker_at<D: Drawn>(text: &mut String, scene: &Scene<'_, D>, n: u32) -> 
 }
 
 /// Appends the marker of a node of this kind, where that is a station.
-fn push_marker_of<D: Drawn>(text: &mut String, scene: &Scene<'_, D>, n: u32, kind: NodeKind) -> Result<(), NoMemory>
+fn push_marker_of<D: Drawn>(
+    text: &mut String,
+    scene: &Scene<'_, D>,
+    n: u32,
+    kind: NodeKind,
+) -> Result<(), NoMemory>
     requires node { n < length scene.now.graph.now.kinds }
     requires lines { length scene.now.graph.now.lines ≡ length scene.now.graph.now.ends }
     ensures { OnOk result (string_bytes text.new ≡ string_bytes text.old ++ texts scene.now.style (marker scene.now.style scene.now.graph.now (D.courses scene.now.drawn.now) n kind)) }
@@ -49,7 +57,10 @@ fn push_marker_of<D: Drawn>(text: &mut String, scene: &Scene<'_, D>, n: u32, kin
 }
 
 /// Appends the name of each station.
-pub(crate) fn push_all_labels<D: Drawn>(text: &mut String, scene: &Scene<'_, D>) -> Result<(), NoMemory>
+pub(crate) fn push_all_labels<D: Drawn>(
+    text: &mut String,
+    scene: &Scene<'_, D>,
+) -> Result<(), NoMemory>
     ensures { OnOk result (string_bytes text.new ≡ string_bytes text.old ++ texts scene.now.style (all_labels scene.now.style scene.now.names.now scene.now.graph.now (D.courses scene.now.drawn.now))) }
 {
     for n in 0..scene.graph.nodes() {
@@ -68,7 +79,12 @@ fn push_label_at<D: Drawn>(text: &mut String, scene: &Scene<'_, D>, n: u32) -> R
 }
 
 /// Appends the name of a node of this kind, where that is a station.
-fn push_label_of<D: Drawn>(text: &mut String, scene: &Scene<'_, D>, n: u32, kind: NodeKind) -> Result<(), NoMemory>
+fn push_label_of<D: Drawn>(
+    text: &mut String,
+    scene: &Scene<'_, D>,
+    n: u32,
+    kind: NodeKind,
+) -> Result<(), NoMemory>
     requires node { n < length scene.now.graph.now.kinds }
     requires lines { length scene.now.graph.now.lines ≡ length scene.now.graph.now.ends }
     ensures { OnOk result (string_bytes text.new ≡ string_bytes text.old ++ texts scene.now.style (label scene.now.style scene.now.names.now scene.now.graph.now (D.courses scene.now.drawn.now) n kind)) }
@@ -77,7 +93,12 @@ fn push_label_of<D: Drawn>(text: &mut String, scene: &Scene<'_, D>, n: u32, kind
         NodeKind::Station(station) => {
             let radius = radius_in(scene.style, scene.graph, NodeId(n))?;
             let place = beside(scene.style, scene.drawn.centre(NodeId(n)), radius);
-            push_label(text, scene.style, place, station_name(scene.names, station.0))?;
+            push_label(
+                text,
+                scene.style,
+                place,
+                station_name(scene.names, station.0),
+            )?;
             Ok(())
         }
         NodeKind::Junction => Ok(()),
