@@ -16,7 +16,7 @@ use Rattle.edit_session.specs.Scripts.{followed_in}
 use Rattle.session_command.specs.SessionWorks.{session_text}
 use Rattle.session_command.specs.Promises.{KeepDraws}
 use Rattle.command_inputs.specs.declared.loaded.Loaded.{Loaded}
-use Rattle.command_words.specs.Asked.{Asked, stations, graph, make, improve, check, labels, session, trial, page}
+use Rattle.command_words.specs.Asked.{Asked, stations, graph, make, improve, check, depict, session, trial, page}
 use Rattle.command_paths.specs.Paths.{Chosen, MapPaths}
 use Rattle.map_commands.specs.MapWorks.{best_line}
 use Rattle.improve_command.specs.ImproveWorks.{improved_line}
@@ -93,10 +93,10 @@ MeansDone told (stations feed) old new = ⊤
 MeansDone told (graph feed chosen) old new = ⊤
 MeansDone told (make feed paths chosen) old new = IsMapWritten told (make feed paths chosen) paths new
 MeansDone told (improve feed paths moves chosen) old new = IsImprovedMapWritten told (improve feed paths moves chosen) paths moves old new
-MeansDone told (labels feed certificate out chosen) old new = IsLabelledMapWritten told (labels feed certificate out chosen) certificate out new
+MeansDone told (depict kind feed certificate out chosen) old new = IsLabelledMapWritten told (depict kind feed certificate out chosen) certificate out new
 MeansDone told (session feed script out chosen) old new = IsSessionWritten told (session feed script out chosen) script out new
 MeansDone told (trial number) old new = ⊤
-MeansDone told (page picture html) old new = ⊤
+MeansDone told (page shown html) old new = ⊤
 MeansDone told (check feed paths chosen) old new = IsMapAccepted told (check feed paths chosen) paths old new
 
 -- what is chosen for a check of a map: the files that were chosen for the map
