@@ -1,5 +1,5 @@
 -- The geographic map, by a certificate.
-use Rattle.std.specs.Prelude.{◌≡◌, ℕ, List, Result, Ok, Err}
+use Rattle.std.specs.Prelude.{◌≡◌, ℕ, List, [], Result, Ok, Err}
 use Rattle.map_base.specs.declared.point.Point.{Point}
 use Rattle.map_base.specs.declared.limit.Limit.{Limit}
 use Rattle.map_base.specs.Settings.{Choices}
@@ -22,6 +22,14 @@ geographic_by feed graph lines c = geographic_text (names_by feed) graph lines c
 -- this map, or why the certificate is not accepted
 abbrev pub geographic_items : Feed → Choices → GraphParts → List (List Point) → Result PlainCertificate ℕ → Result (List ℕ) CheckFault
 geographic_items feed choices graph lines read = pictured_items (geographic_by feed graph lines) feed choices graph read
+
+-- the courses of a feed's segments, none where the graph is over a limit
+abbrev pub lines_or_none : Result (List (List Point)) Limit → List (List Point)
+lines_or_none (Ok lines) = lines
+lines_or_none (Err limit) = []
+
+abbrev pub lines_by : Choices → Feed → List (List Point)
+lines_by choices feed = lines_or_none (lines_outcome choices.near feed)
 
 abbrev pub geographic_on : Feed → Choices → Result PlainCertificate ℕ → Result GraphParts Limit → Result (List (List Point)) Limit → Result (List ℕ) CheckFault
 geographic_on feed choices read (Err limit) lines = Err (fault.Limit limit)

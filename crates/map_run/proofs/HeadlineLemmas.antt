@@ -131,7 +131,7 @@ means told (check feed paths chosen) finished old new apart promised none holds 
       printed = has Said;
     }
 means told (depict kind feed certificate out chosen) finished old new apart promised none holds =
-    let labelled = promised.labelled in
+    let labelled = promised.drawn in
     let has = subst (λ (o : List Output). Holds o old new) labelled.4 holds in
     record {
       loaded = promised.loaded;
@@ -139,7 +139,7 @@ means told (depict kind feed certificate out chosen) finished old new apart prom
       certificate = labelled.0;
       lies = labelled.2;
       map = labelled.1;
-      is_labelled = labelled.3;
+      is_picture = labelled.3;
       holds = has (Path out) ∙ one_held out labelled.1 (held_by (Path out) old);
     }
 means told (session feed script out chosen) finished old new apart promised none holds =

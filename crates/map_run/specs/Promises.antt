@@ -4,7 +4,7 @@ use Rattle.command_words.specs.Asked.{Asked, stations, graph, make, improve, che
 use Rattle.run_status.specs.declared.refusal.Refusal.{Refusal}
 use Rattle.map_commands.specs.Promises.{AreOfMap, AreOfYes, SearchesParts}
 use Rattle.improve_command.specs.ImproveWorks.{AreOfImproved}
-use Rattle.label_command.specs.PictureWorks.{AreOfPicture}
+use Rattle.picture_command.specs.PictureWorks.{AreOfPicture}
 use Rattle.session_command.specs.SessionWorks.{Played}
 use Rattle.session_command.specs.Promises.{AreOfSession, TakesSessionSteps}
 use Rattle.trial_command.specs.Trials.{TakesTrialSteps}
