@@ -1,6 +1,7 @@
 //! The whole geographic map.
 
-ghost use Rattle.std.specs.Prelude.{◌≡◌, ◌≤◌, length, All, IfOk};
+ghost use Rattle.std.specs.Prelude.{◌≡◌, All, IfOk};
+ghost use Rattle.order_model.specs.Costs.{AreOrders};
 ghost use Rattle.geo_lines.specs.Courses.{IsCourse};
 ghost use Rattle.geo_map.specs.GeoMap.{geographic_text};
 
@@ -14,7 +15,7 @@ use std::alloc::Global;
 use svg_writer::{Names, picture_of};
 
 /// The geographic map of a line graph as SVG 1.1, with a course and an order for each of its segments, and names that hold
-/// each of its stations and lines. No order has more than 1,000 lines.
+/// each of its stations and lines.
 pub fn geographic(
     alloc: Global,
     graph: &LineGraph,
@@ -23,7 +24,7 @@ pub fn geographic(
     orders: &Orders,
 ) -> Result<Vec<u8>, NoMemory>
     requires courses { All IsCourse lines.now }
-    requires few { All (λ order. length order ≤ 1000) orders.now.lists }
+    requires ordered { AreOrders graph.now.lines orders.now.lists }
     ensures { IfOk result (λ map. map.items ≡ geographic_text names.now graph.now lines.now orders.now.lists) }
 {
     let drawn = PlaneDrawing {
