@@ -32,7 +32,13 @@ fn over_maps<'a>(alloc: Global) -> Result<Command<'a>, AllocError>
     let make = make(alloc)?;
     let improve = improve(alloc)?;
     let check = check(alloc)?;
-    let labels = picture(alloc, "labels", help::LABELS, help::AFTER_LABELS, help::LABELLED)?;
+    let labels = picture(
+        alloc,
+        "labels",
+        help::LABELS,
+        help::AFTER_LABELS,
+        help::LABELLED,
+    )?;
     let geo = picture(alloc, "geo", help::GEO, help::AFTER_GEO, help::GEOGRAPHIC)?;
     let session = session(alloc)?;
     alone(alloc)?

@@ -1,9 +1,10 @@
 //! The geographic map, by a certificate.
 
-ghost use Rattle.std.specs.Prelude.{◌≡◌, ◌≤◌, length, All, IfOk, Ok};
+ghost use Rattle.std.specs.Prelude.{◌≡◌, All, IfOk, Ok};
 ghost use Rattle.line_graph.specs.Outcome.{graph_outcome};
 ghost use Rattle.line_graph.specs.SegmentLines.{lines_outcome};
 ghost use Rattle.geo_lines.specs.Courses.{IsCourse};
+ghost use Rattle.order_model.specs.Costs.{AreOrders};
 ghost use Rattle.cert_file.specs.Plain.{plain as certificate_of};
 ghost use Rattle.map_engine.specs.Readings.{certificate_in};
 ghost use Rattle.map_engine.specs.Checking.{Gives};
@@ -33,7 +34,14 @@ pub fn geo(
     ensures certified { IfOk result (λ map. IsGeographicMap tables.now settings.now map.items certificate.now) }
 {
     let GraphWithLines { graph, lines } = build_with_lines(alloc, tables, settings)?;
-    geo_on_graph(alloc, tables, settings, &graph, lines.as_slice(), certificate)
+    geo_on_graph(
+        alloc,
+        tables,
+        settings,
+        &graph,
+        lines.as_slice(),
+        certificate,
+    )
 }
 
 /// The same by the line graph of the tables and the courses of its segments, where those are known.
@@ -65,7 +73,7 @@ fn geographic_map(
     certificate: Certificate,
 ) -> Result<Vec<u8>, NoMemory>
     requires courses { All IsCourse lines.now }
-    requires few { All (λ order. length order ≤ 1000) (certificate_of certificate).orders }
+    requires ordered { AreOrders graph.now.lines (certificate_of certificate).orders }
     ensures { IfOk result (λ map. map.items ≡ geographic_by tables.now graph.now lines.now (certificate_of certificate)) }
 {
     let names = names_of(alloc, tables)?;
