@@ -13,12 +13,16 @@ use Rattle.geo_lines.specs.Courses.{path_start, path_end, inner_corners, one_aft
 abbrev pub path_behind : ℤ → List Point → List Point
 path_behind w points = one_after_another (inner_corners w points) ++ path_end w points ∷ []
 
+next_number : (i : ℕ) → suc (i + 1) ≡ suc i + 1
+next_number i = omega arith
+
 -- neighbours lie apart
 pub apart_at : (points : List Point) (i : ℕ) → AreApart points → i + 1 < length points → point_at points i ≢ point_at points (i + 1)
 apart_at [] i apart low = absurd (omega arith)
 apart_at (a ∷ []) i apart low = absurd (omega arith)
 apart_at (a ∷ b ∷ rest) zero apart low = apart.0
-apart_at (a ∷ b ∷ rest) (suc i) apart low = apart_at (b ∷ rest) i apart.1 (omega arith)
+apart_at (a ∷ b ∷ rest) (suc i) apart low =
+    subst (λ j. point_at (b ∷ rest) i ≢ point_at (a ∷ b ∷ rest) j) (next_number i) (apart_at (b ∷ rest) i apart.1 (omega (arith, low)))
 
 -- two points of a course, and three
 from_two : (points : List Point) (i : ℕ) → i + 1 < length points → drop i points ≡ point_at points i ∷ point_at points (i + 1) ∷ drop (i + 1 + 1) points
@@ -74,7 +78,9 @@ ends_at w (a ∷ []) i e = absurd (omega arith)
 ends_at w (a ∷ b ∷ []) zero e = refl
 ends_at w (a ∷ b ∷ []) (suc i) e = absurd (omega arith)
 ends_at w (a ∷ b ∷ c ∷ rest) zero e = absurd (omega arith)
-ends_at w (a ∷ b ∷ c ∷ rest) (suc i) e = ends_at w (b ∷ c ∷ rest) i (omega (arith, e))
+ends_at w (a ∷ b ∷ c ∷ rest) (suc i) e =
+    subst (λ j. path_end w (b ∷ c ∷ rest) ≡ moved (point_at (a ∷ b ∷ c ∷ rest) j) (shift_of w (point_at (b ∷ c ∷ rest) i) (point_at (a ∷ b ∷ c ∷ rest) j)))
+    (next_number i) (ends_at w (b ∷ c ∷ rest) i (omega (arith, e)))
 
 pub starts_at : (w : ℤ) (points : List Point) → 1 < length points
     → path_start w points ≡ moved (point_at points 0) (shift_of w (point_at points 0) (point_at points 1))
