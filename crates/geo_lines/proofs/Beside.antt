@@ -1,5 +1,5 @@
 -- The corners of a line lie beside the points of its course.
-use Rattle.std.proofs.Common.{◌≡◌, refl, sym, ap, subst, ℕ, zero, suc, ◌+◌, ◌*◌, ◌≤◌, ℤ, pos, negsuc, ◌+ℤ◌, ◌-ℤ◌, ◌*ℤ◌, ◌≤ℤ◌, ◌<ℤ◌, unsigned_abs, Bool, true, false, List, [], ◌∷◌, ◌++◌, length, arith}
+use Rattle.std.proofs.Common.{◌≡◌, refl, sym, ap, subst, ℕ, zero, suc, ◌+◌, ◌*◌, ◌<◌, ◌≤◌, ℤ, pos, negsuc, ◌+ℤ◌, ◌-ℤ◌, ◌*ℤ◌, ◌≤ℤ◌, ◌<ℤ◌, unsigned_abs, Bool, true, false, List, [], ◌∷◌, ◌++◌, length, arith}
 use Rattle.std.specs.Prelude.{All, int_le, if◌then◌else◌}
 use Rattle.std.specs.Ordering.{int_eq}
 use Rattle.std.proofs.lemmas.Int.{ints, unsigned_abs-mul}
@@ -27,20 +27,17 @@ itself_beside most p = record { across = none p.x most; along = none p.y most }
 wider : (m n : ℕ) (o : Shift) → m ≤ n → IsWithin m o → IsWithin n o
 wider m n o h within = record { across = omega (arith, h, within.across); along = omega (arith, h, within.along) }
 
--- a line that runs beside its course meets itself only where the shifted pieces go on into one another
-pub some_onward : (w onward : ℤ) → int_eq w (pos 0) ≡ false → int_le (w *ℤ w) (pos 2 *ℤ onward) ≡ true → pos 0 <ℤ onward
-some_onward (pos zero) onward apart near = cc
-some_onward (pos (suc n)) onward apart near = by_test (suc n * suc n) onward (omega arith) near
-  where
-    by_test : (m : ℕ) (onward : ℤ) → 0 < m → int_le (pos m) (pos 2 *ℤ onward) ≡ true → pos 0 <ℤ onward
-    by_test m onward some near = grind (arith, ints)
-some_onward (negsuc n) onward apart near = by_test (suc n * suc n) onward (omega arith) near
-  where
-    by_test : (m : ℕ) (onward : ℤ) → 0 < m → int_le (pos m) (pos 2 *ℤ onward) ≡ true → pos 0 <ℤ onward
-    by_test m onward some near = grind (arith, ints)
+above_where : (m : ℕ) (onward : ℤ) → 0 < m → pos m ≤ℤ (pos 2 *ℤ onward) → pos 0 <ℤ onward
+above_where m onward some near = omega (arith, ints, some, near)
 
 pub near_where : (x y : ℤ) → int_le x y ≡ true → x ≤ℤ y
 near_where x y e = grind (arith, ints)
+
+-- where a line runs beside its course, pieces that meet near enough go on into one another
+pub some_onward : (w onward : ℤ) → int_eq w (pos 0) ≡ false → int_le (w *ℤ w) (pos 2 *ℤ onward) ≡ true → pos 0 <ℤ onward
+some_onward (pos zero) onward apart near = absurd cc
+some_onward (pos (suc n)) onward apart near = above_where (suc n * suc n) onward (omega arith) (near_where (pos (suc n * suc n)) (pos 2 *ℤ onward) near)
+some_onward (negsuc n) onward apart near = above_where (suc n * suc n) onward (omega arith) (near_where (pos (suc n * suc n)) (pos 2 *ℤ onward) near)
 
 -- the corners at a point, by both tests
 corners_beside : (most : ℕ) (w : ℤ) (p : Point) (o q : Shift) → 4 * unsigned_abs w ≤ most → IsWithin (unsigned_abs w) o → IsWithin (unsigned_abs w) q

@@ -3,4 +3,3 @@ pub mod Quotients
 pub mod Turning
 pub mod Beside
 pub mod Steps
-mod CourseRows

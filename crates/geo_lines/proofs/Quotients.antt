@@ -19,8 +19,8 @@ abs_neg (suc n) = refl
 
 -- a quotient is at most m in size where the number is at most m times the divisor
 pub quotient_within : (z : ℤ) (n m : ℕ) → unsigned_abs z ≤ m * n → unsigned_abs (int_div z (pos n)) ≤ m
-quotient_within (pos a) n m within = div-le_of_le-mul n within
-quotient_within (negsuc a) n m within = subst (λ s. s ≤ m) (sym (abs_neg (suc a / n))) (div-le_of_le-mul n within)
+quotient_within (pos a) n m within = div-le_of_le-mul n (omega (arith, within))
+quotient_within (negsuc a) n m within = subst (λ s. s ≤ m) (sym (abs_neg (suc a / n))) (div-le_of_le-mul n (omega (arith, within)))
 
 -- the same by a divisor above 0
 pub quotient_small : (z d : ℤ) (m : ℕ) → pos 0 <ℤ d → unsigned_abs z ≤ m * unsigned_abs d → unsigned_abs (int_div z d) ≤ m
@@ -48,12 +48,16 @@ some_length a b apart = by_size (dist2_of a b) refl
     by_size (suc n) e = below_root (dist2_of a b) (length_of a b) 1 (root-is (dist2_of a b)) (omega (arith, e))
 
 -- a share of a way that is no longer than the piece is no longer than the width
+share_product : (way w : ℤ) (l : ℕ) → unsigned_abs way ≤ l → unsigned_abs (way *ℤ w) ≤ unsigned_abs w * l
+share_product way w l short =
+    let product : unsigned_abs way * unsigned_abs w ≤ l * unsigned_abs w = mul-le (unsigned_abs way) (unsigned_abs w) l (unsigned_abs w) short (omega arith) in
+    omega (arith, unsigned_abs-mul way w, product)
+
 pub share_within : (way w : ℤ) (l : ℕ) → unsigned_abs way ≤ l → unsigned_abs (int_div (way *ℤ w) (pos l)) ≤ unsigned_abs w
-share_within way w l short =
-    quotient_within (way *ℤ w) l (unsigned_abs w) (rw (unsigned_abs-mul way w) (turned (unsigned_abs way) (unsigned_abs w) l (mul-le (unsigned_abs way) (unsigned_abs w) l (unsigned_abs w) short (omega arith))))
-  where
-    turned : (m n l : ℕ) → m * n ≤ l * n → m * n ≤ n * l
-    turned m n l h = omega (arith, h)
+share_within way w l short = quotient_within (way *ℤ w) l (unsigned_abs w) (share_product way w l short)
+
+pub share_small : (way w d : ℤ) → pos 0 <ℤ d → unsigned_abs way ≤ unsigned_abs d → unsigned_abs (int_div (way *ℤ w) d) ≤ unsigned_abs w
+share_small way w d some short = quotient_small (way *ℤ w) d (unsigned_abs w) some (share_product way w (unsigned_abs d) short)
 
 pub shift_within : (w : ℤ) (a b : Point) → IsWithin (unsigned_abs w) (shift_of w a b)
 shift_within w a b = record {
@@ -61,26 +65,23 @@ shift_within w a b = record {
   along = share_within (a.x -ℤ b.x) w (length_of a b) (across_short a b);
 }
 
+-- half of a square that is not above a number
+half_square : (n : ℕ) (square onward : ℤ) → pos n ≡ square → pos 0 <ℤ onward → square ≤ℤ (pos 2 *ℤ onward) → n ≤ 2 * unsigned_abs onward
+half_square n square onward e some near = omega (arith, ints, e, some, near)
+
+fours : (n s : ℕ) → (2 * n) * (2 * s) ≡ 4 * n * s
+fours n s = grind arith
+
 -- one coordinate of the point at which shifted pieces meet
 pub meeting_within : (both w onward : ℤ) → unsigned_abs both ≤ 2 * unsigned_abs w → pos 0 <ℤ onward → (w *ℤ w) ≤ℤ (pos 2 *ℤ onward)
     → unsigned_abs (int_div (both *ℤ (w *ℤ w)) onward) ≤ 4 * unsigned_abs w
 meeting_within both w onward small some near =
-    quotient_small (both *ℤ (w *ℤ w)) onward (4 * unsigned_abs w) some
-    (rw (unsigned_abs-mul both (w *ℤ w), unsigned_abs-mul w w) (covered (unsigned_abs both) (unsigned_abs w) (unsigned_abs onward) small half))
-  where
-    half : unsigned_abs w * unsigned_abs w ≤ 2 * unsigned_abs onward
-    half = by_size (unsigned_abs w * unsigned_abs w) (w *ℤ w) onward (square-unsigned_abs w) some near
-      where
-        by_size : (n : ℕ) (square onward : ℤ) → pos n ≡ square → pos 0 <ℤ onward → square ≤ℤ (pos 2 *ℤ onward) → n ≤ 2 * unsigned_abs onward
-        by_size n square onward e some near = omega (arith, ints, e, some, near)
-
-    covered : (m n s : ℕ) → m ≤ 2 * n → n * n ≤ 2 * s → m * (n * n) ≤ 4 * n * s
-    covered m n s small half =
-        let product = mul-le m (n * n) (2 * n) (2 * s) small half in
-        subst (λ k. m * (n * n) ≤ k) (fours n s) product
-
-    fours : (n s : ℕ) → (2 * n) * (2 * s) ≡ 4 * n * s
-    fours n s = grind arith
+    let n = unsigned_abs w in
+    let s = unsigned_abs onward in
+    let half : n * n ≤ 2 * s = half_square (n * n) (w *ℤ w) onward (square-unsigned_abs w) some near in
+    let product : unsigned_abs both * (n * n) ≤ (2 * n) * (2 * s) = mul-le (unsigned_abs both) (n * n) (2 * n) (2 * s) small half in
+    let is : unsigned_abs (both *ℤ (w *ℤ w)) ≡ unsigned_abs both * (n * n) = unsigned_abs-mul both (w *ℤ w) ∙ ap (λ k. unsigned_abs both * k) (unsigned_abs-mul w w) in
+    quotient_small (both *ℤ (w *ℤ w)) onward (4 * n) some (subst (λ k. k ≤ 4 * n * s) (sym is) (subst (λ k. unsigned_abs both * (n * n) ≤ k) (fours n s) product))
 
 pub meeting_shift_within : (w : ℤ) (o q : Shift) → IsWithin (unsigned_abs w) o → IsWithin (unsigned_abs w) q → pos 0 <ℤ onward_of w o q
     → (w *ℤ w) ≤ℤ (pos 2 *ℤ onward_of w o q) → IsWithin (4 * unsigned_abs w) (meeting_of w o q)

@@ -1,24 +1,32 @@
 -- The path of a line grows point by point.
-use Rattle.std.proofs.Common.{◌≡◌, refl, sym, ◌∙◌, ap, subst, ℕ, zero, suc, ◌+◌, ◌<◌, ◌≤◌, ℤ, pos, List, [], ◌∷◌, ◌++◌, drop, length, append_assoc, arith}
-use Rattle.std.specs.Prelude.{◌≢◌}
+use Rattle.std.proofs.Common.{◌≡◌, refl, sym, ◌∙◌, ap, subst, ℕ, zero, suc, ◌+◌, ◌<◌, ◌≤◌, ℤ, pos, negsuc, ◌*ℤ◌, ◌≤ℤ◌, ◌<ℤ◌, true, false, List, [], ◌∷◌, ◌++◌, drop, length, append_assoc, arith}
+use Rattle.std.specs.Prelude.{◌≢◌, if◌then◌else◌}
+use Rattle.std.specs.Ordering.{int_eq, is_eq}
+use Rattle.std.proofs.lemmas.Int.{ints}
 use Rattle.std.proofs.lemmas.List.{drop_more, drop_all, append-nil}
 use Rattle.std.proofs.lemmas.List.Concat.{flat_map-append}
 use Rattle.map_base.specs.declared.point.Point.{Point}
 use Rattle.track_net.specs.Nearness.{point_at}
 use Rattle.geo_lines.specs.declared.shift.Shift.{Shift}
-use Rattle.geo_lines.specs.Shifts.{width_of, shift_of, moved, corners_at, IsWithin}
+use Rattle.whole_algebra.proofs.Signs.{int_cmp-positive, int_cmp-negative}
+use Rattle.geo_lines.specs.Shifts.{width_of, shift_of, moved, onward_of, meeting_of, meets_near, corners_at, IsWithin}
+use Rattle.geo_lines.proofs.Beside.{near_where, some_onward}
 use Rattle.geo_lines.specs.Courses.{path_start, path_end, inner_corners, one_after_another, shifted_path, AreApart}
 
 -- the path behind the beginning
 abbrev pub path_behind : ℤ → List Point → List Point
 path_behind w points = one_after_another (inner_corners w points) ++ path_end w points ∷ []
 
+next_number : (i : ℕ) → suc (i + 1) ≡ suc i + 1
+next_number i = omega arith
+
 -- neighbours lie apart
 pub apart_at : (points : List Point) (i : ℕ) → AreApart points → i + 1 < length points → point_at points i ≢ point_at points (i + 1)
 apart_at [] i apart low = absurd (omega arith)
 apart_at (a ∷ []) i apart low = absurd (omega arith)
 apart_at (a ∷ b ∷ rest) zero apart low = apart.0
-apart_at (a ∷ b ∷ rest) (suc i) apart low = apart_at (b ∷ rest) i apart.1 (omega arith)
+apart_at (a ∷ b ∷ rest) (suc i) apart low =
+    subst (λ j. point_at (b ∷ rest) i ≢ point_at (a ∷ b ∷ rest) j) (next_number i) (apart_at (b ∷ rest) i apart.1 (omega (arith, low)))
 
 -- two points of a course, and three
 from_two : (points : List Point) (i : ℕ) → i + 1 < length points → drop i points ≡ point_at points i ∷ point_at points (i + 1) ∷ drop (i + 1 + 1) points
@@ -74,7 +82,9 @@ ends_at w (a ∷ []) i e = absurd (omega arith)
 ends_at w (a ∷ b ∷ []) zero e = refl
 ends_at w (a ∷ b ∷ []) (suc i) e = absurd (omega arith)
 ends_at w (a ∷ b ∷ c ∷ rest) zero e = absurd (omega arith)
-ends_at w (a ∷ b ∷ c ∷ rest) (suc i) e = ends_at w (b ∷ c ∷ rest) i (omega (arith, e))
+ends_at w (a ∷ b ∷ c ∷ rest) (suc i) e =
+    subst (λ j. path_end w (b ∷ c ∷ rest) ≡ moved (point_at (a ∷ b ∷ c ∷ rest) j) (shift_of w (point_at (b ∷ c ∷ rest) i) (point_at (a ∷ b ∷ c ∷ rest) j)))
+    (next_number i) (ends_at w (b ∷ c ∷ rest) i (omega (arith, e)))
 
 pub starts_at : (w : ℤ) (points : List Point) → 1 < length points
     → path_start w points ≡ moved (point_at points 0) (shift_of w (point_at points 0) (point_at points 1))
@@ -96,3 +106,28 @@ path_done w points i last old whole e f is =
 
 pub wider : (m n : ℕ) (o : Shift) → m ≤ n → IsWithin m o → IsWithin n o
 wider m n o h within = record { across = omega (arith, h, within.across); along = omega (arith, h, within.along) }
+
+-- ---- one point
+
+pub not_none : (w : ℤ) → (w ≡ pos 0 → ⊥) → int_eq w (pos 0) ≡ false
+not_none (pos zero) apart = absurd (apart refl)
+not_none (pos (suc n)) apart = ap is_eq (int_cmp-positive (pos (suc n)) (omega (arith, ints)))
+not_none (negsuc n) apart = ap is_eq (int_cmp-negative (negsuc n) (omega (arith, ints)))
+
+-- pieces that meet near enough go on into one another
+pub goes_on : (w : ℤ) (o q : Shift) → (w ≡ pos 0 → ⊥) → meets_near w o q ≡ true → pos 0 <ℤ onward_of w o q
+goes_on w o q apart meets = some_onward w (onward_of w o q) (not_none w apart) meets
+
+pub is_near : (w : ℤ) (o q : Shift) → meets_near w o q ≡ true → (w *ℤ w) ≤ℤ (pos 2 *ℤ onward_of w o q)
+is_near w o q meets = near_where (w *ℤ w) (pos 2 *ℤ onward_of w o q) meets
+
+-- the one corner where they meet, and the two where they do not
+pub corners_met : (w : ℤ) (p : Point) (o q : Shift) → (w ≡ pos 0 → ⊥) → meets_near w o q ≡ true → corners_at w p o q ≡ moved p (meeting_of w o q) ∷ []
+corners_met w p o q apart meets =
+    ap (λ b. if b then p ∷ [] else if meets_near w o q then moved p (meeting_of w o q) ∷ [] else moved p o ∷ moved p q ∷ []) (not_none w apart)
+    ∙ ap (λ b. if b then moved p (meeting_of w o q) ∷ [] else moved p o ∷ moved p q ∷ []) meets
+
+pub corners_split : (w : ℤ) (p : Point) (o q : Shift) → (w ≡ pos 0 → ⊥) → meets_near w o q ≡ false → corners_at w p o q ≡ moved p o ∷ moved p q ∷ []
+corners_split w p o q apart meets =
+    ap (λ b. if b then p ∷ [] else if meets_near w o q then moved p (meeting_of w o q) ∷ [] else moved p o ∷ moved p q ∷ []) (not_none w apart)
+    ∙ ap (λ b. if b then moved p (meeting_of w o q) ∷ [] else moved p o ∷ moved p q ∷ []) meets

@@ -2,12 +2,13 @@
 use Rattle.std.proofs.Common.{◌≡◌, refl, sym, ◌∙◌, ap, ℕ, zero, suc, ◌+◌, ◌*◌, ℤ, pos, negsuc, ◌+ℤ◌, ◌-ℤ◌, ◌*ℤ◌, neg_ℤ, unsigned_abs, Bool, true, false, List, [], ◌∷◌, ◌++◌, map, reverse, append_assoc, arith}
 use Rattle.std.specs.Prelude.{int_div, int_le, if◌then◌else◌}
 use Rattle.std.specs.List.{flat_map}
-use Rattle.std.specs.Ordering.{int_eq}
+use Rattle.std.specs.Ordering.{int_eq, is_eq}
 use Rattle.std.proofs.lemmas.Int.{ints}
 use Rattle.std.proofs.lemmas.List.{append-nil, reverse-append, reverse-reverse}
 use Rattle.std.proofs.lemmas.List.Concat.{flat_map-append}
 use Rattle.map_base.specs.declared.point.Point.{Point}
 use Rattle.fixed_plane.specs.Measures.{dist2_of}
+use Rattle.whole_algebra.proofs.Signs.{int_cmp-positive, int_cmp-negative}
 use Rattle.whole_algebra.proofs.Identities.{Term, var, num, minus, ◌⊕◌, ◌⊖◌, ◌⊛◌, identity}
 use Rattle.geo_lines.specs.declared.shift.Shift.{Shift}
 use Rattle.geo_lines.specs.Roots.{root}
@@ -65,8 +66,10 @@ meeting_turned w o q =
 
 none_turned : (w : ℤ) → int_eq (neg_ℤ w) (pos 0) ≡ int_eq w (pos 0)
 none_turned (pos zero) = refl
-none_turned (pos (suc n)) = refl
-none_turned (negsuc n) = refl
+none_turned (pos (suc n)) =
+    ap is_eq (int_cmp-negative (negsuc n) (omega (arith, ints))) ∙ sym (ap is_eq (int_cmp-positive (pos (suc n)) (omega (arith, ints))))
+none_turned (negsuc n) =
+    ap is_eq (int_cmp-positive (pos (suc n)) (omega (arith, ints))) ∙ sym (ap is_eq (int_cmp-negative (negsuc n) (omega (arith, ints))))
 
 -- one corner, or two
 abbrev corners_by : Bool → Bool → Point → Point → Point → Point → List Point

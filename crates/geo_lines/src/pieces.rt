@@ -1,6 +1,6 @@
 //! How far a line is shifted along the pieces of a course, and where two pieces meet.
 
-ghost use Rattle.std.specs.Prelude.{◌≡◌, ◌≢◌, ◌≤◌, ◌*◌, pos, ◌+ℤ◌, ◌-ℤ◌, ◌*ℤ◌, ◌<ℤ◌, ◌≤ℤ◌, int_div, int_le, unsigned_abs};
+ghost use Rattle.std.specs.Prelude.{◌≡◌, ◌≢◌, ◌≤◌, ◌+◌, ◌*◌, pos, ◌+ℤ◌, ◌-ℤ◌, ◌*ℤ◌, ◌<ℤ◌, ◌≤ℤ◌, int_div, int_le, unsigned_abs};
 ghost use Rattle.fixed_plane.specs.Plane.{IsInPlane};
 ghost use Rattle.geo_lines.specs.Roots.{root};
 ghost use Rattle.geo_lines.specs.Shifts.{length_of, meeting_of, moved, onward_of, shift_of, width_of, IsWithin};
@@ -80,14 +80,32 @@ fn share(way: i64, width: i64, length: i64) -> i64
     quotient(product(way, width), length)
 }
 
-/// A product that is small enough to reckon with.
+/// A way times a width, or a coordinate of one shift times that of another.
 fn product(a: i64, b: i64) -> i64
     requires a { unsigned_abs a ≤ 600000000 }
-    requires b { unsigned_abs b ≤ 90000000000 }
-    requires small { unsigned_abs a * unsigned_abs b ≤ 180000000000000000 }
-    ensures { result ≡ a *ℤ b }
+    requires b { unsigned_abs b ≤ 300000 }
+    ensures value { result ≡ a *ℤ b }
+    ensures within { unsigned_abs result ≤ 180000000000000 }
 {
     a * b
+}
+
+/// The square of a width.
+fn square_of(width: i64) -> i64
+    requires { unsigned_abs width ≤ 300000 }
+    ensures value { result ≡ width *ℤ width }
+    ensures within { unsigned_abs result ≤ 90000000000 }
+{
+    width * width
+}
+
+/// A sum of two shifts' coordinates times the square of their width.
+fn times_square(both: i64, square: i64) -> i64
+    requires both { unsigned_abs both ≤ 600000 }
+    requires square { unsigned_abs square ≤ 90000000000 }
+    ensures { result ≡ both *ℤ square }
+{
+    both * square
 }
 
 /// A quotient, cut towards zero.
@@ -100,9 +118,10 @@ fn quotient(a: i64, b: i64) -> i64
 
 /// A sum of two coordinates that is small enough to reckon with.
 fn sum(a: i64, b: i64) -> i64
-    requires a { unsigned_abs a ≤ 180000000000 }
-    requires b { unsigned_abs b ≤ 180000000000 }
-    ensures { result ≡ a +ℤ b }
+    requires a { unsigned_abs a ≤ 400000000000000 }
+    requires b { unsigned_abs b ≤ 400000000000000 }
+    ensures value { result ≡ a +ℤ b }
+    ensures within { unsigned_abs result ≤ unsigned_abs a + unsigned_abs b }
 {
     a + b
 }
@@ -125,20 +144,20 @@ pub(crate) fn onward_of(width: i64, before: Shift, behind: Shift) -> i64
     requires before { IsWithin (unsigned_abs width) before }
     requires behind { IsWithin (unsigned_abs width) behind }
     ensures value { result ≡ onward_of width before behind }
-    ensures small { unsigned_abs result ≤ 270000000000 }
+    ensures small { unsigned_abs result ≤ 400000000000000 }
 {
     let across = product(before.x, behind.x);
     let along = product(before.y, behind.y);
-    sum(product(width, width), sum(across, along))
+    sum(square_of(width), sum(across, along))
 }
 
 /// Whether two shifted pieces meet near enough that go on into one another by so much.
 pub(crate) fn meets_near(width: i64, onward: i64) -> bool
     requires width { unsigned_abs width ≤ 300000 }
-    requires onward { unsigned_abs onward ≤ 270000000000 }
+    requires onward { unsigned_abs onward ≤ 400000000000000 }
     ensures { result ≡ int_le (width *ℤ width) (pos 2 *ℤ onward) }
 {
-    product(width, width) <= 2 * onward
+    square_of(width) <= 2 * onward
 }
 
 /// The shift of the point at which two shifted pieces meet that go on into one another by so much.
@@ -167,5 +186,5 @@ fn meeting(both: i64, width: i64, onward: i64) -> i64
     ensures value { result ≡ int_div (both *ℤ (width *ℤ width)) onward }
     ensures within { unsigned_abs result ≤ 4 * unsigned_abs width }
 {
-    quotient(product(both, product(width, width)), onward)
+    quotient(times_square(both, square_of(width)), onward)
 }

@@ -92,7 +92,8 @@ fn places_along(
 {
     let mut lines = Vec::with_capacity(alloc, chains.len())?;
     for chain in chains {
-        lines.push(Sequence::of(places_of(alloc, points, chain.as_slice())?))?;
+        let course = places_of(alloc, points, chain.as_slice())?;
+        lines.push(Sequence::of(course))?;
     }
     Ok(Sequence::of(lines))
 }

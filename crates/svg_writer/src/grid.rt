@@ -5,7 +5,7 @@ ghost use Rattle.line_offsets.specs.Paths.{line_path, path_end, path_start};
 ghost use Rattle.line_offsets.specs.Shifts.{drawn};
 ghost use Rattle.svg_writer.specs.Picture.{centre_of, first_of, put_at, walk_at};
 
-use crate::drawn::Drawn;
+use crate::drawable::Drawn;
 use crate::scene::{ends_of, round_of};
 use graph_core::LineGraph;
 use line_offsets::{Corner, path_end, path_start, put_path};

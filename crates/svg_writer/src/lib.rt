@@ -4,7 +4,7 @@
 #![tactic(auto)]
 
 mod bounds;
-mod drawn;
+mod drawable;
 mod elements;
 mod escaping;
 mod grid;
@@ -18,7 +18,7 @@ mod walked;
 mod whole;
 
 pub use bounds::Bounds;
-pub use drawn::Drawn;
+pub use drawable::Drawn;
 pub use escaping::escape;
 pub use grid::{GridDrawing, centre_of, drawn};
 pub use names::Names;

@@ -5,7 +5,7 @@ ghost use Rattle.svg_writer.specs.Elements.{texts};
 ghost use Rattle.svg_writer.specs.Courses.{gauge, AreInReach};
 ghost use Rattle.svg_writer.specs.Picture.{end_at, segment_elements, no_line, line_text, place_in, line_end, are_one, between, join_elements, node_joins, all_lines, all_joins};
 
-use crate::drawn::Drawn;
+use crate::drawable::Drawn;
 use crate::elements::{push_at_node, push_on_segment};
 use crate::scene::{Scene, colour_of, ends_of, name_of, order_of, small_count};
 use crate::style::Style;

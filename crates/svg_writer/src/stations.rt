@@ -4,7 +4,7 @@ ghost use Rattle.std.specs.Prelude.{◌≡◌, ◌++◌, ◌≤◌, ◌<◌, ◌
 ghost use Rattle.svg_writer.specs.Elements.{texts};
 ghost use Rattle.svg_writer.specs.Picture.{most_lines, radius_in, radius_of, beside, marker, label, kind_at, round_at, all_markers, all_labels, spot_at, placed_label, placed_labels};
 
-use crate::drawn::Drawn;
+use crate::drawable::Drawn;
 use crate::elements::{push_label, push_marker};
 use crate::names::Names;
 use crate::scene::{Scene, lines_of, small_count, station_name};

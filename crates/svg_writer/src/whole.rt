@@ -6,7 +6,7 @@ ghost use Rattle.svg_writer.specs.Elements.{element_text, texts, AreBounds, Head
 ghost use Rattle.svg_writer.specs.Picture.{all_joins, all_lines, all_markers, elements, picture_text, placed_text};
 
 use crate::bounds::Bounds;
-use crate::drawn::Drawn;
+use crate::drawable::Drawn;
 use crate::elements::{push_head, push_tail};
 use crate::grid::GridDrawing;
 use crate::lines::{push_all_joins, push_all_lines};

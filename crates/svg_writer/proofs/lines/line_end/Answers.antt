@@ -1,4 +1,4 @@
-use Rattle.std.proofs.Common.{◌≡◌, ℤ, List, length, ap, sym, subst, ◌∙◌, w32, to_z, of_z, arith}
+use Rattle.std.proofs.Common.{◌≡◌, ◌≤◌, ℤ, List, length, ap, sym, subst, ◌∙◌, w32, to_z, of_z, arith}
 use Rattle.std.proofs.lemmas.Int.{ints}
 use Rattle.map_base.specs.declared.ids.LineId.{LineId}
 use Rattle.map_base.specs.declared.ids.NodeId.{NodeId}
