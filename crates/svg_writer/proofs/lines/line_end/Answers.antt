@@ -13,8 +13,9 @@ end_at-requires g c =
     c.in_ok-k.ensures.value
     ∙ ap (gauge (length c.order_of-order.result.now)) c.place_in.ensures.place
     ∙ ap (λ (ls : List LineId). gauge (length ls) (place_in ls c.args.line)) c.order_of-order.ensures in
+    let kept : to_z w32 (of_z w32 c.in_ok-k.k) ≡ c.in_ok-k.k = omega (arith, ints, c.in_ok-k.ensures.small) in
     let within = subst (λ (ls : List LineId). place_in ls c.args.line ≤ length ls) c.order_of-order.ensures (subst (λ n. n ≤ length c.order_of-order.result.now) c.place_in.ensures.place c.place_in.ensures.within) in
-    subst (g.D.Drawn.Reaches c.args.scene.now.drawn.now) (sym k) (c.requires c.args.s.0 (place_in order c.args.line) within)
+    subst (g.D.Drawn.Reaches c.args.scene.now.drawn.now) (sym (kept ∙ k)) (c.requires c.args.s.0 (place_in order c.args.line) within)
 
 pub returns : goal.returns
 returns g c =

@@ -5,4 +5,4 @@ use Rattle.svg_writer.specs.Picture.{node_joins}
 use Rattle.svg_writer.proofs.lines.push_all_joins.Given as goal
 
 abbrev pub invariant-loop-n : goal.invariant-loop-n
-invariant-loop-n g l = string_bytes l.text ≡ string_bytes l.fn.text ++ texts l.scene.now.style (flat_map (node_joins l.scene.names.now l.scene.graph.now (g.D.Drawn.courses l.scene.now.drawn.now) l.scene.orders.now.lists) (range_with_len 0 l.n))
+invariant-loop-n g l = string_bytes l.text ≡ string_bytes l.fn.text ++ texts l.scene.style (flat_map (node_joins l.scene.names.now l.scene.graph.now (g.D.Drawn.courses l.scene.drawn.now) l.scene.orders.now.lists) (range_with_len 0 l.n))
