@@ -104,6 +104,17 @@ Example:
   octimap make examples/vienna-ubahn map.svg map.cert
   octimap labels examples/vienna-ubahn map.cert labelled.svg";
 
+pub(crate) const GEO: &str = "Write the map of a certificate over the ground";
+
+pub(crate) const AFTER_GEO: &str = "\
+The certificate is checked first, all of it but the map that was written with it. Then its line orders are drawn along
+the ways that lines take on the ground, in decimetres, with north above. Nothing is printed. What OUT held before is
+lost. Give it the settings and edits that the map was made with.
+
+Example:
+  octimap make examples/vienna-ubahn map.svg map.cert
+  octimap geo examples/vienna-ubahn map.cert ground.svg";
+
 pub(crate) const SESSION: &str = "Run a script of edits and draws";
 
 pub(crate) const AFTER_SESSION: &str = "\
