@@ -1,6 +1,6 @@
 -- The courses of segments: each is one, and all are refused as the line graph is.
-use Rattle.std.proofs.Common.{◌≡◌, ◌≢◌, refl, sym, ◌∙◌, ap, subst, ℕ, ◌+◌, ◌<◌, ◌≤◌, ◌⊎◌, inl, inr, pos, Bool, true, false, ◌||◌, List, [], ◌∷◌, map, length, get_or, All, Result, Ok, Err, IfOk, arith}
-use Rattle.std.proofs.lemmas.Bool.{cases_lt}
+use Rattle.std.proofs.Common.{◌≡◌, ◌≢◌, sym, ◌∙◌, ap, subst, ℕ, ◌<◌, ◌≤◌, inl, inr, pos, true, List, [], ◌∷◌, map, length, get_or, All, Result, Ok, Err, arith}
+use Rattle.std.proofs.lemmas.Bool.{cases_lt, or_right}
 use Rattle.std.proofs.lemmas.List.{length-map, get_or_past}
 use Rattle.std.proofs.lemmas.List.Elements.{All-map, All-get_or}
 use Rattle.map_base.specs.declared.point.Point.{Point}
@@ -39,10 +39,6 @@ point_in_plane points i all =
       | inr past ↦ subst IsInPlane (sym (get_or_past points i origin past)) (record { across = omega arith; along = omega arith })
     ]
 
-or_right : (x y : Bool) → y ≡ true → (x || y) ≡ true
-or_right true y e = refl
-or_right false y e = e
-
 apart_along : (points : List Point) (chain : List ℕ) → ((a b : ℕ) → runs_over a b chain ≡ true → point_at points b ≢ point_at points a) → AreApart (map (point_at points) chain)
 apart_along points [] each = tt
 apart_along points (a ∷ []) each = tt
@@ -61,7 +57,7 @@ module _ (points : List Point) (g : Network) (network : IsNetwork points g) wher
 
   pub are_courses : All IsCourse (segment_lines points g)
   are_courses =
-      All-map IsCourse (λ (chain : List ℕ). map (point_at points) chain) (segment_chains points g)
+      All-map IsCourse (map (point_at points)) (segment_chains points g)
       (λ k d low. is_course (get_or (segment_chains points g) k d) (segments_are points g network.ways k d low).0)
 
   pub are_known : All (All (λ p. p < length points)) (segment_chains points g)

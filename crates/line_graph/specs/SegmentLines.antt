@@ -14,7 +14,7 @@ use Rattle.line_graph.specs.Outcome.{net_of_courses, network_of, graph_over_net}
 
 -- the net points of the chain of each segment, from its lower to its upper end
 abbrev pub segment_lines : List Point → Network → List (List Point)
-segment_lines points g = map (λ (chain : List ℕ). map (point_at points) chain) (segment_chains points g)
+segment_lines points g = map (map (point_at points)) (segment_chains points g)
 
 -- what stands beside a graph, unless the graph is over a limit
 abbrev pub beside_graph : {A : Type 0} → A → Result GraphParts Limit → Result A Limit

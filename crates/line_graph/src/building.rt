@@ -83,8 +83,8 @@ fn graph_of_net(
     ensures cause { IfErr result (λ fault. HasCause (graph_within (graph_over courses.now.stations net.now.points (network_of near lines courses.now net.now) (all_passages near courses.now net.now))) fault) }
     ensures kept { IfOk result (λ _. AreKept near lines courses.now net.now) }
 {
-    let ChainedGraph { graph, chains: _ } = chained_graph(alloc, courses, net, near, lines)?;
-    Ok(graph)
+    let made = chained_graph(alloc, courses, net, near, lines)?;
+    Ok(made.graph)
 }
 
 /// The same with the chains of its segments.
@@ -110,7 +110,7 @@ pub(crate) fn chained_graph(
     let points = net.points();
     let traced = network(alloc, courses, net, near, lines)?;
     let stations = courses.stations.as_slice();
-    let graph = graph_of(
+    let made = graph_of(
         alloc,
         points,
         stations,
@@ -118,5 +118,5 @@ pub(crate) fn chained_graph(
         &traced.ways,
         &traced.passages,
     )?;
-    Ok(graph)
+    Ok(made)
 }

@@ -15,7 +15,7 @@ use graph_core::LineGraph;
 use map_base::{LimitFault, NoMemory, Point, Sequence, Settings};
 use std::alloc::Global;
 use transit_feed::Tables;
-use way_network::{ChainedGraph, places_of};
+use way_network::places_of;
 
 /// A line graph, and the course of each of its segments: the net points that the segment runs over, from its lower to
 /// its upper end.
@@ -30,6 +30,7 @@ pub struct GraphWithLines {
 /// The course of each segment of a feed's line graph, as `build` numbers them: the points of the net that the segment runs
 /// over, in decimetres, from its lower to its upper end. Each has two points at least, and each point lies apart from the
 /// next. It is refused as `build` refuses the graph.
+#[tactic(auto, using(crate::proofs::SegmentCourses::refused_with))]
 pub fn segment_lines(
     alloc: Global,
     tables: &Tables,
@@ -39,8 +40,8 @@ pub fn segment_lines(
     ensures courses { IfOk result (λ lines. All IsCourse lines) }
     ensures cause { IfErr result (λ fault. HasCause (lines_outcome settings.now.near tables.now) fault) }
 {
-    let GraphWithLines { graph: _, lines } = build_with_lines(alloc, tables, settings)?;
-    Ok(lines)
+    let made = build_with_lines(alloc, tables, settings)?;
+    Ok(made.lines)
 }
 
 /// The line graph of a feed, as `build` gives it, with the course of each of its segments.
@@ -53,7 +54,6 @@ pub fn build_with_lines(
     ensures lines { IfOk result (λ made. lines_outcome settings.now.near tables.now ≡ Ok made.lines) }
     ensures courses { IfOk result (λ made. All IsCourse made.lines) }
     ensures cause { IfErr result (λ fault. HasCause (graph_outcome settings.now.near tables.now) fault) }
-    ensures refused { IfErr result (λ fault. HasCause (lines_outcome settings.now.near tables.now) fault) }
 {
     let courses = courses_of(alloc, tables, settings.near)?;
     lines_of_courses(alloc, &courses, settings.near, tables.lines.len() as u32)
@@ -76,9 +76,12 @@ fn lines_of_courses(
     ensures cause { IfErr result (λ fault. HasCause (graph_over_net near lines courses.now (net_of near courses.now)) fault) }
 {
     let net = net_of_courses(alloc, courses, near)?;
-    let ChainedGraph { graph, chains } = chained_graph(alloc, courses, &net, near, lines)?;
-    let lines = places_along(alloc, net.points(), chains.as_slice())?;
-    Ok(GraphWithLines { graph, lines })
+    let made = chained_graph(alloc, courses, &net, near, lines)?;
+    let along = places_along(alloc, net.points(), made.chains.as_slice())?;
+    Ok(GraphWithLines {
+        graph: made.graph,
+        lines: along,
+    })
 }
 
 /// Where the points of each of these chains lie.
@@ -92,8 +95,16 @@ fn places_along(
 {
     let mut lines = Vec::with_capacity(alloc, chains.len())?;
     for chain in chains {
-        let course = places_of(alloc, points, chain.as_slice())?;
-        lines.push(Sequence::of(course))?;
+        lines.push(course_along(alloc, points, chain.as_slice())?)?;
     }
     Ok(Sequence::of(lines))
+}
+
+/// Where the points of a chain lie.
+fn course_along(alloc: Global, points: &[Point], chain: &[u32]) -> Result<Sequence<Point>, NoMemory>
+    requires { All (λ p. p < length points.now) chain.now }
+    ensures { IfOk result (λ course. course ≡ map (point_at points.now) chain.now) }
+{
+    let course = places_of(alloc, points, chain)?;
+    Ok(Sequence::of(course))
 }

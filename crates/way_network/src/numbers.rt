@@ -56,8 +56,7 @@ impl Segments {
     pub fn into_chains(self) -> Sequence<Sequence<u32>>
         ensures { result ≡ self }
     {
-        let Segments { chains, numbers: _ } = self;
-        Sequence::of(chains)
+        Sequence::of(self.chains)
     }
 
     /// The number of the segment that leaves a node over the edge to a neighbour, or 0 where there is none.
