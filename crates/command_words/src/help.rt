@@ -158,6 +158,8 @@ pub(crate) const CERT: &str = "The file of its certificate";
 
 pub(crate) const LABELLED: &str = "The file that the map with its names is written to";
 
+pub(crate) const GEOGRAPHIC: &str = "The file that the geographic map is written to";
+
 pub(crate) const SCRIPT: &str =
     "A file of edits and draws, one a line, such as examples/session.txt";
 
