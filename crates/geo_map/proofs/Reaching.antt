@@ -1,23 +1,36 @@
--- Lines of orders stand near the middle of their segments: there are at most 1,000 different lines.
-use Rattle.std.proofs.Common.{◌≡◌, refl, sym, ◌∙◌, ap, subst, ℕ, zero, suc, ◌+◌, ◌*◌, ◌<◌, ◌≤◌, ◌==◌, ℤ, pos, ◌-ℤ◌, unsigned_abs, Bool, true, false, ◌||◌, List, [], ◌∷◌, length, All, arith, eqb-true, eq-eqb}
+-- Courses and nodes that are there, and lines near the middle of their segments: there are at most 1,000 different lines.
+use Rattle.std.proofs.Common.{◌≡◌, refl, sym, ◌∙◌, ap, subst, ℕ, zero, suc, ◌+◌, ◌*◌, ◌<◌, ◌≤◌, ◌==◌, ℤ, pos, ◌-ℤ◌, unsigned_abs, Bool, true, false, ◌||◌, List, [], ◌∷◌, length, All, Some, arith, eqb-true, eq-eqb}
 use Rattle.std.specs.Prelude.{Contains, IsPermutation}
-use Rattle.std.specs.List.{IsDistinct, list_any}
+use Rattle.std.specs.List.{slice_get, list_any}
 use Rattle.std.specs.Cmp.{IsEquivalence}
 use Rattle.std.proofs.lemmas.Bool.Decides.{nat_tests}
 use Rattle.std.proofs.lemmas.Int.{ints}
-use Rattle.std.proofs.lemmas.List.Elements.{All-contains, All-head, All-tail, All-weaker}
+use Rattle.std.proofs.lemmas.List.Elements.{All-get_or, All-head, All-tail, All-weaker}
 use Rattle.std.proofs.lemmas.List.Sorted.{list_any-IsPermutation}
 use Rattle.std.proofs.lemmas.Map.Made.{length-le_from_is_member}
+use Rattle.std.proofs.lemmas.Option.{get_or_from_slice_get, slice_get_within}
 use Rattle.std.proofs.lemmas.Map.Views.{list_any-from_Contains}
 use Rattle.map_base.specs.declared.ids.LineId.{LineId}
 use Rattle.map_base.specs.declared.point.Point.{Point}
 use Rattle.graph_core.specs.declared.parts.GraphParts.{GraphParts}
-use Rattle.graph_core.specs.Consistent.{AreRising, IsConsistent}
+use Rattle.graph_core.specs.Consistent.{AreRising, IsConsistent, IsNear}
 use Rattle.order_model.specs.Costs.{AreOrders}
 use Rattle.order_model.proofs.Lines.{order_distinct}
-use Rattle.geo_lines.specs.Courses.{IsCourse}
+use Rattle.geo_lines.specs.Courses.{IsCourse, IsNearPlane}
 use Rattle.svg_writer.specs.Courses.{order_at, gauge, AreInReach}
 use Rattle.geo_map.specs.GeoMap.{IsNearMiddle}
+
+-- a course that is there is one
+pub course_there : (lines : List (List Point)) (s : ℕ) (course : List Point) → All IsCourse lines → slice_get lines s ≡ Some course → IsCourse course
+course_there lines s course all is = subst IsCourse (get_or_from_slice_get lines s course course is) (All-get_or IsCourse lines s course (slice_get_within lines s course is) all)
+
+-- and so a node lies near the plane
+near_point : (p : Point) → IsNear p → IsNearPlane p
+near_point p near = record { across = omega (arith, ints, near.0, near.1); along = omega (arith, ints, near.2, near.3) }
+
+pub near_place : (places : List Point) (n : ℕ) (p : Point) → All IsNear places → slice_get places n ≡ Some p → IsNearPlane p
+near_place places n p all is =
+    near_point p (subst IsNear (get_or_from_slice_get places n p p is) (All-get_or IsNear places n p (slice_get_within places n p is) all))
 
 gauge_small : (n i : ℕ) → i ≤ n → n ≤ 1000 → unsigned_abs (gauge n i) ≤ 10000
 gauge_small n i within few = omega (arith, ints, within, few)

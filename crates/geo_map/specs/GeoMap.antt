@@ -40,7 +40,7 @@ plane_courses g lines = record {
 
 -- the bounds of all points of courses, those of the origin where there is none
 abbrev pub plane_bounds : List (List Point) → Bounds
-plane_bounds lines = unwrap_or (fold bounds_with_corner None (map drawn (flat_map (λ (points : List Point). points) lines))) (bounds_at origin)
+plane_bounds lines = unwrap_or (fold bounds_with_corner None (flat_map (map drawn) lines)) (bounds_at origin)
 
 -- lines this near to the middle can be drawn beside courses
 pub record IsNearMiddle (lines : List (List Point)) (k : ℤ) : Type 0 where

@@ -35,13 +35,23 @@ pub(crate) fn bounds_of(lines: &[Sequence<Point>]) -> Bounds
 /// Bounds, widened to hold the points of a course.
 fn with_course(bounds: Option<Bounds>, points: &[Point]) -> Option<Bounds>
     requires bounds { IfSome bounds AreBounds }
-    requires in_plane { All IsInPlane points.now }
+    requires course { IsCourse points.now }
     ensures value { result ≡ fold bounds_with_corner bounds (map drawn points.now) }
     ensures small { IfSome result AreBounds }
 {
     let mut held = bounds;
     for point in points {
-        held = Some(with_corner(held, drawn(*point)));
+        held = Some(with_place(held, *point));
     }
     held
+}
+
+/// Bounds, widened to hold a point of the plane.
+fn with_place(bounds: Option<Bounds>, p: Point) -> Bounds
+    requires bounds { IfSome bounds AreBounds }
+    requires place { IsInPlane p }
+    ensures value { Some result ≡ bounds_with_corner bounds (drawn p) }
+    ensures small { AreBounds result }
+{
+    with_corner(bounds, drawn(p))
 }

@@ -27,6 +27,7 @@ pub fn geographic(
     requires ordered { AreOrders graph.now.lines orders.now.lists }
     ensures { IfOk result (λ map. map.items ≡ geographic_text names.now graph.now lines.now orders.now.lists) }
 {
+    let _nodes = graph.nodes();
     let drawn = PlaneDrawing {
         alloc,
         graph,
