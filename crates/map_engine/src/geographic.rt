@@ -16,7 +16,7 @@ use crate::names::names_of;
 use cert_file::{Certificate, read_certificate};
 use geo_map::geographic;
 use graph_core::LineGraph;
-use line_graph::{GraphWithLines, build_with_lines};
+use line_graph::build_with_lines;
 use map_base::{NoMemory, Point, Sequence, Settings};
 use std::alloc::Global;
 use transit_feed::Tables;
@@ -33,13 +33,13 @@ pub fn geo(
     ensures outcome { Gives (λ map. map.items) result (geographic_outcome tables.now settings.now (certificate_in certificate.now)) }
     ensures certified { IfOk result (λ map. IsGeographicMap tables.now settings.now map.items certificate.now) }
 {
-    let GraphWithLines { graph, lines } = build_with_lines(alloc, tables, settings)?;
+    let made = build_with_lines(alloc, tables, settings)?;
     geo_on_graph(
         alloc,
         tables,
         settings,
-        &graph,
-        lines.as_slice(),
+        &made.graph,
+        made.lines.as_slice(),
         certificate,
     )
 }

@@ -32,8 +32,8 @@ use Rattle.command_inputs.specs.Loading.{file_work, load_work, Loads}
 
 -- a picture of this kind of what a certificate says, by the line graph
 abbrev pub picture_by : Picture → Feed → Choices → GraphParts → PlainCertificate → List ℕ
-picture_by Labelled feed choices graph c = labelled_by feed graph c
-picture_by Geographic feed choices graph c = geographic_by feed graph (lines_by choices feed) c
+picture_by Labelled feed choices graph = labelled_by feed graph
+picture_by Geographic feed choices graph = geographic_by feed graph (lines_by choices feed)
 
 -- the courses of segments, where the picture asks for them
 abbrev pub HasLines : Picture → Loaded → List (List Point) → Type 0
