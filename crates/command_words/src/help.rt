@@ -12,6 +12,7 @@ Examples:
   octimap map examples/vienna-ubahn map.svg map.cert
   octimap check examples/vienna-ubahn map.svg map.cert
   octimap labels examples/vienna-ubahn map.cert labelled.svg
+  octimap geo examples/vienna-ubahn map.cert ground.svg
   octimap page map.svg map.html
   octimap session examples/vienna-ubahn examples/session.txt draws.txt
   octimap graph examples/vienna-ubahn
@@ -104,11 +105,11 @@ Example:
   octimap make examples/vienna-ubahn map.svg map.cert
   octimap labels examples/vienna-ubahn map.cert labelled.svg";
 
-pub(crate) const GEO: &str = "Write the map of a certificate over the ground";
+pub(crate) const GEO: &str = "Write the map of a certificate as its lines run on the ground";
 
 pub(crate) const AFTER_GEO: &str = "\
 The certificate is checked first, all of it but the map that was written with it. Then its line orders are drawn along
-the ways that lines take on the ground, in decimetres, with north above. Nothing is printed. What OUT held before is
+the ways that the lines take on the ground, in decimetres, with north above. Nothing is printed. What OUT held before is
 lost. Give it the settings and edits that the map was made with.
 
 Example:
