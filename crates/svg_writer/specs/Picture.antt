@@ -158,13 +158,13 @@ abbrev pub marker : Style → GraphParts → Courses → ℕ → NodeKind → Li
 marker style g courses n (Station s) = Marker (courses.centre n) (radius_in style g n) ∷ []
 marker style g courses n Junction = []
 
--- to the right of a marker, and above it
-abbrev pub beside : Style → Corner → ℕ → Corner
-beside style c radius = record { x = c.x +ℤ pos (radius + style.gap); y = c.y -ℤ pos (radius + style.gap) }
+-- to the right of a marker, and above it, with a gap between
+abbrev pub beside : ℕ → Corner → ℕ → Corner
+beside gap c radius = record { x = c.x +ℤ pos (radius + gap); y = c.y -ℤ pos (radius + gap) }
 
 -- the name of node n, where it is a station
 abbrev pub label : Style → Names → GraphParts → Courses → ℕ → NodeKind → List Element
-label style names g courses n (Station s) = Label (beside style (courses.centre n) (radius_in style g n)) (station_name names s.0) ∷ []
+label style names g courses n (Station s) = Label (beside style.gap (courses.centre n) (radius_in style g n)) (station_name names s.0) ∷ []
 label style names g courses n Junction = []
 
 -- ---- the whole

@@ -1,6 +1,6 @@
 //! Drawings on the grid.
 
-ghost use Rattle.std.specs.Prelude.{◌≡◌, ◌≤◌, ◌<◌, ◌*ℤ◌, pos, length, unsigned_abs, OnOk};
+ghost use Rattle.std.specs.Prelude.{◌≡◌, ◌≤◌, ◌*ℤ◌, pos, slice_get, option_map, unsigned_abs, OnOk};
 ghost use Rattle.line_offsets.specs.Paths.{line_path, path_end, path_start};
 ghost use Rattle.line_offsets.specs.Shifts.{drawn};
 ghost use Rattle.svg_writer.specs.Picture.{centre_of, first_of, put_at, walk_at};
@@ -61,7 +61,7 @@ fn put_line(path: &mut Vec<Corner>, walks: &Sequence<Walk>, s: u32, k: i32) -> R
 fn start_at(walks: &Sequence<Walk>, s: u32, k: i32) -> Corner
     ensures { result ≡ path_start (walk_at walks.now s) k }
 {
-    match walks.as_slice().get(s as usize) {
+    match walk_of(walks, s) {
         Some(walk) => path_start(walk, k),
         None => Corner { x: 0, y: 0 },
     }
@@ -71,10 +71,17 @@ fn start_at(walks: &Sequence<Walk>, s: u32, k: i32) -> Corner
 fn end_at(walks: &Sequence<Walk>, s: u32, k: i32) -> Corner
     ensures { result ≡ path_end (walk_at walks.now s) k }
 {
-    match walks.as_slice().get(s as usize) {
+    match walk_of(walks, s) {
         Some(walk) => path_end(walk, k),
         None => Corner { x: 0, y: 0 },
     }
+}
+
+/// The walk of a segment, where there is one.
+fn walk_of(walks: &Sequence<Walk>, s: u32) -> Option<&Walk>
+    ensures { slice_get walks.now s ≡ option_map (λ w. w.now) result }
+{
+    walks.as_slice().get(s as usize)
 }
 
 /// Where a node is drawn: where the walk of the first segment of its round puts it.

@@ -161,11 +161,18 @@ fn view_place(style: Style, bounds: Bounds) -> Corner
     requires { AreBounds bounds }
     ensures { result ≡ view_place style bounds }
 {
-    let margin = i64::from(style.margin);
     Corner {
-        x: bounds.left - margin,
-        y: bounds.top - margin,
+        x: lower(bounds.left, style.margin),
+        y: lower(bounds.top, style.margin),
     }
+}
+
+/// A coordinate that is a margin less.
+fn lower(low: i64, margin: u16) -> i64
+    requires { unsigned_abs low ≤ 1099511627776 }
+    ensures { result ≡ low -ℤ pos margin }
+{
+    low - i64::from(margin)
 }
 
 /// Its width and height.

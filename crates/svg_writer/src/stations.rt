@@ -92,7 +92,7 @@ fn push_label_of<D: Drawn>(
     match kind {
         NodeKind::Station(station) => {
             let radius = radius_in(scene.style, scene.graph, NodeId(n))?;
-            let place = beside(scene.style, scene.drawn.centre(NodeId(n)), radius);
+            let place = beside(scene.style.gap, scene.drawn.centre(NodeId(n)), radius);
             push_label(
                 text,
                 scene.style,
@@ -149,14 +149,14 @@ fn spot_at(spots: &[Option<Corner>], n: u32) -> Option<Corner>
     }
 }
 
-/// To the right of a marker, and above it.
-fn beside(style: Style, centre: Corner, radius: u64) -> Corner
+/// To the right of a marker, and above it, with a gap between.
+fn beside(gap: u16, centre: Corner, radius: u64) -> Corner
     requires across { unsigned_abs centre.x ≤ 1099511627776 }
     requires down { unsigned_abs centre.y ≤ 1099511627776 }
     requires radius { radius ≤ 6553500065535 }
-    ensures { result ≡ beside style centre radius }
+    ensures { result ≡ beside gap centre radius }
 {
-    let away = radius as i64 + i64::from(style.gap);
+    let away = (radius + u64::from(gap)) as i64;
     Corner {
         x: centre.x + away,
         y: centre.y - away,
@@ -170,7 +170,8 @@ pub fn radius_of(graph: &LineGraph, n: NodeId) -> Result<u32, NoMemory>
     ensures value { IfOk result (λ r. r ≡ radius_of graph.now n.0) }
     ensures small { IfOk result (λ r. r ≤ 700000003) }
 {
-    Ok(radius_in(grid_style(), graph, n)? as u32)
+    let radius = radius_in(grid_style(), graph, n)?;
+    Ok(radius as u32)
 }
 
 /// The radius of the marker of a node in a style.
@@ -181,17 +182,18 @@ fn radius_in(style: Style, graph: &LineGraph, n: NodeId) -> Result<u64, NoMemory
     ensures few { IfOk result (λ _. most_lines graph.now.lines (round_at graph.now.rounds n.0) ≤ 100000000) }
     ensures small { IfOk result (λ r. r ≤ 6553500065535) }
 {
-    let most = small_count(most_lines(graph, graph.round(n)))? as u64;
-    Ok(radius_with(style, most))
+    let most = small_count(most_lines(graph, graph.round(n)))?;
+    Ok(radius_with(style.radius_each, style.radius_more, most as u64))
 }
 
-/// The radius of a marker where the segment with the most has so many lines.
-fn radius_with(style: Style, most: u64) -> u64
+/// The radius of a marker to which each line of the segment with the most adds so much, and something more is added once.
+fn radius_with(each: u16, more: u16, most: u64) -> u64
     requires { most ≤ 100000000 }
-    ensures value { result ≡ style.radius_each * most + style.radius_more }
+    ensures value { result ≡ each * most + more }
     ensures small { result ≤ 6553500065535 }
 {
-    u64::from(style.radius_each) * most + u64::from(style.radius_more)
+    let lines = u64::from(each) * most;
+    lines + u64::from(more)
 }
 
 /// How many lines the segment with the most has, of a round.

@@ -13,10 +13,10 @@ returns-in_ok-push_label-in-Station g c =
     let drawn = g.D.Drawn.courses c.args.scene.now.drawn.now in
     let old = string_bytes c.args.text.now in
     let name = station_name names c.in-Station.station.0 in
-    let at = beside style (drawn.centre c.args.n) (radius_in style graph c.args.n) in
+    let at = beside style.gap (drawn.centre c.args.n) (radius_in style graph c.args.n) in
     let place : c.beside-place.result ≡ at =
-    c.beside-place.ensures ∙ ap (λ (p : Corner). beside style p c.in_ok-radius-in-Station.radius) c.centre.ensures.value
-    ∙ ap (beside style (drawn.centre c.args.n)) c.in_ok-radius-in-Station.ensures.value in
+    c.beside-place.ensures ∙ ap (λ (p : Corner). beside style.gap p c.in_ok-radius-in-Station.radius) c.centre.ensures.value
+    ∙ ap (beside style.gap (drawn.centre c.args.n)) c.in_ok-radius-in-Station.ensures.value in
     c.in_ok-push_label-in-Station.ensures
     ∙ ap (λ (p : Corner). old ++ element_text style (Label p c.station_name.result.now)) place
     ∙ ap (λ (bytes : List ℕ). old ++ element_text style (Label at bytes)) c.station_name.ensures
