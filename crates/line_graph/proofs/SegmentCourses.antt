@@ -22,7 +22,7 @@ use Rattle.way_network.specs.Segments.{segment_chains}
 use Rattle.way_network.specs.Premises.{IsNetwork}
 use Rattle.way_network.specs.Pieces.{IsChain}
 use Rattle.way_network.proofs.ChainEdges.{runs_at}
-use Rattle.way_network.proofs.ChainPaths.{IsPath, path_of_chain}
+use Rattle.way_network.proofs.ChainPaths.{path_of_chain}
 use Rattle.way_network.proofs.ChainSegments.{segments_are}
 use Rattle.line_graph.specs.Outcome.{net_of_courses, network_of, graph_over_net, graph_of_courses, graph_outcome}
 use Rattle.line_graph.specs.SegmentLines.{segment_lines, beside_graph, lines_over_net, lines_of_courses, lines_outcome}

@@ -1,4 +1,4 @@
-use Rattle.std.proofs.Common.{◌≡◌, ◌∙◌, ◌<◌, sym, ap, subst, ℕ, List, map, length, All, Ok, Result}
+use Rattle.std.proofs.Common.{◌≡◌, ◌∙◌, ◌<◌, sym, ap, subst, ℕ, List, map, length, All, Ok, Result, rules}
 use Rattle.map_base.specs.declared.point.Point.{Point}
 use Rattle.map_base.specs.declared.limit.Limit.{Limit}
 use Rattle.map_base.specs.Faults.{HasCause}
@@ -21,8 +21,8 @@ returns-in_err-made-clause-cause c =
     subst (λ (o : Result GraphParts Limit). HasCause o c.in_err-made.field-0.0) (sym is) c.in_err-made.ensures.cause in
     search (rules, cause)
 
-pub places_along-along-requires : goal.places_along-along-requires
-places_along-along-requires c =
+pub places_along-requires : goal.places_along-requires
+places_along-requires c =
     let g = network_of c.args.near c.args.lines c.args.courses.now c.in_ok-net.net in
     subst (λ (chains : List (List ℕ)). All (All (λ p. p < length c.points.result.now)) chains) (sym (c.as_slice.ensures ∙ c.in_ok-made.ensures.chains))
     (subst (λ (points : List Point). All (All (λ p. p < length points)) (segment_chains c.in_ok-net.net.points g)) (sym c.points.ensures.points)
