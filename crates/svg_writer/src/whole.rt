@@ -81,9 +81,10 @@ pub fn picture_with(
     requires { AreBounds frame }
     ensures { IfOk result (λ text. text.items ≡ placed_text names.now graph.now drawing.now.walks orders.now.lists frame spots.now) }
 {
+    let style = grid_style();
     let drawn = GridDrawing { graph, drawing };
     let scene = Scene {
-        style: grid_style(),
+        style,
         graph,
         names,
         drawn: &drawn,
@@ -92,7 +93,7 @@ pub fn picture_with(
     let mut text = String::new(alloc);
     push_map(alloc, &mut text, &scene, frame)?;
     push_placed_labels(&mut text, &scene, spots)?;
-    push_tail(&mut text, grid_style())?;
+    push_tail(&mut text, style)?;
     Ok(text.into_bytes())
 }
 

@@ -18,5 +18,6 @@ returns c =
     let made : c.into_bytes.result.items ≡ string_bytes c.push_tail.new.text = ap (λ v. v.items) c.into_bytes.ensures.value in
     made
     ∙ grew3 _ _ _ _ _ _ _ c.in_ok-push_map.ensures c.in_ok-push_placed_labels.ensures c.in_ok-push_tail.ensures
-    ∙ ap (λ (bytes : List ℕ). bytes ++ whole grid_style) c.new-text.ensures.bytes
+    ∙ ap (λ (bytes : List ℕ). bytes ++ whole c.grid_style-style.result) c.new-text.ensures.bytes
+    ∙ ap whole c.grid_style-style.ensures
     ∙ sym (in_order grid_style (Head c.args.frame) (all_lines n graph d o) (all_joins n graph d o) (all_markers grid_style graph d) labels Tail)
