@@ -1,5 +1,5 @@
 -- Courses and nodes that are there, and lines near the middle of their segments: there are at most 1,000 different lines.
-use Rattle.std.proofs.Common.{◌≡◌, refl, sym, ◌∙◌, ap, subst, ℕ, zero, suc, ◌+◌, ◌*◌, ◌<◌, ◌≤◌, ◌==◌, ℤ, pos, ◌-ℤ◌, unsigned_abs, Bool, true, false, ◌||◌, List, [], ◌∷◌, length, All, Some, arith, eqb-true, eq-eqb}
+use Rattle.std.proofs.Common.{◌≡◌, refl, sym, ◌∙◌, ap, subst, ℕ, zero, suc, ◌<◌, ◌≤◌, ◌==◌, unsigned_abs, Bool, true, false, ◌||◌, List, [], ◌∷◌, length, All, Some, arith, eqb-true, eq-eqb}
 use Rattle.std.specs.Prelude.{Contains, IsPermutation}
 use Rattle.std.specs.List.{slice_get, list_any}
 use Rattle.std.specs.Cmp.{IsEquivalence}

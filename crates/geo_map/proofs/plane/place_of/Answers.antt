@@ -1,4 +1,3 @@
-use Rattle.std.proofs.Common.{arith}
 use Rattle.geo_map.proofs.Reaching.{near_place}
 use Rattle.geo_map.proofs.plane.place_of.Goals as goal
 
