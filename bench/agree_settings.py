@@ -1,10 +1,10 @@
 #!/usr/bin/env python3
-"""Compares `make`, `map`, `labels`, `improve` and `check` with another program on small random feeds under random settings.
+"""Compares `make`, `map`, `labels`, `geo`, `improve` and `check` with another program on small random feeds under random settings.
 
     bench/agree_settings.py [--feeds N] [--seed S] [--work FOLDER] [--ours PROGRAM] PROGRAM
 
 Makes N feeds as bench/agree.py does, and for each a settings file with some of the keys, now and then with a value that
-no key takes. Runs the commands of both programs on each and compares status, standard output and the bytes of the files (of
+no key takes. `labels` and `geo` also get a certificate of which one word is changed. Runs the commands of both programs on each and compares status, standard output and the bytes of the files (of
 words that are not read, status 2, the status alone: each program has its own help);
 `check` without any settings file must say yes to each map under the default cell, near distance and weights. A feed on
 which something differs is kept, and named. Ends with 1 where there is one.
@@ -40,6 +40,13 @@ def settings(chance):
         key = chance.choice(sorted(BAD))
         chosen[key] = chance.choice(BAD[key])
     return chosen
+
+
+def changed(certificate, chance):
+    """The certificate with one of its words in place of another."""
+    words = certificate.split(b" ")
+    words[chance.randrange(len(words))] = chance.choice(words)
+    return b" ".join(words)
 
 
 def main():
@@ -83,7 +90,11 @@ def main():
             for name, text in files.items():
                 with open(os.path.join(folder, name), "wb") as out:
                     out.write(text)
-            compare(["labels", "feed", "cert", "labels", "--settings", "settings.toml"], ["labels"])
+            with open(os.path.join(folder, "changed"), "wb") as out:
+                out.write(changed(files["cert"], chance))
+            for certificate in ["cert", "changed"]:
+                for picture in ["labels", "geo"]:
+                    compare([picture, "feed", certificate, picture, "--settings", "settings.toml"], [picture])
             compare(["check", "feed", "svg", "cert", "--settings", "settings.toml"], [])
             if not {"cell", "near"} & set(chosen):
                 plain = run(programs[0], ["check", "feed", "svg", "cert"], folder, [])

@@ -17,7 +17,7 @@ _octimap_offer()
 _octimap()
 {
     local current=${COMP_WORDS[COMP_CWORD]} before=${COMP_WORDS[COMP_CWORD - 1]}
-    local commands='map make improve check labels session graph stations page trial help' alone='--help --version' options='' kinds=() place=0 at
+    local commands='map make improve check labels geo session graph stations page trial help' alone='--help --version' options='' kinds=() place=0 at
     COMPREPLY=()
     if ((COMP_CWORD == 1)); then
         mapfile -t COMPREPLY < <(compgen -W "$commands $alone" -- "$current")
@@ -29,6 +29,7 @@ _octimap()
         improve) options='--settings --edits --help' kinds=(folder svg file none) ;;
         check) options='--settings --edits --help' kinds=(folder svg file) ;;
         labels) options='--settings --edits --help' kinds=(folder file file) ;;
+        geo) options='--settings --edits --help' kinds=(folder file file) ;;
         session) options='--settings --help' kinds=(folder file file) ;;
         graph) options='--settings --edits --help' kinds=(folder) ;;
         stations) options='--help' kinds=(folder) ;;

@@ -40,13 +40,14 @@ complete -c octimap -n 'test (count (commandline -opc)) -eq 1' -a make -d 'Make 
 complete -c octimap -n 'test (count (commandline -opc)) -eq 1' -a improve -d 'Make the map of a feed, and its drawing straighter'
 complete -c octimap -n 'test (count (commandline -opc)) -eq 1' -a check -d 'Check a map and its certificate against a feed'
 complete -c octimap -n 'test (count (commandline -opc)) -eq 1' -a labels -d 'Write the map of a certificate with each name where it fits'
+complete -c octimap -n 'test (count (commandline -opc)) -eq 1' -a geo -d 'Write the map of a certificate as its lines run on the ground'
 complete -c octimap -n 'test (count (commandline -opc)) -eq 1' -a session -d 'Run a script of edits and draws'
 complete -c octimap -n 'test (count (commandline -opc)) -eq 1' -a graph -d 'Print the line graph of a feed: what a map of it shows'
 complete -c octimap -n 'test (count (commandline -opc)) -eq 1' -a stations -d 'Print each station of a feed: its place and its id'
 complete -c octimap -n 'test (count (commandline -opc)) -eq 1' -a page -d 'Make a page of a map, for a browser'
 complete -c octimap -n 'test (count (commandline -opc)) -eq 1' -a trial -d 'Make the map of a built-in random feed, and print its numbers'
 complete -c octimap -n 'test (count (commandline -opc)) -eq 1' -a help -d 'Print the help of a command'
-complete -c octimap -n '__octimap_at help 1' -a 'map make improve check labels session graph stations page trial'
+complete -c octimap -n '__octimap_at help 1' -a 'map make improve check labels geo session graph stations page trial'
 complete -c octimap -n '__octimap_in map' -l settings -r -F -d 'A file of settings in TOML, such as examples/settings.toml'
 complete -c octimap -n '__octimap_in map' -l edits -r -F -d 'A file of edits, one a line, such as examples/edits.txt; they are done to the tables and settings first'
 complete -c octimap -n '__octimap_at map 1' -a '(__fish_complete_directories (commandline -ct))'
@@ -72,6 +73,11 @@ complete -c octimap -n '__octimap_in labels' -l edits -r -F -d 'A file of edits,
 complete -c octimap -n '__octimap_at labels 1' -a '(__fish_complete_directories (commandline -ct))'
 complete -c octimap -n '__octimap_at labels 2' -F
 complete -c octimap -n '__octimap_at labels 3' -F
+complete -c octimap -n '__octimap_in geo' -l settings -r -F -d 'A file of settings in TOML, such as examples/settings.toml'
+complete -c octimap -n '__octimap_in geo' -l edits -r -F -d 'A file of edits, one a line, such as examples/edits.txt; they are done to the tables and settings first'
+complete -c octimap -n '__octimap_at geo 1' -a '(__fish_complete_directories (commandline -ct))'
+complete -c octimap -n '__octimap_at geo 2' -F
+complete -c octimap -n '__octimap_at geo 3' -F
 complete -c octimap -n '__octimap_in session' -l settings -r -F -d 'A file of settings in TOML, such as examples/settings.toml'
 complete -c octimap -n '__octimap_at session 1' -a '(__fish_complete_directories (commandline -ct))'
 complete -c octimap -n '__octimap_at session 2' -F

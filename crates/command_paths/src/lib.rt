@@ -4,6 +4,8 @@
 
 mod map_files;
 mod options;
+mod picture;
 
 pub use map_files::MapFiles;
 pub use options::Options;
+pub use picture::Picture;

@@ -5,8 +5,10 @@ use Rattle.clap.specs.Walk.{Row, Text, first_of}
 use Rattle.clap.specs.Kinds.{Kinds}
 use Rattle.map_method.specs.declared.defaults.Defaults.TheVariants.{Make, Map}
 use Rattle.command_paths.specs.Paths.{Chosen, MapPaths}
-use Rattle.command_words.specs.Asked.{Asked, stations, graph, make, improve, check, labels, session, trial, page}
-use Rattle.command_words.specs.Words.{◌>>=◌, apart, asked, asked_as, check_in, faults, graph_in, improve_in, labels_in, make_in, met, named_in, number_in, options_in, page_at, page_in, paths_in, session_in, settings_in, stations_in, trial_in, two_paths_in, unless}
+use Rattle.command_paths.specs.declared.picture.Picture.{Picture}
+use Rattle.command_paths.specs.declared.picture.Picture.TheVariants.{Labelled, Geographic}
+use Rattle.command_words.specs.Asked.{Asked, stations, graph, make, improve, check, depict, session, trial, page}
+use Rattle.command_words.specs.Words.{◌>>=◌, apart, asked, asked_as, check_in, faults, graph_in, improve_in, make_in, met, named_in, number_in, options_in, page_at, page_in, paths_in, picture_in, session_in, settings_in, stations_in, trial_in, two_paths_in, unless}
 
 abbrev pub AreApart : Option Asked → Type 0
 AreApart None = Unit {0}
@@ -15,10 +17,10 @@ AreApart (Some (graph feed chosen)) = Unit {0}
 AreApart (Some (make feed paths chosen)) = bytes_eq paths.picture paths.certificate ≡ false
 AreApart (Some (improve feed paths moves chosen)) = bytes_eq paths.picture paths.certificate ≡ false
 AreApart (Some (check feed paths chosen)) = Unit {0}
-AreApart (Some (labels feed certificate out chosen)) = Unit {0}
+AreApart (Some (depict kind feed certificate out chosen)) = Unit {0}
 AreApart (Some (session feed script out chosen)) = Unit {0}
 AreApart (Some (trial number)) = Unit {0}
-AreApart (Some (page picture html)) = bytes_eq picture html ≡ false
+AreApart (Some (page map html)) = bytes_eq map html ≡ false
 
 -- two paths that are taken for a map and its certificate are not one
 apart_at : (paths : MapPaths) → IfSome (apart paths) (λ two. bytes_eq two.picture two.certificate ≡ false)
@@ -50,11 +52,11 @@ checked_apart chosen None paths = tt
 checked_apart chosen (Some feed) None = tt
 checked_apart chosen (Some feed) (Some paths) = tt
 
-labelled_apart : (chosen : Chosen) (feed certificate out : Option (List ℕ)) → AreApart (feed >>= (λ f. certificate >>= (λ c. out >>= (λ o. Some (labels f c o chosen)))))
-labelled_apart chosen None certificate out = tt
-labelled_apart chosen (Some feed) None out = tt
-labelled_apart chosen (Some feed) (Some certificate) None = tt
-labelled_apart chosen (Some feed) (Some certificate) (Some out) = tt
+depicted_apart : (kind : Picture) (chosen : Chosen) (feed certificate out : Option (List ℕ)) → AreApart (feed >>= (λ f. certificate >>= (λ c. out >>= (λ o. Some (depict kind f c o chosen)))))
+depicted_apart kind chosen None certificate out = tt
+depicted_apart kind chosen (Some feed) None out = tt
+depicted_apart kind chosen (Some feed) (Some certificate) None = tt
+depicted_apart kind chosen (Some feed) (Some certificate) (Some out) = tt
 
 edited_apart : (chosen : Chosen) (feed script out : Option (List ℕ)) → AreApart (feed >>= (λ f. script >>= (λ s. out >>= (λ o. Some (session f s o chosen)))))
 edited_apart chosen None script out = tt
@@ -74,35 +76,36 @@ tried_apart : (number : Option ℕ) → AreApart (number >>= (λ n. Some (trial 
 tried_apart None = tt
 tried_apart (Some number) = tt
 
-paged_at : (picture html : List ℕ) → AreApart (page_at picture html)
-paged_at picture html = by_test (bytes_eq picture html) refl
+paged_at : (map html : List ℕ) → AreApart (page_at map html)
+paged_at map html = by_test (bytes_eq map html) refl
   where
-    by_test : (same : Bool) → bytes_eq picture html ≡ same → AreApart (if same then None else Some (page picture html))
+    by_test : (same : Bool) → bytes_eq map html ≡ same → AreApart (if same then None else Some (page map html))
     by_test true e = tt
     by_test false e = e
 
-paged_apart : (picture html : Option (List ℕ)) → AreApart (picture >>= (λ p. html >>= (λ h. page_at p h)))
+paged_apart : (map html : Option (List ℕ)) → AreApart (map >>= (λ m. html >>= (λ h. page_at m h)))
 paged_apart None html = tt
-paged_apart (Some picture) None = tt
-paged_apart (Some picture) (Some html) = paged_at picture html
+paged_apart (Some map) None = tt
+paged_apart (Some map) (Some html) = paged_at map html
 
 as_apart : (name : Text) (rows : List Row) → AreApart (asked_as name rows)
 as_apart name rows =
-    by_tests (bytes_eq name (codes "map")) (bytes_eq name (codes "make")) (bytes_eq name (codes "improve")) (bytes_eq name (codes "check")) (bytes_eq name (codes "labels")) (bytes_eq name (codes "session")) (bytes_eq name (codes "graph")) (bytes_eq name (codes "stations")) (bytes_eq name (codes "page")) (bytes_eq name (codes "trial"))
+    by_tests (bytes_eq name (codes "map")) (bytes_eq name (codes "make")) (bytes_eq name (codes "improve")) (bytes_eq name (codes "check")) (bytes_eq name (codes "labels")) (bytes_eq name (codes "geo")) (bytes_eq name (codes "session")) (bytes_eq name (codes "graph")) (bytes_eq name (codes "stations")) (bytes_eq name (codes "page")) (bytes_eq name (codes "trial"))
   where
-    by_tests : (mapped made improved checked labelled edited drawn listed paged tried : Bool)
-        → AreApart (if mapped then make_in Map rows else if made then make_in Make rows else if improved then improve_in rows else if checked then check_in rows else if labelled then labels_in rows else if edited then session_in rows else if drawn then graph_in rows else if listed then stations_in rows else if paged then page_in rows else if tried then trial_in rows else None)
-    by_tests true made improved checked labelled edited drawn listed paged tried = made_apart (options_in Map rows) (first_of (codes "FEED") rows) (two_paths_in rows) (two_apart (paths_in rows))
-    by_tests false true improved checked labelled edited drawn listed paged tried = made_apart (options_in Make rows) (first_of (codes "FEED") rows) (two_paths_in rows) (two_apart (paths_in rows))
-    by_tests false false true checked labelled edited drawn listed paged tried = improved_apart (options_in Make rows) (first_of (codes "FEED") rows) (two_paths_in rows) (number_in (codes "MOVES") rows) (two_apart (paths_in rows))
-    by_tests false false false true labelled edited drawn listed paged tried = checked_apart (options_in Make rows) (first_of (codes "FEED") rows) (paths_in rows)
-    by_tests false false false false true edited drawn listed paged tried = labelled_apart (options_in Make rows) (first_of (codes "FEED") rows) (first_of (codes "CERT") rows) (first_of (codes "OUT") rows)
-    by_tests false false false false false true drawn listed paged tried = edited_apart (settings_in Make rows) (first_of (codes "FEED") rows) (first_of (codes "SCRIPT") rows) (first_of (codes "OUT") rows)
-    by_tests false false false false false false true listed paged tried = drawn_apart (options_in Make rows) (first_of (codes "FEED") rows)
-    by_tests false false false false false false false true paged tried = listed_apart (first_of (codes "FEED") rows)
-    by_tests false false false false false false false false true tried = paged_apart (first_of (codes "SVG") rows) (first_of (codes "HTML") rows)
-    by_tests false false false false false false false false false true = tried_apart (number_in (codes "N") rows)
-    by_tests false false false false false false false false false false = tt
+    by_tests : (mapped made improved checked labelled grounded edited drawn listed paged tried : Bool)
+        → AreApart (if mapped then make_in Map rows else if made then make_in Make rows else if improved then improve_in rows else if checked then check_in rows else if labelled then picture_in Labelled rows else if grounded then picture_in Geographic rows else if edited then session_in rows else if drawn then graph_in rows else if listed then stations_in rows else if paged then page_in rows else if tried then trial_in rows else None)
+    by_tests true made improved checked labelled grounded edited drawn listed paged tried = made_apart (options_in Map rows) (first_of (codes "FEED") rows) (two_paths_in rows) (two_apart (paths_in rows))
+    by_tests false true improved checked labelled grounded edited drawn listed paged tried = made_apart (options_in Make rows) (first_of (codes "FEED") rows) (two_paths_in rows) (two_apart (paths_in rows))
+    by_tests false false true checked labelled grounded edited drawn listed paged tried = improved_apart (options_in Make rows) (first_of (codes "FEED") rows) (two_paths_in rows) (number_in (codes "MOVES") rows) (two_apart (paths_in rows))
+    by_tests false false false true labelled grounded edited drawn listed paged tried = checked_apart (options_in Make rows) (first_of (codes "FEED") rows) (paths_in rows)
+    by_tests false false false false true grounded edited drawn listed paged tried = depicted_apart Labelled (options_in Make rows) (first_of (codes "FEED") rows) (first_of (codes "CERT") rows) (first_of (codes "OUT") rows)
+    by_tests false false false false false true edited drawn listed paged tried = depicted_apart Geographic (options_in Make rows) (first_of (codes "FEED") rows) (first_of (codes "CERT") rows) (first_of (codes "OUT") rows)
+    by_tests false false false false false false true drawn listed paged tried = edited_apart (settings_in Make rows) (first_of (codes "FEED") rows) (first_of (codes "SCRIPT") rows) (first_of (codes "OUT") rows)
+    by_tests false false false false false false false true listed paged tried = drawn_apart (options_in Make rows) (first_of (codes "FEED") rows)
+    by_tests false false false false false false false false true paged tried = listed_apart (first_of (codes "FEED") rows)
+    by_tests false false false false false false false false false true tried = paged_apart (first_of (codes "SVG") rows) (first_of (codes "HTML") rows)
+    by_tests false false false false false false false false false false true = tried_apart (number_in (codes "N") rows)
+    by_tests false false false false false false false false false false false = tt
 
 named_apart : (command : Option (Text × List Row)) → AreApart (named_in command)
 named_apart None = tt

@@ -1,6 +1,7 @@
 -- What words may ask for.
 use Rattle.std.specs.Prelude.{ℕ, List}
 use Rattle.command_paths.specs.Paths.{Chosen, MapPaths, options_by, paths_by}
+use Rattle.command_paths.specs.declared.picture.Picture.{Picture}
 use Rattle.command_words.specs.declared.command.Command.{Command}
 use Rattle.command_words.specs.declared.command.Command.TheVariants as command
 
@@ -11,7 +12,7 @@ pub data Asked : Type 0 where
   make : List ℕ → MapPaths → Chosen → Asked
   improve : List ℕ → MapPaths → ℕ → Chosen → Asked
   check : List ℕ → MapPaths → Chosen → Asked
-  labels : List ℕ → List ℕ → List ℕ → Chosen → Asked
+  depict : Picture → List ℕ → List ℕ → List ℕ → Chosen → Asked
   session : List ℕ → List ℕ → List ℕ → Chosen → Asked
   trial : ℕ → Asked
   page : List ℕ → List ℕ → Asked
@@ -23,7 +24,7 @@ asked_by (command.Graph feed options) = graph feed.now (options_by options)
 asked_by (command.Make feed files options) = make feed.now (paths_by files) (options_by options)
 asked_by (command.Improve feed files moves options) = improve feed.now (paths_by files) moves (options_by options)
 asked_by (command.Check feed files options) = check feed.now (paths_by files) (options_by options)
-asked_by (command.Labels feed certificate out options) = labels feed.now certificate.now out.now (options_by options)
+asked_by (command.Depict kind feed certificate out options) = depict kind feed.now certificate.now out.now (options_by options)
 asked_by (command.Session feed script out options) = session feed.now script.now out.now (options_by options)
 asked_by (command.Trial number) = trial number
 asked_by (command.Page shown html) = page shown.now html.now

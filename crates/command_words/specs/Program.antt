@@ -54,9 +54,9 @@ improve_app = with_options (with_rule (with_files (feed_app (codes "improve"))) 
 abbrev pub with_out : App → App
 with_out command = with_rule command (operand (codes "OUT"))
 
--- the map of a certificate, with names in more places
-abbrev pub labels_app : App
-labels_app = with_options (with_out (with_rule (feed_app (codes "labels")) (operand (codes "CERT"))))
+-- a picture of the map of a certificate
+abbrev pub picture_app : Text → App
+picture_app name = with_options (with_out (with_rule (feed_app name) (operand (codes "CERT"))))
 
 -- a script of edits and draws, whose settings alone are named
 abbrev pub session_app : App
@@ -82,11 +82,12 @@ octimap_alone = record {
 abbrev pub with_command : App → App → App
 with_command program command = with_subcommand program command.top
 
--- the commands that make maps and check them: `map`, `make`, `improve`, `check`, `labels` and `session`
+-- the commands that make maps and check them: `map`, `make`, `improve`, `check`, `labels`, `geo` and `session`
 abbrev pub octimap_maps : App
 octimap_maps =
-    with_command (with_command (with_command (with_command (with_command (with_command octimap_alone
-    (map_app (codes "map"))) (map_app (codes "make"))) improve_app) (map_app (codes "check"))) labels_app) session_app
+    with_command (with_command (with_command (with_command (with_command (with_command (with_command octimap_alone
+    (map_app (codes "map"))) (map_app (codes "make"))) improve_app) (map_app (codes "check"))) (picture_app (codes "labels")))
+    (picture_app (codes "geo"))) session_app
 
 -- the program: these, `graph`, `stations`, `page` and `trial`
 unfoldable pub octimap_app : App

@@ -15,7 +15,9 @@ use Rattle.command_words.specs.declared.command.Command.{Command}
 use Rattle.command_words.specs.declared.fault.WordsFault.{WordsFault}
 use Rattle.command_words.specs.declared.fault.WordsFault.TheVariants as fault
 use Rattle.command_paths.specs.Paths.{Chosen, MapPaths}
-use Rattle.command_words.specs.Asked.{Asked, asked_by, stations, graph, make, improve, check, labels, session, trial, page}
+use Rattle.command_paths.specs.declared.picture.Picture.{Picture}
+use Rattle.command_paths.specs.declared.picture.Picture.TheVariants.{Labelled, Geographic}
+use Rattle.command_words.specs.Asked.{Asked, asked_by, stations, graph, make, improve, check, depict, session, trial, page}
 use Rattle.command_words.specs.Program.{octimap_app}
 
 -- one choice after another: none where the first is none
@@ -88,12 +90,12 @@ check_in rows = do
   paths ← paths_in rows
   Some (check feed paths (options_in Make rows))
 
-abbrev pub labels_in : List Row → Option Asked
-labels_in rows = do
+abbrev pub picture_in : Picture → List Row → Option Asked
+picture_in kind rows = do
   feed ← first_of (codes "FEED") rows
   certificate ← first_of (codes "CERT") rows
   out ← first_of (codes "OUT") rows
-  Some (labels feed certificate out (options_in Make rows))
+  Some (depict kind feed certificate out (options_in Make rows))
 
 abbrev pub session_in : List Row → Option Asked
 session_in rows = do
@@ -109,13 +111,13 @@ trial_in rows = do
 
 -- a page is made at another path than that of its map
 abbrev pub page_at : List ℕ → List ℕ → Option Asked
-page_at picture html = if bytes_eq picture html then None else Some (page picture html)
+page_at map html = if bytes_eq map html then None else Some (page map html)
 
 abbrev pub page_in : List Row → Option Asked
 page_in rows = do
-  picture ← first_of (codes "SVG") rows
+  map ← first_of (codes "SVG") rows
   html ← first_of (codes "HTML") rows
-  page_at picture html
+  page_at map html
 
 -- what the matches of the command of this name ask for
 abbrev pub asked_as : Text → List Row → Option Asked
@@ -124,7 +126,8 @@ asked_as name rows =
     else if bytes_eq name (codes "make") then make_in Make rows
     else if bytes_eq name (codes "improve") then improve_in rows
     else if bytes_eq name (codes "check") then check_in rows
-    else if bytes_eq name (codes "labels") then labels_in rows
+    else if bytes_eq name (codes "labels") then picture_in Labelled rows
+    else if bytes_eq name (codes "geo") then picture_in Geographic rows
     else if bytes_eq name (codes "session") then session_in rows
     else if bytes_eq name (codes "graph") then graph_in rows
     else if bytes_eq name (codes "stations") then stations_in rows

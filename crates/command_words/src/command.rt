@@ -1,6 +1,6 @@
 //! Commands with what they work on.
 
-use command_paths::{MapFiles, Options};
+use command_paths::{MapFiles, Options, Picture};
 
 /// A command with what it works on.
 #[derive(Clone, Copy, Debug)]
@@ -34,8 +34,9 @@ pub enum Command<'a> {
         files: MapFiles<'a>,
         options: Options<'a>,
     },
-    /// The map of a certificate of the feed in this folder, with names in more places.
-    Labels {
+    /// A picture of the map of a certificate of the feed in this folder.
+    Depict {
+        kind: Picture,
         feed: &'a str,
         certificate: &'a str,
         out: &'a str,

@@ -15,6 +15,7 @@ Examples:
   octimap map examples/vienna-ubahn map.svg map.cert
   octimap check examples/vienna-ubahn map.svg map.cert
   octimap labels examples/vienna-ubahn map.cert labelled.svg
+  octimap geo examples/vienna-ubahn map.cert ground.svg
   octimap page map.svg map.html
   octimap session examples/vienna-ubahn examples/session.txt draws.txt
   octimap graph examples/vienna-ubahn
@@ -107,6 +108,17 @@ Example:
   octimap make examples/vienna-ubahn map.svg map.cert
   octimap labels examples/vienna-ubahn map.cert labelled.svg";
 
+pub(crate) const GEO: &str = "Write the map of a certificate as its lines run on the ground";
+
+pub(crate) const AFTER_GEO: &str = "\
+The certificate is checked first, all of it but the map that was written with it. Then its line orders are drawn along
+the ways that the lines take on the ground, in decimetres, with north above. Nothing is printed. What OUT held before is
+lost. Give it the settings and edits that the map was made with.
+
+Example:
+  octimap make examples/vienna-ubahn map.svg map.cert
+  octimap geo examples/vienna-ubahn map.cert ground.svg";
+
 pub(crate) const SESSION: &str = "Run a script of edits and draws";
 
 pub(crate) const AFTER_SESSION: &str = "\
@@ -149,6 +161,8 @@ pub(crate) const SVG: &str = "The file of the map";
 pub(crate) const CERT: &str = "The file of its certificate";
 
 pub(crate) const LABELLED: &str = "The file that the map with its names is written to";
+
+pub(crate) const GEOGRAPHIC: &str = "The file that the geographic map is written to";
 
 pub(crate) const SCRIPT: &str =
     "A file of edits and draws, one a line, such as examples/session.txt";

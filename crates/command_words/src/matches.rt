@@ -4,7 +4,7 @@ ghost use Rattle.std.specs.Prelude.{◌≡◌, option_map};
 ghost use Rattle.clap.specs.Words.{first_of, found_of, rows_of, subcommand_rows_of};
 ghost use Rattle.command_paths.specs.Paths.{options_by, paths_by};
 ghost use Rattle.command_words.specs.Asked.{asked_by};
-ghost use Rattle.command_words.specs.Words.{asked_as, check_in, graph_in, improve_in, labels_in, make_in, named_in, number_in, options_in, page_in, paths_in, session_in, settings_in, stations_in, trial_in, two_paths_in};
+ghost use Rattle.command_words.specs.Words.{asked_as, check_in, graph_in, improve_in, make_in, named_in, number_in, options_in, page_in, paths_in, picture_in, session_in, settings_in, stations_in, trial_in, two_paths_in};
 
 use crate::command::Command;
 use clap::ArgMatches;
@@ -32,7 +32,9 @@ fn command_named<'a>(name: &str, given: &ArgMatches<'a>) -> Option<Command<'a>>
     } else if name == "check" {
         check_in(given)
     } else if name == "labels" {
-        labels_in(given)
+        picture_in(given, Picture::Labelled)
+    } else if name == "geo" {
+        picture_in(given, Picture::Geographic)
     } else if name == "session" {
         session_in(given)
     } else if name == "graph" {
@@ -109,15 +111,16 @@ fn check_in<'a>(given: &ArgMatches<'a>) -> Option<Command<'a>>
     })
 }
 
-/// `labels FEED CERT OUT`
-fn labels_in<'a>(given: &ArgMatches<'a>) -> Option<Command<'a>>
-    ensures { option_map asked_by result ≡ labels_in (rows_of (found_of given.now)) }
+/// `labels FEED CERT OUT`, and `geo FEED CERT OUT`
+fn picture_in<'a>(given: &ArgMatches<'a>, kind: Picture) -> Option<Command<'a>>
+    ensures { option_map asked_by result ≡ picture_in kind (rows_of (found_of given.now)) }
 {
     let feed = value_of(given, "FEED")?;
     let certificate = value_of(given, "CERT")?;
     let out = value_of(given, "OUT")?;
     let options = options_in(given, Defaults::Make);
-    Some(Command::Labels {
+    Some(Command::Depict {
+        kind,
         feed,
         certificate,
         out,

@@ -2,7 +2,7 @@
 
 ghost use Rattle.std.specs.Prelude.{◌≡◌, IfOk, codes, false};
 ghost use Rattle.clap.specs.Words.{app_of, new_app, rule_of};
-ghost use Rattle.command_words.specs.Program.{IsLocal, feed_app, file_option, graph_app, improve_app, labels_app, map_app, moves_operand, octimap_alone, octimap_app, octimap_maps, operand, page_app, session_app, trial_app, with_files, with_map, with_options};
+ghost use Rattle.command_words.specs.Program.{IsLocal, feed_app, file_option, graph_app, improve_app, map_app, moves_operand, octimap_alone, octimap_app, octimap_maps, operand, page_app, picture_app, session_app, trial_app, with_files, with_map, with_options};
 
 use crate::help;
 use clap::builder::ValueParser;
@@ -32,7 +32,14 @@ fn over_maps<'a>(alloc: Global) -> Result<Command<'a>, AllocError>
     let make = make(alloc)?;
     let improve = improve(alloc)?;
     let check = check(alloc)?;
-    let labels = labels(alloc)?;
+    let labels = picture(
+        alloc,
+        "labels",
+        help::LABELS,
+        help::AFTER_LABELS,
+        help::LABELLED,
+    )?;
+    let geo = picture(alloc, "geo", help::GEO, help::AFTER_GEO, help::GEOGRAPHIC)?;
     let session = session(alloc)?;
     alone(alloc)?
         .subcommand(map)?
@@ -40,6 +47,7 @@ fn over_maps<'a>(alloc: Global) -> Result<Command<'a>, AllocError>
         .subcommand(improve)?
         .subcommand(check)?
         .subcommand(labels)?
+        .subcommand(geo)?
         .subcommand(session)
 }
 
@@ -121,14 +129,20 @@ fn check<'a>(alloc: Global) -> Result<Command<'a>, AllocError>
     over_map(alloc, command, help::SVG, help::CERT)
 }
 
-/// `labels FEED CERT OUT`
-fn labels<'a>(alloc: Global) -> Result<Command<'a>, AllocError>
-    ensures app { IfOk result (λ command. app_of command ≡ labels_app) }
+/// `labels FEED CERT OUT`, and `geo FEED CERT OUT`
+fn picture<'a>(
+    alloc: Global,
+    name: &'a str,
+    about: &'a str,
+    after: &'a str,
+    out: &'a str,
+) -> Result<Command<'a>, AllocError>
+    ensures app { IfOk result (λ command. app_of command ≡ picture_app name.entry.now) }
     ensures local { IfOk result IsLocal }
 {
-    let command = over_feed(alloc, "labels", help::LABELS, help::AFTER_LABELS)?
+    let command = over_feed(alloc, name, about, after)?
         .arg(named_operand(alloc, "CERT", help::CERT))?
-        .arg(named_operand(alloc, "OUT", help::LABELLED))?;
+        .arg(named_operand(alloc, "OUT", out))?;
     with_options(alloc, command)
 }
 

@@ -4,4 +4,5 @@ mod Homes
 mod Weights
 mod Moves
 mod Offsets
+mod CourseLines
 mod Pictures

@@ -3,6 +3,8 @@
 #![tactic(auto)]
 
 #[cfg(test)]
+mod course_tests;
+#[cfg(test)]
 mod drawings;
 #[cfg(test)]
 mod graphs;

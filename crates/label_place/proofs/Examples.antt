@@ -11,6 +11,7 @@ use Rattle.octi_grid.specs.Walks.{PlainWalk}
 use Rattle.line_offsets.specs.declared.corner.Corner.{Corner}
 use Rattle.svg_writer.specs.declared.bounds.Bounds.{Bounds}
 use Rattle.svg_writer.specs.declared.names.Names.{Names}
+use Rattle.svg_writer.specs.Styles.{grid_style}
 use Rattle.svg_writer.specs.Elements.{texts, view_text}
 use Rattle.svg_writer.specs.Picture.{placed_labels}
 use Rattle.label_place.specs.declared.place.Place.TheVariants as place
@@ -71,7 +72,7 @@ east : places_of two_names two_nodes (straight dir.E) ≡ Some place.NE ∷ Some
 unfolding chars encode units
 east = refl
 
-east_frame : view_text (frame_of two_names two_nodes (straight dir.E) (Some place.NE ∷ Some place.NE ∷ [])) ≡ codes "-200 -234 626 434"
+east_frame : view_text grid_style (frame_of two_names two_nodes (straight dir.E) (Some place.NE ∷ Some place.NE ∷ [])) ≡ codes "-200 -234 626 434"
 unfolding chars encode digits
 east_frame = refl
 
@@ -80,17 +81,17 @@ north_east : places_of two_names two_nodes (straight dir.NE) ≡ Some place.SE �
 unfolding chars encode units
 north_east = refl
 
-north_east_frame : view_text (frame_of two_names two_nodes (straight dir.NE) (Some place.SE ∷ Some place.NE ∷ [])) ≡ codes "-200 -434 626 672"
+north_east_frame : view_text grid_style (frame_of two_names two_nodes (straight dir.NE) (Some place.SE ∷ Some place.NE ∷ [])) ≡ codes "-200 -434 626 672"
 unfolding chars encode digits
 north_east_frame = refl
 
-north_east_names : texts (placed_labels two_names two_nodes (spots_from two_names two_nodes (straight dir.NE) 0 (Some place.SE ∷ Some place.NE ∷ []))) ≡
+north_east_names : texts grid_style (placed_labels two_names two_nodes (spots_from two_names two_nodes (straight dir.NE) 0 (Some place.SE ∷ Some place.NE ∷ []))) ≡
     codes "<text x=\"14\" y=\"34\" font-size=\"20\">X</text>\n<text x=\"214\" y=\"-214\" font-size=\"20\">Y</text>\n"
 unfolding chars encode digits
 north_east_names = refl
 
 -- a name that has no place is left off
-left_off : texts (placed_labels two_names two_nodes (spots_from two_names two_nodes (straight dir.NE) 0 (None ∷ Some place.NE ∷ []))) ≡
+left_off : texts grid_style (placed_labels two_names two_nodes (spots_from two_names two_nodes (straight dir.NE) 0 (None ∷ Some place.NE ∷ []))) ≡
     codes "<text x=\"214\" y=\"-214\" font-size=\"20\">Y</text>\n"
 unfolding chars encode digits
 left_off = refl

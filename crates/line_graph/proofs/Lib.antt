@@ -10,4 +10,5 @@ mod NetworkFacts
 mod RideLemmas
 mod Whole
 mod Outcomes
+mod SegmentCourses
 pub mod FeedLines

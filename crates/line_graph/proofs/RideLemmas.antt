@@ -1,11 +1,10 @@
 -- The segments over the edges that a line runs over, and where it goes on from one to another.
-use Rattle.std.proofs.Common.{◌≡◌, ◌≢◌, refl, sym, ◌∙◌, ap, subst, ℕ, zero, suc, ◌+◌, ◌-◌, ◌<◌, ◌≤◌, ◌⊎◌, inl, inr, Bool, true, false, cond, not, ◌&&◌, ◌||◌, eqb, eqb-true, eq-eqb, ltb, List, [], ◌∷◌, ◌++◌, append_assoc, append-nil, length, get_or, map, filter, min, max, All, Contains, arith, Some, None, unwrap_or, position}
+use Rattle.std.proofs.Common.{◌≡◌, refl, sym, ◌∙◌, ap, subst, ℕ, zero, suc, ◌+◌, ◌<◌, ◌≤◌, ◌⊎◌, inl, inr, Bool, true, false, cond, not, ◌&&◌, ◌||◌, eqb, eqb-true, eq-eqb, ltb, List, [], ◌∷◌, ◌++◌, append_assoc, append-nil, length, get_or, map, filter, min, max, All, Contains, arith, Some, None, unwrap_or, position}
 use Rattle.std.specs.List.{IsDistinct, list_any, flat_map, range_with_len, position_or_len}
 use Rattle.std.proofs.lemmas.Bool.{and_parts, and_from, or_cases, or_left, or_right, false≢true, lt-ltb, cases_lt, cases_order}
-use Rattle.std.proofs.lemmas.Bool.Decides.{nat_tests, Decides-eqb}
-use Rattle.std.proofs.lemmas.List.{length-map, get_or-map, length-append, get_or-append-add, get_or_append_left}
+use Rattle.std.proofs.lemmas.List.{length-map, get_or-map, length-append}
 use Rattle.std.proofs.lemmas.List.Elements.{All-nil, All-cons, All-contains, All-head, All-tail, Contains-append_left, Contains-append_right}
-use Rattle.std.proofs.lemmas.List.Folds.{list_any_at, Any-from_list_any}
+use Rattle.std.proofs.lemmas.List.Folds.{list_any_at}
 use Rattle.std.proofs.lemmas.List.Sums.{passes_at_first}
 use Rattle.map_base.specs.declared.ids.LineId.{LineId}
 use Rattle.map_base.specs.declared.ids.StationId.{StationId}
@@ -14,20 +13,19 @@ use Rattle.graph_core.specs.declared.parts.Join.{Join}
 use Rattle.graph_core.specs.declared.parts.GraphParts.{GraphParts}
 use Rattle.track_net.specs.Nearness.{point_at}
 use Rattle.track_net.proofs.EdgeFacts.{Contains-range, Contains-filter}
-use Rattle.way_network.specs.declared.way.Way.{Way}
 use Rattle.way_network.specs.declared.way.Passage.{Passage}
 use Rattle.way_network.specs.Edges.{are_ends, runs_over, line_runs_over, is_used}
-use Rattle.way_network.specs.Chains.{Network, used_at, has_node}
+use Rattle.way_network.specs.Chains.{Network, has_node}
 use Rattle.way_network.specs.Segments.{first_of, second_of, last_of, reversed, segment_chains, segment_at, begins_with, leaves, lines_of, line_numbered, nodes_of}
 use Rattle.way_network.specs.Joins.{passages_along, leads, joins, join_of, joins_of_pair, joins_from, joins_at}
 use Rattle.way_network.specs.Graphs.{graph_over}
 use Rattle.way_network.specs.Pieces.{StandsIn, IsChain}
-use Rattle.way_network.specs.Premises.{IsWay, IsNetwork, IsPassage}
+use Rattle.way_network.specs.Premises.{IsNetwork, IsPassage}
 use Rattle.way_network.specs.Laws.{chain_numbered, is_line_of}
-use Rattle.way_network.proofs.ChainEdges.{StepsOver, steps_from_runs, steps_turned, runs_either, runs_turned, runs_turned_back, runs_at, turned_at, used_either, ends_are, either_true}
+use Rattle.way_network.proofs.ChainEdges.{StepsOver, steps_from_runs, steps_turned, runs_either, runs_turned_back, runs_at, turned_at, used_either, ends_are, either_true}
 use Rattle.way_network.proofs.ChainPaths.{IsPath, path_in, path_of_chain}
-use Rattle.way_network.proofs.ChainSteps.{LeadsOn, goes_on}
-use Rattle.way_network.proofs.ChainPieces.{chain_turned, first_turned, last_turned, last_appended, runs_first}
+use Rattle.way_network.proofs.ChainSteps.{goes_on}
+use Rattle.way_network.proofs.ChainPieces.{chain_turned, last_appended, runs_first}
 use Rattle.way_network.proofs.ChainSegments.{segments_are}
 use Rattle.way_network.proofs.ChainThrough.{has_used_edges, has_edges_once, has_lines_of_edges, has_lines_of_ways}
 use Rattle.line_graph.proofs.FeedLines.{chain_below}

@@ -5,6 +5,8 @@ ghost use Rattle.map_base.specs.declared.ids.LineId.{LineId as Line};
 ghost use Rattle.track_net.specs.Laws.{HasOwnDirections, JoinsStations};
 ghost use Rattle.feed_courses.specs.Fit.{AreFit, AreServed};
 ghost use Rattle.way_network.specs.Graphs.{graph_over, graph_within};
+ghost use Rattle.way_network.specs.Premises.{IsNetwork};
+ghost use Rattle.way_network.specs.Segments.{segment_chains};
 ghost use Rattle.line_graph.specs.Outcome.{all_passages, all_samples, graph_outcome, graph_over_net, net_of_courses as net_of, network_of};
 ghost use Rattle.map_base.specs.Faults.{HasCause};
 ghost use Rattle.line_graph.specs.Rides.{AreKept, KeepsLines};
@@ -18,7 +20,7 @@ use map_base::{LimitFault, Settings};
 use std::alloc::Global;
 use track_net::Net;
 use transit_feed::Tables;
-use way_network::graph_of;
+use way_network::{ChainedGraph, graph_of};
 
 /// The line graph of a feed: how its lines share their ways.
 ///
@@ -81,10 +83,34 @@ fn graph_of_net(
     ensures cause { IfErr result (λ fault. HasCause (graph_within (graph_over courses.now.stations net.now.points (network_of near lines courses.now net.now) (all_passages near courses.now net.now))) fault) }
     ensures kept { IfOk result (λ _. AreKept near lines courses.now net.now) }
 {
+    let made = chained_graph(alloc, courses, net, near, lines)?;
+    Ok(made.graph)
+}
+
+/// The same with the chains of its segments.
+pub(crate) fn chained_graph(
+    alloc: Global,
+    courses: &Courses,
+    net: &Net,
+    near: u32,
+    lines: u32,
+) -> Result<ChainedGraph, LimitFault>
+    requires fit { AreFit near courses.now }
+    requires served { AreServed lines courses.now }
+    requires net { net.now ≡ net_of near courses.now }
+    requires directions { HasOwnDirections net.now }
+    requires joined { JoinsStations near courses.now.points (all_samples courses.now.courses) net.now }
+    requires near_high { near ≤ 20000 }
+    ensures graph { IfOk result (λ made. graph_within (graph_over courses.now.stations net.now.points (network_of near lines courses.now net.now) (all_passages near courses.now net.now)) ≡ Ok made.graph) }
+    ensures chains { IfOk result (λ made. made.chains ≡ segment_chains net.now.points (network_of near lines courses.now net.now)) }
+    ensures cause { IfErr result (λ fault. HasCause (graph_within (graph_over courses.now.stations net.now.points (network_of near lines courses.now net.now) (all_passages near courses.now net.now))) fault) }
+    ensures kept { IfOk result (λ _. AreKept near lines courses.now net.now) }
+    ensures network { IfOk result (λ _. IsNetwork net.now.points (network_of near lines courses.now net.now)) }
+{
     let points = net.points();
     let traced = network(alloc, courses, net, near, lines)?;
     let stations = courses.stations.as_slice();
-    let graph = graph_of(
+    let made = graph_of(
         alloc,
         points,
         stations,
@@ -92,5 +118,5 @@ fn graph_of_net(
         &traced.ways,
         &traced.passages,
     )?;
-    Ok(graph)
+    Ok(made)
 }

@@ -7,6 +7,7 @@
 mod building;
 mod course_net;
 mod legs;
+mod lines_of_segments;
 mod network;
 mod passages;
 mod print;
@@ -15,5 +16,6 @@ mod stretches;
 mod ways;
 
 pub use building::{build, graph_of_courses};
+pub use lines_of_segments::{GraphWithLines, build_with_lines, segment_lines};
 pub use map_base::LimitFault as BuildFault;
 pub use print::print_graph;

@@ -4,7 +4,7 @@ mod HeldOrders
 mod ReadAgain
 mod MadeProblem
 mod CheckSteps
-mod LabelSteps
+mod PictureSteps
 pub mod Shown
 mod PutOrders
 mod SolveLemmas

@@ -1,4 +1,4 @@
--- The map with its names, by a certificate.
+-- Pictures that are drawn of an accepted certificate, and the map with its names.
 use Rattle.std.specs.Prelude.{◌≡◌, ℕ, List, Result, Ok, Err}
 use Rattle.map_base.specs.declared.limit.Limit.{Limit}
 use Rattle.map_base.specs.Settings.{Choices}
@@ -14,20 +14,24 @@ use Rattle.map_engine.specs.Tables.{names_by}
 use Rattle.map_engine.specs.Checking.{PlainChecked, checked_items}
 use Rattle.map_engine.specs.Promises.{IsCertified}
 
--- the walks and the orders of a certificate as a map with its names at free places
-abbrev pub labelled_by : Feed → GraphParts → PlainCertificate → List ℕ
-labelled_by feed graph c = labelled_text (names_by feed) graph c.walks c.orders
-
--- this map where the certificate is accepted, or why it is not
+-- this picture where the certificate is accepted, or why it is not
 abbrev pub if_accepted : List ℕ → Result PlainChecked CheckFault → Result (List ℕ) CheckFault
 if_accepted map (Ok checked) = Ok map
 if_accepted map (Err stop) = Err stop
 
--- all items of the certificate are checked but the picture; a text that is no certificate's is refused where its first
--- wrong line begins
+-- A picture of a certificate: all items of the certificate are checked but the picture that is due; a text that is no
+-- certificate's is refused where its first wrong line begins.
+abbrev pub pictured_items : (PlainCertificate → List ℕ) → Feed → Choices → GraphParts → Result PlainCertificate ℕ → Result (List ℕ) CheckFault
+pictured_items draw feed choices graph (Err at) = Err (fault.Refuted (item.Text at))
+pictured_items draw feed choices graph (Ok c) = if_accepted (draw c) (checked_items feed choices graph c)
+
+-- the walks and the orders of a certificate as a map with its names at free places
+abbrev pub labelled_by : Feed → GraphParts → PlainCertificate → List ℕ
+labelled_by feed graph c = labelled_text (names_by feed) graph c.walks c.orders
+
+-- this map, or why the certificate is not accepted
 abbrev pub labelled_items : Feed → Choices → GraphParts → Result PlainCertificate ℕ → Result (List ℕ) CheckFault
-labelled_items feed choices graph (Err at) = Err (fault.Refuted (item.Text at))
-labelled_items feed choices graph (Ok c) = if_accepted (labelled_by feed graph c) (checked_items feed choices graph c)
+labelled_items feed choices graph read = pictured_items (labelled_by feed graph) feed choices graph read
 
 abbrev pub labels_on : Feed → Choices → Result PlainCertificate ℕ → Result GraphParts Limit → Result (List ℕ) CheckFault
 labels_on feed choices read (Err limit) = Err (fault.Limit limit)

@@ -16,3 +16,4 @@ pub mod Promises
 pub mod Improving
 pub mod Wholes
 pub mod Labelling
+pub mod Geographic

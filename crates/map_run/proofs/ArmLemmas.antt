@@ -11,7 +11,7 @@ use Rattle.command_run.specs.Delivered.{outputs_acts, IsSaid, IsDelivered}
 use Rattle.command_run.specs.Work.{Work, ends}
 use Rattle.command_run.proofs.ActLemmas.{delivered_whole}
 use Rattle.output_pieces.proofs.PieceLemmas.{delivered_left}
-use Rattle.command_words.specs.Asked.{Asked, stations, graph, make, improve, check, labels, session, trial, page}
+use Rattle.command_words.specs.Asked.{Asked, stations, graph, make, improve, check, depict, session, trial, page}
 use Rattle.run_status.specs.declared.input.Input.{Input}
 use Rattle.run_status.specs.declared.refusal.Refusal.{Refusal}
 use Rattle.run_status.specs.declared.status.Status.{Status}
@@ -23,7 +23,8 @@ use Rattle.map_commands.specs.MapWorks.{check_work, make_work}
 use Rattle.page_command.specs.PageWorks.{page_work}
 use Rattle.map_commands.specs.Promises.{AreOfMap, AreOfYes, SearchesParts}
 use Rattle.improve_command.specs.ImproveWorks.{improve_work, AreOfImproved}
-use Rattle.label_command.specs.LabelWorks.{labels_work, AreOfLabels}
+use Rattle.command_paths.specs.declared.picture.Picture.{Picture}
+use Rattle.picture_command.specs.PictureWorks.{picture_work, AreOfPicture}
 use Rattle.session_command.specs.declared.stop.ScriptStop.{ScriptStop}
 use Rattle.session_command.specs.declared.stop.ScriptStop.TheVariants as script_stop
 use Rattle.session_command.specs.Playing.{IsPlayed, Plays}
@@ -123,14 +124,14 @@ module _ (told : Told) (asked : Asked) where
       → Follows told (input_at inputs) rose same (check_work inputs.chosen) result → Follows told (input_path asked) rose at_end (work asked) end
   check_follows {feed} {paths} {chosen} rose result end inputs ended is lie follows = outputs_follow rose result end (check feed paths chosen) inputs (λ p. check_work p.chosen) ended is lie refl follows
 
-  pub labels_follows : {feed certificate out : List ℕ} {chosen : Chosen} (rose : Type 0) (result : Result (List Output) Refusal) (end : Result Finished Refusal) (inputs : InputPaths) → end ≡ whole_by result → asked ≡ labels feed certificate out chosen
-      → inputs ≡ inputs_of asked → Follows told (input_at inputs) rose same (labels_work inputs.chosen out) result → Follows told (input_path asked) rose at_end (work asked) end
-  labels_follows {feed} {certificate} {out} {chosen} rose result end inputs ended is lie follows =
-      outputs_follow rose result end (labels feed certificate out chosen) inputs (λ p. labels_work p.chosen out) ended is lie refl follows
+  pub depict_follows : {kind : Picture} {feed certificate out : List ℕ} {chosen : Chosen} (rose : Type 0) (result : Result (List Output) Refusal) (end : Result Finished Refusal) (inputs : InputPaths) → end ≡ whole_by result → asked ≡ depict kind feed certificate out chosen
+      → inputs ≡ inputs_of asked → Follows told (input_at inputs) rose same (picture_work kind inputs.chosen out) result → Follows told (input_path asked) rose at_end (work asked) end
+  depict_follows {kind} {feed} {certificate} {out} {chosen} rose result end inputs ended is lie follows =
+      outputs_follow rose result end (depict kind feed certificate out chosen) inputs (λ p. picture_work kind p.chosen out) ended is lie refl follows
 
-  pub page_follows : {picture html : List ℕ} (rose : Type 0) (result : Result (List Output) Refusal) (end : Result Finished Refusal) (inputs : InputPaths) → end ≡ whole_by result → asked ≡ page picture html → inputs ≡ inputs_of asked
+  pub page_follows : {shown html : List ℕ} (rose : Type 0) (result : Result (List Output) Refusal) (end : Result Finished Refusal) (inputs : InputPaths) → end ≡ whole_by result → asked ≡ page shown html → inputs ≡ inputs_of asked
       → Follows told (input_at inputs) rose same (page_work html) result → Follows told (input_path asked) rose at_end (work asked) end
-  page_follows {picture} {html} rose result end inputs ended is lie follows = outputs_follow rose result end (page picture html) inputs (λ p. page_work html) ended is lie refl follows
+  page_follows {shown} {html} rose result end inputs ended is lie follows = outputs_follow rose result end (page shown html) inputs (λ p. page_work html) ended is lie refl follows
 
   pub trial_follows : (rose : Type 0) (result : Result (List Output) Refusal) (end : Result Finished Refusal) (number : ℕ) → end ≡ whole_by result → asked ≡ trial number → Gives same result (trial_outcome number)
       → Follows told (input_path asked) rose at_end (work asked) end
@@ -156,9 +157,9 @@ module _ (told : Told) (asked : Asked) where
   trial_keeps {number} (Ok outputs) end ended is = keeps_as (trial number) (Ok (whole outputs)) end ended is tt
   trial_keeps {number} (Err why) end ended is = keeps_as (trial number) (Err why) end ended is tt
 
-  pub page_keeps : {picture html : List ℕ} (result : Result (List Output) Refusal) (end : Result Finished Refusal) → end ≡ whole_by result → asked ≡ page picture html → Keeps told asked end
-  page_keeps {picture} {html} (Ok outputs) end ended is = keeps_as (page picture html) (Ok (whole outputs)) end ended is tt
-  page_keeps {picture} {html} (Err why) end ended is = keeps_as (page picture html) (Err why) end ended is tt
+  pub page_keeps : {shown html : List ℕ} (result : Result (List Output) Refusal) (end : Result Finished Refusal) → end ≡ whole_by result → asked ≡ page shown html → Keeps told asked end
+  page_keeps {shown} {html} (Ok outputs) end ended is = keeps_as (page shown html) (Ok (whole outputs)) end ended is tt
+  page_keeps {shown} {html} (Err why) end ended is = keeps_as (page shown html) (Err why) end ended is tt
 
   -- what is promised by the inputs of a command
   by_inputs : (P : InputPaths → Type 0) (command : Asked) (inputs : InputPaths) → asked ≡ command → inputs ≡ inputs_of asked → P inputs → P (inputs_of command)
@@ -182,11 +183,11 @@ module _ (told : Told) (asked : Asked) where
       keeps_as (check feed paths chosen) (Ok (whole outputs)) end ended is (by_inputs (λ p. AreOfYes told p outputs) (check feed paths chosen) inputs is lie are)
   check_keeps {feed} {paths} {chosen} inputs (Err why) end ended is lie are = keeps_as (check feed paths chosen) (Err why) end ended is tt
 
-  pub labels_keeps : {feed certificate out : List ℕ} {chosen : Chosen} (inputs : InputPaths) (result : Result (List Output) Refusal) (end : Result Finished Refusal) → end ≡ whole_by result → asked ≡ labels feed certificate out chosen
-      → inputs ≡ inputs_of asked → IfOk result (AreOfLabels told inputs out) → Keeps told asked end
-  labels_keeps {feed} {certificate} {out} {chosen} inputs (Ok outputs) end ended is lie are =
-      keeps_as (labels feed certificate out chosen) (Ok (whole outputs)) end ended is (by_inputs (λ p. AreOfLabels told p out outputs) (labels feed certificate out chosen) inputs is lie are)
-  labels_keeps {feed} {certificate} {out} {chosen} inputs (Err why) end ended is lie are = keeps_as (labels feed certificate out chosen) (Err why) end ended is tt
+  pub depict_keeps : {kind : Picture} {feed certificate out : List ℕ} {chosen : Chosen} (inputs : InputPaths) (result : Result (List Output) Refusal) (end : Result Finished Refusal) → end ≡ whole_by result → asked ≡ depict kind feed certificate out chosen
+      → inputs ≡ inputs_of asked → IfOk result (AreOfPicture kind told inputs out) → Keeps told asked end
+  depict_keeps {kind} {feed} {certificate} {out} {chosen} inputs (Ok outputs) end ended is lie are =
+      keeps_as (depict kind feed certificate out chosen) (Ok (whole outputs)) end ended is (by_inputs (λ p. AreOfPicture kind told p out outputs) (depict kind feed certificate out chosen) inputs is lie are)
+  depict_keeps {kind} {feed} {certificate} {out} {chosen} inputs (Err why) end ended is lie are = keeps_as (depict kind feed certificate out chosen) (Err why) end ended is tt
 
   -- a script whose draws are written as they are made
   pub session_ends : {feed script out : List ℕ} {chosen : Chosen} (files_rose first_rose last_rose sinks_rose : Type 0) (outcome : Result (Option ℕ) ScriptStop) (inputs : InputPaths) (old mid new : Option Written) (ended : Status)
@@ -255,16 +256,16 @@ module _ (told : Told) (asked : Asked) where
   pub check_steps : {feed : List ℕ} {paths : MapPaths} {chosen : Chosen} (steps : ℕ) → asked ≡ check feed paths chosen → TakesSteps told (Some asked) steps steps
   check_steps {feed} {paths} {chosen} steps is = steps_as (check feed paths chosen) steps steps is refl
 
-  pub labels_steps : {feed certificate out : List ℕ} {chosen : Chosen} (steps : ℕ) → asked ≡ labels feed certificate out chosen → TakesSteps told (Some asked) steps steps
-  labels_steps {feed} {certificate} {out} {chosen} steps is = steps_as (labels feed certificate out chosen) steps steps is refl
+  pub depict_steps : {kind : Picture} {feed certificate out : List ℕ} {chosen : Chosen} (steps : ℕ) → asked ≡ depict kind feed certificate out chosen → TakesSteps told (Some asked) steps steps
+  depict_steps {kind} {feed} {certificate} {out} {chosen} steps is = steps_as (depict kind feed certificate out chosen) steps steps is refl
 
   pub session_steps : {feed script out : List ℕ} {chosen : Chosen} (inputs : InputPaths) (before now : ℕ) → asked ≡ session feed script out chosen → inputs ≡ inputs_of asked
       → TakesSessionSteps told inputs before now → TakesSteps told (Some asked) before now
   session_steps {feed} {script} {out} {chosen} inputs before now is lie few =
       steps_as (session feed script out chosen) before now is (by_inputs (λ p. TakesSessionSteps told p before now) (session feed script out chosen) inputs is lie few)
 
-  pub page_steps : {picture html : List ℕ} (steps : ℕ) → asked ≡ page picture html → TakesSteps told (Some asked) steps steps
-  page_steps {picture} {html} steps is = steps_as (page picture html) steps steps is refl
+  pub page_steps : {shown html : List ℕ} (steps : ℕ) → asked ≡ page shown html → TakesSteps told (Some asked) steps steps
+  page_steps {shown} {html} steps is = steps_as (page shown html) steps steps is refl
 
   pub trial_steps : {number : ℕ} (before now : ℕ) → asked ≡ trial number → TakesTrialSteps number before now → TakesSteps told (Some asked) before now
   trial_steps {number} before now is few = steps_as (trial number) before now is few

@@ -17,7 +17,7 @@ use Rattle.run_status.specs.declared.status.Status.TheVariants as status
 use Rattle.command_words.specs.declared.fault.WordsFault.{WordsFault}
 use Rattle.command_words.specs.declared.fault.WordsFault.TheVariants as fault
 use Rattle.command_words.specs.Words.{Reads as ReadsWords}
-use Rattle.command_words.specs.Asked.{Asked, stations, graph, make, improve, check, labels, session, trial, page}
+use Rattle.command_words.specs.Asked.{Asked, stations, graph, make, improve, check, depict, session, trial, page}
 use Rattle.map_run.specs.Inputs.{input_path}
 use Rattle.map_run.specs.Answers.{Finished, alone, done, answer_by, status_at}
 use Rattle.run_status.specs.Statuses.{status_of}
@@ -67,10 +67,10 @@ no_steps told (Some (graph feed chosen)) steps = refl
 no_steps told (Some (make feed paths chosen)) steps = inl refl
 no_steps told (Some (improve feed paths moves chosen)) steps = inl refl
 no_steps told (Some (check feed paths chosen)) steps = refl
-no_steps told (Some (labels feed certificate out chosen)) steps = refl
+no_steps told (Some (depict kind feed certificate out chosen)) steps = refl
 no_steps told (Some (session feed script out chosen)) steps = inl refl
 no_steps told (Some (trial number)) steps = inl refl
-no_steps told (Some (page picture html)) steps = refl
+no_steps told (Some (page shown html)) steps = refl
 
 -- the cause of the status of an answer
 answer_caused : (asked : Option Asked) (told : Told) (files_rose sinks_rose : Type 0) (answer : Answer) → IsAnswerTo asked told files_rose answer → IsCaused asked files_rose sinks_rose answer.status

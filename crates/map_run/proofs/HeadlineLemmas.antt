@@ -16,7 +16,7 @@ use Rattle.run_status.specs.declared.refusal.Refusal.{Refusal}
 use Rattle.run_status.specs.declared.refusal.Refusal.TheVariants as refused
 use Rattle.run_status.specs.declared.status.Status.{Status}
 use Rattle.run_status.specs.declared.status.Status.TheVariants as status
-use Rattle.command_words.specs.Asked.{Asked, stations, graph, make, improve, check, labels, session, trial, page}
+use Rattle.command_words.specs.Asked.{Asked, stations, graph, make, improve, check, depict, session, trial, page}
 use Rattle.command_paths.specs.Paths.{MapPaths}
 use Rattle.command_words.specs.Words.{asked, asked_in}
 use Rattle.command_words.proofs.Apart.{AreApart, asked_apart}
@@ -95,7 +95,7 @@ means : (told : Told) (command : Asked) (finished : Finished) (old new : Written
 means told (stations feed) finished old new apart promised none holds = tt
 means told (graph feed chosen) finished old new apart promised none holds = tt
 means told (trial number) finished old new apart promised none holds = tt
-means told (page picture html) finished old new apart promised none holds = tt
+means told (page shown html) finished old new apart promised none holds = tt
 means told (make feed paths chosen) finished old new apart promised none holds =
     let has = subst (λ (o : List Output). Holds o old new) promised.are holds in
     record {
@@ -130,8 +130,8 @@ means told (check feed paths chosen) finished old new apart promised none holds 
       accepted = promised.accepted;
       printed = has Said;
     }
-means told (labels feed certificate out chosen) finished old new apart promised none holds =
-    let labelled = promised.labelled in
+means told (depict kind feed certificate out chosen) finished old new apart promised none holds =
+    let labelled = promised.drawn in
     let has = subst (λ (o : List Output). Holds o old new) labelled.4 holds in
     record {
       loaded = promised.loaded;
@@ -139,7 +139,7 @@ means told (labels feed certificate out chosen) finished old new apart promised 
       certificate = labelled.0;
       lies = labelled.2;
       map = labelled.1;
-      is_labelled = labelled.3;
+      is_picture = labelled.3;
       holds = has (Path out) ∙ one_held out labelled.1 (held_by (Path out) old);
     }
 means told (session feed script out chosen) finished old new apart promised none holds =

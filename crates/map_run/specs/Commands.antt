@@ -2,13 +2,13 @@
 use Rattle.std.specs.Prelude.{Bool, true, false, List, Ok}
 use Rattle.command_run.specs.declared.output.Output.{Output}
 use Rattle.command_run.specs.Work.{Work, ends, ◌>>=◌}
-use Rattle.command_words.specs.Asked.{Asked, stations, graph, make, improve, check, labels, session, trial, page}
+use Rattle.command_words.specs.Asked.{Asked, stations, graph, make, improve, check, depict, session, trial, page}
 use Rattle.run_status.specs.declared.input.Input.{Input}
 use Rattle.run_status.specs.declared.refusal.Refusal.{Refusal}
 use Rattle.table_commands.specs.TableWorks.{graph_work, stations_work}
 use Rattle.map_commands.specs.MapWorks.{check_work, make_work}
 use Rattle.improve_command.specs.ImproveWorks.{improve_work}
-use Rattle.label_command.specs.LabelWorks.{labels_work}
+use Rattle.picture_command.specs.PictureWorks.{picture_work}
 use Rattle.session_command.specs.SessionWorks.{Played, session_work}
 use Rattle.trial_command.specs.Trials.{trial_work}
 use Rattle.page_command.specs.PageWorks.{page_work}
@@ -33,10 +33,10 @@ work (graph feed chosen) = to_the_end (graph_work chosen)
 work (make feed paths chosen) = to_the_end (make_work chosen paths)
 work (improve feed paths moves chosen) = to_the_end (improve_work chosen paths moves)
 work (check feed paths chosen) = to_the_end (check_work chosen)
-work (labels feed certificate out chosen) = to_the_end (labels_work chosen out)
+work (depict kind feed certificate out chosen) = to_the_end (picture_work kind chosen out)
 work (session feed script out chosen) = to_a_stop (session_work chosen out)
 work (trial number) = to_the_end (trial_work number)
-work (page picture html) = to_the_end (page_work html)
+work (page shown html) = to_the_end (page_work html)
 
 -- the commands whose outputs are written as they are made
 abbrev pub is_script : Asked → Bool

@@ -11,12 +11,13 @@ use Rattle.table_rows.specs.Folder.{path_in}
 use Rattle.map_engine.specs.Making.{MapBytes, make_outcome}
 use Rattle.map_engine.specs.Promises.{IsMade}
 use Rattle.map_engine.specs.Improving.{ImprovedBytes, improve_outcome, IsImprovedMap}
-use Rattle.map_engine.specs.Labelling.{IsLabelledMap}
+use Rattle.command_paths.specs.declared.picture.Picture.{Picture}
+use Rattle.picture_command.specs.PictureWorks.{IsPicture}
 use Rattle.edit_session.specs.Scripts.{followed_in}
 use Rattle.session_command.specs.SessionWorks.{session_text}
 use Rattle.session_command.specs.Promises.{KeepDraws}
 use Rattle.command_inputs.specs.declared.loaded.Loaded.{Loaded}
-use Rattle.command_words.specs.Asked.{Asked, stations, graph, make, improve, check, labels, session, trial, page}
+use Rattle.command_words.specs.Asked.{Asked, stations, graph, make, improve, check, depict, session, trial, page}
 use Rattle.command_paths.specs.Paths.{Chosen, MapPaths}
 use Rattle.map_commands.specs.MapWorks.{best_line}
 use Rattle.improve_command.specs.ImproveWorks.{improved_line}
@@ -65,15 +66,16 @@ pub record IsMapAccepted (told : Option (List (List ℕ × List ℕ))) (asked : 
   pub accepted : IsAccepted told (inputs_of asked) loaded picture cost
   pub printed : SaysBest old new cost
 
--- A map with its names is written, by the certificate that lies at its path, whoever made that: it shows exactly the line
--- graph of the feed's tables, in a legal drawing, no line orders cost less, and its names stand at free places.
-pub record IsLabelledMapWritten (told : Option (List (List ℕ × List ℕ))) (asked : Asked) (path out : List ℕ) (new : Written) : Type 0 where
+-- A picture is written, by the certificate that lies at its path, whoever made that: it shows exactly the line graph of the
+-- feed's tables, and no line orders cost less than its own. A map with its names shows a legal drawing, with names at free
+-- places; a geographic map shows the orders along the ways that lines take on the ground.
+pub record IsPictureWritten (kind : Picture) (told : Option (List (List ℕ × List ℕ))) (asked : Asked) (path out : List ℕ) (new : Written) : Type 0 where
   pub loaded : Loaded
   pub loads : Loads told (inputs_of asked) loaded
   pub certificate : List ℕ
   pub lies : IfSome told (λ files. file_at files path ≡ Some certificate)
   pub map : List ℕ
-  pub is_labelled : IsLabelledMap loaded.tables loaded.settings map certificate
+  pub is_picture : IsPicture kind loaded.tables loaded.settings map certificate
   pub holds : held_by (Path out) new ≡ Some map
 
 -- A script was followed to its end, and its draws are written: each has the bytes of a fresh map with the edits that stand
@@ -93,10 +95,10 @@ MeansDone told (stations feed) old new = ⊤
 MeansDone told (graph feed chosen) old new = ⊤
 MeansDone told (make feed paths chosen) old new = IsMapWritten told (make feed paths chosen) paths new
 MeansDone told (improve feed paths moves chosen) old new = IsImprovedMapWritten told (improve feed paths moves chosen) paths moves old new
-MeansDone told (labels feed certificate out chosen) old new = IsLabelledMapWritten told (labels feed certificate out chosen) certificate out new
+MeansDone told (depict kind feed certificate out chosen) old new = IsPictureWritten kind told (depict kind feed certificate out chosen) certificate out new
 MeansDone told (session feed script out chosen) old new = IsSessionWritten told (session feed script out chosen) script out new
 MeansDone told (trial number) old new = ⊤
-MeansDone told (page picture html) old new = ⊤
+MeansDone told (page shown html) old new = ⊤
 MeansDone told (check feed paths chosen) old new = IsMapAccepted told (check feed paths chosen) paths old new
 
 -- what is chosen for a check of a map: the files that were chosen for the map

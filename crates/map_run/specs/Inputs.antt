@@ -2,7 +2,7 @@
 use Rattle.std.specs.Prelude.{ℕ, List, [], None}
 use Rattle.map_method.specs.declared.defaults.Defaults.TheVariants.{Make}
 use Rattle.command_paths.specs.Paths.{Chosen, MapPaths}
-use Rattle.command_words.specs.Asked.{Asked, stations, graph, make, improve, check, labels, session, trial, page}
+use Rattle.command_words.specs.Asked.{Asked, stations, graph, make, improve, check, depict, session, trial, page}
 use Rattle.run_status.specs.declared.input.Input.{Input}
 use Rattle.command_inputs.specs.Inputs.{InputPaths, input_at}
 
@@ -21,10 +21,10 @@ inputs_of (graph feed chosen) = record { feed = feed; chosen = chosen; files = n
 inputs_of (make feed paths chosen) = record { feed = feed; chosen = chosen; files = no_map; script = [] }
 inputs_of (improve feed paths moves chosen) = record { feed = feed; chosen = chosen; files = no_map; script = [] }
 inputs_of (check feed paths chosen) = record { feed = feed; chosen = chosen; files = paths; script = [] }
-inputs_of (labels feed certificate out chosen) = record { feed = feed; chosen = chosen; files = record { picture = []; certificate = certificate }; script = [] }
+inputs_of (depict kind feed certificate out chosen) = record { feed = feed; chosen = chosen; files = record { picture = []; certificate = certificate }; script = [] }
 inputs_of (session feed script out chosen) = record { feed = feed; chosen = chosen; files = no_map; script = script }
 inputs_of (trial number) = record { feed = []; chosen = no_choice; files = no_map; script = [] }
-inputs_of (page picture html) = record { feed = []; chosen = no_choice; files = record { picture = picture; certificate = [] }; script = [] }
+inputs_of (page shown html) = record { feed = []; chosen = no_choice; files = record { picture = shown; certificate = [] }; script = [] }
 
 -- the path of an input
 abbrev pub input_path : Asked → Input → List ℕ

@@ -1,10 +1,10 @@
 -- What commands promise of their outputs and their steps. One line a command.
 use Rattle.std.specs.Prelude.{◌≡◌, ℕ, List, Option, None, Some, Result, Ok, Err, ⊤}
-use Rattle.command_words.specs.Asked.{Asked, stations, graph, make, improve, check, labels, session, trial, page}
+use Rattle.command_words.specs.Asked.{Asked, stations, graph, make, improve, check, depict, session, trial, page}
 use Rattle.run_status.specs.declared.refusal.Refusal.{Refusal}
 use Rattle.map_commands.specs.Promises.{AreOfMap, AreOfYes, SearchesParts}
 use Rattle.improve_command.specs.ImproveWorks.{AreOfImproved}
-use Rattle.label_command.specs.LabelWorks.{AreOfLabels}
+use Rattle.picture_command.specs.PictureWorks.{AreOfPicture}
 use Rattle.session_command.specs.SessionWorks.{Played}
 use Rattle.session_command.specs.Promises.{AreOfSession, TakesSessionSteps}
 use Rattle.trial_command.specs.Trials.{TakesTrialSteps}
@@ -22,10 +22,10 @@ Promised told (graph feed chosen) finished = ⊤
 Promised told (make feed paths chosen) finished = AreOfMap told (inputs_of (make feed paths chosen)) paths finished.outputs
 Promised told (improve feed paths moves chosen) finished = AreOfImproved told (inputs_of (improve feed paths moves chosen)) paths moves finished.outputs
 Promised told (check feed paths chosen) finished = AreOfYes told (inputs_of (check feed paths chosen)) finished.outputs
-Promised told (labels feed certificate out chosen) finished = AreOfLabels told (inputs_of (labels feed certificate out chosen)) out finished.outputs
+Promised told (depict kind feed certificate out chosen) finished = AreOfPicture kind told (inputs_of (depict kind feed certificate out chosen)) out finished.outputs
 Promised told (session feed script out chosen) finished = AreOfSession told (inputs_of (session feed script out chosen)) out (played_of finished)
 Promised told (trial number) finished = ⊤
-Promised told (page picture html) finished = ⊤
+Promised told (page shown html) finished = ⊤
 
 -- what a result promises: a refusal nothing more
 abbrev pub Keeps : Option (List (List ℕ × List ℕ)) → Asked → Result Finished Refusal → Type 0
@@ -40,7 +40,7 @@ TakesSteps told (Some (graph feed chosen)) before now = now ≡ before
 TakesSteps told (Some (make feed paths chosen)) before now = SearchesParts told (inputs_of (make feed paths chosen)) before now
 TakesSteps told (Some (improve feed paths moves chosen)) before now = SearchesParts told (inputs_of (improve feed paths moves chosen)) before now
 TakesSteps told (Some (check feed paths chosen)) before now = now ≡ before
-TakesSteps told (Some (labels feed certificate out chosen)) before now = now ≡ before
+TakesSteps told (Some (depict kind feed certificate out chosen)) before now = now ≡ before
 TakesSteps told (Some (session feed script out chosen)) before now = TakesSessionSteps told (inputs_of (session feed script out chosen)) before now
 TakesSteps told (Some (trial number)) before now = TakesTrialSteps number before now
-TakesSteps told (Some (page picture html)) before now = now ≡ before
+TakesSteps told (Some (page shown html)) before now = now ≡ before

@@ -28,7 +28,7 @@ pub fn inputs_of<'a>(command: &Command<'a>) -> Inputs<'a>
             files,
             options,
         } => of_map(feed, *options, *files),
-        Command::Labels {
+        Command::Depict {
             feed,
             certificate,
             options,

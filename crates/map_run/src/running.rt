@@ -17,10 +17,10 @@ use command_run::{Ending, Output, deliver, out_of_memory};
 use command_words::{Command, WordsFault, command_of};
 use files_door::{Files, Sinks};
 use improve_command::improve_map;
-use label_command::label_map;
 use map_base::{NoMemory, Sequence, Steps};
 use map_commands::{check_map, make_map};
 use page_command::show_map;
+use picture_command::draw_picture;
 use run_status::{Refusal, Status, line_of};
 use session_command::{ScriptStop, play_script};
 use std::alloc::Global;
@@ -38,8 +38,8 @@ use trial_command::print_trial;
 ///
 /// Where `make` or `improve` ends with status 0, the map that is written shows exactly the feed's line graph: a legal drawing,
 /// in which no line orders cost less, as the certificate beside it shows. Where `check` ends with status 0, the map at its
-/// path is such a map, whoever made it and its certificate; and where `labels` ends with it, such a map is written with
-/// names at free places. Each draw of a `session` has the bytes of a fresh map with the edits that stand there, and is written
+/// path is such a map, whoever made it and its certificate; where `labels` ends with it, such a map is written with names
+/// at free places, and where `geo` does, its line orders along the ways that lines take on the ground. Each draw of a `session` has the bytes of a fresh map with the edits that stand there, and is written
 /// as soon as it is made; a bad line of its script ends it, and the draws before it stay. Where a file of edits is named, the feed is as these make it.
 /// `page` writes the bytes of the page's head, of the map and of the page's tail. `trial` reads and writes no file.
 pub fn run<F: Files, S: Sinks, L: Ledger>(
@@ -135,8 +135,8 @@ fn run_command<F: Files, S: Sinks, L: Ledger>(
             let outcome = check_map(alloc, &inputs, files);
             write_outcome(alloc, command, outcome, sinks)
         }
-        Command::Labels { out, .. } => {
-            let outcome = label_map(alloc, &inputs, out, files);
+        Command::Depict { kind, out, .. } => {
+            let outcome = draw_picture(alloc, &inputs, *kind, out, files);
             write_outcome(alloc, command, outcome, sinks)
         }
         Command::Session { out, .. } => {

@@ -3,7 +3,8 @@ use Rattle.std.proofs.Common.{◌≡◌, [], ◌∷◌, None, Some, codes, refl}
 use Rattle.clap.proofs.OnLiterals.{clap_on_literals}
 use Rattle.map_method.specs.declared.defaults.Defaults.TheVariants.{Make, Map}
 use Rattle.command_paths.specs.Paths.{MapPaths, Chosen}
-use Rattle.command_words.specs.Asked.{stations, graph, make, improve, check, labels, session, trial, page}
+use Rattle.command_words.specs.Asked.{stations, graph, make, improve, check, depict, session, trial, page}
+use Rattle.command_paths.specs.declared.picture.Picture.TheVariants.{Labelled, Geographic}
 use Rattle.command_words.specs.Program.{octimap_app}
 use Rattle.command_words.specs.Words.{asked, faults, met}
 
@@ -114,9 +115,15 @@ not_a_trial = refl
 
 -- labels take the settings and edits of the map
 labels_are_asked : asked (codes "labels" ∷ codes "feed" ∷ codes "m.cert" ∷ codes "n.svg" ∷ codes "--settings" ∷ codes "my.toml" ∷ [])
-    ≡ Some (labels (codes "feed") (codes "m.cert") (codes "n.svg") by_mine)
+    ≡ Some (depict Labelled (codes "feed") (codes "m.cert") (codes "n.svg") by_mine)
 unfolding clap_on_literals asked faults met octimap_app
 labels_are_asked = refl
+
+-- and so does the geographic map
+a_geographic_map_is_asked : asked (codes "geo" ∷ codes "feed" ∷ codes "m.cert" ∷ codes "n.svg" ∷ codes "--settings" ∷ codes "my.toml" ∷ [])
+    ≡ Some (depict Geographic (codes "feed") (codes "m.cert") (codes "n.svg") by_mine)
+unfolding clap_on_literals asked faults met octimap_app
+a_geographic_map_is_asked = refl
 
 -- a session takes settings, and no file of edits: its edits stand in the script
 a_session_is_asked : asked (codes "session" ∷ codes "feed" ∷ codes "my.script" ∷ codes "draws" ∷ codes "--settings" ∷ codes "my.toml" ∷ [])

@@ -87,6 +87,32 @@ fn a_straight_map_is_not_moved(rt: HostRuntime) -> Result<(), Fail> {
     Ok(())
 }
 
+/// The geographic map of the smallest feed: its line runs over each point of the net between its stations.
+const SMALLEST_GROUND: &str = "\
+<svg xmlns=\"http://www.w3.org/2000/svg\" version=\"1.1\" viewBox=\"-1000 -1000 13132 2000\">
+<path class=\"s0 l0\" d=\"M 0 0 L 742 0 L 1484 0 L 2226 0 L 2968 0 L 3710 0 L 4452 0 L 5194 0 L 5937 0 L 6679 0 L 7421 0 L 8163 0 L 8905 0 L 9647 0 L 10389 0 L 11132 0\" fill=\"none\" stroke=\"#e6194b\" stroke-width=\"50\"><title>A</title></path>
+<circle cx=\"0\" cy=\"0\" r=\"50\" fill=\"#ffffff\" stroke=\"#000000\" stroke-width=\"10\"/>
+<circle cx=\"11132\" cy=\"0\" r=\"50\" fill=\"#ffffff\" stroke=\"#000000\" stroke-width=\"10\"/>
+<text x=\"90\" y=\"-90\" font-size=\"200\">X</text>
+<text x=\"11222\" y=\"-90\" font-size=\"200\">Y</text>
+</svg>
+";
+
+#[test]
+fn the_smallest_map_is_drawn_over_the_ground(rt: HostRuntime) -> Result<(), Fail> {
+    let alloc = rt.alloc();
+    let words = words_of(alloc, "geo feed map.cert ground.svg")?;
+    let mut files = smallest_feed(alloc)?;
+    put_file(alloc, &mut files, "map.cert", SMALLEST_CERTIFICATE)?;
+    let mut files = SteadyFiles::with(files);
+    let mut sinks = SteadySinks::none(alloc);
+    assert_eq!(rt; run_on(alloc, &words, &mut files, &mut sinks), 0);
+    let map = sinks.written(&at(alloc, "ground.svg")?).unwrap_or(b"");
+    assert_eq!(rt; map, SMALLEST_GROUND.as_bytes());
+    assert_eq!(rt; sinks.written(&Target::Said), None);
+    Ok(())
+}
+
 #[test]
 fn a_map_that_is_cut_short_leaves_no_certificate(rt: HostRuntime) -> Result<(), Fail> {
     let alloc = rt.alloc();

@@ -3,8 +3,9 @@ use Rattle.std.proofs.Common.{◌≡◌, ℕ, ◌+◌, ◌<◌, List, ◌++◌, 
 use Rattle.std.specs.List.{flat_map}
 use Rattle.std.proofs.lemmas.List.{drop_more, at_drop_all}
 use Rattle.map_base.specs.declared.ids.LineId.{LineId}
-use Rattle.octi_grid.specs.Walks.{PlainWalk}
 use Rattle.svg_writer.specs.declared.names.Names.{Names}
+use Rattle.svg_writer.specs.declared.style.Style.{Style}
+use Rattle.svg_writer.specs.Courses.{Courses}
 use Rattle.svg_writer.specs.Elements.{texts}
 use Rattle.svg_writer.specs.Picture.{no_line, line_text, line_elements}
 
@@ -24,13 +25,13 @@ written_all f xs i before whole end all =
     sym (append-nil before) ∙ sym (at_drop_all (λ ys. before ++ flat_map f ys) xs i (omega arith)) ∙ all
 
 -- one line more of a segment
-pub line_more : (names : Names) (walk : PlainWalk) (s n i : ℕ) (order : List LineId) (before after whole : List ℕ) → i < length order
-    → after ≡ before ++ line_text names walk s n i (get_or order i no_line)
-    → before ++ texts (line_elements names walk s n i (drop i order)) ≡ whole → after ++ texts (line_elements names walk s n (i + 1) (drop (i + 1) order)) ≡ whole
-line_more names walk s n i order before after whole low grew all =
+pub line_more : (style : Style) (names : Names) (drawn : Courses) (s n i : ℕ) (order : List LineId) (before after whole : List ℕ) → i < length order
+    → after ≡ before ++ line_text style names drawn s n i (get_or order i no_line)
+    → before ++ texts style (line_elements names drawn s n i (drop i order)) ≡ whole → after ++ texts style (line_elements names drawn s n (i + 1) (drop (i + 1) order)) ≡ whole
+line_more style names drawn s n i order before after whole low grew all =
     let l = get_or order i no_line in
-    let rest = texts (line_elements names walk s n (i + 1) (drop (i + 1) order)) in
+    let rest = texts style (line_elements names drawn s n (i + 1) (drop (i + 1) order)) in
     ap (λ (bytes : List ℕ). bytes ++ rest) grew
-    ∙ append_assoc before (line_text names walk s n i l) rest
-    ∙ sym (ap (λ (ls : List LineId). before ++ texts (line_elements names walk s n i ls)) (drop_more order i no_line low))
+    ∙ append_assoc before (line_text style names drawn s n i l) rest
+    ∙ sym (ap (λ (ls : List LineId). before ++ texts style (line_elements names drawn s n i ls)) (drop_more order i no_line low))
     ∙ all

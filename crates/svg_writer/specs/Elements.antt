@@ -1,10 +1,11 @@
 -- The elements of a picture, and the text of each (SVG 1.1).
-use Rattle.std.specs.Prelude.{ℕ, ◌≤◌, pos, ◌+ℤ◌, ◌-ℤ◌, ◌/◌, ◌%◌, unsigned_abs, List, [], ◌∷◌, ◌++◌, codes}
+use Rattle.std.specs.Prelude.{ℕ, ◌≤◌, ◌*◌, pos, ◌+ℤ◌, ◌-ℤ◌, ◌/◌, ◌%◌, unsigned_abs, List, [], ◌∷◌, ◌++◌, codes}
 use Rattle.std.specs.List.{flat_map}
 use Rattle.std.specs.Fmt.{decimal, signed_decimal}
 use Rattle.std.specs.Char.{digit_char}
 use Rattle.line_offsets.specs.declared.corner.Corner.{Corner}
 use Rattle.svg_writer.specs.declared.bounds.Bounds.{Bounds}
+use Rattle.svg_writer.specs.declared.style.Style.{Style}
 use Rattle.svg_writer.specs.Escaping.{escaped}
 
 -- The head; a line on a segment, with its name; a line from one segment to another at a node; the marker of a station,
@@ -37,19 +38,23 @@ abbrev pub path_text : List Corner → List ℕ
 path_text [] = []
 path_text (c ∷ cs) = codes "M " ++ (corner_text c ++ flat_map next_text cs)
 
+-- a number in quotes, at the end of an attribute
+abbrev pub quoted : ℕ → List ℕ
+quoted n = decimal n ++ (34 ∷ [])
+
 -- how lines are drawn, in a colour
-abbrev pub stroke_text : List ℕ → List ℕ
-stroke_text colour = codes "\" fill=\"none\" stroke=\"" ++ (colour_text colour ++ codes "\" stroke-width=\"12\"")
+abbrev pub stroke_text : Style → List ℕ → List ℕ
+stroke_text style colour = codes "\" fill=\"none\" stroke=\"" ++ (colour_text colour ++ (codes "\" stroke-width=\"" ++ quoted style.stroke))
 
--- what the picture shows, 200 units wider on each side than the bounds: left, top, width and height
-abbrev pub view_place : Bounds → Corner
-view_place b = record { x = b.left -ℤ pos 200; y = b.top -ℤ pos 200 }
+-- what the picture shows, wider on each side than the bounds: left, top, width and height
+abbrev pub view_place : Style → Bounds → Corner
+view_place style b = record { x = b.left -ℤ pos style.margin; y = b.top -ℤ pos style.margin }
 
-abbrev pub view_size : Bounds → Corner
-view_size b = record { x = (b.right -ℤ b.left) +ℤ pos 400; y = (b.bottom -ℤ b.top) +ℤ pos 400 }
+abbrev pub view_size : Style → Bounds → Corner
+view_size style b = record { x = (b.right -ℤ b.left) +ℤ pos (2 * style.margin); y = (b.bottom -ℤ b.top) +ℤ pos (2 * style.margin) }
 
-abbrev pub view_text : Bounds → List ℕ
-view_text b = corner_text (view_place b) ++ (32 ∷ corner_text (view_size b))
+abbrev pub view_text : Style → Bounds → List ℕ
+view_text style b = corner_text (view_place style b) ++ (32 ∷ corner_text (view_size style b))
 
 -- two numbers in the class of a path, to the beginning of its corners
 abbrev pub ids_text : ℕ → ℕ → List ℕ
@@ -67,27 +72,27 @@ abbrev pub place_text : Corner → List ℕ
 place_text c = signed_decimal c.x ++ (codes "\" y=\"" ++ signed_decimal c.y)
 
 -- the radius of a marker, and how it is drawn
-abbrev pub circle_text : ℕ → List ℕ
-circle_text radius = codes "\" r=\"" ++ (decimal radius ++ codes "\" fill=\"#ffffff\" stroke=\"#000000\" stroke-width=\"4\"/>\n")
+abbrev pub circle_text : Style → ℕ → List ℕ
+circle_text style radius = codes "\" r=\"" ++ (decimal radius ++ (codes "\" fill=\"#ffffff\" stroke=\"#000000\" stroke-width=\"" ++ (quoted style.rim ++ codes "/>\n")))
 
 -- the name of a station, and how it is written
-abbrev pub label_text : List ℕ → List ℕ
-label_text name = codes "\" font-size=\"20\">" ++ (escaped name ++ codes "</text>\n")
+abbrev pub label_text : Style → List ℕ → List ℕ
+label_text style name = codes "\" font-size=\"" ++ (quoted style.font ++ (codes ">" ++ (escaped name ++ codes "</text>\n")))
 
 -- the text of an element, a line
-abbrev pub element_text : Element → List ℕ
-element_text (Head bounds) = codes "<svg xmlns=\"http://www.w3.org/2000/svg\" version=\"1.1\" viewBox=\"" ++ (view_text bounds ++ codes "\">\n")
-element_text (OnSegment seg line path colour name) =
-    codes "<path class=\"s" ++ (ids_text seg line ++ (path_text path ++ (stroke_text colour ++ title_text name)))
-element_text (AtNode node line start end colour) =
-    codes "<path class=\"n" ++ (ids_text node line ++ (path_text (start ∷ end ∷ []) ++ (stroke_text colour ++ codes "/>\n")))
-element_text (Marker centre radius) = codes "<circle cx=\"" ++ (centre_text centre ++ circle_text radius)
-element_text (Label place name) = codes "<text x=\"" ++ (place_text place ++ label_text name)
-element_text Tail = codes "</svg>\n"
+abbrev pub element_text : Style → Element → List ℕ
+element_text style (Head bounds) = codes "<svg xmlns=\"http://www.w3.org/2000/svg\" version=\"1.1\" viewBox=\"" ++ (view_text style bounds ++ codes "\">\n")
+element_text style (OnSegment seg line path colour name) =
+    codes "<path class=\"s" ++ (ids_text seg line ++ (path_text path ++ (stroke_text style colour ++ title_text name)))
+element_text style (AtNode node line start end colour) =
+    codes "<path class=\"n" ++ (ids_text node line ++ (path_text (start ∷ end ∷ []) ++ (stroke_text style colour ++ codes "/>\n")))
+element_text style (Marker centre radius) = codes "<circle cx=\"" ++ (centre_text centre ++ circle_text style radius)
+element_text style (Label place name) = codes "<text x=\"" ++ (place_text place ++ label_text style name)
+element_text style Tail = codes "</svg>\n"
 
 -- the text of elements in order
-abbrev pub texts : List Element → List ℕ
-texts elements = flat_map element_text elements
+abbrev pub texts : Style → List Element → List ℕ
+texts style elements = flat_map (element_text style) elements
 
 -- bounds that can be reckoned with: each lies within 2^40 either way
 pub record AreBounds (b : Bounds) : Type 0 where

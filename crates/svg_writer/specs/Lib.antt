@@ -1,3 +1,5 @@
 pub mod Escaping
+pub mod Styles
 pub mod Elements
+pub mod Courses
 pub mod Picture

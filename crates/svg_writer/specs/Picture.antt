@@ -17,6 +17,9 @@ use Rattle.line_offsets.specs.Shifts.{drawn}
 use Rattle.line_offsets.specs.Paths.{line_path, path_start, path_end}
 use Rattle.svg_writer.specs.declared.bounds.Bounds.{Bounds}
 use Rattle.svg_writer.specs.declared.names.Names.{Names}
+use Rattle.svg_writer.specs.declared.style.Style.{Style}
+use Rattle.svg_writer.specs.Styles.{grid_style}
+use Rattle.svg_writer.specs.Courses.{Courses, order_at, gauge}
 use Rattle.svg_writer.specs.Elements.{Element, Head, OnSegment, AtNode, Marker, Label, Tail, element_text, texts}
 
 -- ---- the bounds
@@ -28,9 +31,12 @@ bounds_at c = record { left = c.x; right = c.x; top = c.y; bottom = c.y }
 abbrev pub widened : Bounds → Corner → Bounds
 widened b c = record { left = int_min b.left c.x; right = int_max b.right c.x; top = int_min b.top c.y; bottom = int_max b.bottom c.y }
 
+abbrev pub bounds_with_corner : Option Bounds → Corner → Option Bounds
+bounds_with_corner None c = Some (bounds_at c)
+bounds_with_corner (Some b) c = Some (widened b c)
+
 abbrev pub bounds_with : Option Bounds → GridPoint → Option Bounds
-bounds_with None p = Some (bounds_at (drawn p))
-bounds_with (Some b) p = Some (widened b (drawn p))
+bounds_with bounds p = bounds_with_corner bounds (drawn p)
 
 abbrev pub origin : Corner
 origin = record { x = pos 0; y = pos 0 }
@@ -40,9 +46,6 @@ abbrev pub bounds_of : List PlainWalk → Bounds
 bounds_of walks = unwrap_or (fold bounds_with None (flat_map points_of walks)) (bounds_at origin)
 
 -- ---- what there is of each thing
-
-abbrev pub order_at : List (List LineId) → ℕ → List LineId
-order_at orders s = unwrap_or (slice_get orders s) []
 
 abbrev pub walk_at : List PlainWalk → ℕ → PlainWalk
 walk_at walks s = unwrap_or (slice_get walks s) (record { start = record { x = pos 0; y = pos 0 }; steps = [] })
@@ -75,27 +78,23 @@ station_name names s = unwrap_or (slice_get names.stations s) []
 
 -- ---- lines
 
--- how many places line i of n stands to the right of the middle, doubled
-abbrev pub gauge : ℕ → ℕ → ℤ
-gauge n i = pos (2 * i + 1) -ℤ pos n
-
 -- the lines of a segment from number i on, of n
-abbrev pub line_elements : Names → PlainWalk → ℕ → ℕ → ℕ → List LineId → List Element
-line_elements names walk s n i [] = []
-line_elements names walk s n i (l ∷ rest) =
-    OnSegment s l.0 (line_path walk (gauge n i)) (colour_of names l) (name_of names l) ∷ line_elements names walk s n (i + 1) rest
+abbrev pub line_elements : Names → Courses → ℕ → ℕ → ℕ → List LineId → List Element
+line_elements names courses s n i [] = []
+line_elements names courses s n i (l ∷ rest) =
+    OnSegment s l.0 (courses.path s (gauge n i)) (colour_of names l) (name_of names l) ∷ line_elements names courses s n (i + 1) rest
 
 -- what reads past an order fall back on
 abbrev pub no_line : LineId
 no_line = record { 0 = 0 }
 
 -- the text of line i of n of a segment
-abbrev pub line_text : Names → PlainWalk → ℕ → ℕ → ℕ → LineId → List ℕ
-line_text names walk s n i l = element_text (OnSegment s l.0 (line_path walk (gauge n i)) (colour_of names l) (name_of names l))
+abbrev pub line_text : Style → Names → Courses → ℕ → ℕ → ℕ → LineId → List ℕ
+line_text style names courses s n i l = element_text style (OnSegment s l.0 (courses.path s (gauge n i)) (colour_of names l) (name_of names l))
 
 -- the lines of segment s
-abbrev pub segment_elements : Names → List PlainWalk → List (List LineId) → ℕ → List Element
-segment_elements names walks orders s = line_elements names (walk_at walks s) s (length (order_at orders s)) 0 (order_at orders s)
+abbrev pub segment_elements : Names → Courses → List (List LineId) → ℕ → List Element
+segment_elements names courses orders s = line_elements names courses s (length (order_at orders s)) 0 (order_at orders s)
 
 -- ---- joins
 
@@ -103,14 +102,14 @@ segment_elements names walks orders s = line_elements names (walk_at walks s) s 
 abbrev pub place_in : List LineId → LineId → ℕ
 place_in order l = position_or_len (λ (a : LineId). a.0 == l.0) order
 
--- where a line that is shifted k places ends at node n
-abbrev pub end_at : ℕ → NodeId × NodeId → PlainWalk → ℤ → Corner
-end_at n ends walk k = if ends.0.0 == n then path_start walk k else path_end walk k
+-- where a line that stands k places beside segment s, which has these ends, ends at node n
+abbrev pub end_at : Courses → ℕ → NodeId × NodeId → ℕ → ℤ → Corner
+end_at courses n ends s k = if ends.0.0 == n then courses.start s k else courses.end s k
 
 -- where a line ends on a segment at node n
-abbrev pub line_end : GraphParts → List PlainWalk → List (List LineId) → ℕ → SegId → LineId → Corner
-line_end g walks orders n s l =
-    end_at n (ends_at g.ends s.0) (walk_at walks s.0) (gauge (length (order_at orders s.0)) (place_in (order_at orders s.0) l))
+abbrev pub line_end : GraphParts → Courses → List (List LineId) → ℕ → SegId → LineId → Corner
+line_end g courses orders n s l =
+    end_at courses n (ends_at g.ends s.0) s.0 (gauge (length (order_at orders s.0)) (place_in (order_at orders s.0) l))
 
 abbrev pub are_one : Corner → Corner → Bool
 are_one a b = int_eq a.x b.x && int_eq a.y b.y
@@ -119,13 +118,13 @@ are_one a b = int_eq a.x b.x && int_eq a.y b.y
 abbrev pub between : ℕ → LineId → Corner → Corner → List ℕ → List Element
 between n l a b colour = if are_one a b then [] else AtNode n l.0 a b colour ∷ []
 
-abbrev pub join_elements : Names → GraphParts → List PlainWalk → List (List LineId) → ℕ → Join → List Element
-join_elements names g walks orders n j =
-    between n j.line (line_end g walks orders n j.e j.line) (line_end g walks orders n j.f j.line) (colour_of names j.line)
+abbrev pub join_elements : Names → GraphParts → Courses → List (List LineId) → ℕ → Join → List Element
+join_elements names g courses orders n j =
+    between n j.line (line_end g courses orders n j.e j.line) (line_end g courses orders n j.f j.line) (colour_of names j.line)
 
 -- the joins of node n
-abbrev pub node_joins : Names → GraphParts → List PlainWalk → List (List LineId) → ℕ → List Element
-node_joins names g walks orders n = flat_map (join_elements names g walks orders n) (joins_at g.joins n)
+abbrev pub node_joins : Names → GraphParts → Courses → List (List LineId) → ℕ → List Element
+node_joins names g courses orders n = flat_map (join_elements names g courses orders n) (joins_at g.joins n)
 
 -- ---- stations
 
@@ -146,36 +145,41 @@ centre_of g walks n = drawn (put_at n (ends_at g.ends (first_of (round_at g.roun
 abbrev pub most_lines : List (List LineId) → List SegId → ℕ
 most_lines lines round = fold (λ most (s : SegId). max most (length (lines_at lines s.0))) 0 round
 
+-- the radius of the marker of node n
+abbrev pub radius_in : Style → GraphParts → ℕ → ℕ
+radius_in style g n = style.radius_each * most_lines g.lines (round_at g.rounds n) + style.radius_more
+
+-- the same on the grid
 abbrev pub radius_of : GraphParts → ℕ → ℕ
-radius_of g n = 7 * most_lines g.lines (round_at g.rounds n) + 3
+radius_of g n = radius_in grid_style g n
 
 -- the marker of node n, where it is a station
-abbrev pub marker : GraphParts → List PlainWalk → ℕ → NodeKind → List Element
-marker g walks n (Station s) = Marker (centre_of g walks n) (radius_of g n) ∷ []
-marker g walks n Junction = []
+abbrev pub marker : Style → GraphParts → Courses → ℕ → NodeKind → List Element
+marker style g courses n (Station s) = Marker (courses.centre n) (radius_in style g n) ∷ []
+marker style g courses n Junction = []
 
--- to the right of a marker, and above it
-abbrev pub beside : Corner → ℕ → Corner
-beside c radius = record { x = c.x +ℤ pos (radius + 4); y = c.y -ℤ pos (radius + 4) }
+-- to the right of a marker, and above it, with a gap between
+abbrev pub beside : ℕ → Corner → ℕ → Corner
+beside gap c radius = record { x = c.x +ℤ pos (radius + gap); y = c.y -ℤ pos (radius + gap) }
 
 -- the name of node n, where it is a station
-abbrev pub label : Names → GraphParts → List PlainWalk → ℕ → NodeKind → List Element
-label names g walks n (Station s) = Label (beside (centre_of g walks n) (radius_of g n)) (station_name names s.0) ∷ []
-label names g walks n Junction = []
+abbrev pub label : Style → Names → GraphParts → Courses → ℕ → NodeKind → List Element
+label style names g courses n (Station s) = Label (beside style.gap (courses.centre n) (radius_in style g n)) (station_name names s.0) ∷ []
+label style names g courses n Junction = []
 
 -- ---- the whole
 
-abbrev pub all_lines : Names → GraphParts → List PlainWalk → List (List LineId) → List Element
-all_lines names g walks orders = flat_map (segment_elements names walks orders) (range_with_len 0 (length g.ends))
+abbrev pub all_lines : Names → GraphParts → Courses → List (List LineId) → List Element
+all_lines names g courses orders = flat_map (segment_elements names courses orders) (range_with_len 0 (length g.ends))
 
-abbrev pub all_joins : Names → GraphParts → List PlainWalk → List (List LineId) → List Element
-all_joins names g walks orders = flat_map (node_joins names g walks orders) (range_with_len 0 (length g.kinds))
+abbrev pub all_joins : Names → GraphParts → Courses → List (List LineId) → List Element
+all_joins names g courses orders = flat_map (node_joins names g courses orders) (range_with_len 0 (length g.kinds))
 
-abbrev pub all_markers : GraphParts → List PlainWalk → List Element
-all_markers g walks = flat_map (λ n. marker g walks n (kind_at g.kinds n)) (range_with_len 0 (length g.kinds))
+abbrev pub all_markers : Style → GraphParts → Courses → List Element
+all_markers style g courses = flat_map (λ n. marker style g courses n (kind_at g.kinds n)) (range_with_len 0 (length g.kinds))
 
-abbrev pub all_labels : Names → GraphParts → List PlainWalk → List Element
-all_labels names g walks = flat_map (λ n. label names g walks n (kind_at g.kinds n)) (range_with_len 0 (length g.kinds))
+abbrev pub all_labels : Style → Names → GraphParts → Courses → List Element
+all_labels style names g courses = flat_map (λ n. label style names g courses n (kind_at g.kinds n)) (range_with_len 0 (length g.kinds))
 
 -- the place at which the name of node n begins, where there is one
 abbrev pub spot_at : List (Option Corner) → ℕ → Option Corner
@@ -192,19 +196,31 @@ abbrev pub placed_labels : Names → GraphParts → List (Option Corner) → Lis
 placed_labels names g spots = flat_map (λ n. placed_label names (kind_at g.kinds n) (spot_at spots n)) (range_with_len 0 (length g.kinds))
 
 -- The head; each line of each segment, in its order; each line from segment to segment at each node, where it is not
--- there already; the markers of stations, and their names; the end.
-abbrev pub elements : Names → GraphParts → List PlainWalk → List (List LineId) → List Element
-elements names g walks orders =
-    Head (bounds_of walks) ∷ (all_lines names g walks orders ++ (all_joins names g walks orders ++ (all_markers g walks ++ (all_labels names g walks ++ Tail ∷ []))))
+-- there already; the markers of stations, and these names; the end.
+abbrev pub elements_with : Style → Names → GraphParts → Courses → List (List LineId) → Bounds → List Element → List Element
+elements_with style names g courses orders frame labels =
+    Head frame ∷ (all_lines names g courses orders ++ (all_joins names g courses orders ++ (all_markers style g courses ++ (labels ++ Tail ∷ []))))
+
+-- the same where each name stands beside its marker
+abbrev pub elements : Style → Names → GraphParts → Courses → List (List LineId) → Bounds → List Element
+elements style names g courses orders frame = elements_with style names g courses orders frame (all_labels style names g courses)
+
+-- ---- maps on the grid
+
+-- lines beside walks on the grid
+abbrev pub grid_courses : GraphParts → List PlainWalk → Courses
+grid_courses g walks = record {
+  path = λ s k. line_path (walk_at walks s) k;
+  start = λ s k. path_start (walk_at walks s) k;
+  end = λ s k. path_end (walk_at walks s) k;
+  centre = λ n. centre_of g walks n;
+}
 
 -- the picture's text
 abbrev pub picture_text : Names → GraphParts → List PlainWalk → List (List LineId) → List ℕ
-picture_text names g walks orders = texts (elements names g walks orders)
+picture_text names g walks orders = texts grid_style (elements grid_style names g (grid_courses g walks) orders (bounds_of walks))
 
 -- the same where the head shows these bounds, and the names of stations stand at these places
-abbrev pub placed_elements : Names → GraphParts → List PlainWalk → List (List LineId) → Bounds → List (Option Corner) → List Element
-placed_elements names g walks orders frame spots =
-    Head frame ∷ (all_lines names g walks orders ++ (all_joins names g walks orders ++ (all_markers g walks ++ (placed_labels names g spots ++ Tail ∷ []))))
-
 abbrev pub placed_text : Names → GraphParts → List PlainWalk → List (List LineId) → Bounds → List (Option Corner) → List ℕ
-placed_text names g walks orders frame spots = texts (placed_elements names g walks orders frame spots)
+placed_text names g walks orders frame spots =
+    texts grid_style (elements_with grid_style names g (grid_courses g walks) orders frame (placed_labels names g spots))

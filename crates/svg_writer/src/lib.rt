@@ -1,23 +1,29 @@
-//! The picture of a drawn line graph as SVG 1.1: each line of each segment as a path beside the segment's walk, each
+//! The picture of a drawn line graph as SVG 1.1: each line of each segment as a path beside the segment's course, each
 //! connection at a node, and each station with its name. The bytes are exactly those of the picture's definition, a
-//! list of elements.
+//! list of elements, for any drawing that tells where lines run and nodes lie, and in any style.
 #![tactic(auto)]
 
 mod bounds;
+mod drawable;
 mod elements;
 mod escaping;
+mod grid;
 mod lines;
 mod names;
 mod pieces;
 mod scene;
 mod stations;
+mod style;
 mod walked;
 mod whole;
 
 pub use bounds::Bounds;
+pub use drawable::Drawn;
 pub use escaping::escape;
+pub use grid::{GridDrawing, centre_of, drawn};
 pub use names::Names;
-pub use scene::{drawn, station_name};
-pub use stations::{centre_of, radius_of};
-pub use walked::bounds_of;
-pub use whole::{picture, picture_with};
+pub use scene::{ends_of, station_name};
+pub use stations::radius_of;
+pub use style::{Style, grid_style};
+pub use walked::{bounds_of, with_corner};
+pub use whole::{picture, picture_of, picture_with};

@@ -1,13 +1,14 @@
 //! What elements are made of.
 
-ghost use Rattle.std.specs.Prelude.{◌≡◌, ◌++◌, ◌<◌, ◌≤◌, ◌+ℤ◌, ◌-ℤ◌, pos, unsigned_abs, OnOk, string_bytes};
+ghost use Rattle.std.specs.Prelude.{◌≡◌, ◌++◌, ◌<◌, ◌≤◌, ◌*◌, ◌+ℤ◌, ◌-ℤ◌, pos, unsigned_abs, OnOk, string_bytes};
 ghost use Rattle.std.specs.Fmt.{decimal, signed_decimal};
 ghost use Rattle.std.specs.List.{flat_map};
-ghost use Rattle.svg_writer.specs.Elements.{hex_byte, colour_text, corner_text, next_text, path_text, stroke_text, view_place, view_size, view_text, centre_text, place_text, ids_text, title_text, AreBounds};
+ghost use Rattle.svg_writer.specs.Elements.{hex_byte, colour_text, corner_text, next_text, path_text, quoted, stroke_text, view_place, view_size, view_text, centre_text, place_text, ids_text, title_text, AreBounds};
 ghost use Rattle.std.specs.Char.{digit_char};
 
 use crate::bounds::Bounds;
 use crate::escaping::push_escaped;
+use crate::style::Style;
 use itoa::Buffer;
 use line_offsets::Corner;
 use map_base::NoMemory;
@@ -103,13 +104,23 @@ fn push_colour(text: &mut String, colour: &[u8]) -> Result<(), NoMemory>
     Ok(())
 }
 
+/// Appends a number and a quote.
+pub(crate) fn push_quoted(text: &mut String, number: u16) -> Result<(), NoMemory>
+    ensures { OnOk result (string_bytes text.new ≡ string_bytes text.old ++ quoted number) }
+{
+    push_natural(text, u64::from(number))?;
+    text.push_str("\"")?;
+    Ok(())
+}
+
 /// Appends how lines are drawn, in a colour.
-pub(crate) fn push_stroke(text: &mut String, colour: &[u8]) -> Result<(), NoMemory>
-    ensures { OnOk result (string_bytes text.new ≡ string_bytes text.old ++ stroke_text colour.now) }
+pub(crate) fn push_stroke(text: &mut String, style: Style, colour: &[u8]) -> Result<(), NoMemory>
+    ensures { OnOk result (string_bytes text.new ≡ string_bytes text.old ++ stroke_text style colour.now) }
 {
     text.push_str("\" fill=\"none\" stroke=\"")?;
     push_colour(text, colour)?;
-    text.push_str("\" stroke-width=\"12\"")?;
+    text.push_str("\" stroke-width=\"")?;
+    push_quoted(text, style.stroke)?;
     Ok(())
 }
 
@@ -134,46 +145,54 @@ pub(crate) fn push_title(text: &mut String, name: &str) -> Result<(), NoMemory>
     Ok(())
 }
 
-/// Appends what the picture shows, 200 units wider on each side than the bounds: left, top, width and height.
-pub(crate) fn push_view(text: &mut String, bounds: Bounds) -> Result<(), NoMemory>
+/// Appends what the picture shows, wider on each side than the bounds: left, top, width and height.
+pub(crate) fn push_view(text: &mut String, style: Style, bounds: Bounds) -> Result<(), NoMemory>
     requires { AreBounds bounds }
-    ensures { OnOk result (string_bytes text.new ≡ string_bytes text.old ++ view_text bounds) }
+    ensures { OnOk result (string_bytes text.new ≡ string_bytes text.old ++ view_text style bounds) }
 {
-    push_corner(text, view_place(bounds))?;
+    push_corner(text, view_place(style, bounds))?;
     text.push_str(" ")?;
-    push_corner(text, view_size(bounds))?;
+    push_corner(text, view_size(style, bounds))?;
     Ok(())
 }
 
 /// The upper left corner of what the picture shows.
-fn view_place(bounds: Bounds) -> Corner
+fn view_place(style: Style, bounds: Bounds) -> Corner
     requires { AreBounds bounds }
-    ensures { result ≡ view_place bounds }
+    ensures { result ≡ view_place style bounds }
 {
     Corner {
-        x: bounds.left - 200,
-        y: bounds.top - 200,
+        x: lower(bounds.left, style.margin),
+        y: lower(bounds.top, style.margin),
     }
+}
+
+/// A coordinate that is a margin less.
+fn lower(low: i64, margin: u16) -> i64
+    requires { unsigned_abs low ≤ 1099511627776 }
+    ensures { result ≡ low -ℤ pos margin }
+{
+    low - i64::from(margin)
 }
 
 /// Its width and height.
-fn view_size(bounds: Bounds) -> Corner
+fn view_size(style: Style, bounds: Bounds) -> Corner
     requires { AreBounds bounds }
-    ensures { result ≡ view_size bounds }
+    ensures { result ≡ view_size style bounds }
 {
     Corner {
-        x: wider(bounds.left, bounds.right),
-        y: wider(bounds.top, bounds.bottom),
+        x: wider(bounds.left, bounds.right, style.margin),
+        y: wider(bounds.top, bounds.bottom, style.margin),
     }
 }
 
-/// How far it is from one coordinate to a greater one, with 200 units more on each side.
-fn wider(low: i64, high: i64) -> i64
+/// How far it is from one coordinate to a greater one, with a margin more on each side.
+fn wider(low: i64, high: i64, margin: u16) -> i64
     requires low { unsigned_abs low ≤ 1099511627776 }
     requires high { unsigned_abs high ≤ 1099511627776 }
-    ensures { result ≡ (high -ℤ low) +ℤ pos 400 }
+    ensures { result ≡ (high -ℤ low) +ℤ pos (2 * margin) }
 {
-    high - low + 400
+    high - low + 2 * i64::from(margin)
 }
 
 /// Appends where the centre of a marker is.

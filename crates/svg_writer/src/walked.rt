@@ -5,10 +5,10 @@ ghost use Rattle.std.specs.Int.{int_min, int_max};
 ghost use Rattle.octi_grid.specs.Ways.{IsWithin};
 ghost use Rattle.octi_grid.specs.Walks.{points_of};
 ghost use Rattle.svg_writer.specs.Elements.{AreBounds};
-ghost use Rattle.svg_writer.specs.Picture.{bounds_with, bounds_of, widened};
+ghost use Rattle.svg_writer.specs.Picture.{bounds_with, bounds_with_corner, bounds_of, widened};
 
 use crate::bounds::Bounds;
-use crate::scene::drawn;
+use crate::grid::drawn;
 use line_offsets::Corner;
 use octi_grid::{GridPoint, Walk, run_end};
 
@@ -55,7 +55,17 @@ fn with_point(bounds: Option<Bounds>, p: GridPoint) -> Bounds
     ensures value { Some result ≡ bounds_with bounds p }
     ensures small { AreBounds result }
 {
-    let corner = drawn(p);
+    with_corner(bounds, drawn(p))
+}
+
+/// Bounds, widened to hold a point as it is drawn.
+pub fn with_corner(bounds: Option<Bounds>, corner: Corner) -> Bounds
+    requires bounds { IfSome bounds AreBounds }
+    requires across { unsigned_abs corner.x ≤ 1099511627776 }
+    requires down { unsigned_abs corner.y ≤ 1099511627776 }
+    ensures value { Some result ≡ bounds_with_corner bounds corner }
+    ensures small { AreBounds result }
+{
     match bounds {
         None => Bounds {
             left: corner.x,

@@ -7,6 +7,7 @@ ghost use Rattle.track_net.specs.Nearness.{point_at};
 ghost use Rattle.way_network.specs.Graphs.{network_over, kind_at as kind_at_of, graph_over, graph_within};
 ghost use Rattle.way_network.specs.Premises.{IsNetwork, IsPassage};
 ghost use Rattle.way_network.specs.Faults.{IsAbove};
+ghost use Rattle.way_network.specs.Segments.{segment_chains};
 ghost use Rattle.way_network.specs.Nodes.{node_points_in};
 ghost use Rattle.way_network.specs.Rows.{all_chains};
 ghost use Rattle.way_network.specs.Numbers.{EndsBelow};
@@ -26,8 +27,18 @@ use graph_core::{GraphParts, Join, LineGraph, NodeKind};
 use map_base::{LimitFault, LimitKind, NoMemory, Point, Sequence, StationId};
 use std::alloc::Global;
 
-/// The line graph of a network of ways over the points of a net, of which the first are the stations, in order. The
-/// numbers of lines are below `lines`.
+/// A line graph, and the chain of each of its segments: the numbers of the net points that the segment runs over, from
+/// its lower to its upper end.
+#[derive(Drop)]
+pub struct ChainedGraph {
+    /// The line graph.
+    pub graph: LineGraph,
+    /// The chain of each segment.
+    pub chains: Sequence<Sequence<u32>>,
+}
+
+/// The line graph of a network of ways over the points of a net, of which the first are the stations, in order, with the
+/// chains of its segments. The numbers of lines are below `lines`.
 ///
 /// Its nodes are the stations, and of the other points on edges that ways run over all but those with exactly two such
 /// edges of equal lines. Its segments are the chains of used edges between nodes. They are numbered by their lower
@@ -43,10 +54,11 @@ pub fn graph_of(
     lines: u32,
     ways: &[Way],
     passages: &[Passage],
-) -> Result<LineGraph, LimitFault>
+) -> Result<ChainedGraph, LimitFault>
     requires network { IsNetwork points.now (network_over stations.now points.now lines ways.now) }
     requires passages { All (IsPassage (network_over stations.now points.now lines ways.now)) passages.now }
-    ensures graph { IfOk result (λ graph. graph_within (graph_over stations.now points.now (network_over stations.now points.now lines ways.now) passages.now) ≡ Ok graph) }
+    ensures graph { IfOk result (λ made. graph_within (graph_over stations.now points.now (network_over stations.now points.now lines ways.now) passages.now) ≡ Ok made.graph) }
+    ensures chains { IfOk result (λ made. made.chains ≡ segment_chains points.now (network_over stations.now points.now lines ways.now)) }
     ensures cause { IfErr result (λ fault. HasCause (graph_within (graph_over stations.now points.now (network_over stations.now points.now lines ways.now) passages.now)) fault) }
 {
     let table = edge_table(alloc, points.len() as u32, lines, ways)?;
@@ -54,7 +66,10 @@ pub fn graph_of(
     let segments = few_segments(alloc, points, &table, &nodes)?;
     let joins = joins_at_nodes(alloc, lines, passages, &nodes, &segments)?;
     let parts = parts_of(alloc, points, stations, &table, &nodes, &segments, joins)?;
-    Ok(LineGraph::new(parts))
+    Ok(ChainedGraph {
+        graph: LineGraph::new(parts),
+        chains: segments.into_chains(),
+    })
 }
 
 /// The nodes among the points of a table of used edges, if they are no more than are worked on.
@@ -152,8 +167,8 @@ fn kind_at(stations: &[StationId], p: u32) -> NodeKind
     }
 }
 
-/// Where each of these points lies.
-fn places_of(alloc: Global, points: &[Point], nodes: &[u32]) -> Result<Vec<Point>, NoMemory>
+/// Where each of these points of a net lies.
+pub fn places_of(alloc: Global, points: &[Point], nodes: &[u32]) -> Result<Vec<Point>, NoMemory>
     requires { All (λ p. p < length points.now) nodes.now }
     ensures { IfOk result (λ places. places.items ≡ map (point_at points.now) nodes.now) }
 {

@@ -19,7 +19,7 @@ mod rounds;
 mod segments;
 mod way;
 
-pub use graph::graph_of;
+pub use graph::{ChainedGraph, graph_of, places_of};
 pub use laws::{
     edges_are_on_one_segment, lines_are_on_the_segments_of_their_ways,
     segments_have_the_lines_of_their_edges, used_edges_are_on_segments,

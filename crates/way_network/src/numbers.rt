@@ -52,6 +52,13 @@ impl Segments {
         self.chains.as_slice()
     }
 
+    /// The chain of each segment, without the numbers.
+    pub fn into_chains(self) -> Sequence<Sequence<u32>>
+        ensures { result ≡ self }
+    {
+        Sequence::of(self.chains)
+    }
+
     /// The number of the segment that leaves a node over the edge to a neighbour, or 0 where there is none.
     pub fn leaving(&self, node: u32, neighbour: u32) -> SegId
         ensures { result ≡ number_to self.now node neighbour }

@@ -5,7 +5,7 @@ use Rattle.command_words.specs.Asked.{asked_by}
 use Rattle.command_inputs.specs.Inputs.{inputs_by}
 use Rattle.map_run.specs.Answers.{whole_by}
 use Rattle.map_run.proofs.EndingLemmas.{command_ends}
-use Rattle.map_run.proofs.ArmLemmas.{stations_follows, graph_follows, make_follows, improve_follows, check_follows, labels_follows, session_ends, page_follows, trial_follows, stations_keeps, graph_keeps, make_keeps, improve_keeps, check_keeps, labels_keeps, page_keeps, trial_keeps, stations_steps, graph_steps, make_steps, improve_steps, check_steps, labels_steps, session_steps, page_steps, trial_steps}
+use Rattle.map_run.proofs.ArmLemmas.{stations_follows, graph_follows, make_follows, improve_follows, check_follows, depict_follows, session_ends, page_follows, trial_follows, stations_keeps, graph_keeps, make_keeps, improve_keeps, check_keeps, depict_keeps, page_keeps, trial_keeps, stations_steps, graph_steps, make_steps, improve_steps, check_steps, depict_steps, session_steps, page_steps, trial_steps}
 use Rattle.map_run.proofs.running.run_command.Goals as goal
 
 pub returns-in-Stations-clause-ends : goal.returns-in-Stations-clause-ends
@@ -43,12 +43,12 @@ returns-in-Check-clause-ends g c =
     (check_keeps (g.F.Files.told c.args.files.now) (asked_by c.args.command.now) (inputs_by c.inputs_of-inputs.result) c.check_map-outcome.result (whole_by c.check_map-outcome.result) refl (ap asked_by c.in-Check.is) c.inputs_of-inputs.ensures c.check_map-outcome.ensures.keeps)
     c.write_outcome-in-Check.ensures.written
 
-pub returns-in-Labels-clause-ends : goal.returns-in-Labels-clause-ends
-returns-in-Labels-clause-ends g c =
-    command_ends (g.F.Files.told c.args.files.now) (asked_by c.args.command.now) (Rose (g.F.Files.faults c.args.files.now) (g.F.Files.faults c.label_map-outcome.new.files)) _ (whole_by c.label_map-outcome.result) (g.S.Sinks.written c.args.sinks.now) (g.S.Sinks.written c.write_outcome-in-Labels.new.sinks) c.write_outcome-in-Labels.result
-    (labels_follows (g.F.Files.told c.args.files.now) (asked_by c.args.command.now) (Rose (g.F.Files.faults c.args.files.now) (g.F.Files.faults c.label_map-outcome.new.files)) c.label_map-outcome.result (whole_by c.label_map-outcome.result) (inputs_by c.inputs_of-inputs.result) refl (ap asked_by c.in-Labels.is) c.inputs_of-inputs.ensures c.label_map-outcome.ensures.follows)
-    (labels_keeps (g.F.Files.told c.args.files.now) (asked_by c.args.command.now) (inputs_by c.inputs_of-inputs.result) c.label_map-outcome.result (whole_by c.label_map-outcome.result) refl (ap asked_by c.in-Labels.is) c.inputs_of-inputs.ensures c.label_map-outcome.ensures.keeps)
-    c.write_outcome-in-Labels.ensures.written
+pub returns-in-Depict-clause-ends : goal.returns-in-Depict-clause-ends
+returns-in-Depict-clause-ends g c =
+    command_ends (g.F.Files.told c.args.files.now) (asked_by c.args.command.now) (Rose (g.F.Files.faults c.args.files.now) (g.F.Files.faults c.draw_picture-outcome.new.files)) _ (whole_by c.draw_picture-outcome.result) (g.S.Sinks.written c.args.sinks.now) (g.S.Sinks.written c.write_outcome-in-Depict.new.sinks) c.write_outcome-in-Depict.result
+    (depict_follows (g.F.Files.told c.args.files.now) (asked_by c.args.command.now) (Rose (g.F.Files.faults c.args.files.now) (g.F.Files.faults c.draw_picture-outcome.new.files)) c.draw_picture-outcome.result (whole_by c.draw_picture-outcome.result) (inputs_by c.inputs_of-inputs.result) refl (ap asked_by c.in-Depict.is) c.inputs_of-inputs.ensures c.draw_picture-outcome.ensures.follows)
+    (depict_keeps (g.F.Files.told c.args.files.now) (asked_by c.args.command.now) (inputs_by c.inputs_of-inputs.result) c.draw_picture-outcome.result (whole_by c.draw_picture-outcome.result) refl (ap asked_by c.in-Depict.is) c.inputs_of-inputs.ensures c.draw_picture-outcome.ensures.keeps)
+    c.write_outcome-in-Depict.ensures.written
 
 pub returns-in-Page-clause-ends : goal.returns-in-Page-clause-ends
 returns-in-Page-clause-ends g c =
@@ -96,9 +96,9 @@ pub returns-in-Check-clause-steps : goal.returns-in-Check-clause-steps
 returns-in-Check-clause-steps g c =
     check_steps (g.F.Files.told c.args.files.now) (asked_by c.args.command.now) c.args.steps.now (ap asked_by c.in-Check.is)
 
-pub returns-in-Labels-clause-steps : goal.returns-in-Labels-clause-steps
-returns-in-Labels-clause-steps g c =
-    labels_steps (g.F.Files.told c.args.files.now) (asked_by c.args.command.now) c.args.steps.now (ap asked_by c.in-Labels.is)
+pub returns-in-Depict-clause-steps : goal.returns-in-Depict-clause-steps
+returns-in-Depict-clause-steps g c =
+    depict_steps (g.F.Files.told c.args.files.now) (asked_by c.args.command.now) c.args.steps.now (ap asked_by c.in-Depict.is)
 
 pub returns-in-Session-clause-steps : goal.returns-in-Session-clause-steps
 returns-in-Session-clause-steps g c =

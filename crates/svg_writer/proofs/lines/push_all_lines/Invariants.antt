@@ -5,4 +5,4 @@ use Rattle.svg_writer.specs.Picture.{segment_elements}
 use Rattle.svg_writer.proofs.lines.push_all_lines.Given as goal
 
 abbrev pub invariant-loop-s : goal.invariant-loop-s
-invariant-loop-s l = string_bytes l.text ≡ string_bytes l.fn.text ++ texts (flat_map (segment_elements l.scene.names.now l.scene.drawing.now.walks l.scene.orders.now.lists) (range_with_len 0 l.s))
+invariant-loop-s g l = string_bytes l.text ≡ string_bytes l.fn.text ++ texts l.scene.style (flat_map (segment_elements l.scene.names.now (g.D.Drawn.courses l.scene.drawn.now) l.scene.orders.now.lists) (range_with_len 0 l.s))

@@ -9,4 +9,4 @@ returns c =
     let old = string_bytes c.args.text.now in
     grew3 _ _ _ _ _ _ _ c.in_ok-push_corner.ensures c.in_ok-push_str.ensures.bytes c.in_ok-push_corner-2.ensures
     ∙ ap (λ (p : Corner). old ++ (corner_text p ++ (32 ∷ corner_text c.view_size.result))) c.view_place.ensures
-    ∙ ap (λ (p : Corner). old ++ (corner_text (view_place c.args.bounds) ++ (32 ∷ corner_text p))) c.view_size.ensures
+    ∙ ap (λ (p : Corner). old ++ (corner_text (view_place c.args.style c.args.bounds) ++ (32 ∷ corner_text p))) c.view_size.ensures

@@ -5,4 +5,4 @@ use Rattle.svg_writer.specs.Picture.{marker, kind_at}
 use Rattle.svg_writer.proofs.stations.push_all_markers.Given as goal
 
 abbrev pub invariant-loop-n : goal.invariant-loop-n
-invariant-loop-n l = string_bytes l.text ≡ string_bytes l.fn.text ++ texts (flat_map (λ n. marker l.scene.graph.now l.scene.drawing.now.walks n (kind_at l.scene.graph.now.kinds n)) (range_with_len 0 l.n))
+invariant-loop-n g l = string_bytes l.text ≡ string_bytes l.fn.text ++ texts l.scene.style (flat_map (λ n. marker l.scene.style l.scene.graph.now (g.D.Drawn.courses l.scene.drawn.now) n (kind_at l.scene.graph.now.kinds n)) (range_with_len 0 l.n))

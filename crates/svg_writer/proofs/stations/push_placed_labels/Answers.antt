@@ -8,13 +8,13 @@ use Rattle.svg_writer.proofs.Ranges.{numbered_more}
 use Rattle.svg_writer.proofs.stations.push_placed_labels.Goals as goal
 
 pub loop-n-preserved : goal.loop-n-preserved
-loop-n-preserved c =
+loop-n-preserved g c =
     let names = c.args.scene.now.names.now in
     let kinds = c.args.scene.now.graph.now.kinds in
     let spots = c.args.spots.now in
     let n = c.loop-n.n in
     let kind : kind_at kinds n ≡ c.kind-kind.result = ap (λ (o : Option NodeKind). unwrap_or o Junction) c.kind-kind.ensures in
-    numbered_more (λ n. placed_label names (kind_at kinds n) (spot_at spots n)) n (string_bytes c.args.text.now) (string_bytes c.loop-n.text) (string_bytes c.push_placed_label.new.text) c.loop-n.invariant
+    numbered_more c.args.scene.now.style (λ n. placed_label names (kind_at kinds n) (spot_at spots n)) n (string_bytes c.args.text.now) (string_bytes c.loop-n.text) (string_bytes c.push_placed_label.new.text) c.loop-n.invariant
     (c.in_ok-push_placed_label.ensures
-    ∙ ap (λ (k : NodeKind). string_bytes c.loop-n.text ++ texts (placed_label names k c.spot_at.result)) (sym kind)
-    ∙ ap (λ (s : Option Corner). string_bytes c.loop-n.text ++ texts (placed_label names (kind_at kinds n) s)) c.spot_at.ensures)
+    ∙ ap (λ (k : NodeKind). string_bytes c.loop-n.text ++ texts c.args.scene.now.style (placed_label names k c.spot_at.result)) (sym kind)
+    ∙ ap (λ (s : Option Corner). string_bytes c.loop-n.text ++ texts c.args.scene.now.style (placed_label names (kind_at kinds n) s)) c.spot_at.ensures)

@@ -93,3 +93,10 @@ returns-clause-graph c =
     (c.new.ensures
     ∙ graph_made c.args.stations.now c.args.points.now g c.args.passages.now c.in_ok-table.table c.in_ok-nodes.nodes c.in_ok-segments.segments c.in_ok-joins.joins.items c.in_ok-parts.parts table nodes
     (c.in_ok-segments.ensures.segments ∙ found) c.in_ok-joins.ensures c.in_ok-parts.ensures)
+
+pub returns-clause-chains : goal.returns-clause-chains
+returns-clause-chains c =
+    let g = network_over c.args.stations.now c.args.points.now c.args.lines c.args.ways.now in
+    let table = table_is c.args.stations.now c.args.points.now c.args.lines c.args.ways.now (length c.args.points.now) c.in_ok-table.table refl c.in_ok-table.ensures in
+    let nodes = nodes_are g c.in_ok-table.table c.in_ok-nodes.nodes table c.in_ok-nodes.ensures.nodes in
+    c.into_chains.ensures ∙ c.in_ok-segments.ensures.segments ∙ chains_found c.args.points.now g c.in_ok-table.table c.in_ok-nodes.nodes table nodes

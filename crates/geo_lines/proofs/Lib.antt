@@ -1,0 +1,5 @@
+pub mod Roots
+pub mod Quotients
+pub mod Turning
+pub mod Beside
+pub mod Steps

@@ -1,0 +1,82 @@
+-- What comes of a picture of a certificate after each step.
+use Rattle.std.proofs.Common.{◌≡◌, ◌∙◌, ap, sym, subst, ℕ, List, length, Result, Ok, Err}
+use Rattle.map_base.specs.Settings.{Choices}
+use Rattle.transit_feed.specs.Feeds.{Feed}
+use Rattle.graph_core.specs.declared.parts.GraphParts.{GraphParts}
+use Rattle.map_base.specs.declared.point.Point.{Point}
+use Rattle.line_graph.specs.Outcome.{graph_outcome}
+use Rattle.line_graph.specs.SegmentLines.{lines_outcome}
+use Rattle.decimal_text.specs.declared.fault.BadText.{BadText}
+use Rattle.decimal_text.specs.declared.fault.BadText.TheVariants as bad
+use Rattle.decimal_text.specs.Readers.{EndsAs}
+use Rattle.order_model.specs.Costs.{AreOrders}
+use Rattle.cert_file.specs.declared.certificate.Certificate.{Certificate}
+use Rattle.cert_file.specs.Plain.{PlainCertificate}
+use Rattle.cert_file.specs.Readers.{IsTextOf}
+use Rattle.cert_file.specs.Reading.{certificate_end}
+use Rattle.map_engine.specs.declared.fault.CheckFault.{CheckFault}
+use Rattle.map_engine.specs.declared.fault.CheckFault.TheVariants as fault
+use Rattle.map_engine.specs.Faults.{text_stop}
+use Rattle.map_engine.specs.Promises.{IsCertified}
+use Rattle.map_engine.specs.Readings.{certificate_in}
+use Rattle.map_engine.specs.Checking.{PlainChecked, checked_text, HasCause}
+use Rattle.map_engine.specs.Labelling.{labelled_by, pictured_items, if_accepted, IsLabelledMap}
+use Rattle.map_engine.specs.Geographic.{geographic_by, IsGeographicMap}
+use Rattle.map_engine.proofs.ReadAgain.{text_read, wrong_read}
+
+module _ (draw : PlainCertificate → List ℕ) (feed : Feed) (choices : Choices) (graph : GraphParts) where
+  -- a text that is no certificate's is refused where reading stops
+  pub text_undrawn : (bytes : List ℕ) (stop : BadText) → EndsAs (λ (c : Certificate). length bytes) (Err stop) (certificate_end bytes)
+      → HasCause (pictured_items draw feed choices graph (certificate_in bytes)) (text_stop stop)
+  text_undrawn bytes (bad.At at) h = ap (pictured_items draw feed choices graph) (wrong_read bytes at h)
+  text_undrawn bytes bad.NoMemory h = tt
+
+  -- what the check refuses has no picture
+  refused_error : (read : Result PlainCertificate ℕ) (e : CheckFault) → checked_text feed choices graph read ≡ Err e → pictured_items draw feed choices graph read ≡ Err e
+  refused_error (Err at) e h = cc
+  refused_error (Ok c) e h = ap (if_accepted (draw c)) h
+
+  pub refused_undrawn : (read : Result PlainCertificate ℕ) (e : CheckFault) → HasCause (checked_text feed choices graph read) e → HasCause (pictured_items draw feed choices graph read) e
+  refused_undrawn read fault.NoMemory h = tt
+  refused_undrawn read (fault.Refuted i) h = refused_error read (fault.Refuted i) h
+  refused_undrawn read (fault.Limit limit) h = refused_error read (fault.Limit limit) h
+
+  -- what it accepts has one
+  pub accepted_drawn : (c : PlainCertificate) (bytes : List ℕ) (checked : PlainChecked) → IsTextOf c bytes
+      → checked_text feed choices graph (certificate_in bytes) ≡ Ok checked → pictured_items draw feed choices graph (certificate_in bytes) ≡ Ok (draw c)
+  accepted_drawn c bytes checked written h =
+      let read = text_read c bytes written in
+      ap (pictured_items draw feed choices graph) read ∙ ap (if_accepted (draw c)) (sym (ap (checked_text feed choices graph) read) ∙ h)
+
+module _ (feed : Feed) (choices : Choices) (graph : GraphParts) (c : PlainCertificate) (bytes picture : List ℕ) (cost : ℕ) (of_feed : graph_outcome choices.near feed ≡ Ok graph)
+    (written : IsTextOf c bytes) (certified : IsCertified feed choices picture bytes cost) where
+  -- the line graph and the certificate of what is certified are the feed's and the one that is read
+  pub same_graph : graph ≡ certified.graph
+  same_graph = let both = sym of_feed ∙ certified.of_feed in cc
+
+  pub same_certificate : c ≡ certified.certificate
+  same_certificate = let both = sym (text_read c bytes written) ∙ text_read certified.certificate bytes certified.written in cc
+
+  pub is_labelled : (map : List ℕ) → map ≡ labelled_by feed graph c → IsLabelledMap feed choices map bytes
+  is_labelled map is = record {
+    picture = picture;
+    cost = cost;
+    certified = certified;
+    labelled = is ∙ ap (λ (g : GraphParts). labelled_by feed g c) same_graph ∙ ap (labelled_by feed certified.graph) same_certificate;
+  }
+
+  pub is_geographic : (map : List ℕ) (lines : List (List Point)) → lines_outcome choices.near feed ≡ Ok lines → map ≡ geographic_by feed graph lines c → IsGeographicMap feed choices map bytes
+  is_geographic map lines lines_of_feed is = record {
+    picture = picture;
+    cost = cost;
+    certified = certified;
+    lines = lines;
+    of_feed = lines_of_feed;
+    drawn = is ∙ ap (λ (g : GraphParts). geographic_by feed g lines c) same_graph ∙ ap (geographic_by feed certified.graph lines) same_certificate;
+  }
+
+  -- its orders are orders of the segments
+  pub are_orders : AreOrders graph.lines c.orders
+  are_orders =
+      subst (λ (g : GraphParts). AreOrders g.lines c.orders) (sym same_graph)
+      (subst (λ (d : PlainCertificate). AreOrders certified.graph.lines d.orders) (sym same_certificate) certified.shows.shown.ordered)
