@@ -1,7 +1,7 @@
 -- What a command writes and reads by path, and whether two of these files are one.
 use Rattle.std.specs.Prelude.{ℕ, Bool, true, false, ◌||◌, List, [], ◌∷◌, ◌++◌, Option, None, Some, is_some, option_map, list_any, if◌then◌else◌}
 use Rattle.table_rows.specs.declared.why.Table.TheVariants.{Routes, Stops, Trips, Shapes, StopTimes}
-use Rattle.command_words.specs.Asked.{Asked, stations, graph, make, improve, check, labels, session, trial, page}
+use Rattle.command_words.specs.Asked.{Asked, stations, graph, make, improve, check, depict, session, trial, page}
 use Rattle.run_status.specs.declared.input.Input.{Input}
 use Rattle.run_status.specs.declared.input.Input.TheVariants as input
 use Rattle.map_run.specs.Inputs.{input_path, inputs_of}
@@ -23,7 +23,7 @@ outputs_of (graph feed chosen) = record { first = None; second = None }
 outputs_of (make feed paths chosen) = record { first = Some paths.picture; second = Some paths.certificate }
 outputs_of (improve feed paths moves chosen) = record { first = Some paths.picture; second = Some paths.certificate }
 outputs_of (check feed paths chosen) = record { first = None; second = None }
-outputs_of (labels feed certificate out chosen) = record { first = Some out; second = None }
+outputs_of (depict kind feed certificate out chosen) = record { first = Some out; second = None }
 outputs_of (session feed script out chosen) = record { first = Some out; second = None }
 outputs_of (trial number) = record { first = None; second = None }
 outputs_of (page picture html) = record { first = Some html; second = None }
@@ -42,7 +42,7 @@ has_script asked = false
 -- whether a command reads a certificate
 abbrev pub has_certificate : Asked → Bool
 has_certificate (check feed paths chosen) = true
-has_certificate (labels feed certificate out chosen) = true
+has_certificate (depict kind feed certificate out chosen) = true
 has_certificate asked = false
 
 -- whether a command reads a map

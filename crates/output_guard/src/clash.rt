@@ -150,7 +150,7 @@ fn has_certificate(command: &Command<'_>) -> bool
 {
     match command {
         Command::Check { .. } => true,
-        Command::Labels { .. } => true,
+        Command::Depict { .. } => true,
         _ => false,
     }
 }

@@ -22,7 +22,7 @@ pub fn outputs_of<'a>(command: &Command<'a>) -> Outputs<'a>
     match command {
         Command::Make { files, .. } => two(files.picture, files.certificate),
         Command::Improve { files, .. } => two(files.picture, files.certificate),
-        Command::Labels { out, .. } => one(out),
+        Command::Depict { out, .. } => one(out),
         Command::Session { out, .. } => one(out),
         Command::Page { page, .. } => one(page),
         Command::Stations { .. } => none(),
