@@ -1,32 +1,33 @@
--- What a command writes and reads by path, and whether two of these files are one.
-use Rattle.std.specs.Prelude.{ℕ, Bool, true, false, ◌||◌, List, [], ◌∷◌, ◌++◌, Option, None, Some, is_some, option_map, list_any, if◌then◌else◌}
+-- What a command writes and reads by path, and which two of these files are one.
+use Rattle.std.specs.Prelude.{ℕ, Bool, true, false, List, [], ◌∷◌, ◌++◌, Option, None, is_some, option_map, if◌then◌else◌}
+use Rattle.std.specs.List.{find}
+use Rattle.std.specs.Option.{option_or}
 use Rattle.table_rows.specs.declared.why.Table.TheVariants.{Routes, Stops, Trips, Shapes, StopTimes}
 use Rattle.command_words.specs.Asked.{Asked, stations, graph, make, improve, check, depict, session, trial, page}
 use Rattle.run_status.specs.declared.input.Input.{Input}
 use Rattle.run_status.specs.declared.input.Input.TheVariants as input
 use Rattle.map_run.specs.Inputs.{input_path, inputs_of}
+use Rattle.output_guard.specs.declared.clash.Clash.{Clash}
 use Rattle.output_guard.specs.declared.outputs.Outputs.{Outputs}
+use Rattle.output_guard.specs.declared.outputs.Outputs.TheVariants as output
 
--- the files that a command writes: none, one, or a map and its certificate
-pub record OutputPaths : Type 0 where
-  pub first : Option (List ℕ)
-  pub second : Option (List ℕ)
+-- the files that the program's value stands for
+abbrev pub outputs_by : Outputs → List (List ℕ)
+outputs_by output.Nothing = []
+outputs_by (output.File path) = path.now ∷ []
+outputs_by (output.Pair picture certificate) = picture.now ∷ certificate.now ∷ []
 
--- the files of the program's value
-abbrev pub outputs_by : Outputs → OutputPaths
-outputs_by outputs = record { first = option_map (λ path. path.now) outputs.first; second = option_map (λ path. path.now) outputs.second }
-
--- what each command writes
-abbrev pub outputs_of : Asked → OutputPaths
-outputs_of (stations feed) = record { first = None; second = None }
-outputs_of (graph feed chosen) = record { first = None; second = None }
-outputs_of (make feed paths chosen) = record { first = Some paths.picture; second = Some paths.certificate }
-outputs_of (improve feed paths moves chosen) = record { first = Some paths.picture; second = Some paths.certificate }
-outputs_of (check feed paths chosen) = record { first = None; second = None }
-outputs_of (depict kind feed certificate out chosen) = record { first = Some out; second = None }
-outputs_of (session feed script out chosen) = record { first = Some out; second = None }
-outputs_of (trial number) = record { first = None; second = None }
-outputs_of (page picture html) = record { first = Some html; second = None }
+-- what each command writes, in the order in which it writes
+abbrev pub outputs_of : Asked → List (List ℕ)
+outputs_of (stations feed) = []
+outputs_of (graph feed chosen) = []
+outputs_of (make feed paths chosen) = paths.picture ∷ paths.certificate ∷ []
+outputs_of (improve feed paths moves chosen) = paths.picture ∷ paths.certificate ∷ []
+outputs_of (check feed paths chosen) = []
+outputs_of (depict kind feed certificate out chosen) = out ∷ []
+outputs_of (session feed script out chosen) = out ∷ []
+outputs_of (trial number) = []
+outputs_of (page picture html) = html ∷ []
 
 -- whether a command reads a feed
 abbrev pub has_feed : Asked → Bool
@@ -74,8 +75,11 @@ abbrev pub paths_read : Asked → List (List ℕ)
 paths_read asked = with_read asked (with_read asked (with_read asked (with_tables asked (with_read asked (with_read asked [] input.Settings) input.Edits))
     input.Script) input.Certificate) input.Picture
 
--- whether an output is one file with something of these paths, or with the other output
-abbrev pub clashes : (List ℕ → List ℕ → Bool) → OutputPaths → List (List ℕ) → Bool
-clashes same (record { first = None; second = second }) paths = false
-clashes same (record { first = Some first; second = None }) paths = list_any (same first) paths
-clashes same (record { first = Some first; second = Some second }) paths = list_any (same first) paths || list_any (same second) (paths ++ first ∷ [])
+-- an output, and the first of these paths that leads to the same file, if any does
+abbrev pub clash_with : (List ℕ → List ℕ → Bool) → List ℕ → List (List ℕ) → Option Clash
+clash_with same output paths = option_map (λ other. record { output = output; other = other }) (find (same output) paths)
+
+-- the first output that is one file with something of these paths, or with an output before it
+abbrev pub first_clash : (List ℕ → List ℕ → Bool) → List (List ℕ) → List (List ℕ) → Option Clash
+first_clash same [] paths = None
+first_clash same (output ∷ more) paths = option_or (clash_with same output paths) (first_clash same more (paths ++ output ∷ []))

@@ -1,10 +1,11 @@
 //! Which output of a command is a file that it reads, or its other output.
 
-ghost use Rattle.std.specs.Prelude.{◌≡◌, IfOk, IfSome, OnOk, is_some, list_any};
+ghost use Rattle.std.specs.Prelude.{◌≡◌, [], ◌∷◌, IfOk, IfSome, OnOk, option_map};
+ghost use Rattle.std.specs.List.{find};
 ghost use Rattle.command_words.specs.Asked.{asked_by};
-ghost use Rattle.output_guard.specs.Guarded.{clashes, has_feed, has_certificate, has_picture, has_script, is_read, outputs_of, paths_read, with_read, with_tables};
+ghost use Rattle.output_guard.specs.Guarded.{clash_with, first_clash, has_feed, has_certificate, has_picture, has_script, is_read, outputs_of, paths_read, with_read, with_tables};
 
-use crate::outputs::outputs_of;
+use crate::outputs::{Outputs, outputs_of};
 use command_words::Command;
 use disk_door::Leads;
 use map_base::{NoMemory, Text};
@@ -22,47 +23,78 @@ pub struct Clash {
     pub other: Text,
 }
 
-/// An output of a command that is one file with something that the command reads, or with its other output; none where
-/// there is no such output.
+/// The first output of a command that is one file with something that the command may read, or with an output before it,
+/// and the first such file; none where there is no such output.
 pub fn clash_of<D: Leads>(
     alloc: Global,
     command: &Command<'_>,
     disk: &D,
 ) -> Result<Option<Clash>, NoMemory>
     ensures { IfOk result (λ found. IfSome (D.same disk.now) (λ same.
-        is_some found ≡ clashes same (outputs_of (asked_by command.now)) (paths_read (asked_by command.now)))) }
+        found ≡ first_clash same (outputs_of (asked_by command.now)) (paths_read (asked_by command.now)))) }
 {
-    let outputs = outputs_of(command);
-    let Some(first) = outputs.first else {
-        return Ok(None);
-    };
-    let mut others = input_paths(alloc, command)?;
-    if let Some(clash) = clash_among(alloc, disk, first, &others)? {
+    match outputs_of(command) {
+        Outputs::Nothing => Ok(None),
+        Outputs::File(output) => {
+            let read = input_paths(alloc, command)?;
+            clash_among(alloc, disk, output, &read)
+        }
+        Outputs::Pair(picture, certificate) => {
+            let read = input_paths(alloc, command)?;
+            clash_of_two(alloc, disk, picture, certificate, read)
+        }
+    }
+}
+
+/// The first of two outputs that is one file with some paths that are read, or the second where it is one with the first.
+fn clash_of_two<D: Leads>(
+    alloc: Global,
+    disk: &D,
+    first: &str,
+    second: &str,
+    read: Vec<Text>,
+) -> Result<Option<Clash>, NoMemory>
+    ensures { IfOk result (λ found. IfSome (D.same disk.now) (λ same.
+        found ≡ first_clash same (first.now ∷ second.now ∷ []) read.items)) }
+{
+    if let Some(clash) = clash_among(alloc, disk, first, &read)? {
         return Ok(Some(clash));
     }
-    let Some(second) = outputs.second else {
-        return Ok(None);
-    };
+    let mut others = read;
     others.push(Text::of(alloc, first)?)?;
     clash_among(alloc, disk, second, &others)
 }
 
-/// The first of some paths that is one file with an output, if any.
-#[tactic(auto, using(std::proofs::lemmas::List::at_drop_more))]
+/// An output, and the first of some paths that is one file with it, if any.
 fn clash_among<D: Leads>(
     alloc: Global,
     disk: &D,
     output: &str,
     others: &[Text],
 ) -> Result<Option<Clash>, NoMemory>
-    ensures { IfOk result (λ found. IfSome (D.same disk.now) (λ same. is_some found ≡ list_any (same output.now) others.now)) }
+    ensures { IfOk result (λ found. IfSome (D.same disk.now) (λ same. found ≡ clash_with same output.now others.now)) }
+{
+    match first_same(disk, output, others)? {
+        None => Ok(None),
+        Some(other) => Ok(Some(Clash {
+            output: Text::of(alloc, output)?,
+            other: Text::of(alloc, other)?,
+        })),
+    }
+}
+
+/// The first of some paths that is one file with an output, if any.
+#[tactic(auto, using(std::proofs::lemmas::List::at_drop_more))]
+fn first_same<'a, D: Leads>(
+    disk: &D,
+    output: &str,
+    others: &'a [Text],
+) -> Result<Option<&'a str>, NoMemory>
+    ensures { IfOk result (λ found. IfSome (D.same disk.now) (λ same. option_map (λ path. path.now) found ≡ find (same output.now) others.now)) }
 {
     for other in others {
         if disk.are_one(output, other.as_str())? {
-            return Ok(Some(Clash {
-                output: Text::of(alloc, output)?,
-                other: Text::of(alloc, other.as_str())?,
-            }));
+            return Ok(Some(other.as_str()));
         }
     }
     Ok(None)
