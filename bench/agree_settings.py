@@ -3,11 +3,12 @@
 
     bench/agree_settings.py [--feeds N] [--seed S] [--work FOLDER] [--ours PROGRAM] PROGRAM
 
-Makes N feeds as bench/agree.py does, and for each a settings file with some of the keys, now and then with a value that
-no key takes. `labels` and `geo` also get a certificate of which one word is changed. Runs the commands of both programs on each and compares status, standard output and the bytes of the files (of
-words that are not read, status 2, the status alone: each program has its own help);
-`check` without any settings file must say yes to each map under the default cell, near distance and weights. A feed on
-which something differs is kept, and named. Ends with 1 where there is one.
+Makes N feeds as bench/agree.py does, and for each a settings file with some of the keys, now and then with a value
+that no key takes. `labels` and `geo` also get a certificate of which one word is changed. Runs the commands of both
+programs on each and compares status, standard output and the bytes of the files (of words that are not read, status
+2, the status alone: each program has its own help); `check` without any settings file must say yes to each map under
+the default cell, near distance and weights. A feed on which something differs is kept, and named. Ends with 1 where
+there is one.
 """
 import argparse
 import collections

@@ -8,7 +8,7 @@ ghost use Rattle.command_words.specs.Words.{asked_as, check_in, graph_in, improv
 
 use crate::command::Command;
 use clap::ArgMatches;
-use command_paths::{MapFiles, Options};
+use command_paths::{MapFiles, Options, Picture};
 use map_method::Defaults;
 
 /// The command that the matches name; none where two of its files are to be one.

@@ -1,5 +1,5 @@
 -- What comes of a picture of a certificate after each step.
-use Rattle.std.proofs.Common.{◌≡◌, ◌∙◌, ap, sym, subst, ℕ, List, length, Result, Ok, Err}
+use Rattle.std.proofs.Common.{◌≡◌, ◌∙◌, ap, sym, subst, ℕ, List, length, Ok, Err}
 use Rattle.map_base.specs.Settings.{Choices}
 use Rattle.transit_feed.specs.Feeds.{Feed}
 use Rattle.graph_core.specs.declared.parts.GraphParts.{GraphParts}
@@ -14,8 +14,6 @@ use Rattle.cert_file.specs.declared.certificate.Certificate.{Certificate}
 use Rattle.cert_file.specs.Plain.{PlainCertificate}
 use Rattle.cert_file.specs.Readers.{IsTextOf}
 use Rattle.cert_file.specs.Reading.{certificate_end}
-use Rattle.map_engine.specs.declared.fault.CheckFault.{CheckFault}
-use Rattle.map_engine.specs.declared.fault.CheckFault.TheVariants as fault
 use Rattle.map_engine.specs.Faults.{text_stop}
 use Rattle.map_engine.specs.Promises.{IsCertified}
 use Rattle.map_engine.specs.Readings.{certificate_in}
@@ -30,16 +28,6 @@ module _ (draw : PlainCertificate → List ℕ) (feed : Feed) (choices : Choices
       → HasCause (pictured_items draw feed choices graph (certificate_in bytes)) (text_stop stop)
   text_undrawn bytes (bad.At at) h = ap (pictured_items draw feed choices graph) (wrong_read bytes at h)
   text_undrawn bytes bad.NoMemory h = tt
-
-  -- what the check refuses has no picture
-  refused_error : (read : Result PlainCertificate ℕ) (e : CheckFault) → checked_text feed choices graph read ≡ Err e → pictured_items draw feed choices graph read ≡ Err e
-  refused_error (Err at) e h = cc
-  refused_error (Ok c) e h = ap (if_accepted (draw c)) h
-
-  pub refused_undrawn : (read : Result PlainCertificate ℕ) (e : CheckFault) → HasCause (checked_text feed choices graph read) e → HasCause (pictured_items draw feed choices graph read) e
-  refused_undrawn read fault.NoMemory h = tt
-  refused_undrawn read (fault.Refuted i) h = refused_error read (fault.Refuted i) h
-  refused_undrawn read (fault.Limit limit) h = refused_error read (fault.Limit limit) h
 
   -- what it accepts has one
   pub accepted_drawn : (c : PlainCertificate) (bytes : List ℕ) (checked : PlainChecked) → IsTextOf c bytes

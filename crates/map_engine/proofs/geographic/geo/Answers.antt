@@ -1,4 +1,4 @@
-use Rattle.std.proofs.Common.{◌∙◌, sym, subst, ℕ, List, Ok, Result, Vec}
+use Rattle.std.proofs.Common.{sym, subst, ℕ, List, Ok, Result, Vec}
 use Rattle.std.specs.Global.{Global}
 use Rattle.map_base.specs.declared.limit.Limit.{Limit}
 use Rattle.map_base.specs.declared.point.Point.{Point}
