@@ -30,10 +30,10 @@ returns-clause-follows g c =
     let old = g.F.Files.faults c.args.files.now in
     let loaded = g.F.Files.faults c.load.new.files in
     let now = g.F.Files.faults c.read_certificate.new.files in
-    let work = certificate_work c.args.kind c.args.map.now c.in_ok-loaded.loaded c.in_ok-graph.graph in
+    let work = certificate_work c.args.kind c.args.map.now c.in_ok-loaded.loaded c.in_ok-graph.graph.graph in
     let second = subst (λ (t : Told). Follows t paths (Rose loaded now) same_outputs work c.read_certificate.result) c.in_ok-loaded.ensures.kept c.read_certificate.ensures.follows in
     certificate_follows c.args.kind told paths (inputs_by c.args.inputs.now).chosen c.args.map.now (Rose old now) c.read_certificate.result
-    c.in_ok-loaded.loaded c.in_ok-loaded.ensures.follows c.in_ok-graph.graph (Rose loaded now)
+    c.in_ok-loaded.loaded c.in_ok-loaded.ensures.follows c.in_ok-graph.graph.graph (Rose loaded now)
     (rose_later old loaded now c.in_ok-loaded.ensures.later c.read_certificate.ensures.later) c.in_ok-graph.ensures.given second
 
 pub returns-clause-keeps : goal.returns-clause-keeps

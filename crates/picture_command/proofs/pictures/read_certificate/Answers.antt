@@ -16,7 +16,7 @@ returns-clause-follows g c =
     let paths = input_at (inputs_by c.args.inputs.now) in
     let rose = Rose (g.F.Files.faults c.args.files.now) (g.F.Files.faults c.read_file.new.files) in
     follows_value told paths rose (λ bytes. option_map (λ (v : Vec ℕ Global). v.items) bytes) (λ (o : List Output). o) (file_work input.Certificate)
-    (λ file. picture_at c.args.kind c.args.map.now c.args.loaded.now c.args.graph.now file) c.in_ok-bytes.bytes c.picture_at.result
+    (λ file. picture_at c.args.kind c.args.map.now c.args.loaded.now c.args.graph.now.graph file) c.in_ok-bytes.bytes c.picture_at.result
     c.in_ok-bytes.ensures.follows c.picture_at.ensures.given
 
 pub returns-clause-labelled : goal.returns-clause-labelled
