@@ -18,7 +18,7 @@ use std::test::Fail;
 use transit_feed::Tables;
 
 /// The settings that a file makes beside the defaults of `make`.
-pub(crate) fn settings_of(alloc: Global, file: &str) -> Result<MapSettings, Fail> {
+fn settings_of(alloc: Global, file: &str) -> Result<MapSettings, Fail> {
     let settings = read_settings(alloc, file.as_bytes(), Defaults::Make)
         .ok()
         .ok_or("settings")?;
@@ -49,7 +49,7 @@ fn files_of(alloc: Global, feed: Feed) -> Result<SteadyFiles, NoMemory> {
 }
 
 /// The tables of a feed.
-pub(crate) fn tables_of(alloc: Global, feed: Feed, settings: &Settings) -> Result<Tables, Fail> {
+fn tables_of(alloc: Global, feed: Feed, settings: &Settings) -> Result<Tables, Fail> {
     let mut files = files_of(alloc, feed)?;
     let tables = read_tables(alloc, &mut files, "feed", settings.types.as_slice())
         .ok()
@@ -93,7 +93,7 @@ pub(crate) fn made(alloc: Global, feed: Feed, file: &str) -> Result<Result<Made,
 }
 
 /// Why there is no map.
-pub(crate) fn fault_text(alloc: Global, fault: MakeFault) -> Result<String, Fail> {
+fn fault_text(alloc: Global, fault: MakeFault) -> Result<String, Fail> {
     match fault {
         MakeFault::NoRoute { seg } => {
             let number = seg.0;
@@ -109,7 +109,7 @@ pub(crate) fn fault_text(alloc: Global, fault: MakeFault) -> Result<String, Fail
 }
 
 /// A map, and after it its certificate.
-pub(crate) fn both_texts(alloc: Global, map: &Made) -> Result<String, Fail> {
+fn both_texts(alloc: Global, map: &Made) -> Result<String, Fail> {
     let svg = str::from_utf8(map.svg.as_slice())?;
     let certificate = str::from_utf8(map.certificate.as_slice())?;
     Ok(format!(in alloc; "{svg}{certificate}")?)

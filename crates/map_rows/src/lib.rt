@@ -1,11 +1,9 @@
-//! Maps of small feeds whose certificates are known: each is made from the text of its feed, and checked, at once and in
-//! sessions. Nothing stands on this crate.
+//! Maps of small feeds whose certificates are known: each is made from the text of its feed, and checked. Nothing stands on
+//! this crate.
 #![tactic(auto)]
 
 #[cfg(test)]
 mod answers;
-#[cfg(test)]
-mod call_tests;
 #[cfg(test)]
 mod city;
 #[cfg(test)]
@@ -16,5 +14,3 @@ mod feeds;
 mod known_tests;
 #[cfg(test)]
 mod refused_tests;
-#[cfg(test)]
-mod session_tests;
