@@ -11,7 +11,8 @@ use Rattle.order_model.specs.PartTerms.{part_terms, part_numbers}
 use Rattle.order_model.specs.Prefixes.{none_placed}
 use Rattle.order_proof.specs.Plain.{plain}
 use Rattle.order_proof.specs.Trees.{IsProofTree}
-use Rattle.order_bound.specs.Accepting.{question, accepts}
+use Rattle.order_bound.specs.Accepting.{accepts}
+use Rattle.order_model.specs.Questions.{question}
 use Rattle.order_search.specs.declared.found.Found.{Found}
 use Rattle.order_search.specs.declared.found.SearchFault.{SearchFault}
 use Rattle.order_search.specs.LiveTrees.{GrownTree, live_tree}

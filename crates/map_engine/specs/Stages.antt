@@ -16,7 +16,8 @@ use Rattle.cert_file.specs.Plain.{PlainCertificate}
 use Rattle.cert_file.specs.Text.{certificate_text}
 use Rattle.order_proof.specs.Plain.{PlainPart, plain_part, plain_proof}
 use Rattle.order_proof.specs.Trees.{IsProofTree}
-use Rattle.order_bound.specs.Accepting.{question, accepts}
+use Rattle.order_bound.specs.Accepting.{accepts}
+use Rattle.order_model.specs.Questions.{question}
 use Rattle.order_model.specs.PartTerms.{part_terms}
 use Rattle.order_model.specs.Prefixes.{none_placed}
 use Rattle.order_search.specs.Finding.{with_lists, IsLeast, AreAttained}

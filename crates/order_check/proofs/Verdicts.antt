@@ -25,7 +25,8 @@ use Rattle.order_model.proofs.OneParts.{problem_parts_are}
 use Rattle.order_model.specs.Prefixes.{first_placed, none_placed}
 use Rattle.order_rules.specs.Untangling.{after_rules, first_refused}
 use Rattle.order_rules.proofs.RuleLaws.{all_problem, all_less}
-use Rattle.order_bound.specs.Accepting.{question, failing}
+use Rattle.order_bound.specs.Accepting.{failing}
+use Rattle.order_model.specs.Questions.{question}
 use Rattle.order_bound.proofs.Sound.{all_complete_none}
 use Rattle.order_bound.proofs.Accepted.{accepted_part_bounds}
 use Rattle.order_bound.proofs.Failing.{accepted_where_none}

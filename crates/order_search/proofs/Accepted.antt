@@ -15,7 +15,8 @@ use Rattle.order_proof.specs.Trees.{lines_of}
 use Rattle.order_model.specs.PartTerms.{is_in}
 use Rattle.order_model.specs.Completions.{placed_more}
 use Rattle.part_bounds.specs.PartStates.{IsWell}
-use Rattle.order_bound.specs.Accepting.{Question, are_those_left, is_split, accepts, accepts_cases}
+use Rattle.order_bound.specs.Accepting.{are_those_left, is_split, accepts, accepts_cases}
+use Rattle.order_model.specs.Questions.{Question}
 use Rattle.order_bound.proofs.Sound.{same_or_other, all_in, rising_at}
 use Rattle.order_search.specs.Left.{is_open, first_open, room_of, AreNext}
 use Rattle.order_search.specs.LiveTrees.{BoundedPart, Best, better, next_lines, GrownTree, grow_cases, split_with, closed_with, live_node, live_within, live_at}

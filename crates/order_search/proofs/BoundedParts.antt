@@ -14,7 +14,8 @@ use Rattle.order_model.specs.PartTerms.{is_in, is_of, part_terms, plain_terms}
 use Rattle.order_model.specs.Parts.{IsRisingPart}
 use Rattle.order_model.proofs.Lines.{both_true}
 use Rattle.order_proof.specs.Trees.{AreNotZero}
-use Rattle.order_bound.specs.Accepting.{question, reaches}
+use Rattle.order_bound.specs.Accepting.{reaches}
+use Rattle.order_model.specs.Questions.{question}
 use Rattle.order_bound.specs.Bounds.{bound_of}
 use Rattle.order_bound.specs.Pairs.{pair_in}
 use Rattle.order_bound.specs.CanonicalPrices.{pair_prices, price_among, listed, prices_on}

@@ -7,7 +7,7 @@ ghost use Rattle.order_bound.specs.CanonicalPrices.{cut_to, turned_by, price_for
 ghost use Rattle.order_bound.specs.declared.pairs.ChildLink.{ChildLink};
 ghost use Rattle.order_bound.specs.Pairs.{AreApartSegments};
 ghost use Rattle.pair_bounds.specs.Slots.{rise_in, slot_segs, child_links, with_child, with_children, slot_least, IsSmall};
-ghost use Rattle.order_bound.specs.Values.{int_sum};
+ghost use Rattle.whole_algebra.specs.Sums.{int_sum};
 ghost use Rattle.pair_bounds.specs.PriceNotes.{price_noted, price_over, priced_in};
 
 use crate::noted_prices::NotedPrices;

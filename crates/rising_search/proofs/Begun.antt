@@ -15,7 +15,8 @@ use Rattle.order_model.specs.Prefixes.{none_placed}
 use Rattle.order_model.proofs.KeptTerms.{part_terms_by_number}
 use Rattle.order_proof.specs.Plain.{PlainTree, plain}
 use Rattle.order_proof.specs.Trees.{IsProofTree}
-use Rattle.order_bound.specs.Accepting.{question, accepts}
+use Rattle.order_bound.specs.Accepting.{accepts}
+use Rattle.order_model.specs.Questions.{question}
 use Rattle.part_bounds.specs.PartStates.{PartState, IsWell}
 use Rattle.order_search.specs.declared.found.Found.{Found}
 use Rattle.order_search.specs.declared.found.SearchFault.{SearchFault}

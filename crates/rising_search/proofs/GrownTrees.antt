@@ -12,7 +12,8 @@ use Rattle.order_model.specs.Prefixes.{is_placed}
 use Rattle.order_model.specs.Completions.{placed_more}
 use Rattle.order_proof.specs.Plain.{PlainTree, split, close, Cases, no_case, case_of}
 use Rattle.order_proof.specs.Trees.{depth_of, depth_of_cases, count_of, lines_of, AreDistinct, IsTree, AreTrees, IsProofTree}
-use Rattle.order_bound.specs.Accepting.{Question, is_split, accepts, accepts_cases}
+use Rattle.order_bound.specs.Accepting.{is_split, accepts, accepts_cases}
+use Rattle.order_model.specs.Questions.{Question}
 use Rattle.part_bounds.specs.PartStates.{IsWell}
 use Rattle.order_search.specs.Left.{AreNext}
 use Rattle.order_search.specs.LiveTrees.{BoundedPart}

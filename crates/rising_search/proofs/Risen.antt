@@ -10,7 +10,8 @@ use Rattle.order_model.specs.Problems.{lines_on}
 use Rattle.order_model.specs.Prefixes.{none_placed}
 use Rattle.order_proof.specs.Plain.{PlainTree}
 use Rattle.order_proof.specs.Trees.{splits_of, IsProofTree}
-use Rattle.order_bound.specs.Accepting.{Question, accepts}
+use Rattle.order_bound.specs.Accepting.{accepts}
+use Rattle.order_model.specs.Questions.{Question}
 use Rattle.part_bounds.specs.PartStates.{IsWell}
 use Rattle.order_search.specs.Left.{first_open}
 use Rattle.order_search.specs.LiveTrees.{BoundedPart, number_order}

@@ -3,3 +3,4 @@ pub mod Identities
 pub mod Signs
 pub mod Rounding
 pub mod Crossings
+pub mod Sums

@@ -1,7 +1,7 @@
 use Rattle.std.proofs.Common.{◌^◌, ◌∙◌, length, drop, refl, sym, ap, subst, arith}
 use Rattle.std.specs.List.{All}
 use Rattle.order_bound.specs.Pairs.{kept_links, AreApartSegments}
-use Rattle.order_bound.specs.Values.{int_sum}
+use Rattle.whole_algebra.specs.Sums.{int_sum}
 use Rattle.pair_bounds.specs.Slots.{slot_segs, child_links, slot_least, IsSmall}
 use Rattle.pair_bounds.proofs.Gathered.{take_front}
 use Rattle.pair_bounds.proofs.PairCosts.{pair_total}

@@ -1,0 +1,4 @@
+pub mod Settled
+pub mod Shares
+pub mod Values
+pub mod Accepting

@@ -1,0 +1,3 @@
+pub mod OrderCosts
+pub mod Arrangements
+pub mod LeastOrders
