@@ -1,3 +1,4 @@
 pub mod Lists
 pub mod LeastValues
 pub mod Arranging
+pub mod Sets
