@@ -2,3 +2,4 @@ pub mod Lists
 pub mod LeastValues
 pub mod Arranging
 pub mod Sets
+pub mod Stepping
