@@ -3,3 +3,5 @@ pub mod LeastValues
 pub mod Arranging
 pub mod Sets
 pub mod Stepping
+pub mod Keeping
+pub mod Bounds
