@@ -9,11 +9,12 @@ use Rattle.std.proofs.lemmas.List.Sorted.{list_any-IsPermutation}
 use Rattle.std.specs.Prelude.{IsPermutation}
 use Rattle.map_base.specs.declared.ids.LineId.{LineId}
 use Rattle.whole_algebra.specs.Sums.{int_sum}
+use Rattle.least_orders.specs.declared.choice.Choice.{Choice}
 use Rattle.least_orders.specs.OrderCosts.{PairCosts, beside_next, order_cost}
 use Rattle.least_orders.specs.Arrangements.{picks, orders_of, all_orders}
 use Rattle.least_orders.specs.LeastOrders.{first_of, first_least}
 use Rattle.least_orders.specs.Rows.{Rows, AreRows, line_at, entry, row_costs, is_ahead}
-use Rattle.least_orders.specs.Subsets.{has_place, with_place, left_from, left, is_kept, cost_after, best_after, rest_cost, is_ready, before_left, first_cost, beside_last, Choice, choice_of, better_choice, choice_from, choice}
+use Rattle.least_orders.specs.Subsets.{has_place, with_place, left_from, left, is_kept, cost_after, best_after, rest_cost, is_ready, before_left, first_cost, beside_last, choice_of, better_choice, choice_from, choice}
 use Rattle.least_orders.proofs.Lists.{Among, each_at, each_weaker, each_filter}
 use Rattle.least_orders.proofs.LeastValues.{better, first_least-append, first_least-map, first_least_more, first_among}
 use Rattle.least_orders.proofs.Arranging.{Pick, pick_lengths, orders_are_permutations, orders_have_sum}

@@ -6,6 +6,7 @@ use Rattle.std.specs.List.{list_any}
 use Rattle.std.specs.Option.{option_map}
 use Rattle.map_base.specs.declared.ids.LineId.{LineId}
 use Rattle.whole_algebra.specs.Sums.{int_sum}
+use Rattle.least_orders.specs.declared.choice.Choice.{Choice}
 use Rattle.least_orders.specs.OrderCosts.{PairCosts, beside_next, order_cost}
 use Rattle.least_orders.specs.Arrangements.{all_orders}
 use Rattle.least_orders.specs.LeastOrders.{first_least}
@@ -65,11 +66,7 @@ abbrev pub beside_last : Rows → Option ℕ → ℕ → ℤ
 beside_last r None k = pos 0
 beside_last r (Some l) k = entry r.count r.beside (line_at l) (line_at k)
 
--- a line to go on with, and what the order costs from there on
-pub record Choice : Type 0 where
-  pub place : ℕ
-  pub cost : ℤ
-
+-- a line to go on with, with what the orders that do cost at least behind the last one
 abbrev pub choice_of : Rows → Option ℕ → ℕ → Option ℤ → Option Choice
 choice_of r last k None = None
 choice_of r last k (Some v) = Some (record { place = k; cost = v +ℤ beside_last r last k })
