@@ -42,24 +42,24 @@ module _ (r : Rows) (fits : AreRows r) where
   next_within a [] = omega arith
   next_within a (b ∷ o) = beside_within a b
 
-  order_within : (o : List LineId) → length o ≤ 16 → unsigned_abs (order_cost (row_costs r) o) ≤ length o * 16000000000000000
+  order_within : (o : List LineId) → length o ≤ 16 → unsigned_abs (order_cost (row_costs r) o) ≤ length o * 32000000000000000
   order_within [] few = omega arith
   order_within (a ∷ o) few =
       let sum = sum_within (entry r.count r.before a) o (before_within a) in
       let next = next_within a o in
       let rest = order_within o (omega (arith, few)) in
       let some = abs_sum (int_sum (entry r.count r.before a) o) (beside_next (row_costs r) a o) (length o * most_entry) most_entry sum next in
-      let all = abs_sum (int_sum (entry r.count r.before a) o +ℤ beside_next (row_costs r) a o) (order_cost (row_costs r) o) (length o * most_entry + most_entry) (length o * 16000000000000000) some rest in
+      let all = abs_sum (int_sum (entry r.count r.before a) o +ℤ beside_next (row_costs r) a o) (order_cost (row_costs r) o) (length o * most_entry + most_entry) (length o * 32000000000000000) some rest in
       omega (arith, few, all)
 
-  after_within : (last : Option ℕ) (o : List LineId) → length o ≤ 16 → unsigned_abs (cost_after (row_costs r) last o) ≤ 257000000000000000
+  after_within : (last : Option ℕ) (o : List LineId) → length o ≤ 16 → unsigned_abs (cost_after (row_costs r) last o) ≤ 514000000000000000
   after_within None o few = let cost = order_within o few in omega (arith, few, cost)
   after_within (Some l) o few =
       let cost = order_within o few in
-      let all = abs_sum (beside_next (row_costs r) (line_at l) o) (order_cost (row_costs r) o) most_entry (length o * 16000000000000000) (next_within (line_at l) o) cost in
+      let all = abs_sum (beside_next (row_costs r) (line_at l) o) (order_cost (row_costs r) o) most_entry (length o * 32000000000000000) (next_within (line_at l) o) cost in
       omega (arith, few, all)
 
-  pub rest_within : (set : ℕ) (last : Option ℕ) (v : ℤ) → rest_cost r set last ≡ Some v → unsigned_abs v ≤ 257000000000000000
+  pub rest_within : (set : ℕ) (last : Option ℕ) (v : ℤ) → rest_cost r set last ≡ Some v → unsigned_abs v ≤ 514000000000000000
   rest_within set last v e = by_best (best_after r set last) refl e
     where
       some_same : (a b : ℤ) → Some a ≡ Some b → a ≡ b
@@ -68,7 +68,7 @@ module _ (r : Rows) (fits : AreRows r) where
       none_some : (a : ℤ) → None ≡ Some a → ⊥
       none_some a e = cc
 
-      by_best : (o : Option (List LineId)) → best_after r set last ≡ o → option_map (cost_after (row_costs r) last) o ≡ Some v → unsigned_abs v ≤ 257000000000000000
+      by_best : (o : Option (List LineId)) → best_after r set last ≡ o → option_map (cost_after (row_costs r) last) o ≡ Some v → unsigned_abs v ≤ 514000000000000000
       by_best None is e = absurd (none_some v e)
       by_best (Some o) is e =
           let moved : IsPermutation (left r set) o = each_at (λ o. IsPermutation (left r set) o) (filter (is_kept r) (all_orders (left r set))) o
@@ -77,9 +77,9 @@ module _ (r : Rows) (fits : AreRows r) where
           let few = left_few set 0 r.count in
           let each = length_permutation (left r set) o moved in
           let most = fits.few in
-          subst (λ w. unsigned_abs w ≤ 257000000000000000) (some_same (cost_after (row_costs r) last o) v e) (after_within last o (omega (arith, few, each, most)))
+          subst (λ w. unsigned_abs w ≤ 514000000000000000) (some_same (cost_after (row_costs r) last o) v e) (after_within last o (omega (arith, few, each, most)))
 
-  pub before_left_within : (set k : ℕ) → unsigned_abs (int_sum (entry r.count r.before (line_at k)) (left r set)) ≤ 16000000000000000
+  pub before_left_within : (set k : ℕ) → unsigned_abs (int_sum (entry r.count r.before (line_at k)) (left r set)) ≤ 32000000000000000
   before_left_within set k =
       let sum = sum_within (entry r.count r.before (line_at k)) (left r set) (before_within (line_at k)) in
       let few = left_few set 0 r.count in

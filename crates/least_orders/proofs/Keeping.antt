@@ -72,10 +72,10 @@ apart_from x xs b h k = each_at (λ y. same x y ≡ false) xs b h k
 
 -- An order is kept exactly where each line comes before those that it has to be ahead of.
 
-abbrev ComeAhead : Rows → List LineId → Type 0
+abbrev pub ComeAhead : Rows → List LineId → Type 0
 ComeAhead r o = (a b : LineId) → Among a o → Among b o → is_ahead r a b ≡ true → comes_before o a b ≡ true
 
-kept_from : (r : Rows) (o : List LineId) → IsDistinct same o → ComeAhead r o → is_kept r o ≡ true
+pub kept_from : (r : Rows) (o : List LineId) → IsDistinct same o → ComeAhead r o → is_kept r o ≡ true
 unfolding IsDistinct
 kept_from r [] distinct h = refl
 kept_from r (x ∷ o) distinct h = and_from (not (list_any (λ (b : LineId). is_ahead r b x) o)) (is_kept r o)
@@ -95,7 +95,7 @@ kept_from r (x ∷ o) distinct h = and_from (not (list_any (λ (b : LineId). is_
     rest a b here there ahead =
         sym (step a b (apart_from x o a distinct.0 here) ∙ ap (λ t. cond t false (comes_before o a b)) (apart_from x o b distinct.0 there)) ∙ h a b (inr here) (inr there) ahead
 
-kept_gives : (r : Rows) (o : List LineId) → is_kept r o ≡ true → ComeAhead r o
+pub kept_gives : (r : Rows) (o : List LineId) → is_kept r o ≡ true → ComeAhead r o
 kept_gives r [] kept a b here there ahead = absurd here
 kept_gives r (x ∷ o) kept a b here there ahead =
     by_first (x.0 == a.0) refl (λ k l. kept_gives r o (and_parts (not (list_any (λ (c : LineId). is_ahead r c x) o)) (is_kept r o) kept).1 a b k l ahead)
@@ -148,7 +148,7 @@ row_pair_among r a b here there ahead =
     (among_map (λ (a : LineId). (a, b)) a (filter (λ (a : LineId). is_ahead r a b) (row_lines r)) (among_filter (λ (a : LineId). is_ahead r a b) a (row_lines r) here ahead))
 
 -- an order of the rows' lines keeps the settled pairs exactly where it is kept
-keeps_as_kept : (r : Rows) (o : List LineId) → IsPermutation (row_lines r) o → keeps (row_pairs r) o ≡ is_kept r o
+pub keeps_as_kept : (r : Rows) (o : List LineId) → IsPermutation (row_lines r) o → keeps (row_pairs r) o ≡ is_kept r o
 keeps_as_kept r o moved = same_test (keeps (row_pairs r) o) (is_kept r o) forward backward
   where
     known : (a : LineId) → Among a o → Among a (row_lines r)

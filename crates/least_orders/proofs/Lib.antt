@@ -5,3 +5,5 @@ pub mod Sets
 pub mod Stepping
 pub mod Keeping
 pub mod Bounds
+pub mod Renaming
+pub mod CostSums

@@ -113,7 +113,7 @@ no_left_passes p set k (suc n) h = by_test (has_place set k) refl (no_left_passe
     by_test false e rest = ap (λ c. c || list_any p (left_from set (k + 1) n)) (h k (omega arith) (omega arith) e) ∙ rest
 
 -- a bit that is not raised is 0
-not_raised : (n i : ℕ) → (bit_at n i == 1) ≡ false → bit_at n i ≡ 0
+pub not_raised : (n i : ℕ) → (bit_at n i == 1) ≡ false → bit_at n i ≡ 0
 not_raised n i h = let apart = eqb-false (bit_at n i) 1 h in let low = bit_at-lt n i in omega (arith, apart, low)
 
 -- a line is ready where none that is left otherwise has to stand before it

@@ -1,8 +1,8 @@
 -- What pairs of lines cost and which are settled, in rows, the lines told by their places from 0 on.
-use Rattle.std.specs.Prelude.{◌≡◌, ℕ, zero, suc, ◌+◌, ◌*◌, ◌^◌, ◌<◌, ◌≤◌, ◌==◌, Bool, List, [], ◌∷◌, length, map, filter, slice_index, slice_index_or, unsigned_abs}
+use Rattle.std.specs.Prelude.{◌≡◌, ◌≢◌, ℕ, zero, suc, ◌+◌, ◌*◌, ◌^◌, ◌<◌, ◌≤◌, ◌==◌, Bool, true, ◌&&◌, List, [], ◌∷◌, length, map, filter, slice_index, slice_index_or, unsigned_abs}
 use Rattle.std.specs.Prelude.{ℤ, pos}
 use Rattle.std.specs.Int.{bit_at}
-use Rattle.std.specs.List.{flat_map}
+use Rattle.std.specs.List.{flat_map, list_any, list_all}
 use Rattle.map_base.specs.declared.ids.LineId.{LineId}
 use Rattle.least_orders.specs.OrderCosts.{PairCosts}
 
@@ -45,7 +45,7 @@ row_pairs r = flat_map (λ (b : LineId). map (λ (a : LineId). (a, b)) (filter (
 
 -- how great an entry may be
 abbrev pub most_entry : ℕ
-most_entry = 1000000000000000
+most_entry = 2000000000000000
 
 -- there are at most 16 lines, all entries are there and not too great, and no line has to stand before itself
 pub record AreRows (r : Rows) : Type 0 where
@@ -57,3 +57,26 @@ pub record AreRows (r : Rows) : Type 0 where
   pub beside_small : (k : ℕ) → unsigned_abs (slice_index_or r.beside k (pos 0)) ≤ most_entry
   pub ahead_known : (k : ℕ) → slice_index r.ahead k < 2 ^ r.count
   pub apart : (k : ℕ) → bit_at (slice_index r.ahead k) k ≡ 0
+
+-- the line that stands at the place
+abbrev pub named : List LineId → LineId → LineId
+named lines a = slice_index_or lines a.0 a
+
+-- the line is one of these
+abbrev pub is_one_of : List LineId → LineId → Bool
+is_one_of lines a = list_any (λ (b : LineId). b.0 == a.0) lines
+
+-- the pair is one of these
+abbrev pub is_settled : List (LineId × LineId) → LineId → LineId → Bool
+is_settled settled a b = list_any (λ (p : LineId × LineId). p.0.0 == a.0 && p.1.0 == b.0) settled
+
+-- the rows tell by places what these lines cost, and which pairs of them are settled
+pub record TellCosts (r : Rows) (costs : PairCosts) (settled : List (LineId × LineId)) (lines : List LineId) : Type 0 where
+  pub each : r.count ≡ length lines
+  pub before : (i j : ℕ) → i < length lines → j < length lines → i ≢ j
+      → entry r.count r.before (line_at i) (line_at j) ≡ costs.before (named lines (line_at i)) (named lines (line_at j))
+  pub beside : (i j : ℕ) → i < length lines → j < length lines → i ≢ j
+      → entry r.count r.beside (line_at i) (line_at j) ≡ costs.beside (named lines (line_at i)) (named lines (line_at j))
+  pub ahead : (i j : ℕ) → i < length lines → j < length lines
+      → is_ahead r (line_at i) (line_at j) ≡ is_settled settled (named lines (line_at i)) (named lines (line_at j))
+  pub known : list_all (λ (p : LineId × LineId). is_one_of lines p.0 && is_one_of lines p.1) settled ≡ true

@@ -1,6 +1,6 @@
 //! Sets of places, a bit for each.
 
-ghost use Rattle.std.specs.Prelude.{◌≡◌, ◌≤◌, ◌<◌, ◌^◌, true, false};
+ghost use Rattle.std.specs.Prelude.{◌≡◌, ◌≤◌, ◌<◌, ◌^◌};
 ghost use Rattle.least_orders.specs.Subsets.{has_place, with_place};
 
 /// Whether a set has this place.
@@ -11,13 +11,19 @@ pub(crate) fn has_place(set: usize, k: usize) -> bool
     (set >> k) & 1 == 1
 }
 
-/// The set with this place, which it hasn't yet.
+/// The set with this place, too.
 pub(crate) fn with_place(set: usize, k: usize) -> usize
-    requires known { k < 16 }
-    requires fresh { has_place set k ≡ false }
-    ensures set { result ≡ with_place set k }
-    ensures greater { set < result }
-    ensures within { set < 2 ^ 16 → result < 2 ^ 16 }
+    requires { k < 16 }
+    ensures { result ≡ with_place set k }
 {
     set | (1 << k)
+}
+
+/// How many sets of so many places there are.
+pub(crate) fn sets_of(count: usize) -> usize
+    requires { count ≤ 16 }
+    ensures value { result ≡ 2 ^ count }
+    ensures few { result ≤ 65536 }
+{
+    1 << count
 }

@@ -5,6 +5,7 @@ ghost use Rattle.least_orders.specs.Rows.{AreRows, row_lines, row_costs, row_pai
 ghost use Rattle.least_orders.specs.LeastOrders.{least_cost, least_order};
 ghost use Rattle.subset_program.specs.PlainRows.{plain_rows, ArePlacesOf};
 
+use crate::place_sets::sets_of;
 use crate::rows::PairRows;
 use crate::table;
 use map_base::NoMemory;
@@ -37,7 +38,7 @@ impl SubsetProgram {
         requires { width ≤ 16 }
         ensures { IfOk result (λ p. p ≡ width) }
     {
-        let rests = vec![in alloc; None; (1 << width) * width]?;
+        let rests = vec![in alloc; None; sets_of(width) * width]?;
         let firsts = vec![in alloc; None; width]?;
         Ok(SubsetProgram {
             width,

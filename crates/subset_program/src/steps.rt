@@ -1,6 +1,6 @@
 //! One step of the program: what it costs to go on with a line behind a set.
 
-ghost use Rattle.std.specs.Prelude.{◌≡◌, ◌≤◌, ◌<◌, ◌+◌, ◌*◌, ◌^◌, length, slice_index_or, unsigned_abs, None};
+ghost use Rattle.std.specs.Prelude.{◌≡◌, ◌≤◌, ◌<◌, ◌+◌, ◌*◌, ◌^◌, length, unsigned_abs, IfSome};
 ghost use Rattle.least_orders.specs.Rows.{AreRows};
 ghost use Rattle.least_orders.specs.Subsets.{is_ready, before_left, first_cost, beside_last, choice_of, better_choice, choice};
 ghost use Rattle.subset_program.specs.PlainRows.{plain_rows};
@@ -79,7 +79,7 @@ fn beside_last(rows: &PairRows, last: Option<usize>, k: usize) -> i64
     requires known { k < rows.now.count }
     requires last { IfSome last (λ l. l < rows.now.count) }
     ensures value { result ≡ beside_last (plain_rows rows.now) last k }
-    ensures small { unsigned_abs result ≤ 1000000000000000 }
+    ensures small { unsigned_abs result ≤ 2000000000000000 }
 {
     match last {
         None => 0,
@@ -92,7 +92,7 @@ fn choice_of(rows: &PairRows, last: Option<usize>, k: usize, first: Option<i64>)
     requires rows { AreRows (plain_rows rows.now) }
     requires known { k < rows.now.count }
     requires last { IfSome last (λ l. l < rows.now.count) }
-    requires small { IfSome first (λ v. unsigned_abs v ≤ 300000000000000000) }
+    requires small { IfSome first (λ v. unsigned_abs v ≤ 600000000000000000) }
     ensures { result ≡ choice_of (plain_rows rows.now) last k first }
 {
     match first {

@@ -1,13 +1,13 @@
 //! The table of what is left behind each set.
 
-ghost use Rattle.std.specs.Prelude.{◌≡◌, ◌≤◌, ◌<◌, ◌+◌, ◌*◌, ◌^◌, length, slice_set, IfSome, map, take, Option, Some, None};
+ghost use Rattle.std.specs.Prelude.{◌≡◌, ◌≤◌, ◌<◌, ◌+◌, ◌*◌, ◌^◌, length, slice_set, IfSome};
 ghost use Rattle.least_orders.specs.Rows.{AreRows, row_lines, row_costs, row_pairs};
 ghost use Rattle.least_orders.specs.LeastOrders.{least_cost, least_order};
-ghost use Rattle.least_orders.specs.Subsets.{has_place, rest_cost};
+ghost use Rattle.least_orders.specs.Subsets.{rest_cost};
 ghost use Rattle.subset_program.specs.PlainRows.{plain_rows, ArePlacesOf};
 ghost use Rattle.subset_program.specs.Tables.{HasRests, HasFirsts};
 
-use crate::place_sets::{has_place, with_place};
+use crate::place_sets::{has_place, sets_of, with_place};
 use crate::rows::PairRows;
 use crate::steps::{choose, put_firsts};
 
@@ -20,7 +20,7 @@ fn rest_cost(firsts: &[Option<i64>], rows: &PairRows, set: usize, last: Option<u
     requires firsts { HasFirsts (plain_rows rows.now) set rows.now.count firsts.now }
     ensures { result ≡ rest_cost (plain_rows rows.now) set last }
 {
-    if set + 1 == 1 << rows.count {
+    if set + 1 == sets_of(rows.count) {
         return Some(0);
     }
     match choose(firsts, rows, set, last) {
@@ -36,7 +36,7 @@ fn fill(rests: &mut [Option<i64>], firsts: &mut [Option<i64>], rows: &PairRows)
     requires each { rows.now.count ≤ length firsts.old }
     ensures { HasRests (plain_rows rows.now) 0 rests.new }
 {
-    for set in (0..1 << rows.count).rev() {
+    for set in (0..sets_of(rows.count)).rev() {
         fill_set(rests, firsts, rows, set);
     }
 }

@@ -1,0 +1,5 @@
+pub mod Segments
+pub mod TermShares
+pub mod Bounding
+pub mod Sound
+pub mod ShareCosts
