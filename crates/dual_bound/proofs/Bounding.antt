@@ -22,7 +22,8 @@ use Rattle.least_orders.specs.LeastOrders.{least_value}
 use Rattle.least_orders.proofs.Lists.{Among, each_among, among_filter, all_at}
 use Rattle.least_orders.proofs.LeastValues.{least_below, some_least}
 use Rattle.least_orders.proofs.Arranging.{permutation_is_order}
-use Rattle.dual_bound.specs.Settled.{SettledPair, settled_on, keep_all}
+use Rattle.dual_bound.specs.declared.settled.SettledPair.{SettledPair}
+use Rattle.dual_bound.specs.Settled.{settled_on, keep_all}
 use Rattle.dual_bound.specs.Shares.{thousand, term_share, share_of}
 use Rattle.dual_bound.specs.Values.{least_share, plus, value_of, are_allowed}
 use Rattle.dual_bound.proofs.Segments.{order_at, rising_at, part_apart}

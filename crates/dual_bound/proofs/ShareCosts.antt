@@ -23,7 +23,8 @@ use Rattle.least_orders.proofs.Lists.{Among, each_at, each_among, each_filter}
 use Rattle.least_orders.proofs.LeastValues.{least_value_same}
 use Rattle.least_orders.proofs.Arranging.{order_is_permutation}
 use Rattle.least_orders.proofs.CostSums.{order_cost_sum, order_cost_less, order_cost_none, order_cost_before, order_cost_beside}
-use Rattle.dual_bound.specs.Settled.{SettledPair, settled_on}
+use Rattle.dual_bound.specs.declared.settled.SettledPair.{SettledPair}
+use Rattle.dual_bound.specs.Settled.{settled_on}
 use Rattle.dual_bound.specs.Shares.{thousand, where_so, x_of, z_of, term_share, share_of}
 use Rattle.dual_bound.specs.ShareCosts.{costs_where, link_costs, term_costs, share_costs}
 use Rattle.dual_bound.specs.Values.{least_share}

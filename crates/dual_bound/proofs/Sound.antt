@@ -19,7 +19,8 @@ use Rattle.order_model.proofs.Lines.{has_permutation}
 use Rattle.order_values.specs.PriceLists.{price_at}
 use Rattle.order_values.specs.DualTrees.{PlainDual, fork, stop}
 use Rattle.least_orders.specs.Arrangements.{keeps}
-use Rattle.dual_bound.specs.Settled.{SettledPair, settled_on, keep_all, with_pair}
+use Rattle.dual_bound.specs.declared.settled.SettledPair.{SettledPair}
+use Rattle.dual_bound.specs.Settled.{settled_on, keep_all, with_pair}
 use Rattle.dual_bound.specs.Shares.{thousand}
 use Rattle.dual_bound.specs.Values.{value_of, are_allowed}
 use Rattle.dual_bound.specs.Accepting.{is_narrow, shows, is_stopped, is_fork, accepts, after_line, first_of, failing_below, is_light, failing}

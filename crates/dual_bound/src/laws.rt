@@ -12,7 +12,8 @@ ghost use Rattle.order_model.specs.PartTerms.{part_terms, plain_terms};
 ghost use Rattle.order_model.specs.Questions.{Question, question};
 ghost use Rattle.order_values.specs.PriceLists.{price_at};
 ghost use Rattle.order_values.specs.DualTrees.{PlainDual};
-ghost use Rattle.dual_bound.specs.Settled.{SettledPair, keep_all};
+ghost use Rattle.dual_bound.specs.declared.settled.SettledPair.{SettledPair};
+ghost use Rattle.dual_bound.specs.Settled.{keep_all};
 ghost use Rattle.dual_bound.specs.Values.{value_of, are_allowed};
 ghost use Rattle.dual_bound.specs.Accepting.{is_light, accepts, failing};
 

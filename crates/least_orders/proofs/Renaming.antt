@@ -108,7 +108,9 @@ module _ (lines : List LineId) (rising : AreRising lines) where
 
     -- the place of a line
     place_of : (a : LineId) → is_one_of lines a ≡ true → (p : LineId) × (p.0 < length lines) × (named lines p ≡ a)
-    place_of a h = found lines 0 (λ i d below. ap (λ j. get_or lines j d) (omega arith)) (placed_among lines a h)
+    place_of a h =
+        let here = found lines 0 (λ i d below. ap (λ j. get_or lines j d) (omega arith)) (placed_among lines a h) in
+        (here.0, let below = here.1 in omega (arith, below), here.2)
       where
         found : (rest : List LineId) (k : ℕ) → ((i : ℕ) (d : LineId) → i < length rest → get_or lines (k + i) d ≡ get_or rest i d) → Among a rest
             → (p : LineId) × (p.0 < k + length rest) × (named lines p ≡ a)
