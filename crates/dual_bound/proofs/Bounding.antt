@@ -74,6 +74,11 @@ thousand_costs orders (t ∷ terms) =
     joined : (a b c : ℕ) → c ≡ a + b → pos (thousand * a) +ℤ pos (thousand * b) ≡ pos (thousand * c)
     joined a b c e = omega (arith, ints, e)
 
+-- there is a value, and it is at most this
+abbrev pub ValueBelow : Option ℤ → ℤ → Type 0
+ValueBelow None w = ⊥
+ValueBelow (Some v) w = v ≤ℤ w
+
 module _ (segs orders : List (List LineId)) (part : List SegId) (settled : List SettledPair)
     (rising : All AreRising segs) (are_orders : AreOrders segs orders) where
 
@@ -83,11 +88,6 @@ module _ (segs orders : List (List LineId)) (part : List SegId) (settled : List 
   among_orders s kept =
       among_filter (keeps (settled_on settled s)) (lines_on orders s) (all_orders (lines_on segs s))
       (permutation_is_order (lines_on segs s) (lines_on orders s) (rising_at segs s.0 rising) (order_at segs orders s.0 are_orders)) kept
-
-  -- the value of prices where it is one
-  abbrev ValueBelow : Option ℤ → ℤ → Type 0
-  ValueBelow None w = ⊥
-  ValueBelow (Some v) w = v ≤ℤ w
 
   value_below : (terms : List (ℕ × Term)) (price : ℕ → ℤ) (these : List SegId) → keep_all settled these orders ≡ true
       → ValueBelow (value_of segs terms price settled these) (int_sum (λ (s : SegId). share_of terms price s (lines_on orders s)) these)

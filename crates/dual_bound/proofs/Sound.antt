@@ -1,6 +1,6 @@
 -- Where a tree is accepted, no orders that keep the settled pairs cost less than its target.
 use Rattle.std.proofs.Common.{◌≡◌, ℕ, zero, suc, ◌+◌, ◌*◌, ◌<◌, ◌≤◌, ◌==◌, ◌||◌, ◌&&◌, not, Bool, true, false, cond, List, [], ◌∷◌, length, map, filter, refl, sym, ◌∙◌, ap, subst, arith, ◌⊎◌, inl, inr, true≢false, Option, Some, None}
-use Rattle.std.specs.Prelude.{IsPermutation, ℤ, pos, ◌*ℤ◌, ◌-ℤ◌, ◌≤ℤ◌, int_lt, ◌↔◌}
+use Rattle.std.specs.Prelude.{IsPermutation, ℤ, pos, ◌+ℤ◌, ◌*ℤ◌, ◌-ℤ◌, ◌≤ℤ◌, int_lt, ◌↔◌}
 use Rattle.std.specs.List.{All, list_all}
 use Rattle.std.proofs.lemmas.Bool.{and_parts, and_from, not-true}
 use Rattle.std.proofs.lemmas.Int.{ints}
@@ -29,11 +29,8 @@ use Rattle.dual_bound.proofs.Bounding.{ValueBelow, value_bounds}
 
 module _ (segs orders : List (List LineId)) (part : List SegId) (terms : List Term) (target : ℕ) (rising : All AreRising segs) (fit : All (IsTerm segs) terms)
     (part_rises : IsRisingPart part) (are_orders : AreOrders segs orders) where
-  abbrev q : Question
-  q = question segs part (part_terms terms part) target
-
-  cost : ℕ
-  cost = cost_of (plain_terms (part_terms terms part)) orders
+  abbrev asked : Question
+  asked = question segs part (part_terms terms part) target
 
   -- one pair more is kept where the orders have it so
   more_kept : (settled : List SettledPair) (s : SegId) (a b : LineId) (these : List SegId) → comes_before (lines_on orders s) a b ≡ true
@@ -48,7 +45,7 @@ module _ (segs orders : List (List LineId)) (part : List SegId) (terms : List Te
       by_test true e here = and_from (comes_before (lines_on orders t) a b) (keeps (settled_on settled t) (lines_on orders t)) (subst (λ u. comes_before (lines_on orders u) a b ≡ true) (same_seg s t e) before) here
       by_test false e here = here
 
-  shown : (v : Option ℤ) → shows target v ≡ true → ValueBelow segs orders part [] rising are_orders v (pos (thousand * cost_of (plain_terms (part_terms terms part)) orders)) → target ≤ cost_of (plain_terms (part_terms terms part)) orders
+  shown : (v : Option ℤ) → shows target v ≡ true → ValueBelow v (pos (thousand * cost_of (plain_terms (part_terms terms part)) orders)) → target ≤ cost_of (plain_terms (part_terms terms part)) orders
   shown None h below = absurd below
   shown (Some v) h below = target_below target (cost_of (plain_terms (part_terms terms part)) orders) v (above (pos thousand *ℤ (pos target -ℤ pos 1)) v h) below
     where
@@ -58,14 +55,14 @@ module _ (segs orders : List (List LineId)) (part : List SegId) (terms : List Te
       target_below : (t c : ℕ) (v : ℤ) → ((pos thousand *ℤ (pos t -ℤ pos 1)) +ℤ pos 1) ≤ℤ v → v ≤ℤ pos (thousand * c) → t ≤ c
       target_below t c v h k = omega (arith, ints, h, k)
 
-  sound : (settled : List SettledPair) (tree : PlainDual) → accepts q settled tree ≡ true → keep_all settled part orders ≡ true → target ≤ cost_of (plain_terms (part_terms terms part)) orders
+  sound : (settled : List SettledPair) (tree : PlainDual) → accepts asked settled tree ≡ true → keep_all settled part orders ≡ true → target ≤ cost_of (plain_terms (part_terms terms part)) orders
   sound settled (stop prices) ok kept =
       let tests = and_parts (are_allowed (part_terms terms part) prices) (is_narrow segs part && shows target (value_of segs (part_terms terms part) (price_at prices) settled part)) ok in
       let more = and_parts (is_narrow segs part) (shows target (value_of segs (part_terms terms part) (price_at prices) settled part)) tests.1 in
       shown (value_of segs (part_terms terms part) (price_at prices) settled part) more.1 (value_bounds segs orders part settled rising are_orders terms prices fit part_rises tests.0 kept)
   sound settled (fork s a b first second) ok kept =
-      let tests = and_parts (is_fork q s a b) (accepts q (with_pair s a b settled) first && accepts q (with_pair s b a settled) second) ok in
-      let trees = and_parts (accepts q (with_pair s a b settled) first) (accepts q (with_pair s b a settled) second) tests.1 in
+      let tests = and_parts (is_fork asked s a b) (accepts asked (with_pair s a b settled) first && accepts asked (with_pair s b a settled) second) ok in
+      let trees = and_parts (accepts asked (with_pair s a b settled) first) (accepts asked (with_pair s b a settled) second) tests.1 in
       let in_part = and_parts (is_in part s) (has_line (lines_on segs s) a && (has_line (lines_on segs s) b && not (a.0 == b.0))) tests.0 in
       let here = and_parts (has_line (lines_on segs s) a) (has_line (lines_on segs s) b && not (a.0 == b.0)) in_part.1 in
       let there = and_parts (has_line (lines_on segs s) b) (not (a.0 == b.0)) here.1 in
@@ -112,7 +109,7 @@ way_not_none way e = cc
 pub accepted_below : (q : Question) (settled : List SettledPair) (tree : PlainDual) → failing_below q settled tree ≡ None → accepts q settled tree ≡ true
 accepted_below q settled (stop prices) h = by_test (is_stopped q settled prices) h
   where
-    by_test : (b : Bool) → cond b None (Some []) ≡ None → b ≡ true
+    by_test : (b : Bool) → cond {A = Option (List LineId)} b None (Some []) ≡ None → b ≡ true
     by_test true e = refl
     by_test false e = absurd (way_not_none [] e)
 accepted_below q settled (fork s a b first second) h =
@@ -168,5 +165,5 @@ pub value_bounds_orders : (segs : List (List LineId)) (part : List SegId) (terms
     → value_of segs (part_terms terms part) (price_at prices) settled part ≡ Some v
     → (orders : List (List LineId)) → AreOrders segs orders → keep_all settled part orders ≡ true → v ≤ℤ pos (thousand * cost_of (plain_terms (part_terms terms part)) orders)
 value_bounds_orders segs part terms settled prices v rising fit part_rises allowed is orders are_orders kept =
-    subst (λ o. ValueBelow segs orders part settled rising are_orders o (pos (thousand * cost_of (plain_terms (part_terms terms part)) orders))) is
+    subst (λ o. ValueBelow o (pos (thousand * cost_of (plain_terms (part_terms terms part)) orders))) is
     (value_bounds segs orders part settled rising are_orders terms prices fit part_rises allowed kept)
