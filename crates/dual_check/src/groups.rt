@@ -1,13 +1,11 @@
 //! The terms on each segment of a part.
 
-ghost use Rattle.std.specs.Prelude.{◌≡◌, ◌<◌, ◌≤◌, length, map, All, IfOk, OnOk, slice_index_or};
-ghost use Rattle.map_base.specs.declared.ids.SegId.{SegId};
-ghost use Rattle.order_model.specs.Problems.{IsProblem};
+ghost use Rattle.std.specs.Prelude.{◌≡◌, ◌<◌, length, map, All, IfOk, OnOk};
 ghost use Rattle.order_model.specs.Parts.{IsRisingPart};
 ghost use Rattle.order_model.specs.Places.{tables_of};
-ghost use Rattle.order_model.specs.PartTerms.{no_numbers, no_term};
-ghost use Rattle.dual_check.specs.Groups.{is_on, numbers_on};
-ghost use Rattle.dual_check.specs.GroupSteps.{place_in_part, with_term, IsPlaceInPart};
+ghost use Rattle.order_model.specs.PartTerms.{no_numbers, with_number};
+ghost use Rattle.dual_check.specs.Groups.{numbers_on};
+ghost use Rattle.dual_check.specs.GroupSteps.{with_term, IsPlaceInPart};
 
 use map_base::{NoMemory, SegId};
 use order_model::{Problem, Term, ends_of};
@@ -66,7 +64,7 @@ fn place_in_part(part: &[SegId], s: SegId) -> Option<usize>
     requires { IsRisingPart part.now }
     ensures { IsPlaceInPart part.now s result }
 {
-    match part.binary_search_by(|t| t.0.cmp(&s.0)) {
+    match part.binary_search_by_key(&s.0, |t| t.0) {
         Ok(k) => Some(k),
         Err(_) => None,
     }
