@@ -1,3 +1,4 @@
+mod Examples
 pub mod Segments
 pub mod TermShares
 pub mod Bounding

@@ -1,3 +1,4 @@
+mod Examples
 pub mod Lists
 pub mod LeastValues
 pub mod Arranging
