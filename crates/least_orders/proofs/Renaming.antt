@@ -69,7 +69,7 @@ rising_tail : (a : LineId) (lines : List LineId) → AreRising (a ∷ lines) →
 rising_tail a [] h = tt
 rising_tail a (b ∷ lines) h = h.1
 
-rising_places : (lines : List LineId) (i j : ℕ) (d e : LineId) → AreRising lines → i < j → j < length lines → (get_or lines i d).0 < (get_or lines j e).0
+pub rising_places : (lines : List LineId) (i j : ℕ) (d e : LineId) → AreRising lines → i < j → j < length lines → (get_or lines i d).0 < (get_or lines j e).0
 rising_places [] i j d e rising below within = absurd (omega (arith, within))
 rising_places (a ∷ lines) i zero d e rising below within = absurd (omega (arith, below))
 rising_places (a ∷ lines) zero (suc j) d e rising below within = rising_more a lines j e rising (omega (arith, within))
@@ -77,7 +77,7 @@ rising_places (a ∷ lines) (suc i) (suc j) d e rising below within = rising_pla
 
 module _ (lines : List LineId) (rising : AreRising lines) where
   -- lines go by the same name exactly where they stand at the same place
-  same_name : (a b : LineId) → a.0 < length lines → b.0 < length lines → ((named lines a).0 == (named lines b).0) ≡ (a.0 == b.0)
+  pub same_name : (a b : LineId) → a.0 < length lines → b.0 < length lines → ((named lines a).0 == (named lines b).0) ≡ (a.0 == b.0)
   same_name a b here there = by_test (a.0 == b.0) refl
     where
       by_test : (t : Bool) → (a.0 == b.0) ≡ t → ((named lines a).0 == (named lines b).0) ≡ t
