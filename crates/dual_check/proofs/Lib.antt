@@ -3,3 +3,5 @@ mod Loads
 mod Rows
 mod PriceTests
 mod Values
+mod Ahead
+mod Adding
