@@ -1,3 +1,4 @@
 mod Tails
 mod Places
+mod Filling
 mod Walking

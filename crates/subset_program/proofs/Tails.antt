@@ -25,19 +25,17 @@ all_of n = omega arith
 pub sum_at_end : (f : LineId → ℤ) (set n : ℕ) → pos 0 ≡ int_sum f (left_from set n (n - n))
 sum_at_end f set n = sym (ap (λ m. int_sum f (left_from set n m)) (no_more n))
 
-pub sum_taken : (f : LineId → ℤ) (set n j : ℕ) → j < n → has_place set j ≡ true → int_sum f (left_from set (j + 1) (n - (j + 1))) ≡ int_sum f (left_from set j (n - j))
-sum_taken f set n j below taken =
-    sym (ap (λ m. int_sum f (left_from set j m)) (one_more n j below)
-    ∙ ap (λ b. int_sum f (cond b (left_from set (j + 1) (n - (j + 1))) (line_at j ∷ left_from set (j + 1) (n - (j + 1))))) taken)
-
-pub sum_free : (f : LineId → ℤ) (set n j : ℕ) → j < n → has_place set j ≡ false → int_sum f (left_from set (j + 1) (n - (j + 1))) +ℤ f (line_at j) ≡ int_sum f (left_from set j (n - j))
-sum_free f set n j below free =
-    turned (f (line_at j)) (int_sum f (left_from set (j + 1) (n - (j + 1))))
-    ∙ sym (ap (λ m. int_sum f (left_from set j m)) (one_more n j below)
-    ∙ ap (λ b. int_sum f (cond b (left_from set (j + 1) (n - (j + 1))) (line_at j ∷ left_from set (j + 1) (n - (j + 1))))) free)
+pub sum_more : (f : LineId → ℤ) (set n j : ℕ) → j < n
+    → int_sum f (left_from set (j + 1) (n - (j + 1))) +ℤ cond (has_place set j) (pos 0) (f (line_at j)) ≡ int_sum f (left_from set j (n - j))
+sum_more f set n j below = by_test (has_place set j) ∙ sym (ap (λ m. int_sum f (left_from set j m)) (one_more n j below))
   where
-    turned : (a b : ℤ) → b +ℤ a ≡ a +ℤ b
-    turned a b = omega (arith, ints)
+    by_test : (b : Bool) → int_sum f (left_from set (j + 1) (n - (j + 1))) +ℤ cond b (pos 0) (f (line_at j))
+        ≡ int_sum f (cond b (left_from set (j + 1) (n - (j + 1))) (line_at j ∷ left_from set (j + 1) (n - (j + 1))))
+    by_test true = omega (arith, ints)
+    by_test false = turned (f (line_at j)) (int_sum f (left_from set (j + 1) (n - (j + 1))))
+      where
+        turned : (a b : ℤ) → b +ℤ a ≡ a +ℤ b
+        turned a b = omega (arith, ints)
 
 pub sum_of_all : (f : LineId → ℤ) (set n : ℕ) → int_sum f (left_from set 0 (n - 0)) ≡ int_sum f (left_from set 0 n)
 sum_of_all f set n = ap (λ m. int_sum f (left_from set 0 m)) (all_of n)

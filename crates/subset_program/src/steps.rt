@@ -1,14 +1,29 @@
 //! One step of the program: what it costs to go on with a line behind a set.
 
-ghost use Rattle.std.specs.Prelude.{◌≡◌, ◌≤◌, ◌<◌, ◌+◌, ◌*◌, ◌^◌, length, unsigned_abs, IfSome};
-ghost use Rattle.least_orders.specs.Rows.{AreRows};
-ghost use Rattle.least_orders.specs.Subsets.{is_ready, before_left, first_cost, beside_last, choice_of, better_choice, choice};
+ghost use Rattle.std.specs.Prelude.{◌≡◌, ◌≤◌, ◌<◌, ◌+◌, ◌*◌, ◌^◌, length, pos, unsigned_abs, IfSome, if◌then◌else◌};
+ghost use Rattle.least_orders.specs.Rows.{AreRows, line_at, entry};
+ghost use Rattle.least_orders.specs.Subsets.{has_place, is_ready, before_left, first_cost, beside_last, choice_of, better_choice, choice};
 ghost use Rattle.subset_program.specs.PlainRows.{plain_rows};
 ghost use Rattle.subset_program.specs.Tables.{HasRests, HasFirsts};
 
 use crate::place_sets::{has_place, with_place};
 use crate::rows::PairRows;
 use least_orders::Choice;
+
+/// What a line costs with another one behind it that a set has not; nothing where the set has it.
+fn before_one(rows: &PairRows, set: usize, k: usize, j: usize) -> i64
+    requires rows { AreRows (plain_rows rows.now) }
+    requires known { k < rows.now.count }
+    requires other { j < rows.now.count }
+    ensures value { result ≡ (if has_place set j then pos 0 else entry rows.now.count rows.now.before.now (line_at k) (line_at j)) }
+    ensures small { unsigned_abs result ≤ 2000000000000000 }
+{
+    if has_place(set, j) {
+        0
+    } else {
+        rows.before[k * rows.count + j]
+    }
+}
 
 /// What a line costs with those that a set has not.
 fn before_left(rows: &PairRows, set: usize, k: usize) -> i64
@@ -18,9 +33,7 @@ fn before_left(rows: &PairRows, set: usize, k: usize) -> i64
 {
     let mut total: i64 = 0;
     for j in (0..rows.count).rev() {
-        if !has_place(set, j) {
-            total += rows.before[k * rows.count + j];
-        }
+        total += before_one(rows, set, k, j);
     }
     total
 }

@@ -1,11 +1,11 @@
 //! The table of what is left behind each set.
 
-ghost use Rattle.std.specs.Prelude.{◌≡◌, ◌≤◌, ◌<◌, ◌+◌, ◌*◌, ◌^◌, length, slice_set, IfSome};
+ghost use Rattle.std.specs.Prelude.{◌≡◌, ◌≤◌, ◌<◌, ◌+◌, ◌*◌, ◌^◌, length, IfSome};
 ghost use Rattle.least_orders.specs.Rows.{AreRows, row_lines, row_costs, row_pairs};
 ghost use Rattle.least_orders.specs.LeastOrders.{least_cost, least_order};
 ghost use Rattle.least_orders.specs.Subsets.{rest_cost};
 ghost use Rattle.subset_program.specs.PlainRows.{plain_rows, ArePlacesOf};
-ghost use Rattle.subset_program.specs.Tables.{HasRests, HasFirsts};
+ghost use Rattle.subset_program.specs.Tables.{HasRests, HasFirsts, IsFilledAt};
 
 use crate::place_sets::{has_place, sets_of, with_place};
 use crate::rows::PairRows;
@@ -52,19 +52,29 @@ fn fill_set(rests: &mut [Option<i64>], firsts: &mut [Option<i64>], rows: &PairRo
 {
     put_firsts(firsts, rests, rows, set);
     for last in 0..rows.count {
-        if has_place(set, last) {
-            let rest = rest_cost(firsts, rows, set, Some(last));
-            put_rest(rests, set * rows.count + last, rest);
-        }
+        fill_at(rests, firsts, rows, set, last);
     }
 }
 
-/// Writes an entry of the table.
-fn put_rest(rests: &mut [Option<i64>], at: usize, rest: Option<i64>)
-    requires { at < length rests.old }
-    ensures { rests.new ≡ slice_set rests.old at rest }
+/// The same of a set and one line, where the set has it.
+fn fill_at(
+    rests: &mut [Option<i64>],
+    firsts: &[Option<i64>],
+    rows: &PairRows,
+    set: usize,
+    last: usize,
+)
+    requires rows { AreRows (plain_rows rows.now) }
+    requires room { 2 ^ rows.now.count * rows.now.count ≤ length rests.old }
+    requires each { rows.now.count ≤ length firsts.now }
+    requires set { set < 2 ^ rows.now.count }
+    requires last { last < rows.now.count }
+    requires firsts { HasFirsts (plain_rows rows.now) set rows.now.count firsts.now }
+    ensures { IsFilledAt (plain_rows rows.now) set last rests.old rests.new }
 {
-    rests[at] = rest;
+    if has_place(set, last) {
+        rests[set * rows.count + last] = rest_cost(firsts, rows, set, Some(last));
+    }
 }
 
 /// What the least order costs.
