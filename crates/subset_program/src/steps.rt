@@ -1,6 +1,6 @@
 //! One step of the program: what it costs to go on with a line behind a set.
 
-ghost use Rattle.std.specs.Prelude.{◌≡◌, ◌≤◌, ◌<◌, ◌+◌, ◌*◌, ◌^◌, length, pos, unsigned_abs, IfSome, if◌then◌else◌};
+ghost use Rattle.std.specs.Prelude.{◌≡◌, ◌≤◌, ◌<◌, ◌+◌, ◌*◌, ◌^◌, ◌+ℤ◌, length, pos, unsigned_abs, IfSome, if◌then◌else◌};
 ghost use Rattle.least_orders.specs.Rows.{AreRows, line_at, entry};
 ghost use Rattle.least_orders.specs.Subsets.{has_place, is_ready, before_left, first_cost, beside_last, choice_of, better_choice, choice};
 ghost use Rattle.subset_program.specs.PlainRows.{plain_rows};
@@ -29,11 +29,12 @@ fn before_one(rows: &PairRows, set: usize, k: usize, j: usize) -> i64
 fn before_left(rows: &PairRows, set: usize, k: usize) -> i64
     requires rows { AreRows (plain_rows rows.now) }
     requires known { k < rows.now.count }
-    ensures { result ≡ before_left (plain_rows rows.now) set k }
+    ensures value { result ≡ before_left (plain_rows rows.now) set k }
+    ensures small { unsigned_abs result ≤ 32000000000000000 }
 {
     let mut total: i64 = 0;
     for j in (0..rows.count).rev() {
-        total += before_one(rows, set, k, j);
+        total = sum(total, before_one(rows, set, k, j));
     }
     total
 }
@@ -63,7 +64,7 @@ fn first_cost(rests: &[Option<i64>], rows: &PairRows, set: usize, k: usize) -> O
     let more = with_place(set, k);
     match rests[more * rows.count + k] {
         None => None,
-        Some(rest) => Some(rest + before_left(rows, more, k)),
+        Some(rest) => Some(sum(rest, before_left(rows, more, k))),
     }
 }
 
@@ -112,7 +113,7 @@ fn choice_of(rows: &PairRows, last: Option<usize>, k: usize, first: Option<i64>)
         None => None,
         Some(cost) => Some(Choice {
             place: k,
-            cost: cost + beside_last(rows, last, k),
+            cost: sum(cost, beside_last(rows, last, k)),
         }),
     }
 }
@@ -146,4 +147,13 @@ pub(crate) fn choose(
         best = better_choice(choice_of(rows, last, k, firsts[k]), best);
     }
     best
+}
+
+/// The sum of two numbers.
+fn sum(a: i64, b: i64) -> i64
+    requires a_within { unsigned_abs a ≤ 1000000000000000000 }
+    requires b_within { unsigned_abs b ≤ 1000000000000000000 }
+    ensures { result ≡ a +ℤ b }
+{
+    a + b
 }
