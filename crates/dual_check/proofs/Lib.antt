@@ -5,3 +5,4 @@ mod PriceTests
 mod Values
 mod Ahead
 mod Adding
+mod Grouping
