@@ -1,4 +1,5 @@
 mod Tails
 mod Places
 mod Filling
+mod Firsts
 mod Walking

@@ -1,8 +1,8 @@
 //! One step of the program: what it costs to go on with a line behind a set.
 
-ghost use Rattle.std.specs.Prelude.{◌≡◌, ◌≤◌, ◌<◌, ◌+◌, ◌*◌, ◌^◌, ◌+ℤ◌, length, pos, unsigned_abs, IfSome, if◌then◌else◌};
+ghost use Rattle.std.specs.Prelude.{◌≡◌, ◌≤◌, ◌<◌, ◌+◌, ◌*◌, ◌^◌, ◌+ℤ◌, length, pos, unsigned_abs, true, IfSome, Some, if◌then◌else◌};
 ghost use Rattle.least_orders.specs.Rows.{AreRows, line_at, entry};
-ghost use Rattle.least_orders.specs.Subsets.{has_place, is_ready, before_left, first_cost, beside_last, choice_of, better_choice, choice};
+ghost use Rattle.least_orders.specs.Subsets.{has_place, rest_cost, is_ready, before_left, first_cost, beside_last, choice_of, better_choice, choice};
 ghost use Rattle.subset_program.specs.PlainRows.{plain_rows};
 ghost use Rattle.subset_program.specs.Tables.{HasRests, HasFirsts};
 
@@ -49,6 +49,19 @@ fn is_ready(rows: &PairRows, set: usize, k: usize) -> bool
     needed & set == needed
 }
 
+/// The entry of a set and one of its lines.
+fn rest_at(rests: &[Option<i64>], rows: &PairRows, set: usize, last: usize) -> Option<i64>
+    requires rows { AreRows (plain_rows rows.now) }
+    requires room { 2 ^ rows.now.count * rows.now.count ≤ length rests.now }
+    requires set { set < 2 ^ rows.now.count }
+    requires last { last < rows.now.count }
+    requires there { has_place set last ≡ true }
+    requires table { HasRests (plain_rows rows.now) set rests.now }
+    ensures { result ≡ rest_cost (plain_rows rows.now) set (Some last) }
+{
+    rests[set * rows.count + last]
+}
+
 /// What the orders behind a set that go on with a line cost at least, but for what it costs beside the last line of the set.
 fn first_cost(rests: &[Option<i64>], rows: &PairRows, set: usize, k: usize) -> Option<i64>
     requires rows { AreRows (plain_rows rows.now) }
@@ -58,11 +71,14 @@ fn first_cost(rests: &[Option<i64>], rows: &PairRows, set: usize, k: usize) -> O
     requires table { HasRests (plain_rows rows.now) (set + 1) rests.now }
     ensures { result ≡ first_cost (plain_rows rows.now) set k }
 {
-    if has_place(set, k) || !is_ready(rows, set, k) {
+    if has_place(set, k) {
+        return None;
+    }
+    if !is_ready(rows, set, k) {
         return None;
     }
     let more = with_place(set, k);
-    match rests[more * rows.count + k] {
+    match rest_at(rests, rows, more, k) {
         None => None,
         Some(rest) => Some(sum(rest, before_left(rows, more, k))),
     }
