@@ -51,7 +51,7 @@ pub side_added : (lines : List LineId) (p : ℤ) (s seg : SegId) (first second :
 side_added lines p s seg first second w before_old before_new beside h = record {
   before_added = h;
   beside_added = λ i j here there. still (entry (length lines) beside (line_at i) (line_at j)) ((costs_where (seg.0 == s.0) (cost_before second first (pos (thousand * w)))).beside (named lines (line_at i)) (named lines (line_at j)))
-    (flat_where (seg.0 == s.0) (cost_before second first (pos (thousand * w))) (named lines (line_at i)) (named lines (line_at j)) refl);
+      (flat_where (seg.0 == s.0) (cost_before second first (pos (thousand * w))) (named lines (line_at i)) (named lines (line_at j)) refl);
 }
 
 -- A Link, at its other end and then at its first.
@@ -73,15 +73,15 @@ pub link_added : (lines : List LineId) (p : ℤ) (s seg other : SegId) (flip : B
     → HaveAdded lines (term_costs p s (Link seg other flip a b w)) before_old beside before_new beside
 link_added lines p s seg other flip a b w before_old between before_new beside h g = record {
   before_added = λ i j here there. two_steps (entry (length lines) before_old (line_at i) (line_at j)) (entry (length lines) between (line_at i) (line_at j)) (entry (length lines) before_new (line_at i) (line_at j))
-    ((costs_where (other.0 == s.0) (link_costs flip a b p)).before (named lines (line_at i)) (named lines (line_at j)))
-    ((costs_where (seg.0 == s.0) (cost_before b a (pos 0 -ℤ p))).before (named lines (line_at i)) (named lines (line_at j)))
-    ((costs_where (seg.0 == s.0) (cost_before b a p)).before (named lines (line_at i)) (named lines (line_at j)))
-    (h i j here there) (g i j here there) (turned_before (seg.0 == s.0) a b p (named lines (line_at i)) (named lines (line_at j)));
+      ((costs_where (other.0 == s.0) (link_costs flip a b p)).before (named lines (line_at i)) (named lines (line_at j)))
+      ((costs_where (seg.0 == s.0) (cost_before b a (pos 0 -ℤ p))).before (named lines (line_at i)) (named lines (line_at j)))
+      ((costs_where (seg.0 == s.0) (cost_before b a p)).before (named lines (line_at i)) (named lines (line_at j)))
+      (h i j here there) (g i j here there) (turned_before (seg.0 == s.0) a b p (named lines (line_at i)) (named lines (line_at j)));
   beside_added = λ i j here there. still (entry (length lines) beside (line_at i) (line_at j))
-    ((costs_where (other.0 == s.0) (link_costs flip a b p)).beside (named lines (line_at i)) (named lines (line_at j)) -ℤ (costs_where (seg.0 == s.0) (cost_before b a p)).beside (named lines (line_at i)) (named lines (line_at j)))
-    (less_nothing ((costs_where (other.0 == s.0) (link_costs flip a b p)).beside (named lines (line_at i)) (named lines (line_at j))) ((costs_where (seg.0 == s.0) (cost_before b a p)).beside (named lines (line_at i)) (named lines (line_at j)))
-    (flat_where (other.0 == s.0) (link_costs flip a b p) (named lines (line_at i)) (named lines (line_at j)) (link_flat flip a b p (named lines (line_at i)) (named lines (line_at j))))
-    (flat_where (seg.0 == s.0) (cost_before b a p) (named lines (line_at i)) (named lines (line_at j)) refl));
+      ((costs_where (other.0 == s.0) (link_costs flip a b p)).beside (named lines (line_at i)) (named lines (line_at j)) -ℤ (costs_where (seg.0 == s.0) (cost_before b a p)).beside (named lines (line_at i)) (named lines (line_at j)))
+      (less_nothing ((costs_where (other.0 == s.0) (link_costs flip a b p)).beside (named lines (line_at i)) (named lines (line_at j))) ((costs_where (seg.0 == s.0) (cost_before b a p)).beside (named lines (line_at i)) (named lines (line_at j)))
+      (flat_where (other.0 == s.0) (link_costs flip a b p) (named lines (line_at i)) (named lines (line_at j)) (link_flat flip a b p (named lines (line_at i)) (named lines (line_at j))))
+      (flat_where (seg.0 == s.0) (cost_before b a p) (named lines (line_at i)) (named lines (line_at j)) refl));
 }
 
 -- An Apart, likewise.
@@ -104,15 +104,15 @@ pub apart_added : (lines : List LineId) (p : ℤ) (s seg other : SegId) (a b : L
     → HaveAdded lines (term_costs p s (Apart seg other a b w)) before beside_old before beside_new
 apart_added lines p s seg other a b w before beside_old between beside_new h g = record {
   before_added = λ i j here there. still (entry (length lines) before (line_at i) (line_at j))
-    ((costs_where (other.0 == s.0) (cost_beside a b p)).before (named lines (line_at i)) (named lines (line_at j)) -ℤ (costs_where (seg.0 == s.0) (cost_beside a b p)).before (named lines (line_at i)) (named lines (line_at j)))
-    (less_nothing ((costs_where (other.0 == s.0) (cost_beside a b p)).before (named lines (line_at i)) (named lines (line_at j))) ((costs_where (seg.0 == s.0) (cost_beside a b p)).before (named lines (line_at i)) (named lines (line_at j)))
-    (flat_before (other.0 == s.0) (cost_beside a b p) (named lines (line_at i)) (named lines (line_at j)) refl)
-    (flat_before (seg.0 == s.0) (cost_beside a b p) (named lines (line_at i)) (named lines (line_at j)) refl));
+      ((costs_where (other.0 == s.0) (cost_beside a b p)).before (named lines (line_at i)) (named lines (line_at j)) -ℤ (costs_where (seg.0 == s.0) (cost_beside a b p)).before (named lines (line_at i)) (named lines (line_at j)))
+      (less_nothing ((costs_where (other.0 == s.0) (cost_beside a b p)).before (named lines (line_at i)) (named lines (line_at j))) ((costs_where (seg.0 == s.0) (cost_beside a b p)).before (named lines (line_at i)) (named lines (line_at j)))
+      (flat_before (other.0 == s.0) (cost_beside a b p) (named lines (line_at i)) (named lines (line_at j)) refl)
+      (flat_before (seg.0 == s.0) (cost_beside a b p) (named lines (line_at i)) (named lines (line_at j)) refl));
   beside_added = λ i j here there. two_steps (entry (length lines) beside_old (line_at i) (line_at j)) (entry (length lines) between (line_at i) (line_at j)) (entry (length lines) beside_new (line_at i) (line_at j))
-    ((costs_where (other.0 == s.0) (cost_beside a b p)).beside (named lines (line_at i)) (named lines (line_at j)))
-    ((costs_where (seg.0 == s.0) (cost_beside a b (pos 0 -ℤ p))).beside (named lines (line_at i)) (named lines (line_at j)))
-    ((costs_where (seg.0 == s.0) (cost_beside a b p)).beside (named lines (line_at i)) (named lines (line_at j)))
-    (h i j here there) (g i j here there) (turned_beside (seg.0 == s.0) a b p (named lines (line_at i)) (named lines (line_at j)));
+      ((costs_where (other.0 == s.0) (cost_beside a b p)).beside (named lines (line_at i)) (named lines (line_at j)))
+      ((costs_where (seg.0 == s.0) (cost_beside a b (pos 0 -ℤ p))).beside (named lines (line_at i)) (named lines (line_at j)))
+      ((costs_where (seg.0 == s.0) (cost_beside a b p)).beside (named lines (line_at i)) (named lines (line_at j)))
+      (h i j here there) (g i j here there) (turned_beside (seg.0 == s.0) a b p (named lines (line_at i)) (named lines (line_at j)));
 }
 
 -- Terms that are not on a segment make nothing cost anything there.
@@ -131,14 +131,16 @@ off_costs p s (Side seg first second w) u v h =
     (ap (λ c. c.before u v) is, ap (λ c. c.beside u v) is)
 off_costs p s (Link seg other flip a b w) u v h =
     let one = where_off (other.0 == s.0) (link_costs flip a b p) (off (seg.0 == s.0) (other.0 == s.0) h).1 in
-    let two = where_off (seg.0 == s.0) (cost_before b a p) (off (seg.0 == s.0) (other.0 == s.0) h).0 in
-    (less_nothing ((costs_where (other.0 == s.0) (link_costs flip a b p)).before u v) ((costs_where (seg.0 == s.0) (cost_before b a p)).before u v) (ap (λ c. c.before u v) one) (ap (λ c. c.before u v) two),
-      less_nothing ((costs_where (other.0 == s.0) (link_costs flip a b p)).beside u v) ((costs_where (seg.0 == s.0) (cost_before b a p)).beside u v) (ap (λ c. c.beside u v) one) (ap (λ c. c.beside u v) two))
+    let two = where_off (seg.0 == s.0) (cost_before b a p) (off (seg.0 == s.0) (other.0 == s.0) h).0 in (
+      less_nothing ((costs_where (other.0 == s.0) (link_costs flip a b p)).before u v) ((costs_where (seg.0 == s.0) (cost_before b a p)).before u v) (ap (λ c. c.before u v) one) (ap (λ c. c.before u v) two),
+      less_nothing ((costs_where (other.0 == s.0) (link_costs flip a b p)).beside u v) ((costs_where (seg.0 == s.0) (cost_before b a p)).beside u v) (ap (λ c. c.beside u v) one) (ap (λ c. c.beside u v) two),
+    )
 off_costs p s (Apart seg other a b w) u v h =
     let one = where_off (other.0 == s.0) (cost_beside a b p) (off (seg.0 == s.0) (other.0 == s.0) h).1 in
-    let two = where_off (seg.0 == s.0) (cost_beside a b p) (off (seg.0 == s.0) (other.0 == s.0) h).0 in
-    (less_nothing ((costs_where (other.0 == s.0) (cost_beside a b p)).before u v) ((costs_where (seg.0 == s.0) (cost_beside a b p)).before u v) (ap (λ c. c.before u v) one) (ap (λ c. c.before u v) two),
-      less_nothing ((costs_where (other.0 == s.0) (cost_beside a b p)).beside u v) ((costs_where (seg.0 == s.0) (cost_beside a b p)).beside u v) (ap (λ c. c.beside u v) one) (ap (λ c. c.beside u v) two))
+    let two = where_off (seg.0 == s.0) (cost_beside a b p) (off (seg.0 == s.0) (other.0 == s.0) h).0 in (
+      less_nothing ((costs_where (other.0 == s.0) (cost_beside a b p)).before u v) ((costs_where (seg.0 == s.0) (cost_beside a b p)).before u v) (ap (λ c. c.before u v) one) (ap (λ c. c.before u v) two),
+      less_nothing ((costs_where (other.0 == s.0) (cost_beside a b p)).beside u v) ((costs_where (seg.0 == s.0) (cost_beside a b p)).beside u v) (ap (λ c. c.beside u v) one) (ap (λ c. c.beside u v) two),
+    )
 
 pub sum_on : (f : ℕ × Term → ℤ) (terms : List Term) (s : SegId) (numbers : List ℕ) → ((t : ℕ × Term) → is_on s t.1 ≡ false → f t ≡ pos 0)
     → int_sum f (terms_by_number terms (numbers_on terms numbers s)) ≡ int_sum f (terms_by_number terms numbers)

@@ -42,12 +42,7 @@ fn empty_groups(alloc: Global, count: usize) -> Result<Vec<Vec<u32>>, NoMemory>
 }
 
 /// Adds the number of a term to the lists of the segments that it is on.
-fn add_term(
-    groups: &mut Vec<Vec<u32>>,
-    part: &[SegId],
-    term: Term,
-    n: u32,
-) -> Result<(), NoMemory>
+fn add_term(groups: &mut Vec<Vec<u32>>, part: &[SegId], term: Term, n: u32) -> Result<(), NoMemory>
     requires rising { IsRisingPart part.now }
     requires each { length groups.old.items ≡ length part.now }
     ensures { OnOk result (tables_of groups.new.items ≡ with_term part.now term n (tables_of groups.old.items)) }
@@ -70,11 +65,7 @@ fn other_place(part: &[SegId], seg: SegId, other: SegId) -> Option<usize>
 }
 
 /// Adds a number to the list at this place, if there is one.
-fn push_where(
-    groups: &mut Vec<Vec<u32>>,
-    place: Option<usize>,
-    n: u32,
-) -> Result<(), NoMemory>
+fn push_where(groups: &mut Vec<Vec<u32>>, place: Option<usize>, n: u32) -> Result<(), NoMemory>
     requires { IfSome place (λ k. k < length groups.old.items) }
     ensures { OnOk result (tables_of groups.new.items ≡ with_number_at place n (tables_of groups.old.items)) }
 {

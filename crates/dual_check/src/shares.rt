@@ -40,7 +40,14 @@ pub(crate) fn put_shares(
     clear(before);
     clear(beside);
     for n in numbers {
-        add_term(problem, s, terms[*n as usize], price_at(prices, *n), before, beside);
+        add_term(
+            problem,
+            s,
+            terms[*n as usize],
+            price_at(prices, *n),
+            before,
+            beside,
+        );
     }
 }
 

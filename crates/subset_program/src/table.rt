@@ -12,7 +12,12 @@ use crate::rows::PairRows;
 use crate::steps::{choose, put_firsts};
 
 /// What the orders of the lines that a set has not cost at least behind its last line.
-fn rest_cost(firsts: &[Option<i64>], rows: &PairRows, set: usize, last: Option<usize>) -> Option<i64>
+fn rest_cost(
+    firsts: &[Option<i64>],
+    rows: &PairRows,
+    set: usize,
+    last: Option<usize>,
+) -> Option<i64>
     requires rows { AreRows (plain_rows rows.now) }
     requires each { rows.now.count ≤ length firsts.now }
     requires set { set < 2 ^ rows.now.count }
@@ -78,7 +83,11 @@ fn fill_at(
 }
 
 /// What the least order costs.
-pub(crate) fn least_cost(rests: &mut [Option<i64>], firsts: &mut [Option<i64>], rows: &PairRows) -> Option<i64>
+pub(crate) fn least_cost(
+    rests: &mut [Option<i64>],
+    firsts: &mut [Option<i64>],
+    rows: &PairRows,
+) -> Option<i64>
     requires rows { AreRows (plain_rows rows.now) }
     requires room { 2 ^ rows.now.count * rows.now.count ≤ length rests.old }
     requires each { rows.now.count ≤ length firsts.old }
@@ -91,7 +100,12 @@ pub(crate) fn least_cost(rests: &mut [Option<i64>], firsts: &mut [Option<i64>], 
 }
 
 /// The places of the lines of the least order, where there is one.
-pub(crate) fn least_order(rests: &mut [Option<i64>], firsts: &mut [Option<i64>], rows: &PairRows, order: &mut [u32]) -> Option<i64>
+pub(crate) fn least_order(
+    rests: &mut [Option<i64>],
+    firsts: &mut [Option<i64>],
+    rows: &PairRows,
+    order: &mut [u32],
+) -> Option<i64>
     requires rows { AreRows (plain_rows rows.now) }
     requires room { 2 ^ rows.now.count * rows.now.count ≤ length rests.old }
     requires each { rows.now.count ≤ length firsts.old }
