@@ -6,3 +6,4 @@ mod Values
 mod Ahead
 mod Adding
 mod Grouping
+mod Telling

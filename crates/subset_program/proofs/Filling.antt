@@ -1,10 +1,11 @@
 -- How the table is filled.
-use Rattle.std.proofs.Common.{◌≡◌, ◌≢◌, ℕ, zero, suc, ◌+◌, ◌*◌, ◌^◌, ◌<◌, ◌≤◌, true, List, length, get_or, refl, sym, ◌∙◌, ap, subst, arith, ◌⊎◌, inl, inr, Option, Some, None}
+use Rattle.std.proofs.Common.{◌≡◌, ◌≢◌, ℕ, zero, suc, ◌+◌, ◌*◌, ◌^◌, ◌<◌, ◌≤◌, true, List, length, get_or, set, get_or-set_same, get_or-set_other, lit≤, refl, sym, ◌∙◌, ap, subst, arith, ◌⊎◌, inl, inr, Option, Some, None}
 use Rattle.std.specs.Prelude.{ℤ}
+use Rattle.std.proofs.Math.Nat.{mul-le-mul_left, mul-le-mul_right, pow-le-pow_right}
 use Rattle.std.proofs.lemmas.Bool.{cases_eq}
 use Rattle.least_orders.specs.Rows.{Rows, AreRows}
-use Rattle.least_orders.specs.Subsets.{has_place, rest_cost}
-use Rattle.subset_program.specs.Tables.{HasRests, IsFilledAt}
+use Rattle.least_orders.specs.Subsets.{has_place, rest_cost, first_cost}
+use Rattle.subset_program.specs.Tables.{HasRests, HasFirsts, IsFilledAt}
 use Rattle.subset_program.proofs.Places.{apart_rows}
 
 -- of a set the entries of the lines below one are done
@@ -37,3 +38,19 @@ fewer r from more table h rests set k above below there has = rests set k (omega
 
 pub nothing_yet : (r : Rows) (table : List (Option ℤ)) → HasRests r (2 ^ r.count) table
 nothing_yet r table set k above below there has = absurd (omega (arith, above, below))
+
+-- one line more of those that go on behind a set
+pub firsts_more : (r : Rows) (s k : ℕ) (firsts : List (Option ℤ)) (v : Option ℤ) → k < length firsts → v ≡ first_cost r s k → HasFirsts r s k firsts → HasFirsts r s (k + 1) (set firsts k v)
+firsts_more r s k firsts v within is told j below = by_place (cases_eq j k)
+  where
+    by_place : (j ≡ k) ⊎ (j ≢ k) → get_or (set firsts k v) j None ≡ first_cost r s j
+    by_place (inl here) = ap (λ i. get_or (set firsts k v) i None) here ∙ (get_or-set_same firsts k v None within ∙ (is ∙ ap (first_cost r s) (sym here)))
+    by_place (inr apart) = get_or-set_other firsts k j v None apart ∙ told j (omega (arith, below, apart))
+
+-- a table for more lines has room
+pub room_for : (count width : ℕ) → count ≤ width → 2 ^ count * count ≤ 2 ^ width * width
+room_for count width h =
+    let powers = pow-le-pow_right {n = 2} (lit≤ tt) {i = count} {j = width} h in
+    let one = mul-le-mul_right {m = 2 ^ count} {n = 2 ^ width} count powers in
+    let two = mul-le-mul_left {m = count} {n = width} (2 ^ width) h in
+    omega (arith, one, two)
