@@ -1,4 +1,5 @@
-use Rattle.std.proofs.Common.{◌≡◌, ◌+◌, ◌≤◌, false, sym, ◌∙◌, ap, subst, arith, Some}
+use Rattle.std.proofs.Common.{◌≡◌, ◌+◌, ◌≤◌, false, sym, ◌∙◌, ap, subst, arith, w64, Some}
+use Rattle.std.proofs.lemmas.Int.{to_z-of_z, fits_signed_from_abs}
 use Rattle.least_orders.specs.Subsets.{has_place, with_place}
 use Rattle.least_orders.proofs.Sets.{with_same}
 use Rattle.subset_program.specs.PlainRows.{plain_rows}
@@ -26,4 +27,4 @@ rest_at-requires-clause-table c =
 pub sum-requires-clause-a_within : goal.sum-requires-clause-a_within
 sum-requires-clause-a_within c =
     let small = rest_small (plain_rows c.args.rows.now) c.requires.rows c.with_place-more.result (Some c.args.k) c.in-Some.rest (sym c.in-Some.is ∙ c.rest_at.ensures) in
-    omega (arith, small)
+    rw (to_z-of_z w64 c.in-Some.rest (fits_signed_from_abs w64 c.in-Some.rest (omega (arith, small)))) (omega (arith, small))

@@ -1,31 +1,34 @@
-use Rattle.std.proofs.Common.{rules, ◌≡◌, ◌≤◌, ◌<◌, ◌+◌, ◌*◌, ◌^◌, length, IfSome, ℕ, ◌-◌, ◌/◌, ◌%◌, Bool, true, false, nat_eq, nat_lt, List, [], ◌∷◌, ◌++◌, slice_index_or, slice_set, bit_and, bit_or, Fits, w8, w32, w64, Bor, MutBor}
-use Rattle.least_orders.specs.Rows.{AreRows, row_lines, row_costs, row_pairs}
-use Rattle.least_orders.specs.LeastOrders.{least_cost, least_order}
-use Rattle.least_orders.specs.Subsets.{rest_cost}
-use Rattle.subset_program.specs.PlainRows.{plain_rows, ArePlacesOf}
-use Rattle.subset_program.specs.Tables.{HasRests, HasFirsts, IsFilledAt}
+use Rattle.std.proofs.Common.{◌≡◌, ◌+◌, ◌≤◌, ◌<◌, sym, ◌∙◌, ap, subst, arith, set, Some}
+use Rattle.subset_program.specs.PlainRows.{plain_rows}
+use Rattle.subset_program.specs.Tables.{IsWalked}
+use Rattle.subset_program.proofs.Walking.{chosen_free, walk_begins, walk_goes_on, walk_ends, walk_stops}
 use Rattle.subset_program.proofs.table.walk.Goals as goal
 
--- src/table.rt:132:5
 pub loop-i-init : goal.loop-i-init
-loop-i-init c = ?
+loop-i-init c = walk_begins (plain_rows c.args.rows.now) c.args.order.now
 
--- src/table.rt:135:13
 pub returns-in_default : goal.returns-in_default
-returns-in_default c = ?
+returns-in_default c =
+    walk_stops (plain_rows c.args.rows.now) c.requires.rows c.loop-i.i c.loop-i.order c.loop-i.set c.loop-i.last c.loop-i-test.true c.loop-i.invariant (sym c.in_default.is ∙ c.choose.ensures)
 
--- src/table.rt:137:20
 pub overflow_cast-order : goal.overflow_cast-order
-overflow_cast-order c = ?
+overflow_cast-order c =
+    let place = (chosen_free (plain_rows c.args.rows.now) c.loop-i.set c.loop-i.last c.in-Some.choice (sym c.in-Some.is ∙ c.choose.ensures)).0 in
+    let few = c.requires.rows.few in
+    omega (arith, place, few)
 
--- src/table.rt:138:9
 pub with_place-set-requires : goal.with_place-set-requires
-with_place-set-requires c = ?
+with_place-set-requires c =
+    let place = (chosen_free (plain_rows c.args.rows.now) c.loop-i.set c.loop-i.last c.in-Some.choice (sym c.in-Some.is ∙ c.choose.ensures)).0 in
+    let few = c.requires.rows.few in
+    omega (arith, place, few)
 
--- src/table.rt:132:5
 pub loop-i-preserved : goal.loop-i-preserved
-loop-i-preserved c = ?
+loop-i-preserved c =
+    subst (λ s. IsWalked (plain_rows c.args.rows.now) (c.loop-i.i + 1) (set c.loop-i.order c.loop-i.i c.in-Some.choice.place) s (Some c.in-Some.choice.place)) (sym c.with_place-set.ensures)
+    (walk_goes_on (plain_rows c.args.rows.now) c.requires.rows c.loop-i.i c.loop-i.order c.loop-i.set c.loop-i.last c.in-Some.choice c.loop-i-test.true
+    (c.loop-i.auto.order ∙ c.requires.places) c.loop-i.invariant (sym c.in-Some.is ∙ c.choose.ensures))
 
--- src/table.rt:122:1
 pub returns : goal.returns
-returns c = ?
+returns c =
+    walk_ends (plain_rows c.args.rows.now) c.loop-i.i c.loop-i.order c.loop-i.set c.loop-i.last (omega (arith, c.loop-i-test.false)) (c.loop-i.auto.order ∙ c.requires.places) c.loop-i.invariant
