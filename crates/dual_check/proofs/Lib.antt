@@ -1,6 +1,6 @@
 mod Walks
 mod Loads
-mod Rows
+mod Entries
 mod PriceTests
 mod Values
 mod Ahead
