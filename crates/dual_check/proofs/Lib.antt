@@ -1,0 +1,9 @@
+mod Walks
+mod Loads
+mod Entries
+mod PriceTests
+mod Values
+mod Ahead
+mod Adding
+mod Grouping
+mod Telling
