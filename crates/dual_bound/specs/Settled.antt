@@ -1,5 +1,5 @@
 -- Pairs of lines whose order on a segment is settled.
-use Rattle.std.specs.Prelude.{ℕ, ◌==◌, Bool, List, filter, map}
+use Rattle.std.specs.Prelude.{ℕ, ◌==◌, Bool, List, ◌∷◌, filter, map}
 use Rattle.std.specs.List.{list_all}
 use Rattle.map_base.specs.declared.ids.SegId.{SegId}
 use Rattle.map_base.specs.declared.ids.LineId.{LineId}
