@@ -9,12 +9,11 @@ use Rattle.dual_ascent.specs.LocalSearch.{first_incumbent}
 use Rattle.dual_ascent.specs.Rounds.{Search, LowerBound, Ascent, Stage, going, over, spent, ascended}
 use Rattle.dual_ascent.specs.Walks.{WalkedTree, forked, stopped, Progress, Walked, whole, cut, walked}
 
--- the tree of a walk that found this least cost: each fork whose own bound shows it is a stop
+-- the tree of a walk that found this least cost: each fork whose own value shows it is a stop
 abbrev pub collapsed : ℕ → WalkedTree → PlainDual
-collapsed target (forked bound seg a b first second) =
-    if shows target (Some bound.value) then stop (listed bound.prices)
-    else fork seg a b (collapsed target first) (collapsed target second)
-collapsed target (stopped prices) = stop (listed prices)
+collapsed target (forked value prices seg a b first second) =
+    if shows target (Some value) then stop prices else fork seg a b (collapsed target first) (collapsed target second)
+collapsed target (stopped prices) = stop prices
 
 -- the least whole number that is at least a thousandth of this, and at least 0
 abbrev pub rounded_up : ℤ → ℕ

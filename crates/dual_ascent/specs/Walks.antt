@@ -7,16 +7,17 @@ use Rattle.order_model.specs.declared.problem.ProblemParts.{ProblemParts}
 use Rattle.order_model.specs.Problems.{lines_on}
 use Rattle.least_orders.specs.Arrangements.{kept_orders}
 use Rattle.dual_bound.specs.Settled.{SettledPair, settled_on, with_pair}
-use Rattle.dual_ascent.specs.OwnNumbers.{all_segments}
+use Rattle.dual_ascent.specs.OwnNumbers.{all_segments, listed}
 use Rattle.dual_ascent.specs.LocalSearch.{Incumbent, after_offer}
 use Rattle.dual_ascent.specs.DualSteps.{most_price, subgradient}
 use Rattle.dual_ascent.specs.Rounds.{Search, LowerBound, Ascent, Stage, going, over, spent, is_shown, ascended}
 use Rattle.dual_ascent.specs.OpenPairs.{OpenPair, next_pair, ahead, behind}
 
--- a tree as it is walked: each fork with the bound of its own rounds, each stop with one price a term
+-- a tree as it is walked: each fork with the greatest value of its own rounds and the prices that have it, those that are
+-- not 0
 pub data WalkedTree : Type 0 where
-  forked : (bound : LowerBound) (seg : SegId) (a b : LineId) (first second : WalkedTree) → WalkedTree
-  stopped : (prices : List ℤ) → WalkedTree
+  forked : (value : ℤ) (prices : List (ℕ × ℤ)) (seg : SegId) (a b : LineId) (first second : WalkedTree) → WalkedTree
+  stopped : (prices : List (ℕ × ℤ)) → WalkedTree
 
 -- what goes on from node to node: the incumbent, and the branch nodes so far
 pub record Progress : Type 0 where
@@ -46,7 +47,7 @@ exact_prices p orders = map (λ (t : Term). pos (most_price t) *ℤ subgradient 
 
 -- a node where all pairs are settled: the orders that are left are offered
 abbrev pub at_orders : ProblemParts → List (List LineId) → Ascent → Walked
-at_orders p orders a = whole (stopped (exact_prices p orders)) (record (progress a) { incumbent = after_offer p orders a.incumbent })
+at_orders p orders a = whole (stopped (listed (exact_prices p orders))) (record (progress a) { incumbent = after_offer p orders a.incumbent })
 
 -- how the two trees of a fork are walked: with these pairs settled, from these prices
 abbrev pub Below : Type 0
@@ -54,7 +55,7 @@ Below = List SettledPair → List ℤ → Progress → Walked
 
 -- the second tree was walked behind the first
 abbrev pub after_second : OpenPair → LowerBound → WalkedTree → Walked → Walked
-after_second c bound first (whole second now) = whole (forked bound c.seg (ahead c) (behind c) first second) now
+after_second c bound first (whole second now) = whole (forked bound.value (listed bound.prices) c.seg (ahead c) (behind c) first second) now
 after_second c bound first (cut now) = cut now
 
 -- the first tree was walked
@@ -76,7 +77,7 @@ at_open p below settled a (Some c) = at_pair below c settled a
 -- a node after its rounds
 abbrev pub at_node : ProblemParts → Option Below → List SettledPair → Ascent → Walked
 at_node p below settled a =
-    if is_shown a then whole (stopped a.bound.prices) (progress a) else at_open p below settled a (next_pair p settled a.averages)
+    if is_shown a then whole (stopped (listed a.bound.prices)) (progress a) else at_open p below settled a (next_pair p settled a.averages)
 
 abbrev pub after_rounds : ProblemParts → Option Below → List SettledPair → Stage → Walked
 after_rounds p below settled (going a) = at_node p below settled a
