@@ -1,0 +1,36 @@
+//! What orders cost, by their terms.
+
+use crate::line_order::LineOrder;
+use crate::part::Part;
+use order_model::{Problem, Term, ends_of, is_met_on, weight_of};
+
+/// What the orders of all segments cost.
+pub(crate) fn cost_of(problem: &Problem, orders: &[LineOrder]) -> u64 {
+    let mut total: u64 = 0;
+    for term in problem.terms() {
+        total += term_cost(*term, orders);
+    }
+    total
+}
+
+/// What the terms on a segment cost.
+pub(crate) fn cost_on(part: &Part, s: usize, orders: &[LineOrder]) -> u64 {
+    let terms = part.problem.terms();
+    let mut total: u64 = 0;
+    for k in part.on[s].as_slice() {
+        total += term_cost(terms[*k as usize], orders);
+    }
+    total
+}
+
+/// What a term costs.
+fn term_cost(term: Term, orders: &[LineOrder]) -> u64 {
+    let (seg, other) = ends_of(term);
+    let here = orders[seg.0 as usize].as_slice();
+    let there = orders[other.0 as usize].as_slice();
+    if is_met_on(here, there, term) {
+        u64::from(weight_of(term))
+    } else {
+        0
+    }
+}
