@@ -11,19 +11,12 @@ use Rattle.least_orders.specs.Arrangements.{kept_orders}
 use Rattle.least_orders.specs.LeastOrders.{first_least}
 use Rattle.dual_bound.specs.Settled.{SettledPair, settled_on}
 use Rattle.dual_bound.specs.Shares.{where_so}
+use Rattle.dual_ascent.specs.declared.pair_average.PairAverage.{PairAverage}
 use Rattle.dual_ascent.specs.OwnNumbers.{all_segments}
 
 -- an average is told in 65536ths
 abbrev pub always : ℕ
 always = 65536
-
--- of two lines of a segment, the lesser first, how often the greater stood before the lesser, and how often they were
--- neighbours
-pub record PairAverage : Type 0 where
-  pub lesser : LineId
-  pub greater : LineId
-  pub swapped : ℕ
-  pub beside : ℕ
 
 -- two lines before the first round
 abbrev pub never : LineId → LineId → PairAverage

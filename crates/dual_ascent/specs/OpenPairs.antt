@@ -10,7 +10,8 @@ use Rattle.order_model.specs.declared.problem.ProblemParts.{ProblemParts}
 use Rattle.least_orders.specs.LeastOrders.{first_least}
 use Rattle.dual_bound.specs.Settled.{SettledPair, settled_on}
 use Rattle.dual_ascent.specs.OwnNumbers.{all_segments}
-use Rattle.dual_ascent.specs.Averages.{PairAverage, always, averages_on}
+use Rattle.dual_ascent.specs.declared.pair_average.PairAverage.{PairAverage}
+use Rattle.dual_ascent.specs.Averages.{always, averages_on}
 
 -- a chain of at most so many of these pairs leads from a to b
 abbrev pub leads : ℕ → List (LineId × LineId) → LineId → LineId → Bool

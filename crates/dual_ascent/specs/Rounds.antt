@@ -6,7 +6,8 @@ use Rattle.dual_bound.specs.Settled.{SettledPair}
 use Rattle.dual_bound.specs.Accepting.{shows, load_of}
 use Rattle.dual_ascent.specs.OwnNumbers.{all_segments, zeros}
 use Rattle.dual_ascent.specs.LocalSearch.{Incumbent, after_offer}
-use Rattle.dual_ascent.specs.Averages.{PairAverage, no_averages, averages_after, averaged_orders}
+use Rattle.dual_ascent.specs.declared.pair_average.PairAverage.{PairAverage}
+use Rattle.dual_ascent.specs.Averages.{no_averages, averages_after, averaged_orders}
 use Rattle.dual_ascent.specs.DualSteps.{answers, value_with, next_directions, are_still, gap_of, next_prices}
 
 -- a part by itself that is searched, and how many branch nodes the search may have

@@ -6,3 +6,7 @@
 //! of the incumbent. Where the bound shows the incumbent's cost the node is a stop; else one more pair is settled, either
 //! way.
 #![tactic(auto)]
+
+mod pair_average;
+
+pub use pair_average::PairAverage;

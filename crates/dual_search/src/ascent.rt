@@ -1,12 +1,13 @@
 //! The rounds of a node.
 
-use crate::averages::{PairAverage, add_distances, average_in, no_averages};
+use crate::averages::{add_distances, average_in, no_averages};
 use crate::cost_rows::zeros;
 use crate::directions::{direct, gap_of, square_sum, step_prices};
 use crate::line_order::{LineOrder, copy_orders, orders_of};
 use crate::local_search::{Incumbent, Solver, offer, take_solved};
 use crate::part::Part;
 use crate::shares::{THOUSAND, add_shares};
+use dual_ascent::PairAverage;
 use map_base::{NoMemory, Steps};
 use std::alloc::Global;
 use std::sync::ledger::Ledger;

@@ -1,24 +1,19 @@
 //! How lines stood in the orders of the rounds, on the average.
 
+ghost use Rattle.std.specs.Prelude.{◌≡◌, ◌+◌, ◌*◌, ◌<◌, ◌≤◌, length, map, All, IfOk};
+ghost use Rattle.dual_ascent.specs.Averages.{never_all, averaged, with_order};
+ghost use Rattle.dual_search.specs.Ranges.{IsAverage};
+
 use crate::cost_rows::CostRows;
 use crate::line_order::LineOrder;
 use crate::shares::place_of;
+use dual_ascent::PairAverage;
 use map_base::{LineId, NoMemory, Sequence};
 use order_model::{are_neighbours, comes_before};
 use std::alloc::Global;
 
 /// An average is told in 65536ths.
 pub(crate) const ALWAYS: u32 = 65536;
-
-/// Of two lines of a segment, the lesser first, how often the greater stood before the lesser, and how often they were
-/// neighbours.
-#[derive(Clone, Copy, Debug, PartialEq, Eq)]
-pub(crate) struct PairAverage {
-    pub(crate) lesser: LineId,
-    pub(crate) greater: LineId,
-    pub(crate) swapped: u32,
-    pub(crate) beside: u32,
-}
 
 /// Each two lines of each segment, before the first round.
 pub(crate) fn no_averages(
@@ -33,7 +28,9 @@ pub(crate) fn no_averages(
 }
 
 /// Each two of these lines, those of an earlier line first.
-fn never_all(alloc: Global, lines: &[LineId]) -> Result<Vec<PairAverage>, NoMemory> {
+fn never_all(alloc: Global, lines: &[LineId]) -> Result<Vec<PairAverage>, NoMemory>
+    ensures { IfOk result (λ v. v.items ≡ never_all lines.now) }
+{
     let mut pairs = Vec::new(alloc);
     for i in 0..lines.len() {
         push_never(lines, i, &mut pairs)?;
@@ -59,7 +56,12 @@ fn push_never(
 }
 
 /// An average with one round more, in which it was so or was not: the round counts as one of so many.
-fn averaged(count: u32, so: bool, average: u32) -> u32 {
+fn averaged(count: u32, so: bool, average: u32) -> u32
+    requires some { 0 < count }
+    requires within { average ≤ 65536 }
+    ensures value { result ≡ averaged count so average }
+    ensures within { result ≤ 65536 }
+{
     if so {
         average + (ALWAYS - average) / count
     } else {
@@ -68,7 +70,12 @@ fn averaged(count: u32, so: bool, average: u32) -> u32 {
 }
 
 /// The average of two lines with one order more.
-fn with_order(round: u32, order: &[LineId], average: PairAverage) -> PairAverage {
+fn with_order(round: u32, order: &[LineId], average: PairAverage) -> PairAverage
+    requires some { 0 < round }
+    requires within { IsAverage average }
+    ensures value { result ≡ with_order round order.now average }
+    ensures within { IsAverage result }
+{
     let count = round.min(32);
     let swapped = comes_before(order, average.greater, average.lesser);
     let beside = are_neighbours(order, average.lesser, average.greater);
@@ -88,7 +95,12 @@ pub(crate) fn average_in(round: u32, orders: &[LineOrder], averages: &mut [Vec<P
 }
 
 /// The averages of a segment with one order more.
-fn average_on(round: u32, order: &[LineId], averages: &mut [PairAverage]) {
+fn average_on(round: u32, order: &[LineId], averages: &mut [PairAverage])
+    requires some { 0 < round }
+    requires within { All IsAverage averages.old }
+    ensures value { averages.new ≡ map (with_order round order.now) averages.old }
+    ensures within { All IsAverage averages.new }
+{
     for k in 0..averages.len() {
         averages[k] = with_order(round, order, averages[k]);
     }

@@ -1,11 +1,22 @@
 //! How prices and their directions go on from round to round.
 
+ghost use Rattle.std.specs.Prelude.{◌≡◌, ◌+◌, ◌*◌, ◌<◌, ◌≤◌, length, All, true, false, pos, neg_ℤ, ◌+ℤ◌, ◌-ℤ◌, ◌*ℤ◌, ◌≤ℤ◌, unsigned_abs, slice_index_or};
+ghost use Rattle.order_model.specs.Costs.{weight_of, IsReadable};
+ghost use Rattle.dual_bound.specs.Shares.{where_so};
+ghost use Rattle.dual_ascent.specs.OwnNumbers.{number_of};
+ghost use Rattle.dual_ascent.specs.DualSteps.{subgradient, most_price, next_direction, square_sum, gap_of, next_price};
+ghost use Rattle.dual_search.specs.Ranges.{IsDirection};
+
 use crate::line_order::LineOrder;
 use crate::shares::THOUSAND;
 use order_model::{Term, are_neighbours, comes_before};
 
 /// z - x of a Link or an Apart under orders, the subgradient of its price.
-pub(crate) fn subgradient(orders: &[LineOrder], term: Term) -> i64 {
+pub(crate) fn subgradient(orders: &[LineOrder], term: Term) -> i64
+    requires { IsReadable (length orders.now) term }
+    ensures value { result ≡ subgradient orders.now term }
+    ensures most { unsigned_abs result ≤ 1 }
+{
     match term {
         Term::Side { .. } => 0,
         Term::Link {
@@ -31,7 +42,10 @@ pub(crate) fn subgradient(orders: &[LineOrder], term: Term) -> i64 {
 }
 
 /// 1 where only the first is so, -1 where only the second is, else 0.
-fn difference(z: bool, x: bool) -> i64 {
+fn difference(z: bool, x: bool) -> i64
+    ensures value { result ≡ where_so z (pos 1) -ℤ where_so x (pos 1) }
+    ensures most { unsigned_abs result ≤ 1 }
+{
     if z == x {
         0
     } else if z {
@@ -42,7 +56,11 @@ fn difference(z: bool, x: bool) -> i64 {
 }
 
 /// The greatest price of a term, either way: 1000 times its weight, none on a Side.
-pub(crate) fn most_price(term: Term) -> i64 {
+pub(crate) fn most_price(term: Term) -> i64
+    requires { weight_of term ≤ 256000 }
+    ensures value { result ≡ pos (most_price term) }
+    ensures most { most_price term ≤ 256000000 }
+{
     match term {
         Term::Side { .. } => 0,
         Term::Link { w, .. } | Term::Apart { w, .. } => THOUSAND * i64::from(w),
@@ -50,7 +68,13 @@ pub(crate) fn most_price(term: Term) -> i64 {
 }
 
 /// The direction in which a price goes, after the last one: none where it is at its end.
-fn next_direction(most: i64, price: i64, last: i64, slope: i64) -> i64 {
+fn next_direction(most: i64, price: i64, last: i64, slope: i64) -> i64
+    requires most { (n : ℕ) × (n ≤ 256000000) × (most ≡ pos n) }
+    requires last { IsDirection last }
+    requires slope { unsigned_abs slope ≤ 1 }
+    ensures value { (n : ℕ) → most ≡ pos n → result ≡ next_direction n price last slope }
+    ensures within { IsDirection result }
+{
     let direction = 7 * last / 8 + 64 * slope;
     if price >= most && direction > 0 {
         return 0;

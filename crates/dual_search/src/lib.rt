@@ -17,9 +17,9 @@ mod node;
 mod open_pairs;
 mod order_costs;
 mod part;
-mod search;
+mod part_search;
 mod shares;
 mod walk;
 
 pub use found::DualFound;
-pub use search::{is_searched, search};
+pub use part_search::{is_searched, search};

@@ -1,10 +1,11 @@
 //! The pair of lines that is settled next.
 
 use crate::ascent::Ascent;
-use crate::averages::{ALWAYS, PairAverage};
+use crate::averages::ALWAYS;
 use crate::node::{SettledPair, close_sets};
 use crate::part::Part;
 use crate::shares::place_of;
+use dual_ascent::PairAverage;
 use map_base::{LineId, SegId};
 use order_model::Term;
 
