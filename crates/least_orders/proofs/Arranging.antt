@@ -17,13 +17,13 @@ use Rattle.least_orders.proofs.Lists.{Among, each_at, each_among, each_map, each
 
 -- A line that is picked, and the others.
 
-abbrev Pick : Type 0
+abbrev pub Pick : Type 0
 Pick = LineId × List LineId
 
 abbrev with_first : LineId → Pick → Pick
 with_first a p = (p.0, a ∷ p.1)
 
-pick_lengths : (xs : List LineId) → AllByRecursion (λ (p : Pick). suc (length p.1) ≡ length xs) (picks xs)
+pub pick_lengths : (xs : List LineId) → AllByRecursion (λ (p : Pick). suc (length p.1) ≡ length xs) (picks xs)
 pick_lengths [] = tt
 pick_lengths (a ∷ xs) = (refl, each_map (λ (p : Pick). suc (length p.1) ≡ length (a ∷ xs)) (with_first a) (picks xs)
     (each_weaker (λ (p : Pick). suc (length p.1) ≡ length xs) (λ (p : Pick). suc (suc (length p.1)) ≡ suc (length xs)) (picks xs) (λ p e. ap suc e) (pick_lengths xs)))

@@ -141,3 +141,8 @@ better_value value (Some x) (Some y) = by_test (int_lt (value y) (value x))
     by_test : (b : Bool) → Some (value (cond b y x)) ≡ Some (cond b (value y) (value x))
     by_test true = refl
     by_test false = refl
+
+pub least_value_same : {A : Type 0} (value other : A → ℤ) (xs : List A) → AllByRecursion (λ x. value x ≡ other x) xs → least_value value xs ≡ least_value other xs
+least_value_same value other [] h = refl
+least_value_same value other (x ∷ xs) h =
+    ap (λ w. Some (lesser_of (value x) w)) (least_value_same value other xs h.1) ∙ ap (λ v. Some (lesser_of v (least_value other xs))) h.0
