@@ -9,7 +9,8 @@ use Rattle.order_model.specs.Costs.{comes_before, are_neighbours}
 use Rattle.whole_algebra.specs.Sums.{int_sum}
 use Rattle.least_orders.specs.Arrangements.{kept_orders}
 use Rattle.least_orders.specs.LeastOrders.{first_least}
-use Rattle.dual_bound.specs.Settled.{SettledPair, settled_on}
+use Rattle.dual_bound.specs.declared.settled.SettledPair.{SettledPair}
+use Rattle.dual_bound.specs.Settled.{settled_on}
 use Rattle.dual_bound.specs.Shares.{where_so}
 use Rattle.dual_ascent.specs.declared.pair_average.PairAverage.{PairAverage}
 use Rattle.dual_ascent.specs.OwnNumbers.{all_segments}

@@ -13,7 +13,8 @@ use Rattle.order_model.specs.Problems.{lines_on}
 use Rattle.order_model.specs.Costs.{are_neighbours}
 use Rattle.least_orders.specs.Arrangements.{kept_orders}
 use Rattle.least_orders.specs.LeastOrders.{first_least}
-use Rattle.dual_bound.specs.Settled.{SettledPair, settled_on}
+use Rattle.dual_bound.specs.declared.settled.SettledPair.{SettledPair}
+use Rattle.dual_bound.specs.Settled.{settled_on}
 use Rattle.dual_bound.specs.Shares.{thousand, where_so, x_of, z_of, share_of}
 use Rattle.dual_ascent.specs.OwnNumbers.{all_segments, all_terms, number_of}
 
