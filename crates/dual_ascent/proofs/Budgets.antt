@@ -84,6 +84,14 @@ module _ (p : ProblemParts) where
       closed_has (within budget) settled (Counts (Between branches budget)) (Counts (Between branches budget)) (λ a k. k) (rounds (within budget) settled most (first_ascent (within budget) prices best branches))
       (rounds_between budget branches settled most (first_ascent (within budget) prices best branches) (omega (arith), h))
 
+  -- the rounds of a node count at least one round
+  pub ascent_counts : (budget : ℕ) (settled : List SettledPair) (most : ℕ) (prices : List ℤ) (best : Incumbent) (branches : ℕ)
+      → StageHas (λ a. branches + load ≤ a.branches) (λ a. Unit {0}) (ascended (within budget) settled (suc most) prices best branches)
+  ascent_counts budget settled most prices best branches =
+      closed_has (within budget) settled (λ a. branches + load ≤ a.branches) (λ a. Unit {0}) (λ a k. k) (rounds (within budget) settled (suc most) (first_ascent (within budget) prices best branches))
+      (rounds_have (within budget) settled (λ a. branches ≤ a.branches) (λ a. branches + load ≤ a.branches) (λ a. Unit {0})
+      (λ a h. round_counts budget settled (λ n. branches + load ≤ n) (λ x. Unit {0}) a (λ k. omega (arith, h)) tt) (λ a h. omega (arith, h)) most (first_ascent (within budget) prices best branches) (omega (arith)))
+
   -- The same rounds with another budget, where that allows what they count.
 
   -- they are not spent, and count at most so many

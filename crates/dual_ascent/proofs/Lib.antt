@@ -6,3 +6,8 @@ pub mod Pricing
 pub mod Unique
 pub mod Exact
 pub mod Pairs
+pub mod LeftOrders
+pub mod Ascents
+pub mod Trees
+pub mod RootBounds
+pub mod Results

@@ -2,7 +2,7 @@
 use Rattle.std.proofs.Common.{◌≡◌, ℕ, zero, suc, ◌+◌, ◌<◌, ◌≤◌, ◌==◌, ◌||◌, ◌&&◌, Bool, true, false, cond, List, [], ◌∷◌, length, map, filter, get_or, refl, sym, ◌∙◌, ap, subst, arith, eq-eqb}
 use Rattle.std.specs.Prelude.{IsPermutation, ℤ, pos, ◌+ℤ◌}
 use Rattle.std.specs.List.{All, AllByRecursion}
-use Rattle.std.proofs.lemmas.List.Elements.{recursion_from_All}
+use Rattle.std.proofs.lemmas.List.Elements.{recursion_from_All, All-from_recursion}
 use Rattle.std.proofs.lemmas.Bool.{ne_eqb, and_from}
 use Rattle.std.proofs.lemmas.Bool.Decides.{nat_tests}
 use Rattle.std.proofs.lemmas.Int.{ints}
@@ -117,3 +117,11 @@ all_made_at segs f i d h = made_at 0 segs f i d h ∙ ap (λ n. f (seg_number n)
 
 pub all_sums_same : (g h : SegId → ℤ) (segs : List (List LineId)) → ((i : ℕ) → i < length segs → g (seg_number i) ≡ h (seg_number i)) → int_sum g (segments_from 0 segs) ≡ int_sum h (segments_from 0 segs)
 all_sums_same g h segs e = sums_same g h 0 segs (λ i below. subst (λ n. g (seg_number n) ≡ h (seg_number n)) (from_none i) (e i below))
+
+known_from : (n k : ℕ) (segs : List (List LineId)) → k + length segs ≤ n → AllByRecursion (λ (s : SegId). s.0 < n) (segments_from k segs)
+known_from n k [] h = tt
+known_from n k (l ∷ segs) h = (omega (arith, h), known_from n (k + 1) segs (omega (arith, h)))
+
+-- each of them is known
+pub every_known : (segs : List (List LineId)) → All (λ (s : SegId). s.0 < length segs) (segments_from 0 segs)
+every_known segs = All-from_recursion (λ (s : SegId). s.0 < length segs) (segments_from 0 segs) (known_from (length segs) 0 segs (omega (arith)))

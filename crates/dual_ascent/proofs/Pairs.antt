@@ -21,13 +21,13 @@ use Rattle.least_orders.proofs.LeastValues.{first_among}
 use Rattle.dual_bound.specs.declared.settled.SettledPair.{SettledPair}
 use Rattle.dual_bound.specs.Settled.{settled_on}
 use Rattle.dual_bound.specs.Accepting.{is_fork}
-use Rattle.dual_bound.proofs.Segments.{rising_at, turned}
+use Rattle.dual_bound.proofs.Segments.{rising_at}
 use Rattle.dual_ascent.specs.declared.pair_average.PairAverage.{PairAverage}
 use Rattle.dual_ascent.specs.OwnNumbers.{segments_from, all_segments, all_terms}
 use Rattle.dual_ascent.specs.Averages.{never, never_all, no_averages, with_order, averages_on, averages_after}
 use Rattle.dual_ascent.specs.OpenPairs.{leads, is_settled, OpenPair, open_pair, open_on, open_pairs, doubt, next_pair, is_swapped, ahead, behind}
 use Rattle.dual_ascent.proofs.OwnParts.{seg_number, has_segment, all_made_at}
-use Rattle.dual_ascent.proofs.Unique.{AreSettled}
+use Rattle.dual_ascent.proofs.Unique.{AreSettled, turned}
 
 abbrev same : LineId → LineId → Bool
 same a b = a.0 == b.0

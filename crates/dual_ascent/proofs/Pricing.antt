@@ -12,6 +12,7 @@ use Rattle.order_model.specs.declared.term.Term.{Term}
 use Rattle.order_model.specs.declared.term.Term.TheVariants.{Side, Link, Apart}
 use Rattle.order_model.specs.declared.problem.ProblemParts.{ProblemParts}
 use Rattle.order_model.specs.Problems.{lines_on}
+use Rattle.order_model.specs.Costs.{are_neighbours}
 use Rattle.order_model.specs.PartTerms.{numbered_from}
 use Rattle.order_model.specs.Questions.{question}
 use Rattle.order_values.specs.PriceLists.{price_at}
@@ -21,7 +22,7 @@ use Rattle.least_orders.specs.LeastOrders.{lesser_of, least_value, first_least}
 use Rattle.least_orders.proofs.LeastValues.{least_of_first}
 use Rattle.dual_bound.specs.declared.settled.SettledPair.{SettledPair}
 use Rattle.dual_bound.specs.Settled.{settled_on}
-use Rattle.dual_bound.specs.Shares.{thousand, where_so, term_share, share_of}
+use Rattle.dual_bound.specs.Shares.{thousand, where_so, x_of, z_of, term_share, share_of}
 use Rattle.dual_bound.specs.Values.{least_share, plus, value_of, allows, are_allowed}
 use Rattle.dual_bound.specs.Accepting.{is_narrow, shows, is_stopped}
 use Rattle.dual_ascent.specs.OwnNumbers.{segments_from, all_segments, all_terms, zeros, number_of, listed_from, listed}
@@ -78,6 +79,18 @@ signed m true true = abs_within m (pos m *ℤ (pos 1 -ℤ pos 1)) (omega (arith,
 signed m true false = abs_within m (pos m *ℤ (pos 1 -ℤ pos 0)) (omega (arith, ints)) (omega (arith, ints))
 signed m false true = abs_within m (pos m *ℤ (pos 0 -ℤ pos 1)) (omega (arith, ints)) (omega (arith, ints))
 signed m false false = abs_within m (pos m *ℤ (pos 0 -ℤ pos 0)) (omega (arith, ints)) (omega (arith, ints))
+
+pub exact_within : (p : ProblemParts) (orders : List (List LineId)) → AreWithin p.terms (exact_prices p orders)
+exact_within p orders = each p.terms
+  where
+    one : (t : Term) → unsigned_abs (pos (most_price t) *ℤ subgradient orders t) ≤ most_price t
+    one (Side seg first second w) = omega (arith)
+    one (Link seg other flip a b w) = signed (thousand * w) (z_of (lines_on orders other) flip a b) (x_of (lines_on orders seg) a b)
+    one (Apart seg other a b w) = signed (thousand * w) (are_neighbours (lines_on orders other) a b) (are_neighbours (lines_on orders seg) a b)
+
+    each : (terms : List Term) → AreWithin terms (map (λ (t : Term). pos (most_price t) *ℤ subgradient orders t) terms)
+    each [] = tt
+    each (t ∷ terms) = (one t, each terms)
 
 -- Listed prices.
 

@@ -11,11 +11,14 @@ use Rattle.order_model.specs.Prefixes.{is_placed}
 use Rattle.order_model.proofs.Lines.{either_true, same_line, has_permutation, order_distinct}
 use Rattle.least_orders.specs.Arrangements.{keeps}
 use Rattle.least_orders.proofs.Lists.{Among, all_at}
-use Rattle.dual_bound.proofs.Segments.{before_or_behind, turned}
+use Rattle.dual_bound.proofs.Segments.{before_or_behind}
 use Rattle.dual_ascent.specs.OpenPairs.{leads, is_settled}
 
 abbrev same : LineId → LineId → Bool
 same a b = a.0 == b.0
+
+pub turned : (a b : ℕ) → (a == b) ≡ false → (b == a) ≡ false
+turned a b h = grind (arith, nat_tests)
 
 -- what stands before a line stands before all behind it
 before_trans : (o : List LineId) (a b c : LineId) → comes_before o a b ≡ true → comes_before o b c ≡ true → comes_before o a c ≡ true
@@ -71,7 +74,6 @@ equal_lists [] (y ∷ u) d e has before = absurd (true≢false (sym (has y ∙ a
 equal_lists (x ∷ o) [] d e has before = absurd (true≢false (sym (ap (λ t. t || is_placed o x) (eq-eqb x.0 x.0 refl)) ∙ has x))
 equal_lists (x ∷ o) (y ∷ u) d e has before = by_test (x.0 == y.0) refl (λ has before. equal_lists o u d.1 e.1 has before)
   where
-
     first_o : is_placed (x ∷ o) x ≡ true
     first_o = ap (λ t. t || is_placed o x) (eq-eqb x.0 x.0 refl)
 
