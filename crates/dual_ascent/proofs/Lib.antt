@@ -8,6 +8,7 @@ pub mod Exact
 pub mod Pairs
 pub mod LeftOrders
 pub mod Ascents
+pub mod Listing
 pub mod Trees
 pub mod RootBounds
 pub mod Results

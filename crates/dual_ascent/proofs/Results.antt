@@ -26,8 +26,9 @@ use Rattle.dual_ascent.specs.DualSteps.{answers, value_with}
 use Rattle.dual_ascent.specs.Rounds.{Search, LowerBound, Ascent, Stage, going, over, spent, ascended}
 use Rattle.dual_ascent.specs.Walks.{WalkedTree, Progress, Walked, whole, cut, walked}
 use Rattle.dual_ascent.specs.DualResults.{collapsed, is_in_reach, rounded_up, DualResult, dual_result, result_after, root_bound, last_of, most_forks, root_rounds, first_progress}
-use Rattle.dual_ascent.specs.Shown.{IsShown}
+use Rattle.dual_ascent.specs.Shown.{IsListed, IsShown}
 use Rattle.dual_ascent.proofs.Stages.{StageHas}
+use Rattle.dual_ascent.proofs.Listing.{listed_stop}
 use Rattle.dual_ascent.proofs.Budgets.{WalkHas, walk_between, branches_within}
 use Rattle.dual_ascent.proofs.OwnParts.{segments_rise, part_terms_all, plain_numbered, every_known}
 use Rattle.dual_ascent.proofs.Meeting.{IsIncumbent, first_is_incumbent}
@@ -94,12 +95,13 @@ module _ (p : ProblemParts) (rising : All AreRising p.segs) (fit : All (IsTerm p
       (shown_part_bounds p.segs (all_segments p) p.terms target tree rising fit (segments_rise 0 p.segs some) (every_known p.segs)
       (ap (λ terms. failing (question p.segs (all_segments p) terms target) tree) (part_terms_all p.segs p.terms fit) ∙ none) others are)
 
-  shown_of : (r : DualResult) → AreOrders p.segs r.orders → accepts (asked r.target) [] r.tree ≡ true → loads load r.tree ≤ most_load → fork_depth r.tree ≤ most_forks
+  shown_of : (r : DualResult) → AreOrders p.segs r.orders → accepts (asked r.target) [] r.tree ≡ true → loads load r.tree ≤ most_load → fork_depth r.tree ≤ most_forks → IsListed r.tree
       → (r.complete ≡ true → cost_of p.terms r.orders ≡ r.target) → r.branches ≤ budget → IsShown p budget r
-  shown_of r orders ok few shallow attained within = record {
+  shown_of r orders ok few shallow listed attained within = record {
     orders = orders;
     unfailing = unfailing r.target r.tree ok few;
     shallow = shallow;
+    listed = listed;
     attained = attained;
     bounds = no_less r.target r.tree (unfailing r.target r.tree ok few);
     within = within;
@@ -151,10 +153,10 @@ module _ (p : ProblemParts) (rising : All AreRising p.segs) (fit : All (IsTerm p
           let costs = is_one.costs in
           let counted = h.counted now.incumbent.cost in
           let most = few.1 in
-          shown_of (result_after (root_bound search) (whole tree now)) is_one.orders (h.accepted now.incumbent.cost (omega (arith))) (omega (arith, counted, most, light)) (h.shallow now.incumbent.cost) (λ e. sym costs) most
+          shown_of (result_after (root_bound search) (whole tree now)) is_one.orders (h.accepted now.incumbent.cost (omega (arith))) (omega (arith, counted, most, light)) (h.shallow now.incumbent.cost) (h.listed now.incumbent.cost) (λ e. sym costs) most
       by_walk (cut now) h few =
           let is_one = h.0 in
-          shown_of (result_after (root_bound search) (cut now)) is_one.orders root_shows reach (omega (arith)) (λ e. absurd (true≢false (sym e))) few.1
+          shown_of (result_after (root_bound search) (cut now)) is_one.orders root_shows reach (omega (arith)) (listed_stop (root_bound search).prices) (λ e. absurd (true≢false (sym e))) few.1
 
 -- the same of a part that is in reach
 pub reached_shown : (p : ProblemParts) (budget : ℕ) → All AreRising p.segs → All (IsTerm p.segs) p.terms → 0 < length p.segs → is_in_reach p ≡ true → budget ≤ most_load → IsShown p budget (dual_result p budget)

@@ -26,7 +26,9 @@ use Rattle.dual_ascent.specs.Rounds.{Search, LowerBound, Ascent, Stage, going, o
 use Rattle.dual_ascent.specs.OpenPairs.{OpenPair, next_pair, ahead, behind}
 use Rattle.dual_ascent.specs.Walks.{WalkedTree, forked, stopped, Progress, Walked, whole, cut, Below, progress, at_orders, orders_left, exact_prices, at_pair, at_open, at_node, after_first, after_second, after_rounds, walked}
 use Rattle.dual_ascent.specs.DualResults.{collapsed}
+use Rattle.dual_ascent.specs.Shown.{IsListed}
 use Rattle.dual_ascent.proofs.Stages.{StageHas}
+use Rattle.dual_ascent.proofs.Listing.{listed_stop}
 use Rattle.dual_ascent.proofs.Budgets.{ascent_counts}
 use Rattle.dual_ascent.proofs.Meeting.{left_orders, IsIncumbent, IsOffered, offer_is}
 use Rattle.dual_ascent.proofs.Pricing.{AreWithin, exact_within, IsValue, IsSound, shows_less, stop_holds}
@@ -68,6 +70,7 @@ module _ (p : ProblemParts) (rising : All AreRising p.segs) (fit : All (IsTerm p
     pub below : now.incumbent.cost ≤ start.incumbent.cost
     pub accepted : (target : ℕ) → target ≤ now.incumbent.cost → accepts (asked target) settled (collapsed target tree) ≡ true
     pub shallow : (target : ℕ) → fork_depth (collapsed target tree) ≤ room
+    pub listed : (target : ℕ) → IsListed (collapsed target tree)
     pub counted : (target : ℕ) → start.branches + loads load (collapsed target tree) ≤ now.branches
     pub grown : start.branches ≤ now.branches
 
@@ -101,6 +104,7 @@ module _ (p : ProblemParts) (rising : All AreRising p.segs) (fit : All (IsTerm p
         below = h.below;
         accepted = λ target k. stop_accepted settled a.bound target h.sound (shows_less target a.incumbent.cost (Some a.bound.value) k shown);
         shallow = λ target. omega (arith);
+        listed = λ target. listed_stop a.bound.prices;
         counted = λ target. more;
         grown = omega (arith, more);
       }
@@ -117,6 +121,7 @@ module _ (p : ProblemParts) (rising : All AreRising p.segs) (fit : All (IsTerm p
         accepted = λ target k. stop_holds p settled (pos (thousand * cost_of p.terms (orders_left p settled))) (exact_prices p (orders_left p settled)) target narrow
         (exact_within p (orders_left p settled)) value (shown target k);
         shallow = λ target. omega (arith);
+        listed = λ target. listed_stop (exact_prices p (orders_left p settled));
         counted = λ target. more;
         grown = omega (arith, more);
       }
@@ -149,6 +154,7 @@ module _ (p : ProblemParts) (rising : All AreRising p.segs) (fit : All (IsTerm p
         below = omega (arith, low, lower, least);
         accepted = λ target k. accepted target k (shows target (Some a.bound.value)) refl;
         shallow = λ target. shallow target (shows target (Some a.bound.value));
+        listed = λ target. each_listed target (shows target (Some a.bound.value));
         counted = λ target. counted target (shows target (Some a.bound.value));
         grown = omega (arith, more, grown, last);
       }
@@ -170,6 +176,10 @@ module _ (p : ProblemParts) (rising : All AreRising p.segs) (fit : All (IsTerm p
       shallow : (target : ℕ) (t : Bool) → fork_depth (cond t (stop (listed a.bound.prices)) (fork c.seg (ahead c) (behind c) (collapsed target first) (collapsed target second))) ≤ suc room
       shallow target true = omega (arith)
       shallow target false = let deep = most (fork_depth (collapsed target first)) (fork_depth (collapsed target second)) room (one.shallow target) (two.shallow target) in omega (arith, deep)
+
+      each_listed : (target : ℕ) (t : Bool) → IsListed (cond t (stop (listed a.bound.prices)) (fork c.seg (ahead c) (behind c) (collapsed target first) (collapsed target second)))
+      each_listed target true = listed_stop a.bound.prices
+      each_listed target false = (one.listed target, two.listed target)
 
       counted : (target : ℕ) (t : Bool) → start.branches + loads load (cond t (stop (listed a.bound.prices)) (fork c.seg (ahead c) (behind c) (collapsed target first) (collapsed target second))) ≤ now.branches
       counted target true = let more = h.branches in let grown = one.grown in let last = two.grown in omega (arith, more, grown, last)
