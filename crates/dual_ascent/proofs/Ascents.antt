@@ -1,5 +1,5 @@
 -- What holds of a node after its rounds: the bound is sound, and the incumbent costs no more than before.
-use Rattle.std.proofs.Common.{◌≡◌, ℕ, zero, suc, ◌+◌, ◌*◌, ◌<◌, ◌≤◌, ◌==◌, ◌||◌, Bool, true, false, cond, List, [], ◌∷◌, length, map, refl, sym, ◌∙◌, ap, subst, arith, ◌⊎◌, inl, inr, true≢false, eq-eqb}
+use Rattle.std.proofs.Common.{◌≡◌, ℕ, suc, ◌+◌, ◌≤◌, ◌==◌, ◌||◌, Bool, true, false, cond, List, refl, sym, arith, ◌⊎◌, inl, inr, true≢false, eq-eqb}
 use Rattle.std.specs.Prelude.{ℤ, pos, nat_lt, int_lt}
 use Rattle.map_base.specs.declared.ids.LineId.{LineId}
 use Rattle.order_model.specs.declared.problem.ProblemParts.{ProblemParts}
@@ -10,14 +10,13 @@ use Rattle.dual_ascent.specs.OwnNumbers.{all_segments}
 use Rattle.dual_ascent.specs.LocalSearch.{Incumbent, after_offer}
 use Rattle.dual_ascent.specs.Averages.{averaged_orders}
 use Rattle.dual_ascent.specs.DualSteps.{answers, value_with, gap_of}
-use Rattle.dual_ascent.specs.Rounds.{Search, LowerBound, Ascent, Stage, going, over, spent, onward, with_offer, begun, with_value, answered, one_round, rounds, closed, first_ascent, ascended}
-use Rattle.dual_ascent.proofs.Stages.{StageHas, closed_has, answers_have, Keeps, with_averages, with_directions, with_step, with_prices, with_averaged, rounds_have}
-use Rattle.dual_ascent.proofs.Meeting.{answers_orders, averaged_are_orders, IsIncumbent, IsOffered, offer_is}
+use Rattle.dual_ascent.specs.Rounds.{Search, LowerBound, Ascent, going, spent, onward, with_value, answered, one_round, rounds, first_ascent, ascended}
+use Rattle.dual_ascent.proofs.Stages.{StageHas, closed_has, answers_have, Keeps, with_averages, with_averaged, rounds_have}
+use Rattle.dual_ascent.proofs.Meeting.{answers_orders, averaged_are_orders, IsIncumbent, offer_is}
 use Rattle.dual_ascent.proofs.Pricing.{AreWithin, next_within, round_value, IsSound}
 use Rattle.dual_ascent.proofs.Pairs.{ArePairs, first_pairs, pairs_after}
 
 module _ (p : ProblemParts) (settled : List SettledPair) (cost : ℕ) (first : LowerBound) where
-
   -- an incumbent that costs at most so much
   pub record IsCheap (best : Incumbent) : Type 0 where
     pub is_one : IsIncumbent p best

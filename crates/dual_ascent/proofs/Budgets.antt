@@ -1,6 +1,6 @@
 -- A search counts no more branch nodes than its budget, and where it comes to its end, each budget of at least these gives the
 -- same.
-use Rattle.std.proofs.Common.{◌≡◌, ℕ, zero, suc, ◌+◌, ◌≤◌, ◌<◌, Bool, true, false, cond, List, [], ◌∷◌, Option, Some, None, refl, sym, ◌∙◌, ap, subst, arith, true≢false}
+use Rattle.std.proofs.Common.{◌≡◌, ℕ, zero, suc, ◌+◌, ◌≤◌, Bool, true, false, cond, List, [], Option, Some, None, refl, sym, ◌∙◌, ap, subst, arith, true≢false}
 use Rattle.std.specs.Prelude.{ℤ, nat_lt, int_lt, ◌==◌, ◌||◌}
 use Rattle.std.proofs.lemmas.Bool.Decides.{nat_tests}
 use Rattle.map_base.specs.declared.ids.LineId.{LineId}
@@ -9,16 +9,15 @@ use Rattle.dual_bound.specs.declared.settled.SettledPair.{SettledPair}
 use Rattle.dual_bound.specs.Settled.{with_pair}
 use Rattle.dual_bound.specs.Accepting.{load_of}
 use Rattle.dual_ascent.specs.OwnNumbers.{all_segments, zeros, listed}
-use Rattle.dual_ascent.specs.LocalSearch.{Incumbent, first_incumbent}
+use Rattle.dual_ascent.specs.LocalSearch.{Incumbent}
 use Rattle.dual_ascent.specs.DualSteps.{answers, value_with}
-use Rattle.dual_ascent.specs.Rounds.{Search, LowerBound, Ascent, Stage, going, over, spent, onward, begun, with_value, answered, one_round, rounds, closed, first_ascent, ascended, is_shown}
+use Rattle.dual_ascent.specs.Rounds.{Search, LowerBound, Ascent, Stage, going, over, spent, onward, with_value, answered, one_round, rounds, closed, first_ascent, ascended, is_shown}
 use Rattle.dual_ascent.specs.OpenPairs.{OpenPair, next_pair, ahead, behind}
-use Rattle.dual_ascent.specs.Walks.{WalkedTree, stopped, Progress, Walked, whole, cut, Below, progress, at_orders, orders_left, at_pair, at_open, at_node, after_first, after_second, after_rounds, walked}
-use Rattle.dual_ascent.specs.DualResults.{DualResult, dual_result, result_after, root_bound, most_forks, root_rounds, first_progress}
+use Rattle.dual_ascent.specs.Walks.{WalkedTree, stopped, Progress, Walked, whole, cut, Below, progress, at_pair, at_open, at_node, after_first, after_second, after_rounds, walked}
+use Rattle.dual_ascent.specs.DualResults.{dual_result, result_after, root_bound, most_forks, root_rounds, first_progress}
 use Rattle.dual_ascent.proofs.Stages.{StageHas, onward_has, closed_has, answers_have, Keeps, with_averages, rounds_have}
 
 module _ (p : ProblemParts) where
-
   -- the search of this part with a budget
   abbrev within : ℕ → Search
   within budget = record { problem = p; budget = budget }

@@ -1,7 +1,7 @@
 -- Prices of 1000 times the weight times z - x: under them the shares of these orders come to 1000 times their cost.
-use Rattle.std.proofs.Common.{◌≡◌, ℕ, zero, suc, ◌+◌, ◌*◌, ◌<◌, ◌≤◌, ◌==◌, ◌||◌, ◌&&◌, not, Bool, true, false, cond, List, [], ◌∷◌, length, map, filter, get_or, refl, sym, ◌∙◌, ap, subst, arith, ◌⊎◌, inl, inr, true≢false, Option, Some, None}
-use Rattle.std.specs.Prelude.{IsPermutation, ℤ, pos, ◌+ℤ◌, ◌-ℤ◌, ◌*ℤ◌, unsigned_abs}
-use Rattle.std.specs.List.{All, AllByRecursion, sum_by}
+use Rattle.std.proofs.Common.{◌≡◌, ℕ, suc, ◌+◌, ◌*◌, ◌<◌, ◌==◌, not, Bool, true, false, cond, List, [], ◌∷◌, length, map, get_or, refl, sym, ◌∙◌, ap, arith}
+use Rattle.std.specs.Prelude.{ℤ, pos, ◌+ℤ◌, ◌-ℤ◌, ◌*ℤ◌}
+use Rattle.std.specs.List.{All, AllByRecursion}
 use Rattle.std.proofs.lemmas.Bool.{and_parts, ne_eqb}
 use Rattle.std.proofs.lemmas.Int.{ints}
 use Rattle.std.proofs.lemmas.List.Elements.{recursion_from_All}
@@ -18,9 +18,9 @@ use Rattle.order_model.specs.Prefixes.{is_placed}
 use Rattle.order_model.proofs.Lines.{has_permutation}
 use Rattle.whole_algebra.specs.Sums.{int_sum}
 use Rattle.whole_algebra.proofs.Sums.{int_sum_swap}
-use Rattle.dual_bound.specs.Shares.{thousand, where_so, x_of, z_of, term_share, share_of}
+use Rattle.dual_bound.specs.Shares.{thousand, where_so, x_of, z_of, term_share}
 use Rattle.dual_bound.proofs.Segments.{order_at, contains_placed, before_or_behind, part_apart, AreApart, one_counts, int_sum_less_by}
-use Rattle.dual_ascent.specs.OwnNumbers.{segments_from, all_segments, all_terms, number_of}
+use Rattle.dual_ascent.specs.OwnNumbers.{all_segments, all_terms, number_of}
 use Rattle.dual_ascent.specs.DualSteps.{subgradient, most_price, share_under}
 use Rattle.dual_ascent.specs.Walks.{exact_prices}
 use Rattle.dual_ascent.proofs.OwnParts.{segments_rise, all_are_of}

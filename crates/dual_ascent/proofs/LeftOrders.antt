@@ -1,16 +1,14 @@
 -- Where all pairs are settled, the value of the exact prices of the orders that are left is 1000 times their cost.
-use Rattle.std.proofs.Common.{◌≡◌, ℕ, zero, suc, ◌+◌, ◌*◌, ◌<◌, ◌≤◌, ◌==◌, Bool, true, false, cond, List, [], ◌∷◌, length, map, get_or, refl, sym, ◌∙◌, ap, subst, arith, ◌⊎◌, inl, inr, Option, Some, None}
-use Rattle.std.specs.Prelude.{IsPermutation, ℤ, pos, ◌+ℤ◌, ◌-ℤ◌, ◌*ℤ◌, int_lt, unsigned_abs}
+use Rattle.std.proofs.Common.{◌≡◌, ℕ, true, List, [], ◌∷◌, get_or, refl, sym, ◌∙◌, ap, subst, arith, inl, inr, Option, Some, None}
+use Rattle.std.specs.Prelude.{IsPermutation, ℤ, ◌+ℤ◌}
 use Rattle.std.specs.Int.{int_min}
 use Rattle.std.specs.List.{All, AllByRecursion}
 use Rattle.std.proofs.lemmas.Int.{ints}
 use Rattle.map_base.specs.declared.ids.SegId.{SegId}
 use Rattle.map_base.specs.declared.ids.LineId.{LineId}
 use Rattle.graph_core.specs.Consistent.{AreRising}
-use Rattle.order_model.specs.declared.term.Term.{Term}
 use Rattle.order_model.specs.declared.problem.ProblemParts.{ProblemParts}
-use Rattle.order_model.specs.Problems.{lines_on, IsTerm}
-use Rattle.order_model.specs.Costs.{cost_of, AreOrders}
+use Rattle.order_model.specs.Problems.{lines_on}
 use Rattle.whole_algebra.specs.Sums.{int_sum}
 use Rattle.least_orders.specs.Arrangements.{keeps, all_orders, kept_orders}
 use Rattle.least_orders.specs.LeastOrders.{lesser_of, least_value}
@@ -18,18 +16,16 @@ use Rattle.least_orders.proofs.Lists.{Among, each_among}
 use Rattle.least_orders.proofs.Arranging.{order_is_permutation}
 use Rattle.dual_bound.specs.declared.settled.SettledPair.{SettledPair}
 use Rattle.dual_bound.specs.Settled.{settled_on}
-use Rattle.dual_bound.specs.Shares.{thousand}
 use Rattle.dual_bound.specs.Values.{least_share, plus, value_of}
-use Rattle.dual_bound.specs.Accepting.{shows}
 use Rattle.dual_bound.proofs.Segments.{rising_at}
 use Rattle.dual_bound.proofs.Bounding.{among_kept}
 use Rattle.dual_ascent.specs.declared.pair_average.PairAverage.{PairAverage}
-use Rattle.dual_ascent.specs.OwnNumbers.{segments_from, all_segments, all_terms, number_of}
-use Rattle.dual_ascent.specs.DualSteps.{subgradient, most_price, share_under}
+use Rattle.dual_ascent.specs.OwnNumbers.{all_segments, all_terms, number_of}
+use Rattle.dual_ascent.specs.DualSteps.{share_under}
 use Rattle.dual_ascent.specs.OpenPairs.{next_pair}
-use Rattle.dual_ascent.specs.Walks.{first_or, orders_left, exact_prices}
+use Rattle.dual_ascent.specs.Walks.{first_or, orders_left}
 use Rattle.dual_ascent.proofs.OwnParts.{seg_number, all_made_at, all_sums_same}
-use Rattle.dual_ascent.proofs.Pricing.{IsValue, AreWithin}
+use Rattle.dual_ascent.proofs.Pricing.{IsValue}
 use Rattle.dual_ascent.proofs.Unique.{AreSettled, one_order}
 use Rattle.dual_ascent.proofs.Pairs.{ArePairs, every_segment, none_open}
 
@@ -47,7 +43,6 @@ one_value f o (u ∷ os) h =
     same (v ∷ os) h e = (h.0 ∙ sym e, same os h.1 e)
 
 module _ (p : ProblemParts) (settled : List SettledPair) (rising : All AreRising p.segs) where
-
   -- the order that is left on a segment
   abbrev left_on : SegId → List LineId
   left_on s = first_or (lines_on p.segs s) (kept_orders (settled_on settled s) (lines_on p.segs s))

@@ -1,5 +1,5 @@
 -- Listed prices rise by their terms, and none is 0.
-use Rattle.std.proofs.Common.{◌≡◌, ℕ, zero, suc, ◌+◌, ◌<◌, ◌≤◌, ◌==◌, Bool, true, false, cond, List, [], ◌∷◌, refl, sym, ◌∙◌, ap, arith, true≢false}
+use Rattle.std.proofs.Common.{◌≡◌, ℕ, ◌+◌, ◌≤◌, ◌==◌, Bool, true, false, cond, List, [], ◌∷◌, refl, sym, ◌∙◌, ap, arith, true≢false}
 use Rattle.std.specs.Prelude.{◌≢◌, ℤ, pos, unsigned_abs}
 use Rattle.std.specs.List.{AllByRecursion}
 use Rattle.order_values.specs.PriceLists.{AreRisingPrices}

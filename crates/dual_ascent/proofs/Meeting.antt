@@ -1,6 +1,6 @@
 -- Orders that are met are orders, and the local search lowers what they cost.
-use Rattle.std.proofs.Common.{◌≡◌, ℕ, zero, suc, ◌+◌, ◌<◌, ◌≤◌, Bool, true, false, cond, List, [], ◌∷◌, length, map, filter, get_or, set, refl, sym, ◌∙◌, ap, subst, arith, Option, Some, None, ◌⊎◌, inl, inr}
-use Rattle.std.specs.Prelude.{IsPermutation, ℤ, pos, nat_lt, unwrap_or}
+use Rattle.std.proofs.Common.{◌≡◌, ℕ, zero, suc, ◌≤◌, Bool, true, false, cond, List, [], ◌∷◌, get_or, set, refl, arith, Option, Some, None, inl}
+use Rattle.std.specs.Prelude.{IsPermutation, ℤ, nat_lt, unwrap_or}
 use Rattle.std.specs.List.{fold}
 use Rattle.std.proofs.lemmas.Bool.Decides.{nat_tests}
 use Rattle.std.proofs.lemmas.List.Sorted.{IsPermutation-refl}
@@ -18,8 +18,8 @@ use Rattle.dual_bound.specs.declared.settled.SettledPair.{SettledPair}
 use Rattle.dual_bound.specs.Settled.{settled_on}
 use Rattle.dual_bound.proofs.Bounding.{among_kept}
 use Rattle.dual_ascent.specs.declared.pair_average.PairAverage.{PairAverage}
-use Rattle.dual_ascent.specs.OwnNumbers.{segments_from, all_segments}
-use Rattle.dual_ascent.specs.LocalSearch.{Incumbent, cost_with, least_beside, exchanged, cheaper, improved_on, after_turn, after_turns, local_minimum, incumbent, after_meeting, after_offer, first_incumbent}
+use Rattle.dual_ascent.specs.OwnNumbers.{all_segments}
+use Rattle.dual_ascent.specs.LocalSearch.{Incumbent, cost_with, least_beside, exchanged, cheaper, improved_on, after_turn, after_turns, local_minimum, incumbent, after_offer, first_incumbent}
 use Rattle.dual_ascent.specs.Averages.{averages_on, distance, nearest_on, averaged_orders}
 use Rattle.dual_ascent.specs.DualSteps.{share_under, answer_on, answers}
 use Rattle.dual_ascent.specs.Walks.{first_or, orders_left}
@@ -46,7 +46,6 @@ kept_or_lines value pairs lines = by_option (first_least value (kept_orders pair
     by_option (Some x) e = order_is_permutation lines x (among_kept (keeps pairs) x (all_orders lines) (first_among value (kept_orders pairs lines) x e)).0
 
 module _ (p : ProblemParts) where
-
   pub answers_orders : (settled : List SettledPair) (prices : List ℤ) → AreOrders p.segs (answers p settled prices)
   answers_orders settled prices =
       all_made_orders p.segs (answer_on p settled prices) (λ i. kept_or_lines (share_under p prices (seg_number i)) (settled_on settled (seg_number i)) (lines_on p.segs (seg_number i)))

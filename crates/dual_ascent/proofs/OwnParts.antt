@@ -1,17 +1,17 @@
 -- All segments and terms of a part that is a problem by itself.
-use Rattle.std.proofs.Common.{◌≡◌, ℕ, zero, suc, ◌+◌, ◌<◌, ◌≤◌, ◌==◌, ◌||◌, ◌&&◌, Bool, true, false, cond, List, [], ◌∷◌, length, map, filter, get_or, refl, sym, ◌∙◌, ap, subst, arith, eq-eqb}
-use Rattle.std.specs.Prelude.{IsPermutation, ℤ, pos, ◌+ℤ◌}
+use Rattle.std.proofs.Common.{◌≡◌, ℕ, zero, suc, ◌+◌, ◌<◌, ◌≤◌, ◌==◌, ◌||◌, Bool, true, false, cond, List, [], ◌∷◌, length, map, filter, get_or, refl, sym, ◌∙◌, ap, subst, arith}
+use Rattle.std.specs.Prelude.{IsPermutation, ℤ}
 use Rattle.std.specs.List.{All, AllByRecursion}
 use Rattle.std.proofs.lemmas.List.Elements.{recursion_from_All, All-from_recursion}
-use Rattle.std.proofs.lemmas.Bool.{ne_eqb, and_from}
+use Rattle.std.proofs.lemmas.Bool.{and_from}
 use Rattle.std.proofs.lemmas.Bool.Decides.{nat_tests}
 use Rattle.std.proofs.lemmas.Int.{ints}
 use Rattle.map_base.specs.declared.ids.SegId.{SegId}
 use Rattle.map_base.specs.declared.ids.LineId.{LineId}
 use Rattle.order_model.specs.declared.term.Term.{Term}
 use Rattle.order_model.specs.declared.term.Term.TheVariants.{Side, Link, Apart}
-use Rattle.order_model.specs.Problems.{lines_on, IsTerm}
-use Rattle.order_model.specs.Costs.{seg_of, other_of, AreOrders}
+use Rattle.order_model.specs.Problems.{IsTerm}
+use Rattle.order_model.specs.Costs.{AreOrders}
 use Rattle.order_model.specs.Parts.{IsRisingPart}
 use Rattle.order_model.specs.PartTerms.{numbered_from, is_in, is_of, part_terms, plain_terms}
 use Rattle.whole_algebra.specs.Sums.{int_sum}

@@ -1,9 +1,8 @@
 -- Each segment has the average of each two of its lines; so a fork is at two lines of a segment, and where no pair is open all
 -- are settled.
-use Rattle.std.proofs.Common.{◌≡◌, ℕ, zero, suc, ◌+◌, ◌<◌, ◌≤◌, ◌==◌, ◌||◌, ◌&&◌, not, Bool, true, false, cond, List, [], ◌∷◌, ◌++◌, length, map, filter, get_or, refl, sym, ◌∙◌, ap, subst, arith, ◌⊎◌, inl, inr, true≢false, eq-eqb, Option, Some, None}
-use Rattle.std.specs.Prelude.{IsPermutation, ℤ, pos, neg_ℤ}
+use Rattle.std.proofs.Common.{◌≡◌, ℕ, zero, suc, ◌+◌, ◌<◌, ◌==◌, ◌||◌, ◌&&◌, not, Bool, true, false, cond, List, [], ◌∷◌, ◌++◌, length, map, filter, get_or, refl, sym, ◌∙◌, ap, subst, arith, ◌⊎◌, inl, inr, true≢false, eq-eqb, Some, None}
+use Rattle.std.specs.Prelude.{ℤ, pos, neg_ℤ}
 use Rattle.std.specs.List.{All, AllByRecursion, IsDistinct, flat_map}
-use Rattle.std.proofs.lemmas.Bool.{and_from}
 use Rattle.std.proofs.lemmas.List.Sorted.{IsPermutation-refl}
 use Rattle.map_base.specs.declared.ids.SegId.{SegId}
 use Rattle.map_base.specs.declared.ids.LineId.{LineId}
@@ -16,7 +15,7 @@ use Rattle.order_model.specs.Prefixes.{is_placed}
 use Rattle.order_model.specs.Questions.{question}
 use Rattle.order_model.proofs.Lines.{either_true, same_line, order_distinct}
 use Rattle.least_orders.specs.LeastOrders.{first_of, first_least}
-use Rattle.least_orders.proofs.Lists.{Among, each_at, each_map, each_append, each_flat_map, each_filter, each_weaker}
+use Rattle.least_orders.proofs.Lists.{each_at, each_map, each_append, each_flat_map, each_filter, each_weaker}
 use Rattle.least_orders.proofs.LeastValues.{first_among}
 use Rattle.dual_bound.specs.declared.settled.SettledPair.{SettledPair}
 use Rattle.dual_bound.specs.Settled.{settled_on}
@@ -146,7 +145,6 @@ all_settled pairs (x ∷ lines) h a b apart k g =
 -- Pairs that are open.
 
 module _ (p : ProblemParts) (settled : List SettledPair) (averages : List (List PairAverage)) (pairs : ArePairs p averages) where
-
   -- of a segment of the part two different lines
   abbrev IsForkable : OpenPair → Type 0
   IsForkable c = (is_in (all_segments p) c.seg ≡ true) × ArePair (lines_on p.segs c.seg) (pair_of c.average)

@@ -1,8 +1,8 @@
 -- Prices within their weights are allowed, and the value of a round is the value of its prices.
-use Rattle.std.proofs.Common.{◌≡◌, ℕ, zero, suc, ◌+◌, ◌*◌, ◌<◌, ◌≤◌, ◌==◌, ◌||◌, ◌&&◌, Bool, true, false, cond, List, [], ◌∷◌, length, map, filter, get_or, refl, sym, ◌∙◌, ap, subst, arith, true≢false, eq-eqb, eqb-true, Option, Some, None}
+use Rattle.std.proofs.Common.{◌≡◌, ℕ, zero, suc, ◌+◌, ◌*◌, ◌<◌, ◌≤◌, ◌==◌, ◌||◌, ◌&&◌, Bool, true, false, cond, List, [], ◌∷◌, map, get_or, refl, sym, ◌∙◌, ap, subst, arith, true≢false, eq-eqb, eqb-true, Option, Some, None}
 use Rattle.std.specs.Prelude.{ℤ, pos, negsuc, neg_ℤ, ◌+ℤ◌, ◌-ℤ◌, ◌*ℤ◌, ◌≤ℤ◌, int_lt, int_div, nat_le, unsigned_abs, unwrap_or, option_map}
 use Rattle.std.specs.Int.{int_min, int_max}
-use Rattle.std.specs.List.{list_all, list_any}
+use Rattle.std.specs.List.{list_any}
 use Rattle.std.proofs.lemmas.Bool.{ne_eqb, and_from}
 use Rattle.std.proofs.lemmas.Bool.Decides.{nat_tests}
 use Rattle.std.proofs.lemmas.Int.{ints}
@@ -25,7 +25,7 @@ use Rattle.dual_bound.specs.Settled.{settled_on}
 use Rattle.dual_bound.specs.Shares.{thousand, where_so, x_of, z_of, term_share, share_of}
 use Rattle.dual_bound.specs.Values.{least_share, plus, value_of, allows, are_allowed}
 use Rattle.dual_bound.specs.Accepting.{is_narrow, shows, is_stopped}
-use Rattle.dual_ascent.specs.OwnNumbers.{segments_from, all_segments, all_terms, zeros, number_of, listed_from, listed}
+use Rattle.dual_ascent.specs.OwnNumbers.{all_segments, all_terms, number_of, listed_from, listed}
 use Rattle.dual_ascent.specs.DualSteps.{share_under, answer_on, answers, value_with, subgradient, most_price, cut_to, next_price, square_sum, next_prices}
 use Rattle.dual_ascent.specs.Rounds.{LowerBound}
 use Rattle.dual_ascent.specs.Walks.{exact_prices}
@@ -203,7 +203,6 @@ IsValue None w = Unit {0}
 IsValue (Some v) w = v ≡ w
 
 module _ (p : ProblemParts) (settled : List SettledPair) (prices : List ℤ) where
-
   -- the value of the prices is the sum of the shares of the orders that answer them
   answers_value : (part : List SegId) → IsValue (value_of p.segs (all_terms p) (number_of prices) settled part) (int_sum (λ (s : SegId). share_under p prices s (answer_on p settled prices s)) part)
   answers_value [] = refl

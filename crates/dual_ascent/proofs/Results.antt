@@ -1,14 +1,12 @@
 -- What the result of a search shows.
-use Rattle.std.proofs.Common.{◌≡◌, ℕ, zero, suc, ◌+◌, ◌*◌, ◌/◌, ◌<◌, ◌≤◌, ◌==◌, ◌&&◌, Bool, true, false, cond, List, [], ◌∷◌, length, refl, sym, ◌∙◌, ap, subst, arith, ◌⊎◌, inl, inr, true≢false, Option, Some, None}
+use Rattle.std.proofs.Common.{◌≡◌, ℕ, ◌+◌, ◌*◌, ◌/◌, ◌<◌, ◌≤◌, true, cond, List, [], length, refl, sym, ◌∙◌, ap, subst, arith, inl, inr, true≢false, Some, None}
 use Rattle.std.specs.Prelude.{ℤ, pos, negsuc, ◌+ℤ◌, ◌-ℤ◌, ◌*ℤ◌, ◌≤ℤ◌, int_lt, nat_le}
 use Rattle.std.specs.List.{All}
 use Rattle.std.proofs.lemmas.Bool.{and_parts, leb-true}
 use Rattle.std.proofs.lemmas.Bool.Decides.{nat_tests}
 use Rattle.std.proofs.lemmas.Int.{ints}
-use Rattle.map_base.specs.declared.ids.SegId.{SegId}
 use Rattle.map_base.specs.declared.ids.LineId.{LineId}
 use Rattle.graph_core.specs.Consistent.{AreRising}
-use Rattle.order_model.specs.declared.term.Term.{Term}
 use Rattle.order_model.specs.declared.problem.ProblemParts.{ProblemParts}
 use Rattle.order_model.specs.Problems.{IsTerm}
 use Rattle.order_model.specs.Costs.{cost_of, AreOrders}
@@ -17,25 +15,25 @@ use Rattle.order_model.specs.Questions.{Question, question}
 use Rattle.order_values.specs.DualTrees.{PlainDual, fork, stop, fork_depth, stops_of}
 use Rattle.whole_algebra.proofs.Products.{+ℤ-*ℤ}
 use Rattle.dual_bound.specs.Shares.{thousand}
-use Rattle.dual_bound.specs.Accepting.{is_narrow, shows, accepts, load_of, most_load, is_light, failing_below, failing}
+use Rattle.dual_bound.specs.Accepting.{is_narrow, shows, accepts, load_of, most_load, failing_below, failing}
 use Rattle.dual_bound.proofs.Sound.{below_accepted}
 use Rattle.dual_bound.proofs.Shown.{shown_part_bounds}
 use Rattle.dual_ascent.specs.OwnNumbers.{all_segments, all_terms, zeros, listed}
 use Rattle.dual_ascent.specs.LocalSearch.{first_incumbent}
 use Rattle.dual_ascent.specs.DualSteps.{answers, value_with}
 use Rattle.dual_ascent.specs.Rounds.{Search, LowerBound, Ascent, Stage, going, over, spent, ascended}
-use Rattle.dual_ascent.specs.Walks.{WalkedTree, Progress, Walked, whole, cut, walked}
-use Rattle.dual_ascent.specs.DualResults.{collapsed, is_in_reach, rounded_up, DualResult, dual_result, result_after, root_bound, last_of, most_forks, root_rounds, first_progress}
+use Rattle.dual_ascent.specs.Walks.{Walked, whole, cut, walked}
+use Rattle.dual_ascent.specs.DualResults.{is_in_reach, rounded_up, DualResult, dual_result, result_after, root_bound, last_of, most_forks, root_rounds, first_progress}
 use Rattle.dual_ascent.specs.Shown.{IsListed, IsShown}
 use Rattle.dual_ascent.proofs.Stages.{StageHas}
 use Rattle.dual_ascent.proofs.Listing.{listed_stop}
-use Rattle.dual_ascent.proofs.Budgets.{WalkHas, walk_between, branches_within}
+use Rattle.dual_ascent.proofs.Budgets.{WalkHas, walk_between}
 use Rattle.dual_ascent.proofs.OwnParts.{segments_rise, part_terms_all, plain_numbered, every_known}
-use Rattle.dual_ascent.proofs.Meeting.{IsIncumbent, first_is_incumbent}
-use Rattle.dual_ascent.proofs.Pricing.{AreWithin, zeros_within, round_value, IsSound, stop_holds}
+use Rattle.dual_ascent.proofs.Meeting.{first_is_incumbent}
+use Rattle.dual_ascent.proofs.Pricing.{zeros_within, round_value, IsSound, stop_holds}
 use Rattle.dual_ascent.proofs.Ascents.{IsBound, IsGood, IsCut, ascent_good}
-use Rattle.dual_ascent.proofs.RootBounds.{free_value, IsFree, ascent_free}
-use Rattle.dual_ascent.proofs.Trees.{loads, both_have, IsWalked, WalkIs, walk_is}
+use Rattle.dual_ascent.proofs.RootBounds.{free_value, ascent_free}
+use Rattle.dual_ascent.proofs.Trees.{loads, both_have, WalkIs, walk_is}
 
 distributes : (a b l : ℕ) → (a + b) * l ≡ a * l + b * l
 distributes a b l = let e = +ℤ-*ℤ (pos a) (pos b) (pos l) in omega (arith, ints, e)
@@ -69,7 +67,6 @@ none_shows v h = less (pos thousand *ℤ (pos 0 -ℤ pos 1)) v (omega (arith, in
     less i j h = grind (arith, ints)
 
 module _ (p : ProblemParts) (rising : All AreRising p.segs) (fit : All (IsTerm p.segs) p.terms) (some : 0 < length p.segs) (narrow : is_narrow p.segs (all_segments p) ≡ true) (reach : load_of p.segs (all_segments p) ≤ most_load) (budget : ℕ) (light : budget ≤ most_load) where
-
   abbrev load : ℕ
   load = load_of p.segs (all_segments p)
 

@@ -1,6 +1,6 @@
 -- The lower bound of the root is never negative: the rounds begin without prices.
-use Rattle.std.proofs.Common.{◌≡◌, ℕ, zero, suc, ◌+◌, ◌*◌, ◌/◌, ◌<◌, ◌≤◌, ◌==◌, ◌||◌, Bool, true, false, cond, List, [], ◌∷◌, length, map, get_or, refl, sym, ◌∙◌, ap, subst, arith, ◌⊎◌, inl, inr, true≢false, eq-eqb}
-use Rattle.std.specs.Prelude.{ℤ, pos, negsuc, ◌+ℤ◌, ◌-ℤ◌, ◌*ℤ◌, ◌≤ℤ◌, nat_lt, int_lt}
+use Rattle.std.proofs.Common.{◌≡◌, ℕ, zero, suc, ◌+◌, ◌*◌, ◌≤◌, ◌==◌, ◌||◌, Bool, true, false, cond, List, [], ◌∷◌, map, get_or, refl, sym, subst, arith, ◌⊎◌, inl, inr}
+use Rattle.std.specs.Prelude.{ℤ, pos, ◌-ℤ◌, ◌≤ℤ◌, nat_lt, int_lt}
 use Rattle.std.proofs.lemmas.Bool.Decides.{nat_tests}
 use Rattle.std.proofs.lemmas.Int.{ints}
 use Rattle.map_base.specs.declared.ids.SegId.{SegId}
@@ -17,7 +17,7 @@ use Rattle.dual_bound.specs.Accepting.{load_of}
 use Rattle.dual_ascent.specs.OwnNumbers.{all_segments, all_terms, zeros, number_of}
 use Rattle.dual_ascent.specs.LocalSearch.{Incumbent}
 use Rattle.dual_ascent.specs.DualSteps.{answers, share_under, value_with}
-use Rattle.dual_ascent.specs.Rounds.{Search, Ascent, Stage, going, over, spent, onward, with_value, answered, one_round, rounds, first_ascent, ascended}
+use Rattle.dual_ascent.specs.Rounds.{Search, Ascent, going, spent, onward, with_value, answered, one_round, rounds, first_ascent, ascended}
 use Rattle.dual_ascent.proofs.Stages.{StageHas, closed_has, answers_have, Keeps, with_averages, rounds_have}
 
 no_price : (terms : List Term) (k : ℕ) → get_or (map (λ (t : Term). pos 0) terms) k (pos 0) ≡ pos 0

@@ -1,13 +1,11 @@
 -- What holds through the stages of a round, and through rounds.
-use Rattle.std.proofs.Common.{◌≡◌, ℕ, zero, suc, ◌+◌, ◌*◌, ◌/◌, Bool, true, false, cond, List, refl}
-use Rattle.std.specs.Prelude.{ℤ, int_lt, nat_lt, ◌==◌, ◌||◌, ◌%◌}
+use Rattle.std.proofs.Common.{ℕ, zero, suc, ◌*◌, ◌/◌, Bool, true, false, cond, List}
+use Rattle.std.specs.Prelude.{ℤ, nat_lt, ◌==◌, ◌%◌}
 use Rattle.map_base.specs.declared.ids.LineId.{LineId}
 use Rattle.dual_bound.specs.declared.settled.SettledPair.{SettledPair}
-use Rattle.dual_bound.specs.Accepting.{load_of}
-use Rattle.dual_ascent.specs.OwnNumbers.{all_segments}
 use Rattle.dual_ascent.specs.Averages.{averages_after, averaged_orders}
-use Rattle.dual_ascent.specs.DualSteps.{answers, value_with, next_directions, are_still, gap_of, next_prices}
-use Rattle.dual_ascent.specs.Rounds.{Search, Ascent, Stage, going, over, spent, onward, over_if, is_shown, with_offer, begun, with_value, looked, directed, rounded, shrunk, stepped, with_answers, answered, one_round, rounds, closed}
+use Rattle.dual_ascent.specs.DualSteps.{next_directions, are_still, gap_of, next_prices}
+use Rattle.dual_ascent.specs.Rounds.{Search, Ascent, Stage, going, over, spent, onward, over_if, is_shown, with_offer, with_value, looked, directed, rounded, shrunk, stepped, with_answers, one_round, rounds, closed}
 
 -- the one holds where rounds go on or are over, the other where they are spent
 abbrev pub StageHas : (Ascent → Type 0) → (Ascent → Type 0) → Stage → Type 0

@@ -1,30 +1,25 @@
 -- The tree of a walk is accepted at each target of at most the least cost that it met.
-use Rattle.std.proofs.Common.{◌≡◌, ℕ, zero, suc, ◌+◌, ◌*◌, ◌<◌, ◌≤◌, ◌==◌, ◌||◌, ◌&&◌, Bool, true, false, cond, List, [], ◌∷◌, length, map, max, refl, sym, ◌∙◌, ap, subst, arith, ◌⊎◌, inl, inr, true≢false, Option, Some, None}
+use Rattle.std.proofs.Common.{◌≡◌, ℕ, zero, suc, ◌+◌, ◌*◌, ◌<◌, ◌≤◌, ◌&&◌, Bool, true, false, cond, List, length, max, refl, subst, arith, Option, Some, None}
 use Rattle.std.specs.Prelude.{ℤ, pos, ◌+ℤ◌, ◌-ℤ◌, ◌*ℤ◌, ◌≤ℤ◌, int_lt}
 use Rattle.std.specs.List.{All}
 use Rattle.std.proofs.lemmas.Bool.{and_from}
 use Rattle.std.proofs.lemmas.Int.{ints}
-use Rattle.map_base.specs.declared.ids.SegId.{SegId}
-use Rattle.map_base.specs.declared.ids.LineId.{LineId}
 use Rattle.graph_core.specs.Consistent.{AreRising}
-use Rattle.order_model.specs.declared.term.Term.{Term}
 use Rattle.order_model.specs.declared.problem.ProblemParts.{ProblemParts}
-use Rattle.order_model.specs.Problems.{lines_on, IsTerm}
-use Rattle.order_model.specs.Costs.{cost_of, AreOrders}
+use Rattle.order_model.specs.Problems.{IsTerm}
+use Rattle.order_model.specs.Costs.{cost_of}
 use Rattle.order_model.specs.Questions.{Question, question}
-use Rattle.order_values.specs.DualTrees.{PlainDual, fork, stop, fork_depth, stops_of}
-use Rattle.whole_algebra.specs.Sums.{int_sum}
+use Rattle.order_values.specs.DualTrees.{PlainDual, fork, stop, fork_depth}
 use Rattle.dual_bound.specs.declared.settled.SettledPair.{SettledPair}
 use Rattle.dual_bound.specs.Settled.{with_pair}
 use Rattle.dual_bound.specs.Shares.{thousand}
 use Rattle.dual_bound.specs.Values.{value_of}
-use Rattle.dual_bound.specs.Accepting.{is_narrow, shows, is_stopped, is_fork, accepts, load_of}
+use Rattle.dual_bound.specs.Accepting.{is_narrow, shows, is_fork, accepts, load_of}
 use Rattle.dual_ascent.specs.OwnNumbers.{all_segments, all_terms, number_of, listed}
-use Rattle.dual_ascent.specs.LocalSearch.{Incumbent, after_offer}
-use Rattle.dual_ascent.specs.DualSteps.{share_under}
+use Rattle.dual_ascent.specs.LocalSearch.{after_offer}
 use Rattle.dual_ascent.specs.Rounds.{Search, LowerBound, Ascent, Stage, going, over, spent, is_shown, ascended}
 use Rattle.dual_ascent.specs.OpenPairs.{OpenPair, next_pair, ahead, behind}
-use Rattle.dual_ascent.specs.Walks.{WalkedTree, forked, stopped, Progress, Walked, whole, cut, Below, progress, at_orders, orders_left, exact_prices, at_pair, at_open, at_node, after_first, after_second, after_rounds, walked}
+use Rattle.dual_ascent.specs.Walks.{WalkedTree, stopped, Progress, Walked, whole, cut, Below, progress, at_orders, orders_left, exact_prices, at_pair, at_open, at_node, after_first, after_second, after_rounds, walked}
 use Rattle.dual_ascent.specs.DualResults.{collapsed}
 use Rattle.dual_ascent.specs.Shown.{IsListed}
 use Rattle.dual_ascent.proofs.Stages.{StageHas}
@@ -57,7 +52,6 @@ cost_shows t c h = less (pos thousand *ℤ (pos t -ℤ pos 1)) (pos (thousand * 
     less i j h = grind (arith, ints)
 
 module _ (p : ProblemParts) (rising : All AreRising p.segs) (fit : All (IsTerm p.segs) p.terms) (some : 0 < length p.segs) (narrow : is_narrow p.segs (all_segments p) ≡ true) where
-
   abbrev load : ℕ
   load = load_of p.segs (all_segments p)
 
@@ -119,7 +113,7 @@ module _ (p : ProblemParts) (rising : All AreRising p.segs) (fit : All (IsTerm p
         is_one = offered.is_one;
         below = omega (arith, low, lower);
         accepted = λ target k. stop_holds p settled (pos (thousand * cost_of p.terms (orders_left p settled))) (exact_prices p (orders_left p settled)) target narrow
-        (exact_within p (orders_left p settled)) value (shown target k);
+            (exact_within p (orders_left p settled)) value (shown target k);
         shallow = λ target. omega (arith);
         listed = λ target. listed_stop (exact_prices p (orders_left p settled));
         counted = λ target. more;
