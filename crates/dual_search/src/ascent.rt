@@ -1,13 +1,15 @@
 //! The rounds of a node.
 
-use crate::averages::{add_distances, average_in, no_averages};
 use crate::cost_rows::{SolvedRows, zeros};
-use crate::directions::{direct, gap_of, square_sum, step_prices};
-use crate::line_order::{LineOrder, copy_orders, orders_of};
+use crate::distances::add_distances;
 use crate::local_search::{Incumbent, Solver, offer, take_solved};
 use crate::part::Part;
-use crate::shares::{THOUSAND, add_shares};
+use crate::shares::add_shares;
 use dual_ascent::PairAverage;
+use dual_rounds::{
+    LineOrder, THOUSAND, average_in, copy_orders, direct, gap_of, no_averages, orders_of, square_sum,
+    step_prices,
+};
 use map_base::{NoMemory, Steps};
 use std::alloc::Global;
 use std::sync::ledger::Ledger;
@@ -58,7 +60,7 @@ impl Ascent {
 }
 
 /// Whether rounds go on.
-#[derive(Clone, Copy, Debug, PartialEq, Eq)]
+#[derive(Clone, Copy)]
 pub(crate) enum Stage {
     Going,
     Over,
@@ -195,7 +197,7 @@ fn look(ascent: &mut Ascent, value: i64) {
 /// What comes behind a value that doesn't show the incumbent's cost: directions, offers, and the step.
 fn move_on(search: &mut Search, ascent: &mut Ascent, value: i64) -> Stage {
     direct(
-        search.part.problem.terms(),
+        search.part.problem,
         ascent.orders.as_slice(),
         ascent.prices.as_slice(),
         ascent.directions.as_mut_slice(),
@@ -216,7 +218,7 @@ fn move_on(search: &mut Search, ascent: &mut Ascent, value: i64) -> Stage {
     }
     let gap = gap_of(search.incumbent.cost, value);
     step_prices(
-        search.part.problem.terms(),
+        search.part.problem,
         ascent.step,
         gap,
         squares,

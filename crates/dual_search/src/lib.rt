@@ -6,17 +6,15 @@
 #![tactic(auto)]
 
 mod ascent;
-mod averages;
 mod cost_rows;
-mod directions;
+mod distances;
 mod found;
-mod line_order;
 mod local_search;
 mod node;
 mod open_pairs;
-mod order_costs;
 mod part;
 mod part_search;
+mod segment_costs;
 mod shares;
 mod walk;
 

@@ -1,10 +1,10 @@
 //! Orders that are met, and the local search from them.
 
 use crate::cost_rows::{CostRows, no_sets};
-use crate::line_order::{LineOrder, copy_orders, orders_of, set_order};
-use crate::order_costs::{cost_of, cost_on};
 use crate::part::Part;
+use crate::segment_costs::cost_on;
 use crate::shares::add_costs_beside;
+use dual_rounds::{LineOrder, copy_orders, cost_of, orders_of, set_order};
 use map_base::{LineId, NoMemory};
 use std::alloc::Global;
 use subset_program::SubsetProgram;

@@ -1,27 +1,22 @@
 //! Pairs of lines that are settled at a node.
 
+ghost use Rattle.std.specs.Prelude.{◌≡◌};
+
 use crate::cost_rows::no_sets;
 use crate::part::Part;
 use crate::shares::place_of;
-use map_base::{LineId, NoMemory, SegId};
+use dual_bound::SettledPair;
+use map_base::NoMemory;
 use std::alloc::Global;
 
-/// On a segment the first line stands before the second.
-#[derive(Clone, Copy, Debug, PartialEq, Eq)]
-pub(crate) struct SettledPair {
-    pub(crate) seg: SegId,
-    pub(crate) first: LineId,
-    pub(crate) second: LineId,
-}
-
-impl SettledPair {
-    /// The pair the other way round.
-    pub(crate) fn turned(self) -> SettledPair {
-        SettledPair {
-            seg: self.seg,
-            first: self.second,
-            second: self.first,
-        }
+/// The pair the other way round.
+pub(crate) fn turned(pair: SettledPair) -> SettledPair
+    ensures { result ≡ record { seg = pair.seg; first = pair.second; second = pair.first } }
+{
+    SettledPair {
+        seg: pair.seg,
+        first: pair.second,
+        second: pair.first,
     }
 }
 

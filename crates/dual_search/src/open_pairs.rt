@@ -1,16 +1,17 @@
 //! The pair of lines that is settled next.
 
 use crate::ascent::Ascent;
-use crate::averages::ALWAYS;
-use crate::node::{SettledPair, close_sets};
+use crate::node::close_sets;
 use crate::part::Part;
 use crate::shares::place_of;
 use dual_ascent::PairAverage;
+use dual_bound::SettledPair;
+use dual_rounds::ALWAYS;
 use map_base::{LineId, SegId};
 use order_model::Term;
 
 /// The most undecided pair so far, with how undecided it is, and which line stands first in the first tree of the fork.
-#[derive(Clone, Copy, Debug, PartialEq, Eq)]
+#[derive(Clone, Copy)]
 struct OpenPair {
     doubt: u64,
     pair: SettledPair,

@@ -6,14 +6,14 @@ ghost use Rattle.dual_ascent.specs.DualResults.{is_in_reach, dual_result};
 ghost use Rattle.dual_ascent.specs.Shown.{IsShown};
 ghost use Rattle.dual_search.specs.Finding.{result_found};
 
-use crate::cost_rows::zeros;
 use crate::ascent::{LowerBound, Search, ascend, first_ascent};
+use crate::cost_rows::zeros;
 use crate::found::DualFound;
-use crate::line_order::{LineOrder, orders_of};
 use crate::local_search::{Solver, first_incumbent};
 use crate::node::sets_ahead;
 use crate::part::{Part, steps_on};
 use crate::walk::{NodeEnd, WalkedTree, collapsed, fork, listed, node_end};
+use dual_rounds::{LineOrder, orders_of};
 use map_base::{LineId, NoMemory, Sequence, Steps};
 use order_model::{Orders, Problem};
 use order_values::DualTree;

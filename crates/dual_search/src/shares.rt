@@ -1,13 +1,10 @@
 //! The rows of costs of a segment: under prices, and beside the orders of the others.
 
 use crate::cost_rows::CostRows;
-use crate::line_order::LineOrder;
 use crate::part::Part;
+use dual_rounds::{LineOrder, THOUSAND};
 use map_base::LineId;
 use order_model::{Term, are_neighbours, comes_before};
-
-/// How many thousandths a unit of cost has.
-pub(crate) const THOUSAND: i64 = 1000;
 
 /// The place of a line among rising lines; it is one of them.
 pub(crate) fn place_of(lines: &[LineId], line: LineId) -> usize {

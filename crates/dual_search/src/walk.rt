@@ -3,10 +3,10 @@
 use crate::ascent::{
     Ascent, LowerBound, Search, ascend, first_ascent, is_shown, offer_trial, put_left, shows,
 };
-use crate::directions::{most_price, subgradient};
-use crate::line_order::LineOrder;
-use crate::node::{SettledPair, sets_ahead};
+use crate::node::{sets_ahead, turned};
 use crate::open_pairs::next_pair;
+use dual_bound::SettledPair;
+use dual_rounds::{LineOrder, most_price, subgradient};
 use map_base::{LineId, NoMemory, SegId, Steps};
 use order_model::Term;
 use order_values::{DualTree, Prices};
@@ -139,7 +139,7 @@ pub(crate) fn fork<L: Ledger>(
     let Some(first) = walk_with(alloc, search, room - 1, settled, pair, bound, steps)? else {
         return Ok(None);
     };
-    let back = pair.turned();
+    let back = turned(pair);
     let Some(second) = walk_with(alloc, search, room - 1, settled, back, bound, steps)? else {
         return Ok(None);
     };

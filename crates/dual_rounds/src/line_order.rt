@@ -8,7 +8,7 @@ use std::marker::Model;
 
 /// Lines in an order; seen as their list.
 #[derive(Debug, Drop)]
-pub(crate) struct LineOrder {
+pub struct LineOrder {
     lines: Vec<LineId>,
 }
 
@@ -25,7 +25,7 @@ impl LineOrder {
     ghost use Rattle.std.specs.Prelude.{◌≡◌, ◌<◌, length, slice_set, IfOk};
 
     /// These lines in their order.
-    pub(crate) fn copy_of(alloc: Global, lines: &[LineId]) -> Result<LineOrder, NoMemory>
+    pub fn copy_of(alloc: Global, lines: &[LineId]) -> Result<LineOrder, NoMemory>
         ensures { IfOk result (λ o. o ≡ lines.now) }
     {
         Ok(LineOrder {
@@ -34,14 +34,14 @@ impl LineOrder {
     }
 
     /// The lines.
-    pub(crate) fn as_slice(&self) -> &[LineId]
+    pub fn as_slice(&self) -> &[LineId]
         ensures { result.now ≡ self.now }
     {
         self.lines.as_slice()
     }
 
     /// Takes another order of as many lines.
-    pub(crate) fn take(&mut self, lines: &[LineId])
+    pub fn take(&mut self, lines: &[LineId])
         requires { length lines.now ≡ length self.old }
         ensures { self.new ≡ lines.now }
     {
@@ -49,7 +49,7 @@ impl LineOrder {
     }
 
     /// Another line stands at a place.
-    pub(crate) fn set(&mut self, i: usize, line: LineId)
+    pub fn set(&mut self, i: usize, line: LineId)
         requires { i < length self.old }
         ensures { self.new ≡ slice_set self.old i line }
     {
@@ -58,7 +58,7 @@ impl LineOrder {
 }
 
 /// A copy of the lists of a problem's segments.
-pub(crate) fn orders_of(
+pub fn orders_of(
     alloc: Global,
     lists: &[Sequence<LineId>],
 ) -> Result<Vec<LineOrder>, NoMemory>
@@ -72,7 +72,7 @@ pub(crate) fn orders_of(
 }
 
 /// One order of a list is replaced by another of as many lines.
-pub(crate) fn set_order(orders: &mut [LineOrder], s: usize, lines: &[LineId])
+pub fn set_order(orders: &mut [LineOrder], s: usize, lines: &[LineId])
     requires known { s < length orders.old }
     requires same { length lines.now ≡ length (slice_index_or orders.old s lines.now) }
     ensures { orders.new ≡ slice_set orders.old s lines.now }
@@ -81,8 +81,8 @@ pub(crate) fn set_order(orders: &mut [LineOrder], s: usize, lines: &[LineId])
 }
 
 /// Orders take the place of others of as many lines each.
-pub(crate) fn copy_orders(from: &[LineOrder], to: &mut [LineOrder])
-    requires { map length from.now ≡ map length to.old }
+pub fn copy_orders(from: &[LineOrder], to: &mut [LineOrder])
+    requires { map (λ o. length o) from.now ≡ map (λ o. length o) to.old }
     ensures { to.new ≡ from.now }
 {
     for s in 0..from.len() {

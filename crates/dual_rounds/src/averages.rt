@@ -2,24 +2,24 @@
 
 ghost use Rattle.std.specs.Prelude.{◌≡◌, ◌+◌, ◌*◌, ◌<◌, ◌≤◌, length, map, All, IfOk};
 ghost use Rattle.dual_ascent.specs.Averages.{never_all, averaged, with_order};
-ghost use Rattle.dual_search.specs.Ranges.{IsAverage};
+ghost use Rattle.dual_rounds.specs.Ranges.{IsAverage, averages_of};
 
-use crate::cost_rows::CostRows;
 use crate::line_order::LineOrder;
-use crate::shares::place_of;
 use dual_ascent::PairAverage;
 use map_base::{LineId, NoMemory, Sequence};
 use order_model::{are_neighbours, comes_before};
 use std::alloc::Global;
 
 /// An average is told in 65536ths.
-pub(crate) const ALWAYS: u32 = 65536;
+pub const ALWAYS: u32 = 65536;
 
 /// Each two lines of each segment, before the first round.
-pub(crate) fn no_averages(
+pub fn no_averages(
     alloc: Global,
     lists: &[Sequence<LineId>],
-) -> Result<Vec<Vec<PairAverage>>, NoMemory> {
+) -> Result<Vec<Vec<PairAverage>>, NoMemory>
+    ensures { IfOk result (λ v. averages_of v.items ≡ map never_all lists.now) }
+{
     let mut averages = Vec::with_capacity(alloc, lists.len())?;
     for lines in lists {
         averages.push(never_all(alloc, lines.as_slice())?)?;
@@ -88,7 +88,7 @@ fn with_order(round: u32, order: &[LineId], average: PairAverage) -> PairAverage
 }
 
 /// The averages of all segments with the orders of one round more.
-pub(crate) fn average_in(round: u32, orders: &[LineOrder], averages: &mut [Vec<PairAverage>]) {
+pub fn average_in(round: u32, orders: &[LineOrder], averages: &mut [Vec<PairAverage>]) {
     for s in 0..orders.len() {
         average_on(round, orders[s].as_slice(), averages[s].as_mut_slice());
     }
@@ -104,20 +104,4 @@ fn average_on(round: u32, order: &[LineId], averages: &mut [PairAverage])
     for k in 0..averages.len() {
         averages[k] = with_order(round, order, averages[k]);
     }
-}
-
-/// Adds how far the orders of a segment are from its averages.
-pub(crate) fn add_distances(lines: &[LineId], averages: &[PairAverage], rows: &mut CostRows) {
-    for average in averages {
-        add_distance(lines, *average, rows);
-    }
-}
-
-/// Adds how far two lines are from their average.
-fn add_distance(lines: &[LineId], average: PairAverage, rows: &mut CostRows) {
-    let i = place_of(lines, average.lesser);
-    let j = place_of(lines, average.greater);
-    rows.add_before(i, j, i64::from(average.swapped));
-    rows.add_before(j, i, i64::from(ALWAYS - average.swapped));
-    rows.add_beside(i, j, 32768 - i64::from(average.beside));
 }
