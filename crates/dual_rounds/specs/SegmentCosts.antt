@@ -1,5 +1,5 @@
 -- What orders of one segment cost by pairs of lines: beside the orders of the others, and by how far they are from averages.
-use Rattle.std.specs.Prelude.{ℕ, ◌+◌, ◌-◌, ◌==◌, Bool, ◌||◌, List, if◌then◌else◌}
+use Rattle.std.specs.Prelude.{ℕ, ◌+◌, ◌-◌, ◌==◌, Bool, ◌||◌, List, [], ◌∷◌, if◌then◌else◌}
 use Rattle.std.specs.Prelude.{ℤ, pos, neg_ℤ, ◌-ℤ◌}
 use Rattle.map_base.specs.declared.ids.SegId.{SegId}
 use Rattle.map_base.specs.declared.ids.LineId.{LineId}
@@ -45,3 +45,9 @@ fixed_cost orders s (Apart seg other a b w) =
 -- what all terms make pairs of lines of a segment cost beside the orders of the others
 abbrev pub costs_beside : ProblemParts → List (List LineId) → SegId → PairCosts
 costs_beside p orders s = summed_costs (beside_costs orders s) p.terms
+
+-- what the average of two lines makes them cost
+abbrev pub distance_costs : PairAverage → PairCosts
+distance_costs x =
+    summed_costs (λ (c : PairCosts). c)
+    (cost_before x.lesser x.greater (pos x.swapped) ∷ cost_before x.greater x.lesser (pos (always - x.swapped)) ∷ cost_beside x.lesser x.greater (pos 32768 -ℤ pos x.beside) ∷ [])

@@ -1,5 +1,11 @@
 //! The rounds of a node.
 
+ghost use Rattle.std.specs.Prelude.{◌≡◌, ◌+◌, ◌≤◌, List, Some, IsTrue, IsFalse};
+ghost use Rattle.dual_bound.specs.declared.settled.SettledPair.{SettledPair};
+ghost use Rattle.dual_bound.specs.Accepting.{shows};
+ghost use Rattle.dual_ascent.specs.Rounds.{over, spent, one_round, rounds, closed};
+ghost use Rattle.dual_search.specs.Searching.{search_of, ascent_of, StageIs, IsUnderWay, IsAscent};
+
 use crate::cost_rows::{SolvedRows, zeros};
 use crate::distances::add_distances;
 use crate::local_search::{Incumbent, Solver, offer, take_solved};
@@ -101,7 +107,10 @@ fn none_solved(alloc: Global, part: &Part) -> Result<Vec<SolvedRows>, NoMemory> 
 }
 
 /// Whether a value shows that no orders cost less than the target.
-pub(crate) fn shows(target: u64, value: i64) -> bool {
+pub(crate) fn shows(target: u64, value: i64) -> bool
+    requires { target ≤ 1024000000000 }
+    ensures { result ≡ shows target (Some value) }
+{
     THOUSAND * (target as i64 - 1) < value
 }
 
@@ -117,7 +126,17 @@ pub(crate) fn ascend<L: Ledger>(
     ascent: &mut Ascent,
     most: u32,
     steps: &mut Steps<L>,
-) -> bool {
+) -> bool
+    requires search { IsUnderWay search.old }
+    requires ascent { (settled : List SettledPair) × IsAscent search.old settled ascent.old }
+    ensures search { IsUnderWay search.new }
+    ensures ascent { (settled : List SettledPair) → IsAscent search.old settled ascent.old → IsAscent search.new settled ascent.new }
+    ensures over { (settled : List SettledPair) → IsAscent search.old settled ascent.old → IsTrue result
+        → closed (search_of search.old) settled (rounds (search_of search.old) settled most (ascent_of search.old ascent.old)) ≡ over (ascent_of search.new ascent.new) }
+    ensures spent { (settled : List SettledPair) → IsAscent search.old settled ascent.old → IsFalse result
+        → closed (search_of search.old) settled (rounds (search_of search.old) settled most (ascent_of search.old ascent.old)) ≡ spent (ascent_of search.new ascent.new) }
+    ensures steps { steps.new + search.old.branches ≡ steps.old + search.new.branches }
+{
     for _ in 0..most {
         match one_round(search, ascent, steps) {
             Stage::Going => {}
@@ -130,7 +149,15 @@ pub(crate) fn ascend<L: Ledger>(
 }
 
 /// One round.
-fn one_round<L: Ledger>(search: &mut Search, ascent: &mut Ascent, steps: &mut Steps<L>) -> Stage {
+fn one_round<L: Ledger>(search: &mut Search, ascent: &mut Ascent, steps: &mut Steps<L>) -> Stage
+    requires search { IsUnderWay search.old }
+    requires ascent { (settled : List SettledPair) × IsAscent search.old settled ascent.old }
+    ensures search { IsUnderWay search.new }
+    ensures ascent { (settled : List SettledPair) → IsAscent search.old settled ascent.old → IsAscent search.new settled ascent.new }
+    ensures stage { (settled : List SettledPair) → IsAscent search.old settled ascent.old
+        → StageIs result (ascent_of search.new ascent.new) (one_round (search_of search.old) settled (ascent_of search.old ascent.old)) }
+    ensures steps { steps.new + search.old.branches ≡ steps.old + search.new.branches }
+{
     if search.budget - search.branches < search.part.load {
         return Stage::Spent;
     }

@@ -1,5 +1,11 @@
 //! Orders that are met, and the local search from them.
 
+ghost use Rattle.std.specs.Prelude.{◌≡◌};
+ghost use Rattle.order_model.specs.Costs.{AreOrders};
+ghost use Rattle.dual_ascent.specs.LocalSearch.{local_minimum, after_offer};
+ghost use Rattle.dual_search.specs.Parts.{IsPart};
+ghost use Rattle.dual_search.specs.Searching.{incumbent_of};
+
 use crate::cost_rows::{CostRows, no_sets};
 use crate::part::Part;
 use crate::segment_costs::cost_on;
@@ -115,7 +121,11 @@ fn take_turn(part: &Part, solver: &mut Solver, orders: &mut [LineOrder]) -> bool
 }
 
 /// Turn after turn, until one changes nothing.
-pub(crate) fn descend(part: &Part, solver: &mut Solver, orders: &mut [LineOrder]) {
+pub(crate) fn descend(part: &Part, solver: &mut Solver, orders: &mut [LineOrder])
+    requires part { IsPart part.now }
+    requires orders { AreOrders part.now.problem.now.segs orders.old }
+    ensures { orders.new ≡ local_minimum part.now.problem.now orders.old }
+{
     while take_turn(part, solver, orders) {}
 }
 
@@ -137,7 +147,13 @@ pub(crate) fn offer(
     solver: &mut Solver,
     orders: &mut [LineOrder],
     best: &mut Incumbent,
-) {
+)
+    requires part { IsPart part.now }
+    requires orders { AreOrders part.now.problem.now.segs orders.old }
+    requires best { AreOrders part.now.problem.now.segs best.old.orders.items }
+    ensures best { incumbent_of best.new ≡ after_offer part.now.problem.now orders.old (incumbent_of best.old) }
+    ensures orders { AreOrders part.now.problem.now.segs orders.new }
+{
     descend(part, solver, orders);
     let cost = cost_of(part.problem, orders);
     if cost < best.cost {

@@ -1,5 +1,12 @@
 //! The walk over nodes, depth first.
 
+ghost use Rattle.std.specs.Prelude.{◌≡◌, ◌+◌, ◌^◌, ◌<◌, ◌≤◌, length, reverse, IfOk};
+ghost use Rattle.order_values.specs.DualTrees.{plain_dual};
+ghost use Rattle.dual_ascent.specs.OwnNumbers.{listed};
+ghost use Rattle.dual_ascent.specs.OpenPairs.{OpenPair};
+ghost use Rattle.dual_ascent.specs.DualResults.{collapsed};
+ghost use Rattle.dual_search.specs.Searching.{search_of, bound_of, progress_of, plain_walked, fork_at, AreWithin, IsForkAt, IsUnderWay, WalkIs};
+
 use crate::ascent::{
     Ascent, LowerBound, Search, ascend, first_ascent, is_shown, offer_trial, put_left, shows,
 };
@@ -31,7 +38,10 @@ pub(crate) enum WalkedTree {
 }
 
 /// The prices that are not 0, each behind its term's number.
-pub(crate) fn listed(alloc: Global, prices: &[i64]) -> Result<Prices, NoMemory> {
+pub(crate) fn listed(alloc: Global, prices: &[i64]) -> Result<Prices, NoMemory>
+    requires { length prices.now < 2 ^ 32 }
+    ensures { IfOk result (λ p. p ≡ listed prices.now) }
+{
     let mut list = Vec::new(alloc);
     for k in 0..prices.len() {
         if prices[k] != 0 {
@@ -132,7 +142,15 @@ pub(crate) fn fork<L: Ledger>(
     pair: SettledPair,
     bound: &LowerBound,
     steps: &mut Steps<L>,
-) -> Result<Option<WalkedTree>, NoMemory> {
+) -> Result<Option<WalkedTree>, NoMemory>
+    requires search { IsUnderWay search.old }
+    requires prices { AreWithin search.old.part.problem.now.terms bound.now.prices.items }
+    ensures search { IsUnderWay search.new }
+    ensures settled { settled.new.items ≡ settled.old.items }
+    ensures walked { IfOk result (λ w. (c : OpenPair) → IsForkAt c pair
+        → WalkIs w (progress_of search.new) (fork_at (search_of search.old) room c (bound_of bound.now) (reverse settled.old.items) (progress_of search.old))) }
+    ensures steps { steps.new + search.old.branches ≡ steps.old + search.new.branches }
+{
     if room == 0 {
         return Ok(None);
     }
@@ -177,7 +195,10 @@ pub(crate) fn collapsed(
     alloc: Global,
     target: u64,
     tree: WalkedTree,
-) -> Result<DualTree, NoMemory> {
+) -> Result<DualTree, NoMemory>
+    requires { target ≤ 1024000000000 }
+    ensures { IfOk result (λ t. plain_dual t ≡ collapsed target (plain_walked tree)) }
+{
     match tree {
         WalkedTree::Stopped { prices } => Ok(DualTree::Stop { prices }),
         WalkedTree::Forked {
