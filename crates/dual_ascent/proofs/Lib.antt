@@ -12,3 +12,5 @@ pub mod Listing
 pub mod Trees
 pub mod RootBounds
 pub mod Results
+pub mod SegmentCosts
+pub mod Answering

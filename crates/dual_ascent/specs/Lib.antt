@@ -7,3 +7,4 @@ pub mod OpenPairs
 pub mod Walks
 pub mod DualResults
 pub mod Shown
+pub mod SegmentCosts

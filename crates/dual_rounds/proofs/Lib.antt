@@ -1,3 +1,1 @@
 pub mod Filling
-pub mod SegmentCosts
-pub mod Answering

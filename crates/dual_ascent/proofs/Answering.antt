@@ -33,7 +33,7 @@ use Rattle.dual_ascent.specs.declared.pair_average.PairAverage.{PairAverage}
 use Rattle.dual_ascent.specs.OwnNumbers.{all_terms, number_of}
 use Rattle.dual_ascent.specs.Averages.{always, distance_by, distance, averages_on, nearest_on}
 use Rattle.dual_ascent.specs.DualSteps.{share_under, answer_on}
-use Rattle.dual_rounds.specs.SegmentCosts.{distance_costs}
+use Rattle.dual_ascent.specs.SegmentCosts.{distance_costs}
 
 numbered_fit : (segs : List (List LineId)) (k : ℕ) (terms : List Term) → AllByRecursion (IsTerm segs) terms → AllByRecursion (λ (t : ℕ × Term). IsTerm segs t.1) (numbered_from k terms)
 numbered_fit segs k [] h = tt

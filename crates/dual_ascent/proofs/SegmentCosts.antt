@@ -29,7 +29,7 @@ use Rattle.least_orders.proofs.CostSums.{order_cost_sum, order_cost_none, order_
 use Rattle.dual_bound.specs.ShareCosts.{costs_where}
 use Rattle.dual_bound.proofs.Segments.{contains_placed, before_or_behind, rising_at, same_seg}
 use Rattle.dual_ascent.specs.LocalSearch.{cost_with, least_beside}
-use Rattle.dual_rounds.specs.SegmentCosts.{less_where, link_beside, beside_costs, fixed_cost, costs_beside}
+use Rattle.dual_ascent.specs.SegmentCosts.{less_where, link_beside, beside_costs, fixed_cost, costs_beside}
 
 module _ (segs orders : List (List LineId)) (rising : All AreRising segs) (s : SegId) (known : s.0 < length orders) (o : List LineId) (moved : IsPermutation (lines_on segs s) o) where
 
