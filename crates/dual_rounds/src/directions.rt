@@ -1,17 +1,17 @@
 //! How prices and their directions go on from round to round.
 
-ghost use Rattle.std.specs.Prelude.{◌≡◌, ◌+◌, ◌*◌, ◌<◌, ◌≤◌, ℕ, length, All, pos, ◌-ℤ◌, ◌≤ℤ◌, unsigned_abs};
+ghost use Rattle.std.specs.Prelude.{◌≡◌, ◌+◌, ◌*◌, ◌<◌, ◌≤◌, length, All, pos, ◌+ℤ◌, ◌-ℤ◌, ◌*ℤ◌, ◌≤ℤ◌, int_div, unsigned_abs};
 ghost use Rattle.order_model.specs.Costs.{weight_of, IsReadable};
 ghost use Rattle.order_model.specs.Problems.{IsTerm};
 ghost use Rattle.dual_bound.specs.Shares.{where_so};
-ghost use Rattle.dual_ascent.specs.DualSteps.{subgradient, most_price, next_direction, next_directions, square_sum, gap_of, next_price, next_prices};
+ghost use Rattle.dual_ascent.specs.DualSteps.{subgradient, most_price, is_blocked, next_direction, next_directions, square_sum, gap_of, next_price, next_prices};
 ghost use Rattle.dual_rounds.specs.Ranges.{IsDirection, IsPrice};
 
 use crate::line_order::LineOrder;
 use order_model::{Problem, Term, are_neighbours, comes_before};
 
 /// How many thousandths a unit of cost has.
-pub const THOUSAND: i64 = 1000;
+pub const THOUSAND: u32 = 1000;
 
 /// z - x of a Link or an Apart under orders, the subgradient of its price.
 pub fn subgradient(orders: &[LineOrder], term: Term) -> i64
@@ -58,33 +58,53 @@ fn difference(z: bool, x: bool) -> i64
 }
 
 /// The greatest price of a term, either way: 1000 times its weight, none on a Side.
-pub fn most_price(term: Term) -> i64
+pub fn most_price(term: Term) -> u32
     requires { weight_of term ≤ 256000 }
-    ensures value { result ≡ pos (most_price term) }
-    ensures most { most_price term ≤ 256000000 }
+    ensures value { result ≡ most_price term }
+    ensures most { result ≤ 256000000 }
 {
     match term {
         Term::Side { .. } => 0,
-        Term::Link { w, .. } | Term::Apart { w, .. } => THOUSAND * i64::from(w),
+        Term::Link { w, .. } | Term::Apart { w, .. } => THOUSAND * w,
     }
 }
 
-/// The direction in which a price goes, after the last one: none where it is at its end.
-fn next_direction(most: i64, price: i64, last: i64, slope: i64) -> i64
-    requires most { (n : ℕ) × (n ≤ 256000000) × (most ≡ pos n) }
+/// Seven eighths of the last direction, and 64 times the slope.
+fn turned(last: i64, slope: i64) -> i64
     requires last { IsDirection last }
     requires slope { unsigned_abs slope ≤ 1 }
-    ensures value { (n : ℕ) → most ≡ pos n → result ≡ next_direction n price last slope }
+    ensures value { result ≡ int_div (pos 7 *ℤ last) (pos 8) +ℤ (pos 64 *ℤ slope) }
     ensures within { IsDirection result }
 {
-    let direction = 7 * last / 8 + 64 * slope;
-    if price >= most && direction > 0 {
-        return 0;
+    7 * last / 8 + 64 * slope
+}
+
+/// Whether a price is at the end of its range to which the direction points.
+fn is_blocked(most: u32, price: i64, direction: i64) -> bool
+    requires { most ≤ 256000000 }
+    ensures { result ≡ is_blocked most price direction }
+{
+    let end = i64::from(most);
+    if direction > 0 {
+        return end <= price;
     }
-    if price <= -most && direction < 0 {
-        return 0;
+    direction < 0 && price <= -end
+}
+
+/// The direction in which a price goes, after the last one: none where it is at its end.
+fn next_direction(most: u32, price: i64, last: i64, slope: i64) -> i64
+    requires most { most ≤ 256000000 }
+    requires last { IsDirection last }
+    requires slope { unsigned_abs slope ≤ 1 }
+    ensures value { result ≡ next_direction most price last slope }
+    ensures within { IsDirection result }
+{
+    let direction = turned(last, slope);
+    if is_blocked(most, price, direction) {
+        0
+    } else {
+        direction
     }
-    direction
 }
 
 /// The direction in which the price of a term goes under these orders, after the last one.
@@ -146,25 +166,26 @@ pub fn gap_of(target: u64, value: i64) -> i64
     ensures most { unsigned_abs result ≤ 6000000000000000 }
     ensures least { pos 1000 ≤ℤ result }
 {
-    let bar = THOUSAND * (target as i64 - 1) + 1;
+    let bar = 1000 * (target as i64 - 1) + 1;
     (bar - value).max(1000)
 }
 
 /// The price of a term after a step in its direction.
-fn next_price(step: u32, gap: i64, squares: u64, most: i64, price: i64, direction: i64) -> i64
+fn next_price(step: u32, gap: i64, squares: u64, most: u32, price: i64, direction: i64) -> i64
     requires step { step ≤ 1000 }
     requires gap { unsigned_abs gap ≤ 6000000000000000 }
     requires some { 0 < squares }
     requires squares { squares ≤ 1048576000000 }
-    requires most { (n : ℕ) × (n ≤ 256000000) × (most ≡ pos n) }
+    requires most { most ≤ 256000000 }
     requires price { unsigned_abs price ≤ 256000000 }
     requires direction { IsDirection direction }
-    ensures { (n : ℕ) → most ≡ pos n → result ≡ next_price step gap squares n price direction }
+    ensures { result ≡ next_price step gap squares most price direction }
 {
     let length = i128::from(step) * i128::from(gap) * 64;
     let change = length * i128::from(direction) / (1000 * i128::from(squares));
     let moved = i128::from(price) + change;
-    moved.min(i128::from(most)).max(i128::from(-most)) as i64
+    let end = i128::from(most);
+    moved.min(end).max(-end) as i64
 }
 
 /// The prices take a step in their directions, whose squares sum to so much.

@@ -13,7 +13,7 @@ use crate::part::Part;
 use crate::shares::add_shares;
 use dual_ascent::PairAverage;
 use dual_rounds::{
-    LineOrder, THOUSAND, average_in, copy_orders, direct, gap_of, no_averages, orders_of, square_sum,
+    LineOrder, average_in, copy_orders, direct, gap_of, no_averages, orders_of, square_sum,
     step_prices,
 };
 use map_base::{NoMemory, Steps};
@@ -111,7 +111,7 @@ pub(crate) fn shows(target: u64, value: i64) -> bool
     requires { target ≤ 1024000000000 }
     ensures { result ≡ shows target (Some value) }
 {
-    THOUSAND * (target as i64 - 1) < value
+    1000 * (target as i64 - 1) < value
 }
 
 /// Whether the greatest value shows that no orders cost less than the incumbent.

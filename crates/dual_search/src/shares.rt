@@ -31,7 +31,7 @@ fn add_share(lines: &[LineId], s: usize, term: Term, price: i64, rows: &mut Cost
         Term::Side {
             first, second, w, ..
         } => {
-            let cost = THOUSAND * i64::from(w);
+            let cost = i64::from(THOUSAND * w);
             rows.add_before(place_of(lines, second), place_of(lines, first), cost);
         }
         Term::Link {

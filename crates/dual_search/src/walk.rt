@@ -127,7 +127,7 @@ fn exact_prices(
 ) -> Result<Vec<i64>, NoMemory> {
     let mut prices = Vec::with_capacity(alloc, terms.len())?;
     for term in terms {
-        prices.push(most_price(*term) * subgradient(orders, *term))?;
+        prices.push(i64::from(most_price(*term)) * subgradient(orders, *term))?;
     }
     Ok(prices)
 }
