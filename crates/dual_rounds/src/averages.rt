@@ -39,11 +39,9 @@ fn never_all(alloc: Global, lines: &[LineId]) -> Result<Vec<PairAverage>, NoMemo
 }
 
 /// The pairs of a line with each behind it.
-fn push_never(
-    lines: &[LineId],
-    i: usize,
-    pairs: &mut Vec<PairAverage>,
-) -> Result<(), NoMemory> {
+fn push_never(lines: &[LineId], i: usize, pairs: &mut Vec<PairAverage>) -> Result<(), NoMemory>
+    requires { i < length lines.now }
+{
     for j in i + 1..lines.len() {
         pairs.push(PairAverage {
             lesser: lines[i],

@@ -34,7 +34,11 @@ pub fn subgradient(orders: &[LineOrder], term: Term) -> i64
             difference(swapped != flip, x)
         }
         Term::Apart {
-            seg, other, a, b, ..
+            seg,
+            other,
+            a,
+            b,
+            ..
         } => {
             let x = are_neighbours(orders[seg.0 as usize].as_slice(), a, b);
             let z = are_neighbours(orders[other.0 as usize].as_slice(), a, b);

@@ -58,10 +58,7 @@ impl LineOrder {
 }
 
 /// A copy of the lists of a problem's segments.
-pub fn orders_of(
-    alloc: Global,
-    lists: &[Sequence<LineId>],
-) -> Result<Vec<LineOrder>, NoMemory>
+pub fn orders_of(alloc: Global, lists: &[Sequence<LineId>]) -> Result<Vec<LineOrder>, NoMemory>
     ensures { IfOk result (λ orders. orders.items ≡ lists.now) }
 {
     let mut orders = Vec::with_capacity(alloc, lists.len())?;

@@ -305,7 +305,12 @@ fn put_averaged(part: &Part, solver: &mut Solver, ascent: &Ascent, orders: &mut 
 }
 
 /// The orders that are left where all pairs are settled are put in place.
-pub(crate) fn put_left(part: &Part, solver: &mut Solver, ascent: &Ascent, orders: &mut [LineOrder]) {
+pub(crate) fn put_left(
+    part: &Part,
+    solver: &mut Solver,
+    ascent: &Ascent,
+    orders: &mut [LineOrder],
+) {
     let segs = part.problem.segs();
     for s in 0..segs.len() {
         let lines = segs[s].as_slice();

@@ -84,12 +84,7 @@ fn improve_on(part: &Part, solver: &mut Solver, s: usize, orders: &mut [LineOrde
 }
 
 /// An order of a segment is exchanged for another, where that costs less. Whether it was; else the other order is as before.
-fn exchange_if_less(
-    part: &Part,
-    s: usize,
-    orders: &mut [LineOrder],
-    other: &mut [LineId],
-) -> bool {
+fn exchange_if_less(part: &Part, s: usize, orders: &mut [LineOrder], other: &mut [LineId]) -> bool {
     let before = cost_on(part, s, orders);
     swap_lines(orders, s, other);
     if cost_on(part, s, orders) < before {

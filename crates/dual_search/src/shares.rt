@@ -29,13 +29,20 @@ pub(crate) fn add_shares(part: &Part, s: usize, prices: &[i64], rows: &mut CostR
 fn add_share(lines: &[LineId], s: usize, term: Term, price: i64, rows: &mut CostRows) {
     match term {
         Term::Side {
-            first, second, w, ..
+            first,
+            second,
+            w,
+            ..
         } => {
             let cost = i64::from(THOUSAND * w);
             rows.add_before(place_of(lines, second), place_of(lines, first), cost);
         }
         Term::Link {
-            seg, flip, a, b, ..
+            seg,
+            flip,
+            a,
+            b,
+            ..
         } => {
             let i = place_of(lines, a);
             let j = place_of(lines, b);
@@ -80,7 +87,10 @@ fn other_order<'a>(s: usize, term: Term, orders: &'a [LineOrder]) -> &'a [LineId
 fn add_cost_beside(lines: &[LineId], term: Term, other: &[LineId], rows: &mut CostRows) {
     match term {
         Term::Side {
-            first, second, w, ..
+            first,
+            second,
+            w,
+            ..
         } => rows.add_before(
             place_of(lines, second),
             place_of(lines, first),
@@ -97,7 +107,11 @@ fn add_cost_beside(lines: &[LineId], term: Term, other: &[LineId], rows: &mut Co
         }
         Term::Apart { a, b, w, .. } => {
             let weight = i64::from(w);
-            let cost = if are_neighbours(other, a, b) { -weight } else { weight };
+            let cost = if are_neighbours(other, a, b) {
+                -weight
+            } else {
+                weight
+            };
             rows.add_beside(place_of(lines, a), place_of(lines, b), cost);
         }
     }

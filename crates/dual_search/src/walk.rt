@@ -120,11 +120,7 @@ fn stop_at_orders(
 }
 
 /// Prices under which orders have 1000 times their cost as their shares.
-fn exact_prices(
-    alloc: Global,
-    terms: &[Term],
-    orders: &[LineOrder],
-) -> Result<Vec<i64>, NoMemory> {
+fn exact_prices(alloc: Global, terms: &[Term], orders: &[LineOrder]) -> Result<Vec<i64>, NoMemory> {
     let mut prices = Vec::with_capacity(alloc, terms.len())?;
     for term in terms {
         prices.push(i64::from(most_price(*term)) * subgradient(orders, *term))?;
@@ -191,11 +187,7 @@ fn walk_with<L: Ledger>(
 }
 
 /// The tree of a walk that found this least cost: each fork whose own value shows it is a stop.
-pub(crate) fn collapsed(
-    alloc: Global,
-    target: u64,
-    tree: WalkedTree,
-) -> Result<DualTree, NoMemory>
+pub(crate) fn collapsed(alloc: Global, target: u64, tree: WalkedTree) -> Result<DualTree, NoMemory>
     requires { target ≤ 1024000000000 }
     ensures { IfOk result (λ t. plain_dual t ≡ collapsed target (plain_walked tree)) }
 {

@@ -94,4 +94,3 @@ case4 : dual_result case4_part 1000 ≡ record {
   branches = 307;
 }
 case4 = refl
-
