@@ -32,7 +32,6 @@ use Rattle.dual_ascent.specs.LocalSearch.{cost_with, least_beside}
 use Rattle.dual_ascent.specs.SegmentCosts.{less_where, link_beside, beside_costs, fixed_cost, costs_beside}
 
 module _ (segs orders : List (List LineId)) (rising : All AreRising segs) (s : SegId) (known : s.0 < length orders) (o : List LineId) (moved : IsPermutation (lines_on segs s) o) where
-
   -- the orders with this one
   abbrev there : List (List LineId)
   there = set orders s.0 o
