@@ -194,8 +194,8 @@ fn found(alloc: Global, search: Search, tree: &Tree) -> Result<Found, NoMemory>
     ensures best { IfOk result (λ f. best_found f ≡ best_of search.entry) }
     ensures branches { IfOk result (λ f. f.branches ≡ search.entry.spent) }
 {
-    let mut prices = search.bounds.into_prices(alloc)?;
-    let tree = priced(alloc, &mut prices, tree)?;
+    let mut bounds = search.bounds;
+    let tree = priced(alloc, &mut bounds, tree)?;
     Ok(Found {
         orders: Orders {
             lists: Sequence::of(search.lists),
