@@ -8,7 +8,7 @@ use Rattle.order_model.specs.PartTerms.{is_of}
 use Rattle.order_model.specs.Costs.{seg_of, other_of}
 use Rattle.std.specs.List.{list_any}
 use Rattle.order_bound.specs.declared.pairs.Pair.{Pair}
-use Rattle.order_bound.specs.Pairs.{AreApartSegments, is_pair, has_pair, pair_in, pairs_of}
+use Rattle.order_bound.specs.Pairs.{is_pair, has_pair, pair_in, pairs_of}
 use Rattle.order_bound.specs.Bounds.{pair_bound}
 use Rattle.part_bounds.specs.declared.pair_terms.PairTerms.{PairTerms}
 use Rattle.pair_bounds.specs.Counted.{counted_sum}
@@ -75,11 +75,6 @@ own_segments part terms = filter (meets terms) part
 -- a pair knows those of its terms
 abbrev pub KnowsOwn : List SegId → PairTerms → Type 0
 KnowsOwn part e = e.segs.items ≡ own_segments part e.terms.items
-
--- its segments are some of so many, each once
-pub record HasOwn (count : ℕ) (e : PairTerms) : Type 0 where
-  pub known : All (λ (s : SegId). s.0 < count) e.segs.items
-  pub apart : AreApartSegments e.segs.items
 
 -- terms of the problem, on segments of the part, all of one pair
 pub record IsGroup (segs : List (List LineId)) (part : List SegId) (g : Group) : Type 0 where
