@@ -15,7 +15,7 @@ use Rattle.part_bounds.specs.declared.kept_pairs.KeptPairs.{KeptPairs}
 use Rattle.part_bounds.specs.declared.pair_terms.PairTerms.{PairTerms}
 use Rattle.part_bounds.specs.Changes.{is_changed}
 use Rattle.part_bounds.specs.PairGroups.{Group, group_in, groups_in, no_group, share_of, IsGroup}
-use Rattle.part_bounds.specs.KeptPairs.{cleared, AreMarked, AreLeft, IsNoted, ArePairsOf, AreKept}
+use Rattle.part_bounds.specs.Kept.{cleared, AreMarked, AreLeft, IsNoted, ArePairsOf, AreKept}
 use Rattle.part_bounds.proofs.KeptUp.{group_here}
 use Rattle.part_bounds.proofs.NotedPairs.{left_fresh, renewed}
 

@@ -27,7 +27,7 @@ use Rattle.part_bounds.specs.declared.pair_terms.PairTerms.{PairTerms}
 use Rattle.part_bounds.specs.PairGroups.{Group, KnowsOwn, terms_of_pair, group_of, groups_of, group_in, groups_in, terms_in, no_group, share_of, IsGroup}
 use Rattle.pair_bounds.specs.Slots.{HasRoom, KeepsRoom}
 use Rattle.part_bounds.specs.declared.kept_pairs.KeptPairs.{KeptPairs}
-use Rattle.part_bounds.specs.KeptPairs.{HasRoomFor, ArePairsOf, AreKept, IsKeptUp}
+use Rattle.part_bounds.specs.Kept.{HasRoomFor, ArePairsOf, AreKept, IsKeptUp}
 use Rattle.part_bounds.specs.declared.aparts.Aparts.{Aparts}
 use Rattle.pair_bounds.specs.Counted.{settled_sum}
 use Rattle.part_bounds.specs.Settled.{lists_in, AreSettled}

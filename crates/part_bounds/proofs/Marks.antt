@@ -5,7 +5,7 @@ use Rattle.std.proofs.lemmas.List.{take_more}
 use Rattle.order_model.specs.declared.term.Term.{Term}
 use Rattle.part_bounds.specs.declared.changes.Change.{Change}
 use Rattle.part_bounds.specs.declared.pair_terms.PairTerms.{PairTerms}
-use Rattle.part_bounds.specs.KeptPairs.{has_number, cleared, is_changed_pair, AreMarked}
+use Rattle.part_bounds.specs.Kept.{has_number, cleared, is_changed_pair, AreMarked}
 use Rattle.part_bounds.proofs.NotedPairs.{any_default}
 
 -- Marks.

@@ -29,7 +29,7 @@ use Rattle.part_bounds.specs.declared.pair_terms.PairTerms.{PairTerms}
 use Rattle.part_bounds.specs.Changes.{is_new_pair, is_changed}
 use Rattle.part_bounds.specs.PairGroups.{Group, KnowsOwn, terms_of_pair, group_of, groups_of, group_in, groups_in, no_group, IsGroup}
 use Rattle.pair_bounds.specs.PriceNotes.{price_over, listed_all}
-use Rattle.part_bounds.specs.KeptPairs.{has_number, cleared, AreMarked, IsNoted, AreNoted}
+use Rattle.part_bounds.specs.Kept.{has_number, cleared, AreMarked, IsNoted, AreNoted}
 use Rattle.part_bounds.proofs.OwnTerms.{own_cost, own_links, found_pair}
 use Rattle.pair_bounds.proofs.Noted.{over_none}
 use Rattle.pair_bounds.proofs.PairCosts.{all_among}

@@ -2,4 +2,4 @@ pub mod PartStates
 pub mod PairGroups
 pub mod Changes
 pub mod Settled
-pub mod KeptPairs
+pub mod Kept

@@ -9,7 +9,7 @@ ghost use Rattle.order_bound.specs.CanonicalPrices.{pair_prices};
 ghost use Rattle.pair_bounds.specs.PriceNotes.{price_noted, price_over};
 ghost use Rattle.pair_bounds.specs.Slots.{HasRoom, KeepsRoom};
 ghost use Rattle.part_bounds.specs.PairGroups.{KnowsOwn, no_group, group_in, groups_in, terms_in, share_of, IsGroup};
-ghost use Rattle.part_bounds.specs.KeptPairs.{cleared, is_changed_pair, AreMarked, AreLeft, HasRoomFor, ArePairsOf, AreKept};
+ghost use Rattle.part_bounds.specs.Kept.{cleared, is_changed_pair, AreMarked, AreLeft, HasRoomFor, ArePairsOf, AreKept};
 
 use crate::changes::{Change, is_changed};
 use crate::pair_terms::PairTerms;

@@ -47,7 +47,7 @@ pub struct PartBounds<'a> {
 impl<'a> Model for PartBounds<'a> {
     ghost use Rattle.order_model.specs.PartTerms.{part_terms};
     ghost use Rattle.part_bounds.specs.PartStates.{PartState};
-    ghost use Rattle.part_bounds.specs.KeptPairs.{IsKeptUp};
+    ghost use Rattle.part_bounds.specs.Kept.{IsKeptUp};
 
     ghost Value = { PartState };
 

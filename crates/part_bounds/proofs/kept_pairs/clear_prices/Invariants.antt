@@ -1,6 +1,6 @@
 use Rattle.std.proofs.Common.{◌≡◌, ◌<◌, ℕ, length, take}
 use Rattle.pair_bounds.specs.PriceNotes.{price_noted}
-use Rattle.part_bounds.specs.KeptPairs.{cleared}
+use Rattle.part_bounds.specs.Kept.{cleared}
 use Rattle.part_bounds.proofs.kept_pairs.clear_prices.Given as goal
 
 abbrev pub invariant-loop-number : goal.invariant-loop-number

@@ -1,4 +1,4 @@
-use Rattle.part_bounds.specs.KeptPairs.{AreMarked}
+use Rattle.part_bounds.specs.Kept.{AreMarked}
 use Rattle.part_bounds.proofs.kept_pairs.mark_changed.Given as goal
 
 abbrev pub invariant-loop-place : goal.invariant-loop-place

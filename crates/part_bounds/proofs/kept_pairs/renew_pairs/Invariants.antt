@@ -1,7 +1,7 @@
 use Rattle.std.proofs.Common.{◌≡◌, ◌<◌, ℕ, true, false, take, get_or}
 use Rattle.std.specs.Prelude.{sum_by}
 use Rattle.part_bounds.specs.PairGroups.{groups_in, share_of}
-use Rattle.part_bounds.specs.KeptPairs.{AreKept}
+use Rattle.part_bounds.specs.Kept.{AreKept}
 use Rattle.pair_bounds.specs.Slots.{KeepsRoom}
 use Rattle.part_bounds.proofs.kept_pairs.renew_pairs.Given as goal
 

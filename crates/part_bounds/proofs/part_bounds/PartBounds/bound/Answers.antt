@@ -2,7 +2,7 @@ use Rattle.std.proofs.Common.{◌+◌, ◌≤◌, ap, sym, subst, ◌∙◌, ref
 use Rattle.order_bound.specs.Bounds.{bound_of}
 use Rattle.part_bounds.specs.PairGroups.{groups_in}
 use Rattle.part_bounds.specs.PartStates.{PartState}
-use Rattle.part_bounds.specs.KeptPairs.{HasRoomFor, ArePairsOf, AreKept}
+use Rattle.part_bounds.specs.Kept.{HasRoomFor, ArePairsOf, AreKept}
 use Rattle.part_bounds.proofs.KeptUp.{bound_is, kept_up}
 use Rattle.part_bounds.proofs.part_bounds.PartBounds.bound.Goals as goal
 

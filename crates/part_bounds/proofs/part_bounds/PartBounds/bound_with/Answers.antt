@@ -14,7 +14,7 @@ use Rattle.part_bounds.specs.PairGroups.{group_in, groups_in, terms_in, IsGroup}
 use Rattle.part_bounds.specs.PartStates.{PartState, IsWell}
 use Rattle.part_bounds.specs.Settled.{AreSettled}
 use Rattle.part_bounds.specs.Changes.{IsChange}
-use Rattle.part_bounds.specs.KeptPairs.{AreLeft, HasRoomFor, ArePairsOf, AreKept}
+use Rattle.part_bounds.specs.Kept.{AreLeft, HasRoomFor, ArePairsOf, AreKept}
 use Rattle.part_bounds.proofs.KeptUp.{kept_up, kept_on, rooms_kept, list_here, list_known, list_few, whole_small, whole_bound}
 use Rattle.part_bounds.proofs.KeptShares.{left_shares}
 use Rattle.part_bounds.proofs.Restored.{taken_back}

@@ -3,7 +3,7 @@ use Rattle.order_model.specs.Problems.{lines_on}
 use Rattle.order_model.specs.PartTerms.{part_terms}
 use Rattle.part_bounds.specs.PartStates.{PartState}
 use Rattle.part_bounds.specs.Changes.{IsChange}
-use Rattle.part_bounds.specs.KeptPairs.{AreMarked}
+use Rattle.part_bounds.specs.Kept.{AreMarked}
 use Rattle.part_bounds.specs.declared.pair_terms.PairTerms.{PairTerms}
 use Rattle.part_bounds.proofs.KeptUp.{kept_up, kept_itself, list_here, list_known, list_few}
 use Rattle.part_bounds.proofs.KeptShares.{left_kept}

@@ -7,7 +7,7 @@ use Rattle.order_bound.specs.CanonicalPrices.{prices_for}
 use Rattle.order_bound.proofs.Parts.{part_numbered}
 use Rattle.part_bounds.specs.PairGroups.{group_in, groups_in}
 use Rattle.part_bounds.specs.PartStates.{PartState}
-use Rattle.part_bounds.specs.KeptPairs.{HasRoomFor, ArePairsOf, AreKept, IsKeptUp}
+use Rattle.part_bounds.specs.Kept.{HasRoomFor, ArePairsOf, AreKept, IsKeptUp}
 use Rattle.pair_bounds.specs.PriceNotes.{price_noted}
 use Rattle.part_bounds.proofs.KeptUp.{kept_up}
 use Rattle.part_bounds.proofs.NotedPairs.{whole_noted, list_is, prices_rising}

@@ -4,7 +4,7 @@ use Rattle.order_model.specs.Prefixes.{first_placed}
 use Rattle.order_model.specs.PartTerms.{part_terms}
 use Rattle.part_bounds.specs.PartStates.{PartState}
 use Rattle.part_bounds.specs.Changes.{IsChange}
-use Rattle.part_bounds.specs.KeptPairs.{AreMarked}
+use Rattle.part_bounds.specs.Kept.{AreMarked}
 use Rattle.part_bounds.specs.declared.pair_terms.PairTerms.{PairTerms}
 use Rattle.part_bounds.proofs.KeptUp.{kept_up, kept_itself, list_here, list_known, list_few}
 use Rattle.part_bounds.proofs.KeptShares.{left_kept}
