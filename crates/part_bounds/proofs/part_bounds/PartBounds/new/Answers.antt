@@ -54,5 +54,5 @@ invariant_of-result c =
           total_is = c.settled_total-settled.ensures ∙ ap (settled_sum c.args.problem.now.segs c.in_ok-prefix.prefix.placed) (mine c.args.problem.now.terms c.args.part.now c.args.numbers.now c.requires.numbers);
         };
       kept_are = stale_kept c.args.problem.now c.args.part.now c.in_ok-prefix.prefix.placed pairs c.in_ok-kept.kept
-          (c.in_ok-kept.ensures.each ∙ c.len.ensures) (c.in_ok-kept.ensures.shares ∙ c.len.ensures) (c.in_ok-kept.ensures.enough ∙ ap length c.terms.ensures.list) c.in_ok-kept.ensures.stale;
+          (omega (arith, c.in_ok-kept.ensures.each, c.len.ensures, c.find_segments.new.pairs.ok.0)) (omega (arith, c.in_ok-kept.ensures.shares, c.len.ensures, c.find_segments.new.pairs.ok.0)) (c.in_ok-kept.ensures.enough ∙ ap length c.terms.ensures.list) c.in_ok-kept.ensures.stale;
     }

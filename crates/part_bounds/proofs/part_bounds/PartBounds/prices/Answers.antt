@@ -7,7 +7,7 @@ use Rattle.order_bound.specs.CanonicalPrices.{prices_for}
 use Rattle.order_bound.proofs.Parts.{part_numbered}
 use Rattle.part_bounds.specs.PairGroups.{group_in, groups_in}
 use Rattle.part_bounds.specs.PartStates.{PartState}
-use Rattle.part_bounds.specs.Kept.{HasRoomFor, ArePairsOf, AreKept, IsKeptUp}
+use Rattle.part_bounds.specs.Kept.{HasRoomFor, ArePairsOf, AreKept}
 use Rattle.pair_bounds.specs.PriceNotes.{price_noted}
 use Rattle.part_bounds.proofs.KeptUp.{kept_up}
 use Rattle.part_bounds.proofs.NotedPairs.{whole_noted, list_is, prices_rising}
@@ -32,15 +32,12 @@ due c =
     (ap groups_in c.as_slice.ensures.value ∙ c.self.invariant.table.grouped) (λ k b. c.renew_pairs.ensures.all k (omega (arith, b, length-map c.as_slice.result.now group_in))) noted.noted_are)
     c.in_ok-list.ensures
 
-up : (c : goal.After-renew_pairs) → IsKeptUp c.self.inside.problem.now c.self.inside.part.now c.self.inside.numbers.now c.self.inside.prefix c.self.inside.pairs.items c.renew_pairs.new.kept c.renew_pairs.new.room c.self.inside.aparts
-up c =
+pub invariant_of-self : goal.invariant_of-self
+invariant_of-self c =
     kept_up c.self.inside.problem.now c.self.inside.part.now c.self.inside.numbers.now c.self.inside.prefix c.self.inside.prefix c.self.inside.pairs.items c.self.inside.kept c.renew_pairs.new.kept
     c.self.inside.room c.renew_pairs.new.room c.self.inside.aparts c.self.inside.aparts c.self.invariant c.self.invariant.fits
     (subst (λ l. AreKept c.self.inside.problem.now c.self.inside.part.now c.self.inside.prefix.placed l c.renew_pairs.new.kept) c.as_slice.ensures.value c.renew_pairs.ensures.kept)
     c.renew_pairs.ensures.room c.self.invariant.settled
-
-pub invariant_of-self : goal.invariant_of-self
-invariant_of-self c = up c
 
 pub of-requires : goal.of-requires
 of-requires c =
@@ -48,7 +45,19 @@ of-requires c =
     subst AreRisingPrices (sym (due c)) (prices_rising c.self.inside.problem.now.segs c.self.inside.prefix.placed c.self.inside.part.now terms terms (part_numbered c.self.inside.problem.now.terms c.self.inside.part.now))
 
 pub invariant_of-self-2 : goal.invariant_of-self-2
-invariant_of-self-2 c = up c
+invariant_of-self-2 c =
+    kept_up c.self.inside.problem.now c.self.inside.part.now c.self.inside.numbers.now c.self.inside.prefix c.self.inside.prefix c.self.inside.pairs.items c.self.inside.kept c.renew_pairs.new.kept
+    c.self.inside.room c.renew_pairs.new.room c.self.inside.aparts c.self.inside.aparts c.self.invariant c.self.invariant.fits
+    (subst (λ l. AreKept c.self.inside.problem.now c.self.inside.part.now c.self.inside.prefix.placed l c.renew_pairs.new.kept) c.as_slice.ensures.value c.renew_pairs.ensures.kept)
+    c.renew_pairs.ensures.room c.self.invariant.settled
 
 pub returns-clause-prices : goal.returns-clause-prices
-returns-clause-prices c = subst (λ (b : PartState). c.of.result ≡ prices_for b.segs b.part b.terms b.placed) c.self.view_is (c.of.ensures ∙ due c)
+returns-clause-prices c =
+    let terms : List (ℕ × Term) = part_terms c.self.inside.problem.now.terms c.self.inside.part.now in
+    let noted = c.renew_pairs.ensures.kept in
+    let is : c.of.result ≡ prices_for c.self.inside.problem.now.segs c.self.inside.part.now terms c.self.inside.prefix.placed =
+    c.of.ensures ∙ list_is c.self.inside.problem.now.segs c.self.inside.prefix.placed c.self.inside.part.now c.self.inside.problem.now.terms c.self.inside.numbers.now (price_noted c.renew_pairs.new.kept.noted.prices.items) c.in_ok-list.list.items c.self.invariant.numbers_are
+    (whole_noted c.self.inside.problem.now.segs c.self.inside.prefix.placed c.self.inside.part.now terms (price_noted c.renew_pairs.new.kept.noted.prices.items) (groups_in c.as_slice.result.now) c.renew_pairs.new.kept.stale.items
+    (ap groups_in c.as_slice.ensures.value ∙ c.self.invariant.table.grouped) (λ k b. c.renew_pairs.ensures.all k (omega (arith, b, length-map c.as_slice.result.now group_in))) noted.noted_are)
+    c.in_ok-list.ensures in
+    subst (λ (b : PartState). c.of.result ≡ prices_for b.segs b.part b.terms b.placed) c.self.view_is is
