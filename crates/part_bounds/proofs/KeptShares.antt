@@ -38,7 +38,7 @@ shared_anew due groups shares fresh stale after i v below each is e1 e2 old k wi
 pub kept_anew : (problem : ProblemParts) (part : List SegId) (placed : List (List LineId)) (pairs : List PairTerms) (i v : ℕ) (e : PairTerms) (kept kept2 : KeptPairs) → ArePairsOf problem part pairs → i < length pairs
     → e ≡ get_or pairs i e → v ≡ share_of problem.segs part placed (group_in e) → length kept2.noted.prices.items ≡ length kept.noted.prices.items
     → ((k : ℕ) → k < length kept.noted.prices.items → price_noted kept2.noted.prices.items k
-        ≡ price_over (pair_prices problem.segs placed part e.terms.items e.pair) (cleared e.terms.items (price_noted kept.noted.prices.items) k) k)
+    ≡ price_over (pair_prices problem.segs placed part e.terms.items e.pair) (cleared e.terms.items (price_noted kept.noted.prices.items) k) k)
     → kept2.shares.items ≡ set kept.shares.items i v → kept2.stale.items ≡ set kept.stale.items i false
     → AreKept problem part placed pairs kept → AreKept problem part placed pairs kept2
 kept_anew problem part placed pairs i v e kept kept2 table below here is enough noted e1 e2 ok =

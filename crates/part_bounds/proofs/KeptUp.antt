@@ -192,9 +192,10 @@ pub bound_is : (problem : ProblemParts) (part : List SegId) (numbers : List ℕ)
     → (total + aparts.total ≡ bound_of problem.segs part (part_terms problem.terms part) prefix.placed) × (total + aparts.total ≤ 8192000000000)
 bound_is problem part numbers prefix pairs slice kept room aparts total ok same e =
     let sum : total ≡ sum_by (share_of problem.segs part prefix.placed) (groups_in pairs) = e ∙ ap (λ l. sum_by (share_of problem.segs part prefix.placed) (groups_in l)) same in
-    let table = ok.table in
-    (whole_bound problem.segs prefix.placed part (part_terms problem.terms part) (groups_in pairs) total aparts.total table.grouped sum ok.settled.total_is,
-    whole_small problem.segs prefix.placed part (part_terms problem.terms part) (groups_in pairs) total aparts.total (rising_apart part table.rises) table.groups table.few ok.known_terms ok.few_terms sum ok.settled.total_is)
+    let table = ok.table in (
+      whole_bound problem.segs prefix.placed part (part_terms problem.terms part) (groups_in pairs) total aparts.total table.grouped sum ok.settled.total_is,
+      whole_small problem.segs prefix.placed part (part_terms problem.terms part) (groups_in pairs) total aparts.total (rising_apart part table.rises) table.groups table.few ok.known_terms ok.few_terms sum ok.settled.total_is,
+    )
 
 -- the pairs of a part
 pub pairs_begun : (problem : ProblemParts) (part : List SegId) (pairs : List PairTerms) → All (λ (s : SegId). s.0 < length problem.segs) part → IsRisingPart part → IsProblem problem

@@ -50,9 +50,9 @@ invariant_of-result c =
       known_terms = each_known c.args.problem.now c.args.part.now c.pairs_of.ensures.fits c.requires.rising;
       few_terms = terms_few c.args.problem.now c.args.part.now c.pairs_of.ensures.fits;
       settled = record {
-          by_ends = subst (λ l. AreByEnds (length c.args.problem.now.segs) l (lists_in c.in_ok-lists.lists.items)) (mine c.args.problem.now.terms c.args.part.now c.args.numbers.now c.requires.numbers) c.in_ok-lists.ensures.by_ends;
-          total_is = c.settled_total-settled.ensures ∙ ap (settled_sum c.args.problem.now.segs c.in_ok-prefix.prefix.placed) (mine c.args.problem.now.terms c.args.part.now c.args.numbers.now c.requires.numbers);
-        };
+        by_ends = subst (λ l. AreByEnds (length c.args.problem.now.segs) l (lists_in c.in_ok-lists.lists.items)) (mine c.args.problem.now.terms c.args.part.now c.args.numbers.now c.requires.numbers) c.in_ok-lists.ensures.by_ends;
+        total_is = c.settled_total-settled.ensures ∙ ap (settled_sum c.args.problem.now.segs c.in_ok-prefix.prefix.placed) (mine c.args.problem.now.terms c.args.part.now c.args.numbers.now c.requires.numbers);
+      };
       kept_are = stale_kept c.args.problem.now c.args.part.now c.in_ok-prefix.prefix.placed pairs c.in_ok-kept.kept
           (omega (arith, c.in_ok-kept.ensures.each, c.len.ensures, c.find_segments.new.pairs.ok.0)) (omega (arith, c.in_ok-kept.ensures.shares, c.len.ensures, c.find_segments.new.pairs.ok.0)) (c.in_ok-kept.ensures.enough ∙ ap length c.terms.ensures.list) c.in_ok-kept.ensures.stale;
     }
