@@ -102,7 +102,8 @@ fn live_search<L: Ledger>(
     ensures few_steps { IfErr result (λ _. steps.new ≤ steps.old + branches_in problem.now part.now) }
 {
     let mut search = begin(alloc, problem, part, numbers, budget)?;
-    let tree = grow(alloc, &mut search, 0, steps)?;
+    let bound = search.root_bound;
+    let tree = grow(alloc, &mut search, 0, bound, steps)?;
     Ok(found(alloc, search, &tree)?)
 }
 
@@ -121,7 +122,8 @@ fn begin<'a>(
     requires budget { budget + 1 < 2 ^ 32 }
     ensures { IfOk result (IsBegun problem.now.segs part.now (part_terms problem.now.terms part.now) budget) }
 {
-    let bounds = PartBounds::new(alloc, problem, part, numbers)?;
+    let mut bounds = PartBounds::new(alloc, problem, part, numbers)?;
+    let root_bound = bounds.bound();
     let cost = number_cost(problem, numbers);
     let lists = number_lists(alloc, problem, part)?;
     let children = Vec::new(alloc);
@@ -129,6 +131,7 @@ fn begin<'a>(
         problem,
         part,
         bounds,
+        root_bound,
         children,
         cost,
         lists,
@@ -194,8 +197,8 @@ fn found(alloc: Global, search: Search, tree: &Tree) -> Result<Found, NoMemory>
     ensures best { IfOk result (λ f. best_found f ≡ best_of search.entry) }
     ensures branches { IfOk result (λ f. f.branches ≡ search.entry.spent) }
 {
-    let mut prices = search.bounds.into_prices(alloc)?;
-    let tree = priced(alloc, &mut prices, tree)?;
+    let mut bounds = search.bounds;
+    let tree = priced(alloc, &mut bounds, tree)?;
     Ok(Found {
         orders: Orders {
             lists: Sequence::of(search.lists),

@@ -24,17 +24,17 @@ use Rattle.order_bound.proofs.Worth.{each_taken, each_priced}
 use Rattle.order_bound.proofs.Completing.{same_pair, pair_itself}
 use Rattle.order_bound.proofs.Parts.{part_numbered}
 use Rattle.order_bound.proofs.Bounding.{AreNumbered, each_kept}
-use Rattle.pair_shares.specs.declared.changes.Change.{Change}
-use Rattle.pair_shares.specs.declared.pair_terms.PairTerms.{PairTerms}
-use Rattle.pair_shares.specs.Changes.{is_new_pair, is_changed}
-use Rattle.pair_shares.specs.PairGroups.{Group, KnowsOwn, terms_of_pair, group_of, groups_of, group_in, groups_in, no_group, IsGroup}
+use Rattle.part_bounds.specs.declared.changes.Change.{Change}
+use Rattle.part_bounds.specs.declared.pair_terms.PairTerms.{PairTerms}
+use Rattle.part_bounds.specs.Changes.{is_new_pair, is_changed}
+use Rattle.part_bounds.specs.PairGroups.{Group, KnowsOwn, terms_of_pair, group_of, groups_of, group_in, groups_in, no_group, IsGroup}
 use Rattle.pair_bounds.specs.PriceNotes.{price_over, listed_all}
-use Rattle.part_bounds.specs.KeptPrices.{has_number, cleared, AreMarked, IsNoted, AreNoted}
-use Rattle.pair_shares.proofs.OwnTerms.{own_cost, own_links, found_pair}
+use Rattle.part_bounds.specs.Kept.{has_number, cleared, AreMarked, IsNoted, AreNoted}
+use Rattle.part_bounds.proofs.OwnTerms.{own_cost, own_links, found_pair}
 use Rattle.pair_bounds.proofs.Noted.{over_none}
 use Rattle.pair_bounds.proofs.PairCosts.{all_among}
-use Rattle.pair_shares.proofs.KeptGroups.{group_here, group_at}
-use Rattle.pair_shares.proofs.PairsKept.{unchanged}
+use Rattle.part_bounds.proofs.KeptUp.{group_here, group_at}
+use Rattle.part_bounds.proofs.PairsKept.{unchanged}
 
 -- The prices of a pair depend on its own terms alone.
 
@@ -245,12 +245,13 @@ any_default [] i d e below = absurd (omega (arith, below))
 any_default (x ∷ xs) zero d e below = refl
 any_default (x ∷ xs) (suc i) d e below = any_default xs i d e (omega (arith, below))
 
--- the pairs that a placing leaves keep their prices
-pub left_noted : (segs one two : List (List LineId)) (part : List SegId) (price : ℕ → ℤ) (c : Change) (pairs : List PairTerms) (count : ℕ) (stale after : List Bool) → All (KnowsOwn part) pairs → All (IsGroup segs part) (groups_in pairs)
-    → count ≡ length pairs → AreMarked c pairs count stale after → ((g : Group) → IsGroup segs part g → is_changed c g ≡ false → pair_prices segs two part g.1 g.0 ≡ pair_prices segs one part g.1 g.0)
-    → AreNoted segs one part price (groups_in pairs) stale → AreNoted segs two part price (groups_in pairs) after
-left_noted segs one two part price c [] count stale after own fit counted marked same noted k below fresh = absurd (omega (arith, below))
-left_noted segs one two part price c (p ∷ rest) count stale after own fit counted marked same noted k below fresh =
+-- what holds of pairs that are not stale still holds of those that a placing leaves, where it doesn't change it
+pub left_fresh : (P Q : ℕ → Group → Type 0) (segs : List (List LineId)) (part : List SegId) (c : Change) (pairs : List PairTerms) (count : ℕ) (stale after : List Bool) → All (KnowsOwn part) pairs → All (IsGroup segs part) (groups_in pairs)
+    → count ≡ length pairs → AreMarked c pairs count stale after → ((k : ℕ) (g : Group) → IsGroup segs part g → is_changed c g ≡ false → P k g → Q k g)
+    → ((k : ℕ) → k < length (groups_in pairs) → get_or stale k true ≡ false → P k (get_or (groups_in pairs) k no_group))
+    → (k : ℕ) → k < length (groups_in pairs) → get_or after k true ≡ false → Q k (get_or (groups_in pairs) k no_group)
+left_fresh P Q segs part c [] count stale after own fit counted marked same all k below fresh = absurd (omega (arith, below))
+left_fresh P Q segs part c (p ∷ rest) count stale after own fit counted marked same all k below fresh =
     let pairs : List PairTerms = p ∷ rest in
     let within : k < length pairs = omega (arith, below, length-map pairs group_in) in
     let e : PairTerms = get_or pairs k p in
@@ -260,10 +261,7 @@ left_noted segs one two part price c (p ∷ rest) count stale after own fit coun
     let known : KnowsOwn part e = subst (KnowsOwn part) (sym here) (own k e within) in
     let none : is_changed c (group_in e) ≡ false =
     unchanged part e.terms.items e.segs.items c.seg (is_new_pair c e.pair) known fits.inside (marked.marked k e (omega (arith, within, counted)) within here fresh) in
-    let prices : pair_prices segs two part e.terms.items e.pair ≡ pair_prices segs one part e.terms.items e.pair = same (group_in e) fits none in
-    subst (IsNoted segs two part price) (sym is)
-    (subst (λ l. All (λ (t : ℕ × Term). price t.0 ≡ price_among l t.0) e.terms.items) (sym prices)
-    (subst (IsNoted segs one part price) is (noted k below (marked.still k fresh))))
+    subst (Q k) (sym is) (same k (group_in e) fits none (subst (P k) is (all k below (marked.still k fresh))))
 
 -- The list.
 
