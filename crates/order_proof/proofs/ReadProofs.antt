@@ -6,7 +6,7 @@ use Rattle.order_values.specs.declared.rule.Rule.{Rule}
 use Rattle.order_values.specs.PriceLists.{AreRisingPrices}
 use Rattle.order_values.specs.DualTrees.{PlainDual, fork, stop}
 use Rattle.order_proof.specs.Plain.{PlainTree, split, close, Cases, no_case, case_of, PlainPartTree, by_cases, by_pairs, PlainPart, PlainProof}
-use Rattle.order_proof.specs.Trees.{AreNotZero, IsTree, AreTrees, IsDualTree, IsPartTree, IsProofTree, HasTrees}
+use Rattle.order_proof.specs.Trees.{AreNotZero, IsTree, AreTrees, IsDualTree, IsPartTree, IsProofTree, IsProofDual, HasTrees, depth_of_part, most_depth}
 use Rattle.order_proof.specs.Lines.{line_text, rules_line, parts_line}
 use Rattle.order_proof.specs.FrontLine.{front}
 use Rattle.order_proof.specs.Forms.{most_price, most_stop_price, rules_in, parts_in}
@@ -95,13 +95,13 @@ dual_kept : (tree : PlainDual) → IsDualInRange tree → IsDualTree tree
 dual_kept (fork seg a b first second) are = (dual_kept first are.3, dual_kept second are.4)
 dual_kept (stop prices) are = (rising_prices most_stop_price 0 prices are, prices_not_zero most_stop_price 0 prices are)
 
-part_tree_kept : (tree : PlainPartTree) → IsPartTreeInRange tree → IsPartTree tree
-part_tree_kept (by_cases tree) are = tree_kept tree are
-part_tree_kept (by_pairs tree) are = dual_kept tree are
+part_tree_kept : (tree : PlainPartTree) → IsPartTreeInRange tree → depth_of_part tree ≤ most_depth → IsPartTree tree
+part_tree_kept (by_cases tree) are deep = record { is_tree = tree_kept tree are; depth = deep }
+part_tree_kept (by_pairs tree) are deep = record { is_tree = dual_kept tree are; depth = deep }
 
-parts_kept : (parts : List PlainPart) → AllByRecursion IsPartInRange parts → AllByRecursion (λ (part : PlainPart). IsProofTree part.tree) parts
+parts_kept : (parts : List PlainPart) → AllByRecursion IsPartInRange parts → AllByRecursion (λ (part : PlainPart). IsPartTree part.tree) parts
 parts_kept [] are = tt
-parts_kept (p ∷ rest) are = (record { is_tree = part_tree_kept p.tree are.0.tree; depth = are.0.depth }, parts_kept rest are.1)
+parts_kept (p ∷ rest) are = (part_tree_kept p.tree are.0.tree are.0.depth, parts_kept rest are.1)
 
 pub trees_kept : (p : PlainProof) → IsInRange p → HasTrees p
 trees_kept p range = parts_kept p.parts range.parts

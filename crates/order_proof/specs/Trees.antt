@@ -64,11 +64,6 @@ abbrev pub IsDualTree : PlainDual → Type 0
 IsDualTree (fork seg a b first second) = IsDualTree first × IsDualTree second
 IsDualTree (stop prices) = AreRisingPrices prices × AreNotZero prices
 
--- what holds of a part's tree, by its kind
-abbrev pub IsPartTree : PlainPartTree → Type 0
-IsPartTree (by_cases tree) = IsTree tree
-IsPartTree (by_pairs tree) = IsDualTree tree
-
 -- the greatest number of splits, or of forks, on a way to a leaf
 abbrev pub depth_of_part : PlainPartTree → ℕ
 depth_of_part (by_cases tree) = depth_of tree
@@ -78,11 +73,20 @@ depth_of_part (by_pairs tree) = fork_depth tree
 abbrev pub most_depth : ℕ
 most_depth = 2048
 
+-- what holds of each tree of cases of a proof, and of each dual tree
+pub record IsProofTree (tree : PlainTree) : Type 0 where
+  pub is_tree : IsTree tree
+  pub depth : depth_of tree ≤ most_depth
+
+pub record IsProofDual (tree : PlainDual) : Type 0 where
+  pub is_tree : IsDualTree tree
+  pub depth : fork_depth tree ≤ most_depth
+
 -- what holds of the tree of each part of a proof
-pub record IsProofTree (tree : PlainPartTree) : Type 0 where
-  pub is_tree : IsPartTree tree
-  pub depth : depth_of_part tree ≤ most_depth
+abbrev pub IsPartTree : PlainPartTree → Type 0
+IsPartTree (by_cases tree) = IsProofTree tree
+IsPartTree (by_pairs tree) = IsProofDual tree
 
 -- what holds of each proof
 abbrev pub HasTrees : PlainProof → Type 0
-HasTrees p = AllByRecursion (λ (part : PlainPart). IsProofTree part.tree) p.parts
+HasTrees p = AllByRecursion (λ (part : PlainPart). IsPartTree part.tree) p.parts
