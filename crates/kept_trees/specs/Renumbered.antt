@@ -1,5 +1,5 @@
 -- Trees of a part by itself, with the numbers of the problem.
-use Rattle.std.specs.Prelude.{ℕ, List}
+use Rattle.std.specs.Prelude.{ℕ, Bool, true, false, List}
 use Rattle.map_base.specs.declared.ids.SegId.{SegId}
 use Rattle.map_base.specs.declared.ids.LineId.{LineId}
 use Rattle.order_values.specs.DualTrees.{PlainDual, fork, stop}
@@ -16,6 +16,11 @@ abbrev pub renumbered_dual : List SegId → List ℕ → PlainDual → PlainDual
 renumbered_dual part numbers (fork s a b first second) =
     fork (seg_from part s) a b (renumbered_dual part numbers first) (renumbered_dual part numbers second)
 renumbered_dual part numbers (stop prices) = stop (prices_by (number_from numbers) prices)
+
+-- the tree is a dual tree
+abbrev pub is_by_pairs : PlainPartTree → Bool
+is_by_pairs (by_cases tree) = false
+is_by_pairs (by_pairs tree) = true
 
 -- a tree of either kind
 abbrev pub renumbered_tree : List SegId → List ℕ → PlainPartTree → PlainPartTree

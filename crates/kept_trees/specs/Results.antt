@@ -27,7 +27,7 @@ use Rattle.order_search.specs.Finding.{places_of, IsLeast, AreAttained}
 use Rattle.order_search.specs.ByItself.{by_itself}
 use Rattle.kept_trees.specs.declared.plan.SearchPlan.{SearchPlan}
 use Rattle.kept_trees.specs.declared.found_part.FoundPart.{FoundPart}
-use Rattle.kept_trees.specs.Renumbered.{renumbered_dual}
+use Rattle.kept_trees.specs.Renumbered.{renumbered_dual, renumbered_tree}
 
 -- What is found of a part: a target that none of its orders cost less than, the tree that shows it, orders of the part's
 -- segments, and the branch nodes of the search. Where the search is complete, the orders cost the target.
@@ -101,6 +101,10 @@ result_found f = record {
   lists = f.orders.lists;
   branches = f.branches;
 }
+
+-- what is found of a part by itself, with the numbers of the problem in its tree
+abbrev pub renumbered_result : List SegId → List ℕ → PartResult → PartResult
+renumbered_result part numbers r = record r { tree = renumbered_tree part numbers r.tree }
 
 -- no node of the tree fails for its target
 abbrev pub IsAccepted : Question → PlainPartTree → Type 0

@@ -17,3 +17,19 @@ pub struct FoundPart {
     /// A tree that is accepted at the target.
     pub tree: PartTree,
 }
+
+impl FoundPart {
+    ghost use Rattle.std.specs.Prelude.{◌≡◌};
+    ghost use Rattle.order_proof.specs.Plain.{plain_part_tree};
+    ghost use Rattle.kept_trees.specs.Renumbered.{is_by_pairs};
+
+    /// Whether it was found by dual prices.
+    pub(crate) fn is_dual(&self) -> bool
+        ensures { result ≡ is_by_pairs (plain_part_tree self.now.tree) }
+    {
+        match &self.tree {
+            PartTree::ByCases(_) => false,
+            PartTree::ByPairs(_) => true,
+        }
+    }
+}

@@ -80,20 +80,22 @@ impl Kept {
         let mut key = part_key(alloc, problem, part, numbers, plan.search)?;
         if let Some(own) = self.result_of(&key) {
             if own.branches <= plan.budget {
-                return Ok(found_in(alloc, problem, part, numbers, own)?);
+                return Ok(found_in(alloc, part, numbers, own)?);
             }
             if plan.claim == Claim::Best || !own.is_dual() {
-                return Err(spent(plan.budget));
+                return Err(SearchFault::Spent {
+                    branches: plan.budget + 1,
+                });
             }
         }
         key.spent = Some(plan.budget);
         if plan.claim == Claim::Bound
             && let Some(own) = self.result_of(&key)
         {
-            return Ok(found_in(alloc, problem, part, numbers, own)?);
+            return Ok(found_in(alloc, part, numbers, own)?);
         }
         let own = search_by_itself(alloc, &key, plan, steps)?;
-        let found = found_in(alloc, problem, part, numbers, &own)?;
+        let found = found_in(alloc, part, numbers, &own)?;
         if own.complete {
             key.spent = None;
         }
