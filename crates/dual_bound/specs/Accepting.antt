@@ -10,7 +10,8 @@ use Rattle.order_model.specs.Problems.{lines_on}
 use Rattle.order_model.specs.Places.{has_line}
 use Rattle.order_model.specs.PartTerms.{is_in}
 use Rattle.order_model.specs.Questions.{Question}
-use Rattle.dual_bound.specs.Settled.{SettledPair, with_pair}
+use Rattle.dual_bound.specs.declared.settled.SettledPair.{SettledPair}
+use Rattle.dual_bound.specs.Settled.{with_pair}
 use Rattle.dual_bound.specs.Shares.{thousand}
 use Rattle.dual_bound.specs.Values.{value_of, are_allowed}
 

@@ -1,16 +1,11 @@
 -- Pairs of lines whose order on a segment is settled.
-use Rattle.std.specs.Prelude.{ℕ, ◌==◌, Bool, List, filter, map}
+use Rattle.std.specs.Prelude.{ℕ, ◌==◌, Bool, List, ◌∷◌, filter, map}
 use Rattle.std.specs.List.{list_all}
 use Rattle.map_base.specs.declared.ids.SegId.{SegId}
 use Rattle.map_base.specs.declared.ids.LineId.{LineId}
 use Rattle.order_model.specs.Problems.{lines_on}
 use Rattle.least_orders.specs.Arrangements.{keeps}
-
--- on a segment the first line stands before the second
-pub record SettledPair : Type 0 where
-  pub seg : SegId
-  pub first : LineId
-  pub second : LineId
+use Rattle.dual_bound.specs.declared.settled.SettledPair.{SettledPair}
 
 -- the pairs that are settled on one segment
 abbrev pub settled_on : List SettledPair → SegId → List (LineId × LineId)

@@ -9,7 +9,8 @@ use Rattle.order_model.specs.declared.term.Term.TheVariants.{Side, Link, Apart}
 use Rattle.order_model.specs.Problems.{lines_on}
 use Rattle.least_orders.specs.Arrangements.{kept_orders}
 use Rattle.least_orders.specs.LeastOrders.{least_value}
-use Rattle.dual_bound.specs.Settled.{SettledPair, settled_on}
+use Rattle.dual_bound.specs.declared.settled.SettledPair.{SettledPair}
+use Rattle.dual_bound.specs.Settled.{settled_on}
 use Rattle.dual_bound.specs.Shares.{thousand, share_of}
 
 -- the least share of an order of the segment that keeps the pairs settled there, none where no order keeps them

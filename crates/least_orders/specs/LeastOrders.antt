@@ -1,7 +1,7 @@
 -- The least of several orders.
 use Rattle.std.specs.Prelude.{ℕ, Bool, List, [], ◌∷◌, Option, Some, None, if◌then◌else◌}
-use Rattle.std.specs.Prelude.{ℤ}
-use Rattle.std.specs.Int.{int_min, int_lt}
+use Rattle.std.specs.Prelude.{ℤ, int_lt}
+use Rattle.std.specs.Int.{int_min}
 use Rattle.std.specs.Option.{option_map}
 use Rattle.map_base.specs.declared.ids.LineId.{LineId}
 use Rattle.least_orders.specs.OrderCosts.{PairCosts, order_cost}

@@ -1,0 +1,5 @@
+mod Walks
+mod Loads
+mod Rows
+mod PriceTests
+mod Values

@@ -1,0 +1,3 @@
+mod Tails
+mod Places
+mod Walking
