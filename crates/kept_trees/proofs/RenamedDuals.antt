@@ -20,7 +20,8 @@ use Rattle.order_model.proofs.Lines.{both_true, either_true}
 use Rattle.least_orders.specs.Arrangements.{kept_orders}
 use Rattle.least_orders.specs.LeastOrders.{least_value}
 use Rattle.order_search.specs.ByItself.{prices_by}
-use Rattle.dual_bound.specs.Settled.{SettledPair, settled_on, with_pair}
+use Rattle.dual_bound.specs.declared.settled.SettledPair.{SettledPair}
+use Rattle.dual_bound.specs.Settled.{settled_on, with_pair}
 use Rattle.dual_bound.specs.Shares.{thousand, where_so, x_of, z_of, term_share, share_of}
 use Rattle.dual_bound.specs.Values.{least_share, plus, value_of, allows, are_allowed}
 use Rattle.dual_bound.specs.Accepting.{most_lines, is_narrow, shows, is_stopped, is_fork, after_line, first_of, failing_below, steps_on, load_of, most_load, is_light, failing}
