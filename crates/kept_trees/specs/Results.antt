@@ -116,16 +116,19 @@ abbrev pub CostTarget : Bool → ℕ → ℕ → Type 0
 CostTarget true target cost = cost ≡ target
 CostTarget false target cost = Unit {0}
 
--- what comes of the part by definition is found. No orders of the part cost less than the target, and the tree shows so;
--- what was found are orders of its segments, which cost the target where the search is complete
-pub record IsResult (plan : SearchPlan) (p : ProblemParts) (part : List SegId) (f : FoundPart) : Type 0 where
-  pub found : part_outcome plan p part ≡ Ok (result_found f)
+-- what comes of the part is found. No orders of the part cost less than the target, and the tree shows so; what was found
+-- are orders of its segments, which cost the target where the search is complete
+pub record IsFound (outcome : Result PartResult SearchFault) (p : ProblemParts) (part : List SegId) (f : FoundPart) : Type 0 where
+  pub found : outcome ≡ Ok (result_found f)
   pub bound : IsLeast (part_in p part) f.target
   pub cost : ℕ
   pub attained : AreAttained (part_in p part) f.orders.lists cost
   pub costs : CostTarget f.complete f.target cost
   pub accepted : IsAccepted (question p.segs part (part_terms p.terms part) f.target) (plain_part_tree f.tree)
   pub of_proofs : IsPartTree (plain_part_tree f.tree)
+
+abbrev pub IsResult : SearchPlan → ProblemParts → List SegId → FoundPart → Type 0
+IsResult plan p part f = IsFound (part_outcome plan p part) p part f
 
 -- the fault is the one that comes by definition; want of memory is free
 abbrev pub IsFaultOf : Result PartResult SearchFault → SearchFault → Type 0

@@ -4,15 +4,16 @@ ghost use Rattle.std.specs.Prelude.{◌≡◌, ◌+◌, ◌<◌, ◌≤◌, ◌^
 ghost use Rattle.map_base.specs.declared.ids.SegId.{SegId as Seg};
 ghost use Rattle.order_model.specs.Problems.{IsProblem};
 ghost use Rattle.order_model.specs.Parts.{IsRisingPart};
-ghost use Rattle.order_search.specs.Finding.{places_of, IsSearchFault};
-ghost use Rattle.order_search.specs.FoundParts.{branches_in, IsFoundIn};
+ghost use Rattle.map_method.specs.declared.search.Search.TheVariants.{Dual};
+ghost use Rattle.dual_ascent.specs.DualResults.{dual_result};
+ghost use Rattle.order_search.specs.FoundParts.{branches_in};
 ghost use Rattle.kept_trees.specs.OwnTrees.{part_of_key, all_segments};
-ghost use Rattle.kept_trees.specs.Results.{part_outcome, branches_met, is_dual, IsResult, IsFaultOf};
+ghost use Rattle.kept_trees.specs.Results.{part_outcome, live_outcome, dual_outcome, dual_part, branches_met, is_dual, IsFound, IsResult, IsFaultOf};
 
 use crate::found_part::FoundPart;
 use crate::part_key::{PartKey, own_problem};
 use crate::plan::SearchPlan;
-use dual_search::is_in_reach;
+use dual_search::is_searched;
 use map_base::{NoMemory, SegId, Steps};
 use map_method::{Claim, Search};
 use order_model::Problem;
@@ -37,7 +38,7 @@ pub(crate) fn search_by_itself<L: Ledger>(
     ensures few_steps { IfErr result (λ _. steps.new ≤ steps.old + branches_met plan (part_of_key key.now) (all_segments (part_of_key key.now))) }
 {
     let problem = own_problem(alloc, key)?;
-    if plan.search == Search::Dual && is_in_reach(&problem) {
+    if plan.search == Search::Dual && is_searched(&problem) {
         return dual_found(alloc, &problem, plan, steps);
     }
     let part = all_segments(alloc, key)?;
@@ -55,8 +56,8 @@ fn live_found<L: Ledger>(
     requires known { All (λ (s : Seg). s.0 < length problem.now.segs) part.now }
     requires rising { IsRisingPart part.now }
     requires budget { budget + 1 < 2 ^ 32 }
-    ensures found { IfOk result (IsLiveResult budget problem.now part.now) }
-    ensures steps { IfOk result (λ f. steps.new ≡ steps.old + f.branches) }
+    ensures found { IfOk result (IsFound (live_outcome budget problem.now part.now) problem.now part.now) }
+    ensures steps { IfOk result (λ _. steps.new ≡ steps.old + branches_in problem.now part.now) }
     ensures fault { IfErr result (IsFaultOf (live_outcome budget problem.now part.now)) }
     ensures few_steps { IfErr result (λ _. steps.new ≤ steps.old + branches_in problem.now part.now) }
 {
@@ -77,6 +78,12 @@ fn dual_found<L: Ledger>(
     plan: SearchPlan,
     steps: &mut Steps<L>,
 ) -> Result<FoundPart, SearchFault>
+    requires reach { is_dual Dual problem.now (all_segments problem.now) ≡ true }
+    requires budget { plan.budget + 1 < 2 ^ 32 }
+    ensures found { IfOk result (IsFound (dual_outcome plan.claim plan.budget (dual_part plan.budget problem.now (all_segments problem.now))) problem.now (all_segments problem.now)) }
+    ensures steps { IfOk result (λ _. steps.new ≡ steps.old + (dual_result problem.now plan.budget).branches) }
+    ensures fault { IfErr result (IsFaultOf (dual_outcome plan.claim plan.budget (dual_part plan.budget problem.now (all_segments problem.now)))) }
+    ensures few_steps { IfErr result (λ _. steps.new ≤ steps.old + (dual_result problem.now plan.budget).branches) }
 {
     let found = dual_search::search(alloc, problem, plan.budget, steps)?;
     if !found.complete && plan.claim == Claim::Best {
