@@ -5,3 +5,5 @@ mod OwnNumbers
 mod FoundHere
 mod HeldParts
 pub mod HeldLists
+mod RenamedDuals
+mod OwnDuals

@@ -20,6 +20,7 @@ use Rattle.order_model.proofs.Lines.{both_true, either_true}
 use Rattle.least_orders.specs.Arrangements.{kept_orders}
 use Rattle.least_orders.specs.LeastOrders.{least_value}
 use Rattle.order_search.specs.ByItself.{prices_by}
+use Rattle.kept_trees.specs.Renumbered.{dual_by}
 use Rattle.dual_bound.specs.declared.settled.SettledPair.{SettledPair}
 use Rattle.dual_bound.specs.Settled.{settled_on, with_pair}
 use Rattle.dual_bound.specs.Shares.{thousand, where_so, x_of, z_of, term_share, share_of}
@@ -39,17 +40,12 @@ moved_term f (Apart seg other a b w) = Apart (f seg) (f other) a b w
 abbrev pub moved_terms : (SegId → SegId) → (ℕ → ℕ) → List Named → List Named
 moved_terms f g terms = map (λ (q : Named). (g q.0, moved_term f q.1)) terms
 
--- a dual tree with other numbers
-abbrev pub moved_dual : (SegId → SegId) → (ℕ → ℕ) → PlainDual → PlainDual
-moved_dual f g (fork s a b first second) = fork (f s) a b (moved_dual f g first) (moved_dual f g second)
-moved_dual f g (stop prices) = stop (prices_by g prices)
-
 -- settled pairs on other segments
 abbrev moved_pairs : (SegId → SegId) → List SettledPair → List SettledPair
 moved_pairs f settled = map (λ (p : SettledPair). record { seg = f p.seg; first = p.first; second = p.second }) settled
 
 -- a number that some term has
-abbrev has_number : List Named → ℕ → Bool
+abbrev pub has_number : List Named → ℕ → Bool
 has_number terms k = list_any (λ (q : Named). q.0 == k) terms
 
 -- the segments of a part, and the numbers of its terms, are told apart by their new numbers, and keep their lines
@@ -67,7 +63,7 @@ or_first : (b c : Bool) → b ≡ true → (b || c) ≡ true
 or_first true c h = refl
 or_first false c h = absurd (true≢false (sym h))
 
-both_so : (a b : Bool) → a ≡ true → b ≡ true → (a && b) ≡ true
+pub both_so : (a b : Bool) → a ≡ true → b ≡ true → (a && b) ≡ true
 both_so true b h g = g
 both_so false b h g = absurd (true≢false (sym h))
 
@@ -265,7 +261,7 @@ module _ (f : SegId → SegId) (g : ℕ → ℕ) (segs others : List (List LineI
     none_both a b o other e h = ap (λ (x : Option (List LineId)). first_of (after_line a x) (after_line b other)) e ∙ ap (after_line b) h
 
     none_below : (tree : PlainDual) (settled : List SettledPair) → AreSettledIn settled → failing_below Q settled tree ≡ None
-        → failing_below R (moved_pairs f settled) (moved_dual f g tree) ≡ None
+        → failing_below R (moved_pairs f settled) (dual_by f g tree) ≡ None
     none_below (stop prices) settled in_part h =
         let is = chosen (is_stopped Q settled prices) None h in
         taken (is_stopped R (moved_pairs f settled) (prices_by g prices)) None (stop_holds settled prices in_part is.0) refl
@@ -276,16 +272,16 @@ module _ (f : SegId → SegId) (g : ℕ → ℕ) (segs others : List (List LineI
         let on = fork_in s a b is.0 in
         let parts = none_of a one (after_line b two) is.1 in
         taken (is_fork R (f s) a b)
-        (first_of (after_line a (failing_below R (with_pair (f s) a b (moved_pairs f settled)) (moved_dual f g first))) (after_line b (failing_below R (with_pair (f s) b a (moved_pairs f settled)) (moved_dual f g second))))
+        (first_of (after_line a (failing_below R (with_pair (f s) a b (moved_pairs f settled)) (dual_by f g first))) (after_line b (failing_below R (with_pair (f s) b a (moved_pairs f settled)) (dual_by f g second))))
         (fork_holds s a b is.0)
-        (none_both a b (failing_below R (with_pair (f s) a b (moved_pairs f settled)) (moved_dual f g first)) (failing_below R (with_pair (f s) b a (moved_pairs f settled)) (moved_dual f g second))
+        (none_both a b (failing_below R (with_pair (f s) a b (moved_pairs f settled)) (dual_by f g first)) (failing_below R (with_pair (f s) b a (moved_pairs f settled)) (dual_by f g second))
         (none_below first (with_pair s a b settled) (on, in_part) parts.0)
         (none_below second (with_pair s b a settled) (on, in_part) (none_after b two parts.1)))
 
     -- the load stays
 
-    moved_stops : (tree : PlainDual) → stops_of (moved_dual f g tree) ≡ stops_of tree
-    moved_stops (fork s a b first second) = ap (λ (n : ℕ). n + stops_of (moved_dual f g second)) (moved_stops first) ∙ ap (λ (n : ℕ). stops_of first + n) (moved_stops second)
+    moved_stops : (tree : PlainDual) → stops_of (dual_by f g tree) ≡ stops_of tree
+    moved_stops (fork s a b first second) = ap (λ (n : ℕ). n + stops_of (dual_by f g second)) (moved_stops first) ∙ ap (λ (n : ℕ). stops_of first + n) (moved_stops second)
     moved_stops (stop prices) = refl
 
     moved_steps : (some : List SegId) → AreIn some → sum_by (steps_on others) (map f some) ≡ sum_by (steps_on segs) some
@@ -296,12 +292,12 @@ module _ (f : SegId → SegId) (g : ℕ → ℕ) (segs others : List (List LineI
         ∙ ap (λ (n : ℕ). steps_on segs s + n) (moved_steps some on.1)
         ∙ sym (sum_by-cons (steps_on segs) s some)
 
-    moved_light : (tree : PlainDual) → is_light R (moved_dual f g tree) ≡ is_light Q tree
+    moved_light : (tree : PlainDual) → is_light R (dual_by f g tree) ≡ is_light Q tree
     moved_light tree =
         ap (λ (n : ℕ). nat_le (n * load_of others (map f part)) most_load) (moved_stops tree)
         ∙ ap (λ (n : ℕ). nat_le (stops_of tree * ((n + 999999) / 1000000)) most_load) (moved_steps part all)
 
-    pub accepted_moved : (tree : PlainDual) → failing Q tree ≡ None → failing R (moved_dual f g tree) ≡ None
+    pub accepted_moved : (tree : PlainDual) → failing Q tree ≡ None → failing R (dual_by f g tree) ≡ None
     accepted_moved tree h =
         let is = chosen (is_light Q tree) (failing_below Q [] tree) h in
-        taken (is_light R (moved_dual f g tree)) (failing_below R [] (moved_dual f g tree)) (moved_light tree ∙ is.0) (none_below tree [] tt is.1)
+        taken (is_light R (dual_by f g tree)) (failing_below R [] (dual_by f g tree)) (moved_light tree ∙ is.0) (none_below tree [] tt is.1)

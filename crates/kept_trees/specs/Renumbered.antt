@@ -11,11 +11,14 @@ use Rattle.order_search.specs.ByItself.{seg_from, number_from, prices_by, renumb
 abbrev pub renumbered_case : List SegId → List ℕ → LineId × Tree → LineId × PlainTree
 renumbered_case part numbers c = (c.0, renumbered part numbers (plain c.1))
 
+-- a dual tree whose segments and terms have other numbers
+abbrev pub dual_by : (SegId → SegId) → (ℕ → ℕ) → PlainDual → PlainDual
+dual_by seg number (fork s a b first second) = fork (seg s) a b (dual_by seg number first) (dual_by seg number second)
+dual_by seg number (stop prices) = stop (prices_by number prices)
+
 -- a dual tree, with the numbers of the problem
 abbrev pub renumbered_dual : List SegId → List ℕ → PlainDual → PlainDual
-renumbered_dual part numbers (fork s a b first second) =
-    fork (seg_from part s) a b (renumbered_dual part numbers first) (renumbered_dual part numbers second)
-renumbered_dual part numbers (stop prices) = stop (prices_by (number_from numbers) prices)
+renumbered_dual part numbers tree = dual_by (seg_from part) (number_from numbers) tree
 
 -- the tree is a dual tree
 abbrev pub is_by_pairs : PlainPartTree → Bool

@@ -12,7 +12,7 @@ use Rattle.order_model.specs.declared.term.Term.{Term}
 use Rattle.order_model.specs.declared.term.Term.TheVariants.{Side, Link, Apart}
 use Rattle.order_model.specs.declared.problem.ProblemParts.{ProblemParts}
 use Rattle.order_values.specs.declared.rule.Rule.{Rule}
-use Rattle.order_model.specs.Costs.{weight_of, is_met, term_cost, cost_of, AreOrders}
+use Rattle.order_model.specs.Costs.{weight_of, is_met, term_cost, cost_of, AreOrders, AreBest}
 use Rattle.order_model.specs.Parts.{AreParts}
 use Rattle.order_proof.specs.declared.proof.Part.{Part}
 use Rattle.order_proof.specs.Plain.{PlainPartTree, by_cases, by_pairs, PlainPart, PlainProof, close, plain_part_tree, plain_part}
@@ -36,7 +36,7 @@ use Rattle.order_check.specs.declared.refusal.ProofItem.{ProofItem}
 use Rattle.order_check.specs.declared.refusal.ProofItem.TheVariants as item
 use Rattle.order_check.specs.declared.refusal.ProofStop.{ProofStop}
 use Rattle.order_check.specs.declared.refusal.ProofStop.TheVariants as stop
-use Rattle.order_check.specs.Verdict.{are_same, first_item, failing, tree_refusal, part_refusal, first_part, targets, total_refusal, rule_refusal, bound_refusal, IsCause}
+use Rattle.order_check.specs.Verdict.{are_same, first_item, failing, tree_refusal, part_refusal, first_part, targets, total_refusal, rule_refusal, bound_refusal, verdict, IsCause}
 use Rattle.order_check.specs.LowerBounds.{IsLowerBound}
 use Rattle.order_check.proofs.RuleTurns.{all_apply}
 
@@ -195,6 +195,24 @@ total_some proofs bound cost sums differ = ap (λ (b : Bool). cond b None (Some 
     by : (b : Bool) → (targets proofs == cost) ≡ b → b ≡ false
     by false e = refl
     by true e = absurd (differ (sums ∙ eqb-true (targets proofs) cost e))
+
+-- the verdict, once the rules and the parts are accepted
+pub verdict_total : (p : ProblemParts) (orders : List (List LineId)) (proof : PlainProof) (bound cost : ℕ) → bound_refusal p proof ≡ None → bound ≡ targets proof.parts
+    → cost ≡ cost_of p.terms orders → bound ≢ cost → verdict p orders proof ≡ Some item.Total
+verdict_total p orders proof bound cost none sums costs differ =
+    ap (λ (o : Option ProofItem). first_item o (total_refusal proof.parts (cost_of p.terms orders))) none
+    ∙ total_some proof.parts bound (cost_of p.terms orders) sums (λ same. differ (same ∙ sym costs))
+
+pub verdict_none : (p : ProblemParts) (orders : List (List LineId)) (proof : PlainProof) (bound cost : ℕ) → bound_refusal p proof ≡ None → bound ≡ targets proof.parts
+    → cost ≡ cost_of p.terms orders → bound ≡ cost → verdict p orders proof ≡ None
+verdict_none p orders proof bound cost none sums costs same =
+    ap (λ (o : Option ProofItem). first_item o (total_refusal proof.parts (cost_of p.terms orders))) none
+    ∙ total_none proof.parts bound (cost_of p.terms orders) sums (same ∙ costs)
+
+-- orders that cost what no orders cost less than are best
+pub best_where_attained : (segs : List (List LineId)) (terms : List Term) (orders : List (List LineId)) (bound cost : ℕ) → IsLowerBound segs terms bound → bound ≡ cost → cost ≡ cost_of terms orders
+    → AreBest segs terms orders
+best_where_attained segs terms orders bound cost least same costs others are = omega (arith, least others are, same, costs)
 
 -- What the targets sum to fits a number of 64 bits.
 
