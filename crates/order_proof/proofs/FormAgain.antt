@@ -42,7 +42,7 @@ price_again most (pos zero) is = absurd (omega (arith, is.0))
 price_again most (pos (suc n)) is = ap (option_map pos) (up_to_within most (suc n) is.1)
 price_again most (negsuc n) is = ap (λ (b : Bool). cond b (Some (negsuc n)) None) (lt-ltb n most is)
 
-prices_again : (most least : ℕ) (ps : List (ℕ × ℤ)) → ArePrices most least ps → prices_from most least (price_numbers ps) ≡ Some ps
+pub prices_again : (most least : ℕ) (ps : List (ℕ × ℤ)) → ArePrices most least ps → prices_from most least (price_numbers ps) ≡ Some ps
 prices_again most least [] are = refl
 prices_again most least (p ∷ rest) are =
     let first : priced_term most least (pos p.0) p.1 ≡ Some p =
@@ -124,7 +124,7 @@ prices_few : (most least : ℕ) (ps : List (ℕ × ℤ)) → ArePrices most leas
 prices_few most least [] are low = omega arith
 prices_few most least (p ∷ rest) are low = omega (arith, are.0, prices_few most (suc p.0) rest are.3 (omega (arith, are.1)))
 
-prices_line_few : (most : ℕ) (word : LineWord) (ps : List (ℕ × ℤ)) → most ≤ most_stop_price → ArePrices most 0 ps → AreNumbers (prices_line word ps).numbers
+pub prices_line_few : (most : ℕ) (word : LineWord) (ps : List (ℕ × ℤ)) → most ≤ most_stop_price → ArePrices most 0 ps → AreNumbers (prices_line word ps).numbers
 prices_line_few most word ps low are = (omega (arith, prices_few most 0 ps are (omega arith)), price_numbers_few most 0 ps low are)
 
 bit_few : (b : Bool) → bit b ≤ 1
