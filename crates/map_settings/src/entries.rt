@@ -7,8 +7,8 @@ ghost use Rattle.map_settings.specs.Entries.{change_of, is_of_method, method_cha
 
 use crate::fault::EntryFault;
 use crate::values::{
-    budget_of, cell_of, claim_of, finest_of, importance_of, moves_of, near_of, search_of, spread_of,
-    types_of, weights_of,
+    budget_of, cell_of, claim_of, finest_of, importance_of, moves_of, near_of, search_of,
+    spread_of, types_of, weights_of,
 };
 use map_base::Settings;
 use map_method::{MapSettings, Method};

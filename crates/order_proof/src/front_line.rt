@@ -54,7 +54,10 @@ pub(crate) fn front_line<'a>(
 }
 
 /// The word of the line at the front. Its numbers replace those in `numbers`.
-pub(crate) fn read_line<'a>(text: &'a [u8], numbers: &mut Vec<i64>) -> Result<(LineWord, &'a [u8]), Stop>
+pub(crate) fn read_line<'a>(
+    text: &'a [u8],
+    numbers: &mut Vec<i64>,
+) -> Result<(LineWord, &'a [u8]), Stop>
     ensures { IsRead (λ x. (record { word = x.0; numbers = numbers.new.items }, x.1.now)) result text.now (front_line text.now) }
 {
     match front_line(text, numbers)? {
