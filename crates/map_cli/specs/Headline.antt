@@ -32,7 +32,7 @@ pub record IsMapWritten (told : Option (List (List ℕ × List ℕ))) (asked : A
   pub loads : Loads told (inputs_of asked) loaded
   pub made : MapBytes
   pub defined : make_outcome loaded.tables loaded.settings loaded.method ≡ Ok made
-  pub is_made : IsMade loaded.tables loaded.settings made
+  pub is_made : IsMade loaded.tables loaded.settings loaded.method.claim made
   pub map : held_by (Path paths.picture) new ≡ Some made.svg
   pub certificate : held_by (Path paths.certificate) new ≡ Some made.certificate
 
@@ -73,7 +73,7 @@ pub record IsLabelledMapWritten (told : Option (List (List ℕ × List ℕ))) (a
   pub certificate : List ℕ
   pub lies : IfSome told (λ files. file_at files path ≡ Some certificate)
   pub map : List ℕ
-  pub is_labelled : IsLabelledMap loaded.tables loaded.settings map certificate
+  pub is_labelled : IsLabelledMap loaded.tables loaded.settings loaded.method.claim map certificate
   pub holds : held_by (Path out) new ≡ Some map
 
 -- A script was followed to its end, and its draws are written: each has the bytes of a fresh map with the edits that stand
