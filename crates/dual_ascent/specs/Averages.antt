@@ -1,5 +1,5 @@
 -- How lines stood in the orders of the rounds, on the average, and the orders that come nearest to it.
-use Rattle.std.specs.Prelude.{ℕ, ◌+◌, ◌-◌, ◌/◌, Bool, List, [], ◌∷◌, ◌++◌, map, min, if◌then◌else◌, Option, slice_index_or, unwrap_or}
+use Rattle.std.specs.Prelude.{ℕ, ◌+◌, ◌-◌, ◌/◌, Bool, List, [], ◌∷◌, ◌++◌, map, min, if◌then◌else◌, slice_index_or, unwrap_or}
 use Rattle.std.specs.Prelude.{ℤ, pos, ◌+ℤ◌, ◌-ℤ◌}
 use Rattle.map_base.specs.declared.ids.SegId.{SegId}
 use Rattle.map_base.specs.declared.ids.LineId.{LineId}
@@ -9,7 +9,8 @@ use Rattle.order_model.specs.Costs.{comes_before, are_neighbours}
 use Rattle.whole_algebra.specs.Sums.{int_sum}
 use Rattle.least_orders.specs.Arrangements.{kept_orders}
 use Rattle.least_orders.specs.LeastOrders.{first_least}
-use Rattle.dual_bound.specs.Settled.{SettledPair, settled_on}
+use Rattle.dual_bound.specs.declared.settled.SettledPair.{SettledPair}
+use Rattle.dual_bound.specs.Settled.{settled_on}
 use Rattle.dual_bound.specs.Shares.{where_so}
 use Rattle.dual_ascent.specs.declared.pair_average.PairAverage.{PairAverage}
 use Rattle.dual_ascent.specs.OwnNumbers.{all_segments}
@@ -43,7 +44,7 @@ span round = min round 32
 abbrev pub with_order : ℕ → List LineId → PairAverage → PairAverage
 with_order round order x = record x {
   swapped = averaged (span round) (comes_before order x.greater x.lesser) x.swapped;
-  beside = averaged (span round) (are_neighbours order x.lesser x.greater) x.beside
+  beside = averaged (span round) (are_neighbours order x.lesser x.greater) x.beside;
 }
 
 -- the averages of a segment among these

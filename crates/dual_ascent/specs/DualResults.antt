@@ -1,10 +1,10 @@
 -- What the search by dual prices finds in a part by itself.
-use Rattle.std.specs.Prelude.{ℕ, ℤ, pos, negsuc, ◌+◌, ◌/◌, Bool, true, false, List, [], if◌then◌else◌, Some}
+use Rattle.std.specs.Prelude.{ℕ, ℤ, pos, negsuc, ◌+◌, ◌/◌, nat_le, Bool, true, false, ◌&&◌, List, [], if◌then◌else◌, Some}
 use Rattle.map_base.specs.declared.ids.LineId.{LineId}
 use Rattle.order_values.specs.DualTrees.{PlainDual, fork, stop}
 use Rattle.order_model.specs.declared.problem.ProblemParts.{ProblemParts}
-use Rattle.dual_bound.specs.Accepting.{shows}
-use Rattle.dual_ascent.specs.OwnNumbers.{zeros, listed}
+use Rattle.dual_bound.specs.Accepting.{shows, is_narrow, load_of, most_load}
+use Rattle.dual_ascent.specs.OwnNumbers.{all_segments, zeros, listed}
 use Rattle.dual_ascent.specs.LocalSearch.{first_incumbent}
 use Rattle.dual_ascent.specs.Rounds.{Search, LowerBound, Ascent, Stage, going, over, spent, ascended}
 use Rattle.dual_ascent.specs.Walks.{WalkedTree, forked, stopped, Progress, Walked, whole, cut, walked}
@@ -19,6 +19,10 @@ collapsed target (stopped prices) = stop prices
 abbrev pub rounded_up : ℤ → ℕ
 rounded_up (pos n) = (n + 999) / 1000
 rounded_up (negsuc n) = 0
+
+-- the part can be searched: no segment is too wide, and its load is within what a check takes
+abbrev pub is_in_reach : ProblemParts → Bool
+is_in_reach p = is_narrow p.segs (all_segments p) && nat_le (load_of p.segs (all_segments p)) most_load
 
 -- what a search finds. Where it is complete, the target is the least cost, and that of the orders. Where it was spent, the
 -- target is a lower bound, and the orders are the best that were met. The tree shows the target; the branch nodes are those

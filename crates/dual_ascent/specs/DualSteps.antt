@@ -1,5 +1,5 @@
 -- The orders that answer prices, the value that they have, and how prices and their directions go on from round to round.
-use Rattle.std.specs.Prelude.{ℕ, ◌+◌, ◌*◌, ◌==◌, Bool, ◌&&◌, ◌||◌, List, [], map, sum_by, if◌then◌else◌, unsigned_abs, unwrap_or}
+use Rattle.std.specs.Prelude.{ℕ, ◌*◌, ◌==◌, Bool, ◌&&◌, ◌||◌, List, map, sum_by, if◌then◌else◌, unsigned_abs, unwrap_or}
 use Rattle.std.specs.Prelude.{ℤ, pos, neg_ℤ, ◌+ℤ◌, ◌-ℤ◌, ◌*ℤ◌, int_div, int_lt, int_le}
 use Rattle.std.specs.Int.{int_min, int_max}
 use Rattle.std.specs.List.{list_all}
@@ -13,7 +13,8 @@ use Rattle.order_model.specs.Problems.{lines_on}
 use Rattle.order_model.specs.Costs.{are_neighbours}
 use Rattle.least_orders.specs.Arrangements.{kept_orders}
 use Rattle.least_orders.specs.LeastOrders.{first_least}
-use Rattle.dual_bound.specs.Settled.{SettledPair, settled_on}
+use Rattle.dual_bound.specs.declared.settled.SettledPair.{SettledPair}
+use Rattle.dual_bound.specs.Settled.{settled_on}
 use Rattle.dual_bound.specs.Shares.{thousand, where_so, x_of, z_of, share_of}
 use Rattle.dual_ascent.specs.OwnNumbers.{all_segments, all_terms, number_of}
 

@@ -6,3 +6,4 @@ pub mod Rounds
 pub mod OpenPairs
 pub mod Walks
 pub mod DualResults
+pub mod Shown

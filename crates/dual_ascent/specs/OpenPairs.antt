@@ -1,6 +1,6 @@
 -- The pairs of lines that are not settled at a node, and which of them is settled next.
-use Rattle.std.specs.Prelude.{ℕ, zero, suc, ◌+◌, ◌-◌, ◌*◌, ◌==◌, nat_lt, Bool, false, ◌&&◌, ◌||◌, not, List, [], length, map, filter, min, sum_by, flat_map, if◌then◌else◌, Option}
-use Rattle.std.specs.Prelude.{ℤ, pos, neg_ℤ}
+use Rattle.std.specs.Prelude.{ℕ, zero, suc, ◌+◌, ◌-◌, ◌*◌, ◌==◌, nat_lt, Bool, false, ◌&&◌, ◌||◌, not, List, length, map, filter, min, sum_by, flat_map, if◌then◌else◌, Option}
+use Rattle.std.specs.Prelude.{pos, neg_ℤ}
 use Rattle.std.specs.List.{list_any}
 use Rattle.map_base.specs.declared.ids.SegId.{SegId}
 use Rattle.map_base.specs.declared.ids.LineId.{LineId}
@@ -8,7 +8,8 @@ use Rattle.order_model.specs.declared.term.Term.{Term}
 use Rattle.order_model.specs.declared.term.Term.TheVariants.{Side, Link, Apart}
 use Rattle.order_model.specs.declared.problem.ProblemParts.{ProblemParts}
 use Rattle.least_orders.specs.LeastOrders.{first_least}
-use Rattle.dual_bound.specs.Settled.{SettledPair, settled_on}
+use Rattle.dual_bound.specs.declared.settled.SettledPair.{SettledPair}
+use Rattle.dual_bound.specs.Settled.{settled_on}
 use Rattle.dual_ascent.specs.OwnNumbers.{all_segments}
 use Rattle.dual_ascent.specs.declared.pair_average.PairAverage.{PairAverage}
 use Rattle.dual_ascent.specs.Averages.{always, averages_on}

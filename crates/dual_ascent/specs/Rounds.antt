@@ -2,7 +2,7 @@
 use Rattle.std.specs.Prelude.{ℕ, zero, suc, ℤ, pos, ◌+◌, ◌*◌, ◌/◌, ◌%◌, ◌==◌, nat_lt, int_lt, Bool, ◌||◌, List, if◌then◌else◌, Some}
 use Rattle.map_base.specs.declared.ids.LineId.{LineId}
 use Rattle.order_model.specs.declared.problem.ProblemParts.{ProblemParts}
-use Rattle.dual_bound.specs.Settled.{SettledPair}
+use Rattle.dual_bound.specs.declared.settled.SettledPair.{SettledPair}
 use Rattle.dual_bound.specs.Accepting.{shows, load_of}
 use Rattle.dual_ascent.specs.OwnNumbers.{all_segments, zeros}
 use Rattle.dual_ascent.specs.LocalSearch.{Incumbent, after_offer}

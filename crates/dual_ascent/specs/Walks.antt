@@ -6,7 +6,8 @@ use Rattle.order_model.specs.declared.term.Term.{Term}
 use Rattle.order_model.specs.declared.problem.ProblemParts.{ProblemParts}
 use Rattle.order_model.specs.Problems.{lines_on}
 use Rattle.least_orders.specs.Arrangements.{kept_orders}
-use Rattle.dual_bound.specs.Settled.{SettledPair, settled_on, with_pair}
+use Rattle.dual_bound.specs.declared.settled.SettledPair.{SettledPair}
+use Rattle.dual_bound.specs.Settled.{settled_on, with_pair}
 use Rattle.dual_ascent.specs.OwnNumbers.{all_segments, listed}
 use Rattle.dual_ascent.specs.LocalSearch.{Incumbent, after_offer}
 use Rattle.dual_ascent.specs.DualSteps.{most_price, subgradient}

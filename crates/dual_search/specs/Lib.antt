@@ -1,3 +1,4 @@
 pub mod Tables
 pub mod Ranges
 pub mod Parts
+pub mod Finding

@@ -1,7 +1,7 @@
 //! The rounds of a node.
 
 use crate::averages::{add_distances, average_in, no_averages};
-use crate::cost_rows::zeros;
+use crate::cost_rows::{SolvedRows, zeros};
 use crate::directions::{direct, gap_of, square_sum, step_prices};
 use crate::line_order::{LineOrder, copy_orders, orders_of};
 use crate::local_search::{Incumbent, Solver, offer, take_solved};
@@ -37,6 +37,7 @@ pub(crate) struct Ascent {
     pub(crate) kept: Vec<i64>,
     pub(crate) orders: Vec<LineOrder>,
     pub(crate) ahead: Vec<Vec<u32>>,
+    pub(crate) solved: Vec<SolvedRows>,
 }
 
 /// The greatest value of a node's rounds, and the prices that have it.
@@ -84,7 +85,17 @@ pub(crate) fn first_ascent(
         kept: Vec::from_slice(alloc, prices)?,
         orders: orders_of(alloc, segs)?,
         ahead,
+        solved: none_solved(alloc, part)?,
     })
+}
+
+/// No segment is solved yet.
+fn none_solved(alloc: Global, part: &Part) -> Result<Vec<SolvedRows>, NoMemory> {
+    let mut solved = Vec::with_capacity(alloc, part.len())?;
+    for s in 0..part.len() {
+        solved.push(SolvedRows::none(alloc, part.width(s))?)?;
+    }
+    Ok(solved)
 }
 
 /// Whether a value shows that no orders cost less than the target.
@@ -141,18 +152,25 @@ fn count_round<L: Ledger>(search: &mut Search, ascent: &mut Ascent, steps: &mut 
 
 /// The orders that answer the prices, each of least share; their value is the sum of the shares.
 fn answer(part: &Part, solver: &mut Solver, ascent: &mut Ascent) -> i64 {
-    let segs = part.problem.segs();
     let mut value: i64 = 0;
-    for s in 0..segs.len() {
-        let lines = segs[s].as_slice();
-        solver.rows.clear(ascent.ahead[s].as_slice());
-        add_shares(part, s, ascent.prices.as_slice(), &mut solver.rows);
-        if let Some(share) = solver.solve(lines) {
-            value += share;
-        }
-        take_solved(solver, s, lines.len(), ascent.orders.as_mut_slice());
+    for s in 0..part.len() {
+        value += answer_on(part, solver, s, ascent);
     }
     value
+}
+
+/// The share of the order with which a segment answers the prices. Where its costs are those of the last round, so is the order.
+fn answer_on(part: &Part, solver: &mut Solver, s: usize, ascent: &mut Ascent) -> i64 {
+    let lines = part.problem.segs()[s].as_slice();
+    solver.rows.clear(ascent.ahead[s].as_slice());
+    add_shares(part, s, ascent.prices.as_slice(), &mut solver.rows);
+    if let Some(share) = ascent.solved[s].share_of(&solver.rows) {
+        return share;
+    }
+    let share = solver.solve(lines);
+    ascent.solved[s].keep(&solver.rows, share);
+    take_solved(solver, s, lines.len(), ascent.orders.as_mut_slice());
+    share
 }
 
 /// The averages take the orders, and a value that is greater than in all rounds before is kept with its prices.

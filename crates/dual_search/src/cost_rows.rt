@@ -2,6 +2,7 @@
 
 use map_base::NoMemory;
 use std::alloc::Global;
+use subset_program::PairRows;
 
 /// What each two of `count` lines cost, by their places: at `i * count + j` what lines i and j cost where i stands before j,
 /// and what they cost besides where it stands right before it; and for each line the set of those that have to stand before
@@ -25,6 +26,16 @@ impl CostRows {
         })
     }
 
+    /// The rows, as the program takes them.
+    pub(crate) fn as_pairs(&self) -> PairRows<'_> {
+        PairRows {
+            count: self.count,
+            before: self.before.as_slice(),
+            beside: self.beside.as_slice(),
+            ahead: self.ahead.as_slice(),
+        }
+    }
+
     /// So many lines cost nothing, and these have to stand before each.
     pub(crate) fn clear(&mut self, ahead: &[u32]) {
         self.count = ahead.len();
@@ -36,6 +47,27 @@ impl CostRows {
         for k in 0..count {
             self.ahead[k] = ahead[k];
         }
+    }
+
+    /// What the lines cost in their order.
+    pub(crate) fn rising_cost(&self) -> i64 {
+        let mut total: i64 = 0;
+        for i in 0..self.count {
+            total += self.cost_behind(i);
+        }
+        total
+    }
+
+    /// What a line costs with all behind it, in their order, and with its right neighbour.
+    fn cost_behind(&self, i: usize) -> i64 {
+        let mut total: i64 = 0;
+        for j in i + 1..self.count {
+            total += self.before[i * self.count + j];
+        }
+        if i + 1 < self.count {
+            total += self.beside[i * self.count + i + 1];
+        }
+        total
     }
 
     /// Line i before line j costs so much more.
@@ -66,4 +98,46 @@ pub(crate) fn no_sets(alloc: Global, count: usize) -> Result<Vec<u32>, NoMemory>
         sets.push(0)?;
     }
     Ok(sets)
+}
+
+/// The rows of costs under which a segment was solved last, and what came of it.
+#[derive(Drop)]
+pub(crate) struct SolvedRows {
+    known: bool,
+    before: Vec<i64>,
+    beside: Vec<i64>,
+    share: i64,
+}
+
+impl SolvedRows {
+    /// Not solved yet, with room for so many lines.
+    pub(crate) fn none(alloc: Global, width: usize) -> Result<SolvedRows, NoMemory> {
+        Ok(SolvedRows {
+            known: false,
+            before: zeros(alloc, width * width)?,
+            beside: zeros(alloc, width * width)?,
+            share: 0,
+        })
+    }
+
+    /// What came of these rows, if they are those that were solved last.
+    pub(crate) fn share_of(&self, rows: &CostRows) -> Option<i64> {
+        let count = rows.count * rows.count;
+        if !self.known || rows.before[0..count] != self.before[0..count] {
+            return None;
+        }
+        if rows.beside[0..count] != self.beside[0..count] {
+            return None;
+        }
+        Some(self.share)
+    }
+
+    /// These rows were solved.
+    pub(crate) fn keep(&mut self, rows: &CostRows, share: i64) {
+        let count = rows.count * rows.count;
+        self.before[0..count].copy_from_slice(&rows.before[0..count]);
+        self.beside[0..count].copy_from_slice(&rows.beside[0..count]);
+        self.share = share;
+        self.known = true;
+    }
 }

@@ -10,7 +10,6 @@ mod averages;
 mod cost_rows;
 mod directions;
 mod found;
-mod least_order;
 mod line_order;
 mod local_search;
 mod node;
@@ -22,4 +21,4 @@ mod shares;
 mod walk;
 
 pub use found::DualFound;
-pub use part_search::{is_searched, search};
+pub use part_search::{is_in_reach, search};

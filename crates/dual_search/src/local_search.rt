@@ -1,13 +1,13 @@
 //! Orders that are met, and the local search from them.
 
 use crate::cost_rows::{CostRows, no_sets};
-use crate::least_order::OrderProgram;
 use crate::line_order::{LineOrder, copy_orders, orders_of, set_order};
 use crate::order_costs::{cost_of, cost_on};
 use crate::part::Part;
 use crate::shares::add_costs_beside;
 use map_base::{LineId, NoMemory};
 use std::alloc::Global;
+use subset_program::SubsetProgram;
 
 /// The best orders that were met, with what they cost.
 #[derive(Drop)]
@@ -20,7 +20,7 @@ pub(crate) struct Incumbent {
 #[derive(Drop)]
 pub(crate) struct Solver {
     pub(crate) rows: CostRows,
-    pub(crate) program: OrderProgram,
+    pub(crate) program: SubsetProgram,
     pub(crate) places: Vec<u32>,
     pub(crate) order: Vec<LineId>,
     pub(crate) free: Vec<u32>,
@@ -35,24 +35,35 @@ impl Solver {
         }
         Ok(Solver {
             rows: CostRows::for_lines(alloc, widest)?,
-            program: OrderProgram::for_lines(alloc, widest)?,
+            program: SubsetProgram::new(alloc, widest)?,
             places: no_sets(alloc, widest)?,
             order,
             free: no_sets(alloc, widest)?,
         })
     }
 
-    /// The least cost under the rows; the least order of these lines is written, the lines in their order where none keeps
-    /// the pairs.
-    pub(crate) fn solve(&mut self, lines: &[LineId]) -> Option<i64> {
-        let least = self
-            .program
-            .least_order(&self.rows, self.places.as_mut_slice());
-        for i in 0..lines.len() {
-            let place = if least.is_some() { self.places[i] as usize } else { i };
-            self.order[i] = lines[place];
+    /// The least order of these lines under the rows is written, the lines in their order where none keeps the pairs. What it
+    /// costs.
+    pub(crate) fn solve(&mut self, lines: &[LineId]) -> i64 {
+        let places = &mut self.places[0..lines.len()];
+        let least = self.program.least_order(&self.rows.as_pairs(), places);
+        match least {
+            Some(cost) => {
+                self.take_places(lines);
+                cost
+            }
+            None => {
+                self.order[0..lines.len()].copy_from_slice(lines);
+                self.rows.rising_cost()
+            }
         }
-        least
+    }
+
+    /// The lines at the places of the least order.
+    fn take_places(&mut self, lines: &[LineId]) {
+        for i in 0..lines.len() {
+            self.order[i] = lines[self.places[i] as usize];
+        }
     }
 }
 

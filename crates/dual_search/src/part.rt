@@ -92,7 +92,7 @@ fn load_of(problem: &Problem) -> u32
 }
 
 /// The steps that the least share of a segment of so many lines takes.
-fn steps_on(count: usize) -> u64
+pub(crate) fn steps_on(count: usize) -> u64
     requires { count ≤ 16 }
     ensures value { result ≡ count * count * 2 ^ count }
     ensures most { result ≤ 16777216 }

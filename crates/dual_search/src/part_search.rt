@@ -1,14 +1,20 @@
 //! The search over a part by itself.
 
+ghost use Rattle.std.specs.Prelude.{◌≡◌, ◌+◌, ◌*◌, ◌^◌, ◌<◌, ◌≤◌, true, length, IfOk, IfErr};
+ghost use Rattle.dual_bound.specs.Accepting.{most_load};
+ghost use Rattle.dual_ascent.specs.DualResults.{is_in_reach, dual_result};
+ghost use Rattle.dual_ascent.specs.Shown.{IsShown};
+ghost use Rattle.dual_search.specs.Finding.{result_found};
+
+use crate::cost_rows::zeros;
 use crate::ascent::{LowerBound, Search, ascend, first_ascent};
 use crate::found::DualFound;
 use crate::line_order::{LineOrder, orders_of};
 use crate::local_search::{Solver, first_incumbent};
 use crate::node::sets_ahead;
-use crate::part::Part;
+use crate::part::{Part, steps_on};
 use crate::walk::{NodeEnd, WalkedTree, collapsed, fork, listed, node_end};
 use map_base::{LineId, NoMemory, Sequence, Steps};
-use crate::cost_rows::zeros;
 use order_model::{Orders, Problem};
 use order_values::DualTree;
 use std::alloc::Global;
@@ -26,34 +32,43 @@ const MOST_FORKS: u32 = 2048;
 /// How many rounds the root may have.
 const ROOT_ROUNDS: u32 = 1000;
 
-/// Whether the segments are narrow and few enough: none has more than 16 lines, and a millionth of the steps that the least
-/// shares of all segments take is at most 100,000.
-pub fn is_searched(problem: &Problem) -> bool {
-    let mut total: u64 = 0;
+/// Whether a part by itself can be searched: no segment has more than 16 lines, and its load is at most 100,000, a millionth
+/// of the steps that the least shares of all segments take.
+pub fn is_in_reach(problem: &Problem) -> bool
+    ensures { result ≡ is_in_reach problem.now }
+{
+    let mut left: u64 = MOST_LOAD * 1_000_000;
     for lines in problem.segs() {
         let count = lines.as_slice().len();
         if count > MOST_LINES {
             return false;
         }
-        total += steps_on(count);
+        let steps = steps_on(count);
+        if steps > left {
+            return false;
+        }
+        left -= steps;
     }
-    total <= MOST_LOAD * 1_000_000
+    true
 }
 
-/// The steps that the least share of a segment of so many lines takes.
-fn steps_on(count: usize) -> u64 {
-    let lines = count as u64;
-    lines * lines * (1_u64 << lines)
-}
-
-/// The search for orders of a part by itself, all segments and terms of the problem, within a budget of branch nodes. Each
-/// round counts as many as the part's load, and takes as many steps of the counter. Only want of memory is refused.
+/// The search for orders of a part by itself, all segments and terms of the problem, within a budget of branch nodes: what
+/// `dual_ascent` defines. Each round counts as many as the part's load, and takes as many steps of the counter. A search that
+/// can't come to its end within the budget is no refusal: the bound of its root is found then. Only want of memory is refused.
 pub fn search<L: Ledger>(
     alloc: Global,
     problem: &Problem,
     budget: u32,
     steps: &mut Steps<L>,
-) -> Result<DualFound, NoMemory> {
+) -> Result<DualFound, NoMemory>
+    requires some { 0 < length problem.now.segs }
+    requires reach { is_in_reach problem.now ≡ true }
+    requires budget { budget ≤ most_load }
+    ensures found { IfOk result (λ f. result_found f ≡ dual_result problem.now budget) }
+    ensures shown { IfOk result (λ f. IsShown problem.now budget (result_found f)) }
+    ensures steps { IfOk result (λ f. steps.new ≡ steps.old + f.branches) }
+    ensures few_steps { IfErr result (λ _. steps.new ≤ steps.old + (dual_result problem.now budget).branches) }
+{
     let mut search = begin(alloc, problem, budget)?;
     let mut settled = Vec::new(alloc);
     let ahead = sets_ahead(alloc, &search.part, settled.as_slice())?;

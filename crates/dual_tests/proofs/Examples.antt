@@ -95,35 +95,3 @@ case4 : dual_result case4_part 1000 ≡ record {
 }
 case4 = refl
 
--- 2 segments, 5 terms, 306 rounds
-abbrev case5_part : ProblemParts
-case5_part = record {
-  segs = (line 0 ∷ line 1 ∷ line 2 ∷ line 3 ∷ []) ∷ (line 0 ∷ line 1 ∷ line 2 ∷ []) ∷ [];
-  terms = (Link (seg 0) (seg 1) false (line 1) (line 2) 1) ∷ (Link (seg 0) (seg 1) true (line 1) (line 2) 3) ∷ (Link (seg 0) (seg 1) false (line 0) (line 1) 1) ∷ (Side (seg 1) (line 2) (line 0) 1) ∷ (Apart (seg 0) (seg 1) (line 0) (line 2) 2) ∷ [];
-}
-
-case5 : dual_result case5_part 1000 ≡ record {
-  complete = true;
-  target = 1;
-  tree = fork (seg 1) (line 1) (line 2) (stop ((1, pos 333) ∷ (2, pos 333) ∷ (4, pos 333) ∷ [])) (stop ((0, pos 814) ∷ (1, negsuc 358) ∷ (2, pos 359) ∷ (4, pos 456) ∷ []));
-  orders = (line 1 ∷ line 0 ∷ line 3 ∷ line 2 ∷ []) ∷ (line 2 ∷ line 1 ∷ line 0 ∷ []) ∷ [];
-  branches = 306;
-}
-case5 = refl
-
--- 2 segments, 5 terms, 715 rounds
-abbrev case6_part : ProblemParts
-case6_part = record {
-  segs = (line 0 ∷ line 1 ∷ line 2 ∷ []) ∷ (line 0 ∷ line 1 ∷ line 2 ∷ []) ∷ [];
-  terms = (Apart (seg 0) (seg 1) (line 1) (line 2) 1) ∷ (Link (seg 0) (seg 1) false (line 1) (line 2) 1) ∷ (Apart (seg 0) (seg 1) (line 0) (line 2) 1) ∷ (Link (seg 0) (seg 1) true (line 0) (line 1) 1) ∷ (Apart (seg 0) (seg 1) (line 1) (line 2) 1) ∷ [];
-}
-
-case6 : dual_result case6_part 1000 ≡ record {
-  complete = true;
-  target = 1;
-  tree = fork (seg 0) (line 1) (line 0) (fork (seg 0) (line 1) (line 2) (stop ((0, pos 34) ∷ (1, pos 207) ∷ (2, negsuc 977) ∷ (3, negsuc 736) ∷ (4, pos 34) ∷ [])) (stop ((1, negsuc 999) ∷ (2, pos 1000) ∷ (3, negsuc 999) ∷ []))) (fork (seg 0) (line 1) (line 2) (stop ((0, negsuc 597) ∷ (1, pos 303) ∷ (2, pos 598) ∷ (3, pos 1000) ∷ (4, negsuc 597) ∷ [])) (stop ((1, negsuc 332) ∷ (2, negsuc 332) ∷ (3, pos 333) ∷ [])));
-  orders = (line 0 ∷ line 1 ∷ line 2 ∷ []) ∷ (line 0 ∷ line 1 ∷ line 2 ∷ []) ∷ [];
-  branches = 715;
-}
-case6 = refl
-

@@ -25,7 +25,8 @@ use Rattle.rising_search.specs.RisingParts.{IsRisenIn}
 use Rattle.rising_search.proofs.OwnSearches as own_searches
 use Rattle.rising_search.proofs.RisingParts as rising_parts
 use Rattle.kept_trees.specs.Results.{PartResult, by_live, by_rising, result_of, branches_by, result_found, IsResult}
-use Rattle.kept_trees.specs.OwnTrees.{held_as, all_segments, IsOwnResult}
+use Rattle.dual_ascent.specs.OwnNumbers.{all_segments}
+use Rattle.kept_trees.specs.OwnTrees.{held_as, IsOwnResult}
 use Rattle.kept_trees.proofs.OwnNumbers.{all_are_own, places_by_itself}
 
 -- What each search finds is what comes of it.

@@ -17,7 +17,7 @@ use Rattle.order_search.specs.ByItself.{by_itself, term_in, seg_in, seg_from, nu
 use Rattle.order_search.proofs.OwnParts.{at_number}
 use Rattle.order_search.proofs.RisingNumbers.{same_place, segs_rise, terms_rise}
 use Rattle.dual_bound.specs.Accepting.{failing}
-use Rattle.kept_trees.specs.OwnTrees.{segments_from, all_segments}
+use Rattle.dual_ascent.specs.OwnNumbers.{segments_from, all_segments}
 use Rattle.kept_trees.specs.Renumbered.{renumbered_dual}
 use Rattle.kept_trees.proofs.OwnPlaces.{place_within, place_at}
 use Rattle.kept_trees.proofs.RenamedDuals.{moved_term, moved_terms, has_number, both_so, AreRenamed, accepted_moved}

@@ -9,18 +9,10 @@ use Rattle.map_method.specs.declared.claim.Claim.TheVariants.{Best, Bound}
 use Rattle.order_search.specs.declared.found.SearchFault.{SearchFault}
 use Rattle.order_search.specs.ByItself.{by_itself}
 use Rattle.kept_trees.specs.declared.part_key.PartKey.{PartKey}
+use Rattle.dual_ascent.specs.OwnNumbers.{all_segments}
 use Rattle.kept_trees.specs.declared.plan.SearchPlan.{SearchPlan}
 use Rattle.kept_trees.specs.declared.found_part.FoundPart.{FoundPart}
 use Rattle.kept_trees.specs.Results.{PartResult, part_outcome, IsResult}
-
--- as many segments as there are lists, numbered from k on
-abbrev pub segments_from : ℕ → List (List LineId) → List SegId
-segments_from k [] = []
-segments_from k (lines ∷ segs) = record { 0 = k } ∷ segments_from (k + 1) segs
-
--- all segments of a problem
-abbrev pub all_segments : ProblemParts → List SegId
-all_segments p = segments_from 0 p.segs
 
 -- A part by itself, how it was searched, and the budget within which the search was not complete; none where it was, for
 -- a complete search finds the same within every budget that allows its branch nodes.

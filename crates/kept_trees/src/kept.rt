@@ -69,7 +69,7 @@ impl Kept {
         requires known { All (λ (s : Seg). s.0 < length problem.now.segs) part.now }
         requires rising { IsRisingPart part.now }
         requires numbers { numbers.now ≡ part_numbers problem.now.terms part.now }
-        requires budget { plan.budget + 1 < 2 ^ 32 }
+        requires budget { plan.budget ≤ 100000 }
         ensures found { IfOk result (IsResult plan problem.now part.now) }
         ensures fault { IfErr result (IsFaultOf (part_outcome plan problem.now part.now)) }
         ensures held { OnOk result (self.new ≡ with_part self.old (held_as plan problem.now part.now)) }

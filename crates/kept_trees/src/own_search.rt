@@ -7,7 +7,8 @@ ghost use Rattle.order_model.specs.Parts.{IsRisingPart};
 ghost use Rattle.map_method.specs.declared.search.Search.TheVariants.{Dual};
 ghost use Rattle.dual_ascent.specs.DualResults.{dual_result};
 ghost use Rattle.order_search.specs.FoundParts.{branches_in};
-ghost use Rattle.kept_trees.specs.OwnTrees.{part_of_key, all_segments};
+ghost use Rattle.dual_ascent.specs.OwnNumbers.{all_segments};
+ghost use Rattle.kept_trees.specs.OwnTrees.{part_of_key};
 ghost use Rattle.kept_trees.specs.Results.{part_outcome, live_outcome, dual_outcome, dual_part, branches_met, is_dual, IsFound, IsResult, IsFaultOf};
 
 use crate::found_part::FoundPart;
@@ -31,7 +32,7 @@ pub(crate) fn search_by_itself<L: Ledger>(
 ) -> Result<FoundPart, SearchFault>
     requires problem { IsProblem (part_of_key key.now) }
     requires some { 0 < length key.now.lists.items }
-    requires budget { plan.budget + 1 < 2 ^ 32 }
+    requires budget { plan.budget ≤ 100000 }
     ensures found { IfOk result (IsResult plan (part_of_key key.now) (all_segments (part_of_key key.now))) }
     ensures steps { IfOk result (λ _. steps.new ≡ steps.old + branches_met plan (part_of_key key.now) (all_segments (part_of_key key.now))) }
     ensures fault { IfErr result (IsFaultOf (part_outcome plan (part_of_key key.now) (all_segments (part_of_key key.now)))) }
@@ -79,7 +80,7 @@ fn dual_found<L: Ledger>(
     steps: &mut Steps<L>,
 ) -> Result<FoundPart, SearchFault>
     requires reach { is_dual Dual problem.now (all_segments problem.now) ≡ true }
-    requires budget { plan.budget + 1 < 2 ^ 32 }
+    requires budget { plan.budget ≤ 100000 }
     ensures found { IfOk result (IsFound (dual_outcome plan.claim plan.budget (dual_part plan.budget problem.now (all_segments problem.now))) problem.now (all_segments problem.now)) }
     ensures steps { IfOk result (λ _. steps.new ≡ steps.old + (dual_result problem.now plan.budget).branches) }
     ensures fault { IfErr result (IsFaultOf (dual_outcome plan.claim plan.budget (dual_part plan.budget problem.now (all_segments problem.now)))) }
