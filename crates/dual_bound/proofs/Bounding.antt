@@ -81,7 +81,6 @@ ValueBelow (Some v) w = v ≤ℤ w
 
 module _ (segs orders : List (List LineId)) (part : List SegId) (settled : List SettledPair)
     (rising : All AreRising segs) (are_orders : AreOrders segs orders) where
-
   -- Least shares are at most the shares of these orders.
 
   among_orders : (s : SegId) → keeps (settled_on settled s) (lines_on orders s) ≡ true → Among (lines_on orders s) (kept_orders (settled_on settled s) (lines_on segs s))

@@ -9,7 +9,7 @@ mod laws;
 mod settled;
 
 pub use laws::{
-    accepted_trees_bound_orders, nothing_fails_where_accepted, trees_without_fault_bound_all_orders,
-    values_bound_orders,
+    accepted_trees_bound_orders, nothing_fails_where_accepted,
+    trees_without_fault_bound_all_orders, values_bound_orders,
 };
 pub use settled::SettledPair;

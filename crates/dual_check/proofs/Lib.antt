@@ -3,3 +3,6 @@ mod Loads
 mod Rows
 mod PriceTests
 mod Values
+mod Ahead
+mod Adding
+mod Grouping

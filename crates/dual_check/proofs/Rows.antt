@@ -27,7 +27,8 @@ place_known (x ∷ lines) a h = by_test (x.0 == a.0) refl (either_true (x.0 == a
     by_test false e (inl k) rest = absurd (true≢false (sym k ∙ e))
     by_test false e (inr k) rest =
         let more = rest k in
-        (let below = more.0 in omega (arith, below), λ d. ap (λ j. get_or (x ∷ lines) j d) (omega arith) ∙ more.1 d)
+        let next : 1 + place_of lines a ≡ suc (place_of lines a) = omega arith in
+        (let below = more.0 in omega (arith, below), λ d. ap (λ j. get_or (x ∷ lines) j d) next ∙ more.1 d)
 
 -- a line has the name at a place exactly where it stands there
 pub name_at : (lines : List LineId) (a : LineId) (i : ℕ) → AreRising lines → has_line lines a ≡ true → i < length lines → ((named lines (line_at i)).0 == a.0) ≡ (i == place_of lines a)

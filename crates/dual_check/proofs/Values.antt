@@ -17,7 +17,9 @@ module _ (segs : List (List LineId)) (terms : List (ℕ × Term)) (price : ℕ �
       → value_of segs terms price settled (drop k part) ≡ plus (least_share segs terms price settled (get_or part k d)) (value_of segs terms price settled (drop (k + 1) part))
   step [] k d below = absurd (omega (arith, below))
   step (s ∷ part) zero d below = refl
-  step (s ∷ part) (suc k) d below = step part k d (omega (arith, below)) ∙ ap (λ j. plus (least_share segs terms price settled (get_or part k d)) (value_of segs terms price settled (drop j (s ∷ part)))) (omega arith)
+  step (s ∷ part) (suc k) d below =
+      let next : suc (k + 1) ≡ suc k + 1 = omega arith in
+      step part k d (omega (arith, below)) ∙ ap (λ j. plus (least_share segs terms price settled (get_or part k d)) (value_of segs terms price settled (drop j (s ∷ part)))) next
 
   -- with one segment more before those that are summed
   pub value_more : (part : List SegId) (k : ℕ) (d : SegId) (share total : ℤ) → k < length part → Some share ≡ least_share segs terms price settled (get_or part k d)

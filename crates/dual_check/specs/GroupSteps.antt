@@ -2,7 +2,7 @@
 use Rattle.std.specs.Prelude.{◌≡◌, ℕ, ◌<◌, ◌==◌, Bool, true, false, List, [], ◌∷◌, ◌++◌, length, slice_index_or, if◌then◌else◌, Option, Some, None}
 use Rattle.map_base.specs.declared.ids.SegId.{SegId}
 use Rattle.order_model.specs.declared.term.Term.{Term}
-use Rattle.order_model.specs.PartTerms.{is_in}
+use Rattle.order_model.specs.PartTerms.{is_in, with_number}
 use Rattle.dual_check.specs.Groups.{is_on}
 
 -- the segment stands at this place of the part, or is none of it
@@ -19,3 +19,8 @@ with_number_where p n (s ∷ part) (l ∷ lists) = (if p s then l ++ n ∷ [] el
 -- the number of a term to those that it is on
 abbrev pub with_term : List SegId → Term → ℕ → List (List ℕ) → List (List ℕ)
 with_term part t n lists = with_number_where (λ (s : SegId). is_on s t) n part lists
+
+-- a number is added to the list at this place, if there is one
+abbrev pub with_number_at : Option ℕ → ℕ → List (List ℕ) → List (List ℕ)
+with_number_at None n lists = lists
+with_number_at (Some k) n lists = with_number k n lists

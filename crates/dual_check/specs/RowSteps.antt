@@ -1,7 +1,8 @@
 -- Rows while terms are added to them.
-use Rattle.std.specs.Prelude.{◌≡◌, ℕ, ◌+◌, ◌*◌, ◌<◌, ◌≤◌, List, length, slice_index_or, true}
+use Rattle.std.specs.Prelude.{◌≡◌, ℕ, ◌+◌, ◌*◌, ◌^◌, ◌<◌, ◌≤◌, ◌==◌, true, false, List, length, slice_index_or}
 use Rattle.std.specs.Prelude.{ℤ, pos, ◌+ℤ◌, ◌-ℤ◌, unsigned_abs}
 use Rattle.map_base.specs.declared.ids.LineId.{LineId}
+use Rattle.order_model.specs.Places.{has_line}
 use Rattle.least_orders.specs.OrderCosts.{PairCosts}
 use Rattle.least_orders.specs.Rows.{line_at, named, entry}
 
@@ -41,3 +42,13 @@ IsAddedBeside lines costs old new = (i j : ℕ) → i < length lines → j < len
 -- each entry differs by at most so much
 abbrev pub IsMoreBy : ℕ → List ℤ → List ℤ → Type 0
 IsMoreBy most old new = (k : ℕ) → unsigned_abs (row_entry new k -ℤ row_entry old k) ≤ most
+
+-- entries have room for more
+abbrev pub IsRoomy : List ℤ → Type 0
+IsRoomy row = (k : ℕ) → unsigned_abs (row_entry row k) ≤ 2 ^ 60
+
+-- two different ones of these lines
+pub record AreTwoOf (lines : List LineId) (a b : LineId) : Type 0 where
+  pub first_on : has_line lines a ≡ true
+  pub second_on : has_line lines b ≡ true
+  pub differ : (a.0 == b.0) ≡ false

@@ -1,11 +1,11 @@
 //! The terms on each segment of a part.
 
-ghost use Rattle.std.specs.Prelude.{◌≡◌, ◌<◌, length, map, All, IfOk, OnOk};
+ghost use Rattle.std.specs.Prelude.{◌≡◌, ◌≢◌, ◌<◌, length, map, All, IfOk, IfSome, OnOk, None};
 ghost use Rattle.order_model.specs.Parts.{IsRisingPart};
 ghost use Rattle.order_model.specs.Places.{tables_of};
 ghost use Rattle.order_model.specs.PartTerms.{no_numbers, with_number};
 ghost use Rattle.dual_check.specs.Groups.{numbers_on};
-ghost use Rattle.dual_check.specs.GroupSteps.{with_term, IsPlaceInPart};
+ghost use Rattle.dual_check.specs.GroupSteps.{with_number_at, with_term, IsPlaceInPart};
 
 use map_base::{NoMemory, SegId};
 use order_model::{Problem, Term, ends_of};
@@ -48,15 +48,31 @@ fn add_term(groups: &mut Vec<Vec<u32>>, part: &[SegId], term: Term, n: u32) -> R
     ensures { OnOk result (tables_of groups.new.items ≡ with_term part.now term n (tables_of groups.old.items)) }
 {
     let (seg, other) = ends_of(term);
-    if let Some(k) = place_in_part(part, seg) {
-        push_at(groups, k, n)?;
+    push_where(groups, place_in_part(part, seg), n)?;
+    push_where(groups, other_place(part, seg, other), n)
+}
+
+/// Where the other segment of a term stands in a part; nowhere where it has one segment alone.
+fn other_place(part: &[SegId], seg: SegId, other: SegId) -> Option<usize>
+    requires { IsRisingPart part.now }
+    ensures one { other.0 ≡ seg.0 → result ≡ None }
+    ensures two { other.0 ≢ seg.0 → IsPlaceInPart part.now other result }
+{
+    if other.0 == seg.0 {
+        return None;
     }
-    if other.0 != seg.0 {
-        if let Some(k) = place_in_part(part, other) {
-            push_at(groups, k, n)?;
-        }
+    place_in_part(part, other)
+}
+
+/// Adds a number to the list at this place, if there is one.
+fn push_where(groups: &mut Vec<Vec<u32>>, place: Option<usize>, n: u32) -> Result<(), NoMemory>
+    requires { IfSome place (λ k. k < length groups.old.items) }
+    ensures { OnOk result (tables_of groups.new.items ≡ with_number_at place n (tables_of groups.old.items)) }
+{
+    match place {
+        None => Ok(()),
+        Some(k) => push_at(groups, k, n),
     }
-    Ok(())
 }
 
 /// Where a segment stands in a part.

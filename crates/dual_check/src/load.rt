@@ -47,7 +47,9 @@ fn stops_of(tree: &DualTree) -> u64
 {
     match tree {
         DualTree::Stop { .. } => 1,
-        DualTree::Fork { first, second, .. } => (stops_of(first) + stops_of(second)).min(MOST_STOPS),
+        DualTree::Fork { first, second, .. } => (stops_of(first) + stops_of(second)).min(
+            MOST_STOPS,
+        ),
     }
 }
 

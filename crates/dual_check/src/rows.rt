@@ -1,8 +1,8 @@
 //! The rows of one segment.
 
-ghost use Rattle.std.specs.Prelude.{◌≡◌, ◌+◌, ◌*◌, ◌<◌, ◌≤◌, ◌+ℤ◌, ◌^◌, ℕ, pos, length, true, unsigned_abs, if◌then◌else◌, ◌==◌};
+ghost use Rattle.std.specs.Prelude.{◌≡◌, ◌+◌, ◌*◌, ◌<◌, ◌≤◌, ◌+ℤ◌, ℕ, pos, length, true, unsigned_abs, if◌then◌else◌, ◌==◌};
 ghost use Rattle.order_model.specs.Places.{has_line, place_of};
-ghost use Rattle.dual_check.specs.RowSteps.{row_entry};
+ghost use Rattle.dual_check.specs.RowSteps.{row_entry, IsRoomy};
 
 use map_base::LineId;
 
@@ -36,7 +36,7 @@ pub(crate) fn add(row: &mut [i64], count: usize, i: usize, j: usize, amount: i64
     requires first { i < count }
     requires second { j < count }
     requires amount { unsigned_abs amount ≤ 256000000 }
-    requires small { (k : ℕ) → unsigned_abs (row_entry row.old k) ≤ 2 ^ 60 }
+    requires small { IsRoomy row.old }
     ensures { (k : ℕ) → row_entry row.new k ≡ (if k == i * count + j then row_entry row.old k +ℤ amount else row_entry row.old k) }
 {
     row[i * count + j] += amount;

@@ -1,15 +1,14 @@
 //! What the terms on a segment make each two of its lines cost under prices.
 
-ghost use Rattle.std.specs.Prelude.{◌≡◌, ◌+◌, ◌^◌, ◌<◌, ◌≤◌, ◌==◌, ℕ, length, unsigned_abs, All, true, false};
+ghost use Rattle.std.specs.Prelude.{◌≡◌, ◌+◌, ◌<◌, ◌≤◌, ℕ, length, unsigned_abs, All, IsTrue};
 ghost use Rattle.graph_core.specs.Consistent.{AreRising};
 ghost use Rattle.order_model.specs.Problems.{IsProblem, IsTerm, lines_on};
-ghost use Rattle.order_model.specs.Places.{has_line};
 ghost use Rattle.order_model.specs.PartTerms.{terms_by_number};
 ghost use Rattle.order_values.specs.PriceLists.{price_at, AreRisingPrices};
 ghost use Rattle.least_orders.specs.OrderCosts.{cost_before, cost_beside};
-ghost use Rattle.dual_bound.specs.ShareCosts.{link_costs, term_costs, share_costs};
+ghost use Rattle.dual_bound.specs.ShareCosts.{costs_where, link_costs, term_costs, share_costs};
 ghost use Rattle.dual_check.specs.Prices.{AreSmallPrices};
-ghost use Rattle.dual_check.specs.RowSteps.{row_entry, TellPairs, AreSmall, HaveAdded, IsAddedBefore, IsAddedBeside, IsMoreBy};
+ghost use Rattle.dual_check.specs.RowSteps.{TellPairs, AreSmall, HaveAdded, AreTwoOf, IsRoomy, IsAddedBefore, IsAddedBeside, IsMoreBy};
 
 use crate::prices::price_at;
 use crate::rows::{add, clear, place_of};
@@ -41,7 +40,14 @@ pub(crate) fn put_shares(
     clear(before);
     clear(beside);
     for n in numbers {
-        add_term(problem, s, terms[*n as usize], price_at(prices, *n), before, beside);
+        add_term(
+            problem,
+            s,
+            terms[*n as usize],
+            price_at(prices, *n),
+            before,
+            beside,
+        );
     }
 }
 
@@ -72,11 +78,7 @@ fn add_term(
             first,
             second,
             w,
-        } => {
-            if seg == s {
-                add_before(lines, second, first, 1000 * i64::from(w), before);
-            }
-        }
+        } => add_before(lines, seg == s, second, first, 1000 * i64::from(w), before),
         Term::Link {
             seg,
             other,
@@ -85,12 +87,8 @@ fn add_term(
             b,
             ..
         } => {
-            if other == s {
-                add_link(lines, flip, a, b, price, before);
-            }
-            if seg == s {
-                add_before(lines, b, a, 0 - price, before);
-            }
+            add_link(lines, other == s, flip, a, b, price, before);
+            add_before(lines, seg == s, b, a, 0 - price, before);
         }
         Term::Apart {
             seg,
@@ -99,19 +97,16 @@ fn add_term(
             b,
             ..
         } => {
-            if other == s {
-                add_beside(lines, a, b, price, beside);
-            }
-            if seg == s {
-                add_beside(lines, a, b, 0 - price, beside);
-            }
+            add_beside(lines, other == s, a, b, price, beside);
+            add_beside(lines, seg == s, a, b, 0 - price, beside);
         }
     }
 }
 
-/// What a Link makes its lines cost at its other segment.
+/// What a Link makes its lines cost at its other segment, where this is it.
 fn add_link(
     lines: &[LineId],
+    so: bool,
     flip: bool,
     a: LineId,
     b: LineId,
@@ -120,52 +115,60 @@ fn add_link(
 )
     requires rising { AreRising lines.now }
     requires few { length lines.now ≤ 16 }
-    requires first { has_line lines.now a ≡ true }
-    requires second { has_line lines.now b ≡ true }
-    requires apart { (a.0 == b.0) ≡ false }
+    requires on { IsTrue so → AreTwoOf lines.now a b }
     requires price { unsigned_abs price ≤ 256000000 }
     requires room { length before.old ≡ 256 }
-    requires small { (k : ℕ) → unsigned_abs (row_entry before.old k) ≤ 2 ^ 60 }
-    ensures added { IsAddedBefore lines.now (link_costs flip a b price) before.old before.new }
+    requires small { IsRoomy before.old }
+    ensures added { IsAddedBefore lines.now (costs_where so (link_costs flip a b price)) before.old before.new }
     ensures small { IsMoreBy 256000000 before.old before.new }
 {
     if flip {
-        add_before(lines, a, b, price, before);
+        add_before(lines, so, a, b, price, before);
     } else {
-        add_before(lines, b, a, price, before);
+        add_before(lines, so, b, a, price, before);
     }
 }
 
-/// Two lines cost an amount more where the first stands before the second.
-fn add_before(lines: &[LineId], first: LineId, second: LineId, amount: i64, before: &mut [i64])
+/// Where it is so, two lines cost an amount more where the first stands before the second.
+fn add_before(
+    lines: &[LineId],
+    so: bool,
+    first: LineId,
+    second: LineId,
+    amount: i64,
+    before: &mut [i64],
+)
     requires rising { AreRising lines.now }
     requires few { length lines.now ≤ 16 }
-    requires first { has_line lines.now first ≡ true }
-    requires second { has_line lines.now second ≡ true }
+    requires on { IsTrue so → AreTwoOf lines.now first second }
     requires amount { unsigned_abs amount ≤ 256000000 }
     requires room { length before.old ≡ 256 }
-    requires small { (k : ℕ) → unsigned_abs (row_entry before.old k) ≤ 2 ^ 60 }
-    ensures added { IsAddedBefore lines.now (cost_before first second amount) before.old before.new }
+    requires small { IsRoomy before.old }
+    ensures added { IsAddedBefore lines.now (costs_where so (cost_before first second amount)) before.old before.new }
     ensures small { IsMoreBy 256000000 before.old before.new }
 {
+    if !so {
+        return;
+    }
     let i = place_of(lines, first);
     let j = place_of(lines, second);
     add(before, lines.len(), i, j, amount);
 }
 
-/// Two lines cost an amount more where they are neighbours.
-fn add_beside(lines: &[LineId], a: LineId, b: LineId, amount: i64, beside: &mut [i64])
+/// Where it is so, two lines cost an amount more where they are neighbours.
+fn add_beside(lines: &[LineId], so: bool, a: LineId, b: LineId, amount: i64, beside: &mut [i64])
     requires rising { AreRising lines.now }
     requires few { length lines.now ≤ 16 }
-    requires first { has_line lines.now a ≡ true }
-    requires second { has_line lines.now b ≡ true }
-    requires apart { (a.0 == b.0) ≡ false }
+    requires on { IsTrue so → AreTwoOf lines.now a b }
     requires amount { unsigned_abs amount ≤ 256000000 }
     requires room { length beside.old ≡ 256 }
-    requires small { (k : ℕ) → unsigned_abs (row_entry beside.old k) ≤ 2 ^ 60 }
-    ensures added { IsAddedBeside lines.now (cost_beside a b amount) beside.old beside.new }
+    requires small { IsRoomy beside.old }
+    ensures added { IsAddedBeside lines.now (costs_where so (cost_beside a b amount)) beside.old beside.new }
     ensures small { IsMoreBy 256000000 beside.old beside.new }
 {
+    if !so {
+        return;
+    }
     let i = place_of(lines, a);
     let j = place_of(lines, b);
     add(beside, lines.len(), i, j, amount);

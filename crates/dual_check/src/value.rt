@@ -1,6 +1,6 @@
 //! The value of prices, and whether a stop holds.
 
-ghost use Rattle.std.specs.Prelude.{◌≡◌, ◌≤◌, ◌<◌, length, All, true, Some, slice_index, slice_index_or, slice_set};
+ghost use Rattle.std.specs.Prelude.{◌≡◌, ◌≤◌, ◌<◌, ◌^◌, ◌+ℤ◌, length, unsigned_abs, All, true, Some, slice_index, slice_index_or, slice_set};
 ghost use Rattle.graph_core.specs.Consistent.{AreRising};
 ghost use Rattle.order_model.specs.Places.{has_line, place_of};
 ghost use Rattle.order_values.specs.PriceLists.{price_at, AreRisingPrices};
@@ -70,10 +70,18 @@ fn value(
     for k in (0..asked.part.len()).rev() {
         match share_at(asked, k, settled, tables, prices) {
             None => return None,
-            Some(share) => total += i128::from(share),
+            Some(share) => total = with_share(total, share),
         }
     }
     Some(total)
+}
+
+/// A sum of shares with one more.
+fn with_share(total: i128, share: i64) -> i128
+    requires { unsigned_abs total ≤ 2 ^ 126 }
+    ensures { result ≡ total +ℤ share }
+{
+    total + i128::from(share)
 }
 
 /// The least share of one segment of the part.

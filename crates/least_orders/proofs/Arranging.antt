@@ -25,13 +25,19 @@ with_first a p = (p.0, a ∷ p.1)
 
 pub pick_lengths : (xs : List LineId) → AllByRecursion (λ (p : Pick). suc (length p.1) ≡ length xs) (picks xs)
 pick_lengths [] = tt
-pick_lengths (a ∷ xs) = (refl, each_map (λ (p : Pick). suc (length p.1) ≡ length (a ∷ xs)) (with_first a) (picks xs)
-    (each_weaker (λ (p : Pick). suc (length p.1) ≡ length xs) (λ (p : Pick). suc (suc (length p.1)) ≡ suc (length xs)) (picks xs) (λ p e. ap suc e) (pick_lengths xs)))
+pick_lengths (a ∷ xs) = (
+  refl,
+  each_map (λ (p : Pick). suc (length p.1) ≡ length (a ∷ xs)) (with_first a) (picks xs)
+      (each_weaker (λ (p : Pick). suc (length p.1) ≡ length xs) (λ (p : Pick). suc (suc (length p.1)) ≡ suc (length xs)) (picks xs) (λ p e. ap suc e) (pick_lengths xs)),
+)
 
 pick_permutations : (xs : List LineId) → AllByRecursion (λ (p : Pick). IsPermutation xs (p.0 ∷ p.1)) (picks xs)
 pick_permutations [] = tt
-pick_permutations (a ∷ xs) = (IsPermutation-refl (a ∷ xs), each_map (λ (p : Pick). IsPermutation (a ∷ xs) (p.0 ∷ p.1)) (with_first a) (picks xs)
-    (each_weaker (λ (p : Pick). IsPermutation xs (p.0 ∷ p.1)) (λ (p : Pick). IsPermutation (a ∷ xs) (p.0 ∷ a ∷ p.1)) (picks xs) (λ p h. second a p.0 xs p.1 h) (pick_permutations xs)))
+pick_permutations (a ∷ xs) = (
+  IsPermutation-refl (a ∷ xs),
+  each_map (λ (p : Pick). IsPermutation (a ∷ xs) (p.0 ∷ p.1)) (with_first a) (picks xs)
+      (each_weaker (λ (p : Pick). IsPermutation xs (p.0 ∷ p.1)) (λ (p : Pick). IsPermutation (a ∷ xs) (p.0 ∷ a ∷ p.1)) (picks xs) (λ p h. second a p.0 xs p.1 h) (pick_permutations xs)),
+)
   where
     second : (a b : LineId) (xs ys : List LineId) → IsPermutation xs (b ∷ ys) → IsPermutation (a ∷ xs) (b ∷ a ∷ ys)
     second a b xs ys h = IsPermutation-trans (a ∷ xs) (a ∷ b ∷ ys) (b ∷ a ∷ ys) (IsPermutation-cons a xs (b ∷ ys) h) (IsPermutation-middle (a ∷ []) b ys)
@@ -138,9 +144,12 @@ permutation_is_order lines order rising moved = all_stand (length lines) lines o
 
 pick_sums : (f : LineId → ℤ) (xs : List LineId) → AllByRecursion (λ (p : Pick). f p.0 +ℤ int_sum f p.1 ≡ int_sum f xs) (picks xs)
 pick_sums f [] = tt
-pick_sums f (a ∷ xs) = (refl, each_map (λ (p : Pick). f p.0 +ℤ int_sum f p.1 ≡ int_sum f (a ∷ xs)) (with_first a) (picks xs)
-    (each_weaker (λ (p : Pick). f p.0 +ℤ int_sum f p.1 ≡ int_sum f xs) (λ (p : Pick). f p.0 +ℤ (f a +ℤ int_sum f p.1) ≡ f a +ℤ int_sum f xs) (picks xs)
-    (λ p e. moved (f p.0) (f a) (int_sum f p.1) (int_sum f xs) e) (pick_sums f xs)))
+pick_sums f (a ∷ xs) = (
+  refl,
+  each_map (λ (p : Pick). f p.0 +ℤ int_sum f p.1 ≡ int_sum f (a ∷ xs)) (with_first a) (picks xs)
+      (each_weaker (λ (p : Pick). f p.0 +ℤ int_sum f p.1 ≡ int_sum f xs) (λ (p : Pick). f p.0 +ℤ (f a +ℤ int_sum f p.1) ≡ f a +ℤ int_sum f xs) (picks xs)
+      (λ p e. moved (f p.0) (f a) (int_sum f p.1) (int_sum f xs) e) (pick_sums f xs)),
+)
   where
     moved : (b a s t : ℤ) → b +ℤ s ≡ t → b +ℤ (a +ℤ s) ≡ a +ℤ t
     moved b a s t e = omega (arith, ints, e)

@@ -132,10 +132,12 @@ module _ (r : Rows) (fits : AreRows r) (set : ℕ) (last : Option ℕ) where
               subst (λ b. IsBestOf (choice_of r last k (option_map (λ v. v +ℤ before_left r (with_place set k) k) (option_map (cost_after (row_costs r) (Some k)) b))) (beginning r set k)) (sym is)
               (firsts ∙ ap (option_map (λ (o : List LineId). line_at k ∷ o)) is, refl)
           by_best (Some o) is =
-              subst (λ b. IsBestOf (choice_of r last k (option_map (λ v. v +ℤ before_left r (with_place set k) k) (option_map (cost_after (row_costs r) (Some k)) b))) (beginning r set k)) (sym is)
-              (firsts, ap (λ b. option_map worth (option_map (λ (o : List LineId). line_at k ∷ o) b)) is ∙ ap Some (turned (each_at (λ o. cost_after (row_costs r) last (line_at k ∷ o) ≡ (beside_last r last k +ℤ before_left r (with_place set k) k) +ℤ cost_after (row_costs r) (Some k) o)
-              (filter (is_kept r) (all_orders (left r (with_place set k)))) o each_more
-              (first_among (cost_after (row_costs r) (Some k)) (filter (is_kept r) (all_orders (left r (with_place set k)))) o is))))
+              subst (λ b. IsBestOf (choice_of r last k (option_map (λ v. v +ℤ before_left r (with_place set k) k) (option_map (cost_after (row_costs r) (Some k)) b))) (beginning r set k)) (sym is) (
+                firsts,
+                ap (λ b. option_map worth (option_map (λ (o : List LineId). line_at k ∷ o) b)) is ∙ ap Some (turned (each_at (λ o. cost_after (row_costs r) last (line_at k ∷ o) ≡ (beside_last r last k +ℤ before_left r (with_place set k) k) +ℤ cost_after (row_costs r) (Some k) o)
+                    (filter (is_kept r) (all_orders (left r (with_place set k)))) o each_more
+                    (first_among (cost_after (row_costs r) (Some k)) (filter (is_kept r) (all_orders (left r (with_place set k)))) o is))),
+              )
             where
               turned : cost_after (row_costs r) last (line_at k ∷ o) ≡ (beside_last r last k +ℤ before_left r (with_place set k) k) +ℤ cost_after (row_costs r) (Some k) o
                   → cost_after (row_costs r) last (line_at k ∷ o) ≡ (cost_after (row_costs r) (Some k) o +ℤ before_left r (with_place set k) k) +ℤ beside_last r last k
@@ -170,12 +172,14 @@ module _ (r : Rows) (fits : AreRows r) (set : ℕ) (last : Option ℕ) where
       (ap (λ o. better worth o None) here.1 ∙ sym here.1, h)
   better_of (Some x) (Some y) h k =
       let here = some_cost (chosen r set (Some x)) worth x.cost h in
-      let there = some_cost (chosen r set (Some y)) worth y.cost k in
-      (ap (λ o. better worth o (chosen r set (Some y))) here.1
-      ∙ (ap (λ o. better worth (Some here.0) o) there.1
-      ∙ (ap (λ v. Some (cond (int_lt v (worth here.0)) there.0 here.0)) there.2
-      ∙ (ap (λ v. Some (cond (int_lt y.cost v) there.0 here.0)) here.2
-      ∙ by_test (int_lt y.cost x.cost) here.0 there.0 here.1 there.1))), told (int_lt y.cost x.cost))
+      let there = some_cost (chosen r set (Some y)) worth y.cost k in (
+        ap (λ o. better worth o (chosen r set (Some y))) here.1
+            ∙ (ap (λ o. better worth (Some here.0) o) there.1
+            ∙ (ap (λ v. Some (cond (int_lt v (worth here.0)) there.0 here.0)) there.2
+            ∙ (ap (λ v. Some (cond (int_lt y.cost v) there.0 here.0)) here.2
+            ∙ by_test (int_lt y.cost x.cost) here.0 there.0 here.1 there.1))),
+        told (int_lt y.cost x.cost),
+      )
     where
       by_test : (b : Bool) (o p : List LineId) → chosen r set (Some x) ≡ Some o → chosen r set (Some y) ≡ Some p → Some (cond b p o) ≡ chosen r set (cond b (Some y) (Some x))
       by_test true o p e f = sym f
@@ -197,9 +201,9 @@ module _ (r : Rows) (fits : AreRows r) (set : ℕ) (last : Option ℕ) where
       by_test : (b : Bool) → has_place set k ≡ b
           → AllByRecursion (λ (p : Pick). suc (length p.1) ≡ suc n) (cond b (free_picks set 0 r.count (k + 1) m) ((line_at k, left_from (with_place set k) 0 r.count) ∷ free_picks set 0 r.count (k + 1) m))
           → (AllByRecursion (λ (p : Pick). suc (length p.1) ≡ suc n) (free_picks set 0 r.count (k + 1) m)
-              → IsBestOf (choice_from r set last (k + 1) m) (flat_map (λ (p : Pick). map (λ (o : List LineId). p.0 ∷ o) (orders_of n p.1)) (free_picks set 0 r.count (k + 1) m)))
+          → IsBestOf (choice_from r set last (k + 1) m) (flat_map (λ (p : Pick). map (λ (o : List LineId). p.0 ∷ o) (orders_of n p.1)) (free_picks set 0 r.count (k + 1) m)))
           → IsBestOf (better_choice (choice_of r last k (first_cost r set k)) (choice_from r set last (k + 1) m))
-            (flat_map (λ (p : Pick). map (λ (o : List LineId). p.0 ∷ o) (orders_of n p.1)) (cond b (free_picks set 0 r.count (k + 1) m) ((line_at k, left_from (with_place set k) 0 r.count) ∷ free_picks set 0 r.count (k + 1) m)))
+          (flat_map (λ (p : Pick). map (λ (o : List LineId). p.0 ∷ o) (orders_of n p.1)) (cond b (free_picks set 0 r.count (k + 1) m) ((line_at k, left_from (with_place set k) 0 r.count) ∷ free_picks set 0 r.count (k + 1) m)))
       by_test true e g rest =
           let gone : first_cost r set k ≡ None = rw e refl in
           subst (λ f. IsBestOf (better_choice (choice_of r last k f) (choice_from r set last (k + 1) m)) (flat_map (λ (p : Pick). map (λ (o : List LineId). p.0 ∷ o) (orders_of n p.1)) (free_picks set 0 r.count (k + 1) m))) (sym gone) (rest g)
@@ -208,11 +212,13 @@ module _ (r : Rows) (fits : AreRows r) (set : ℕ) (last : Option ℕ) where
           subst (λ j. IsBestOf (choice_of r last k (first_cost r set k)) (map (λ (o : List LineId). line_at k ∷ o) (orders_of j (left r (with_place set k))))) (omega (arith, g.0)) (one_choice k e) in
           let later = rest g.1 in
           let both = better_of (choice_of r last k (first_cost r set k)) (choice_from r set last (k + 1) m) here.1 later.1 in
-          let first = map (λ (o : List LineId). line_at k ∷ o) (orders_of n (left r (with_place set k))) in
-          (ap (first_least worth) (filter-append (is_kept r) (map (λ (o : List LineId). line_at k ∷ o) (orders_of n (left r (with_place set k)))) (grown (free_picks set 0 r.count (k + 1) m)))
-          ∙ (first_least-append worth (filter (is_kept r) (map (λ (o : List LineId). line_at k ∷ o) (orders_of n (left r (with_place set k))))) (filter (is_kept r) (grown (free_picks set 0 r.count (k + 1) m)))
-          ∙ (ap (λ o. better worth o (first_least worth (filter (is_kept r) (grown (free_picks set 0 r.count (k + 1) m))))) here.0
-          ∙ (ap (λ o. better worth (chosen r set (choice_of r last k (first_cost r set k))) o) later.0 ∙ both.0))), both.1)
+          let first = map (λ (o : List LineId). line_at k ∷ o) (orders_of n (left r (with_place set k))) in (
+            ap (first_least worth) (filter-append (is_kept r) (map (λ (o : List LineId). line_at k ∷ o) (orders_of n (left r (with_place set k)))) (grown (free_picks set 0 r.count (k + 1) m)))
+                ∙ (first_least-append worth (filter (is_kept r) (map (λ (o : List LineId). line_at k ∷ o) (orders_of n (left r (with_place set k))))) (filter (is_kept r) (grown (free_picks set 0 r.count (k + 1) m)))
+                ∙ (ap (λ o. better worth o (first_least worth (filter (is_kept r) (grown (free_picks set 0 r.count (k + 1) m))))) here.0
+                ∙ (ap (λ o. better worth (chosen r set (choice_of r last k (first_cost r set k))) o) later.0 ∙ both.0))),
+            both.1,
+          )
 
   -- the best choice leads to the best order, and tells its cost
   pub goes_on : 0 < length (left r set) → (best_after r set last ≡ chosen r set (choice r set last)) × (rest_cost r set last ≡ option_map (λ (x : Choice). x.cost) (choice r set last))

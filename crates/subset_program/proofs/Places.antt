@@ -33,12 +33,15 @@ apart_rows set more n i j above first second e =
 
 -- Sets.
 
+nothing : (m : ℕ) → 0 * m ≡ 0
+nothing m = omega arith
+
 -- one place more makes a set greater
 pub more_than : (set k : ℕ) → has_place set k ≡ false → set < with_place set k
 more_than set k free =
     let off = not_raised set k free in
     let sum = or_add_and set (2 ^ k) in
-    let both : bit_and set (2 ^ k) ≡ 0 = and_pow set k ∙ ap (λ b. b * 2 ^ k) off in
+    let both : bit_and set (2 ^ k) ≡ 0 = and_pow set k ∙ (ap (λ b. b * 2 ^ k) off ∙ nothing (2 ^ k)) in
     let some = pow_pos k in
     omega (arith, sum, both, some)
 

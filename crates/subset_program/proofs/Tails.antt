@@ -22,37 +22,42 @@ all_of n = omega arith
 
 -- Sums.
 
+pub abs_sum : (a b : ℤ) (m n : ℕ) → unsigned_abs a ≤ m → unsigned_abs b ≤ n → unsigned_abs (a +ℤ b) ≤ m + n
+abs_sum a b m n p q = omega (arith, ints, p, q)
+
 pub sum_at_end : (f : LineId → ℤ) (set n : ℕ) → pos 0 ≡ int_sum f (left_from set n (n - n))
 sum_at_end f set n = sym (ap (λ m. int_sum f (left_from set n m)) (no_more n))
 
-pub sum_taken : (f : LineId → ℤ) (set n j : ℕ) → j < n → has_place set j ≡ true → int_sum f (left_from set (j + 1) (n - (j + 1))) ≡ int_sum f (left_from set j (n - j))
-sum_taken f set n j below taken =
-    sym (ap (λ m. int_sum f (left_from set j m)) (one_more n j below)
-    ∙ ap (λ b. int_sum f (cond b (left_from set (j + 1) (n - (j + 1))) (line_at j ∷ left_from set (j + 1) (n - (j + 1))))) taken)
-
-pub sum_free : (f : LineId → ℤ) (set n j : ℕ) → j < n → has_place set j ≡ false → int_sum f (left_from set (j + 1) (n - (j + 1))) +ℤ f (line_at j) ≡ int_sum f (left_from set j (n - j))
-sum_free f set n j below free =
-    turned (f (line_at j)) (int_sum f (left_from set (j + 1) (n - (j + 1))))
-    ∙ sym (ap (λ m. int_sum f (left_from set j m)) (one_more n j below)
-    ∙ ap (λ b. int_sum f (cond b (left_from set (j + 1) (n - (j + 1))) (line_at j ∷ left_from set (j + 1) (n - (j + 1))))) free)
+pub sum_more : (f : LineId → ℤ) (set n j p : ℕ) → j ≡ p + 1 → j ≤ n
+    → int_sum f (left_from set j (n - j)) +ℤ cond (has_place set p) (pos 0) (f (line_at p)) ≡ int_sum f (left_from set p (n - p))
+sum_more f set n j p e within =
+    ap (λ i. int_sum f (left_from set i (n - i)) +ℤ cond (has_place set p) (pos 0) (f (line_at p))) e
+    ∙ (by_test (has_place set p) ∙ sym (ap (λ m. int_sum f (left_from set p m)) (one_more n p (omega (arith, e, within)))))
   where
-    turned : (a b : ℤ) → b +ℤ a ≡ a +ℤ b
-    turned a b = omega (arith, ints)
+    by_test : (b : Bool) → int_sum f (left_from set (p + 1) (n - (p + 1))) +ℤ cond b (pos 0) (f (line_at p))
+        ≡ int_sum f (cond b (left_from set (p + 1) (n - (p + 1))) (line_at p ∷ left_from set (p + 1) (n - (p + 1))))
+    by_test true = omega (arith, ints)
+    by_test false = turned (f (line_at p)) (int_sum f (left_from set (p + 1) (n - (p + 1))))
+      where
+        turned : (a b : ℤ) → b +ℤ a ≡ a +ℤ b
+        turned a b = omega (arith, ints)
 
-pub sum_of_all : (f : LineId → ℤ) (set n : ℕ) → int_sum f (left_from set 0 (n - 0)) ≡ int_sum f (left_from set 0 n)
-sum_of_all f set n = ap (λ m. int_sum f (left_from set 0 m)) (all_of n)
+pub sum_of_all : (f : LineId → ℤ) (set n j : ℕ) → j ≡ 0 → int_sum f (left_from set j (n - j)) ≡ int_sum f (left_from set 0 n)
+sum_of_all f set n j e = ap (λ i. int_sum f (left_from set i (n - i))) e ∙ ap (λ m. int_sum f (left_from set 0 m)) (all_of n)
 
 -- Choices.
 
 pub choice_at_end : (r : Rows) (set : ℕ) (last : Option ℕ) (n : ℕ) → None ≡ choice_from r set last n (n - n)
 choice_at_end r set last n = sym (ap (λ m. choice_from r set last n m) (no_more n))
 
-pub choice_more : (r : Rows) (set : ℕ) (last : Option ℕ) (n j : ℕ) → j < n
-    → better_choice (choice_of r last j (first_cost r set j)) (choice_from r set last (j + 1) (n - (j + 1))) ≡ choice_from r set last j (n - j)
-choice_more r set last n j below = sym (ap (λ m. choice_from r set last j m) (one_more n j below))
+pub choice_more : (r : Rows) (set : ℕ) (last : Option ℕ) (n j p : ℕ) → j ≡ p + 1 → j ≤ n
+    → better_choice (choice_of r last p (first_cost r set p)) (choice_from r set last j (n - j)) ≡ choice_from r set last p (n - p)
+choice_more r set last n j p e within =
+    ap (λ i. better_choice (choice_of r last p (first_cost r set p)) (choice_from r set last i (n - i))) e
+    ∙ sym (ap (λ m. choice_from r set last p m) (one_more n p (omega (arith, e, within))))
 
-pub choice_of_all : (r : Rows) (set : ℕ) (last : Option ℕ) → choice_from r set last 0 (r.count - 0) ≡ choice r set last
-choice_of_all r set last = ap (λ m. choice_from r set last 0 m) (all_of r.count)
+pub choice_of_all : (r : Rows) (set : ℕ) (last : Option ℕ) (j : ℕ) → j ≡ 0 → choice_from r set last j (r.count - j) ≡ choice r set last
+choice_of_all r set last j e = ap (λ i. choice_from r set last i (r.count - i)) e ∙ ap (λ m. choice_from r set last 0 m) (all_of r.count)
 
 -- How great they may be.
 

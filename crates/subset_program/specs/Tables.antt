@@ -1,5 +1,5 @@
 -- What the tables hold while they are filled.
-use Rattle.std.specs.Prelude.{◌≡◌, ℕ, ◌+◌, ◌*◌, ◌^◌, ◌<◌, ◌≤◌, true, List, ◌++◌, length, map, take, slice_index_or, IfSome, Option, Some, None}
+use Rattle.std.specs.Prelude.{◌≡◌, ◌≢◌, ℕ, ◌+◌, ◌*◌, ◌^◌, ◌<◌, ◌≤◌, true, List, ◌++◌, length, map, take, slice_index_or, IfSome, Option, Some, None}
 use Rattle.std.specs.Prelude.{ℤ}
 use Rattle.std.specs.Option.{option_map}
 use Rattle.least_orders.specs.Rows.{Rows, line_at}
@@ -20,3 +20,8 @@ pub record IsWalked (r : Rows) (i : ℕ) (order : List ℕ) (set : ℕ) (last : 
   pub known : IfSome last (λ l. l < r.count)
   pub each : length (left r set) + i ≡ r.count
   pub best : best_after r 0 None ≡ option_map (λ o. map line_at (take i order) ++ o) (best_after r set last)
+
+-- the entry of a set and its last line is written, where the set has it, and no other is changed
+pub record IsFilledAt (r : Rows) (set last : ℕ) (old new : List (Option ℤ)) : Type 0 where
+  pub here : has_place set last ≡ true → slice_index_or new (set * r.count + last) None ≡ rest_cost r set (Some last)
+  pub others : (k : ℕ) → k ≢ set * r.count + last → slice_index_or new k None ≡ slice_index_or old k None

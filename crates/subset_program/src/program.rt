@@ -74,6 +74,11 @@ impl SubsetProgram {
         ensures order { ArePlacesOf (least_order (row_costs (plain_rows rows.now)) (row_pairs (plain_rows rows.now)) (row_lines (plain_rows rows.now))) order.new }
         ensures room { self.new ≡ self.old }
     {
-        table::least_order(self.rests.as_mut_slice(), self.firsts.as_mut_slice(), rows, order)
+        table::least_order(
+            self.rests.as_mut_slice(),
+            self.firsts.as_mut_slice(),
+            rows,
+            order,
+        )
     }
 }

@@ -1,8 +1,8 @@
 //! One step of the program: what it costs to go on with a line behind a set.
 
-ghost use Rattle.std.specs.Prelude.{◌≡◌, ◌≤◌, ◌<◌, ◌+◌, ◌*◌, ◌^◌, length, unsigned_abs, IfSome};
-ghost use Rattle.least_orders.specs.Rows.{AreRows};
-ghost use Rattle.least_orders.specs.Subsets.{is_ready, before_left, first_cost, beside_last, choice_of, better_choice, choice};
+ghost use Rattle.std.specs.Prelude.{◌≡◌, ◌≤◌, ◌<◌, ◌+◌, ◌*◌, ◌^◌, ◌+ℤ◌, length, pos, unsigned_abs, true, IfSome, Some, if◌then◌else◌};
+ghost use Rattle.least_orders.specs.Rows.{AreRows, line_at, entry};
+ghost use Rattle.least_orders.specs.Subsets.{has_place, rest_cost, is_ready, before_left, first_cost, beside_last, choice_of, better_choice, choice};
 ghost use Rattle.subset_program.specs.PlainRows.{plain_rows};
 ghost use Rattle.subset_program.specs.Tables.{HasRests, HasFirsts};
 
@@ -10,17 +10,31 @@ use crate::place_sets::{has_place, with_place};
 use crate::rows::PairRows;
 use least_orders::Choice;
 
+/// What a line costs with another one behind it that a set has not; nothing where the set has it.
+fn before_one(rows: &PairRows, set: usize, k: usize, j: usize) -> i64
+    requires rows { AreRows (plain_rows rows.now) }
+    requires known { k < rows.now.count }
+    requires other { j < rows.now.count }
+    ensures value { result ≡ (if has_place set j then pos 0 else entry rows.now.count rows.now.before.now (line_at k) (line_at j)) }
+    ensures small { unsigned_abs result ≤ 2000000000000000 }
+{
+    if has_place(set, j) {
+        0
+    } else {
+        rows.before[k * rows.count + j]
+    }
+}
+
 /// What a line costs with those that a set has not.
 fn before_left(rows: &PairRows, set: usize, k: usize) -> i64
     requires rows { AreRows (plain_rows rows.now) }
     requires known { k < rows.now.count }
-    ensures { result ≡ before_left (plain_rows rows.now) set k }
+    ensures value { result ≡ before_left (plain_rows rows.now) set k }
+    ensures small { unsigned_abs result ≤ 32000000000000000 }
 {
     let mut total: i64 = 0;
     for j in (0..rows.count).rev() {
-        if !has_place(set, j) {
-            total += rows.before[k * rows.count + j];
-        }
+        total = sum(total, before_one(rows, set, k, j));
     }
     total
 }
@@ -35,6 +49,19 @@ fn is_ready(rows: &PairRows, set: usize, k: usize) -> bool
     needed & set == needed
 }
 
+/// The entry of a set and one of its lines.
+fn rest_at(rests: &[Option<i64>], rows: &PairRows, set: usize, last: usize) -> Option<i64>
+    requires rows { AreRows (plain_rows rows.now) }
+    requires room { 2 ^ rows.now.count * rows.now.count ≤ length rests.now }
+    requires set { set < 2 ^ rows.now.count }
+    requires last { last < rows.now.count }
+    requires there { has_place set last ≡ true }
+    requires table { HasRests (plain_rows rows.now) set rests.now }
+    ensures { result ≡ rest_cost (plain_rows rows.now) set (Some last) }
+{
+    rests[set * rows.count + last]
+}
+
 /// What the orders behind a set that go on with a line cost at least, but for what it costs beside the last line of the set.
 fn first_cost(rests: &[Option<i64>], rows: &PairRows, set: usize, k: usize) -> Option<i64>
     requires rows { AreRows (plain_rows rows.now) }
@@ -44,13 +71,16 @@ fn first_cost(rests: &[Option<i64>], rows: &PairRows, set: usize, k: usize) -> O
     requires table { HasRests (plain_rows rows.now) (set + 1) rests.now }
     ensures { result ≡ first_cost (plain_rows rows.now) set k }
 {
-    if has_place(set, k) || !is_ready(rows, set, k) {
+    if has_place(set, k) {
+        return None;
+    }
+    if !is_ready(rows, set, k) {
         return None;
     }
     let more = with_place(set, k);
-    match rests[more * rows.count + k] {
+    match rest_at(rests, rows, more, k) {
         None => None,
-        Some(rest) => Some(rest + before_left(rows, more, k)),
+        Some(rest) => Some(sum(rest, before_left(rows, more, k))),
     }
 }
 
@@ -99,7 +129,7 @@ fn choice_of(rows: &PairRows, last: Option<usize>, k: usize, first: Option<i64>)
         None => None,
         Some(cost) => Some(Choice {
             place: k,
-            cost: cost + beside_last(rows, last, k),
+            cost: sum(cost, beside_last(rows, last, k)),
         }),
     }
 }
@@ -133,4 +163,13 @@ pub(crate) fn choose(
         best = better_choice(choice_of(rows, last, k, firsts[k]), best);
     }
     best
+}
+
+/// The sum of two numbers.
+fn sum(a: i64, b: i64) -> i64
+    requires a_within { unsigned_abs a ≤ 1000000000000000000 }
+    requires b_within { unsigned_abs b ≤ 1000000000000000000 }
+    ensures { result ≡ a +ℤ b }
+{
+    a + b
 }

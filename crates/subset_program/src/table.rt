@@ -1,18 +1,23 @@
 //! The table of what is left behind each set.
 
-ghost use Rattle.std.specs.Prelude.{◌≡◌, ◌≤◌, ◌<◌, ◌+◌, ◌*◌, ◌^◌, length, slice_set, IfSome};
+ghost use Rattle.std.specs.Prelude.{◌≡◌, ◌≤◌, ◌<◌, ◌+◌, ◌*◌, ◌^◌, length, IfSome};
 ghost use Rattle.least_orders.specs.Rows.{AreRows, row_lines, row_costs, row_pairs};
 ghost use Rattle.least_orders.specs.LeastOrders.{least_cost, least_order};
 ghost use Rattle.least_orders.specs.Subsets.{rest_cost};
 ghost use Rattle.subset_program.specs.PlainRows.{plain_rows, ArePlacesOf};
-ghost use Rattle.subset_program.specs.Tables.{HasRests, HasFirsts};
+ghost use Rattle.subset_program.specs.Tables.{HasRests, HasFirsts, IsFilledAt};
 
 use crate::place_sets::{has_place, sets_of, with_place};
 use crate::rows::PairRows;
 use crate::steps::{choose, put_firsts};
 
 /// What the orders of the lines that a set has not cost at least behind its last line.
-fn rest_cost(firsts: &[Option<i64>], rows: &PairRows, set: usize, last: Option<usize>) -> Option<i64>
+fn rest_cost(
+    firsts: &[Option<i64>],
+    rows: &PairRows,
+    set: usize,
+    last: Option<usize>,
+) -> Option<i64>
     requires rows { AreRows (plain_rows rows.now) }
     requires each { rows.now.count ≤ length firsts.now }
     requires set { set < 2 ^ rows.now.count }
@@ -52,23 +57,37 @@ fn fill_set(rests: &mut [Option<i64>], firsts: &mut [Option<i64>], rows: &PairRo
 {
     put_firsts(firsts, rests, rows, set);
     for last in 0..rows.count {
-        if has_place(set, last) {
-            let rest = rest_cost(firsts, rows, set, Some(last));
-            put_rest(rests, set * rows.count + last, rest);
-        }
+        fill_at(rests, firsts, rows, set, last);
     }
 }
 
-/// Writes an entry of the table.
-fn put_rest(rests: &mut [Option<i64>], at: usize, rest: Option<i64>)
-    requires { at < length rests.old }
-    ensures { rests.new ≡ slice_set rests.old at rest }
+/// The same of a set and one line, where the set has it.
+fn fill_at(
+    rests: &mut [Option<i64>],
+    firsts: &[Option<i64>],
+    rows: &PairRows,
+    set: usize,
+    last: usize,
+)
+    requires rows { AreRows (plain_rows rows.now) }
+    requires room { 2 ^ rows.now.count * rows.now.count ≤ length rests.old }
+    requires each { rows.now.count ≤ length firsts.now }
+    requires set { set < 2 ^ rows.now.count }
+    requires last { last < rows.now.count }
+    requires firsts { HasFirsts (plain_rows rows.now) set rows.now.count firsts.now }
+    ensures { IsFilledAt (plain_rows rows.now) set last rests.old rests.new }
 {
-    rests[at] = rest;
+    if has_place(set, last) {
+        rests[set * rows.count + last] = rest_cost(firsts, rows, set, Some(last));
+    }
 }
 
 /// What the least order costs.
-pub(crate) fn least_cost(rests: &mut [Option<i64>], firsts: &mut [Option<i64>], rows: &PairRows) -> Option<i64>
+pub(crate) fn least_cost(
+    rests: &mut [Option<i64>],
+    firsts: &mut [Option<i64>],
+    rows: &PairRows,
+) -> Option<i64>
     requires rows { AreRows (plain_rows rows.now) }
     requires room { 2 ^ rows.now.count * rows.now.count ≤ length rests.old }
     requires each { rows.now.count ≤ length firsts.old }
@@ -81,7 +100,12 @@ pub(crate) fn least_cost(rests: &mut [Option<i64>], firsts: &mut [Option<i64>], 
 }
 
 /// The places of the lines of the least order, where there is one.
-pub(crate) fn least_order(rests: &mut [Option<i64>], firsts: &mut [Option<i64>], rows: &PairRows, order: &mut [u32]) -> Option<i64>
+pub(crate) fn least_order(
+    rests: &mut [Option<i64>],
+    firsts: &mut [Option<i64>],
+    rows: &PairRows,
+    order: &mut [u32],
+) -> Option<i64>
     requires rows { AreRows (plain_rows rows.now) }
     requires room { 2 ^ rows.now.count * rows.now.count ≤ length rests.old }
     requires each { rows.now.count ≤ length firsts.old }
