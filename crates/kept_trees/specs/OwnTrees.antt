@@ -9,10 +9,9 @@ use Rattle.map_method.specs.declared.claim.Claim.TheVariants.{Best, Bound}
 use Rattle.order_search.specs.declared.found.SearchFault.{SearchFault}
 use Rattle.order_search.specs.ByItself.{by_itself}
 use Rattle.kept_trees.specs.declared.part_key.PartKey.{PartKey}
-use Rattle.dual_ascent.specs.OwnNumbers.{all_segments}
 use Rattle.kept_trees.specs.declared.plan.SearchPlan.{SearchPlan}
 use Rattle.kept_trees.specs.declared.found_part.FoundPart.{FoundPart}
-use Rattle.kept_trees.specs.Results.{PartResult, part_outcome, IsResult}
+use Rattle.kept_trees.specs.Results.{PartResult, part_outcome, IsOwnFound}
 
 -- A part by itself, how it was searched, and the budget within which the search was not complete; none where it was, for
 -- a complete search finds the same within every budget that allows its branch nodes.
@@ -41,8 +40,8 @@ bound_within how budget = record { search = how; claim = Bound; budget = budget 
 -- what the search finds in a part by itself, which has all segments of its problem: within some budget, or within the one
 -- with which it was not complete
 abbrev pub IsFoundBy : Search → Option ℕ → ProblemParts → FoundPart → Type 0
-IsFoundBy how None p f = (budget : ℕ) × IsResult (best_within how budget) p (all_segments p) f
-IsFoundBy how (Some budget) p f = (f.complete ≡ false) × IsResult (bound_within how budget) p (all_segments p) f
+IsFoundBy how None own f = (budget : ℕ) × IsOwnFound (best_within how budget) own f
+IsFoundBy how (Some budget) own f = (f.complete ≡ false) × IsOwnFound (bound_within how budget) own f
 
 abbrev pub IsOwnResult : HeldPart → FoundPart → Type 0
 IsOwnResult h f = IsFoundBy h.how h.spent h.part f

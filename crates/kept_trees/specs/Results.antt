@@ -8,7 +8,6 @@ use Rattle.map_method.specs.declared.search.Search.{Search}
 use Rattle.map_method.specs.declared.search.Search.TheVariants.{Live, Dual}
 use Rattle.map_method.specs.declared.claim.Claim.{Claim}
 use Rattle.map_method.specs.declared.claim.Claim.TheVariants.{Best, Bound}
-use Rattle.order_values.specs.DualTrees.{PlainDual}
 use Rattle.order_model.specs.declared.problem.ProblemParts.{ProblemParts}
 use Rattle.order_model.specs.PartTerms.{part_terms, part_numbers}
 use Rattle.order_model.specs.Prefixes.{none_placed}
@@ -27,7 +26,8 @@ use Rattle.order_search.specs.Finding.{places_of, IsLeast, AreAttained}
 use Rattle.order_search.specs.ByItself.{by_itself}
 use Rattle.kept_trees.specs.declared.plan.SearchPlan.{SearchPlan}
 use Rattle.kept_trees.specs.declared.found_part.FoundPart.{FoundPart}
-use Rattle.kept_trees.specs.Renumbered.{renumbered_dual, renumbered_tree}
+use Rattle.dual_ascent.specs.OwnNumbers.{all_segments}
+use Rattle.kept_trees.specs.Renumbered.{renumbered_tree}
 
 -- What is found of a part: a target that none of its orders cost less than, the tree that shows it, orders of the part's
 -- segments, and the branch nodes of the search. Where the search is complete, the orders cost the target.
@@ -48,15 +48,9 @@ by_live grown = record {
   branches = splits_of grown.tree;
 }
 
--- what dual prices find in a part by itself, with the numbers that its segments and its terms have in the problem
-abbrev pub by_dual : List SegId → List ℕ → DualResult → PartResult
-by_dual part numbers r = record {
-  complete = r.complete;
-  target = r.target;
-  tree = by_pairs (renumbered_dual part numbers r.tree);
-  lists = r.orders;
-  branches = r.branches;
-}
+-- what dual prices find in a part by itself
+abbrev pub by_dual : DualResult → PartResult
+by_dual r = record { complete = r.complete; target = r.target; tree = by_pairs r.tree; lists = r.orders; branches = r.branches }
 
 -- the part is searched by dual prices: so it was asked, no segment is too wide, and the load is not too great
 abbrev pub is_dual : Search → ProblemParts → List SegId → Bool
@@ -72,9 +66,16 @@ live_outcome budget p part =
     if is_within Places (places_of p.segs part) then live_found budget (by_live (live_tree (part_in p part)))
     else Err (fault.TooDeep (limit_of Places))
 
--- what dual prices find within a budget
+-- what is found of a part by itself, with the numbers of the problem in its tree
+abbrev pub renumbered_result : List SegId → List ℕ → PartResult → PartResult
+renumbered_result part numbers r = record r { tree = renumbered_tree part numbers r.tree }
+
+-- what dual prices find within a budget in a part by itself, and in a part of a problem
+abbrev pub dual_own : ℕ → ProblemParts → PartResult
+dual_own budget own = by_dual (dual_result own budget)
+
 abbrev pub dual_part : ℕ → ProblemParts → List SegId → PartResult
-dual_part budget p part = by_dual part (part_numbers p.terms part) (dual_result (by_itself p part) budget)
+dual_part budget p part = renumbered_result part (part_numbers p.terms part) (dual_own budget (by_itself p part))
 
 -- a search that is not complete is refused where best orders are claimed; where a bound is, its branch nodes are the budget
 abbrev pub dual_outcome : Claim → ℕ → PartResult → Result PartResult SearchFault
@@ -87,10 +88,21 @@ part_outcome plan p part =
     if is_dual plan.search p part then dual_outcome plan.claim plan.budget (dual_part plan.budget p part)
     else live_outcome plan.budget p part
 
+-- the same of a part by itself, which has all segments of its problem
+abbrev pub own_outcome : SearchPlan → ProblemParts → Result PartResult SearchFault
+own_outcome plan own =
+    if is_dual plan.search own (all_segments own) then dual_outcome plan.claim plan.budget (dual_own plan.budget own)
+    else live_outcome plan.budget own (all_segments own)
+
 -- the branch nodes that the search meets
 abbrev pub branches_met : SearchPlan → ProblemParts → List SegId → ℕ
 branches_met plan p part =
     if is_dual plan.search p part then (dual_part plan.budget p part).branches else (by_live (live_tree (part_in p part))).branches
+
+abbrev pub own_branches : SearchPlan → ProblemParts → ℕ
+own_branches plan own =
+    if is_dual plan.search own (all_segments own) then (dual_own plan.budget own).branches
+    else (by_live (live_tree (part_in own (all_segments own)))).branches
 
 -- what was found, with its tree as a plain one
 abbrev pub result_found : FoundPart → PartResult
@@ -101,10 +113,6 @@ result_found f = record {
   lists = f.orders.lists;
   branches = f.branches;
 }
-
--- what is found of a part by itself, with the numbers of the problem in its tree
-abbrev pub renumbered_result : List SegId → List ℕ → PartResult → PartResult
-renumbered_result part numbers r = record r { tree = renumbered_tree part numbers r.tree }
 
 -- no node of the tree fails for its target
 abbrev pub IsAccepted : Question → PlainPartTree → Type 0
@@ -127,8 +135,12 @@ pub record IsFound (outcome : Result PartResult SearchFault) (p : ProblemParts) 
   pub accepted : IsAccepted (question p.segs part (part_terms p.terms part) f.target) (plain_part_tree f.tree)
   pub of_proofs : IsPartTree (plain_part_tree f.tree)
 
+-- of a part of a problem by its plan, and of a part by itself
 abbrev pub IsResult : SearchPlan → ProblemParts → List SegId → FoundPart → Type 0
 IsResult plan p part f = IsFound (part_outcome plan p part) p part f
+
+abbrev pub IsOwnFound : SearchPlan → ProblemParts → FoundPart → Type 0
+IsOwnFound plan own f = IsFound (own_outcome plan own) own (all_segments own) f
 
 -- the fault is the one that comes by definition; want of memory is free
 abbrev pub IsFaultOf : Result PartResult SearchFault → SearchFault → Type 0

@@ -9,7 +9,7 @@ ghost use Rattle.dual_ascent.specs.DualResults.{dual_result};
 ghost use Rattle.order_search.specs.FoundParts.{branches_in};
 ghost use Rattle.dual_ascent.specs.OwnNumbers.{all_segments};
 ghost use Rattle.kept_trees.specs.OwnTrees.{part_of_key};
-ghost use Rattle.kept_trees.specs.Results.{part_outcome, live_outcome, dual_outcome, dual_part, branches_met, is_dual, IsFound, IsResult, IsFaultOf};
+ghost use Rattle.kept_trees.specs.Results.{live_outcome, dual_outcome, dual_own, own_outcome, own_branches, is_dual, IsFound, IsOwnFound, IsFaultOf};
 
 use crate::found_part::FoundPart;
 use crate::part_key::{PartKey, own_problem};
@@ -33,10 +33,10 @@ pub(crate) fn search_by_itself<L: Ledger>(
     requires problem { IsProblem (part_of_key key.now) }
     requires some { 0 < length key.now.lists.items }
     requires budget { plan.budget ≤ 100000 }
-    ensures found { IfOk result (IsResult plan (part_of_key key.now) (all_segments (part_of_key key.now))) }
-    ensures steps { IfOk result (λ _. steps.new ≡ steps.old + branches_met plan (part_of_key key.now) (all_segments (part_of_key key.now))) }
-    ensures fault { IfErr result (IsFaultOf (part_outcome plan (part_of_key key.now) (all_segments (part_of_key key.now)))) }
-    ensures few_steps { IfErr result (λ _. steps.new ≤ steps.old + branches_met plan (part_of_key key.now) (all_segments (part_of_key key.now))) }
+    ensures found { IfOk result (IsOwnFound plan (part_of_key key.now)) }
+    ensures steps { IfOk result (λ _. steps.new ≡ steps.old + own_branches plan (part_of_key key.now)) }
+    ensures fault { IfErr result (IsFaultOf (own_outcome plan (part_of_key key.now))) }
+    ensures few_steps { IfErr result (λ _. steps.new ≤ steps.old + own_branches plan (part_of_key key.now)) }
 {
     let problem = own_problem(alloc, key)?;
     if plan.search == Search::Dual && is_searched(&problem) {
@@ -81,9 +81,9 @@ fn dual_found<L: Ledger>(
 ) -> Result<FoundPart, SearchFault>
     requires reach { is_dual Dual problem.now (all_segments problem.now) ≡ true }
     requires budget { plan.budget ≤ 100000 }
-    ensures found { IfOk result (IsFound (dual_outcome plan.claim plan.budget (dual_part plan.budget problem.now (all_segments problem.now))) problem.now (all_segments problem.now)) }
+    ensures found { IfOk result (IsFound (dual_outcome plan.claim plan.budget (dual_own plan.budget problem.now)) problem.now (all_segments problem.now)) }
     ensures steps { IfOk result (λ _. steps.new ≡ steps.old + (dual_result problem.now plan.budget).branches) }
-    ensures fault { IfErr result (IsFaultOf (dual_outcome plan.claim plan.budget (dual_part plan.budget problem.now (all_segments problem.now)))) }
+    ensures fault { IfErr result (IsFaultOf (dual_outcome plan.claim plan.budget (dual_own plan.budget problem.now))) }
     ensures few_steps { IfErr result (λ _. steps.new ≤ steps.old + (dual_result problem.now plan.budget).branches) }
 {
     let found = dual_search::search(alloc, problem, plan.budget, steps)?;
