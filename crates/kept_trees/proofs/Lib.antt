@@ -7,3 +7,5 @@ mod HeldParts
 pub mod HeldLists
 mod RenamedDuals
 mod OwnDuals
+pub mod PutOrders
+mod OwnOrders

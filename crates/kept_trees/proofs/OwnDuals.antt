@@ -99,7 +99,7 @@ terms_back part numbers k (q ∷ rest) of same =
     ∙ ap (λ (t : Term). (q.0, t) ∷ later) (term_back part q.1 of.0)
     ∙ ap (λ (qs : List Named). q ∷ qs) (terms_back part numbers (k + 1) rest of.1 (λ i j e below. same (suc i) j (omega (arith, e)) (omega (arith, below))))
 
-kept_of : (part : List SegId) (qs : List Named) → AllByRecursion (λ (q : Named). is_of part q.1 ≡ true) (filter (λ (q : Named). is_of part q.1) qs)
+pub kept_of : (part : List SegId) (qs : List Named) → AllByRecursion (λ (q : Named). is_of part q.1 ≡ true) (filter (λ (q : Named). is_of part q.1) qs)
 kept_of part [] = tt
 kept_of part (q ∷ qs) = by (is_of part q.1) refl
   where
