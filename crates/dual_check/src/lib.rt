@@ -1,8 +1,20 @@
-//! A stub of the check of dual trees: it answers want of memory alone.
+//! The check of a dual tree: whether it shows that no orders of a part cost less than a target.
+//!
+//! `check_dual` walks over the tree in the order of its text, with the pairs of lines that are settled on the way, and
+//! refuses the first node that does not hold. A stop holds where its prices are allowed and their value, the sum of the
+//! least shares of the part's segments, shows the target; the least share is found over sets of lines.
 #![tactic(auto)]
 
+mod asked;
 mod check;
+mod groups;
+mod load;
+mod prices;
+mod rows;
+mod shares;
 mod stop;
+mod value;
+mod walk;
 
 pub use check::check_dual;
 pub use stop::DualStop;

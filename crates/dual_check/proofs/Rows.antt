@@ -1,0 +1,130 @@
+-- Entries of rows, and what is added to them.
+use Rattle.std.proofs.Common.{◌≡◌, ◌≢◌, ℕ, zero, suc, ◌+◌, ◌*◌, ◌<◌, ◌≤◌, ◌==◌, ◌||◌, ◌&&◌, Bool, true, false, cond, List, [], ◌∷◌, length, get_or, refl, sym, ◌∙◌, ap, subst, arith, ◌⊎◌, inl, inr, true≢false, eq-eqb, eqb-true}
+use Rattle.std.specs.Prelude.{ℤ, pos, ◌+ℤ◌, ◌-ℤ◌, unsigned_abs}
+use Rattle.std.proofs.Math.Nat.{mul-le-mul_right, suc-mul}
+use Rattle.std.proofs.lemmas.Bool.{cases_order, ne_eqb, eqb-false}
+use Rattle.std.proofs.lemmas.Int.{ints}
+use Rattle.map_base.specs.declared.ids.LineId.{LineId}
+use Rattle.graph_core.specs.Consistent.{AreRising}
+use Rattle.order_model.specs.Costs.{are_these}
+use Rattle.order_model.specs.Places.{has_line, place_of}
+use Rattle.order_model.proofs.Lines.{either_true, same_line}
+use Rattle.least_orders.specs.OrderCosts.{PairCosts, cost_before, cost_beside}
+use Rattle.least_orders.specs.Rows.{line_at, named, entry}
+use Rattle.least_orders.proofs.Renaming.{same_name}
+use Rattle.dual_check.specs.RowSteps.{row_entry, IsAddedBefore, IsAddedBeside, IsMoreBy}
+
+-- Places.
+
+pub place_known : (lines : List LineId) (a : LineId) → has_line lines a ≡ true → (place_of lines a < length lines) × ((d : LineId) → get_or lines (place_of lines a) d ≡ a)
+place_known [] a h = absurd (true≢false (sym h))
+place_known (x ∷ lines) a h = by_test (x.0 == a.0) refl (either_true (x.0 == a.0) (has_line lines a) h) (λ k. place_known lines a k)
+  where
+    by_test : (b : Bool) → (x.0 == a.0) ≡ b → ((x.0 == a.0) ≡ true) ⊎ (has_line lines a ≡ true)
+        → (has_line lines a ≡ true → (place_of lines a < length lines) × ((d : LineId) → get_or lines (place_of lines a) d ≡ a))
+        → (cond b 0 (1 + place_of lines a) < length (x ∷ lines)) × ((d : LineId) → get_or (x ∷ lines) (cond b 0 (1 + place_of lines a)) d ≡ a)
+    by_test true e k rest = (omega arith, λ d. same_line x a e)
+    by_test false e (inl k) rest = absurd (true≢false (sym k ∙ e))
+    by_test false e (inr k) rest =
+        let more = rest k in
+        let next : 1 + place_of lines a ≡ suc (place_of lines a) = omega arith in
+        (let below = more.0 in omega (arith, below), λ d. ap (λ j. get_or (x ∷ lines) j d) next ∙ more.1 d)
+
+-- a line has the name at a place exactly where it stands there
+pub name_at : (lines : List LineId) (a : LineId) (i : ℕ) → AreRising lines → has_line lines a ≡ true → i < length lines → ((named lines (line_at i)).0 == a.0) ≡ (i == place_of lines a)
+name_at lines a i rising has below =
+    let known = place_known lines a has in
+    ap (λ (u : LineId). (named lines (line_at i)).0 == u.0) (sym (known.1 (line_at (place_of lines a)))) ∙ same_name lines rising (line_at i) (line_at (place_of lines a)) below known.0
+
+-- Entries.
+
+row_before : (m k n j : ℕ) → m < k → j < n → m * n + j < k * n
+row_before m k n j below within =
+    let rows = mul-le-mul_right {m = m + 1} {n = k} n (omega (arith, below)) in
+    let next : (m + 1) * n ≡ m * n + n = ap (λ i. i * n) (omega arith) ∙ suc-mul m n in
+    omega (arith, within, rows, next)
+
+pub same_entry : (n i j k l : ℕ) → j < n → l < n → ((i * n + j) == (k * n + l)) ≡ ((i == k) && (j == l))
+same_entry n i j k l first second = elim (cases_order i k) [
+  | inl is ↦ ap (λ m. (m * n + j) == (k * n + l)) is ∙ (by_place (j == l) refl ∙ ap (λ t. t && (j == l)) (sym (eq-eqb i k is)))
+  | inr apart ↦ elim apart [
+    | inl less ↦ (let under = row_before i k n j less first in ne_eqb (i * n + j) (k * n + l) (λ e. absurd (omega (arith, under, e)))) ∙ ap (λ t. t && (j == l)) (sym (ne_eqb i k (λ e. absurd (omega (arith, less, e)))))
+    | inr more ↦ (let under = row_before k i n l more second in ne_eqb (i * n + j) (k * n + l) (λ e. absurd (omega (arith, under, e)))) ∙ ap (λ t. t && (j == l)) (sym (ne_eqb i k (λ e. absurd (omega (arith, more, e)))))
+  ]
+]
+  where
+    by_place : (b : Bool) → (j == l) ≡ b → ((k * n + j) == (k * n + l)) ≡ (j == l)
+    by_place true e = eq-eqb (k * n + j) (k * n + l) (let same = eqb-true j l e in omega (arith, same)) ∙ sym e
+    by_place false e = ne_eqb (k * n + j) (k * n + l) (λ f. absurd (eqb-false j l e (omega (arith, f)))) ∙ sym e
+
+-- One entry is changed.
+
+abbrev pub IsAddedAt : ℕ → ℤ → List ℤ → List ℤ → Type 0
+IsAddedAt at amount old new = (k : ℕ) → row_entry new k ≡ cond (k == at) (row_entry old k +ℤ amount) (row_entry old k)
+
+moved_by : (a b c : ℤ) (most : ℕ) → unsigned_abs c ≤ most → a ≡ b +ℤ c → unsigned_abs (a -ℤ b) ≤ most
+moved_by a b c most small e = grind (arith, ints)
+
+pub more_by : (at : ℕ) (amount : ℤ) (old new : List ℤ) (most : ℕ) → unsigned_abs amount ≤ most → IsAddedAt at amount old new → IsMoreBy most old new
+more_by at amount old new most small h k = by_test (k == at) (h k)
+  where
+    by_test : (b : Bool) → row_entry new k ≡ cond b (row_entry old k +ℤ amount) (row_entry old k) → unsigned_abs (row_entry new k -ℤ row_entry old k) ≤ most
+    by_test true e = moved_by (row_entry new k) (row_entry old k) amount most small e
+    by_test false e = moved_by (row_entry new k) (row_entry old k) (pos 0) most (omega arith) (e ∙ no_more (row_entry old k))
+      where
+        no_more : (b : ℤ) → b ≡ b +ℤ pos 0
+        no_more b = omega (arith, ints)
+
+-- an amount by test
+added_if : (b : Bool) (v amount : ℤ) → cond b (v +ℤ amount) v ≡ v +ℤ cond b amount (pos 0)
+added_if true v amount = refl
+added_if false v amount = omega (arith, ints)
+
+pub added_before : (lines : List LineId) (first second : LineId) (amount : ℤ) (old new : List ℤ) → AreRising lines → has_line lines first ≡ true → has_line lines second ≡ true
+    → IsAddedAt (place_of lines first * length lines + place_of lines second) amount old new → IsAddedBefore lines (cost_before first second amount) old new
+added_before lines first second amount old new rising has has_too h i j here there =
+    h (i * length lines + j)
+    ∙ (ap (λ b. cond b (row_entry old (i * length lines + j) +ℤ amount) (row_entry old (i * length lines + j)))
+    (same_entry (length lines) i j (place_of lines first) (place_of lines second) there (place_known lines second has_too).0)
+    ∙ (added_if ((i == place_of lines first) && (j == place_of lines second)) (row_entry old (i * length lines + j)) amount
+    ∙ (ap (λ b. row_entry old (i * length lines + j) +ℤ cond (b && (j == place_of lines second)) amount (pos 0)) (sym (name_at lines first i rising has here))
+    ∙ ap (λ b. row_entry old (i * length lines + j) +ℤ cond (((named lines (line_at i)).0 == first.0) && b) amount (pos 0)) (sym (name_at lines second j rising has_too there)))))
+
+-- two entries are changed, of which no place has both
+both_if : (s t : Bool) (v amount : ℤ) → (s ≡ true → t ≡ true → ⊥) → cond t (cond s (v +ℤ amount) v +ℤ amount) (cond s (v +ℤ amount) v) ≡ v +ℤ cond (s || t) amount (pos 0)
+both_if true true v amount h = absurd (h refl refl)
+both_if true false v amount h = refl
+both_if false true v amount h = refl
+both_if false false v amount h = omega (arith, ints)
+
+pub added_beside : (lines : List LineId) (a b : LineId) (amount : ℤ) (old between new : List ℤ) → AreRising lines → has_line lines a ≡ true → has_line lines b ≡ true → (a.0 == b.0) ≡ false
+    → IsAddedAt (place_of lines a * length lines + place_of lines b) amount old between → IsAddedAt (place_of lines b * length lines + place_of lines a) amount between new
+    → IsAddedBeside lines (cost_beside a b amount) old new
+added_beside lines a b amount old between new rising has has_too apart h g i j here there =
+    g (i * length lines + j)
+    ∙ (ap (λ v. cond ((i * length lines + j) == (place_of lines b * length lines + place_of lines a)) (v +ℤ amount) v) (h (i * length lines + j))
+    ∙ (ap (λ t. cond t (cond ((i * length lines + j) == (place_of lines a * length lines + place_of lines b)) (row_entry old (i * length lines + j) +ℤ amount) (row_entry old (i * length lines + j)) +ℤ amount)
+    (cond ((i * length lines + j) == (place_of lines a * length lines + place_of lines b)) (row_entry old (i * length lines + j) +ℤ amount) (row_entry old (i * length lines + j)))) second
+    ∙ (ap (λ s. cond (((named lines (line_at i)).0 == b.0) && ((named lines (line_at j)).0 == a.0)) (cond s (row_entry old (i * length lines + j) +ℤ amount) (row_entry old (i * length lines + j)) +ℤ amount)
+    (cond s (row_entry old (i * length lines + j) +ℤ amount) (row_entry old (i * length lines + j)))) first
+    ∙ both_if (((named lines (line_at i)).0 == a.0) && ((named lines (line_at j)).0 == b.0)) (((named lines (line_at i)).0 == b.0) && ((named lines (line_at j)).0 == a.0)) (row_entry old (i * length lines + j)) amount never)))
+  where
+    first : ((i * length lines + j) == (place_of lines a * length lines + place_of lines b)) ≡ (((named lines (line_at i)).0 == a.0) && ((named lines (line_at j)).0 == b.0))
+    first =
+        same_entry (length lines) i j (place_of lines a) (place_of lines b) there (place_known lines b has_too).0
+        ∙ (ap (λ t. t && (j == place_of lines b)) (sym (name_at lines a i rising has here)) ∙ ap (λ t. ((named lines (line_at i)).0 == a.0) && t) (sym (name_at lines b j rising has_too there)))
+
+    second : ((i * length lines + j) == (place_of lines b * length lines + place_of lines a)) ≡ (((named lines (line_at i)).0 == b.0) && ((named lines (line_at j)).0 == a.0))
+    second =
+        same_entry (length lines) i j (place_of lines b) (place_of lines a) there (place_known lines a has).0
+        ∙ (ap (λ t. t && (j == place_of lines a)) (sym (name_at lines b i rising has_too here)) ∙ ap (λ t. ((named lines (line_at i)).0 == b.0) && t) (sym (name_at lines a j rising has there)))
+
+    left_of : (s t : Bool) → (s && t) ≡ true → s ≡ true
+    left_of true t e = refl
+    left_of false t e = absurd (true≢false (sym e))
+
+    never : (((named lines (line_at i)).0 == a.0) && ((named lines (line_at j)).0 == b.0)) ≡ true → (((named lines (line_at i)).0 == b.0) && ((named lines (line_at j)).0 == a.0)) ≡ true → ⊥
+    never e f =
+        let one = eqb-true (named lines (line_at i)).0 a.0 (left_of ((named lines (line_at i)).0 == a.0) ((named lines (line_at j)).0 == b.0) e) in
+        let two = eqb-true (named lines (line_at i)).0 b.0 (left_of ((named lines (line_at i)).0 == b.0) ((named lines (line_at j)).0 == a.0) f) in
+        eqb-false a.0 b.0 apart (sym one ∙ two)

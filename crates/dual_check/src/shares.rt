@@ -1,0 +1,176 @@
+//! What the terms on a segment make each two of its lines cost under prices.
+
+ghost use Rattle.std.specs.Prelude.{◌≡◌, ◌+◌, ◌<◌, ◌≤◌, ℕ, length, unsigned_abs, All, IsTrue};
+ghost use Rattle.graph_core.specs.Consistent.{AreRising};
+ghost use Rattle.order_model.specs.Problems.{IsProblem, IsTerm, lines_on};
+ghost use Rattle.order_model.specs.PartTerms.{terms_by_number};
+ghost use Rattle.order_values.specs.PriceLists.{price_at, AreRisingPrices};
+ghost use Rattle.least_orders.specs.OrderCosts.{cost_before, cost_beside};
+ghost use Rattle.dual_bound.specs.ShareCosts.{costs_where, link_costs, term_costs, share_costs};
+ghost use Rattle.dual_check.specs.Prices.{AreSmallPrices};
+ghost use Rattle.dual_check.specs.RowSteps.{TellPairs, AreSmall, HaveAdded, AreTwoOf, IsRoomy, IsAddedBefore, IsAddedBeside, IsMoreBy};
+
+use crate::prices::price_at;
+use crate::rows::{add, clear, place_of};
+use map_base::{LineId, SegId};
+use order_model::{Problem, Term};
+
+/// Writes into the rows what the terms of these numbers make each two lines of a segment cost.
+pub(crate) fn put_shares(
+    problem: &Problem,
+    s: SegId,
+    numbers: &[u32],
+    prices: &[(u32, i64)],
+    before: &mut [i64],
+    beside: &mut [i64],
+)
+    requires problem { IsProblem problem.now }
+    requires known { s.0 < length problem.now.segs }
+    requires few { length (lines_on problem.now.segs s) ≤ 16 }
+    requires numbers { All (λ n. n < length problem.now.terms) numbers.now }
+    requires count { length numbers.now ≤ 4000000 }
+    requires rising { AreRisingPrices prices.now }
+    requires within { AreSmallPrices prices.now }
+    requires before { length before.old ≡ 256 }
+    requires beside { length beside.old ≡ 256 }
+    ensures told { TellPairs (lines_on problem.now.segs s) (share_costs (terms_by_number problem.now.terms numbers.now) (price_at prices.now) s) before.new beside.new }
+    ensures small { AreSmall (length numbers.now) before.new beside.new }
+{
+    let terms = problem.terms();
+    clear(before);
+    clear(beside);
+    for n in numbers {
+        add_term(
+            problem,
+            s,
+            terms[*n as usize],
+            price_at(prices, *n),
+            before,
+            beside,
+        );
+    }
+}
+
+/// Adds what one term makes each two lines cost.
+fn add_term(
+    problem: &Problem,
+    s: SegId,
+    term: Term,
+    price: i64,
+    before: &mut [i64],
+    beside: &mut [i64],
+)
+    requires problem { IsProblem problem.now }
+    requires known { s.0 < length problem.now.segs }
+    requires few { length (lines_on problem.now.segs s) ≤ 16 }
+    requires term { IsTerm problem.now.segs term }
+    requires price { unsigned_abs price ≤ 256000000 }
+    requires before { length before.old ≡ 256 }
+    requires beside { length beside.old ≡ 256 }
+    requires small { AreSmall 4000000 before.old beside.old }
+    ensures added { HaveAdded (lines_on problem.now.segs s) (term_costs price s term) before.old beside.old before.new beside.new }
+    ensures small { (m : ℕ) → AreSmall m before.old beside.old → AreSmall (m + 1) before.new beside.new }
+{
+    let lines = problem.segs()[s.0 as usize].as_slice();
+    match term {
+        Term::Side {
+            seg,
+            first,
+            second,
+            w,
+        } => add_before(lines, seg == s, second, first, 1000 * i64::from(w), before),
+        Term::Link {
+            seg,
+            other,
+            flip,
+            a,
+            b,
+            ..
+        } => {
+            add_link(lines, other == s, flip, a, b, price, before);
+            add_before(lines, seg == s, b, a, 0 - price, before);
+        }
+        Term::Apart {
+            seg,
+            other,
+            a,
+            b,
+            ..
+        } => {
+            add_beside(lines, other == s, a, b, price, beside);
+            add_beside(lines, seg == s, a, b, 0 - price, beside);
+        }
+    }
+}
+
+/// What a Link makes its lines cost at its other segment, where this is it.
+fn add_link(
+    lines: &[LineId],
+    so: bool,
+    flip: bool,
+    a: LineId,
+    b: LineId,
+    price: i64,
+    before: &mut [i64],
+)
+    requires rising { AreRising lines.now }
+    requires few { length lines.now ≤ 16 }
+    requires on { IsTrue so → AreTwoOf lines.now a b }
+    requires price { unsigned_abs price ≤ 256000000 }
+    requires room { length before.old ≡ 256 }
+    requires small { IsRoomy before.old }
+    ensures added { IsAddedBefore lines.now (costs_where so (link_costs flip a b price)) before.old before.new }
+    ensures small { IsMoreBy 256000000 before.old before.new }
+{
+    if flip {
+        add_before(lines, so, a, b, price, before);
+    } else {
+        add_before(lines, so, b, a, price, before);
+    }
+}
+
+/// Where it is so, two lines cost an amount more where the first stands before the second.
+fn add_before(
+    lines: &[LineId],
+    so: bool,
+    first: LineId,
+    second: LineId,
+    amount: i64,
+    before: &mut [i64],
+)
+    requires rising { AreRising lines.now }
+    requires few { length lines.now ≤ 16 }
+    requires on { IsTrue so → AreTwoOf lines.now first second }
+    requires amount { unsigned_abs amount ≤ 256000000 }
+    requires room { length before.old ≡ 256 }
+    requires small { IsRoomy before.old }
+    ensures added { IsAddedBefore lines.now (costs_where so (cost_before first second amount)) before.old before.new }
+    ensures small { IsMoreBy 256000000 before.old before.new }
+{
+    if !so {
+        return;
+    }
+    let i = place_of(lines, first);
+    let j = place_of(lines, second);
+    add(before, lines.len(), i, j, amount);
+}
+
+/// Where it is so, two lines cost an amount more where they are neighbours.
+fn add_beside(lines: &[LineId], so: bool, a: LineId, b: LineId, amount: i64, beside: &mut [i64])
+    requires rising { AreRising lines.now }
+    requires few { length lines.now ≤ 16 }
+    requires on { IsTrue so → AreTwoOf lines.now a b }
+    requires amount { unsigned_abs amount ≤ 256000000 }
+    requires room { length beside.old ≡ 256 }
+    requires small { IsRoomy beside.old }
+    ensures added { IsAddedBeside lines.now (costs_where so (cost_beside a b amount)) beside.old beside.new }
+    ensures small { IsMoreBy 256000000 beside.old beside.new }
+{
+    if !so {
+        return;
+    }
+    let i = place_of(lines, a);
+    let j = place_of(lines, b);
+    add(beside, lines.len(), i, j, amount);
+    add(beside, lines.len(), j, i, amount);
+}
