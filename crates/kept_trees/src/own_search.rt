@@ -14,7 +14,7 @@ ghost use Rattle.kept_trees.specs.Results.{live_outcome, dual_outcome, dual_own,
 use crate::found_part::FoundPart;
 use crate::part_key::{PartKey, own_problem};
 use crate::plan::SearchPlan;
-use dual_search::is_searched;
+use dual_search::is_in_reach;
 use map_base::{NoMemory, SegId, Steps};
 use map_method::{Claim, Search};
 use order_model::Problem;
@@ -39,7 +39,7 @@ pub(crate) fn search_by_itself<L: Ledger>(
     ensures few_steps { IfErr result (λ _. steps.new ≤ steps.old + own_branches plan (part_of_key key.now)) }
 {
     let problem = own_problem(alloc, key)?;
-    if plan.search == Search::Dual && is_searched(&problem) {
+    if plan.search == Search::Dual && is_in_reach(&problem) {
         return dual_found(alloc, &problem, plan, steps);
     }
     let part = all_segments(alloc, key)?;
@@ -79,6 +79,7 @@ fn dual_found<L: Ledger>(
     plan: SearchPlan,
     steps: &mut Steps<L>,
 ) -> Result<FoundPart, SearchFault>
+    requires some { 0 < length problem.now.segs }
     requires reach { is_dual Dual problem.now (all_segments problem.now) ≡ true }
     requires budget { plan.budget ≤ 100000 }
     ensures found { IfOk result (IsFound (dual_outcome plan.claim plan.budget (dual_own plan.budget problem.now)) problem.now (all_segments problem.now)) }
