@@ -83,14 +83,7 @@ fn check_certificate(
     };
     let (tables, settings) = (&loaded.tables, &loaded.settings);
     let claim = loaded.method.claim;
-    Ok(check_on_graph(
-        alloc,
-        tables,
-        settings,
-        claim,
-        graph,
-        bytes.as_slice(),
-    )?)
+    Ok(check_on_graph(alloc, tables, settings, claim, graph, bytes.as_slice())?)
 }
 
 /// Reads the map, and compares it with the picture that is due.

@@ -64,13 +64,31 @@ const WRONG: [(&[u8], u64); 35] = [
     (b"rules 0\nparts 1\npart 0 0\nstop 1 8 1000000000001\n", 25),
     (b"rules 0\nparts 1\npart 0 0\nstop 2 8 1 8 1\n", 25),
     (b"rules 0\nparts 1\npart 0 0\nstop\n", 25),
-    (b"rules 0\nparts 1\npart 0 0\nfork 0 1\nstop 0\nstop 0\n", 25),
-    (b"rules 0\nparts 1\npart 0 0\nfork 0 1 4294967296\nstop 0\nstop 0\n", 25),
+    (
+        b"rules 0\nparts 1\npart 0 0\nfork 0 1\nstop 0\nstop 0\n",
+        25,
+    ),
+    (
+        b"rules 0\nparts 1\npart 0 0\nfork 0 1 4294967296\nstop 0\nstop 0\n",
+        25,
+    ),
     (b"rules 0\nparts 1\npart 0 0\nfork 0 1 2\nstop 0\n", 43),
-    (b"rules 0\nparts 1\npart 0 0\nfork 0 1 2\nstop 0\nclose 0\n", 43),
-    (b"rules 0\nparts 1\npart 0 0\nfork 0 1 2\nsplit 0 1\ntake 0\nclose 0\nstop 0\n", 36),
-    (b"rules 0\nparts 1\npart 0 0\nsplit 0 1\ntake 0\nstop 0\n", 42),
-    (b"rules 0\nparts 1\npart 0 0\nforks 0 1 2\nstop 0\nstop 0\n", 25),
+    (
+        b"rules 0\nparts 1\npart 0 0\nfork 0 1 2\nstop 0\nclose 0\n",
+        43,
+    ),
+    (
+        b"rules 0\nparts 1\npart 0 0\nfork 0 1 2\nsplit 0 1\ntake 0\nclose 0\nstop 0\n",
+        36,
+    ),
+    (
+        b"rules 0\nparts 1\npart 0 0\nsplit 0 1\ntake 0\nstop 0\n",
+        42,
+    ),
+    (
+        b"rules 0\nparts 1\npart 0 0\nforks 0 1 2\nstop 0\nstop 0\n",
+        25,
+    ),
 ];
 
 #[test]
