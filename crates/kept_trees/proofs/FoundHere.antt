@@ -1,145 +1,76 @@
--- What a search finds in a part by itself it finds in the part.
-use Rattle.std.proofs.Common.{◌≡◌, ℕ, ◌<◌, ◌≤◌, true, List, length, sym, ◌∙◌, ap, subst, arith}
+-- What each search finds, and that what is found in a part by itself is found in the part.
+use Rattle.std.proofs.Common.{◌≡◌, ℕ, ◌+◌, ◌<◌, ◌≤◌, nat_le, Bool, true, false, cond, List, length, sym, refl, ◌∙◌, ap, subst, true≢false, le-leb, lt-ltb, arith, Option, Some, None, Result, Ok, Err}
 use Rattle.std.specs.List.{All}
+use Rattle.std.proofs.lemmas.Bool.{lt-leb}
 use Rattle.map_base.specs.declared.ids.SegId.{SegId}
-use Rattle.map_method.specs.declared.search.Search.{Search}
-use Rattle.map_method.specs.declared.search.Search.TheVariants.{Live, Rising}
+use Rattle.map_base.specs.declared.ids.LineId.{LineId}
+use Rattle.map_base.specs.declared.limit.LimitKind.TheVariants.{Places}
+use Rattle.map_base.specs.declared.limit.Limit.{Limit}
+use Rattle.map_base.specs.Limits.{limit_of}
+use Rattle.map_method.specs.declared.claim.Claim.{Claim}
+use Rattle.map_method.specs.declared.claim.Claim.TheVariants.{Best, Bound}
 use Rattle.order_model.specs.declared.problem.ProblemParts.{ProblemParts}
 use Rattle.order_model.specs.Problems.{IsProblem}
 use Rattle.order_model.specs.Parts.{IsRisingPart}
-use Rattle.order_model.specs.PartTerms.{part_terms, part_numbers}
+use Rattle.order_model.specs.PartTerms.{part_terms}
 use Rattle.order_model.specs.Prefixes.{none_placed}
-use Rattle.order_proof.specs.Plain.{plain}
-use Rattle.order_proof.specs.Trees.{IsProofTree}
-use Rattle.order_bound.specs.Accepting.{accepts}
 use Rattle.order_model.specs.Questions.{question}
+use Rattle.order_proof.specs.Plain.{plain, by_cases}
+use Rattle.order_proof.specs.declared.part_tree.PartTree.TheVariants.{ByCases}
+use Rattle.order_bound.proofs.Failing.{accepted_exactly}
 use Rattle.order_search.specs.declared.found.Found.{Found}
 use Rattle.order_search.specs.declared.found.SearchFault.{SearchFault}
-use Rattle.order_search.specs.LiveTrees.{GrownTree, live_tree}
-use Rattle.order_search.specs.Finding.{places_of, most_places, IsSearchFault, IsLeast, AreAttained}
-use Rattle.order_search.specs.FoundParts.{part_in, IsFoundIn}
-use Rattle.order_search.specs.ByItself.{by_itself, own_segments, renumbered, seg_from, number_from}
-use Rattle.order_search.proofs.OwnParts.{from_own, splits_by}
-use Rattle.order_search.proofs.Shows as live
-use Rattle.rising_search.specs.RisingParts.{IsRisenIn}
-use Rattle.rising_search.proofs.OwnSearches as own_searches
-use Rattle.rising_search.proofs.RisingParts as rising_parts
-use Rattle.kept_trees.specs.Results.{PartResult, by_live, by_rising, result_of, branches_by, result_found, IsResult}
-use Rattle.kept_trees.specs.OwnTrees.{held_as, all_segments, IsOwnResult}
-use Rattle.kept_trees.proofs.OwnNumbers.{all_are_own, places_by_itself}
+use Rattle.order_search.specs.declared.found.SearchFault.TheVariants as fault
+use Rattle.order_search.specs.LiveTrees.{live_tree}
+use Rattle.order_search.specs.Finding.{places_of, most_places, IsSearchFault}
+use Rattle.order_search.specs.FoundParts.{part_in, branches_in, IsFoundIn}
+use Rattle.kept_trees.specs.declared.found_part.FoundPart.{FoundPart}
+use Rattle.kept_trees.specs.Results.{PartResult, by_live, live_found, live_outcome, dual_outcome, result_found, IsFound, IsFaultOf}
 
--- What each search finds is what comes of it.
+-- ---- the live search
 
-pub live_result : (p : ProblemParts) (part : List SegId) (f : Found) → IsFoundIn p part f → IsResult Live p part f
-live_result p part f h = record {
-  found = λ i. record { target = (h.best i).cost; tree = h.tree i; lists = (h.best i).lists; branches = h.branches i };
-  places = h.places;
-  least = h.least;
-  attained = h.attained;
-  accepted = h.accepted;
-  of_proofs = h.of_proofs;
-}
+within_places : (p : ProblemParts) (part : List SegId) → places_of p.segs part ≤ most_places → nat_le (places_of p.segs part) 2048 ≡ true
+within_places p part few = le-leb (places_of p.segs part) 2048 few
 
-pub rising_result : (p : ProblemParts) (part : List SegId) (f : Found) → IsRisenIn p part f → IsResult Rising p part f
-rising_result p part f h = record {
-  found = ap by_rising h.found;
-  places = h.places;
-  least = h.least;
-  attained = h.attained;
-  accepted = h.accepted;
-  of_proofs = h.of_proofs;
-}
+above_places : (p : ProblemParts) (part : List SegId) → most_places < places_of p.segs part → nat_le (places_of p.segs part) 2048 ≡ false
+above_places p part many = lt-leb 2048 (places_of p.segs part) many
 
--- What comes of a search shows the least cost of the part.
+live_goes_on : (budget : ℕ) (p : ProblemParts) (part : List SegId) → places_of p.segs part ≤ most_places → live_outcome budget p part ≡ live_found budget (by_live (live_tree (part_in p part)))
+live_goes_on budget p part few =
+    ap (λ (b : Bool). cond b (live_found budget (by_live (live_tree (part_in p part)))) (Err (fault.TooDeep (limit_of Places)))) (within_places p part few)
 
-pub record Shows (p : ProblemParts) (part : List SegId) (x : PartResult) : Type 0 where
-  pub least : IsLeast (part_in p part) x.target
-  pub attained : AreAttained (part_in p part) x.lists x.target
-  pub accepted : accepts (question p.segs part (part_terms p.terms part) x.target) (none_placed p.segs) x.tree ≡ true
-  pub of_proofs : places_of p.segs part ≤ most_places → IsProofTree x.tree
+-- what the live search finds is what comes of the part
+pub live_result : (budget : ℕ) (p : ProblemParts) (part : List SegId) (f : Found) → IsFoundIn p part f → f.branches ≤ budget
+    → IsFound (live_outcome budget p part) p part (record { complete = true; orders = f.orders; target = f.target; branches = f.branches; tree = ByCases f.tree })
+live_result budget p part f h within =
+    let found : FoundPart = record { complete = true; orders = f.orders; target = f.target; branches = f.branches; tree = ByCases f.tree } in
+    let same : by_live (live_tree (part_in p part)) ≡ result_found found =
+    sym (λ i. record { complete = true; target = (h.best i).cost; tree = by_cases (h.tree i); lists = (h.best i).lists; branches = h.branches i }) in
+    let affordable : nat_le (result_found found).branches budget ≡ true = le-leb f.branches budget within in
+    record {
+      found = live_goes_on budget p part h.places ∙ ap (live_found budget) same
+          ∙ ap (λ (b : Bool). cond b (Ok (result_found found)) (Err (fault.Spent (budget + 1)))) affordable;
+      bound = h.least;
+      cost = f.target;
+      attained = h.attained;
+      costs = refl;
+      accepted = (accepted_exactly (question p.segs part (part_terms p.terms part) f.target) (none_placed p.segs) (plain f.tree)).0 h.accepted;
+      of_proofs = h.of_proofs;
+    }
 
-pub shown : (how : Search) (p : ProblemParts) (part : List SegId) → IsProblem p → All (λ (s : SegId). s.0 < length p.segs) part → IsRisingPart part → Shows p part (result_of how p part)
-shown Live p part ok known rising = record {
-  least = live.least p.segs p.terms part ok.rising ok.terms rising known;
-  attained = live.attained p.segs p.terms part ok.rising ok.terms rising known;
-  accepted = live.accepted p.segs p.terms part ok.rising ok.terms rising known;
-  of_proofs = live.of_proofs p.segs p.terms part ok.rising ok.terms rising known;
-}
-shown Rising p part ok known rising = record {
-  least = rising_parts.least p part ok known rising;
-  attained = rising_parts.attained p part ok known rising;
-  accepted = rising_parts.accepted p part ok known rising;
-  of_proofs = rising_parts.of_proofs p part ok known rising;
-}
-
--- what was found, with the numbers of the problem in its tree
-abbrev pub renumbered_result : List SegId → List ℕ → PartResult → PartResult
-renumbered_result part numbers x = record { target = x.target; tree = renumbered part numbers x.tree; lists = x.lists; branches = x.branches }
-
-pub same_places : (p : ProblemParts) (part : List SegId) → places_of (by_itself p part).segs (all_segments (by_itself p part)) ≡ places_of p.segs part
-same_places p part = ap (places_of (by_itself p part).segs) (all_are_own p part) ∙ places_by_itself p part
-
-module _ (p : ProblemParts) (part : List SegId) (known : All (λ (s : SegId). s.0 < length p.segs) part) (rising : IsRisingPart part) where
-  abbrev own : ProblemParts
-  own = by_itself p part
-
-  abbrev numbers_there : List ℕ
-  numbers_there = part_numbers p.terms part
-
-  from_own_segments : (how : Search) → result_of how p part ≡ renumbered_result part numbers_there (result_of how own (own_segments part))
-  from_own_segments Live =
-      let grown : GrownTree = live_tree (part_in own (own_segments part)) in
-      let made : ℕ → PartResult = λ n. record { target = grown.best.cost; tree = renumbered part numbers_there grown.tree; lists = grown.best.lists; branches = n } in
-      ap by_live (from_own p part known rising) ∙ ap made (splits_by (seg_from part) (number_from numbers_there) grown.tree)
-  from_own_segments Rising = ap by_rising (own_searches.from_own p part known rising)
-
-  module _ (how : Search) where
-    abbrev here : PartResult
-    here = result_of how p part
-
-    abbrev by_own : PartResult
-    by_own = result_of how own (all_segments own)
-
-    from_itself : here ≡ renumbered_result part numbers_there by_own
-    from_itself =
-        from_own_segments how
-        ∙ ap (λ (ss : List SegId). renumbered_result part numbers_there (result_of how own ss)) (sym (all_are_own p part))
-
-    pub same_branches : branches_by how own (all_segments own) ≡ branches_by how p part
-    same_branches = sym (ap (λ (x : PartResult). x.branches) from_itself)
-
-    pub same_fault : (budget : ℕ) (e : SearchFault) → IsSearchFault (places_of own.segs (all_segments own)) (branches_by how own (all_segments own)) budget e
-        → IsSearchFault (places_of p.segs part) (branches_by how p part) budget e
-    same_fault budget e fault =
-        subst (λ (n : ℕ). IsSearchFault (places_of p.segs part) n budget e) same_branches
-        (subst (λ (n : ℕ). IsSearchFault n (branches_by how own (all_segments own)) budget e) (same_places p part) fault)
-
-    module _ (f : Found) (numbers : List ℕ) (told : numbers ≡ numbers_there) (found : IsOwnResult (held_as how p part) f) where
-      there_is : renumbered_result part numbers (result_found f) ≡ here
-      there_is =
-          ap (λ (ns : List ℕ). renumbered_result part ns (result_found f)) told ∙ ap (renumbered_result part numbers_there) found.found ∙ sym from_itself
-
-      -- the tree that comes of renumbering
-      pub tree_there : here.tree ≡ renumbered part numbers (plain f.tree)
-      tree_there = ap (λ (x : PartResult). x.tree) (sym there_is)
-
-      few_places : places_of p.segs part ≤ most_places
-      few_places = omega (arith, found.places, same_places p part)
-
-      -- which is one that a proof may have
-      pub proof_there : IsProblem p → IsProofTree (renumbered part numbers (plain f.tree))
-      proof_there ok = subst IsProofTree tree_there ((shown how p part ok known rising).of_proofs few_places)
-
-      -- the part is found by what was found for the part by itself
-      pub found_here : IsProblem p → (there : Found) → result_found there ≡ renumbered_result part numbers (result_found f) → IsResult how p part there
-      found_here ok there same =
-          let whole : result_found there ≡ here = same ∙ there_is in
-          let shows : Shows p part (result_found there) = subst (Shows p part) (sym whole) (shown how p part ok known rising) in
-          record {
-            found = whole;
-            places = few_places;
-            least = shows.least;
-            attained = shows.attained;
-            accepted = shows.accepted;
-            of_proofs = shows.of_proofs few_places;
-          }
+-- and its refusals
+pub live_fault : (budget : ℕ) (p : ProblemParts) (part : List SegId) (e : SearchFault) → IsSearchFault (places_of p.segs part) (branches_in p part) budget e → IsFaultOf (live_outcome budget p part) e
+live_fault budget p part fault.NoMemory h = tt
+live_fault budget p part (fault.TooDeep limit) h =
+    ap (λ (b : Bool). cond b (live_found budget (by_live (live_tree (part_in p part)))) (Err (fault.TooDeep (limit_of Places)))) (above_places p part h.0)
+    ∙ ap too_deep (sym h.1)
+  where
+    too_deep : Limit → Result PartResult SearchFault
+    too_deep l = Err (fault.TooDeep l)
+live_fault budget p part (fault.Spent n) h =
+    live_goes_on budget p part h.0
+    ∙ ap (λ (b : Bool). cond b (Ok (by_live (live_tree (part_in p part)))) (Err (fault.Spent (budget + 1)))) (lt-leb budget (branches_in p part) h.1)
+    ∙ ap spent (sym h.2)
+  where
+    spent : ℕ → Result PartResult SearchFault
+    spent m = Err (fault.Spent m)

@@ -5,3 +5,7 @@ mod OwnNumbers
 mod FoundHere
 mod HeldParts
 pub mod HeldLists
+mod RenamedDuals
+mod OwnDuals
+pub mod PutOrders
+mod OwnOrders

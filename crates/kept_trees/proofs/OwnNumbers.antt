@@ -11,7 +11,7 @@ use Rattle.order_model.specs.Parts.{IsRisingPart}
 use Rattle.order_search.specs.Finding.{places_of}
 use Rattle.order_search.specs.ByItself.{by_itself, numbered_like, own_segments}
 use Rattle.order_search.proofs.OwnParts.{at_number, lines_there}
-use Rattle.kept_trees.specs.OwnTrees.{segments_from, all_segments}
+use Rattle.dual_ascent.specs.OwnNumbers.{segments_from, all_segments}
 
 known_from : (most k : ℕ) (segs : List (List LineId)) → k + length segs ≤ most → AllByRecursion (λ (s : SegId). s.0 < most) (segments_from k segs)
 known_from most k [] within = tt

@@ -54,7 +54,7 @@ pub few_segments : (most : ℕ) (part : List SegId) → All (λ (s : SegId). s.0
 few_segments most part known rising = omega (arith, few_from most 0 part (segs_rise part rising) (recursion_from_All (λ (s : SegId). s.0 < most) part known) (omega arith))
 
 -- the lines of a segment by itself
-lines_in : (segs : List (List LineId)) (part : List SegId) (s : SegId) → is_in part s ≡ true → lines_on (map (lines_on segs) part) (seg_in part s) ≡ lines_on segs s
+pub lines_in : (segs : List (List LineId)) (part : List SegId) (s : SegId) → is_in part s ≡ true → lines_on (map (lines_on segs) part) (seg_in part s) ≡ lines_on segs s
 lines_in segs part s among =
     sym (lines_there segs part (place_in part s) (place_within part s among)) ∙ ap (λ n. get_or segs n []) (placed_at (seg_numbers part) s.0 (among_numbers part s among))
 

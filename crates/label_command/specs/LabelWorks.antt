@@ -38,7 +38,7 @@ labels_given path (Err fault) = Err (of_check fault)
 -- the map with its names by the line graph and a certificate, which has to be there
 abbrev pub labelled_at : List ℕ → Loaded → GraphParts → Option (List ℕ) → Result (List Output) Refusal
 labelled_at path loaded parts None = Err (refused.Refuted (item.Missing false))
-labelled_at path loaded parts (Some bytes) = labels_given path (labelled_items loaded.tables loaded.settings parts (certificate_in bytes))
+labelled_at path loaded parts (Some bytes) = labels_given path (labelled_items loaded.tables loaded.settings loaded.method.claim parts (certificate_in bytes))
 
 -- the certificate is read and checked, and the map is made by it
 abbrev pub certificate_work : List ℕ → Loaded → GraphParts → Work Input Refusal (List Output)
@@ -58,7 +58,7 @@ labels_work chosen path = do
 abbrev pub IsLabelledAt : Option (List (List ℕ × List ℕ)) → InputPaths → List ℕ → Loaded → List Output → Type 0
 IsLabelledAt told inputs path loaded outputs =
     (certificate : List ℕ) × (labels : List ℕ) × IfSome told (λ files. file_at files inputs.files.certificate ≡ Some certificate)
-    × IsLabelledMap loaded.tables loaded.settings labels certificate × (outputs ≡ label_outputs path labels)
+    × IsLabelledMap loaded.tables loaded.settings loaded.method.claim labels certificate × (outputs ≡ label_outputs path labels)
 
 -- What `labels` promises of its output, in the words of the feed.
 pub record AreOfLabels (told : Option (List (List ℕ × List ℕ))) (inputs : InputPaths) (path : List ℕ) (outputs : List Output) : Type 0 where

@@ -73,13 +73,20 @@ fn labelled_at(
     requires { graph_outcome loaded.now.settings.near loaded.now.tables ≡ Ok graph.now }
     ensures given { Gives (λ outputs. outputs) result (labelled_at map.now loaded.now graph.now (option_map (λ v. v.items) bytes)) }
     ensures labelled { IfOk result (λ outputs. (certificate : List ℕ) × (labels : List ℕ) × (option_map (λ v. v.items) bytes ≡ Some certificate)
-        × IsLabelledMap loaded.now.tables loaded.now.settings labels certificate × (outputs ≡ label_outputs map.now labels)) }
+        × IsLabelledMap loaded.now.tables loaded.now.settings loaded.now.method.claim labels certificate × (outputs ≡ label_outputs map.now labels)) }
 {
     let Some(bytes) = bytes else {
         return Err(Refusal::Refuted(Item::Missing { picture: false }));
     };
     let (tables, settings) = (&loaded.tables, &loaded.settings);
-    let labels = labels_on_graph(alloc, tables, settings, graph, bytes.as_slice())?;
+    let labels = labels_on_graph(
+        alloc,
+        tables,
+        settings,
+        loaded.method.claim,
+        graph,
+        bytes.as_slice(),
+    )?;
     Ok(write_labels(alloc, map, labels)?)
 }
 

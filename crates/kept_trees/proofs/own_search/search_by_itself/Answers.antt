@@ -7,7 +7,8 @@ use Rattle.order_model.specs.declared.problem.ProblemParts.{ProblemParts}
 use Rattle.order_model.specs.Parts.{IsRisingPart}
 use Rattle.order_search.specs.Finding.{places_of, IsSearchFault}
 use Rattle.kept_trees.specs.Results.{branches_by}
-use Rattle.kept_trees.specs.OwnTrees.{part_of_key, all_segments}
+use Rattle.dual_ascent.specs.OwnNumbers.{all_segments}
+use Rattle.kept_trees.specs.OwnTrees.{part_of_key}
 use Rattle.kept_trees.proofs.OwnNumbers.{all_known, all_rising}
 use Rattle.kept_trees.proofs.own_search.search_by_itself.Goals as goal
 

@@ -18,13 +18,13 @@ length-orders [] (o ∷ orders) are = absurd are
 length-orders (lines ∷ segs) [] are = absurd are
 length-orders (lines ∷ segs) (o ∷ orders) are = ap suc (length-orders segs orders are.1)
 
-order_at : (segs orders : List (List LineId)) (i : ℕ) → AreOrders segs orders → i < length segs → IsPermutation (get_or segs i []) (get_or orders i [])
+pub order_at : (segs orders : List (List LineId)) (i : ℕ) → AreOrders segs orders → i < length segs → IsPermutation (get_or segs i []) (get_or orders i [])
 order_at [] orders i are below = absurd (omega (arith, below))
 order_at (lines ∷ segs) [] i are below = absurd are
 order_at (lines ∷ segs) (o ∷ orders) zero are below = are.0
 order_at (lines ∷ segs) (o ∷ orders) (suc i) are below = order_at segs orders i are.1 (omega (arith, below))
 
-orders_from : (segs orders : List (List LineId)) → length orders ≡ length segs
+pub orders_from : (segs orders : List (List LineId)) → length orders ≡ length segs
     → ((i : ℕ) → i < length segs → IsPermutation (get_or segs i []) (get_or orders i [])) → AreOrders segs orders
 orders_from [] [] same each = tt
 orders_from [] (o ∷ orders) same each = absurd (omega (arith, same))

@@ -4,7 +4,7 @@ use Rattle.order_search.specs.declared.found.Found.{Found}
 use Rattle.kept_trees.specs.Keeping.{is_held}
 use Rattle.kept_trees.specs.OwnTrees.{HeldPart, IsOwnResult, held_by, parts_held}
 use Rattle.kept_trees.proofs.HeldParts.{held_by_key, lent_match, same_key}
-use Rattle.kept_trees.proofs.kept.Kept.tree_of.Goals as goal
+use Rattle.kept_trees.proofs.kept.Kept.result_of.Goals as goal
 
 pub returns : goal.returns
 returns c =
