@@ -14,8 +14,8 @@ use Rattle.order_model.specs.Costs.{comes_before, are_neighbours}
 use Rattle.order_model.specs.PartTerms.{numbered_from}
 use Rattle.order_model.specs.Prefixes.{is_placed}
 use Rattle.order_model.proofs.Lines.{has_permutation, order_distinct}
-use Rattle.whole_algebra.specs.Sums.{int_sum}
-use Rattle.whole_algebra.proofs.Sums.{int_sum_same}
+use Rattle.whole_sums.specs.Sums.{int_sum}
+use Rattle.whole_sums.proofs.Sums.{int_sum_same}
 use Rattle.least_orders.specs.OrderCosts.{PairCosts, order_cost, summed_costs, cost_before, cost_beside}
 use Rattle.least_orders.specs.Arrangements.{keeps, all_orders, kept_orders}
 use Rattle.least_orders.specs.LeastOrders.{first_least, least_order}

@@ -16,8 +16,8 @@ use Rattle.order_model.specs.Costs.{comes_before, are_neighbours, same_answer, i
 use Rattle.order_model.specs.PartTerms.{numbered_from, is_in, is_of}
 use Rattle.order_model.specs.Prefixes.{is_placed}
 use Rattle.order_model.proofs.Lines.{has_permutation}
-use Rattle.whole_algebra.specs.Sums.{int_sum}
-use Rattle.whole_algebra.proofs.Sums.{int_sum_swap}
+use Rattle.whole_sums.specs.Sums.{int_sum}
+use Rattle.whole_sums.proofs.Sums.{int_sum_swap}
 use Rattle.dual_bound.specs.Shares.{thousand, where_so, x_of, z_of, term_share}
 use Rattle.dual_bound.proofs.Segments.{order_at, contains_placed, before_or_behind, part_apart, AreApart, one_counts, int_sum_less_by}
 use Rattle.dual_ascent.specs.OwnNumbers.{all_segments, all_terms, number_of}

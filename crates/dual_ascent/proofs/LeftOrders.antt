@@ -9,7 +9,7 @@ use Rattle.map_base.specs.declared.ids.LineId.{LineId}
 use Rattle.graph_core.specs.Consistent.{AreRising}
 use Rattle.order_model.specs.declared.problem.ProblemParts.{ProblemParts}
 use Rattle.order_model.specs.Problems.{lines_on}
-use Rattle.whole_algebra.specs.Sums.{int_sum}
+use Rattle.whole_sums.specs.Sums.{int_sum}
 use Rattle.least_orders.specs.Arrangements.{keeps, all_orders, kept_orders}
 use Rattle.least_orders.specs.LeastOrders.{lesser_of, least_value}
 use Rattle.least_orders.proofs.Lists.{Among, each_among}

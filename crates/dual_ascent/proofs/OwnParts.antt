@@ -14,7 +14,7 @@ use Rattle.order_model.specs.Problems.{IsTerm}
 use Rattle.order_model.specs.Costs.{AreOrders}
 use Rattle.order_model.specs.Parts.{IsRisingPart}
 use Rattle.order_model.specs.PartTerms.{numbered_from, is_in, is_of, part_terms, plain_terms}
-use Rattle.whole_algebra.specs.Sums.{int_sum}
+use Rattle.whole_sums.specs.Sums.{int_sum}
 use Rattle.dual_ascent.specs.OwnNumbers.{segments_from}
 
 abbrev pub seg_number : ℕ → SegId

@@ -16,7 +16,7 @@ use Rattle.order_model.specs.Costs.{are_neighbours}
 use Rattle.order_model.specs.PartTerms.{numbered_from}
 use Rattle.order_model.specs.Questions.{question}
 use Rattle.order_values.specs.PriceLists.{price_at}
-use Rattle.whole_algebra.specs.Sums.{int_sum}
+use Rattle.whole_sums.specs.Sums.{int_sum}
 use Rattle.least_orders.specs.Arrangements.{kept_orders}
 use Rattle.least_orders.specs.LeastOrders.{lesser_of, least_value, first_least}
 use Rattle.least_orders.proofs.LeastValues.{least_of_first}

@@ -17,8 +17,8 @@ use Rattle.order_model.specs.Problems.{lines_on, IsTerm}
 use Rattle.order_model.specs.Costs.{comes_before, are_neighbours, same_answer, is_met_on, term_cost, cost_of, AreOrders}
 use Rattle.order_model.specs.Prefixes.{is_placed}
 use Rattle.order_model.proofs.Lines.{has_permutation, order_distinct}
-use Rattle.whole_algebra.specs.Sums.{int_sum}
-use Rattle.whole_algebra.proofs.Sums.{int_sum_same, int_sum_both, int_sum_pos}
+use Rattle.whole_sums.specs.Sums.{int_sum}
+use Rattle.whole_sums.proofs.Sums.{int_sum_same, int_sum_both, int_sum_pos}
 use Rattle.least_orders.specs.OrderCosts.{PairCosts, order_cost, summed_costs, no_costs, cost_before, cost_beside}
 use Rattle.least_orders.specs.Arrangements.{all_orders}
 use Rattle.least_orders.specs.LeastOrders.{first_least}

@@ -15,8 +15,8 @@ use Rattle.order_model.specs.Costs.{weight_of, term_cost, cost_of, AreOrders}
 use Rattle.order_model.specs.Parts.{IsRisingPart}
 use Rattle.order_model.specs.PartTerms.{is_of, numbered_from, part_terms, plain_terms}
 use Rattle.order_values.specs.PriceLists.{price_at}
-use Rattle.whole_algebra.specs.Sums.{int_sum}
-use Rattle.whole_algebra.proofs.Sums.{int_sum_swap, int_sum_less}
+use Rattle.whole_sums.specs.Sums.{int_sum}
+use Rattle.whole_sums.proofs.Sums.{int_sum_swap, int_sum_less}
 use Rattle.least_orders.specs.Arrangements.{keeps, all_orders, kept_orders}
 use Rattle.least_orders.specs.LeastOrders.{least_value}
 use Rattle.least_orders.proofs.Lists.{Among, each_among, among_filter, all_at}

@@ -15,7 +15,7 @@ use Rattle.order_model.specs.PartTerms.{is_in}
 use Rattle.order_model.specs.Costs.{comes_before, AreOrders}
 use Rattle.order_model.specs.Prefixes.{is_placed}
 use Rattle.order_model.proofs.Lines.{either_true, same_line}
-use Rattle.whole_algebra.specs.Sums.{int_sum}
+use Rattle.whole_sums.specs.Sums.{int_sum}
 
 -- Orders of segments, one by one.
 

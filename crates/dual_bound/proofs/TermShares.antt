@@ -14,8 +14,8 @@ use Rattle.order_model.specs.PartTerms.{is_in, is_of}
 use Rattle.order_model.specs.Prefixes.{is_placed}
 use Rattle.order_model.proofs.Lines.{has_permutation}
 use Rattle.order_values.specs.PriceLists.{price_at}
-use Rattle.whole_algebra.specs.Sums.{int_sum}
-use Rattle.whole_algebra.proofs.Sums.{int_sum_zero}
+use Rattle.whole_sums.specs.Sums.{int_sum}
+use Rattle.whole_sums.proofs.Sums.{int_sum_zero}
 use Rattle.least_orders.proofs.Lists.{Among, all_at}
 use Rattle.dual_bound.specs.Shares.{thousand, where_so, x_of, z_of, term_share}
 use Rattle.dual_bound.specs.Values.{allows, are_allowed}

@@ -1,7 +1,7 @@
 -- What an order of one segment adds to the cost of a part under prices on Links and Aparts, in thousandths.
 use Rattle.std.specs.Prelude.{ℕ, ◌*◌, ◌==◌, Bool, not, List, if◌then◌else◌}
 use Rattle.std.specs.Prelude.{ℤ, pos, ◌+ℤ◌, ◌-ℤ◌}
-use Rattle.whole_algebra.specs.Sums.{int_sum}
+use Rattle.whole_sums.specs.Sums.{int_sum}
 use Rattle.map_base.specs.declared.ids.SegId.{SegId}
 use Rattle.map_base.specs.declared.ids.LineId.{LineId}
 use Rattle.order_model.specs.declared.term.Term.{Term}

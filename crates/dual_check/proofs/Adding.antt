@@ -8,8 +8,8 @@ use Rattle.order_model.specs.declared.term.Term.{Term}
 use Rattle.order_model.specs.declared.term.Term.TheVariants.{Side, Link, Apart}
 use Rattle.order_model.specs.Costs.{are_these}
 use Rattle.order_model.specs.PartTerms.{no_term, terms_by_number}
-use Rattle.whole_algebra.specs.Sums.{int_sum}
-use Rattle.whole_algebra.proofs.Sums.{int_sum-append}
+use Rattle.whole_sums.specs.Sums.{int_sum}
+use Rattle.whole_sums.proofs.Sums.{int_sum-append}
 use Rattle.least_orders.specs.OrderCosts.{PairCosts, summed_costs, less_costs, no_costs, cost_before, cost_beside}
 use Rattle.least_orders.specs.Rows.{line_at, named, entry}
 use Rattle.dual_bound.specs.Shares.{thousand}

@@ -14,8 +14,8 @@ use Rattle.order_model.specs.declared.term.Term.{Term}
 use Rattle.order_model.specs.Problems.{lines_on, IsTerm}
 use Rattle.order_model.specs.Places.{has_line}
 use Rattle.order_model.specs.PartTerms.{no_term, terms_by_number}
-use Rattle.whole_algebra.specs.Sums.{int_sum}
-use Rattle.whole_algebra.proofs.Sums.{int_sum-append}
+use Rattle.whole_sums.specs.Sums.{int_sum}
+use Rattle.whole_sums.proofs.Sums.{int_sum-append}
 use Rattle.least_orders.specs.OrderCosts.{PairCosts, summed_costs}
 use Rattle.least_orders.specs.LeastOrders.{least_cost}
 use Rattle.least_orders.specs.Rows.{Rows, line_at, entry, named, is_one_of, row_lines, row_costs, row_pairs, is_ahead, AreRows, TellCosts}

@@ -11,7 +11,7 @@ use Rattle.map_base.specs.declared.ids.LineId.{LineId}
 use Rattle.graph_core.specs.Consistent.{AreRising}
 use Rattle.order_model.specs.Prefixes.{is_placed}
 use Rattle.order_model.proofs.Lines.{either_true, same_line, has_permutation, order_distinct}
-use Rattle.whole_algebra.specs.Sums.{int_sum}
+use Rattle.whole_sums.specs.Sums.{int_sum}
 use Rattle.least_orders.specs.Arrangements.{picks, orders_of, all_orders}
 use Rattle.least_orders.proofs.Lists.{Among, each_at, each_among, each_map, each_flat_map, each_weaker, among_map, among_flat_map}
 

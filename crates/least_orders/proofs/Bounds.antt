@@ -6,7 +6,7 @@ use Rattle.std.specs.List.{AllByRecursion}
 use Rattle.std.proofs.lemmas.Int.{ints}
 use Rattle.std.proofs.lemmas.List.Sorted.{length_permutation}
 use Rattle.map_base.specs.declared.ids.LineId.{LineId}
-use Rattle.whole_algebra.specs.Sums.{int_sum}
+use Rattle.whole_sums.specs.Sums.{int_sum}
 use Rattle.least_orders.specs.OrderCosts.{PairCosts, beside_next, order_cost}
 use Rattle.least_orders.specs.Arrangements.{all_orders}
 use Rattle.least_orders.specs.Rows.{Rows, AreRows, line_at, entry, row_costs, most_entry}

@@ -8,8 +8,8 @@ use Rattle.map_base.specs.declared.ids.LineId.{LineId}
 use Rattle.order_model.specs.Costs.{comes_before, are_these, are_neighbours}
 use Rattle.order_model.specs.Prefixes.{is_placed}
 use Rattle.order_model.proofs.Lines.{either_true, same_line}
-use Rattle.whole_algebra.specs.Sums.{int_sum}
-use Rattle.whole_algebra.proofs.Sums.{int_sum_swap, int_sum_both, int_sum_zero}
+use Rattle.whole_sums.specs.Sums.{int_sum}
+use Rattle.whole_sums.proofs.Sums.{int_sum_swap, int_sum_both, int_sum_zero}
 use Rattle.least_orders.specs.OrderCosts.{PairCosts, beside_next, order_cost, summed_costs, less_costs, no_costs, cost_before, cost_beside}
 
 abbrev same : LineId → LineId → Bool

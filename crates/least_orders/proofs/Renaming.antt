@@ -10,8 +10,8 @@ use Rattle.graph_core.specs.Consistent.{AreRising}
 use Rattle.order_model.specs.Costs.{comes_before}
 use Rattle.order_model.specs.Prefixes.{is_placed}
 use Rattle.order_model.proofs.Lines.{either_true, same_line, has_permutation, order_distinct}
-use Rattle.whole_algebra.specs.Sums.{int_sum}
-use Rattle.whole_algebra.proofs.Sums.{int_sum-map, int_sum_same}
+use Rattle.whole_sums.specs.Sums.{int_sum}
+use Rattle.whole_sums.proofs.Sums.{int_sum-map, int_sum_same}
 use Rattle.least_orders.specs.OrderCosts.{PairCosts, beside_next, order_cost}
 use Rattle.least_orders.specs.Arrangements.{orders_of, all_orders, keeps, kept_orders}
 use Rattle.least_orders.specs.LeastOrders.{first_least, least_value, least_order, least_cost}

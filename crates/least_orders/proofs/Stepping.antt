@@ -8,7 +8,7 @@ use Rattle.std.proofs.lemmas.List.Elements.{filter-append}
 use Rattle.std.proofs.lemmas.List.Sorted.{list_any-IsPermutation}
 use Rattle.std.specs.Prelude.{IsPermutation}
 use Rattle.map_base.specs.declared.ids.LineId.{LineId}
-use Rattle.whole_algebra.specs.Sums.{int_sum}
+use Rattle.whole_sums.specs.Sums.{int_sum}
 use Rattle.least_orders.specs.declared.choice.Choice.{Choice}
 use Rattle.least_orders.specs.OrderCosts.{PairCosts, beside_next, order_cost}
 use Rattle.least_orders.specs.Arrangements.{picks, orders_of, all_orders}

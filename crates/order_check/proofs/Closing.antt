@@ -13,7 +13,7 @@ use Rattle.order_bound.specs.Decided.{decided_sum}
 use Rattle.order_bound.specs.Pairs.{pairs_of}
 use Rattle.order_bound.specs.Values.{least_answer, are_allowed, value_of, pair_value}
 use Rattle.order_values.specs.PriceLists.{price_at}
-use Rattle.whole_algebra.specs.Sums.{int_sum}
+use Rattle.whole_sums.specs.Sums.{int_sum}
 use Rattle.order_bound.specs.Accepting.{reaches, is_closed}
 use Rattle.order_model.specs.Questions.{Question}
 use Rattle.order_bound.proofs.Bounding.{AreNumbered}

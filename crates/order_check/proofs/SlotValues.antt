@@ -19,8 +19,8 @@ use Rattle.order_bound.specs.Pairs.{pair_of, pair_in, is_pair, has_pair, pairs_o
 use Rattle.order_bound.specs.Bounds.{open_cost, slot_cost}
 use Rattle.order_bound.specs.Values.{share, least_answer, priced_cost, pair_value}
 use Rattle.order_values.specs.PriceLists.{price_at}
-use Rattle.whole_algebra.specs.Sums.{int_sum}
-use Rattle.whole_algebra.proofs.Sums.{int_sum-append, int_sum_equal}
+use Rattle.whole_sums.specs.Sums.{int_sum}
+use Rattle.whole_sums.proofs.Sums.{int_sum-append, int_sum_equal}
 use Rattle.order_bound.proofs.Lists.{Among}
 use Rattle.order_bound.proofs.Worth.{AreApartSegments}
 use Rattle.order_bound.proofs.Completing.{IsPart, AreApartPairs, same_pair, pair_itself, pairs_apart, apart_filter, on_placed}

@@ -12,7 +12,7 @@ use Rattle.order_bound.specs.Pairs.{pair_of, open_link}
 use Rattle.order_bound.specs.Bounds.{open_cost}
 use Rattle.order_bound.specs.Values.{share, least_answer}
 use Rattle.order_values.specs.PriceLists.{price_at}
-use Rattle.whole_algebra.specs.Sums.{int_sum}
+use Rattle.whole_sums.specs.Sums.{int_sum}
 use Rattle.order_check.specs.declared.slot.Slot.{Slot}
 use Rattle.order_check.specs.declared.slot.PartTerm.{PartTerm}
 use Rattle.order_check.specs.declared.slot.SlotCost.{SlotCost}

@@ -21,7 +21,7 @@ use Rattle.order_bound.specs.Pairs.{pair_of, is_pair, is_open_on, open_segments,
 use Rattle.order_bound.specs.declared.pairs.Pair.{Pair}
 use Rattle.order_bound.specs.declared.pairs.OpenLink.{OpenLink}
 use Rattle.order_bound.specs.Bounds.{open_cost, slot_cost, link_cost, pair_bound}
-use Rattle.whole_algebra.specs.Sums.{int_sum}
+use Rattle.whole_sums.specs.Sums.{int_sum}
 use Rattle.order_bound.specs.CanonicalPrices.{ends_at, far_end, child_link, walked, children_of, rise_of, price_for, priced, pair_prices}
 use Rattle.order_bound.specs.declared.pairs.ChildLink.{ChildLink}
 use Rattle.pair_bounds.specs.Slots.{slots_of, rise_in, with_children, slot_least, IsCollected}

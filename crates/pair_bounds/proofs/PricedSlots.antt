@@ -13,11 +13,11 @@ use Rattle.order_model.specs.PartTerms.{is_in}
 use Rattle.pair_bounds.specs.declared.slots.Slot.{Slot}
 use Rattle.order_bound.specs.declared.pairs.OpenLink.{OpenLink}
 use Rattle.order_bound.specs.Values.{where_one, is_one, is_one_there, share, least_answer}
-use Rattle.whole_algebra.specs.Sums.{int_sum}
+use Rattle.whole_sums.specs.Sums.{int_sum}
 use Rattle.order_bound.specs.CanonicalPrices.{ends_at, shares, rise_of, price_for, priced}
 use Rattle.order_bound.specs.declared.pairs.ChildLink.{ChildLink}
 use Rattle.pair_bounds.specs.Slots.{slot_at, slot_shared, rise_in, with_child, with_children, slot_least, IsSmall}
-use Rattle.whole_algebra.proofs.Sums.{int_sum-append}
+use Rattle.whole_sums.proofs.Sums.{int_sum-append}
 use Rattle.pair_bounds.proofs.Mapped.{all_at}
 use Rattle.order_bound.proofs.Pricing.{below_cost}
 use Rattle.order_bound.proofs.Worth.{price_within}

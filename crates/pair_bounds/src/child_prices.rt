@@ -6,7 +6,7 @@ ghost use Rattle.std.specs.Vec.{vec_len, vec_capacity};
 ghost use Rattle.order_bound.specs.CanonicalPrices.{cut_to, turned_by, price_for};
 ghost use Rattle.order_bound.specs.declared.pairs.ChildLink.{ChildLink};
 ghost use Rattle.pair_bounds.specs.Slots.{rise_in, with_child, with_children, slot_least, IsSmall};
-ghost use Rattle.whole_algebra.specs.Sums.{int_sum};
+ghost use Rattle.whole_sums.specs.Sums.{int_sum};
 ghost use Rattle.pair_bounds.specs.PriceNotes.{price_noted, price_over, priced_in};
 
 use crate::noted_prices::NotedPrices;

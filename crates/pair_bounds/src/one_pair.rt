@@ -11,7 +11,7 @@ ghost use Rattle.pair_bounds.specs.declared.slots.Slot.{Slot};
 ghost use Rattle.order_bound.specs.Pairs.{pair_in, open_segments, kept_links};
 ghost use Rattle.order_bound.specs.Bounds.{pair_bound};
 ghost use Rattle.order_bound.specs.Pairs.{AreApartSegments};
-ghost use Rattle.whole_algebra.specs.Sums.{int_sum};
+ghost use Rattle.whole_sums.specs.Sums.{int_sum};
 ghost use Rattle.order_bound.specs.CanonicalPrices.{children_of, pair_prices};
 ghost use Rattle.order_bound.specs.declared.pairs.ChildLink.{ChildLink};
 ghost use Rattle.pair_bounds.specs.Slots.{slot_least, IsSmall, IsCollected, HasRoom, KeepsRoom};

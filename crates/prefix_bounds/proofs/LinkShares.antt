@@ -14,7 +14,7 @@ use Rattle.order_bound.specs.Pairs.{pair_of, is_pair}
 use Rattle.order_bound.specs.Bounds.{open_cost}
 use Rattle.order_bound.specs.Values.{share, where_one, is_one, is_one_there}
 use Rattle.order_values.specs.PriceLists.{price_at}
-use Rattle.whole_algebra.specs.Sums.{int_sum}
+use Rattle.whole_sums.specs.Sums.{int_sum}
 use Rattle.order_check.specs.Slots.{slot_on, slot_share}
 use Rattle.prefix_bounds.specs.SlotsSoFar.{link_share}
 

@@ -4,7 +4,7 @@ use Rattle.std.specs.Prelude.{ℤ, pos, ◌+ℤ◌, unsigned_abs, IfSome}
 use Rattle.std.specs.Option.{option_map}
 use Rattle.std.proofs.lemmas.Int.{ints}
 use Rattle.map_base.specs.declared.ids.LineId.{LineId}
-use Rattle.whole_algebra.specs.Sums.{int_sum}
+use Rattle.whole_sums.specs.Sums.{int_sum}
 use Rattle.least_orders.specs.declared.choice.Choice.{Choice}
 use Rattle.least_orders.specs.Rows.{Rows, AreRows, line_at, entry, most_entry}
 use Rattle.least_orders.specs.Subsets.{has_place, with_place, left_from, left, rest_cost, is_ready, before_left, first_cost, choice_of, better_choice, choice_from, choice}

@@ -3,4 +3,3 @@ pub mod Identities
 pub mod Signs
 pub mod Rounding
 pub mod Crossings
-pub mod Sums

@@ -1,4 +1,3 @@
--- What crates over whole numbers say of rounding and of sums, and of points by their coordinates.
+-- What crates over whole numbers say of rounding, and of points by their coordinates.
 pub mod Rounding
 pub mod Turns
-pub mod Sums

@@ -1,7 +1,7 @@
 use Rattle.std.proofs.Common.{◌^◌, ◌∙◌, length, drop, refl, sym, ap, subst, arith}
 use Rattle.std.specs.List.{All}
 use Rattle.order_bound.specs.Pairs.{kept_links}
-use Rattle.whole_algebra.specs.Sums.{int_sum}
+use Rattle.whole_sums.specs.Sums.{int_sum}
 use Rattle.pair_bounds.specs.Slots.{slot_least, IsSmall}
 use Rattle.pair_bounds.proofs.Gathered.{take_front}
 use Rattle.pair_bounds.specs.PriceNotes.{price_noted, price_over}

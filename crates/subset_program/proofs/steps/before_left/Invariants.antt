@@ -1,5 +1,5 @@
 use Rattle.std.proofs.Common.{◌≡◌, ◌-◌}
-use Rattle.whole_algebra.specs.Sums.{int_sum}
+use Rattle.whole_sums.specs.Sums.{int_sum}
 use Rattle.least_orders.specs.Rows.{entry, line_at}
 use Rattle.least_orders.specs.Subsets.{left_from}
 use Rattle.subset_program.specs.PlainRows.{plain_rows}

@@ -5,7 +5,7 @@ use Rattle.std.specs.List.{sum_by, AllByRecursion}
 use Rattle.std.proofs.lemmas.Int.{ints}
 use Rattle.std.proofs.lemmas.List.Sums.{sum_by-cons}
 use lib.Signed.{◌≤ℤ◌}
-use Rattle.whole_algebra.specs.Sums.{int_sum}
+use Rattle.whole_sums.specs.Sums.{int_sum}
 
 pub int_sum-append : {A : Type 0} (f : A → ℤ) (xs ys : List A) → int_sum f (xs ++ ys) ≡ int_sum f xs +ℤ int_sum f ys
 int_sum-append f [] ys = omega (arith, ints)
