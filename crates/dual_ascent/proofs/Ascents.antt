@@ -8,13 +8,13 @@ use Rattle.dual_bound.specs.declared.settled.SettledPair.{SettledPair}
 use Rattle.dual_bound.specs.Accepting.{load_of}
 use Rattle.dual_ascent.specs.OwnNumbers.{all_segments}
 use Rattle.dual_ascent.specs.LocalSearch.{Incumbent, after_offer}
-use Rattle.dual_ascent.specs.Averages.{averaged_orders}
-use Rattle.dual_ascent.specs.DualSteps.{answers, value_with, gap_of}
+use Rattle.dual_ascent.specs.Averages.{ArePairs, averaged_orders}
+use Rattle.dual_ascent.specs.DualSteps.{AreWithin, answers, value_with, gap_of}
 use Rattle.dual_ascent.specs.Rounds.{Search, LowerBound, Ascent, going, spent, onward, with_value, answered, one_round, rounds, first_ascent, ascended}
 use Rattle.dual_ascent.proofs.Stages.{StageHas, closed_has, answers_have, Keeps, with_averages, with_averaged, rounds_have}
 use Rattle.dual_ascent.proofs.Meeting.{answers_orders, averaged_are_orders, IsIncumbent, offer_is}
-use Rattle.dual_ascent.proofs.Pricing.{AreWithin, next_within, round_value, IsSound}
-use Rattle.dual_ascent.proofs.Pairs.{ArePairs, first_pairs, pairs_after}
+use Rattle.dual_ascent.proofs.Pricing.{next_within, round_value, IsSound}
+use Rattle.dual_ascent.proofs.Pairs.{first_pairs, pairs_after}
 
 module _ (p : ProblemParts) (settled : List SettledPair) (cost : ℕ) (first : LowerBound) where
   -- an incumbent that costs at most so much

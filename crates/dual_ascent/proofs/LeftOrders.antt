@@ -21,13 +21,14 @@ use Rattle.dual_bound.proofs.Segments.{rising_at}
 use Rattle.dual_bound.proofs.Bounding.{among_kept}
 use Rattle.dual_ascent.specs.declared.pair_average.PairAverage.{PairAverage}
 use Rattle.dual_ascent.specs.OwnNumbers.{all_segments, all_terms, number_of}
+use Rattle.dual_ascent.specs.Averages.{ArePairs}
 use Rattle.dual_ascent.specs.DualSteps.{share_under}
 use Rattle.dual_ascent.specs.OpenPairs.{next_pair}
 use Rattle.dual_ascent.specs.Walks.{first_or, orders_left}
 use Rattle.dual_ascent.proofs.OwnParts.{seg_number, all_made_at, all_sums_same}
 use Rattle.dual_ascent.proofs.Pricing.{IsValue}
 use Rattle.dual_ascent.proofs.Unique.{AreSettled, one_order}
-use Rattle.dual_ascent.proofs.Pairs.{ArePairs, every_segment, none_open}
+use Rattle.dual_ascent.proofs.Pairs.{every_segment, none_open}
 
 -- the least of values that are all one
 one_value : {A : Type 0} (f : A → ℤ) (o : A) (os : List A) → AllByRecursion (λ u. u ≡ o) os → least_value f (o ∷ os) ≡ Some (f o)

@@ -23,20 +23,13 @@ use Rattle.dual_bound.specs.Accepting.{is_fork}
 use Rattle.dual_bound.proofs.Segments.{rising_at}
 use Rattle.dual_ascent.specs.declared.pair_average.PairAverage.{PairAverage}
 use Rattle.dual_ascent.specs.OwnNumbers.{segments_from, all_segments, all_terms}
-use Rattle.dual_ascent.specs.Averages.{never, never_all, no_averages, with_order, averages_on, averages_after}
+use Rattle.dual_ascent.specs.Averages.{never, never_all, no_averages, pair_of, ArePairs, with_order, averages_on, averages_after}
 use Rattle.dual_ascent.specs.OpenPairs.{leads, is_settled, OpenPair, open_pair, open_on, open_pairs, doubt, next_pair, is_swapped, ahead, behind}
 use Rattle.dual_ascent.proofs.OwnParts.{seg_number, has_segment, all_made_at}
 use Rattle.dual_ascent.proofs.Unique.{AreSettled, turned}
 
 abbrev same : LineId → LineId → Bool
 same a b = a.0 == b.0
-
-abbrev pub pair_of : PairAverage → LineId × LineId
-pair_of x = (x.lesser, x.greater)
-
--- each segment has an average of each two of its lines
-abbrev pub ArePairs : ProblemParts → List (List PairAverage) → Type 0
-ArePairs p averages = (i : ℕ) → i < length p.segs → map pair_of (get_or averages i []) ≡ map pair_of (never_all (get_or p.segs i []))
 
 never_at : (segs : List (List LineId)) (i : ℕ) → get_or (map never_all segs) i [] ≡ never_all (get_or segs i [])
 never_at [] i = refl

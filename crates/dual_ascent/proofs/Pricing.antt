@@ -26,17 +26,10 @@ use Rattle.dual_bound.specs.Shares.{thousand, where_so, x_of, z_of, term_share, 
 use Rattle.dual_bound.specs.Values.{least_share, plus, value_of, allows, are_allowed}
 use Rattle.dual_bound.specs.Accepting.{is_narrow, shows, is_stopped}
 use Rattle.dual_ascent.specs.OwnNumbers.{all_segments, all_terms, number_of, listed_from, listed}
-use Rattle.dual_ascent.specs.DualSteps.{share_under, answer_on, answers, value_with, subgradient, most_price, cut_to, next_price, square_sum, next_prices}
+use Rattle.dual_ascent.specs.DualSteps.{share_under, answer_on, answers, value_with, subgradient, most_price, AreWithin, cut_to, next_price, square_sum, next_prices}
 use Rattle.dual_ascent.specs.Rounds.{LowerBound}
 use Rattle.dual_ascent.specs.Walks.{exact_prices}
 use Rattle.dual_ascent.proofs.OwnParts.{seg_number, all_made_at, all_sums_same}
-
--- one price a term, none beyond its weight either way
-abbrev pub AreWithin : List Term → List ℤ → Type 0
-AreWithin [] [] = Unit {0}
-AreWithin (t ∷ terms) (y ∷ prices) = (unsigned_abs y ≤ most_price t) × AreWithin terms prices
-AreWithin [] (y ∷ prices) = ⊥
-AreWithin (t ∷ terms) [] = ⊥
 
 pub zeros_within : (terms : List Term) → AreWithin terms (map (λ (t : Term). pos 0) terms)
 zeros_within [] = tt

@@ -15,6 +15,7 @@ use Rattle.dual_bound.specs.Settled.{with_pair}
 use Rattle.dual_bound.specs.Shares.{thousand}
 use Rattle.dual_bound.specs.Values.{value_of}
 use Rattle.dual_bound.specs.Accepting.{is_narrow, shows, is_fork, accepts, load_of}
+use Rattle.dual_ascent.specs.DualSteps.{AreWithin}
 use Rattle.dual_ascent.specs.OwnNumbers.{all_segments, all_terms, number_of, listed}
 use Rattle.dual_ascent.specs.LocalSearch.{after_offer}
 use Rattle.dual_ascent.specs.Rounds.{Search, LowerBound, Ascent, Stage, going, over, spent, is_shown, ascended}
@@ -26,7 +27,7 @@ use Rattle.dual_ascent.proofs.Stages.{StageHas}
 use Rattle.dual_ascent.proofs.Listing.{listed_stop}
 use Rattle.dual_ascent.proofs.Budgets.{ascent_counts}
 use Rattle.dual_ascent.proofs.Meeting.{left_orders, IsIncumbent, IsOffered, offer_is}
-use Rattle.dual_ascent.proofs.Pricing.{AreWithin, exact_within, IsValue, IsSound, shows_less, stop_holds}
+use Rattle.dual_ascent.proofs.Pricing.{exact_within, IsValue, IsSound, shows_less, stop_holds}
 use Rattle.dual_ascent.proofs.Exact.{exact_sum}
 use Rattle.dual_ascent.proofs.Pairs.{next_forks}
 use Rattle.dual_ascent.proofs.LeftOrders.{left_value}

@@ -1,5 +1,5 @@
 -- How lines stood in the orders of the rounds, on the average, and the orders that come nearest to it.
-use Rattle.std.specs.Prelude.{ℕ, ◌+◌, ◌-◌, ◌/◌, Bool, List, [], ◌∷◌, ◌++◌, map, min, if◌then◌else◌, slice_index_or, unwrap_or}
+use Rattle.std.specs.Prelude.{◌≡◌, ℕ, ◌+◌, ◌-◌, ◌/◌, ◌<◌, Bool, List, [], ◌∷◌, ◌++◌, length, map, min, if◌then◌else◌, slice_index_or, unwrap_or}
 use Rattle.std.specs.Prelude.{ℤ, pos, ◌+ℤ◌, ◌-ℤ◌}
 use Rattle.map_base.specs.declared.ids.SegId.{SegId}
 use Rattle.map_base.specs.declared.ids.LineId.{LineId}
@@ -31,6 +31,14 @@ never_all (a ∷ lines) = map (never a) lines ++ never_all lines
 -- each two lines of each segment
 abbrev pub no_averages : ProblemParts → List (List PairAverage)
 no_averages p = map never_all p.segs
+
+-- the two lines of an average
+abbrev pub pair_of : PairAverage → LineId × LineId
+pair_of x = (x.lesser, x.greater)
+
+-- each segment has an average of each two of its lines
+abbrev pub ArePairs : ProblemParts → List (List PairAverage) → Type 0
+ArePairs p averages = (i : ℕ) → i < length p.segs → map pair_of (slice_index_or averages i []) ≡ map pair_of (never_all (slice_index_or p.segs i []))
 
 -- an average with one round more, in which it was so or was not: the round counts as one of so many
 abbrev pub averaged : ℕ → Bool → ℕ → ℕ

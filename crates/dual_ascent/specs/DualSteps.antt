@@ -1,5 +1,5 @@
 -- The orders that answer prices, the value that they have, and how prices and their directions go on from round to round.
-use Rattle.std.specs.Prelude.{ℕ, ◌*◌, ◌==◌, Bool, ◌&&◌, ◌||◌, List, map, sum_by, if◌then◌else◌, unsigned_abs, unwrap_or}
+use Rattle.std.specs.Prelude.{ℕ, ◌*◌, ◌≤◌, ◌==◌, Bool, ◌&&◌, ◌||◌, List, [], ◌∷◌, map, sum_by, if◌then◌else◌, unsigned_abs, unwrap_or}
 use Rattle.std.specs.Prelude.{ℤ, pos, neg_ℤ, ◌+ℤ◌, ◌-ℤ◌, ◌*ℤ◌, int_div, int_lt, int_le}
 use Rattle.std.specs.Int.{int_min, int_max}
 use Rattle.std.specs.List.{list_all}
@@ -49,6 +49,13 @@ abbrev pub most_price : Term → ℕ
 most_price (Side seg first second w) = 0
 most_price (Link seg other flip a b w) = thousand * w
 most_price (Apart seg other a b w) = thousand * w
+
+-- one price a term, none beyond its weight either way
+abbrev pub AreWithin : List Term → List ℤ → Type 0
+AreWithin [] [] = Unit {0}
+AreWithin (t ∷ terms) (y ∷ prices) = (unsigned_abs y ≤ most_price t) × AreWithin terms prices
+AreWithin [] (y ∷ prices) = ⊥
+AreWithin (t ∷ terms) [] = ⊥
 
 -- the price is at the end of its range to which the direction points
 abbrev pub is_blocked : ℕ → ℤ → ℤ → Bool
