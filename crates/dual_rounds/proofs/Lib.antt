@@ -1,1 +1,4 @@
 pub mod Filling
+pub mod TermLists
+pub mod SegmentLists
+pub mod Sizes

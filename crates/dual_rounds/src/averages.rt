@@ -1,13 +1,13 @@
 //! How lines stood in the orders of the rounds, on the average.
 
-ghost use Rattle.std.specs.Prelude.{◌≡◌, ◌+◌, ◌*◌, ◌<◌, ◌≤◌, length, map, All, IfOk};
-ghost use Rattle.dual_ascent.specs.Averages.{never_all, averaged, with_order};
+ghost use Rattle.std.specs.Prelude.{◌≡◌, ◌<◌, ◌≤◌, [], ◌++◌, length, map, All, IfOk, OnOk, slice_index_or, slice_set};
+ghost use Rattle.dual_ascent.specs.Averages.{never, never_all, averaged, with_order, averages_after};
 ghost use Rattle.dual_rounds.specs.Ranges.{IsAverage, averages_of};
 
 use crate::line_order::LineOrder;
 use dual_ascent::PairAverage;
 use map_base::{LineId, NoMemory, Sequence};
-use order_model::{are_neighbours, comes_before};
+use order_model::{Problem, are_neighbours, comes_before};
 use std::alloc::Global;
 
 /// An average is told in 65536ths.
@@ -18,7 +18,8 @@ pub fn no_averages(
     alloc: Global,
     lists: &[Sequence<LineId>],
 ) -> Result<Vec<Vec<PairAverage>>, NoMemory>
-    ensures { IfOk result (λ v. averages_of v.items ≡ map never_all lists.now) }
+    ensures value { IfOk result (λ v. averages_of v.items ≡ map never_all lists.now) }
+    ensures within { IfOk result (λ v. All (All IsAverage) (averages_of v.items)) }
 {
     let mut averages = Vec::with_capacity(alloc, lists.len())?;
     for lines in lists {
@@ -33,19 +34,19 @@ fn never_all(alloc: Global, lines: &[LineId]) -> Result<Vec<PairAverage>, NoMemo
 {
     let mut pairs = Vec::new(alloc);
     for i in 0..lines.len() {
-        push_never(lines, i, &mut pairs)?;
+        push_never(lines[i], &lines[i + 1..], &mut pairs)?;
     }
     Ok(pairs)
 }
 
-/// The pairs of a line with each behind it.
-fn push_never(lines: &[LineId], i: usize, pairs: &mut Vec<PairAverage>) -> Result<(), NoMemory>
-    requires { i < length lines.now }
+/// The pairs of a line with each of those behind it.
+fn push_never(line: LineId, behind: &[LineId], pairs: &mut Vec<PairAverage>) -> Result<(), NoMemory>
+    ensures { OnOk result (pairs.new.items ≡ pairs.old.items ++ map (never line) behind.now) }
 {
-    for j in i + 1..lines.len() {
+    for other in behind {
         pairs.push(PairAverage {
-            lesser: lines[i],
-            greater: lines[j],
+            lesser: line,
+            greater: *other,
             swapped: 0,
             beside: 0,
         })?;
@@ -86,13 +87,36 @@ fn with_order(round: u32, order: &[LineId], average: PairAverage) -> PairAverage
 }
 
 /// The averages of all segments with the orders of one round more.
-pub fn average_in(round: u32, orders: &[LineOrder], averages: &mut [Vec<PairAverage>]) {
-    for s in 0..orders.len() {
-        average_on(round, orders[s].as_slice(), averages[s].as_mut_slice());
+pub fn average_in(
+    problem: &Problem,
+    round: u32,
+    orders: &[LineOrder],
+    averages: &mut [Vec<PairAverage>],
+)
+    requires some { 0 < round }
+    requires orders { length orders.now ≡ length problem.now.segs }
+    requires each { length averages.old ≡ length problem.now.segs }
+    requires within { All (All IsAverage) (averages_of averages.old) }
+    ensures value { averages_of averages.new ≡ averages_after problem.now round orders.now (averages_of averages.old) }
+    ensures within { All (All IsAverage) (averages_of averages.new) }
+{
+    for s in 0..problem.segs().len() {
+        average_at(round, orders[s].as_slice(), s, averages);
     }
 }
 
-/// The averages of a segment with one order more.
+/// The averages of one segment with an order more.
+fn average_at(round: u32, order: &[LineId], s: usize, averages: &mut [Vec<PairAverage>])
+    requires some { 0 < round }
+    requires known { s < length averages.old }
+    requires within { All (All IsAverage) (averages_of averages.old) }
+    ensures value { averages_of averages.new ≡ slice_set (averages_of averages.old) s (map (with_order round order.now) (slice_index_or (averages_of averages.old) s [])) }
+    ensures within { All (All IsAverage) (averages_of averages.new) }
+{
+    average_on(round, order, averages[s].as_mut_slice());
+}
+
+/// These averages with an order more.
 fn average_on(round: u32, order: &[LineId], averages: &mut [PairAverage])
     requires some { 0 < round }
     requires within { All IsAverage averages.old }
@@ -100,6 +124,7 @@ fn average_on(round: u32, order: &[LineId], averages: &mut [PairAverage])
     ensures within { All IsAverage averages.new }
 {
     for k in 0..averages.len() {
-        averages[k] = with_order(round, order, averages[k]);
+        let average = with_order(round, order, averages[k]);
+        averages[k] = average;
     }
 }

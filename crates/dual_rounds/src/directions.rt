@@ -1,11 +1,10 @@
-//! How prices and their directions go on from round to round.
+//! How the directions of prices go on from round to round.
 
-ghost use Rattle.std.specs.Prelude.{◌≡◌, ◌+◌, ◌*◌, ◌<◌, ◌≤◌, length, All, pos, ◌+ℤ◌, ◌-ℤ◌, ◌*ℤ◌, ◌≤ℤ◌, int_div, unsigned_abs};
+ghost use Rattle.std.specs.Prelude.{◌≡◌, ◌*◌, ◌≤◌, length, All, pos, ◌+ℤ◌, ◌-ℤ◌, ◌*ℤ◌, int_div, unsigned_abs};
 ghost use Rattle.order_model.specs.Costs.{weight_of, IsReadable};
-ghost use Rattle.order_model.specs.Problems.{IsTerm};
 ghost use Rattle.dual_bound.specs.Shares.{where_so};
-ghost use Rattle.dual_ascent.specs.DualSteps.{subgradient, most_price, is_blocked, next_direction, next_directions, square_sum, gap_of, next_price, next_prices};
-ghost use Rattle.dual_rounds.specs.Ranges.{IsDirection, IsPrice};
+ghost use Rattle.dual_ascent.specs.DualSteps.{subgradient, most_price, is_blocked, next_direction, next_directions, square_sum};
+ghost use Rattle.dual_rounds.specs.Ranges.{IsDirection};
 
 use crate::line_order::LineOrder;
 use order_model::{Problem, Term, are_neighbours, comes_before};
@@ -134,7 +133,8 @@ pub fn direct(problem: &Problem, orders: &[LineOrder], prices: &[i64], direction
 {
     let terms = problem.terms();
     for k in 0..terms.len() {
-        directions[k] = direction_of(orders, terms[k], prices[k], directions[k]);
+        let direction = direction_of(orders, terms[k], prices[k], directions[k]);
+        directions[k] = direction;
     }
 }
 
@@ -160,60 +160,4 @@ fn square(direction: i64) -> u64
 {
     let size = direction.unsigned_abs();
     size * size
-}
-
-/// What the value lacks to the one that shows the target, and at least 1000.
-pub fn gap_of(target: u64, value: i64) -> i64
-    requires target { target ≤ 1024000000000 }
-    requires value { unsigned_abs value ≤ 4000000000000000 }
-    ensures value { result ≡ gap_of target value }
-    ensures most { unsigned_abs result ≤ 6000000000000000 }
-    ensures least { pos 1000 ≤ℤ result }
-{
-    let bar = 1000 * (target as i64 - 1) + 1;
-    (bar - value).max(1000)
-}
-
-/// The price of a term after a step in its direction.
-fn next_price(step: u32, gap: i64, squares: u64, most: u32, price: i64, direction: i64) -> i64
-    requires step { step ≤ 1000 }
-    requires gap { unsigned_abs gap ≤ 6000000000000000 }
-    requires some { 0 < squares }
-    requires squares { squares ≤ 1048576000000 }
-    requires most { most ≤ 256000000 }
-    requires price { unsigned_abs price ≤ 256000000 }
-    requires direction { IsDirection direction }
-    ensures { result ≡ next_price step gap squares most price direction }
-{
-    let length = i128::from(step) * i128::from(gap) * 64;
-    let change = length * i128::from(direction) / (1000 * i128::from(squares));
-    let moved = i128::from(price) + change;
-    let end = i128::from(most);
-    moved.min(end).max(-end) as i64
-}
-
-/// The prices take a step in their directions, whose squares sum to so much.
-pub fn step_prices(
-    problem: &Problem,
-    step: u32,
-    gap: i64,
-    squares: u64,
-    directions: &[i64],
-    prices: &mut [i64],
-)
-    requires step { step ≤ 1000 }
-    requires gap { unsigned_abs gap ≤ 6000000000000000 }
-    requires some { 0 < squares }
-    requires squares { squares ≡ square_sum directions.now }
-    requires directions { length directions.now ≡ length problem.now.terms }
-    requires each { length prices.old ≡ length problem.now.terms }
-    requires moved { All IsDirection directions.now }
-    requires within { All IsPrice prices.old }
-    ensures { prices.new ≡ next_prices problem.now step gap prices.old directions.now }
-{
-    let terms = problem.terms();
-    for k in 0..terms.len() {
-        let most = most_price(terms[k]);
-        prices[k] = next_price(step, gap, squares, most, prices[k], directions[k]);
-    }
 }

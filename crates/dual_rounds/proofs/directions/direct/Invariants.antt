@@ -1,6 +1,8 @@
-use Rattle.std.proofs.Common.{◌≡◌, ◌++◌, take, drop}
-use Rattle.dual_ascent.specs.DualSteps.{next_directions}
+use Rattle.std.proofs.Common.{pos, All}
+use Rattle.dual_rounds.specs.Ranges.{IsDirection}
+use Rattle.dual_rounds.proofs.Filling.{IsFilledTo}
+use Rattle.dual_rounds.proofs.TermLists.{direction_by}
 use Rattle.dual_rounds.proofs.directions.direct.Given as goal
 
 abbrev pub invariant-loop-k : goal.invariant-loop-k
-invariant-loop-k l = l.directions ≡ take l.k (next_directions l.problem l.orders l.prices l.initial.directions) ++ drop l.k l.initial.directions
+invariant-loop-k l = IsFilledTo (direction_by l.problem.terms l.orders l.prices) (pos 0) l.k l.initial.directions l.directions × All IsDirection l.directions
