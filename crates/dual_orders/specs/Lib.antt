@@ -1,0 +1,6 @@
+pub mod OwnTerms
+pub mod Parts
+pub mod SettledPairs
+pub mod Solvers
+pub mod Values
+pub mod Closing

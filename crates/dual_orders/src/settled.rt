@@ -1,0 +1,48 @@
+//! Which lines have to stand before others where pairs are settled.
+
+ghost use Rattle.std.specs.Prelude.{◌≡◌, ◌≤◌, ◌<◌, length, All};
+ghost use Rattle.graph_core.specs.Consistent.{AreRising};
+ghost use Rattle.dual_bound.specs.Settled.{settled_on};
+ghost use Rattle.dual_shares.specs.SettledSets.{TellAhead};
+ghost use Rattle.dual_orders.specs.SettledPairs.{pairs_of, IsPairHere, IsPairOn};
+
+use crate::part::Part;
+use dual_bound::SettledPair;
+use dual_shares::settle;
+use map_base::{LineId, SegId};
+
+/// For each line of a segment the set of those that are settled to stand before it, a bit for the place of each.
+pub(crate) fn put_ahead(part: &Part, s: usize, settled: &[SettledPair], ahead: &mut [u32])
+    requires known { s < length part.now.problem.now.segs }
+    requires few { length (lines_on part.now.problem.now.segs (record { 0 = s })) ≤ 16 }
+    requires room { length ahead.old ≡ 16 }
+    requires settled { All (IsPairOn part.now.problem.now.segs) settled.now }
+    ensures { TellAhead (settled_on (pairs_of settled.now) (record { 0 = s })) (lines_on part.now.problem.now.segs (record { 0 = s })) ahead.new }
+{
+    put_pairs(part.lines(s), SegId(s as u32), settled, ahead);
+}
+
+/// The same, of lines that rise.
+fn put_pairs(lines: &[LineId], s: SegId, settled: &[SettledPair], ahead: &mut [u32])
+    requires rising { AreRising lines.now }
+    requires few { length lines.now ≤ 16 }
+    requires room { length ahead.old ≡ 16 }
+    requires settled { All (IsPairHere s lines.now) settled.now }
+    ensures { TellAhead (settled_on (pairs_of settled.now) s) lines.now ahead.new }
+{
+    clear(ahead);
+    for pair in settled {
+        if pair.seg == s {
+            settle(lines, pair.first, pair.second, ahead);
+        }
+    }
+}
+
+/// No line has to stand before another.
+pub(crate) fn clear(ahead: &mut [u32])
+    ensures { All (λ n. n ≡ 0) ahead.new }
+{
+    for j in 0..ahead.len() {
+        ahead[j] = 0;
+    }
+}
