@@ -4,3 +4,4 @@ pub mod SettledPairs
 pub mod Solvers
 pub mod Values
 pub mod Closing
+pub mod NextPairs

@@ -82,6 +82,11 @@ fn put_shares(part: &Part, s: usize, prices: &[i64], rows: &mut CostRows)
     let terms = part.problem.terms();
     rows.clear(part.lines(s).len());
     for k in part.on[s].as_slice() {
-        rows.add_share(part.problem, segment, terms[*k as usize], prices[*k as usize]);
+        rows.add_share(
+            part.problem,
+            segment,
+            terms[*k as usize],
+            prices[*k as usize],
+        );
     }
 }

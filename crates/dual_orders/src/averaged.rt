@@ -67,7 +67,11 @@ fn put_nearest(
     ensures orders { orders.new ≡ slice_set orders.old s (nearest_on part.now.problem.now (pairs_of settled.now) (averages_of averages.now) (record { 0 = s })) }
     ensures room { HasRoomFor part.now.problem.now solver.new }
 {
-    put_distances(part.lines(s), averages[s].as_slice(), &mut solver.tables.rows);
+    put_distances(
+        part.lines(s),
+        averages[s].as_slice(),
+        &mut solver.tables.rows,
+    );
     put_ahead(part, s, settled, solver.tables.ahead.as_mut_slice());
     solver.tables.solve(part.lines(s), &mut orders[s]);
 }

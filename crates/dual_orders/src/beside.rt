@@ -19,12 +19,7 @@ use order_model::{Problem, Term, are_neighbours, comes_before};
 
 /// What the terms on a segment make each two of its lines cost beside the orders of the others, but for what no order of it
 /// changes.
-pub(crate) fn put_costs_beside(
-    part: &Part,
-    s: usize,
-    orders: &[LineOrder],
-    rows: &mut CostRows,
-)
+pub(crate) fn put_costs_beside(part: &Part, s: usize, orders: &[LineOrder], rows: &mut CostRows)
     requires part { IsPart part.now }
     requires known { s < length part.now.problem.now.segs }
     requires each { length orders.now ≡ length part.now.problem.now.segs }

@@ -17,12 +17,7 @@ use dual_bound::SettledPair;
 use dual_rounds::LineOrder;
 
 /// Puts in place on each segment the first of the orders that keep the settled pairs.
-pub fn put_left(
-    part: &Part,
-    solver: &mut Solver,
-    settled: &[SettledPair],
-    orders: &mut [LineOrder],
-)
+pub fn put_left(part: &Part, solver: &mut Solver, settled: &[SettledPair], orders: &mut [LineOrder])
     requires part { IsPart part.now }
     requires room { HasRoomFor part.now.problem.now solver.old }
     requires settled { All (IsPairOn part.now.problem.now.segs) settled.now }

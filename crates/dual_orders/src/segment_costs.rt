@@ -67,12 +67,7 @@ fn term_cost_with(term: Term, s: usize, orders: &[LineOrder], order: &[LineId]) 
 }
 
 /// The order of segment `k` where segment `s` has this order.
-fn order_with<'a>(
-    orders: &'a [LineOrder],
-    s: usize,
-    order: &'a [LineId],
-    k: usize,
-) -> &'a [LineId]
+fn order_with<'a>(orders: &'a [LineOrder], s: usize, order: &'a [LineId], k: usize) -> &'a [LineId]
     requires { k < length orders.now }
     ensures { result.now ≡ slice_index_or (slice_set orders.now s order.now) k [] }
 {
