@@ -10,11 +10,13 @@ ghost use Rattle.order_values.specs.DualTrees.{plain_dual};
 ghost use Rattle.dual_bound.specs.Accepting.{is_narrow, failing};
 ghost use Rattle.dual_check.specs.Answering.{IsCause};
 
-use crate::asked::{Asked, Tables};
-use crate::groups::terms_by_segment;
+use crate::asked::Asked;
 use crate::load::is_light;
+use crate::node::Node;
+use crate::solver::Solver;
 use crate::stop::DualStop;
 use crate::walk::walk;
+use dual_shares::terms_by_segment;
 use map_base::SegId;
 use order_model::Problem;
 use order_values::DualTree;
@@ -47,7 +49,7 @@ pub fn check_dual(
     let width = widest(problem, part);
     let narrow = width <= MOST_LINES;
     let groups = terms_by_segment(alloc, problem, part, numbers)?;
-    let mut tables = Tables::new(alloc, if narrow { width } else { 0 })?;
+    let mut solver = Solver::new(alloc, if narrow { width } else { 0 })?;
     let asked = Asked {
         problem,
         part,
@@ -56,9 +58,9 @@ pub fn check_dual(
         narrow,
         target,
     };
-    let mut settled = Vec::new(alloc);
+    let mut node = Node::root(alloc, part.len())?;
     let mut way = Vec::new(alloc);
-    if walk(&asked, &mut settled, &mut tables, &mut way, tree)? {
+    if walk(&asked, &mut node, &mut solver, &mut way, tree)? {
         return Ok(());
     }
     Err(DualStop::Failing(way))

@@ -2,16 +2,16 @@
 //!
 //! `check_dual` walks over the tree in the order of its text, with the pairs of lines that are settled on the way, and
 //! refuses the first node that does not hold. A stop holds where its prices are allowed and their value, the sum of the
-//! least shares of the part's segments, shows the target; the least share is found over sets of lines.
+//! least shares of the part's segments, shows the target. The share of a segment is found over sets of its lines, and kept
+//! until a price of a term on it, or a pair that is settled there, changes.
 #![tactic(auto)]
 
 mod asked;
 mod check;
-mod groups;
 mod load;
+mod node;
 mod prices;
-mod rows;
-mod shares;
+mod solver;
 mod stop;
 mod value;
 mod walk;

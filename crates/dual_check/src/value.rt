@@ -1,45 +1,42 @@
 //! The value of prices, and whether a stop holds.
 
-ghost use Rattle.std.specs.Prelude.{◌≡◌, ◌≤◌, ◌<◌, ◌^◌, ◌+ℤ◌, length, unsigned_abs, All, true, Some, slice_index, slice_index_or, slice_set};
-ghost use Rattle.graph_core.specs.Consistent.{AreRising};
-ghost use Rattle.order_model.specs.Places.{has_line, place_of};
+ghost use Rattle.std.specs.Prelude.{◌≡◌, ◌≤◌, ◌<◌, ◌^◌, ◌+◌, ◌+ℤ◌, length, unsigned_abs, true, Some, IfOk};
 ghost use Rattle.order_values.specs.PriceLists.{price_at, AreRisingPrices};
-ghost use Rattle.least_orders.specs.Subsets.{with_place};
-ghost use Rattle.dual_bound.specs.Settled.{settled_on};
-ghost use Rattle.dual_bound.specs.Values.{least_share, value_of};
+ghost use Rattle.dual_bound.specs.Values.{value_of};
 ghost use Rattle.dual_bound.specs.Accepting.{shows, is_stopped};
 ghost use Rattle.dual_check.specs.Asking.{IsAsked, HasRoomFor, question_of};
-ghost use Rattle.dual_check.specs.Prices.{AreSmallPrices};
-ghost use Rattle.dual_check.specs.Settling.{pairs_of, IsPairOn, IsPairHere, TellAhead};
+ghost use Rattle.dual_check.specs.Settling.{pairs_of};
+ghost use Rattle.dual_check.specs.Nodes.{IsNode, AreAsBefore, share_at};
 
-use crate::asked::{Asked, Tables};
+use crate::asked::Asked;
+use crate::node::{KnownShare, Node};
 use crate::prices::are_allowed;
-use crate::rows::place_of;
-use crate::shares::put_shares;
-use dual_bound::SettledPair;
-use map_base::{LineId, SegId};
-use subset_program::PairRows;
+use crate::solver::Solver;
+use map_base::NoMemory;
 
-/// Whether a stop holds with these prices, where these pairs are settled.
+/// Whether a stop holds with these prices at a node.
 pub(crate) fn is_stopped(
     asked: &Asked,
-    settled: &[SettledPair],
-    tables: &mut Tables,
+    node: &mut Node,
+    solver: &mut Solver,
     prices: &[(u32, i64)],
-) -> bool
+) -> Result<bool, NoMemory>
     requires asked { IsAsked asked.now }
-    requires room { HasRoomFor asked.now tables.old }
-    requires settled { All (IsPairOn asked.now.problem.now.segs) settled.now }
+    requires node { IsNode asked.now node.old }
+    requires room { HasRoomFor asked.now solver.old }
     requires rising { AreRisingPrices prices.now }
-    ensures holds { result ≡ is_stopped (question_of asked.now) (pairs_of settled.now) prices.now }
-    ensures room { HasRoomFor asked.now tables.new }
+    ensures holds { IfOk result (λ holds. holds ≡ is_stopped (question_of asked.now) (pairs_of node.old.settled.items) prices.now) }
+    ensures settled { IfOk result (λ _. node.new.settled.items ≡ node.old.settled.items) }
+    ensures node { IfOk result (λ _. IsNode asked.now node.new) }
+    ensures room { HasRoomFor asked.now solver.new }
 {
     if !asked.narrow || !are_allowed(asked, prices) {
-        return false;
+        return Ok(false);
     }
-    match value(asked, settled, tables, prices) {
-        None => true,
-        Some(value) => shows(asked.target, value),
+    node.take_prices(asked, prices)?;
+    match value(asked, node, solver) {
+        None => Ok(true),
+        Some(value) => Ok(shows(asked.target, value)),
     }
 }
 
@@ -50,25 +47,20 @@ fn shows(target: u64, value: i128) -> bool
     value > 1000 * (i128::from(target) - 1)
 }
 
-/// The sum of the least shares of the part's segments, none where one has none.
-fn value(
-    asked: &Asked,
-    settled: &[SettledPair],
-    tables: &mut Tables,
-    prices: &[(u32, i64)],
-) -> Option<i128>
+/// The sum of the least shares of the part's segments at a node, none where one has none.
+fn value(asked: &Asked, node: &mut Node, solver: &mut Solver) -> Option<i128>
     requires asked { IsAsked asked.now }
     requires narrow { asked.now.narrow ≡ true }
-    requires room { HasRoomFor asked.now tables.old }
-    requires settled { All (IsPairOn asked.now.problem.now.segs) settled.now }
-    requires rising { AreRisingPrices prices.now }
-    requires small { AreSmallPrices prices.now }
-    ensures value { result ≡ value_of asked.now.problem.now.segs (question_of asked.now).terms (price_at prices.now) (pairs_of settled.now) asked.now.part.now }
-    ensures room { HasRoomFor asked.now tables.new }
+    requires node { IsNode asked.now node.old }
+    requires room { HasRoomFor asked.now solver.old }
+    ensures value { result ≡ value_of asked.now.problem.now.segs (question_of asked.now).terms (price_at node.old.prices.items) (pairs_of node.old.settled.items) asked.now.part.now }
+    ensures same { AreAsBefore node.old node.new }
+    ensures node { IsNode asked.now node.new }
+    ensures room { HasRoomFor asked.now solver.new }
 {
     let mut total: i128 = 0;
     for k in (0..asked.part.len()).rev() {
-        match share_at(asked, k, settled, tables, prices) {
+        match share_at(asked, k, node, solver) {
             None => return None,
             Some(share) => total = with_share(total, share),
         }
@@ -78,78 +70,33 @@ fn value(
 
 /// A sum of shares with one more.
 fn with_share(total: i128, share: i64) -> i128
-    requires { unsigned_abs total ≤ 2 ^ 126 }
-    ensures { result ≡ total +ℤ share }
+    requires { unsigned_abs total ≤ 2 ^ 100 }
+    ensures sum { result ≡ total +ℤ share }
+    ensures more { unsigned_abs result ≤ unsigned_abs total + 2 ^ 63 }
 {
     total + i128::from(share)
 }
 
-/// The least share of one segment of the part.
-fn share_at(
-    asked: &Asked,
-    k: usize,
-    settled: &[SettledPair],
-    tables: &mut Tables,
-    prices: &[(u32, i64)],
-) -> Option<i64>
+/// The least share of a segment of the part at a node; it is known from then on.
+fn share_at(asked: &Asked, k: usize, node: &mut Node, solver: &mut Solver) -> Option<i64>
     requires asked { IsAsked asked.now }
     requires narrow { asked.now.narrow ≡ true }
     requires known { k < length asked.now.part.now }
-    requires room { HasRoomFor asked.now tables.old }
-    requires settled { All (IsPairOn asked.now.problem.now.segs) settled.now }
-    requires rising { AreRisingPrices prices.now }
-    requires small { AreSmallPrices prices.now }
-    ensures share { result ≡ least_share asked.now.problem.now.segs (question_of asked.now).terms (price_at prices.now) (pairs_of settled.now)
-        (slice_index_or asked.now.part.now k (record { 0 = 0 })) }
-    ensures room { HasRoomFor asked.now tables.new }
+    requires node { IsNode asked.now node.old }
+    requires room { HasRoomFor asked.now solver.old }
+    ensures share { result ≡ share_at asked.now node.old.settled.items node.old.prices.items k }
+    ensures same { AreAsBefore node.old node.new }
+    ensures node { IsNode asked.now node.new }
+    ensures room { HasRoomFor asked.now solver.new }
 {
-    let s = asked.part[k];
-    let lines = asked.problem.segs()[s.0 as usize].as_slice();
-    put_shares(
-        asked.problem,
-        s,
-        asked.groups[k].as_slice(),
-        prices,
-        tables.before.as_mut_slice(),
-        tables.beside.as_mut_slice(),
-    );
-    put_ahead(lines, s, settled, tables.ahead.as_mut_slice());
-    let rows = PairRows {
-        count: lines.len(),
-        before: tables.before.as_slice(),
-        beside: tables.beside.as_slice(),
-        ahead: tables.ahead.as_slice(),
-    };
-    tables.program.least_cost(&rows)
-}
-
-/// Writes for each line of a segment which lines are settled to stand before it.
-fn put_ahead(lines: &[LineId], s: SegId, settled: &[SettledPair], ahead: &mut [u32])
-    requires rising { AreRising lines.now }
-    requires few { length lines.now ≤ 16 }
-    requires room { length ahead.old ≡ 16 }
-    requires settled { All (IsPairHere s lines.now) settled.now }
-    ensures { TellAhead (settled_on (pairs_of settled.now) s) lines.now ahead.new }
-{
-    for j in 0..ahead.len() {
-        ahead[j] = 0;
-    }
-    for pair in settled {
-        if pair.seg == s {
-            put_pair(lines, pair.first, pair.second, ahead);
+    match node.shares[k] {
+        KnownShare::NoOrder => None,
+        KnownShare::Least(share) => Some(share),
+        KnownShare::Unknown => {
+            let settled = node.settled.as_slice();
+            let share = solver.least_share(asked, k, settled, node.prices.as_slice());
+            node.keep(asked, k, share);
+            share
         }
     }
-}
-
-/// The first of two lines has to stand before the second.
-fn put_pair(lines: &[LineId], first: LineId, second: LineId, ahead: &mut [u32])
-    requires few { length lines.now ≤ 16 }
-    requires room { length ahead.old ≡ 16 }
-    requires first { has_line lines.now first ≡ true }
-    requires second { has_line lines.now second ≡ true }
-    ensures { ahead.new ≡ slice_set ahead.old (place_of lines.now second) (with_place (slice_index ahead.old (place_of lines.now second)) (place_of lines.now first)) }
-{
-    let i = place_of(lines, first);
-    let j = place_of(lines, second);
-    ahead[j] |= 1 << i;
 }

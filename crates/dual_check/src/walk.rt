@@ -1,45 +1,47 @@
 //! The walk over a tree, node by node in the order of the text.
 
-ghost use Rattle.std.specs.Prelude.{◌≡◌, ◌∷◌, All, true, IfOk};
+ghost use Rattle.std.specs.Prelude.{◌≡◌, ◌∷◌, true, IfOk};
 ghost use Rattle.order_values.specs.DualTrees.{fork, plain_dual};
 ghost use Rattle.dual_bound.specs.Accepting.{after_line, is_fork, failing_below};
 ghost use Rattle.dual_check.specs.Asking.{IsAsked, HasRoomFor, question_of};
 ghost use Rattle.dual_check.specs.Settling.{pairs_of, IsPairOn, IsWalked};
+ghost use Rattle.dual_check.specs.Nodes.{IsNode};
 
-use crate::asked::{Asked, Tables};
+use crate::asked::Asked;
+use crate::node::Node;
+use crate::solver::Solver;
 use crate::value::is_stopped;
 use dual_bound::SettledPair;
 use map_base::{LineId, NoMemory, SegId};
 use order_values::DualTree;
 
-/// Whether a tree is accepted where these pairs are settled. Where it is not, the lines on the way to the first node that
-/// fails are added to `way`.
+/// Whether a tree is accepted at a node. Where it is not, the lines on the way to the first node that fails are added to
+/// `way`; where it is, the same pairs are settled as before.
 #[cycle(walk)]
 pub(crate) fn walk(
     asked: &Asked,
-    settled: &mut Vec<SettledPair>,
-    tables: &mut Tables,
+    node: &mut Node,
+    solver: &mut Solver,
     way: &mut Vec<LineId>,
     tree: &DualTree,
 ) -> Result<bool, NoMemory>
     requires asked { IsAsked asked.now }
-    requires room { HasRoomFor asked.now tables.old }
-    requires settled { All (IsPairOn asked.now.problem.now.segs) settled.old.items }
-    ensures room { HasRoomFor asked.now tables.new }
-    ensures settled { IfOk result (λ passed. passed ≡ true → settled.new.items ≡ settled.old.items) }
-    ensures walked { IfOk result (IsWalked (failing_below (question_of asked.now) (pairs_of settled.old.items) (plain_dual tree.now)) way.old.items way.new.items) }
+    requires node { IsNode asked.now node.old }
+    requires room { HasRoomFor asked.now solver.old }
+    ensures room { HasRoomFor asked.now solver.new }
+    ensures node { IfOk result (λ _. IsNode asked.now node.new) }
+    ensures settled { IfOk result (λ passed. passed ≡ true → node.new.settled.items ≡ node.old.settled.items) }
+    ensures walked { IfOk result (IsWalked (failing_below (question_of asked.now) (pairs_of node.old.settled.items) (plain_dual tree.now)) way.old.items way.new.items) }
 {
     match tree {
-        DualTree::Stop { prices } => {
-            Ok(is_stopped(asked, settled.as_slice(), tables, prices.as_slice()))
-        }
+        DualTree::Stop { prices } => is_stopped(asked, node, solver, prices.as_slice()),
         DualTree::Fork {
             seg,
             a,
             b,
             first,
             second,
-        } => walk_fork(asked, settled, tables, way, *seg, *a, *b, first, second),
+        } => walk_fork(asked, node, solver, way, *seg, *a, *b, first, second),
     }
 }
 
@@ -47,8 +49,8 @@ pub(crate) fn walk(
 #[cycle(walk)]
 fn walk_fork(
     asked: &Asked,
-    settled: &mut Vec<SettledPair>,
-    tables: &mut Tables,
+    node: &mut Node,
+    solver: &mut Solver,
     way: &mut Vec<LineId>,
     seg: SegId,
     a: LineId,
@@ -57,11 +59,12 @@ fn walk_fork(
     second: &DualTree,
 ) -> Result<bool, NoMemory>
     requires asked { IsAsked asked.now }
-    requires room { HasRoomFor asked.now tables.old }
-    requires settled { All (IsPairOn asked.now.problem.now.segs) settled.old.items }
-    ensures room { HasRoomFor asked.now tables.new }
-    ensures settled { IfOk result (λ passed. passed ≡ true → settled.new.items ≡ settled.old.items) }
-    ensures walked { IfOk result (IsWalked (failing_below (question_of asked.now) (pairs_of settled.old.items) (fork seg a b (plain_dual first.now) (plain_dual second.now)))
+    requires node { IsNode asked.now node.old }
+    requires room { HasRoomFor asked.now solver.old }
+    ensures room { HasRoomFor asked.now solver.new }
+    ensures node { IfOk result (λ _. IsNode asked.now node.new) }
+    ensures settled { IfOk result (λ passed. passed ≡ true → node.new.settled.items ≡ node.old.settled.items) }
+    ensures walked { IfOk result (IsWalked (failing_below (question_of asked.now) (pairs_of node.old.settled.items) (fork seg a b (plain_dual first.now) (plain_dual second.now)))
         way.old.items way.new.items) }
 {
     if !is_fork(asked, seg, a, b) {
@@ -72,7 +75,7 @@ fn walk_fork(
         first: a,
         second: b,
     };
-    if !walk_case(asked, settled, tables, way, ahead, first)? {
+    if !walk_case(asked, node, solver, way, ahead, first)? {
         return Ok(false);
     }
     let behind = SettledPair {
@@ -80,34 +83,35 @@ fn walk_fork(
         first: b,
         second: a,
     };
-    walk_case(asked, settled, tables, way, behind, second)
+    walk_case(asked, node, solver, way, behind, second)
 }
 
 /// The same of one case of a fork, with its pair settled besides.
 #[cycle(walk)]
 fn walk_case(
     asked: &Asked,
-    settled: &mut Vec<SettledPair>,
-    tables: &mut Tables,
+    node: &mut Node,
+    solver: &mut Solver,
     way: &mut Vec<LineId>,
     pair: SettledPair,
     tree: &DualTree,
 ) -> Result<bool, NoMemory>
     requires asked { IsAsked asked.now }
-    requires room { HasRoomFor asked.now tables.old }
-    requires settled { All (IsPairOn asked.now.problem.now.segs) settled.old.items }
+    requires node { IsNode asked.now node.old }
+    requires room { HasRoomFor asked.now solver.old }
     requires pair { IsPairOn asked.now.problem.now.segs pair }
-    ensures room { HasRoomFor asked.now tables.new }
-    ensures settled { IfOk result (λ passed. passed ≡ true → settled.new.items ≡ settled.old.items) }
-    ensures walked { IfOk result (IsWalked (after_line pair.first (failing_below (question_of asked.now) (pair ∷ pairs_of settled.old.items) (plain_dual tree.now)))
+    ensures room { HasRoomFor asked.now solver.new }
+    ensures node { IfOk result (λ _. IsNode asked.now node.new) }
+    ensures settled { IfOk result (λ passed. passed ≡ true → node.new.settled.items ≡ node.old.settled.items) }
+    ensures walked { IfOk result (IsWalked (after_line pair.first (failing_below (question_of asked.now) (pair ∷ pairs_of node.old.settled.items) (plain_dual tree.now)))
         way.old.items way.new.items) }
 {
     way.push(pair.first)?;
-    settled.push(pair)?;
-    if !walk(asked, settled, tables, way, tree)? {
+    node.settle(asked, pair)?;
+    if !walk(asked, node, solver, way, tree)? {
         return Ok(false);
     }
-    settled.truncate(settled.len() - 1);
+    node.take_back(asked);
     way.truncate(way.len() - 1);
     Ok(true)
 }

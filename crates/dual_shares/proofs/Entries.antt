@@ -1,9 +1,10 @@
--- Entries of rows, and what is added to them.
-use Rattle.std.proofs.Common.{◌≡◌, ◌≢◌, ℕ, zero, suc, ◌+◌, ◌*◌, ◌<◌, ◌≤◌, ◌==◌, ◌||◌, ◌&&◌, Bool, true, false, cond, List, [], ◌∷◌, length, get_or, refl, sym, ◌∙◌, ap, subst, arith, ◌⊎◌, inl, inr, true≢false, eq-eqb, eqb-true}
+-- Places of lines, entries of rows, and what is added to them.
+use Rattle.std.proofs.Common.{◌≡◌, ◌≢◌, ℕ, zero, suc, ◌+◌, ◌*◌, ◌<◌, ◌≤◌, ◌==◌, ◌||◌, ◌&&◌, Bool, true, false, cond, List, [], ◌∷◌, length, drop, set, get_or, refl, sym, ◌∙◌, ap, subst, arith, ◌⊎◌, inl, inr, true≢false, eq-eqb, eqb-true, get_or-set_same, get_or-set_other}
 use Rattle.std.specs.Prelude.{ℤ, pos, ◌+ℤ◌, ◌-ℤ◌, unsigned_abs}
-use Rattle.std.proofs.Math.Nat.{mul-le-mul_right, suc-mul}
-use Rattle.std.proofs.lemmas.Bool.{cases_order, ne_eqb, eqb-false}
+use Rattle.std.proofs.Math.Nat.{mul-le-mul_left, mul-le-mul_right, suc-mul}
+use Rattle.std.proofs.lemmas.Bool.{cases_eq, cases_order, ne_eqb, eqb-false}
 use Rattle.std.proofs.lemmas.Int.{ints}
+use Rattle.std.proofs.lemmas.List.{at_drop_more, at_drop_all}
 use Rattle.map_base.specs.declared.ids.LineId.{LineId}
 use Rattle.graph_core.specs.Consistent.{AreRising}
 use Rattle.order_model.specs.Costs.{are_these}
@@ -12,7 +13,7 @@ use Rattle.order_model.proofs.Lines.{either_true, same_line}
 use Rattle.least_orders.specs.OrderCosts.{PairCosts, cost_before, cost_beside}
 use Rattle.least_orders.specs.Rows.{line_at, named, entry}
 use Rattle.least_orders.proofs.Renaming.{same_name}
-use Rattle.dual_check.specs.RowSteps.{row_entry, IsAddedBefore, IsAddedBeside, IsMoreBy}
+use Rattle.dual_shares.specs.RowSteps.{row_entry, AreSmall, IsAddedAt, IsAddedBefore, IsAddedBeside, IsMoreBy, IsRoomy, most_where}
 
 -- Places.
 
@@ -30,6 +31,30 @@ place_known (x ∷ lines) a h = by_test (x.0 == a.0) refl (either_true (x.0 == a
         let next : 1 + place_of lines a ≡ suc (place_of lines a) = omega arith in
         (let below = more.0 in omega (arith, below), λ d. ap (λ j. get_or (x ∷ lines) j d) next ∙ more.1 d)
 
+-- a line is looked for from a place on
+pub record IsAhead (lines : List LineId) (a : LineId) (i : ℕ) : Type 0 where
+  pub place : place_of lines a ≡ i + place_of (drop i lines) a
+  pub has : has_line (drop i lines) a ≡ true
+
+pub place_here : (lines : List LineId) (a : LineId) (i : ℕ) (x : LineId) → i < length lines → x ≡ get_or lines i x → (x.0 == a.0) ≡ true → IsAhead lines a i → i ≡ place_of lines a
+place_here lines a i x below is same ahead =
+    let first : ((get_or lines i x).0 == a.0) ≡ true = subst (λ (y : LineId). (y.0 == a.0) ≡ true) is same in
+    let here : place_of (drop i lines) a ≡ 0 = at_drop_more (λ l. place_of l a) lines i x below ∙ ap (λ b. cond b 0 (1 + place_of (drop (i + 1) lines) a)) first in
+    let place = ahead.place in
+    omega (arith, here, place)
+
+pub place_later : (lines : List LineId) (a : LineId) (i : ℕ) (x : LineId) → i < length lines → x ≡ get_or lines i x → (x.0 == a.0) ≡ false → IsAhead lines a i → IsAhead lines a (i + 1)
+place_later lines a i x below is apart ahead =
+    let first : ((get_or lines i x).0 == a.0) ≡ false = subst (λ (y : LineId). (y.0 == a.0) ≡ false) is apart in
+    let later : place_of (drop i lines) a ≡ 1 + place_of (drop (i + 1) lines) a = at_drop_more (λ l. place_of l a) lines i x below ∙ ap (λ b. cond b 0 (1 + place_of (drop (i + 1) lines) a)) first in
+    let place = ahead.place in record {
+      place = omega (arith, later, place);
+      has = sym (at_drop_more (λ l. has_line l a) lines i x below ∙ ap (λ b. b || has_line (drop (i + 1) lines) a) first) ∙ ahead.has;
+    }
+
+pub place_found : (lines : List LineId) (a : LineId) (i : ℕ) → length lines ≤ i → IsAhead lines a i → ⊥
+place_found lines a i over ahead = true≢false (sym ahead.has ∙ at_drop_all (λ l. has_line l a) lines i over)
+
 -- a line has the name at a place exactly where it stands there
 pub name_at : (lines : List LineId) (a : LineId) (i : ℕ) → AreRising lines → has_line lines a ≡ true → i < length lines → ((named lines (line_at i)).0 == a.0) ≡ (i == place_of lines a)
 name_at lines a i rising has below =
@@ -38,11 +63,17 @@ name_at lines a i rising has below =
 
 -- Entries.
 
-row_before : (m k n j : ℕ) → m < k → j < n → m * n + j < k * n
+pub row_before : (m k n j : ℕ) → m < k → j < n → m * n + j < k * n
 row_before m k n j below within =
     let rows = mul-le-mul_right {m = m + 1} {n = k} n (omega (arith, below)) in
     let next : (m + 1) * n ≡ m * n + n = ap (λ i. i * n) (omega arith) ∙ suc-mul m n in
     omega (arith, within, rows, next)
+
+pub squares : (n : ℕ) → n ≤ 16 → n * n ≤ 256
+squares n under =
+    let one = mul-le-mul_left {m = n} {n = 16} n under in
+    let two = mul-le-mul_right {m = n} {n = 16} 16 under in
+    omega (arith, one, two)
 
 pub same_entry : (n i j k l : ℕ) → j < n → l < n → ((i * n + j) == (k * n + l)) ≡ ((i == k) && (j == l))
 same_entry n i j k l first second = elim (cases_order i k) [
@@ -59,8 +90,15 @@ same_entry n i j k l first second = elim (cases_order i k) [
 
 -- One entry is changed.
 
-abbrev pub IsAddedAt : ℕ → ℤ → List ℤ → List ℤ → Type 0
-IsAddedAt at amount old new = (k : ℕ) → row_entry new k ≡ cond (k == at) (row_entry old k +ℤ amount) (row_entry old k)
+pub entry_written : (row : List ℤ) (at : ℕ) (v amount : ℤ) → at < length row → v ≡ row_entry row at +ℤ amount → IsAddedAt at amount row (set row at v)
+entry_written row at v amount below is k = elim (cases_eq k at) [
+  | inl same ↦
+      ap (λ j. row_entry (set row at v) j) same
+      ∙ (get_or-set_same row at v (pos 0) below
+      ∙ (is
+      ∙ (ap (λ j. row_entry row j +ℤ amount) (sym same) ∙ ap (λ b. cond b (row_entry row k +ℤ amount) (row_entry row k)) (sym (eq-eqb k at same)))))
+  | inr apart ↦ get_or-set_other row at k v (pos 0) apart ∙ ap (λ b. cond b (row_entry row k +ℤ amount) (row_entry row k)) (sym (ne_eqb k at apart))
+]
 
 moved_by : (a b c : ℤ) (most : ℕ) → unsigned_abs c ≤ most → a ≡ b +ℤ c → unsigned_abs (a -ℤ b) ≤ most
 moved_by a b c most small e = grind (arith, ints)
@@ -74,6 +112,52 @@ more_by at amount old new most small h k = by_test (k == at) (h k)
       where
         no_more : (b : ℤ) → b ≡ b +ℤ pos 0
         no_more b = omega (arith, ints)
+
+-- What entries come to.
+
+less_nothing : (v : ℤ) (m : ℕ) → unsigned_abs (v -ℤ v) ≤ m
+less_nothing v m = grind (arith, ints)
+
+pub more_by_nothing : (most : ℕ) (row : List ℤ) → IsMoreBy most row row
+more_by_nothing most row k = less_nothing (row_entry row k) most
+
+more_by_more : (u v w : ℤ) (m n : ℕ) → unsigned_abs (v -ℤ u) ≤ m → unsigned_abs (w -ℤ v) ≤ n → unsigned_abs (w -ℤ u) ≤ m + n
+more_by_more u v w m n h g = grind (arith, ints)
+
+pub more_by_both : (m n : ℕ) (old between new : List ℤ) → IsMoreBy m old between → IsMoreBy n between new → IsMoreBy (m + n) old new
+more_by_both m n old between new h g k = more_by_more (row_entry old k) (row_entry between k) (row_entry new k) m n (h k) (g k)
+
+abs_more : (u v : ℤ) (m n : ℕ) → unsigned_abs u ≤ m → unsigned_abs (v -ℤ u) ≤ n → unsigned_abs v ≤ m + n
+abs_more u v m n h g = grind (arith, ints)
+
+pub small_more : (m most : ℕ) (old new : List ℤ) (k : ℕ) → most ≤ 256000000 → IsMoreBy most old new → unsigned_abs (row_entry old k) ≤ m * 256000000 → unsigned_abs (row_entry new k) ≤ (m + 1) * 256000000
+small_more m most old new k within more small = let step = abs_more (row_entry old k) (row_entry new k) (m * 256000000) most small (more k) in omega (arith, step, within)
+
+pub small_both : (count m one two : ℕ) (before_old beside_old before_new beside_new : List ℤ) → one ≤ 256000000 → two ≤ 256000000 → IsMoreBy one before_old before_new → IsMoreBy two beside_old beside_new
+    → AreSmall count m before_old beside_old → AreSmall count (m + 1) before_new beside_new
+small_both count m one two before_old beside_old before_new beside_new within within_too before beside small = record {
+  before_small = λ k below. small_more m one before_old before_new k within before (small.before_small k below);
+  beside_small = λ k below. small_more m two beside_old beside_new k within_too beside (small.beside_small k below);
+}
+
+-- small entries have room
+pub small_roomy : (count m : ℕ) (before beside : List ℤ) → m ≤ 4000000 → AreSmall count m before beside → IsRoomy count before × IsRoomy count beside
+small_roomy count m before beside few small =
+    (λ k below. (let most = small.before_small k below in omega (arith, most, few)), λ k below. (let most = small.beside_small k below in omega (arith, most, few)))
+
+-- they still have after one amount more
+pub still_roomy : (v w : ℤ) (m : ℕ) → m ≤ 256000000 → unsigned_abs v ≤ 1024000000000000 → unsigned_abs (w -ℤ v) ≤ m → unsigned_abs w ≤ 2 ^ 60
+still_roomy v w m within small more = let step = abs_more v w 1024000000000000 m small more in omega (arith, step, within)
+
+pub one_of_two : (s t : Bool) → (s ≡ true → t ≡ true → ⊥) → most_where s + most_where t ≤ 256000000
+one_of_two true true h = absurd (h refl refl)
+one_of_two true false h = omega arith
+one_of_two false true h = omega arith
+one_of_two false false h = omega arith
+
+pub most_within : (s : Bool) → most_where s ≤ 256000000
+most_within true = omega arith
+most_within false = omega arith
 
 -- an amount by test
 added_if : (b : Bool) (v amount : ℤ) → cond b (v +ℤ amount) v ≡ v +ℤ cond b amount (pos 0)

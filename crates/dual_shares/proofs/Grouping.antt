@@ -10,8 +10,8 @@ use Rattle.order_model.specs.Costs.{seg_of, other_of}
 use Rattle.order_model.specs.Parts.{IsRisingPart}
 use Rattle.order_model.specs.PartTerms.{is_in, no_term, no_numbers, with_number}
 use Rattle.dual_bound.proofs.Segments.{AreApart, part_apart, same_seg}
-use Rattle.dual_check.specs.Groups.{is_on, numbers_on}
-use Rattle.dual_check.specs.GroupSteps.{IsPlaceInPart, with_number_where, with_number_at, with_term}
+use Rattle.dual_shares.specs.Groups.{is_on, numbers_on}
+use Rattle.dual_shares.specs.GroupSteps.{IsPlaceInPart, with_number_where, with_number_at, with_term}
 
 -- the segment itself
 abbrev is_seg : SegId → SegId → Bool

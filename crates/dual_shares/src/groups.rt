@@ -4,8 +4,8 @@ ghost use Rattle.std.specs.Prelude.{◌≡◌, ◌≢◌, ◌<◌, length, map, 
 ghost use Rattle.order_model.specs.Parts.{IsRisingPart};
 ghost use Rattle.order_model.specs.Places.{tables_of};
 ghost use Rattle.order_model.specs.PartTerms.{no_numbers, with_number};
-ghost use Rattle.dual_check.specs.Groups.{numbers_on};
-ghost use Rattle.dual_check.specs.GroupSteps.{with_number_at, with_term, IsPlaceInPart};
+ghost use Rattle.dual_shares.specs.Groups.{numbers_on};
+ghost use Rattle.dual_shares.specs.GroupSteps.{with_number_at, with_term, IsPlaceInPart};
 
 use map_base::{NoMemory, SegId};
 use order_model::{Problem, Term, ends_of};
@@ -76,7 +76,7 @@ fn push_where(groups: &mut Vec<Vec<u32>>, place: Option<usize>, n: u32) -> Resul
 }
 
 /// Where a segment stands in a part.
-fn place_in_part(part: &[SegId], s: SegId) -> Option<usize>
+pub fn place_in_part(part: &[SegId], s: SegId) -> Option<usize>
     requires { IsRisingPart part.now }
     ensures { IsPlaceInPart part.now s result }
 {

@@ -1,58 +1,18 @@
-//! What the terms on a segment make each two of its lines cost under prices.
+//! What a term on a segment makes each two of its lines cost under its price.
 
-ghost use Rattle.std.specs.Prelude.{◌≡◌, ◌+◌, ◌<◌, ◌≤◌, ℕ, length, unsigned_abs, All, IsTrue};
+ghost use Rattle.std.specs.Prelude.{◌≡◌, ◌+◌, ◌<◌, ◌≤◌, ℕ, length, unsigned_abs, IsTrue};
 ghost use Rattle.graph_core.specs.Consistent.{AreRising};
 ghost use Rattle.order_model.specs.Problems.{IsProblem, IsTerm, lines_on};
-ghost use Rattle.order_model.specs.PartTerms.{terms_by_number};
-ghost use Rattle.order_values.specs.PriceLists.{price_at, AreRisingPrices};
 ghost use Rattle.least_orders.specs.OrderCosts.{cost_before, cost_beside};
-ghost use Rattle.dual_bound.specs.ShareCosts.{costs_where, link_costs, term_costs, share_costs};
-ghost use Rattle.dual_check.specs.Prices.{AreSmallPrices};
-ghost use Rattle.dual_check.specs.RowSteps.{TellPairs, AreSmall, HaveAdded, AreTwoOf, IsRoomy, IsAddedBefore, IsAddedBeside, IsMoreBy};
+ghost use Rattle.dual_bound.specs.ShareCosts.{costs_where, link_costs, term_costs};
+ghost use Rattle.dual_shares.specs.RowSteps.{AreSmall, HaveAdded, AreTwoOf, IsRoomy, IsAddedBefore, IsAddedBeside, IsMoreBy, most_where};
 
-use crate::prices::price_at;
-use crate::rows::{add, clear, place_of};
+use crate::rows::{add, opposite, place_of};
 use map_base::{LineId, SegId};
 use order_model::{Problem, Term};
 
-/// Writes into the rows what the terms of these numbers make each two lines of a segment cost.
-pub(crate) fn put_shares(
-    problem: &Problem,
-    s: SegId,
-    numbers: &[u32],
-    prices: &[(u32, i64)],
-    before: &mut [i64],
-    beside: &mut [i64],
-)
-    requires problem { IsProblem problem.now }
-    requires known { s.0 < length problem.now.segs }
-    requires few { length (lines_on problem.now.segs s) ≤ 16 }
-    requires numbers { All (λ n. n < length problem.now.terms) numbers.now }
-    requires count { length numbers.now ≤ 4000000 }
-    requires rising { AreRisingPrices prices.now }
-    requires within { AreSmallPrices prices.now }
-    requires before { length before.old ≡ 256 }
-    requires beside { length beside.old ≡ 256 }
-    ensures told { TellPairs (lines_on problem.now.segs s) (share_costs (terms_by_number problem.now.terms numbers.now) (price_at prices.now) s) before.new beside.new }
-    ensures small { AreSmall (length numbers.now) before.new beside.new }
-{
-    let terms = problem.terms();
-    clear(before);
-    clear(beside);
-    for n in numbers {
-        add_term(
-            problem,
-            s,
-            terms[*n as usize],
-            price_at(prices, *n),
-            before,
-            beside,
-        );
-    }
-}
-
 /// Adds what one term makes each two lines cost.
-fn add_term(
+pub(crate) fn add_term(
     problem: &Problem,
     s: SegId,
     term: Term,
@@ -67,9 +27,10 @@ fn add_term(
     requires price { unsigned_abs price ≤ 256000000 }
     requires before { length before.old ≡ 256 }
     requires beside { length beside.old ≡ 256 }
-    requires small { AreSmall 4000000 before.old beside.old }
+    requires small { AreSmall (length (lines_on problem.now.segs s)) 4000000 before.old beside.old }
     ensures added { HaveAdded (lines_on problem.now.segs s) (term_costs price s term) before.old beside.old before.new beside.new }
-    ensures small { (m : ℕ) → AreSmall m before.old beside.old → AreSmall (m + 1) before.new beside.new }
+    ensures small { (m : ℕ) → AreSmall (length (lines_on problem.now.segs s)) m before.old beside.old
+        → AreSmall (length (lines_on problem.now.segs s)) (m + 1) before.new beside.new }
 {
     let lines = problem.segs()[s.0 as usize].as_slice();
     match term {
@@ -78,7 +39,7 @@ fn add_term(
             first,
             second,
             w,
-        } => add_before(lines, seg == s, second, first, 1000 * i64::from(w), before),
+        } => add_before(lines, seg == s, second, first, i64::from(1000 * w), before),
         Term::Link {
             seg,
             other,
@@ -88,7 +49,7 @@ fn add_term(
             ..
         } => {
             add_link(lines, other == s, flip, a, b, price, before);
-            add_before(lines, seg == s, b, a, 0 - price, before);
+            add_before(lines, seg == s, b, a, opposite(price), before);
         }
         Term::Apart {
             seg,
@@ -98,7 +59,7 @@ fn add_term(
             ..
         } => {
             add_beside(lines, other == s, a, b, price, beside);
-            add_beside(lines, seg == s, a, b, 0 - price, beside);
+            add_beside(lines, seg == s, a, b, opposite(price), beside);
         }
     }
 }
@@ -118,9 +79,9 @@ fn add_link(
     requires on { IsTrue so → AreTwoOf lines.now a b }
     requires price { unsigned_abs price ≤ 256000000 }
     requires room { length before.old ≡ 256 }
-    requires small { IsRoomy before.old }
+    requires small { IsRoomy (length lines.now) before.old }
     ensures added { IsAddedBefore lines.now (costs_where so (link_costs flip a b price)) before.old before.new }
-    ensures small { IsMoreBy 256000000 before.old before.new }
+    ensures small { IsMoreBy (most_where so) before.old before.new }
 {
     if flip {
         add_before(lines, so, a, b, price, before);
@@ -130,7 +91,7 @@ fn add_link(
 }
 
 /// Where it is so, two lines cost an amount more where the first stands before the second.
-fn add_before(
+pub(crate) fn add_before(
     lines: &[LineId],
     so: bool,
     first: LineId,
@@ -143,9 +104,9 @@ fn add_before(
     requires on { IsTrue so → AreTwoOf lines.now first second }
     requires amount { unsigned_abs amount ≤ 256000000 }
     requires room { length before.old ≡ 256 }
-    requires small { IsRoomy before.old }
+    requires small { IsRoomy (length lines.now) before.old }
     ensures added { IsAddedBefore lines.now (costs_where so (cost_before first second amount)) before.old before.new }
-    ensures small { IsMoreBy 256000000 before.old before.new }
+    ensures small { IsMoreBy (most_where so) before.old before.new }
 {
     if !so {
         return;
@@ -156,15 +117,22 @@ fn add_before(
 }
 
 /// Where it is so, two lines cost an amount more where they are neighbours.
-fn add_beside(lines: &[LineId], so: bool, a: LineId, b: LineId, amount: i64, beside: &mut [i64])
+pub(crate) fn add_beside(
+    lines: &[LineId],
+    so: bool,
+    a: LineId,
+    b: LineId,
+    amount: i64,
+    beside: &mut [i64],
+)
     requires rising { AreRising lines.now }
     requires few { length lines.now ≤ 16 }
     requires on { IsTrue so → AreTwoOf lines.now a b }
     requires amount { unsigned_abs amount ≤ 256000000 }
     requires room { length beside.old ≡ 256 }
-    requires small { IsRoomy beside.old }
+    requires small { IsRoomy (length lines.now) beside.old }
     ensures added { IsAddedBeside lines.now (costs_where so (cost_beside a b amount)) beside.old beside.new }
-    ensures small { IsMoreBy 256000000 beside.old beside.new }
+    ensures small { IsMoreBy (most_where so) beside.old beside.new }
 {
     if !so {
         return;

@@ -3,7 +3,7 @@ use Rattle.std.specs.Prelude.{◌≡◌, ℕ, ◌<◌, ◌==◌, Bool, true, fal
 use Rattle.map_base.specs.declared.ids.SegId.{SegId}
 use Rattle.order_model.specs.declared.term.Term.{Term}
 use Rattle.order_model.specs.PartTerms.{is_in, with_number}
-use Rattle.dual_check.specs.Groups.{is_on}
+use Rattle.dual_shares.specs.Groups.{is_on}
 
 -- the segment stands at this place of the part, or is none of it
 abbrev pub IsPlaceInPart : List SegId → SegId → Option ℕ → Type 0

@@ -18,8 +18,8 @@ use Rattle.least_orders.specs.Subsets.{has_place, with_place}
 use Rattle.least_orders.proofs.Sets.{not_raised, with_same, with_other}
 use Rattle.dual_bound.specs.declared.settled.SettledPair.{SettledPair}
 use Rattle.dual_bound.specs.Settled.{settled_on}
-use Rattle.dual_check.specs.Settling.{pairs_of, TellAhead}
-use Rattle.dual_check.proofs.Entries.{place_known, name_at}
+use Rattle.dual_shares.specs.SettledSets.{TellAhead}
+use Rattle.dual_shares.proofs.Entries.{place_known, name_at}
 
 -- nothing is settled
 pub tell_nothing : (lines : List LineId) (ahead : List ℕ) → ((j : ℕ) → slice_index ahead j ≡ 0) → TellAhead [] lines ahead

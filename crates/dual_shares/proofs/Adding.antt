@@ -14,8 +14,8 @@ use Rattle.least_orders.specs.OrderCosts.{PairCosts, summed_costs, less_costs, n
 use Rattle.least_orders.specs.Rows.{line_at, named, entry}
 use Rattle.dual_bound.specs.Shares.{thousand}
 use Rattle.dual_bound.specs.ShareCosts.{costs_where, link_costs, term_costs, share_costs}
-use Rattle.dual_check.specs.Groups.{is_on, numbers_on}
-use Rattle.dual_check.specs.RowSteps.{row_entry, TellPairs, AreSmall, HaveAdded, IsAddedBefore, IsAddedBeside, IsMoreBy}
+use Rattle.dual_shares.specs.Groups.{is_on, numbers_on}
+use Rattle.dual_shares.specs.RowSteps.{row_entry, TellPairs, AreSmall, HaveAdded, IsAddedBefore, IsAddedBeside, IsMoreBy}
 
 -- nothing is added
 more_of_nothing : (v : ℤ) → v ≡ v +ℤ pos 0
