@@ -25,7 +25,7 @@ use Rattle.dual_ascent.specs.DualSteps.{share_under, answer_on, answers}
 use Rattle.dual_ascent.specs.Walks.{first_or, orders_left}
 use Rattle.dual_ascent.proofs.OwnParts.{seg_number, all_made_orders}
 
-set_orders : (segs orders : List (List LineId)) (s : ℕ) (o : List LineId) → AreOrders segs orders → IsPermutation (get_or segs s []) o → AreOrders segs (set orders s o)
+pub set_orders : (segs orders : List (List LineId)) (s : ℕ) (o : List LineId) → AreOrders segs orders → IsPermutation (get_or segs s []) o → AreOrders segs (set orders s o)
 set_orders [] [] s o h m = tt
 set_orders (l ∷ segs) (x ∷ orders) zero o h m = (m, h.1)
 set_orders (l ∷ segs) (x ∷ orders) (suc s) o h m = (h.0, set_orders segs orders s o h.1 m)
@@ -94,13 +94,13 @@ module _ (p : ProblemParts) where
           set_orders p.segs orders s.0 x h (order_is_permutation (lines_on p.segs s) x (first_among (cost_with p orders s) (all_orders (lines_on p.segs s)) x e))
 
   -- orders, at most as dear
-  abbrev Improves : List (List LineId) → List (List LineId) → Type 0
+  abbrev pub Improves : List (List LineId) → List (List LineId) → Type 0
   Improves orders others = AreOrders p.segs others × (cost_of p.terms others ≤ cost_of p.terms orders)
 
   then_improves : (a b c : List (List LineId)) → Improves a b → Improves b c → Improves a c
   then_improves a b c h k = let first = h.1 in let second = k.1 in (k.0, omega (arith, first, second))
 
-  segments_improve : (part : List SegId) (orders : List (List LineId)) → AreOrders p.segs orders → Improves orders (fold (improved_on p) orders part)
+  pub segments_improve : (part : List SegId) (orders : List (List LineId)) → AreOrders p.segs orders → Improves orders (fold (improved_on p) orders part)
   segments_improve [] orders h = (h, omega (arith))
   segments_improve (s ∷ part) orders h =
       let one = cheaper_orders orders (exchanged orders s (least_beside p orders s)) h (exchanged_orders orders s h) in
