@@ -61,7 +61,7 @@ transfer P xs ys e h = each_unmap P pair_of ys (subst (AllByRecursion P) e (each
 -- The pairs of lines that rise.
 
 -- two different ones of these lines
-abbrev ArePair : List LineId → LineId × LineId → Type 0
+abbrev pub ArePair : List LineId → LineId × LineId → Type 0
 ArePair lines q = (is_placed lines q.0 ≡ true) × (is_placed lines q.1 ≡ true) × ((q.0.0 == q.1.0) ≡ false)
 
 here_first : (a : LineId) (lines : List LineId) → is_placed (a ∷ lines) a ≡ true
@@ -246,3 +246,10 @@ module _ (p : ProblemParts) (settled : List SettledPair) (averages : List (List 
     where
       from_none : (i : ℕ) → i ≡ 0 + i
       from_none i = omega (arith)
+
+-- the averages of a segment are of two different lines of it
+pub pairs_of_lines : (p : ProblemParts) (averages : List (List PairAverage)) (i : ℕ) → All AreRising p.segs → ArePairs p averages → i < length p.segs
+    → AllByRecursion (λ x. ArePair (get_or p.segs i []) (pair_of x)) (get_or averages i [])
+pairs_of_lines p averages i rising h below =
+    transfer (ArePair (get_or p.segs i [])) (never_all (get_or p.segs i [])) (get_or averages i []) (sym (h i below))
+    (never_pairs (get_or p.segs i []) (order_distinct (get_or p.segs i []) (get_or p.segs i []) (rising_at p.segs i rising) (IsPermutation-refl (get_or p.segs i []))))
