@@ -35,7 +35,7 @@ use Rattle.dual_ascent.specs.Averages.{always, distance_by, distance, averages_o
 use Rattle.dual_ascent.specs.DualSteps.{share_under, answer_on}
 use Rattle.dual_ascent.specs.SegmentCosts.{distance_costs}
 
-numbered_fit : (segs : List (List LineId)) (k : ℕ) (terms : List Term) → AllByRecursion (IsTerm segs) terms → AllByRecursion (λ (t : ℕ × Term). IsTerm segs t.1) (numbered_from k terms)
+pub numbered_fit : (segs : List (List LineId)) (k : ℕ) (terms : List Term) → AllByRecursion (IsTerm segs) terms → AllByRecursion (λ (t : ℕ × Term). IsTerm segs t.1) (numbered_from k terms)
 numbered_fit segs k [] h = tt
 numbered_fit segs k (t ∷ terms) h = (h.0, numbered_fit segs (k + 1) terms h.1)
 

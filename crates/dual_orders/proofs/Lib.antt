@@ -1,0 +1,9 @@
+pub mod OwnTables
+pub mod SettledStacks
+pub mod Solving
+pub mod Valuing
+pub mod Exchanging
+pub mod Turning
+pub mod Chains
+pub mod Deciding
+pub mod Telling
