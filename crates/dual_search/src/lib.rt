@@ -6,17 +6,13 @@
 #![tactic(auto)]
 
 mod ascent;
-mod cost_rows;
-mod distances;
 mod found;
-mod local_search;
-mod node;
-mod open_pairs;
-mod part;
 mod part_search;
-mod segment_costs;
-mod shares;
+mod rounds;
+mod search;
 mod walk;
+mod walked;
 
+pub use dual_orders::is_in_reach;
 pub use found::DualFound;
-pub use part_search::{is_in_reach, search};
+pub use part_search::search;

@@ -1,55 +1,30 @@
 //! The walk over nodes, depth first.
 
-ghost use Rattle.std.specs.Prelude.{◌≡◌, ◌+◌, ◌^◌, ◌<◌, ◌≤◌, length, reverse, IfOk};
-ghost use Rattle.order_values.specs.DualTrees.{plain_dual};
+ghost use Rattle.std.specs.Prelude.{◌≡◌, ◌+◌, ◌∷◌, length, All, IfOk};
 ghost use Rattle.dual_ascent.specs.OwnNumbers.{listed};
+ghost use Rattle.dual_ascent.specs.DualSteps.{AreWithin};
 ghost use Rattle.dual_ascent.specs.OpenPairs.{OpenPair};
-ghost use Rattle.dual_ascent.specs.DualResults.{collapsed};
-ghost use Rattle.dual_search.specs.Searching.{search_of, bound_of, progress_of, plain_walked, fork_at, AreWithin, IsForkAt, IsUnderWay, WalkIs};
+ghost use Rattle.dual_ascent.specs.LocalSearch.{after_offer};
+ghost use Rattle.dual_ascent.specs.Walks.{walked, stopped, exact_prices, orders_left};
+ghost use Rattle.dual_orders.specs.Values.{incumbent_of};
+ghost use Rattle.dual_orders.specs.SettledPairs.{pairs_of, IsPairOn};
+ghost use Rattle.dual_orders.specs.NextPairs.{IsForkAt};
+ghost use Rattle.dual_search.specs.Searching.{search_of, ascent_of, bound_of, progress_of, fork_at, plain_walked, IsSearch, IsUnderWay, IsAscent, WalkIs, EndIs};
 
-use crate::ascent::{
-    Ascent, LowerBound, Search, ascend, first_ascent, is_shown, offer_trial, put_left, shows,
-};
-use crate::node::{sets_ahead, turned};
-use crate::open_pairs::next_pair;
+use crate::ascent::{Ascent, LowerBound, first_ascent, is_shown};
+use crate::rounds::{ascend, offer_trial};
+use crate::search::{Progress, Search};
+use crate::walked::{WalkedTree, listed};
 use dual_bound::SettledPair;
+use dual_orders::{next_pair, put_left};
 use dual_rounds::{LineOrder, most_price, subgradient};
-use map_base::{LineId, NoMemory, SegId, Steps};
-use order_model::Term;
-use order_values::{DualTree, Prices};
+use map_base::{NoMemory, Steps};
+use order_model::Problem;
 use std::alloc::Global;
 use std::sync::ledger::Ledger;
 
-/// A tree as it is walked: each fork with the greatest value of its own rounds and the prices that have it.
-#[derive(Drop)]
-pub(crate) enum WalkedTree {
-    Forked {
-        value: i64,
-        prices: Prices,
-        seg: SegId,
-        a: LineId,
-        b: LineId,
-        first: Box<WalkedTree>,
-        second: Box<WalkedTree>,
-    },
-    Stopped {
-        prices: Prices,
-    },
-}
-
-/// The prices that are not 0, each behind its term's number.
-pub(crate) fn listed(alloc: Global, prices: &[i64]) -> Result<Prices, NoMemory>
-    requires { length prices.now < 2 ^ 32 }
-    ensures { IfOk result (λ p. p ≡ listed prices.now) }
-{
-    let mut list = Vec::new(alloc);
-    for k in 0..prices.len() {
-        if prices[k] != 0 {
-            list.push((k as u32, prices[k]))?;
-        }
-    }
-    Ok(Prices::of(list))
-}
+/// How many rounds a node below the root may have.
+const NODE_ROUNDS: u32 = 200;
 
 /// What becomes of a node after its rounds.
 #[derive(Drop)]
@@ -63,64 +38,67 @@ pub(crate) enum NodeEnd {
 /// What becomes of a node after its rounds.
 pub(crate) fn node_end(
     alloc: Global,
-    search: &mut Search,
-    ascent: &mut Ascent,
-) -> Result<NodeEnd, NoMemory> {
-    if is_shown(search, ascent) {
-        return Ok(NodeEnd::Stop(WalkedTree::Stopped {
-            prices: listed(alloc, ascent.kept.as_slice())?,
-        }));
+    search: &Search,
+    now: &mut Progress,
+    settled: &[SettledPair],
+    ascent: &Ascent,
+) -> Result<NodeEnd, NoMemory>
+    requires search { IsSearch search.now }
+    requires now { IsUnderWay search.now now.old }
+    requires settled { All (IsPairOn search.now.part.problem.now.segs) settled.now }
+    requires ascent { IsAscent search.now.part.problem.now ascent.now }
+    ensures now { IsUnderWay search.now now.new }
+    ensures branches { now.new.branches ≡ now.old.branches }
+    ensures end { IfOk result (EndIs search.now.part.problem.now (pairs_of settled.now) (ascent_of now.old ascent.now) (progress_of now.new)) }
+{
+    if is_shown(search, now, ascent) {
+        let prices = listed(alloc, ascent.kept.as_slice())?;
+        return Ok(NodeEnd::Stop(WalkedTree::Stopped { prices }));
     }
-    match next_pair(&search.part, ascent) {
-        None => Ok(NodeEnd::Stop(stop_at_orders(alloc, search, ascent)?)),
+    let averages = ascent.averages.as_slice();
+    match next_pair(&search.part, &mut now.solver, settled, averages) {
         Some(pair) => Ok(NodeEnd::Fork(pair)),
-    }
-}
-
-/// A node and all below it, with room for so many forks on a way. None where the budget doesn't allow it.
-#[cycle(walk)]
-fn walk<L: Ledger>(
-    alloc: Global,
-    search: &mut Search,
-    room: u32,
-    settled: &mut Vec<SettledPair>,
-    prices: &[i64],
-    steps: &mut Steps<L>,
-) -> Result<Option<WalkedTree>, NoMemory> {
-    let ahead = sets_ahead(alloc, &search.part, settled.as_slice())?;
-    let mut ascent = first_ascent(alloc, &search.part, ahead, prices)?;
-    if !ascend(search, &mut ascent, 200, steps) {
-        return Ok(None);
-    }
-    match node_end(alloc, search, &mut ascent)? {
-        NodeEnd::Stop(tree) => Ok(Some(tree)),
-        NodeEnd::Fork(pair) => {
-            let bound = ascent.into_bound();
-            fork(alloc, search, room, settled, pair, &bound, steps)
-        }
+        None => Ok(NodeEnd::Stop(stop_at_orders(alloc, search, now, settled)?)),
     }
 }
 
 /// A node where all pairs are settled: the orders that are left are offered.
 fn stop_at_orders(
     alloc: Global,
-    search: &mut Search,
-    ascent: &Ascent,
-) -> Result<WalkedTree, NoMemory> {
+    search: &Search,
+    now: &mut Progress,
+    settled: &[SettledPair],
+) -> Result<WalkedTree, NoMemory>
+    requires search { IsSearch search.now }
+    requires now { IsUnderWay search.now now.old }
+    requires settled { All (IsPairOn search.now.part.problem.now.segs) settled.now }
+    ensures now { IsUnderWay search.now now.new }
+    ensures branches { now.new.branches ≡ now.old.branches }
+    ensures stop { IfOk result (λ tree. plain_walked tree ≡ stopped (listed (exact_prices search.now.part.problem.now (orders_left search.now.part.problem.now (pairs_of settled.now))))) }
+    ensures offered { IfOk result (λ _. incumbent_of now.new.incumbent ≡ after_offer search.now.part.problem.now (orders_left search.now.part.problem.now (pairs_of settled.now)) (incumbent_of now.old.incumbent)) }
+{
     put_left(
         &search.part,
-        &mut search.solver,
-        ascent,
-        search.trial.as_mut_slice(),
+        &mut now.solver,
+        settled,
+        now.trial.as_mut_slice(),
     );
-    let prices = exact_prices(alloc, search.part.problem.terms(), search.trial.as_slice())?;
+    let prices = exact_prices(alloc, search.part.problem, now.trial.as_slice())?;
     let prices = listed(alloc, prices.as_slice())?;
-    offer_trial(search);
+    offer_trial(search, now);
     Ok(WalkedTree::Stopped { prices })
 }
 
 /// Prices under which orders have 1000 times their cost as their shares.
-fn exact_prices(alloc: Global, terms: &[Term], orders: &[LineOrder]) -> Result<Vec<i64>, NoMemory> {
+fn exact_prices(
+    alloc: Global,
+    problem: &Problem,
+    orders: &[LineOrder],
+) -> Result<Vec<i64>, NoMemory>
+    requires { length orders.now ≡ length problem.now.segs }
+    ensures { IfOk result (λ prices. prices.items ≡ exact_prices problem.now orders.now) }
+{
+    let terms = problem.terms();
     let mut prices = Vec::with_capacity(alloc, terms.len())?;
     for term in terms {
         prices.push(i64::from(most_price(*term)) * subgradient(orders, *term))?;
@@ -128,33 +106,78 @@ fn exact_prices(alloc: Global, terms: &[Term], orders: &[LineOrder]) -> Result<V
     Ok(prices)
 }
 
-/// A fork at a pair: first with the one line before the other, then the other way round. None where no fork has room.
+/// A node and all below it, with room for so many forks on a way. None where the budget doesn't allow it.
+#[cycle(walk)]
+fn walk<L: Ledger>(
+    alloc: Global,
+    search: &Search,
+    now: &mut Progress,
+    room: u32,
+    settled: &mut Vec<SettledPair>,
+    prices: &[i64],
+    steps: &mut Steps<L>,
+) -> Result<Option<WalkedTree>, NoMemory>
+    requires search { IsSearch search.now }
+    requires now { IsUnderWay search.now now.old }
+    requires settled { All (IsPairOn search.now.part.problem.now.segs) settled.old.items }
+    requires prices { AreWithin search.now.part.problem.now.terms prices.now }
+    ensures now { IsUnderWay search.now now.new }
+    ensures settled { IfOk result (λ _. settled.new.items ≡ settled.old.items) }
+    ensures walked { IfOk result (λ w. WalkIs w (progress_of now.new) (walked (search_of search.now) room 200 (pairs_of settled.old.items) prices.now (progress_of now.old))) }
+    ensures steps { steps.new + now.old.branches ≡ steps.old + now.new.branches }
+{
+    let mut ascent = first_ascent(alloc, search, prices)?;
+    if !ascend(
+        search,
+        now,
+        settled.as_slice(),
+        NODE_ROUNDS,
+        &mut ascent,
+        steps,
+    ) {
+        return Ok(None);
+    }
+    match node_end(alloc, search, now, settled.as_slice(), &ascent)? {
+        NodeEnd::Stop(tree) => Ok(Some(tree)),
+        NodeEnd::Fork(pair) => {
+            let bound = ascent.into_bound();
+            fork(alloc, search, now, room, settled, pair, &bound, steps)
+        }
+    }
+}
+
+/// A fork at a pair: first with the one line before the other, then the other way round. None where no fork has room, or the
+/// budget doesn't allow what lies below.
 #[cycle(walk)]
 pub(crate) fn fork<L: Ledger>(
     alloc: Global,
-    search: &mut Search,
+    search: &Search,
+    now: &mut Progress,
     room: u32,
     settled: &mut Vec<SettledPair>,
     pair: SettledPair,
     bound: &LowerBound,
     steps: &mut Steps<L>,
 ) -> Result<Option<WalkedTree>, NoMemory>
-    requires search { IsUnderWay search.old }
-    requires prices { AreWithin search.old.part.problem.now.terms bound.now.prices.items }
-    ensures search { IsUnderWay search.new }
-    ensures settled { settled.new.items ≡ settled.old.items }
+    requires search { IsSearch search.now }
+    requires now { IsUnderWay search.now now.old }
+    requires settled { All (IsPairOn search.now.part.problem.now.segs) settled.old.items }
+    requires pair { IsPairOn search.now.part.problem.now.segs pair }
+    requires prices { AreWithin search.now.part.problem.now.terms bound.now.prices.items }
+    ensures now { IsUnderWay search.now now.new }
+    ensures settled { IfOk result (λ _. settled.new.items ≡ settled.old.items) }
     ensures walked { IfOk result (λ w. (c : OpenPair) → IsForkAt c pair
-        → WalkIs w (progress_of search.new) (fork_at (search_of search.old) room c (bound_of bound.now) (reverse settled.old.items) (progress_of search.old))) }
-    ensures steps { steps.new + search.old.branches ≡ steps.old + search.new.branches }
+        → WalkIs w (progress_of now.new) (fork_at (search_of search.now) room c (bound_of bound.now) (pairs_of settled.old.items) (progress_of now.old))) }
+    ensures steps { steps.new + now.old.branches ≡ steps.old + now.new.branches }
 {
     if room == 0 {
         return Ok(None);
     }
-    let Some(first) = walk_with(alloc, search, room - 1, settled, pair, bound, steps)? else {
+    let Some(first) = walk_with(alloc, search, now, room - 1, settled, pair, bound, steps)? else {
         return Ok(None);
     };
     let back = turned(pair);
-    let Some(second) = walk_with(alloc, search, room - 1, settled, back, bound, steps)? else {
+    let Some(second) = walk_with(alloc, search, now, room - 1, settled, back, bound, steps)? else {
         return Ok(None);
     };
     let prices = listed(alloc, bound.prices.as_slice())?;
@@ -173,47 +196,46 @@ pub(crate) fn fork<L: Ledger>(
 #[cycle(walk)]
 fn walk_with<L: Ledger>(
     alloc: Global,
-    search: &mut Search,
+    search: &Search,
+    now: &mut Progress,
     room: u32,
     settled: &mut Vec<SettledPair>,
     pair: SettledPair,
     bound: &LowerBound,
     steps: &mut Steps<L>,
-) -> Result<Option<WalkedTree>, NoMemory> {
+) -> Result<Option<WalkedTree>, NoMemory>
+    requires search { IsSearch search.now }
+    requires now { IsUnderWay search.now now.old }
+    requires settled { All (IsPairOn search.now.part.problem.now.segs) settled.old.items }
+    requires pair { IsPairOn search.now.part.problem.now.segs pair }
+    requires prices { AreWithin search.now.part.problem.now.terms bound.now.prices.items }
+    ensures now { IsUnderWay search.now now.new }
+    ensures settled { IfOk result (λ _. settled.new.items ≡ settled.old.items) }
+    ensures walked { IfOk result (λ w. WalkIs w (progress_of now.new)
+        (walked (search_of search.now) room 200 (pair ∷ pairs_of settled.old.items) bound.now.prices.items (progress_of now.old))) }
+    ensures steps { steps.new + now.old.branches ≡ steps.old + now.new.branches }
+{
     settled.push(pair)?;
-    let tree = walk(alloc, search, room, settled, bound.prices.as_slice(), steps)?;
+    let tree = walk(
+        alloc,
+        search,
+        now,
+        room,
+        settled,
+        bound.prices.as_slice(),
+        steps,
+    )?;
     settled.pop();
     Ok(tree)
 }
 
-/// The tree of a walk that found this least cost: each fork whose own value shows it is a stop.
-pub(crate) fn collapsed(alloc: Global, target: u64, tree: WalkedTree) -> Result<DualTree, NoMemory>
-    requires { target ≤ 1024000000000 }
-    ensures { IfOk result (λ t. plain_dual t ≡ collapsed target (plain_walked tree)) }
+/// The pair the other way round.
+fn turned(pair: SettledPair) -> SettledPair
+    ensures { result ≡ record { seg = pair.seg; first = pair.second; second = pair.first } }
 {
-    match tree {
-        WalkedTree::Stopped { prices } => Ok(DualTree::Stop { prices }),
-        WalkedTree::Forked {
-            value,
-            prices,
-            seg,
-            a,
-            b,
-            first,
-            second,
-        } => {
-            if shows(target, value) {
-                return Ok(DualTree::Stop { prices });
-            }
-            let first = collapsed(alloc, target, Box::into_inner(first))?;
-            let second = collapsed(alloc, target, Box::into_inner(second))?;
-            Ok(DualTree::Fork {
-                seg,
-                a,
-                b,
-                first: Box::new(alloc, first)?,
-                second: Box::new(alloc, second)?,
-            })
-        }
+    SettledPair {
+        seg: pair.seg,
+        first: pair.second,
+        second: pair.first,
     }
 }
