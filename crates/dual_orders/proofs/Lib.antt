@@ -7,3 +7,4 @@ pub mod Turning
 pub mod Chains
 pub mod Deciding
 pub mod Telling
+pub mod Adding
