@@ -8,3 +8,4 @@ pub mod Chains
 pub mod Deciding
 pub mod Telling
 pub mod Adding
+pub mod Placing

@@ -1,11 +1,14 @@
 -- The pair that is settled next, as it lies in memory.
-use Rattle.std.specs.Prelude.{◌≡◌, ℕ, nat_lt, Bool, true, not, List, map, filter, Option, Some, None}
+use Rattle.std.specs.Prelude.{◌≡◌, ℕ, nat_lt, Bool, true, not, ◌&&◌, List, map, filter, Option, Some, None}
 use Rattle.std.specs.Prelude.{ℤ, pos, neg_ℤ}
+use Rattle.std.specs.List.{list_all}
 use Rattle.map_base.specs.declared.ids.SegId.{SegId}
 use Rattle.map_base.specs.declared.ids.LineId.{LineId}
 use Rattle.order_model.specs.declared.problem.ProblemParts.{ProblemParts}
 use Rattle.least_orders.specs.LeastOrders.{first_least}
+use Rattle.least_orders.specs.Rows.{is_one_of}
 use Rattle.dual_bound.specs.declared.settled.SettledPair.{SettledPair}
+use Rattle.dual_shares.specs.SettledSets.{TellAhead}
 use Rattle.dual_ascent.specs.declared.pair_average.PairAverage.{PairAverage}
 use Rattle.dual_ascent.specs.OpenPairs.{OpenPair, open_pair, is_settled, doubt, ahead, behind}
 use Rattle.dual_orders.specs.declared.open_pairs.Undecided.{Undecided}
@@ -30,6 +33,11 @@ most_undecided p pairs = first_least (λ (c : OpenPair). neg_ℤ (pos (doubt p c
 -- the pairs of these averages that are not settled by some pairs of their segment
 abbrev pub open_of : List (LineId × LineId) → SegId → List PairAverage → List OpenPair
 open_of pairs s averages = map (open_pair s) (filter (λ (x : PairAverage). not (is_settled pairs x.lesser x.greater)) averages)
+
+-- the sets tell these pairs, which are of the lines
+pub record TellsPairs (pairs : List (LineId × LineId)) (lines : List LineId) (direct : List ℕ) : Type 0 where
+  pub told : TellAhead pairs lines direct
+  pub known : list_all (λ (p : LineId × LineId). is_one_of lines p.0 && is_one_of lines p.1) pairs ≡ true
 
 -- the best so far, with how undecided it is
 abbrev pub IsBest : ProblemParts → Option OpenPair → Option Undecided → Type 0

@@ -6,7 +6,6 @@ ghost use Rattle.graph_core.specs.Consistent.{AreRising};
 ghost use Rattle.order_model.specs.declared.problem.ProblemParts.{ProblemParts};
 ghost use Rattle.order_model.specs.Problems.{lines_on};
 ghost use Rattle.dual_bound.specs.Settled.{settled_on};
-ghost use Rattle.dual_shares.specs.SettledSets.{TellAhead};
 ghost use Rattle.dual_ascent.specs.Averages.{ArePairs};
 ghost use Rattle.dual_ascent.specs.OpenPairs.{OpenPair, is_settled, link_weight, doubt, open_pair, next_pair};
 ghost use Rattle.dual_rounds.specs.Ranges.{IsAverage, averages_of};
@@ -14,7 +13,7 @@ ghost use Rattle.dual_orders.specs.Parts.{IsPart};
 ghost use Rattle.dual_orders.specs.SettledPairs.{pairs_of, IsPairOn};
 ghost use Rattle.dual_orders.specs.Solvers.{HasRoomFor};
 ghost use Rattle.dual_orders.specs.Values.{IsOfTwo};
-ghost use Rattle.dual_orders.specs.NextPairs.{IsForkAt, IsNextPair, IsBest, is_more, most_undecided, open_of};
+ghost use Rattle.dual_orders.specs.NextPairs.{IsForkAt, IsNextPair, IsBest, TellsPairs, is_more, most_undecided, open_of};
 
 use crate::closing::{all_ahead, has_place};
 use crate::part::Part;
@@ -93,7 +92,7 @@ fn best_on(
     requires room { length direct.now ≡ 16 }
     requires pairs { All (IsOfTwo (lines_on part.now.problem.now.segs (record { 0 = s }))) averages.now }
     requires within { All IsAverage averages.now }
-    ensures { (pairs : List (LineId × LineId)) (before : List OpenPair) → TellAhead pairs (lines_on part.now.problem.now.segs (record { 0 = s })) direct.now
+    ensures { (pairs : List (LineId × LineId)) (before : List OpenPair) → TellsPairs pairs (lines_on part.now.problem.now.segs (record { 0 = s })) direct.now
         → chain ≡ length pairs → IsBest part.now.problem.now (most_undecided part.now.problem.now before) best
         → IsBest part.now.problem.now (most_undecided part.now.problem.now (before ++ open_of pairs (record { 0 = s }) averages.now)) result }
 {
@@ -118,7 +117,7 @@ fn with_average(
     requires room { length direct.now ≡ 16 }
     requires two { IsOfTwo (lines_on part.now.problem.now.segs (record { 0 = s })) average }
     requires within { IsAverage average }
-    ensures { (pairs : List (LineId × LineId)) (before : List OpenPair) → TellAhead pairs (lines_on part.now.problem.now.segs (record { 0 = s })) direct.now
+    ensures { (pairs : List (LineId × LineId)) (before : List OpenPair) → TellsPairs pairs (lines_on part.now.problem.now.segs (record { 0 = s })) direct.now
         → chain ≡ length pairs → IsBest part.now.problem.now (most_undecided part.now.problem.now before) best
         → IsBest part.now.problem.now (most_undecided part.now.problem.now (before ++ open_of pairs (record { 0 = s }) (average ∷ []))) result }
 {
@@ -152,7 +151,7 @@ fn is_settled(lines: &[LineId], direct: &[u32], chain: usize, average: PairAvera
     requires few { length lines.now ≤ 16 }
     requires room { length direct.now ≡ 16 }
     requires two { IsOfTwo lines.now average }
-    ensures { (pairs : List (LineId × LineId)) → TellAhead pairs lines.now direct.now → chain ≡ length pairs
+    ensures { (pairs : List (LineId × LineId)) → TellsPairs pairs lines.now direct.now → chain ≡ length pairs
         → result ≡ is_settled pairs average.lesser average.greater }
 {
     let i = place_of(lines, average.lesser);
