@@ -2,7 +2,7 @@
 use Rattle.std.proofs.Common.{◌≡◌, ℕ, ℤ, ◌<◌, ◌≤◌, List, [], ◌∷◌, length, map, set, get_or, refl, sym, ◌∙◌, ap, subst, arith}
 use Rattle.std.specs.Prelude.{IsPermutation}
 use Rattle.std.proofs.lemmas.List.{length-map}
-use Rattle.std.proofs.lemmas.List.Sorted.{length-IsPermutation}
+use Rattle.std.proofs.lemmas.List.Sorted.{length_permutation}
 use Rattle.map_base.specs.declared.ids.SegId.{SegId}
 use Rattle.map_base.specs.declared.ids.LineId.{LineId}
 use Rattle.order_model.specs.declared.problem.ProblemParts.{ProblemParts}
@@ -51,12 +51,12 @@ module _ (segs : List (List LineId)) (f : SegId → List LineId) where
 -- The lengths of orders.
 
 pub length_at : (segs orders : List (List LineId)) (s : ℕ) → AreOrders segs orders → length (get_or orders s []) ≡ length (get_or segs s [])
-length_at segs orders s are = sym (length-IsPermutation (get_or segs s []) (get_or orders s []) (order_at segs orders s are))
+length_at segs orders s are = length_permutation (get_or segs s []) (get_or orders s []) (order_at segs orders s are)
 
 lengths_of : (segs orders : List (List LineId)) → AreOrders segs orders → map (λ o. length o) orders ≡ map (λ o. length o) segs
 lengths_of [] [] h = refl
 lengths_of (l ∷ segs) (o ∷ orders) h =
-    ap (λ n. n ∷ map (λ o. length o) orders) (sym (length-IsPermutation l o h.0)) ∙ ap (λ ns. length l ∷ ns) (lengths_of segs orders h.1)
+    ap (λ n. n ∷ map (λ o. length o) orders) (length_permutation l o h.0) ∙ ap (λ ns. length l ∷ ns) (lengths_of segs orders h.1)
 lengths_of [] (o ∷ orders) h = absurd h
 lengths_of (l ∷ segs) [] h = absurd h
 

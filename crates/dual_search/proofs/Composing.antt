@@ -33,7 +33,7 @@ met_within false w h = omega arith
 pub cost_within : (p : ProblemParts) (orders : List (List LineId)) → IsProblem p → cost_of p.terms orders ≤ 1024000000000
 cost_within p orders fits =
     let most = sum_by-le (term_cost orders) 256000 p.terms
-        (All-weaker (IsTerm p.segs) (λ (t : Term). term_cost orders t ≤ 256000) (λ t h. met_within (is_met orders t) (weight_of t) (weight_within p.segs t h)) p.terms fits.terms) in
+    (All-weaker (IsTerm p.segs) (λ (t : Term). term_cost orders t ≤ 256000) (λ t h. met_within (is_met orders t) (weight_of t) (weight_within p.segs t h)) p.terms fits.terms) in
     let few = fits.few_terms in
     omega (arith, most, few)
 

@@ -17,8 +17,8 @@ use Rattle.dual_orders.specs.NextPairs.{IsForkAt}
 use Rattle.dual_orders.specs.Parts.{IsPart}
 use Rattle.dual_orders.specs.Solvers.{HasRoomFor}
 use Rattle.dual_orders.specs.Values.{incumbent_of, IsIncumbent}
-use Rattle.dual_search.specs.declared.search.Search.{Search}
-use Rattle.dual_search.specs.declared.search.Progress.{Progress}
+use Rattle.dual_search.specs.declared.under_way.Search.{Search}
+use Rattle.dual_search.specs.declared.under_way.Progress.{Progress}
 use Rattle.dual_search.specs.declared.ascent.Ascent.{Ascent}
 use Rattle.dual_search.specs.declared.ascent.LowerBound.{LowerBound}
 use Rattle.dual_search.specs.declared.rounds.Stage.{Stage}

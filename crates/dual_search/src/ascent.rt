@@ -6,11 +6,11 @@ ghost use Rattle.dual_ascent.specs.DualSteps.{AreWithin};
 ghost use Rattle.dual_ascent.specs.Averages.{averages_after};
 ghost use Rattle.dual_ascent.specs.Rounds.{is_shown, with_value, first_ascent, shrunk};
 ghost use Rattle.dual_rounds.specs.Ranges.{averages_of};
-ghost use Rattle.dual_search.specs.declared.search.Progress.{Progress};
+ghost use Rattle.dual_search.specs.declared.under_way.Progress.{Progress};
 ghost use Rattle.dual_search.specs.Searching.{search_of, ascent_of, bound_of, IsSearch, IsUnderWay, IsAscent, IsOverWhere};
 ghost use Rattle.dual_orders.specs.Values.{incumbent_of};
 
-use crate::search::{Progress, Search};
+use crate::under_way::{Progress, Search};
 use dual_ascent::PairAverage;
 use dual_rounds::{LineOrder, average_in, bar_of, no_averages, orders_of};
 use map_base::NoMemory;

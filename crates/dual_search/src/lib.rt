@@ -9,7 +9,7 @@ mod ascent;
 mod found;
 mod part_search;
 mod rounds;
-mod search;
+mod under_way;
 mod walk;
 mod walked;
 

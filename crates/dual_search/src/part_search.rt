@@ -14,7 +14,7 @@ ghost use Rattle.dual_orders.specs.Values.{incumbent_of};
 use crate::ascent::{LowerBound, first_ascent};
 use crate::found::DualFound;
 use crate::rounds::ascend;
-use crate::search::{Progress, Search};
+use crate::under_way::{Progress, Search};
 use crate::walk::{NodeEnd, fork, node_end};
 use crate::walked::{WalkedTree, collapsed, listed};
 use dual_orders::{Part, Solver, first_incumbent};

@@ -11,7 +11,7 @@ ghost use Rattle.dual_orders.specs.Values.{incumbent_of};
 ghost use Rattle.dual_search.specs.Searching.{search_of, ascent_of, IsSearch, IsUnderWay, IsAscent, IsOverWhere, StageIs, IsGoing, moved};
 
 use crate::ascent::{Ascent, is_shown, look, shrink};
-use crate::search::{Progress, Search};
+use crate::under_way::{Progress, Search};
 use dual_bound::SettledPair;
 use dual_orders::{offer, put_answers, put_averaged, value_of};
 use dual_rounds::{copy_orders, direct, gap_of, square_sum, step_prices};

@@ -13,7 +13,7 @@ ghost use Rattle.dual_search.specs.Searching.{search_of, ascent_of, bound_of, pr
 
 use crate::ascent::{Ascent, LowerBound, first_ascent, is_shown};
 use crate::rounds::{ascend, offer_trial};
-use crate::search::{Progress, Search};
+use crate::under_way::{Progress, Search};
 use crate::walked::{WalkedTree, listed};
 use dual_bound::SettledPair;
 use dual_orders::{next_pair, put_left};
