@@ -1,5 +1,5 @@
 -- The most undecided pair, found pair by pair.
-use Rattle.std.proofs.Common.{◌≡◌, ℕ, zero, suc, ◌+◌, ◌-◌, ◌*◌, ◌<◌, ◌≤◌, ◌==◌, ◌||◌, ◌&&◌, not, Bool, true, false, cond, List, [], ◌∷◌, ◌++◌, length, map, filter, take, get_or, min, refl, sym, ◌∙◌, ap, subst, arith, Option, Some, None}
+use Rattle.std.proofs.Common.{◌≡◌, ℕ, zero, suc, ◌+◌, ◌-◌, ◌*◌, ◌<◌, ◌≤◌, ◌==◌, ◌||◌, ◌&&◌, not, Bool, true, false, cond, List, [], ◌∷◌, ◌++◌, length, map, filter, take, get_or, min, refl, sym, ◌∙◌, ap, subst, arith, true≢false, Option, Some, None}
 use Rattle.std.specs.Prelude.{ℤ, pos, negsuc, neg_ℤ, int_lt, nat_lt, sum_by, unsigned_abs}
 use Rattle.std.specs.List.{All, AllByRecursion, flat_map, list_all}
 use Rattle.std.proofs.lemmas.Bool.Decides.{nat_tests}
@@ -82,7 +82,7 @@ best_same p before best c is less =
     subst (λ o. IsBest p o best) (sym (one_behind p before c)) (by_best (most_undecided p before) best is less)
   where
     by_best : (o : Option OpenPair) (best : Option Undecided) → IsBest p o best → is_more (doubt p c) best ≡ false → IsBest p (better (undecided p) o (Some c)) best
-    by_best None None h k = let no : true ≡ false = k in cc
+    by_best None None h k = absurd (true≢false k)
     by_best None (Some b) h k = absurd h
     by_best (Some d) None h k = absurd h
     by_best (Some d) (Some b) h k =

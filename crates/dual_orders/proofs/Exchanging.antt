@@ -1,5 +1,5 @@
 -- What orders cost where one segment takes another order.
-use Rattle.std.proofs.Common.{◌≡◌, ◌≢◌, ℕ, zero, suc, ◌+◌, ◌<◌, ◌≤◌, ◌==◌, Bool, true, false, cond, List, [], ◌∷◌, length, map, set, get_or, refl, sym, ◌∙◌, ap, subst, arith, ◌⊎◌, inl, inr, get_or-set_other, set-get_or, true≢false, eq-eqb, Option, Some, None}
+use Rattle.std.proofs.Common.{◌≡◌, ◌≢◌, ℕ, zero, suc, ◌+◌, ◌<◌, ◌≤◌, ◌==◌, Bool, true, false, cond, List, [], ◌∷◌, length, map, set, get_or, refl, sym, ◌∙◌, ap, subst, arith, ◌⊎◌, inl, inr, get_or-set_other, true≢false, eq-eqb, Option, Some, None}
 use Rattle.std.specs.Prelude.{ℤ, pos, nat_lt, sum_by, unwrap_or, IsPermutation}
 use Rattle.std.specs.List.{All}
 use Rattle.std.specs.Option.{option_map}
