@@ -1,5 +1,5 @@
 -- The orders that are put in place segment by segment.
-use Rattle.std.proofs.Common.{◌≡◌, ℕ, ℤ, ◌<◌, ◌≤◌, List, [], ◌∷◌, length, map, set, get_or, refl, sym, ◌∙◌, ap, subst, arith}
+use Rattle.std.proofs.Common.{◌≡◌, ℕ, ℤ, ◌<◌, ◌≤◌, ◌+◌, List, [], ◌∷◌, length, map, set, get_or, refl, sym, ◌∙◌, ap, subst, arith}
 use Rattle.std.specs.Prelude.{IsPermutation}
 use Rattle.std.proofs.lemmas.List.{length-map}
 use Rattle.std.proofs.lemmas.List.Sorted.{length_permutation}
@@ -20,7 +20,7 @@ use Rattle.dual_ascent.specs.DualSteps.{answer_on, answers}
 use Rattle.dual_ascent.specs.Walks.{first_or, orders_left}
 use Rattle.dual_ascent.proofs.OwnParts.{seg_number, all_made_at}
 use Rattle.dual_ascent.proofs.Meeting.{set_orders}
-use Rattle.dual_rounds.proofs.Filling.{IsFilledTo, fill_ends}
+use Rattle.dual_rounds.proofs.Filling.{IsFilledTo, fill_goes_on, fill_ends}
 use Rattle.dual_rounds.proofs.SegmentLists.{length_segments}
 use Rattle.dual_orders.specs.SettledPairs.{pairs_of}
 
@@ -47,6 +47,17 @@ module _ (segs : List (List LineId)) (f : SegId → List LineId) where
       fill_ends (λ i order. f (seg_number i)) [] k old new (map f (segments_from 0 segs)) filled (omega (arith, each, over))
       (length-map (segments_from 0 segs) f ∙ (length_segments 0 segs ∙ each))
       (λ i below. all_made_at segs f i [] (omega (arith, each, below)))
+
+  -- one segment more
+  pub placed_more : (s : ℕ) (old now new : List (List LineId)) → IsFilledTo (λ i order. f (seg_number i)) [] s old now → AreOrders segs (map f (segments_from 0 segs)) → AreOrders segs old → AreOrders segs now
+      → s < length segs → new ≡ set now s (f (seg_number s)) → IsFilledTo (λ i order. f (seg_number i)) [] (s + 1) old new × AreOrders segs new
+  placed_more s old now new filled made are_old are_now below is =
+      let each : length segs ≡ length old = length-orders segs old are_old in
+      let moved : IsPermutation (get_or segs s []) (f (seg_number s)) =
+          subst (IsPermutation (get_or segs s [])) (all_made_at segs f s [] below) (order_at segs (map f (segments_from 0 segs)) s made) in (
+        subst (IsFilledTo (λ i order. f (seg_number i)) [] (s + 1) old) (sym is) (fill_goes_on (λ i order. f (seg_number i)) [] s old now (f (seg_number s)) filled (omega (arith, each, below)) refl),
+        subst (AreOrders segs) (sym is) (set_orders segs now s (f (seg_number s)) are_now moved),
+      )
 
 -- The lengths of orders.
 

@@ -63,3 +63,30 @@ pub prices_at : (p : ProblemParts) (step : ℕ) (gap : ℤ) (prices directions :
     → get_or (next_prices p step gap prices directions) i (pos 0) ≡ price_by p.terms step gap (square_sum directions) directions i (get_or prices i (pos 0))
 prices_at p step gap prices directions i h =
     term_made_at (λ (q : ℕ × Term). next_price step gap (square_sum directions) (most_price q.1) (number_of prices q.0) (number_of directions q.0)) p.terms i (pos 0) no_term h
+
+-- Step by step.
+
+pub length_directions : (p : ProblemParts) (orders : List (List LineId)) (prices last : List ℤ) → length (next_directions p orders prices last) ≡ length p.terms
+length_directions p orders prices last =
+    length_made (λ (q : ℕ × Term). next_direction (most_price q.1) (number_of prices q.0) (number_of last q.0) (subgradient orders q.1)) 0 p.terms
+
+pub length_prices : (p : ProblemParts) (step : ℕ) (gap : ℤ) (prices directions : List ℤ) → length (next_prices p step gap prices directions) ≡ length p.terms
+length_prices p step gap prices directions =
+    length_made (λ (q : ℕ × Term). next_price step gap (square_sum directions) (most_price q.1) (number_of prices q.0) (number_of directions q.0)) 0 p.terms
+
+pub direction_is : (p : ProblemParts) (terms : List Term) (orders : List (List LineId)) (prices old now : List ℤ) (k : ℕ) (v : ℤ) → terms ≡ p.terms
+    → v ≡ next_direction (most_price (get_or terms k no_term)) (get_or prices k (pos 0)) (get_or now k (pos 0)) (subgradient orders (get_or terms k no_term))
+    → get_or now k (pos 0) ≡ get_or old k (pos 0) → v ≡ direction_by p.terms orders prices k (get_or old k (pos 0))
+direction_is p terms orders prices old now k v e is same =
+    is
+    ∙ (ap (λ l. next_direction (most_price (get_or terms k no_term)) (get_or prices k (pos 0)) l (subgradient orders (get_or terms k no_term))) same
+    ∙ ap (λ ts. direction_by ts orders prices k (get_or old k (pos 0))) e)
+
+pub price_is : (p : ProblemParts) (terms : List Term) (step : ℕ) (gap : ℤ) (squares most : ℕ) (directions old now : List ℤ) (k : ℕ) (v : ℤ) → terms ≡ p.terms → most ≡ most_price (get_or terms k no_term)
+    → v ≡ next_price step gap squares most (get_or now k (pos 0)) (get_or directions k (pos 0))
+    → get_or now k (pos 0) ≡ get_or old k (pos 0) → v ≡ price_by p.terms step gap squares directions k (get_or old k (pos 0))
+price_is p terms step gap squares most directions old now k v e m is same =
+    is
+    ∙ (ap (λ l. next_price step gap squares most l (get_or directions k (pos 0))) same
+    ∙ (ap (λ n. next_price step gap squares n (get_or old k (pos 0)) (get_or directions k (pos 0))) m
+    ∙ ap (λ ts. price_by ts step gap squares directions k (get_or old k (pos 0))) e))
