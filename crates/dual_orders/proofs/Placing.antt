@@ -54,7 +54,7 @@ module _ (segs : List (List LineId)) (f : SegId → List LineId) where
   placed_more s old now new filled made are_old are_now below is =
       let each : length segs ≡ length old = length-orders segs old are_old in
       let moved : IsPermutation (get_or segs s []) (f (seg_number s)) =
-          subst (IsPermutation (get_or segs s [])) (all_made_at segs f s [] below) (order_at segs (map f (segments_from 0 segs)) s made) in (
+      subst (IsPermutation (get_or segs s [])) (all_made_at segs f s [] below) (order_at segs (map f (segments_from 0 segs)) s made) in (
         subst (IsFilledTo (λ i order. f (seg_number i)) [] (s + 1) old) (sym is) (fill_goes_on (λ i order. f (seg_number i)) [] s old now (f (seg_number s)) filled (omega (arith, each, below)) refl),
         subst (AreOrders segs) (sym is) (set_orders segs now s (f (seg_number s)) are_now moved),
       )

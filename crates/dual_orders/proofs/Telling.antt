@@ -39,7 +39,7 @@ use Rattle.dual_ascent.specs.SegmentCosts.{less_where, link_beside, beside_costs
 use Rattle.dual_ascent.specs.Walks.{first_or}
 use Rattle.dual_ascent.proofs.Answering.{numbered_fit, IsOf, answer_is, nearest_is}
 use Rattle.dual_ascent.proofs.SegmentCosts.{least_beside_is}
-use Rattle.dual_orders.specs.declared.solver.Tables.{Tables}
+use Rattle.dual_orders.specs.declared.solver.Solver.{Solver}
 use Rattle.dual_orders.specs.OwnTerms as own
 use Rattle.dual_orders.specs.SettledPairs.{pairs_of, IsPairOn}
 use Rattle.dual_orders.specs.Solvers.{TellsCosts}
@@ -49,7 +49,7 @@ use Rattle.dual_orders.proofs.SettledStacks.{settled_known}
 use Rattle.dual_orders.proofs.Exchanging.{terms_all}
 
 -- rows that tell costs, and sets that tell pairs of the lines
-pub tells : (lines : List LineId) (costs : PairCosts) (pairs : List (LineId × LineId)) (t : Tables) → Tell lines costs t.rows → TellAhead pairs lines t.ahead.items
+pub tells : (lines : List LineId) (costs : PairCosts) (pairs : List (LineId × LineId)) (t : Solver) → Tell lines costs t.rows → TellAhead pairs lines t.ahead.items
     → list_all (λ (p : LineId × LineId). is_one_of lines p.0 && is_one_of lines p.1) pairs ≡ true → TellsCosts lines costs pairs t
 tells lines costs pairs t told tell known = record {
   each = refl;
@@ -62,7 +62,7 @@ tells lines costs pairs t told tell known = record {
 -- Shares.
 
 module _ (p : ProblemParts) (stack : List SettledPair) (s : SegId) (rising : All AreRising p.segs) (fit : All (IsTerm p.segs) p.terms) (on : All (IsPairOn p.segs) stack) where
-  pub tells_shares : (prices : List ℤ) (t : Tables) → Tell (lines_on p.segs s) (share_costs (terms_by_number p.terms (own.own_numbers p s)) (number_of prices) s) t.rows
+  pub tells_shares : (prices : List ℤ) (t : Solver) → Tell (lines_on p.segs s) (share_costs (terms_by_number p.terms (own.own_numbers p s)) (number_of prices) s) t.rows
       → TellAhead (settled_on (pairs_of stack) s) (lines_on p.segs s) t.ahead.items → TellsCosts (lines_on p.segs s) (share_costs (all_terms p) (number_of prices) s) (settled_on (pairs_of stack) s) t
   tells_shares prices t told tell =
       subst (λ (ts : List (ℕ × Term)). TellsCosts (lines_on p.segs s) (share_costs ts (number_of prices) s) (settled_on (pairs_of stack) s) t) (all_by_number p fit)
@@ -76,7 +76,7 @@ module _ (p : ProblemParts) (stack : List SettledPair) (s : SegId) (rising : All
 
   -- Averages.
 
-  pub tells_distances : (averages : List PairAverage) (t : Tables) → Tell (lines_on p.segs s) (summed_costs distance_costs averages) t.rows → TellAhead (settled_on (pairs_of stack) s) (lines_on p.segs s) t.ahead.items
+  pub tells_distances : (averages : List PairAverage) (t : Solver) → Tell (lines_on p.segs s) (summed_costs distance_costs averages) t.rows → TellAhead (settled_on (pairs_of stack) s) (lines_on p.segs s) t.ahead.items
       → TellsCosts (lines_on p.segs s) (summed_costs distance_costs averages) (settled_on (pairs_of stack) s) t
   tells_distances averages t told tell = tells (lines_on p.segs s) (summed_costs distance_costs averages) (settled_on (pairs_of stack) s) t told tell (settled_known p.segs s stack on)
 
@@ -92,7 +92,7 @@ module _ (p : ProblemParts) (stack : List SettledPair) (s : SegId) (rising : All
 
   -- Nothing costs anything.
 
-  pub tells_nothing : (t : Tables) → Tell (lines_on p.segs s) no_costs t.rows → TellAhead (settled_on (pairs_of stack) s) (lines_on p.segs s) t.ahead.items
+  pub tells_nothing : (t : Solver) → Tell (lines_on p.segs s) no_costs t.rows → TellAhead (settled_on (pairs_of stack) s) (lines_on p.segs s) t.ahead.items
       → TellsCosts (lines_on p.segs s) no_costs (settled_on (pairs_of stack) s) t
   tells_nothing t told tell = tells (lines_on p.segs s) no_costs (settled_on (pairs_of stack) s) t told tell (settled_known p.segs s stack on)
 
@@ -138,7 +138,7 @@ sum_own p s g fit off =
     ∙ (int_sum-map (λ (q : ℕ × Term). g q.1) (λ n. (n, get_or p.terms n no_term)) (own.all_numbers p)
     ∙ (sym (int_sum-map g (own.term_at p.terms) (own.all_numbers p)) ∙ ap (int_sum g) (terms_all p fit)))))
 
-pub tells_beside : (p : ProblemParts) (s : SegId) (orders : List (List LineId)) (t : Tables) → All (IsTerm p.segs) p.terms
+pub tells_beside : (p : ProblemParts) (s : SegId) (orders : List (List LineId)) (t : Solver) → All (IsTerm p.segs) p.terms
     → Tell (lines_on p.segs s) (summed_costs (beside_costs orders s) (own.own_terms p s)) t.rows → TellAhead [] (lines_on p.segs s) t.ahead.items
     → TellsCosts (lines_on p.segs s) (costs_beside p orders s) [] t
 tells_beside p s orders t fit told tell = record {

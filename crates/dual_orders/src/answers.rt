@@ -17,7 +17,7 @@ use crate::part::Part;
 use crate::settled::put_ahead;
 use crate::solver::Solver;
 use dual_bound::SettledPair;
-use dual_rounds::LineOrder;
+use dual_rounds::{LineOrder, set_order};
 use dual_shares::CostRows;
 use map_base::SegId;
 
@@ -61,9 +61,11 @@ fn put_answer(
     ensures orders { orders.new ≡ slice_set orders.old s (answer_on part.now.problem.now (pairs_of settled.now) prices.now (record { 0 = s })) }
     ensures room { HasRoomFor part.now.problem.now solver.new }
 {
-    put_shares(part, s, prices, &mut solver.tables.rows);
-    put_ahead(part, s, settled, solver.tables.ahead.as_mut_slice());
-    solver.tables.solve(part.lines(s), &mut orders[s]);
+    put_shares(part, s, prices, &mut solver.rows);
+    put_ahead(part, s, settled, solver);
+    let lines = part.lines(s);
+    solver.solve(lines);
+    set_order(orders, s, solver.order(lines.len()));
 }
 
 /// What the shares of the terms on a segment make each two of its lines cost.

@@ -20,7 +20,7 @@ use crate::settled::put_ahead;
 use crate::solver::Solver;
 use dual_ascent::PairAverage;
 use dual_bound::SettledPair;
-use dual_rounds::{ALWAYS, LineOrder};
+use dual_rounds::{ALWAYS, LineOrder, set_order};
 use dual_shares::CostRows;
 use map_base::LineId;
 
@@ -67,13 +67,11 @@ fn put_nearest(
     ensures orders { orders.new ≡ slice_set orders.old s (nearest_on part.now.problem.now (pairs_of settled.now) (averages_of averages.now) (record { 0 = s })) }
     ensures room { HasRoomFor part.now.problem.now solver.new }
 {
-    put_distances(
-        part.lines(s),
-        averages[s].as_slice(),
-        &mut solver.tables.rows,
-    );
-    put_ahead(part, s, settled, solver.tables.ahead.as_mut_slice());
-    solver.tables.solve(part.lines(s), &mut orders[s]);
+    put_distances(part.lines(s), averages[s].as_slice(), &mut solver.rows);
+    put_ahead(part, s, settled, solver);
+    let lines = part.lines(s);
+    solver.solve(lines);
+    set_order(orders, s, solver.order(lines.len()));
 }
 
 /// What their averages make each two of these lines cost.

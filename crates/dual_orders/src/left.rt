@@ -14,7 +14,7 @@ use crate::part::Part;
 use crate::settled::put_ahead;
 use crate::solver::Solver;
 use dual_bound::SettledPair;
-use dual_rounds::LineOrder;
+use dual_rounds::{LineOrder, set_order};
 
 /// Puts in place on each segment the first of the orders that keep the settled pairs.
 pub fn put_left(part: &Part, solver: &mut Solver, settled: &[SettledPair], orders: &mut [LineOrder])
@@ -47,7 +47,9 @@ fn put_first(
         (kept_orders (settled_on (pairs_of settled.now) (record { 0 = s })) (lines_on part.now.problem.now.segs (record { 0 = s })))) }
     ensures room { HasRoomFor part.now.problem.now solver.new }
 {
-    solver.tables.rows.clear(part.lines(s).len());
-    put_ahead(part, s, settled, solver.tables.ahead.as_mut_slice());
-    solver.tables.solve(part.lines(s), &mut orders[s]);
+    solver.rows.clear(part.lines(s).len());
+    put_ahead(part, s, settled, solver);
+    let lines = part.lines(s);
+    solver.solve(lines);
+    set_order(orders, s, solver.order(lines.len()));
 }

@@ -1,18 +1,17 @@
 //! Orders that are met, and the local search from them.
 
-ghost use Rattle.std.specs.Prelude.{◌≡◌, ◌<◌, [], length, unwrap_or, slice_index_or, IfOk, IsTrue, IsFalse};
+ghost use Rattle.std.specs.Prelude.{◌≡◌, ◌<◌, length, unwrap_or, IfOk, IsTrue, IsFalse};
 ghost use Rattle.order_model.specs.Problems.{lines_on};
 ghost use Rattle.order_model.specs.Costs.{cost_of, AreOrders};
 ghost use Rattle.dual_ascent.specs.LocalSearch.{least_beside, improved_on, after_turn, local_minimum, after_meeting, after_offer, first_incumbent};
 ghost use Rattle.dual_orders.specs.Parts.{IsPart};
-ghost use Rattle.dual_orders.specs.Solvers.{HasRoomFor};
+ghost use Rattle.dual_orders.specs.Solvers.{HasRoomFor, found_of};
 ghost use Rattle.dual_orders.specs.Values.{incumbent_of, IsIncumbent};
 
 use crate::beside::put_costs_beside;
 use crate::incumbent::Incumbent;
 use crate::part::Part;
 use crate::segment_costs::take_if_less;
-use crate::settled::clear;
 use crate::solver::Solver;
 use dual_rounds::{LineOrder, copy_orders, cost_of, orders_of};
 use map_base::NoMemory;
@@ -110,20 +109,22 @@ fn improve_on(part: &Part, solver: &mut Solver, s: usize, orders: &mut [LineOrde
     ensures same { IsFalse result → orders.new ≡ orders.old }
     ensures room { HasRoomFor part.now.problem.now solver.new }
 {
-    try_least(part, solver, s, orders);
-    take_if_less(part, s, solver.tried[s].as_slice(), orders)
+    find_beside(part, solver, s, orders);
+    take_if_less(part, s, solver.order(part.lines(s).len()), orders)
 }
 
-/// The least order of a segment beside those of the others is tried.
-fn try_least(part: &Part, solver: &mut Solver, s: usize, orders: &[LineOrder])
+/// Finds the least order of a segment beside those of the others.
+fn find_beside(part: &Part, solver: &mut Solver, s: usize, orders: &[LineOrder])
     requires part { IsPart part.now }
     requires room { HasRoomFor part.now.problem.now solver.old }
     requires known { s < length part.now.problem.now.segs }
-    requires orders { AreOrders part.now.problem.now.segs orders.now }
-    ensures tried { slice_index_or solver.new.tried.items s [] ≡ unwrap_or (least_beside part.now.problem.now orders.now (record { 0 = s })) (lines_on part.now.problem.now.segs (record { 0 = s })) }
+    requires each { length orders.now ≡ length part.now.problem.now.segs }
+    ensures found { found_of solver.new (length (lines_on part.now.problem.now.segs (record { 0 = s })))
+        ≡ unwrap_or (least_beside part.now.problem.now orders.now (record { 0 = s })) (lines_on part.now.problem.now.segs (record { 0 = s })) }
     ensures room { HasRoomFor part.now.problem.now solver.new }
 {
-    put_costs_beside(part, s, orders, &mut solver.tables.rows);
-    clear(solver.tables.ahead.as_mut_slice());
-    solver.tables.solve(part.lines(s), &mut solver.tried[s]);
+    let lines = part.lines(s);
+    put_costs_beside(part, s, orders, &mut solver.rows);
+    solver.settle_nothing(lines);
+    solver.solve(lines);
 }

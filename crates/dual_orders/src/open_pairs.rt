@@ -52,8 +52,8 @@ pub fn next_pair(
 {
     let mut best: Option<Undecided> = None;
     for s in 0..part.len() {
-        put_ahead(part, s, settled, solver.tables.ahead.as_mut_slice());
-        let direct = solver.tables.ahead.as_slice();
+        put_ahead(part, s, settled, solver);
+        let direct = solver.ahead.as_slice();
         let chain = count_on(settled, SegId(s as u32));
         best = best_on(part, s, direct, chain, averages[s].as_slice(), best);
     }

@@ -10,19 +10,20 @@ ghost use Rattle.subset_program.specs.PlainRows.{plain_rows};
 ghost use Rattle.dual_bound.specs.Accepting.{is_narrow};
 ghost use Rattle.dual_ascent.specs.OwnNumbers.{all_segments};
 ghost use Rattle.dual_orders.specs.Parts.{IsPart};
-ghost use Rattle.dual_orders.specs.Solvers.{HasTables, HasRoomFor, AreReady, TellsCosts};
+ghost use Rattle.dual_shares.specs.SettledSets.{TellAhead};
+ghost use Rattle.dual_orders.specs.Solvers.{HasRoom, HasRoomFor, AreReady, TellsCosts, found_of};
 
 use crate::part::Part;
-use dual_rounds::{LineOrder, orders_of};
+use crate::settled::clear;
 use dual_shares::{CostRows, least_order};
 use map_base::{LineId, NoMemory};
 use order_model::Problem;
 use std::alloc::Global;
 use subset_program::{PairRows, SubsetProgram};
 
-/// Room to find the least order of one segment in.
+/// Room to find the least orders of a part's segments in, one at a time.
 #[derive(Drop)]
-pub struct Tables {
+pub struct Solver {
     /// What each two lines of a segment cost.
     pub rows: CostRows,
     /// For each line the set of those that have to stand before it, a bit for each place.
@@ -31,43 +32,22 @@ pub struct Tables {
     pub program: SubsetProgram,
     /// The places of an order's lines.
     pub places: Vec<u32>,
-    /// An order that is found.
+    /// The order that was found.
     pub found: Vec<LineId>,
-}
-
-/// Room to find the least orders of a part's segments in.
-#[derive(Drop)]
-pub struct Solver {
-    /// Room for one segment.
-    pub tables: Tables,
-    /// An order of each segment that is tried.
-    pub tried: Vec<LineOrder>,
 }
 
 impl Solver {
     /// Room for the segments of a part.
     pub fn for_part(alloc: Global, part: &Part) -> Result<Solver, NoMemory>
         requires { IsPart part.now }
-        ensures { IfOk result (λ s. HasRoomFor part.now.problem.now s) }
-    {
-        let tables = Tables::for_lines(alloc, widest(part.problem))?;
-        let tried = orders_of(alloc, part.problem.segs())?;
-        Ok(Solver { tables, tried })
-    }
-}
-
-impl Tables {
-    /// Room for segments of so many lines.
-    fn for_lines(alloc: Global, width: usize) -> Result<Tables, NoMemory>
-        requires { width ≤ 16 }
-        ensures { IfOk result (λ t. HasTables width t) }
+        ensures { IfOk result (HasRoomFor part.now.problem.now) }
     {
         let rows = CostRows::new(alloc)?;
         let ahead = vec![in alloc; 0_u32; 16]?;
-        let program = SubsetProgram::new(alloc, width)?;
+        let program = SubsetProgram::new(alloc, widest(part.problem))?;
         let places = vec![in alloc; 0_u32; 16]?;
         let found = vec![in alloc; LineId(0); 16]?;
-        Ok(Tables {
+        Ok(Solver {
             rows,
             ahead,
             program,
@@ -76,17 +56,27 @@ impl Tables {
         })
     }
 
-    /// Writes the least order of these lines under the rows, of those that keep the settled pairs; the lines as they are where
+    /// No line has to stand before another.
+    pub(crate) fn settle_nothing(&mut self, lines: &[LineId])
+        requires { length self.old.ahead.items ≡ 16 }
+        ensures told { TellAhead [] lines.now self.new.ahead.items }
+        ensures ahead { length self.new.ahead.items ≡ 16 }
+        ensures rows { self.new.rows ≡ self.old.rows }
+        ensures room { (width : ℕ) → HasRoom width self.old → HasRoom width self.new }
+    {
+        clear(self.ahead.as_mut_slice());
+    }
+
+    /// Finds the least order of these lines under the rows, of those that keep the settled pairs; the lines as they are where
     /// no order keeps them.
-    pub(crate) fn solve(&mut self, lines: &[LineId], order: &mut LineOrder)
+    pub(crate) fn solve(&mut self, lines: &[LineId])
         requires rising { AreRising lines.now }
         requires few { length lines.now ≤ 16 }
-        requires tables { HasTables (length lines.now) self.old }
+        requires room { HasRoom (length lines.now) self.old }
         requires ready { AreReady lines.now self.old }
-        requires order { length order.old ≡ length lines.now }
-        ensures order { (costs : PairCosts) (settled : List (LineId × LineId)) → TellsCosts lines.now costs settled self.old
-            → order.new ≡ unwrap_or (least_order costs settled lines.now) lines.now }
-        ensures tables { (width : ℕ) → HasTables width self.old → HasTables width self.new }
+        ensures found { (costs : PairCosts) (settled : List (LineId × LineId)) → TellsCosts lines.now costs settled self.old
+            → found_of self.new (length lines.now) ≡ unwrap_or (least_order costs settled lines.now) lines.now }
+        ensures room { (width : ℕ) → HasRoom width self.old → HasRoom width self.new }
     {
         let count = lines.len();
         let rows = self.rows.with_ahead(self.ahead.as_slice());
@@ -96,8 +86,15 @@ impl Tables {
             lines,
             &mut self.places[..count],
             &mut self.found[..count],
-            order,
         );
+    }
+
+    /// The order of so many lines that was found.
+    pub(crate) fn order(&self, count: usize) -> &[LineId]
+        requires { count ≤ length self.now.found.items }
+        ensures { result.now ≡ found_of self.now count }
+    {
+        &self.found[..count]
     }
 }
 
@@ -109,7 +106,6 @@ fn take_least(
     lines: &[LineId],
     places: &mut [u32],
     found: &mut [LineId],
-    order: &mut LineOrder,
 )
     requires rows { AreRows (plain_rows rows.now) }
     requires count { rows.now.count ≡ length lines.now }
@@ -117,14 +113,13 @@ fn take_least(
     requires room { rows.now.count ≤ program.old }
     requires places { length places.old ≡ length lines.now }
     requires found { length found.old ≡ length lines.now }
-    requires order { length order.old ≡ length lines.now }
-    ensures order { (costs : PairCosts) (settled : List (LineId × LineId)) → TellCosts (plain_rows rows.now) costs settled lines.now
-        → order.new ≡ unwrap_or (least_order costs settled lines.now) lines.now }
+    ensures found { (costs : PairCosts) (settled : List (LineId × LineId)) → TellCosts (plain_rows rows.now) costs settled lines.now
+        → found.new ≡ unwrap_or (least_order costs settled lines.now) lines.now }
     ensures room { program.new ≡ program.old }
 {
     match least_order(program, rows, lines, places, found) {
-        Some(_) => order.take(found),
-        None => order.take(lines),
+        Some(_) => {}
+        None => found.copy_from_slice(lines),
     }
 }
 

@@ -13,7 +13,7 @@ pub loop-s-preserved : goal.loop-s-preserved
 loop-s-preserved c =
     let known = c.len.ensures in
     let placed = placed_more c.args.part.now.problem.now.segs (answer_on c.args.part.now.problem.now (pairs_of c.args.settled.now) c.args.prices.now) c.loop-s.s c.args.orders.now c.loop-s.orders c.put_answer.new.orders c.loop-s.invariant.0
-        (answers_orders c.args.part.now.problem.now (pairs_of c.args.settled.now) c.args.prices.now) c.requires.orders c.loop-s.invariant.1 (omega (arith, known, c.loop-s-test.true)) c.put_answer.ensures.orders in
+    (answers_orders c.args.part.now.problem.now (pairs_of c.args.settled.now) c.args.prices.now) c.requires.orders c.loop-s.invariant.1 (omega (arith, known, c.loop-s-test.true)) c.put_answer.ensures.orders in
     (placed.0, placed.1, c.put_answer.ensures.room)
 
 pub returns-clause-orders : goal.returns-clause-orders

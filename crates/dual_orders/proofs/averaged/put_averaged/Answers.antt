@@ -14,7 +14,7 @@ pub loop-s-preserved : goal.loop-s-preserved
 loop-s-preserved c =
     let known = c.len.ensures in
     let placed = placed_more c.args.part.now.problem.now.segs (nearest_on c.args.part.now.problem.now (pairs_of c.args.settled.now) (averages_of c.args.averages.now)) c.loop-s.s c.args.orders.now c.loop-s.orders c.put_nearest.new.orders c.loop-s.invariant.0
-        (averaged_are_orders c.args.part.now.problem.now (pairs_of c.args.settled.now) (averages_of c.args.averages.now)) c.requires.orders c.loop-s.invariant.1 (omega (arith, known, c.loop-s-test.true)) c.put_nearest.ensures.orders in
+    (averaged_are_orders c.args.part.now.problem.now (pairs_of c.args.settled.now) (averages_of c.args.averages.now)) c.requires.orders c.loop-s.invariant.1 (omega (arith, known, c.loop-s-test.true)) c.put_nearest.ensures.orders in
     (placed.0, placed.1, c.put_nearest.ensures.room)
 
 pub returns-clause-orders : goal.returns-clause-orders

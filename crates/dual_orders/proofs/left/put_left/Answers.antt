@@ -12,7 +12,7 @@ pub loop-s-preserved : goal.loop-s-preserved
 loop-s-preserved c =
     let known = c.len.ensures in
     let placed = placed_more c.args.part.now.problem.now.segs (left_on c.args.part.now.problem.now c.args.settled.now) c.loop-s.s c.args.orders.now c.loop-s.orders c.put_first.new.orders c.loop-s.invariant.0
-        (left_orders c.args.part.now.problem.now (pairs_of c.args.settled.now)) c.requires.orders c.loop-s.invariant.1 (omega (arith, known, c.loop-s-test.true)) c.put_first.ensures.orders in
+    (left_orders c.args.part.now.problem.now (pairs_of c.args.settled.now)) c.requires.orders c.loop-s.invariant.1 (omega (arith, known, c.loop-s-test.true)) c.put_first.ensures.orders in
     (placed.0, placed.1, c.put_first.ensures.room)
 
 pub returns-clause-orders : goal.returns-clause-orders
