@@ -1,9 +1,9 @@
 -- Pairs that are settled one after another, and those of one segment.
-use Rattle.std.proofs.Common.{◌≡◌, ℕ, ◌+◌, ◌-◌, ◌<◌, ◌≤◌, ◌==◌, ◌&&◌, Bool, true, false, cond, List, [], ◌∷◌, ◌++◌, length, map, filter, take, get_or, refl, sym, ◌∙◌, ap, subst, arith}
+use Rattle.std.proofs.Common.{◌≡◌, ℕ, ◌+◌, ◌-◌, ◌<◌, ◌≤◌, ◌==◌, ◌&&◌, Bool, true, false, cond, List, [], ◌∷◌, ◌++◌, length, map, filter, take, get_or, refl, sym, ◌∙◌, ap, subst, arith, inl, inr}
 use Rattle.std.specs.Prelude.{reverse, sum_by, count_by}
 use Rattle.std.specs.List.{All, AllByRecursion, list_all}
-use Rattle.std.proofs.lemmas.Bool.{and_from}
-use Rattle.std.proofs.lemmas.List.{reverse-append, length-reverse, get_or-reverse, take_more, length-map}
+use Rattle.std.proofs.lemmas.Bool.{and_from, cases_lt}
+use Rattle.std.proofs.lemmas.List.{reverse-append, length-reverse, get_or-reverse, get_or_past, take_more, length-map}
 use Rattle.std.proofs.lemmas.List.Elements.{All-weaker, recursion_from_All}
 use Rattle.std.proofs.lemmas.List.Sums.{sum_by-append, sum_by-cons, length-filter}
 use Rattle.map_base.specs.declared.ids.SegId.{SegId}
@@ -36,6 +36,13 @@ module _ (stack : List SettledPair) (i : ℕ) (q : SettledPair) (s : SegId) (bel
   more_there there =
       one_more
       ∙ ap (λ b. map (λ (r : SettledPair). (r.first, r.second)) (cond b (q ∷ filter (λ (r : SettledPair). r.seg.0 == s.0) (pairs_of (take i stack))) (filter (λ (r : SettledPair). r.seg.0 == s.0) (pairs_of (take i stack))))) there
+
+-- where each place has 0, no place has more
+pub all_zero : (xs : List ℕ) (n : ℕ) → ((k : ℕ) → k < n → get_or xs k 0 ≡ 0) → length xs ≤ n → (k : ℕ) → get_or xs k 0 ≡ 0
+all_zero xs n h over k = elim (cases_lt k n) [
+  | inl below ↦ h k below
+  | inr above ↦ get_or_past xs k 0 (omega (arith, over, above))
+]
 
 -- The pairs are of lines of their segments.
 

@@ -1,6 +1,6 @@
 //! Which lines have to stand before others where pairs are settled.
 
-ghost use Rattle.std.specs.Prelude.{◌≡◌, ℕ, ◌≤◌, ◌<◌, length, All};
+ghost use Rattle.std.specs.Prelude.{◌≡◌, ℕ, ◌≤◌, ◌<◌, length, slice_index, All};
 ghost use Rattle.graph_core.specs.Consistent.{AreRising};
 ghost use Rattle.order_model.specs.Problems.{lines_on};
 ghost use Rattle.dual_bound.specs.Settled.{settled_on};
@@ -52,7 +52,7 @@ fn put_pairs(lines: &[LineId], s: SegId, settled: &[SettledPair], ahead: &mut [u
 
 /// No line has to stand before another.
 pub(crate) fn clear(ahead: &mut [u32])
-    ensures { All (λ n. n ≡ 0) ahead.new }
+    ensures { (k : ℕ) → slice_index ahead.new k ≡ 0 }
 {
     for j in 0..ahead.len() {
         ahead[j] = 0;

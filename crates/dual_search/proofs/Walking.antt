@@ -75,3 +75,28 @@ settled_ahead c pair settled is = ap (λ (q : SettledPair). q ∷ settled) (same
   where
     same : (q : SettledPair) (s : SegId) (a b : LineId) → q.seg ≡ s → q.first ≡ a → q.second ≡ b → q ≡ record { seg = s; first = a; second = b }
     same q s a b e f g = cc
+
+-- What is found.
+
+module _ (p : ProblemParts) (budget : ℕ) where
+  abbrev pub searched : Search
+  searched = record { problem = p; budget = budget }
+
+  bound_is : (s : Stage) (b : LowerBound) → ascended searched [] root_rounds (zeros p) (first_incumbent p) 0 ≡ s → (last_of s).bound ≡ b → root_bound searched ≡ b
+  bound_is s b e f = ap (λ (t : Stage). (last_of t).bound) e ∙ f
+
+  result_by : (b : LowerBound) (w : Walked) → root_bound searched ≡ b → walked searched most_forks root_rounds [] (zeros p) (first_progress p) ≡ w → dual_result p budget ≡ result_after b w
+  result_by b w e f =
+      ap (λ (c : LowerBound). result_after c (walked searched most_forks root_rounds [] (zeros p) (first_progress p))) e ∙ ap (result_after b) f
+
+  walk_is : (s : Stage) → ascended searched [] root_rounds (zeros p) (first_incumbent p) 0 ≡ s
+      → walked searched most_forks root_rounds [] (zeros p) (first_progress p) ≡ after_rounds p (below searched most_forks) [] s
+  walk_is s e = walked_is searched most_forks root_rounds [] (zeros p) (first_progress p) ∙ ap (after_rounds p (below searched most_forks) []) e
+
+  -- the rounds of the root are spent
+  pub result_spent : (a : Ascent) → ascended searched [] root_rounds (zeros p) (first_incumbent p) 0 ≡ spent a → dual_result p budget ≡ result_after a.bound (cut (progress a))
+  result_spent a e = result_by a.bound (cut (progress a)) (bound_is (spent a) a.bound e refl) (walk_is (spent a) e)
+
+  -- they are over, and this comes of the root
+  pub result_over : (a : Ascent) (w : Walked) → ascended searched [] root_rounds (zeros p) (first_incumbent p) 0 ≡ over a → at_node p (below searched most_forks) [] a ≡ w → dual_result p budget ≡ result_after a.bound w
+  result_over a w e f = result_by a.bound w (bound_is (over a) a.bound e refl) (walk_is (over a) e ∙ f)
