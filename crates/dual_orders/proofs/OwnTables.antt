@@ -1,11 +1,11 @@
 -- The lines and the terms of each segment of a part by itself, as they lie in memory.
-use Rattle.std.proofs.Common.{◌≡◌, ℕ, zero, suc, ◌+◌, ◌*◌, ◌^◌, ◌<◌, ◌≤◌, ◌&&◌, Bool, true, false, List, [], ◌∷◌, ◌++◌, length, map, filter, get_or, refl, sym, ◌∙◌, ap, subst, arith, ◌⊎◌, inl, inr}
+use Rattle.std.proofs.Common.{◌≡◌, ℕ, zero, suc, ◌+◌, ◌*◌, ◌/◌, ◌^◌, ◌<◌, ◌≤◌, ◌&&◌, Bool, true, false, List, [], ◌∷◌, ◌++◌, length, map, filter, take, get_or, refl, sym, ◌∙◌, ap, subst, arith, ◌⊎◌, inl, inr}
 use Rattle.std.specs.Prelude.{Vec, nat_le, sum, sum_by}
 use Rattle.std.specs.Global.{Global}
 use Rattle.std.specs.List.{All, list_all}
 use Rattle.std.proofs.lemmas.Bool.{and_parts, cases_lt}
 use Rattle.std.proofs.lemmas.Bool.Decides.{nat_tests}
-use Rattle.std.proofs.lemmas.List.{length-map, map-id, get_or-map, get_or_past, ext_get_or}
+use Rattle.std.proofs.lemmas.List.{take_more, take_all, length-map, map-id, get_or-map, get_or_past, ext_get_or}
 use Rattle.std.proofs.lemmas.List.Elements.{All-filter}
 use Rattle.std.proofs.lemmas.List.Folds.{list_all-map}
 use Rattle.std.proofs.lemmas.List.Sums.{sum-map, AllPass-from_list_all, length-filter, count_by-le-length}
@@ -17,6 +17,7 @@ use Rattle.order_model.specs.Problems.{lines_on, IsTerm}
 use Rattle.order_model.specs.Places.{tables_of}
 use Rattle.order_model.specs.PartTerms.{numbered_from, no_term, terms_by_number}
 use Rattle.order_model.proofs.KeptTerms.{part_numbers_known, part_terms_by_number}
+use Rattle.least_orders.proofs.Lists.{same_test}
 use Rattle.dual_bound.specs.Accepting.{is_narrow, steps_on, load_of, most_load}
 use Rattle.dual_shares.specs.Groups.{is_on, numbers_on}
 use Rattle.dual_ascent.specs.OwnNumbers.{segments_from, all_segments, all_terms}
@@ -108,3 +109,40 @@ table_is p on s v tables known is =
     ap (λ (w : Vec ℕ Global). w.items) is
     ∙ (sym (get_or-map (λ (w : Vec ℕ Global). w.items) on s v [] (let each = tables_within p on tables in omega (arith, each, known)))
     ∙ (ap (λ l. get_or l s []) tables ∙ all_made_at p.segs (own_numbers p) s [] known))
+
+-- What is pushed segment by segment, or term by term.
+
+pub pushed_segment : (segs : List (List LineId)) (i : ℕ) (items : List SegId) → items ≡ take i (segments_from 0 segs) → i < length segs → items ++ seg_number i ∷ [] ≡ take (i + 1) (segments_from 0 segs)
+pushed_segment segs i items h below =
+    let within : i < length (segments_from 0 segs) = (let each = length_segments 0 segs in omega (arith, below, each)) in
+    ap (λ l. l ++ seg_number i ∷ []) h
+    ∙ sym (take_more (segments_from 0 segs) i (seg_number i) within ∙ ap (λ s. take i (segments_from 0 segs) ++ s ∷ []) (segment_at segs i (seg_number i) below))
+
+pub all_segments_pushed : (segs : List (List LineId)) (i : ℕ) (items : List SegId) → items ≡ take i (segments_from 0 segs) → length segs ≤ i → items ≡ segments_from 0 segs
+all_segments_pushed segs i items h over = h ∙ take_all i (segments_from 0 segs) (let each = length_segments 0 segs in omega (arith, over, each))
+
+pub pushed_number : (p : ProblemParts) (i : ℕ) (items : List ℕ) → items ≡ take i (all_numbers p) → i < length p.terms → items ++ i ∷ [] ≡ take (i + 1) (all_numbers p)
+pushed_number p i items h below =
+    let within : i < length (all_numbers p) = (let each = length_numbers p in omega (arith, below, each)) in
+    ap (λ l. l ++ i ∷ []) h
+    ∙ sym (take_more (all_numbers p) i 0 within ∙ ap (λ n. take i (all_numbers p) ++ n ∷ []) (number_at p.terms i 0 below))
+
+pub all_numbers_pushed : (p : ProblemParts) (i : ℕ) (items : List ℕ) → items ≡ take i (all_numbers p) → length p.terms ≤ i → items ≡ all_numbers p
+all_numbers_pushed p i items h over = h ∙ take_all i (all_numbers p) (let each = length_numbers p in omega (arith, over, each))
+
+-- The load.
+
+rounded : (n : ℕ) → nat_le n 100000000000 ≡ nat_le ((n + 999999) / 1000000) 100000
+rounded n = same_test (nat_le n 100000000000) (nat_le ((n + 999999) / 1000000) 100000) (λ h. le_true ((n + 999999) / 1000000) 100000 (let less = le_from n 100000000000 h in omega (arith, less)))
+    (λ h. le_true n 100000000000 (let less = le_from ((n + 999999) / 1000000) 100000 h in omega (arith, less)))
+  where
+    le_true : (m n : ℕ) → m ≤ n → nat_le m n ≡ true
+    le_true m n h = grind (arith, nat_tests)
+
+-- a part is within reach where its segments are narrow and their steps few
+pub reach_by_steps : (p : ProblemParts) (steps : ℕ) → steps ≡ sum_by (steps_on p.segs) (all_segments p) → is_narrow p.segs (all_segments p) ≡ true → nat_le steps 100000000000 ≡ is_in_reach p
+reach_by_steps p steps is narrow =
+    ap (λ n. nat_le n 100000000000) is ∙ (rounded (sum_by (steps_on p.segs) (all_segments p)) ∙ sym (ap (λ b. b && nat_le (load_of p.segs (all_segments p)) most_load) narrow))
+
+pub not_in_reach : (p : ProblemParts) → is_narrow p.segs (all_segments p) ≡ false → false ≡ is_in_reach p
+not_in_reach p wide = sym (ap (λ b. b && nat_le (load_of p.segs (all_segments p)) most_load) wide)

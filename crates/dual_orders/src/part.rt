@@ -66,7 +66,10 @@ impl<'a> Part<'a> {
 pub fn is_in_reach(problem: &Problem) -> bool
     ensures { result ≡ is_in_reach problem.now }
 {
-    is_narrow(problem) && steps_of_all(problem) <= MOST_STEPS
+    if !is_narrow(problem) {
+        return false;
+    }
+    steps_of_all(problem) <= MOST_STEPS
 }
 
 /// Whether no segment has too many lines.

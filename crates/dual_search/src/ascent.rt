@@ -68,6 +68,8 @@ pub(crate) fn first_ascent(
     requires prices { AreWithin search.now.part.problem.now.terms prices.now }
     ensures first { IfOk result (λ a. (now : Progress) → ascent_of now a ≡ first_ascent (search_of search.now) prices.now (incumbent_of now.incumbent) now.branches) }
     ensures ascent { IfOk result (λ a. IsAscent search.now.part.problem.now a) }
+    ensures round { IfOk result (λ a. a.round ≡ 0) }
+    ensures stale { IfOk result (λ a. a.stale ≡ 0) }
 {
     let problem = search.part.problem;
     let segs = problem.segs();

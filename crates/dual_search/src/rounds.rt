@@ -41,6 +41,8 @@ pub(crate) fn ascend<L: Ledger>(
     requires settled { All (IsPairOn search.now.part.problem.now.segs) settled.now }
     requires ascent { IsAscent search.now.part.problem.now ascent.old }
     requires stale { ascent.old.stale < 20 }
+    requires round { ascent.old.round ≡ 0 }
+    requires most { most ≤ 1000 }
     ensures now { IsUnderWay search.now now.new }
     ensures ascent { IsAscent search.now.part.problem.now ascent.new }
     ensures over { IsTrue result → closed (search_of search.now) (pairs_of settled.now)
@@ -72,6 +74,8 @@ fn go_on<L: Ledger>(
     requires settled { All (IsPairOn search.now.part.problem.now.segs) settled.now }
     requires ascent { IsAscent search.now.part.problem.now ascent.old }
     requires stale { ascent.old.stale < 20 }
+    requires round { ascent.old.round ≡ 0 }
+    requires most { most ≤ 1000 }
     ensures now { IsUnderWay search.now now.new }
     ensures ascent { IsAscent search.now.part.problem.now ascent.new }
     ensures stage { StageIs result (ascent_of now.new ascent.new) (rounds (search_of search.now) (pairs_of settled.now) most (ascent_of now.old ascent.old)) }
