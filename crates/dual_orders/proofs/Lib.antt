@@ -9,3 +9,4 @@ pub mod Deciding
 pub mod Telling
 pub mod Adding
 pub mod Placing
+pub mod Pricing
