@@ -167,20 +167,20 @@ module _ (p : ProblemParts) where
   WalkHas P Q (whole tree now) = P now.branches
   WalkHas P Q (cut now) = Q now.branches
 
-  abbrev BelowHas : ℕ → Option Below → Type 0
+  abbrev pub BelowHas : ℕ → Option Below → Type 0
   BelowHas budget None = Unit {0}
   BelowHas budget (Some below) = (settled : List SettledPair) (prices : List ℤ) (now : Progress) → now.branches ≤ budget
       → WalkHas (Between now.branches budget) (Between now.branches budget) (below settled prices now)
 
-  walk_more : (least more budget : ℕ) (w : Walked) → least ≤ more → WalkHas (Between more budget) (Between more budget) w → WalkHas (Between least budget) (Between least budget) w
+  pub walk_more : (least more budget : ℕ) (w : Walked) → least ≤ more → WalkHas (Between more budget) (Between more budget) w → WalkHas (Between least budget) (Between least budget) w
   walk_more least more budget (whole tree now) h k = let below = k.0 in (omega (arith, h, below), k.1)
   walk_more least more budget (cut now) h k = let below = k.0 in (omega (arith, h, below), k.1)
 
-  second_has : (P Q : ℕ → Type 0) (c : OpenPair) (bound : LowerBound) (first : WalkedTree) (w : Walked) → WalkHas P Q w → WalkHas P Q (after_second c bound first w)
+  pub second_has : (P Q : ℕ → Type 0) (c : OpenPair) (bound : LowerBound) (first : WalkedTree) (w : Walked) → WalkHas P Q w → WalkHas P Q (after_second c bound first w)
   second_has P Q c bound first (whole second now) h = h
   second_has P Q c bound first (cut now) h = h
 
-  first_has : (budget least : ℕ) (below : Below) → BelowHas budget (Some below) → (c : OpenPair) (bound : LowerBound) (settled : List SettledPair) (w : Walked)
+  pub first_has : (budget least : ℕ) (below : Below) → BelowHas budget (Some below) → (c : OpenPair) (bound : LowerBound) (settled : List SettledPair) (w : Walked)
       → WalkHas (Between least budget) (Between least budget) w → WalkHas (Between least budget) (Between least budget) (after_first below c bound settled w)
   first_has budget least below ok c bound settled (whole first now) h =
       let next = below (with_pair c.seg (behind c) (ahead c) settled) bound.prices now in

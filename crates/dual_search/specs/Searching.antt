@@ -125,3 +125,8 @@ fork_from (Some f) c bound settled now = walks.after_first f c bound settled (f 
 
 abbrev pub fork_at : rounds.Search → ℕ → OpenPair → rounds.LowerBound → List SettledPair → walks.Progress → walks.Walked
 fork_at q room c bound settled now = fork_from (below q room) c bound settled now
+
+-- the branch nodes that a walk counts in all
+abbrev pub counted : walks.Walked → ℕ
+counted (walks.whole tree now) = now.branches
+counted (walks.cut now) = now.branches

@@ -1,6 +1,6 @@
 //! The walk over nodes, depth first.
 
-ghost use Rattle.std.specs.Prelude.{◌≡◌, ◌+◌, ◌∷◌, length, All, IfOk};
+ghost use Rattle.std.specs.Prelude.{◌≡◌, ◌+◌, ◌≤◌, ◌∷◌, length, All, IfOk, IfErr};
 ghost use Rattle.dual_ascent.specs.OwnNumbers.{listed};
 ghost use Rattle.dual_ascent.specs.DualSteps.{AreWithin};
 ghost use Rattle.dual_ascent.specs.OpenPairs.{OpenPair};
@@ -9,7 +9,7 @@ ghost use Rattle.dual_ascent.specs.Walks.{walked, stopped, exact_prices, orders_
 ghost use Rattle.dual_orders.specs.Values.{incumbent_of};
 ghost use Rattle.dual_orders.specs.SettledPairs.{pairs_of, IsPairOn};
 ghost use Rattle.dual_orders.specs.NextPairs.{IsForkAt};
-ghost use Rattle.dual_search.specs.Searching.{search_of, ascent_of, bound_of, progress_of, fork_at, plain_walked, IsSearch, IsUnderWay, IsAscent, WalkIs, EndIs};
+ghost use Rattle.dual_search.specs.Searching.{search_of, ascent_of, bound_of, progress_of, fork_at, counted, plain_walked, IsSearch, IsUnderWay, IsAscent, WalkIs, EndIs};
 
 use crate::ascent::{Ascent, LowerBound, first_ascent, is_shown};
 use crate::rounds::{ascend, offer_trial};
@@ -124,6 +124,7 @@ fn walk<L: Ledger>(
     ensures now { IsUnderWay search.now now.new }
     ensures settled { IfOk result (λ _. settled.new.items ≡ settled.old.items) }
     ensures walked { IfOk result (λ w. WalkIs w (progress_of now.new) (walked (search_of search.now) room 200 (pairs_of settled.old.items) prices.now (progress_of now.old))) }
+    ensures few { IfErr result (λ _. now.new.branches ≤ counted (walked (search_of search.now) room 200 (pairs_of settled.old.items) prices.now (progress_of now.old))) }
     ensures steps { steps.new + now.old.branches ≡ steps.old + now.new.branches }
 {
     let mut ascent = first_ascent(alloc, search, prices)?;
@@ -168,6 +169,8 @@ pub(crate) fn fork<L: Ledger>(
     ensures settled { IfOk result (λ _. settled.new.items ≡ settled.old.items) }
     ensures walked { IfOk result (λ w. (c : OpenPair) → IsForkAt c pair
         → WalkIs w (progress_of now.new) (fork_at (search_of search.now) room c (bound_of bound.now) (pairs_of settled.old.items) (progress_of now.old))) }
+    ensures few { IfErr result (λ _. (c : OpenPair) → IsForkAt c pair
+        → now.new.branches ≤ counted (fork_at (search_of search.now) room c (bound_of bound.now) (pairs_of settled.old.items) (progress_of now.old))) }
     ensures steps { steps.new + now.old.branches ≡ steps.old + now.new.branches }
 {
     if room == 0 {
@@ -213,6 +216,8 @@ fn walk_with<L: Ledger>(
     ensures settled { IfOk result (λ _. settled.new.items ≡ settled.old.items) }
     ensures walked { IfOk result (λ w. WalkIs w (progress_of now.new)
         (walked (search_of search.now) room 200 (pair ∷ pairs_of settled.old.items) bound.now.prices.items (progress_of now.old))) }
+    ensures few { IfErr result (λ _. now.new.branches
+        ≤ counted (walked (search_of search.now) room 200 (pair ∷ pairs_of settled.old.items) bound.now.prices.items (progress_of now.old))) }
     ensures steps { steps.new + now.old.branches ≡ steps.old + now.new.branches }
 {
     settled.push(pair)?;
