@@ -1,3 +1,4 @@
 pub mod Composing
 pub mod Walking
 pub mod Counting
+pub mod Beginning
