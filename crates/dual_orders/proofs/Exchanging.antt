@@ -4,7 +4,8 @@ use Rattle.std.specs.Prelude.{ℤ, pos, nat_lt, sum_by, unwrap_or, IsPermutation
 use Rattle.std.specs.List.{All}
 use Rattle.std.specs.Option.{option_map}
 use Rattle.std.proofs.lemmas.Bool.Decides.{nat_tests}
-use Rattle.std.proofs.lemmas.List.Sums.{sum_by-cons, sum-map}
+use Rattle.std.proofs.lemmas.List.{set-get_or}
+use Rattle.std.proofs.lemmas.List.Sums.{sum_by-cons}
 use Rattle.std.proofs.lemmas.List.Sorted.{IsPermutation-refl}
 use Rattle.map_base.specs.declared.ids.SegId.{SegId}
 use Rattle.map_base.specs.declared.ids.LineId.{LineId}
@@ -112,6 +113,21 @@ cheaper_no p orders others h = ap (λ b. cond b others orders) (not_less (cost_o
     not_less : (m n : ℕ) → n ≤ m → nat_lt m n ≡ false
     not_less m n h = grind (arith, nat_tests)
 
+-- a segment takes another order where that costs less on it
+module _ (p : ProblemParts) (fit : All (IsTerm p.segs) p.terms) (orders : List (List LineId)) (i : ℕ) (o : List LineId) (now other : ℕ)
+    (now_is : now ≡ own.cost_on p (seg_number i) (set orders i (get_or orders i []))) (other_is : other ≡ own.cost_on p (seg_number i) (set orders i o)) where
+  now_costs : now ≡ own.cost_on p (seg_number i) orders
+  now_costs = now_is ∙ ap (own.cost_on p (seg_number i)) (set-get_or orders i [])
+
+  pub taken : other < now → (cheaper p orders (set orders i o) ≡ set orders i o) × (cost_of p.terms (set orders i o) < cost_of p.terms orders)
+  taken h =
+      let same = now_costs in
+      let less = less_all p fit orders i o (omega (arith, other_is, same, h)) in
+      (cheaper_yes p orders (set orders i o) less, less)
+
+  pub not_taken : now ≤ other → cheaper p orders (set orders i o) ≡ orders
+  not_taken h = let same = now_costs in cheaper_no p orders (set orders i o) (not_less_all p fit orders i o (omega (arith, other_is, same, h)))
+
 -- There is always a least order beside the others.
 
 pub least_some : (p : ProblemParts) (orders : List (List LineId)) (s : SegId) → All AreRising p.segs → exchanged orders s (least_beside p orders s) ≡ set orders s.0 (unwrap_or (least_beside p orders s) (lines_on p.segs s))
@@ -123,3 +139,9 @@ least_some p orders s rising = by_option (least_beside p orders s) refl
         absurd (some_least (cost_with p orders s) (all_orders (lines_on p.segs s)) (lines_on p.segs s)
         (permutation_is_order (lines_on p.segs s) (lines_on p.segs s) (rising_at p.segs s.0 rising) (IsPermutation-refl (lines_on p.segs s)))
         (least_of_first (cost_with p orders s) (all_orders (lines_on p.segs s)) ∙ ap (option_map (cost_with p orders s)) e))
+
+-- so the segment takes that one
+pub improved_is : (p : ProblemParts) (orders : List (List LineId)) (i : ℕ) (o : List LineId) → All AreRising p.segs → o ≡ unwrap_or (least_beside p orders (seg_number i)) (lines_on p.segs (seg_number i))
+    → cheaper p orders (set orders i o) ≡ improved_on p orders (seg_number i)
+improved_is p orders i o rising is =
+    ap (λ x. cheaper p orders (set orders i x)) is ∙ ap (cheaper p orders) (sym (least_some p orders (seg_number i) rising))

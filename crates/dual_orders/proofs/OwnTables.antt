@@ -3,11 +3,11 @@ use Rattle.std.proofs.Common.{◌≡◌, ℕ, zero, suc, ◌+◌, ◌*◌, ◌/�
 use Rattle.std.specs.Prelude.{Vec, nat_le, sum, sum_by}
 use Rattle.std.specs.Global.{Global}
 use Rattle.std.specs.List.{All, list_all}
-use Rattle.std.proofs.lemmas.Bool.{and_parts, cases_lt}
+use Rattle.std.proofs.lemmas.Bool.{and_parts, and_from, cases_lt}
 use Rattle.std.proofs.lemmas.Bool.Decides.{nat_tests}
 use Rattle.std.proofs.lemmas.List.{take_more, take_all, length-map, map-id, get_or-map, get_or_past, ext_get_or}
 use Rattle.std.proofs.lemmas.List.Elements.{All-filter}
-use Rattle.std.proofs.lemmas.List.Folds.{list_all-map}
+use Rattle.std.proofs.lemmas.List.Folds.{list_all-map, list_all_more, list_all_at}
 use Rattle.std.proofs.lemmas.List.Sums.{sum-map, AllPass-from_list_all, length-filter, count_by-le-length}
 use Rattle.map_base.specs.declared.ids.SegId.{SegId}
 use Rattle.map_base.specs.declared.ids.LineId.{LineId}
@@ -45,6 +45,25 @@ narrow_by_lines segs =
     sym (list_all-map (λ (n : ℕ). nat_le n 16) (λ (s : SegId). length (lines_on segs s)) (segments_from 0 segs))
     ∙ (ap (list_all (λ (n : ℕ). nat_le n 16)) (made_of_lines (λ (l : List LineId). length l) segs)
     ∙ list_all-map (λ (n : ℕ). nat_le n 16) (λ (l : List LineId). length l) segs)
+
+-- a segment that has more lines, and where none has
+pub wide_at : (segs : List (List LineId)) (i : ℕ) → i < length segs → 16 < length (get_or segs i []) → false ≡ is_narrow segs (segments_from 0 segs)
+wide_at segs i below wide = sym (narrow_by_lines segs ∙ list_all_at (λ (l : List LineId). nat_le (length l) 16) segs i [] below (over (length (get_or segs i [])) wide))
+  where
+    over : (n : ℕ) → 16 < n → nat_le n 16 ≡ false
+    over n h = grind (arith, nat_tests)
+
+pub narrow_more : (segs : List (List LineId)) (i : ℕ) → i < length segs → length (get_or segs i []) ≤ 16 → list_all (λ (l : List LineId). nat_le (length l) 16) (take i segs) ≡ true
+    → list_all (λ (l : List LineId). nat_le (length l) 16) (take (i + 1) segs) ≡ true
+narrow_more segs i below narrow h =
+    list_all_more (λ (l : List LineId). nat_le (length l) 16) segs i [] below
+    ∙ and_from (list_all (λ (l : List LineId). nat_le (length l) 16) (take i segs)) (nat_le (length (get_or segs i [])) 16) h (under (length (get_or segs i [])) narrow)
+  where
+    under : (n : ℕ) → n ≤ 16 → nat_le n 16 ≡ true
+    under n h = grind (arith, nat_tests)
+
+pub narrow_all : (segs : List (List LineId)) (i : ℕ) → length segs ≤ i → list_all (λ (l : List LineId). nat_le (length l) 16) (take i segs) ≡ true → true ≡ is_narrow segs (segments_from 0 segs)
+narrow_all segs i over h = sym (narrow_by_lines segs ∙ (ap (list_all (λ (l : List LineId). nat_le (length l) 16)) (sym (take_all i segs over)) ∙ h))
 
 abbrev pub steps_of : List LineId → ℕ
 steps_of l = length l * length l * 2 ^ length l
