@@ -115,20 +115,23 @@ more_by at amount old new most small h k = by_test (k == at) (h k)
 
 -- What entries come to.
 
+pub abs_sum : (a b : ℤ) (m n : ℕ) → unsigned_abs a ≤ m → unsigned_abs b ≤ n → unsigned_abs (a +ℤ b) ≤ m + n
+abs_sum a b m n h k = omega (arith, ints, h, k)
+
 less_nothing : (v : ℤ) (m : ℕ) → unsigned_abs (v -ℤ v) ≤ m
-less_nothing v m = grind (arith, ints)
+less_nothing v m = omega (arith, ints)
 
 pub more_by_nothing : (most : ℕ) (row : List ℤ) → IsMoreBy most row row
 more_by_nothing most row k = less_nothing (row_entry row k) most
 
 more_by_more : (u v w : ℤ) (m n : ℕ) → unsigned_abs (v -ℤ u) ≤ m → unsigned_abs (w -ℤ v) ≤ n → unsigned_abs (w -ℤ u) ≤ m + n
-more_by_more u v w m n h g = grind (arith, ints)
+more_by_more u v w m n h g = omega (arith, ints, h, g)
 
 pub more_by_both : (m n : ℕ) (old between new : List ℤ) → IsMoreBy m old between → IsMoreBy n between new → IsMoreBy (m + n) old new
 more_by_both m n old between new h g k = more_by_more (row_entry old k) (row_entry between k) (row_entry new k) m n (h k) (g k)
 
 abs_more : (u v : ℤ) (m n : ℕ) → unsigned_abs u ≤ m → unsigned_abs (v -ℤ u) ≤ n → unsigned_abs v ≤ m + n
-abs_more u v m n h g = grind (arith, ints)
+abs_more u v m n h g = omega (arith, ints, h, g)
 
 pub small_more : (m most : ℕ) (old new : List ℤ) (k : ℕ) → most ≤ 256000000 → IsMoreBy most old new → unsigned_abs (row_entry old k) ≤ m * 256000000 → unsigned_abs (row_entry new k) ≤ (m + 1) * 256000000
 small_more m most old new k within more small = let step = abs_more (row_entry old k) (row_entry new k) (m * 256000000) most small (more k) in omega (arith, step, within)
