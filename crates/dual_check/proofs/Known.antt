@@ -4,6 +4,7 @@ use Rattle.std.specs.Prelude.{ℤ, pos, ◌+ℤ◌, ◌-ℤ◌}
 use Rattle.std.specs.List.{All, AllByRecursion}
 use Rattle.std.proofs.lemmas.Bool.{cases_eq, cases_lt, ne_eqb}
 use Rattle.std.proofs.lemmas.List.{take_more, get_or_default}
+use Rattle.std.proofs.lemmas.List.Elements.{All-get_or}
 use Rattle.map_base.specs.declared.ids.SegId.{SegId}
 use Rattle.map_base.specs.declared.ids.LineId.{LineId}
 use Rattle.order_model.specs.declared.term.Term.{Term}
@@ -172,6 +173,22 @@ same_place part i j rising here there same = elim (cases_lt i j) [
     | inl more ↦ (let rise = segment_places part j i rising more here in absurd (omega (arith, rise, same)))
     | inr under ↦ omega (arith, over, under)
   ]
+]
+
+place_above : (part : List SegId) (k : ℕ) → IsRisingPart part → k < length part → k ≤ (segment_at part k).0
+place_above part zero rising below = omega arith
+place_above part (suc k) rising below =
+    let rise = segment_places part k (suc k) rising (omega arith) below in let rest = place_above part k rising (omega (arith, below)) in omega (arith, rise, rest)
+
+-- a part has no more segments than there are
+pub part_few : (part : List SegId) (n : ℕ) → IsRisingPart part → All (λ (s : SegId). s.0 < n) part → length part ≤ n
+part_few part n rising known = elim (cases_lt 0 (length part)) [
+  | inl some ↦
+      let last : length part - 1 < length part = omega (arith, some) in
+      let above = place_above part (length part - 1) rising last in
+      let within = All-get_or (λ (s : SegId). s.0 < n) part (length part - 1) (record { 0 = 0 }) last known in
+      omega (arith, some, above, within)
+  | inr none ↦ omega (arith, none)
 ]
 
 not_in : (part : List SegId) (s : SegId) (k : ℕ) → is_in part s ≡ false → k < length part → ((segment_at part k).0 == s.0) ≡ false
