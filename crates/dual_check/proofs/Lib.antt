@@ -1,9 +1,6 @@
 mod Walks
 mod Loads
-mod Entries
 mod PriceTests
 mod Values
-mod Ahead
-mod Adding
-mod Grouping
-mod Telling
+mod Known
+mod Pairs

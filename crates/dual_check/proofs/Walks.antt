@@ -1,20 +1,23 @@
 -- A walk over a tree, node by node.
-use Rattle.std.proofs.Common.{◌≡◌, ℕ, ℤ, ◌+◌, ◌-◌, ◌<◌, ◌==◌, ◌&&◌, not, Bool, true, false, cond, List, [], ◌∷◌, ◌++◌, length, refl, sym, ◌∙◌, ap, subst, arith, true≢false, append_assoc, Some, None, Option}
+use Rattle.std.proofs.Common.{◌≡◌, ℕ, ℤ, ◌+◌, ◌-◌, ◌<◌, ◌==◌, ◌&&◌, not, Bool, true, false, cond, List, [], ◌∷◌, ◌++◌, length, refl, sym, ◌∙◌, ap, subst, arith, true≢false, append_assoc, inl, inr, Some, None, Option}
 use Rattle.std.specs.Prelude.{reverse}
 use Rattle.std.specs.List.{All}
-use Rattle.std.proofs.lemmas.Bool.{and_parts, not-true}
+use Rattle.std.proofs.lemmas.Bool.{and_parts, not-true, eqb-false, ne_eqb}
 use Rattle.std.proofs.lemmas.List.{append-nil, reverse-append}
-use Rattle.std.proofs.lemmas.List.Elements.{All-push}
+use Rattle.std.proofs.lemmas.List.Elements.{All-head, All-tail}
 use Rattle.map_base.specs.declared.ids.SegId.{SegId}
 use Rattle.map_base.specs.declared.ids.LineId.{LineId}
 use Rattle.order_model.specs.Problems.{lines_on}
 use Rattle.order_model.specs.Places.{has_line}
 use Rattle.order_model.specs.PartTerms.{is_in}
+use Rattle.order_model.proofs.Lines.{either_true}
 use Rattle.order_model.specs.Questions.{Question}
 use Rattle.order_values.specs.DualTrees.{PlainDual, fork, stop}
 use Rattle.dual_bound.specs.declared.settled.SettledPair.{SettledPair}
 use Rattle.dual_bound.specs.Settled.{with_pair}
+use Rattle.dual_bound.proofs.Segments.{same_seg}
 use Rattle.dual_bound.specs.Accepting.{is_stopped, is_fork, after_line, first_of, failing_below}
+use Rattle.dual_shares.specs.RowSteps.{AreTwoOf}
 use Rattle.dual_check.specs.Settling.{pairs_of, IsWalked, IsPairOn}
 
 -- A stop.
@@ -66,11 +69,22 @@ case_refused a outcome before after walked = (a ∷ walked.0, ap (after_line a) 
 pub case_passed : (a : LineId) (outcome : Option (List LineId)) (before after : List LineId) → IsWalked outcome (before ++ a ∷ []) after true → (after_line a outcome ≡ None) × (after ≡ before ++ a ∷ [])
 case_passed a outcome before after walked = (ap (after_line a) walked.0, walked.1)
 
+all_in : (P : SegId → Type 0) (part : List SegId) (s : SegId) → All P part → is_in part s ≡ true → P s
+all_in P [] s all h = absurd (true≢false (sym h))
+all_in P (t ∷ part) s all h = elim (either_true (t.0 == s.0) (is_in part s) h) [
+  | inl here ↦ subst P (same_seg t s here) (All-head P t part all)
+  | inr later ↦ all_in P part s (All-tail P t part all) later
+]
+
 -- both lines of a fork that holds are on its segment
-pub fork_pair : (q : Question) (s : SegId) (a b : LineId) → is_fork q s a b ≡ true
-    → (is_in q.part s ≡ true) × (has_line (lines_on q.segs s) a ≡ true) × (has_line (lines_on q.segs s) b ≡ true) × ((a.0 == b.0) ≡ false)
-fork_pair q s a b h =
+pub fork_pair : (q : Question) (s : SegId) (a b : LineId) → All (λ (u : SegId). u.0 < length q.segs) q.part → is_fork q s a b ≡ true
+    → IsPairOn q.segs (record { seg = s; first = a; second = b }) × IsPairOn q.segs (record { seg = s; first = b; second = a })
+fork_pair q s a b known h =
     let in_part = and_parts (is_in q.part s) (has_line (lines_on q.segs s) a && (has_line (lines_on q.segs s) b && not (a.0 == b.0))) h in
     let here = and_parts (has_line (lines_on q.segs s) a) (has_line (lines_on q.segs s) b && not (a.0 == b.0)) in_part.1 in
     let there = and_parts (has_line (lines_on q.segs s) b) (not (a.0 == b.0)) here.1 in
-    (in_part.0, here.0, there.0, not-true (a.0 == b.0) there.1)
+    let apart : (a.0 == b.0) ≡ false = not-true (a.0 == b.0) there.1 in
+    let below : s.0 < length q.segs = all_in (λ (u : SegId). u.0 < length q.segs) q.part s known in_part.0 in (
+      record { known = below; two = record { first_on = here.0; second_on = there.0; differ = apart } },
+      record { known = below; two = record { first_on = there.0; second_on = here.0; differ = ne_eqb b.0 a.0 (λ e. eqb-false a.0 b.0 apart (sym e)) } },
+    )

@@ -1,6 +1,6 @@
 //! The value of prices, and whether a stop holds.
 
-ghost use Rattle.std.specs.Prelude.{◌≡◌, ◌≤◌, ◌<◌, ◌^◌, ◌+◌, ◌+ℤ◌, length, unsigned_abs, true, Some, IfOk};
+ghost use Rattle.std.specs.Prelude.{◌≡◌, ◌<◌, ◌^◌, ◌≤ℤ◌, ◌+ℤ◌, ◌-ℤ◌, pos, length, true, Some, IfOk};
 ghost use Rattle.order_values.specs.PriceLists.{price_at, AreRisingPrices};
 ghost use Rattle.dual_bound.specs.Values.{value_of};
 ghost use Rattle.dual_bound.specs.Accepting.{shows, is_stopped};
@@ -70,9 +70,11 @@ fn value(asked: &Asked, node: &mut Node, solver: &mut Solver) -> Option<i128>
 
 /// A sum of shares with one more.
 fn with_share(total: i128, share: i64) -> i128
-    requires { unsigned_abs total ≤ 2 ^ 100 }
+    requires low { (pos 0 -ℤ pos (2 ^ 100)) ≤ℤ total }
+    requires high { total ≤ℤ pos (2 ^ 100) }
     ensures sum { result ≡ total +ℤ share }
-    ensures more { unsigned_abs result ≤ unsigned_abs total + 2 ^ 63 }
+    ensures low { (total -ℤ pos (2 ^ 63)) ≤ℤ result }
+    ensures high { result ≤ℤ (total +ℤ pos (2 ^ 63)) }
 {
     total + i128::from(share)
 }

@@ -2,7 +2,7 @@
 use Rattle.std.proofs.Common.{◌≡◌, ◌≢◌, ℕ, zero, suc, ◌+◌, ◌*◌, ◌<◌, ◌≤◌, ◌==◌, ◌||◌, ◌&&◌, Bool, true, false, cond, List, [], ◌∷◌, length, drop, set, get_or, refl, sym, ◌∙◌, ap, subst, arith, ◌⊎◌, inl, inr, true≢false, eq-eqb, eqb-true, get_or-set_same, get_or-set_other}
 use Rattle.std.specs.Prelude.{ℤ, pos, ◌+ℤ◌, ◌-ℤ◌, unsigned_abs}
 use Rattle.std.proofs.Math.Nat.{mul-le-mul_left, mul-le-mul_right, suc-mul}
-use Rattle.std.proofs.lemmas.Bool.{cases_eq, cases_order, ne_eqb, eqb-false}
+use Rattle.std.proofs.lemmas.Bool.{and_parts, cases_eq, cases_order, ne_eqb, eqb-false}
 use Rattle.std.proofs.lemmas.Int.{ints}
 use Rattle.std.proofs.lemmas.List.{at_drop_more, at_drop_all}
 use Rattle.map_base.specs.declared.ids.LineId.{LineId}
@@ -13,7 +13,8 @@ use Rattle.order_model.proofs.Lines.{either_true, same_line}
 use Rattle.least_orders.specs.OrderCosts.{PairCosts, cost_before, cost_beside}
 use Rattle.least_orders.specs.Rows.{line_at, named, entry}
 use Rattle.least_orders.proofs.Renaming.{same_name}
-use Rattle.dual_shares.specs.RowSteps.{row_entry, AreSmall, IsAddedAt, IsAddedBefore, IsAddedBeside, IsMoreBy, IsRoomy, most_where}
+use Rattle.dual_bound.specs.ShareCosts.{costs_where}
+use Rattle.dual_shares.specs.RowSteps.{row_entry, AreSmall, IsAddedAt, IsAddedBefore, IsAddedBeside, IsMoreBy, IsRoomy, AreTwoOf, most_where}
 
 -- Places.
 
@@ -101,7 +102,7 @@ entry_written row at v amount below is k = elim (cases_eq k at) [
 ]
 
 moved_by : (a b c : ℤ) (most : ℕ) → unsigned_abs c ≤ most → a ≡ b +ℤ c → unsigned_abs (a -ℤ b) ≤ most
-moved_by a b c most small e = grind (arith, ints)
+moved_by a b c most small e = omega (arith, ints, small, e)
 
 pub more_by : (at : ℕ) (amount : ℤ) (old new : List ℤ) (most : ℕ) → unsigned_abs amount ≤ most → IsAddedAt at amount old new → IsMoreBy most old new
 more_by at amount old new most small h k = by_test (k == at) (h k)
@@ -115,20 +116,23 @@ more_by at amount old new most small h k = by_test (k == at) (h k)
 
 -- What entries come to.
 
+pub abs_sum : (a b : ℤ) (m n : ℕ) → unsigned_abs a ≤ m → unsigned_abs b ≤ n → unsigned_abs (a +ℤ b) ≤ m + n
+abs_sum a b m n h k = omega (arith, ints, h, k)
+
 less_nothing : (v : ℤ) (m : ℕ) → unsigned_abs (v -ℤ v) ≤ m
-less_nothing v m = grind (arith, ints)
+less_nothing v m = omega (arith, ints)
 
 pub more_by_nothing : (most : ℕ) (row : List ℤ) → IsMoreBy most row row
 more_by_nothing most row k = less_nothing (row_entry row k) most
 
 more_by_more : (u v w : ℤ) (m n : ℕ) → unsigned_abs (v -ℤ u) ≤ m → unsigned_abs (w -ℤ v) ≤ n → unsigned_abs (w -ℤ u) ≤ m + n
-more_by_more u v w m n h g = grind (arith, ints)
+more_by_more u v w m n h g = omega (arith, ints, h, g)
 
 pub more_by_both : (m n : ℕ) (old between new : List ℤ) → IsMoreBy m old between → IsMoreBy n between new → IsMoreBy (m + n) old new
 more_by_both m n old between new h g k = more_by_more (row_entry old k) (row_entry between k) (row_entry new k) m n (h k) (g k)
 
 abs_more : (u v : ℤ) (m n : ℕ) → unsigned_abs u ≤ m → unsigned_abs (v -ℤ u) ≤ n → unsigned_abs v ≤ m + n
-abs_more u v m n h g = grind (arith, ints)
+abs_more u v m n h g = omega (arith, ints, h, g)
 
 pub small_more : (m most : ℕ) (old new : List ℤ) (k : ℕ) → most ≤ 256000000 → IsMoreBy most old new → unsigned_abs (row_entry old k) ≤ m * 256000000 → unsigned_abs (row_entry new k) ≤ (m + 1) * 256000000
 small_more m most old new k within more small = let step = abs_more (row_entry old k) (row_entry new k) (m * 256000000) most small (more k) in omega (arith, step, within)
@@ -146,8 +150,14 @@ small_roomy count m before beside few small =
     (λ k below. (let most = small.before_small k below in omega (arith, most, few)), λ k below. (let most = small.beside_small k below in omega (arith, most, few)))
 
 -- they still have after one amount more
-pub still_roomy : (v w : ℤ) (m : ℕ) → m ≤ 256000000 → unsigned_abs v ≤ 1024000000000000 → unsigned_abs (w -ℤ v) ≤ m → unsigned_abs w ≤ 2 ^ 60
-still_roomy v w m within small more = let step = abs_more v w 1024000000000000 m small more in omega (arith, step, within)
+pub still_roomy : (count most : ℕ) (old new : List ℤ) → most ≤ 256000000 → ((k : ℕ) → k < count * count → unsigned_abs (row_entry old k) ≤ 1024000000000000) → IsMoreBy most old new → IsRoomy count new
+still_roomy count most old new within small more k below =
+    let step = abs_more (row_entry old k) (row_entry new k) 1024000000000000 most (small k below) (more k) in omega (arith, step, within)
+
+pub small_most : (count m : ℕ) (before beside : List ℤ) → m ≤ 4000000 → AreSmall count m before beside
+    → ((k : ℕ) → k < count * count → unsigned_abs (row_entry before k) ≤ 1024000000000000) × ((k : ℕ) → k < count * count → unsigned_abs (row_entry beside k) ≤ 1024000000000000)
+small_most count m before beside few small =
+    (λ k below. (let most = small.before_small k below in omega (arith, most, few)), λ k below. (let most = small.beside_small k below in omega (arith, most, few)))
 
 pub one_of_two : (s t : Bool) → (s ≡ true → t ≡ true → ⊥) → most_where s + most_where t ≤ 256000000
 one_of_two true true h = absurd (h refl refl)
@@ -212,3 +222,61 @@ added_beside lines a b amount old between new rising has has_too apart h g i j h
         let one = eqb-true (named lines (line_at i)).0 a.0 (left_of ((named lines (line_at i)).0 == a.0) ((named lines (line_at j)).0 == b.0) e) in
         let two = eqb-true (named lines (line_at i)).0 b.0 (left_of ((named lines (line_at i)).0 == b.0) ((named lines (line_at j)).0 == a.0) f) in
         eqb-false a.0 b.0 apart (sym one ∙ two)
+
+-- As the code has it: an amount is added where it is so.
+
+where_true : (so : Bool) (costs : PairCosts) → so ≡ true → costs_where so costs ≡ costs
+where_true so costs h = ap (λ b. costs_where b costs) h
+
+pub before_where : (lines : List LineId) (so : Bool) (first second : LineId) (amount : ℤ) (old new : List ℤ) (n i j : ℕ) → AreRising lines → so ≡ true → AreTwoOf lines first second
+    → n ≡ length lines → i ≡ place_of lines first → j ≡ place_of lines second → IsAddedAt (i * n + j) amount old new → IsAddedBefore lines (costs_where so (cost_before first second amount)) old new
+before_where lines so first second amount old new n i j rising is two e f g h =
+    subst (λ c. IsAddedBefore lines c old new) (sym (where_true so (cost_before first second amount) is))
+    (added_before lines first second amount old new rising two.first_on two.second_on (subst (λ m. IsAddedAt m amount old new) (ap (λ m. m * n + j) f ∙ (ap (λ m. place_of lines first * m + j) e ∙ ap (λ m. place_of lines first * length lines + m) g)) h))
+
+pub beside_where : (lines : List LineId) (so : Bool) (a b : LineId) (amount : ℤ) (old between new : List ℤ) (n i j : ℕ) → AreRising lines → so ≡ true → AreTwoOf lines a b
+    → n ≡ length lines → i ≡ place_of lines a → j ≡ place_of lines b → IsAddedAt (i * n + j) amount old between → IsAddedAt (j * n + i) amount between new
+    → IsAddedBeside lines (costs_where so (cost_beside a b amount)) old new
+beside_where lines so a b amount old between new n i j rising is two e f g h k =
+    subst (λ c. IsAddedBeside lines c old new) (sym (where_true so (cost_beside a b amount) is))
+    (added_beside lines a b amount old between new rising two.first_on two.second_on two.differ
+    (subst (λ m. IsAddedAt m amount old between) (ap (λ m. m * n + j) f ∙ (ap (λ m. place_of lines a * m + j) e ∙ ap (λ m. place_of lines a * length lines + m) g)) h)
+    (subst (λ m. IsAddedAt m amount between new) (ap (λ m. m * n + i) g ∙ (ap (λ m. place_of lines b * m + i) e ∙ ap (λ m. place_of lines b * length lines + m) f)) k))
+
+most_is : (so : Bool) → so ≡ true → most_where so ≡ 256000000
+most_is so h = ap most_where h
+
+pub more_where : (so : Bool) (at : ℕ) (amount : ℤ) (old new : List ℤ) → so ≡ true → unsigned_abs amount ≤ 256000000 → IsAddedAt at amount old new → IsMoreBy (most_where so) old new
+more_where so at amount old new is small h = subst (λ m. IsMoreBy m old new) (sym (most_is so is)) (more_by at amount old new 256000000 small h)
+
+-- the two entries of neighbours are apart
+pub places_apart : (lines : List LineId) (a b : LineId) → AreTwoOf lines a b → (place_of lines a) ≢ (place_of lines b)
+places_apart lines a b two e =
+    let here = (place_known lines a two.first_on).1 a in
+    let there = (place_known lines b two.second_on).1 a in
+    absurd (eqb-false a.0 b.0 two.differ (ap (λ (u : LineId). u.0) (sym here ∙ (ap (λ k. get_or lines k a) e ∙ there))))
+
+pub entries_apart : (lines : List LineId) (a b : LineId) (n i j : ℕ) → AreTwoOf lines a b → n ≡ length lines → i ≡ place_of lines a → j ≡ place_of lines b → (j * n + i) ≢ (i * n + j)
+entries_apart lines a b n i j two e f g same =
+    let here = (place_known lines a two.first_on).0 in
+    let there = (place_known lines b two.second_on).0 in
+    let both = and_parts (j == i) (i == j) (sym (same_entry n j i i j (omega (arith, here, e, f)) (omega (arith, there, e, g))) ∙ eq-eqb (j * n + i) (i * n + j) same) in
+    absurd (places_apart lines a b two (sym f ∙ (sym (eqb-true j i both.0) ∙ g)))
+
+pub more_twice : (so : Bool) (at at_too : ℕ) (amount : ℤ) (old between new : List ℤ) → so ≡ true → at_too ≢ at → unsigned_abs amount ≤ 256000000 → IsAddedAt at amount old between → IsAddedAt at_too amount between new
+    → IsMoreBy (most_where so) old new
+more_twice so at at_too amount old between new is apart small h g = subst (λ m. IsMoreBy m old new) (sym (most_is so is)) each
+  where
+    each : IsMoreBy 256000000 old new
+    each k = by_tests (k == at) refl (k == at_too) refl (h k) (g k)
+      where
+        by_tests : (s : Bool) → (k == at) ≡ s → (t : Bool) → (k == at_too) ≡ t → row_entry between k ≡ cond s (row_entry old k +ℤ amount) (row_entry old k)
+            → row_entry new k ≡ cond t (row_entry between k +ℤ amount) (row_entry between k) → unsigned_abs (row_entry new k -ℤ row_entry old k) ≤ 256000000
+        by_tests true e true f one two = absurd (apart (sym (eqb-true k at_too f) ∙ eqb-true k at e))
+        by_tests true e false f one two = moved_by (row_entry new k) (row_entry old k) amount 256000000 small (two ∙ one)
+        by_tests false e true f one two = moved_by (row_entry new k) (row_entry old k) amount 256000000 small (two ∙ ap (λ v. v +ℤ amount) one)
+        by_tests false e false f one two = subst (λ v. unsigned_abs (v -ℤ row_entry old k) ≤ 256000000) (sym (two ∙ one)) (less_nothing (row_entry old k) 256000000)
+
+-- an entry that is not written is as it was
+pub not_written : (at k : ℕ) (amount : ℤ) (old new : List ℤ) → IsAddedAt at amount old new → k ≢ at → row_entry new k ≡ row_entry old k
+not_written at k amount old new h apart = h k ∙ ap (λ b. cond b (row_entry old k +ℤ amount) (row_entry old k)) (ne_eqb k at apart)

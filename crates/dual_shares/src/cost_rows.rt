@@ -127,8 +127,8 @@ impl CostRows {
         let size = self.count * self.count;
         PairRows {
             count: self.count,
-            before: &self.before[..size],
-            beside: &self.beside[..size],
+            before: &self.before.as_slice()[..size],
+            beside: &self.beside.as_slice()[..size],
             ahead,
         }
     }

@@ -2,7 +2,7 @@
 
 ghost use Rattle.std.specs.Prelude.{◌≡◌, ◌+◌, ◌*◌, ◌^◌, ◌<◌, ◌≤◌, ◌+ℤ◌, ◌-ℤ◌, ℕ, pos, length, true, unsigned_abs};
 ghost use Rattle.order_model.specs.Places.{has_line, place_of};
-ghost use Rattle.dual_shares.specs.RowSteps.{row_entry, IsRoomy, IsAddedAt};
+ghost use Rattle.dual_shares.specs.RowSteps.{row_entry, IsAddedAt};
 
 use map_base::LineId;
 
@@ -38,7 +38,7 @@ pub(crate) fn add(row: &mut [i64], count: usize, i: usize, j: usize, amount: i64
     requires first { i < count }
     requires second { j < count }
     requires amount { unsigned_abs amount ≤ 256000000 }
-    requires small { IsRoomy count row.old }
+    requires small { unsigned_abs (row_entry row.old (i * count + j)) ≤ 2 ^ 60 }
     ensures { IsAddedAt (i * count + j) amount row.old row.new }
 {
     let k = i * count + j;
