@@ -121,3 +121,21 @@ rounds_over q settled n a b h = ap (λ (s : Stage). onward s (rounds q settled n
 
 pub rounds_spent : (q : Search) (settled : List SettledPair) (n : ℕ) (a b : Ascent) → one_round q settled a ≡ spent b → rounds q settled (suc n) a ≡ spent b
 rounds_spent q settled n a b h = ap (λ (s : Stage). onward s (rounds q settled n)) h
+
+-- A whole round, from the orders that answer its prices.
+
+module _ (q : Search) (settled : List SettledPair) (start a b : Ascent) (value : ℤ) (begins : one_round q settled start ≡ answered q settled a)
+    (is_value : value ≡ value_with q.problem a.prices (answers q.problem settled a.prices)) (is_seen : b ≡ seen q (answers q.problem settled a.prices) value a) where
+  with_value_is : one_round q settled start ≡ with_answers q settled (answers q.problem settled a.prices) value a
+  with_value_is = begins ∙ ap (λ v. with_answers q settled (answers q.problem settled a.prices) v a) (sym is_value)
+
+  pub round_over : is_shown b ≡ true → one_round q settled start ≡ over b
+  round_over h =
+      with_value_is
+      ∙ (answered_over q settled a (answers q.problem settled a.prices) value (subst (λ c. is_shown c ≡ true) is_seen h) ∙ ap over (sym is_seen))
+
+  pub round_moves : (s : Stage) → is_shown b ≡ false → moved q settled (answers q.problem settled a.prices) value b ≡ s → one_round q settled start ≡ s
+  round_moves s h m =
+      with_value_is
+      ∙ (answered_on q settled a (answers q.problem settled a.prices) value (subst (λ c. is_shown c ≡ false) is_seen h)
+      ∙ (ap (moved q settled (answers q.problem settled a.prices) value) (sym is_seen) ∙ m))
