@@ -10,3 +10,4 @@ pub mod Telling
 pub mod Adding
 pub mod Placing
 pub mod Pricing
+pub mod Renewing

@@ -5,3 +5,4 @@ pub mod Solvers
 pub mod Values
 pub mod Closing
 pub mod NextPairs
+pub mod Answered

@@ -20,7 +20,7 @@ mod settled;
 mod solver;
 mod value;
 
-pub use answers::put_answers;
+pub use answers::Answers;
 pub use averaged::put_averaged;
 pub use incumbent::Incumbent;
 pub use left::put_left;

@@ -3,7 +3,7 @@ use Rattle.order_model.specs.Costs.{AreOrders}
 use Rattle.dual_rounds.proofs.Filling.{IsFilledTo}
 use Rattle.dual_orders.specs.Solvers.{HasRoomFor}
 use Rattle.dual_orders.proofs.Placing.{answers_by}
-use Rattle.dual_orders.proofs.answers.put_answers.Given as goal
+use Rattle.dual_orders.proofs.answers.renew_all.Given as goal
 
 abbrev pub invariant-loop-s : goal.invariant-loop-s
 invariant-loop-s l =
