@@ -74,7 +74,6 @@ pub record IsAscent (p : ProblemParts) (a : Ascent) : Type 0 where
   pub averages : All (All IsAverage) (averages_of a.averages.items)
   pub pairs : ArePairs p (averages_of a.averages.items)
   pub each_segment : length a.averages.items ≡ length p.segs
-  pub orders : AreOrders p.segs a.orders.items
   pub step : a.step ≤ 1000
   pub stale : a.stale ≤ 20
 

@@ -1,6 +1,6 @@
 //! The subgradient ascent at a node.
 
-ghost use Rattle.std.specs.Prelude.{◌≡◌, ◌<◌, ◌≤◌, Some, IfOk};
+ghost use Rattle.std.specs.Prelude.{◌≡◌, ◌<◌, ◌≤◌, length, Some, IfOk};
 ghost use Rattle.dual_bound.specs.Accepting.{shows};
 ghost use Rattle.dual_ascent.specs.DualSteps.{AreWithin};
 ghost use Rattle.dual_ascent.specs.Averages.{averages_after};
@@ -12,7 +12,7 @@ ghost use Rattle.dual_orders.specs.Values.{incumbent_of};
 
 use crate::under_way::{Progress, Search};
 use dual_ascent::PairAverage;
-use dual_rounds::{LineOrder, average_in, bar_of, no_averages, orders_of};
+use dual_rounds::{LineOrder, average_in, bar_of, no_averages};
 use map_base::NoMemory;
 use std::alloc::Global;
 
@@ -35,8 +35,6 @@ pub(crate) struct Ascent {
     pub(crate) value: i64,
     /// The prices that have it.
     pub(crate) kept: Vec<i64>,
-    /// The orders that answer the prices.
-    pub(crate) orders: Vec<LineOrder>,
 }
 
 /// The greatest value of a node's rounds, and the prices that have it.
@@ -83,7 +81,6 @@ pub(crate) fn first_ascent(
         stale: 0,
         value: 0,
         kept: Vec::from_slice(alloc, prices)?,
-        orders: orders_of(alloc, segs)?,
     })
 }
 
@@ -106,21 +103,21 @@ pub(crate) fn is_shown(search: &Search, now: &Progress, ascent: &Ascent) -> bool
 
 /// The averages take the orders that answer the prices, and a value that is greater than in all rounds before is kept with
 /// its prices.
-pub(crate) fn look(search: &Search, value: i64, ascent: &mut Ascent)
+pub(crate) fn look(search: &Search, orders: &[LineOrder], value: i64, ascent: &mut Ascent)
     requires search { IsSearch search.now }
     requires ascent { IsAscent search.now.part.problem.now ascent.old }
     requires round { 0 < ascent.old.round }
     requires stale { ascent.old.stale < 20 }
+    requires orders { length orders.now ≡ length search.now.part.problem.now.segs }
     ensures looked { (now : Progress) → ascent_of now ascent.new ≡ with_value value (record (ascent_of now ascent.old) {
-      averages = averages_after search.now.part.problem.now ascent.old.round ascent.old.orders.items (averages_of ascent.old.averages.items);
+      averages = averages_after search.now.part.problem.now ascent.old.round orders.now (averages_of ascent.old.averages.items);
     }) }
     ensures ascent { IsAscent search.now.part.problem.now ascent.new }
-    ensures orders { ascent.new.orders ≡ ascent.old.orders }
 {
     average_in(
         search.part.problem,
         ascent.round,
-        ascent.orders.as_slice(),
+        orders,
         ascent.averages.as_mut_slice(),
     );
     keep_value(search, value, ascent);
@@ -132,7 +129,6 @@ fn keep_value(search: &Search, value: i64, ascent: &mut Ascent)
     requires stale { ascent.old.stale < 20 }
     ensures kept { (now : Progress) → ascent_of now ascent.new ≡ with_value value (ascent_of now ascent.old) }
     ensures ascent { IsAscent search.now.part.problem.now ascent.new }
-    ensures orders { ascent.new.orders ≡ ascent.old.orders }
 {
     if ascent.round == 1 || ascent.value < value {
         ascent.value = value;
@@ -152,7 +148,6 @@ pub(crate) fn shrink(search: &Search, ascent: &mut Ascent) -> bool
     ensures over { (now : Progress) → IsOverWhere result (ascent_of now ascent.new) (shrunk (ascent_of now ascent.old)) }
     ensures ascent { IsAscent search.now.part.problem.now ascent.new }
     ensures stale { ascent.new.stale < 20 }
-    ensures orders { ascent.new.orders ≡ ascent.old.orders }
 {
     if ascent.stale < 20 {
         return false;

@@ -17,7 +17,7 @@ use crate::rounds::ascend;
 use crate::under_way::{Progress, Search};
 use crate::walk::{NodeEnd, fork, node_end};
 use crate::walked::{WalkedTree, collapsed, listed};
-use dual_orders::{Part, Solver, first_incumbent};
+use dual_orders::{Answers, Part, Solver, first_incumbent};
 use dual_rounds::{LineOrder, orders_of};
 use map_base::{LineId, NoMemory, Sequence, Steps};
 use order_model::{Orders, Problem};
@@ -53,6 +53,7 @@ pub fn search<L: Ledger>(
     let mut now = begin(alloc, &search)?;
     let prices = vec![in alloc; 0_i64; problem.terms().len()]?;
     let mut root = first_ascent(alloc, &search, prices.as_slice())?;
+    let mut answers = Answers::none(alloc, &search.part)?;
     let mut settled = Vec::new(alloc);
     if !ascend(
         &search,
@@ -60,6 +61,7 @@ pub fn search<L: Ledger>(
         settled.as_slice(),
         ROOT_ROUNDS,
         &mut root,
+        &mut answers,
         steps,
     ) {
         return spent(alloc, now, root.into_bound());

@@ -6,15 +6,17 @@ ghost use Rattle.dual_ascent.specs.Averages.{averaged_orders};
 ghost use Rattle.dual_ascent.specs.DualSteps.{answers, value_with, square_sum};
 ghost use Rattle.dual_ascent.specs.Rounds.{going, over, spent, directed, rounded, stepped, one_round, rounds, closed};
 ghost use Rattle.dual_rounds.specs.Ranges.{averages_of};
+ghost use Rattle.order_model.specs.Costs.{AreOrders};
+ghost use Rattle.dual_orders.specs.Answered.{AreAnswers};
 ghost use Rattle.dual_orders.specs.SettledPairs.{pairs_of, IsPairOn};
 ghost use Rattle.dual_orders.specs.Values.{incumbent_of};
-ghost use Rattle.dual_search.specs.Searching.{search_of, ascent_of, IsSearch, IsUnderWay, IsAscent, IsOverWhere, StageIs, IsGoing, moved};
+ghost use Rattle.dual_search.specs.Searching.{search_of, ascent_of, progress_of, IsSearch, IsUnderWay, IsAscent, IsOverWhere, StageIs, IsGoing, moved};
 
 use crate::ascent::{Ascent, is_shown, look, shrink};
 use crate::under_way::{Progress, Search};
 use dual_bound::SettledPair;
-use dual_orders::{offer, put_answers, put_averaged, value_of};
-use dual_rounds::{copy_orders, direct, gap_of, square_sum, step_prices};
+use dual_orders::{Answers, offer, put_averaged, value_of};
+use dual_rounds::{LineOrder, copy_orders, direct, gap_of, square_sum, step_prices};
 use map_base::Steps;
 use std::sync::ledger::Ledger;
 
@@ -34,15 +36,18 @@ pub(crate) fn ascend<L: Ledger>(
     settled: &[SettledPair],
     most: u32,
     ascent: &mut Ascent,
+    answers: &mut Answers,
     steps: &mut Steps<L>,
 ) -> bool
     requires search { IsSearch search.now }
     requires now { IsUnderWay search.now now.old }
     requires settled { All (IsPairOn search.now.part.problem.now.segs) settled.now }
     requires ascent { IsAscent search.now.part.problem.now ascent.old }
+    requires answers { AreAnswers search.now.part.problem.now (pairs_of settled.now) answers.old }
     requires stale { ascent.old.stale < 20 }
     requires round { ascent.old.round ≡ 0 }
     requires most { most ≤ 1000 }
+    ensures answers { AreAnswers search.now.part.problem.now (pairs_of settled.now) answers.new }
     ensures now { IsUnderWay search.now now.new }
     ensures ascent { IsAscent search.now.part.problem.now ascent.new }
     ensures over { IsTrue result → closed (search_of search.now) (pairs_of settled.now)
@@ -51,7 +56,7 @@ pub(crate) fn ascend<L: Ledger>(
         (rounds (search_of search.now) (pairs_of settled.now) most (ascent_of now.old ascent.old)) ≡ spent (ascent_of now.new ascent.new) }
     ensures steps { steps.new + now.old.branches ≡ steps.old + now.new.branches }
 {
-    match go_on(search, now, settled, most, ascent, steps) {
+    match go_on(search, now, settled, most, ascent, answers, steps) {
         Stage::Spent => false,
         Stage::Going | Stage::Over => {
             offer_averaged(search, now, settled, ascent);
@@ -67,22 +72,25 @@ fn go_on<L: Ledger>(
     settled: &[SettledPair],
     most: u32,
     ascent: &mut Ascent,
+    answers: &mut Answers,
     steps: &mut Steps<L>,
 ) -> Stage
     requires search { IsSearch search.now }
     requires now { IsUnderWay search.now now.old }
     requires settled { All (IsPairOn search.now.part.problem.now.segs) settled.now }
     requires ascent { IsAscent search.now.part.problem.now ascent.old }
+    requires answers { AreAnswers search.now.part.problem.now (pairs_of settled.now) answers.old }
     requires stale { ascent.old.stale < 20 }
     requires round { ascent.old.round ≡ 0 }
     requires most { most ≤ 1000 }
+    ensures answers { AreAnswers search.now.part.problem.now (pairs_of settled.now) answers.new }
     ensures now { IsUnderWay search.now now.new }
     ensures ascent { IsAscent search.now.part.problem.now ascent.new }
     ensures stage { StageIs result (ascent_of now.new ascent.new) (rounds (search_of search.now) (pairs_of settled.now) most (ascent_of now.old ascent.old)) }
     ensures steps { steps.new + now.old.branches ≡ steps.old + now.new.branches }
 {
     for _ in 0..most {
-        match one_round(search, now, settled, ascent, steps) {
+        match one_round(search, now, settled, ascent, answers, steps) {
             Stage::Going => {}
             Stage::Over => return Stage::Over,
             Stage::Spent => return Stage::Spent,
@@ -97,14 +105,17 @@ fn one_round<L: Ledger>(
     now: &mut Progress,
     settled: &[SettledPair],
     ascent: &mut Ascent,
+    answers: &mut Answers,
     steps: &mut Steps<L>,
 ) -> Stage
     requires search { IsSearch search.now }
     requires now { IsUnderWay search.now now.old }
     requires settled { All (IsPairOn search.now.part.problem.now.segs) settled.now }
     requires ascent { IsAscent search.now.part.problem.now ascent.old }
+    requires answers { AreAnswers search.now.part.problem.now (pairs_of settled.now) answers.old }
     requires stale { ascent.old.stale < 20 }
     requires round { ascent.old.round < 100000 }
+    ensures answers { AreAnswers search.now.part.problem.now (pairs_of settled.now) answers.new }
     ensures now { IsUnderWay search.now now.new }
     ensures ascent { IsAscent search.now.part.problem.now ascent.new }
     ensures stale { IsGoing result → ascent.new.stale < 20 }
@@ -116,12 +127,13 @@ fn one_round<L: Ledger>(
         return Stage::Spent;
     }
     count_round(search, now, ascent, steps);
-    let value = answer(search, now, settled, ascent);
-    look(search, value, ascent);
+    let value = answer(search, now, settled, ascent, answers);
+    let orders = answers.orders.as_slice();
+    look(search, orders, value, ascent);
     if is_shown(search, now, ascent) {
         return Stage::Over;
     }
-    if move_on(search, now, settled, value, ascent) {
+    if move_on(search, now, settled, orders, value, ascent) {
         return Stage::Over;
     }
     Stage::Going
@@ -147,31 +159,29 @@ fn count_round<L: Ledger>(
     now.branches += search.part.load;
 }
 
-/// The orders that answer the prices, and their value.
-fn answer(search: &Search, now: &mut Progress, settled: &[SettledPair], ascent: &mut Ascent) -> i64
+/// The prices are answered. The value of these answers.
+fn answer(
+    search: &Search,
+    now: &mut Progress,
+    settled: &[SettledPair],
+    ascent: &Ascent,
+    answers: &mut Answers,
+) -> i64
     requires search { IsSearch search.now }
     requires now { IsUnderWay search.now now.old }
     requires settled { All (IsPairOn search.now.part.problem.now.segs) settled.now }
-    requires ascent { IsAscent search.now.part.problem.now ascent.old }
+    requires ascent { IsAscent search.now.part.problem.now ascent.now }
+    requires answers { AreAnswers search.now.part.problem.now (pairs_of settled.now) answers.old }
+    ensures answers { AreAnswers search.now.part.problem.now (pairs_of settled.now) answers.new }
     ensures now { IsUnderWay search.now now.new }
-    ensures ascent { IsAscent search.now.part.problem.now ascent.new }
-    ensures same { ascent_of now.new ascent.new ≡ ascent_of now.old ascent.old }
-    ensures orders { ascent.new.orders.items ≡ answers search.now.part.problem.now (pairs_of settled.now) ascent.old.prices.items }
-    ensures value { result ≡ value_with search.now.part.problem.now ascent.old.prices.items (answers search.now.part.problem.now (pairs_of settled.now) ascent.old.prices.items) }
+    ensures same { progress_of now.new ≡ progress_of now.old }
+    ensures orders { answers.new.orders.items ≡ answers search.now.part.problem.now (pairs_of settled.now) ascent.now.prices.items }
+    ensures value { result ≡ value_with search.now.part.problem.now ascent.now.prices.items (answers search.now.part.problem.now (pairs_of settled.now) ascent.now.prices.items) }
     ensures most { unsigned_abs result ≤ 4000000000000000 }
 {
-    put_answers(
-        &search.part,
-        &mut now.solver,
-        settled,
-        ascent.prices.as_slice(),
-        ascent.orders.as_mut_slice(),
-    );
-    value_of(
-        search.part.problem,
-        ascent.prices.as_slice(),
-        ascent.orders.as_slice(),
-    )
+    let prices = ascent.prices.as_slice();
+    answers.answer(&search.part, &mut now.solver, settled, prices);
+    value_of(search.part.problem, prices, answers.orders.as_slice())
 }
 
 /// What comes behind a value that doesn't show the incumbent's cost: directions, offers, the step, and the next prices. Whether
@@ -180,12 +190,14 @@ fn move_on(
     search: &Search,
     now: &mut Progress,
     settled: &[SettledPair],
+    orders: &[LineOrder],
     value: i64,
     ascent: &mut Ascent,
 ) -> bool
     requires search { IsSearch search.now }
     requires now { IsUnderWay search.now now.old }
     requires settled { All (IsPairOn search.now.part.problem.now.segs) settled.now }
+    requires orders { AreOrders search.now.part.problem.now.segs orders.now }
     requires value { unsigned_abs value ≤ 4000000000000000 }
     requires ascent { IsAscent search.now.part.problem.now ascent.old }
     ensures now { IsUnderWay search.now now.new }
@@ -193,9 +205,9 @@ fn move_on(
     ensures stale { IsFalse result → ascent.new.stale < 20 }
     ensures round { ascent.new.round ≡ ascent.old.round }
     ensures branches { now.new.branches ≡ now.old.branches }
-    ensures over { IsOverWhere result (ascent_of now.new ascent.new) (moved (search_of search.now) (pairs_of settled.now) ascent.old.orders.items value (ascent_of now.old ascent.old)) }
+    ensures over { IsOverWhere result (ascent_of now.new ascent.new) (moved (search_of search.now) (pairs_of settled.now) orders.now value (ascent_of now.old ascent.old)) }
 {
-    if turn(search, now, ascent) {
+    if turn(search, now, orders, ascent) {
         return true;
     }
     if offer_in_turn(search, now, settled, ascent) {
@@ -210,27 +222,28 @@ fn move_on(
 
 /// The directions follow the orders that answer the prices. Where all stand still, these orders are offered, and the rounds are
 /// over.
-fn turn(search: &Search, now: &mut Progress, ascent: &mut Ascent) -> bool
+fn turn(search: &Search, now: &mut Progress, orders: &[LineOrder], ascent: &mut Ascent) -> bool
     requires search { IsSearch search.now }
     requires now { IsUnderWay search.now now.old }
+    requires orders { AreOrders search.now.part.problem.now.segs orders.now }
     requires ascent { IsAscent search.now.part.problem.now ascent.old }
     ensures now { IsUnderWay search.now now.new }
     ensures ascent { IsAscent search.now.part.problem.now ascent.new }
     ensures moves { IsFalse result → 0 < square_sum ascent.new.directions.items }
     ensures round { ascent.new.round ≡ ascent.old.round }
     ensures branches { now.new.branches ≡ now.old.branches }
-    ensures over { IsOverWhere result (ascent_of now.new ascent.new) (directed (search_of search.now) ascent.old.orders.items (ascent_of now.old ascent.old)) }
+    ensures over { IsOverWhere result (ascent_of now.new ascent.new) (directed (search_of search.now) orders.now (ascent_of now.old ascent.old)) }
 {
     direct(
         search.part.problem,
-        ascent.orders.as_slice(),
+        orders,
         ascent.prices.as_slice(),
         ascent.directions.as_mut_slice(),
     );
     if square_sum(ascent.directions.as_slice()) > 0 {
         return false;
     }
-    copy_orders(ascent.orders.as_slice(), now.trial.as_mut_slice());
+    copy_orders(orders, now.trial.as_mut_slice());
     offer_trial(search, now);
     true
 }

@@ -16,7 +16,7 @@ use crate::rounds::{ascend, offer_trial};
 use crate::under_way::{Progress, Search};
 use crate::walked::{WalkedTree, listed};
 use dual_bound::SettledPair;
-use dual_orders::{next_pair, put_left};
+use dual_orders::{Answers, next_pair, put_left};
 use dual_rounds::{LineOrder, most_price, subgradient};
 use map_base::{NoMemory, Steps};
 use order_model::Problem;
@@ -128,12 +128,14 @@ fn walk<L: Ledger>(
     ensures steps { steps.new + now.old.branches ≡ steps.old + now.new.branches }
 {
     let mut ascent = first_ascent(alloc, search, prices)?;
+    let mut answers = Answers::none(alloc, &search.part)?;
     if !ascend(
         search,
         now,
         settled.as_slice(),
         NODE_ROUNDS,
         &mut ascent,
+        &mut answers,
         steps,
     ) {
         return Ok(None);
