@@ -36,18 +36,18 @@ pub(crate) fn ascend<L: Ledger>(
     settled: &[SettledPair],
     most: u32,
     ascent: &mut Ascent,
-    answers: &mut Answers,
+    held: &mut Answers,
     steps: &mut Steps<L>,
 ) -> bool
     requires search { IsSearch search.now }
     requires now { IsUnderWay search.now now.old }
     requires settled { All (IsPairOn search.now.part.problem.now.segs) settled.now }
     requires ascent { IsAscent search.now.part.problem.now ascent.old }
-    requires answers { AreAnswers search.now.part.problem.now (pairs_of settled.now) answers.old }
+    requires answers { AreAnswers search.now.part.problem.now (pairs_of settled.now) held.old }
     requires stale { ascent.old.stale < 20 }
     requires round { ascent.old.round ≡ 0 }
     requires most { most ≤ 1000 }
-    ensures answers { AreAnswers search.now.part.problem.now (pairs_of settled.now) answers.new }
+    ensures answers { AreAnswers search.now.part.problem.now (pairs_of settled.now) held.new }
     ensures now { IsUnderWay search.now now.new }
     ensures ascent { IsAscent search.now.part.problem.now ascent.new }
     ensures over { IsTrue result → closed (search_of search.now) (pairs_of settled.now)
@@ -56,7 +56,7 @@ pub(crate) fn ascend<L: Ledger>(
         (rounds (search_of search.now) (pairs_of settled.now) most (ascent_of now.old ascent.old)) ≡ spent (ascent_of now.new ascent.new) }
     ensures steps { steps.new + now.old.branches ≡ steps.old + now.new.branches }
 {
-    match go_on(search, now, settled, most, ascent, answers, steps) {
+    match go_on(search, now, settled, most, ascent, held, steps) {
         Stage::Spent => false,
         Stage::Going | Stage::Over => {
             offer_averaged(search, now, settled, ascent);
@@ -72,25 +72,25 @@ fn go_on<L: Ledger>(
     settled: &[SettledPair],
     most: u32,
     ascent: &mut Ascent,
-    answers: &mut Answers,
+    held: &mut Answers,
     steps: &mut Steps<L>,
 ) -> Stage
     requires search { IsSearch search.now }
     requires now { IsUnderWay search.now now.old }
     requires settled { All (IsPairOn search.now.part.problem.now.segs) settled.now }
     requires ascent { IsAscent search.now.part.problem.now ascent.old }
-    requires answers { AreAnswers search.now.part.problem.now (pairs_of settled.now) answers.old }
+    requires answers { AreAnswers search.now.part.problem.now (pairs_of settled.now) held.old }
     requires stale { ascent.old.stale < 20 }
     requires round { ascent.old.round ≡ 0 }
     requires most { most ≤ 1000 }
-    ensures answers { AreAnswers search.now.part.problem.now (pairs_of settled.now) answers.new }
+    ensures answers { AreAnswers search.now.part.problem.now (pairs_of settled.now) held.new }
     ensures now { IsUnderWay search.now now.new }
     ensures ascent { IsAscent search.now.part.problem.now ascent.new }
     ensures stage { StageIs result (ascent_of now.new ascent.new) (rounds (search_of search.now) (pairs_of settled.now) most (ascent_of now.old ascent.old)) }
     ensures steps { steps.new + now.old.branches ≡ steps.old + now.new.branches }
 {
     for _ in 0..most {
-        match one_round(search, now, settled, ascent, answers, steps) {
+        match one_round(search, now, settled, ascent, held, steps) {
             Stage::Going => {}
             Stage::Over => return Stage::Over,
             Stage::Spent => return Stage::Spent,
@@ -105,17 +105,17 @@ fn one_round<L: Ledger>(
     now: &mut Progress,
     settled: &[SettledPair],
     ascent: &mut Ascent,
-    answers: &mut Answers,
+    held: &mut Answers,
     steps: &mut Steps<L>,
 ) -> Stage
     requires search { IsSearch search.now }
     requires now { IsUnderWay search.now now.old }
     requires settled { All (IsPairOn search.now.part.problem.now.segs) settled.now }
     requires ascent { IsAscent search.now.part.problem.now ascent.old }
-    requires answers { AreAnswers search.now.part.problem.now (pairs_of settled.now) answers.old }
+    requires answers { AreAnswers search.now.part.problem.now (pairs_of settled.now) held.old }
     requires stale { ascent.old.stale < 20 }
     requires round { ascent.old.round < 100000 }
-    ensures answers { AreAnswers search.now.part.problem.now (pairs_of settled.now) answers.new }
+    ensures answers { AreAnswers search.now.part.problem.now (pairs_of settled.now) held.new }
     ensures now { IsUnderWay search.now now.new }
     ensures ascent { IsAscent search.now.part.problem.now ascent.new }
     ensures stale { IsGoing result → ascent.new.stale < 20 }
@@ -127,8 +127,8 @@ fn one_round<L: Ledger>(
         return Stage::Spent;
     }
     count_round(search, now, ascent, steps);
-    let value = answer(search, now, settled, ascent, answers);
-    let orders = answers.orders.as_slice();
+    let value = answer(search, now, settled, ascent, held);
+    let orders = held.orders.as_slice();
     look(search, orders, value, ascent);
     if is_shown(search, now, ascent) {
         return Stage::Over;
@@ -165,23 +165,23 @@ fn answer(
     now: &mut Progress,
     settled: &[SettledPair],
     ascent: &Ascent,
-    answers: &mut Answers,
+    held: &mut Answers,
 ) -> i64
     requires search { IsSearch search.now }
     requires now { IsUnderWay search.now now.old }
     requires settled { All (IsPairOn search.now.part.problem.now.segs) settled.now }
     requires ascent { IsAscent search.now.part.problem.now ascent.now }
-    requires answers { AreAnswers search.now.part.problem.now (pairs_of settled.now) answers.old }
-    ensures answers { AreAnswers search.now.part.problem.now (pairs_of settled.now) answers.new }
+    requires answers { AreAnswers search.now.part.problem.now (pairs_of settled.now) held.old }
+    ensures answers { AreAnswers search.now.part.problem.now (pairs_of settled.now) held.new }
     ensures now { IsUnderWay search.now now.new }
     ensures same { progress_of now.new ≡ progress_of now.old }
-    ensures orders { answers.new.orders.items ≡ answers search.now.part.problem.now (pairs_of settled.now) ascent.now.prices.items }
+    ensures orders { held.new.orders.items ≡ answers search.now.part.problem.now (pairs_of settled.now) ascent.now.prices.items }
     ensures value { result ≡ value_with search.now.part.problem.now ascent.now.prices.items (answers search.now.part.problem.now (pairs_of settled.now) ascent.now.prices.items) }
     ensures most { unsigned_abs result ≤ 4000000000000000 }
 {
     let prices = ascent.prices.as_slice();
-    answers.answer(&search.part, &mut now.solver, settled, prices);
-    value_of(search.part.problem, prices, answers.orders.as_slice())
+    held.answer(&search.part, &mut now.solver, settled, prices);
+    value_of(search.part.problem, prices, held.orders.as_slice())
 }
 
 /// What comes behind a value that doesn't show the incumbent's cost: directions, offers, the step, and the next prices. Whether

@@ -11,7 +11,7 @@ invariant-loop l = record {
   rounds_left : rounds (search_of l.search) (pairs_of l.settled) (l.most - l.counter) (ascent_of l.now l.ascent) ≡ rounds (search_of l.search) (pairs_of l.settled) l.most (ascent_of l.initial.now l.initial.ascent);
   under_way : IsUnderWay l.search l.now;
   ascent : IsAscent l.search.part.problem.now l.ascent;
-  answers : AreAnswers l.search.part.problem.now (pairs_of l.settled) l.answers;
+  answers : AreAnswers l.search.part.problem.now (pairs_of l.settled) l.held;
   stale : l.ascent.stale < 20;
   round : l.ascent.round ≤ l.counter;
   steps : l.steps + l.initial.now.branches ≡ l.initial.steps + l.now.branches;
