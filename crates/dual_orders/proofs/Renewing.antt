@@ -1,7 +1,8 @@
 -- Where no price on a segment changes, its answer stays.
-use Rattle.std.proofs.Common.{◌≡◌, ℕ, zero, suc, ◌*◌, ◌<◌, ◌==◌, Bool, true, false, cond, List, [], ◌∷◌, length, map, get_or, refl, sym, ◌∙◌, ap, subst}
+use Rattle.std.proofs.Common.{◌≡◌, ℕ, zero, suc, ◌*◌, ◌<◌, ◌==◌, Bool, true, false, cond, List, [], ◌∷◌, length, map, set, get_or, refl, sym, ◌∙◌, ap, subst}
 use Rattle.std.specs.Prelude.{ℤ, pos, ◌+ℤ◌, ◌-ℤ◌, unwrap_or}
 use Rattle.std.specs.List.{All, AllByRecursion}
+use Rattle.std.proofs.lemmas.List.{set-get_or}
 use Rattle.std.proofs.lemmas.List.Elements.{recursion_from_All}
 use Rattle.map_base.specs.declared.ids.SegId.{SegId}
 use Rattle.map_base.specs.declared.ids.LineId.{LineId}
@@ -22,6 +23,7 @@ use Rattle.dual_shares.specs.Groups.{is_on}
 use Rattle.dual_shares.proofs.Adding.{sum_on}
 use Rattle.dual_ascent.specs.OwnNumbers.{all_terms, number_of}
 use Rattle.dual_ascent.specs.DualSteps.{share_under, answer_on}
+use Rattle.dual_ascent.proofs.OwnParts.{seg_number}
 use Rattle.dual_orders.specs.OwnTerms as own
 use Rattle.dual_orders.proofs.OwnTables.{all_by_number}
 
@@ -61,3 +63,9 @@ same_answer p settled f g s fit same =
     each [] = tt
     each (o ∷ os) =
         (own_share p f s o fit ∙ (sums o (own.own_numbers p s) (recursion_from_All (λ n. number_of f n ≡ number_of g n) (own.own_numbers p s) same) ∙ sym (own_share p g s o fit)), each os)
+
+-- an order that answers earlier prices is left in its place
+pub kept_order : (p : ProblemParts) (settled : List SettledPair) (earlier prices : List ℤ) (i : ℕ) (orders : List (List LineId)) → All (IsTerm p.segs) p.terms
+    → get_or orders i [] ≡ answer_on p settled earlier (seg_number i) → All (λ n. number_of earlier n ≡ number_of prices n) (own.own_numbers p (seg_number i)) → orders ≡ set orders i (answer_on p settled prices (seg_number i))
+kept_order p settled earlier prices i orders fit is same =
+    sym (set-get_or orders i []) ∙ ap (set orders i) (is ∙ same_answer p settled earlier prices (seg_number i) fit same)
