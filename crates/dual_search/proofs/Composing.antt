@@ -1,6 +1,6 @@
 -- How the steps of a round follow each other.
-use Rattle.std.proofs.Common.{◌≡◌, ℕ, zero, suc, ◌+◌, ◌*◌, ◌<◌, ◌≤◌, ◌==◌, ◌&&◌, Bool, true, false, cond, List, [], ◌∷◌, length, refl, sym, ◌∙◌, ap, subst, arith}
-use Rattle.std.specs.Prelude.{ℤ, nat_lt, unsigned_abs, sum_by}
+use Rattle.std.proofs.Common.{◌≡◌, ℕ, zero, suc, ◌+◌, ◌*◌, ◌/◌, ◌%◌, ◌<◌, ◌≤◌, ◌==◌, ◌&&◌, ◌||◌, Bool, true, false, cond, List, [], ◌∷◌, length, refl, sym, ◌∙◌, ap, subst, arith, eq-eqb}
+use Rattle.std.specs.Prelude.{ℤ, nat_lt, int_lt, unsigned_abs, sum_by}
 use Rattle.std.specs.List.{All, AllByRecursion, list_all}
 use Rattle.std.proofs.lemmas.Bool.Decides.{nat_tests}
 use Rattle.std.proofs.lemmas.List.Elements.{All-weaker}
@@ -14,10 +14,16 @@ use Rattle.order_model.specs.Costs.{weight_of, is_met, term_cost, cost_of}
 use Rattle.dual_bound.specs.declared.settled.SettledPair.{SettledPair}
 use Rattle.dual_bound.specs.Accepting.{load_of}
 use Rattle.dual_ascent.specs.OwnNumbers.{all_segments}
-use Rattle.dual_ascent.specs.DualSteps.{answers, value_with, are_still, square_sum}
-use Rattle.dual_ascent.specs.Averages.{averages_after}
-use Rattle.dual_ascent.specs.Rounds.{Search, Ascent, Stage, going, over, spent, onward, over_if, is_shown, with_value, begun, looked, directed, rounded, shrunk, stepped, with_answers, answered, one_round, rounds}
+use Rattle.dual_ascent.specs.DualSteps.{answers, value_with, next_directions, are_still, square_sum}
+use Rattle.dual_ascent.specs.Averages.{averages_after, averaged_orders}
+use Rattle.dual_ascent.specs.Rounds.{Search, Ascent, Stage, going, over, spent, onward, over_if, is_shown, with_offer, with_value, begun, looked, directed, rounded, shrunk, stepped, with_answers, answered, one_round, rounds, closed}
 use Rattle.dual_search.specs.Searching.{moved}
+
+is_less : (m n : ℕ) → m < n → nat_lt m n ≡ true
+is_less m n h = grind (arith, nat_tests)
+
+not_less : (m n : ℕ) → n ≤ m → nat_lt m n ≡ false
+not_less m n h = grind (arith, nat_tests)
 
 -- What orders cost.
 
@@ -93,15 +99,9 @@ seen q orders value a = with_value value (record a { averages = averages_after q
 module _ (q : Search) (settled : List SettledPair) (a : Ascent) where
   pub round_spent : q.budget < a.branches + load_of q.problem.segs (all_segments q.problem) → one_round q settled a ≡ spent a
   round_spent h = ap (λ b. onward (cond b (spent a) (going (counted q a))) (answered q settled)) (is_less q.budget (a.branches + load_of q.problem.segs (all_segments q.problem)) h)
-    where
-      is_less : (m n : ℕ) → m < n → nat_lt m n ≡ true
-      is_less m n h = grind (arith, nat_tests)
 
   pub round_begun : a.branches + load_of q.problem.segs (all_segments q.problem) ≤ q.budget → one_round q settled a ≡ answered q settled (counted q a)
   round_begun h = ap (λ b. onward (cond b (spent a) (going (counted q a))) (answered q settled)) (not_less q.budget (a.branches + load_of q.problem.segs (all_segments q.problem)) h)
-    where
-      not_less : (m n : ℕ) → n ≤ m → nat_lt m n ≡ false
-      not_less m n h = grind (arith, nat_tests)
 
   pub answered_over : (orders : List (List LineId)) (value : ℤ) → is_shown (seen q orders value a) ≡ true → with_answers q settled orders value a ≡ over (seen q orders value a)
   answered_over orders value h =
@@ -139,3 +139,56 @@ module _ (q : Search) (settled : List SettledPair) (start a b : Ascent) (value :
       with_value_is
       ∙ (answered_on q settled a (answers q.problem settled a.prices) value (subst (λ c. is_shown c ≡ false) is_seen h)
       ∙ (ap (moved q settled (answers q.problem settled a.prices) value) (sym is_seen) ∙ m))
+
+-- Each step by its tests.
+
+not_equal : (m n : ℕ) → m < n → (m == n) ≡ false
+not_equal m n h = grind (arith, nat_tests)
+
+abbrev pub smaller_step : Ascent → Ascent
+smaller_step a = record a { step = 7 * a.step / 10; stale = 0 }
+
+pub shrunk_no : (a : Ascent) → a.stale < 20 → shrunk a ≡ going a
+shrunk_no a h = ap (λ b. cond b (over_if (nat_lt (smaller_step a).step 4) (smaller_step a)) (going a)) (not_equal a.stale 20 h)
+
+shrunk_yes : (a : Ascent) → a.stale ≡ 20 → shrunk a ≡ over_if (nat_lt (smaller_step a).step 4) (smaller_step a)
+shrunk_yes a h = ap (λ b. cond b (over_if (nat_lt (smaller_step a).step 4) (smaller_step a)) (going a)) (eq-eqb a.stale 20 h)
+
+pub shrunk_over : (a : Ascent) → a.stale ≡ 20 → 7 * a.step / 10 < 4 → shrunk a ≡ over (smaller_step a)
+shrunk_over a h small = shrunk_yes a h ∙ ap (λ b. over_if b (smaller_step a)) (is_less (7 * a.step / 10) 4 small)
+
+pub shrunk_on : (a : Ascent) → a.stale ≡ 20 → 4 ≤ 7 * a.step / 10 → shrunk a ≡ going (smaller_step a)
+shrunk_on a h great = shrunk_yes a h ∙ ap (λ b. over_if b (smaller_step a)) (not_less (7 * a.step / 10) 4 great)
+
+module _ (q : Search) (settled : List SettledPair) (a : Ascent) where
+  abbrev pub averaged_offered : Ascent
+  averaged_offered = with_offer q.problem (averaged_orders q.problem settled a.averages) a
+
+  pub rounded_no : 0 < a.round % 20 → rounded q settled a ≡ going a
+  rounded_no h = ap (λ b. cond b (over_if (is_shown averaged_offered) averaged_offered) (going a)) (apart (a.round % 20) h)
+    where
+      apart : (n : ℕ) → 0 < n → (n == 0) ≡ false
+      apart n h = grind (arith, nat_tests)
+
+  pub rounded_yes : a.round % 20 ≡ 0 → rounded q settled a ≡ over_if (is_shown averaged_offered) averaged_offered
+  rounded_yes h = ap (λ b. cond b (over_if (is_shown averaged_offered) averaged_offered) (going a)) (eq-eqb (a.round % 20) 0 h)
+
+  pub closed_over : closed q settled (over a) ≡ over averaged_offered
+  closed_over = refl
+
+module _ (q : Search) (orders : List (List LineId)) (a : Ascent) where
+  abbrev pub turned : Ascent
+  turned = record a { directions = next_directions q.problem orders a.prices a.directions }
+
+  pub directed_over : are_still turned.directions ≡ true → directed q orders a ≡ over (with_offer q.problem orders turned)
+  directed_over h = ap (λ b. cond b (over (with_offer q.problem orders turned)) (going turned)) h
+
+  pub directed_on : are_still turned.directions ≡ false → directed q orders a ≡ going turned
+  directed_on h = ap (λ b. cond b (over (with_offer q.problem orders turned)) (going turned)) h
+
+-- a value that is kept, and one that is not
+pub value_kept : (value : ℤ) (a : Ascent) → (a.round == 1 || int_lt a.bound.value value) ≡ true → with_value value a ≡ record a { bound = record { value = value; prices = a.prices }; stale = 0 }
+value_kept value a h = ap (λ b. cond b (record a { bound = record { value = value; prices = a.prices }; stale = 0 }) (record a { stale = a.stale + 1 })) h
+
+pub value_left : (value : ℤ) (a : Ascent) → (a.round == 1 || int_lt a.bound.value value) ≡ false → with_value value a ≡ record a { stale = a.stale + 1 }
+value_left value a h = ap (λ b. cond b (record a { bound = record { value = value; prices = a.prices }; stale = 0 }) (record a { stale = a.stale + 1 })) h
