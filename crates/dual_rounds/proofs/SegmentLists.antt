@@ -1,8 +1,10 @@
 -- Lists with one element a segment.
 use Rattle.std.proofs.Common.{◌≡◌, ℕ, zero, suc, ◌+◌, ◌-◌, ◌<◌, ◌≤◌, List, [], ◌∷◌, ◌++◌, length, map, drop, get_or, refl, sym, ◌∙◌, ap, subst, arith}
+use Rattle.std.specs.Prelude.{Vec}
+use Rattle.std.specs.Global.{Global}
 use Rattle.std.specs.List.{All}
 use Rattle.std.proofs.lemmas.List.Elements.{All-nil, All-cons, All-append, All-map}
-use Rattle.std.proofs.lemmas.List.{at_drop_more}
+use Rattle.std.proofs.lemmas.List.{append_assoc, at_drop_more}
 use Rattle.map_base.specs.declared.ids.SegId.{SegId}
 use Rattle.map_base.specs.declared.ids.LineId.{LineId}
 use Rattle.order_model.specs.declared.problem.ProblemParts.{ProblemParts}
@@ -11,7 +13,7 @@ use Rattle.dual_ascent.specs.declared.pair_average.PairAverage.{PairAverage}
 use Rattle.dual_ascent.specs.OwnNumbers.{segments_from, all_segments}
 use Rattle.dual_ascent.specs.Averages.{never, never_all, with_order, averages_on, averages_after}
 use Rattle.dual_ascent.proofs.OwnParts.{seg_number, all_made_at}
-use Rattle.dual_rounds.specs.Ranges.{IsAverage}
+use Rattle.dual_rounds.specs.Ranges.{IsAverage, averages_of}
 
 pub length_segments : (k : ℕ) (segs : List (List LineId)) → length (segments_from k segs) ≡ length segs
 length_segments k [] = refl
@@ -67,3 +69,14 @@ lengths_at (x ∷ xs) [] i e = cc
 -- the order that takes the place of another
 abbrev pub copied_by : List (List LineId) → ℕ → List LineId → List LineId
 copied_by from s order = get_or from s []
+
+pub length_of_averages : (averages : List (Vec PairAverage Global)) → length (averages_of averages) ≡ length averages
+length_of_averages averages = length_mapped (λ (v : Vec PairAverage Global). v.items) averages
+
+-- the pairs of a line and of all behind it, with those of the lines behind it
+pub never_pushed : (lines behind : List LineId) (i : ℕ) (a : LineId) (old new : List PairAverage) → i < length lines → a ≡ get_or lines i a → behind ≡ drop (i + 1) lines
+    → old ++ never_all (drop i lines) ≡ never_all lines → new ≡ old ++ map (never a) behind → new ++ never_all (drop (i + 1) lines) ≡ never_all lines
+never_pushed lines behind i a old new below is rest so_far pushed =
+    ap (λ l. l ++ never_all (drop (i + 1) lines)) (pushed ∙ ap (λ l. old ++ map (never a) l) rest)
+    ∙ (append_assoc old (map (never a) (drop (i + 1) lines)) (never_all (drop (i + 1) lines))
+    ∙ (ap (λ l. old ++ l) (ap (λ b. map (never b) (drop (i + 1) lines) ++ never_all (drop (i + 1) lines)) is ∙ sym (never_more lines i a below)) ∙ so_far))
