@@ -24,7 +24,7 @@ loop-s-preserved c =
     ap (λ o. map (with_order c.args.round o) (get_or now i [])) order
     ∙ ap (map (with_order c.args.round (get_or c.args.orders.now i []))) (c.loop-s.invariant.0.rest i (omega arith)) in (
       subst (IsFilledTo (averages_by c.args.round c.args.orders.now) [] (i + 1) (averages_of c.args.averages.now)) (sym c.average_at.ensures.value)
-      (fill_goes_on (averages_by c.args.round c.args.orders.now) [] i (averages_of c.args.averages.now) now made c.loop-s.invariant.0 within is),
+          (fill_goes_on (averages_by c.args.round c.args.orders.now) [] i (averages_of c.args.averages.now) now made c.loop-s.invariant.0 within is),
       c.average_at.ensures.within,
     )
 

@@ -23,9 +23,9 @@ pub loop-k-preserved : goal.loop-k-preserved
 loop-k-preserved c =
     let same = ap length c.terms-terms.ensures.list in (
       fill_goes_on (direction_by c.args.problem.now.terms c.args.orders.now c.args.prices.now) (pos 0) c.loop-k.k c.args.directions.now c.loop-k.directions c.direction_of-direction.result c.loop-k.invariant.0
-      (omega (arith, same, c.loop-k-test.true, c.requires.each))
-      (direction_is c.args.problem.now c.terms-terms.result.now c.args.orders.now c.args.prices.now c.args.directions.now c.loop-k.directions c.loop-k.k c.direction_of-direction.result
-      c.terms-terms.ensures.list c.direction_of-direction.ensures.value (c.loop-k.invariant.0.rest c.loop-k.k (omega arith))),
+          (omega (arith, same, c.loop-k-test.true, c.requires.each))
+          (direction_is c.args.problem.now c.terms-terms.result.now c.args.orders.now c.args.prices.now c.args.directions.now c.loop-k.directions c.loop-k.k c.direction_of-direction.result
+          c.terms-terms.ensures.list c.direction_of-direction.ensures.value (c.loop-k.invariant.0.rest c.loop-k.k (omega arith))),
       All-set IsDirection c.loop-k.directions c.loop-k.k c.direction_of-direction.result c.direction_of-direction.ensures.within c.loop-k.invariant.1,
     )
 
