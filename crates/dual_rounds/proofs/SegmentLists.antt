@@ -1,10 +1,11 @@
 -- Lists with one element a segment.
-use Rattle.std.proofs.Common.{◌≡◌, ℕ, zero, suc, ◌+◌, ◌-◌, ◌<◌, ◌≤◌, List, [], ◌∷◌, ◌++◌, length, map, drop, get_or, refl, sym, ◌∙◌, ap, subst, arith}
+use Rattle.std.proofs.Common.{◌≡◌, ℕ, zero, suc, ◌+◌, ◌-◌, ◌<◌, ◌≤◌, List, [], ◌∷◌, ◌++◌, length, map, drop, get_or, set, refl, sym, ◌∙◌, ap, subst, arith}
 use Rattle.std.specs.Prelude.{Vec}
 use Rattle.std.specs.Global.{Global}
 use Rattle.std.specs.List.{All}
 use Rattle.std.proofs.lemmas.List.Elements.{All-nil, All-cons, All-append, All-map}
-use Rattle.std.proofs.lemmas.List.{append_assoc, at_drop_more}
+use Rattle.std.specs.Vec.{with_items}
+use Rattle.std.proofs.lemmas.List.{append_assoc, at_drop_more, get_or-map, map-set, with_items_is}
 use Rattle.map_base.specs.declared.ids.SegId.{SegId}
 use Rattle.map_base.specs.declared.ids.LineId.{LineId}
 use Rattle.order_model.specs.declared.problem.ProblemParts.{ProblemParts}
@@ -80,3 +81,14 @@ never_pushed lines behind i a old new below is rest so_far pushed =
     ap (λ l. l ++ never_all (drop (i + 1) lines)) (pushed ∙ ap (λ l. old ++ map (never a) l) rest)
     ∙ (append_assoc old (map (never a) (drop (i + 1) lines)) (never_all (drop (i + 1) lines))
     ∙ (ap (λ l. old ++ l) (ap (λ b. map (never b) (drop (i + 1) lines) ++ never_all (drop (i + 1) lines)) is ∙ sym (never_more lines i a below)) ∙ so_far))
+
+-- Averages as they lie in memory.
+
+pub average_item : (averages : List (Vec PairAverage Global)) (s : ℕ) (v : Vec PairAverage Global) → s < length averages → v ≡ get_or averages s v → v.items ≡ get_or (averages_of averages) s []
+average_item averages s v below is = ap (λ (w : Vec PairAverage Global). w.items) is ∙ sym (get_or-map (λ (w : Vec PairAverage Global). w.items) averages s v [] below)
+
+pub written_average : (averages : List (Vec PairAverage Global)) (s : ℕ) (v : Vec PairAverage Global) (new : List PairAverage) → v ≡ get_or averages s v → length new ≡ v.len
+    → averages_of (set averages s (with_items (get_or averages s v) new)) ≡ set (averages_of averages) s new
+written_average averages s v new is each =
+    map-set (λ (w : Vec PairAverage Global). w.items) averages s (with_items (get_or averages s v) new)
+    ∙ ap (set (averages_of averages) s) (with_items_is (get_or averages s v) new (each ∙ ap (λ (w : Vec PairAverage Global). w.len) is))

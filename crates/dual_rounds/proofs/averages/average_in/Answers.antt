@@ -13,7 +13,7 @@ loop-s-init c = (fill_begins (averages_by c.args.round c.args.orders.now) [] (av
 pub loop-s-preserved : goal.loop-s-preserved
 loop-s-preserved c =
     let i = c.loop-s.s in
-    let same = ap length c.segs.ensures.lists in
+    let same = ap length c.segs-s-end.ensures.lists in
     let each = length_of_averages c.args.averages.now in
     let known : i < length c.args.orders.now = omega (arith, same, c.loop-s-test.true, c.requires.orders) in
     let within : i < length (averages_of c.args.averages.now) = omega (arith, same, each, c.loop-s-test.true, c.requires.each) in
@@ -30,7 +30,7 @@ loop-s-preserved c =
 
 pub returns-clause-value : goal.returns-clause-value
 returns-clause-value c =
-    let same = ap length c.segs.ensures.lists in
+    let same = ap length c.segs-s-end.ensures.lists in
     let each = length_of_averages c.args.averages.now in
     let made = length_averages c.args.problem.now c.args.round c.args.orders.now (averages_of c.args.averages.now) in
     fill_ends (averages_by c.args.round c.args.orders.now) [] c.loop-s.s (averages_of c.args.averages.now) (averages_of c.loop-s.averages) _ c.loop-s.invariant.0
