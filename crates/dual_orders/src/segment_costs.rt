@@ -26,8 +26,9 @@ pub(crate) fn take_if_less(
     ensures less { IsTrue result → cost_of part.now.problem.now.terms orders.new < cost_of part.now.problem.now.terms orders.old }
     ensures same { IsFalse result → orders.new ≡ orders.old }
 {
-    let now = cost_with(part, s, orders, orders[s].as_slice());
-    if cost_with(part, s, orders, order) < now {
+    let mine = &orders[..];
+    let now = cost_with(part, s, mine, mine[s].as_slice());
+    if cost_with(part, s, mine, order) < now {
         set_order(orders, s, order);
         return true;
     }
