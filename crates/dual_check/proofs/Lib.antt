@@ -4,3 +4,4 @@ mod PriceTests
 mod Values
 mod Known
 mod Pairs
+mod NodeSteps

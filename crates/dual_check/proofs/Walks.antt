@@ -1,9 +1,10 @@
 -- A walk over a tree, node by node.
-use Rattle.std.proofs.Common.{◌≡◌, ℕ, ℤ, ◌+◌, ◌-◌, ◌<◌, ◌==◌, ◌&&◌, not, Bool, true, false, cond, List, [], ◌∷◌, ◌++◌, length, refl, sym, ◌∙◌, ap, subst, arith, true≢false, append_assoc, inl, inr, Some, None, Option}
+use Rattle.std.proofs.Common.{◌≡◌, ℕ, ℤ, ◌+◌, ◌-◌, ◌<◌, ◌==◌, ◌&&◌, not, Bool, true, false, cond, List, [], ◌∷◌, ◌++◌, length, take, refl, sym, ◌∙◌, ap, subst, arith, true≢false, append_assoc, inl, inr, Some, None, Option}
 use Rattle.std.specs.Prelude.{reverse}
 use Rattle.std.specs.List.{All}
+use Rattle.std.proofs.Math.Seq.{take-append_seam}
 use Rattle.std.proofs.lemmas.Bool.{and_parts, not-true, eqb-false, ne_eqb}
-use Rattle.std.proofs.lemmas.List.{append-nil, reverse-append}
+use Rattle.std.proofs.lemmas.List.{append-nil, reverse-append, length-append}
 use Rattle.std.proofs.lemmas.List.Elements.{All-head, All-tail}
 use Rattle.map_base.specs.declared.ids.SegId.{SegId}
 use Rattle.map_base.specs.declared.ids.LineId.{LineId}
@@ -66,15 +67,23 @@ pushed_pairs stack p = reverse-append stack (p ∷ [])
 pub case_refused : (a : LineId) (outcome : Option (List LineId)) (before after : List LineId) → IsWalked outcome (before ++ a ∷ []) after false → IsWalked (after_line a outcome) before after false
 case_refused a outcome before after walked = (a ∷ walked.0, ap (after_line a) walked.1, walked.2 ∙ append_assoc before (a ∷ []) walked.0)
 
-pub case_passed : (a : LineId) (outcome : Option (List LineId)) (before after : List LineId) → IsWalked outcome (before ++ a ∷ []) after true → (after_line a outcome ≡ None) × (after ≡ before ++ a ∷ [])
-case_passed a outcome before after walked = (ap (after_line a) walked.0, walked.1)
-
 all_in : (P : SegId → Type 0) (part : List SegId) (s : SegId) → All P part → is_in part s ≡ true → P s
 all_in P [] s all h = absurd (true≢false (sym h))
 all_in P (t ∷ part) s all h = elim (either_true (t.0 == s.0) (is_in part s) h) [
   | inl here ↦ subst P (same_seg t s here) (All-head P t part all)
   | inr later ↦ all_in P part s (All-tail P t part all) later
 ]
+
+-- what was pushed is taken off again
+pub pushed_off : {A : Type 0} (xs ys zs : List A) (x : A) → ys ≡ xs ++ x ∷ [] → zs ≡ take (length ys - 1) ys → zs ≡ xs
+pushed_off xs ys zs x more less =
+    less
+    ∙ (ap (λ l. take (length l - 1) l) more
+    ∙ (ap (λ n. take n (xs ++ x ∷ [])) (omega (arith, length-append xs (x ∷ []))) ∙ take-append_seam xs (x ∷ [])))
+
+pub case_done : (a : LineId) (outcome : Option (List LineId)) (before after shorter : List LineId) → IsWalked outcome (before ++ a ∷ []) after true → shorter ≡ take (length after - 1) after
+    → IsWalked (after_line a outcome) before shorter true
+case_done a outcome before after shorter walked less = (ap (after_line a) walked.0, pushed_off before after shorter a walked.1 less)
 
 -- both lines of a fork that holds are on its segment
 pub fork_pair : (q : Question) (s : SegId) (a b : LineId) → All (λ (u : SegId). u.0 < length q.segs) q.part → is_fork q s a b ≡ true

@@ -1,7 +1,8 @@
 //! What stands at a node of a tree.
 
-ghost use Rattle.std.specs.Prelude.{◌≡◌, ◌++◌, ◌∷◌, [], ◌<◌, ◌-◌, length, take, All, IfOk, slice_index_or, slice_set, Option};
+ghost use Rattle.std.specs.Prelude.{◌≡◌, ◌++◌, ◌∷◌, [], ◌<◌, ◌-◌, length, take, All, IfOk, slice_set};
 ghost use Rattle.dual_check.specs.declared.asked.Asked.{Asked};
+ghost use Rattle.dual_check.specs.declared.node.KnownShare.TheVariants.{Unknown};
 ghost use Rattle.dual_check.specs.Asking.{IsAsked};
 ghost use Rattle.dual_check.specs.Settling.{IsPairOn};
 ghost use Rattle.dual_check.specs.Nodes.{IsSo, IsNode, ArePrices, AreAsBefore, share_at, Forgets, IsForgotten, IsTermForgotten, ArePricedOff};
@@ -150,7 +151,16 @@ fn forget(asked: &Asked, s: SegId, shares: &mut [KnownShare])
     ensures fewer { Forgets shares.old shares.new }
     ensures forgotten { IsForgotten asked.now.part.now s shares.new }
 {
-    if let Some(k) = place_in_part(asked.part, s) {
-        shares[k] = KnownShare::Unknown;
-    }
+    let Some(k) = place_in_part(asked.part, s) else {
+        return;
+    };
+    forget_at(shares, k);
+}
+
+/// Nothing is known any more of the segment at a place.
+fn forget_at(shares: &mut [KnownShare], k: usize)
+    requires { k < length shares.old }
+    ensures { shares.new ≡ slice_set shares.old k Unknown }
+{
+    shares[k] = KnownShare::Unknown;
 }

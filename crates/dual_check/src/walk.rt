@@ -119,7 +119,7 @@ fn walk_case(
 /// Whether a fork holds: two different lines of a segment of the part.
 fn is_fork(asked: &Asked, seg: SegId, a: LineId, b: LineId) -> bool
     requires { IsAsked asked.now }
-    ensures holds { result ≡ is_fork (question_of asked.now) seg a b }
+    ensures { result ≡ is_fork (question_of asked.now) seg a b }
 {
     if asked.part.binary_search_by_key(&seg.0, |s| s.0).is_err() {
         return false;

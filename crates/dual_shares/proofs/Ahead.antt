@@ -18,6 +18,7 @@ use Rattle.least_orders.specs.Subsets.{has_place, with_place}
 use Rattle.least_orders.proofs.Sets.{not_raised, with_same, with_other}
 use Rattle.dual_bound.specs.declared.settled.SettledPair.{SettledPair}
 use Rattle.dual_bound.specs.Settled.{settled_on}
+use Rattle.dual_shares.specs.RowSteps.{AreTwoOf}
 use Rattle.dual_shares.specs.SettledSets.{TellAhead}
 use Rattle.dual_shares.proofs.Entries.{place_known, name_at}
 
@@ -108,3 +109,11 @@ tell_more settled lines ahead a b rising room has has_too apart tell = record {
         by_place (inr f) =
             with_other (slice_index ahead (place_of lines b)) (place_of lines a) i f
             ∙ (old ∙ ap (λ t. t || is_settled settled (named lines (line_at i)) (named lines (line_at j))) (sym (ne_eqb i (place_of lines a) f)))
+
+-- as the code has it
+pub settled_more : (lines : List LineId) (ahead : List ℕ) (a b : LineId) (i j v : ℕ) → AreRising lines → length lines ≤ length ahead → AreTwoOf lines a b → i ≡ place_of lines a → j ≡ place_of lines b
+    → v ≡ with_place (slice_index ahead j) i → (settled : List (LineId × LineId)) → TellAhead settled lines ahead → TellAhead ((a, b) ∷ settled) lines (set ahead j v)
+settled_more lines ahead a b i j v rising room two first second is settled tell =
+    subst (λ (l : List ℕ). TellAhead ((a, b) ∷ settled) lines l)
+    (sym (ap (set ahead j) (is ∙ ap (with_place (slice_index ahead j)) first) ∙ ap (λ k. set ahead k (with_place (slice_index ahead k) (place_of lines a))) second))
+    (tell_more settled lines ahead a b rising room two.first_on two.second_on two.differ tell)

@@ -1,10 +1,9 @@
 -- Places of lines, entries of rows, and what is added to them.
-use Rattle.std.proofs.Common.{◌≡◌, ◌≢◌, ℕ, zero, suc, ◌+◌, ◌*◌, ◌<◌, ◌≤◌, ◌==◌, ◌||◌, ◌&&◌, Bool, true, false, cond, List, [], ◌∷◌, length, drop, set, get_or, refl, sym, ◌∙◌, ap, subst, arith, ◌⊎◌, inl, inr, true≢false, eq-eqb, eqb-true, get_or-set_same, get_or-set_other}
+use Rattle.std.proofs.Common.{◌≡◌, ◌≢◌, ℕ, zero, suc, ◌+◌, ◌*◌, ◌<◌, ◌≤◌, ◌==◌, ◌||◌, ◌&&◌, Bool, true, false, cond, List, [], ◌∷◌, length, set, get_or, refl, sym, ◌∙◌, ap, subst, arith, ◌⊎◌, inl, inr, true≢false, eq-eqb, eqb-true, get_or-set_same, get_or-set_other}
 use Rattle.std.specs.Prelude.{ℤ, pos, ◌+ℤ◌, ◌-ℤ◌, unsigned_abs}
 use Rattle.std.proofs.Math.Nat.{mul-le-mul_left, mul-le-mul_right, suc-mul}
 use Rattle.std.proofs.lemmas.Bool.{and_parts, cases_eq, cases_order, ne_eqb, eqb-false}
 use Rattle.std.proofs.lemmas.Int.{ints}
-use Rattle.std.proofs.lemmas.List.{at_drop_more, at_drop_all}
 use Rattle.map_base.specs.declared.ids.LineId.{LineId}
 use Rattle.graph_core.specs.Consistent.{AreRising}
 use Rattle.order_model.specs.Costs.{are_these}
@@ -33,28 +32,20 @@ place_known (x ∷ lines) a h = by_test (x.0 == a.0) refl (either_true (x.0 == a
         (let below = more.0 in omega (arith, below), λ d. ap (λ j. get_or (x ∷ lines) j d) next ∙ more.1 d)
 
 -- a line is looked for from a place on
-pub record IsAhead (lines : List LineId) (a : LineId) (i : ℕ) : Type 0 where
-  pub place : place_of lines a ≡ i + place_of (drop i lines) a
-  pub has : has_line (drop i lines) a ≡ true
+abbrev pub IsNoneBelow : List LineId → LineId → ℕ → Type 0
+IsNoneBelow lines a i = (k : ℕ) → k < i → ((get_or lines k (line_at 0)).0 == a.0) ≡ false
 
-pub place_here : (lines : List LineId) (a : LineId) (i : ℕ) (x : LineId) → i < length lines → x ≡ get_or lines i x → (x.0 == a.0) ≡ true → IsAhead lines a i → i ≡ place_of lines a
-place_here lines a i x below is same ahead =
-    let first : ((get_or lines i x).0 == a.0) ≡ true = subst (λ (y : LineId). (y.0 == a.0) ≡ true) is same in
-    let here : place_of (drop i lines) a ≡ 0 = at_drop_more (λ l. place_of l a) lines i x below ∙ ap (λ b. cond b 0 (1 + place_of (drop (i + 1) lines) a)) first in
-    let place = ahead.place in
-    omega (arith, here, place)
+pub place_here : (lines : List LineId) (a : LineId) (i : ℕ) → i < length lines → IsNoneBelow lines a i → (get_or lines i (line_at 0)).0 ≡ a.0 → i ≡ place_of lines a
+place_here [] a i below none here = absurd (omega (arith, below))
+place_here (x ∷ lines) a zero below none here = sym (ap (λ b. cond b 0 (1 + place_of lines a)) (eq-eqb x.0 a.0 here))
+place_here (x ∷ lines) a (suc i) below none here =
+    let rest = place_here lines a i (omega (arith, below)) (λ k low. none (suc k) (omega (arith, low))) here in
+    let next : 1 + place_of lines a ≡ suc i = omega (arith, rest) in
+    sym (ap (λ b. cond b 0 (1 + place_of lines a)) (none 0 (omega arith)) ∙ next)
 
-pub place_later : (lines : List LineId) (a : LineId) (i : ℕ) (x : LineId) → i < length lines → x ≡ get_or lines i x → (x.0 == a.0) ≡ false → IsAhead lines a i → IsAhead lines a (i + 1)
-place_later lines a i x below is apart ahead =
-    let first : ((get_or lines i x).0 == a.0) ≡ false = subst (λ (y : LineId). (y.0 == a.0) ≡ false) is apart in
-    let later : place_of (drop i lines) a ≡ 1 + place_of (drop (i + 1) lines) a = at_drop_more (λ l. place_of l a) lines i x below ∙ ap (λ b. cond b 0 (1 + place_of (drop (i + 1) lines) a)) first in
-    let place = ahead.place in record {
-      place = omega (arith, later, place);
-      has = sym (at_drop_more (λ l. has_line l a) lines i x below ∙ ap (λ b. b || has_line (drop (i + 1) lines) a) first) ∙ ahead.has;
-    }
-
-pub place_found : (lines : List LineId) (a : LineId) (i : ℕ) → length lines ≤ i → IsAhead lines a i → ⊥
-place_found lines a i over ahead = true≢false (sym ahead.has ∙ at_drop_all (λ l. has_line l a) lines i over)
+pub no_line_there : (lines : List LineId) (a : LineId) → IsNoneBelow lines a (length lines) → has_line lines a ≡ false
+no_line_there [] a none = refl
+no_line_there (x ∷ lines) a none = ap (λ b. b || has_line lines a) (none 0 (omega arith)) ∙ no_line_there lines a (λ k low. none (suc k) (omega (arith, low)))
 
 -- a line has the name at a place exactly where it stands there
 pub name_at : (lines : List LineId) (a : LineId) (i : ℕ) → AreRising lines → has_line lines a ≡ true → i < length lines → ((named lines (line_at i)).0 == a.0) ≡ (i == place_of lines a)

@@ -46,6 +46,7 @@ fn take_places(lines: &[LineId], places: &[u32], order: &mut [LineId])
     ensures { order.new ≡ lines_at_places lines.now places.now }
 {
     for i in 0..order.len() {
-        order[i] = lines[places[i] as usize];
+        let place = places[i] as usize;
+        order[i] = lines[place];
     }
 }

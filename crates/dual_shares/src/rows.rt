@@ -12,12 +12,12 @@ pub fn place_of(lines: &[LineId], a: LineId) -> usize
     ensures place { result ≡ place_of lines.now a }
     ensures known { result < length lines.now }
 {
-    for i in 0..lines.len() {
-        if lines[i] == a {
-            return i;
+    for (place, line) in lines.iter().enumerate() {
+        if line.0 == a.0 {
+            return place;
         }
     }
-    0
+    unreachable!()
 }
 
 /// The entries of so many lines are 0.

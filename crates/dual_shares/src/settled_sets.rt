@@ -1,8 +1,9 @@
 //! Which lines have to stand before a line, as sets of places.
 
-ghost use Rattle.std.specs.Prelude.{◌≡◌, ◌≤◌, ◌∷◌, length, List};
+ghost use Rattle.std.specs.Prelude.{◌≡◌, ◌≤◌, ◌<◌, ◌∷◌, length, List};
 ghost use Rattle.map_base.specs.declared.ids.LineId.{LineId};
 ghost use Rattle.graph_core.specs.Consistent.{AreRising};
+ghost use Rattle.least_orders.specs.Subsets.{with_place};
 ghost use Rattle.dual_shares.specs.RowSteps.{AreTwoOf};
 ghost use Rattle.dual_shares.specs.SettledSets.{TellAhead};
 
@@ -20,5 +21,13 @@ pub fn settle(lines: &[LineId], first: LineId, second: LineId, ahead: &mut [u32]
 {
     let i = place_of(lines, first);
     let j = place_of(lines, second);
-    ahead[j] |= 1 << i;
+    ahead[j] = with_place(ahead[j], i);
+}
+
+/// The set with this place, too.
+fn with_place(set: u32, k: usize) -> u32
+    requires { k < 16 }
+    ensures { result ≡ with_place set k }
+{
+    set | (1 << k)
 }

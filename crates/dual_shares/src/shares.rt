@@ -1,6 +1,6 @@
 //! What a term on a segment makes each two of its lines cost under its price.
 
-ghost use Rattle.std.specs.Prelude.{◌≡◌, ◌+◌, ◌<◌, ◌≤◌, ℕ, length, unsigned_abs, IsTrue};
+ghost use Rattle.std.specs.Prelude.{◌≡◌, ◌+◌, ◌<◌, ◌≤◌, ℕ, length, true, unsigned_abs};
 ghost use Rattle.graph_core.specs.Consistent.{AreRising};
 ghost use Rattle.order_model.specs.Problems.{IsProblem, IsTerm, lines_on};
 ghost use Rattle.least_orders.specs.OrderCosts.{cost_before, cost_beside};
@@ -76,7 +76,7 @@ fn add_link(
 )
     requires rising { AreRising lines.now }
     requires few { length lines.now ≤ 16 }
-    requires on { IsTrue so → AreTwoOf lines.now a b }
+    requires on { so ≡ true → AreTwoOf lines.now a b }
     requires price { unsigned_abs price ≤ 256000000 }
     requires room { length before.old ≡ 256 }
     requires small { IsRoomy (length lines.now) before.old }
@@ -85,9 +85,9 @@ fn add_link(
 {
     if flip {
         add_before(lines, so, a, b, price, before);
-    } else {
-        add_before(lines, so, b, a, price, before);
+        return;
     }
+    add_before(lines, so, b, a, price, before);
 }
 
 /// Where it is so, two lines cost an amount more where the first stands before the second.
@@ -101,7 +101,7 @@ pub(crate) fn add_before(
 )
     requires rising { AreRising lines.now }
     requires few { length lines.now ≤ 16 }
-    requires on { IsTrue so → AreTwoOf lines.now first second }
+    requires on { so ≡ true → AreTwoOf lines.now first second }
     requires amount { unsigned_abs amount ≤ 256000000 }
     requires room { length before.old ≡ 256 }
     requires small { IsRoomy (length lines.now) before.old }
@@ -127,7 +127,7 @@ pub(crate) fn add_beside(
 )
     requires rising { AreRising lines.now }
     requires few { length lines.now ≤ 16 }
-    requires on { IsTrue so → AreTwoOf lines.now a b }
+    requires on { so ≡ true → AreTwoOf lines.now a b }
     requires amount { unsigned_abs amount ≤ 256000000 }
     requires room { length beside.old ≡ 256 }
     requires small { IsRoomy (length lines.now) beside.old }
