@@ -6,7 +6,7 @@ use Rattle.std.specs.Option.{option_map}
 use Rattle.std.proofs.lemmas.Bool.Decides.{nat_tests}
 use Rattle.std.proofs.lemmas.List.{set-get_or}
 use Rattle.std.proofs.lemmas.List.Sums.{sum_by-cons}
-use Rattle.std.proofs.lemmas.List.Sorted.{IsPermutation-refl}
+use Rattle.std.proofs.lemmas.List.Sorted.{IsPermutation-refl, length_permutation}
 use Rattle.map_base.specs.declared.ids.SegId.{SegId}
 use Rattle.map_base.specs.declared.ids.LineId.{LineId}
 use Rattle.graph_core.specs.Consistent.{AreRising}
@@ -19,8 +19,8 @@ use Rattle.order_model.specs.PartTerms.{numbered_from, plain_terms, no_term, ter
 use Rattle.order_model.proofs.Lines.{neither}
 use Rattle.least_orders.specs.Arrangements.{all_orders}
 use Rattle.least_orders.specs.LeastOrders.{least_value, first_least}
-use Rattle.least_orders.proofs.LeastValues.{some_least, least_of_first}
-use Rattle.least_orders.proofs.Arranging.{permutation_is_order}
+use Rattle.least_orders.proofs.LeastValues.{some_least, least_of_first, first_among}
+use Rattle.least_orders.proofs.Arranging.{permutation_is_order, order_is_permutation}
 use Rattle.dual_bound.proofs.Segments.{rising_at}
 use Rattle.dual_shares.specs.Groups.{is_on, numbers_on}
 use Rattle.dual_ascent.specs.OwnNumbers.{all_segments, all_terms}
@@ -145,3 +145,12 @@ pub improved_is : (p : ProblemParts) (orders : List (List LineId)) (i : ℕ) (o 
     → cheaper p orders (set orders i o) ≡ improved_on p orders (seg_number i)
 improved_is p orders i o rising is =
     ap (λ x. cheaper p orders (set orders i x)) is ∙ ap (cheaper p orders) (sym (least_some p orders (seg_number i) rising))
+
+-- which has as many lines
+pub least_lines : (p : ProblemParts) (orders : List (List LineId)) (s : SegId) → length (unwrap_or (least_beside p orders s) (lines_on p.segs s)) ≡ length (lines_on p.segs s)
+least_lines p orders s = by_option (least_beside p orders s) refl
+  where
+    by_option : (o : Option (List LineId)) → least_beside p orders s ≡ o → length (unwrap_or o (lines_on p.segs s)) ≡ length (lines_on p.segs s)
+    by_option None e = refl
+    by_option (Some o) e =
+        sym (length_permutation (lines_on p.segs s) o (order_is_permutation (lines_on p.segs s) o (first_among (cost_with p orders s) (all_orders (lines_on p.segs s)) o e)))
