@@ -2,3 +2,4 @@ pub mod Composing
 pub mod Walking
 pub mod Counting
 pub mod Beginning
+pub mod Listing
