@@ -11,3 +11,4 @@ pub mod Adding
 pub mod Placing
 pub mod Pricing
 pub mod Renewing
+pub mod Summing
