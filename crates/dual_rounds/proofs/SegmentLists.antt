@@ -84,11 +84,11 @@ never_pushed lines behind i a old new below is rest so_far pushed =
 
 -- Averages as they lie in memory.
 
-pub average_item : (averages : List (Vec PairAverage Global)) (s : ℕ) (v : Vec PairAverage Global) → s < length averages → v ≡ get_or averages s v → v.items ≡ get_or (averages_of averages) s []
-average_item averages s v below is = ap (λ (w : Vec PairAverage Global). w.items) is ∙ sym (get_or-map (λ (w : Vec PairAverage Global). w.items) averages s v [] below)
+pub average_item : (averages : List (Vec PairAverage Global)) (s : ℕ) (v : Vec PairAverage Global) → s < length averages → (get_or averages s v).items ≡ get_or (averages_of averages) s []
+average_item averages s v below = sym (get_or-map (λ (w : Vec PairAverage Global). w.items) averages s v [] below)
 
-pub written_average : (averages : List (Vec PairAverage Global)) (s : ℕ) (v : Vec PairAverage Global) (new : List PairAverage) → v ≡ get_or averages s v → length new ≡ v.len
+pub written_average : (averages : List (Vec PairAverage Global)) (s : ℕ) (v : Vec PairAverage Global) (new : List PairAverage) → length new ≡ (get_or averages s v).len
     → averages_of (set averages s (with_items (get_or averages s v) new)) ≡ set (averages_of averages) s new
-written_average averages s v new is each =
+written_average averages s v new each =
     map-set (λ (w : Vec PairAverage Global). w.items) averages s (with_items (get_or averages s v) new)
-    ∙ ap (set (averages_of averages) s) (with_items_is (get_or averages s v) new (each ∙ ap (λ (w : Vec PairAverage Global). w.len) is))
+    ∙ ap (set (averages_of averages) s) (with_items_is (get_or averages s v) new each)
