@@ -12,7 +12,7 @@ use order_model::{Problem, Term, ends_of};
 use std::alloc::Global;
 
 /// For each segment of a part the numbers of those of these terms that are on it.
-pub(crate) fn terms_by_segment(
+pub fn terms_by_segment(
     alloc: Global,
     problem: &Problem,
     part: &[SegId],
