@@ -49,7 +49,14 @@ tests_alike a b c d there back = by (a == b) (c == d) refl refl
 
 -- ---- segments of a part by itself
 
-withall_from : (segs : List (List LineId)) (k : ℕ) (rest : List (List LineId)) → k + length rest ≤ length segs
+within_from : (k : ℕ) (segs : List (List LineId)) (s : SegId) → is_in (segments_from k segs) s ≡ true → s.0 < k + length segs
+within_from k [] s h = absurd (true≢false (sym h))
+within_from k (lines ∷ segs) s h = elim (either_true (k == s.0) (is_in (segments_from (k + 1) segs) s) h) [
+  | inl here ↦ omega (arith, eqb-true k s.0 here)
+  | inr later ↦ omega (arith, within_from (k + 1) segs s later)
+]
+
+all_from : (segs : List (List LineId)) (k : ℕ) (rest : List (List LineId)) → k + length rest ≤ length segs
     → AllByRecursion (λ (s : SegId). is_in (segments_from 0 segs) s ≡ true) (segments_from k rest)
 all_from segs k [] within = tt
 all_from segs k (lines ∷ rest) within = (has_segment 0 segs (record { 0 = k }) (omega arith) (omega (arith, within)), all_from segs (k + 1) rest (omega (arith, within)))
