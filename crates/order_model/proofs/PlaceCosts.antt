@@ -26,6 +26,13 @@ order_at (l ∷ segs) [] s h below = absurd h
 order_at (l ∷ segs) (o ∷ orders) zero h below = h.0
 order_at (l ∷ segs) (o ∷ orders) (suc s) h below = order_at segs orders s h.1 (omega (arith, below))
 
+pub have_places : (segs orders : List (List LineId)) (places : List (List ℕ)) → All AreRising segs → ArePlaces segs orders places → HavePlaces segs places
+have_places segs orders places rising h = record {
+  rising = rising;
+  each = h.each;
+  lines = λ s below. ap length (h.at s below) ∙ length-map (get_or segs s []) (place_in (get_or orders s []));
+}
+
 -- one more segment has its places
 pub push_table : (segs orders : List (List LineId)) (places fresh : List (List ℕ)) (s : ℕ) (xs : List ℕ) (lines order : List LineId) → length places ≡ s
     → ((k : ℕ) → k < s → get_or places k [] ≡ places_in (get_or segs k []) (get_or orders k [])) → fresh ≡ places ++ xs ∷ []

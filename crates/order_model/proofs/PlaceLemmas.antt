@@ -190,6 +190,9 @@ beside_is (x ∷ y ∷ xs) a b h n on_a on_b = elim (same_or_not x.0 a.0) [
 
 -- Halving.
 
+at_most_later : (x a : LineId) (xs : List LineId) (m : ℕ) → AreRising (x ∷ xs) → m < length xs → x.0 < (get_or xs m no_line).0
+at_most_later x a xs m rising below = rising_above x xs rising m no_line below
+
 -- from one line to a later one the numbers rise by at least one each
 pub rising_by : (xs : List LineId) (k j : ℕ) → AreRising xs → k ≤ j → j < length xs → (get_or xs k no_line).0 + (j - k) ≤ (get_or xs j no_line).0
 rising_by [] k j rising h below = absurd (omega (arith, below))

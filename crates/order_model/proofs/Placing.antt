@@ -69,6 +69,15 @@ pub member_joined : (label s place at : ℕ) (parts : List (List SegId)) → lab
 member_joined label s place at parts differ is only =
     ap (λ k. set parts k (get_or parts k [] ++ record { 0 = s } ∷ [])) is ∙ member_joins parts place label s only ∙ sym (joins_other label s parts differ)
 
+pub only_at : (segs : List (List LineId)) (labels : List ℕ) (s : ℕ) (parts : List (List SegId)) (places : List ℕ) → AreGatherable segs labels
+    → ArePlaced segs labels s parts places → s < length segs → is_wide segs s ≡ true → get_or labels s 0 ≢ s
+    → IsOnlyAt parts (get_or places (get_or labels s 0) 0) (get_or labels s 0)
+only_at segs labels s parts places ok placed known wide differ =
+    let low = ok.lowest s known in
+    let r = get_or labels s 0 in
+    let found = placed.found r (omega (arith, low, differ)) (ok.wide s known wide) (ok.rooted s known) in
+    record { known = found.0; here = found.1; alone = λ i below other is. other (sym (placed.at i below) ∙ ap (λ k. get_or places k 0) is) }
+
 -- what stands at the end of a longer list
 at_end : (ps : List (List SegId)) (p : List SegId) → get_or (ps ++ p ∷ []) (length ps) [] ≡ p
 at_end [] p = refl

@@ -20,6 +20,13 @@ lines_in p = p.lines
 abbrev pub placed_in : SegmentPlacement → List LineId
 placed_in p = p.placed
 
+-- one more of several is made
+pub push_one : {X Y Z : Type 0} (f : X → Z) (g : Y → Z) (xs fresh : List X) (x : X) (ys : List Y) (y : Y) (i : ℕ) → map f xs ≡ map g (take i ys)
+    → fresh ≡ xs ++ x ∷ [] → i < length ys → y ≡ get_or ys i y → f x ≡ g y → map f fresh ≡ map g (take (i + 1) ys)
+push_one f g xs fresh x ys y i before is below read same =
+    ap (map f) is ∙ map_push f xs x ∙ ap (λ zs. zs ++ f x ∷ []) before ∙ ap (λ z. map g (take i ys) ++ z ∷ []) same
+    ∙ sym (map_push g (take i ys) y) ∙ sym (ap (map g) (take_more ys i y below ∙ ap (λ z. take i ys ++ z ∷ []) (sym read)))
+
 -- No line is chosen at first.
 
 lines_unchosen : (segs : List (List LineId)) → map lines_in (map unchosen segs) ≡ segs

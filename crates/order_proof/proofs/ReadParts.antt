@@ -54,6 +54,12 @@ pub record ArePartsSoFar (count done : ℕ) (parts : List Part) (text rest : Lis
   pub left : reading (parts_due (count - done)) rest ≡ reading (parts_due count) text
   pub so_far : ArePartsOf done (map plain_part parts) text rest
 
+pub parts_begin : (count : ℕ) (text : List ℕ) → ArePartsSoFar count 0 [] text text
+parts_begin count text = record {
+  left = ap (λ (n : ℕ). reading (parts_due n) text) (omega arith);
+  so_far = record { counted = refl; range = tt; front = refl };
+}
+
 due_next : (count done : ℕ) → done < count → parts_due (count - done) ≡ parts_due (suc (count - (done + 1)))
 due_next count done below = let next : count - done ≡ suc (count - (done + 1)) = omega arith in ap parts_due next
 

@@ -27,6 +27,12 @@ pub record AreRulesSoFar (count done : ℕ) (rules : List Rule) (text rest : Lis
   pub left : reading (rules_due (count - done)) rest ≡ reading (rules_due count) text
   pub so_far : AreRulesOf done rules text rest
 
+pub rules_begin : (count : ℕ) (text : List ℕ) → AreRulesSoFar count 0 [] text text
+rules_begin count text = record {
+  left = ap (λ (n : ℕ). reading (rules_due n) text) (omega arith);
+  so_far = record { counted = refl; range = tt; front = refl };
+}
+
 due_next : (count done : ℕ) → done < count → rules_due (count - done) ≡ ARule (count - (done + 1)) ∷ []
 due_next count done below = let next : count - done ≡ suc (count - (done + 1)) = omega arith in ap rules_due next
 

@@ -67,6 +67,13 @@ pub record AreCasesSoFar (room count done : ℕ) (taken : List LineId) (children
   pub lines : lines_of (plain_children children) ≡ taken
   pub so_far : AreCasesOf room done (plain_children children) text rest
 
+pub cases_begin : (room count : ℕ) (text : List ℕ) → AreCasesSoFar room count 0 [] [] text text
+cases_begin room count text = record {
+  left = ap (λ (n : ℕ). reading (cases_due n [] room) text) (omega arith);
+  lines = refl;
+  so_far = record { counted = refl; distinct = tt; range = tt; depth = omega arith; front = refl };
+}
+
 due_next : (room count done : ℕ) (taken : List LineId) → done < count → cases_due (count - done) taken room ≡ ACase (count - (done + 1)) taken room ∷ []
 due_next room count done taken below = let next : count - done ≡ suc (count - (done + 1)) = omega arith in ap (λ (n : ℕ). cases_due n taken room) next
 

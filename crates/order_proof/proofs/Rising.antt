@@ -38,6 +38,24 @@ price_taken most least done p (x ∷ y ∷ rest) total long is whole =
     let next : suc p.0 ≡ p.0 + 1 = omega arith in
     ap (λ (n : ℕ). behind (done ++ p ∷ []) (prices_from most n rest)) (sym next) ∙ sym (joined done p (prices_from most (suc p.0) rest)) ∙ ap (behind done) (sym one) ∙ whole
 
+-- a price is refused
+pub price_refused : (most least : ℕ) (done : List (ℕ × ℤ)) (xs : List ℤ) (total : Option (List (ℕ × ℤ))) → 2 ≤ length xs
+    → None ≡ priced_term most least (get_or xs 0 (pos 0)) (get_or xs 1 (pos 0)) → behind done (prices_from most least xs) ≡ total → None ≡ total
+price_refused most least done [] total long is whole = absurd (omega arith)
+price_refused most least done (x ∷ []) total long is whole = absurd (omega arith)
+price_refused most least done (x ∷ y ∷ rest) total long is whole =
+    ap (behind done) (ap (option_and_then (λ (q : ℕ × ℤ). option_map (λ more. q ∷ more) (prices_from most (suc q.0) rest))) is) ∙ whole
+
+-- nothing is left, or one number
+pub prices_end : (most least : ℕ) (done : List (ℕ × ℤ)) (xs : List ℤ) (total : Option (List (ℕ × ℤ))) → length xs ≡ 0 → behind done (prices_from most least xs) ≡ total → Some done ≡ total
+prices_end most least done [] total len whole = ap (λ (ps : List (ℕ × ℤ)). Some ps) (sym (append-nil done)) ∙ whole
+prices_end most least done (x ∷ xs) total len whole = absurd (omega arith)
+
+pub prices_odd : (most least : ℕ) (done : List (ℕ × ℤ)) (xs : List ℤ) (total : Option (List (ℕ × ℤ))) → length xs < 2 → 0 < length xs → behind done (prices_from most least xs) ≡ total → None ≡ total
+prices_odd most least done [] total few some whole = absurd (omega arith)
+prices_odd most least done (x ∷ []) total few some whole = whole
+prices_odd most least done (x ∷ y ∷ xs) total few some whole = absurd (omega arith)
+
 -- the prices so far, and those of the numbers that are left, are those of all
 pub record ArePricesSoFar (most : ℕ) (total : Option (List (ℕ × ℤ))) (done : List (ℕ × ℤ)) (least : ℕ) (left : List ℤ) : Type 0 where
   pub whole : behind done (prices_from most least left) ≡ total

@@ -53,6 +53,10 @@ rising_kept p (x ∷ xs) h = by_test (p x) (rising_kept p xs (rising_tail x xs h
     by_test true k = kept_above p x xs h k
     by_test false k = k
 
+either_false : (a b : Bool) → (a || b) ≡ true → a ≡ false → b ≡ true
+either_false true b h k = absurd (true≢false k)
+either_false false b h k = h
+
 on_first : (seg other e : SegId) → seg.0 ≡ e.0 → (seg.0 == e.0 || other.0 == e.0) ≡ true
 on_first seg other e same = let h : (seg.0 == e.0) ≡ true = eq-eqb seg.0 e.0 same in rw h refl
 

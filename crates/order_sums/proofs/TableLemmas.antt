@@ -195,6 +195,54 @@ module _ (w : LineId → LineId → PairSums) (e f : SegId) (t : Term) (x y : Li
           ∙ sym (ap (λ (z : Bool). if z || (y.0 == a.0 && x.0 == b.0) then with_sum (w a b) e f a b t else w a b) h
           ∙ ap (λ (z : Bool). if z then with_sum (w a b) e f a b t else w a b) k))
 
+  -- one of the two is no line of these
+  off_first : (lines : List LineId) → IsPlace lines x None → (i j : ℕ) → i < length lines → j < length lines → with_pair w e f t (line_at lines i) (line_at lines j) ≡ w (line_at lines i) (line_at lines j)
+  off_first lines off i j i_below j_below =
+      ap (λ (c : Bool). if c then with_sum (w (line_at lines i) (line_at lines j)) e f (line_at lines i) (line_at lines j) t else w (line_at lines i) (line_at lines j))
+      (of (line_at lines i) (line_at lines j) ∙ none)
+    where
+      not_at : (k : ℕ) → k < length lines → (x.0 == (line_at lines k).0) ≡ false
+      not_at k below = by_test (x.0 == (line_at lines k).0) refl
+        where
+          by_test : (c : Bool) → (x.0 == (line_at lines k).0) ≡ c → c ≡ false
+          by_test true h = absurd (off k below (sym (eqb-true x.0 (line_at lines k).0 h)))
+          by_test false h = refl
+
+      none : are_these x y (line_at lines i) (line_at lines j) ≡ false
+      none =
+          ap (λ (c : Bool). (c && y.0 == (line_at lines j).0) || (x.0 == (line_at lines j).0 && y.0 == (line_at lines i).0)) (not_at i i_below)
+          ∙ ap (λ (c : Bool). c && y.0 == (line_at lines i).0) (not_at j j_below)
+
+  off_second : (lines : List LineId) → IsPlace lines y None → (i j : ℕ) → i < length lines → j < length lines → with_pair w e f t (line_at lines i) (line_at lines j) ≡ w (line_at lines i) (line_at lines j)
+  off_second lines off i j i_below j_below =
+      ap (λ (c : Bool). if c then with_sum (w (line_at lines i) (line_at lines j)) e f (line_at lines i) (line_at lines j) t else w (line_at lines i) (line_at lines j))
+      (of (line_at lines i) (line_at lines j) ∙ none)
+    where
+      not_at : (k : ℕ) → k < length lines → (y.0 == (line_at lines k).0) ≡ false
+      not_at k below = by_test (y.0 == (line_at lines k).0) refl
+        where
+          by_test : (c : Bool) → (y.0 == (line_at lines k).0) ≡ c → c ≡ false
+          by_test true h = absurd (off k below (sym (eqb-true y.0 (line_at lines k).0 h)))
+          by_test false h = refl
+
+      and_none : (c : Bool) → (c && false) ≡ false
+      and_none true = refl
+      and_none false = refl
+
+      none : are_these x y (line_at lines i) (line_at lines j) ≡ false
+      none =
+          ap (λ (c : Bool). (x.0 == (line_at lines i).0 && c) || (x.0 == (line_at lines j).0 && y.0 == (line_at lines i).0)) (not_at j j_below)
+          ∙ (ap (λ (c : Bool). c || (x.0 == (line_at lines j).0 && y.0 == (line_at lines i).0)) (and_none (x.0 == (line_at lines i).0))
+          ∙ (ap (λ (c : Bool). x.0 == (line_at lines j).0 && c) (not_at i i_below) ∙ and_none (x.0 == (line_at lines j).0)))
+
+  pub first_missing : (lines : List LineId) (table : List (List PairSums)) → IsPlace lines x None → IsTable w lines table → IsTable (with_pair w e f t) lines table
+  first_missing lines table off is =
+      table_alike w (with_pair w e f t) lines table (λ i j i_below j_below. sym (off_first lines off i j i_below j_below)) is
+
+  pub second_missing : (lines : List LineId) (table : List (List PairSums)) → IsPlace lines y None → IsTable w lines table → IsTable (with_pair w e f t) lines table
+  second_missing lines table off is =
+      table_alike w (with_pair w e f t) lines table (λ i j i_below j_below. sym (off_second lines off i j i_below j_below)) is
+
   -- both are
   pub term_added : (lines : List LineId) (table : List (List PairSums)) (p q : ℕ) (s r : PairSums) → AreRising lines → IsPlace lines x (Some p) → IsPlace lines y (Some q)
       → s ≡ with_sum (sums_at table p q) e f x y t → r ≡ with_sum (sums_at table q p) e f y x t → IsTable w lines table

@@ -135,6 +135,22 @@ grown_same rows (suc n) marks h = ap (grown_marks rows n) h ∙ grown_same rows 
 pub grown_still : (rows : List (List Bool)) (n : ℕ) (marks next : List Bool) → next ≡ next_marks rows marks → marks ≡ next → marks ≡ grown_marks rows n marks
 grown_still rows n marks next is same = sym (grown_same rows n marks (sym is ∙ sym same))
 
+pub grown_done : (rows : List (List Bool)) (n k : ℕ) (marks : List Bool) → n ≤ k → grown_marks rows (n - k) marks ≡ marks
+grown_done rows n k marks done = let nothing : n - k ≡ 0 = omega (arith, done) in ap (λ (m : ℕ). grown_marks rows m marks) nothing
+
+pub next_more : (rows : List (Vec Bool Global)) (marks next after : List Bool) (b : Bool) (i : ℕ) (d : Vec Bool Global) → i < length rows
+    → next ≡ map (any_marked marks) (rows_of (take i rows)) → b ≡ any_marked marks (get_or rows i d).items → after ≡ next ++ b ∷ []
+    → after ≡ map (any_marked marks) (rows_of (take (i + 1) rows))
+next_more rows marks next after b i d below old is pushed =
+    pushed ∙ (ap (λ (bs : List Bool). bs ++ b ∷ []) old
+    ∙ (ap (λ (x : Bool). map (any_marked marks) (rows_of (take i rows)) ++ x ∷ []) is
+    ∙ sym (ap (map (any_marked marks)) (map_more (λ (v : Vec Bool Global). v.items) rows i d below)
+    ∙ map_push (any_marked marks) (rows_of (take i rows)) (get_or rows i d).items)))
+  where
+    map_push : (f : List Bool → Bool) (xs : List (List Bool)) (y : List Bool) → map f (xs ++ y ∷ []) ≡ map f xs ++ f y ∷ []
+    map_push f [] y = refl
+    map_push f (x ∷ xs) y = ap (λ (bs : List Bool). f x ∷ bs) (map_push f xs y)
+
 pub marked_more : (whole group after : List LineId) (mark : Bool) (marks left_marks : List Bool) (line : LineId) (lines left_lines : List LineId)
     → whole ≡ group ++ marked left_marks left_lines → left_marks ≡ mark ∷ marks → left_lines ≡ line ∷ lines
     → after ≡ group ++ marked (mark ∷ []) (line ∷ []) → whole ≡ after ++ marked marks lines

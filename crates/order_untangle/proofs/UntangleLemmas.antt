@@ -92,6 +92,16 @@ pub record IsLeft (p : ProblemParts) (rules : List Rule) (i : ℕ) (q : ProblemP
 pub all_left : (p q : ProblemParts) (rules : List Rule) → q ≡ p → IsLeft p rules 0 q
 all_left p q rules same = subst (IsLeft p rules 0) (sym same) (record { refused = refl; after = refl })
 
+pub one_less_left : (p q next : ProblemParts) (rules : List Rule) (i : ℕ) (d : Rule) → i < length rules → rule_applies q (get_or rules i d) ≡ true → next ≡ after_rule q (get_or rules i d)
+    → IsLeft p rules i q → IsLeft p rules (i + 1) next
+one_less_left p q next rules i d below applies made left =
+    let start : IsLeft p rules (i + 1) (after_rule q (get_or rules i d)) = record {
+      refused = left.refused ∙ (at_drop_more (first_refused i q) rules i d below
+          ∙ ap (λ (c : Bool). if c then first_refused (i + 1) (after_rule q (get_or rules i d)) (drop (i + 1) rules) else Some i) applies);
+      after = left.after ∙ at_drop_more (after_rules q) rules i d below;
+    } in
+    subst (IsLeft p rules (i + 1)) (sym made) start
+
 pub first_left : (p q : ProblemParts) (rules : List Rule) (i : ℕ) (d : Rule) → i < length rules → rule_applies q (get_or rules i d) ≡ false → IsLeft p rules i q → Some i ≡ first_refused 0 p rules
 first_left p q rules i d below refused left =
     sym (left.refused ∙ (at_drop_more (first_refused i q) rules i d below

@@ -34,6 +34,9 @@ inserted {K} cmp exact p (x ∷ xs) k = by_order (cmp k x) refl (inserted cmp ex
     by_order Equal h rest = or_absorb (p x) (list_any p xs) ∙ ap (λ (y : K). p y || (p x || list_any p xs)) (sym (exact k x h))
     by_order Greater h rest = ap (λ (b : Bool). p x || b) rest ∙ or_swap (p x) (p k) (list_any p xs)
 
+abbrev pair_cmp : ℕ × ℕ → ℕ × ℕ → Ordering
+pair_cmp x y = ordering_then (nat_cmp x.0 y.0) (nat_cmp x.1 y.1)
+
 pub merge_added : (old new : List (ℕ × ℕ)) (m : ℕ × ℕ) → new ≡ insert_key (λ (x y : ℕ × ℕ). ordering_then (nat_cmp x.0 y.0) (nat_cmp x.1 y.1)) old m
     → (e f : ℕ) → has_merge new e f ≡ (is_merge e f m || has_merge old e f)
 merge_added old new m is e f =

@@ -443,3 +443,13 @@ pub record DivideKnown (segs : List (List LineId)) (listing : Listing) (e : SegI
   pub known : e.0 < listing.count
   pub seg : e.0 < length segs
   pub few : listing.count < 2 ^ 32
+
+pub divide_known : (segs : List (List LineId)) (listing : Listing) (ms : List (ℕ × ℕ)) (ds : List ℕ) (e : SegId) (group : List LineId) → IsWork segs listing ms ds
+    → divide_applies (parts_of segs listing) e group ≡ true → DivideKnown segs listing e
+divide_known segs listing ms ds e group work applies =
+    let ok = divides (parts_of segs listing) e group work.problem applies in
+    record {
+      known = omega (arith, ok.known, work.count);
+      seg = ok.known;
+      few = omega (arith, work.count, work.problem.few_choices);
+    }
