@@ -1,4 +1,1 @@
-pub mod Tables
-pub mod Parts
 pub mod Finding
-pub mod Searching
