@@ -11,10 +11,6 @@ use Rattle.octi_grid.proofs.RunLemmas.{first_count, rest_are_runs, same_directio
 use Rattle.decimal_text.specs.Lines.{words_behind}
 use Rattle.cert_file.specs.RunWords.{with_step, runs_of, run_of, run_before, runs_in, runs_behind}
 
-joined : (done : List Run) (r : Run) (more : Option (List Run)) → option_map (λ rest. done ++ rest) (run_before (Some r) more) ≡ option_map (λ rest. (done ++ r ∷ []) ++ rest) more
-joined done r None = refl
-joined done r (Some rest) = ap (λ (rs : List Run). Some rs) (sym (append_assoc done (r ∷ []) rest))
-
 -- ---- steps and runs
 
 abbrev run : Dir → ℕ → Run

@@ -29,12 +29,6 @@ ends_before place used bytes e more =
 pub stops_at : (place at : ℕ) (bytes : List ℕ) → proof_end bytes ≡ Err at → proof_place place (length bytes) (proof_end bytes) ≡ Err (place + at)
 stops_at place at bytes e = ap (proof_place place (length bytes)) e
 
-abbrev err : ℕ → Result ℕ ℕ
-err n = Err n
-
-abbrev ok : ℕ → Result ℕ ℕ
-ok n = Ok n
-
 -- where the whole ends
 pub head_then : (bytes rest : List ℕ) (r : Result ℕ ℕ) → head_end bytes ≡ Ok rest → proof_place (length bytes - length rest) (length rest) (proof_end rest) ≡ r → certificate_end bytes ≡ r
 head_then bytes rest r e f = ap (whole_end bytes) e ∙ f

@@ -20,7 +20,7 @@ use Rattle.order_proof.specs.Trees.{IsDualTree}
 use Rattle.order_bound.proofs.Lists.{filter_passes}
 use Rattle.order_search.specs.ByItself.{by_itself, term_in, seg_in, seg_from, number_from, seg_numbers, prices_by}
 use Rattle.order_search.proofs.OwnParts.{at_number}
-use Rattle.order_search.proofs.RisingNumbers.{RisesFrom, same_place, segs_rise, terms_rise}
+use Rattle.order_search.proofs.RisingNumbers.{RisesFrom, same_place, segs_rise, terms_rise, same_tests}
 use Rattle.dual_bound.specs.Accepting.{failing}
 use Rattle.dual_ascent.specs.OwnNumbers.{segments_from, all_segments}
 use Rattle.dual_ascent.specs.Shown.{IsListed}
@@ -37,15 +37,6 @@ number q = q.0
 
 abbrev no_seg : SegId
 no_seg = record { 0 = 0 }
-
-tests_alike : (a b c d : ℕ) → (a ≡ b → c ≡ d) → (c ≡ d → a ≡ b) → (a == b) ≡ (c == d)
-tests_alike a b c d there back = by (a == b) (c == d) refl refl
-  where
-    by : (x y : Bool) → (a == b) ≡ x → (c == d) ≡ y → x ≡ y
-    by true true e h = refl
-    by false false e h = refl
-    by true false e h = absurd (true≢false (sym (eq-eqb c d (there (eqb-true a b e))) ∙ h))
-    by false true e h = absurd (true≢false (sym (eq-eqb a b (back (eqb-true c d h))) ∙ e))
 
 -- ---- segments of a part by itself
 
@@ -220,11 +211,11 @@ module _ (p : ProblemParts) (part : List SegId) where
     segs = λ s t on also.
         let here = placed s on in
         let there = placed t also in
-        tests_alike (f s).0 (f t).0 s.0 t.0
+        same_tests (f s).0 (f t).0 s.0 t.0
         (λ same. same_place 0 (seg_numbers part) s.0 t.0 (segs_rise part rising) here.0 there.0 (here.1 ∙ same ∙ sym there.1))
         (λ same. ap (λ (n : ℕ). (get_or part n no_seg).0) same);
     numbers = λ i j on also.
-        tests_alike (g i) (g j) i j (λ same. same_place 0 numbers i j rise (numbered i on) (numbered j also) same) (λ same. ap g same);
+        same_tests (g i) (g j) i j (λ same. same_place 0 numbers i j rise (numbered i on) (numbered j also) same) (λ same. ap g same);
     within = within;
   }
 

@@ -19,7 +19,8 @@ use Rattle.order_search.specs.ByItself.{by_itself, seg_in, place_in, term_in}
 use Rattle.order_search.specs.Finding.{with_lists}
 use Rattle.kept_trees.proofs.OwnPlaces.{place_within}
 use Rattle.kept_trees.proofs.OwnProblems.{lines_in}
-use Rattle.kept_trees.proofs.PutOrders.{length-with_lists, length-orders, order_at, orders_from}
+use Rattle.kept_trees.proofs.PutOrders.{length-with_lists, length-orders, orders_from}
+use Rattle.order_model.proofs.PlaceCosts.{order_at}
 
 -- a segment of the part has the list of its place
 at_place : (part : List SegId) (lists orders : List (List LineId)) (u : SegId) → length lists ≡ length part

@@ -6,6 +6,7 @@ use Rattle.map_base.specs.declared.ids.SegId.{SegId}
 use Rattle.map_base.specs.declared.ids.LineId.{LineId}
 use Rattle.order_model.specs.Costs.{AreOrders}
 use Rattle.order_search.specs.Finding.{with_lists}
+use Rattle.order_model.proofs.PlaceCosts.{order_at}
 
 pub length-with_lists : (part : List SegId) (lists orders : List (List LineId))
     → length (with_lists part lists orders) ≡ length orders
@@ -18,13 +19,6 @@ length-orders [] [] are = refl
 length-orders [] (o ∷ orders) are = absurd are
 length-orders (lines ∷ segs) [] are = absurd are
 length-orders (lines ∷ segs) (o ∷ orders) are = ap suc (length-orders segs orders are.1)
-
-pub order_at : (segs orders : List (List LineId)) (i : ℕ) → AreOrders segs orders → i < length segs
-    → IsPermutation (get_or segs i []) (get_or orders i [])
-order_at [] orders i are below = absurd (omega (arith, below))
-order_at (lines ∷ segs) [] i are below = absurd are
-order_at (lines ∷ segs) (o ∷ orders) zero are below = are.0
-order_at (lines ∷ segs) (o ∷ orders) (suc i) are below = order_at segs orders i are.1 (omega (arith, below))
 
 pub orders_from : (segs orders : List (List LineId)) → length orders ≡ length segs
     → ((i : ℕ) → i < length segs → IsPermutation (get_or segs i []) (get_or orders i [])) → AreOrders segs orders

@@ -11,12 +11,6 @@ use Rattle.order_bound.specs.declared.pairs.ChildLink.{ChildLink}
 abbrev pub made : {A B : Type 0} → (A → B) → (A → Bool) → List A → List B
 made f p xs = map f (filter p xs)
 
-take_all : {A : Type 0} (xs : List A) (i : ℕ) → length xs ≤ i → take i xs ≡ xs
-take_all [] zero h = refl
-take_all [] (suc i) h = refl
-take_all (x ∷ xs) zero h = absurd (omega (arith, h))
-take_all (x ∷ xs) (suc i) h = ap (λ ys. x ∷ ys) (take_all xs i (omega (arith, h)))
-
 -- the walk once one more segment came in turn
 pub walk_step : (w : List SegId) (parent : SegId) (links : List OpenLink) (children : List ChildLink)
     → children ++ walked (length (w ++ parent ∷ []) + length links) (reverse (w ++ parent ∷ [])) links

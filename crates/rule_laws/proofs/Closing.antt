@@ -3,7 +3,7 @@ use Rattle.std.proofs.Common.{◌≡◌, ℕ, zero, suc, ◌==◌, Bool, true, f
 use Rattle.std.proofs.Common.{refl, sym, ◌∙◌, ap, subst, true≢false, eq-eqb, ◌⊎◌, inl, inr}
 use Rattle.std.specs.Prelude.{filter}
 use Rattle.std.specs.List.{list_any, list_all}
-use Rattle.std.proofs.lemmas.Bool.{and_parts, or_cases, or_left, or_right}
+use Rattle.std.proofs.lemmas.Bool.{and_parts, or_cases, or_left, or_right, not-true}
 use Rattle.map_base.specs.declared.ids.SegId.{SegId}
 use Rattle.map_base.specs.declared.ids.LineId.{LineId}
 use Rattle.order_model.specs.declared.problem.ProblemParts.{ProblemParts}
@@ -52,10 +52,6 @@ kept_is test xs a h = by (test a) refl
 
 -- ---- the closure
 
-not_true : (b : Bool) → not b ≡ true → b ≡ false
-not_true true h = absurd (true≢false (sym h))
-not_true false h = refl
-
 module _ (p : ProblemParts) (e : SegId) where
   abbrev lines : List LineId
   lines = lines_on p.segs e
@@ -76,7 +72,7 @@ module _ (p : ProblemParts) (e : SegId) where
       held : (b : LineId) → (is_held most p.terms e group b ≡ true) × (has_line lines b ≡ true) → has_line closed b ≡ true
       held b is = elim (or_cases (has_line group b) (list_any (λ a. not (parts a b)) group) is.0) [
         | inl here ↦ within b here
-        | inr some ↦ (let a = any_at (λ x. not (parts x b)) group some in holds a.0 b (within a.0 a.1) is.1 (not_true (parts a.0 b) a.2))
+        | inr some ↦ (let a = any_at (λ x. not (parts x b)) group some in holds a.0 b (within a.0 a.1) is.1 (not-true (parts a.0 b) a.2))
       ]
 
   pub closure_least : (a : LineId) (group : List LineId) → has_line group a ≡ true → IsClosed p e group → IsWithin (closure p e a) group
