@@ -17,13 +17,13 @@ use Rattle.order_search.specs.FoundParts.{part_in, branches_in, IsFoundIn}
 use Rattle.kept_trees.specs.declared.found_part.FoundPart.{FoundPart}
 use Rattle.kept_trees.specs.Results.{PartResult, by_live, live_found, live_outcome, result_found, IsFaultOf}
 
-abbrev Outcome : Type 0
+abbrev pub Outcome : Type 0
 Outcome = Result PartResult SearchFault
 
-abbrev too_deep : Outcome
+abbrev pub too_deep : Outcome
 too_deep = Err (fault.TooDeep (limit_of Places))
 
-abbrev spent : ℕ → Outcome
+abbrev pub spent : ℕ → Outcome
 spent budget = Err (fault.Spent (budget + 1))
 
 -- a part that is within the limit of places

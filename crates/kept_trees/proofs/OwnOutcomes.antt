@@ -41,9 +41,6 @@ moved_dual : (part : List SegId) (numbers : List ℕ) (claim : Claim) (budget : 
 moved_dual part numbers Best budget r = moved_choice part numbers r.complete r (fault.Spent (budget + 1))
 moved_dual part numbers Bound budget r = by r.complete
   where
-    with_budget : PartResult → PartResult
-    with_budget x = record x { branches = budget }
-
     by : (b : Bool) → ◌≡◌ {A = Outcome}
         (Ok (cond b (renumbered_result part numbers r) (record (renumbered_result part numbers r) { branches = budget })))
         (Ok (renumbered_result part numbers (cond b r (record r { branches = budget }))))

@@ -35,6 +35,7 @@ use Rattle.dual_ascent.specs.Shown.{IsShown}
 use Rattle.dual_ascent.proofs.Results.{reached_shown}
 use Rattle.kept_trees.specs.declared.plan.SearchPlan.{SearchPlan}
 use Rattle.kept_trees.specs.declared.found_part.FoundPart.{FoundPart}
+use Rattle.kept_trees.specs.Renumbered.{renumbered_dual}
 use Rattle.kept_trees.specs.Results.{PartResult, by_live, by_dual, is_dual, live_found, live_outcome, renumbered_result, dual_own, dual_part}
 use Rattle.kept_trees.specs.Results.{dual_outcome, part_outcome, result_found, IsAccepted, CostTarget, IsResult, IsOwnFound}
 use Rattle.kept_trees.proofs.LiveOutcomes.{Outcome, too_deep, spent}
@@ -134,7 +135,7 @@ module _ (p : ProblemParts) (part : List SegId) (ok : IsProblem p) (known : All 
       let each : length r.orders ≡ length part = length-orders own.segs r.orders shown.orders ∙ length-map part (lines_on p.segs) in
       let below = below_all (length p.segs) part (recursion_from_All (λ (s : SegId). s.0 < length p.segs) part known) in
       record {
-        bound = shown_part_bounds p.segs part p.terms r.target _ ok.rising ok.terms rising known accepted;
+        bound = shown_part_bounds p.segs part p.terms r.target (renumbered_dual part numbers_there r.tree) ok.rising ok.terms rising known accepted;
         cost = cost_of own.terms r.orders;
         attained = record {
           each = each;
@@ -162,7 +163,7 @@ module _ (p : ProblemParts) (part : List SegId) (ok : IsProblem p) (known : All 
   dual_is : (claim : Claim) (budget : ℕ) (x r : PartResult) → Shows p part x → dual_outcome claim budget x ≡ Ok r
       → Shows p part r
   dual_is Best budget x r h e = subst (Shows p part) (chosen x.complete x r (fault.Spent (budget + 1)) e).1 h
-  dual_is Bound budget x r h e = subst (Shows p part) (same_ok _ r e) (by x.complete)
+  dual_is Bound budget x r h e = subst (Shows p part) (same_ok (cond x.complete x (record x { branches = budget })) r e) (by x.complete)
     where
       by : (b : Bool) → Shows p part (cond b x (record x { branches = budget }))
       by true = h

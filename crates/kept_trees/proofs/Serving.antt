@@ -13,7 +13,7 @@ use Rattle.order_search.specs.declared.found.SearchFault.TheVariants as fault
 use Rattle.order_search.specs.LiveTrees.{live_tree}
 use Rattle.order_search.specs.Finding.{places_of}
 use Rattle.order_search.specs.FoundParts.{part_in}
-use Rattle.dual_ascent.specs.DualResults.{DualResult}
+use Rattle.dual_ascent.specs.DualResults.{DualResult, dual_result}
 use Rattle.dual_ascent.specs.OwnNumbers.{all_segments}
 use Rattle.dual_ascent.proofs.Budgets.{branches_within, same_result}
 use Rattle.kept_trees.specs.declared.plan.SearchPlan.{SearchPlan}
@@ -89,16 +89,21 @@ module _ (how : Search) (claim : Claim) (b budget : ℕ) (own : ProblemParts) (r
   found_dual h = chosen (dual_own b own).complete (dual_own b own) r (fault.Spent (b + 1)) h
 
   -- with more branch nodes than a budget it is not complete within that
-  not_complete : (dual_own b own).complete ≡ true → budget < (dual_own b own).branches
-      → (dual_own budget own).complete ≡ false
+  not_complete : (dual_own b own).complete ≡ true → budget < (dual_own b own).branches → (dual_own budget own).complete ≡ false
   not_complete complete many = by (dual_own budget own).complete refl
     where
+      found_same : (n m : ℕ) → n ≤ budget → budget < m → m ≡ n → ⊥
+      found_same n m few more same = omega (arith, few, more, same)
+
+      few_enough : (n m : ℕ) → n ≤ budget → m ≤ b → budget < m → n ≤ b
+      few_enough n m few most more = omega (arith, few, most, more)
+
       by : (c : Bool) → (dual_own budget own).complete ≡ c → c ≡ false
       by true e =
-          let most = branches_within own budget in
-          let less = branches_within own b in
-          let same = same_result own budget b e (omega (arith, most, less, many)) in
-          absurd (omega (arith, most, many, ap (λ (x : DualResult). x.branches) same))
+          let n : ℕ = (dual_result own budget).branches in
+          let m : ℕ = (dual_result own b).branches in
+          let same = same_result own budget b e (few_enough n m (branches_within own budget) (branches_within own b) many) in
+          absurd (found_same n m (branches_within own budget) many (ap (λ (x : DualResult). x.branches) same))
       by false e = refl
 
   pub serves : r.branches ≤ budget → own_outcome plan own ≡ Ok r
@@ -109,7 +114,7 @@ module _ (how : Search) (claim : Claim) (b budget : ℕ) (own : ProblemParts) (r
       by true h =
           let is = found_dual h in
           let same : dual_own budget own ≡ r =
-          ap by_dual (same_result own b budget is.0 (omega (arith, few, ap (λ (x : PartResult). x.branches) is.1))) ∙ is.1 in
+          ap by_dual (same_result own b budget is.0 (subst (λ (x : PartResult). x.branches ≤ budget) (sym is.1) few)) ∙ is.1 in
           ap (dual_outcome claim budget) same ∙ whole claim budget r (sym (ap (λ (x : PartResult). x.complete) is.1) ∙ is.0)
       by false h = live_again b budget places live r h few
 
@@ -136,7 +141,7 @@ module _ (how : Search) (claim : Claim) (b budget : ℕ) (own : ProblemParts) (r
           let is = found_dual h in
           let none = no_bound claim (subst (λ (x : PartResult). leaves_bound claim x.tree ≡ false) (sym is.1) no) in
           spent_best claim budget (dual_own budget own)
-          (not_complete is.0 (omega (arith, many, ap (λ (x : PartResult). x.branches) is.1))) none refl
+          (not_complete is.0 (subst (λ (x : PartResult). budget < x.branches) (sym is.1) many)) none refl
       by false h = live_spent b budget places live r h many
 
   pub is_open : budget < r.branches → leaves_bound claim r.tree ≡ true
@@ -152,7 +157,7 @@ module _ (how : Search) (claim : Claim) (b budget : ℕ) (own : ProblemParts) (r
       by true h =
           let is = found_dual h in
           held_bound claim budget (dual_own budget own)
-          (not_complete is.0 (omega (arith, many, ap (λ (x : PartResult). x.branches) is.1))) r.tree leaves
+          (not_complete is.0 (subst (λ (x : PartResult). budget < x.branches) (sym is.1) many)) r.tree leaves
       by false h =
           absurd (live_leaves claim (subst (λ (x : PartResult). leaves_bound claim x.tree ≡ true) (sym (live_is b places live r h).2) leaves))
 
