@@ -1,1 +1,4 @@
+pub mod Tables
+pub mod Parts
 pub mod Finding
+pub mod Searching
