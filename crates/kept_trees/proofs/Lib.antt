@@ -2,10 +2,14 @@ mod RenumberedTrees
 mod OwnPlaces
 mod OwnProblems
 mod OwnNumbers
-mod FoundHere
-mod HeldParts
-pub mod HeldLists
+mod LiveOutcomes
+mod OwnOutcomes
 mod RenamedDuals
 mod OwnDuals
 pub mod PutOrders
 mod OwnOrders
+mod OwnShown
+mod Serving
+mod Solving
+mod HeldParts
+pub mod HeldLists

@@ -6,8 +6,10 @@ use Rattle.map_base.specs.declared.ids.SegId.{SegId}
 use Rattle.map_base.specs.declared.ids.LineId.{LineId}
 use Rattle.order_model.specs.Costs.{AreOrders}
 use Rattle.order_search.specs.Finding.{with_lists}
+use Rattle.order_model.proofs.PlaceCosts.{order_at}
 
-pub length-with_lists : (part : List SegId) (lists orders : List (List LineId)) → length (with_lists part lists orders) ≡ length orders
+pub length-with_lists : (part : List SegId) (lists orders : List (List LineId))
+    → length (with_lists part lists orders) ≡ length orders
 length-with_lists [] lists orders = refl
 length-with_lists (s ∷ part) [] orders = refl
 length-with_lists (s ∷ part) (order ∷ lists) orders = length-set (with_lists part lists orders) s.0 order ∙ length-with_lists part lists orders
@@ -17,12 +19,6 @@ length-orders [] [] are = refl
 length-orders [] (o ∷ orders) are = absurd are
 length-orders (lines ∷ segs) [] are = absurd are
 length-orders (lines ∷ segs) (o ∷ orders) are = ap suc (length-orders segs orders are.1)
-
-pub order_at : (segs orders : List (List LineId)) (i : ℕ) → AreOrders segs orders → i < length segs → IsPermutation (get_or segs i []) (get_or orders i [])
-order_at [] orders i are below = absurd (omega (arith, below))
-order_at (lines ∷ segs) [] i are below = absurd are
-order_at (lines ∷ segs) (o ∷ orders) zero are below = are.0
-order_at (lines ∷ segs) (o ∷ orders) (suc i) are below = order_at segs orders i are.1 (omega (arith, below))
 
 pub orders_from : (segs orders : List (List LineId)) → length orders ≡ length segs
     → ((i : ℕ) → i < length segs → IsPermutation (get_or segs i []) (get_or orders i [])) → AreOrders segs orders
@@ -64,7 +60,8 @@ put_alike (s ∷ part) (order ∷ lists) some others i below within = by_test (i
         ]
 
 -- orders that are some with a part's lists over the number order are some over any orders
-pub orders_put : (segs orders : List (List LineId)) (part : List SegId) (lists : List (List LineId)) → AreOrders segs orders → AreOrders segs (with_lists part lists segs)
+pub orders_put : (segs orders : List (List LineId)) (part : List SegId) (lists : List (List LineId))
+    → AreOrders segs orders → AreOrders segs (with_lists part lists segs)
     → AreOrders segs (with_lists part lists orders)
 orders_put segs orders part lists are attained =
     orders_from segs (with_lists part lists orders) (length-with_lists part lists orders ∙ length-orders segs orders are)

@@ -1,5 +1,5 @@
 -- What is held: parts by themselves, each with what a search found.
-use Rattle.std.specs.Prelude.{◌≡◌, ℕ, ◌+◌, false, List, [], ◌∷◌, map, Option, Some, None, Result, Ok, Err, if◌then◌else◌}
+use Rattle.std.specs.Prelude.{◌≡◌, ℕ, false, List, map, Option, Some, None, Result, Ok, Err, if◌then◌else◌}
 use Rattle.std.specs.List.{AllByRecursion}
 use Rattle.map_base.specs.declared.ids.SegId.{SegId}
 use Rattle.map_base.specs.declared.ids.LineId.{LineId}
@@ -11,10 +11,10 @@ use Rattle.order_search.specs.ByItself.{by_itself}
 use Rattle.kept_trees.specs.declared.part_key.PartKey.{PartKey}
 use Rattle.kept_trees.specs.declared.plan.SearchPlan.{SearchPlan}
 use Rattle.kept_trees.specs.declared.found_part.FoundPart.{FoundPart}
-use Rattle.kept_trees.specs.Results.{PartResult, part_outcome, IsOwnFound}
+use Rattle.kept_trees.specs.Results.{PartResult, own_outcome, IsOwnFound}
 
--- A part by itself, how it was searched, and the budget within which the search was not complete; none where it was, for
--- a complete search finds the same within every budget that allows its branch nodes.
+-- A part by itself, how it was searched, and the budget within which the search was not complete; none where it was,
+-- for a complete search finds the same within every budget that allows its branch nodes.
 pub record HeldPart : Type 0 where
   pub how : Search
   pub spent : Option ℕ
@@ -25,9 +25,12 @@ abbrev pub spent_in : ℕ → Result PartResult SearchFault → Option ℕ
 spent_in budget (Err fault) = None
 spent_in budget (Ok r) = if r.complete then None else Some budget
 
+abbrev pub held_own : SearchPlan → ProblemParts → HeldPart
+held_own plan own = record { how = plan.search; spent = spent_in plan.budget (own_outcome plan own); part = own }
+
 -- what is to be known of a part of a problem, so that it needs no search
 abbrev pub held_as : SearchPlan → ProblemParts → List SegId → HeldPart
-held_as plan p part = record { how = plan.search; spent = spent_in plan.budget (part_outcome plan p part); part = by_itself p part }
+held_as plan p part = held_own plan (by_itself p part)
 
 -- best orders are searched for within a budget
 abbrev pub best_within : Search → ℕ → SearchPlan
@@ -37,8 +40,8 @@ best_within how budget = record { search = how; claim = Best; budget = budget }
 abbrev pub bound_within : Search → ℕ → SearchPlan
 bound_within how budget = record { search = how; claim = Bound; budget = budget }
 
--- what the search finds in a part by itself, which has all segments of its problem: within some budget, or within the one
--- with which it was not complete
+-- what the search finds in a part by itself, which has all segments of its problem: within some budget, or within the
+-- one with which it was not complete
 abbrev pub IsFoundBy : Search → Option ℕ → ProblemParts → FoundPart → Type 0
 IsFoundBy how None own f = (budget : ℕ) × IsOwnFound (best_within how budget) own f
 IsFoundBy how (Some budget) own f = (f.complete ≡ false) × IsOwnFound (bound_within how budget) own f

@@ -1,5 +1,6 @@
 -- What is found of a part of a problem, by the live tree or by dual prices, and why nothing is.
-use Rattle.std.specs.Prelude.{◌≡◌, ℕ, ◌+◌, nat_le, Bool, true, false, ◌&&◌, List, Option, None, Result, Ok, Err, if◌then◌else◌}
+use Rattle.std.specs.Prelude.{◌≡◌, ℕ, ◌+◌, nat_le, Bool, true, false, ◌&&◌, if◌then◌else◌}
+use Rattle.std.specs.Prelude.{List, None, Result, Ok, Err}
 use Rattle.map_base.specs.declared.ids.SegId.{SegId}
 use Rattle.map_base.specs.declared.ids.LineId.{LineId}
 use Rattle.map_base.specs.declared.limit.LimitKind.TheVariants.{Places}
@@ -27,10 +28,10 @@ use Rattle.order_search.specs.ByItself.{by_itself}
 use Rattle.kept_trees.specs.declared.plan.SearchPlan.{SearchPlan}
 use Rattle.kept_trees.specs.declared.found_part.FoundPart.{FoundPart}
 use Rattle.dual_ascent.specs.OwnNumbers.{all_segments}
-use Rattle.kept_trees.specs.Renumbered.{renumbered_tree}
+use Rattle.kept_trees.specs.Renumbered.{is_by_pairs, renumbered_tree}
 
--- What is found of a part: a target that none of its orders cost less than, the tree that shows it, orders of the part's
--- segments, and the branch nodes of the search. Where the search is complete, the orders cost the target.
+-- What is found of a part: a target that none of its orders cost less than, the tree that shows it, orders of the
+-- part's segments, and the branch nodes of the search. Where the search is complete, the orders cost the target.
 pub record PartResult : Type 0 where
   pub complete : Bool
   pub target : ℕ
@@ -50,7 +51,13 @@ by_live grown = record {
 
 -- what dual prices find in a part by itself
 abbrev pub by_dual : DualResult → PartResult
-by_dual r = record { complete = r.complete; target = r.target; tree = by_pairs r.tree; lists = r.orders; branches = r.branches }
+by_dual r = record {
+  complete = r.complete;
+  target = r.target;
+  tree = by_pairs r.tree;
+  lists = r.orders;
+  branches = r.branches;
+}
 
 -- the part is searched by dual prices: so it was asked, no segment is too wide, and the load is not too great
 abbrev pub is_dual : Search → ProblemParts → List SegId → Bool
@@ -77,10 +84,16 @@ dual_own budget own = by_dual (dual_result own budget)
 abbrev pub dual_part : ℕ → ProblemParts → List SegId → PartResult
 dual_part budget p part = renumbered_result part (part_numbers p.terms part) (dual_own budget (by_itself p part))
 
--- a search that is not complete is refused where best orders are claimed; where a bound is, its branch nodes are the budget
+-- a search that is not complete is refused where best orders are claimed; where a bound is, its branch nodes are the
+-- budget
 abbrev pub dual_outcome : Claim → ℕ → PartResult → Result PartResult SearchFault
 dual_outcome Best budget r = if r.complete then Ok r else Err (fault.Spent (budget + 1))
 dual_outcome Bound budget r = Ok (if r.complete then r else record r { branches = budget })
+
+-- so a search that can't come to its end leaves a bound where dual prices found it and a bound is claimed
+abbrev pub leaves_bound : Claim → PlainPartTree → Bool
+leaves_bound Best tree = false
+leaves_bound Bound tree = is_by_pairs tree
 
 -- what is found of a part of a problem, or why nothing is
 abbrev pub part_outcome : SearchPlan → ProblemParts → List SegId → Result PartResult SearchFault
@@ -97,7 +110,8 @@ own_outcome plan own =
 -- the branch nodes that the search meets
 abbrev pub branches_met : SearchPlan → ProblemParts → List SegId → ℕ
 branches_met plan p part =
-    if is_dual plan.search p part then (dual_part plan.budget p part).branches else (by_live (live_tree (part_in p part))).branches
+    if is_dual plan.search p part then (dual_part plan.budget p part).branches
+    else (by_live (live_tree (part_in p part))).branches
 
 abbrev pub own_branches : SearchPlan → ProblemParts → ℕ
 own_branches plan own =
@@ -124,9 +138,10 @@ abbrev pub CostTarget : Bool → ℕ → ℕ → Type 0
 CostTarget true target cost = cost ≡ target
 CostTarget false target cost = Unit {0}
 
--- what comes of the part is found. No orders of the part cost less than the target, and the tree shows so; what was found
--- are orders of its segments, which cost the target where the search is complete
-pub record IsFound (outcome : Result PartResult SearchFault) (p : ProblemParts) (part : List SegId) (f : FoundPart) : Type 0 where
+-- what comes of the part is found. No orders of the part cost less than the target, and the tree shows so; what was
+-- found are orders of its segments, which cost the target where the search is complete
+pub record IsFound (outcome : Result PartResult SearchFault) (p : ProblemParts) (part : List SegId) (f : FoundPart) :
+    Type 0 where
   pub found : outcome ≡ Ok (result_found f)
   pub bound : IsLeast (part_in p part) f.target
   pub cost : ℕ
@@ -135,12 +150,13 @@ pub record IsFound (outcome : Result PartResult SearchFault) (p : ProblemParts) 
   pub accepted : IsAccepted (question p.segs part (part_terms p.terms part) f.target) (plain_part_tree f.tree)
   pub of_proofs : IsPartTree (plain_part_tree f.tree)
 
--- of a part of a problem by its plan, and of a part by itself
+-- of a part of a problem by its plan
 abbrev pub IsResult : SearchPlan → ProblemParts → List SegId → FoundPart → Type 0
 IsResult plan p part f = IsFound (part_outcome plan p part) p part f
 
+-- what comes of a part by itself is found
 abbrev pub IsOwnFound : SearchPlan → ProblemParts → FoundPart → Type 0
-IsOwnFound plan own f = IsFound (own_outcome plan own) own (all_segments own) f
+IsOwnFound plan own f = own_outcome plan own ≡ Ok (result_found f)
 
 -- the fault is the one that comes by definition; want of memory is free
 abbrev pub IsFaultOf : Result PartResult SearchFault → SearchFault → Type 0

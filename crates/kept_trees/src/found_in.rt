@@ -19,8 +19,9 @@ pub(crate) fn found_in(
     numbers: &[u32],
     own: &FoundPart,
 ) -> Result<FoundPart, NoMemory>
-    requires tree { IsPartTree (renumbered_tree part.now numbers.now (plain_part_tree own.now.tree)) }
-    ensures found { IfOk result (λ f. result_found f ≡ renumbered_result part.now numbers.now (result_found own.now)) }
+    requires { IsPartTree (renumbered_tree part.now numbers.now (plain_part_tree own.now.tree)) }
+    ensures { IfOk result (λ f.
+        result_found f ≡ renumbered_result part.now numbers.now (result_found own.now)) }
 {
     let tree = renumbered_tree(alloc, &own.tree, part, numbers)?;
     let lists = copied(alloc, own.orders.lists.as_slice())?;

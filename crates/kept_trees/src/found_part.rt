@@ -1,5 +1,10 @@
 //! What is found of a part.
 
+ghost use Rattle.std.specs.Prelude.{◌≡◌};
+ghost use Rattle.order_proof.specs.Plain.{plain_part_tree};
+ghost use Rattle.kept_trees.specs.Renumbered.{is_by_pairs};
+
+use map_method::Claim;
 use order_model::Orders;
 use order_proof::PartTree;
 
@@ -19,17 +24,35 @@ pub struct FoundPart {
 }
 
 impl FoundPart {
-    ghost use Rattle.std.specs.Prelude.{◌≡◌};
+    ghost use Rattle.std.specs.Prelude.{◌≡◌, Ok};
     ghost use Rattle.order_proof.specs.Plain.{plain_part_tree};
-    ghost use Rattle.kept_trees.specs.Renumbered.{is_by_pairs};
+    ghost use Rattle.kept_trees.specs.OwnTrees.{spent_in};
+    ghost use Rattle.kept_trees.specs.Results.{leaves_bound, result_found};
 
-    /// Whether it was found by dual prices.
-    pub(crate) fn is_dual(&self) -> bool
-        ensures { result ≡ is_by_pairs (plain_part_tree self.now.tree) }
+    /// Whether a search for it that can't come to its end leaves a bound: dual prices do, where a bound is claimed.
+    pub(crate) fn leaves_bound(&self, claim: Claim) -> bool
+        ensures { result ≡ leaves_bound claim (plain_part_tree self.now.tree) }
     {
-        match &self.tree {
-            PartTree::ByCases(_) => false,
-            PartTree::ByPairs(_) => true,
+        match claim {
+            Claim::Best => false,
+            Claim::Bound => is_by_pairs(&self.tree),
         }
+    }
+
+    /// The budget within which the search was not complete; none where it was.
+    pub(crate) fn spent_in(&self, budget: u32) -> Option<u32>
+        ensures { result ≡ spent_in budget (Ok (result_found self.now)) }
+    {
+        if self.complete { None } else { Some(budget) }
+    }
+}
+
+/// Whether a part's tree is of settled pairs.
+fn is_by_pairs(tree: &PartTree) -> bool
+    ensures { result ≡ is_by_pairs (plain_part_tree tree.now) }
+{
+    match tree {
+        PartTree::ByCases(_) => false,
+        PartTree::ByPairs(_) => true,
     }
 }

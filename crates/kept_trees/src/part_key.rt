@@ -6,7 +6,7 @@ ghost use Rattle.order_model.specs.Problems.{lines_on, IsProblem};
 ghost use Rattle.order_model.specs.Parts.{IsRisingPart};
 ghost use Rattle.order_model.specs.PartTerms.{part_numbers};
 ghost use Rattle.order_search.specs.ByItself.{by_itself};
-ghost use Rattle.kept_trees.specs.OwnTrees.{part_of_key, held_by};
+ghost use Rattle.kept_trees.specs.OwnTrees.{part_of_key};
 
 use crate::own_terms::own_terms;
 use map_base::{LineId, NoMemory, SegId, Sequence};
@@ -14,8 +14,8 @@ use map_method::Search;
 use order_model::{Problem, ProblemParts, Term};
 use std::alloc::Global;
 
-/// A part by itself, and how it is searched: two of them are equal where the search, the lists of lines and the terms are.
-/// The lists of lines alone tell nearly all parts of a problem apart, so a hash is made of them.
+/// A part by itself, and how it is searched: two of them are equal where the search, its budget, the lists of lines and
+/// the terms are. The lists of lines alone tell nearly all parts of a problem apart, so a hash is made of them.
 #[derive(PartialEq, Eq, Drop)]
 #[derive_where(Hash)]
 pub struct PartKey {
@@ -44,7 +44,8 @@ pub(crate) fn part_key(
     requires rising { IsRisingPart part.now }
     requires numbers { numbers.now ≡ part_numbers problem.now.terms part.now }
     ensures part { IfOk result (λ key. part_of_key key ≡ by_itself problem.now part.now) }
-    ensures held { IfOk result (λ key. held_by key ≡ record { how = how; spent = None; part = by_itself problem.now part.now }) }
+    ensures how { IfOk result (λ key. key.how ≡ how) }
+    ensures complete { IfOk result (λ key. key.spent ≡ None) }
     ensures fits { IsProblem problem.now }
 {
     let terms = problem.terms();

@@ -108,7 +108,8 @@ fn renumbered_cases(
     numbers: &[u32],
 ) -> Result<Vec<(LineId, Tree)>, NoMemory>
     requires { AreTrees (cases_by (seg_from part.now) (number_from numbers.now) (plain_children children.now)) }
-    ensures { IfOk result (λ v. map (λ c. (c.0, plain c.1)) v.items ≡ map (renumbered_case part.now numbers.now) children.now) }
+    ensures { IfOk result (λ v.
+        map (λ c. (c.0, plain c.1)) v.items ≡ map (renumbered_case part.now numbers.now) children.now) }
 {
     let mut cases = Vec::with_capacity(alloc, children.len())?;
     for child in children {

@@ -17,7 +17,7 @@ use std::alloc::Global;
 
 /// The tree of a prefix with the prices of each Close.
 #[cycle(priced)]
-pub fn priced(alloc: Global, bounds: &mut PartBounds, tree: &Tree) -> Result<Tree, NoMemory>
+pub(crate) fn priced(alloc: Global, bounds: &mut PartBounds, tree: &Tree) -> Result<Tree, NoMemory>
     requires rising { All AreRising bounds.old.segs }
     requires well { IsWell bounds.old.segs bounds.old.placed }
     requires over { IsOver bounds.old.segs bounds.old.placed (plain tree.now) }

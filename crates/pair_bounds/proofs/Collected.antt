@@ -244,8 +244,3 @@ all_take P [] zero all = All-nil P
 all_take P [] (suc i) all = All-nil P
 all_take P (x ∷ xs) zero all = All-nil P
 all_take P (x ∷ xs) (suc i) all = All-cons P x (take i xs) (All-head P x xs all) (all_take P xs i (All-tail P x xs all))
-
--- nothing is gathered yet
-pub none_collected : (segs placed : List (List LineId)) (p : Pair) (open_segs : List SegId) (slots : List Slot) (links : List OpenLink) → slots ≡ slots_of (λ s. s) (λ s x. 0) open_segs → links ≡ []
-    → IsCollected segs placed p open_segs [] 0 slots links
-none_collected segs placed p open_segs slots links h k = subst (IsCollected segs placed p open_segs [] 0 slots) (sym k) (record { base_is = refl; slots_are = h; links_are = refl })

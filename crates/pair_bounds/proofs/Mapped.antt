@@ -13,9 +13,6 @@ mapped_next f [] i d h = absurd (omega (arith, h))
 mapped_next f (x ∷ xs) zero d h = refl
 mapped_next f (x ∷ xs) (suc i) d h = mapped_next f xs i d (omega (arith, h))
 
-pub mapped_none : {A : Type 0} (f : A → A) (xs : List A) → xs ≡ mapped_to f xs 0
-mapped_none f xs = refl
-
 pub mapped_all : {A : Type 0} (f : A → A) (xs : List A) (i : ℕ) → length xs ≤ i → mapped_to f xs i ≡ map f xs
 mapped_all f [] zero h = refl
 mapped_all f [] (suc i) h = refl

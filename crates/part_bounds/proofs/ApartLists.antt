@@ -32,35 +32,10 @@ none_there w (Some together) = refl
 none_yet : (count : ℕ) (lists : List (List Term)) → length lists ≡ count → ((k : ℕ) → get_or lists k [] ≡ []) → AreByEnds count [] lists
 none_yet count lists each none = record { each = each; on = λ s known. none s.0 }
 
-empty_at : (lists : List (List Term)) → ((k : ℕ) → get_or lists k [] ≡ []) → (k : ℕ) → get_or (lists ++ [] ∷ []) k [] ≡ []
-empty_at [] none zero = refl
-empty_at [] none (suc k) = refl
-empty_at (x ∷ lists) none zero = none 0
-empty_at (x ∷ lists) none (suc k) = empty_at lists (λ j. none (suc j)) k
-
 -- lists of which none has a term
 pub record AreEmpty (count : ℕ) (lists : List (List Term)) : Type 0 where
   pub each : length lists ≡ count
   pub none : (k : ℕ) → get_or lists k [] ≡ []
-
-pub empty_first : AreEmpty 0 []
-empty_first = record { each = refl; none = λ k. at k }
-  where
-    at : (k : ℕ) → get_or {A = List Term} [] k [] ≡ []
-    at zero = refl
-    at (suc k) = refl
-
-pub empty_more : (lists new : List (Vec Term Global)) (v : Vec Term Global) (count : ℕ) → AreEmpty count (lists_in lists) → v.items ≡ [] → new ≡ lists ++ v ∷ [] → AreEmpty (count + 1) (lists_in new)
-empty_more lists new v count ok none e =
-    let whole : lists_in new ≡ lists_in lists ++ [] ∷ [] = ap lists_in e ∙ (map_push (λ (v : Vec Term Global). v.items) lists v ∙ ap (λ l. lists_in lists ++ l ∷ []) none) in
-    subst (AreEmpty (count + 1)) (sym whole) (record { each = length_last (lists_in lists) ok.each; none = empty_at (lists_in lists) ok.none })
-  where
-    length_last : (xs : List (List Term)) → length xs ≡ count → length (xs ++ [] ∷ []) ≡ count + 1
-    length_last xs h = omega (arith, length_push xs, h)
-      where
-        length_push : (xs : List (List Term)) → length (xs ++ [] ∷ []) ≡ length xs + 1
-        length_push [] = refl
-        length_push (x ∷ xs) = omega (arith, length_push xs)
 
 pub empty_lists : (count : ℕ) (lists : List (List Term)) → AreEmpty count lists → AreByEnds count [] lists
 empty_lists count lists ok = none_yet count lists ok.each ok.none
@@ -75,43 +50,6 @@ list_grown lists k g e t below here more =
 
 pub none_more : (t : Term) (lists : List (List Term)) → ((s : SegId) → is_apart_on s t ≡ false) → AreMore t lists lists
 none_more t lists none = record { each = refl; on = λ s known. sym (ap (λ b. get_or lists s.0 [] ++ cond b (t ∷ []) []) (none s) ∙ append-nil (get_or lists s.0 [])) }
-
-pub both_more : (seg other : SegId) (a b : LineId) (w : ℕ) (lists one two : List (List Term)) → seg.0 < other.0 → other.0 < length lists
-    → one ≡ set lists seg.0 (get_or lists seg.0 [] ++ Apart seg other a b w ∷ []) → two ≡ set one other.0 (get_or one other.0 [] ++ Apart seg other a b w ∷ [])
-    → AreMore (Apart seg other a b w) lists two
-both_more seg other a b w lists one two rises known e1 e2 = record {
-  each = ap length e2 ∙ (length-set one other.0 (get_or one other.0 [] ++ t ∷ []) ∙ (ap length e1 ∙ length-set lists seg.0 (get_or lists seg.0 [] ++ t ∷ [])));
-  on = λ s within. by_tests s (seg.0 == s.0) refl (other.0 == s.0) refl;
-}
-  where
-    t : Term
-    t = Apart seg other a b w
-
-    differ : seg.0 ≢ other.0
-    differ e = absurd (omega (arith, rises, e))
-
-    at_first : get_or one seg.0 [] ≡ get_or lists seg.0 [] ++ t ∷ []
-    at_first = ap (λ l. get_or l seg.0 []) e1 ∙ get_or-set_same lists seg.0 (get_or lists seg.0 [] ++ t ∷ []) [] (omega (arith, rises, known))
-
-    not_first : (k : ℕ) → k ≢ seg.0 → get_or one k [] ≡ get_or lists k []
-    not_first k ne = ap (λ l. get_or l k []) e1 ∙ get_or-set_other lists seg.0 k (get_or lists seg.0 [] ++ t ∷ []) [] ne
-
-    at_other : get_or two other.0 [] ≡ get_or one other.0 [] ++ t ∷ []
-    at_other = ap (λ l. get_or l other.0 []) e2 ∙ get_or-set_same one other.0 (get_or one other.0 [] ++ t ∷ []) [] (subst (λ n. other.0 < n) (sym (ap length e1 ∙ length-set lists seg.0 (get_or lists seg.0 [] ++ t ∷ []))) known)
-
-    not_other : (k : ℕ) → k ≢ other.0 → get_or two k [] ≡ get_or one k []
-    not_other k ne = ap (λ l. get_or l k []) e2 ∙ get_or-set_other one other.0 k (get_or one other.0 [] ++ t ∷ []) [] ne
-
-    by_tests : (s : SegId) (p : Bool) → (seg.0 == s.0) ≡ p → (q : Bool) → (other.0 == s.0) ≡ q → get_or two s.0 [] ≡ get_or lists s.0 [] ++ cond (p || q) (t ∷ []) []
-    by_tests s true p true q = absurd (differ (eqb-true seg.0 s.0 p ∙ sym (eqb-true other.0 s.0 q)))
-    by_tests s true p false q =
-        let here : seg.0 ≡ s.0 = eqb-true seg.0 s.0 p in
-        subst (λ k. get_or two k [] ≡ get_or lists k [] ++ t ∷ []) here (not_other seg.0 differ ∙ at_first)
-    by_tests s false p true q =
-        let there : other.0 ≡ s.0 = eqb-true other.0 s.0 q in
-        subst (λ k. get_or two k [] ≡ get_or lists k [] ++ t ∷ []) there (at_other ∙ ap (λ l. l ++ t ∷ []) (not_first other.0 (λ e. differ (sym e))))
-    by_tests s false p false q =
-        not_other s.0 (λ e. true≢false (sym (eq-eqb other.0 s.0 (sym e)) ∙ q)) ∙ (not_first s.0 (λ e. true≢false (sym (eq-eqb seg.0 s.0 (sym e)) ∙ p)) ∙ sym (append-nil (get_or lists s.0 [])))
 
 aparts_push : (s : SegId) (done : List (ℕ × Term)) (t : ℕ × Term) → aparts_on s (done ++ t ∷ []) ≡ aparts_on s done ++ apart_on s t.1
 aparts_push s [] t = by_test (is_apart_on s t.1)
@@ -144,11 +82,6 @@ by_ends_next count terms held numbers i n d old new below known e ok more =
     get_or-any [] k d e h = absurd (omega (arith, h))
     get_or-any (x ∷ xs) zero d e h = refl
     get_or-any (x ∷ xs) (suc k) d e h = get_or-any xs k d e (omega (arith, h))
-
-pub has_ends : (segs : List (List LineId)) (t : Term) → IsTerm segs t → HasEnds (length segs) t
-has_ends segs (Side seg first second w) h = tt
-has_ends segs (Link seg other flip a b w) h = tt
-has_ends segs (Apart seg other a b w) h = (h.seg_below, h.other_known)
 
 -- What settled Aparts cost.
 

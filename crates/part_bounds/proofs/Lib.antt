@@ -1,7 +1,7 @@
 mod OwnTerms
 mod Groups
 mod KeptUp
-mod NotedPairs
+pub mod NotedPairs
 mod Marks
 mod KeptShares
 mod OwnSegments

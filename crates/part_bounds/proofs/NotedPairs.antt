@@ -4,7 +4,7 @@ use Rattle.std.specs.Prelude.{ℤ, pos, negsuc}
 use Rattle.std.specs.List.{All, AllByRecursion}
 use Rattle.std.proofs.Math.Path.{fun_ext}
 use Rattle.std.proofs.lemmas.Bool.{or_left, or_right, or_cases, and_parts}
-use Rattle.std.proofs.lemmas.List.{append-nil, take_more, get_or-map, length-map}
+use Rattle.std.proofs.lemmas.List.{append-nil, take_more, get_or-map, length-map, get_or_default}
 use Rattle.std.proofs.lemmas.List.Elements.{All-head, All-tail, All-from_recursion}
 use Rattle.map_base.specs.declared.ids.SegId.{SegId}
 use Rattle.map_base.specs.declared.ids.LineId.{LineId}
@@ -240,11 +240,6 @@ whole_noted segs placed part terms price groups stale grouped fresh noted =
 
 -- Another prefix.
 
-pub any_default : {A : Type 0} (xs : List A) (i : ℕ) (d e : A) → i < length xs → get_or xs i d ≡ get_or xs i e
-any_default [] i d e below = absurd (omega (arith, below))
-any_default (x ∷ xs) zero d e below = refl
-any_default (x ∷ xs) (suc i) d e below = any_default xs i d e (omega (arith, below))
-
 -- what holds of pairs that are not stale still holds of those that a placing leaves, where it doesn't change it
 pub left_fresh : (P Q : ℕ → Group → Type 0) (segs : List (List LineId)) (part : List SegId) (c : Change) (pairs : List PairTerms) (count : ℕ) (stale after : List Bool) → All (KnowsOwn part) pairs → All (IsGroup segs part) (groups_in pairs)
     → count ≡ length pairs → AreMarked c pairs count stale after → ((k : ℕ) (g : Group) → IsGroup segs part g → is_changed c g ≡ false → P k g → Q k g)
@@ -255,7 +250,7 @@ left_fresh P Q segs part c (p ∷ rest) count stale after own fit counted marked
     let pairs : List PairTerms = p ∷ rest in
     let within : k < length pairs = omega (arith, below, length-map pairs group_in) in
     let e : PairTerms = get_or pairs k p in
-    let here : e ≡ get_or pairs k e = any_default pairs k p e within in
+    let here : e ≡ get_or pairs k e = get_or_default pairs k p e within in
     let is : get_or (groups_in pairs) k no_group ≡ group_in e = group_here pairs k e within here in
     let fits : IsGroup segs part (group_in e) = group_at (IsGroup segs part) pairs k e fit within here in
     let known : KnowsOwn part e = subst (KnowsOwn part) (sym here) (own k e within) in
@@ -290,19 +285,19 @@ list_is segs placed part problem_terms numbers price list e1 all e2 =
     e2 ∙ (ap (listed_all price) e1 ∙ listed_is segs placed part (part_terms problem_terms part) (part_terms problem_terms part) price
     (all_among (λ (t : ℕ × Term). price t.0 ≡ price_among (pair_prices segs placed part (part_terms problem_terms part) (pair_in t.1)) t.0) (part_terms problem_terms part) all))
 
-abbrev AreAbove : ℕ → List (ℕ × ℤ) → Type 0
+abbrev pub AreAbove : ℕ → List (ℕ × ℤ) → Type 0
 AreAbove k prices = AllByRecursion (λ (p : ℕ × ℤ). k < p.0) prices
 
 rising_more : (k : ℕ) (y : ℤ) (prices : List (ℕ × ℤ)) → AreAbove k prices → AreRisingPrices prices → AreRisingPrices ((k, y) ∷ prices)
 rising_more k y [] above rises = tt
 rising_more k y (p ∷ prices) above rises = (above.0, rises)
 
-listed_rising : (k : ℕ) (y : ℤ) (rest : List (ℕ × ℤ)) → AreAbove k rest → AreRisingPrices rest → AreRisingPrices (listed k y ++ rest)
+pub listed_rising : (k : ℕ) (y : ℤ) (rest : List (ℕ × ℤ)) → AreAbove k rest → AreRisingPrices rest → AreRisingPrices (listed k y ++ rest)
 listed_rising k (pos zero) rest above rises = rises
 listed_rising k (pos (suc n)) rest above rises = rising_more k (pos (suc n)) rest above rises
 listed_rising k (negsuc n) rest above rises = rising_more k (negsuc n) rest above rises
 
-listed_above : (m k : ℕ) (y : ℤ) (rest : List (ℕ × ℤ)) → m < k → AreAbove m rest → AreAbove m (listed k y ++ rest)
+pub listed_above : (m k : ℕ) (y : ℤ) (rest : List (ℕ × ℤ)) → m < k → AreAbove m rest → AreAbove m (listed k y ++ rest)
 listed_above m k (pos zero) rest below above = above
 listed_above m k (pos (suc n)) rest below above = (below, above)
 listed_above m k (negsuc n) rest below above = (below, above)

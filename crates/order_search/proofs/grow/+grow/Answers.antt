@@ -11,10 +11,11 @@ use Rattle.order_search.specs.Left.{room_of, AreNext}
 use Rattle.order_search.specs.Children.{lines_in}
 use Rattle.order_search.specs.LiveTrees.{GrownTree, GrownCases}
 use Rattle.order_search.specs.Searching.{part_of, due, due_case, due_cases, due_upto, seg_at, AreBounded, IsUnderWay, AreShut, IsOpenAt, HasChildren}
-use Rattle.order_search.proofs.Shown.{plain-Split, plain_last}
+use Rattle.order_search.proofs.Shown.{plain_last}
 use Rattle.order_search.proofs.Ways.{way_placed, shut_placed, room_placed, due_placed, chosen_placed, grown_back, seg_known, grown_closed, whole_due, grown_whole, stop_later, some_branches, most_upto, upto_more, grown_more, line_at, count_lines, next_pushed, open_kept, case_ready, kids_at, kids_by, front_fits, taken_at}
 use Rattle.order_search.proofs.Early.{case_above, bounded_pushed, child_bounded}
 use Rattle.order_search.proofs.grow.+grow.Goals as goal
+use Rattle.order_proof.proofs.Views.{plain-Split}
 
 pub grow_case-grow-requires : goal.grow_case-grow-requires
 grow_case-grow-requires g t c =

@@ -5,7 +5,7 @@ use Rattle.order_search.specs.Finding.{places_of, most_places, IsSearchFault, Is
 use Rattle.order_search.specs.FoundParts.{branches_in}
 use Rattle.order_search.specs.Searching.{IsStop}
 use Rattle.order_search.proofs.Shows.{found_in_part, stop_fault, not_spent}
-use Rattle.order_search.proofs.part_search.search_part.Goals as goal
+use Rattle.order_search.proofs.part_search.search.Goals as goal
 
 pub returns-clause-found : goal.returns-clause-found
 returns-clause-found g c =
