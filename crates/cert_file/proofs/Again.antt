@@ -48,9 +48,6 @@ spoken_again word form zs a rest is few says =
     ∙ ap (λ (b : Bool). option_map (paired rest) (cond b (form zs) None)) (same_word word)
     ∙ ap (option_map (paired rest)) says
 
-few_number : (n most : ℕ) → n ≤ most → most ≤ 1000000000000000 → IsNumber (pos n)
-few_number n most low high = omega (arith, low, high)
-
 pub version_again : (v : ℕ) → 1 ≤ v → v ≤ 2 → version_of (pos v ∷ []) ≡ Some v
 version_again v low high = from_to_again 1 2 v low high
 

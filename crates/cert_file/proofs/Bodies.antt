@@ -53,16 +53,6 @@ importance_read version text ps rest is there =
     written [] e = absurd (omega arith)
     written (p ∷ ps) e = refl
 
-pub importance_unread : (version : ℕ) (text : List ℕ) (ps : List (LineId × ℕ)) → IsVersion version → (version ≡ 2 → ⊥) → ps ≡ [] → AreImportanceOf version ps text text
-importance_unread version text ps is not none =
-    let one : 1 ≡ version = first version is not in
-    subst (λ (qs : List (LineId × ℕ)). AreImportanceOf version qs text text) (sym none) (record { version_is = one; range = tt; front = refl })
-  where
-    first : (v : ℕ) → IsVersion v → (v ≡ 2 → ⊥) → 1 ≡ v
-    first zero is not = absurd (omega (arith, is.0))
-    first (suc zero) is not = refl
-    first (suc (suc v)) is not = let two : suc (suc v) ≡ 2 = omega (arith, is.1) in absurd (not two)
-
 -- ---- walks
 
 walks_text-append : (s : ℕ) (ws : List PlainWalk) (w : PlainWalk) → walks_text s (ws ++ w ∷ []) ≡ walks_text s ws ++ walk_text (s + length ws) w

@@ -28,24 +28,6 @@ pair_taken least done p (x ∷ y ∷ rest) total long is whole =
     let next : suc p.0.0 ≡ p.0.0 + 1 = omega arith in
     ap (λ (n : ℕ). behind (done ++ p ∷ []) (pairs_from n rest)) (sym next) ∙ sym (joined done p (pairs_from (suc p.0.0) rest)) ∙ ap (behind done) (sym one) ∙ whole
 
--- a pair is refused
-pub pair_refused : (least : ℕ) (done : List Pair) (xs : List ℤ) (total : Option (List Pair)) → 2 ≤ length xs
-    → None ≡ pair_of least (get_or xs 0 (pos 0)) (get_or xs 1 (pos 0)) → behind done (pairs_from least xs) ≡ total → None ≡ total
-pair_refused least done [] total long is whole = absurd (omega arith)
-pair_refused least done (x ∷ []) total long is whole = absurd (omega arith)
-pair_refused least done (x ∷ y ∷ rest) total long is whole =
-    ap (behind done) (ap (option_and_then (λ (q : Pair). option_map (λ more. q ∷ more) (pairs_from (suc q.0.0) rest))) is) ∙ whole
-
--- nothing is left, or one number
-pub pairs_end : (least : ℕ) (done : List Pair) (xs : List ℤ) (total : Option (List Pair)) → length xs ≡ 0 → behind done (pairs_from least xs) ≡ total → Some done ≡ total
-pairs_end least done [] total len whole = ap (λ (ps : List Pair). Some ps) (sym (append-nil done)) ∙ whole
-pairs_end least done (x ∷ xs) total len whole = absurd (omega arith)
-
-pub pairs_odd : (least : ℕ) (done : List Pair) (xs : List ℤ) (total : Option (List Pair)) → length xs < 2 → 0 < length xs → behind done (pairs_from least xs) ≡ total → None ≡ total
-pairs_odd least done [] total few some whole = absurd (omega arith)
-pairs_odd least done (x ∷ []) total few some whole = whole
-pairs_odd least done (x ∷ y ∷ xs) total few some whole = absurd (omega arith)
-
 -- the pairs so far, and those of the numbers that are left, are those of all
 pub record ArePairsSoFar (total : Option (List Pair)) (done : List Pair) (least : ℕ) (left : List ℤ) : Type 0 where
   pub whole : behind done (pairs_from least left) ≡ total
@@ -58,20 +40,3 @@ pair_kept total done new least next p xs left so_far long is small pushed follow
     subst (λ ys. ArePairsSoFar total new next ys) (sym rest)
     (subst (λ n. ArePairsSoFar total new n (drop 2 xs)) (sym following)
     (subst (λ ps. ArePairsSoFar total ps (p.0.0 + 1) (drop 2 xs)) (sym pushed) made))
-
--- one more line is taken, or refused
-pub line_taken : (done new : List LineId) (n : ℕ) (xs : List ℤ) (i : ℕ) (total : Option (List LineId)) → i < length xs → Some n ≡ natural_within most_id (get_or xs i (pos 0)) → new ≡ done ++ line_id n ∷ []
-    → behind done (lines_in (drop i xs)) ≡ total → behind new (lines_in (drop (i + 1) xs)) ≡ total
-line_taken done new n xs i total low is pushed whole =
-    let rest = drop (i + 1) xs in
-    let one : lines_in (get_or xs i (pos 0) ∷ rest) ≡ option_map (λ more. line_id n ∷ more) (lines_in rest) =
-    ap (option_and_then (λ (m : ℕ). option_map (λ more. line_id m ∷ more) (lines_in rest))) (sym is) in
-    ap (λ (ls : List LineId). behind ls (lines_in rest)) pushed ∙ sym (joined done (line_id n) (lines_in rest)) ∙ ap (behind done) (sym one)
-    ∙ sym (ap (λ (ys : List ℤ). behind done (lines_in ys)) (drop_more xs i (pos 0) low)) ∙ whole
-
-pub line_refused : (done : List LineId) (xs : List ℤ) (i : ℕ) (total : Option (List LineId)) → i < length xs → None ≡ natural_within most_id (get_or xs i (pos 0))
-    → behind done (lines_in (drop i xs)) ≡ total → None ≡ total
-line_refused done xs i total low is whole =
-    let rest = drop (i + 1) xs in
-    ap (behind done) (ap (option_and_then (λ (m : ℕ). option_map (λ more. line_id m ∷ more) (lines_in rest))) is)
-    ∙ sym (ap (λ (ys : List ℤ). behind done (lines_in ys)) (drop_more xs i (pos 0) low)) ∙ whole

@@ -11,29 +11,6 @@ use Rattle.octi_grid.proofs.RunLemmas.{first_count, rest_are_runs, same_directio
 use Rattle.decimal_text.specs.Lines.{words_behind}
 use Rattle.cert_file.specs.RunWords.{with_step, runs_of, run_of, run_before, runs_in, runs_behind}
 
-joined : (done : List Run) (r : Run) (more : Option (List Run)) → option_map (λ rest. done ++ rest) (run_before (Some r) more) ≡ option_map (λ rest. (done ++ r ∷ []) ++ rest) more
-joined done r None = refl
-joined done r (Some rest) = ap (λ (rs : List Run). Some rs) (sym (append_assoc done (r ∷ []) rest))
-
--- a word is taken that writes a run
-pub run_taken : (done new : List Run) (r : Run) (rest word left : List ℕ) (total : Option (List Run)) → words_behind rest ≡ word ∷ words_behind left → Some r ≡ run_of word → new ≡ done ++ r ∷ []
-    → runs_behind done (words_behind rest) ≡ total → runs_behind new (words_behind left) ≡ total
-run_taken done new r rest word left total cut is pushed whole =
-    ap (λ (rs : List Run). runs_behind rs (words_behind left)) pushed
-    ∙ sym (joined done r (runs_in (words_behind left)))
-    ∙ ap (λ (o : Option Run). option_map (λ rest. done ++ rest) (run_before o (runs_in (words_behind left)))) is
-    ∙ sym (ap (runs_behind done) cut) ∙ whole
-
--- a word that writes no run
-pub run_refused : (done : List Run) (rest word left : List ℕ) (total : Option (List Run)) → words_behind rest ≡ word ∷ words_behind left → None ≡ run_of word
-    → runs_behind done (words_behind rest) ≡ total → None ≡ total
-run_refused done rest word left total cut is whole =
-    ap (λ (o : Option Run). option_map (λ rest. done ++ rest) (run_before o (runs_in (words_behind left)))) is ∙ sym (ap (runs_behind done) cut) ∙ whole
-
--- no word is left
-pub runs_end : (done : List Run) (rest : List ℕ) (total : Option (List Run)) → words_behind rest ≡ [] → runs_behind done (words_behind rest) ≡ total → Some done ≡ total
-runs_end done rest total none whole = ap (λ (rs : List Run). Some rs) (sym (append-nil done)) ∙ sym (ap (runs_behind done) none) ∙ whole
-
 -- ---- steps and runs
 
 abbrev run : Dir → ℕ → Run

@@ -15,13 +15,6 @@ use Rattle.cert_file.specs.Text.{version_text, counts_text, importance_text, wal
 use Rattle.cert_file.specs.Reading.{proof_place, whole_end, head_end, certificate_end}
 use Rattle.cert_file.specs.Readers.{IsHeadOf, IsWholeProof, IsTextOf, certificate_with}
 
--- the proof of the whole text
-pub whole_proof : (p : PlainProof) (used : ℕ) (bytes : List ℕ) → readers.IsTextOf p used bytes → used ≡ length bytes → IsWholeProof p bytes
-whole_proof p used bytes is all = record {
-  range = is.range;
-  text = sym (take_all (length bytes) bytes (omega arith)) ∙ ap (λ (n : ℕ). take n bytes) (sym all) ∙ is.text;
-}
-
 pub ends_whole : (place used : ℕ) (bytes : List ℕ) → proof_end bytes ≡ Ok used → used ≡ length bytes → proof_place place (length bytes) (proof_end bytes) ≡ Ok (place + length bytes)
 ends_whole place used bytes e all =
     ap (proof_place place (length bytes)) e
@@ -35,23 +28,6 @@ ends_before place used bytes e more =
 
 pub stops_at : (place at : ℕ) (bytes : List ℕ) → proof_end bytes ≡ Err at → proof_place place (length bytes) (proof_end bytes) ≡ Err (place + at)
 stops_at place at bytes e = ap (proof_place place (length bytes)) e
-
-abbrev err : ℕ → Result ℕ ℕ
-err n = Err n
-
-abbrev ok : ℕ → Result ℕ ℕ
-ok n = Ok n
-
--- a proof stops within its text
-pub stop_low : (bytes : List ℕ) (at : ℕ) → proof_end bytes ≡ Err at → at ≤ length bytes
-stop_low bytes at e = by (proofs.reading (proofs.RuleCount ∷ []) bytes) e
-  where
-    low : (n : ℕ) → err (length bytes - n) ≡ err at → at ≤ length bytes
-    low n e = let is : length bytes - n ≡ at = cc in omega arith
-
-    by : (r : Result (List ℕ) (List ℕ)) → proofs.place_of bytes r ≡ err at → at ≤ length bytes
-    by (Ok rest) e = absurd cc
-    by (Err rest) e = low (length rest) e
 
 -- where the whole ends
 pub head_then : (bytes rest : List ℕ) (r : Result ℕ ℕ) → head_end bytes ≡ Ok rest → proof_place (length bytes - length rest) (length rest) (proof_end rest) ≡ r → certificate_end bytes ≡ r

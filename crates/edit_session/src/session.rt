@@ -111,7 +111,7 @@ impl Session {
         steps: &mut Steps<L>,
     ) -> Result<Made, MakeFault>
         ensures outcome { Gives bytes_of result (draw_outcome self.old) }
-        ensures made { IfOk result (λ made. IsMade (drawn_feed self.old) (drawn_choices self.old) (bytes_of made)) }
+        ensures made { IfOk result (λ made. IsMade (drawn_feed self.old) (drawn_choices self.old) self.old.method.claim (bytes_of made)) }
         ensures edits { self.new ≡ with_held self.old self.new.held }
         ensures kept { All (Contains self.new.held) self.old.held }
         ensures finished { HoldsFinished result (draw_parts self.old) self.new.held }

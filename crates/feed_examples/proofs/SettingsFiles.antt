@@ -5,7 +5,8 @@ use Rattle.toml.proofs.OnLiterals.{toml_on_literals}
 use Rattle.map_base.specs.Settings.{standard_choices}
 use Rattle.map_method.specs.declared.defaults.Defaults.TheVariants.{Make, Map}
 use Rattle.map_method.specs.declared.map_settings.MapSettings.{MapSettings}
-use Rattle.map_method.specs.declared.search.Search.TheVariants.{Live, Rising}
+use Rattle.map_method.specs.declared.search.Search.TheVariants.{Live, Dual}
+use Rattle.map_method.specs.declared.claim.Claim.TheVariants.{Best, Bound}
 use Rattle.map_method.specs.declared.spread.Spread.TheVariants.{Percent, Auto}
 use Rattle.map_method.specs.Defaults.{default_choices}
 use Rattle.map_method.specs.Methods.{MethodChoices}
@@ -21,22 +22,22 @@ of_nothing = refl
 
 -- a key leaves the other defaults as they are
 least_near : with_table Make (parse_document (codes "near = 20\n"))
-    ≡ Ok (near_and_method (record { search = Live; spread = Percent 0; finest = 4; moves = 0 }))
+    ≡ Ok (near_and_method (record { search = Live; claim = Best; spread = Percent 0; finest = 4; moves = 0 }))
 unfolding toml_on_literals
 least_near = refl
 
 of_map : with_table Map (parse_document (codes "budget = 20000\nnear = 20\nfinest = 8\n"))
-    ≡ Ok (near_and_method (record { search = Rising; spread = Auto; finest = 8; moves = 1000 }))
+    ≡ Ok (near_and_method (record { search = Dual; claim = Best; spread = Auto; finest = 8; moves = 1000 }))
 unfolding toml_on_literals
 of_map = refl
 
 no_moves : with_table Map (parse_document (codes "budget = 20000\nnear = 20\nfinest = 8\nmoves = 0\n"))
-    ≡ Ok (near_and_method (record { search = Rising; spread = Auto; finest = 8; moves = 0 }))
+    ≡ Ok (near_and_method (record { search = Dual; claim = Best; spread = Auto; finest = 8; moves = 0 }))
 unfolding toml_on_literals
 no_moves = refl
 
-of_method : with_table Make (parse_document (codes "search = \"rising\"\nspread = \"auto\"\nnear = 20\nfinest = 8\n"))
-    ≡ Ok (near_and_method (record { search = Rising; spread = Auto; finest = 8; moves = 0 }))
+of_method : with_table Make (parse_document (codes "search = \"dual\"\nspread = \"auto\"\nnear = 20\nfinest = 8\n"))
+    ≡ Ok (near_and_method (record { search = Dual; claim = Best; spread = Auto; finest = 8; moves = 0 }))
 unfolding toml_on_literals
 of_method = refl
 
@@ -58,16 +59,31 @@ unfolding toml_on_literals
 spread_too_far = refl
 
 live_search : with_table Map (parse_document (codes "search = \"live\"\nbudget = 20000\nnear = 20\nspread = 0\nfinest = 4\n"))
-    ≡ Ok (near_and_method (record { search = Live; spread = Percent 0; finest = 4; moves = 1000 }))
+    ≡ Ok (near_and_method (record { search = Live; claim = Best; spread = Percent 0; finest = 4; moves = 1000 }))
 unfolding toml_on_literals
 live_search = refl
 
-other_search : with_table Make (parse_document (codes "search = \"Rising\"\n")) ≡ Err (Key (codes "search"))
+other_search : with_table Make (parse_document (codes "search = \"rising\"\n")) ≡ Err (Key (codes "search"))
 unfolding toml_on_literals
 other_search = refl
 
+-- a bound is asked for beside any search
+bound_alone : with_table Make (parse_document (codes "near = 20\nproof = \"bound\"\n"))
+    ≡ Ok (near_and_method (record { search = Live; claim = Bound; spread = Percent 0; finest = 4; moves = 0 }))
+unfolding toml_on_literals
+bound_alone = refl
+
+best_in_words : with_table Make (parse_document (codes "near = 20\nproof = \"best\"\n"))
+    ≡ Ok (near_and_method (record { search = Live; claim = Best; spread = Percent 0; finest = 4; moves = 0 }))
+unfolding toml_on_literals
+best_in_words = refl
+
+other_claim : with_table Make (parse_document (codes "proof = 1\n")) ≡ Err (Key (codes "proof"))
+unfolding toml_on_literals
+other_claim = refl
+
 most_moves : with_table Make (parse_document (codes "near = 20\nmoves = 10000\n"))
-    ≡ Ok (near_and_method (record { search = Live; spread = Percent 0; finest = 4; moves = 10000 }))
+    ≡ Ok (near_and_method (record { search = Live; claim = Best; spread = Percent 0; finest = 4; moves = 10000 }))
 unfolding toml_on_literals
 most_moves = refl
 

@@ -6,8 +6,8 @@ use Rattle.std.proofs.lemmas.List.Folds.{list_any_at}
 use Rattle.std.proofs.lemmas.Map.Views.{Contains-from_any}
 use Rattle.map_base.specs.declared.ids.SegId.{SegId}
 use Rattle.order_model.specs.declared.problem.ProblemParts.{ProblemParts}
-use Rattle.map_method.specs.declared.search.Search.{Search}
-use Rattle.kept_trees.specs.Results.{branches_by}
+use Rattle.kept_trees.specs.declared.plan.SearchPlan.{SearchPlan}
+use Rattle.kept_trees.specs.Results.{branches_met}
 use Rattle.kept_trees.specs.OwnTrees.{HeldPart, held_as}
 use Rattle.kept_trees.specs.Keeping.{is_same_held, is_held, with_part, branches_to_meet}
 use Rattle.kept_trees.proofs.HeldParts.{held_is, held_same}
@@ -39,22 +39,32 @@ stays_in held h g there = by_test (is_held held h)
     by_test false = Contains-append_left held (h ∷ []) g there
 
 -- the more is held, the fewer branch nodes are to be met
-pub fewer_to_meet : (old new : List HeldPart) (how : Search) (p : ProblemParts) (part : List SegId) → All (Contains new) old
-    → branches_to_meet new how p part ≤ branches_to_meet old how p part
-fewer_to_meet old new how p part kept = by_test (is_held old (held_as how p part)) refl
+pub fewer_to_meet : (old new : List HeldPart) (plan : SearchPlan) (p : ProblemParts) (part : List SegId)
+    → All (Contains new) old
+    → branches_to_meet new plan p part ≤ branches_to_meet old plan p part
+fewer_to_meet old new plan p part kept = by_test (is_held old here) refl
   where
-    by_test : (b : Bool) → is_held old (held_as how p part) ≡ b → branches_to_meet new how p part ≤ cond b 0 (branches_by how p part)
+    here : HeldPart
+    here = held_as plan p part
+
+    by_test : (b : Bool) → is_held old here ≡ b → branches_to_meet new plan p part ≤ cond b 0 (branches_met plan p part)
     by_test true h =
-        let still : is_held new (held_as how p part) ≡ true =
-        in_is_held new (held_as how p part) (All-contains (Contains new) old (held_as how p part) kept (held_is_in old (held_as how p part) h)) in
-        omega (arith, ap (λ b. cond b 0 (branches_by how p part)) still)
-    by_test false h = at_most (is_held new (held_as how p part))
+        let still : is_held new here ≡ true = in_is_held new here (All-contains (Contains new) old here kept (held_is_in old here h)) in
+        omega (arith, ap (λ b. cond b 0 (branches_met plan p part)) still)
+    by_test false h = at_most (is_held new here)
       where
-        at_most : (b : Bool) → cond b 0 (branches_by how p part) ≤ branches_by how p part
+        at_most : (b : Bool) → cond b 0 (branches_met plan p part) ≤ branches_met plan p part
         at_most true = omega arith
         at_most false = omega arith
 
 -- all branch nodes of a part that is not held are to be met
-pub all_to_meet : (held : List HeldPart) (how : Search) (p : ProblemParts) (part : List SegId) → is_held held (held_as how p part) ≡ false
-    → branches_to_meet held how p part ≡ branches_by how p part
-all_to_meet held how p part absent = ap (λ b. cond b 0 (branches_by how p part)) absent
+pub all_to_meet : (held : List HeldPart) (plan : SearchPlan) (p : ProblemParts) (part : List SegId)
+    → is_held held (held_as plan p part) ≡ false
+    → branches_to_meet held plan p part ≡ branches_met plan p part
+all_to_meet held plan p part absent = ap (λ b. cond b 0 (branches_met plan p part)) absent
+
+-- and none of one that is
+pub none_to_meet : (held : List HeldPart) (plan : SearchPlan) (p : ProblemParts) (part : List SegId)
+    → is_held held (held_as plan p part) ≡ true
+    → branches_to_meet held plan p part ≡ 0
+none_to_meet held plan p part there = ap (λ b. cond b 0 (branches_met plan p part)) there

@@ -2,6 +2,14 @@ mod RenumberedTrees
 mod OwnPlaces
 mod OwnProblems
 mod OwnNumbers
-mod FoundHere
+mod LiveOutcomes
+mod OwnOutcomes
+mod RenamedDuals
+mod OwnDuals
+pub mod PutOrders
+mod OwnOrders
+mod OwnShown
+mod Serving
+mod Solving
 mod HeldParts
 pub mod HeldLists

@@ -16,7 +16,8 @@ use Rattle.order_search.proofs.OwnParts.{at_number, numbers_of_segments}
 use Rattle.order_search.proofs.RisingNumbers.{RisesFrom, not_below, is_number, placed_within, placed_at, place_back, segs_rise}
 
 -- a number that stands later is greater
-greater_later : (k : ℕ) (ns : List ℕ) (i j : ℕ) → RisesFrom k ns → i < j → j < length ns → get_or ns i 0 < get_or ns j 0
+pub greater_later : (k : ℕ) (ns : List ℕ) (i j : ℕ) → RisesFrom k ns → i < j → j < length ns
+    → get_or ns i 0 < get_or ns j 0
 greater_later k [] i j rises less below = absurd (omega (arith, below))
 greater_later k (n ∷ ns) zero zero rises less below = absurd (omega (arith, less))
 greater_later k (n ∷ ns) zero (suc j) rises less below = omega (arith, not_below (n + 1) ns j rises.1 (omega (arith, below)))
@@ -38,13 +39,15 @@ place_at part s d among =
     sym (at_number part (place_in part s) d (place_within part s among)) ∙ placed_at (seg_numbers part) s.0 (among_numbers part s among)
 
 -- the place of the segment at a place is that place
-pub place_of : (part : List SegId) (s : SegId) (i : ℕ) (d : SegId) → IsRisingPart part → i < length part → (get_or part i d).0 ≡ s.0 → place_in part s ≡ i
+pub place_of : (part : List SegId) (s : SegId) (i : ℕ) (d : SegId) → IsRisingPart part → i < length part
+    → (get_or part i d).0 ≡ s.0 → place_in part s ≡ i
 place_of part s i d rising below here =
     ap (place_among (seg_numbers part)) (sym (at_number part i d below ∙ here))
     ∙ place_back (seg_numbers part) i (segs_rise part rising) (omega (arith, numbers_count part, below))
 
 -- a segment that is less stands earlier
-pub place_less : (part : List SegId) (s t : SegId) → IsRisingPart part → is_in part s ≡ true → is_in part t ≡ true → s.0 < t.0 → place_in part s < place_in part t
+pub place_less : (part : List SegId) (s t : SegId) → IsRisingPart part → is_in part s ≡ true → is_in part t ≡ true
+    → s.0 < t.0 → place_in part s < place_in part t
 place_less part s t rising among also less = elim (cases_lt (place_in part s) (place_in part t)) [
   | inl before ↦ before
   | inr after ↦ absurd (not_after (cases_lt (place_in part t) (place_in part s)) after)
@@ -56,7 +59,8 @@ place_less part s t rising among also less = elim (cases_lt (place_in part s) (p
     at_t : get_or (seg_numbers part) (place_in part t) 0 ≡ t.0
     at_t = placed_at (seg_numbers part) t.0 (among_numbers part t also)
 
-    not_after : (place_in part t < place_in part s) ⊎ (place_in part s ≤ place_in part t) → place_in part t ≤ place_in part s → ⊥
+    not_after : (place_in part t < place_in part s) ⊎ (place_in part s ≤ place_in part t)
+        → place_in part t ≤ place_in part s → ⊥
     not_after (inl more) after =
         omega (
           arith,
@@ -88,11 +92,13 @@ sorted part rising k d low below =
       greater_later 0 (seg_numbers part) k (k + 1) (segs_rise part rising) (omega arith) (omega (arith, below, numbers_count part)),
     ))
 
-searchable : (part : List SegId) (s : SegId) → IsRisingPart part → IsNonDecreasingBy (λ (y : SegId). ordering_index (nat_cmp y.0 s.0)) part
+searchable : (part : List SegId) (s : SegId) → IsRisingPart part
+    → IsNonDecreasingBy (λ (y : SegId). ordering_index (nat_cmp y.0 s.0)) part
 searchable part s rising = searchable_from_sorted nat_cmp_total (λ (y : SegId). y.0) part s.0 (sorted part rising)
 
 -- a segment of the part is met
-pub met : (part : List SegId) (s : SegId) (i : ℕ) → IsRisingPart part → is_in part s ≡ true → IsBinarySearchResult (λ (y : SegId). nat_cmp y.0 s.0) part (Err i) → ⊥
+pub met : (part : List SegId) (s : SegId) (i : ℕ) → IsRisingPart part → is_in part s ≡ true
+    → IsBinarySearchResult (λ (y : SegId). nat_cmp y.0 s.0) part (Err i) → ⊥
 met part s i rising among found =
     let gap = found (searchable part s rising) in
     let within : place_in part s < length part = place_within part s among in
@@ -102,5 +108,6 @@ met part s i rising among found =
       | inr after ↦ (let more = ranked (get_or part (place_in part s) s).0 s.0 Greater (sym (gap.1 (place_in part s) s after within)) in omega (arith, more, here))
     ]
 
-pub found_at : (part : List SegId) (s : SegId) (i : ℕ) → IsRisingPart part → i < length part → ((d : SegId) → nat_cmp (get_or part i d).0 s.0 ≡ Equal) → place_in part s ≡ i
+pub found_at : (part : List SegId) (s : SegId) (i : ℕ) → IsRisingPart part → i < length part
+    → ((d : SegId) → nat_cmp (get_or part i d).0 s.0 ≡ Equal) → place_in part s ≡ i
 found_at part s i rising below found = place_of part s i s rising below (ranked (get_or part i s).0 s.0 Equal (sym (found s)))

@@ -34,7 +34,8 @@ drop_less f (x ∷ xs) (suc k) (suc j) less = drop_less f xs k j (omega (arith, 
 
 -- what some segments make in sum is no more than what all make
 some_of : (f : List LineId → ℕ) (segs : List (List LineId)) (k : ℕ) (part : List SegId) → RisesFrom k (seg_numbers part)
-    → AllByRecursion (λ (s : SegId). s.0 < length segs) part → sum_by f (map (lines_on segs) part) ≤ sum_by f (drop k segs)
+    → AllByRecursion (λ (s : SegId). s.0 < length segs) part
+    → sum_by f (map (lines_on segs) part) ≤ sum_by f (drop k segs)
 some_of f segs k [] rises known = omega arith
 some_of f segs k (s ∷ part) rises known =
     omega (
@@ -46,19 +47,23 @@ some_of f segs k (s ∷ part) rises known =
     )
 
 -- no more segments than numbers from k on
-few_from : (most k : ℕ) (part : List SegId) → RisesFrom k (seg_numbers part) → AllByRecursion (λ (s : SegId). s.0 < most) part → k ≤ most → k + length part ≤ most
+few_from : (most k : ℕ) (part : List SegId) → RisesFrom k (seg_numbers part)
+    → AllByRecursion (λ (s : SegId). s.0 < most) part → k ≤ most → k + length part ≤ most
 few_from most k [] rises known within = omega (arith, within)
 few_from most k (s ∷ part) rises known within = omega (arith, rises.0, few_from most (s.0 + 1) part rises.1 known.1 (omega (arith, known.0)))
 
-pub few_segments : (most : ℕ) (part : List SegId) → All (λ (s : SegId). s.0 < most) part → IsRisingPart part → length part ≤ most
+pub few_segments : (most : ℕ) (part : List SegId) → All (λ (s : SegId). s.0 < most) part → IsRisingPart part
+    → length part ≤ most
 few_segments most part known rising = omega (arith, few_from most 0 part (segs_rise part rising) (recursion_from_All (λ (s : SegId). s.0 < most) part known) (omega arith))
 
 -- the lines of a segment by itself
-lines_in : (segs : List (List LineId)) (part : List SegId) (s : SegId) → is_in part s ≡ true → lines_on (map (lines_on segs) part) (seg_in part s) ≡ lines_on segs s
+pub lines_in : (segs : List (List LineId)) (part : List SegId) (s : SegId) → is_in part s ≡ true
+    → lines_on (map (lines_on segs) part) (seg_in part s) ≡ lines_on segs s
 lines_in segs part s among =
     sym (lines_there segs part (place_in part s) (place_within part s among)) ∙ ap (λ n. get_or segs n []) (placed_at (seg_numbers part) s.0 (among_numbers part s among))
 
-on_own : (segs : List (List LineId)) (part : List SegId) (s : SegId) (a : LineId) → is_in part s ≡ true → IsOn segs s a → IsOn (map (lines_on segs) part) (seg_in part s) a
+on_own : (segs : List (List LineId)) (part : List SegId) (s : SegId) (a : LineId) → is_in part s ≡ true → IsOn segs s a
+    → IsOn (map (lines_on segs) part) (seg_in part s) a
 on_own segs part s a among on = subst (λ (lines : List LineId). Contains lines a) (sym (lines_in segs part s among)) on
 
 module _ (segs : List (List LineId)) (part : List SegId) (rising : IsRisingPart part) where
@@ -68,7 +73,8 @@ module _ (segs : List (List LineId)) (part : List SegId) (rising : IsRisingPart 
   own_count : length own ≡ length part
   own_count = length-map part (lines_on segs)
 
-  pair_by_itself : (seg other : SegId) (a b : LineId) (w : ℕ) → is_in part seg ≡ true → is_in part other ≡ true → IsPair segs seg other a b w
+  pair_by_itself : (seg other : SegId) (a b : LineId) (w : ℕ) → is_in part seg ≡ true → is_in part other ≡ true
+      → IsPair segs seg other a b w
       → IsPair own (seg_in part seg) (seg_in part other) a b w
   pair_by_itself seg other a b w here there pair = record {
     other_known = omega (arith, own_count, place_within part other there);
@@ -96,12 +102,14 @@ module _ (segs : List (List LineId)) (part : List SegId) (rising : IsRisingPart 
   term_by_itself (Apart seg other a b w) of pair =
       let ends = and_parts (is_in part seg) (is_in part other) of in pair_by_itself seg other a b w ends.0 ends.1 pair
 
-  terms_by_itself : (qs : List (ℕ × Term)) → AllByRecursion (λ (q : ℕ × Term). is_of part q.1 ≡ true) qs → AllByRecursion (IsTerm segs) (plain_terms qs)
+  terms_by_itself : (qs : List (ℕ × Term)) → AllByRecursion (λ (q : ℕ × Term). is_of part q.1 ≡ true) qs
+      → AllByRecursion (IsTerm segs) (plain_terms qs)
       → AllByRecursion (IsTerm own) (map (term_in part) (plain_terms qs))
   terms_by_itself [] of fit = tt
   terms_by_itself (q ∷ qs) of fit = (term_by_itself q.1 of.0 fit.0, terms_by_itself qs of.1 fit.1)
 
-pub problem_by_itself : (p : ProblemParts) (part : List SegId) → IsProblem p → All (λ (s : SegId). s.0 < length p.segs) part → IsRisingPart part
+pub problem_by_itself : (p : ProblemParts) (part : List SegId) → IsProblem p
+    → All (λ (s : SegId). s.0 < length p.segs) part → IsRisingPart part
     → IsProblem (by_itself p part)
 problem_by_itself p part problem known rising =
     let each = recursion_from_All (λ (s : SegId). s.0 < length p.segs) part known in
@@ -139,7 +147,8 @@ pub own_terms_are : (part : List SegId) (terms : List Term)
 own_terms_are part terms =
     own_by_number part terms (part_numbers terms part) ∙ ap (λ (qs : List (ℕ × Term)). map (term_in part) (plain_terms qs)) (part_terms_by_number part terms)
 
-of_number : (part : List SegId) (terms : List Term) (ns : List ℕ) (i : ℕ) → AllByRecursion (λ (q : ℕ × Term). is_of part q.1 ≡ true) (terms_by_number terms ns) → i < length ns
+of_number : (part : List SegId) (terms : List Term) (ns : List ℕ) (i : ℕ)
+    → AllByRecursion (λ (q : ℕ × Term). is_of part q.1 ≡ true) (terms_by_number terms ns) → i < length ns
     → is_of part (get_or terms (get_or ns i 0) no_term) ≡ true
 of_number part terms [] i of below = absurd (omega (arith, below))
 of_number part terms (n ∷ ns) zero of below = of.0
@@ -153,7 +162,8 @@ of_part part terms i below =
     (subst (AllByRecursion (λ (q : ℕ × Term). is_of part q.1 ≡ true)) (sym (part_terms_by_number part terms)) (filter_passes (λ (q : ℕ × Term). is_of part q.1) _)) below
 
 -- the same of numbers that are those of the part
-pub of_read : (part : List SegId) (terms : List Term) (numbers : List ℕ) (i : ℕ) → numbers ≡ part_numbers terms part → i < length numbers
+pub of_read : (part : List SegId) (terms : List Term) (numbers : List ℕ) (i : ℕ) → numbers ≡ part_numbers terms part
+    → i < length numbers
     → is_of part (get_or terms (get_or numbers i 0) no_term) ≡ true
 of_read part terms numbers i told below =
     subst (λ (ns : List ℕ). is_of part (get_or terms (get_or ns i 0) no_term) ≡ true) (sym told) (of_part part terms i (subst (λ (ns : List ℕ). i < length ns) told below))

@@ -14,7 +14,8 @@ below_cases part numbers [] = refl
 below_cases part numbers (c ∷ cs) = ap (case_of c.0 (tree_by (seg_from part) (number_from numbers) (plain c.1))) (below_cases part numbers cs)
 
 -- the tree of a case
-pub tree_at : (seg : SegId → SegId) (number : ℕ → ℕ) (cs : List (LineId × Tree)) (i : ℕ) (d : LineId × Tree) → AreTrees (cases_by seg number (plain_children cs)) → i < length cs
+pub tree_at : (seg : SegId → SegId) (number : ℕ → ℕ) (cs : List (LineId × Tree)) (i : ℕ) (d : LineId × Tree)
+    → AreTrees (cases_by seg number (plain_children cs)) → i < length cs
     → IsTree (tree_by seg number (plain (get_or cs i d).1))
 tree_at seg number [] i d trees below = absurd (omega (arith, below))
 tree_at seg number (c ∷ cs) zero d trees below = trees.0

@@ -1,69 +1,32 @@
 //! What is found for a part of a problem, by what was found for the part by itself.
 
-ghost use Rattle.std.specs.Prelude.{◌≡◌, ◌+◌, ◌<◌, ◌≤◌, ◌^◌, length, All, IfOk, IfErr};
-ghost use Rattle.map_base.specs.declared.ids.SegId.{SegId as Seg};
-ghost use Rattle.order_model.specs.Problems.{IsProblem};
-ghost use Rattle.order_model.specs.Parts.{IsRisingPart};
-ghost use Rattle.order_model.specs.PartTerms.{part_numbers};
-ghost use Rattle.order_search.specs.Finding.{places_of, IsSearchFault};
-ghost use Rattle.kept_trees.specs.OwnTrees.{held_as, IsOwnResult};
-ghost use Rattle.kept_trees.specs.Results.{branches_by, IsResult};
+ghost use Rattle.std.specs.Prelude.{◌≡◌, IfOk};
+ghost use Rattle.order_proof.specs.Plain.{plain_part_tree};
+ghost use Rattle.order_proof.specs.Trees.{IsPartTree};
+ghost use Rattle.kept_trees.specs.Renumbered.{renumbered_tree};
+ghost use Rattle.kept_trees.specs.Results.{result_found, renumbered_result};
 
-use crate::tree_numbers::renumbered;
+use crate::found_part::FoundPart;
+use crate::tree_numbers::renumbered_tree;
 use map_base::{LineId, NoMemory, SegId, Sequence};
-use map_method::Search;
-use order_model::{Orders, Problem};
-use order_search::{Found, SearchFault};
+use order_model::Orders;
 use std::alloc::Global;
-
-/// What was found for the part by itself, where the budget allows its branch nodes.
-pub(crate) fn found_within(
-    alloc: Global,
-    problem: &Problem,
-    part: &[SegId],
-    numbers: &[u32],
-    how: Search,
-    budget: u32,
-    own: &Found,
-) -> Result<Found, SearchFault>
-    requires problem { IsProblem problem.now }
-    requires known { All (λ (s : Seg). s.0 < length problem.now.segs) part.now }
-    requires rising { IsRisingPart part.now }
-    requires numbers { numbers.now ≡ part_numbers problem.now.terms part.now }
-    requires budget { budget + 1 < 2 ^ 32 }
-    requires own { IsOwnResult (held_as how problem.now part.now) own.now }
-    ensures found { IfOk result (IsResult how problem.now part.now) }
-    ensures within { IfOk result (λ f. f.branches ≤ budget) }
-    ensures fault { IfErr result (IsSearchFault (places_of problem.now.segs part.now) (branches_by how problem.now part.now) budget) }
-{
-    if own.branches > budget {
-        return Err(SearchFault::Spent {
-            branches: budget + 1,
-        });
-    }
-    Ok(found_in(alloc, problem, part, numbers, how, own)?)
-}
 
 /// What was found for the part by itself, with the numbers that its segments and its terms have in the problem.
 pub(crate) fn found_in(
     alloc: Global,
-    problem: &Problem,
     part: &[SegId],
     numbers: &[u32],
-    how: Search,
-    own: &Found,
-) -> Result<Found, NoMemory>
-    requires problem { IsProblem problem.now }
-    requires known { All (λ (s : Seg). s.0 < length problem.now.segs) part.now }
-    requires rising { IsRisingPart part.now }
-    requires numbers { numbers.now ≡ part_numbers problem.now.terms part.now }
-    requires own { IsOwnResult (held_as how problem.now part.now) own.now }
-    ensures found { IfOk result (IsResult how problem.now part.now) }
-    ensures branches { IfOk result (λ f. f.branches ≡ own.now.branches) }
+    own: &FoundPart,
+) -> Result<FoundPart, NoMemory>
+    requires { IsPartTree (renumbered_tree part.now numbers.now (plain_part_tree own.now.tree)) }
+    ensures { IfOk result (λ f.
+        result_found f ≡ renumbered_result part.now numbers.now (result_found own.now)) }
 {
-    let tree = renumbered(alloc, &own.tree, part, numbers)?;
+    let tree = renumbered_tree(alloc, &own.tree, part, numbers)?;
     let lists = copied(alloc, own.orders.lists.as_slice())?;
-    Ok(Found {
+    Ok(FoundPart {
+        complete: own.complete,
         orders: Orders {
             lists: Sequence::of(lists),
         },

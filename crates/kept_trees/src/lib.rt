@@ -1,18 +1,22 @@
-//! What was found of parts, by the live tree or by trees whose target rises, and is kept from problem to problem.
+//! What was found of parts, by the live search or by dual prices, and is kept from problem to problem.
 //!
-//! A part by itself has its segments and its terms numbered from 0 on. A search finds of it what it finds of the part in
-//! each problem, but for the numbers, so a tree that was found once serves every problem that has the part. `Kept` holds
-//! such trees, each under the search by which it was found: its `solve_part` searches a part only where the part is not
-//! held, and what it answers is the same either way.
+//! A part by itself has its segments and its terms numbered from 0 on. A search finds of it what it finds of the part
+//! in each problem, but for the numbers, so a tree that was found once serves every problem that has the part. `Kept`
+//! holds such trees, each under the search by which it was found, and where that was not complete under its budget: its
+//! `solve_part` searches a part only where what is to be known is not held, and what it answers is the same either way.
 #![tactic(auto)]
 
 mod found_in;
+mod found_part;
 mod kept;
 mod own_search;
 mod own_terms;
 mod part_key;
+mod plan;
 mod tree_numbers;
 
+pub use found_part::FoundPart;
 pub use kept::Kept;
 pub use part_key::PartKey;
+pub use plan::SearchPlan;
 pub use tree_numbers::renumbered;

@@ -1,12 +1,12 @@
 //! What tells a part by itself, and how it is searched, from others.
 
-ghost use Rattle.std.specs.Prelude.{◌≡◌, ◌<◌, length, map, All, IfOk};
+ghost use Rattle.std.specs.Prelude.{◌≡◌, ◌<◌, length, map, All, IfOk, None};
 ghost use Rattle.map_base.specs.declared.ids.SegId.{SegId as Seg};
 ghost use Rattle.order_model.specs.Problems.{lines_on, IsProblem};
 ghost use Rattle.order_model.specs.Parts.{IsRisingPart};
 ghost use Rattle.order_model.specs.PartTerms.{part_numbers};
 ghost use Rattle.order_search.specs.ByItself.{by_itself};
-ghost use Rattle.kept_trees.specs.OwnTrees.{part_of_key, held_as, held_by};
+ghost use Rattle.kept_trees.specs.OwnTrees.{part_of_key};
 
 use crate::own_terms::own_terms;
 use map_base::{LineId, NoMemory, SegId, Sequence};
@@ -14,14 +14,17 @@ use map_method::Search;
 use order_model::{Problem, ProblemParts, Term};
 use std::alloc::Global;
 
-/// A part by itself, and how it is searched: two of them are equal where the search, the lists of lines and the terms are.
-/// The lists of lines alone tell nearly all parts of a problem apart, so a hash is made of them.
+/// A part by itself, and how it is searched: two of them are equal where the search, its budget, the lists of lines and
+/// the terms are. The lists of lines alone tell nearly all parts of a problem apart, so a hash is made of them.
 #[derive(PartialEq, Eq, Drop)]
 #[derive_where(Hash)]
 pub struct PartKey {
     /// How the part is searched.
     #[derive_where(skip(Hash))]
     pub(crate) how: Search,
+    /// The budget within which the search was not complete; none where it was.
+    #[derive_where(skip(Hash))]
+    pub(crate) spent: Option<u32>,
     /// The lines of each segment, rising.
     pub(crate) lists: Vec<Vec<LineId>>,
     /// The terms in their order, with segments numbered from 0.
@@ -29,7 +32,7 @@ pub struct PartKey {
     pub(crate) terms: Vec<Term>,
 }
 
-/// The part by itself, told the numbers of its terms in the problem.
+/// The part by itself, searched to the end, told the numbers of its terms in the problem.
 pub(crate) fn part_key(
     alloc: Global,
     problem: &Problem,
@@ -41,13 +44,19 @@ pub(crate) fn part_key(
     requires rising { IsRisingPart part.now }
     requires numbers { numbers.now ≡ part_numbers problem.now.terms part.now }
     ensures part { IfOk result (λ key. part_of_key key ≡ by_itself problem.now part.now) }
-    ensures held { IfOk result (λ key. held_by key ≡ held_as how problem.now part.now) }
+    ensures how { IfOk result (λ key. key.how ≡ how) }
+    ensures complete { IfOk result (λ key. key.spent ≡ None) }
     ensures fits { IsProblem problem.now }
 {
     let terms = problem.terms();
     let lists = own_lists(alloc, problem.segs(), part)?;
     let terms = own_terms(alloc, terms, part, numbers)?;
-    Ok(PartKey { how, lists, terms })
+    Ok(PartKey {
+        how,
+        spent: None,
+        lists,
+        terms,
+    })
 }
 
 /// The lines of each segment of the part.

@@ -2,18 +2,78 @@
 
 ghost use Rattle.std.specs.Prelude.{◌≡◌, map, IfOk};
 ghost use Rattle.order_values.specs.PriceLists.{AreRisingPrices};
-ghost use Rattle.order_proof.specs.Plain.{plain, plain_children};
-ghost use Rattle.order_proof.specs.Trees.{IsTree, AreTrees};
+ghost use Rattle.order_values.specs.DualTrees.{plain_dual};
+ghost use Rattle.order_proof.specs.Plain.{plain, plain_children, plain_part_tree};
+ghost use Rattle.order_proof.specs.Trees.{IsTree, AreTrees, IsDualTree, IsPartTree};
 ghost use Rattle.order_search.specs.ByItself.{renumbered, seg_from, number_from, prices_by, cases_by};
-ghost use Rattle.kept_trees.specs.Renumbered.{renumbered_case};
+ghost use Rattle.kept_trees.specs.Renumbered.{renumbered_case, renumbered_dual, renumbered_tree};
 
 use map_base::{LineId, NoMemory, SegId};
-use order_proof::Tree;
-use order_values::Prices;
+use order_proof::{PartTree, Tree};
+use order_values::{DualTree, Prices};
 use std::alloc::Global;
 
-/// A tree of a part by itself, with the numbers that its segments and its terms have in the problem: those of `part` and
-/// of `numbers`, in their order. The tree that comes of it is to be one, its terms rising; a live tree is.
+/// A part's tree, of the part by itself, with the numbers that its segments and its terms have in the problem: those of
+/// `part` and of `numbers`, in their order. The tree that comes of it is to be one, its terms rising.
+pub(crate) fn renumbered_tree(
+    alloc: Global,
+    tree: &PartTree,
+    part: &[SegId],
+    numbers: &[u32],
+) -> Result<PartTree, NoMemory>
+    requires { IsPartTree (renumbered_tree part.now numbers.now (plain_part_tree tree.now)) }
+    ensures { IfOk result (λ t. plain_part_tree t ≡ renumbered_tree part.now numbers.now (plain_part_tree tree.now)) }
+{
+    match tree {
+        PartTree::ByCases(tree) => {
+            let tree = renumbered(alloc, tree, part, numbers)?;
+            Ok(PartTree::ByCases(tree))
+        }
+        PartTree::ByPairs(tree) => {
+            let tree = renumbered_dual(alloc, tree, part, numbers)?;
+            Ok(PartTree::ByPairs(tree))
+        }
+    }
+}
+
+/// The same of a dual tree.
+fn renumbered_dual(
+    alloc: Global,
+    tree: &DualTree,
+    part: &[SegId],
+    numbers: &[u32],
+) -> Result<DualTree, NoMemory>
+    requires { IsDualTree (renumbered_dual part.now numbers.now (plain_dual tree.now)) }
+    ensures { IfOk result (λ t. plain_dual t ≡ renumbered_dual part.now numbers.now (plain_dual tree.now)) }
+{
+    match tree {
+        DualTree::Stop { prices } => {
+            let prices = renumbered_prices(alloc, prices, numbers)?;
+            Ok(DualTree::Stop { prices })
+        }
+        DualTree::Fork {
+            seg,
+            a,
+            b,
+            first,
+            second,
+        } => {
+            let first = renumbered_dual(alloc, first, part, numbers)?;
+            let second = renumbered_dual(alloc, second, part, numbers)?;
+            let first = Box::new(alloc, first)?;
+            let second = Box::new(alloc, second)?;
+            Ok(DualTree::Fork {
+                seg: seg_from(part, *seg),
+                a: *a,
+                b: *b,
+                first,
+                second,
+            })
+        }
+    }
+}
+
+/// The same of a tree of cases.
 #[cycle(renumbered)]
 pub fn renumbered(
     alloc: Global,
@@ -48,7 +108,8 @@ fn renumbered_cases(
     numbers: &[u32],
 ) -> Result<Vec<(LineId, Tree)>, NoMemory>
     requires { AreTrees (cases_by (seg_from part.now) (number_from numbers.now) (plain_children children.now)) }
-    ensures { IfOk result (λ v. map (λ c. (c.0, plain c.1)) v.items ≡ map (renumbered_case part.now numbers.now) children.now) }
+    ensures { IfOk result (λ v.
+        map (λ c. (c.0, plain c.1)) v.items ≡ map (renumbered_case part.now numbers.now) children.now) }
 {
     let mut cases = Vec::with_capacity(alloc, children.len())?;
     for child in children {

@@ -1,11 +1,12 @@
 -- What the commands do that make and check a map, as pieces of work. One block a command.
-use Rattle.std.specs.Prelude.{ℕ, true, false, List, [], ◌∷◌, ◌++◌, codes, Option, None, Some, Result, Ok, Err}
+use Rattle.std.specs.Prelude.{ℕ, ◌==◌, true, false, List, [], ◌∷◌, ◌++◌, codes, if◌then◌else◌, Option, None, Some, Result, Ok, Err}
 use Rattle.std.specs.Fmt.{decimal}
 use Rattle.map_base.specs.declared.limit.Limit.{Limit}
 use Rattle.graph_core.specs.declared.parts.GraphParts.{GraphParts}
 use Rattle.line_graph.specs.Outcome.{graph_outcome}
 use Rattle.map_engine.specs.declared.fault.MakeFault.{MakeFault}
 use Rattle.map_engine.specs.declared.fault.CheckFault.{CheckFault}
+use Rattle.map_engine.specs.declared.checked.Proved.{Proved}
 use Rattle.map_engine.specs.Making.{MapBytes, make_outcome}
 use Rattle.map_engine.specs.Readings.{certificate_in}
 use Rattle.map_engine.specs.Checking.{PlainChecked, checked_text, pictured}
@@ -28,9 +29,15 @@ abbrev pub map_outputs : MapPaths → MapBytes → List Output
 map_outputs paths made =
     record { to = Path paths.picture; bytes = made.svg } ∷ record { to = Path paths.certificate; bytes = made.certificate } ∷ []
 
--- what `check` prints of a map that is accepted
+-- what `check` prints of a map that is accepted: that its orders are best, where the bound is what they cost, else both
 abbrev pub best_line : ℕ → List ℕ
 best_line cost = codes "best " ++ (decimal cost ++ codes "\n")
+
+abbrev pub bound_line : ℕ → ℕ → List ℕ
+bound_line cost bound = codes "cost " ++ (decimal cost ++ (codes " bound " ++ (decimal bound ++ codes "\n")))
+
+abbrev pub proved_line : Proved → List ℕ
+proved_line proved = if proved.bound == proved.cost then best_line proved.cost else bound_line proved.cost proved.bound
 
 -- the files of a map that is made, or why there is none
 abbrev pub made_at : MapPaths → Result MapBytes MakeFault → Result (List Output) Refusal
@@ -51,17 +58,17 @@ checked_as (Err fault) = Err (of_check fault)
 -- every item of a certificate but the picture; it has to be there
 abbrev pub certificate_checked : Loaded → GraphParts → Option (List ℕ) → Result PlainChecked Refusal
 certificate_checked loaded parts None = Err (refused.Refuted (item.Missing false))
-certificate_checked loaded parts (Some bytes) = checked_as (checked_text loaded.tables loaded.settings parts (certificate_in bytes))
+certificate_checked loaded parts (Some bytes) = checked_as (checked_text loaded.tables loaded.settings loaded.method.claim parts (certificate_in bytes))
 
 -- the map is compared with the picture that is due; it has to be there
-abbrev pub picture_checked : PlainChecked → Option (List ℕ) → Result ℕ Refusal
+abbrev pub picture_checked : PlainChecked → Option (List ℕ) → Result Proved Refusal
 picture_checked checked None = Err (refused.Refuted (item.Missing true))
 picture_checked checked (Some bytes) = checked_as (pictured bytes (Ok checked))
 
--- the cost of a map that is accepted is printed
-abbrev pub best : Result ℕ Refusal → Result (List Output) Refusal
-best (Ok cost) = Ok (said (best_line cost))
-best (Err why) = Err why
+-- what is proved of a map that is accepted is printed
+abbrev pub printed : Result Proved Refusal → Result (List Output) Refusal
+printed (Ok proved) = Ok (said (proved_line proved))
+printed (Err why) = Err why
 
 -- the certificate is read, and checked by the line graph
 abbrev pub certificate_work : Loaded → GraphParts → Work Input Refusal PlainChecked
@@ -73,7 +80,7 @@ certificate_work loaded parts = do
 abbrev pub picture_work : PlainChecked → Work Input Refusal (List Output)
 picture_work checked = do
   file ← file_work input.Picture
-  ends (best (picture_checked checked file))
+  ends (printed (picture_checked checked file))
 
 -- the line graph, or the limit that is met first
 abbrev pub built : Result GraphParts Limit → Result GraphParts Refusal

@@ -8,7 +8,7 @@ ghost use Rattle.map_engine.specs.Checking.{checked_bytes};
 ghost use Rattle.map_engine.specs.Promises.{IsCertified};
 ghost use Rattle.command_inputs.specs.Inputs.{input_at, inputs_by};
 ghost use Rattle.run_status.specs.Outputs.{said};
-ghost use Rattle.map_commands.specs.MapWorks.{best_line, best, built, certificate_checked, certificate_work, check_work, picture_checked, picture_work};
+ghost use Rattle.map_commands.specs.MapWorks.{proved_line, printed, built, certificate_checked, certificate_work, check_work, picture_checked, picture_work};
 ghost use Rattle.run_status.specs.Following.{Follows, Gives};
 ghost use Rattle.map_commands.specs.Promises.{AreOfYes, IsAccepted};
 
@@ -18,7 +18,7 @@ use files_door::Files;
 use graph_core::LineGraph;
 use line_graph::build;
 use map_base::{NoMemory, Sequence};
-use map_engine::{CheckItem, Checked, check_on_graph, first_difference};
+use map_engine::{CheckItem, Checked, Proved, check_on_graph, first_difference};
 use run_status::{Input, Item, Refusal, say};
 use std::alloc::Global;
 
@@ -58,7 +58,7 @@ fn read_certificate<F: Files>(
     requires { graph_outcome loaded.now.settings.near loaded.now.tables ≡ Ok graph.now }
     ensures follows { Follows (F.told files.old) (input_at (inputs_by inputs.now))
         (Rose (F.faults files.old) (F.faults files.new)) checked_bytes (certificate_work loaded.now graph.now) result }
-    ensures certified { IfOk result (λ checked. IsAccepted (F.told files.old) (inputs_by inputs.now) loaded.now checked.svg.items checked.cost) }
+    ensures certified { IfOk result (λ checked. IsAccepted (F.told files.old) (inputs_by inputs.now) loaded.now checked.svg.items checked.proved) }
     ensures kept { F.told files.new ≡ F.told files.old }
     ensures later { F.faults files.old ≤ F.faults files.new }
 {
@@ -76,13 +76,14 @@ fn check_certificate(
     requires { graph_outcome loaded.now.settings.near loaded.now.tables ≡ Ok graph.now }
     ensures given { Gives checked_bytes result (certificate_checked loaded.now graph.now (option_map (λ v. v.items) bytes)) }
     ensures certified { IfOk result (λ checked. (certificate : List ℕ) × (option_map (λ v. v.items) bytes ≡ Some certificate)
-        × IsCertified loaded.now.tables loaded.now.settings checked.svg.items certificate checked.cost) }
+        × IsCertified loaded.now.tables loaded.now.settings loaded.now.method.claim checked.svg.items certificate checked.proved) }
 {
     let Some(bytes) = bytes else {
         return Err(Refusal::Refuted(Item::Missing { picture: false }));
     };
     let (tables, settings) = (&loaded.tables, &loaded.settings);
-    Ok(check_on_graph(alloc, tables, settings, graph, bytes.as_slice())?)
+    let claim = loaded.method.claim;
+    Ok(check_on_graph(alloc, tables, settings, claim, graph, bytes.as_slice())?)
 }
 
 /// Reads the map, and compares it with the picture that is due.
@@ -96,37 +97,42 @@ fn read_picture<F: Files>(
         (Rose (F.faults files.old) (F.faults files.new)) (λ outputs. outputs) (picture_work (checked_bytes checked.now)) result }
     ensures lies { IfOk result (λ _. IfSome (F.told files.old) (λ all.
         file_at all (input_at (inputs_by inputs.now) Input.Picture) ≡ Some checked.now.svg.items)) }
-    ensures best { IfOk result (λ outputs. outputs ≡ said (best_line checked.now.cost)) }
+    ensures proved { IfOk result (λ outputs. outputs ≡ said (proved_line checked.now.proved)) }
     ensures later { F.faults files.old ≤ F.faults files.new }
 {
     let bytes = read_file(alloc, inputs, Input::Picture, files)?;
     compare(alloc, checked, bytes)
 }
 
-/// Compares a map with the picture that is due, and prints the cost where they are the same.
+/// Compares a map with the picture that is due, and prints what is proved where they are the same.
 fn compare(
     alloc: Global,
     checked: &Checked,
     bytes: Option<Vec<u8>>,
 ) -> Result<Sequence<Output>, Refusal>
     ensures given { Gives (λ outputs. outputs) result
-        (best (picture_checked (checked_bytes checked.now) (option_map (λ v. v.items) bytes))) }
+        (printed (picture_checked (checked_bytes checked.now) (option_map (λ v. v.items) bytes))) }
     ensures same { IfOk result (λ _. option_map (λ v. v.items) bytes ≡ Some checked.now.svg.items) }
-    ensures best { IfOk result (λ outputs. outputs ≡ said (best_line checked.now.cost)) }
+    ensures proved { IfOk result (λ outputs. outputs ≡ said (proved_line checked.now.proved)) }
 {
     let Some(bytes) = bytes else {
         return Err(Refusal::Refuted(Item::Missing { picture: true }));
     };
     match first_difference(checked.svg.as_slice(), bytes.as_slice()) {
-        None => Ok(say_cost(alloc, checked.cost)?),
+        None => Ok(say_proved(alloc, checked.proved)?),
         Some(at) => Err(Refusal::Refuted(Item::Found(CheckItem::Picture { at: at as u64 }))),
     }
 }
 
-/// Prints the cost of a map that is accepted.
-fn say_cost(alloc: Global, cost: u64) -> Result<Sequence<Output>, NoMemory>
-    ensures { IfOk result (λ outputs. outputs ≡ said (best_line cost)) }
+/// Prints what is proved of a map that is accepted.
+fn say_proved(alloc: Global, proved: Proved) -> Result<Sequence<Output>, NoMemory>
+    ensures { IfOk result (λ outputs. outputs ≡ said (proved_line proved)) }
 {
-    let line = format!(in alloc; "best {cost}\n")?;
+    let Proved { cost, bound } = proved;
+    let line = if bound == cost {
+        format!(in alloc; "best {cost}\n")?
+    } else {
+        format!(in alloc; "cost {cost} bound {bound}\n")?
+    };
     say(alloc, line.into_bytes())
 }

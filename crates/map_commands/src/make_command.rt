@@ -49,7 +49,7 @@ fn map_of<L: Ledger>(
     ensures given { Gives (λ outputs. outputs) result
         (made_at (paths_by map_files.now) (make_outcome loaded.now.tables loaded.now.settings loaded.now.method)) }
     ensures made { IfOk result (λ outputs. (made : MapBytes)
-        × (make_outcome loaded.now.tables loaded.now.settings loaded.now.method ≡ Ok made) × IsMade loaded.now.tables loaded.now.settings made
+        × (make_outcome loaded.now.tables loaded.now.settings loaded.now.method ≡ Ok made) × IsMade loaded.now.tables loaded.now.settings loaded.now.method.claim made
         × (outputs ≡ map_outputs (paths_by map_files.now) made)) }
     ensures steps { steps.new ≤ steps.old + branches_left [] loaded.now.tables loaded.now.settings loaded.now.method }
 {

@@ -14,7 +14,8 @@ use Rattle.order_model.specs.PartTerms.{part_terms}
 use Rattle.order_model.specs.Prefixes.{none_placed}
 use Rattle.order_proof.specs.Plain.{PlainPart}
 use Rattle.order_rules.specs.Untangling.{after_rules}
-use Rattle.order_bound.specs.Accepting.{question, failing}
+use Rattle.order_bound.specs.Accepting.{failing}
+use Rattle.order_model.specs.Questions.{question}
 use Rattle.order_bound.proofs.Failing.{accepted_exactly}
 use Rattle.order_check.specs.declared.refusal.ProofItem.{ProofItem}
 use Rattle.order_check.specs.declared.refusal.ProofItem.TheVariants as item

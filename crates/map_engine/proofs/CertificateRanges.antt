@@ -36,7 +36,7 @@ use Rattle.order_proof.specs.Plain.{PlainPart}
 use Rattle.order_proof.specs.Trees.{IsProofTree}
 use Rattle.order_proof.specs.Forms.{most_id}
 use Rattle.order_proof.specs.Ranges.{AreRisingSegments, IsPartInRange}
-use Rattle.order_bound.specs.Accepting.{question}
+use Rattle.order_model.specs.Questions.{question}
 use Rattle.order_check.proofs.RuleTurns.{few_rules}
 use Rattle.order_search.specs.Finding.{with_lists}
 use Rattle.cert_file.specs.Forms.{are_distinct, is_among}

@@ -6,7 +6,6 @@ mod MadeProblem
 mod CheckSteps
 mod PictureSteps
 pub mod Shown
-mod PutOrders
 mod SolveLemmas
 mod ImportanceLemmas
 mod DrawingLemmas

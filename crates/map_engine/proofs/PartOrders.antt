@@ -20,7 +20,7 @@ use Rattle.map_engine.specs.declared.fault.MakeFault.{MakeFault}
 use Rattle.kept_trees.specs.Results.{result_of}
 use Rattle.map_engine.specs.Solving.{SolvedPart, solved, with_solved, with_parts, is_solvable, why_unsolved, solve_from, solve_outcome, parts_in, orders_by}
 use Rattle.map_engine.specs.Stages.{IsShown}
-use Rattle.map_engine.proofs.PutOrders.{length-with_lists}
+use Rattle.kept_trees.proofs.PutOrders.{length-with_lists}
 use Rattle.map_engine.proofs.CostParts.{cost_shared, same_cost}
 
 -- a segment that is not of the part keeps its lines

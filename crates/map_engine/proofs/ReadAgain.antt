@@ -1,26 +1,27 @@
 -- The text of a certificate in range is read as that certificate.
-use Rattle.std.proofs.Common.{◌≡◌, ℕ, zero, suc, ◌+◌, ◌≤◌, ℤ, pos, negsuc, Bool, cond, List, [], ◌∷◌, ◌++◌, codes, length, Option, Some, None, option_map, Result, Ok, Err, refl, ap, lt-ltb, sym, ◌∙◌, append_assoc, arith}
+use Rattle.std.proofs.Common.{◌≡◌, ℕ, zero, suc, ◌+◌, ◌≤◌, ℤ, pos, List, [], ◌∷◌, ◌++◌, codes, length, Option, Some, Result, Ok, Err, refl, ap, sym, ◌∙◌, append_assoc, arith}
 use Rattle.std.specs.List.{AllByRecursion}
-use Rattle.std.specs.Option.{option_and_then}
 use Rattle.std.proofs.lemmas.List.{append-nil}
 use Rattle.map_base.specs.declared.ids.SegId.{SegId}
 use Rattle.map_base.specs.declared.ids.LineId.{LineId}
 use Rattle.octi_grid.specs.Walks.{PlainWalk, IsWalk}
 use Rattle.order_values.specs.declared.rule.Rule.{Rule}
-use Rattle.order_proof.specs.Plain.{PlainTree, split, close, Cases, no_case, case_of, PlainPart, PlainProof}
-use Rattle.order_proof.specs.Trees.{depth_of, depth_of_cases, count_of, most_depth}
-use Rattle.order_proof.specs.Lines.{word_text, price_numbers, line_text, rules_line, rule_line, parts_line, part_line, split_line, take_line, close_line}
-use Rattle.order_proof.specs.Forms.{most_id, most_cases, most_price, price_of, term_with, priced_term, prices_from, rules_in, rule_in, parts_in, part_in, take_in}
+use Rattle.order_values.specs.DualTrees.{PlainDual, fork, stop, fork_depth}
+use Rattle.order_proof.specs.declared.line_word.LineWord.{LineWord}
+use Rattle.order_proof.specs.Plain.{PlainTree, split, close, Cases, no_case, case_of, PlainPartTree, by_cases, by_pairs, PlainPart, PlainProof}
+use Rattle.order_proof.specs.Trees.{depth_of, depth_of_cases, depth_of_part, count_of, most_depth}
+use Rattle.order_proof.specs.Lines.{word_text, price_numbers, line_text, rules_line, rule_line, parts_line, part_line, split_line, take_line, prices_line, fork_line}
+use Rattle.order_proof.specs.Forms.{most_id, most_cases, most_price, most_stop_price, rules_in, rule_in, parts_in, part_in, take_in}
 use Rattle.order_proof.specs.FrontLine.{front as proof_front}
-use Rattle.order_proof.specs.Text.{tree_text, cases_text, rules_text, part_text, parts_text, proof_text}
-use Rattle.order_proof.specs.Ranges.{IsPrice, ArePrices, IsRuleInRange, IsTreeInRange, AreCasesInRange, IsPartInRange}
+use Rattle.order_proof.specs.Text.{tree_text, cases_text, dual_text, part_tree_text, rules_text, part_text, parts_text, proof_text}
+use Rattle.order_proof.specs.Ranges.{ArePrices, IsRuleInRange, IsTreeInRange, AreCasesInRange, IsDualInRange, IsPartTreeInRange, IsPartInRange}
 use Rattle.order_proof.specs.Ranges as proofs
-use Rattle.order_proof.proofs.FormAgain.{rules_again, rule_again, parts_again, part_again, take_again, rules_line_few, rule_line_few, parts_line_few, part_line_few, take_line_few, front_again}
-use Rattle.decimal_text.specs.Numbers.{from_to}
+use Rattle.order_proof.proofs.FormAgain.{prices_again, prices_line_few, rules_again, rule_again, parts_again, part_again, take_again, rules_line_few, rule_line_few, parts_line_few, part_line_few, take_line_few, front_again}
+use Rattle.order_proof.proofs.TextAgain.{dual_begins, tree_begins}
+use Rattle.decimal_text.specs.Numbers.{natural_within, from_to}
 use Rattle.decimal_text.specs.Lines.{front}
-use Rattle.decimal_text.proofs.NumberLemmas.{IsNumber, up_to_within}
+use Rattle.decimal_text.proofs.NumberLemmas.{up_to_within}
 use Rattle.decimal_text.proofs.RangeLemmas.{from_to_again}
-use Rattle.decimal_text.proofs.LineLemmas.{AreNumbers}
 use Rattle.cert_file.specs.Plain.{PlainCertificate}
 use Rattle.cert_file.specs.Forms.{most_segs, spoken_front, version_of, walk_in, order_of, cost_of}
 use Rattle.cert_file.specs.Text as texts
@@ -30,43 +31,17 @@ use Rattle.cert_file.specs.Readers.{IsTextOf}
 use Rattle.cert_file.specs.Reading.{certificate_end}
 use Rattle.cert_file.proofs.Again.{walk_again}
 use Rattle.cert_file.proofs.LawLemmas.{version_read, counts_read, importance_read, order_read, cost_read, apart, whole_again}
-use Rattle.map_engine.specs.FrontReadings.{all_at, cases_at, spoken_at, split_by, split_in, tree_at, part_at, proof_at}
+use Rattle.map_engine.specs.FrontReadings.{all_at, cases_at, spoken_at, split_by, split_in, tree_at, fork_by, fork_in, dual_at, part_tree_at, part_at, proof_at}
 use Rattle.map_engine.specs.Readings.{importance_at, certificate_at, unless_wrong, certificate_in}
-
--- ---- the numbers of a close
-
-price_read : (z : ℤ) → IsPrice z → price_of z ≡ Some z
-price_read (pos zero) is = absurd (omega (arith, is.0))
-price_read (pos (suc n)) is = ap (option_map pos) (up_to_within most_price (suc n) is.1)
-price_read (negsuc n) is = ap (λ (b : Bool). cond b (Some (negsuc n)) None) (lt-ltb n most_price is)
-
-prices_read : (least : ℕ) (ps : List (ℕ × ℤ)) → ArePrices least ps → prices_from least (price_numbers ps) ≡ Some ps
-prices_read least [] are = refl
-prices_read least (p ∷ rest) are =
-    let first : priced_term least (pos p.0) p.1 ≡ Some p =
-    ap (λ (o : Option ℕ). term_with o (price_of p.1)) (from_to_again least most_id p.0 are.0 are.1) ∙ ap (term_with (Some p.0)) (price_read p.1 are.2) in
-    ap (option_and_then (λ (q : ℕ × ℤ). option_map (λ more. q ∷ more) (prices_from (suc q.0) (price_numbers rest)))) first
-    ∙ ap (option_map (λ (more : List (ℕ × ℤ)). p ∷ more)) (prices_read (suc p.0) rest are.3)
-
-price_few : (z : ℤ) → IsPrice z → IsNumber z
-price_few (pos n) is = omega (arith, is.1)
-price_few (negsuc n) is = omega (arith, is)
-
-price_numbers_few : (least : ℕ) (ps : List (ℕ × ℤ)) → ArePrices least ps → AreNumbers (price_numbers ps)
-price_numbers_few least [] are = tt
-price_numbers_few least (p ∷ rest) are = (omega (arith, are.1), (price_few p.1 are.2, price_numbers_few (suc p.0) rest are.3))
-
--- terms that rise are no more than there are numbers for them
-prices_few : (least : ℕ) (ps : List (ℕ × ℤ)) → ArePrices least ps → least ≤ most_id + 1 → least + length ps ≤ most_id + 1
-prices_few least [] are low = omega arith
-prices_few least (p ∷ rest) are low = omega (arith, are.0, prices_few (suc p.0) rest are.3 (omega (arith, are.1)))
 
 -- ---- the proof
 
-close_read : (prices : List (ℕ × ℤ)) (rest : List ℕ) → ArePrices 0 prices → spoken_at (line_text (close_line prices) ++ rest) ≡ Some ((codes "close", pos (length prices) ∷ price_numbers prices), rest)
-close_read prices rest range =
-    front_again (λ word numbers. Some (word_text word, numbers)) (close_line prices) (codes "close", pos (length prices) ∷ price_numbers prices) rest refl
-    (omega (arith, prices_few 0 prices range (omega arith)), price_numbers_few 0 prices range)
+-- a line of counted prices, by its word and numbers
+prices_line_read : (most : ℕ) (word : LineWord) (prices : List (ℕ × ℤ)) (rest : List ℕ) → most ≤ most_stop_price → ArePrices most 0 prices
+    → spoken_at (line_text (prices_line word prices) ++ rest) ≡ Some ((word_text word, pos (length prices) ∷ price_numbers prices), rest)
+prices_line_read most word prices rest low range =
+    front_again (λ w numbers. Some (word_text w, numbers)) (prices_line word prices) (word_text word, pos (length prices) ∷ price_numbers prices) rest refl
+    (prices_line_few most word prices low range)
 
 split_read : (e : SegId) (count : ℕ) (rest : List ℕ) → e.0 ≤ most_id → count ≤ most_cases → spoken_at (line_text (split_line e count) ++ rest) ≡ Some ((codes "split", pos e.0 ∷ pos count ∷ []), rest)
 split_read e count rest known few =
@@ -82,12 +57,12 @@ mutual
 
   tree_read : (tree : PlainTree) (room : ℕ) (rest : List ℕ) → IsTreeInRange tree → depth_of tree ≤ room → tree_at room (tree_text tree ++ rest) ≡ Some (tree, rest)
   tree_read (close prices) zero rest range deep =
-      let line = close_read prices rest range in
-      let said = prices_read 0 prices range in
+      let line = prices_line_read most_price LineWord.Close prices rest (omega arith) range in
+      let said = prices_again most_price 0 prices range in
       rw (line, said)
   tree_read (close prices) (suc room) rest range deep =
-      let line = close_read prices rest range in
-      let said = prices_read 0 prices range in
+      let line = prices_line_read most_price LineWord.Close prices rest (omega arith) range in
+      let said = prices_again most_price 0 prices range in
       rw (line, said)
   tree_read (split e cases) zero rest range deep = absurd (omega arith)
   tree_read (split e cases) (suc room) rest range deep =
@@ -111,6 +86,51 @@ mutual
       let others : cases_at (tree_at room) (count_of more) behind ≡ Some (more, rest) = cases_read more room rest range.2 (omega arith) in
       rw (grouped, line, child, others)
 
+fork_read : (e : SegId) (a b : LineId) (rest : List ℕ) → e.0 ≤ most_id → a.0 ≤ most_id → b.0 ≤ most_id
+    → spoken_at (line_text (fork_line e a b) ++ rest) ≡ Some ((codes "fork", pos e.0 ∷ pos a.0 ∷ pos b.0 ∷ []), rest)
+fork_read e a b rest known first second =
+    front_again (λ word numbers. Some (word_text word, numbers)) (fork_line e a b) (codes "fork", pos e.0 ∷ pos a.0 ∷ pos b.0 ∷ []) rest refl
+    (omega (arith, known), (omega (arith, first), (omega (arith, second), tt)))
+
+fork_said : (e : SegId) (a b : LineId) → e.0 ≤ most_id → a.0 ≤ most_id → b.0 ≤ most_id → fork_in (pos e.0 ∷ pos a.0 ∷ pos b.0 ∷ []) ≡ Some (e, a, b)
+fork_said e a b known first second =
+    ap (λ (o : Option ℕ). fork_by o (natural_within most_id (pos a.0)) (natural_within most_id (pos b.0))) (up_to_within most_id e.0 known)
+    ∙ ap (λ (o : Option ℕ). fork_by (Some e.0) o (natural_within most_id (pos b.0))) (up_to_within most_id a.0 first)
+    ∙ ap (fork_by (Some e.0) (Some a.0)) (up_to_within most_id b.0 second)
+
+dual_read : (tree : PlainDual) (room : ℕ) (rest : List ℕ) → IsDualInRange tree → fork_depth tree ≤ room → dual_at room (dual_text tree ++ rest) ≡ Some (tree, rest)
+unfolding dual_at
+dual_read (stop prices) zero rest range deep =
+    let line = prices_line_read most_stop_price LineWord.Stop prices rest (omega arith) range in
+    let said = prices_again most_stop_price 0 prices range in
+    rw (line, said)
+dual_read (stop prices) (suc room) rest range deep =
+    let line = prices_line_read most_stop_price LineWord.Stop prices rest (omega arith) range in
+    let said = prices_again most_stop_price 0 prices range in
+    rw (line, said)
+dual_read (fork e a b first second) zero rest range deep = absurd (omega arith)
+dual_read (fork e a b first second) (suc room) rest range deep =
+    let behind = dual_text second ++ rest in
+    let under = dual_text first ++ behind in
+    let grouped : dual_text (fork e a b first second) ++ rest ≡ line_text (fork_line e a b) ++ under =
+    append_assoc (line_text (fork_line e a b)) (dual_text first ++ dual_text second) rest
+    ∙ ap (λ (bytes : List ℕ). line_text (fork_line e a b) ++ bytes) (append_assoc (dual_text first) (dual_text second) rest) in
+    let line = fork_read e a b under range.0 range.1 range.2 in
+    let said = fork_said e a b range.0 range.1 range.2 in
+    let one : dual_at room under ≡ Some (first, behind) = dual_read first room behind range.3 (omega arith) in
+    let two : dual_at room behind ≡ Some (second, rest) = dual_read second room rest range.4 (omega arith) in
+    rw (grouped, line, said, one, two)
+
+part_tree_read : (tree : PlainPartTree) (rest : List ℕ) → IsPartTreeInRange tree → depth_of_part tree ≤ most_depth → part_tree_at (part_tree_text tree ++ rest) ≡ Some (tree, rest)
+part_tree_read (by_cases tree) rest range deep =
+    let kind = tree_begins tree rest in
+    let read = tree_read tree most_depth rest range deep in
+    rw (kind, read)
+part_tree_read (by_pairs tree) rest range deep =
+    let kind = dual_begins tree rest in
+    let read = dual_read tree most_depth rest range deep in
+    rw (kind, read)
+
 rules_read : (rules : List Rule) (k : ℕ) (rest : List ℕ) → AllByRecursion IsRuleInRange rules → all_at (λ (i : ℕ). proof_front rule_in) k (length rules) (rules_text rules ++ rest) ≡ Some (rules, rest)
 rules_read [] k rest range = refl
 rules_read (r ∷ more) k rest range =
@@ -123,12 +143,12 @@ rules_read (r ∷ more) k rest range =
 part_read : (part : PlainPart) (rest : List ℕ) → IsPartInRange part → part_at (part_text part ++ rest) ≡ Some (part, rest)
 unfolding part_at
 part_read part rest range =
-    let under = tree_text part.tree ++ rest in
+    let under = part_tree_text part.tree ++ rest in
     let line = line_text (part_line part.target part.segs) in
-    let grouped : part_text part ++ rest ≡ line ++ under = append_assoc line (tree_text part.tree) rest in
+    let grouped : part_text part ++ rest ≡ line ++ under = append_assoc line (part_tree_text part.tree) rest in
     let head : proof_front part_in (line ++ under) ≡ Some ((part.target, part.segs), under) =
     front_again part_in (part_line part.target part.segs) (part.target, part.segs) under (part_again part.target part.segs range.target range.segs) (part_line_few part.target part.segs range.target range.segs) in
-    let tree : tree_at most_depth under ≡ Some (part.tree, rest) = tree_read part.tree most_depth rest range.tree range.depth in
+    let tree : part_tree_at under ≡ Some (part.tree, rest) = part_tree_read part.tree rest range.tree range.depth in
     rw (grouped, head, tree)
 
 parts_read : (parts : List PlainPart) (k : ℕ) (rest : List ℕ) → AllByRecursion IsPartInRange parts → all_at (λ (i : ℕ). part_at) k (length parts) (parts_text parts ++ rest) ≡ Some (parts, rest)

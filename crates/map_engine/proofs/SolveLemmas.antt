@@ -18,7 +18,8 @@ use Rattle.order_proof.specs.Trees.{IsProofTree}
 use Rattle.order_search.specs.declared.found.Found.{Found}
 use Rattle.order_search.specs.declared.found.SearchFault.{SearchFault}
 use Rattle.order_search.specs.declared.found.SearchFault.TheVariants as search
-use Rattle.order_bound.specs.Accepting.{question, accepts}
+use Rattle.order_bound.specs.Accepting.{accepts}
+use Rattle.order_model.specs.Questions.{question}
 use Rattle.order_model.specs.PartTerms.{part_terms}
 use Rattle.order_model.specs.Prefixes.{none_placed}
 use Rattle.order_search.specs.Finding.{with_lists, places_of, places_limit, IsSearchFault, IsLeast, AreAttained}

@@ -23,7 +23,8 @@ use Rattle.order_proof.specs.Plain.{PlainTree, split, close, Cases, no_case, cas
 use Rattle.order_proof.specs.Trees.{count_of, is_among, lines_of, AreDistinct, AreNotZero, AreTrees, IsTree}
 use Rattle.order_proof.specs.Forms.{most_id, most_cases, most_price}
 use Rattle.order_proof.specs.Ranges.{AreCasesInRange, ArePrices, IsPrice, IsTreeInRange}
-use Rattle.order_bound.specs.Accepting.{accepts, accepts_cases, are_those_left, is_closed, is_split, reaches, Question}
+use Rattle.order_bound.specs.Accepting.{accepts, accepts_cases, are_those_left, is_closed, is_split, reaches}
+use Rattle.order_model.specs.Questions.{Question}
 use Rattle.order_bound.specs.Values.{allows, are_allowed, value_of}
 
 -- a line that is there is one of the list

@@ -1,4 +1,4 @@
--- The check of a map and its certificate: the first item that is refused, or the cost.
+-- The check of a map and its certificate: the first item that is refused, or what is proved of its orders.
 use Rattle.std.specs.Prelude.{◌≡◌, ℕ, ◌+◌, ◌==◌, ◌&&◌, Bool, true, false, List, [], ◌∷◌, length, option_map, Option, Some, None, Result, Ok, Err, if◌then◌else◌}
 use Rattle.std.specs.List.{list_all}
 use Rattle.map_base.specs.declared.ids.SegId.{SegId}
@@ -13,7 +13,9 @@ use Rattle.octi_grid.specs.Legal.{first_illegal}
 use Rattle.order_model.specs.declared.problem.ProblemParts.{ProblemParts}
 use Rattle.order_model.specs.Costs.{cost_of}
 use Rattle.order_model.specs.Places.{has_line}
-use Rattle.order_check.specs.Verdict.{verdict}
+use Rattle.map_method.specs.declared.claim.Claim.{Claim}
+use Rattle.map_method.specs.declared.claim.Claim.TheVariants.{Best, Bound}
+use Rattle.order_check.specs.Verdict.{verdict, bound_refusal, targets}
 use Rattle.order_proof.specs.Plain.{PlainProof}
 use Rattle.svg_writer.specs.Picture.{picture_text}
 use Rattle.cert_file.specs.Plain.{PlainCertificate}
@@ -22,6 +24,7 @@ use Rattle.map_engine.specs.declared.fault.CheckItem.TheVariants as item
 use Rattle.map_engine.specs.declared.fault.CheckFault.{CheckFault}
 use Rattle.map_engine.specs.declared.fault.CheckFault.TheVariants as fault
 use Rattle.map_engine.specs.declared.checked.Checked.{Checked}
+use Rattle.map_engine.specs.declared.checked.Proved.{Proved}
 use Rattle.map_engine.specs.Tables.{names_by}
 use Rattle.map_engine.specs.Problems.{problem_within}
 use Rattle.map_engine.specs.Certificates.{line_count, weighty_lines}
@@ -74,9 +77,11 @@ order_item graph c = option_map item.Order (first_disorder 0 graph.lines c.order
 abbrev pub cost_item : ProblemParts → List (List LineId) → ℕ → Option CheckItem
 cost_item p orders cost = refused_unless (cost == cost_of p.terms orders) item.Cost
 
--- the first item of the proof that is refused
-abbrev pub proof_item : ProblemParts → List (List LineId) → PlainProof → Option CheckItem
-proof_item p orders proof = option_map item.Proof (verdict p orders proof)
+-- the first item of the proof that is refused: where best orders are claimed, the total of the targets is an item, which has
+-- to be the cost of the orders
+abbrev pub proof_item : Claim → ProblemParts → List (List LineId) → PlainProof → Option CheckItem
+proof_item Best p orders proof = option_map item.Proof (verdict p orders proof)
+proof_item Bound p orders proof = option_map item.Proof (bound_refusal p proof)
 
 -- the place of the first byte that differs, or the lesser length where one is the beginning of the other
 abbrev pub first_difference : List ℕ → List ℕ → Option ℕ
@@ -96,57 +101,62 @@ abbrev pub unless_refused : {A : Type 0} → Option CheckItem → Result A Check
 unless_refused None next = next
 unless_refused (Some i) next = Err (fault.Refuted i)
 
--- what was found of a certificate that is accepted but for the picture: its cost, and the picture that is due
+-- what was found of a certificate that is accepted but for the picture: what is proved of its orders, and the picture that
+-- is due
 pub record PlainChecked : Type 0 where
-  pub cost : ℕ
+  pub proved : Proved
   pub svg : List ℕ
 
 abbrev pub checked_bytes : Checked → PlainChecked
-checked_bytes checked = record { cost = checked.cost; svg = checked.svg.items }
+checked_bytes checked = record { proved = checked.proved; svg = checked.svg.items }
 
--- what comes next, unless the cost of orders or the proof that none cost less is refused
-abbrev pub unless_costlier : {A : Type 0} → ProblemParts → List (List LineId) → ℕ → PlainProof → Result A CheckFault → Result A CheckFault
-unless_costlier p orders cost proof next = unless_refused (cost_item p orders cost) (unless_refused (proof_item p orders proof) next)
+-- what a certificate proves: what its orders cost, and the sum of its targets, which no orders cost less than
+abbrev pub proved_by : PlainCertificate → Proved
+proved_by c = record { cost = c.cost; bound = targets c.proof.parts }
+
+-- what comes next, unless the cost of orders or the proof of their bound is refused
+abbrev pub unless_costlier : {A : Type 0} → Claim → ProblemParts → List (List LineId) → ℕ → PlainProof → Result A CheckFault → Result A CheckFault
+unless_costlier claim p orders cost proof next = unless_refused (cost_item p orders cost) (unless_refused (proof_item claim p orders proof) next)
 
 -- cost and proof, by the problem of the line graph
-abbrev pub checked_orders : Feed → GraphParts → PlainCertificate → Result ProblemParts Limit → Result PlainChecked CheckFault
-checked_orders feed graph c (Err limit) = Err (fault.Limit limit)
-checked_orders feed graph c (Ok p) =
-    unless_costlier p c.orders c.cost c.proof (Ok (record { cost = c.cost; svg = picture_text (names_by feed) graph c.walks c.orders }))
+abbrev pub checked_orders : Feed → Claim → GraphParts → PlainCertificate → Result ProblemParts Limit → Result PlainChecked CheckFault
+checked_orders feed claim graph c (Err limit) = Err (fault.Limit limit)
+checked_orders feed claim graph c (Ok p) =
+    unless_costlier claim p c.orders c.cost c.proof (Ok (record { proved = proved_by c; svg = picture_text (names_by feed) graph c.walks c.orders }))
 
 -- walks and orders; then the terms are counted
-abbrev pub checked_walks : Feed → Choices → GraphParts → PlainCertificate → Result PlainChecked CheckFault
-checked_walks feed choices graph c =
+abbrev pub checked_walks : Feed → Choices → Claim → GraphParts → PlainCertificate → Result PlainChecked CheckFault
+checked_walks feed choices claim graph c =
     unless_refused (walk_item graph c) (unless_refused (order_item graph c)
-    (checked_orders feed graph c (problem_within feed choices graph)))
+    (checked_orders feed claim graph c (problem_within feed choices graph)))
 
 -- counts and importance come first
-abbrev pub checked_items : Feed → Choices → GraphParts → PlainCertificate → Result PlainChecked CheckFault
-checked_items feed choices graph c =
-    unless_refused (graph_item feed graph c) (unless_refused (importance_item feed choices graph c) (checked_walks feed choices graph c))
+abbrev pub checked_items : Feed → Choices → Claim → GraphParts → PlainCertificate → Result PlainChecked CheckFault
+checked_items feed choices claim graph c =
+    unless_refused (graph_item feed graph c) (unless_refused (importance_item feed choices graph c) (checked_walks feed choices claim graph c))
 
 -- a text that is no certificate's is refused where its first wrong line begins
-abbrev pub checked_text : Feed → Choices → GraphParts → Result PlainCertificate ℕ → Result PlainChecked CheckFault
-checked_text feed choices graph (Err at) = Err (fault.Refuted (item.Text at))
-checked_text feed choices graph (Ok c) = checked_items feed choices graph c
+abbrev pub checked_text : Feed → Choices → Claim → GraphParts → Result PlainCertificate ℕ → Result PlainChecked CheckFault
+checked_text feed choices claim graph (Err at) = Err (fault.Refuted (item.Text at))
+checked_text feed choices claim graph (Ok c) = checked_items feed choices claim graph c
 
-abbrev pub checked_on : Feed → Choices → Result PlainCertificate ℕ → Result GraphParts Limit → Result PlainChecked CheckFault
-checked_on feed choices read (Err limit) = Err (fault.Limit limit)
-checked_on feed choices read (Ok graph) = checked_text feed choices graph read
+abbrev pub checked_on : Feed → Choices → Claim → Result PlainCertificate ℕ → Result GraphParts Limit → Result PlainChecked CheckFault
+checked_on feed choices claim read (Err limit) = Err (fault.Limit limit)
+checked_on feed choices claim read (Ok graph) = checked_text feed choices claim graph read
 
--- Every item but the picture, by what the certificate's text is read as: the cost and the picture that is due, or the
--- limit that is met or the item refused first.
-abbrev pub certificate_outcome : Feed → Choices → Result PlainCertificate ℕ → Result PlainChecked CheckFault
-certificate_outcome feed choices read = checked_on feed choices read (graph_outcome choices.near feed)
+-- Every item but the picture, by what the certificate's text is read as: what is proved of its orders and the picture that
+-- is due, or the limit that is met or the item refused first.
+abbrev pub certificate_outcome : Feed → Choices → Claim → Result PlainCertificate ℕ → Result PlainChecked CheckFault
+certificate_outcome feed choices claim read = checked_on feed choices claim read (graph_outcome choices.near feed)
 
 -- last the picture
-abbrev pub pictured : List ℕ → Result PlainChecked CheckFault → Result ℕ CheckFault
+abbrev pub pictured : List ℕ → Result PlainChecked CheckFault → Result Proved CheckFault
 pictured svg (Err stop) = Err stop
-pictured svg (Ok checked) = unless_refused (picture_item checked.svg svg) (Ok checked.cost)
+pictured svg (Ok checked) = unless_refused (picture_item checked.svg svg) (Ok checked.proved)
 
--- the cost of a map that is accepted with its certificate, or the limit that is met or the item refused first
-abbrev pub check_outcome : Feed → Choices → List ℕ → Result PlainCertificate ℕ → Result ℕ CheckFault
-check_outcome feed choices svg read = pictured svg (certificate_outcome feed choices read)
+-- what is proved of a map that is accepted with its certificate, or the limit that is met or the item refused first
+abbrev pub check_outcome : Feed → Choices → Claim → List ℕ → Result PlainCertificate ℕ → Result Proved CheckFault
+check_outcome feed choices claim svg read = pictured svg (certificate_outcome feed choices claim read)
 
 -- the fault is the one that comes by definition; want of memory is free
 abbrev pub HasCause : {A : Type 0} → Result A CheckFault → CheckFault → Type 0

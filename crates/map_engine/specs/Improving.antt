@@ -36,11 +36,11 @@ improved_bytes improved = record { map = bytes_of improved.map; improvement = im
 abbrev pub IsAtTheEnd : ℕ → Drawn → ℕ → Type 0
 IsAtTheEnd moves drawn made = (made ≡ moves) ⊎ (next_of drawn.graph drawn.walks (after_moves moves drawn).walks ≡ None)
 
--- What moves promise of a map: it is one that is made, so it shows exactly the line graph, no line orders cost less, and
--- the check says yes to it and its certificate. Its drawing is no heavier than before, and all moves were made, or none
+-- What moves promise of a map: it is one that is made, so it shows exactly the line graph, with what its certificate
+-- proves of the line orders, and the check says yes to it and its certificate. Its drawing is no heavier than before, and all moves were made, or none
 -- makes it lighter.
 pub record IsImprovedMap (feed : Feed) (choices : Choices) (method : MethodChoices) (moves : ℕ) (improved : ImprovedBytes) : Type 0 where
-  pub made : IsMade feed choices improved.map
+  pub made : IsMade feed choices method.claim improved.map
   pub no_heavier : improved.improvement.after ≤ improved.improvement.before
   pub solved : SolvedMap
   pub of_feed : solved_outcome feed choices method ≡ Ok solved

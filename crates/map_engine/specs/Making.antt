@@ -3,6 +3,7 @@ use Rattle.std.specs.Prelude.{◌≡◌, ℕ, List, Result, Ok, Err}
 use Rattle.map_base.specs.Settings.{Choices}
 use Rattle.map_method.specs.Methods.{MethodChoices}
 use Rattle.transit_feed.specs.Feeds.{Feed}
+use Rattle.kept_trees.specs.declared.plan.SearchPlan.{SearchPlan}
 use Rattle.svg_writer.specs.Picture.{picture_text}
 use Rattle.cert_file.specs.Text.{certificate_text}
 use Rattle.map_engine.specs.declared.fault.MakeFault.{MakeFault}
@@ -27,6 +28,10 @@ map_of feed choices drawn parts = record {
   certificate = certificate_text (certificate_of feed choices drawn parts);
 }
 
+-- how the orders of parts are searched for
+abbrev pub plan_of : Choices → MethodChoices → SearchPlan
+plan_of choices method = record { search = method.search; claim = method.claim; budget = choices.budget }
+
 -- a drawing with the solved parts of its untangled problem
 pub record SolvedMap : Type 0 where
   pub drawn : Drawn
@@ -38,7 +43,7 @@ solved_with moves drawn (Ok parts) = Ok (record { drawn = after_moves moves draw
 solved_with moves drawn (Err stop) = Err stop
 
 abbrev pub solved_on : Choices → MethodChoices → Result Drawn MakeFault → Result SolvedMap MakeFault
-solved_on choices method (Ok drawn) = solved_with method.moves drawn (solve_outcome method.search choices.budget (untangled_problem drawn.problem))
+solved_on choices method (Ok drawn) = solved_with method.moves drawn (solve_outcome (plan_of choices method) (untangled_problem drawn.problem))
 solved_on choices method (Err stop) = Err stop
 
 -- The drawing of a feed and its line orders; or the first cause why there is none: a limit of the line graph, of cells, no

@@ -2,7 +2,9 @@
 use Rattle.std.specs.Prelude.{◌≡◌, ◌≤◌, ◌<◌, ◌+◌, ◌^◌, ◌⊎◌, ℕ, false, true, All, None, List, [], ◌∷◌, ◌++◌, length, map, filter, drop, Result, Ok, Err}
 use Rattle.std.specs.List.{AllByRecursion}
 use Rattle.map_base.specs.declared.ids.SegId.{SegId}
-use Rattle.map_method.specs.declared.search.Search.{Search}
+use Rattle.map_method.specs.declared.claim.Claim.{Claim}
+use Rattle.map_method.specs.declared.claim.Claim.TheVariants.{Best, Bound}
+use Rattle.kept_trees.specs.declared.plan.SearchPlan.{SearchPlan}
 use Rattle.order_model.specs.declared.problem.ProblemParts.{ProblemParts}
 use Rattle.transit_feed.specs.Feeds.{Feed}
 use Rattle.graph_core.specs.Consistent.{IsConsistent}
@@ -15,10 +17,10 @@ use Rattle.svg_writer.specs.Picture.{picture_text}
 use Rattle.cert_file.specs.Plain.{PlainCertificate}
 use Rattle.cert_file.specs.Text.{certificate_text}
 use Rattle.order_proof.specs.Plain.{PlainPart, plain_part, plain_proof}
-use Rattle.order_proof.specs.Trees.{IsProofTree}
-use Rattle.order_bound.specs.Accepting.{question, accepts}
+use Rattle.order_proof.specs.Trees.{IsPartTree}
+use Rattle.order_check.specs.Verdict.{failing}
+use Rattle.order_model.specs.Questions.{question}
 use Rattle.order_model.specs.PartTerms.{part_terms}
-use Rattle.order_model.specs.Prefixes.{none_placed}
 use Rattle.order_search.specs.Finding.{with_lists, IsLeast, AreAttained}
 use Rattle.order_search.specs.FoundParts.{part_in}
 use Rattle.map_engine.specs.declared.best_orders.BestOrders.{BestOrders}
@@ -30,8 +32,8 @@ use Rattle.map_engine.specs.declared.fault.MakeFault.{MakeFault}
 use Rattle.map_engine.specs.declared.fault.MakeFault.TheVariants as fault
 use Rattle.map_engine.specs.Problems.{Drawn, untangled_problem}
 use Rattle.map_engine.specs.Moving.{improvement_of, walks_after}
-use Rattle.kept_trees.specs.Results.{result_of}
-use Rattle.map_engine.specs.Solving.{SolvedPart, solved, with_solved, is_solvable, why_unsolved, orders_by, solve_from, solve_outcome, parts_in}
+use Rattle.kept_trees.specs.Results.{PartResult, part_outcome}
+use Rattle.map_engine.specs.Solving.{SolvedPart, solved, with_solved, solved_first, orders_by, solve_from, solve_outcome, parts_in}
 use Rattle.map_engine.specs.Lifted.{lifted_by}
 use Rattle.map_engine.specs.Tables.{names_by}
 use Rattle.map_engine.specs.Certificates.{proof_part, proof_of, line_count, is_weighty, weighed_line, drawn_lines}
@@ -67,56 +69,62 @@ pub record IsMoved (moves : ℕ) (d : DrawnMap) (moved : DrawnMap × Improvement
 abbrev pub plain_parts : Solution → List PlainPart
 plain_parts s = map plain_part s.parts.items
 
--- what a search finds of a part shows its least cost, which is that of the orders that are found
-pub record IsShown (how : Search) (p : ProblemParts) (part : List SegId) : Type 0 where
-  pub least : IsLeast (part_in p part) (result_of how p part).target
-  pub attained : AreAttained (part_in p part) (result_of how p part).lists (result_of how p part).target
-  pub accepted : accepts (question p.segs part (part_terms p.terms part) (result_of how p part).target) (none_placed p.segs) (result_of how p part).tree ≡ true
+-- where best orders are claimed, they cost the target
+abbrev pub CostClaimed : Claim → ℕ → ℕ → Type 0
+CostClaimed Best target cost = cost ≡ target
+CostClaimed Bound target cost = Unit {0}
+
+-- What a search finds of a part shows its target, which no orders of the part cost less than; the orders that are found
+-- cost something, and the target where best orders are claimed.
+pub record IsShown (plan : SearchPlan) (p : ProblemParts) (s : SolvedPart) : Type 0 where
+  pub bound : IsLeast (part_in p s.segs) s.target
+  pub cost : ℕ
+  pub attained : AreAttained (part_in p s.segs) s.lists cost
+  pub claimed : CostClaimed plan.claim s.target cost
+  pub accepted : failing (question p.segs s.segs (part_terms p.terms s.segs) s.target) s.tree ≡ None
 
 -- the trees of solved parts are trees that a proof may have
 abbrev pub HaveProofTrees : List SolvedPart → Type 0
-HaveProofTrees parts = AllByRecursion (λ (q : PlainPart). IsProofTree q.tree) (map proof_part parts)
+HaveProofTrees parts = AllByRecursion (λ (q : PlainPart). IsPartTree q.tree) (map proof_part parts)
 
 -- orders and proofs by solved parts, with trees that a proof may have
-pub record IsSolution (how : Search) (p : ProblemParts) (parts : List SolvedPart) (s : Solution) : Type 0 where
+pub record IsSolution (plan : SearchPlan) (p : ProblemParts) (parts : List SolvedPart) (s : Solution) : Type 0 where
   pub orders : s.orders.items ≡ orders_by p parts
   pub proofs : plain_parts s ≡ map proof_part parts
   pub trees : HaveProofTrees parts
-  pub shown : AllByRecursion (λ (s : SolvedPart). IsShown how p s.segs) parts
+  pub shown : AllByRecursion (IsShown plan p) parts
 
 -- what was solved is what comes by definition, unless memory ran out
-abbrev pub Solves : Search → ProblemParts → Result Solution MakeFault → Result (List SolvedPart) MakeFault → Type 0
-Solves how p (Ok s) outcome = (parts : List SolvedPart) × (outcome ≡ Ok parts) × IsSolution how p parts s
-Solves how p (Err e) outcome = HasCause outcome e
+abbrev pub Solves : SearchPlan → ProblemParts → Result Solution MakeFault → Result (List SolvedPart) MakeFault → Type 0
+Solves plan p (Ok s) outcome = (parts : List SolvedPart) × (outcome ≡ Ok parts) × IsSolution plan p parts s
+Solves plan p (Err e) outcome = HasCause outcome e
 
 -- line orders of a problem, what they cost and their proof, by the solved parts of its untangled problem
-pub record AreBestBy (how : Search) (p : ProblemParts) (parts : List SolvedPart) (best : BestOrders) : Type 0 where
+pub record AreBestBy (plan : SearchPlan) (p : ProblemParts) (parts : List SolvedPart) (best : BestOrders) : Type 0 where
   pub orders : best.orders.lists ≡ lifted_by p parts
   pub cost : best.cost ≡ cost_of p.terms (lifted_by p parts)
   pub proof : plain_proof best.proof ≡ proof_of p parts
   pub trees : HaveProofTrees parts
   pub ordered : AreOrders (untangled_problem p).segs (orders_by (untangled_problem p) parts)
-  pub shown : AllByRecursion (λ (s : SolvedPart). IsShown how (untangled_problem p) s.segs) parts
+  pub shown : AllByRecursion (IsShown plan (untangled_problem p)) parts
 
 -- what was found is what comes of the untangled problem by definition, unless memory ran out
-abbrev pub Finds : Search → ProblemParts → Result BestOrders MakeFault → Result (List SolvedPart) MakeFault → Type 0
-Finds how p (Ok best) outcome = (parts : List SolvedPart) × (outcome ≡ Ok parts) × AreBestBy how p parts best
-Finds how p (Err e) outcome = HasCause outcome e
+abbrev pub Finds : SearchPlan → ProblemParts → Result BestOrders MakeFault → Result (List SolvedPart) MakeFault → Type 0
+Finds plan p (Ok best) outcome = (parts : List SolvedPart) × (outcome ≡ Ok parts) × AreBestBy plan p parts best
+Finds plan p (Err e) outcome = HasCause outcome e
 
--- one part more is solved
-pub record IsMore (how : Search) (budget : ℕ) (p : ProblemParts) (part : List SegId) (before after : Solution) : Type 0 where
-  pub solvable : is_solvable how budget p part ≡ true
-  pub tree : IsProofTree (solved how p part).tree
-  pub shown : IsShown how p part
-  pub orders : after.orders.items ≡ with_lists part (solved how p part).lists before.orders.items
-  pub proofs : plain_parts after ≡ plain_parts before ++ proof_part (solved how p part) ∷ []
+-- one part more is solved, by what its search finds
+pub record IsMore (plan : SearchPlan) (p : ProblemParts) (part : List SegId) (before after : Solution) : Type 0 where
+  pub found : PartResult
+  pub outcome : part_outcome plan p part ≡ Ok found
+  pub tree : IsPartTree found.tree
+  pub shown : IsShown plan p (solved part found)
+  pub orders : after.orders.items ≡ with_lists part found.lists before.orders.items
+  pub proofs : plain_parts after ≡ plain_parts before ++ proof_part (solved part found) ∷ []
 
--- part k is not solved, for this reason; want of memory is free
-abbrev pub IsUnsolved : Search → ℕ → ProblemParts → ℕ → List SegId → MakeFault → Type 0
-IsUnsolved how budget p k part fault.NoMemory = Unit {0}
-IsUnsolved how budget p k part (fault.NoRoute seg) = (is_solvable how budget p part ≡ false) × (fault.NoRoute seg ≡ why_unsolved budget p k part)
-IsUnsolved how budget p k part (fault.Spent component branches) = (is_solvable how budget p part ≡ false) × (fault.Spent component branches ≡ why_unsolved budget p k part)
-IsUnsolved how budget p k part (fault.Limit limit) = (is_solvable how budget p part ≡ false) × (fault.Limit limit ≡ why_unsolved budget p k part)
+-- part k is not solved, for the reason that comes by definition; want of memory is free
+abbrev pub IsUnsolved : SearchPlan → ProblemParts → ℕ → List SegId → MakeFault → Type 0
+IsUnsolved plan p k part stop = HasCause (solved_first k part (part_outcome plan p part) (Ok [])) stop
 
 -- the certificate of a drawing with these line orders
 abbrev pub certificate_by : Feed → DrawnMap → BestOrders → PlainCertificate
@@ -153,7 +161,7 @@ prepended [] outcome = outcome
 prepended (s ∷ done) outcome = with_solved s (prepended done outcome)
 
 -- the first k parts are solved, so that the outcome of all is theirs before that of the others
-pub record AreSolved (how : Search) (budget : ℕ) (p : ProblemParts) (k : ℕ) (s : Solution) : Type 0 where
+pub record AreSolved (plan : SearchPlan) (p : ProblemParts) (k : ℕ) (s : Solution) : Type 0 where
   pub done : List SolvedPart
-  pub ahead : solve_outcome how budget p ≡ prepended done (solve_from how budget p k (drop k (parts_in p)))
-  pub solution : IsSolution how p done s
+  pub ahead : solve_outcome plan p ≡ prepended done (solve_from plan p k (drop k (parts_in p)))
+  pub solution : IsSolution plan p done s

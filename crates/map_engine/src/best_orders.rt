@@ -1,4 +1,4 @@
-//! Line orders of a problem that cost least.
+//! Line orders of a problem, with their proof.
 
 ghost use Rattle.std.specs.Prelude.{◌≡◌, ◌≤◌, ◌+◌, map, sum_by, All, Contains, IfOk};
 ghost use Rattle.order_model.specs.Problems.{IsProblem};
@@ -15,9 +15,8 @@ ghost use Rattle.map_engine.specs.Stages.{plain_parts, Finds};
 use crate::fault::MakeFault;
 use crate::solution::Solution;
 use crate::solving::solve_parts;
-use kept_trees::Kept;
+use kept_trees::{Kept, SearchPlan};
 use map_base::{NoMemory, Sequence, Steps};
-use map_method::Search;
 use order_model::{Orders, Problem, cost_by_tables};
 use order_proof::Proof;
 use order_rules::lift;
@@ -26,7 +25,7 @@ use order_values::Rule;
 use std::alloc::Global;
 use std::sync::ledger::Ledger;
 
-/// Line orders that cost least, what they cost, and the proof that none cost less.
+/// Line orders, what they cost, and the proof of what none cost less than.
 #[derive(Debug, Drop)]
 pub(crate) struct BestOrders {
     /// The order of each segment.
@@ -37,28 +36,26 @@ pub(crate) struct BestOrders {
     pub proof: Proof,
 }
 
-/// The line orders of a problem that cost least, with their proof. The problem is untangled, the parts of the untangled
-/// problem are solved by this search, and their orders are lifted. The first part that is over the limit of places or over the budget of
-/// branch nodes ends it.
+/// The line orders of a problem, with the proof of what none cost less than. The problem is untangled, the parts of the
+/// untangled problem are solved by this plan, and their orders are lifted. The first part of which nothing is found ends it.
 #[tactic(auto, using(crate::proofs::KeepLemmas::itself_held))]
 pub(crate) fn best_orders<L: Ledger>(
     alloc: Global,
     problem: Problem,
-    how: Search,
-    budget: u32,
+    plan: SearchPlan,
     kept: &mut Kept,
     steps: &mut Steps<L>,
 ) -> Result<BestOrders, MakeFault>
     requires problem { IsProblem problem }
-    requires budget { budget ≤ 100000 }
-    ensures found { Finds how problem result (solve_outcome how budget (untangled_problem problem)) }
+    requires budget { plan.budget ≤ 100000 }
+    ensures found { Finds plan problem result (solve_outcome plan (untangled_problem problem)) }
     ensures orders { IfOk result (λ best. AreOrders problem.segs best.orders.lists) }
     ensures kept { All (Contains kept.new) kept.old }
-    ensures finished { HoldsFinished result (finished_of how budget (untangled_problem problem)) kept.new }
-    ensures steps { steps.new ≤ steps.old + sum_by (branches_to_meet kept.old how (untangled_problem problem)) (parts_in (untangled_problem problem)) }
+    ensures finished { HoldsFinished result (finished_of plan (untangled_problem problem)) kept.new }
+    ensures steps { steps.new ≤ steps.old + sum_by (branches_to_meet kept.old plan (untangled_problem problem)) (parts_in (untangled_problem problem)) }
 {
     let (rules, untangled) = untangle(alloc, problem)?;
-    let solution = solve_parts(alloc, &untangled, how, budget, kept, steps)?;
+    let solution = solve_parts(alloc, &untangled, plan, kept, steps)?;
     Ok(lifted(alloc, rules, &untangled, solution)?)
 }
 

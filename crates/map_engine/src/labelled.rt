@@ -15,24 +15,26 @@ use graph_core::LineGraph;
 use label_place::labelled;
 use line_graph::build;
 use map_base::{NoMemory, Settings};
+use map_method::Claim;
 use octi_grid::Drawing;
 use std::alloc::Global;
 use transit_feed::Tables;
 
 /// The map of a feed with the names of its stations at free places (SVG 1.1), by a certificate. All of the certificate is
 /// checked as `check_certificate` does, with the same refusals: so the map shows exactly the line graph of the feed, in a
-/// legal drawing and with line orders that cost least.
+/// legal drawing and with line orders of which the certificate proves what is claimed.
 pub fn labels(
     alloc: Global,
     tables: &Tables,
     settings: &Settings,
+    claim: Claim,
     certificate: &[u8],
 ) -> Result<Vec<u8>, CheckFault>
-    ensures outcome { Gives (λ map. map.items) result (labels_outcome tables.now settings.now (certificate_in certificate.now)) }
-    ensures certified { IfOk result (λ map. IsLabelledMap tables.now settings.now map.items certificate.now) }
+    ensures outcome { Gives (λ map. map.items) result (labels_outcome tables.now settings.now claim (certificate_in certificate.now)) }
+    ensures certified { IfOk result (λ map. IsLabelledMap tables.now settings.now claim map.items certificate.now) }
 {
     let graph = build(alloc, tables, settings)?;
-    labels_on_graph(alloc, tables, settings, &graph, certificate)
+    labels_on_graph(alloc, tables, settings, claim, &graph, certificate)
 }
 
 /// The same by the line graph of the tables, where that is known.
@@ -40,14 +42,15 @@ pub fn labels_on_graph(
     alloc: Global,
     tables: &Tables,
     settings: &Settings,
+    claim: Claim,
     graph: &LineGraph,
     certificate: &[u8],
 ) -> Result<Vec<u8>, CheckFault>
     requires { graph_outcome settings.now.near tables.now ≡ Ok graph.now }
-    ensures outcome { Gives (λ map. map.items) result (labelled_items tables.now settings.now graph.now (certificate_in certificate.now)) }
-    ensures certified { IfOk result (λ map. IsLabelledMap tables.now settings.now map.items certificate.now) }
+    ensures outcome { Gives (λ map. map.items) result (labelled_items tables.now settings.now claim graph.now (certificate_in certificate.now)) }
+    ensures certified { IfOk result (λ map. IsLabelledMap tables.now settings.now claim map.items certificate.now) }
 {
-    let _accepted = check_on_graph(alloc, tables, settings, graph, certificate)?;
+    let _accepted = check_on_graph(alloc, tables, settings, claim, graph, certificate)?;
     let read = read_certificate(alloc, certificate)?;
     Ok(labelled_map(alloc, tables, graph, read)?)
 }

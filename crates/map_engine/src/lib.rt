@@ -29,7 +29,7 @@ mod promises;
 mod solution;
 mod solving;
 
-pub use checked::Checked;
+pub use checked::{Checked, Proved};
 pub use checking::{check, check_certificate, check_on_graph};
 pub use fault::{CheckFault, CheckItem, MakeFault};
 pub use geographic::{geo, geo_on_graph};
@@ -47,4 +47,4 @@ pub use laws::{
 pub use made::Made;
 pub use making::{make, make_again, make_improved};
 pub use names::names_of;
-pub use promises::a_solved_drawing_is_accepted;
+pub use promises::{a_bound_that_is_attained_is_least, a_solved_drawing_is_accepted};

@@ -4,7 +4,7 @@ ghost use Rattle.std.specs.Prelude.{◌≡◌, ◌≤◌, ◌<◌, ◌+◌, ◌^
 ghost use Rattle.grid_board.specs.Points.{are_near};
 ghost use Rattle.order_model.specs.Costs.{AreOrders};
 ghost use Rattle.map_engine.specs.Tables.{AreOfFeed};
-ghost use Rattle.map_engine.specs.Making.{bytes_of, make_outcome, Gives};
+ghost use Rattle.map_engine.specs.Making.{bytes_of, make_outcome, plan_of, Gives};
 ghost use Rattle.map_engine.specs.Improving.{improve_outcome, improved_bytes, IsImprovedMap};
 ghost use Rattle.map_engine.specs.Keeping.{finished_parts, HoldsFinished, branches_left};
 ghost use Rattle.map_engine.specs.Stages.{map_by, IsDrawing, IsWritten};
@@ -21,7 +21,7 @@ use crate::moving::moved;
 use crate::names::names_of;
 use cert_file::{Certificate, write_certificate};
 use kept_drawing::LastDrawing;
-use kept_trees::Kept;
+use kept_trees::{Kept, SearchPlan};
 use map_base::{NoMemory, Sequence, Settings, Steps};
 use map_method::Method;
 use std::alloc::Global;
@@ -31,7 +31,8 @@ use transit_feed::Tables;
 
 /// The map of a feed and its certificate. The first cause why there is none is answered: a limit of the line graph or of
 /// the grid's cells, a segment without a walk, a limit of terms, or the first part of the untangled problem that is over
-/// the limit of places or whose search meets more branch nodes than the budget. What `kept` holds changes none of this.
+/// the limit of places or whose search meets more branch nodes than the budget; where a bound is claimed, a part that is
+/// searched by dual prices is not refused for its budget. What `kept` holds changes none of this.
 pub fn make<L: Ledger>(
     alloc: Global,
     tables: &Tables,
@@ -42,9 +43,9 @@ pub fn make<L: Ledger>(
 ) -> Result<Made, MakeFault>
     ensures outcome { Gives bytes_of result (make_outcome tables.now settings.now method.now) }
 
-    // The map shows exactly the feed's line graph, in a legal drawing, and no line orders of it cost less; and the check
-    // says yes to the map and its certificate.
-    ensures made { IfOk result (λ made. IsMade tables.now settings.now (bytes_of made)) }
+    // The map shows exactly the feed's line graph, in a legal drawing; no line orders of it cost less than the bound that
+    // its certificate proves, which is the cost where best orders are claimed; and the check says yes to the two.
+    ensures made { IfOk result (λ made. IsMade tables.now settings.now method.now.claim (bytes_of made)) }
 
     // What is held stays, each part that was finished is held, and no part that is held is searched again.
     ensures kept { All (Contains kept.new) kept.old }
@@ -68,9 +69,9 @@ pub fn make_again<L: Ledger>(
 ) -> Result<Made, MakeFault>
     ensures outcome { Gives bytes_of result (make_outcome tables.now settings.now method.now) }
 
-    // The map shows exactly the feed's line graph, in a legal drawing, and no line orders of it cost less; and the check
-    // says yes to the map and its certificate.
-    ensures made { IfOk result (λ made. IsMade tables.now settings.now (bytes_of made)) }
+    // The map shows exactly the feed's line graph, in a legal drawing; no line orders of it cost less than the bound that
+    // its certificate proves, which is the cost where best orders are claimed; and the check says yes to the two.
+    ensures made { IfOk result (λ made. IsMade tables.now settings.now method.now.claim (bytes_of made)) }
 
     // What is held stays, each part that was finished is held, and no part that is held is searched again.
     ensures kept { All (Contains kept.new) kept.old }
@@ -132,8 +133,19 @@ fn make_with<L: Ledger>(
     ensures steps { steps.new ≤ steps.old + branches_left kept.old tables.now settings.now method.now }
 {
     let (drawn, problem) = drawn_map(alloc, tables, settings, method, last)?;
-    let best = best_orders(alloc, problem, method.search, settings.budget, kept, steps)?;
+    let best = best_orders(alloc, problem, plan_of(settings, method), kept, steps)?;
     Ok(moved_map(alloc, tables, drawn, best, method.moves, moves)?)
+}
+
+/// How the orders of parts are searched for.
+fn plan_of(settings: &Settings, method: &Method) -> SearchPlan
+    ensures { result ≡ plan_of settings.now method.now }
+{
+    SearchPlan {
+        search: method.search,
+        claim: method.claim,
+        budget: settings.budget,
+    }
 }
 
 /// The map of a drawing and its certificate after so many moves and then so many more, and what the last ones made of it.

@@ -18,34 +18,32 @@ ghost use Rattle.map_engine.specs.Stages.{IsMore, IsUnsolved, Solves};
 
 use crate::fault::MakeFault;
 use crate::solution::Solution;
-use kept_trees::Kept;
+use kept_trees::{FoundPart, Kept, SearchPlan};
 use map_base::{LineId, NoMemory, SegId, Sequence, Steps};
-use map_method::Search;
 use order_model::{Problem, numbers_of, parts_of, terms_by_part};
 use order_proof::Part;
-use order_search::{Found, SearchFault};
+use order_search::SearchFault;
 use std::alloc::Global;
 use std::sync::ledger::Ledger;
 
-/// The line orders of a problem that cost least, part by part, each with its proof, as this search finds them. The first
-/// part that is over the limit of places or over the budget of branch nodes ends it. The terms of all parts are gathered
-/// once. A part that is kept under this search is not searched, and each part that is solved is kept.
+/// The line orders of a problem, part by part, each with its proof, as they are found by this plan. The first part of which
+/// nothing is found ends it. The terms of all parts are gathered once. A part of which what is to be known is kept is not
+/// searched, and each part that is solved is kept.
 #[tactic(auto, using(crate::proofs::KeepLemmas::itself_held))]
 pub(crate) fn solve_parts<L: Ledger>(
     alloc: Global,
     problem: &Problem,
-    how: Search,
-    budget: u32,
+    plan: SearchPlan,
     kept: &mut Kept,
     steps: &mut Steps<L>,
 ) -> Result<Solution, MakeFault>
-    requires budget { budget ≤ 100000 }
-    ensures solved { Solves how problem.now result (solve_outcome how budget problem.now) }
+    requires budget { plan.budget ≤ 100000 }
+    ensures solved { Solves plan problem.now result (solve_outcome plan problem.now) }
     ensures orders { IfOk result (λ s. AreOrders problem.now.segs s.orders.items) }
     ensures fits { IfOk result (λ _. IsProblem problem.now) }
     ensures kept { All (Contains kept.new) kept.old }
-    ensures finished { HoldsFinished result (finished_of how budget problem.now) kept.new }
-    ensures steps { steps.new ≤ steps.old + sum_by (branches_to_meet kept.old how problem.now) (parts_in problem.now) }
+    ensures finished { HoldsFinished result (finished_of plan problem.now) kept.new }
+    ensures steps { steps.new ≤ steps.old + sum_by (branches_to_meet kept.old plan problem.now) (parts_in problem.now) }
 {
     let parts = parts_of(alloc, problem)?;
     let numbers = numbers_of(alloc, problem, parts.as_slice())?;
@@ -55,8 +53,7 @@ pub(crate) fn solve_parts<L: Ledger>(
         problem,
         parts.as_slice(),
         terms.as_slice(),
-        how,
-        budget,
+        plan,
         kept,
         steps,
     )
@@ -69,21 +66,20 @@ fn solve_all<L: Ledger>(
     problem: &Problem,
     parts: &[Vec<SegId>],
     terms: &[Vec<u32>],
-    how: Search,
-    budget: u32,
+    plan: SearchPlan,
     kept: &mut Kept,
     steps: &mut Steps<L>,
 ) -> Result<Solution, MakeFault>
     requires parts { part_lists parts.now ≡ parts_in problem.now }
     requires classes { AreParts problem.now.segs problem.now.terms (part_lists parts.now) }
     requires terms { tables_of terms.now ≡ map (part_numbers problem.now.terms) (part_lists parts.now) }
-    requires budget { budget ≤ 100000 }
-    ensures solved { Solves how problem.now result (solve_outcome how budget problem.now) }
+    requires budget { plan.budget ≤ 100000 }
+    ensures solved { Solves plan problem.now result (solve_outcome plan problem.now) }
     ensures orders { IfOk result (λ s. AreOrders problem.now.segs s.orders.items) }
     ensures fits { IfOk result (λ _. IsProblem problem.now) }
     ensures kept { All (Contains kept.new) kept.old }
-    ensures finished { HoldsFinished result (finished_of how budget problem.now) kept.new }
-    ensures steps { steps.new ≤ steps.old + sum_by (branches_to_meet kept.old how problem.now) (parts_in problem.now) }
+    ensures finished { HoldsFinished result (finished_of plan problem.now) kept.new }
+    ensures steps { steps.new ≤ steps.old + sum_by (branches_to_meet kept.old plan problem.now) (parts_in problem.now) }
 {
     let mut solution = Solution {
         orders: number_orders(alloc, problem.segs())?,
@@ -96,8 +92,7 @@ fn solve_all<L: Ledger>(
             k as u32,
             parts[k].as_slice(),
             terms[k].as_slice(),
-            how,
-            budget,
+            plan,
             &mut solution,
             kept,
             steps,
@@ -128,8 +123,7 @@ fn solve_part<L: Ledger>(
     k: u32,
     part: &[SegId],
     numbers: &[u32],
-    how: Search,
-    budget: u32,
+    plan: SearchPlan,
     solution: &mut Solution,
     kept: &mut Kept,
     steps: &mut Steps<L>,
@@ -137,16 +131,16 @@ fn solve_part<L: Ledger>(
     requires rising { IsRisingPart part.now }
     requires known { All (λ (s : Seg). s.0 < length problem.now.segs) part.now }
     requires numbers { numbers.now ≡ part_numbers problem.now.terms part.now }
-    requires budget { budget ≤ 100000 }
+    requires budget { plan.budget ≤ 100000 }
     requires orders { AreOrders problem.now.segs solution.old.orders.items }
-    ensures more { OnOk result (IsMore how budget problem.now part.now solution.old solution.new) }
+    ensures more { OnOk result (IsMore plan problem.now part.now solution.old solution.new) }
     ensures orders { OnOk result (AreOrders problem.now.segs solution.new.orders.items) }
-    ensures unsolved { IfErr result (IsUnsolved how budget problem.now k part.now) }
+    ensures unsolved { IfErr result (IsUnsolved plan problem.now k part.now) }
     ensures kept { All (Contains kept.new) kept.old }
-    ensures held { OnOk result (Contains kept.new (held_as how problem.now part.now)) }
-    ensures steps { steps.new ≤ steps.old + branches_to_meet kept.old how problem.now part.now }
+    ensures held { OnOk result (Contains kept.new (held_as plan problem.now part.now)) }
+    ensures steps { steps.new ≤ steps.old + branches_to_meet kept.old plan problem.now part.now }
 {
-    match kept.solve_part(alloc, problem, part, numbers, how, budget, steps) {
+    match kept.solve_part(alloc, problem, part, numbers, plan, steps) {
         Ok(found) => {
             take_found(alloc, part, found, solution)?;
             Ok(())
@@ -173,7 +167,7 @@ fn unsolved(k: u32, stop: SearchFault) -> MakeFault
 fn take_found(
     alloc: Global,
     part: &[SegId],
-    found: Found,
+    found: FoundPart,
     solution: &mut Solution,
 ) -> Result<(), NoMemory>
     requires each { length found.orders.lists ≡ length part.now }

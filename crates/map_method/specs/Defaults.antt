@@ -3,15 +3,16 @@ use Rattle.std.specs.Prelude.{ℕ}
 use Rattle.map_base.specs.Settings.{Choices, standard_choices}
 use Rattle.map_method.specs.declared.defaults.Defaults.{Defaults}
 use Rattle.map_method.specs.declared.defaults.Defaults.TheVariants.{Make, Map}
-use Rattle.map_method.specs.declared.search.Search.TheVariants.{Live, Rising}
+use Rattle.map_method.specs.declared.search.Search.TheVariants.{Live, Dual}
+use Rattle.map_method.specs.declared.claim.Claim.TheVariants.{Best}
 use Rattle.map_method.specs.declared.spread.Spread.TheVariants.{Percent, Auto}
 use Rattle.map_method.specs.declared.map_settings.MapSettings.{MapSettings}
 use Rattle.map_method.specs.Methods.{MethodChoices}
 
 -- the method of `make`, and the one of `map`
 abbrev pub method_of : Defaults → MethodChoices
-method_of Make = record { search = Live; spread = Percent 0; finest = 4; moves = 0 }
-method_of Map = record { search = Rising; spread = Auto; finest = 16; moves = 1000 }
+method_of Make = record { search = Live; claim = Best; spread = Percent 0; finest = 4; moves = 0 }
+method_of Map = record { search = Dual; claim = Best; spread = Auto; finest = 16; moves = 1000 }
 
 -- how many branch nodes the search for the orders of one part may have
 abbrev pub budget_of : Defaults → ℕ

@@ -1,12 +1,14 @@
 -- How a map is found, and in which range each setting of it lies.
 use Rattle.std.specs.Prelude.{ℕ, ◌≤◌, ◌⊎◌, ◌≡◌}
 use Rattle.map_method.specs.declared.search.Search.{Search}
+use Rattle.map_method.specs.declared.claim.Claim.{Claim}
 use Rattle.map_method.specs.declared.spread.Spread.{Spread}
 use Rattle.map_method.specs.declared.spread.Spread.TheVariants.{Percent, Auto}
 
 -- how a map is found, as contracts see it
 pub record MethodChoices : Type 0 where
   pub search : Search
+  pub claim : Claim
   pub spread : Spread
   pub finest : ℕ
   pub moves : ℕ

@@ -3,6 +3,7 @@
 ghost use Rattle.std.specs.Prelude.{◌≡◌, IfOk};
 ghost use Rattle.map_method.specs.Defaults.{budget_of, method_of, settings_of};
 
+use crate::claim::Claim;
 use crate::method::Method;
 use crate::search::Search;
 use crate::spread::Spread;
@@ -26,12 +27,14 @@ impl Defaults {
         match self {
             Defaults::Make => Method {
                 search: Search::Live,
+                claim: Claim::Best,
                 spread: Spread::Percent(0),
                 finest: 4,
                 moves: 0,
             },
             Defaults::Map => Method {
-                search: Search::Rising,
+                search: Search::Dual,
+                claim: Claim::Best,
                 spread: Spread::Auto,
                 finest: 16,
                 moves: 1_000,

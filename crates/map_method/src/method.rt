@@ -1,5 +1,6 @@
 //! How a map is found.
 
+use crate::claim::Claim;
 use crate::search::Search;
 use crate::spread::Spread;
 use std::marker::Model;
@@ -9,6 +10,8 @@ use std::marker::Model;
 pub struct Method {
     /// How the line orders of each part are searched for.
     pub search: Search,
+    /// What is to be proved of the line orders that are found.
+    pub claim: Claim,
     /// How far nodes are spread before they get their homes.
     pub spread: Spread,
     /// How fine the finest grid is on which a drawing is tried: 4, 8 or 16 times as fine as the first one.
@@ -22,7 +25,7 @@ impl Model for Method {
 
     ghost Value = { MethodChoices };
 
-    ghost view = { λ m. record { search = m.search; spread = m.spread; finest = m.finest; moves = m.moves } };
+    ghost view = { λ m. record { search = m.search; claim = m.claim; spread = m.spread; finest = m.finest; moves = m.moves } };
 
-    ghost invariant = { λ m. IsMethod (record { search = m.search; spread = m.spread; finest = m.finest; moves = m.moves }) };
+    ghost invariant = { λ m. IsMethod (record { search = m.search; claim = m.claim; spread = m.spread; finest = m.finest; moves = m.moves }) };
 }

@@ -5,6 +5,6 @@
 pub enum Search {
     /// By the live tree, whose target falls from the cost of the number order.
     Live,
-    /// By trees whose target rises from the bound of the part.
-    Rising,
+    /// By dual prices on Links and Aparts, and by pairs of lines that are settled one after another.
+    Dual,
 }

@@ -19,27 +19,28 @@ use Rattle.session_command.specs.Promises.{KeepDraws}
 use Rattle.command_inputs.specs.declared.loaded.Loaded.{Loaded}
 use Rattle.command_words.specs.Asked.{Asked, stations, graph, make, improve, check, depict, session, trial, page}
 use Rattle.command_paths.specs.Paths.{Chosen, MapPaths}
-use Rattle.map_commands.specs.MapWorks.{best_line}
+use Rattle.map_commands.specs.MapWorks.{proved_line}
+use Rattle.map_engine.specs.declared.checked.Proved.{Proved}
 use Rattle.improve_command.specs.ImproveWorks.{improved_line}
 use Rattle.command_inputs.specs.Loading.{Loads}
 use Rattle.map_run.specs.Inputs.{inputs_of}
 use Rattle.map_commands.specs.Promises.{IsAccepted}
 
 -- The map of a feed is written, and its certificate: those that are defined for the feed's tables. The map shows exactly
--- the line graph of these tables, in a legal drawing; no line orders cost less, as the certificate shows: the check says yes
--- to both. The two files hold the two.
+-- the line graph of these tables, in a legal drawing; no line orders cost less than the bound that the certificate proves, which
+-- is the cost where best orders are claimed: the check says yes to both. The two files hold the two.
 pub record IsMapWritten (told : Option (List (List ℕ × List ℕ))) (asked : Asked) (paths : MapPaths) (new : Written) : Type 0 where
   pub loaded : Loaded
   pub loads : Loads told (inputs_of asked) loaded
   pub made : MapBytes
   pub defined : make_outcome loaded.tables loaded.settings loaded.method ≡ Ok made
-  pub is_made : IsMade loaded.tables loaded.settings made
+  pub is_made : IsMade loaded.tables loaded.settings loaded.method.claim made
   pub map : held_by (Path paths.picture) new ≡ Some made.svg
   pub certificate : held_by (Path paths.certificate) new ≡ Some made.certificate
 
 -- The map of a feed is written after more moves on its drawing, and its certificate: those that are defined for the feed's
 -- tables. The map shows exactly the line graph of these tables, in a legal drawing that is no heavier than that of `make`; no
--- line orders cost less, and the check says yes to both. The two files hold the two, and the line that tells of the moves is
+-- line orders cost less than the bound that the certificate proves, and the check says yes to both. The two files hold the two, and the line that tells of the moves is
 -- printed behind what standard output held.
 pub record IsImprovedMapWritten (told : Option (List (List ℕ × List ℕ))) (asked : Asked) (paths : MapPaths) (moves : ℕ) (old new : Written) : Type 0 where
   pub loaded : Loaded
@@ -51,35 +52,37 @@ pub record IsImprovedMapWritten (told : Option (List (List ℕ × List ℕ))) (a
   pub certificate : held_by (Path paths.certificate) new ≡ Some improved.map.certificate
   pub printed : held_by Said new ≡ Some (unwrap_or (held_by Said old) [] ++ improved_line improved.improvement)
 
--- a cost is printed behind what standard output held
-abbrev pub SaysBest : Written → Written → ℕ → Type 0
-SaysBest old new cost = held_by Said new ≡ Some (unwrap_or (held_by Said old) [] ++ best_line cost)
+-- what is proved is printed behind what standard output held
+abbrev pub SaysProved : Written → Written → Proved → Type 0
+SaysProved old new proved = held_by Said new ≡ Some (unwrap_or (held_by Said old) [] ++ proved_line proved)
 
 -- The map that lies at the path of `check` is accepted with its certificate, whoever made the two: it shows exactly the line
--- graph of the feed's tables, in a legal drawing, with line orders of the cost that is printed, and none cost less.
+-- graph of the feed's tables, in a legal drawing, with line orders of the cost that is printed, and none cost less than the bound
+-- that is printed, or than this cost where it is printed as the best.
 pub record IsMapAccepted (told : Option (List (List ℕ × List ℕ))) (asked : Asked) (paths : MapPaths) (old new : Written) : Type 0 where
   pub loaded : Loaded
   pub loads : Loads told (inputs_of asked) loaded
   pub picture : List ℕ
   pub lies : IfSome told (λ files. file_at files paths.picture ≡ Some picture)
-  pub cost : ℕ
-  pub accepted : IsAccepted told (inputs_of asked) loaded picture cost
-  pub printed : SaysBest old new cost
+  pub proved : Proved
+  pub accepted : IsAccepted told (inputs_of asked) loaded picture proved
+  pub printed : SaysProved old new proved
 
 -- A picture is written, by the certificate that lies at its path, whoever made that: it shows exactly the line graph of the
--- feed's tables, and no line orders cost less than its own. A map with its names shows a legal drawing, with names at free
--- places; a geographic map shows the orders along the ways that lines take on the ground.
+-- feed's tables, with what the certificate proves of its line orders. A map with its names shows a legal drawing, with names
+-- at free places; a geographic map shows the orders along the ways that lines take on the ground.
 pub record IsPictureWritten (kind : Picture) (told : Option (List (List ℕ × List ℕ))) (asked : Asked) (path out : List ℕ) (new : Written) : Type 0 where
   pub loaded : Loaded
   pub loads : Loads told (inputs_of asked) loaded
   pub certificate : List ℕ
   pub lies : IfSome told (λ files. file_at files path ≡ Some certificate)
   pub map : List ℕ
-  pub is_picture : IsPicture kind loaded.tables loaded.settings map certificate
+  pub is_picture : IsPicture kind loaded.tables loaded.settings loaded.method.claim map certificate
   pub holds : held_by (Path out) new ≡ Some map
 
 -- A script was followed to its end, and its draws are written: each has the bytes of a fresh map with the edits that stand
--- there, which shows exactly the line graph that these make, in a legal drawing, and no line orders cost less.
+-- there, which shows exactly the line graph that these make, in a legal drawing, and no line orders cost less than the bound that its certificate
+-- proves.
 pub record IsSessionWritten (told : Option (List (List ℕ × List ℕ))) (asked : Asked) (path out : List ℕ) (new : Written) : Type 0 where
   pub loaded : Loaded
   pub loads : Loads told (inputs_of asked) loaded

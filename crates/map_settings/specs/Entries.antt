@@ -5,10 +5,11 @@ use Rattle.map_base.specs.Settings.{Choices}
 use Rattle.map_base.specs.declared.weights.Weights.{Weights}
 use Rattle.map_method.specs.declared.map_settings.MapSettings.{MapSettings}
 use Rattle.map_method.specs.declared.search.Search.{Search}
+use Rattle.map_method.specs.declared.claim.Claim.{Claim}
 use Rattle.map_method.specs.declared.spread.Spread.{Spread}
 use Rattle.map_method.specs.Methods.{MethodChoices}
 use Rattle.toml.specs.Data.{Data}
-use Rattle.map_settings.specs.Values.{near_of, cell_of, budget_of, types_of, weights_of, importance_of, search_of, spread_of, finest_of, moves_of}
+use Rattle.map_settings.specs.Values.{near_of, cell_of, budget_of, types_of, weights_of, importance_of, search_of, claim_of, spread_of, finest_of, moves_of}
 
 -- a change of the settings of a map
 abbrev pub near_is : ℕ → Choices → Choices
@@ -36,6 +37,9 @@ importance_is importance choices = record choices { importance = importance }
 abbrev pub search_is : Search → MethodChoices → MethodChoices
 search_is search method = record method { search = search }
 
+abbrev pub claim_is : Claim → MethodChoices → MethodChoices
+claim_is claim method = record method { claim = claim }
+
 abbrev pub spread_is : Spread → MethodChoices → MethodChoices
 spread_is spread method = record method { spread = spread }
 
@@ -62,14 +66,17 @@ settings_change entry =
 abbrev pub method_change : List ℕ × Data → Option (MethodChoices → MethodChoices)
 method_change entry =
     if bytes_eq entry.0 (codes "search") then option_map search_is (search_of entry.1)
+    else if bytes_eq entry.0 (codes "proof") then option_map claim_is (claim_of entry.1)
     else if bytes_eq entry.0 (codes "spread") then option_map spread_is (spread_of entry.1)
     else if bytes_eq entry.0 (codes "finest") then option_map finest_is (finest_of entry.1)
     else if bytes_eq entry.0 (codes "moves") then option_map moves_are (moves_of entry.1)
     else None
 
--- the key says how a map is found
+-- the key says how a map is found, or what is to be proved of it
 abbrev pub is_of_method : List ℕ → Bool
-is_of_method key = bytes_eq key (codes "search") || bytes_eq key (codes "spread") || bytes_eq key (codes "finest") || bytes_eq key (codes "moves")
+is_of_method key =
+    bytes_eq key (codes "search") || bytes_eq key (codes "proof") || bytes_eq key (codes "spread")
+    || bytes_eq key (codes "finest") || bytes_eq key (codes "moves")
 
 -- a change of both
 abbrev pub Change : Type 0

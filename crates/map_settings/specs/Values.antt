@@ -4,7 +4,9 @@ use Rattle.std.specs.Option.{option_and_then}
 use Rattle.std.specs.Str.{bytes_eq}
 use Rattle.map_base.specs.declared.weights.Weights.{Weights}
 use Rattle.map_method.specs.declared.search.Search.{Search}
-use Rattle.map_method.specs.declared.search.Search.TheVariants.{Live, Rising}
+use Rattle.map_method.specs.declared.search.Search.TheVariants.{Live, Dual}
+use Rattle.map_method.specs.declared.claim.Claim.{Claim}
+use Rattle.map_method.specs.declared.claim.Claim.TheVariants.{Best, Bound}
 use Rattle.map_method.specs.declared.spread.Spread.{Spread}
 use Rattle.map_method.specs.declared.spread.Spread.TheVariants.{Percent, Auto}
 use Rattle.toml.specs.Data.{Data, as_str, as_integer, as_array, as_table}
@@ -81,10 +83,17 @@ importance_of value = option_and_then (λ members. importances (entries members)
 
 -- how line orders are searched for, by its name
 abbrev pub search_named : List ℕ → Option Search
-search_named name = if bytes_eq name (codes "live") then Some Live else if bytes_eq name (codes "rising") then Some Rising else None
+search_named name = if bytes_eq name (codes "live") then Some Live else if bytes_eq name (codes "dual") then Some Dual else None
 
 abbrev pub search_of : Data → Option Search
 search_of value = option_and_then search_named (as_str value)
+
+-- what is to be proved of line orders, by its name
+abbrev pub claim_named : List ℕ → Option Claim
+claim_named name = if bytes_eq name (codes "best") then Some Best else if bytes_eq name (codes "bound") then Some Bound else None
+
+abbrev pub claim_of : Data → Option Claim
+claim_of value = option_and_then claim_named (as_str value)
 
 -- how far nodes are spread, by its name
 abbrev pub spread_named : List ℕ → Option Spread

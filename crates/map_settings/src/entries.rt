@@ -7,8 +7,8 @@ ghost use Rattle.map_settings.specs.Entries.{change_of, is_of_method, method_cha
 
 use crate::fault::EntryFault;
 use crate::values::{
-    budget_of, cell_of, finest_of, importance_of, moves_of, near_of, search_of, spread_of,
-    types_of, weights_of,
+    budget_of, cell_of, claim_of, finest_of, importance_of, moves_of, near_of, search_of,
+    spread_of, types_of, weights_of,
 };
 use map_base::Settings;
 use map_method::{MapSettings, Method};
@@ -30,12 +30,12 @@ pub fn change(
     change_settings(alloc, &mut all.settings, key, value)
 }
 
-/// Whether the key says how a map is found.
+/// Whether the key says how a map is found, or what is to be proved of it.
 fn is_of_method(key: &str) -> bool
     ensures { result ≡ is_of_method key.now }
 {
     match key {
-        "search" | "spread" | "finest" | "moves" => true,
+        "search" | "proof" | "spread" | "finest" | "moves" => true,
         _ => false,
     }
 }
@@ -66,6 +66,7 @@ fn change_method(method: &mut Method, key: &str, value: &Value) -> Result<(), En
 {
     match key {
         "search" => method.search = search_of(value).ok_or(EntryFault::Bad)?,
+        "proof" => method.claim = claim_of(value).ok_or(EntryFault::Bad)?,
         "spread" => method.spread = spread_of(value).ok_or(EntryFault::Bad)?,
         "finest" => method.finest = finest_of(value).ok_or(EntryFault::Bad)?,
         "moves" => method.moves = moves_of(value).ok_or(EntryFault::Bad)?,

@@ -6,11 +6,11 @@ ghost use Rattle.map_base.specs.Settings.{AreLight, AreRisingIds, IsImportance};
 ghost use Rattle.map_settings.specs.Faults.{Gives};
 ghost use Rattle.map_settings.specs.Tables.{entries};
 ghost use Rattle.map_method.specs.Methods.{IsFinest, IsSpread};
-ghost use Rattle.map_settings.specs.Values.{whole_number, near_of, cell_of, budget_of, types_of, route_types, weights_of, three_weights, importance_of, importances, search_of, search_named, spread_of, spread_named, finest_of, moves_of};
+ghost use Rattle.map_settings.specs.Values.{whole_number, near_of, cell_of, budget_of, types_of, route_types, weights_of, three_weights, importance_of, importances, search_of, search_named, claim_of, claim_named, spread_of, spread_named, finest_of, moves_of};
 
 use crate::fault::EntryFault;
 use map_base::{Sequence, Text, Weights};
-use map_method::{Search, Spread};
+use map_method::{Claim, Search, Spread};
 use std::alloc::Global;
 use toml::{Table, Value};
 
@@ -143,7 +143,7 @@ fn importances(alloc: Global, lines: &Table) -> Result<Sequence<(Text, u32)>, En
     Ok(Sequence::of(pairs))
 }
 
-/// How line orders are searched for: "live" or "rising".
+/// How line orders are searched for: "live" or "dual".
 pub fn search_of(value: &Value) -> Option<Search>
     ensures { result ≡ search_of (view value.now) }
 {
@@ -158,7 +158,27 @@ fn search_named(name: &str) -> Option<Search>
 {
     match name {
         "live" => Some(Search::Live),
-        "rising" => Some(Search::Rising),
+        "dual" => Some(Search::Dual),
+        _ => None,
+    }
+}
+
+/// What is to be proved of line orders: "best" or "bound".
+pub fn claim_of(value: &Value) -> Option<Claim>
+    ensures { result ≡ claim_of (view value.now) }
+{
+    match value.as_str() {
+        Some(name) => claim_named(name),
+        None => None,
+    }
+}
+
+fn claim_named(name: &str) -> Option<Claim>
+    ensures { result ≡ claim_named name.now }
+{
+    match name {
+        "best" => Some(Claim::Best),
+        "bound" => Some(Claim::Bound),
         _ => None,
     }
 }

@@ -10,7 +10,8 @@ use Rattle.order_model.specs.Parts.{IsRisingPart}
 use Rattle.order_model.specs.PartTerms.{part_terms, plain_terms}
 use Rattle.order_model.specs.Completions.{BoundsCompletions}
 use Rattle.order_proof.specs.Plain.{PlainTree}
-use Rattle.order_bound.specs.Accepting.{question, accepts}
+use Rattle.order_bound.specs.Accepting.{accepts}
+use Rattle.order_model.specs.Questions.{question}
 use Rattle.order_bound.proofs.Bounding.{value_bounds}
 use Rattle.order_bound.proofs.Parts.{part_of_problem, part_numbered}
 use Rattle.order_bound.proofs.Sound.{accepted_bounds}

@@ -19,10 +19,12 @@ use Rattle.order_model.specs.Looks.{is_decided}
 use Rattle.order_bound.specs.Decided.{decided_sum}
 use Rattle.order_bound.specs.Pairs.{Pair, pair_of, is_pair, pairs_of, is_open_on, open_segments, OpenLink, open_link, open_links, joined, kept, kept_links}
 use Rattle.order_bound.specs.Bounds.{Choice, slot_cost, link_cost, choice_cost, pair_bound, bound_of}
-use Rattle.order_bound.specs.Values.{price_at, share, int_sum, least_answer, priced_cost, priced_sum, pair_value, value_of, allows, are_allowed, value}
+use Rattle.order_bound.specs.Values.{share, least_answer, priced_cost, priced_sum, pair_value, value_of, allows, are_allowed, value}
+use Rattle.order_values.specs.PriceLists.{price_at}
+use Rattle.whole_sums.specs.Sums.{int_sum}
 use Rattle.order_bound.specs.CanonicalPrices.{shares}
 use Rattle.order_bound.proofs.Lists.{each_append, each_map, each_of, Among, not_passes}
-use Rattle.order_bound.proofs.IntSums.{int_sum_equal, int_sum_below, int_sum_pos, int_sum-map}
+use Rattle.whole_sums.proofs.Sums.{int_sum_equal, int_sum_below, int_sum_pos, int_sum-map}
 use Rattle.order_bound.proofs.Pricing.{below_cost}
 use Rattle.order_bound.proofs.Worth.{IsBetween, IsWithin, worth_below, least_least}
 use Rattle.order_bound.proofs.Sums.{sum_less}

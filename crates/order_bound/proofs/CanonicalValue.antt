@@ -16,10 +16,12 @@ use Rattle.order_model.specs.PartTerms.{is_in}
 use Rattle.order_bound.specs.Decided.{decided_sum}
 use Rattle.order_bound.specs.Pairs.{Pair, pair_of, pair_in, is_pair, pairs_of, is_open_on, open_segments, OpenLink, open_link, open_links, kept_links}
 use Rattle.order_bound.specs.Bounds.{slot_cost, pair_bound, bound_of}
-use Rattle.order_bound.specs.Values.{price_at, share, int_sum, least_answer, priced_cost, pair_value, value_of, allows, are_allowed, value}
+use Rattle.order_bound.specs.Values.{share, least_answer, priced_cost, pair_value, value_of, allows, are_allowed, value}
+use Rattle.order_values.specs.PriceLists.{price_at}
+use Rattle.whole_sums.specs.Sums.{int_sum}
 use Rattle.order_bound.specs.CanonicalPrices.{children_of, shares, pair_prices, price_among, listed, prices_on, prices_for}
 use Rattle.order_bound.proofs.Lists.{each_weaker, each_append, each_both, Among, each_among, is_false}
-use Rattle.order_bound.proofs.IntSums.{int_sum_equal, int_sum_same, int_sum_pos, int_sum_zero}
+use Rattle.whole_sums.proofs.Sums.{int_sum_equal, int_sum_same, int_sum_pos, int_sum_zero}
 use Rattle.order_bound.proofs.Forests.{kept_forest}
 use Rattle.order_bound.proofs.Walks.{links_taken}
 use Rattle.order_bound.proofs.Pricing.{below_cost}

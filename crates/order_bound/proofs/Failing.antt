@@ -5,7 +5,8 @@ use Rattle.map_base.specs.declared.ids.LineId.{LineId}
 use Rattle.order_proof.specs.Plain.{PlainTree, split, close, Cases, no_case, case_of}
 use Rattle.order_proof.specs.Trees.{lines_of}
 use Rattle.order_model.specs.Completions.{placed_more}
-use Rattle.order_bound.specs.Accepting.{Question, is_closed, is_split, accepts, accepts_cases, after_line, first_of, failing, failing_case}
+use Rattle.order_bound.specs.Accepting.{is_closed, is_split, accepts, accepts_cases, after_line, first_of, failing, failing_case}
+use Rattle.order_model.specs.Questions.{Question}
 use Rattle.order_model.proofs.Lines.{both_true}
 
 some_differs : (way : List LineId) → Some way ≡ None → ⊥

@@ -1,5 +1,4 @@
 mod Examples
-pub mod IntSums
 pub mod Forests
 pub mod Cuts
 pub mod Lists

@@ -21,7 +21,8 @@ use Rattle.order_model.proofs.Lines.{both_true, either_true, not_true, same_line
 use Rattle.order_proof.specs.Plain.{PlainTree, split, close, Cases, no_case, case_of}
 use Rattle.order_proof.specs.Trees.{is_among, lines_of}
 use Rattle.order_bound.specs.Values.{value}
-use Rattle.order_bound.specs.Accepting.{Question, reaches, is_closed, are_those_left, is_split, accepts, accepts_cases}
+use Rattle.order_bound.specs.Accepting.{reaches, is_closed, are_those_left, is_split, accepts, accepts_cases}
+use Rattle.order_model.specs.Questions.{Question}
 
 pub same_or_other : (i j : ℕ) → (i ≡ j) ⊎ (i ≢ j)
 same_or_other i j = by_test (i == j) refl

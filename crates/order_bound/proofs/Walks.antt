@@ -9,10 +9,10 @@ use Rattle.std.proofs.lemmas.List.Filters.{length-filter_both}
 use Rattle.map_base.specs.declared.ids.SegId.{SegId}
 use Rattle.order_model.specs.PartTerms.{is_in}
 use Rattle.order_bound.specs.Pairs.{OpenLink, joined}
-use Rattle.order_bound.specs.Values.{int_sum}
+use Rattle.whole_sums.specs.Sums.{int_sum}
 use Rattle.order_bound.specs.CanonicalPrices.{ChildLink, ends_at, far_end, child_link, walked}
 use Rattle.order_bound.proofs.Lists.{each_weaker, each_append, filter_passes, any_filter, none_pass, not_passes, is_false}
-use Rattle.order_bound.proofs.IntSums.{int_sum-append, int_sum-map, int_sum_parted}
+use Rattle.whole_sums.proofs.Sums.{int_sum-append, int_sum-map, int_sum_parted}
 use Rattle.order_bound.proofs.Forests.{IsForest, joined_coarser, ends_joined, forest_parted, labels_after, after_coarser, forest_after}
 
 -- a child is an end of its Link, which has two

@@ -12,10 +12,11 @@ use Rattle.order_model.specs.PartTerms.{is_in}
 use Rattle.order_bound.specs.Pairs.{OpenLink}
 pub use Rattle.order_bound.specs.Pairs.{AreApartSegments}
 use Rattle.order_bound.specs.Bounds.{Choice, link_cost, choice_cost, with_answer, least_over}
-use Rattle.order_bound.specs.Values.{where_one, is_one, is_one_there, share, int_sum, least_answer}
+use Rattle.order_bound.specs.Values.{where_one, is_one, is_one_there, share, least_answer}
+use Rattle.whole_sums.specs.Sums.{int_sum}
 use Rattle.order_bound.specs.CanonicalPrices.{ChildLink, ends_at, far_end, child_link, walked, children_of, cut_to, shares, rise_of, turned_by, price_for, priced}
 use Rattle.order_bound.proofs.Lists.{each_weaker, each_append, each_map, each_filter, each_of}
-use Rattle.order_bound.proofs.IntSums.{int_sum_both, int_sum_equal, int_sum_same, int_sum_less, int_sum_below, int_sum_zero, int_sum_pos}
+use Rattle.whole_sums.proofs.Sums.{int_sum_both, int_sum_equal, int_sum_same, int_sum_less, int_sum_below, int_sum_zero, int_sum_pos}
 use Rattle.order_bound.proofs.Cuts.{weight_if}
 use Rattle.order_bound.proofs.Forests.{IsForest}
 use Rattle.order_bound.proofs.Walks.{IsParentFirst, parents_first, links_taken}

@@ -8,20 +8,10 @@ use Rattle.order_model.specs.Problems.{lines_on}
 use Rattle.order_model.specs.Prefixes.{is_placed, is_left}
 use Rattle.order_model.specs.PartTerms.{is_in}
 use Rattle.order_model.specs.Completions.{placed_more}
+use Rattle.order_model.specs.Questions.{Question}
 use Rattle.order_proof.specs.Plain.{PlainTree, split, close, Cases, no_case, case_of}
 use Rattle.order_proof.specs.Trees.{is_among, lines_of}
 use Rattle.order_bound.specs.Values.{value}
-
--- what a tree is asked to show: that orders of the part cost at least the target on these terms
-pub record Question : Type 0 where
-  pub segs : List (List LineId)
-  pub part : List SegId
-  pub terms : List (ℕ × Term)
-  pub target : ℕ
-
--- the question of these
-abbrev pub question : List (List LineId) → List SegId → List (ℕ × Term) → ℕ → Question
-question segs part terms target = record { segs = segs; part = part; terms = terms; target = target }
 
 -- there is a value, and it is at least the target
 abbrev pub reaches : ℕ → Option ℤ → Bool

@@ -3,20 +3,17 @@ use Rattle.std.specs.Prelude.{ℕ, ◌==◌, nat_le, Bool, true, false, ◌&&◌
 use Rattle.std.specs.Prelude.{ℤ, pos, ◌+ℤ◌, ◌-ℤ◌, unsigned_abs}
 use Rattle.std.specs.Int.{int_min}
 use Rattle.std.specs.List.{list_all, list_any}
+use Rattle.whole_sums.specs.Sums.{int_sum}
 use Rattle.map_base.specs.declared.ids.SegId.{SegId}
 use Rattle.map_base.specs.declared.ids.LineId.{LineId}
 use Rattle.order_model.specs.declared.term.Term.{Term}
 use Rattle.order_model.specs.declared.term.Term.TheVariants.{Side, Link, Apart}
 use Rattle.order_model.specs.Costs.{same_answer}
 use Rattle.order_model.specs.Looks.{is_decided}
+use Rattle.order_values.specs.PriceLists.{price_at}
 use Rattle.order_bound.specs.Decided.{decided_sum}
 use Rattle.order_bound.specs.Pairs.{Pair, pairs_of, open_segments, OpenLink, open_links}
 use Rattle.order_bound.specs.Bounds.{slot_cost}
-
--- the price of the Link of this number, 0 where it has none
-abbrev pub price_at : List (ℕ × ℤ) → ℕ → ℤ
-price_at [] k = pos 0
-price_at (q ∷ prices) k = if q.0 == k then q.1 else price_at prices k
 
 -- a Link between segments decides by x, 0 or 1, on its first segment, and by z on its other: x is 0 where the lesser
 -- line stands first, and z is that of the other segment, turned by the flip. It costs where x and z differ
@@ -35,11 +32,6 @@ abbrev pub share : ℤ → OpenLink → SegId → Bool → ℤ
 share y l s lesser_first =
     (if l.seg.0 == s.0 then where_one (is_one lesser_first) (pos 0 -ℤ y) else pos 0)
     +ℤ (if l.other.0 == s.0 then where_one (is_one_there l lesser_first) y else pos 0)
-
--- the sum over these
-abbrev pub int_sum : {A : Type 0} → (A → ℤ) → List A → ℤ
-int_sum f [] = pos 0
-int_sum f (x ∷ xs) = f x +ℤ int_sum f xs
 
 -- what a pair costs on a segment with its shares of prices
 abbrev pub priced_cost : (SegId → Bool → ℕ) → List OpenLink → (OpenLink → ℤ) → SegId → Bool → ℤ

@@ -10,7 +10,8 @@ ghost use Rattle.order_model.specs.Parts.{IsRisingPart};
 ghost use Rattle.order_model.specs.PartTerms.{part_terms, plain_terms};
 ghost use Rattle.order_model.specs.Completions.{BoundsCompletions};
 ghost use Rattle.order_proof.specs.Plain.{PlainTree};
-ghost use Rattle.order_bound.specs.Accepting.{Question, question, accepts, failing};
+ghost use Rattle.order_bound.specs.Accepting.{accepts, failing};
+ghost use Rattle.order_model.specs.Questions.{Question, question};
 
 /// Where a tree is accepted for a prefix, no completion of the prefix costs less than the target on the part's terms.
 pub fn accepted_trees_bound_completions()

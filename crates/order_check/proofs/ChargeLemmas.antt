@@ -15,7 +15,9 @@ use Rattle.order_model.specs.Looks.{is_decided}
 use Rattle.order_bound.specs.declared.pairs.Pair.{Pair}
 use Rattle.order_bound.specs.declared.pairs.OpenLink.{OpenLink}
 use Rattle.order_bound.specs.Pairs.{pair_of, is_pair}
-use Rattle.order_bound.specs.Values.{price_at, share, int_sum}
+use Rattle.order_bound.specs.Values.{share}
+use Rattle.order_values.specs.PriceLists.{price_at}
+use Rattle.whole_sums.specs.Sums.{int_sum}
 use Rattle.order_bound.proofs.Completing.{same_pair}
 use Rattle.order_check.specs.declared.slot.Slot.{Slot}
 use Rattle.order_check.specs.declared.slot.Charges.{Charges}

@@ -11,8 +11,9 @@ use Rattle.order_model.specs.Problems.{lines_on, IsTerm}
 use Rattle.order_model.specs.Costs.{same_answer, comes_before}
 use Rattle.order_model.specs.Looks.{is_decided, neighbours_on}
 use Rattle.order_bound.specs.Decided.{apart_cost, decided_cost}
-use Rattle.order_bound.specs.Values.{price_at, int_sum}
-use Rattle.order_bound.proofs.IntSums.{int_sum-append}
+use Rattle.order_values.specs.PriceLists.{price_at}
+use Rattle.whole_sums.specs.Sums.{int_sum}
+use Rattle.whole_sums.proofs.Sums.{int_sum-append}
 use Rattle.order_check.specs.declared.slot.Slot.{Slot}
 use Rattle.order_check.specs.declared.slot.PartTerm.{PartTerm}
 use Rattle.order_check.specs.declared.slot.Charge.{Charge}

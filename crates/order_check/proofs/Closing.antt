@@ -11,8 +11,11 @@ use Rattle.order_model.specs.PartTerms.{part_terms, plain_terms}
 use Rattle.order_model.proofs.KeptTerms.{part_terms_fit, part_terms_few}
 use Rattle.order_bound.specs.Decided.{decided_sum}
 use Rattle.order_bound.specs.Pairs.{pairs_of}
-use Rattle.order_bound.specs.Values.{price_at, int_sum, least_answer, are_allowed, value_of, pair_value}
-use Rattle.order_bound.specs.Accepting.{Question, reaches, is_closed}
+use Rattle.order_bound.specs.Values.{least_answer, are_allowed, value_of, pair_value}
+use Rattle.order_values.specs.PriceLists.{price_at}
+use Rattle.whole_sums.specs.Sums.{int_sum}
+use Rattle.order_bound.specs.Accepting.{reaches, is_closed}
+use Rattle.order_model.specs.Questions.{Question}
 use Rattle.order_bound.proofs.Bounding.{AreNumbered}
 use Rattle.order_bound.proofs.Completing.{IsPart}
 use Rattle.order_bound.proofs.Parts.{part_of_problem, part_numbered}

@@ -13,8 +13,8 @@ use Rattle.order_model.specs.declared.term.Term.TheVariants.{Side, Link, Apart}
 use Rattle.order_model.specs.Problems.{IsTerm}
 use Rattle.order_model.specs.Costs.{same_answer}
 use Rattle.order_bound.specs.Decided.{decided_cost, decided_sum}
-use Rattle.order_bound.specs.Values.{int_sum}
-use Rattle.order_bound.proofs.IntSums.{int_sum_equal, int_sum_both, int_sum_zero, int_sum_pos}
+use Rattle.whole_sums.specs.Sums.{int_sum}
+use Rattle.whole_sums.proofs.Sums.{int_sum_equal, int_sum_both, int_sum_zero, int_sum_pos}
 use Rattle.order_check.specs.declared.slot.PartTerm.{PartTerm}
 use Rattle.order_check.specs.declared.slot.SlotCost.{SlotCost}
 use Rattle.order_check.specs.declared.slot.Charge.{Charge}

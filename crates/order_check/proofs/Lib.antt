@@ -11,5 +11,4 @@ mod Counting
 mod Pricing
 mod Nodes
 mod Walks
-mod Totals
 mod Verdicts

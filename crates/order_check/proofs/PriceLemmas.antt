@@ -11,7 +11,8 @@ use Rattle.order_model.specs.declared.term.Term.TheVariants.{Side, Link, Apart}
 use Rattle.order_model.specs.Problems.{IsTerm}
 use Rattle.order_model.specs.Looks.{is_decided}
 use Rattle.order_values.specs.PriceLists.{AreRisingPrices}
-use Rattle.order_bound.specs.Values.{price_at, allows, are_allowed}
+use Rattle.order_bound.specs.Values.{allows, are_allowed}
+use Rattle.order_values.specs.PriceLists.{price_at}
 use Rattle.order_check.specs.declared.slot.PartTerm.{PartTerm}
 use Rattle.order_check.specs.Slots.{plain_term}
 use Rattle.order_check.specs.Charging.{no_part_term, AreTerms}

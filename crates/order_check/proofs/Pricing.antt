@@ -11,7 +11,8 @@ use Rattle.order_model.specs.Problems.{lines_on}
 use Rattle.order_model.specs.Costs.{same_answer, comes_before}
 use Rattle.order_model.specs.Looks.{is_decided}
 use Rattle.order_values.specs.PriceLists.{AreRisingPrices}
-use Rattle.order_bound.specs.Values.{price_at, int_sum}
+use Rattle.order_values.specs.PriceLists.{price_at}
+use Rattle.whole_sums.specs.Sums.{int_sum}
 use Rattle.order_check.specs.declared.slot.PartTerm.{PartTerm}
 use Rattle.order_check.specs.declared.slot.SlotCost.{SlotCost}
 use Rattle.order_check.specs.declared.slot.Charges.{Charges}

@@ -17,8 +17,10 @@ use Rattle.order_bound.specs.declared.pairs.Pair.{Pair}
 use Rattle.order_bound.specs.declared.pairs.OpenLink.{OpenLink}
 use Rattle.order_bound.specs.Pairs.{pair_of, pair_in, is_pair, has_pair, pairs_of, pairs_after, is_open_on, open_segments, open_link, open_links}
 use Rattle.order_bound.specs.Bounds.{open_cost, slot_cost}
-use Rattle.order_bound.specs.Values.{price_at, share, int_sum, least_answer, priced_cost, pair_value}
-use Rattle.order_bound.proofs.IntSums.{int_sum-append, int_sum_equal}
+use Rattle.order_bound.specs.Values.{share, least_answer, priced_cost, pair_value}
+use Rattle.order_values.specs.PriceLists.{price_at}
+use Rattle.whole_sums.specs.Sums.{int_sum}
+use Rattle.whole_sums.proofs.Sums.{int_sum-append, int_sum_equal}
 use Rattle.order_bound.proofs.Lists.{Among}
 use Rattle.order_bound.proofs.Worth.{AreApartSegments}
 use Rattle.order_bound.proofs.Completing.{IsPart, AreApartPairs, same_pair, pair_itself, pairs_apart, apart_filter, on_placed}

@@ -16,7 +16,8 @@ use Rattle.order_proof.specs.Plain.{split, close, plain, plain_children}
 use Rattle.order_proof.specs.Trees.{is_among, lines_of, AreDistinct, IsTree, AreTrees}
 use Rattle.order_model.specs.PartTerms.{is_in}
 use Rattle.order_model.specs.Completions.{placed_more}
-use Rattle.order_bound.specs.Accepting.{Question, is_closed, are_those_left, is_split, after_line, first_of, failing, failing_case}
+use Rattle.order_bound.specs.Accepting.{is_closed, are_those_left, is_split, after_line, first_of, failing, failing_case}
+use Rattle.order_model.specs.Questions.{Question}
 use Rattle.order_model.proofs.Lines.{both_true, either_true, not_true, same_line}
 use Rattle.order_check.specs.Children.{child_lines}
 use Rattle.order_check.specs.Walking.{IsWalked, split_test}

@@ -5,7 +5,7 @@ use Rattle.order_model.specs.Problems.{IsProblem}
 use Rattle.order_model.specs.Parts.{IsRisingPart}
 use Rattle.order_model.specs.PartTerms.{part_terms, part_numbers}
 use Rattle.order_model.specs.Numbers.{TellPart}
-use Rattle.order_bound.specs.Accepting.{Question, question}
+use Rattle.order_model.specs.Questions.{Question, question}
 use Rattle.order_check.specs.PartTables.{IsPartTable}
 use Rattle.order_check.specs.declared.slot.SlotCost.{SlotCost}
 use Rattle.order_check.specs.declared.asked.Asked.{Asked}

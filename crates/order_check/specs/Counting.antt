@@ -6,7 +6,7 @@ use Rattle.map_base.specs.declared.ids.LineId.{LineId}
 use Rattle.order_model.specs.declared.term.Term.{Term}
 use Rattle.order_model.specs.Costs.{seg_of, other_of}
 use Rattle.order_bound.specs.Decided.{decided_cost, decided_sum}
-use Rattle.order_bound.specs.Values.{int_sum}
+use Rattle.whole_sums.specs.Sums.{int_sum}
 use Rattle.order_check.specs.declared.slot.PartTerm.{PartTerm}
 use Rattle.order_check.specs.declared.slot.SlotCost.{SlotCost}
 use Rattle.order_check.specs.declared.slot.Charge.{Charge}

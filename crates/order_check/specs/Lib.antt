@@ -9,3 +9,4 @@ pub mod Asking
 pub mod Children
 pub mod Walking
 pub mod Verdict
+pub mod LowerBounds

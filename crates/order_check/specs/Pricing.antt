@@ -2,7 +2,8 @@
 use Rattle.std.specs.Prelude.{◌≡◌, ℕ, ◌<◌, ◌≤◌, Bool, true, List, length, map, slice_index_or}
 use Rattle.std.specs.Prelude.{ℤ, pos, ◌+ℤ◌, unsigned_abs}
 use Rattle.map_base.specs.declared.ids.LineId.{LineId}
-use Rattle.order_bound.specs.Values.{price_at, are_allowed}
+use Rattle.order_bound.specs.Values.{are_allowed}
+use Rattle.order_values.specs.PriceLists.{price_at}
 use Rattle.order_check.specs.declared.slot.PartTerm.{PartTerm}
 use Rattle.order_check.specs.declared.slot.SlotCost.{SlotCost}
 use Rattle.order_check.specs.declared.slot.Charges.{Charges}

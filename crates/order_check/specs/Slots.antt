@@ -10,7 +10,9 @@ use Rattle.order_model.specs.Costs.{same_answer}
 use Rattle.order_bound.specs.declared.pairs.Pair.{Pair}
 use Rattle.order_bound.specs.Pairs.{pair_of, open_link}
 use Rattle.order_bound.specs.Bounds.{open_cost}
-use Rattle.order_bound.specs.Values.{price_at, share, int_sum, least_answer}
+use Rattle.order_bound.specs.Values.{share, least_answer}
+use Rattle.order_values.specs.PriceLists.{price_at}
+use Rattle.whole_sums.specs.Sums.{int_sum}
 use Rattle.order_check.specs.declared.slot.Slot.{Slot}
 use Rattle.order_check.specs.declared.slot.PartTerm.{PartTerm}
 use Rattle.order_check.specs.declared.slot.SlotCost.{SlotCost}

@@ -4,7 +4,8 @@ use Rattle.map_base.specs.declared.ids.SegId.{SegId}
 use Rattle.map_base.specs.declared.ids.LineId.{LineId}
 use Rattle.order_model.specs.Problems.{lines_on}
 use Rattle.order_model.specs.PartTerms.{is_in}
-use Rattle.order_bound.specs.Accepting.{Question, are_those_left}
+use Rattle.order_bound.specs.Accepting.{are_those_left}
+use Rattle.order_model.specs.Questions.{Question}
 
 -- yes where no node fails; else the lines on the way to the first that fails stand after those before
 abbrev pub IsWalked : Option (List LineId) → List LineId → List LineId → Bool → Type 0

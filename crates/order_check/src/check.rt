@@ -7,13 +7,14 @@ ghost use Rattle.order_model.specs.Costs.{AreBest, AreOrders};
 ghost use Rattle.order_model.specs.Parts.{AreParts};
 ghost use Rattle.order_model.specs.Gathering.{part_lists};
 ghost use Rattle.order_proof.specs.Plain.{plain_part, plain_proof};
-ghost use Rattle.order_proof.specs.Trees.{IsTree};
-ghost use Rattle.order_check.specs.Verdict.{first_part, parts_refusal, verdict, IsCause};
+ghost use Rattle.order_proof.specs.Trees.{IsPartTree};
+ghost use Rattle.order_check.specs.Verdict.{bound_refusal, first_part, targets, verdict, IsCause};
+ghost use Rattle.order_check.specs.LowerBounds.{IsLowerBound};
 
 use crate::part::check_part;
 use crate::refusal::{ProofItem, ProofStop};
 use crate::rules::after_rules;
-use crate::total::check_total;
+use crate::total::target_sum;
 use map_base::{SegId, Sequence};
 use order_model::{Orders, Prefix, Problem, cost_by_tables, numbers_of, parts_of, terms_by_part};
 use order_proof::{Part, Proof};
@@ -35,27 +36,26 @@ pub fn check_proof(
     ensures best { IfOk result (λ _. AreBest problem.segs problem.terms orders.now.lists) }
 {
     let cost = cost_by_tables(alloc, &problem, orders)?;
-    let last = after_rules(alloc, problem, proof.rules.as_slice())?;
-    let parts = parts_of(alloc, &last)?;
-    check_items(alloc, &last, parts.as_slice(), proof.parts.as_slice(), cost)
+    let bound = check_bound(alloc, problem, proof)?;
+    if bound != cost {
+        return Err(ProofStop::Refuted(ProofItem::Total));
+    }
+    Ok(())
 }
 
-/// The parts of the problem that the rules made, and the total of their targets.
-fn check_items(
-    alloc: Global,
-    problem: &Problem,
-    parts: &[Vec<SegId>],
-    proofs: &[Part],
-    cost: u64,
-) -> Result<(), ProofStop>
-    requires problem { IsProblem problem.now }
-    requires parts { AreParts problem.now.segs problem.now.terms (part_lists parts.now) }
-    requires trees { AllByRecursion (λ p. IsTree p.tree) (map plain_part proofs.now) }
-    ensures accepted { IfOk result (λ _. parts_refusal problem.now (part_lists parts.now) (map plain_part proofs.now) cost ≡ None) }
-    ensures refused { IfErr result (IsCause (parts_refusal problem.now (part_lists parts.now) (map plain_part proofs.now) cost)) }
+/// What a proof shows that no orders of the problem cost less than: the sum of the targets of its parts. Its rules and its
+/// parts are checked as `check_proof` does, and the first item that is refused is named.
+pub fn check_bound(alloc: Global, problem: Problem, proof: &Proof) -> Result<u64, ProofStop>
+    ensures accepted { IfOk result (λ _. bound_refusal problem (plain_proof proof.now) ≡ None) }
+    ensures sum { IfOk result (λ bound. bound ≡ targets (plain_proof proof.now).parts) }
+    ensures refused { IfErr result (IsCause (bound_refusal problem (plain_proof proof.now))) }
+    ensures bound { IfOk result (IsLowerBound problem.segs problem.terms) }
 {
-    check_parts(alloc, problem, parts, proofs)?;
-    check_total(proofs, cost)
+    let last = after_rules(alloc, problem, proof.rules.as_slice())?;
+    let parts = parts_of(alloc, &last)?;
+    let proofs = proof.parts.as_slice();
+    check_parts(alloc, &last, parts.as_slice(), proofs)?;
+    Ok(target_sum(proofs))
 }
 
 /// Refuses the first part that is not the problem's in its turn, or has a tree that isn't accepted. The numbers and the
@@ -68,7 +68,7 @@ fn check_parts(
 ) -> Result<(), ProofStop>
     requires problem { IsProblem problem.now }
     requires parts { AreParts problem.now.segs problem.now.terms (part_lists parts.now) }
-    requires trees { AllByRecursion (λ p. IsTree p.tree) (map plain_part proofs.now) }
+    requires trees { AllByRecursion (λ p. IsPartTree p.tree) (map plain_part proofs.now) }
     ensures accepted { IfOk result (λ _. first_part problem.now.segs problem.now.terms 0 (part_lists parts.now) (map plain_part proofs.now) ≡ None) }
     ensures refused { IfErr result (IsCause (first_part problem.now.segs problem.now.terms 0 (part_lists parts.now) (map plain_part proofs.now))) }
 {

@@ -4,7 +4,8 @@ ghost use Rattle.std.specs.Prelude.{◌≡◌, ◌<◌, ◌≤◌, ◌+ℤ◌, �
 ghost use Rattle.order_model.specs.Problems.{IsTerm};
 ghost use Rattle.order_model.specs.Costs.{same_answer};
 ghost use Rattle.order_model.specs.Prefixes.{IsPrefixOf};
-ghost use Rattle.order_bound.specs.Values.{int_sum, least_answer};
+ghost use Rattle.order_bound.specs.Values.{least_answer};
+ghost use Rattle.whole_sums.specs.Sums.{int_sum};
 ghost use Rattle.order_check.specs.Slots.{cost_in, cost_at, charge_on};
 ghost use Rattle.order_check.specs.Charging.{AreTerms};
 ghost use Rattle.order_check.specs.Counting.{is_on, counts, counted_by, decided_by, shifted, turned, AreSmallCosts};

@@ -4,7 +4,8 @@ ghost use Rattle.std.specs.Prelude.{◌≡◌, ◌<◌, ◌≤◌, ◌+ℤ◌, �
 ghost use Rattle.order_model.specs.Problems.{IsTerm};
 ghost use Rattle.order_model.specs.Prefixes.{IsPrefixOf};
 ghost use Rattle.order_values.specs.PriceLists.{AreRisingPrices};
-ghost use Rattle.order_bound.specs.Values.{int_sum, are_allowed};
+ghost use Rattle.order_bound.specs.Values.{are_allowed};
+ghost use Rattle.whole_sums.specs.Sums.{int_sum};
 ghost use Rattle.order_check.specs.Slots.{plain_term, cost_at};
 ghost use Rattle.order_check.specs.Charging.{AreTerms};
 ghost use Rattle.order_check.specs.Counting.{added_by, AreSmallCosts};

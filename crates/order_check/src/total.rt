@@ -1,34 +1,19 @@
 //! The sum of the targets.
 
-ghost use Rattle.std.specs.Prelude.{◌≡◌, ◌==◌, map, IfOk, IfErr, None};
+ghost use Rattle.std.specs.Prelude.{◌≡◌, ◌<◌, ◌^◌, map};
 ghost use Rattle.order_proof.specs.Plain.{plain_part};
-ghost use Rattle.order_check.specs.Verdict.{targets, total_refusal, IsCause};
+ghost use Rattle.order_check.specs.Verdict.{targets};
 
-use crate::refusal::{ProofItem, ProofStop};
 use order_proof::Part;
 
-/// Refuses the total where the targets of the parts do not sum to it.
-pub(crate) fn check_total(parts: &[Part], total: u64) -> Result<(), ProofStop>
-    ensures accepted { IfOk result (λ _. total_refusal (map plain_part parts.now) total ≡ None) }
-    ensures refused { IfErr result (IsCause (total_refusal (map plain_part parts.now) total)) }
+/// What the targets of these parts sum to.
+pub(crate) fn target_sum(parts: &[Part]) -> u64
+    requires { targets (map plain_part parts.now) < 2 ^ 64 }
+    ensures { result ≡ targets (map plain_part parts.now) }
 {
-    if targets_sum_to(parts, total) {
-        Ok(())
-    } else {
-        Err(ProofStop::Refuted(ProofItem::Total))
-    }
-}
-
-/// Whether the targets sum to the total.
-fn targets_sum_to(parts: &[Part], total: u64) -> bool
-    ensures { result ≡ (targets (map plain_part parts.now) == total) }
-{
-    let mut left = total;
+    let mut sum = 0;
     for part in parts {
-        if part.target > left {
-            return false;
-        }
-        left -= part.target;
+        sum += part.target;
     }
-    left == 0
+    sum
 }

@@ -8,3 +8,4 @@ pub mod PartTerms
 pub mod Numbers
 pub mod Completions
 pub mod Looks
+pub mod Questions

@@ -9,10 +9,12 @@ use Rattle.order_values.specs.declared.rule.Rule.TheVariants.{Merge as merge_rul
 use Rattle.order_proof.specs.declared.line_word.LineWord.{LineWord}
 use Rattle.order_proof.specs.declared.node_line.NodeLine.{NodeLine}
 use Rattle.order_proof.specs.declared.node_line.NodeLine.TheVariants as nodes
-use Rattle.order_proof.specs.Lines.{Line, line_text, bit, segment_numbers, line_numbers, price_numbers, rules_line, rule_line, parts_line, part_line, take_line}
+use Rattle.order_proof.specs.declared.dual_line.DualLine.{DualLine}
+use Rattle.order_proof.specs.declared.dual_line.DualLine.TheVariants as duals
+use Rattle.order_proof.specs.Lines.{Line, line_text, bit, segment_numbers, line_numbers, price_numbers, rules_line, rule_line, parts_line, part_line, take_line, prices_line}
 use Rattle.decimal_text.specs.Numbers.{natural_within, from_to}
 use Rattle.order_proof.specs.FrontLine.{front}
-use Rattle.order_proof.specs.Forms.{most_items, most_id, most_cases, most_target, most_price, seg, line_id, rising, price_of, term_with, priced_term, prices_from, counts, flag_of, rules_in, merge_with, rule_in, parts_in, part_in, split_with, node_in, take_in}
+use Rattle.order_proof.specs.Forms.{most_items, most_id, most_cases, most_target, most_price, most_stop_price, seg, line_id, rising, price_of, term_with, priced_term, prices_from, counts, counted_prices, flag_of, rules_in, merge_with, rule_in, parts_in, part_in, split_with, node_in, fork_with, dual_in, take_in}
 use Rattle.order_proof.specs.Trees.{is_among}
 use Rattle.order_proof.specs.Ranges.{AreRisingLines, AreRisingSegments, IsPrice, ArePrices, IsRuleInRange}
 use Rattle.decimal_text.proofs.NumberLemmas.{IsNumber, up_to_within}
@@ -21,7 +23,7 @@ use Rattle.order_proof.proofs.Fronts.{said}
 use Rattle.decimal_text.proofs.RangeLemmas.{from_to_again}
 use Rattle.decimal_text.proofs.LineLemmas.{AreNumbers}
 use Rattle.order_proof.proofs.LineLemmas.{front_line_again}
-use Rattle.order_proof.proofs.FormLemmas.{node_line, IsNodeWithin}
+use Rattle.order_proof.proofs.FormLemmas.{node_line, IsNodeWithin, dual_line, IsDualWithin}
 
 lines_again : (least : ℕ) (lines : List LineId) → AreRisingLines least lines → rising line_id least (line_numbers lines) ≡ Some lines
 lines_again least [] are = refl
@@ -35,18 +37,24 @@ segments_again least (s ∷ rest) are =
     ap (option_and_then (λ n. option_map (λ more. seg n ∷ more) (rising seg (suc n) (segment_numbers rest)))) (from_to_again least most_id s.0 are.0 are.1)
     ∙ ap (option_map (λ (more : List SegId). s ∷ more)) (segments_again (suc s.0) rest are.2)
 
-price_again : (z : ℤ) → IsPrice z → price_of z ≡ Some z
-price_again (pos zero) is = absurd (omega (arith, is.0))
-price_again (pos (suc n)) is = ap (option_map pos) (up_to_within most_price (suc n) is.1)
-price_again (negsuc n) is = ap (λ (b : Bool). cond b (Some (negsuc n)) None) (lt-ltb n most_price is)
+price_again : (most : ℕ) (z : ℤ) → IsPrice most z → price_of most z ≡ Some z
+price_again most (pos zero) is = absurd (omega (arith, is.0))
+price_again most (pos (suc n)) is = ap (option_map pos) (up_to_within most (suc n) is.1)
+price_again most (negsuc n) is = ap (λ (b : Bool). cond b (Some (negsuc n)) None) (lt-ltb n most is)
 
-prices_again : (least : ℕ) (ps : List (ℕ × ℤ)) → ArePrices least ps → prices_from least (price_numbers ps) ≡ Some ps
-prices_again least [] are = refl
-prices_again least (p ∷ rest) are =
-    let first : priced_term least (pos p.0) p.1 ≡ Some p =
-    ap (λ (o : Option ℕ). term_with o (price_of p.1)) (from_to_again least most_id p.0 are.0 are.1) ∙ ap (term_with (Some p.0)) (price_again p.1 are.2) in
-    ap (option_and_then (λ (q : ℕ × ℤ). option_map (λ more. q ∷ more) (prices_from (suc q.0) (price_numbers rest)))) first
-    ∙ ap (option_map (λ (more : List (ℕ × ℤ)). p ∷ more)) (prices_again (suc p.0) rest are.3)
+pub prices_again : (most least : ℕ) (ps : List (ℕ × ℤ)) → ArePrices most least ps → prices_from most least (price_numbers ps) ≡ Some ps
+prices_again most least [] are = refl
+prices_again most least (p ∷ rest) are =
+    let first : priced_term most least (pos p.0) p.1 ≡ Some p =
+    ap (λ (o : Option ℕ). term_with o (price_of most p.1)) (from_to_again least most_id p.0 are.0 are.1) ∙ ap (term_with (Some p.0)) (price_again most p.1 are.2) in
+    ap (option_and_then (λ (q : ℕ × ℤ). option_map (λ more. q ∷ more) (prices_from most (suc q.0) (price_numbers rest)))) first
+    ∙ ap (option_map (λ (more : List (ℕ × ℤ)). p ∷ more)) (prices_again most (suc p.0) rest are.3)
+
+counted_again : (most : ℕ) (ps : List (ℕ × ℤ)) → ArePrices most 0 ps → counted_prices most (pos (length ps)) (price_numbers ps) ≡ Some ps
+counted_again most ps are =
+    let counted : counts (length ps) (pos (length ps)) ≡ true = eq-eqb (length ps) (length ps) refl in
+    ap (option_and_then (λ (qs : List (ℕ × ℤ)). cond (counts (length qs) (pos (length ps))) (Some qs) None)) (prices_again most 0 ps are)
+    ∙ ap (λ (b : Bool). cond b (Some ps) None) counted
 
 pub rules_again : (n : ℕ) → n ≤ most_items → rules_in (rules_line n).word (rules_line n).numbers ≡ Some n
 rules_again n few = up_to_within most_items n few
@@ -77,10 +85,15 @@ node_again zero (nodes.Split e count) is = absurd (omega (arith, is.0))
 node_again (suc room) (nodes.Split e count) is =
     ap (λ (o : Option ℕ). split_with (suc room) o (from_to 1 most_cases (pos count))) (up_to_within most_id e.0 is.1)
     ∙ ap (split_with (suc room) (Some e.0)) (from_to_again 1 most_cases count is.2 is.3)
-node_again room (nodes.Close prices) is =
-    let counted : counts (length prices) (pos (length prices)) ≡ true = eq-eqb (length prices) (length prices) refl in
-    ap (option_and_then (λ (ps : List (ℕ × ℤ)). cond (counts (length ps) (pos (length prices))) (Some (nodes.Close ps)) None)) (prices_again 0 prices is)
-    ∙ ap (λ (b : Bool). cond b (Some (nodes.Close prices)) None) counted
+node_again room (nodes.Close prices) is = ap (option_map nodes.Close) (counted_again most_price prices is)
+
+pub dual_again : (room : ℕ) (node : DualLine) → IsDualWithin room node → dual_in room (dual_line node).word (dual_line node).numbers ≡ Some node
+dual_again zero (duals.Fork e a b) is = absurd (omega (arith, is.0))
+dual_again (suc room) (duals.Fork e a b) is =
+    ap (λ (o : Option ℕ). fork_with (suc room) o (natural_within most_id (pos a.0)) (natural_within most_id (pos b.0))) (up_to_within most_id e.0 is.1)
+    ∙ ap (λ (o : Option ℕ). fork_with (suc room) (Some e.0) o (natural_within most_id (pos b.0))) (up_to_within most_id a.0 is.2)
+    ∙ ap (fork_with (suc room) (Some e.0) (Some a.0)) (up_to_within most_id b.0 is.3)
+dual_again room (duals.Stop prices) is = ap (option_map duals.Stop) (counted_again most_stop_price prices is)
 
 pub take_again : (taken : List LineId) (a : LineId) → a.0 ≤ most_id → is_among taken a ≡ false → take_in taken (take_line a).word (take_line a).numbers ≡ Some a
 take_again taken a few free =
@@ -97,18 +110,22 @@ segment_numbers_few : (least : ℕ) (segs : List SegId) → AreRisingSegments le
 segment_numbers_few least [] are = tt
 segment_numbers_few least (s ∷ rest) are = (omega (arith, are.1), segment_numbers_few (suc s.0) rest are.2)
 
-price_few : (z : ℤ) → IsPrice z → IsNumber z
-price_few (pos n) is = omega (arith, is.1)
-price_few (negsuc n) is = omega (arith, is)
+price_few : (most : ℕ) (z : ℤ) → most ≤ most_stop_price → IsPrice most z → IsNumber z
+price_few most (pos n) low is = omega (arith, is.1)
+price_few most (negsuc n) low is = omega (arith, is)
 
-price_numbers_few : (least : ℕ) (ps : List (ℕ × ℤ)) → ArePrices least ps → AreNumbers (price_numbers ps)
-price_numbers_few least [] are = tt
-price_numbers_few least (p ∷ rest) are = (omega (arith, are.1), (price_few p.1 are.2, price_numbers_few (suc p.0) rest are.3))
+price_numbers_few : (most least : ℕ) (ps : List (ℕ × ℤ)) → most ≤ most_stop_price → ArePrices most least ps → AreNumbers (price_numbers ps)
+price_numbers_few most least [] low are = tt
+price_numbers_few most least (p ∷ rest) low are =
+    (omega (arith, are.1), (price_few most p.1 low are.2, price_numbers_few most (suc p.0) rest low are.3))
 
 -- as many prices as there are numbers of terms from the least on
-prices_few : (least : ℕ) (ps : List (ℕ × ℤ)) → ArePrices least ps → least ≤ most_id + 1 → least + length ps ≤ most_id + 1
-prices_few least [] are low = omega arith
-prices_few least (p ∷ rest) are low = omega (arith, are.0, prices_few (suc p.0) rest are.3 (omega (arith, are.1)))
+prices_few : (most least : ℕ) (ps : List (ℕ × ℤ)) → ArePrices most least ps → least ≤ most_id + 1 → least + length ps ≤ most_id + 1
+prices_few most least [] are low = omega arith
+prices_few most least (p ∷ rest) are low = omega (arith, are.0, prices_few most (suc p.0) rest are.3 (omega (arith, are.1)))
+
+pub prices_line_few : (most : ℕ) (word : LineWord) (ps : List (ℕ × ℤ)) → most ≤ most_stop_price → ArePrices most 0 ps → AreNumbers (prices_line word ps).numbers
+prices_line_few most word ps low are = (omega (arith, prices_few most 0 ps are (omega arith)), price_numbers_few most 0 ps low are)
 
 bit_few : (b : Bool) → bit b ≤ 1
 bit_few true = omega arith
@@ -129,7 +146,11 @@ part_line_few target segs few are = (omega arith, segment_numbers_few 0 segs are
 
 pub node_line_few : (room : ℕ) (node : NodeLine) → IsNodeWithin room node → AreNumbers (node_line node).numbers
 node_line_few room (nodes.Split e count) is = (omega (arith, is.1), (omega (arith, is.3), tt))
-node_line_few room (nodes.Close prices) is = (omega (arith, prices_few 0 prices is (omega arith)), price_numbers_few 0 prices is)
+node_line_few room (nodes.Close prices) is = prices_line_few most_price LineWord.Close prices (omega arith) is
+
+pub dual_line_few : (room : ℕ) (node : DualLine) → IsDualWithin room node → AreNumbers (dual_line node).numbers
+dual_line_few room (duals.Fork e a b) is = (omega (arith, is.1), (omega (arith, is.2), (omega (arith, is.3), tt)))
+dual_line_few room (duals.Stop prices) is = prices_line_few most_stop_price LineWord.Stop prices (omega arith) is
 
 pub take_line_few : (a : LineId) → a.0 ≤ most_id → AreNumbers (take_line a).numbers
 take_line_few a few = (omega arith, tt)

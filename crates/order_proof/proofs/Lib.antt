@@ -7,6 +7,7 @@ pub mod FormLemmas
 pub mod ReadRules
 pub mod Children
 pub mod ReadTrees
+pub mod ReadDuals
 pub mod ReadParts
 pub mod ReadProofs
 pub mod Ends

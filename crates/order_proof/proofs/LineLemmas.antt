@@ -1,5 +1,5 @@
 -- A line that is read is the line that was written, and what was written is read again.
-use Rattle.std.proofs.Common.{◌≡◌, ℕ, ℤ, Bool, true, false, cond, List, ◌∷◌, ◌++◌, Option, Some, None, option_map, refl, ap, subst, sym, ◌∙◌}
+use Rattle.std.proofs.Common.{◌≡◌, ℕ, ℤ, Bool, true, false, cond, List, ◌∷◌, ◌++◌, Option, Some, None, option_map, refl, ap, subst, sym, ◌∙◌, append_assoc}
 use Rattle.std.specs.Str.{bytes_eq}
 use Rattle.std.specs.Option.{option_and_then}
 use Rattle.std.proofs.lemmas.Slice.Eq.{bytes_eq-Decides}
@@ -7,9 +7,9 @@ use Rattle.decimal_text.specs.Lines as texts
 use Rattle.decimal_text.specs.Lines.{words_text, numbers_text}
 use Rattle.decimal_text.proofs.LineLemmas.{AreNumbers, IsWord, numerals, numerals_text, numerals_are_words, numbers_again, numbered_is, front_text, front_again}
 use Rattle.order_proof.specs.declared.line_word.LineWord.{LineWord}
-use Rattle.order_proof.specs.declared.line_word.LineWord.TheVariants.{Rules, Merge, Divide, Parts, Part, Split, Take, Close}
-use Rattle.order_proof.specs.Lines.{Line, word_text, line_text}
-use Rattle.order_proof.specs.FrontLine.{word_of, known, line_in, front_line}
+use Rattle.order_proof.specs.declared.line_word.LineWord.TheVariants.{Rules, Merge, Divide, Parts, Part, Split, Take, Close, Fork, Stop}
+use Rattle.order_proof.specs.Lines.{Line, word_text, is_dual_word, line_text}
+use Rattle.order_proof.specs.FrontLine.{word_of, known, line_in, front_line, begins_dual}
 
 abbrev some : {A : Type 0} → A → Option A
 some x = Some x
@@ -25,7 +25,7 @@ this_word text this others w later e = by (bytes_eq text (word_text this)) refl 
     by false same e = later e
 
 word_is : (text : List ℕ) (w : LineWord) → word_of text ≡ Some w → text ≡ word_text w
-word_is text w = this_word text Rules _ w (this_word text Merge _ w (this_word text Divide _ w (this_word text Parts _ w (this_word text Part _ w (this_word text Split _ w (this_word text Take _ w (this_word text Close None w (λ (e : none ≡ some w). absurd cc))))))))
+word_is text w = this_word text Rules _ w (this_word text Merge _ w (this_word text Divide _ w (this_word text Parts _ w (this_word text Part _ w (this_word text Split _ w (this_word text Take _ w (this_word text Close _ w (this_word text Fork _ w (this_word text Stop None w (λ (e : none ≡ some w). absurd cc))))))))))
   where
     none : Option LineWord
     none = None
@@ -71,6 +71,8 @@ word_again Part = refl
 word_again Split = refl
 word_again Take = refl
 word_again Close = refl
+word_again Fork = refl
+word_again Stop = refl
 
 is_word : (w : LineWord) → IsWord (word_text w)
 is_word Rules = record { no_space = (refl, (refl, (refl, (refl, (refl, tt))))); no_end = (refl, (refl, (refl, (refl, (refl, tt))))) }
@@ -81,6 +83,8 @@ is_word Part = record { no_space = (refl, (refl, (refl, (refl, tt)))); no_end = 
 is_word Split = record { no_space = (refl, (refl, (refl, (refl, (refl, tt))))); no_end = (refl, (refl, (refl, (refl, (refl, tt))))) }
 is_word Take = record { no_space = (refl, (refl, (refl, (refl, tt)))); no_end = (refl, (refl, (refl, (refl, tt)))) }
 is_word Close = record { no_space = (refl, (refl, (refl, (refl, (refl, tt))))); no_end = (refl, (refl, (refl, (refl, (refl, tt))))) }
+is_word Fork = record { no_space = (refl, (refl, (refl, (refl, tt)))); no_end = (refl, (refl, (refl, (refl, tt)))) }
+is_word Stop = record { no_space = (refl, (refl, (refl, (refl, tt)))); no_end = (refl, (refl, (refl, (refl, tt)))) }
 
 -- the line is at the front of its text, whatever stands behind it
 pub front_line_again : (l : Line) (rest : List ℕ) → AreNumbers l.numbers → front_line (line_text l ++ rest) ≡ Some (l, rest)
@@ -91,3 +95,24 @@ front_line_again l rest few =
     ∙ ap (option_map (λ (w : LineWord). let t : Line = record { word = w; numbers = l.numbers } in t)) (word_again l.word) in
     ap (λ (bytes : List ℕ). texts.front line_in ((word_text l.word ++ bytes) ++ rest)) (sym (numerals_text l.numbers))
     ∙ front_again line_in (word_text l.word) (numerals l.numbers) l rest made (is_word l.word) (numerals_are_words l.numbers few)
+
+-- ---- which lines begin as those of dual trees do
+
+begins_by_word : (w : LineWord) (behind : List ℕ) → begins_dual (word_text w ++ behind) ≡ is_dual_word w
+begins_by_word Rules behind = refl
+begins_by_word Merge behind = refl
+begins_by_word Divide behind = refl
+begins_by_word Parts behind = refl
+begins_by_word Part behind = refl
+begins_by_word Split behind = refl
+begins_by_word Take behind = refl
+begins_by_word Close behind = refl
+begins_by_word Fork behind = refl
+begins_by_word Stop behind = refl
+
+-- a text begins so where the line at its front does
+pub begins_by_line : (text : List ℕ) (l : Line) (rest : List ℕ) → front_line text ≡ Some (l, rest) → begins_dual text ≡ is_dual_word l.word
+begins_by_line text l rest there =
+    let is = (front_line_text text l rest there).0 in
+    let behind = numbers_text l.numbers in
+    ap begins_dual (is ∙ append_assoc (word_text l.word) behind rest) ∙ begins_by_word l.word (behind ++ rest)

@@ -1,21 +1,25 @@
 -- Two proofs in range with one text are one proof.
-use Rattle.std.proofs.Common.{◌≡◌, ℕ, ◌≤◌, ℤ, List, [], ◌∷◌, ◌++◌, length, Option, Some, refl, ap, sym, ◌∙◌, append_assoc, arith}
+use Rattle.std.proofs.Common.{◌≡◌, ℕ, ◌≤◌, ℤ, List, [], ◌∷◌, ◌++◌, length, Option, Some, refl, ap, sym, ◌∙◌, append_assoc, true≢false, arith}
 use Rattle.std.specs.List.{AllByRecursion}
 use Rattle.map_base.specs.declared.ids.SegId.{SegId}
 use Rattle.map_base.specs.declared.ids.LineId.{LineId}
 use Rattle.order_values.specs.declared.rule.Rule.{Rule}
 use Rattle.order_proof.specs.declared.line_word.LineWord.{LineWord}
 use Rattle.order_proof.specs.declared.node_line.NodeLine.{NodeLine}
+use Rattle.order_values.specs.DualTrees.{PlainDual, fork, stop}
 use Rattle.order_proof.specs.declared.node_line.NodeLine.TheVariants as nodes
-use Rattle.order_proof.specs.Plain.{PlainTree, split, close, Cases, no_case, case_of, PlainPart, PlainProof}
+use Rattle.order_proof.specs.declared.dual_line.DualLine.{DualLine}
+use Rattle.order_proof.specs.declared.dual_line.DualLine.TheVariants as duals
+use Rattle.order_proof.specs.Plain.{PlainTree, split, close, Cases, no_case, case_of, PlainPartTree, by_cases, by_pairs, PlainPart, PlainProof}
 use Rattle.order_proof.specs.Trees.{count_of}
-use Rattle.order_proof.specs.Lines.{line_text, rules_line, rule_line, parts_line, part_line, split_line, take_line}
-use Rattle.order_proof.specs.FrontLine.{front}
-use Rattle.order_proof.specs.Forms.{most_id, rules_in, rule_in, parts_in, part_in, node_in, take_in}
-use Rattle.order_proof.specs.Text.{tree_text, cases_text, rules_text, part_text, parts_text, proof_text}
-use Rattle.order_proof.specs.Ranges.{IsRuleInRange, IsTreeInRange, AreCasesInRange, IsPartInRange, IsInRange}
-use Rattle.order_proof.proofs.FormLemmas.{node_line, IsNodeWithin}
-use Rattle.order_proof.proofs.FormAgain.{rules_again, rule_again, parts_again, part_again, node_again, take_again, rules_line_few, rule_line_few, parts_line_few, part_line_few, node_line_few, take_line_few, front_again}
+use Rattle.order_proof.specs.Lines.{line_text, rules_line, rule_line, parts_line, part_line, split_line, take_line, fork_line}
+use Rattle.order_proof.specs.FrontLine.{front, begins_dual}
+use Rattle.order_proof.specs.Forms.{most_id, rules_in, rule_in, parts_in, part_in, node_in, dual_in, take_in}
+use Rattle.order_proof.specs.Text.{tree_text, cases_text, dual_text, part_tree_text, rules_text, part_text, parts_text, proof_text}
+use Rattle.order_proof.specs.Ranges.{IsRuleInRange, IsTreeInRange, AreCasesInRange, IsDualInRange, IsPartTreeInRange, IsPartInRange, IsInRange}
+use Rattle.order_proof.proofs.FormLemmas.{node_line, IsNodeWithin, dual_line, IsDualWithin}
+use Rattle.order_proof.proofs.TextAgain.{dual_begins, tree_begins}
+use Rattle.order_proof.proofs.FormAgain.{rules_again, rule_again, parts_again, part_again, node_again, dual_again, take_again, rules_line_few, rule_line_few, parts_line_few, part_line_few, node_line_few, dual_line_few, take_line_few, front_again}
 
 abbrev found : {A : Type 0} → A × List ℕ → Option (A × List ℕ)
 found x = Some x
@@ -87,6 +91,63 @@ mutual
       let later = cases_same cs ds a b first.2 second.2 more tree.1 in
       (ap (λ (k : LineId). case_of k t cs) head.0 ∙ ap (λ (v : PlainTree). case_of m v cs) tree.0 ∙ ap (case_of m u) later.0, later.1)
 
+dual_line_same : (m n : DualLine) (a b : List ℕ) → IsDualWithin 1 m → IsDualWithin 1 n → line_text (dual_line m) ++ a ≡ line_text (dual_line n) ++ b → (m ≡ n) × (a ≡ b)
+dual_line_same m n a b first second e =
+    front_same (dual_in 1) m n a b (line_text (dual_line m) ++ a) (line_text (dual_line n) ++ b)
+    (front_again (dual_in 1) (dual_line m) m a (dual_again 1 m first) (dual_line_few 1 m first))
+    (front_again (dual_in 1) (dual_line n) n b (dual_again 1 n second) (dual_line_few 1 n second)) e
+
+fork_parts : (s t : SegId) (a b c d : LineId) → duals.Fork s a b ≡ duals.Fork t c d → (s ≡ t) × (a ≡ c) × (b ≡ d)
+fork_parts s t a b c d same = (cc, cc, cc)
+
+stop_parts : (ps qs : List (ℕ × ℤ)) → duals.Stop ps ≡ duals.Stop qs → ps ≡ qs
+stop_parts ps qs same = cc
+
+stop_no_fork : (s : SegId) (a b : LineId) (ps : List (ℕ × ℤ)) → duals.Fork s a b ≡ duals.Stop ps → ⊥
+stop_no_fork s a b ps same = cc
+
+fork_grouped : (s : SegId) (a b : LineId) (t u : PlainDual) (x : List ℕ)
+    → dual_text (fork s a b t u) ++ x ≡ line_text (fork_line s a b) ++ (dual_text t ++ (dual_text u ++ x))
+fork_grouped s a b t u x =
+    append_assoc (line_text (fork_line s a b)) (dual_text t ++ dual_text u) x
+    ∙ ap (λ (bytes : List ℕ). line_text (fork_line s a b) ++ bytes) (append_assoc (dual_text t) (dual_text u) x)
+
+dual_same : (t u : PlainDual) (x y : List ℕ) → IsDualInRange t → IsDualInRange u → dual_text t ++ x ≡ dual_text u ++ y → (t ≡ u) × (x ≡ y)
+dual_same (stop ps) (stop qs) x y first second e =
+    let same = dual_line_same (duals.Stop ps) (duals.Stop qs) x y first second e in
+    (ap stop (stop_parts ps qs same.0), same.1)
+dual_same (stop ps) (fork s a b t u) x y first second e =
+    let within : IsDualWithin 1 (duals.Fork s a b) = (omega arith, second.0, second.1, second.2) in
+    let same = dual_line_same (duals.Stop ps) (duals.Fork s a b) x (dual_text t ++ (dual_text u ++ y)) first within (e ∙ fork_grouped s a b t u y) in
+    absurd (stop_no_fork s a b ps (sym same.0))
+dual_same (fork s a b t u) (stop qs) x y first second e =
+    let within : IsDualWithin 1 (duals.Fork s a b) = (omega arith, first.0, first.1, first.2) in
+    let same = dual_line_same (duals.Fork s a b) (duals.Stop qs) (dual_text t ++ (dual_text u ++ x)) y within second (sym (fork_grouped s a b t u x) ∙ e) in
+    absurd (stop_no_fork s a b qs same.0)
+dual_same (fork s a b t u) (fork r c d v w) x y first second e =
+    let one : IsDualWithin 1 (duals.Fork s a b) = (omega arith, first.0, first.1, first.2) in
+    let two : IsDualWithin 1 (duals.Fork r c d) = (omega arith, second.0, second.1, second.2) in
+    let same = dual_line_same (duals.Fork s a b) (duals.Fork r c d) (dual_text t ++ (dual_text u ++ x)) (dual_text v ++ (dual_text w ++ y)) one two
+    (sym (fork_grouped s a b t u x) ∙ e ∙ fork_grouped r c d v w y) in
+    let parts = fork_parts s r a b c d same.0 in
+    let left = dual_same t v (dual_text u ++ x) (dual_text w ++ y) first.3 second.3 same.1 in
+    let right = dual_same u w x y first.4 second.4 left.1 in (
+      ap (λ (q : SegId). fork q a b t u) parts.0 ∙ ap (λ (q : LineId). fork r q b t u) parts.1 ∙ ap (λ (q : LineId). fork r c q t u) parts.2
+          ∙ ap (λ (q : PlainDual). fork r c d q u) left.0
+          ∙ ap (λ (q : PlainDual). fork r c d v q) right.0,
+      right.1,
+    )
+
+-- a tree of the one kind has no text of the other
+kinds_apart : (t : PlainTree) (u : PlainDual) (a b : List ℕ) → tree_text t ++ a ≡ dual_text u ++ b → ⊥
+kinds_apart t u a b e = true≢false (sym (dual_begins u b) ∙ sym (ap begins_dual e) ∙ tree_begins t a)
+
+part_tree_same : (t u : PlainPartTree) (a b : List ℕ) → IsPartTreeInRange t → IsPartTreeInRange u → part_tree_text t ++ a ≡ part_tree_text u ++ b → (t ≡ u) × (a ≡ b)
+part_tree_same (by_cases t) (by_cases u) a b first second e = let same = tree_same t u a b first second e in (ap by_cases same.0, same.1)
+part_tree_same (by_cases t) (by_pairs u) a b first second e = absurd (kinds_apart t u a b e)
+part_tree_same (by_pairs t) (by_cases u) a b first second e = absurd (kinds_apart u t b a (sym e))
+part_tree_same (by_pairs t) (by_pairs u) a b first second e = let same = dual_same t u a b first second e in (ap by_pairs same.0, same.1)
+
 rules_same : (rs qs : List Rule) (a b : List ℕ) → AllByRecursion IsRuleInRange rs → AllByRecursion IsRuleInRange qs → length rs ≡ length qs → rules_text rs ++ a ≡ rules_text qs ++ b → (rs ≡ qs) × (a ≡ b)
 rules_same [] [] a b first second count e = (refl, e)
 rules_same [] (q ∷ qs) a b first second count e = absurd (omega arith)
@@ -103,14 +164,14 @@ rules_same (r ∷ rs) (q ∷ qs) a b first second count e =
 
 part_same : (p q : PlainPart) (a b : List ℕ) → IsPartInRange p → IsPartInRange q → part_text p ++ a ≡ part_text q ++ b → (p ≡ q) × (a ≡ b)
 part_same p q a b first second e =
-    let x = tree_text p.tree ++ a in
-    let y = tree_text q.tree ++ b in
+    let x = part_tree_text p.tree ++ a in
+    let y = part_tree_text q.tree ++ b in
     let head = front_same part_in (p.target, p.segs) (q.target, q.segs) x y (line_text (part_line p.target p.segs) ++ x) (line_text (part_line q.target q.segs) ++ y)
     (front_again part_in (part_line p.target p.segs) (p.target, p.segs) x (part_again p.target p.segs first.target first.segs) (part_line_few p.target p.segs first.target first.segs))
     (front_again part_in (part_line q.target q.segs) (q.target, q.segs) y (part_again q.target q.segs second.target second.segs) (part_line_few q.target q.segs second.target second.segs))
-    (sym (append_assoc (line_text (part_line p.target p.segs)) (tree_text p.tree) a) ∙ e ∙ append_assoc (line_text (part_line q.target q.segs)) (tree_text q.tree) b) in
-    let tree = tree_same p.tree q.tree a b first.tree second.tree head.1 in
-    (ap (λ (h : ℕ × List SegId). record { segs = h.1; target = h.0; tree = p.tree }) head.0 ∙ ap (λ (t : PlainTree). record { segs = q.segs; target = q.target; tree = t }) tree.0, tree.1)
+    (sym (append_assoc (line_text (part_line p.target p.segs)) (part_tree_text p.tree) a) ∙ e ∙ append_assoc (line_text (part_line q.target q.segs)) (part_tree_text q.tree) b) in
+    let tree = part_tree_same p.tree q.tree a b first.tree second.tree head.1 in
+    (ap (λ (h : ℕ × List SegId). record { segs = h.1; target = h.0; tree = p.tree }) head.0 ∙ ap (λ (t : PlainPartTree). record { segs = q.segs; target = q.target; tree = t }) tree.0, tree.1)
 
 parts_same : (ps qs : List PlainPart) (a b : List ℕ) → AllByRecursion IsPartInRange ps → AllByRecursion IsPartInRange qs → length ps ≡ length qs → parts_text ps ++ a ≡ parts_text qs ++ b → (ps ≡ qs) × (a ≡ b)
 parts_same [] [] a b first second count e = (refl, e)

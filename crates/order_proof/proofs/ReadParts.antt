@@ -3,15 +3,14 @@ use Rattle.std.proofs.Common.{◌≡◌, ℕ, suc, ◌+◌, ◌-◌, ◌<◌, Li
 use Rattle.std.proofs.lemmas.List.{append-nil, length-append}
 use Rattle.map_base.specs.declared.ids.SegId.{SegId}
 use Rattle.order_proof.specs.declared.proof.Part.{Part}
-use Rattle.order_proof.specs.Plain.{PlainTree, PlainPart, plain_part}
-use Rattle.order_proof.specs.Trees.{most_depth}
+use Rattle.order_proof.specs.Plain.{PlainPartTree, PlainPart, plain_part}
 use Rattle.order_proof.specs.Lines.{line_text, part_line}
 use Rattle.order_proof.specs.FrontLine.{front}
 use Rattle.order_proof.specs.Forms.{part_in}
-use Rattle.order_proof.specs.Text.{tree_text, part_text, parts_text}
+use Rattle.order_proof.specs.Text.{part_tree_text, part_text, parts_text}
 use Rattle.order_proof.specs.Ranges.{IsPartInRange}
-use Rattle.order_proof.specs.Reading.{Due, ATree, APart, parts_due, reading}
-use Rattle.order_proof.specs.Readers.{IsTreeOf, IsPartOf, ArePartsOf}
+use Rattle.order_proof.specs.Reading.{Due, APartTree, APart, parts_due, reading}
+use Rattle.order_proof.specs.Readers.{IsPartTreeOf, IsPartOf, ArePartsOf}
 use Rattle.order_proof.proofs.Fronts.{front_map, front_is}
 use Rattle.decimal_text.proofs.Steps.{then_read}
 use Rattle.order_proof.proofs.Steps.{goes_on, stops, reading_nothing, reading_after}
@@ -22,12 +21,12 @@ abbrev Head : Type 0
 Head = ℕ × List SegId
 
 pub head_stops : (more : ℕ) (text : List ℕ) → front part_in text ≡ None → reading (parts_due (suc more)) text ≡ Err text
-head_stops more text none = stops (λ (_ : Head). ATree most_depth ∷ parts_due more) part_in (APart more) [] text (front_map (λ (_ : Head). ATree most_depth ∷ parts_due more) part_in text) none
+head_stops more text none = stops (λ (_ : Head). APartTree ∷ parts_due more) part_in (APart more) [] text (front_map (λ (_ : Head). APartTree ∷ parts_due more) part_in text) none
 
-pub head_goes_on : (more : ℕ) (text : List ℕ) (head : Head) (rest : List ℕ) → front part_in text ≡ Some (head, rest) → reading (parts_due (suc more)) text ≡ reading (ATree most_depth ∷ parts_due more) rest
+pub head_goes_on : (more : ℕ) (text : List ℕ) (head : Head) (rest : List ℕ) → front part_in text ≡ Some (head, rest) → reading (parts_due (suc more)) text ≡ reading (APartTree ∷ parts_due more) rest
 head_goes_on more text head rest there =
-    goes_on (λ (_ : Head). ATree most_depth ∷ parts_due more) part_in (APart more) [] text head rest (front_map (λ (_ : Head). ATree most_depth ∷ parts_due more) part_in text) there
-    ∙ ap (λ (due : List Due). reading (ATree most_depth ∷ due) rest) (append-nil (parts_due more))
+    goes_on (λ (_ : Head). APartTree ∷ parts_due more) part_in (APart more) [] text head rest (front_map (λ (_ : Head). APartTree ∷ parts_due more) part_in text) there
+    ∙ ap (λ (due : List Due). reading (APartTree ∷ due) rest) (append-nil (parts_due more))
 
 -- a part, and then the others
 pub part_then : (more : ℕ) (text : List ℕ) → reading (parts_due (suc more)) text ≡ then_read (reading (parts_due 1) text) (reading (parts_due more))
@@ -36,10 +35,10 @@ part_then more text = by (front part_in text) refl
     by : (o : Option (Head × List ℕ)) → front part_in text ≡ o → reading (parts_due (suc more)) text ≡ then_read (reading (parts_due 1) text) (reading (parts_due more))
     by None none = head_stops more text none ∙ sym (ap (λ (r : Result (List ℕ) (List ℕ)). then_read r (reading (parts_due more))) (head_stops 0 text none))
     by (Some x) there =
-        head_goes_on more text x.0 x.1 there ∙ reading_after (ATree most_depth ∷ []) (parts_due more) x.1
+        head_goes_on more text x.0 x.1 there ∙ reading_after (APartTree ∷ []) (parts_due more) x.1
         ∙ sym (ap (λ (r : Result (List ℕ) (List ℕ)). then_read r (reading (parts_due more))) (head_goes_on 0 text x.0 x.1 there))
 
-pub part_read : (text : List ℕ) (target : ℕ) (segs : List SegId) (behind : List ℕ) (tree : PlainTree) (rest : List ℕ) → front part_in text ≡ Some ((target, segs), behind) → IsTreeOf most_depth tree behind rest
+pub part_read : (text : List ℕ) (target : ℕ) (segs : List SegId) (behind : List ℕ) (tree : PlainPartTree) (rest : List ℕ) → front part_in text ≡ Some ((target, segs), behind) → IsPartTreeOf tree behind rest
     → IsPartOf (record { segs = segs; target = target; tree = tree }) text rest
 part_read text target segs behind tree rest there is =
     let said = front_is part_in text (target, segs) behind there in
@@ -47,7 +46,7 @@ part_read text target segs behind tree rest there is =
     let line = front_text part_in text (target, segs) behind (part_line target segs) (λ l e. (part_is l (target, segs) e).0) there in
     record {
       range = record { target = head.1; segs = head.2; tree = is.range; depth = is.depth };
-      front = line ∙ ap (λ (bytes : List ℕ). line_text (part_line target segs) ++ bytes) is.front ∙ sym (append_assoc (line_text (part_line target segs)) (tree_text tree) rest);
+      front = line ∙ ap (λ (bytes : List ℕ). line_text (part_line target segs) ++ bytes) is.front ∙ sym (append_assoc (line_text (part_line target segs)) (part_tree_text tree) rest);
     }
 
 -- the parts so far, and what is due behind them

@@ -1,16 +1,17 @@
 -- A proof, section by section.
-use Rattle.std.proofs.Common.{◌≡◌, ◌≢◌, ℕ, zero, suc, ℤ, pos, negsuc, List, [], ◌∷◌, ◌++◌, length, Some, None, Result, Ok, Err, ap, sym, ◌∙◌, append_assoc, arith}
+use Rattle.std.proofs.Common.{◌≡◌, ◌≢◌, ◌≤◌, ℕ, zero, suc, ℤ, pos, negsuc, List, [], ◌∷◌, ◌++◌, length, Some, None, Result, Ok, Err, ap, sym, ◌∙◌, append_assoc, arith}
 use Rattle.std.specs.List.{AllByRecursion}
 use Rattle.std.proofs.lemmas.List.{append-nil}
 use Rattle.order_values.specs.declared.rule.Rule.{Rule}
 use Rattle.order_values.specs.PriceLists.{AreRisingPrices}
-use Rattle.order_proof.specs.Plain.{PlainTree, split, close, Cases, no_case, case_of, PlainPart, PlainProof}
-use Rattle.order_proof.specs.Trees.{AreNotZero, IsTree, AreTrees, IsProofTree, HasTrees}
+use Rattle.order_values.specs.DualTrees.{PlainDual, fork, stop}
+use Rattle.order_proof.specs.Plain.{PlainTree, split, close, Cases, no_case, case_of, PlainPartTree, by_cases, by_pairs, PlainPart, PlainProof}
+use Rattle.order_proof.specs.Trees.{AreNotZero, IsTree, AreTrees, IsDualTree, IsPartTree, IsProofTree, IsProofDual, HasTrees, depth_of_part, most_depth}
 use Rattle.order_proof.specs.Lines.{line_text, rules_line, parts_line}
 use Rattle.order_proof.specs.FrontLine.{front}
-use Rattle.order_proof.specs.Forms.{rules_in, parts_in}
+use Rattle.order_proof.specs.Forms.{most_price, most_stop_price, rules_in, parts_in}
 use Rattle.order_proof.specs.Text.{rules_text, parts_text}
-use Rattle.order_proof.specs.Ranges.{IsPrice, ArePrices, IsTreeInRange, AreCasesInRange, IsPartInRange, IsInRange}
+use Rattle.order_proof.specs.Ranges.{IsPrice, ArePrices, IsTreeInRange, AreCasesInRange, IsDualInRange, IsPartTreeInRange, IsPartInRange, IsInRange}
 use Rattle.order_proof.specs.Reading.{Due, RuleCount, PartCount, rules_due, parts_due, reading}
 use Rattle.order_proof.specs.Readers.{AreRulesOf, ArePartsOf, IsProofOf}
 use Rattle.order_proof.proofs.Fronts.{front_map, front_is}
@@ -67,32 +68,40 @@ proof_read text n one rules two m three parts rest first are second parts_are =
 
 -- ---- what the type of proofs keeps
 
-rising_prices : (least : ℕ) (ps : List (ℕ × ℤ)) → ArePrices least ps → AreRisingPrices ps
-rising_prices least [] are = tt
-rising_prices least (p ∷ []) are = tt
-rising_prices least (p ∷ q ∷ rest) are = (omega (arith, are.3.0), rising_prices (suc p.0) (q ∷ rest) are.3)
+rising_prices : (most least : ℕ) (ps : List (ℕ × ℤ)) → ArePrices most least ps → AreRisingPrices ps
+rising_prices most least [] are = tt
+rising_prices most least (p ∷ []) are = tt
+rising_prices most least (p ∷ q ∷ rest) are = (omega (arith, are.3.0), rising_prices most (suc p.0) (q ∷ rest) are.3)
 
-not_zero : (z : ℤ) → IsPrice z → z ≢ pos 0
-not_zero (pos zero) is e = omega (arith, is.0)
-not_zero (pos (suc n)) is e = cc
-not_zero (negsuc n) is e = cc
+not_zero : (most : ℕ) (z : ℤ) → IsPrice most z → z ≢ pos 0
+not_zero most (pos zero) is e = omega (arith, is.0)
+not_zero most (pos (suc n)) is e = cc
+not_zero most (negsuc n) is e = cc
 
-prices_not_zero : (least : ℕ) (ps : List (ℕ × ℤ)) → ArePrices least ps → AreNotZero ps
-prices_not_zero least [] are = tt
-prices_not_zero least (p ∷ rest) are = (not_zero p.1 are.2, prices_not_zero (suc p.0) rest are.3)
+prices_not_zero : (most least : ℕ) (ps : List (ℕ × ℤ)) → ArePrices most least ps → AreNotZero ps
+prices_not_zero most least [] are = tt
+prices_not_zero most least (p ∷ rest) are = (not_zero most p.1 are.2, prices_not_zero most (suc p.0) rest are.3)
 
 mutual
   pub tree_kept : (tree : PlainTree) → IsTreeInRange tree → IsTree tree
   tree_kept (split seg cases) are = (omega (arith, are.1), are.3, cases_kept cases are.4)
-  tree_kept (close prices) are = (rising_prices 0 prices are, prices_not_zero 0 prices are)
+  tree_kept (close prices) are = (rising_prices most_price 0 prices are, prices_not_zero most_price 0 prices are)
 
   cases_kept : (cases : Cases) → AreCasesInRange cases → AreTrees cases
   cases_kept no_case are = tt
   cases_kept (case_of a tree rest) are = (tree_kept tree are.1, cases_kept rest are.2)
 
-parts_kept : (parts : List PlainPart) → AllByRecursion IsPartInRange parts → AllByRecursion (λ (part : PlainPart). IsProofTree part.tree) parts
+dual_kept : (tree : PlainDual) → IsDualInRange tree → IsDualTree tree
+dual_kept (fork seg a b first second) are = (dual_kept first are.3, dual_kept second are.4)
+dual_kept (stop prices) are = (rising_prices most_stop_price 0 prices are, prices_not_zero most_stop_price 0 prices are)
+
+part_tree_kept : (tree : PlainPartTree) → IsPartTreeInRange tree → depth_of_part tree ≤ most_depth → IsPartTree tree
+part_tree_kept (by_cases tree) are deep = record { is_tree = tree_kept tree are; depth = deep }
+part_tree_kept (by_pairs tree) are deep = record { is_tree = dual_kept tree are; depth = deep }
+
+parts_kept : (parts : List PlainPart) → AllByRecursion IsPartInRange parts → AllByRecursion (λ (part : PlainPart). IsPartTree part.tree) parts
 parts_kept [] are = tt
-parts_kept (p ∷ rest) are = (record { is_tree = tree_kept p.tree are.0.tree; depth = are.0.depth }, parts_kept rest are.1)
+parts_kept (p ∷ rest) are = (part_tree_kept p.tree are.0.tree are.0.depth, parts_kept rest are.1)
 
 pub trees_kept : (p : PlainProof) → IsInRange p → HasTrees p
 trees_kept p range = parts_kept p.parts range.parts

@@ -28,50 +28,50 @@ joined done p None = refl
 joined done p (Some rest) = ap (λ (ps : List (ℕ × ℤ)). Some ps) (sym (append_assoc done (p ∷ []) rest))
 
 -- one more price is taken
-pub price_taken : (least : ℕ) (done : List (ℕ × ℤ)) (p : ℕ × ℤ) (xs : List ℤ) (total : Option (List (ℕ × ℤ))) → 2 ≤ length xs
-    → Some p ≡ priced_term least (get_or xs 0 (pos 0)) (get_or xs 1 (pos 0)) → behind done (prices_from least xs) ≡ total → behind (done ++ p ∷ []) (prices_from (p.0 + 1) (drop 2 xs)) ≡ total
-price_taken least done p [] total long is whole = absurd (omega arith)
-price_taken least done p (x ∷ []) total long is whole = absurd (omega arith)
-price_taken least done p (x ∷ y ∷ rest) total long is whole =
-    let one : prices_from least (x ∷ y ∷ rest) ≡ option_map (λ more. p ∷ more) (prices_from (suc p.0) rest) =
-    ap (option_and_then (λ (q : ℕ × ℤ). option_map (λ more. q ∷ more) (prices_from (suc q.0) rest))) (sym is) in
+pub price_taken : (most least : ℕ) (done : List (ℕ × ℤ)) (p : ℕ × ℤ) (xs : List ℤ) (total : Option (List (ℕ × ℤ))) → 2 ≤ length xs
+    → Some p ≡ priced_term most least (get_or xs 0 (pos 0)) (get_or xs 1 (pos 0)) → behind done (prices_from most least xs) ≡ total → behind (done ++ p ∷ []) (prices_from most (p.0 + 1) (drop 2 xs)) ≡ total
+price_taken most least done p [] total long is whole = absurd (omega arith)
+price_taken most least done p (x ∷ []) total long is whole = absurd (omega arith)
+price_taken most least done p (x ∷ y ∷ rest) total long is whole =
+    let one : prices_from most least (x ∷ y ∷ rest) ≡ option_map (λ more. p ∷ more) (prices_from most (suc p.0) rest) =
+    ap (option_and_then (λ (q : ℕ × ℤ). option_map (λ more. q ∷ more) (prices_from most (suc q.0) rest))) (sym is) in
     let next : suc p.0 ≡ p.0 + 1 = omega arith in
-    ap (λ (n : ℕ). behind (done ++ p ∷ []) (prices_from n rest)) (sym next) ∙ sym (joined done p (prices_from (suc p.0) rest)) ∙ ap (behind done) (sym one) ∙ whole
+    ap (λ (n : ℕ). behind (done ++ p ∷ []) (prices_from most n rest)) (sym next) ∙ sym (joined done p (prices_from most (suc p.0) rest)) ∙ ap (behind done) (sym one) ∙ whole
 
 -- a price is refused
-pub price_refused : (least : ℕ) (done : List (ℕ × ℤ)) (xs : List ℤ) (total : Option (List (ℕ × ℤ))) → 2 ≤ length xs
-    → None ≡ priced_term least (get_or xs 0 (pos 0)) (get_or xs 1 (pos 0)) → behind done (prices_from least xs) ≡ total → None ≡ total
-price_refused least done [] total long is whole = absurd (omega arith)
-price_refused least done (x ∷ []) total long is whole = absurd (omega arith)
-price_refused least done (x ∷ y ∷ rest) total long is whole =
-    ap (behind done) (ap (option_and_then (λ (q : ℕ × ℤ). option_map (λ more. q ∷ more) (prices_from (suc q.0) rest))) is) ∙ whole
+pub price_refused : (most least : ℕ) (done : List (ℕ × ℤ)) (xs : List ℤ) (total : Option (List (ℕ × ℤ))) → 2 ≤ length xs
+    → None ≡ priced_term most least (get_or xs 0 (pos 0)) (get_or xs 1 (pos 0)) → behind done (prices_from most least xs) ≡ total → None ≡ total
+price_refused most least done [] total long is whole = absurd (omega arith)
+price_refused most least done (x ∷ []) total long is whole = absurd (omega arith)
+price_refused most least done (x ∷ y ∷ rest) total long is whole =
+    ap (behind done) (ap (option_and_then (λ (q : ℕ × ℤ). option_map (λ more. q ∷ more) (prices_from most (suc q.0) rest))) is) ∙ whole
 
 -- nothing is left, or one number
-pub prices_end : (least : ℕ) (done : List (ℕ × ℤ)) (xs : List ℤ) (total : Option (List (ℕ × ℤ))) → length xs ≡ 0 → behind done (prices_from least xs) ≡ total → Some done ≡ total
-prices_end least done [] total len whole = ap (λ (ps : List (ℕ × ℤ)). Some ps) (sym (append-nil done)) ∙ whole
-prices_end least done (x ∷ xs) total len whole = absurd (omega arith)
+pub prices_end : (most least : ℕ) (done : List (ℕ × ℤ)) (xs : List ℤ) (total : Option (List (ℕ × ℤ))) → length xs ≡ 0 → behind done (prices_from most least xs) ≡ total → Some done ≡ total
+prices_end most least done [] total len whole = ap (λ (ps : List (ℕ × ℤ)). Some ps) (sym (append-nil done)) ∙ whole
+prices_end most least done (x ∷ xs) total len whole = absurd (omega arith)
 
-pub prices_odd : (least : ℕ) (done : List (ℕ × ℤ)) (xs : List ℤ) (total : Option (List (ℕ × ℤ))) → length xs < 2 → 0 < length xs → behind done (prices_from least xs) ≡ total → None ≡ total
-prices_odd least done [] total few some whole = absurd (omega arith)
-prices_odd least done (x ∷ []) total few some whole = whole
-prices_odd least done (x ∷ y ∷ xs) total few some whole = absurd (omega arith)
+pub prices_odd : (most least : ℕ) (done : List (ℕ × ℤ)) (xs : List ℤ) (total : Option (List (ℕ × ℤ))) → length xs < 2 → 0 < length xs → behind done (prices_from most least xs) ≡ total → None ≡ total
+prices_odd most least done [] total few some whole = absurd (omega arith)
+prices_odd most least done (x ∷ []) total few some whole = whole
+prices_odd most least done (x ∷ y ∷ xs) total few some whole = absurd (omega arith)
 
 -- the prices so far, and those of the numbers that are left, are those of all
-pub record ArePricesSoFar (total : Option (List (ℕ × ℤ))) (done : List (ℕ × ℤ)) (least : ℕ) (left : List ℤ) : Type 0 where
-  pub whole : behind done (prices_from least left) ≡ total
+pub record ArePricesSoFar (most : ℕ) (total : Option (List (ℕ × ℤ))) (done : List (ℕ × ℤ)) (least : ℕ) (left : List ℤ) : Type 0 where
+  pub whole : behind done (prices_from most least left) ≡ total
   pub rising : AreRisingPrices done
   pub below : AllBelow least done
   pub bound : least ≤ 2 ^ 32
 
-pub price_kept : (total : Option (List (ℕ × ℤ))) (done new : List (ℕ × ℤ)) (least next : ℕ) (p : ℕ × ℤ) (xs left : List ℤ) → ArePricesSoFar total done least xs → 2 ≤ length xs
-    → Some p ≡ priced_term least (get_or xs 0 (pos 0)) (get_or xs 1 (pos 0)) → least ≤ p.0 → p.0 < 2 ^ 32 → new ≡ done ++ p ∷ [] → next ≡ p.0 + 1 → left ≡ drop 2 xs → ArePricesSoFar total new next left
-price_kept total done new least next p xs left so_far long is above small pushed following rest =
-    let made : ArePricesSoFar total (done ++ p ∷ []) (p.0 + 1) (drop 2 xs) = record {
-      whole = price_taken least done p xs total long is so_far.whole;
+pub price_kept : (most : ℕ) (total : Option (List (ℕ × ℤ))) (done new : List (ℕ × ℤ)) (least next : ℕ) (p : ℕ × ℤ) (xs left : List ℤ) → ArePricesSoFar most total done least xs → 2 ≤ length xs
+    → Some p ≡ priced_term most least (get_or xs 0 (pos 0)) (get_or xs 1 (pos 0)) → least ≤ p.0 → p.0 < 2 ^ 32 → new ≡ done ++ p ∷ [] → next ≡ p.0 + 1 → left ≡ drop 2 xs → ArePricesSoFar most total new next left
+price_kept most total done new least next p xs left so_far long is above small pushed following rest =
+    let made : ArePricesSoFar most total (done ++ p ∷ []) (p.0 + 1) (drop 2 xs) = record {
+      whole = price_taken most least done p xs total long is so_far.whole;
       rising = rising_push least done p so_far.rising so_far.below above;
       below = below_push least done p so_far.below above;
       bound = omega arith;
     } in
-    subst (λ ys. ArePricesSoFar total new next ys) (sym rest)
-    (subst (λ n. ArePricesSoFar total new n (drop 2 xs)) (sym following)
-    (subst (λ ps. ArePricesSoFar total ps (p.0 + 1) (drop 2 xs)) (sym pushed) made))
+    subst (λ ys. ArePricesSoFar most total new next ys) (sym rest)
+    (subst (λ n. ArePricesSoFar most total new n (drop 2 xs)) (sym following)
+    (subst (λ ps. ArePricesSoFar most total ps (p.0 + 1) (drop 2 xs)) (sym pushed) made))

@@ -1,12 +1,12 @@
 -- The lines of a proof's text: a word, numbers behind it, and how they are written.
-use Rattle.std.specs.Prelude.{ℕ, ℤ, pos, Bool, List, [], ◌∷◌, ◌++◌, length, codes, if◌then◌else◌}
+use Rattle.std.specs.Prelude.{ℕ, ℤ, pos, Bool, true, false, List, [], ◌∷◌, ◌++◌, length, codes, if◌then◌else◌}
 use Rattle.decimal_text.specs.Lines.{numbers_text}
 use Rattle.map_base.specs.declared.ids.SegId.{SegId}
 use Rattle.map_base.specs.declared.ids.LineId.{LineId}
 use Rattle.order_values.specs.declared.rule.Rule.{Rule}
 use Rattle.order_values.specs.declared.rule.Rule.TheVariants.{Merge as merge_rule, Divide as divide_rule}
 use Rattle.order_proof.specs.declared.line_word.LineWord.{LineWord}
-use Rattle.order_proof.specs.declared.line_word.LineWord.TheVariants.{Rules, Merge, Divide, Parts, Part, Split, Take, Close}
+use Rattle.order_proof.specs.declared.line_word.LineWord.TheVariants.{Rules, Merge, Divide, Parts, Part, Split, Take, Close, Fork, Stop}
 
 -- a line: its first word, and the numbers behind it
 pub record Line : Type 0 where
@@ -23,6 +23,14 @@ word_text Part = codes "part"
 word_text Split = codes "split"
 word_text Take = codes "take"
 word_text Close = codes "close"
+word_text Fork = codes "fork"
+word_text Stop = codes "stop"
+
+-- whether the line of a node of a dual tree begins with this word
+abbrev pub is_dual_word : LineWord → Bool
+is_dual_word Fork = true
+is_dual_word Stop = true
+is_dual_word word = false
 
 -- a line as it is written
 abbrev pub line_text : Line → List ℕ
@@ -69,6 +77,18 @@ split_line seg count = record { word = Split; numbers = pos seg.0 ∷ pos count 
 abbrev pub take_line : LineId → Line
 take_line a = record { word = Take; numbers = pos a.0 ∷ [] }
 
+-- prices behind their count
+abbrev pub prices_line : LineWord → List (ℕ × ℤ) → Line
+prices_line word prices = record { word = word; numbers = pos (length prices) ∷ price_numbers prices }
+
 -- `close COUNT TERM PRICE ..`
 abbrev pub close_line : List (ℕ × ℤ) → Line
-close_line prices = record { word = Close; numbers = pos (length prices) ∷ price_numbers prices }
+close_line prices = prices_line Close prices
+
+-- `fork SEG A B`
+abbrev pub fork_line : SegId → LineId → LineId → Line
+fork_line seg a b = record { word = Fork; numbers = pos seg.0 ∷ pos a.0 ∷ pos b.0 ∷ [] }
+
+-- `stop COUNT TERM PRICE ..`
+abbrev pub stop_line : List (ℕ × ℤ) → Line
+stop_line prices = prices_line Stop prices

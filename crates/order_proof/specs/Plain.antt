@@ -3,7 +3,10 @@ use Rattle.std.specs.Prelude.{ℕ, ℤ, List, [], ◌∷◌, map}
 use Rattle.map_base.specs.declared.ids.SegId.{SegId}
 use Rattle.map_base.specs.declared.ids.LineId.{LineId}
 use Rattle.order_values.specs.declared.rule.Rule.{Rule}
+use Rattle.order_values.specs.DualTrees.{PlainDual, plain_dual}
 use Rattle.order_proof.specs.declared.proof.Part.{Part}
+use Rattle.order_proof.specs.declared.part_tree.PartTree.{PartTree}
+use Rattle.order_proof.specs.declared.part_tree.PartTree.TheVariants.{ByCases, ByPairs}
 use Rattle.order_proof.specs.declared.tree.Tree.{Tree, fold-Tree}
 use Rattle.order_proof.specs.declared.tree.Tree.TheOpen.{Tree-F}
 
@@ -36,11 +39,21 @@ plain = fold-Tree PlainTree plain_node
 abbrev pub plain_children : List (LineId × Tree) → Cases
 plain_children children = cases_of (map (λ c. (c.0, plain c.1)) children)
 
+-- the tree of a part: of cases, or of settled pairs
+pub data PlainPartTree : Type 0 where
+  by_cases : (tree : PlainTree) → PlainPartTree
+  by_pairs : (tree : PlainDual) → PlainPartTree
+
+-- a part's tree without where it lies in memory
+abbrev pub plain_part_tree : PartTree → PlainPartTree
+plain_part_tree (ByCases tree) = by_cases (plain tree)
+plain_part_tree (ByPairs tree) = by_pairs (plain_dual tree)
+
 -- what is proved of one part
 pub record PlainPart : Type 0 where
   pub segs : List SegId
   pub target : ℕ
-  pub tree : PlainTree
+  pub tree : PlainPartTree
 
 -- a proof: rules and parts
 pub record PlainProof : Type 0 where
@@ -48,7 +61,7 @@ pub record PlainProof : Type 0 where
   pub parts : List PlainPart
 
 abbrev pub plain_part : Part → PlainPart
-plain_part p = record { segs = p.segs; target = p.target; tree = plain p.tree }
+plain_part p = record { segs = p.segs; target = p.target; tree = plain_part_tree p.tree }
 
 -- what a proof is made of
 pub record ProofFields : Type 0 where

@@ -2,10 +2,11 @@
 use Rattle.std.specs.Prelude.{◌≡◌, ◌≤◌, ℕ, List, ◌++◌, length, take}
 use Rattle.std.specs.List.{AllByRecursion}
 use Rattle.order_values.specs.declared.rule.Rule.{Rule}
-use Rattle.order_proof.specs.Plain.{PlainTree, Cases, PlainPart, PlainProof}
-use Rattle.order_proof.specs.Trees.{depth_of, depth_of_cases, count_of, lines_of, AreDistinct}
-use Rattle.order_proof.specs.Text.{tree_text, cases_text, rules_text, part_text, parts_text, proof_text}
-use Rattle.order_proof.specs.Ranges.{IsRuleInRange, IsTreeInRange, AreCasesInRange, IsPartInRange, IsInRange}
+use Rattle.order_values.specs.DualTrees.{PlainDual, fork_depth}
+use Rattle.order_proof.specs.Plain.{PlainTree, Cases, PlainPartTree, PlainPart, PlainProof}
+use Rattle.order_proof.specs.Trees.{depth_of, depth_of_cases, depth_of_part, most_depth, count_of, lines_of, AreDistinct}
+use Rattle.order_proof.specs.Text.{tree_text, cases_text, dual_text, part_tree_text, rules_text, part_text, parts_text, proof_text}
+use Rattle.order_proof.specs.Ranges.{IsRuleInRange, IsTreeInRange, AreCasesInRange, IsDualInRange, IsPartTreeInRange, IsPartInRange, IsInRange}
 
 -- so many rules in range stand at the front of a text, and the rest behind them
 pub record AreRulesOf (count : ℕ) (rules : List Rule) (text rest : List ℕ) : Type 0 where
@@ -26,6 +27,18 @@ pub record AreCasesOf (room count : ℕ) (cases : Cases) (text rest : List ℕ) 
   pub range : AreCasesInRange cases
   pub depth : depth_of_cases cases ≤ room
   pub front : text ≡ cases_text cases ++ rest
+
+-- a dual tree in range with at most `room` forks on a way to a stop
+pub record IsDualOf (room : ℕ) (tree : PlainDual) (text rest : List ℕ) : Type 0 where
+  pub range : IsDualInRange tree
+  pub depth : fork_depth tree ≤ room
+  pub front : text ≡ dual_text tree ++ rest
+
+-- a part's tree in range, as deep as it may be
+pub record IsPartTreeOf (tree : PlainPartTree) (text rest : List ℕ) : Type 0 where
+  pub range : IsPartTreeInRange tree
+  pub depth : depth_of_part tree ≤ most_depth
+  pub front : text ≡ part_tree_text tree ++ rest
 
 pub record IsPartOf (part : PlainPart) (text rest : List ℕ) : Type 0 where
   pub range : IsPartInRange part

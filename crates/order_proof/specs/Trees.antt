@@ -3,7 +3,8 @@ use Rattle.std.specs.Prelude.{◌≡◌, ◌≢◌, ℕ, suc, ℤ, pos, max, ◌
 use Rattle.std.specs.List.{list_any, AllByRecursion}
 use Rattle.map_base.specs.declared.ids.LineId.{LineId}
 use Rattle.order_values.specs.PriceLists.{AreRisingPrices}
-use Rattle.order_proof.specs.Plain.{PlainTree, split, close, Cases, no_case, case_of, PlainPart, PlainProof}
+use Rattle.order_values.specs.DualTrees.{PlainDual, fork, stop, fork_depth}
+use Rattle.order_proof.specs.Plain.{PlainTree, split, close, Cases, no_case, case_of, PlainPartTree, by_cases, by_pairs, PlainPart, PlainProof}
 
 abbrev mutual
   -- the greatest number of splits on a way to a leaf
@@ -58,15 +59,34 @@ abbrev mutual
   AreTrees no_case = Unit {0}
   AreTrees (case_of line tree rest) = IsTree tree × AreTrees rest
 
+-- terms rise at each stop, and no price is zero
+abbrev pub IsDualTree : PlainDual → Type 0
+IsDualTree (fork seg a b first second) = IsDualTree first × IsDualTree second
+IsDualTree (stop prices) = AreRisingPrices prices × AreNotZero prices
+
+-- the greatest number of splits, or of forks, on a way to a leaf
+abbrev pub depth_of_part : PlainPartTree → ℕ
+depth_of_part (by_cases tree) = depth_of tree
+depth_of_part (by_pairs tree) = fork_depth tree
+
 -- how deep a tree of a proof may be
 abbrev pub most_depth : ℕ
 most_depth = 2048
 
--- what holds of the tree of each part of a proof
+-- what holds of each tree of cases of a proof, and of each dual tree
 pub record IsProofTree (tree : PlainTree) : Type 0 where
   pub is_tree : IsTree tree
   pub depth : depth_of tree ≤ most_depth
 
+pub record IsProofDual (tree : PlainDual) : Type 0 where
+  pub is_tree : IsDualTree tree
+  pub depth : fork_depth tree ≤ most_depth
+
+-- what holds of the tree of each part of a proof
+abbrev pub IsPartTree : PlainPartTree → Type 0
+IsPartTree (by_cases tree) = IsProofTree tree
+IsPartTree (by_pairs tree) = IsProofDual tree
+
 -- what holds of each proof
 abbrev pub HasTrees : PlainProof → Type 0
-HasTrees p = AllByRecursion (λ (part : PlainPart). IsProofTree part.tree) p.parts
+HasTrees p = AllByRecursion (λ (part : PlainPart). IsPartTree part.tree) p.parts

@@ -9,27 +9,11 @@ ghost use Rattle.order_proof.specs.Forms.{seg, line_id, rising, price_of, priced
 
 use crate::line_word::LineWord;
 use crate::node_line::NodeLine;
+use crate::price_forms::counted_prices;
 use decimal_text::{from_to, natural_within};
 use map_base::{LineId, NoMemory, SegId, Sequence};
 use order_values::{Prices, Rule};
 use std::alloc::Global;
-
-/// A price: not 0, and at most 1,000,000,000 either way.
-fn price_of(number: i64) -> Option<i64>
-    ensures { result ≡ price_of number }
-{
-    if number == 0 || number.unsigned_abs() > 1_000_000_000 {
-        return None;
-    }
-    Some(number)
-}
-
-/// Whether a number counts so many things.
-fn counts(things: usize, number: i64) -> bool
-    ensures { result ≡ counts things number }
-{
-    number >= 0 && number as u64 == things as u64
-}
 
 /// What `0` and `1` stand for.
 fn flag_of(number: i64) -> Option<bool>
@@ -84,42 +68,8 @@ fn rising_segments(alloc: Global, numbers: &[i64]) -> Result<Option<Vec<SegId>>,
     Ok(Some(segs))
 }
 
-/// The number of a term and its price, at the front of numbers.
-fn front_price(least: u64, numbers: &[i64]) -> Option<(u32, i64)>
-    requires { 2 ≤ length numbers.now }
-    ensures value { result ≡ priced_term least (slice_index_or numbers.now 0 (pos 0)) (slice_index_or numbers.now 1 (pos 0)) }
-    ensures least { IfSome result (λ p. least ≤ p.0) }
-{
-    let term = from_to(least, u64::from(u32::MAX), numbers[0])?;
-    let price = price_of(numbers[1])?;
-    Some((term as u32, price))
-}
-
-/// Prices, each behind the number of its term. The numbers of the terms rise strictly.
-fn prices_in(alloc: Global, numbers: &[i64]) -> Result<Option<Vec<(u32, i64)>>, NoMemory>
-    ensures prices { IfOk result (λ prices. option_map (λ v. v.items) prices ≡ prices_from 0 numbers.now) }
-    ensures rising { IfOk result (λ prices. IfSome prices (λ v. AreRisingPrices v.items)) }
-{
-    let mut prices = Vec::new(alloc);
-    let mut least = 0;
-    let mut rest = numbers;
-    while rest.len() >= 2 {
-        let Some(price) = front_price(least, rest) else {
-            return Ok(None);
-        };
-        prices.push(price)?;
-        least = u64::from(price.0) + 1;
-        rest = rest.split_at(2).1;
-    }
-    if rest.is_empty() {
-        Ok(Some(prices))
-    } else {
-        Ok(None)
-    }
-}
-
 /// The number of a segment, a line or a term.
-fn id_of(number: i64) -> Option<u32>
+pub(crate) fn id_of(number: i64) -> Option<u32>
     ensures { result ≡ natural_within (2 ^ 32 - 1) number }
 {
     let number = natural_within(u64::from(u32::MAX), number)?;
@@ -222,15 +172,8 @@ fn split_of(room: u32, seg: i64, count: i64) -> Option<NodeLine>
 fn close_of(alloc: Global, count: i64, numbers: &[i64]) -> Result<Option<NodeLine>, NoMemory>
     ensures { IfOk result (λ node. node ≡ node_in 0 Close (count ∷ numbers.now)) }
 {
-    let Some(list) = prices_in(alloc, numbers)? else {
-        return Ok(None);
-    };
-    if !counts(list.len(), count) {
-        return Ok(None);
-    }
-    Ok(Some(NodeLine::Close {
-        prices: Prices::of(list),
-    }))
+    let prices = counted_prices(alloc, 1_000_000_000, count, numbers)?;
+    Ok(prices.map(|prices| NodeLine::Close { prices }))
 }
 
 /// A split, where there is room for one more, or a closed case.

@@ -1,9 +1,11 @@
 //! The line at the front of a text.
 
 ghost use Rattle.std.specs.Prelude.{◌≡◌, option_map, IfOk};
-ghost use Rattle.order_proof.specs.FrontLine.{word_of, front_line};
+ghost use Rattle.decimal_text.specs.Readers.{IsRead};
+ghost use Rattle.order_proof.specs.FrontLine.{word_of, front_line, begins_dual};
 
 use crate::line_word::LineWord;
+use decimal_text::Stop;
 use map_base::NoMemory;
 
 /// The word with this text.
@@ -26,6 +28,10 @@ fn word_of(text: &[u8]) -> Option<LineWord>
         Some(LineWord::Take)
     } else if text == LineWord::Close.text() {
         Some(LineWord::Close)
+    } else if text == LineWord::Fork.text() {
+        Some(LineWord::Fork)
+    } else if text == LineWord::Stop.text() {
+        Some(LineWord::Stop)
     } else {
         None
     }
@@ -45,4 +51,27 @@ pub(crate) fn front_line<'a>(
         Some(word) => Ok(Some((word, rest))),
         None => Ok(None),
     }
+}
+
+/// The word of the line at the front. Its numbers replace those in `numbers`.
+pub(crate) fn read_line<'a>(
+    text: &'a [u8],
+    numbers: &mut Vec<i64>,
+) -> Result<(LineWord, &'a [u8]), Stop>
+    ensures { IsRead (λ x. (record { word = x.0; numbers = numbers.new.items }, x.1.now)) result text.now (front_line text.now) }
+{
+    match front_line(text, numbers)? {
+        Some(found) => Ok(found),
+        None => Err(Stop::Wrong(text.len())),
+    }
+}
+
+/// Whether a text begins with a word of the lines of dual trees.
+pub(crate) fn begins_dual(text: &[u8]) -> bool
+    ensures { result ≡ begins_dual text.now }
+{
+    if text.starts_with(LineWord::Fork.text()) {
+        return true;
+    }
+    text.starts_with(LineWord::Stop.text())
 }

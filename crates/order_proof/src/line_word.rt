@@ -22,6 +22,10 @@ pub(crate) enum LineWord {
     Take,
     /// A closed case: its prices.
     Close,
+    /// A fork of a dual tree: its segment and two lines of it.
+    Fork,
+    /// A stop of a dual tree: its prices.
+    Stop,
 }
 
 impl LineWord {
@@ -38,6 +42,8 @@ impl LineWord {
             LineWord::Split => b"split",
             LineWord::Take => b"take",
             LineWord::Close => b"close",
+            LineWord::Fork => b"fork",
+            LineWord::Stop => b"stop",
         }
     }
 }

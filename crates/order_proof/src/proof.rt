@@ -1,6 +1,6 @@
 //! Proofs that orders cost least.
 
-use crate::tree::Tree;
+use crate::part_tree::PartTree;
 use map_base::{SegId, Sequence};
 use order_values::Rule;
 use std::marker::Model;
@@ -13,7 +13,7 @@ pub struct Part {
     /// A cost that no order of the part is below.
     pub target: u64,
     /// Why.
-    pub tree: Tree,
+    pub tree: PartTree,
 }
 
 /// A proof that orders cost least: rules that make the problem smaller, and a tree for each part that is left.
@@ -28,13 +28,13 @@ pub struct Proof {
 
 impl Model for Proof {
     ghost use Rattle.std.specs.Coded.{codes};
-    ghost use Rattle.order_proof.specs.contracts.tree.Tree as tree;
+    ghost use Rattle.order_proof.specs.contracts.part_tree.PartTree as part_tree;
     ghost use Rattle.order_proof.specs.Plain.{ProofFields, plain_proof};
     ghost use Rattle.order_proof.specs.Trees.{HasTrees};
 
     ghost Value = { ProofFields };
 
-    ghost coded = { Prim.hlevel (codes, tree.the_row.coded) };
+    ghost coded = { Prim.hlevel (codes, part_tree.the_row.coded) };
 
     ghost view = { λ p. record { rules = p.rules; parts = p.parts } };
 

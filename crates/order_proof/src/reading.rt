@@ -1,17 +1,18 @@
 //! Reading a proof from the front of a text.
 
 ghost use Rattle.std.specs.Prelude.{◌≡◌, ◌≤◌, ◌<◌, ◌∷◌, [], map, IfOk};
-ghost use Rattle.order_proof.specs.Plain.{plain, plain_children, plain_part, plain_proof};
-ghost use Rattle.order_proof.specs.FrontLine.{front_line, front};
+ghost use Rattle.order_proof.specs.Plain.{plain, plain_children, plain_part_tree, plain_part, plain_proof};
+ghost use Rattle.order_proof.specs.FrontLine.{front};
 ghost use Rattle.order_proof.specs.Forms.{rules_in, rule_in, parts_in, part_in, node_in, take_in};
-ghost use Rattle.order_proof.specs.Reading.{RuleCount, ATree, APart, rules_due, cases_due, parts_due, reading, proof_end};
+ghost use Rattle.order_proof.specs.Reading.{RuleCount, APartTree, ATree, APart, rules_due, cases_due, parts_due, reading, proof_end};
 ghost use Rattle.decimal_text.specs.Readers.{IsRead, Follows, EndsAs};
-ghost use Rattle.order_proof.specs.Readers.{AreRulesOf, IsTreeOf, AreCasesOf, IsPartOf, ArePartsOf, IsProofOf, IsTextOf};
+ghost use Rattle.order_proof.specs.Readers.{AreRulesOf, IsTreeOf, AreCasesOf, IsPartTreeOf, IsPartOf, ArePartsOf, IsProofOf, IsTextOf};
 
+use crate::dual_reading::read_dual;
 use crate::forms::{node_in, part_in, parts_in, rule_in, rules_in, take_in};
-use crate::front_line::front_line;
-use crate::line_word::LineWord;
+use crate::front_line::{begins_dual, read_line};
 use crate::node_line::NodeLine;
+use crate::part_tree::PartTree;
 use crate::proof::{Part, Proof};
 use crate::tree::Tree;
 use decimal_text::{BadText, Stop, bad_text};
@@ -19,18 +20,8 @@ use map_base::{LineId, SegId, Sequence};
 use order_values::Rule;
 use std::alloc::Global;
 
-/// How many splits may stand on a way to a leaf.
+/// How many splits, or forks, may stand on a way to a leaf.
 const MOST_DEPTH: u32 = 2_048;
-
-/// The word of the line at the front. Its numbers replace those in `numbers`.
-fn read_line<'a>(text: &'a [u8], numbers: &mut Vec<i64>) -> Result<(LineWord, &'a [u8]), Stop>
-    ensures { IsRead (λ x. (record { word = x.0; numbers = numbers.new.items }, x.1.now)) result text.now (front_line text.now) }
-{
-    match front_line(text, numbers)? {
-        Some(found) => Ok(found),
-        None => Err(Stop::Wrong(text.len())),
-    }
-}
 
 /// The line that counts the rules.
 #[tactic(auto, unfolding(crate::specs::FrontLine::front))]
@@ -187,6 +178,24 @@ fn read_children<'a>(
     Ok((children, rest))
 }
 
+/// A part's tree. Its first line decides of which kind it is.
+fn read_part_tree<'a>(
+    alloc: Global,
+    text: &'a [u8],
+    numbers: &mut Vec<i64>,
+) -> Result<(PartTree, &'a [u8]), Stop>
+    ensures follows { Follows (λ x. x.1.now) result (reading (APartTree ∷ []) text.now) }
+    ensures tree { IfOk result (λ x. IsPartTreeOf (plain_part_tree x.0) text.now x.1.now) }
+{
+    if begins_dual(text) {
+        let (tree, rest) = read_dual(alloc, MOST_DEPTH, text, numbers)?;
+        Ok((PartTree::ByPairs(tree), rest))
+    } else {
+        let (tree, rest) = read_tree(alloc, MOST_DEPTH, text, numbers)?;
+        Ok((PartTree::ByCases(tree), rest))
+    }
+}
+
 /// A part with its tree.
 fn read_part<'a>(
     alloc: Global,
@@ -197,7 +206,7 @@ fn read_part<'a>(
     ensures part { IfOk result (λ x. IsPartOf (plain_part x.0) text.now x.1.now) }
 {
     let ((target, segs), rest) = read_part_head(alloc, text, numbers)?;
-    let (tree, rest) = read_tree(alloc, MOST_DEPTH, rest, numbers)?;
+    let (tree, rest) = read_part_tree(alloc, rest, numbers)?;
     let segs = Sequence::of(segs);
     Ok((Part { segs, target, tree }, rest))
 }

@@ -2,16 +2,18 @@
 
 ghost use Rattle.std.specs.Prelude.{◌≡◌, List, [], ◌∷◌, ◌++◌, length, map, IfOk, OnOk, pos};
 ghost use Rattle.decimal_text.specs.Lines.{numbers_text};
-ghost use Rattle.order_proof.specs.Plain.{plain, plain_part, plain_children, plain_proof};
-ghost use Rattle.order_proof.specs.Lines.{word_text, line_text, segment_numbers, line_numbers, price_numbers, rules_line, rule_line, parts_line, part_line, split_line, take_line, close_line};
-ghost use Rattle.order_proof.specs.Text.{tree_text, cases_text, rules_text, part_text, parts_text, proof_text};
+ghost use Rattle.order_values.specs.DualTrees.{plain_dual};
+ghost use Rattle.order_proof.specs.Plain.{plain, plain_part_tree, plain_part, plain_children, plain_proof};
+ghost use Rattle.order_proof.specs.Lines.{word_text, line_text, segment_numbers, line_numbers, price_numbers, rules_line, rule_line, parts_line, part_line, split_line, take_line, close_line, prices_line, fork_line, stop_line};
+ghost use Rattle.order_proof.specs.Text.{tree_text, cases_text, dual_text, part_tree_text, rules_text, part_text, parts_text, proof_text};
 
 use crate::line_word::LineWord;
+use crate::part_tree::PartTree;
 use crate::proof::{Part, Proof};
 use crate::tree::Tree;
 use decimal_text::{end_line, push_next_integer, push_next_natural};
 use map_base::{LineId, NoMemory, SegId};
-use order_values::Rule;
+use order_values::{DualTree, Rule};
 use std::alloc::Global;
 
 /// The one text of a proof.
@@ -125,13 +127,24 @@ fn put_take(out: &mut Vec<u8>, line: LineId) -> Result<(), NoMemory>
     end_line(out)
 }
 
-/// Appends the line of a closed case.
-fn put_close(out: &mut Vec<u8>, prices: &[(u32, i64)]) -> Result<(), NoMemory>
-    ensures { OnOk result (out.new.items ≡ out.old.items ++ line_text (close_line prices.now)) }
+/// Appends a line of prices behind their count.
+fn put_counted(out: &mut Vec<u8>, word: LineWord, prices: &[(u32, i64)]) -> Result<(), NoMemory>
+    ensures { OnOk result (out.new.items ≡ out.old.items ++ line_text (prices_line word prices.now)) }
 {
-    put_word(out, LineWord::Close)?;
+    put_word(out, word)?;
     push_next_natural(out, prices.len() as u64)?;
     put_prices(out, prices)
+}
+
+/// Appends the line of a fork.
+fn put_fork(out: &mut Vec<u8>, seg: SegId, a: LineId, b: LineId) -> Result<(), NoMemory>
+    ensures { OnOk result (out.new.items ≡ out.old.items ++ line_text (fork_line seg a b)) }
+{
+    put_word(out, LineWord::Fork)?;
+    push_next_natural(out, u64::from(seg.0))?;
+    push_next_natural(out, u64::from(a.0))?;
+    push_next_natural(out, u64::from(b.0))?;
+    end_line(out)
 }
 
 /// Appends the lines of a tree.
@@ -139,7 +152,7 @@ fn put_tree(out: &mut Vec<u8>, tree: &Tree) -> Result<(), NoMemory>
     ensures { OnOk result (out.new.items ≡ out.old.items ++ tree_text (plain tree.now)) }
 {
     match tree {
-        Tree::Close { prices } => put_close(out, prices.as_slice()),
+        Tree::Close { prices } => put_counted(out, LineWord::Close, prices.as_slice()),
         Tree::Split { seg, children } => {
             put_split(out, *seg, children.len())?;
             for (line, child) in children {
@@ -151,6 +164,36 @@ fn put_tree(out: &mut Vec<u8>, tree: &Tree) -> Result<(), NoMemory>
     }
 }
 
+/// Appends the lines of a dual tree.
+fn put_dual(out: &mut Vec<u8>, tree: &DualTree) -> Result<(), NoMemory>
+    ensures { OnOk result (out.new.items ≡ out.old.items ++ dual_text (plain_dual tree.now)) }
+{
+    match tree {
+        DualTree::Stop { prices } => put_counted(out, LineWord::Stop, prices.as_slice()),
+        DualTree::Fork {
+            seg,
+            a,
+            b,
+            first,
+            second,
+        } => {
+            put_fork(out, *seg, *a, *b)?;
+            put_dual(out, first)?;
+            put_dual(out, second)
+        }
+    }
+}
+
+/// Appends the lines of a part's tree.
+fn put_part_tree(out: &mut Vec<u8>, tree: &PartTree) -> Result<(), NoMemory>
+    ensures { OnOk result (out.new.items ≡ out.old.items ++ part_tree_text (plain_part_tree tree.now)) }
+{
+    match tree {
+        PartTree::ByCases(tree) => put_tree(out, tree),
+        PartTree::ByPairs(tree) => put_dual(out, tree),
+    }
+}
+
 /// Appends the lines of a part.
 fn put_part(out: &mut Vec<u8>, part: &Part) -> Result<(), NoMemory>
     ensures { OnOk result (out.new.items ≡ out.old.items ++ part_text (plain_part part.now)) }
@@ -158,7 +201,7 @@ fn put_part(out: &mut Vec<u8>, part: &Part) -> Result<(), NoMemory>
     put_word(out, LineWord::Part)?;
     push_next_natural(out, part.target)?;
     put_segments(out, part.segs.as_slice())?;
-    put_tree(out, &part.tree)
+    put_part_tree(out, &part.tree)
 }
 
 /// Appends the lines of parts.

@@ -1,7 +1,7 @@
 -- The live tree of a part is accepted at the least cost that is met.
 use Rattle.std.proofs.Common.{◌≡◌, ℕ, zero, suc, ◌<◌, ◌≤◌, ◌&&◌, nat_lt, Bool, true, false, cond, List, [], ◌∷◌, length, get_or, refl, ◌∙◌, ap, arith, inl, inr, Some, None, Option}
 use Rattle.std.specs.List.{All, Contains}
-use Rattle.std.proofs.lemmas.Bool.{ltb-true, lt-ltb, ltb-false}
+use Rattle.std.proofs.lemmas.Bool.{ltb-true, lt-ltb, ltb-false, and_from}
 use Rattle.std.proofs.lemmas.List.{get_or-set_same, get_or-set_other}
 use Rattle.std.proofs.lemmas.List.Elements.{All-head, All-tail}
 use Rattle.map_base.specs.declared.ids.SegId.{SegId}
@@ -15,7 +15,8 @@ use Rattle.order_proof.specs.Trees.{lines_of}
 use Rattle.order_model.specs.PartTerms.{is_in}
 use Rattle.order_model.specs.Completions.{placed_more}
 use Rattle.part_bounds.specs.PartStates.{IsWell}
-use Rattle.order_bound.specs.Accepting.{Question, are_those_left, is_split, accepts, accepts_cases}
+use Rattle.order_bound.specs.Accepting.{are_those_left, is_split, accepts, accepts_cases}
+use Rattle.order_model.specs.Questions.{Question}
 use Rattle.order_bound.proofs.Sound.{same_or_other, all_in, rising_at}
 use Rattle.order_search.specs.Left.{is_open, first_open, room_of, AreNext}
 use Rattle.order_search.specs.LiveTrees.{BoundedPart, Best, better, next_lines, GrownTree, grow_cases, split_with, closed_with, live_node, live_within, live_at}
@@ -23,7 +24,7 @@ use Rattle.order_search.proofs.Rooms.{found_in, no_room_shut}
 use Rattle.order_search.proofs.Nodes.{each_more, fewer_left}
 use Rattle.order_search.proofs.OneLive.{lines_grown}
 use Rattle.order_search.proofs.Falls.{at_leaf, live_no_worse, cases_no_worse}
-use Rattle.order_search.proofs.NextLines.{both_hold, are_next, some_next, those_next}
+use Rattle.order_search.proofs.NextLines.{are_next, some_next, those_next}
 
 module _ (q : BoundedPart) (rising : All AreRising q.segs) (known : All (λ (s : SegId). s.0 < length q.segs) q.part) where
   pub well_more : (placed : List (List LineId)) (s : SegId) (a : LineId) → IsWell q.segs placed → s.0 < length q.segs
@@ -75,16 +76,16 @@ module _ (q : BoundedPart) (rising : All AreRising q.segs) (known : All (λ (s :
       let one : accepts asked more first.tree ≡ true =
       again more b (well_more q rising known placed s a ok (seg_known q rising known placed s e) here.0 here.1) (omega (arith, falls, room)) (omega (arith, least, later.less)) in
       let moved : accepts asked (placed_more asked.segs placed s a) first.tree ≡ true = ap (λ g. accepts asked (placed_more g placed s a) first.tree) taken.segs ∙ one in
-      both_hold (accepts asked (placed_more asked.segs placed s a) first.tree) (accepts_cases asked placed s (cases_of (grow_cases (live_within n q) q placed s lines first.best).cases))
+      and_from (accepts asked (placed_more asked.segs placed s a) first.tree) (accepts_cases asked placed s (cases_of (grow_cases (live_within n q) q placed s lines first.best).cases))
       moved (accepted_cases n again placed first.best ok room s e lines (All-tail P a lines next) least)
 
   -- the lines that are left on a segment of the part, where there are some, are those of a Split
   pub split_holds : (placed : List (List LineId)) (s : SegId) → (is_open q.segs placed s ≡ true) × (is_in q.part s ≡ true) → is_split asked placed s (next_lines q placed s) ≡ true
   split_holds placed s open_here =
       let lines : List LineId = next_lines q placed s in
-      both_hold (is_in asked.part s) (nat_lt 0 (length lines) && are_those_left (lines_on asked.segs s) (lines_on placed s) lines)
+      and_from (is_in asked.part s) (nat_lt 0 (length lines) && are_those_left (lines_on asked.segs s) (lines_on placed s) lines)
       (ap (λ p. is_in p s) taken.part ∙ open_here.1)
-      (both_hold (nat_lt 0 (length lines)) (are_those_left (lines_on asked.segs s) (lines_on placed s) lines)
+      (and_from (nat_lt 0 (length lines)) (are_those_left (lines_on asked.segs s) (lines_on placed s) lines)
       (lt-ltb 0 (length lines) (some_next q placed s rising (ltb-true (length (lines_on placed s)) (length (lines_on q.segs s)) open_here.0)))
       (ap (λ g. are_those_left (lines_on g s) (lines_on placed s) lines) taken.segs ∙ those_next q placed s))
 
@@ -98,7 +99,7 @@ module _ (q : BoundedPart) (rising : All AreRising q.segs) (known : All (λ (s :
           → asked.target ≤ (cond t (split_with s (grow_cases (live_within n q) q placed s (next_lines q placed s) b)) (closed_with q placed b)).best.cost
           → accepts asked placed (cond t (split_with s (grow_cases (live_within n q) q placed s (next_lines q placed s) b)) (closed_with q placed b)).tree ≡ true
       by_test true t least =
-          both_hold (is_split asked placed s (lines_of (cases_of (grow_cases (live_within n q) q placed s (next_lines q placed s) b).cases)))
+          and_from (is_split asked placed s (lines_of (cases_of (grow_cases (live_within n q) q placed s (next_lines q placed s) b).cases)))
           (accepts_cases asked placed s (cases_of (grow_cases (live_within n q) q placed s (next_lines q placed s) b).cases))
           (ap (is_split asked placed s) (lines_grown (live_within n q) q placed s (next_lines q placed s) b) ∙ split_holds placed s (found_in (is_open q.segs placed) q.part s e))
           (accepted_cases n again placed b ok room s e (next_lines q placed s) (are_next q placed s) least)

@@ -18,7 +18,7 @@ use Rattle.part_bounds.specs.PartStates.{PartState, IsWell}
 use Rattle.order_search.specs.declared.search_state.Search.{Search}
 use Rattle.order_search.specs.LiveTrees.{Best}
 use Rattle.order_search.specs.FoundParts.{cost_of_number}
-use Rattle.order_search.specs.Searching.{IsOfProblem, IsBegun}
+use Rattle.order_search.specs.Searching.{part_of, IsOfProblem, IsBegun}
 
 pub numbers_known : (terms : List Term) (part : List SegId) (numbers : List ℕ) → numbers ≡ part_numbers terms part → All (λ n. n < length terms) numbers
 numbers_known terms part numbers e = subst (All (λ n. n < length terms)) (sym e) (part_numbers_known part terms)
@@ -44,9 +44,9 @@ pub begins : (problem : ProblemParts) (part : List SegId) (budget : ℕ) (search
     → search.problem.now ≡ problem → search.part.now ≡ part → search.bounds.segs ≡ problem.segs → search.bounds.part ≡ part
     → search.bounds.terms ≡ part_terms problem.terms part → search.bounds.placed ≡ none_placed problem.segs → IsWell search.bounds.segs search.bounds.placed
     → search.cost ≡ cost_of (plain_terms (part_terms problem.terms part)) problem.segs → search.lists.items ≡ map (λ s. lines_on problem.segs s) part
-    → search.spent ≡ 0 → search.budget ≡ budget → search.children.items ≡ []
+    → search.spent ≡ 0 → search.budget ≡ budget → search.children.items ≡ [] → search.root_bound ≡ (part_of search.bounds).bound search.bounds.placed
     → IsBegun problem.segs part (part_terms problem.terms part) budget search
-begins problem part budget search ok known rising few p q bs bp bt bl well cost lists spent given children =
+begins problem part budget search ok known rising few p q bs bp bt bl well cost lists spent given children root =
     let terms : List (ℕ × Term) = part_terms problem.terms part in
     let b : PartState = search.bounds in
     let state : PartState = record { segs = problem.segs; part = part; terms = terms; placed = none_placed problem.segs } in
@@ -68,6 +68,7 @@ begins problem part budget search ok known rising few p q bs bp bt bl well cost 
         budget = omega (arith, given, few);
       };
       bounds = is;
+      root = root;
       best = ap (λ n. best n search.lists.items) cost ∙ ap (best (cost_of (plain_terms terms) problem.segs)) lists;
       spent = spent;
       given = given;

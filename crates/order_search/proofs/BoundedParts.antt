@@ -14,7 +14,8 @@ use Rattle.order_model.specs.PartTerms.{is_in, is_of, part_terms, plain_terms}
 use Rattle.order_model.specs.Parts.{IsRisingPart}
 use Rattle.order_model.proofs.Lines.{both_true}
 use Rattle.order_proof.specs.Trees.{AreNotZero}
-use Rattle.order_bound.specs.Accepting.{question, reaches}
+use Rattle.order_bound.specs.Accepting.{reaches}
+use Rattle.order_model.specs.Questions.{question}
 use Rattle.order_bound.specs.Bounds.{bound_of}
 use Rattle.order_bound.specs.Pairs.{pair_in}
 use Rattle.order_bound.specs.CanonicalPrices.{pair_prices, price_among, listed, prices_on}
@@ -28,6 +29,7 @@ use Rattle.order_search.proofs.Accepted.{AreTaken}
 use Rattle.order_search.proofs.Attained.{IsCostOnPart}
 use Rattle.order_search.proofs.Shaped.{ArePricesOfProofs}
 use Rattle.order_search.proofs.CompleteBounds.{complete_bound}
+use Rattle.part_bounds.proofs.NotedPairs.{AreAbove, listed_rising, listed_above}
 
 -- Orders that are the same where terms read them cost the same.
 
@@ -49,23 +51,6 @@ same_cost xs ys part same (t ∷ terms) inside =
 
 -- Prices stand by rising number, and none is 0.
 
-abbrev AreAbove : ℕ → List (ℕ × ℤ) → Type 0
-AreAbove k prices = AllByRecursion (λ (p : ℕ × ℤ). k < p.0) prices
-
-rising_more : (k : ℕ) (y : ℤ) (prices : List (ℕ × ℤ)) → AreAbove k prices → AreRisingPrices prices → AreRisingPrices ((k, y) ∷ prices)
-rising_more k y [] above rises = tt
-rising_more k y (p ∷ prices) above rises = (above.0, rises)
-
-listed_rising : (k : ℕ) (y : ℤ) (rest : List (ℕ × ℤ)) → AreAbove k rest → AreRisingPrices rest → AreRisingPrices (listed k y ++ rest)
-listed_rising k (pos zero) rest above rises = rises
-listed_rising k (pos (suc n)) rest above rises = rising_more k (pos (suc n)) rest above rises
-listed_rising k (negsuc n) rest above rises = rising_more k (negsuc n) rest above rises
-
-listed_above : (m k : ℕ) (y : ℤ) (rest : List (ℕ × ℤ)) → m < k → AreAbove m rest → AreAbove m (listed k y ++ rest)
-listed_above m k (pos zero) rest below above = above
-listed_above m k (pos (suc n)) rest below above = (below, above)
-listed_above m k (negsuc n) rest below above = (below, above)
-
 listed_not_zero : (k : ℕ) (y : ℤ) (rest : List (ℕ × ℤ)) → AreNotZero rest → AreNotZero (listed k y ++ rest)
 listed_not_zero k (pos zero) rest h = h
 listed_not_zero k (pos (suc n)) rest h = ((λ e. one_more n e), h)
@@ -82,9 +67,6 @@ listed_not_zero k (negsuc n) rest h = ((λ e. below n e), h)
     below n e = cc
 
 module _ (segs : List (List LineId)) (part : List SegId) (terms : List (ℕ × Term)) (placed : List (List LineId)) where
-  price_of : ℕ × Term → ℤ
-  price_of t = price_among (pair_prices segs placed part terms (pair_in t.1)) t.0
-
   prices_above : (m : ℕ) (some : List (ℕ × Term)) → AllByRecursion (λ (t : ℕ × Term). m < t.0) some → AreAbove m (prices_on segs part terms placed some)
   prices_above m [] h = tt
   prices_above m (t ∷ some) h =

@@ -29,15 +29,7 @@ use Rattle.part_bounds.specs.PartStates.{IsWell}
 use Rattle.order_search.specs.Left.{is_open, first_open}
 use Rattle.order_search.proofs.Rooms.{none_in}
 use Rattle.order_search.proofs.Permuted.{apart_order}
-
-contains_is : (xs : List LineId) (a : LineId) → Contains xs a → has_line xs a ≡ true
-contains_is [] a (k, below, is) = absurd (omega (arith, below))
-contains_is (x ∷ xs) a (zero, below, is) = rw (eq-eqb x.0 a.0 (ap (λ (l : LineId). l.0) is)) refl
-contains_is (x ∷ xs) a (suc k, below, is) = later (x.0 == a.0) (has_line xs a) (contains_is xs a (k, omega (arith, below), is))
-  where
-    later : (s t : Bool) → t ≡ true → (s || t) ≡ true
-    later true t h = refl
-    later false t h = h
+use Rattle.order_model.proofs.TableLemmas.{has_contained}
 
 -- what is placed on the part: every line
 abbrev IsWhole : List (List LineId) → List SegId → List (List LineId) → Type 0
@@ -54,7 +46,7 @@ whole segs part placed known ok shut s h a =
 
 module _ (segs : List (List LineId)) (part : List SegId) (placed : List (List LineId)) (all : IsWhole segs part placed) where
   placed_there : (s : SegId) (a : LineId) → is_in part s ≡ true → Contains (lines_on segs s) a → is_placed (lines_on placed s) a ≡ true
-  placed_there s a h on = all s h a ∙ contains_is (lines_on segs s) a on
+  placed_there s a h on = all s h a ∙ has_contained (lines_on segs s) a on
 
   decided_there : (s : SegId) (a b : LineId) → is_in part s ≡ true → Contains (lines_on segs s) a → is_decided placed s a b ≡ true
   decided_there s a b h on = ap (λ x. x || is_placed (lines_on placed s) b) (placed_there s a h on)

@@ -1,8 +1,9 @@
 -- Children that are closed at their turn, whatever they leave: their bound is not below the best so far.
 use Rattle.std.proofs.Common.{◌≡◌, ℕ, zero, suc, ◌+◌, ◌<◌, ◌≤◌, Bool, true, false, cond, List, [], ◌∷◌, ◌++◌, length, map, drop, get_or, refl, sym, ◌∙◌, ap, subst, arith, Some, None, Option}
 use Rattle.std.specs.List.{AllByRecursion, Contains}
-use Rattle.std.specs.Ordering.{is_lt}
 use Rattle.std.proofs.lemmas.List.{get_or-drop}
+use Rattle.std.proofs.lemmas.List.Elements.{All-from_recursion, recursion_from_All}
+use Rattle.std.proofs.lemmas.List.Sorted.{All-permutation}
 use Rattle.map_base.specs.declared.ids.SegId.{SegId}
 use Rattle.map_base.specs.declared.ids.LineId.{LineId}
 use Rattle.order_model.specs.Problems.{lines_on}
@@ -12,10 +13,11 @@ use Rattle.part_bounds.specs.PartStates.{PartState, state_more, IsWell}
 use Rattle.order_search.specs.declared.child.Child.{Child}
 use Rattle.order_search.specs.declared.search_state.Search.{Search}
 use Rattle.order_search.specs.Left.{first_open, lines_left}
-use Rattle.order_search.specs.Children.{child_order, with_child, in_order}
+use Rattle.order_search.specs.Children.{in_order}
 use Rattle.order_search.specs.LiveTrees.{child_at, closed_with}
 use Rattle.order_search.specs.Searching.{part_of, best_of, due, seg_at, due_case, AreBounded, IsUnderWay, IsOpenAt}
 use Rattle.order_search.proofs.Nodes.{closed_is}
+use Rattle.order_search.proofs.Ordered.{permuted_in_order}
 use Rattle.order_search.proofs.Leaves.{leaf_cost, leaf_no_better}
 use Rattle.order_search.proofs.Accepted.{well_more}
 use Rattle.order_search.proofs.Ways.{bare, due_complete, way_placed, seg_known, kids_at, drop_front}
@@ -46,17 +48,9 @@ case_above old at line u opens on fresh above =
 
 -- The children of a split have their bounds.
 
-each_in_place : (P : Child → Type 0) (x : Child) (cs : List Child) → P x → AllByRecursion P cs → AllByRecursion P (with_child x cs)
-each_in_place P x [] one rest = (one, tt)
-each_in_place P x (y ∷ cs) one rest = by_test (is_lt (child_order y x)) (each_in_place P x cs one rest.1)
-  where
-    by_test : (b : Bool) → AllByRecursion P (with_child x cs) → AllByRecursion P (cond b (y ∷ with_child x cs) (x ∷ y ∷ cs))
-    by_test true later = (rest.0, later)
-    by_test false later = (one, rest)
-
 each_in_order : (P : Child → Type 0) (cs : List Child) → AllByRecursion P cs → AllByRecursion P (in_order cs)
-each_in_order P [] h = tt
-each_in_order P (x ∷ cs) h = each_in_place P x (in_order cs) h.0 (each_in_order P cs h.1)
+each_in_order P cs h =
+    recursion_from_All P (in_order cs) (All-permutation P cs (in_order cs) (permuted_in_order cs) (All-from_recursion P cs h))
 
 bounded_at : (b : PartState) (s : SegId) (lines : List LineId) → AreBounded b s (map (child_at (part_of b) b.placed s) lines)
 bounded_at b s [] = tt

@@ -27,18 +27,8 @@ module _ (next : List (List LineId) → Best → GrownTree) (q : BoundedPart) (p
       → grown (take (i + 1) lines) b ≡ with_last (grown (take i lines) b) (get_or lines i d) (grown_next (get_or lines i d) (grown (take i lines) b).best)
   grown_upto lines i d b below = ap (λ l. grown l b) (take_more lines i d below) ∙ grown_more (take i lines) (get_or lines i d) b
 
-  splits_more : (cs : List (LineId × PlainTree)) (a : LineId) (t : PlainTree) → splits_of_cases (cases_of (cs ++ (a, t) ∷ [])) ≡ splits_of_cases (cases_of cs) + splits_of t
-  splits_more [] a t = omega arith
-  splits_more (c ∷ cs) a t = omega (arith, splits_more cs a t)
-
   abbrev pub splits_in : GrownCases → ℕ
   splits_in grown = splits_of_cases (cases_of grown.cases)
-
-  pub splits_grown : (lines : List LineId) (i : ℕ) (d : LineId) (b : Best) → i < length lines
-      → splits_in (grown (take (i + 1) lines) b) ≡ splits_in (grown (take i lines) b) + splits_of (grown_next (get_or lines i d) (grown (take i lines) b).best).tree
-  splits_grown lines i d b below =
-      let last : GrownTree = grown_next (get_or lines i d) (grown (take i lines) b).best in
-      ap (λ (g : GrownCases). splits_of_cases (cases_of g.cases)) (grown_upto lines i d b below) ∙ splits_more (grown (take i lines) b).cases (get_or lines i d) last.tree
 
   -- the splits of the cases so far and of the next one are no more than those of all
   pub splits_upto : (lines : List LineId) (i : ℕ) (d : LineId) (b : Best) → i < length lines

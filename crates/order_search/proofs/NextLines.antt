@@ -6,6 +6,7 @@ use Rattle.std.proofs.lemmas.Bool.Decides.{nat_tests}
 use Rattle.std.proofs.lemmas.List.Elements.{All-nil, All-cons, All-head, All-tail}
 use Rattle.std.proofs.lemmas.List.Sorted.{All-permutation, length_permutation}
 use Rattle.std.proofs.lemmas.Map.Keys.{IsDistinct-IsPermutation}
+use Rattle.std.proofs.lemmas.Bool.{and_from}
 use Rattle.map_base.specs.declared.ids.SegId.{SegId}
 use Rattle.map_base.specs.declared.ids.LineId.{LineId}
 use Rattle.graph_core.specs.Consistent.{AreRising}
@@ -20,10 +21,6 @@ use Rattle.order_bound.proofs.Sound.{rising_at}
 use Rattle.order_search.specs.Left.{lines_left, AreNext}
 use Rattle.order_search.specs.LiveTrees.{BoundedPart, child_at, next_lines}
 use Rattle.order_search.proofs.Ordered.{ordered_lines}
-
-pub both_hold : (a b : Bool) → a ≡ true → b ≡ true → (a && b) ≡ true
-both_hold true b h g = g
-both_hold false b h g = absurd (true≢false (sym h))
 
 -- Lines that are left.
 
@@ -73,7 +70,7 @@ left_are_left lines placed (x ∷ xs) within = by_test (is_unplaced placed x) re
     by_test : (b : Bool) → is_unplaced placed x ≡ b → All (λ (a : LineId). is_left lines placed a ≡ true) (lines_left xs placed)
         → All (λ (a : LineId). is_left lines placed a ≡ true) (cond b (x ∷ lines_left xs placed) (lines_left xs placed))
     by_test true e rest =
-        All-cons (λ (a : LineId). is_left lines placed a ≡ true) x (lines_left xs placed) (both_hold (is_among lines x) (is_unplaced placed x) (within x (among_first x xs)) e) rest
+        All-cons (λ (a : LineId). is_left lines placed a ≡ true) x (lines_left xs placed) (and_from (is_among lines x) (is_unplaced placed x) (within x (among_first x xs)) e) rest
     by_test false e rest = rest
 
 all_left_among : (placed these xs : List LineId) → ((a : LineId) → is_among (lines_left xs placed) a ≡ true → is_among these a ≡ true)
@@ -86,16 +83,16 @@ all_left_among placed these (x ∷ xs) within = by_test (is_placed placed x) ref
         → (((a : LineId) → is_among (lines_left xs placed) a ≡ true → is_among these a ≡ true) → list_all (λ b. is_placed placed b || is_among these b) xs ≡ true)
         → ((is_placed placed x || is_among these x) && list_all (λ b. is_placed placed b || is_among these b) xs) ≡ true
     by_test true e within rest =
-        both_hold (is_placed placed x || is_among these x) (list_all (λ b. is_placed placed b || is_among these b) xs)
+        and_from (is_placed placed x || is_among these x) (list_all (λ b. is_placed placed b || is_among these b) xs)
         (ap (λ b. b || is_among these x) e) (rest within)
     by_test false e within rest =
-        both_hold (is_placed placed x || is_among these x) (list_all (λ b. is_placed placed b || is_among these b) xs)
+        and_from (is_placed placed x || is_among these x) (list_all (λ b. is_placed placed b || is_among these b) xs)
         (ap (λ b. b || is_among these x) e ∙ within x (among_first x (lines_left xs placed))) (rest (λ a h. within a (among_later x a (lines_left xs placed) h)))
 
 all_pass : (p : LineId → Bool) (xs : List LineId) → All (λ (a : LineId). p a ≡ true) xs → list_all p xs ≡ true
 all_pass p [] all = refl
 all_pass p (x ∷ xs) all =
-    both_hold (p x) (list_all p xs) (All-head (λ (a : LineId). p a ≡ true) x xs all) (all_pass p xs (All-tail (λ (a : LineId). p a ≡ true) x xs all))
+    and_from (p x) (list_all p xs) (All-head (λ (a : LineId). p a ≡ true) x xs all) (all_pass p xs (All-tail (λ (a : LineId). p a ≡ true) x xs all))
 
 -- Lines of a segment stand once.
 
@@ -172,7 +169,7 @@ module _ (q : BoundedPart) (placed : List (List LineId)) (s : SegId) where
 
   pub those_next : are_those_left (lines_on q.segs s) (lines_on placed s) (next_lines q placed s) ≡ true
   those_next =
-      both_hold (list_all (is_left (lines_on q.segs s) (lines_on placed s)) (next_lines q placed s))
+      and_from (list_all (is_left (lines_on q.segs s) (lines_on placed s)) (next_lines q placed s))
       (list_all (λ b. is_placed (lines_on placed s) b || is_among (next_lines q placed s) b) (lines_on q.segs s))
       (all_pass (is_left (lines_on q.segs s) (lines_on placed s)) (next_lines q placed s)
       (All-permutation (λ (a : LineId). is_left (lines_on q.segs s) (lines_on placed s) a ≡ true) left (next_lines q placed s) ordered

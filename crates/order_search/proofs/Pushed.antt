@@ -77,15 +77,3 @@ children_more old mid new s lines i d below is so_far step =
           ∙ ap (λ l. old.children.items ++ (map f (lines_left (take i lines) left) ++ child_if (is_left l left a) (f a))) (sym is)
           ∙ ap (λ l. old.children.items ++ l) (sym (left_more f lines left i d below));
     }
-
--- none so far
-pub no_children : (search : Search) (s : SegId) (lines : List LineId) → IsUnderWay search
-    → HasChildren search search (map (child_at (part_of search.bounds) search.bounds.placed s) (lines_left (take 0 lines) (lines_on search.bounds.placed s)))
-no_children search s lines under_way = record {
-  under_way = under_way;
-  bounds = refl;
-  budget = refl;
-  spent = refl;
-  found = refl;
-  children = sym (append-nil search.children.items);
-}

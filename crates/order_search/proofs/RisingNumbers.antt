@@ -46,7 +46,7 @@ at_place P [] i h below = absurd (omega (arith, below))
 at_place P (n ∷ ns) zero h below = h.0
 at_place P (n ∷ ns) (suc i) h below = at_place P ns i h.1 (omega (arith, below))
 
-same_tests : (a b c d : ℕ) → (a ≡ b → c ≡ d) → (c ≡ d → a ≡ b) → (a == b) ≡ (c == d)
+pub same_tests : (a b c d : ℕ) → (a ≡ b → c ≡ d) → (c ≡ d → a ≡ b) → (a == b) ≡ (c == d)
 same_tests a b c d there back = by_tests (a == b) (c == d) refl refl
   where
     by_tests : (x y : Bool) → (a == b) ≡ x → (c == d) ≡ y → x ≡ y

@@ -99,16 +99,5 @@ no_room segs (t ∷ part) placed h = by_test (is_open segs placed t) refl (no_ro
     by_test true e rest =
         absurd (omega (arith, ltb-true (length (lines_on placed t)) (length (lines_on segs t)) e, h, sum_by-cons (left_on segs placed) t part))
 
--- an open segment has room
-pub some_room : (segs : List (List LineId)) (part : List SegId) (placed : List (List LineId)) (s : SegId) → is_in part s ≡ true → is_open segs placed s ≡ true → 0 < room_of segs part placed
-some_room segs [] placed s in_part open_here = absurd (true≢false (sym in_part))
-some_room segs (t ∷ part) placed s in_part open_here = elim (either_true (t.0 == s.0) (is_in part s) in_part) [
-  | inl here ↦ (let P : ℕ → SegId = λ n. record { 0 = n } in
-      let one : s ≡ t = sym (ap P (eqb-true t.0 s.0 here)) in
-      let wide : is_open segs placed t ≡ true = subst (λ u. is_open segs placed u ≡ true) one open_here in
-      omega (arith, ltb-true (length (lines_on placed t)) (length (lines_on segs t)) wide, sum_by-cons (left_on segs placed) t part))
-  | inr later ↦ omega (arith, some_room segs part placed s later open_here, sum_by-cons (left_on segs placed) t part)
-]
-
 pub no_room_shut : (segs : List (List LineId)) (part : List SegId) (placed : List (List LineId)) → room_of segs part placed ≤ 0 → first_open segs part placed ≡ None
 no_room_shut segs part placed h = no_room segs part placed (omega (arith, h))

@@ -6,12 +6,6 @@ use Rattle.map_base.specs.declared.ids.LineId.{LineId}
 use Rattle.order_proof.specs.declared.tree.Tree.{Tree, Split, Close, the_lemmas}
 use Rattle.order_proof.specs.Plain.{PlainTree, split, close, plain, plain_children}
 
-pub plain-Close : (prices : List (ℕ × ℤ)) → plain (Close prices) ≡ close prices
-plain-Close prices = search (rules, the_lemmas)
-
-pub plain-Split : (seg : SegId) (children : Vec (LineId × Tree) Global) → plain (Split seg children) ≡ split seg (plain_children children.items)
-plain-Split seg children = search (rules, the_lemmas)
-
 abbrev plain_case : LineId × Tree → LineId × PlainTree
 plain_case c = (c.0, plain c.1)
 

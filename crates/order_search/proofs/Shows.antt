@@ -13,7 +13,8 @@ use Rattle.order_model.specs.PartTerms.{part_terms}
 use Rattle.order_model.specs.Prefixes.{none_placed}
 use Rattle.order_proof.specs.Plain.{plain}
 use Rattle.order_proof.specs.Trees.{IsProofTree}
-use Rattle.order_bound.specs.Accepting.{question, accepts}
+use Rattle.order_bound.specs.Accepting.{accepts}
+use Rattle.order_model.specs.Questions.{question}
 use Rattle.order_bound.proofs.Sound.{all_complete_none}
 use Rattle.order_bound.proofs.Accepted.{accepted_part_bounds}
 use Rattle.order_search.specs.declared.found.Found.{Found}

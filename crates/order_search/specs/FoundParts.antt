@@ -7,7 +7,8 @@ use Rattle.order_model.specs.PartTerms.{part_terms, no_term}
 use Rattle.order_model.specs.Prefixes.{none_placed}
 use Rattle.order_proof.specs.Plain.{plain}
 use Rattle.order_proof.specs.Trees.{splits_of, IsProofTree}
-use Rattle.order_bound.specs.Accepting.{question, accepts}
+use Rattle.order_bound.specs.Accepting.{accepts}
+use Rattle.order_model.specs.Questions.{question}
 use Rattle.order_search.specs.declared.found.Found.{Found}
 use Rattle.order_search.specs.LiveTrees.{BoundedPart, live_tree}
 use Rattle.order_search.specs.Bounded.{bounded_part}

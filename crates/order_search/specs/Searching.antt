@@ -80,6 +80,7 @@ pub record IsUnderWay (search : Search) : Type 0 where
 pub record IsBegun (segs : List (List LineId)) (part : List SegId) (terms : List (ℕ × Term)) (budget : ℕ) (search : Search) : Type 0 where
   pub under_way : IsUnderWay search
   pub bounds : search.bounds ≡ record { segs = segs; part = part; terms = terms; placed = none_placed segs }
+  pub root : search.root_bound ≡ (part_of search.bounds).bound search.bounds.placed
   pub best : best_of search ≡ number_order (bounded_part segs part terms)
   pub spent : search.spent ≡ 0
   pub given : search.budget ≡ budget

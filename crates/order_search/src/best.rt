@@ -10,15 +10,15 @@ use crate::search_state::Search;
 use map_base::{LineId, NoMemory, SegId, Sequence};
 use std::alloc::Global;
 
-/// Takes the placed lines as the best orders, if they cost less than the best so far. No line is left on the part, so
-/// that its bound is what they cost.
-pub(crate) fn compare(alloc: Global, search: &mut Search) -> Result<(), NoMemory>
+/// Takes the placed lines as the incumbent, if they cost less than it. No line is left on the part, so that its bound is
+/// what they cost.
+pub(crate) fn compare(alloc: Global, search: &mut Search, cost: u64) -> Result<(), NoMemory>
     requires under_way { IsUnderWay search.old }
+    requires cost { cost ≡ (part_of search.old.bounds).bound search.old.bounds.placed }
     requires complete { first_open search.old.bounds.segs search.old.bounds.part search.old.bounds.placed ≡ None }
     ensures best { OnOk result (HasGrown search.old search.new (better (part_of search.old.bounds) search.old.bounds.placed (best_of search.old)) 0) }
     ensures spent { search.new.spent ≡ search.old.spent }
 {
-    let cost = search.bounds.bound();
     if cost < search.cost {
         search.lists = placed_lists(alloc, search)?;
         search.cost = cost;

@@ -21,17 +21,19 @@ use order_values::Prices;
 use std::alloc::Global;
 use std::sync::ledger::Ledger;
 
-/// The tree of a prefix, yet without prices, where no line is left on the first `at` segments of the part. Each branch
-/// node takes one step of the counter.
+/// The tree of a prefix with this bound, yet without prices, where no line is left on the first `at` segments of the part.
+/// Each branch node takes one step of the counter.
 #[cycle(grow)]
 pub(crate) fn grow<L: Ledger>(
     alloc: Global,
     search: &mut Search,
     at: usize,
+    bound: u64,
     steps: &mut Steps<L>,
 ) -> Result<Tree, SearchFault>
     requires under_way { IsUnderWay search.old }
     requires shut { AreShut at search.old }
+    requires bound { bound ≡ (part_of search.old.bounds).bound search.old.bounds.placed }
     ensures steps { steps.new + search.old.spent ≡ steps.old + search.new.spent }
     ensures most { search.new.spent ≤ search.old.spent + splits_of (due search.old).tree }
     ensures tree { IfOk result (λ t. plain t ≡ (due search.old).tree) }
@@ -40,10 +42,10 @@ pub(crate) fn grow<L: Ledger>(
 {
     match next_open(search, at) {
         None => {
-            compare(alloc, search)?;
+            compare(alloc, search, bound)?;
             Ok(closed(alloc))
         }
-        Some(at) => grow_open(alloc, search, at, steps),
+        Some(at) => grow_open(alloc, search, at, bound, steps),
     }
 }
 
@@ -56,23 +58,24 @@ fn closed(alloc: Global) -> Tree
     }
 }
 
-/// The tree of a prefix where a line is left on this segment of the part, and none on those before it.
+/// The tree of a prefix with this bound where a line is left on this segment of the part, and none on those before it.
 #[cycle(grow)]
 fn grow_open<L: Ledger>(
     alloc: Global,
     search: &mut Search,
     at: usize,
+    bound: u64,
     steps: &mut Steps<L>,
 ) -> Result<Tree, SearchFault>
     requires under_way { IsUnderWay search.old }
     requires first { IsOpenAt at search.old }
+    requires bound { bound ≡ (part_of search.old.bounds).bound search.old.bounds.placed }
     ensures steps { steps.new + search.old.spent ≡ steps.old + search.new.spent }
     ensures most { search.new.spent ≤ search.old.spent + splits_of (due search.old).tree }
     ensures tree { IfOk result (λ t. plain t ≡ (due search.old).tree) }
     ensures grown { OnOk result (HasGrown search.old search.new (due search.old).best (splits_of (due search.old).tree)) }
     ensures stop { IfErr result (IsStop search.old.budget (search.old.spent + splits_of (due search.old).tree)) }
 {
-    let bound = search.bounds.bound();
     if bound < search.cost {
         grow_split(alloc, search, at, steps)
     } else {
@@ -142,7 +145,7 @@ fn grow_cases<L: Ledger>(
     Ok(cases)
 }
 
-/// The tree of a case, whose line is placed while it grows. Where its bound is not below the best so far it is closed,
+/// The tree of a case, whose line is placed while it grows. Where its bound is not below the incumbent it is closed,
 /// whether it is complete or not, and its line need not be placed.
 #[cycle(grow)]
 fn grow_case<L: Ledger>(
@@ -168,7 +171,7 @@ fn grow_case<L: Ledger>(
     }
     let seg = search.part[at];
     search.bounds.place(seg, child.line);
-    let tree = grow(alloc, search, at, steps)?;
+    let tree = grow(alloc, search, at, child.bound, steps)?;
     search.bounds.take_back(seg);
     Ok(tree)
 }

@@ -17,7 +17,6 @@ mod search_state;
 mod tree_prices;
 
 pub use child::Child;
-pub use children::put_in_order;
 pub use found::{Found, SearchFault};
 pub use laws::{
     a_part_by_itself_has_the_same_live_tree, branch_nodes_are_incomplete_prefixes,
@@ -25,5 +24,4 @@ pub use laws::{
     parts_that_are_the_same_by_themselves_share_their_tree, the_number_order_wins_ties,
 };
 pub use part_numbers::numbers_of_part;
-pub use part_search::{is_deep, number_cost, number_lists, search, search_part};
-pub use tree_prices::priced;
+pub use part_search::search;

@@ -49,34 +49,11 @@ pub fn search<L: Ledger>(
     ensures few_steps { IfErr result (λ _. steps.new ≤ steps.old + branches_in problem.now part.now) }
     ensures suffices { incomplete_in problem.now.segs part.now ≤ budget → IfErr result IsNotSpent }
 {
-    let numbers = numbers_of_part(alloc, problem, part)?;
-    search_part(alloc, problem, part, numbers.as_slice(), budget, steps)
-}
-
-/// The same by the numbers of the part's terms in the problem, which a caller with many parts knows.
-pub fn search_part<L: Ledger>(
-    alloc: Global,
-    problem: &Problem,
-    part: &[SegId],
-    numbers: &[u32],
-    budget: u32,
-    steps: &mut Steps<L>,
-) -> Result<Found, SearchFault>
-    requires known { All (λ (s : SegId). s.0 < length problem.now.segs) part.now }
-    requires rising { IsRisingPart part.now }
-    requires numbers { numbers.now ≡ part_numbers problem.now.terms part.now }
-    requires budget { budget + 1 < 2 ^ 32 }
-    ensures found { IfOk result (IsFoundIn problem.now part.now) }
-    ensures within { IfOk result (λ f. f.branches ≤ budget) }
-    ensures steps { IfOk result (λ f. steps.new ≡ steps.old + f.branches) }
-    ensures fault { IfErr result (IsSearchFault (places_of problem.now.segs part.now) (branches_in problem.now part.now) budget) }
-    ensures few_steps { IfErr result (λ _. steps.new ≤ steps.old + branches_in problem.now part.now) }
-    ensures suffices { incomplete_in problem.now.segs part.now ≤ budget → IfErr result IsNotSpent }
-{
     if is_deep(problem, part) {
         return Err(SearchFault::TooDeep(Limit::above(LimitKind::Places)));
     }
-    live_search(alloc, problem, part, numbers, budget, steps)
+    let numbers = numbers_of_part(alloc, problem, part)?;
+    live_search(alloc, problem, part, numbers.as_slice(), budget, steps)
 }
 
 /// The search for the live tree of a part that has no more places than are allowed.
@@ -102,7 +79,8 @@ fn live_search<L: Ledger>(
     ensures few_steps { IfErr result (λ _. steps.new ≤ steps.old + branches_in problem.now part.now) }
 {
     let mut search = begin(alloc, problem, part, numbers, budget)?;
-    let tree = grow(alloc, &mut search, 0, steps)?;
+    let bound = search.root_bound;
+    let tree = grow(alloc, &mut search, 0, bound, steps)?;
     Ok(found(alloc, search, &tree)?)
 }
 
@@ -121,7 +99,8 @@ fn begin<'a>(
     requires budget { budget + 1 < 2 ^ 32 }
     ensures { IfOk result (IsBegun problem.now.segs part.now (part_terms problem.now.terms part.now) budget) }
 {
-    let bounds = PartBounds::new(alloc, problem, part, numbers)?;
+    let mut bounds = PartBounds::new(alloc, problem, part, numbers)?;
+    let root_bound = bounds.bound();
     let cost = number_cost(problem, numbers);
     let lists = number_lists(alloc, problem, part)?;
     let children = Vec::new(alloc);
@@ -129,6 +108,7 @@ fn begin<'a>(
         problem,
         part,
         bounds,
+        root_bound,
         children,
         cost,
         lists,
@@ -138,7 +118,7 @@ fn begin<'a>(
 }
 
 /// What the terms of these numbers cost under the number order.
-pub fn number_cost(problem: &Problem, numbers: &[u32]) -> u64
+fn number_cost(problem: &Problem, numbers: &[u32]) -> u64
     requires known { All (λ n. n < length problem.now.terms) numbers.now }
     requires few { length numbers.now ≤ 4000000 }
     ensures { result ≡ sum_by (cost_of_number problem.now) numbers.now }
@@ -169,7 +149,7 @@ fn number_cost_of(problem: &Problem, term: Term) -> u64
 }
 
 /// The lines of each segment of the part, by number.
-pub fn number_lists(
+fn number_lists(
     alloc: Global,
     problem: &Problem,
     part: &[SegId],
@@ -194,8 +174,8 @@ fn found(alloc: Global, search: Search, tree: &Tree) -> Result<Found, NoMemory>
     ensures best { IfOk result (λ f. best_found f ≡ best_of search.entry) }
     ensures branches { IfOk result (λ f. f.branches ≡ search.entry.spent) }
 {
-    let mut prices = search.bounds.into_prices(alloc)?;
-    let tree = priced(alloc, &mut prices, tree)?;
+    let mut bounds = search.bounds;
+    let tree = priced(alloc, &mut bounds, tree)?;
     Ok(Found {
         orders: Orders {
             lists: Sequence::of(search.lists),
@@ -207,7 +187,7 @@ fn found(alloc: Global, search: Search, tree: &Tree) -> Result<Found, NoMemory>
 }
 
 /// Whether the part has more places than are allowed.
-pub fn is_deep(problem: &Problem, part: &[SegId]) -> bool
+fn is_deep(problem: &Problem, part: &[SegId]) -> bool
     requires { All (λ (s : SegId). s.0 < length problem.now.segs) part.now }
     ensures deep { result ≡ nat_lt 2048 (places_of problem.now.segs part.now) }
     ensures fits { IsProblem problem.now }

@@ -9,14 +9,16 @@ use map_base::{LineId, SegId, Sequence};
 use order_model::Problem;
 use part_bounds::PartBounds;
 
-/// A part that is searched, with the lines placed so far and the bound of this prefix; the children that wait for their
-/// turn, those of deeper nodes behind those of higher ones; the least cost so far, and the orders of the part's segments
-/// that had it first; and how many branch nodes were met, of how many that are allowed.
+/// A part that is searched, with the lines placed so far; the bound of the part before any line is placed; the children
+/// that wait for their turn, those of deeper nodes behind those of higher ones; the incumbent, which is the least cost so
+/// far and the orders of the part's segments that had it first; and how many branch nodes were met, of how many that are
+/// allowed.
 #[derive(Drop)]
 pub(crate) struct Search<'a> {
     pub(crate) problem: &'a Problem,
     pub(crate) part: &'a [SegId],
     pub(crate) bounds: PartBounds<'a>,
+    pub(crate) root_bound: u64,
     pub(crate) children: Vec<Child>,
     pub(crate) cost: u64,
     pub(crate) lists: Vec<Sequence<LineId>>,

@@ -12,12 +12,12 @@ ghost use Rattle.order_search.specs.Searching.{part_of};
 
 use map_base::{LineId, NoMemory, SegId};
 use order_proof::Tree;
-use part_bounds::PartPrices;
+use part_bounds::PartBounds;
 use std::alloc::Global;
 
 /// The tree of a prefix with the prices of each Close.
 #[cycle(priced)]
-pub fn priced(alloc: Global, bounds: &mut PartPrices, tree: &Tree) -> Result<Tree, NoMemory>
+pub(crate) fn priced(alloc: Global, bounds: &mut PartBounds, tree: &Tree) -> Result<Tree, NoMemory>
     requires rising { All AreRising bounds.old.segs }
     requires well { IsWell bounds.old.segs bounds.old.placed }
     requires over { IsOver bounds.old.segs bounds.old.placed (plain tree.now) }
@@ -43,7 +43,7 @@ pub fn priced(alloc: Global, bounds: &mut PartPrices, tree: &Tree) -> Result<Tre
 #[cycle(priced)]
 fn priced_cases(
     alloc: Global,
-    bounds: &mut PartPrices,
+    bounds: &mut PartBounds,
     seg: SegId,
     children: &[(LineId, Tree)],
 ) -> Result<Vec<(LineId, Tree)>, NoMemory>
@@ -67,7 +67,7 @@ fn priced_cases(
 #[cycle(priced)]
 fn priced_case(
     alloc: Global,
-    bounds: &mut PartPrices,
+    bounds: &mut PartBounds,
     seg: SegId,
     line: LineId,
     tree: &Tree,

@@ -168,16 +168,3 @@ problem_of_graph g ok ws imp light have few = record {
 }
 
 -- The outcome.
-
--- where there are too many terms
-pub above_is_cause : (g : GraphParts) (ws : List Weights) (imp : List ℕ) (e : LimitFault) → IsAbove 4000000 (length (graph_terms g ws imp)) e
-    → HasCause (graph_problem g ws imp) e
-above_is_cause g ws imp (Limit l) h =
-    let over : nat_le (length (graph_terms g ws imp)) 4000000 ≡ false = grind (arith, nat_tests, h.0) in
-    rw (over, h.1) refl
-above_is_cause g ws imp NoMemory h = tt
-
--- where there are not
-pub few_give : (g : GraphParts) (ws : List Weights) (imp : List ℕ) → length (graph_terms g ws imp) ≤ 4000000
-    → graph_problem g ws imp ≡ Ok (record { segs = g.lines; terms = graph_terms g ws imp })
-few_give g ws imp few = rw (le-leb (length (graph_terms g ws imp)) 4000000 few) refl

@@ -1,7 +1,7 @@
 -- The terms of a line graph.
 use Rattle.std.specs.Prelude.{ℕ, zero, suc, ◌+◌, ◌-◌, ◌*◌, ◌%◌, ◌<◌, ◌≤◌, ◌==◌, nat_lt, Bool, true, false, List, [], ◌∷◌, ◌++◌, length, map, flat_map, All, if◌then◌else◌, slice_index, slice_index_or}
 use Rattle.std.specs.declared.cmp.Ordering.{Ordering}
-use Rattle.std.specs.Ordering.{nat_cmp, ordering_then, is_lt}
+use Rattle.std.specs.Ordering.{nat_cmp, ordering_then}
 use Rattle.map_base.specs.declared.ids.NodeId.{NodeId}
 use Rattle.map_base.specs.declared.ids.SegId.{SegId}
 use Rattle.map_base.specs.declared.ids.LineId.{LineId}
@@ -11,6 +11,7 @@ use Rattle.graph_core.specs.declared.parts.NodeKind.{NodeKind}
 use Rattle.graph_core.specs.declared.parts.NodeKind.TheVariants.{Station, Junction}
 use Rattle.graph_core.specs.declared.parts.Join.{Join}
 use Rattle.graph_core.specs.declared.parts.GraphParts.{GraphParts}
+use Rattle.sorted_lists.specs.Sorting as sorted
 use Rattle.order_model.specs.declared.term.Term.{Term}
 use Rattle.order_model.specs.declared.term.Term.TheVariants as term
 use Rattle.order_terms.specs.declared.found.Way.{Way}
@@ -105,15 +106,9 @@ order_of x y =
     (ordering_then (nat_cmp x.to.0 y.to.0)
     (ordering_then (nat_cmp x.beside.0 y.beside.0) (nat_cmp x.first.0 y.first.0))))))
 
--- with one more in its place
-abbrev pub with_one : Found → List Found → List Found
-with_one x [] = x ∷ []
-with_one x (y ∷ ys) = if is_lt (order_of y x) then y ∷ with_one x ys else x ∷ y ∷ ys
-
 -- in the order of terms
 abbrev pub in_order : List Found → List Found
-in_order [] = []
-in_order (x ∷ xs) = with_one x (in_order xs)
+in_order found = sorted.in_order order_of found
 
 -- the other of two lines
 abbrev pub other_line : Found → LineId

@@ -1,1 +1,2 @@
 pub mod PriceLists
+pub mod DualTrees

@@ -9,17 +9,14 @@ use Rattle.order_model.specs.Problems.{IsTerm}
 use Rattle.order_model.specs.PartTerms.{is_of}
 use Rattle.pair_bounds.specs.declared.slots.Slot.{Slot}
 use Rattle.pair_bounds.specs.declared.term_look.TermLook.{TermLook}
-use Rattle.pair_bounds.specs.declared.term_look.TermLook.TheVariants.{Decided, OnSegment, Between}
-use Rattle.pair_bounds.specs.Classes.{IsClassed}
 use Rattle.order_bound.specs.Pairs.{pair_in, open_segments}
 use Rattle.order_bound.specs.declared.pairs.Pair.{Pair}
 use Rattle.order_bound.specs.declared.pairs.OpenLink.{OpenLink}
 use Rattle.pair_bounds.specs.TermLooks.{look_of, look_decided}
-use Rattle.pair_bounds.specs.Slots.{slot_segs, IsWithin, IsCollected, slots_after, links_after}
+use Rattle.pair_bounds.specs.Slots.{IsCollected, slots_after, links_after}
 use Rattle.order_bound.proofs.Bounding.{link_between}
-use Rattle.pair_bounds.proofs.Collected.{gather_step, within_look}
+use Rattle.pair_bounds.proofs.Collected.{gather_step}
 use Rattle.pair_bounds.proofs.Mapped.{all_at}
-use Rattle.pair_bounds.proofs.Placed.{segs_more}
 
 none_taken : {A : Type 0} (ys : List A) → take 0 ys ≡ []
 none_taken [] = refl
@@ -34,39 +31,17 @@ take_front (x ∷ xs) zs (suc n) h = ap (λ ys. x ∷ ys) (take_front xs zs n (o
 -- one turn of the loop
 pub gather_next : (segs placed : List (List LineId)) (part : List SegId) (p : Pair) (terms : List (ℕ × Term)) (i : ℕ) (d : ℕ × Term) (base base2 : ℕ) (slots now new slots2 : List Slot) (links links2 : List OpenLink) (look : TermLook)
     → IsCollected segs placed p (open_segments segs placed part p) (take i terms) base slots links → i < length terms
-    → All (λ (t : ℕ × Term). IsTerm segs t.1) terms → All (λ (t : ℕ × Term). p ≡ pair_in t.1) terms
-    → look ≡ look_of segs placed (get_or terms i d).0 (get_or terms i d).1 → base2 ≡ base + look_decided look → now ≡ slots → new ≡ slots_after look now → slots2 ≡ new → links2 ≡ links_after look links
+    → All (λ (t : ℕ × Term). IsTerm segs t.1) terms → All (λ (t : ℕ × Term). is_of part t.1 ≡ true) terms → All (λ (t : ℕ × Term). p ≡ pair_in t.1) terms
+    → look ≡ look_of segs placed (get_or terms i d).0 (get_or terms i d).1 → base2 ≡ base + look_decided look → now ≡ slots → new ≡ slots_after look now → slots2 ≡ new → links2 ≡ links_after look now links
     → IsCollected segs placed p (open_segments segs placed part p) (take (i + 1) terms) base2 slots2 links2
-gather_next segs placed part p terms i d base base2 slots now new slots2 links links2 look ok below known mine e1 e2 e3 e4 e5 e6 =
+gather_next segs placed part p terms i d base base2 slots now new slots2 links links2 look ok below known inside mine e1 e2 e3 e4 e5 e6 =
     let t : ℕ × Term = get_or terms i d in
     let at : IsTerm segs t.1 = all_at (λ (t : ℕ × Term). IsTerm segs t.1) terms i d known below in
-    let step = gather_step segs placed p (open_segments segs placed part p) (take i terms) t base slots links ok at (all_at (λ (t : ℕ × Term). p ≡ pair_in t.1) terms i d mine below) in
+    let step = gather_step segs placed p (open_segments segs placed part p) (take i terms) t base slots links ok at (all_at (λ (t : ℕ × Term). p ≡ pair_in t.1) terms i d mine below)
+    (link_between segs placed part p t.0 t.1 at (all_at (λ (t : ℕ × Term). is_of part t.1 ≡ true) terms i d inside below)) in
     let P : List (ℕ × Term) → ℕ → List Slot → List OpenLink → Type 0 = λ done b s l. IsCollected segs placed p (open_segments segs placed part p) done b s l in
     subst (λ done. P done base2 slots2 links2) (sym (take_more terms i d below))
     (subst (λ b. P (take i terms ++ t ∷ []) b slots2 links2) (sym (e2 ∙ ap (λ k. base + look_decided k) e1))
     (subst (λ s. P (take i terms ++ t ∷ []) (base + look_decided (look_of segs placed t.0 t.1)) s links2) (sym (e5 ∙ (e4 ∙ (ap (slots_after look) e3 ∙ ap (λ k. slots_after k slots) e1))))
     (subst (λ l. P (take i terms ++ t ∷ []) (base + look_decided (look_of segs placed t.0 t.1)) (slots_after (look_of segs placed t.0 t.1) slots) l)
-    (sym (e6 ∙ ap (λ k. links_after k links) e1)) step)))
-
--- the next term lies within the segments where the pair is open
-pub next_within : (segs placed : List (List LineId)) (part : List SegId) (p : Pair) (terms : List (ℕ × Term)) (i : ℕ) (d : ℕ × Term) (slots : List Slot) (look : TermLook) → i < length terms
-    → All (λ (t : ℕ × Term). IsTerm segs t.1) terms → All (λ (t : ℕ × Term). is_of part t.1 ≡ true) terms → All (λ (t : ℕ × Term). p ≡ pair_in t.1) terms
-    → look ≡ look_of segs placed (get_or terms i d).0 (get_or terms i d).1 → slot_segs slots ≡ open_segments segs placed part p → IsWithin (slot_segs slots) look
-next_within segs placed part p terms i d slots look below known inside mine e1 e2 =
-    let t : ℕ × Term = get_or terms i d in
-    let between = link_between segs placed part p t.0 t.1 (all_at (λ (t : ℕ × Term). IsTerm segs t.1) terms i d known below) (all_at (λ (t : ℕ × Term). is_of part t.1 ≡ true) terms i d inside below) in
-    subst (λ ss. IsWithin ss look) (sym e2) (subst (IsWithin (open_segments segs placed part p)) (sym e1)
-    (within_look segs placed p (open_segments segs placed part p) t (all_at (λ (t : ℕ × Term). p ≡ pair_in t.1) terms i d mine below) between))
-
--- The classes.
-
-segs_after : (look : TermLook) (slots : List Slot) → slot_segs (slots_after look slots) ≡ slot_segs slots
-segs_after (Decided cost) slots = refl
-segs_after (OnSegment seg a b) slots = segs_more seg a b slots
-segs_after (Between link) slots = refl
-
--- one term more leaves the segments of slots
-pub classed_next : (look : TermLook) (now new slots2 : List Slot) (links2 : List OpenLink) (classes classes2 : List ℕ) → IsClassed (slot_segs now) links2 classes → new ≡ slots_after look now → slots2 ≡ new → classes2 ≡ classes
-    → IsClassed (slot_segs slots2) links2 classes2
-classed_next look now new slots2 links2 classes classes2 ok e1 e2 e3 =
-    subst (IsClassed (slot_segs slots2) links2) (sym e3) (subst (λ ss. IsClassed ss links2 classes) (sym (ap slot_segs e2 ∙ (ap slot_segs e1 ∙ segs_after look now))) ok)
+    (sym (e6 ∙ (ap (λ s. links_after look s links) e3 ∙ ap (λ k. links_after k slots links) e1))) step)))

@@ -1,8 +1,8 @@
 -- What is worked out of a pair's terms is its bound.
-use Rattle.std.proofs.Common.{true≢false, Option, Some, None, ◌≡◌, ℕ, zero, suc, ◌+◌, ◌*◌, ◌≤◌, ◌==◌, Bool, true, false, not, cond, ◌&&◌, ◌||◌, List, [], ◌∷◌, ◌++◌, length, map, filter, refl, sym, ap, subst, ◌∙◌, ◌⊎◌, inl, inr, arith, length-append}
+use Rattle.std.proofs.Common.{true≢false, Option, Some, None, ◌≡◌, ℕ, zero, suc, ◌+◌, ◌*◌, ◌≤◌, ◌==◌, Bool, true, false, not, cond, ◌&&◌, ◌||◌, List, [], ◌∷◌, ◌++◌, length, map, filter, reverse, refl, sym, ap, subst, ◌∙◌, ◌⊎◌, inl, inr, arith, length-append}
 use Rattle.std.specs.Prelude.{ℤ, pos, sum_by}
 use Rattle.std.specs.List.{All, AllByRecursion}
-use Rattle.std.proofs.lemmas.List.{length-map}
+use Rattle.std.proofs.lemmas.List.{length-map, reverse-reverse, length-reverse}
 use Rattle.std.proofs.lemmas.List.Elements.{All-nil, All-cons, All-head, All-tail}
 use Rattle.std.proofs.lemmas.List.Filters.{length-filter_both}
 use Rattle.std.proofs.lemmas.List.Sums.{sum_by-cons}
@@ -17,15 +17,14 @@ use Rattle.order_model.specs.PartTerms.{is_in, is_of}
 use Rattle.pair_bounds.specs.declared.slots.Slot.{Slot}
 use Rattle.order_bound.specs.Decided.{apart_cost, decided_cost}
 use Rattle.pair_bounds.specs.Counted.{counted_cost, settled_cost, counted_sum}
-use Rattle.order_bound.specs.Pairs.{pair_of, is_pair, is_open_on, open_segments, open_link, open_links, kept, joined, kept_links, AreApartSegments}
+use Rattle.order_bound.specs.Pairs.{pair_of, is_pair, is_open_on, open_segments, open_link, open_links, kept, joined, kept_links, labels_after, AreApartSegments}
 use Rattle.order_bound.specs.declared.pairs.Pair.{Pair}
 use Rattle.order_bound.specs.declared.pairs.OpenLink.{OpenLink}
 use Rattle.order_bound.specs.Bounds.{open_cost, slot_cost, link_cost, pair_bound}
-use Rattle.order_bound.specs.Values.{int_sum}
+use Rattle.whole_sums.specs.Sums.{int_sum}
 use Rattle.order_bound.specs.CanonicalPrices.{ends_at, far_end, child_link, walked, children_of, rise_of, price_for, priced, pair_prices}
 use Rattle.order_bound.specs.declared.pairs.ChildLink.{ChildLink}
-use Rattle.pair_bounds.specs.Slots as slot
-use Rattle.pair_bounds.specs.Slots.{slots_of, slot_segs, rise_in, with_children, slot_least, IsCollected}
+use Rattle.pair_bounds.specs.Slots.{slots_of, rise_in, with_children, slot_least, IsCollected}
 use Rattle.order_bound.proofs.Lists.{each_append, each_weaker, each_of, each_among, Among}
 use Rattle.order_bound.proofs.Sums.{sum_less, sum_both, sum_swap, one_segment}
 use Rattle.order_bound.proofs.Forests.{kept_forest}
@@ -48,17 +47,17 @@ each_all P (x ∷ xs) h = All-cons P x xs h.0 (each_all P xs h.1)
 
 -- Lengths.
 
-pub length_filter : {A : Type 0} (p : A → Bool) (xs : List A) → length (filter p xs) ≤ length xs
+length_filter : {A : Type 0} (p : A → Bool) (xs : List A) → length (filter p xs) ≤ length xs
 length_filter p xs = omega (arith, length-filter_both p (λ x. not (p x)) (λ x. refl) xs)
 
-pub length_slots_of : (cost : SegId → Bool → ℕ) (segs : List SegId) → length (slots_of cost segs) ≡ length segs
-length_slots_of cost [] = refl
-length_slots_of cost (s ∷ segs) = ap suc (length_slots_of cost segs)
+length_slots_of : (label : ℕ → ℕ) (cost : SegId → Bool → ℕ) (segs : List SegId) → length (slots_of label cost segs) ≡ length segs
+length_slots_of label cost [] = refl
+length_slots_of label cost (s ∷ segs) = ap suc (length_slots_of label cost segs)
 
 pub length_slots : (segs placed : List (List LineId)) (part : List SegId) (p : Pair) (terms : List (ℕ × Term)) (base : ℕ) (slots : List Slot) (links : List OpenLink)
     → IsCollected segs placed p (open_segments segs placed part p) terms base slots links → length slots ≤ length part
 length_slots segs placed part p terms base slots links ok =
-    omega (arith, ap length ok.slots_are, length_slots_of (slot_cost placed terms p) (open_segments segs placed part p), length_filter (is_open_on segs placed p) part)
+    omega (arith, ap length ok.slots_are, length_slots_of (labels_after (λ s. s) links) (slot_cost placed terms p) (open_segments segs placed part p), length_filter (is_open_on segs placed p) part)
 
 length_link : (placed : List (List LineId)) (p : Pair) (k : ℕ) (t : Term) → length (open_link placed p k t) ≤ 1
 length_link placed p k (Side seg first second w) = omega arith
@@ -100,14 +99,19 @@ length_walked (suc n) (s ∷ waiting) links =
 
 -- The children.
 
-pub seg_list : (cost : SegId → Bool → ℕ) (segs : List SegId) → slot_segs (slots_of cost segs) ≡ segs
-seg_list cost [] = refl
-seg_list cost (s ∷ segs) = ap (λ k. s ∷ k) (seg_list cost segs)
+seg_list : (label : ℕ → ℕ) (cost : SegId → Bool → ℕ) (segs : List SegId) → map (λ (s : Slot). s.seg) (slots_of label cost segs) ≡ segs
+seg_list label cost [] = refl
+seg_list label cost (s ∷ segs) = ap (λ k. s ∷ k) (seg_list label cost segs)
 
--- the slots stand on the segments where the pair is open
-pub collected_segs : (segs placed : List (List LineId)) (open_segs : List SegId) (p : Pair) (terms : List (ℕ × Term)) (base : ℕ) (slots : List Slot) (links : List OpenLink)
-    → IsCollected segs placed p open_segs terms base slots links → slot_segs slots ≡ open_segs
-collected_segs segs placed open_segs p terms base slots links ok = ap slot_segs ok.slots_are ∙ seg_list (slot_cost placed terms p) open_segs
+-- the walk from the segments of all slots
+pub walk_is : (segs placed : List (List LineId)) (open_segs : List SegId) (p : Pair) (terms : List (ℕ × Term)) (base : ℕ) (slots : List Slot) (links : List OpenLink) (waiting : List SegId) (children : List ChildLink) (n : ℕ)
+    → IsCollected segs placed p open_segs terms base slots links → waiting ≡ reverse (map (λ (s : Slot). s.seg) slots) → n ≡ length waiting + length links → children ≡ [] ++ walked n (reverse waiting) links
+    → children ≡ children_of open_segs links
+walk_is segs placed open_segs p terms base slots links waiting children n ok e1 e2 e3 =
+    let all : map (λ (s : Slot). s.seg) slots ≡ open_segs = ap (map (λ (s : Slot). s.seg)) ok.slots_are ∙ seg_list (labels_after (λ s. s) links) (slot_cost placed terms p) open_segs in
+    let back : reverse waiting ≡ open_segs = ap reverse e1 ∙ (reverse-reverse (map (λ (s : Slot). s.seg) slots) ∙ all) in
+    let count : n ≡ length open_segs + length links = omega (arith, e2, ap length e1, length-reverse (map (λ (s : Slot). s.seg) slots), ap length all) in
+    e3 ∙ (ap (λ k. walked k (reverse waiting) links) count ∙ ap (λ w. walked (length open_segs + length links) w links) back)
 
 light_link : (segs placed : List (List LineId)) (p : Pair) (k : ℕ) (t : Term) → IsTerm segs t → AllByRecursion (λ (l : OpenLink). l.weight ≤ 256000) (open_link placed p k t)
 light_link segs placed p k (Side seg first second w) known = tt
@@ -131,31 +135,6 @@ light_children segs placed open_segs p terms base slots links children ok known 
     (each_kept (λ (l : OpenLink). l.weight ≤ 256000) (λ s. s) (open_links placed p terms) (light_links segs placed p terms known)) in
     subst (All (λ (c : ChildLink). c.link.weight ≤ 256000)) (sym e)
     (each_all (λ (c : ChildLink). c.link.weight ≤ 256000) (children_of open_segs links) (each_taken (λ (l : OpenLink). l.weight ≤ 256000) (length open_segs + length links) open_segs links light))
-
--- the slots stand apart
-pub collected_apart : (segs placed : List (List LineId)) (part : List SegId) (p : Pair) (terms : List (ℕ × Term)) (base : ℕ) (slots : List Slot) (links : List OpenLink) → AreApartSegments part
-    → IsCollected segs placed p (open_segments segs placed part p) terms base slots links → AreApartSegments (slot_segs slots)
-collected_apart segs placed part p terms base slots links apart ok =
-    subst AreApartSegments (sym (collected_segs segs placed (open_segments segs placed part p) p terms base slots links ok)) (apart_filter (is_open_on segs placed p) part apart)
-
--- the kept Links are between them
-pub collected_between : (segs placed : List (List LineId)) (part : List SegId) (p : Pair) (terms : List (ℕ × Term)) (base : ℕ) (slots : List Slot) (links : List OpenLink)
-    → All (λ (t : ℕ × Term). IsTerm segs t.1) terms → All (λ (t : ℕ × Term). is_of part t.1 ≡ true) terms → IsCollected segs placed p (open_segments segs placed part p) terms base slots links
-    → All (slot.IsBetween (slot_segs slots)) links
-collected_between segs placed part p terms base slots links known inside ok =
-    let open_segs : List SegId = open_segments segs placed part p in
-    let all : List OpenLink = kept_links placed p terms in
-    let between : AllByRecursion (IsBetween open_segs) all = each_kept (IsBetween open_segs) (λ s. s) (open_links placed p terms)
-    (links_between segs placed part p terms (all_among (λ (t : ℕ × Term). IsTerm segs t.1) terms known) (all_among (λ (t : ℕ × Term). is_of part t.1 ≡ true) terms inside)) in
-    let same : AllByRecursion (slot.IsBetween open_segs) all =
-    each_weaker (IsBetween open_segs) (slot.IsBetween open_segs) all (λ l h. record { differ = h.differ; here = h.here; there = h.there }) between in
-    subst (λ ss. All (slot.IsBetween ss) links) (sym (collected_segs segs placed open_segs p terms base slots links ok))
-    (subst (All (slot.IsBetween open_segs)) (sym ok.links_are) (each_all (slot.IsBetween open_segs) all same))
-
--- the children that are listed from all slots
-pub children_listed : (segs placed : List (List LineId)) (open_segs : List SegId) (p : Pair) (terms : List (ℕ × Term)) (base : ℕ) (slots : List Slot) (links : List OpenLink) (children : List ChildLink)
-    → IsCollected segs placed p open_segs terms base slots links → children ≡ children_of (slot_segs slots) links → children ≡ children_of open_segs links
-children_listed segs placed open_segs p terms base slots links children ok e = e ∙ ap (λ ss. children_of ss links) (collected_segs segs placed open_segs p terms base slots links ok)
 
 child_inside : (slots : List SegId) (children : List ChildLink) → IsParentFirst children → AllByRecursion (λ (c : ChildLink). IsBetween slots c.link) children → AllByRecursion (λ (c : ChildLink). is_in slots c.child ≡ true) children
 child_inside slots [] first between = tt
@@ -183,8 +162,8 @@ pair_least segs placed part p terms base slots links children apart known inside
     (each_taken (IsBetween open_segs) (length open_segs + length all) open_segs all between) in
     ap (λ c. int_sum slot_least (with_children c slots)) (e ∙ ap (children_of open_segs) ok.links_are)
     ∙ (ap (λ s. int_sum slot_least (with_children (children_of open_segs all) s)) ok.slots_are
-    ∙ (ap (int_sum slot_least) (children_priced (slot_cost placed terms p) open_segs (children_of open_segs all) children_in)
-    ∙ (least_slots (below_cost (slot_cost placed terms p) (priced (slot_cost placed terms p) (children_of open_segs all))) open_segs
+    ∙ (ap (int_sum slot_least) (children_priced (labels_after (λ s. s) links) (slot_cost placed terms p) open_segs (children_of open_segs all) children_in)
+    ∙ (least_slots (labels_after (λ s. s) links) (below_cost (slot_cost placed terms p) (priced (slot_cost placed terms p) (children_of open_segs all))) open_segs
     ∙ worth open_segs (λ s. true) (slot_cost placed terms p) all (apart_filter (is_open_on segs placed p) part apart) between forest)))
 
 -- the same for what lies in memory
@@ -197,14 +176,14 @@ pair_total segs placed part p terms base slots now new last links children total
 
 -- The prices of the children, by their slots.
 
-priced_is : (cost : SegId → Bool → ℕ) (segs : List SegId) (children : List ChildLink) → AllByRecursion (λ (c : ChildLink). is_in segs c.child ≡ true) children
-    → priced_in children (slots_of cost segs) ≡ priced cost children
-priced_is cost segs [] h = refl
-priced_is cost segs (c ∷ later) h =
+priced_is : (label : ℕ → ℕ) (cost : SegId → Bool → ℕ) (segs : List SegId) (children : List ChildLink) → AllByRecursion (λ (c : ChildLink). is_in segs c.child ≡ true) children
+    → priced_in children (slots_of label cost segs) ≡ priced cost children
+priced_is label cost segs [] h = refl
+priced_is label cost segs (c ∷ later) h =
     let Q : ℤ → OpenLink × ℤ = λ y. (c.link, y) in
-    ap (λ s. Q (price_for c (rise_in s c.child)) ∷ priced_in later (slots_of cost segs)) (children_priced cost segs later h.1)
-    ∙ (ap (λ d. Q (price_for c d) ∷ priced_in later (slots_of cost segs)) (rise_found (below_cost cost (priced cost later)) segs c.child h.0)
-    ∙ ap (λ l. Q (price_for c (rise_of (below_cost cost (priced cost later) c.child))) ∷ l) (priced_is cost segs later h.1))
+    ap (λ s. Q (price_for c (rise_in s c.child)) ∷ priced_in later (slots_of label cost segs)) (children_priced label cost segs later h.1)
+    ∙ (ap (λ d. Q (price_for c d) ∷ priced_in later (slots_of label cost segs)) (rise_found label (below_cost cost (priced cost later)) segs c.child h.0)
+    ∙ ap (λ l. Q (price_for c (rise_of (below_cost cost (priced cost later) c.child))) ∷ l) (priced_is label cost segs later h.1))
 
 pub priced_pair : (segs placed : List (List LineId)) (part : List SegId) (p : Pair) (terms : List (ℕ × Term)) (base : ℕ) (slots now : List Slot) (children : List ChildLink)
     → All (λ (t : ℕ × Term). IsTerm segs t.1) terms → All (λ (t : ℕ × Term). is_of part t.1 ≡ true) terms
@@ -218,7 +197,7 @@ priced_pair segs placed part p terms base slots now children known inside ok e1 
     let forest = kept_forest (λ s. s) (open_links placed p terms) in
     let children_in = child_inside open_segs (children_of open_segs all) (parents_first (length open_segs + length all) open_segs all forest)
     (each_taken (IsBetween open_segs) (length open_segs + length all) open_segs all between) in
-    ap (λ c. priced_in c now) e1 ∙ (ap (priced_in (children_of open_segs all)) (e2 ∙ ok.slots_are) ∙ priced_is (slot_cost placed terms p) open_segs (children_of open_segs all) children_in)
+    ap (λ c. priced_in c now) e1 ∙ (ap (priced_in (children_of open_segs all)) (e2 ∙ ok.slots_are) ∙ priced_is (labels_after (λ s. s) all) (slot_cost placed terms p) open_segs (children_of open_segs all) children_in)
 
 -- Shares of pairs are small.
 

@@ -1,5 +1,5 @@
 -- The steps of a walk as it lies in memory: the segments that wait stand last first.
-use Rattle.std.proofs.Common.{◌≡◌, ℕ, zero, suc, ◌+◌, ◌≤◌, Bool, not, List, [], ◌∷◌, ◌++◌, length, map, filter, reverse, take, refl, sym, ap, ◌∙◌, arith, append_assoc, length-append}
+use Rattle.std.proofs.Common.{◌≡◌, ℕ, zero, suc, ◌+◌, ◌<◌, ◌≤◌, Bool, true, false, not, cond, List, [], ◌∷◌, ◌++◌, length, map, filter, reverse, take, drop, get_or, refl, sym, ap, ◌∙◌, arith, add-one, append_assoc, length-append}
 use Rattle.std.proofs.lemmas.List.{append-nil, length-map, reverse-append, reverse-reverse, length-reverse}
 use Rattle.std.proofs.lemmas.List.Filters.{length-filter_both}
 use Rattle.map_base.specs.declared.ids.SegId.{SegId}
@@ -10,16 +10,6 @@ use Rattle.order_bound.specs.declared.pairs.ChildLink.{ChildLink}
 -- what is made of those that pass
 abbrev pub made : {A B : Type 0} → (A → B) → (A → Bool) → List A → List B
 made f p xs = map f (filter p xs)
-
-pub take_all : {A : Type 0} (xs : List A) (i : ℕ) → length xs ≤ i → take i xs ≡ xs
-take_all [] zero h = refl
-take_all [] (suc i) h = refl
-take_all (x ∷ xs) zero h = absurd (omega (arith, h))
-take_all (x ∷ xs) (suc i) h = ap (λ ys. x ∷ ys) (take_all xs i (omega (arith, h)))
-
-pub walked_end : (n : ℕ) (links : List OpenLink) → walked n [] links ≡ []
-walked_end zero links = refl
-walked_end (suc n) links = refl
 
 -- the walk once one more segment came in turn
 pub walk_step : (w : List SegId) (parent : SegId) (links : List OpenLink) (children : List ChildLink)
@@ -85,7 +75,3 @@ children_fewer parent links links2 children children2 e1 e2 =
       length-map (filter (ends_at parent) links) (child_link parent),
       length-filter_both (ends_at parent) (λ l. not (ends_at parent l)) (λ l. refl) links,
     )
-
-pub walk_done : (n : ℕ) (links : List OpenLink) (children all : List ChildLink) (w : List SegId) → w ≡ [] → children ++ walked (length w + n) (reverse w) links ≡ all → children ≡ all
-walk_done n links children all w e h =
-    sym (append-nil children) ∙ (ap (λ k. children ++ k) (sym (walked_end (length w + n) links)) ∙ (ap (λ v. children ++ walked (length w + n) (reverse v) links) (sym e) ∙ h))

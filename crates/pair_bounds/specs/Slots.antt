@@ -1,18 +1,15 @@
 -- The slots of a pair: the segments where it is open, as a bound is worked out.
 use Rattle.std.specs.Vec.{vec_capacity}
-use Rattle.std.specs.Prelude.{◌≡◌, ◌≢◌, ℕ, ◌+◌, ◌<◌, ◌≤◌, min, sum_by, ◌==◌, Bool, true, false, List, [], ◌∷◌, ◌++◌, map, length, slice_index_or, if◌then◌else◌}
+use Rattle.std.specs.Prelude.{◌≡◌, ℕ, ◌+◌, ◌≤◌, sum_by, ◌==◌, Bool, true, false, List, [], ◌∷◌, ◌++◌, map, if◌then◌else◌}
 use Rattle.std.specs.Int.{int_min}
 use Rattle.std.specs.Prelude.{ℤ, pos, ◌+ℤ◌, ◌-ℤ◌, ◌≤ℤ◌}
 use Rattle.map_base.specs.declared.ids.SegId.{SegId}
 use Rattle.pair_bounds.specs.declared.slots.Slot.{Slot}
 use Rattle.pair_bounds.specs.declared.one_pair.Room.{Room}
-use Rattle.pair_bounds.specs.declared.places.PlacedSegment.{PlacedSegment}
-use Rattle.pair_bounds.specs.declared.places.PlacedChild.{PlacedChild}
 use Rattle.pair_bounds.specs.declared.term_look.TermLook.{TermLook}
 use Rattle.pair_bounds.specs.declared.term_look.TermLook.TheVariants.{Decided, OnSegment, Between}
 use Rattle.map_base.specs.declared.ids.LineId.{LineId}
 use Rattle.order_model.specs.declared.term.Term.{Term}
-use Rattle.order_model.specs.PartTerms.{is_in}
 use Rattle.order_bound.specs.Bounds.{slot_cost}
 use Rattle.order_bound.specs.Pairs.{labels_after, kept, open_links}
 use Rattle.order_bound.specs.declared.pairs.Pair.{Pair}
@@ -21,59 +18,36 @@ use Rattle.order_bound.specs.Values.{share}
 use Rattle.order_bound.specs.CanonicalPrices.{price_for}
 use Rattle.order_bound.specs.declared.pairs.ChildLink.{ChildLink}
 use Rattle.pair_bounds.specs.Counted.{counted_cost}
-use Rattle.pair_bounds.specs.TermLooks.{look_link}
 
--- the slot of a segment, by what it costs by the answer there
-abbrev pub slot_at : (SegId → Bool → ℤ) → SegId → Slot
-slot_at cost s = record { seg = s; lesser_first = cost s true; greater_first = cost s false }
+-- the slot of a segment, by its label and by what it costs by the answer there
+abbrev pub slot_at : (ℕ → ℕ) → (SegId → Bool → ℤ) → SegId → Slot
+slot_at label cost s = record { seg = s; label = label s.0; lesser_first = cost s true; greater_first = cost s false }
 
--- the slots of segments, by costs
-abbrev pub slots_of : (SegId → Bool → ℕ) → List SegId → List Slot
-slots_of cost segs = map (λ s. slot_at (λ s x. pos (cost s x)) s) segs
-
--- the segments of slots
-abbrev pub slot_segs : List Slot → List SegId
-slot_segs slots = map (λ (s : Slot). s.seg) slots
-
--- the segments that wait, and the Links to children, without the places of their slots
-abbrev pub placed_segs : List PlacedSegment → List SegId
-placed_segs segs = map (λ (s : PlacedSegment). s.seg) segs
-
-abbrev pub child_links : List PlacedChild → List ChildLink
-child_links children = map (λ (c : PlacedChild). c.child) children
-
--- the slot of a segment stands at this place
-pub record IsPlaceOf (slots : List Slot) (seg : SegId) (place : ℕ) : Type 0 where
-  pub within : place < length slots
-  pub is : (d : Slot) → (slice_index_or slots place d).seg.0 ≡ seg.0
-
--- a Link between two of these segments
-pub record IsBetween (segs : List SegId) (l : OpenLink) : Type 0 where
-  pub differ : l.seg.0 ≢ l.other.0
-  pub here : is_in segs l.seg ≡ true
-  pub there : is_in segs l.other ≡ true
-
--- a term that is a Link is one between two of these segments
-abbrev pub IsWithin : List SegId → TermLook → Type 0
-IsWithin segs (Decided cost) = Unit {0}
-IsWithin segs (OnSegment seg lesser_first greater_first) = Unit {0}
-IsWithin segs (Between l) = IsBetween segs l
+-- the slots of segments, by labels and costs
+abbrev pub slots_of : (ℕ → ℕ) → (SegId → Bool → ℕ) → List SegId → List Slot
+slots_of label cost segs = map (λ s. slot_at label (λ s x. pos (cost s x)) s) segs
 
 -- a slot that costs this much more, if it is that of the segment
 abbrev pub slot_more : SegId → ℕ → ℕ → Slot → Slot
 slot_more seg lesser_first greater_first slot =
     if seg.0 == slot.seg.0
-    then record { seg = slot.seg; lesser_first = slot.lesser_first +ℤ pos lesser_first; greater_first = slot.greater_first +ℤ pos greater_first }
+    then record { seg = slot.seg; label = slot.label; lesser_first = slot.lesser_first +ℤ pos lesser_first; greater_first = slot.greater_first +ℤ pos greater_first }
     else slot
+
+-- a slot with the label of one class in place of that of another
+abbrev pub slot_relabelled : ℕ → ℕ → Slot → Slot
+slot_relabelled one two slot =
+    record { seg = slot.seg; label = (if slot.label == two then one else slot.label); lesser_first = slot.lesser_first; greater_first = slot.greater_first }
 
 -- a slot with its shares of a price on a Link
 abbrev pub slot_shared : OpenLink → ℤ → Slot → Slot
 slot_shared link y slot =
-    record { seg = slot.seg; lesser_first = slot.lesser_first +ℤ share y link slot.seg true; greater_first = slot.greater_first +ℤ share y link slot.seg false }
+    record { seg = slot.seg; label = slot.label; lesser_first = slot.lesser_first +ℤ share y link slot.seg true; greater_first = slot.greater_first +ℤ share y link slot.seg false }
 
--- the same, if it is that of the segment
-abbrev pub shared_at : SegId → OpenLink → ℤ → Slot → Slot
-shared_at seg link y slot = if seg.0 == slot.seg.0 then slot_shared link y slot else slot
+-- the label of a segment, 0 where it has no slot
+abbrev pub label_in : List Slot → SegId → ℕ
+label_in [] s = 0
+label_in (slot ∷ slots) s = if slot.seg.0 == s.0 then slot.label else label_in slots s
 
 -- by how much a segment costs more at x = 1, 0 where it has no slot
 abbrev pub rise_in : List Slot → SegId → ℤ
@@ -84,11 +58,14 @@ rise_in (slot ∷ slots) s = if slot.seg.0 == s.0 then slot.greater_first -ℤ s
 abbrev pub slots_after : TermLook → List Slot → List Slot
 slots_after (Decided cost) slots = slots
 slots_after (OnSegment seg lesser_first greater_first) slots = map (slot_more seg lesser_first greater_first) slots
-slots_after (Between l) slots = slots
+slots_after (Between l) slots =
+    if label_in slots l.seg == label_in slots l.other then slots else map (slot_relabelled (label_in slots l.seg) (label_in slots l.other)) slots
 
 -- the kept Links after a term
-abbrev pub links_after : TermLook → List OpenLink → List OpenLink
-links_after look links = links ++ kept (labels_after (λ s. s) links) (look_link look)
+abbrev pub links_after : TermLook → List Slot → List OpenLink → List OpenLink
+links_after (Decided cost) slots links = links
+links_after (OnSegment seg lesser_first greater_first) slots links = links
+links_after (Between l) slots links = if label_in slots l.seg == label_in slots l.other then links else links ++ l ∷ []
 
 -- the costs of a slot lie within so much either way
 pub record IsSmall (m : ℕ) (slot : Slot) : Type 0 where
@@ -114,26 +91,19 @@ slot_least slot = int_min slot.lesser_first slot.greater_first
 -- and its kept Links
 pub record IsCollected (segs placed : List (List LineId)) (p : Pair) (open_segs : List SegId) (done : List (ℕ × Term)) (base : ℕ) (slots : List Slot) (links : List OpenLink) : Type 0 where
   pub base_is : base ≡ sum_by (λ (t : ℕ × Term). counted_cost segs placed t.1) done
-  pub slots_are : slots ≡ slots_of (slot_cost placed done p) open_segs
+  pub slots_are : slots ≡ slots_of (labels_after (λ s. s) links) (slot_cost placed done p) open_segs
   pub links_are : links ≡ kept (λ s. s) (open_links placed p done)
-
--- room for so many slots, and for so many Links
-abbrev pub slots_room : Room → ℕ
-slots_room room = min (vec_capacity room.slots) (min (vec_capacity room.classes) (vec_capacity room.firsts))
-
-abbrev pub links_room : Room → ℕ
-links_room room = min (vec_capacity room.links) (min (vec_capacity room.places) (vec_capacity room.nexts))
 
 -- there is room for a pair's slots on so many segments, and its Links among so many terms
 pub record HasRoom (segments terms : ℕ) (room : Room) : Type 0 where
-  pub slots : segments ≤ slots_room room
-  pub links : terms ≤ links_room room
+  pub slots : segments ≤ vec_capacity room.slots
+  pub links : terms ≤ vec_capacity room.links
   pub waiting : segments + terms ≤ vec_capacity room.waiting
   pub children : terms ≤ vec_capacity room.children
 
 -- room may have grown
 pub record KeepsRoom (old new : Room) : Type 0 where
-  pub slots : slots_room old ≤ slots_room new
-  pub links : links_room old ≤ links_room new
+  pub slots : vec_capacity old.slots ≤ vec_capacity new.slots
+  pub links : vec_capacity old.links ≤ vec_capacity new.links
   pub waiting : vec_capacity old.waiting ≤ vec_capacity new.waiting
   pub children : vec_capacity old.children ≤ vec_capacity new.children

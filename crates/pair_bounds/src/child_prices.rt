@@ -5,13 +5,11 @@ ghost use Rattle.std.specs.Prelude.{ℤ, pos, ◌+ℤ◌, ◌-ℤ◌, ◌≤ℤ�
 ghost use Rattle.std.specs.Vec.{vec_len, vec_capacity};
 ghost use Rattle.order_bound.specs.CanonicalPrices.{cut_to, turned_by, price_for};
 ghost use Rattle.order_bound.specs.declared.pairs.ChildLink.{ChildLink};
-ghost use Rattle.order_bound.specs.Pairs.{AreApartSegments};
-ghost use Rattle.pair_bounds.specs.Slots.{rise_in, slot_segs, child_links, with_child, with_children, slot_least, IsSmall};
-ghost use Rattle.order_bound.specs.Values.{int_sum};
+ghost use Rattle.pair_bounds.specs.Slots.{rise_in, with_child, with_children, slot_least, IsSmall};
+ghost use Rattle.whole_sums.specs.Sums.{int_sum};
 ghost use Rattle.pair_bounds.specs.PriceNotes.{price_noted, price_over, priced_in};
 
 use crate::noted_prices::NotedPrices;
-use crate::places::PlacedChild;
 use crate::slots::{Slot, add_shares, rise_in};
 use order_bound::ChildLink;
 
@@ -56,50 +54,34 @@ fn price_for(child: ChildLink, rise: i64) -> i64
 }
 
 /// Prices the Link to a child by what the child costs, and adds the shares of the price. Answers the price.
-fn price_child(slots: &mut [Slot], placed: PlacedChild) -> i64
-    requires small { All (IsSmall (2 ^ 59)) slots.old }
-    requires apart { AreApartSegments (slot_segs slots.old) }
-    ensures slots { slots.new ≡ with_child placed.child slots.old }
-    ensures price { result ≡ price_for placed.child (rise_in slots.old placed.child.child) }
+fn price_child(slots: &mut [Slot], child: ChildLink) -> i64
+    requires { All (IsSmall (2 ^ 60)) slots.old }
+    ensures slots { slots.new ≡ with_child child slots.old }
+    ensures price { result ≡ price_for child (rise_in slots.old child.child) }
 {
-    let child = placed.child;
-    let price = price_for(child, rise_in(slots, child.child, placed.place()));
-    add_shares(slots, child.link, placed.places, price);
+    let price = price_for(child, rise_in(slots, child.child));
+    add_shares(slots, child.link, price);
     price
 }
 
-/// Prices the Links to children from the last to the first, and adds the shares of the prices.
-pub(crate) fn price_children(slots: &mut [Slot], children: &mut Vec<PlacedChild>)
-    requires small { All (IsSmall (2 ^ 41)) slots.old }
-    requires apart { AreApartSegments (slot_segs slots.old) }
-    requires light { All (λ (c : ChildLink). c.link.weight ≤ 256000) (child_links children.old.items) }
-    requires few { vec_len children.old ≤ 4000000 }
-    ensures slots { slots.new ≡ with_children (child_links children.old.items) slots.old }
-    ensures small { All (IsSmall (2 ^ 43)) slots.new }
-    ensures room { vec_capacity children.old ≤ vec_capacity children.new }
-{
-    while let Some(child) = children.pop() {
-        let _ = price_child(slots, child);
-    }
-}
-
-/// Prices the Links to children likewise, and notes their prices.
-pub(crate) fn note_children(
+/// Prices the Links to children from the last to the first: adds the shares of the prices, and notes the prices.
+pub(crate) fn price_children(
     slots: &mut [Slot],
-    children: &mut Vec<PlacedChild>,
+    children: &mut Vec<ChildLink>,
     noted: &mut NotedPrices,
 )
     requires small { All (IsSmall (2 ^ 41)) slots.old }
-    requires apart { AreApartSegments (slot_segs slots.old) }
-    requires light { All (λ (c : ChildLink). c.link.weight ≤ 256000) (child_links children.old.items) }
+    requires light { All (λ (c : ChildLink). c.link.weight ≤ 256000) children.old.items }
     requires few { vec_len children.old ≤ 4000000 }
+    ensures slots { slots.new ≡ with_children children.old.items slots.old }
+    ensures small { All (IsSmall (2 ^ 43)) slots.new }
     ensures each { length noted.new.prices.items ≡ length noted.old.prices.items }
-    ensures noted { (k : ℕ) → k < length noted.old.prices.items → price_noted noted.new.prices.items k ≡ price_over (priced_in (child_links children.old.items) slots.old) (price_noted noted.old.prices.items k) k }
+    ensures noted { (k : ℕ) → k < length noted.old.prices.items → price_noted noted.new.prices.items k ≡ price_over (priced_in children.old.items slots.old) (price_noted noted.old.prices.items k) k }
     ensures room { vec_capacity children.old ≤ vec_capacity children.new }
 {
     while let Some(child) = children.pop() {
         let price = price_child(slots, child);
-        noted.note(child.child.link.number, price);
+        noted.note(child.link.number, price);
     }
 }
 

@@ -2,21 +2,18 @@
 //!
 //! `bound_of_pair` gathers the terms of a pair: what they cost where they are decided, what the pair costs on each segment
 //! where it is open, and its kept Links, each of which closes no cycle. Their trees are priced from the leaves to the roots,
-//! which gives the least that the pair costs. `note_pair` notes the prices. Both are those of order_bound's definitions, and
-//! take no memory beyond the `Room` that they are given.
+//! which gives the least that the pair costs; the prices are noted. Both are those of order_bound's definitions, and no
+//! memory is taken beyond the `Room` that it is given.
 #![tactic(auto)]
 
 mod child_prices;
-mod classes;
 mod collecting;
-mod link_lists;
 mod noted_prices;
 mod one_pair;
 mod opening;
-mod places;
 mod slots;
 mod term_look;
 mod walking;
 
 pub use noted_prices::NotedPrices;
-pub use one_pair::{Room, bound_of_pair, note_pair};
+pub use one_pair::{Room, bound_of_pair};

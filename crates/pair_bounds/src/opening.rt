@@ -25,7 +25,7 @@ fn is_open_on(problem: &Problem, prefix: &Prefix, pair: Pair, seg: SegId) -> boo
     prefix.is_left(problem, seg, pair.greater)
 }
 
-/// The slots of a pair, at no cost yet.
+/// The slots of a pair, at no cost yet, each segment a class of its own.
 pub(crate) fn open_slots(
     problem: &Problem,
     prefix: &Prefix,
@@ -36,7 +36,7 @@ pub(crate) fn open_slots(
     requires fits { IsPrefixOf problem.now.segs prefix.now }
     requires part { All (λ (s : SegId). s.0 < length problem.now.segs) part.now }
     requires room { length part.now ≤ vec_capacity slots.old }
-    ensures slots { slots.new.items ≡ slots_of (λ s x. 0) (open_segments problem.now.segs prefix.now.placed part.now pair) }
+    ensures slots { slots.new.items ≡ slots_of (λ s. s) (λ s x. 0) (open_segments problem.now.segs prefix.now.placed part.now pair) }
     ensures room { vec_capacity slots.old ≤ vec_capacity slots.new }
 {
     slots.clear();
@@ -50,13 +50,14 @@ fn open_slot(problem: &Problem, prefix: &Prefix, seg: SegId, pair: Pair, slots: 
     requires fits { IsPrefixOf problem.now.segs prefix.now }
     requires known { seg.0 < length problem.now.segs }
     requires room { vec_len slots.old < vec_capacity slots.old }
-    ensures slots { slots.new.items ≡ slots.old.items ++ slots_of (λ s x. 0) (filter (is_open_on problem.now.segs prefix.now.placed pair) (seg ∷ [])) }
+    ensures slots { slots.new.items ≡ slots.old.items ++ slots_of (λ s. s) (λ s x. 0) (filter (is_open_on problem.now.segs prefix.now.placed pair) (seg ∷ [])) }
     ensures room { vec_capacity slots.old ≤ vec_capacity slots.new }
     ensures few { vec_len slots.new ≤ vec_len slots.old + 1 }
 {
     if is_open_on(problem, prefix, pair, seg) {
         let _ = slots.push(Slot {
             seg,
+            label: seg.0,
             lesser_first: 0,
             greater_first: 0,
         });

@@ -2,19 +2,19 @@
 
 ghost use Rattle.std.specs.Prelude.{◌≡◌, ◌<◌, ◌≤◌, ◌*◌, ◌^◌, length, map, All};
 ghost use Rattle.std.specs.Prelude.{ℤ, pos, ◌+ℤ◌, ◌-ℤ◌, ◌≤ℤ◌};
-ghost use Rattle.pair_bounds.specs.Slots.{slot_more, slot_shared, shared_at, rise_in, slot_segs, IsSmall};
-ghost use Rattle.order_bound.specs.Pairs.{AreApartSegments};
+ghost use Rattle.pair_bounds.specs.Slots.{slot_more, slot_relabelled, slot_shared, label_in, rise_in, slot_least, IsSmall};
 ghost use Rattle.order_bound.specs.Values.{share};
 
-use crate::places::{LinkPlaces, place_near, place_of};
+use crate::walking::ends_at;
 use map_base::SegId;
 use order_bound::OpenLink;
 
-/// A segment where a pair is open, and what the pair costs there where its lesser line stands first, and where its greater
-/// line does.
+/// A segment where a pair is open: the label of its class of segments joined by Links, and what the pair costs there
+/// where its lesser line stands first, and where its greater line does.
 #[derive(Clone, Copy)]
 pub struct Slot {
     pub seg: SegId,
+    pub label: u32,
     pub lesser_first: i64,
     pub greater_first: i64,
 }
@@ -41,42 +41,79 @@ fn difference(a: i64, b: i64) -> i64
     a - b
 }
 
-/// The slot, with more cost.
-fn more(slot: Slot, lesser_first: u32, greater_first: u32) -> Slot
+/// The slot, with more cost if it is that of the segment.
+fn more(slot: Slot, seg: SegId, lesser_first: u32, greater_first: u32) -> Slot
     requires { IsSmall (2 ^ 60) slot }
-    ensures { result ≡ slot_more slot.seg lesser_first greater_first slot }
+    ensures { result ≡ slot_more seg lesser_first greater_first slot }
 {
-    Slot {
-        seg: slot.seg,
-        lesser_first: sum(slot.lesser_first, i64::from(lesser_first)),
-        greater_first: sum(slot.greater_first, i64::from(greater_first)),
+    if seg.0 == slot.seg.0 {
+        Slot {
+            seg: slot.seg,
+            label: slot.label,
+            lesser_first: sum(slot.lesser_first, i64::from(lesser_first)),
+            greater_first: sum(slot.greater_first, i64::from(greater_first)),
+        }
+    } else {
+        slot
     }
 }
 
 /// Adds to what a segment costs.
 pub(crate) fn add_cost(slots: &mut [Slot], seg: SegId, lesser_first: u32, greater_first: u32)
-    requires small { All (IsSmall (2 ^ 60)) slots.old }
-    requires apart { AreApartSegments (slot_segs slots.old) }
+    requires { All (IsSmall (2 ^ 60)) slots.old }
     ensures { slots.new ≡ map (slot_more seg lesser_first greater_first) slots.old }
 {
-    if let Some(place) = place_of(slots, seg) {
-        slots[place] = more(slots[place], lesser_first, greater_first);
+    for i in 0..slots.len() {
+        slots[i] = more(slots[i], seg, lesser_first, greater_first);
     }
 }
 
-/// By how much a segment costs more where the greater line stands first, 0 where it has no slot; the slot is thought to stand
-/// near.
-pub(crate) fn rise_in(slots: &[Slot], seg: SegId, near: usize) -> i64
-    requires small { All (IsSmall (2 ^ 60)) slots.now }
-    requires apart { AreApartSegments (slot_segs slots.now) }
+/// The slot, with the label of one class in place of that of another.
+fn relabelled(slot: Slot, one: u32, two: u32) -> Slot
+    ensures { result ≡ slot_relabelled one two slot }
+{
+    Slot {
+        seg: slot.seg,
+        label: if slot.label == two { one } else { slot.label },
+        lesser_first: slot.lesser_first,
+        greater_first: slot.greater_first,
+    }
+}
+
+/// Gives the segments of one class the label of another.
+pub(crate) fn relabel(slots: &mut [Slot], one: u32, two: u32)
+    ensures { slots.new ≡ map (slot_relabelled one two) slots.old }
+{
+    for i in 0..slots.len() {
+        slots[i] = relabelled(slots[i], one, two);
+    }
+}
+
+/// The label of a segment, 0 where it has no slot.
+pub(crate) fn label_in(slots: &[Slot], seg: SegId) -> u32
+    ensures { result ≡ label_in slots.now seg }
+{
+    for slot in slots {
+        if slot.seg.0 == seg.0 {
+            return slot.label;
+        }
+    }
+    0
+}
+
+/// By how much a segment costs more where the greater line stands first, 0 where it has no slot.
+pub(crate) fn rise_in(slots: &[Slot], seg: SegId) -> i64
+    requires { All (IsSmall (2 ^ 60)) slots.now }
     ensures value { result ≡ rise_in slots.now seg }
     ensures low { (pos 0 -ℤ pos (2 ^ 62)) ≤ℤ result }
     ensures high { result ≤ℤ pos (2 ^ 62) }
 {
-    match place_near(slots, seg, near) {
-        Some(place) => rise(slots[place]),
-        None => 0,
+    for slot in slots {
+        if slot.seg.0 == seg.0 {
+            return rise(*slot);
+        }
     }
+    0
 }
 
 /// By how much a slot costs more where the greater line stands first.
@@ -110,43 +147,33 @@ fn share(price: i64, link: OpenLink, seg: SegId, lesser_first: bool) -> i64
     sum(here, there)
 }
 
-/// The slot with its shares of a price on a Link.
+/// The slot with its shares of a price on a Link, of which it has none where the Link doesn't end there.
+#[tactic(auto, using(crate::proofs::PricedSlots::unshared))]
 fn shared(slot: Slot, link: OpenLink, price: i64) -> Slot
     requires small { IsSmall (2 ^ 60) slot }
     requires low { (pos 0 -ℤ pos (2 ^ 32)) ≤ℤ price }
     requires high { price ≤ℤ pos (2 ^ 32) }
     ensures { result ≡ slot_shared link price slot }
 {
+    if !ends_at(slot.seg, link) {
+        return slot;
+    }
     Slot {
         seg: slot.seg,
+        label: slot.label,
         lesser_first: sum(slot.lesser_first, share(price, link, slot.seg, true)),
         greater_first: sum(slot.greater_first, share(price, link, slot.seg, false)),
     }
 }
 
-/// Adds the shares of a price on a Link that a segment has, whose slot is thought to stand near.
-fn share_at(slots: &mut [Slot], seg: SegId, near: usize, link: OpenLink, price: i64)
+/// Adds the shares of a price on a Link.
+pub(crate) fn add_shares(slots: &mut [Slot], link: OpenLink, price: i64)
     requires small { All (IsSmall (2 ^ 60)) slots.old }
-    requires apart { AreApartSegments (slot_segs slots.old) }
-    requires low { (pos 0 -ℤ pos (2 ^ 32)) ≤ℤ price }
-    requires high { price ≤ℤ pos (2 ^ 32) }
-    ensures { slots.new ≡ map (shared_at seg link price) slots.old }
-{
-    if let Some(place) = place_near(slots, seg, near) {
-        slots[place] = shared(slots[place], link, price);
-    }
-}
-
-/// Adds the shares of a price on a Link, on both its segments.
-pub(crate) fn add_shares(slots: &mut [Slot], link: OpenLink, near: LinkPlaces, price: i64)
-    requires small { All (IsSmall (2 ^ 59)) slots.old }
-    requires apart { AreApartSegments (slot_segs slots.old) }
     requires low { (pos 0 -ℤ pos (2 ^ 32)) ≤ℤ price }
     requires high { price ≤ℤ pos (2 ^ 32) }
     ensures { slots.new ≡ map (slot_shared link price) slots.old }
 {
-    share_at(slots, link.seg, near.here, link, price);
-    if link.other.0 != link.seg.0 {
-        share_at(slots, link.other, near.there, link, price);
+    for i in 0..slots.len() {
+        slots[i] = shared(slots[i], link, price);
     }
 }

@@ -1,19 +1,30 @@
 //! The walk over the trees of kept Links: each segment but the roots with the Link to its parent, parents first.
 
-ghost use Rattle.std.specs.Prelude.{◌≡◌, ◌<◌, ◌≤◌, ◌+◌, ◌++◌, ◌∷◌, [], true, ℕ, length, map, filter, reverse, drop, take, All, Option, IfSome};
+ghost use Rattle.std.specs.Prelude.{◌≡◌, ◌<◌, ◌≤◌, ◌+◌, ◌++◌, ◌∷◌, [], ℕ, not, length, map, filter, reverse};
 ghost use Rattle.std.specs.Vec.{vec_len, vec_capacity};
 ghost use Rattle.map_base.specs.declared.ids.SegId.{SegId};
-ghost use Rattle.pair_bounds.specs.declared.places.PlacedChild.{PlacedChild};
-ghost use Rattle.order_bound.specs.Pairs.{AreApartSegments};
-ghost use Rattle.order_bound.specs.CanonicalPrices.{ends_at, child_link, walked};
-ghost use Rattle.pair_bounds.specs.Slots.{slot_segs, placed_segs, child_links, IsBetween};
-ghost use Rattle.pair_bounds.specs.LinkLists.{links_from, is_next_child, IsOnList, AreFirst, AreNext};
+ghost use Rattle.order_bound.specs.declared.pairs.OpenLink.{OpenLink};
+ghost use Rattle.order_bound.specs.CanonicalPrices.{ends_at, far_end, child_link, walked};
 
-use crate::link_lists::{NextLinks, first_at, next_along, replace_first};
-use crate::places::{LinkPlaces, PlacedChild, PlacedSegment};
-use crate::slots::Slot;
 use map_base::SegId;
 use order_bound::{ChildLink, OpenLink};
+
+/// Whether a Link ends at a segment.
+pub(crate) fn ends_at(seg: SegId, link: OpenLink) -> bool
+    ensures { result ≡ ends_at seg link }
+{
+    if link.seg.0 == seg.0 {
+        return true;
+    }
+    link.other.0 == seg.0
+}
+
+/// Whether a Link doesn't end at a segment.
+fn is_elsewhere(seg: SegId, link: OpenLink) -> bool
+    ensures { result ≡ not (ends_at seg link) }
+{
+    !ends_at(seg, link)
+}
 
 /// A Link of a parent, with the child.
 fn child_link(parent: SegId, link: OpenLink) -> ChildLink
@@ -27,111 +38,76 @@ fn child_link(parent: SegId, link: OpenLink) -> ChildLink
     ChildLink { child, link }
 }
 
-/// Adds the child of a segment by a Link, if the child's list is not emptied.
-#[tactic(auto, using(crate::proofs::Waiting::links_push))]
-fn push_child(
-    parent: SegId,
-    link: OpenLink,
-    places: LinkPlaces,
-    slots: &[Slot],
-    firsts: &[Option<usize>],
-    children: &mut Vec<PlacedChild>,
-)
-    requires apart { AreApartSegments (slot_segs slots.now) }
-    requires each { length firsts.now ≡ length slots.now }
-    requires ends { ends_at parent link ≡ true }
-    requires room { vec_len children.old + length (filter (is_next_child parent (slot_segs slots.now) firsts.now) (link ∷ [])) ≤ vec_capacity children.old }
-    ensures items { child_links children.new.items ≡ child_links children.old.items ++ map (child_link parent) (filter (is_next_child parent (slot_segs slots.now) firsts.now) (link ∷ [])) }
+/// Adds the children of a segment by the Links that are left.
+fn push_children(parent: SegId, links: &[OpenLink], children: &mut Vec<ChildLink>)
+    requires room { vec_len children.old + length links.now ≤ vec_capacity children.old }
+    ensures items { children.new.items ≡ children.old.items ++ map (child_link parent) (filter (ends_at parent) links.now) }
     ensures room { vec_capacity children.old ≤ vec_capacity children.new }
 {
-    let child = child_link(parent, link);
-    let placed = PlacedChild { child, places };
-    if first_at(slots, child.child, placed.place(), firsts).is_some() {
-        children.push_reserved(placed);
+    for link in links {
+        push_child(parent, *link, children);
     }
 }
 
-/// Adds the children of a segment by the Links on its list, but for those whose own lists are emptied.
-fn push_children(
-    parent: SegId,
-    first: Option<usize>,
-    slots: &[Slot],
-    links: &[OpenLink],
-    places: &[LinkPlaces],
-    nexts: &[NextLinks],
-    firsts: &[Option<usize>],
-    children: &mut Vec<PlacedChild>,
-)
-    requires apart { AreApartSegments (slot_segs slots.now) }
-    requires each { length firsts.now ≡ length slots.now }
-    requires places { length places.now ≡ length links.now }
-    requires nexts { AreNext links.now 0 nexts.now }
-    requires first { IfSome first (IsOnList parent links.now) }
-    requires room { vec_len children.old + length (filter (is_next_child parent (slot_segs slots.now) firsts.now) (links_from first links.now)) ≤ vec_capacity children.old }
-    ensures items { child_links children.new.items ≡ child_links children.old.items ++ map (child_link parent) (filter (is_next_child parent (slot_segs slots.now) firsts.now) (links_from first links.now)) }
+/// Adds the child of a segment by a Link, if it ends there.
+fn push_child(parent: SegId, link: OpenLink, children: &mut Vec<ChildLink>)
+    requires room { vec_len children.old < vec_capacity children.old }
+    ensures items { children.new.items ≡ children.old.items ++ map (child_link parent) (filter (ends_at parent) (link ∷ [])) }
     ensures room { vec_capacity children.old ≤ vec_capacity children.new }
 {
-    let mut at = first;
-    while let Some(place) = at {
-        let link = links[place];
-        push_child(parent, link, places[place], slots, firsts, children);
-        at = next_along(parent, link, nexts[place]);
+    if ends_at(parent, link) {
+        let _ = children.push(child_link(parent, link));
     }
 }
 
-/// Lets children wait, the first of them last, so that it comes in turn first.
-fn push_waiting(children: &[PlacedChild], waiting: &mut Vec<PlacedSegment>)
-    requires room { vec_len waiting.old + length children.now ≤ vec_capacity waiting.old }
-    ensures items { placed_segs waiting.new.items ≡ placed_segs waiting.old.items ++ reverse (map (λ (c : PlacedChild). c.child.child) children.now) }
+/// Lets the far ends of a segment's Links wait, the first of them last, so that it comes in turn first.
+fn push_waiting(parent: SegId, links: &[OpenLink], waiting: &mut Vec<SegId>)
+    requires room { vec_len waiting.old + length links.now ≤ vec_capacity waiting.old }
+    ensures items { waiting.new.items ≡ waiting.old.items ++ reverse (map (far_end parent) (filter (ends_at parent) links.now)) }
     ensures room { vec_capacity waiting.old ≤ vec_capacity waiting.new }
 {
-    let mut left = children.len();
+    let mut left = links.len();
     while left > 0 {
         left -= 1;
-        let child = children[left];
-        waiting.push_reserved(PlacedSegment {
-            seg: child.child.child,
-            place: child.place(),
-        });
+        push_far_end(parent, links[left], waiting);
     }
 }
 
-/// Walks on from the segments that wait, the last of them first, until none waits. A segment that came in turn has an
-/// empty list from then on.
+/// Lets the far end of a segment's Link wait, if the Link ends there.
+fn push_far_end(parent: SegId, link: OpenLink, waiting: &mut Vec<SegId>)
+    requires room { vec_len waiting.old < vec_capacity waiting.old }
+    ensures items { waiting.new.items ≡ waiting.old.items ++ map (far_end parent) (filter (ends_at parent) (link ∷ [])) }
+    ensures room { vec_capacity waiting.old ≤ vec_capacity waiting.new }
+{
+    if ends_at(parent, link) {
+        let _ = waiting.push(child_link(parent, link).child);
+    }
+}
+
+/// Leaves the Links that don't end at a segment.
+fn leave_others(parent: SegId, links: &mut Vec<OpenLink>)
+    ensures items { links.new.items ≡ filter (λ l. not (ends_at parent l)) links.old.items }
+    ensures room { vec_capacity links.new ≡ vec_capacity links.old }
+{
+    links.retain(|link| is_elsewhere(parent, *link));
+}
+
+/// Walks on from the segments that wait, the last of them first, until none waits.
 pub(crate) fn walk(
-    slots: &[Slot],
-    links: &[OpenLink],
-    places: &[LinkPlaces],
-    nexts: &[NextLinks],
-    firsts: &mut Vec<Option<usize>>,
-    waiting: &mut Vec<PlacedSegment>,
-    children: &mut Vec<PlacedChild>,
+    waiting: &mut Vec<SegId>,
+    links: &mut Vec<OpenLink>,
+    children: &mut Vec<ChildLink>,
 )
-    requires apart { AreApartSegments (slot_segs slots.now) }
-    requires between { All (IsBetween (slot_segs slots.now)) links.now }
-    requires places { length places.now ≡ length links.now }
-    requires firsts { AreFirst (slot_segs slots.now) links.now [] 0 firsts.old.items }
-    requires nexts { AreNext links.now 0 nexts.now }
-    requires waiting { vec_len waiting.old + length links.now ≤ vec_capacity waiting.old }
-    requires children { vec_len children.old + length links.now ≤ vec_capacity children.old }
-    ensures items { child_links children.new.items ≡ child_links children.old.items ++ walked (vec_len waiting.old + length links.now) (reverse (placed_segs waiting.old.items)) links.now }
-    ensures firsts { vec_capacity firsts.new ≡ vec_capacity firsts.old }
+    requires waiting { vec_len waiting.old + vec_len links.old ≤ vec_capacity waiting.old }
+    requires children { vec_len children.old + vec_len links.old ≤ vec_capacity children.old }
+    ensures items { children.new.items ≡ children.old.items ++ walked (vec_len waiting.old + vec_len links.old) (reverse waiting.old.items) links.old.items }
     ensures waiting { vec_capacity waiting.old ≤ vec_capacity waiting.new }
+    ensures links { vec_capacity links.old ≤ vec_capacity links.new }
     ensures children { vec_capacity children.old ≤ vec_capacity children.new }
 {
     while let Some(parent) = waiting.pop() {
-        let start = children.len();
-        let first = replace_first(slots, parent.seg, parent.place, None, firsts);
-        push_children(
-            parent.seg,
-            first,
-            slots,
-            links,
-            places,
-            nexts,
-            firsts.as_slice(),
-            children,
-        );
-        push_waiting(&children[start..], waiting);
+        push_children(parent, links, children);
+        push_waiting(parent, links, waiting);
+        leave_others(parent, links);
     }
 }

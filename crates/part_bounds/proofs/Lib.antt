@@ -1,15 +1,13 @@
+mod OwnTerms
+mod Groups
 mod KeptUp
-mod NotedPairs
+pub mod NotedPairs
 mod Marks
+mod KeptShares
+mod OwnSegments
+mod ApartLists
+mod PairsKept
 mod PricesKept
-mod RisesKept
-mod CrossedSums
+mod OwnUse
 mod OwnPrices
 pub mod Restored
-pub mod LinePlaces
-pub mod Settled
-pub mod Shifts
-pub mod RiseTables
-pub mod Foregone
-pub mod TurnSteps
-mod SavedStates

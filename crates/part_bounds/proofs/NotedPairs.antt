@@ -4,7 +4,7 @@ use Rattle.std.specs.Prelude.{ℤ, pos, negsuc}
 use Rattle.std.specs.List.{All, AllByRecursion}
 use Rattle.std.proofs.Math.Path.{fun_ext}
 use Rattle.std.proofs.lemmas.Bool.{or_left, or_right, or_cases, and_parts}
-use Rattle.std.proofs.lemmas.List.{append-nil, take_more, get_or-map, length-map}
+use Rattle.std.proofs.lemmas.List.{append-nil, take_more, get_or-map, length-map, get_or_default}
 use Rattle.std.proofs.lemmas.List.Elements.{All-head, All-tail, All-from_recursion}
 use Rattle.map_base.specs.declared.ids.SegId.{SegId}
 use Rattle.map_base.specs.declared.ids.LineId.{LineId}
@@ -24,17 +24,17 @@ use Rattle.order_bound.proofs.Worth.{each_taken, each_priced}
 use Rattle.order_bound.proofs.Completing.{same_pair, pair_itself}
 use Rattle.order_bound.proofs.Parts.{part_numbered}
 use Rattle.order_bound.proofs.Bounding.{AreNumbered, each_kept}
-use Rattle.pair_shares.specs.declared.changes.Change.{Change}
-use Rattle.pair_shares.specs.declared.pair_terms.PairTerms.{PairTerms}
-use Rattle.pair_shares.specs.Changes.{is_new_pair, is_changed}
-use Rattle.pair_shares.specs.PairGroups.{Group, KnowsOwn, terms_of_pair, group_of, groups_of, group_in, groups_in, no_group, IsGroup}
+use Rattle.part_bounds.specs.declared.changes.Change.{Change}
+use Rattle.part_bounds.specs.declared.pair_terms.PairTerms.{PairTerms}
+use Rattle.part_bounds.specs.Changes.{is_new_pair, is_changed}
+use Rattle.part_bounds.specs.PairGroups.{Group, KnowsOwn, terms_of_pair, group_of, groups_of, group_in, groups_in, no_group, IsGroup}
 use Rattle.pair_bounds.specs.PriceNotes.{price_over, listed_all}
-use Rattle.part_bounds.specs.KeptPrices.{has_number, cleared, AreMarked, IsNoted, AreNoted}
-use Rattle.pair_shares.proofs.OwnTerms.{own_cost, own_links, found_pair}
+use Rattle.part_bounds.specs.Kept.{has_number, cleared, AreMarked, IsNoted, AreNoted}
+use Rattle.part_bounds.proofs.OwnTerms.{own_cost, own_links, found_pair}
 use Rattle.pair_bounds.proofs.Noted.{over_none}
 use Rattle.pair_bounds.proofs.PairCosts.{all_among}
-use Rattle.pair_shares.proofs.KeptGroups.{group_here, group_at}
-use Rattle.pair_shares.proofs.PairsKept.{unchanged}
+use Rattle.part_bounds.proofs.KeptUp.{group_here, group_at}
+use Rattle.part_bounds.proofs.PairsKept.{unchanged}
 
 -- The prices of a pair depend on its own terms alone.
 
@@ -240,30 +240,23 @@ whole_noted segs placed part terms price groups stale grouped fresh noted =
 
 -- Another prefix.
 
-pub any_default : {A : Type 0} (xs : List A) (i : ℕ) (d e : A) → i < length xs → get_or xs i d ≡ get_or xs i e
-any_default [] i d e below = absurd (omega (arith, below))
-any_default (x ∷ xs) zero d e below = refl
-any_default (x ∷ xs) (suc i) d e below = any_default xs i d e (omega (arith, below))
-
--- the pairs that a placing leaves keep their prices
-pub left_noted : (segs one two : List (List LineId)) (part : List SegId) (price : ℕ → ℤ) (c : Change) (pairs : List PairTerms) (count : ℕ) (stale after : List Bool) → All (KnowsOwn part) pairs → All (IsGroup segs part) (groups_in pairs)
-    → count ≡ length pairs → AreMarked c pairs count stale after → ((g : Group) → IsGroup segs part g → is_changed c g ≡ false → pair_prices segs two part g.1 g.0 ≡ pair_prices segs one part g.1 g.0)
-    → AreNoted segs one part price (groups_in pairs) stale → AreNoted segs two part price (groups_in pairs) after
-left_noted segs one two part price c [] count stale after own fit counted marked same noted k below fresh = absurd (omega (arith, below))
-left_noted segs one two part price c (p ∷ rest) count stale after own fit counted marked same noted k below fresh =
+-- what holds of pairs that are not stale still holds of those that a placing leaves, where it doesn't change it
+pub left_fresh : (P Q : ℕ → Group → Type 0) (segs : List (List LineId)) (part : List SegId) (c : Change) (pairs : List PairTerms) (count : ℕ) (stale after : List Bool) → All (KnowsOwn part) pairs → All (IsGroup segs part) (groups_in pairs)
+    → count ≡ length pairs → AreMarked c pairs count stale after → ((k : ℕ) (g : Group) → IsGroup segs part g → is_changed c g ≡ false → P k g → Q k g)
+    → ((k : ℕ) → k < length (groups_in pairs) → get_or stale k true ≡ false → P k (get_or (groups_in pairs) k no_group))
+    → (k : ℕ) → k < length (groups_in pairs) → get_or after k true ≡ false → Q k (get_or (groups_in pairs) k no_group)
+left_fresh P Q segs part c [] count stale after own fit counted marked same all k below fresh = absurd (omega (arith, below))
+left_fresh P Q segs part c (p ∷ rest) count stale after own fit counted marked same all k below fresh =
     let pairs : List PairTerms = p ∷ rest in
     let within : k < length pairs = omega (arith, below, length-map pairs group_in) in
     let e : PairTerms = get_or pairs k p in
-    let here : e ≡ get_or pairs k e = any_default pairs k p e within in
+    let here : e ≡ get_or pairs k e = get_or_default pairs k p e within in
     let is : get_or (groups_in pairs) k no_group ≡ group_in e = group_here pairs k e within here in
     let fits : IsGroup segs part (group_in e) = group_at (IsGroup segs part) pairs k e fit within here in
     let known : KnowsOwn part e = subst (KnowsOwn part) (sym here) (own k e within) in
     let none : is_changed c (group_in e) ≡ false =
     unchanged part e.terms.items e.segs.items c.seg (is_new_pair c e.pair) known fits.inside (marked.marked k e (omega (arith, within, counted)) within here fresh) in
-    let prices : pair_prices segs two part e.terms.items e.pair ≡ pair_prices segs one part e.terms.items e.pair = same (group_in e) fits none in
-    subst (IsNoted segs two part price) (sym is)
-    (subst (λ l. All (λ (t : ℕ × Term). price t.0 ≡ price_among l t.0) e.terms.items) (sym prices)
-    (subst (IsNoted segs one part price) is (noted k below (marked.still k fresh))))
+    subst (Q k) (sym is) (same k (group_in e) fits none (subst (P k) is (all k below (marked.still k fresh))))
 
 -- The list.
 
@@ -292,19 +285,19 @@ list_is segs placed part problem_terms numbers price list e1 all e2 =
     e2 ∙ (ap (listed_all price) e1 ∙ listed_is segs placed part (part_terms problem_terms part) (part_terms problem_terms part) price
     (all_among (λ (t : ℕ × Term). price t.0 ≡ price_among (pair_prices segs placed part (part_terms problem_terms part) (pair_in t.1)) t.0) (part_terms problem_terms part) all))
 
-abbrev AreAbove : ℕ → List (ℕ × ℤ) → Type 0
+abbrev pub AreAbove : ℕ → List (ℕ × ℤ) → Type 0
 AreAbove k prices = AllByRecursion (λ (p : ℕ × ℤ). k < p.0) prices
 
 rising_more : (k : ℕ) (y : ℤ) (prices : List (ℕ × ℤ)) → AreAbove k prices → AreRisingPrices prices → AreRisingPrices ((k, y) ∷ prices)
 rising_more k y [] above rises = tt
 rising_more k y (p ∷ prices) above rises = (above.0, rises)
 
-listed_rising : (k : ℕ) (y : ℤ) (rest : List (ℕ × ℤ)) → AreAbove k rest → AreRisingPrices rest → AreRisingPrices (listed k y ++ rest)
+pub listed_rising : (k : ℕ) (y : ℤ) (rest : List (ℕ × ℤ)) → AreAbove k rest → AreRisingPrices rest → AreRisingPrices (listed k y ++ rest)
 listed_rising k (pos zero) rest above rises = rises
 listed_rising k (pos (suc n)) rest above rises = rising_more k (pos (suc n)) rest above rises
 listed_rising k (negsuc n) rest above rises = rising_more k (negsuc n) rest above rises
 
-listed_above : (m k : ℕ) (y : ℤ) (rest : List (ℕ × ℤ)) → m < k → AreAbove m rest → AreAbove m (listed k y ++ rest)
+pub listed_above : (m k : ℕ) (y : ℤ) (rest : List (ℕ × ℤ)) → m < k → AreAbove m rest → AreAbove m (listed k y ++ rest)
 listed_above m k (pos zero) rest below above = above
 listed_above m k (pos (suc n)) rest below above = (below, above)
 listed_above m k (negsuc n) rest below above = (below, above)

@@ -13,8 +13,8 @@ use Rattle.order_bound.specs.Bounds.{slot_cost}
 use Rattle.order_bound.specs.CanonicalPrices.{ends_at, far_end, child_link, walked, children_of, priced, pair_prices}
 use Rattle.order_bound.proofs.Lists.{is_false, each_filter}
 use Rattle.order_bound.proofs.Bounding.{each_kept}
-use Rattle.pair_shares.specs.PairGroups.{meets, own_segments}
-use Rattle.pair_shares.proofs.OwnSegments.{IsMet, links_met, filter_turned}
+use Rattle.part_bounds.specs.PairGroups.{meets, own_segments}
+use Rattle.part_bounds.proofs.OwnSegments.{IsMet, links_met, filter_turned}
 
 walked_none : (n : ℕ) (links : List OpenLink) → walked n [] links ≡ []
 walked_none zero links = refl

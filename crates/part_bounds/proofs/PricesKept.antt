@@ -11,12 +11,12 @@ use Rattle.order_bound.specs.declared.pairs.Pair.{Pair}
 use Rattle.order_bound.specs.Pairs.{pair_in, open_segments, open_links, kept}
 use Rattle.order_bound.specs.Bounds.{open_cost, slot_cost}
 use Rattle.order_bound.specs.CanonicalPrices.{children_of, priced, pair_prices}
-use Rattle.pair_shares.specs.PairGroups.{Group, meets, IsGroup}
-use Rattle.pair_shares.specs.declared.changes.Change.{Change}
-use Rattle.pair_shares.specs.Changes.{is_new_pair, is_changed, IsChange}
-use Rattle.pair_shares.proofs.OwnSegments.{SameElsewhere, cost_same, same_ends, sum_kept, links_kept, open_kept}
+use Rattle.part_bounds.specs.PairGroups.{Group, meets, IsGroup}
+use Rattle.part_bounds.specs.declared.changes.Change.{Change}
+use Rattle.part_bounds.specs.Changes.{is_new_pair, is_changed, IsChange}
+use Rattle.part_bounds.proofs.OwnSegments.{SameElsewhere, cost_same, same_ends, sum_kept, links_kept, open_kept}
 use Rattle.part_bounds.proofs.OwnPrices.{own_prices_is}
-use Rattle.pair_shares.proofs.PairsKept.{AlikeOn, alike_back, all_alike, costs_alike, links_alike, segments_alike, alike_unchanged, elsewhere_alike}
+use Rattle.part_bounds.proofs.PairsKept.{AlikeOn, alike_back, all_alike, costs_alike, links_alike, segments_alike, alike_unchanged, elsewhere_alike}
 
 -- where the segments where a pair is open, what it costs there, and its open Links are the same
 same_prices : (segs one two : List (List LineId)) (part : List SegId) (terms : List (ℕ × Term)) (p : Pair) → open_segments segs one part p ≡ open_segments segs two part p → slot_cost one terms p ≡ slot_cost two terms p

@@ -1,7 +1,5 @@
 pub mod PartStates
-pub mod Kept
+pub mod PairGroups
+pub mod Changes
 pub mod Settled
-pub mod Rises
-pub mod KeptPrices
-pub mod Undoing
-pub mod SavedStates
+pub mod Kept

@@ -12,7 +12,9 @@ use Rattle.order_bound.specs.declared.pairs.Pair.{Pair}
 use Rattle.order_bound.specs.declared.pairs.OpenLink.{OpenLink}
 use Rattle.order_bound.specs.Pairs.{pair_of, is_pair}
 use Rattle.order_bound.specs.Bounds.{open_cost}
-use Rattle.order_bound.specs.Values.{price_at, share, int_sum, where_one, is_one, is_one_there}
+use Rattle.order_bound.specs.Values.{share, where_one, is_one, is_one_there}
+use Rattle.order_values.specs.PriceLists.{price_at}
+use Rattle.whole_sums.specs.Sums.{int_sum}
 use Rattle.order_check.specs.Slots.{slot_on, slot_share}
 use Rattle.prefix_bounds.specs.SlotsSoFar.{link_share}
 

@@ -13,8 +13,9 @@ use Rattle.order_model.specs.declared.term.Term.TheVariants.{Side, Link, Apart}
 use Rattle.order_model.specs.PartTerms.{is_of, no_term, numbered_from, part_terms}
 use Rattle.order_bound.specs.Pairs.{pair_of, is_pair}
 use Rattle.order_bound.specs.Decided.{decided_cost, decided_sum}
-use Rattle.order_bound.specs.Values.{int_sum, least_answer}
-use Rattle.order_bound.proofs.IntSums.{int_sum-append}
+use Rattle.order_bound.specs.Values.{least_answer}
+use Rattle.whole_sums.specs.Sums.{int_sum}
+use Rattle.whole_sums.proofs.Sums.{int_sum-append}
 use Rattle.order_bound.specs.declared.pairs.Pair.{Pair}
 use Rattle.order_check.specs.Slots.{slot_on, slot_of, pair_at, is_slot, has_slot, noted, with_slots, slots_after, slots_of, slot_share, slot_total, slots_value}
 use Rattle.order_check.proofs.SlotSums.{has_noted}

@@ -12,7 +12,8 @@ use Rattle.order_model.specs.PartTerms.{part_terms}
 use Rattle.order_bound.specs.declared.pairs.Pair.{Pair}
 use Rattle.order_bound.specs.declared.pairs.OpenLink.{OpenLink}
 use Rattle.order_bound.specs.Pairs.{pair_of, is_pair}
-use Rattle.order_bound.specs.Values.{price_at, where_one, is_one, is_one_there}
+use Rattle.order_bound.specs.Values.{where_one, is_one, is_one_there}
+use Rattle.order_values.specs.PriceLists.{price_at}
 
 -- no price is above the greatest weight either way
 abbrev pub AreSmallPrices : List (ℕ × ℤ) → Type 0

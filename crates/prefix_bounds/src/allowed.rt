@@ -6,7 +6,8 @@ ghost use Rattle.order_model.specs.declared.term.Term.{Term};
 ghost use Rattle.order_model.specs.Problems.{IsTerm};
 ghost use Rattle.order_model.specs.PartTerms.{part_terms};
 ghost use Rattle.order_model.specs.Prefixes.{IsPrefixOf};
-ghost use Rattle.order_bound.specs.Values.{price_at, allows, are_allowed};
+ghost use Rattle.order_bound.specs.Values.{allows, are_allowed};
+ghost use Rattle.order_values.specs.PriceLists.{price_at};
 ghost use Rattle.order_check.specs.Prices.{may_have};
 ghost use Rattle.prefix_bounds.specs.SlotsSoFar.{AreSmallPrices};
 

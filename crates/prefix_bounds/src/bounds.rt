@@ -35,7 +35,7 @@ pub fn bound_of(
     ensures shown { IfOk result (λ bound. CostsAtLeast problem.now part.now prefix.now.placed (pos bound)) }
 {
     let numbers = numbers_of_part(alloc, problem, part)?;
-    let bounds = part_at(alloc, problem, part, numbers.as_slice(), prefix)?;
+    let mut bounds = part_at(alloc, problem, part, numbers.as_slice(), prefix)?;
     Ok(bounds.bound())
 }
 
@@ -55,9 +55,8 @@ pub fn prices_for(
         ≡ Some (pos (bound_of problem.now.segs part.now (part_terms problem.now.terms part.now) prefix.now.placed))) }
 {
     let numbers = numbers_of_part(alloc, problem, part)?;
-    let bounds = part_at(alloc, problem, part, numbers.as_slice(), prefix)?;
-    let mut prices = bounds.into_prices(alloc)?;
-    Ok(prices.prices(alloc)?)
+    let mut bounds = part_at(alloc, problem, part, numbers.as_slice(), prefix)?;
+    Ok(bounds.prices(alloc)?)
 }
 
 /// A part of the problem, whose terms have these numbers, with the lines of a prefix placed.

@@ -17,7 +17,7 @@ use Rattle.session_command.specs.SessionWorks.{Played, played_by}
 -- Where a draw with these edits is not refused, its map shows exactly the line graph of the feed that they make, in a legal
 -- drawing, and no line orders cost less; the check says yes to the map and its certificate.
 abbrev pub KeepsPromise : Feed → Choices → MethodChoices → List Edit → Type 0
-KeepsPromise feed choices method standing = IfOk (draw_with feed choices method standing) (IsMade (feed_after standing feed) (choices_after standing choices))
+KeepsPromise feed choices method standing = IfOk (draw_with feed choices method standing) (IsMade (feed_after standing feed) (choices_after standing choices) method.claim)
 
 -- each draw of a script keeps it
 abbrev pub KeepDraws : Loaded → List ℕ → Type 0

@@ -28,7 +28,7 @@ pub record IsRedrawn (old new : SessionState) : Type 0 where
   pub session : new ≡ with_held old new.held
   pub kept : All (Contains new.held) old.held
   pub finished : All (Contains new.held) (draw_parts old)
-  pub made : IfOk (draw_outcome old) (IsMade (drawn_feed old) (drawn_choices old))
+  pub made : IfOk (draw_outcome old) (IsMade (drawn_feed old) (drawn_choices old) old.method.claim)
 
 -- one draw more
 pub record IsDrawn (old new : Stage) : Type 0 where

@@ -1,7 +1,7 @@
 //! Settings files that are read or refused.
 
 use map_base::{NoMemory, Text};
-use map_method::{Defaults, MapSettings, Search, Spread};
+use map_method::{Claim, Defaults, MapSettings, Search, Spread};
 use map_settings::{SettingsFault, SettingsWhy, read_settings};
 use std::alloc::{AllocError, Global};
 use std::test::Fail;
@@ -32,9 +32,10 @@ fn reads_every_key(rt: HostRuntime) -> Result<(), Fail> {
 
 #[test]
 fn reads_how_a_map_is_found(rt: HostRuntime) -> Result<(), Fail> {
-    let file = "search = \"rising\"\nspread = 35\nfinest = 16\nmoves = 7\n";
+    let file = "search = \"dual\"\nproof = \"bound\"\nspread = 35\nfinest = 16\nmoves = 7\n";
     let method = read(rt.alloc(), file).ok().ok_or("read")?.method;
-    assert_eq!(rt; method.search, Search::Rising);
+    assert_eq!(rt; method.search, Search::Dual);
+    assert_eq!(rt; method.claim, Claim::Bound);
     assert_eq!(rt; method.spread, Spread::Percent(35));
     assert_eq!(rt; method.finest, 16);
     assert_eq!(rt; method.moves, 7);
@@ -42,7 +43,8 @@ fn reads_how_a_map_is_found(rt: HostRuntime) -> Result<(), Fail> {
         .ok()
         .ok_or("read")?;
     assert_eq!(rt; map.settings.budget, 100_000);
-    assert_eq!(rt; map.method.search, Search::Rising);
+    assert_eq!(rt; map.method.search, Search::Dual);
+    assert_eq!(rt; map.method.claim, Claim::Best);
     assert_eq!(rt; map.method.spread, Spread::Auto);
     assert_eq!(rt; map.method.finest, 8);
     assert_eq!(rt; map.method.moves, 1_000);
@@ -104,9 +106,14 @@ fn keeps_to_the_ends_of_each_range(rt: HostRuntime) -> Result<(), Fail> {
         ("station = [0, 0]\n", false),
         ("station = [0, 0, 0, 0]\n", false),
         ("search = \"live\"\n", true),
-        ("search = \"rising\"\n", true),
-        ("search = \"Rising\"\n", false),
+        ("search = \"dual\"\n", true),
+        ("search = \"Dual\"\n", false),
+        ("search = \"rising\"\n", false),
         ("search = 1\n", false),
+        ("proof = \"best\"\n", true),
+        ("proof = \"bound\"\n", true),
+        ("proof = \"Best\"\n", false),
+        ("proof = true\n", false),
         ("spread = -1\n", false),
         ("spread = 0\n", true),
         ("spread = 100\n", true),

@@ -1,7 +1,7 @@
 -- What `trial` does: the map of a trial feed is made, and its numbers are printed.
 use Rattle.std.specs.Prelude.{◌≡◌, ◌≤◌, ◌⊎◌, ℕ, ◌+◌, List, [], ◌∷◌, codes, None, Result, Ok, Err}
 use Rattle.map_method.specs.declared.defaults.Defaults.TheVariants.{Make}
-use Rattle.order_proof.specs.Plain.{PlainPart}
+use Rattle.order_proof.specs.Plain.{PlainPartTree, by_cases, by_pairs, PlainPart}
 use Rattle.order_proof.specs.Trees.{splits_of}
 use Rattle.cert_file.specs.Plain.{PlainCertificate}
 use Rattle.map_engine.specs.declared.fault.MakeFault.{MakeFault}
@@ -30,10 +30,15 @@ trial_inputs = record { feed = codes "trial"; chosen = record { defaults = Make;
 unfoldable pub trial_loaded : ℕ → Result Loaded Refusal
 trial_loaded trial = outcome (load_work trial_inputs.chosen) (file_of (trial_folder trial) (input_at trial_inputs))
 
+-- the splits of a part's tree: a dual tree has none
+abbrev pub splits_of_tree : PlainPartTree → ℕ
+splits_of_tree (by_cases tree) = splits_of tree
+splits_of_tree (by_pairs tree) = 0
+
 -- the splits of the trees of parts
 abbrev pub splits_of_parts : List PlainPart → ℕ
 splits_of_parts [] = 0
-splits_of_parts (part ∷ parts) = splits_of part.tree + splits_of_parts parts
+splits_of_parts (part ∷ parts) = splits_of_tree part.tree + splits_of_parts parts
 
 -- the numbers of a map by its certificate
 abbrev pub summary_of : PlainCertificate → Summary

@@ -2,12 +2,12 @@
 //! answered as want of it.
 
 ghost use Rattle.std.specs.Prelude.{◌≡◌, ◌+◌, map, IfOk};
-ghost use Rattle.order_proof.specs.Plain.{plain, plain_part};
+ghost use Rattle.order_proof.specs.Plain.{plain, plain_part, plain_part_tree};
 ghost use Rattle.order_proof.specs.Trees.{splits_of};
-ghost use Rattle.trial_command.specs.Trials.{splits_of_parts};
+ghost use Rattle.trial_command.specs.Trials.{splits_of_parts, splits_of_tree};
 
 use map_base::NoMemory;
-use order_proof::{Part, Tree};
+use order_proof::{Part, PartTree, Tree};
 
 /// The splits of the trees of all parts.
 pub fn splits_of_parts(parts: &[Part]) -> Result<u64, NoMemory>
@@ -15,9 +15,19 @@ pub fn splits_of_parts(parts: &[Part]) -> Result<u64, NoMemory>
 {
     let mut count = 0;
     for part in parts {
-        count = with_splits(count, &part.tree)?;
+        count = with_part(count, &part.tree)?;
     }
     Ok(count)
+}
+
+/// The count with the splits of a part's tree. A dual tree has none.
+fn with_part(before: u64, tree: &PartTree) -> Result<u64, NoMemory>
+    ensures { IfOk result (λ count. count ≡ before + splits_of_tree (plain_part_tree tree.now)) }
+{
+    match tree {
+        PartTree::ByCases(tree) => with_splits(before, tree),
+        PartTree::ByPairs(_) => Ok(before),
+    }
 }
 
 /// The count with the splits of a tree.

@@ -1,6 +1,6 @@
 use Rattle.std.proofs.Common.{arith}
 use Rattle.cert_file.specs.Forms.{pairs_from}
-use Rattle.cert_file.proofs.Pairs.{pair_kept, pair_refused, pairs_end, pairs_odd}
+use Rattle.cert_file.proofs.Pairs.{pair_kept}
 use Rattle.cert_file.proofs.forms.pairs_in.Goals as goal
 
 pub loop-rest-preserved : goal.loop-rest-preserved

@@ -2,7 +2,8 @@ use Rattle.std.proofs.Common.{◌∙◌, ◌+◌, ◌<◌, ◌≤◌, ◌++◌, 
 use Rattle.std.proofs.lemmas.List.{length-map, at_drop_more, at_drop_all, append_assoc, append-nil}
 use Rattle.map_base.specs.declared.ids.SegId.{SegId}
 use Rattle.map_base.specs.declared.ids.LineId.{LineId}
-use Rattle.kept_trees.specs.OwnTrees.{part_of_key, segments_from, all_segments}
+use Rattle.dual_ascent.specs.OwnNumbers.{segments_from, all_segments}
+use Rattle.kept_trees.specs.OwnTrees.{part_of_key}
 use Rattle.kept_trees.proofs.own_search.all_segments.Goals as goal
 
 pub loop-k-init : goal.loop-k-init

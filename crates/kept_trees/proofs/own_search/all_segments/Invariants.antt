@@ -1,5 +1,6 @@
 use Rattle.std.proofs.Common.{◌≡◌, ◌++◌, drop}
-use Rattle.kept_trees.specs.OwnTrees.{part_of_key, segments_from, all_segments}
+use Rattle.dual_ascent.specs.OwnNumbers.{segments_from, all_segments}
+use Rattle.kept_trees.specs.OwnTrees.{part_of_key}
 use Rattle.kept_trees.proofs.own_search.all_segments.Given as goal
 
 -- the segments so far, before those that are left

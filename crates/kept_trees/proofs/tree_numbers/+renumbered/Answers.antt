@@ -4,10 +4,11 @@ use Rattle.order_proof.specs.declared.tree.Tree.{Tree, the_lemmas}
 use Rattle.order_proof.specs.Plain.{PlainTree, split, cases_of, plain, plain_children}
 use Rattle.order_proof.specs.Trees.{IsTree}
 use Rattle.order_search.specs.ByItself.{seg_from, number_from, cases_by, renumbered}
-use Rattle.order_search.proofs.Shown.{plain-Split, priced_last}
+use Rattle.order_search.proofs.Shown.{priced_last}
 use Rattle.kept_trees.specs.Renumbered.{renumbered_case}
 use Rattle.kept_trees.proofs.RenumberedTrees.{below_cases, tree_at}
 use Rattle.kept_trees.proofs.tree_numbers.+renumbered.Goals as goal
+use Rattle.order_proof.proofs.Views.{plain-Split}
 
 pub renumbered-returns-in_ok-children-in-Split : goal.renumbered-returns-in_ok-children-in-Split
 renumbered-returns-in_ok-children-in-Split t c =

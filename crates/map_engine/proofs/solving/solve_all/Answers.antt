@@ -17,7 +17,7 @@ use Rattle.kept_trees.proofs.HeldLists.{fewer_to_meet}
 use Rattle.map_engine.specs.declared.solution.Solution.{Solution}
 use Rattle.map_engine.specs.Solving.{parts_in}
 use Rattle.map_engine.specs.Stages.{IsMore, IsUnsolved}
-use Rattle.map_engine.proofs.PutOrders.{number_orders_are}
+use Rattle.kept_trees.proofs.PutOrders.{number_orders_are}
 use Rattle.map_engine.proofs.KeepLemmas.{AreHeld, still_held, all_held, one_held, held_before, held_all}
 use Rattle.map_engine.proofs.SolveLemmas.{none_solved, one_solved, unsolved_ends, all_solved, part_here, steps_more}
 use Rattle.map_engine.proofs.solving.solve_all.Goals as goal

@@ -2,7 +2,7 @@ use Rattle.std.proofs.Common.{List, All, Contains, subst, sym, ◌<◌, ℕ}
 use Rattle.std.proofs.lemmas.List.Elements.{All-contains_itself}
 use Rattle.map_base.specs.declared.ids.SegId.{SegId}
 use Rattle.order_model.specs.Costs.{AreOrders}
-use Rattle.map_engine.proofs.PutOrders.{length-orders, orders_put}
+use Rattle.kept_trees.proofs.PutOrders.{length-orders, orders_put}
 use Rattle.kept_trees.proofs.HeldLists.{added_is_in}
 use Rattle.kept_trees.specs.OwnTrees.{HeldPart, held_as}
 use Rattle.map_engine.proofs.KeepLemmas.{all_stay}

@@ -1,28 +1,26 @@
-use Rattle.std.proofs.Common.{◌≡◌, ◌∙◌, List, None, map, ap, subst, sym}
-use Rattle.std.proofs.lemmas.Result.{IfOk-weaker}
-use Rattle.map_base.specs.declared.ids.SegId.{SegId}
-use Rattle.map_base.specs.declared.ids.LineId.{LineId}
-use Rattle.order_model.specs.declared.problem.ProblemParts.{ProblemParts}
-use Rattle.order_model.specs.Problems.{IsProblem}
-use Rattle.order_model.specs.Costs.{AreBest}
-use Rattle.order_model.specs.Gathering.{part_lists}
-use Rattle.order_proof.specs.Plain.{PlainPart, PlainProof, ProofFields, plain_part, plain_proof}
-use Rattle.order_check.specs.Verdict.{parts_refusal, verdict}
-use Rattle.order_check.proofs.Verdicts.{best_of, verdict_by}
+use Rattle.std.proofs.Common.{sym}
+use Rattle.std.proofs.lemmas.Result.{err_from_is_err_and}
+use Rattle.order_model.specs.Costs.{cost_of}
+use Rattle.order_proof.specs.Plain.{plain_proof}
+use Rattle.order_check.specs.Verdict.{total_refusal, bound_refusal}
+use Rattle.order_check.proofs.Verdicts.{refused_first, verdict_total, verdict_none, best_where_attained}
 use Rattle.order_check.proofs.check.check_proof.Goals as goal
+
+pub returns-in_err-bound-clause-refused : goal.returns-in_err-bound-clause-refused
+returns-in_err-bound-clause-refused c =
+    let p = err_from_is_err_and c.from_residual-in_err-bound.result c.from_residual-in_err-bound.ensures.1 in
+    rw (p.1, p.2)
+    (refused_first (bound_refusal c.args.problem (plain_proof c.args.proof.now)) (total_refusal (plain_proof c.args.proof.now).parts (cost_of c.args.problem.terms c.args.orders.now.lists))
+    c.in_err-bound.field-0.0 c.in_err-bound.ensures.refused)
+
+pub returns-then-bound-cost-clause-refused : goal.returns-then-bound-cost-clause-refused
+returns-then-bound-cost-clause-refused c =
+    verdict_total c.args.problem c.args.orders.now.lists (plain_proof c.args.proof.now) c.in_ok-bound.bound c.in_ok-cost.cost c.in_ok-bound.ensures.accepted c.in_ok-bound.ensures.sum c.in_ok-cost.ensures c.if-bound-cost.true
+
+pub returns-clause-accepted : goal.returns-clause-accepted
+returns-clause-accepted c =
+    verdict_none c.args.problem c.args.orders.now.lists (plain_proof c.args.proof.now) c.in_ok-bound.bound c.in_ok-cost.cost c.in_ok-bound.ensures.accepted c.in_ok-bound.ensures.sum c.in_ok-cost.ensures c.if-bound-cost.false
 
 pub returns-clause-best : goal.returns-clause-best
 returns-clause-best c =
-    let p : ProblemParts = c.args.problem in
-    let orders : List (List LineId) = c.args.orders.now.lists in
-    let proof : PlainProof = plain_proof c.args.proof.now in
-    let last : ProblemParts = c.in_ok-last.last in
-    let parts : List (List SegId) = part_lists c.as_slice-2.result.now in
-    let proofs : List PlainPart = map plain_part c.as_slice-3.result.now in
-    let same : parts_refusal last parts proofs c.in_ok-cost.cost ≡ verdict p orders proof =
-    verdict_by p last c.as_slice.result.now parts proofs c.in_ok-cost.cost orders proof (c.as_slice.ensures ∙ ap (λ (f : ProofFields). f.rules) c.proof.view_is) c.in_ok-last.ensures.last
-    (ap part_lists c.as_slice-2.ensures.value ∙ c.in_ok-parts.ensures.list) (ap (map plain_part) (c.as_slice-3.ensures ∙ ap (λ (f : ProofFields). f.parts) c.proof.view_is))
-    c.in_ok-cost.ensures c.in_ok-last.ensures.accepted in
-    let fits : IsProblem p = subst IsProblem c.problem.view_is c.problem.invariant in
-    IfOk-weaker c.check_items.result (λ _. parts_refusal last parts proofs c.in_ok-cost.cost ≡ None) (λ _. AreBest p.segs p.terms orders)
-    (λ u none. best_of p orders proof fits (sym same ∙ none)) c.check_items.ensures.accepted
+    best_where_attained c.args.problem.segs c.args.problem.terms c.args.orders.now.lists c.in_ok-bound.bound c.in_ok-cost.cost c.in_ok-bound.ensures.bound c.if-bound-cost.false c.in_ok-cost.ensures

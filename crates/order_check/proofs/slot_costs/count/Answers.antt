@@ -4,7 +4,7 @@ use Rattle.std.specs.List.{sum_by}
 use Rattle.std.proofs.lemmas.List.{take_all}
 use Rattle.std.proofs.lemmas.List.Sums.{sum_by_more}
 use Rattle.map_base.specs.declared.ids.LineId.{LineId}
-use Rattle.order_bound.specs.Values.{int_sum}
+use Rattle.whole_sums.specs.Sums.{int_sum}
 use Rattle.order_check.specs.declared.slot.PartTerm.{PartTerm}
 use Rattle.order_check.specs.Slots.{cost_at}
 use Rattle.order_check.specs.Charging.{no_part_term}

@@ -1,6 +1,6 @@
 use Rattle.std.proofs.Common.{◌≡◌, ◌≤◌, ◌<◌, ◌*◌, ℕ, Bool, take, length}
 use Rattle.std.specs.List.{sum_by}
-use Rattle.order_bound.specs.Values.{int_sum}
+use Rattle.whole_sums.specs.Sums.{int_sum}
 use Rattle.order_check.specs.Slots.{cost_at}
 use Rattle.order_check.specs.Counting.{counted_by, decided_by, shifted}
 use Rattle.order_check.proofs.slot_costs.count.Given as goal

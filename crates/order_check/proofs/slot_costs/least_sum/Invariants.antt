@@ -1,6 +1,7 @@
 use Rattle.std.proofs.Common.{◌≡◌, ◌≤◌, ◌*◌, take}
 use Rattle.std.specs.Prelude.{unsigned_abs}
-use Rattle.order_bound.specs.Values.{int_sum, least_answer}
+use Rattle.order_bound.specs.Values.{least_answer}
+use Rattle.whole_sums.specs.Sums.{int_sum}
 use Rattle.order_check.specs.Slots.{cost_in}
 use Rattle.order_check.proofs.slot_costs.least_sum.Given as goal
 

@@ -1,7 +1,7 @@
 use Rattle.std.proofs.Common.{◌≡◌, ℕ, ◌+◌, ◌<◌, ◌∙◌, Bool, false, List, length, ap, sym, subst, arith, refl, rules, ◌^◌}
 use Rattle.std.specs.List.{sum_by}
 use Rattle.map_base.specs.declared.ids.LineId.{LineId}
-use Rattle.order_bound.specs.Values.{int_sum}
+use Rattle.whole_sums.specs.Sums.{int_sum}
 use Rattle.order_check.specs.declared.slot.PartTerm.{PartTerm}
 use Rattle.order_check.specs.Slots.{cost_at}
 use Rattle.order_check.specs.Charging.{AreTerms}

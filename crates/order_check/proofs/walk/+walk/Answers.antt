@@ -7,7 +7,8 @@ use Rattle.order_model.specs.Problems.{lines_on}
 use Rattle.order_model.specs.Prefixes.{is_placed, with_line, without_last}
 use Rattle.order_proof.specs.declared.tree.Tree.{Tree, the_lemmas}
 use Rattle.order_proof.specs.Plain.{split, plain, plain_children}
-use Rattle.order_bound.specs.Accepting.{Question, failing}
+use Rattle.order_bound.specs.Accepting.{failing}
+use Rattle.order_model.specs.Questions.{Question}
 use Rattle.order_bound.proofs.Sound.{rising_at, all_in}
 use Rattle.order_check.specs.Asking.{question_of, HaveTables}
 use Rattle.order_check.specs.Children.{child_lines}

@@ -1,11 +1,10 @@
 use Rattle.std.proofs.Common.{List, [], ◌∷◌, subst, sym, ◌∙◌}
 use Rattle.std.proofs.lemmas.Result.{err_from_is_err_and}
 use Rattle.map_base.specs.declared.ids.SegId.{SegId}
-use Rattle.order_proof.specs.Plain.{plain}
-use Rattle.order_proof.specs.Trees.{most_depth}
+use Rattle.order_proof.specs.Plain.{plain_part_tree}
 use Rattle.order_proof.specs.FrontLine.{front}
 use Rattle.order_proof.specs.Forms.{part_in}
-use Rattle.order_proof.specs.Reading.{ATree, parts_due, reading}
+use Rattle.order_proof.specs.Reading.{APartTree, parts_due, reading}
 use Rattle.order_proof.specs.Readers.{IsPartOf}
 use Rattle.decimal_text.proofs.Stops.{line_stops, rest_stops}
 use Rattle.order_proof.proofs.ReadParts.{head_stops, head_goes_on, part_read}
@@ -19,7 +18,7 @@ returns-in_err-target-clause-follows c =
 pub returns-in_err-tree-clause-follows : goal.returns-in_err-tree-clause-follows
 returns-in_err-tree-clause-follows c =
     let p = err_from_is_err_and c.from_residual-in_err-tree.result c.from_residual-in_err-tree.ensures.1 in
-    rw (p.1, p.2) (rest_stops c.in_err-tree.field-0.0 (reading (ATree most_depth ∷ []) c.in_ok-target.rest.now) (reading (parts_due 1) c.args.text.now) c.in_err-tree.ensures.follows
+    rw (p.1, p.2) (rest_stops c.in_err-tree.field-0.0 (reading (APartTree ∷ []) c.in_ok-target.rest.now) (reading (parts_due 1) c.args.text.now) c.in_err-tree.ensures.follows
     (head_goes_on 0 c.args.text.now (c.in_ok-target.target, c.in_ok-target.segs.items) c.in_ok-target.rest.now c.in_ok-target.ensures))
 
 pub returns-clause-follows : goal.returns-clause-follows
@@ -27,5 +26,5 @@ returns-clause-follows c = head_goes_on 0 c.args.text.now (c.in_ok-target.target
 
 pub returns-clause-part : goal.returns-clause-part
 returns-clause-part c =
-    subst (λ (segs : List SegId). IsPartOf (record { segs = segs; target = c.in_ok-target.target; tree = plain c.in_ok-tree.tree }) c.args.text.now c.in_ok-tree.rest.now) (sym c.of-segs.ensures)
-    (part_read c.args.text.now c.in_ok-target.target c.in_ok-target.segs.items c.in_ok-target.rest.now (plain c.in_ok-tree.tree) c.in_ok-tree.rest.now c.in_ok-target.ensures c.in_ok-tree.ensures.tree)
+    subst (λ (segs : List SegId). IsPartOf (record { segs = segs; target = c.in_ok-target.target; tree = plain_part_tree c.in_ok-tree.tree }) c.args.text.now c.in_ok-tree.rest.now) (sym c.of-segs.ensures)
+    (part_read c.args.text.now c.in_ok-target.target c.in_ok-target.segs.items c.in_ok-target.rest.now (plain_part_tree c.in_ok-tree.tree) c.in_ok-tree.rest.now c.in_ok-target.ensures c.in_ok-tree.ensures.tree)

@@ -10,11 +10,12 @@ use Rattle.order_search.specs.declared.child.Child.{Child}
 use Rattle.order_search.specs.Left.{room_of, AreNext}
 use Rattle.order_search.specs.Children.{lines_in}
 use Rattle.order_search.specs.LiveTrees.{GrownTree, GrownCases}
-use Rattle.order_search.specs.Searching.{due, due_case, due_cases, due_upto, seg_at, AreBounded, IsUnderWay, AreShut, IsOpenAt, HasChildren}
-use Rattle.order_search.proofs.Shown.{plain-Split, plain_last}
+use Rattle.order_search.specs.Searching.{part_of, due, due_case, due_cases, due_upto, seg_at, AreBounded, IsUnderWay, AreShut, IsOpenAt, HasChildren}
+use Rattle.order_search.proofs.Shown.{plain_last}
 use Rattle.order_search.proofs.Ways.{way_placed, shut_placed, room_placed, due_placed, chosen_placed, grown_back, seg_known, grown_closed, whole_due, grown_whole, stop_later, some_branches, most_upto, upto_more, grown_more, line_at, count_lines, next_pushed, open_kept, case_ready, kids_at, kids_by, front_fits, taken_at}
 use Rattle.order_search.proofs.Early.{case_above, bounded_pushed, child_bounded}
 use Rattle.order_search.proofs.grow.+grow.Goals as goal
+use Rattle.order_proof.proofs.Views.{plain-Split}
 
 pub grow_case-grow-requires : goal.grow_case-grow-requires
 grow_case-grow-requires g t c =
@@ -28,6 +29,7 @@ grow_case-grow-requires g t c =
     let shut : AreShut c.args.at down = shut_placed old down c.args.at c.args.child.line u c.requires.first placed in
     let room : room_of down.bounds.segs down.bounds.part down.bounds.placed < room_of old.bounds.segs old.bounds.part old.bounds.placed =
     room_placed old down c.args.at c.args.child.line u c.requires.first placed in
+    let bound : c.args.child.bound ≡ (part_of down.bounds).bound down.bounds.placed = c.requires.bound ∙ ap (λ (b : PartState). (part_of b).bound b.placed) (sym placed) in
     search rules
 
 pub grow_case-returns-then-child-search-clause-grown : goal.grow_case-returns-then-child-search-clause-grown
@@ -203,7 +205,7 @@ grow_cases-loop-k-preserved g t c =
 
 pub grow_open-returns-else-bound-search-clause-grown : goal.grow_open-returns-else-bound-search-clause-grown
 grow_open-returns-else-bound-search-clause-grown g t c =
-    grown_closed c.args.search.now c.args.at c.requires.under_way c.requires.first (omega (arith, c.if-bound-search.false, c.bound-bound.ensures))
+    grown_closed c.args.search.now c.args.at c.requires.under_way c.requires.first (omega (arith, c.if-bound-search.false, c.requires.bound))
 
 pub grow_split-returns-then-search-clause-stop : goal.grow_split-returns-then-search-clause-stop
 grow_split-returns-then-search-clause-stop g t c =

@@ -6,10 +6,11 @@ use Rattle.order_proof.specs.Plain.{PlainTree, split, cases_of, plain, plain_chi
 use Rattle.part_bounds.specs.PartStates.{PartState}
 use Rattle.order_search.specs.Pricing.{with_prices, priced_case}
 use Rattle.order_search.specs.Searching.{part_of}
-use Rattle.order_search.proofs.Shown.{plain-Split, priced_last}
+use Rattle.order_search.proofs.Shown.{priced_last}
 use Rattle.order_search.proofs.OverPrices.{below_cases, case_over, IsCaseOver}
 use Rattle.order_search.proofs.Ways.{back_placed}
 use Rattle.order_search.proofs.tree_prices.+priced.Goals as goal
+use Rattle.order_proof.proofs.Views.{plain-Split}
 
 pub priced-returns-in_ok-children-in-Split-clause-tree : goal.priced-returns-in_ok-children-in-Split-clause-tree
 priced-returns-in_ok-children-in-Split-clause-tree t c =

@@ -1,6 +1,6 @@
 use Rattle.std.proofs.Common.{◌≡◌, ◌*◌, take}
 use Rattle.std.specs.Prelude.{pos, ◌-ℤ◌, ◌≤ℤ◌}
-use Rattle.order_bound.specs.Values.{int_sum}
+use Rattle.whole_sums.specs.Sums.{int_sum}
 use Rattle.pair_bounds.specs.Slots.{slot_least}
 use Rattle.pair_bounds.proofs.child_prices.least_sum.Given as goal
 

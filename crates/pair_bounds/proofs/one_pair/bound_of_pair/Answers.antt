@@ -4,7 +4,7 @@ use Rattle.std.proofs.lemmas.Int.{to_z-of_z}
 use lib.Dec.{T}
 use lib.Signed.{non_neg}
 use lib.IntN.{nat_abs}
-use Rattle.order_bound.specs.Values.{int_sum}
+use Rattle.whole_sums.specs.Sums.{int_sum}
 use Rattle.pair_bounds.specs.Counted.{counted_sum}
 use Rattle.order_bound.specs.Bounds.{pair_bound}
 use Rattle.pair_bounds.specs.Slots.{slot_least}

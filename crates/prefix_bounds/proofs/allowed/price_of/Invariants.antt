@@ -1,5 +1,5 @@
 use Rattle.std.proofs.Common.{◌≡◌, drop}
-use Rattle.order_bound.specs.Values.{price_at}
+use Rattle.order_values.specs.PriceLists.{price_at}
 use Rattle.prefix_bounds.proofs.allowed.price_of.Given as goal
 
 abbrev pub invariant-loop-entry : goal.invariant-loop-entry

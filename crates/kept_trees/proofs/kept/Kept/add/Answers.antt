@@ -1,7 +1,7 @@
 use Rattle.std.proofs.Common.{◌≡◌, ◌∙◌, ◌++◌, ◌∷◌, [], false, ap, sym, subst, List}
 use Rattle.std.proofs.lemmas.List.{map-append}
-use Rattle.order_search.specs.declared.found.Found.{Found}
 use Rattle.kept_trees.specs.declared.part_key.PartKey.{PartKey}
+use Rattle.kept_trees.specs.declared.found_part.FoundPart.{FoundPart}
 use Rattle.kept_trees.specs.Keeping.{is_held}
 use Rattle.kept_trees.specs.OwnTrees.{HeldPart, held_by, parts_held, AreOwnResults}
 use Rattle.indexmap.proofs.CallerLemmas.{insert_entry-new}
@@ -14,7 +14,7 @@ returns-clause-held c =
     let entries = c.self.inside.trees.entries in
     let absent = absent_by_key _ key (λ k. same_key key k) entries (subst (λ (h : List HeldPart). is_held h (held_by key) ≡ false) (sym c.self.view_is) c.requires.absent) in
     ap parts_held (c.in_ok-insert.ensures.entries ∙ insert_entry-new _ c.self.inside.trees key c.args.own absent)
-    ∙ map-append (λ (e : PartKey × Found). held_by e.0) entries ((key, c.args.own) ∷ [])
+    ∙ map-append (λ (e : PartKey × FoundPart). held_by e.0) entries ((key, c.args.own) ∷ [])
     ∙ ap (λ (h : List HeldPart). h ++ held_by key ∷ []) c.self.view_is
 
 pub invariant_of-self-2 : goal.invariant_of-self-2

@@ -1,4 +1,0 @@
-pub mod Ends
-pub mod Rises
-pub mod NotedAnswers
-pub mod Totals

@@ -1,0 +1,16 @@
+pub mod Stages
+pub mod Budgets
+pub mod OwnParts
+pub mod Meeting
+pub mod Pricing
+pub mod Unique
+pub mod Exact
+pub mod Pairs
+pub mod LeftOrders
+pub mod Ascents
+pub mod Listing
+pub mod Trees
+pub mod RootBounds
+pub mod Results
+pub mod SegmentCosts
+pub mod Answering

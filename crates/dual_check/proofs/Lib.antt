@@ -1,0 +1,7 @@
+mod Walks
+mod Loads
+mod PriceTests
+mod Values
+mod Known
+mod Pairs
+mod NodeSteps

@@ -1,0 +1,14 @@
+pub mod OwnTables
+pub mod SettledStacks
+pub mod Solving
+pub mod Valuing
+pub mod Exchanging
+pub mod Turning
+pub mod Chains
+pub mod Deciding
+pub mod Telling
+pub mod Adding
+pub mod Placing
+pub mod Pricing
+pub mod Renewing
+pub mod Summing

@@ -1,0 +1,20 @@
+-- The pairs that are settled on the way to a node, the last of them at the end.
+use Rattle.std.specs.Prelude.{◌≡◌, ℕ, ◌<◌, ◌==◌, true, List, length, reverse}
+use Rattle.map_base.specs.declared.ids.SegId.{SegId}
+use Rattle.map_base.specs.declared.ids.LineId.{LineId}
+use Rattle.order_model.specs.Problems.{lines_on}
+use Rattle.dual_bound.specs.declared.settled.SettledPair.{SettledPair}
+use Rattle.dual_shares.specs.RowSteps.{AreTwoOf}
+
+-- the pairs of the nodes above, the last first
+abbrev pub pairs_of : List SettledPair → List SettledPair
+pairs_of stack = reverse stack
+
+-- two different lines of their segment
+pub record IsPairOn (segs : List (List LineId)) (q : SettledPair) : Type 0 where
+  pub known : q.seg.0 < length segs
+  pub two : AreTwoOf (lines_on segs q.seg) q.first q.second
+
+-- a pair on this segment is of two different ones of these lines
+abbrev pub IsPairHere : SegId → List LineId → SettledPair → Type 0
+IsPairHere s lines q = (q.seg.0 == s.0) ≡ true → AreTwoOf lines q.first q.second

@@ -1,0 +1,4 @@
+pub mod Filling
+pub mod TermLists
+pub mod SegmentLists
+pub mod Sizes

@@ -1,0 +1,5 @@
+pub mod Composing
+pub mod Walking
+pub mod Counting
+pub mod Beginning
+pub mod Listing

@@ -1,0 +1,5 @@
+pub mod OrderCosts
+pub mod Arrangements
+pub mod LeastOrders
+pub mod Rows
+pub mod Subsets

@@ -1,0 +1,33 @@
+use Rattle.std.proofs.Common.{◌≡◌, ◌+◌, ◌<◌, ◌≤◌, length, take, ap, ◌∙◌, arith, rules}
+use Rattle.std.specs.Prelude.{sum_by}
+use Rattle.std.proofs.lemmas.List.{length-map, take_all}
+use Rattle.std.proofs.lemmas.List.Sums.{sum_by_more}
+use Rattle.part_bounds.specs.PairGroups.{group_in, groups_in, no_group, share_of}
+use Rattle.part_bounds.proofs.KeptUp.{rooms_kept, kept_on, shares_small}
+use Rattle.part_bounds.proofs.kept_pairs.sum_with.Goals as goal
+
+pub share_with-total-requires-clause-room : goal.share_with-total-requires-clause-room
+share_with-total-requires-clause-room c = rooms_kept c.args.part.now (groups_in c.args.pairs.now) c.args.room.now c.loop-place.room c.requires.room c.loop-place.invariant.room
+
+pub overflow_add-total : goal.overflow_add-total
+overflow_add-total c =
+    let within : c.loop-place.place < length (groups_in c.args.pairs.now) = omega (arith, c.loop-place-test.true, length-map c.args.pairs.now group_in) in
+    let most : c.loop-place.total + c.share_with-total.result ≤ 4096000000000 =
+    (let small = shares_small c.args.problem.now c.args.part.now c.args.prefix.now.placed c.args.pairs.now c.loop-place.place c.loop-place.total c.requires.table within c.loop-place.invariant.total in
+    omega (arith, small, c.share_with-total.ensures.share)) in
+    search rules
+
+pub loop-place-preserved : goal.loop-place-preserved
+loop-place-preserved c =
+    let f = share_of c.args.problem.now.segs c.args.part.now c.args.prefix.now.placed in
+    let within : c.loop-place.place < length (groups_in c.args.pairs.now) = omega (arith, c.loop-place-test.true, length-map c.args.pairs.now group_in) in
+    let more = sum_by_more f (groups_in c.args.pairs.now) c.loop-place.place no_group within in
+    record {
+      total = omega (arith, more, c.loop-place.invariant.total, c.share_with-total.ensures.share);
+      room = kept_on c.args.room.now c.loop-place.room c.share_with-total.new.room c.loop-place.invariant.room c.share_with-total.ensures.room;
+    }
+
+pub returns-clause-total : goal.returns-clause-total
+returns-clause-total c =
+    c.loop-place.invariant.total ∙ ap (sum_by (share_of c.args.problem.now.segs c.args.part.now c.args.prefix.now.placed))
+    (take_all c.loop-place.place (groups_in c.args.pairs.now) (omega (arith, c.loop-place-test.false, length-map c.args.pairs.now group_in)))

@@ -1,0 +1,5 @@
+mod Tails
+mod Places
+mod Filling
+mod Firsts
+mod Walking

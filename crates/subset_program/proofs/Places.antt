@@ -1,0 +1,114 @@
+-- Where entries of the table stand, and when no line is left.
+use Rattle.std.proofs.Common.{◌≡◌, ◌≢◌, ℕ, zero, suc, ◌+◌, ◌-◌, ◌*◌, ◌^◌, ◌<◌, ◌≤◌, ◌==◌, Bool, true, false, cond, List, [], ◌∷◌, length, refl, sym, ◌∙◌, ap, subst, arith, ◌⊎◌, inl, inr, true≢false, eq-eqb, eqb-true, Option, Some, None}
+use Rattle.std.specs.Prelude.{bit_and, bit_or}
+use Rattle.std.specs.Int.{bit_at}
+use Rattle.std.specs.Int.Bits.{or_add_and}
+use Rattle.std.proofs.Math.Nat.{mul-le-mul_right, suc-mul}
+use Rattle.std.proofs.Math.Pow.{pow-lt}
+use Rattle.std.proofs.lemmas.Nat.{or_lt, pow_pos}
+use Rattle.std.proofs.lemmas.Bool.{cases_eq, eqb-false}
+use Rattle.std.proofs.lemmas.Nat.Bits.{and_pow, bit_at_ones, bit_at-lt, same_from_bits_below}
+use Rattle.map_base.specs.declared.ids.LineId.{LineId}
+use Rattle.least_orders.specs.Rows.{Rows, AreRows, line_at}
+use Rattle.least_orders.specs.Subsets.{has_place, with_place, left_from, left}
+use Rattle.least_orders.proofs.Sets.{not_raised, with_same, with_other}
+
+-- Entries.
+
+row_after : (m n : ℕ) → (m + 1) * n ≡ m * n + n
+row_after m n = ap (λ k. k * n) (omega arith) ∙ suc-mul m n
+
+pub index_within : (m p k n len : ℕ) → m < p → k < n → p * n ≤ len → m * n + k < len
+index_within m p k n len below within room =
+    let rows = mul-le-mul_right {m = m + 1} {n = p} n (omega (arith, below)) in
+    let next = row_after m n in
+    omega (arith, within, room, rows, next)
+
+-- an entry of a greater set stands elsewhere
+pub apart_rows : (set more n i j : ℕ) → set < more → i < n → j < n → (more * n + j) ≢ (set * n + i)
+apart_rows set more n i j above first second e =
+    let rows = mul-le-mul_right {m = set + 1} {n = more} n (omega (arith, above)) in
+    let next = row_after set n in
+    omega (arith, first, second, rows, next, e)
+
+-- Sets.
+
+nothing : (m : ℕ) → 0 * m ≡ 0
+nothing m = omega arith
+
+-- one place more makes a set greater
+pub more_than : (set k : ℕ) → has_place set k ≡ false → set < with_place set k
+more_than set k free =
+    let off = not_raised set k free in
+    let sum = or_add_and set (2 ^ k) in
+    let both : bit_and set (2 ^ k) ≡ 0 = and_pow set k ∙ (ap (λ b. b * 2 ^ k) off ∙ nothing (2 ^ k)) in
+    let some = pow_pos k in
+    omega (arith, sum, both, some)
+
+pub still_within : (set k n : ℕ) → set < 2 ^ n → k < n → with_place set k < 2 ^ n
+still_within set k n within below = or_lt n set (2 ^ k) within (pow-lt below)
+
+-- where the set has all lines, none is left
+pub none_left : (set n : ℕ) → set + 1 ≡ 2 ^ n → (k m : ℕ) → k + m ≤ n → left_from set k m ≡ []
+none_left set n e k zero h = refl
+none_left set n e k (suc m) h =
+    let is : set ≡ 2 ^ n - 1 = omega (arith, e) in
+    let on : has_place set k ≡ true = eq-eqb (bit_at set k) 1 (ap (λ s. bit_at s k) is ∙ bit_at_ones n k (omega (arith, h))) in
+    ap (λ b. cond b (left_from set (k + 1) m) (line_at k ∷ left_from set (k + 1) m)) on ∙ none_left set n e (k + 1) m (omega (arith, h))
+
+-- and else some
+all_there : (set k m : ℕ) → left_from set k m ≡ [] → (i : ℕ) → k ≤ i → i < k + m → has_place set i ≡ true
+all_there set k zero e i above below = absurd (omega (arith, above, below))
+all_there set k (suc m) e i above below = by_test (has_place set k) refl e (λ g over. all_there set (k + 1) m g i over (omega (arith, below)))
+  where
+    not_empty : (a : LineId) (l : List LineId) → a ∷ l ≡ [] → ⊥
+    not_empty a l e = cc
+
+    by_test : (b : Bool) → has_place set k ≡ b → cond b (left_from set (k + 1) m) (line_at k ∷ left_from set (k + 1) m) ≡ []
+        → (left_from set (k + 1) m ≡ [] → k + 1 ≤ i → has_place set i ≡ true) → has_place set i ≡ true
+    by_test false on g rest = absurd (not_empty (line_at k) (left_from set (k + 1) m) g)
+    by_test true on g rest = elim (cases_eq i k) [
+      | inl here ↦ ap (λ j. has_place set j) here ∙ on
+      | inr apart ↦ rest g (omega (arith, above, apart))
+    ]
+
+pub some_left : (set n : ℕ) → set < 2 ^ n → (set + 1) ≢ 2 ^ n → 0 < length (left_from set 0 n)
+some_left set n within apart = by_list (left_from set 0 n) refl
+  where
+    by_list : (l : List LineId) → left_from set 0 n ≡ l → 0 < length l
+    by_list (a ∷ l) e = omega arith
+    by_list [] e =
+        let some = pow_pos n in
+        let same : set ≡ 2 ^ n - 1 = same_from_bits_below n set (2 ^ n - 1) within (omega (arith, some))
+        (λ i below. eqb-true (bit_at set i) 1 (all_there set 0 n e i (omega arith) (omega (arith, below))) ∙ sym (bit_at_ones n i below)) in
+        absurd (apart (omega (arith, same, some)))
+
+-- one place more leaves one line less
+pub one_less : (set k n : ℕ) → has_place set k ≡ false → (b m : ℕ) → b ≤ k → k < b + m → length (left_from (with_place set k) b m) + 1 ≡ length (left_from set b m)
+one_less set k n free b zero above below = absurd (omega (arith, above, below))
+one_less set k n free b (suc m) above below = by_place (cases_eq b k) (λ over. one_less set k n free (b + 1) m over (omega (arith, below)))
+  where
+    same_behind : (c j : ℕ) → k < c → left_from (with_place set k) c j ≡ left_from set c j
+    same_behind c zero over = refl
+    same_behind c (suc j) over =
+        ap (λ t. cond t (left_from (with_place set k) (c + 1) j) (line_at c ∷ left_from (with_place set k) (c + 1) j)) (with_other set k c (omega (arith, over)))
+        ∙ ap (λ l. cond (has_place set c) l (line_at c ∷ l)) (same_behind (c + 1) j (omega (arith, over)))
+
+    by_place : (b ≡ k) ⊎ (b ≢ k) → (b + 1 ≤ k → length (left_from (with_place set k) (b + 1) m) + 1 ≡ length (left_from set (b + 1) m))
+        → length (left_from (with_place set k) b (suc m)) + 1 ≡ length (left_from set b (suc m))
+    by_place (inl is) rest =
+        let taken : has_place (with_place set k) b ≡ true = ap (λ j. has_place (with_place set k) j) is ∙ with_same set k in
+        let open_here : has_place set b ≡ false = ap (λ j. has_place set j) is ∙ free in
+        let one : length (left_from (with_place set k) b (suc m)) ≡ length (left_from (with_place set k) (b + 1) m) =
+        ap (λ t. length (cond t (left_from (with_place set k) (b + 1) m) (line_at b ∷ left_from (with_place set k) (b + 1) m))) taken in
+        let two : length (left_from set b (suc m)) ≡ suc (length (left_from set (b + 1) m)) =
+        ap (λ t. length (cond t (left_from set (b + 1) m) (line_at b ∷ left_from set (b + 1) m))) open_here in
+        let same : length (left_from (with_place set k) (b + 1) m) ≡ length (left_from set (b + 1) m) = ap length (same_behind (b + 1) m (omega (arith, is))) in
+        omega (arith, one, two, same)
+    by_place (inr apart) rest = by_test (has_place set b) refl (rest (omega (arith, above, apart)))
+      where
+        by_test : (t : Bool) → has_place set b ≡ t → length (left_from (with_place set k) (b + 1) m) + 1 ≡ length (left_from set (b + 1) m)
+            → length (left_from (with_place set k) b (suc m)) + 1 ≡ length (cond t (left_from set (b + 1) m) (line_at b ∷ left_from set (b + 1) m))
+        by_test true e h = ap (λ t. length (cond t (left_from (with_place set k) (b + 1) m) (line_at b ∷ left_from (with_place set k) (b + 1) m)) + 1) (with_other set k b apart ∙ e) ∙ h
+        by_test false e h =
+            ap (λ t. length (cond t (left_from (with_place set k) (b + 1) m) (line_at b ∷ left_from (with_place set k) (b + 1) m)) + 1) (with_other set k b apart ∙ e) ∙ omega (arith, h)

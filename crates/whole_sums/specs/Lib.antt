@@ -1,0 +1,2 @@
+-- Sums of whole numbers of either sign.
+pub mod Sums
