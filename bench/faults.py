@@ -16,7 +16,7 @@ import errno
 import os
 import sys
 
-from trials import COMMANDS, FEEDS, KINDS, TOP, Judge, Program, begins
+from trials import COMMANDS, FEEDS, KINDS, OLD, TOP, Judge, Program, begins
 
 SHORT, NOTHING = 0, -1
 ERRORS = {
@@ -48,7 +48,7 @@ class Call:
 
 
 def role_of(program, path, flags):
-    if path.split("/")[0] in program.inputs and flags & os.O_ACCMODE == os.O_RDONLY and os.path.isfile(path):
+    if path.split("/")[0] in program.inputs and flags & os.O_ACCMODE == os.O_RDONLY and not os.path.isdir(path):
         return "input"
     return "draft" if flags & os.O_CREAT else "other"
 
@@ -68,6 +68,8 @@ def calls_of(program, words):
 
 def status_without(program, judge, path):
     """The status and standard output of a run in which a file is not there."""
+    if not os.path.exists(path):
+        return judge.status, judge.said
     os.rename(path, "../away")
     program.set_outputs(judge.names, False)
     ended = program.run(judge.words)
@@ -86,7 +88,10 @@ def statuses(program, judge, call, code, lasts):
     is_input = call.role == "input"
     if code == SHORT or code == errno.EINTR:
         return (ordinary,), None
-    # All was synced before it is closed; and where no limits are told, there are none.
+    # All was synced before it is closed; and where no limits are told, there are none. What is refused from the limits on
+    # is refused at the inputs too.
+    if call.path == "/proc/self/limits" and lasts and call.kind != "close":
+        return None, None
     if call.kind == "close" or call.path == "/proc/self/limits":
         return (ordinary,), None
     if code == errno.ENOMEM:
@@ -97,8 +102,9 @@ def statuses(program, judge, call, code, lasts):
         return (7,), b"read fault: " + call.path.encode() + b"\n"
     if call.kind == "write":
         return ((ordinary,) if is_line(judge, call) else (8,)), None
+    # Where a run ends with another status than 0, its line was said before its outputs are put in place.
     if call.kind == "rename" or (call.kind == "sync" and call.role == "draft"):
-        return (8,), None
+        return ((8,) if ordinary == 0 else (8, ordinary)), None
     # What only prepares an output, or cleans up behind it, may be passed over.
     return (8, ordinary), None
 
@@ -109,8 +115,10 @@ def fault_of(program, judge, call, code, how, stand):
     program.set_outputs(judge.names, stand)
     status, said = program.run(judge.words, (KINDS.index(call.kind), call.number, how, code))
     fault = judge.fault(status, said, stand, allowed if allowed else (status,), is_line(judge, call))
-    if not fault and line is not None and said != line:
-        fault = f"standard output {said[:60]!r}"
+    if line is not None and said != line:
+        fault = fault or f"standard output {said[:60]!r}"
+    elif line is not None and status == judge.status and program.outputs(judge.names) == ({name: OLD for name in judge.names} if stand else {}, []):
+        fault = ""
     if not fault and status in (8, 9) and not begins(said, judge.said, b"no memory\n"):
         fault = f"standard output {said[:60]!r}"
     return status, fault

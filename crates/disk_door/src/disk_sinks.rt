@@ -36,7 +36,7 @@ enum Place<F: Drop> {
 ///
 /// A file of the disk is written beside its target, and stands there from `put_in_place` on; until then, and where
 /// that fails, and after `discard`, the target is what it was. Each draft is synced and closed before the next target
-/// is begun.
+/// is begun. Where that fails the draft is lost: no target is begun any more, and nothing is put in place.
 #[derive(Drop)]
 pub struct DiskSinks<R: rt::Files + Print> {
     rt: R,
@@ -45,6 +45,7 @@ pub struct DiskSinks<R: rt::Files + Print> {
     drafts: Vec<Closed>,
     most: u64,
     failures: u64,
+    is_lost: bool,
 }
 
 impl<R: rt::Files + Print> DiskSinks<R> {
@@ -61,6 +62,7 @@ impl<R: rt::Files + Print> DiskSinks<R> {
             drafts: Vec::new(alloc),
             most,
             failures: 0,
+            is_lost: false,
         }
     }
 
@@ -111,8 +113,22 @@ impl<R: rt::Files + Print> DiskSinks<R> {
         place_all(&self.rt, self.alloc, &drafts)
     }
 
-    /// Closes the current target. No target is current then.
+    /// Closes the current target. No target is current then. Where it can't be closed, or an earlier one could not be,
+    /// an output is lost.
     fn leave(&mut self) -> io::Result<()>
+        ensures nowhere { target_of self.new.place ≡ None }
+        ensures count { self.new.failures ≡ self.old.failures }
+    {
+        let closed = self.close();
+        if self.is_lost && closed.is_ok() {
+            return Err(io::Error::from(ErrorKind::Other));
+        }
+        self.is_lost = closed.is_err();
+        closed
+    }
+
+    /// Closes the current target, and keeps its draft to be put in place. No target is current then.
+    fn close(&mut self) -> io::Result<()>
         ensures nowhere { target_of self.new.place ≡ None }
         ensures count { self.new.failures ≡ self.old.failures }
     {
