@@ -3,10 +3,11 @@
 
   /usr/bin/python3 bench/page.py [SVG ..]
 
-Opens the pages of these maps and posters (where none is given those of docs/gallery), zooms, moves, points, searches
-and presses keys; then small pictures of bench/page_maps.py for each thing that a page does: lists and keys, things of
-one name, calls, phones, contrast, links, titles, saved pictures; hostile pictures and odd names; cities of about 300
-and 1,000 stations; at last a map of 5 MB, made of many copies of the last one, with its times. Screenshots are left in
+Opens the pages of these maps and posters (where none is given those of docs/gallery, on the grid, with names at free
+places and over the ground), zooms, moves, points, searches and presses keys; then small pictures of bench/page_maps.py
+for each thing that a page does: lists and keys, things of one name, calls, other units, contrast, links, titles, saved
+pictures; hostile pictures and odd names; cities of about 300 and 1,000 stations; the last map and all over the ground
+on a phone; at last a map of 5 MB, made of many copies of the last one, with its times. Screenshots are left in
 bench/work/page, to be looked at.
 """
 import base64
@@ -24,7 +25,7 @@ from xml.etree import ElementTree
 from selenium.webdriver.common.keys import Keys
 
 import page_maps
-from page_browser import TOP, WORK, Browser, comes
+from page_browser import TOP, WORK, Browser, comes, middle
 from page_maps import MAP
 
 NAMES = ["A&amp;B &lt;i&gt;&quot;", "two\nlines", "\u05e9\u05dc\u05d5\u05dd 12", "", "x" * 200]
@@ -51,6 +52,7 @@ def try_map(page, name, svg):
     stations = svg.count(b"<circle") or len(re.findall(rb'<g class="n\d+ l', svg))
     hold(f"{name}: all of it is seen at first", page.seen_whole())
     hold(f"{name}: all {stations} stations are told", page.said("size").endswith(f"stations: {stations}"))
+    hold(f"{name}: names are seen at first", page.names_painted())
     hold(f"{name}: names don't cover each other ({page.names_shown()} at first)", page.names_apart())
     first = page.scale()
     page.wheel(-240)
@@ -80,7 +82,10 @@ def try_map(page, name, svg):
     hold(f"{name}: the search finds {last}", last in found)
     find.send_keys(Keys.ENTER)
     hold(f"{name}: a station that was found is shown", comes(lambda: page.said("chosen") == found[0]))
+    hold(f"{name}: it comes to the middle", comes(page.chosen_centred))
     page.shot(name + "-station")
+    page.hover(*middle(page.boxes("#view")[0]))
+    hold(f"{name}: pointing there tells its name", comes(lambda: page.said("tip").startswith(found[0])))
     hold(f"{name}: no complaint in the browser's log", page.log() == [])
 
 
@@ -171,13 +176,7 @@ def try_calls(page):
 
 def try_free_names(page):
     """A map with names at free places: some are left out, the others are at any side of their station."""
-    net = page_maps.streets()
-    rows = net.map().decode().split("\n")
-    texts = [i for i, row in enumerate(rows) if row.startswith("<text")]
-    rows[texts[4]] = '<text x="1628" y="48" font-size="20">Chambers St</text>'  # below to the right
-    for i in sorted([texts[0], texts[5], texts[6]], reverse=True):
-        del rows[i]
-    page.open("free", "\n".join(rows).encode())
+    page.open("free", page_maps.free_names())
     page.follow("#line/A")
     comes(lambda: page.said("chosen") == "A")
     names = page.texts("#parts bdi")
@@ -185,42 +184,55 @@ def try_free_names(page):
     hold("free names: each is given to its own station", names in [wanted, wanted[::-1]])
 
 
-def try_phone(page, svg):
+def try_units(page):
+    """A map is shown the same whatever its unit is."""
+    for kind, svg in [("a map", page_maps.streets().map()), ("free names", page_maps.free_names())]:
+        told = []
+        for times in [1, 5]:
+            page.open("units", page_maps.scaled(svg, times))
+            boxes = page.boxes("#sheet .routes", "#sheet .markers", "#sheet .names")
+            told.append([page.texts("#sheet .names text"), [[round(box[side], 1) for side in box] for box in boxes]])
+        hold(f"units: {kind} is the same in units of a fifth", told[0] == told[1])
+
+
+def try_phone(page, name, svg):
+    tell = lambda what, holds: hold(f"phone, {name}: {what}", holds)
     page.sized(390, 800, True)
     page.open("phone", svg)
-    page.shot("phone")
+    page.shot(f"phone-{name}")
     width = lambda: page.one("view").size["width"]
-    hold("phone: all of the map is seen", page.seen_whole())
+    tell("all of the map is seen", page.seen_whole())
+    tell(f"names are seen ({page.names_shown()} at first)", page.names_painted() and page.names_apart())
     page.sized(800, 390, True)
-    hold("phone: turned, it is seen whole again", comes(lambda: width() > 390 and page.seen_whole()))
-    page.shot("phone-turned")
+    tell("turned, it is seen whole again", comes(lambda: width() > 390 and page.seen_whole()))
+    page.shot(f"phone-{name}-turned")
     page.sized(390, 800, True)
-    hold("phone: turned back, too", comes(lambda: width() == 390 and page.seen_whole()))
+    tell("turned back, too", comes(lambda: width() == 390 and page.seen_whole()))
     find = page.one("find")
     find.send_keys(names_of(svg)[-1])
-    page.shot("phone-found")
+    page.shot(f"phone-{name}-found")
     find.send_keys(Keys.ENTER)
     comes(lambda: page.one("card").is_displayed())
     card, frame = page.boxes("#card", "#view")
-    hold("phone: the card is below the map, not over it", card["top"] >= frame["bottom"] and card["bottom"] <= 800)
-    hold("phone: the map has a third of the screen at least", frame["bottom"] - frame["top"] > 800 / 3)
-    hold("phone: the chosen station is in sight", comes(page.chosen_seen))
+    tell("the card is below the map, not over it", card["top"] >= frame["bottom"] and card["bottom"] <= 800)
+    tell("the map has a third of the screen at least", frame["bottom"] - frame["top"] > 800 / 3)
+    tell("the chosen station is in sight", comes(page.chosen_seen))
     time.sleep(1)
-    page.shot("phone-card")
+    page.shot(f"phone-{name}-card")
     page.sized(800, 390, True)
-    hold("phone: turned, it still is", comes(lambda: width() > 390 and page.chosen_seen()))
-    page.shot("phone-card-turned")
+    tell("turned, it still is", comes(lambda: width() > 390 and page.chosen_seen()))
+    page.shot(f"phone-{name}-card-turned")
     page.sized(390, 800, True)
     comes(lambda: width() == 390)
     page.one("close").click()
-    hold("phone: what is closed gives its place to the map", comes(lambda: page.boxes("#view")[0]["bottom"] == 800))
+    tell("what is closed gives its place to the map", comes(lambda: page.boxes("#view")[0]["bottom"] == 800))
     page.all("#legend summary")[0].click()
-    page.shot("phone-legend")
+    page.shot(f"phone-{name}-legend")
     page.all("#lines button")[0].click()
-    hold("phone: choosing a line closes the legend", comes(lambda: page.one("card").is_displayed()
-                                                          and not page.one("lines").is_displayed()))
-    page.shot("phone-line")
-    hold("phone: nothing is wider than the screen", page.script("return document.documentElement.scrollWidth") <= 390)
+    tell("choosing a line closes the legend", comes(lambda: page.one("card").is_displayed()
+                                                    and not page.one("lines").is_displayed()))
+    page.shot(f"phone-{name}-line")
+    tell("nothing is wider than the screen", page.script("return document.documentElement.scrollWidth") <= 390)
     page.sized()
 
 
@@ -422,7 +434,8 @@ def try_large(page, svg):
 
 def main(words):
     WORK.mkdir(parents=True, exist_ok=True)
-    maps = [pathlib.Path(word) for word in words] or sorted((TOP / "docs" / "gallery").glob("*.svg"))
+    shown = sorted((TOP / "docs" / "gallery").glob("*.svg"))
+    maps = [pathlib.Path(word) for word in words] or [path for path in shown if b'class="s0 ' in path.read_bytes()]
     page = Browser()
     for path in maps:
         try_map(page, path.stem, path.read_bytes())
@@ -433,10 +446,11 @@ def main(words):
     page.open("dark", last)
     page.shot("dark")
     page.surroundings("light")
-    for trial in [try_search, try_lists, try_alike, try_calls, try_free_names, try_contrast, try_links, try_title,
-                  try_save, try_hostile, try_names, try_cities]:
+    for trial in [try_search, try_lists, try_alike, try_calls, try_free_names, try_units, try_contrast, try_links,
+                  try_title, try_save, try_hostile, try_names, try_cities]:
         trial(page)
-    try_phone(page, last)
+    for path in [path for path in maps if path == maps[-1] or path.stem.endswith("-ground")]:
+        try_phone(page, path.stem, path.read_bytes())
     try_large(page, next((path for path in maps[::-1] if b"<circle" in path.read_bytes()), maps[-1]).read_bytes())
     page.driver.quit()
     print(f"{failed} wrong; screenshots in {WORK}")

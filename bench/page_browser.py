@@ -15,6 +15,7 @@ TOP = pathlib.Path(__file__).resolve().parent.parent
 WORK = TOP / "bench" / "work" / "page"
 EMBED = [sys.executable, str(TOP / "page" / "embed.py"), "--page"]
 PATIENCE = 30  # seconds until something that has to come is given up
+EDGE = 4  # pixels that a stroke may reach beyond its way
 DRAWN = """const done = arguments[0];
     requestAnimationFrame(() => requestAnimationFrame(() => setTimeout(done)));"""
 FRAMES = """window.frames_ = []; let last = performance.now();
@@ -23,11 +24,16 @@ FRAMES = """window.frames_ = []; let last = performance.now();
 APART = """const boxes = [...document.querySelectorAll('#sheet .names text')].map(text => text.getBoundingClientRect());
     return boxes.every((a, i) => boxes.every((b, j) => i >= j || a.right <= b.left + 2 || b.right <= a.left + 2
         || a.bottom <= b.top + 4 || b.bottom <= a.top + 4));"""
+DISPLAY = "document.querySelector('#sheet .names').style.display = arguments[0];"
 TEXTS = "return [...document.querySelectorAll(arguments[0])].map(one => one.textContent.trim());"
 BOXES = """return arguments[0].map(text => {
     const { left, top, right, bottom } = document.querySelector(text).getBoundingClientRect();
     return { left, top, right, bottom };
 });"""
+
+
+def middle(box):
+    return (box["left"] + box["right"]) / 2, (box["top"] + box["bottom"]) / 2
 
 
 def comes(test):
@@ -94,6 +100,9 @@ class Browser:
     def point(self, element):
         ActionChains(self.driver).move_to_element(element).perform()
 
+    def hover(self, x, y):
+        self.ask("Input.dispatchMouseEvent", dict(type="mouseMoved", x=x, y=y))
+
     def wheel(self, down, x=780, y=400):
         self.ask("Input.dispatchMouseEvent", dict(type="mouseWheel", x=x, y=y, deltaX=0, deltaY=down))
 
@@ -141,16 +150,27 @@ class Browser:
     def names_apart(self):
         return self.names_shown() > 0 and self.script(APART)
 
+    def names_painted(self):
+        """Whether names are seen: whether less is when they are hidden, by 50 bytes of a screenshot for each."""
+        shown, hidden = (self.script(DISPLAY, how) or len(self.driver.get_screenshot_as_png()) for how in ["", "none"])
+        self.script(DISPLAY, "")
+        return shown - hidden > 50 * self.names_shown() > 0
+
     def seen_whole(self):
-        box, frame = self.boxes("#sheet .routes", "#view")
-        return (box["left"] >= frame["left"] and box["right"] <= frame["right"]
-                and box["top"] >= frame["top"] and box["bottom"] <= frame["bottom"])
+        """Whether lines and markers are in the frame of the map, with their strokes."""
+        *drawn, frame = self.boxes("#sheet .routes", "#sheet .markers", "#view")
+        return all(box["left"] >= frame["left"] + EDGE and box["right"] <= frame["right"] - EDGE
+                   and box["top"] >= frame["top"] + EDGE and box["bottom"] <= frame["bottom"] - EDGE for box in drawn)
 
     def chosen_seen(self):
         """Whether the marker of the chosen station is in the frame of the map."""
-        box, frame = self.boxes("#lifted .markers", "#view")
-        x, y = (box["left"] + box["right"]) / 2, (box["top"] + box["bottom"]) / 2
+        (x, y), frame = middle(self.boxes("#lifted .markers")[0]), self.boxes("#view")[0]
         return frame["left"] + 20 < x < frame["right"] - 20 and frame["top"] + 20 < y < frame["bottom"] - 20
+
+    def chosen_centred(self):
+        """Whether the marker of the chosen station is in the middle of the frame of the map."""
+        (x, y), (right, down) = map(middle, self.boxes("#lifted .markers", "#view"))
+        return abs(x - right) < 2 and abs(y - down) < 2
 
     def seconds_spent(self):
         """How much of the processor's time the page has taken since it was opened."""

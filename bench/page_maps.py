@@ -141,6 +141,22 @@ def streets():
     return net
 
 
+def free_names():
+    """The map of these streets with names at free places: three are left out, one is below to the right."""
+    rows = streets().map().decode().split("\n")
+    texts = [i for i, row in enumerate(rows) if row.startswith("<text")]
+    rows[texts[4]] = '<text x="1628" y="48" font-size="20">Chambers St</text>'
+    for i in sorted([texts[0], texts[5], texts[6]], reverse=True):
+        del rows[i]
+    return "\n".join(rows).encode()
+
+
+def scaled(svg, times):
+    """A map in another unit, of which so many are one of its own."""
+    grown = lambda found: re.sub(r"-?\d+", lambda number: str(times * int(number[0])), found[0])
+    return re.sub(r' (d|c?x|c?y|r|stroke-width|font-size)="[^"]*"', grown, svg.decode()).encode()
+
+
 def colours():
     """A line of each colour, and all of them side by side."""
     net = Network()

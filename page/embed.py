@@ -12,8 +12,8 @@ import sys
 
 HERE = pathlib.Path(__file__).resolve().parent
 CRATE = HERE.parent / "crates" / "map_page" / "src"
-SCRIPTS = ["picture.js", "ways.js", "colours.js", "elements.js", "words.js", "names.js", "layer.js", "view.js",
-           "list.js", "search.js", "address.js", "panel.js", "save.js", "hands.js"]
+SCRIPTS = ["picture.js", "ways.js", "measures.js", "colours.js", "elements.js", "words.js", "names.js", "layer.js",
+           "view.js", "list.js", "search.js", "address.js", "panel.js", "save.js", "hands.js"]
 
 
 def source(name):

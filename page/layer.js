@@ -5,7 +5,8 @@ const rounded = places => 'M' + places.map(place => place.map(Math.round).join('
 
 /* Lines and stations as shapes, with names where there is room. */
 class Layer {
-  constructor(root, { left, top, width, height }) {
+  constructor(root, { left, top, width, height, parts }) {
+    this.parts = parts;
     root.setAttribute('viewBox', `${left} ${top} ${width} ${height}`);
     [this.edges, this.routes, this.markers, this.names] = root.children;
     this.show([], []);
@@ -36,7 +37,7 @@ class Layer {
   spreadOut(spread) {
     this.spread = spread;
     this.texts = this.lines.map(({ ways }) => ways.map(({ centre, shift }) => (
-      'M' + centre.map((value, i) => Math.round(value + shift[i] * spread))
+      'M' + centre.map((value, i) => Math.round((value + shift[i] * spread) * this.parts) / this.parts)
     )).join(''));
     this.courses = this.texts.map(text => new Path2D(text));
     this.routes.innerHTML = this.texts.map((text, i) => `<path color="${this.lines[i].colour}" d="${text}"/>`).join('');

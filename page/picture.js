@@ -3,20 +3,22 @@
 const numbersOf = (element, name) => (element?.getAttribute(name) || '').match(/-?\d+(\.\d+)?/g)?.map(Number) || [];
 const wordsOf = element => (element?.textContent || '').replace(/\s+/g, ' ').trim();
 
-/* What a map or a poster shows: lines with their ways over segments, and stations; null where it is neither. Only
-   numbers, colours and names are taken from it. */
+/* What a map or a poster shows, in the page's measures: lines with their ways over segments, and stations; null where
+   it is neither. Only numbers, colours and names are taken from it. */
 function readPicture(text) {
   const root = new DOMParser().parseFromString(text, 'text/html');
-  const { lines, segments } = readLines(root);
+  const { lines: byNumber, segments } = readLines(root), lines = [...byNumber.values()];
   const groups = [...root.querySelectorAll('g')].filter(({ className }) => /^n\d+( l\d+)*$/.test(className.baseVal));
-  const stations = groups.length > 0 ? groups.flatMap(group => posterStation(group, lines)) : mapStations(root);
-  if (lines.size + stations.length === 0) return null;
+  const stations = groups.length > 0 ? groups.flatMap(group => posterStation(group, byNumber)) : mapStations(root);
+  if (lines.length + stations.length === 0) return null;
   const stationAt = new Map(stations.map(station => [`${station.x},${station.y}`, station]));
   lines.forEach(line => listStations(line, stationAt));
-  stations.forEach(measureMarker);
+  const measures = measuresOf(lines, stations);
+  takeOver(lines, stations, measures);
   return {
     name: wordsOf(root.querySelector('svg > title')), tellsCalls: groups.length > 0,
-    lines: [...lines.values()], stations, ...sheetOf([...lines.values()], stations),
+    lines, stations, parts: measures.parts, step: measures.step,
+    ...boxOf([...centresOf(lines), ...stations.map(({ x, y }) => [x, y])]),
     widest: [...segments.values()].reduce((most, ways) => Math.max(most, ways.length), 1),
   };
 }
@@ -41,7 +43,8 @@ function readLines(root) {
 function newLine(number, element) {
   const told = element.getAttribute('stroke'), colour = /^#[0-9a-f]{6}$/i.test(told) ? told : '#808080';
   const name = wordsOf(element.querySelector('title')) || `Line ${number}`;
-  return { kind: 'line', colour, edge: edgeOf(colour), name, ways: [], ends: new Map() };
+  const [stroke] = numbersOf(element.closest('[stroke-width]'), 'stroke-width');
+  return { kind: 'line', colour, edge: edgeOf(colour), name, stroke, ways: [], ends: new Map() };
 }
 
 /* A map has a circle for each station, and its name behind; a map with names at free places has left some out. */
@@ -60,12 +63,14 @@ function mapStations(root) {
   return stations;
 }
 
-/* Does a name stand at one of the eight places round this station? It is 12 wide for each character. */
+/* Does a name stand at one of the eight places round this station? It is as wide as three fifths of its size for each
+   character, and a fifth away. */
 function standsBy(text, station) {
-  const right = numbersOf(text, 'x')[0] - station.x, down = numbersOf(text, 'y')[0] - station.y;
-  const away = station.radius + 4, width = 12 * [...text.textContent].length;
-  if (right === away || right === -away - width) return [-away, 8, away + 20].includes(down);
-  return right === -width / 2 && [-away - 4, away + 20].includes(down);
+  const [x, y, size] = ['x', 'y', 'font-size'].map(name => numbersOf(text, name)[0]);
+  const right = x - station.x, down = y - station.y, gap = size / 5;
+  const away = station.radius + gap, width = 3 * gap * [...text.textContent].length;
+  if (right === away || right === -away - width) return [-away, 2 * gap, away + size].includes(down);
+  return right === -width / 2 && [-away - gap, away + size].includes(down);
 }
 
 /* A poster tells the lines that call at a station, and has its marker over their feet: their ends there. A station
@@ -83,10 +88,4 @@ function posterStation(group, lines) {
     kind: 'station', x, y, radius, feet: feet.map(([, shift]) => shift),
     name: wordsOf(group.querySelector('title')), lines: new Set(calling), isTold: true,
   };
-}
-
-/* How large a marker is: that of a map is larger where more lines stop. */
-function measureMarker(station) {
-  if (!station.isTold) station.radius = Math.max(station.radius, 3 + 7 * Math.sqrt(station.lines.size));
-  station.reach = station.radius + Math.max(...station.feet.map(([right, down]) => Math.hypot(right, down)));
 }

@@ -33,10 +33,10 @@ class View {
 
   /* Lines are neither too thin nor too fat, and bundles cover nothing beside them. */
   lookAt(scale) {
-    const { step, widest } = this.map, room = Math.max(1, Math.min(5, 11 / widest * (step / 200)));
-    const wanted = Math.max(3.6, Math.min(12 * scale, 10)) / (12 * scale);
+    const { step, widest } = this.map, room = Math.max(1, Math.min(5, 11 / widest * (step / APART)));
+    const wanted = Math.max(3.6, Math.min(STROKE * scale, 10)) / (STROKE * scale);
     const spread = Number(Math.min(wanted, room).toPrecision(this.isLarge ? 1 : 3));
-    const stroke = Math.max(12 * spread, 2.2 / scale), rim = Math.max(4 * spread, 1 / scale);
+    const stroke = Math.max(STROKE * spread, 2.2 / scale), rim = Math.max(4 * spread, 1 / scale);
     const rimOf = radius => 2 * spread * radius + rim;
     return {
       spread, stroke, rim, edge: stroke + Math.max(2 * spread, 2 / scale),

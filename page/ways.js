@@ -36,29 +36,3 @@ function listStations(line, stationAt) {
   line.stations = stations.filter(({ isTold, lines }) => !isTold || lines.has(line));
   for (const station of line.stations) station.lines.add(line);
 }
-
-/* The rectangle round all lines and stations, a little wider, and the step of the grid: what divides all places, from
-   20 to 200. */
-function sheetOf(lines, stations) {
-  const centres = lines.flatMap(({ ways }) => ways.map(({ centre }) => centre));
-  const box = boxOf([...centres, ...stations.map(({ x, y }) => [x, y])]);
-  let step = 0;
-  for (const value of new Set(centres.flat())) {
-    for (let rest = Math.round(Math.abs(value)); rest > 0;) [step, rest] = [rest, step % rest];
-  }
-  return { ...box, step: Math.max(20, Math.min(step || 200, 200)) };
-}
-
-/* The rectangle round all these places, 200 wider on each side. */
-function boxOf(runs) {
-  const least = [Infinity, Infinity], most = [-Infinity, -Infinity];
-  for (const run of runs) {
-    run.forEach((value, i) => {
-      least[i % 2] = Math.min(least[i % 2], value);
-      most[i % 2] = Math.max(most[i % 2], value);
-    });
-  }
-  return {
-    left: least[0] - 200, top: least[1] - 200, width: most[0] - least[0] + 400, height: most[1] - least[1] + 400,
-  };
-}

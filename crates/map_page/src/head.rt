@@ -6,7 +6,7 @@ pub const HEAD: &str = "\
 <html lang=\"en\">\n\
 <head>\n\
 <meta charset=\"utf-8\">\n\
-<meta http-equiv=\"Content-Security-Policy\" content=\"default-src 'none'; script-src 'sha256-n3Q2rZNv4/axt10Gq5+XCtDJVZ4J39A2GISoen148Os='; style-src 'sha256-vV4q9SbETdn/y9piFa3/nbm+Ab3jIbD6vRv55mft4Ts='; base-uri 'none'; form-action 'none'\">\n\
+<meta http-equiv=\"Content-Security-Policy\" content=\"default-src 'none'; script-src 'sha256-T2cRe/SHCEsaF+ANzOqOu3gqhtY6tG2CNe/potYESCc='; style-src 'sha256-vV4q9SbETdn/y9piFa3/nbm+Ab3jIbD6vRv55mft4Ts='; base-uri 'none'; form-action 'none'\">\n\
 <meta name=\"viewport\" content=\"width=device-width, initial-scale=1\">\n\
 <title>Transit map</title>\n\
 <style>\n\
@@ -145,20 +145,22 @@ svg path { fill: none; stroke: currentColor; }\n\
 const numbersOf = (element, name) => (element?.getAttribute(name) || '').match(/-?\\d+(\\.\\d+)?/g)?.map(Number) || [];\n\
 const wordsOf = element => (element?.textContent || '').replace(/\\s+/g, ' ').trim();\n\
 \n\
-/* What a map or a poster shows: lines with their ways over segments, and stations; null where it is neither. Only\n\
-\x20  numbers, colours and names are taken from it. */\n\
+/* What a map or a poster shows, in the page's measures: lines with their ways over segments, and stations; null where\n\
+\x20  it is neither. Only numbers, colours and names are taken from it. */\n\
 function readPicture(text) {\n\
 \x20 const root = new DOMParser().parseFromString(text, 'text/html');\n\
-\x20 const { lines, segments } = readLines(root);\n\
+\x20 const { lines: byNumber, segments } = readLines(root), lines = [...byNumber.values()];\n\
 \x20 const groups = [...root.querySelectorAll('g')].filter(({ className }) => /^n\\d+( l\\d+)*$/.test(className.baseVal));\n\
-\x20 const stations = groups.length > 0 ? groups.flatMap(group => posterStation(group, lines)) : mapStations(root);\n\
-\x20 if (lines.size + stations.length === 0) return null;\n\
+\x20 const stations = groups.length > 0 ? groups.flatMap(group => posterStation(group, byNumber)) : mapStations(root);\n\
+\x20 if (lines.length + stations.length === 0) return null;\n\
 \x20 const stationAt = new Map(stations.map(station => [`${station.x},${station.y}`, station]));\n\
 \x20 lines.forEach(line => listStations(line, stationAt));\n\
-\x20 stations.forEach(measureMarker);\n\
+\x20 const measures = measuresOf(lines, stations);\n\
+\x20 takeOver(lines, stations, measures);\n\
 \x20 return {\n\
 \x20   name: wordsOf(root.querySelector('svg > title')), tellsCalls: groups.length > 0,\n\
-\x20   lines: [...lines.values()], stations, ...sheetOf([...lines.values()], stations),\n\
+\x20   lines, stations, parts: measures.parts, step: measures.step,\n\
+\x20   ...boxOf([...centresOf(lines), ...stations.map(({ x, y }) => [x, y])]),\n\
 \x20   widest: [...segments.values()].reduce((most, ways) => Math.max(most, ways.length), 1),\n\
 \x20 };\n\
 }\n\
@@ -183,7 +185,8 @@ function readLines(root) {\n\
 function newLine(number, element) {\n\
 \x20 const told = element.getAttribute('stroke'), colour = /^#[0-9a-f]{6}$/i.test(told) ? told : '#808080';\n\
 \x20 const name = wordsOf(element.querySelector('title')) || `Line ${number}`;\n\
-\x20 return { kind: 'line', colour, edge: edgeOf(colour), name, ways: [], ends: new Map() };\n\
+\x20 const [stroke] = numbersOf(element.closest('[stroke-width]'), 'stroke-width');\n\
+\x20 return { kind: 'line', colour, edge: edgeOf(colour), name, stroke, ways: [], ends: new Map() };\n\
 }\n\
 \n\
 /* A map has a circle for each station, and its name behind; a map with names at free places has left some out. */\n\
@@ -202,12 +205,14 @@ function mapStations(root) {\n\
 \x20 return stations;\n\
 }\n\
 \n\
-/* Does a name stand at one of the eight places round this station? It is 12 wide for each character. */\n\
+/* Does a name stand at one of the eight places round this station? It is as wide as three fifths of its size for each\n\
+\x20  character, and a fifth away. */\n\
 function standsBy(text, station) {\n\
-\x20 const right = numbersOf(text, 'x')[0] - station.x, down = numbersOf(text, 'y')[0] - station.y;\n\
-\x20 const away = station.radius + 4, width = 12 * [...text.textContent].length;\n\
-\x20 if (right === away || right === -away - width) return [-away, 8, away + 20].includes(down);\n\
-\x20 return right === -width / 2 && [-away - 4, away + 20].includes(down);\n\
+\x20 const [x, y, size] = ['x', 'y', 'font-size'].map(name => numbersOf(text, name)[0]);\n\
+\x20 const right = x - station.x, down = y - station.y, gap = size / 5;\n\
+\x20 const away = station.radius + gap, width = 3 * gap * [...text.textContent].length;\n\
+\x20 if (right === away || right === -away - width) return [-away, 2 * gap, away + size].includes(down);\n\
+\x20 return right === -width / 2 && [-away - gap, away + size].includes(down);\n\
 }\n\
 \n\
 /* A poster tells the lines that call at a station, and has its marker over their feet: their ends there. A station\n\
@@ -225,12 +230,6 @@ function posterStation(group, lines) {\n\
 \x20   kind: 'station', x, y, radius, feet: feet.map(([, shift]) => shift),\n\
 \x20   name: wordsOf(group.querySelector('title')), lines: new Set(calling), isTold: true,\n\
 \x20 };\n\
-}\n\
-\n\
-/* How large a marker is: that of a map is larger where more lines stop. */\n\
-function measureMarker(station) {\n\
-\x20 if (!station.isTold) station.radius = Math.max(station.radius, 3 + 7 * Math.sqrt(station.lines.size));\n\
-\x20 station.reach = station.radius + Math.max(...station.feet.map(([right, down]) => Math.hypot(right, down)));\n\
 }\n\
 \n\
 const placeOf = (points, i) => `${points[i]},${points[i + 1]}`;\n\
@@ -272,20 +271,60 @@ function listStations(line, stationAt) {\n\
 \x20 for (const station of line.stations) station.lines.add(line);\n\
 }\n\
 \n\
-/* The rectangle round all lines and stations, a little wider, and the step of the grid: what divides all places, from\n\
-\x20  20 to 200. */\n\
-function sheetOf(lines, stations) {\n\
-\x20 const centres = lines.flatMap(({ ways }) => ways.map(({ centre }) => centre));\n\
-\x20 const box = boxOf([...centres, ...stations.map(({ x, y }) => [x, y])]);\n\
-\x20 let step = 0;\n\
-\x20 for (const value of new Set(centres.flat())) {\n\
-\x20   for (let rest = Math.round(Math.abs(value)); rest > 0;) [step, rest] = [rest, step % rest];\n\
+/* The page's own measures: lines are 12 wide, and what lies beside each other is 200 apart, as on a map on its grid. */\n\
+const STROKE = 12, APART = 200, MARGIN = 200;\n\
+\n\
+/* The measures of a picture: what its widths, and what its distances, are multiplied by to be those of the page; from\n\
+\x20  which place on; to which part of a unit ways are drawn; and the step of its grid, from 20 to 200. A map over the\n\
+\x20  ground has no grid, and lines that are thin for its distances: there the step is what a tenth of the ways from\n\
+\x20  station to station fall short of. */\n\
+function measuresOf(lines, stations) {\n\
+\x20 const widths = STROKE / (lines[0]?.stroke || STROKE), grid = gridOf(lines) * widths;\n\
+\x20 const spans = grid < 20 ? spansOf(lines, stations) : [];\n\
+\x20 if (spans.length === 0) {\n\
+\x20   return { widths, distances: widths, left: 0, top: 0, parts: 1, step: Math.max(20, Math.min(grid || APART, APART)) };\n\
 \x20 }\n\
-\x20 return { ...box, step: Math.max(20, Math.min(step || 200, 200)) };\n\
+\x20 const { left, top } = boxOf(centresOf(lines), 0);\n\
+\x20 return { widths, distances: APART / spans[Math.floor(spans.length / 10)], left, top, parts: 10, step: APART };\n\
 }\n\
 \n\
-/* The rectangle round all these places, 200 wider on each side. */\n\
-function boxOf(runs) {\n\
+const centresOf = lines => lines.flatMap(({ ways }) => ways.map(({ centre }) => centre));\n\
+\n\
+/* How far the ends of ways are apart, the least first: of those from station to station, where there are any. */\n\
+function spansOf(lines, stations) {\n\
+\x20 const places = new Set(stations.map(({ x, y }) => `${x},${y}`)), isStop = (...at) => places.has(placeOf(...at));\n\
+\x20 const spanOf = centre => Math.hypot(centre[0] - centre[centre.length - 2], centre[1] - centre[centre.length - 1]);\n\
+\x20 const ways = centresOf(lines).filter(centre => spanOf(centre) > 0);\n\
+\x20 const runs = ways.filter(centre => isStop(centre, 0) && isStop(centre, centre.length - 2));\n\
+\x20 return (runs.length > 0 ? runs : ways).map(spanOf).sort((a, b) => a - b);\n\
+}\n\
+\n\
+/* What divides all places of lines, 0 where there is none. */\n\
+function gridOf(lines) {\n\
+\x20 let step = 0;\n\
+\x20 for (const value of new Set(centresOf(lines).flat())) {\n\
+\x20   for (let rest = Math.round(Math.abs(value)); rest > 0;) [step, rest] = [rest, step % rest];\n\
+\x20 }\n\
+\x20 return step;\n\
+}\n\
+\n\
+/* Takes lines and stations over into the page's measures. The marker of a map is larger where more lines stop. */\n\
+function takeOver(lines, stations, { widths, distances, left, top }) {\n\
+\x20 const placed = places => places.map((value, i) => (value - [left, top][i % 2]) * distances);\n\
+\x20 const widened = shift => shift.map(value => value * widths);\n\
+\x20 for (const line of lines) {\n\
+\x20   line.ways = line.ways.map(({ centre, shift }) => ({ centre: placed(centre), shift: widened(shift) }));\n\
+\x20 }\n\
+\x20 for (const station of stations) {\n\
+\x20   const [x, y] = placed([station.x, station.y]), feet = station.feet.map(widened), radius = station.radius * widths;\n\
+\x20   Object.assign(station, { x, y, feet, radius });\n\
+\x20   if (!station.isTold) station.radius = Math.max(radius, 3 + 7 * Math.sqrt(station.lines.size));\n\
+\x20   station.reach = station.radius + Math.max(...feet.map(([right, down]) => Math.hypot(right, down)));\n\
+\x20 }\n\
+}\n\
+\n\
+/* The rectangle round all these places, with a margin. */\n\
+function boxOf(runs, margin = MARGIN) {\n\
 \x20 const least = [Infinity, Infinity], most = [-Infinity, -Infinity];\n\
 \x20 for (const run of runs) {\n\
 \x20   run.forEach((value, i) => {\n\
@@ -293,9 +332,8 @@ function boxOf(runs) {\n\
 \x20     most[i % 2] = Math.max(most[i % 2], value);\n\
 \x20   });\n\
 \x20 }\n\
-\x20 return {\n\
-\x20   left: least[0] - 200, top: least[1] - 200, width: most[0] - least[0] + 400, height: most[1] - least[1] + 400,\n\
-\x20 };\n\
+\x20 const [left, top] = least.map(value => value - margin), [right, bottom] = most.map(value => value + margin);\n\
+\x20 return { left, top, width: right - left, height: bottom - top };\n\
 }\n\
 \n\
 const LIGHT_INK = [236, 239, 244], DARK_INK = [22, 24, 29];\n\
@@ -437,7 +475,8 @@ const rounded = places => 'M' + places.map(place => place.map(Math.round).join('
 \n\
 /* Lines and stations as shapes, with names where there is room. */\n\
 class Layer {\n\
-\x20 constructor(root, { left, top, width, height }) {\n\
+\x20 constructor(root, { left, top, width, height, parts }) {\n\
+\x20   this.parts = parts;\n\
 \x20   root.setAttribute('viewBox', `${left} ${top} ${width} ${height}`);\n\
 \x20   [this.edges, this.routes, this.markers, this.names] = root.children;\n\
 \x20   this.show([], []);\n\
@@ -468,7 +507,7 @@ class Layer {\n\
 \x20 spreadOut(spread) {\n\
 \x20   this.spread = spread;\n\
 \x20   this.texts = this.lines.map(({ ways }) => ways.map(({ centre, shift }) => (\n\
-\x20     'M' + centre.map((value, i) => Math.round(value + shift[i] * spread))\n\
+\x20     'M' + centre.map((value, i) => Math.round((value + shift[i] * spread) * this.parts) / this.parts)\n\
 \x20   )).join(''));\n\
 \x20   this.courses = this.texts.map(text => new Path2D(text));\n\
 \x20   this.routes.innerHTML = this.texts.map((text, i) => `<path color=\"${this.lines[i].colour}\" d=\"${text}\"/>`).join('');\n\
@@ -525,10 +564,10 @@ class View {\n\
 \n\
 \x20 /* Lines are neither too thin nor too fat, and bundles cover nothing beside them. */\n\
 \x20 lookAt(scale) {\n\
-\x20   const { step, widest } = this.map, room = Math.max(1, Math.min(5, 11 / widest * (step / 200)));\n\
-\x20   const wanted = Math.max(3.6, Math.min(12 * scale, 10)) / (12 * scale);\n\
+\x20   const { step, widest } = this.map, room = Math.max(1, Math.min(5, 11 / widest * (step / APART)));\n\
+\x20   const wanted = Math.max(3.6, Math.min(STROKE * scale, 10)) / (STROKE * scale);\n\
 \x20   const spread = Number(Math.min(wanted, room).toPrecision(this.isLarge ? 1 : 3));\n\
-\x20   const stroke = Math.max(12 * spread, 2.2 / scale), rim = Math.max(4 * spread, 1 / scale);\n\
+\x20   const stroke = Math.max(STROKE * spread, 2.2 / scale), rim = Math.max(4 * spread, 1 / scale);\n\
 \x20   const rimOf = radius => 2 * spread * radius + rim;\n\
 \x20   return {\n\
 \x20     spread, stroke, rim, edge: stroke + Math.max(2 * spread, 2 / scale),\n\
