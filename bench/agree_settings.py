@@ -1,13 +1,13 @@
 #!/usr/bin/env python3
 """Compares `make`, `map`, `labels`, `geo`, `improve` and `check` with another program on small random feeds under random settings.
 
-    bench/agree_settings.py [--feeds N] [--seed S] [--work FOLDER] [--ours PROGRAM] PROGRAM
+    bench/agree_settings.py [--feeds N] [--seed S] [--theirs KEY=VALUE ..] [--work FOLDER] [--ours PROGRAM] PROGRAM
 
 Makes N feeds as bench/agree.py does, and for each a settings file with some of the keys, now and then with a value
-that no key takes. `labels` and `geo` also get a certificate of which one word is changed. Runs the commands of both
+that no key takes. The other program's file also has the lines given by --theirs. `labels` and `geo` also get a certificate of which one word is changed. Runs the commands of both
 programs on each and compares status, standard output and the bytes of the files (of words that are not read, status
 2, the status alone: each program has its own help); `check` without any settings file must say yes to each map under
-the default cell, near distance and weights. A feed on which something differs is kept, and named. Ends with 1 where
+the default cell, near distance and weights, where best orders are claimed. A feed on which something differs is kept, and named. Ends with 1 where
 there is one.
 """
 import argparse
@@ -23,7 +23,8 @@ from agree_make import run
 from measuring import OURS
 
 KEYS = {
-    "search": ['"rising"', '"rising"', '"live"'],
+    "search": ['"dual"', '"dual"', '"live"'],
+    "proof": ['"bound"', '"best"'],
     "spread": ['"auto"', "0", "5", "30", "70", "100"],
     "finest": ["4", "8", "16"],
     "moves": ["0", "1", "2", "5", "20", "1000", "10000"],
@@ -31,7 +32,7 @@ KEYS = {
     "cell": ["50", "100", "200", "400", "1000"],
     "near": ["20", "100", "300", "1000", "3000"],
 }
-BAD = {"search": ['"rise"', "1"], "spread": ["101", "-1", '"all"'], "finest": ["2", "32", '"4"'], "moves": ["-1", "10001", '"5"', "1.5"]}
+BAD = {"search": ['"rise"', "1"], "proof": ['"least"', "true"], "spread": ["101", "-1", '"all"'], "finest": ["2", "32", '"4"'], "moves": ["-1", "10001", '"5"', "1.5"]}
 
 
 def settings(chance):
@@ -54,6 +55,7 @@ def main():
     parser = argparse.ArgumentParser(description=__doc__, formatter_class=argparse.RawDescriptionHelpFormatter)
     parser.add_argument("--feeds", type=int, default=300)
     parser.add_argument("--seed", type=int, default=1)
+    parser.add_argument("--theirs", action="append", default=[], metavar="KEY=VALUE")
     parser.add_argument("--work", default=os.path.join(tempfile.gettempdir(), "octimap-agree-settings"))
     parser.add_argument("--ours", default=OURS)
     parser.add_argument("program", metavar="PROGRAM")
@@ -70,7 +72,8 @@ def main():
 
         def compare(words, outputs):
             nonlocal runs, differs
-            ours, theirs = (run(program, words, folder, outputs) for program in programs)
+            ours = run(programs[0], words, folder, outputs)
+            theirs = run(programs[1], [word.replace("settings", "theirs") if word == "settings.toml" else word for word in words], folder, outputs)
             runs += 1
             statuses[words[0], theirs[0]] += 1
             if ours != theirs and not ours[0] == theirs[0] == 2:
@@ -80,8 +83,13 @@ def main():
 
         for command in ["make", "map", "improve"]:
             chosen = settings(chance)
-            with open(os.path.join(folder, "settings.toml"), "w") as out:
-                out.writelines(f"{key} = {value}\n" for key, value in chosen.items())
+            # What `map` takes where no file says otherwise, so that both programs take it.
+            if command == "map":
+                chosen.setdefault("moves", "1000")
+            lines = [f"{key} = {value}\n" for key, value in chosen.items()]
+            for name, further in [("settings.toml", []), ("theirs.toml", [line.replace("=", " = ", 1) + "\n" for line in given.theirs])]:
+                with open(os.path.join(folder, name), "w") as out:
+                    out.writelines(lines + further)
             words = [command, "feed", "svg", "cert"]
             if command == "improve":
                 words.append(chance.choice(["0", "1", "3", "10", "1000", "10000", "10001", "x"]))
@@ -97,7 +105,7 @@ def main():
                 for picture in ["labels", "geo"]:
                     compare([picture, "feed", certificate, picture, "--settings", "settings.toml"], [picture])
             compare(["check", "feed", "svg", "cert", "--settings", "settings.toml"], [])
-            if not {"cell", "near"} & set(chosen):
+            if not {"cell", "near"} & set(chosen) and chosen.get("proof") != '"bound"':
                 plain = run(programs[0], ["check", "feed", "svg", "cert"], folder, [])
                 if plain[0] != 0:
                     differs = True

@@ -1,13 +1,13 @@
 #!/usr/bin/env python3
 """Compares `octimap check` with another program on changed certificates.
 
-    bench/changed_certificates.py [--changes N] [--each N] [--search NAME ..] [--seed S] [--seconds S] [--work FOLDER]
-        [--ours PROGRAM] PROGRAM
+    bench/changed_certificates.py [--changes N] [--each N] [--seed S] [--seconds S] [--work FOLDER] [--ours PROGRAM] PROGRAM
 
 Makes small feeds, some at random and some of a trunk on whose line orders a search works, and their maps and certificates by the
-other program, by each search that is named (live and rising). Then runs `check` of both programs on N changes of these certificates (100,000): lines
-exchanged, doubled, dropped, moved, or taken from another certificate; numbers one greater or less, negative, or at a limit; parts
-of a tree of the search exchanged, doubled, dropped or closed; bytes changed. Prints how often each answer came, and on how many the
+other program, by each search, and with a bound where the search is cut off. Then runs `check` of both programs, where best orders
+are claimed or a bound, on N changes of these certificates (100,000): lines exchanged, doubled, dropped, moved, or taken from another
+certificate; numbers one greater or less, negative, or at a limit; parts of a tree of a search exchanged, doubled, dropped or closed,
+forks turned; bytes changed. Prints how often each answer came, and on how many the
 programs agree in status and standard output. A certificate on which they don't is kept, and named. Ends with 1 where there is one,
 or where a run was ended by a signal or took longer than S seconds (20).
 """
@@ -81,12 +81,14 @@ def changed_words(chance, lines, others):
 
 
 def block_at(lines, at):
-    """The end of the part of a tree that begins at a line: a leaf, or a split with all that is taken of it."""
+    """The end of the part of a tree that begins at a line: a leaf, a split with all that is taken of it, or a fork with two trees."""
     depth, place = 0, at
     while place < len(lines):
         word = lines[place].split(b" ")[0]
         if word == b"split":
             depth += int(lines[place].split(b" ")[2]) if lines[place].count(b" ") == 2 and lines[place].split(b" ")[2].isdigit() else 1
+        elif word == b"fork":
+            depth += 1 if depth else 2
         elif word in (b"close", b"stop"):
             depth -= 1
             if depth <= 0:
@@ -99,7 +101,7 @@ def block_at(lines, at):
 
 def changed_tree(chance, lines, others):
     """Parts of a tree exchanged, doubled, dropped, closed, or put elsewhere."""
-    begins = [k for k, line in enumerate(lines) if line.split(b" ")[0] in (b"split", b"take", b"close", b"stop")]
+    begins = [k for k, line in enumerate(lines) if line.split(b" ")[0] in (b"split", b"take", b"close", b"fork", b"stop")]
     if not begins:
         return changed_number(chance, lines, others)
     at = chance.choice(begins)
@@ -116,7 +118,9 @@ def changed_tree(chance, lines, others):
         to = chance.choice([k for k in begins if k <= len(lines)])
         lines[to:to] = block
     elif way == 4:
-        lines[at:end] = [b"split 0 1", b"take 0"] * chance.choice([1, 2, 2047, 2048, 2049]) + [b"close 0"]
+        turns = chance.choice([1, 2, 2047, 2048, 2049])
+        chain = [b"split 0 1", b"take 0"] * turns + [b"close 0"], [b"fork 0 0 1"] * turns + [b"stop 0"] * (turns + 1)
+        lines[at:end] = chance.choice(chain)
     else:
         stops = [line for line in others if line.startswith(b"stop ")]
         lines[at:end] = [chance.choice(stops)] if stops else []
@@ -175,13 +179,17 @@ class Runner:
             return None if late else os.waitstatus_to_exitcode(status), said.read()
 
 
-def certificates_of(chance, seed, program, searches):
-    """The map and certificate of a feed by each search, if it has a map."""
+# How the certificates are made that are changed.
+WAYS = ['search = "live"\n', 'search = "dual"\n', 'search = "dual"\nproof = "bound"\nbudget = 1\n', 'search = "dual"\nproof = "bound"\nbudget = 4\n']
+
+
+def certificates_of(chance, seed, program):
+    """The certificates of a feed in each way, if it has a map; the map is that of the last."""
     make_feed(chance, "feed", seed)
     found = []
-    for search in searches:
+    for way in WAYS:
         with open("settings.toml", "w") as out:
-            out.write(f'search = "{search}"\n')
+            out.write(way)
         done = subprocess.run([program, "make", "feed", "svg", "cert", "--settings", "settings.toml"], capture_output=True)
         if done.returncode == 0:
             with open("cert", "rb") as file:
@@ -198,7 +206,6 @@ def main():
     parser = argparse.ArgumentParser(description=__doc__, formatter_class=argparse.RawDescriptionHelpFormatter)
     parser.add_argument("--changes", type=int, default=100_000)
     parser.add_argument("--each", type=int, default=300, help="changes of the certificates of one feed")
-    parser.add_argument("--search", action="append")
     parser.add_argument("--seed", type=int, default=1)
     parser.add_argument("--seconds", type=int, default=20)
     parser.add_argument("--work", default="/dev/shm" if os.path.isdir("/dev/shm") else None)
@@ -214,13 +221,16 @@ def main():
         os.makedirs(folder)
         os.chdir(folder)
         chance = random.Random(seed)
-        found = certificates_of(chance, seed, theirs, given.search or ["live", "rising"])
+        found = certificates_of(chance, seed, theirs)
+        with open("bound.toml", "w") as out:
+            out.write('proof = "bound"\n')
         lines = sorted({line for text in found for line in text.split(b"\n")})
         differs = False
         for _ in range(given.each if found else 0):
             with open("cert", "wb") as out:
                 out.write(changed(chance, chance.choice(found), lines))
-            first, second = (runner.run(program, ["check", "feed", "svg", "cert"]) for program in (ours, theirs))
+            words = ["check", "feed", "svg", "cert"] + chance.choice([[], ["--settings", "bound.toml"]])
+            first, second = (runner.run(program, words) for program in (ours, theirs))
             runs += 1
             answers[kind_of(*first)] += 1
             if first != second or first[0] is None or first[0] < 0:
