@@ -9,7 +9,6 @@ use Rattle.std.proofs.lemmas.List.Sums.{sum_by-append, sum_by-cons, length-filte
 use Rattle.map_base.specs.declared.ids.SegId.{SegId}
 use Rattle.map_base.specs.declared.ids.LineId.{LineId}
 use Rattle.order_model.specs.Problems.{lines_on}
-use Rattle.order_model.specs.Places.{has_line}
 use Rattle.least_orders.specs.Rows.{is_one_of}
 use Rattle.dual_bound.specs.declared.settled.SettledPair.{SettledPair}
 use Rattle.dual_bound.specs.Settled.{settled_on}
