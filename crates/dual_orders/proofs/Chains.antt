@@ -103,12 +103,17 @@ has_joined direct set i k (suc n) all =
         ∙ assoc (has_place all i) (has_place (slice_index direct k) i) (any_from (λ m. has_place set m && has_place (slice_index direct m) i) (k + 1) n)
 
 -- one place more of a set
-pub joined_more : (direct : List ℕ) (set k count all more : ℕ) → k < count → more ≡ cond (has_place set k) (bit_or all (slice_index direct k)) all → joined direct set (k + 1) (count - (k + 1)) more ≡ joined direct set k (count - k) all
-joined_more direct set k count all more below is = ap (joined direct set (k + 1) (count - (k + 1))) is ∙ sym (ap (λ n. joined direct set k n all) (one_less k count below))
+pub joined_more : (direct : List ℕ) (set k count all more : ℕ) → k < count
+    → more ≡ cond (has_place set k) (bit_or all (slice_index direct k)) all
+    → joined direct set (k + 1) (count - (k + 1)) more ≡ joined direct set k (count - k) all
+joined_more direct set k count all more below is = ap (joined direct set (k + 1) (count - (k + 1))) is ∙ sym
+    (ap (λ n. joined direct set k n all) (one_less k count below))
 
 -- one step more
-pub step_more : (direct : List ℕ) (count j set i most more : ℕ) → i < most → more ≡ stepped direct count j set → stepped_by direct count j (most - (i + 1)) more ≡ stepped_by direct count j (most - i) set
-step_more direct count j set i most more below is = ap (stepped_by direct count j (most - (i + 1))) is ∙ sym (ap (λ n. stepped_by direct count j n set) (one_less i most below))
+pub step_more : (direct : List ℕ) (count j set i most more : ℕ) → i < most → more ≡ stepped direct count j set
+    → stepped_by direct count j (most - (i + 1)) more ≡ stepped_by direct count j (most - i) set
+step_more direct count j set i most more below is = ap (stepped_by direct count j (most - (i + 1))) is ∙ sym
+    (ap (λ n. stepped_by direct count j n set) (one_less i most below))
 
 -- a step more at the end
 step_last : (direct : List ℕ) (count j n set : ℕ) → stepped_by direct count j (suc n) set ≡ stepped direct count j (stepped_by direct count j n set)
@@ -197,12 +202,18 @@ module _ (pairs : List (LineId × LineId)) (lines : List LineId) (direct : List 
       ∙ (ap (λ u. open_pairs.leads n pairs u (name (place_of lines b))) (named_place a h) ∙ ap (λ u. open_pairs.leads n pairs a u) (named_place b k))
 
 -- whether the set of those ahead has a line
-pub leads_by : (pairs : List (LineId × LineId)) (lines : List LineId) (direct : List ℕ) (a b : LineId) (chain i j set : ℕ) (r : Bool) → TellsPairs pairs lines direct → chain ≡ length pairs → has_line lines a ≡ true
-    → has_line lines b ≡ true → i ≡ place_of lines a → j ≡ place_of lines b → set ≡ stepped_by direct (length lines) j chain 0 → r ≡ has_place set i → r ≡ open_pairs.leads (length pairs) pairs a b
+pub leads_by : (pairs : List (LineId × LineId)) (lines : List LineId) (direct : List ℕ) (a b : LineId)
+    (chain i j set : ℕ) (r : Bool) → TellsPairs pairs lines direct → chain ≡ length pairs → has_line lines a ≡ true
+    → has_line lines b ≡ true → i ≡ place_of lines a → j ≡ place_of lines b
+    → set ≡ stepped_by direct (length lines) j chain 0 → r ≡ has_place set i
+    → r ≡ open_pairs.leads (length pairs) pairs a b
 leads_by pairs lines direct a b chain i j set r tells count first_on second_on first second made is =
     is
-    ∙ (ap (λ s. has_place s i) (made ∙ (ap (λ m. stepped_by direct (length lines) m chain 0) second ∙ ap (λ n. stepped_by direct (length lines) (place_of lines b) n 0) count))
-    ∙ (ap (has_place (stepped_by direct (length lines) (place_of lines b) (length pairs) 0)) first ∙ lines_lead pairs lines direct tells.told tells.known (length pairs) a b first_on second_on))
+    ∙ (ap (λ s. has_place s i)
+    (made ∙ (ap (λ m. stepped_by direct (length lines) m chain 0) second ∙ ap
+    (λ n. stepped_by direct (length lines) (place_of lines b) n 0) count))
+    ∙ (ap (has_place (stepped_by direct (length lines) (place_of lines b) (length pairs) 0)) first ∙ lines_lead pairs
+    lines direct tells.told tells.known (length pairs) a b first_on second_on))
 
 pub settled_once : (a b : Bool) → a ≡ true → true ≡ (a || b)
 settled_once a b h = sym (left_true a b h)

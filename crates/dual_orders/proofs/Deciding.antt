@@ -50,7 +50,8 @@ few_never (a ∷ lines) h =
     omega (arith, rest, both, each, h)
 
 -- a segment has few averages
-pub few_averages : (p : ProblemParts) (averages : List (List PairAverage)) (i : ℕ) → ArePairs p averages → i < length p.segs → length (get_or p.segs i []) ≤ 16 → length (get_or averages i []) ≤ 256
+pub few_averages : (p : ProblemParts) (averages : List (List PairAverage)) (i : ℕ) → ArePairs p averages
+    → i < length p.segs → length (get_or p.segs i []) ≤ 16 → length (get_or averages i []) ≤ 256
 few_averages p averages i pairs below few =
     let same = ap length (pairs i below) in
     let one = length-map (get_or averages i []) pair_of in
@@ -110,9 +111,6 @@ best_same p before best c is less =
 -- the pair of one average, where it is not settled
 pub open_one : (pairs : List (LineId × LineId)) (s : SegId) (x : PairAverage) → is_settled pairs x.lesser x.greater ≡ false → open_of pairs s (x ∷ []) ≡ open_pair s x ∷ []
 open_one pairs s x h = ap (λ t. map (open_pair s) (cond (not t) (x ∷ []) [])) h
-
-pub open_none : (pairs : List (LineId × LineId)) (s : SegId) (x : PairAverage) → is_settled pairs x.lesser x.greater ≡ true → open_of pairs s (x ∷ []) ≡ []
-open_none pairs s x h = ap (λ t. map (open_pair s) (cond (not t) (x ∷ []) [])) h
 
 filter_push : {A : Type 0} (t : A → Bool) (xs : List A) (x : A) → filter t (xs ++ x ∷ []) ≡ filter t xs ++ filter t (x ∷ [])
 filter_push t [] x = refl

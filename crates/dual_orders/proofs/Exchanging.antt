@@ -150,4 +150,6 @@ least_lines p orders s = by_option (least_beside p orders s) refl
     by_option : (o : Option (List LineId)) → least_beside p orders s ≡ o → length (unwrap_or o (lines_on p.segs s)) ≡ length (lines_on p.segs s)
     by_option None e = refl
     by_option (Some o) e =
-        length_permutation (lines_on p.segs s) o (order_is_permutation (lines_on p.segs s) o (first_among (cost_with p orders s) (all_orders (lines_on p.segs s)) o e))
+        length_permutation (lines_on p.segs s) o
+        (order_is_permutation (lines_on p.segs s) o
+        (first_among (cost_with p orders s) (all_orders (lines_on p.segs s)) o e))

@@ -75,9 +75,11 @@ pub same_lengths : (segs orders others : List (List LineId)) → AreOrders segs 
 same_lengths segs orders others h k = lengths_of segs orders h ∙ sym (lengths_of segs others k)
 
 -- an order of a segment has as many lines as the one whose place it takes
-pub placed_length : (segs orders : List (List LineId)) (f : SegId → List LineId) (s : ℕ) (order : List LineId) → AreOrders segs (map f (segments_from 0 segs)) → AreOrders segs orders → s < length segs → order ≡ f (seg_number s)
+pub placed_length : (segs orders : List (List LineId)) (f : SegId → List LineId) (s : ℕ) (order : List LineId)
+    → AreOrders segs (map f (segments_from 0 segs)) → AreOrders segs orders → s < length segs → order ≡ f (seg_number s)
     → length order ≡ length (get_or orders s order)
 placed_length segs orders f s order made are below is =
     let each : length segs ≡ length orders = length-orders segs orders are in
     ap length (is ∙ sym (all_made_at segs f s [] below))
-    ∙ (length_at segs (map f (segments_from 0 segs)) s made ∙ (sym (length_at segs orders s are) ∙ ap length (get_or_default orders s [] order (omega (arith, each, below)))))
+    ∙ (length_at segs (map f (segments_from 0 segs)) s made
+    ∙ (sym (length_at segs orders s are) ∙ ap length (get_or_default orders s [] order (omega (arith, each, below)))))

@@ -45,7 +45,8 @@ price_small segs terms prices k fit within = by_place (cases_lt k (length terms)
         subst (λ v. unsigned_abs v ≤ 256000000) (sym none) (omega arith)
 
 -- a price as it is read
-pub price_read : (segs : List (List LineId)) (terms : List Term) (prices : List ℤ) (k : ℕ) → All (IsTerm segs) terms → AreWithin terms prices → to_z w64 (of_z w64 (get_or prices k (pos 0))) ≡ get_or prices k (pos 0)
+pub price_read : (segs : List (List LineId)) (terms : List Term) (prices : List ℤ) (k : ℕ) → All (IsTerm segs) terms
+    → AreWithin terms prices → to_z w64 (of_z w64 (get_or prices k (pos 0))) ≡ get_or prices k (pos 0)
 price_read segs terms prices k fit within =
     let small = price_small segs terms prices k fit within in
     to_z-of_z w64 (get_or prices k (pos 0)) (fits_signed_from_abs w64 (get_or prices k (pos 0)) (omega (arith, small)))
@@ -61,7 +62,8 @@ small_up m n r h small = record {
 }
 
 -- prices that are the same bits are the same
-pub same_price : (segs : List (List LineId)) (terms : List Term) (f g : List ℤ) (n : ℕ) → All (IsTerm segs) terms → AreWithin terms f → AreWithin terms g
+pub same_price : (segs : List (List LineId)) (terms : List Term) (f g : List ℤ) (n : ℕ) → All (IsTerm segs) terms
+    → AreWithin terms f → AreWithin terms g
     → of_z w64 (get_or f n (pos 0)) ≡ of_z w64 (get_or g n (pos 0)) → get_or f n (pos 0) ≡ get_or g n (pos 0)
 same_price segs terms f g n fit one two e =
     sym (price_read segs terms f n fit one) ∙ (ap (to_z w64) e ∙ price_read segs terms g n fit two)
@@ -72,5 +74,7 @@ zeros_within [] = tt
 zeros_within (t ∷ terms) = (omega arith, zeros_within terms)
 
 -- one element more for which it holds
-pub all_more : {A : Type 0} (P : A → Type 0) (xs : List A) (i : ℕ) (d : A) → i < length xs → All P (take i xs) → P (get_or xs i d) → All P (take (i + 1) xs)
-all_more P xs i d below all one = subst (All P) (sym (take_more xs i d below)) (All-append P (take i xs) (get_or xs i d ∷ []) all (All-cons P (get_or xs i d) [] one (All-nil P)))
+pub all_more : {A : Type 0} (P : A → Type 0) (xs : List A) (i : ℕ) (d : A) → i < length xs → All P (take i xs)
+    → P (get_or xs i d) → All P (take (i + 1) xs)
+all_more P xs i d below all one = subst (All P) (sym (take_more xs i d below))
+    (All-append P (take i xs) (get_or xs i d ∷ []) all (All-cons P (get_or xs i d) [] one (All-nil P)))

@@ -61,13 +61,18 @@ tells lines costs pairs t told tell known = record {
 
 -- what a search for the least order of these lines finds
 abbrev pub Finds : List LineId → Solver → Solver → Type 0
-Finds lines old new = (costs : PairCosts) (settled : List (LineId × LineId)) → TellsCosts lines costs settled old → found_of new (length lines) ≡ unwrap_or (least_order costs settled lines) lines
+Finds lines old new = (costs : PairCosts) (settled : List (LineId × LineId)) → TellsCosts lines costs settled old
+    → found_of new (length lines) ≡ unwrap_or (least_order costs settled lines) lines
 
-found_there : (own lines order : List LineId) (costs : PairCosts) (settled : List (LineId × LineId)) (t new : Solver) → lines ≡ own → TellsCosts own costs settled t → Finds lines t new → order ≡ found_of new (length lines)
+found_there : (own lines order : List LineId) (costs : PairCosts) (settled : List (LineId × LineId)) (t new : Solver)
+    → lines ≡ own → TellsCosts own costs settled t → Finds lines t new → order ≡ found_of new (length lines)
     → order ≡ unwrap_or (least_order costs settled own) own
-found_there own lines order costs settled t new here told finds is = is ∙ (ap (λ (l : List LineId). found_of new (length l)) here ∙ subst (λ (l : List LineId). Finds l t new) here finds costs settled told)
+found_there own lines order costs settled t new here told finds is = is
+    ∙ (ap (λ (l : List LineId). found_of new (length l)) here ∙ subst (λ (l : List LineId). Finds l t new) here finds
+    costs settled told)
 
-rows_tell : (lines : List LineId) (costs : PairCosts) (rows : CostRows) (t : Solver) → t.rows ≡ rows → Tell lines costs rows → Tell lines costs t.rows
+rows_tell : (lines : List LineId) (costs : PairCosts) (rows : CostRows) (t : Solver) → t.rows ≡ rows
+    → Tell lines costs rows → Tell lines costs t.rows
 rows_tell lines costs rows t same told = subst (λ (r : CostRows). Tell lines costs r) (sym same) told
 
 -- Shares.
@@ -85,13 +90,18 @@ module _ (p : ProblemParts) (stack : List SettledPair) (s : SegId) (rising : All
       → order ≡ answer_on p (pairs_of stack) prices s
   answer_found prices order is = is ∙ sym (answer_is p (pairs_of stack) prices s rising fit)
 
-  pub answered : (prices : List ℤ) (lines order : List LineId) (rows : CostRows) (t new : Solver) → lines ≡ lines_on p.segs s → t.rows ≡ rows
-      → Tell (lines_on p.segs s) (share_costs (terms_by_number p.terms (own.own_numbers p s)) (number_of prices) s) rows → TellAhead (settled_on (pairs_of stack) s) (lines_on p.segs s) t.ahead.items
+  pub answered : (prices : List ℤ) (lines order : List LineId) (rows : CostRows) (t new : Solver)
+      → lines ≡ lines_on p.segs s → t.rows ≡ rows
+      → Tell (lines_on p.segs s) (share_costs (terms_by_number p.terms (own.own_numbers p s)) (number_of prices) s)
+      rows → TellAhead (settled_on (pairs_of stack) s) (lines_on p.segs s) t.ahead.items
       → Finds lines t new → order ≡ found_of new (length lines) → order ≡ answer_on p (pairs_of stack) prices s
   answered prices lines order rows t new here same told tell finds is =
       answer_found prices order
-      (found_there (lines_on p.segs s) lines order (share_costs (all_terms p) (number_of prices) s) (settled_on (pairs_of stack) s) t new here
-      (tells_shares prices t (rows_tell (lines_on p.segs s) (share_costs (terms_by_number p.terms (own.own_numbers p s)) (number_of prices) s) rows t same told) tell) finds is)
+      (found_there (lines_on p.segs s) lines order (share_costs (all_terms p) (number_of prices) s)
+      (settled_on (pairs_of stack) s) t new here
+      (tells_shares prices t
+      (rows_tell (lines_on p.segs s) (share_costs (terms_by_number p.terms (own.own_numbers p s)) (number_of prices) s)
+      rows t same told) tell) finds is)
 
   -- Averages.
 
@@ -109,13 +119,18 @@ module _ (p : ProblemParts) (stack : List SettledPair) (s : SegId) (rising : All
       each (x ∷ xs) h =
           ((h.0.first_on, h.0.second_on, h.0.differ, ne_eqb x.greater.0 x.lesser.0 (λ e. eqb-false x.lesser.0 x.greater.0 h.0.differ (sym e))), each xs h.1)
 
-  pub neared : (averages : List (List PairAverage)) (lines order : List LineId) (rows : CostRows) (t new : Solver) → lines ≡ lines_on p.segs s → All (IsOfTwo (lines_on p.segs s)) (averages_on averages s)
-      → t.rows ≡ rows → Tell (lines_on p.segs s) (summed_costs distance_costs (averages_on averages s)) rows → TellAhead (settled_on (pairs_of stack) s) (lines_on p.segs s) t.ahead.items
+  pub neared : (averages : List (List PairAverage)) (lines order : List LineId) (rows : CostRows) (t new : Solver)
+      → lines ≡ lines_on p.segs s → All (IsOfTwo (lines_on p.segs s)) (averages_on averages s)
+      → t.rows ≡ rows → Tell (lines_on p.segs s) (summed_costs distance_costs (averages_on averages s)) rows
+      → TellAhead (settled_on (pairs_of stack) s) (lines_on p.segs s) t.ahead.items
       → Finds lines t new → order ≡ found_of new (length lines) → order ≡ nearest_on p (pairs_of stack) averages s
   neared averages lines order rows t new here two same told tell finds is =
       nearest_found averages order two
-      (found_there (lines_on p.segs s) lines order (summed_costs distance_costs (averages_on averages s)) (settled_on (pairs_of stack) s) t new here
-      (tells_distances (averages_on averages s) t (rows_tell (lines_on p.segs s) (summed_costs distance_costs (averages_on averages s)) rows t same told) tell) finds is)
+      (found_there (lines_on p.segs s) lines order (summed_costs distance_costs (averages_on averages s))
+      (settled_on (pairs_of stack) s) t new here
+      (tells_distances (averages_on averages s) t
+      (rows_tell (lines_on p.segs s) (summed_costs distance_costs (averages_on averages s)) rows t same told) tell)
+      finds is)
 
 -- of orders that cost nothing the first is least
 first_of_all : (xs : List (List LineId)) (lines : List LineId) → unwrap_or (first_least (order_cost no_costs) xs) lines ≡ first_or lines xs
@@ -130,13 +145,17 @@ first_of_all (x ∷ xs) lines = by_rest (first_least (order_cost no_costs) xs)
 pub left_found : (pairs : List (LineId × LineId)) (lines order : List LineId) → order ≡ unwrap_or (least_order no_costs pairs lines) lines → order ≡ first_or lines (kept_orders pairs lines)
 left_found pairs lines order is = is ∙ first_of_all (kept_orders pairs lines) lines
 
-pub left_there : (p : ProblemParts) (stack : List SettledPair) (s : SegId) (lines order : List LineId) (rows : CostRows) (t new : Solver) → All (IsPairOn p.segs) stack → lines ≡ lines_on p.segs s → t.rows ≡ rows
-    → Tell (lines_on p.segs s) no_costs rows → TellAhead (settled_on (pairs_of stack) s) (lines_on p.segs s) t.ahead.items → Finds lines t new → order ≡ found_of new (length lines)
+pub left_there : (p : ProblemParts) (stack : List SettledPair) (s : SegId) (lines order : List LineId)
+    (rows : CostRows) (t new : Solver) → All (IsPairOn p.segs) stack → lines ≡ lines_on p.segs s → t.rows ≡ rows
+    → Tell (lines_on p.segs s) no_costs rows
+    → TellAhead (settled_on (pairs_of stack) s) (lines_on p.segs s) t.ahead.items → Finds lines t new
+    → order ≡ found_of new (length lines)
     → order ≡ first_or (lines_on p.segs s) (kept_orders (settled_on (pairs_of stack) s) (lines_on p.segs s))
 left_there p stack s lines order rows t new on here same told tell finds is =
     left_found (settled_on (pairs_of stack) s) (lines_on p.segs s) order
     (found_there (lines_on p.segs s) lines order no_costs (settled_on (pairs_of stack) s) t new here
-    (tells (lines_on p.segs s) no_costs (settled_on (pairs_of stack) s) t (rows_tell (lines_on p.segs s) no_costs rows t same told) tell (settled_known p.segs s stack on)) finds is)
+    (tells (lines_on p.segs s) no_costs (settled_on (pairs_of stack) s) t
+    (rows_tell (lines_on p.segs s) no_costs rows t same told) tell (settled_known p.segs s stack on)) finds is)
 
 -- Beside the orders of the others.
 
@@ -193,11 +212,17 @@ beside_found p s orders order rising fit known is =
     ∙ (ap (λ (os : List (List LineId)). unwrap_or (first_least (order_cost (costs_beside p orders s)) os) (lines_on p.segs s)) (keeps_nothing (all_orders (lines_on p.segs s)))
     ∙ ap (λ (o : Option (List LineId)). unwrap_or o (lines_on p.segs s)) (sym (least_beside_is p orders s rising fit known)))
 
-pub least_there : (p : ProblemParts) (s : SegId) (orders : List (List LineId)) (lines : List LineId) (rows : CostRows) (t new : Solver) → All AreRising p.segs → All (IsTerm p.segs) p.terms → s.0 < length orders
-    → lines ≡ lines_on p.segs s → t.rows ≡ rows → Tell (lines_on p.segs s) (summed_costs (beside_costs orders s) (own.own_terms p s)) rows → TellAhead [] lines t.ahead.items → Finds lines t new
+pub least_there : (p : ProblemParts) (s : SegId) (orders : List (List LineId)) (lines : List LineId) (rows : CostRows)
+    (t new : Solver) → All AreRising p.segs → All (IsTerm p.segs) p.terms → s.0 < length orders
+    → lines ≡ lines_on p.segs s → t.rows ≡ rows
+    → Tell (lines_on p.segs s) (summed_costs (beside_costs orders s) (own.own_terms p s)) rows
+    → TellAhead [] lines t.ahead.items → Finds lines t new
     → found_of new (length (lines_on p.segs s)) ≡ unwrap_or (least_beside p orders s) (lines_on p.segs s)
 least_there p s orders lines rows t new rising fit known here same told tell finds =
     beside_found p s orders (found_of new (length (lines_on p.segs s))) rising fit known
-    (found_there (lines_on p.segs s) lines (found_of new (length (lines_on p.segs s))) (costs_beside p orders s) [] t new here
-    (tells_beside p s orders t fit (rows_tell (lines_on p.segs s) (summed_costs (beside_costs orders s) (own.own_terms p s)) rows t same told) (subst (λ (l : List LineId). TellAhead [] l t.ahead.items) here tell)) finds
+    (found_there (lines_on p.segs s) lines (found_of new (length (lines_on p.segs s))) (costs_beside p orders s) [] t
+    new here
+    (tells_beside p s orders t fit
+    (rows_tell (lines_on p.segs s) (summed_costs (beside_costs orders s) (own.own_terms p s)) rows t same told)
+    (subst (λ (l : List LineId). TellAhead [] l t.ahead.items) here tell)) finds
     (ap (λ (l : List LineId). found_of new (length l)) (sym here)))

@@ -4,7 +4,7 @@ use Rattle.order_values.specs.declared.rule.Rule.{Rule}
 use Rattle.order_values.specs.declared.rule.Rule.TheVariants.{Merge, Divide}
 use Rattle.order_model.specs.declared.term.Term.TheVariants.{Side, Link, Apart}
 use Rattle.order_model.specs.declared.problem.ProblemParts.{ProblemParts}
-use Rattle.order_proof.specs.Plain.{PlainPart, PlainProof, close}
+use Rattle.order_proof.specs.Plain.{PlainPart, PlainProof, by_cases, close}
 use Rattle.order_check.specs.declared.refusal.ProofItem.TheVariants as item
 use Rattle.order_check.specs.Verdict.{verdict}
 use Rattle.order_tests.proofs.Crossing.{line, seg, both, lines_with, segs}
@@ -51,7 +51,7 @@ missing_part : verdict agreeing (lines_with both) (proof [] []) ≡ Some (item.P
 missing_part = refl
 
 -- after the rules there is none
-left_over : verdict agreeing (lines_with both) (proof (merge ∷ divide ∷ []) (record { segs = seg 1 ∷ seg 3 ∷ []; target = 0; tree = close [] } ∷ [])) ≡ Some (item.Part 0 [])
+left_over : verdict agreeing (lines_with both) (proof (merge ∷ divide ∷ []) (record { segs = seg 1 ∷ seg 3 ∷ []; target = 0; tree = by_cases (close []) } ∷ [])) ≡ Some (item.Part 0 [])
 left_over = refl
 
 -- orders that turn the lines on the fourth segment cost 15 on the problem itself, whatever the rules leave

@@ -17,7 +17,8 @@ renew-requires-clause-known c = λ so.
     let p = c.args.part.now.problem.now in
     c.loop-s.invariant.0.rest c.loop-s.s (omega arith)
     ∙ (ap (λ (l : List (List LineId)). get_or l c.loop-s.s []) (c.requires.known so)
-    ∙ all_made_at p.segs (answer_on p (pairs_of c.args.settled.now) c.args.earlier.now) c.loop-s.s [] (omega (arith, known, c.loop-s-test.true))))
+    ∙ all_made_at p.segs (answer_on p (pairs_of c.args.settled.now) c.args.earlier.now) c.loop-s.s []
+    (omega (arith, known, c.loop-s-test.true))))
 
 pub loop-s-preserved : goal.loop-s-preserved
 loop-s-preserved c =

@@ -16,6 +16,8 @@ loop-average-preserved c =
     let below = c.loop-average-test.true in (
       c.add_distance.ensures.room,
       c.add_distance.ensures.added.count ∙ c.loop-average.invariant.1,
-      distances_more c.args.lines.now c.args.averages.now i x c.loop-average.rows c.add_distance.new.rows below (get_or_default c.args.averages.now i none x below) c.loop-average.invariant.2 c.add_distance.ensures.added,
-      subst (λ m. AreSmallCosts m c.add_distance.new.rows) three (c.add_distance.ensures.small (3 * i) (omega (arith, few, below)) c.loop-average.invariant.3),
+      distances_more c.args.lines.now c.args.averages.now i x c.loop-average.rows c.add_distance.new.rows below
+          (get_or_default c.args.averages.now i none x below) c.loop-average.invariant.2 c.add_distance.ensures.added,
+      subst (λ m. AreSmallCosts m c.add_distance.new.rows) three
+          (c.add_distance.ensures.small (3 * i) (omega (arith, few, below)) c.loop-average.invariant.3),
     )

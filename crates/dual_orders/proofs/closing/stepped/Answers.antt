@@ -12,7 +12,9 @@ loop-k-preserved c =
     let all = c.loop-k.all in
     let is : c.if-has_place.all ≡ cond (has_place set k) (bit_or all (slice_index direct k)) all =
     elim c.if-has_place.branch [
-      | then-has_place w ↦ w.all-is ∙ sym (ap (λ b. cond b (bit_or all (slice_index direct k)) all) (sym c.has_place.ensures ∙ w.if-has_place.true))
-      | else-has_place w ↦ w.all-is ∙ sym (ap (λ b. cond b (bit_or all (slice_index direct k)) all) (sym c.has_place.ensures ∙ w.if-has_place.false))
+      | then-has_place w ↦ w.all-is ∙ sym
+          (ap (λ b. cond b (bit_or all (slice_index direct k)) all) (sym c.has_place.ensures ∙ w.if-has_place.true))
+      | else-has_place w ↦ w.all-is ∙ sym
+          (ap (λ b. cond b (bit_or all (slice_index direct k)) all) (sym c.has_place.ensures ∙ w.if-has_place.false))
     ] in
     joined_more direct set k c.args.count all c.if-has_place.all c.loop-k-test.true is ∙ c.loop-k.invariant

@@ -5,7 +5,8 @@ use Rattle.dual_orders.proofs.local_search.descend.Goals as goal
 pub loop-preserved : goal.loop-preserved
 loop-preserved c = record {
   orders =
-      minimum_goes_on c.args.part.now.problem.now c.loop.orders c.take_turn.new.orders c.take_turn.ensures.orders (c.take_turn.ensures.less c.loop-test.true) ∙ c.loop.invariant.orders;
+      minimum_goes_on c.args.part.now.problem.now c.loop.orders c.take_turn.new.orders c.take_turn.ensures.orders
+      (c.take_turn.ensures.less c.loop-test.true) ∙ c.loop.invariant.orders;
   are = c.take_turn.ensures.are;
   room = c.take_turn.ensures.room;
 }

@@ -9,5 +9,6 @@ cost_of-cost-requires c = sym (length-orders c.args.part.now.problem.now.segs c.
 
 pub copy_orders-requires : goal.copy_orders-requires
 copy_orders-requires c =
-    same_lengths c.args.part.now.problem.now.segs c.args.orders.now c.args.best.now.orders.items c.requires.orders c.requires.best.are
+    same_lengths c.args.part.now.problem.now.segs c.args.orders.now c.args.best.now.orders.items c.requires.orders
+    c.requires.best.are
     ∙ ap (λ (os : List (List LineId)). map (λ o. length o) os) (sym c.as_mut_slice.ensures.value)

@@ -14,9 +14,12 @@ loop-s-preserved c =
       | then-improve_on w ↦ w.changed-is ∙ sym (ap (λ b. cond b true c.loop-s.changed) w.if-improve_on.true)
       | else-improve_on w ↦ w.changed-is ∙ sym (ap (λ b. cond b true c.loop-s.changed) w.if-improve_on.false)
     ] in
-    let costs = turn_costs p c.args.orders.now c.loop-s.orders c.improve_on.new.orders c.loop-s.changed c.improve_on.result c.if-improve_on.changed inv.less inv.same c.improve_on.ensures.less c.improve_on.ensures.same is in
+    let costs = turn_costs p c.args.orders.now c.loop-s.orders c.improve_on.new.orders c.loop-s.changed
+    c.improve_on.result c.if-improve_on.changed inv.less inv.same c.improve_on.ensures.less c.improve_on.ensures.same
+    is in
     record {
-      orders = turn_more p c.args.orders.now c.loop-s.orders c.improve_on.new.orders c.loop-s.s (omega (arith, known, c.loop-s-test.true)) inv.orders c.improve_on.ensures.orders;
+      orders = turn_more p c.args.orders.now c.loop-s.orders c.improve_on.new.orders c.loop-s.s
+          (omega (arith, known, c.loop-s-test.true)) inv.orders c.improve_on.ensures.orders;
       are = c.improve_on.ensures.are;
       less = costs.0;
       same = costs.1;

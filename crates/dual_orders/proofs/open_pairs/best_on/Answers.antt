@@ -18,12 +18,15 @@ loop-average-preserved c = λ pairs before tells chain best.
     let none : PairAverage = never (record { 0 = 0 }) (record { 0 = 0 }) in
     let x : PairAverage = get_or averages i none in
     let below = c.loop-average-test.true in
-    subst (λ (l : List OpenPair). IsBest p (most_undecided p l) c.with_average-best.result) (open_more pairs s before averages i x below (get_or_default averages i none x below))
-    (c.with_average-best.ensures pairs (before ++ open_of pairs s (take i averages)) tells chain (c.loop-average.invariant pairs before tells chain best)))
+    subst (λ (l : List OpenPair). IsBest p (most_undecided p l) c.with_average-best.result)
+    (open_more pairs s before averages i x below (get_or_default averages i none x below))
+    (c.with_average-best.ensures pairs (before ++ open_of pairs s (take i averages)) tells
+    chain (c.loop-average.invariant pairs before tells chain best)))
 
 pub returns : goal.returns
 returns c = λ pairs before tells chain best.
     (let p : ProblemParts = c.args.part.now.problem.now in
     let s = seg_number c.args.s in
-    subst (λ (xs : List PairAverage). IsBest p (most_undecided p (before ++ open_of pairs s xs)) c.loop-average.best) (take_all c.loop-average.average-index c.args.averages.now (omega (arith, c.loop-average-test.false)))
+    subst (λ (xs : List PairAverage). IsBest p (most_undecided p (before ++ open_of pairs s xs)) c.loop-average.best)
+    (take_all c.loop-average.average-index c.args.averages.now (omega (arith, c.loop-average-test.false)))
     (c.loop-average.invariant pairs before tells chain best))

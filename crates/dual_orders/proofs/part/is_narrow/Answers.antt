@@ -9,10 +9,13 @@ returns-then-as_slice-gt-MOST_LINES c =
     let i = c.loop-lines.lines-index in
     let same = ap length c.segs-lines-items.ensures.lists in
     let below = c.loop-lines-test.true in
-    let is = lines_here segs c.segs-lines-items.result.now i c.lines-item.result c.as_slice.result.now c.segs-lines-items.ensures.lists below c.lines-item.is c.as_slice.ensures in
-    wide_at segs i (omega (arith, same, below)) (subst (λ (l : List LineId). 16 < length l) is c.if-as_slice-gt-MOST_LINES.true)
+    let is = lines_here segs c.segs-lines-items.result.now i c.lines-item.result c.as_slice.result.now
+    c.segs-lines-items.ensures.lists below c.lines-item.is c.as_slice.ensures in
+    wide_at segs i (omega (arith, same, below))
+    (subst (λ (l : List LineId). 16 < length l) is c.if-as_slice-gt-MOST_LINES.true)
 
 pub returns : goal.returns
 returns c =
     let same = ap length c.segs-lines-items.ensures.lists in
-    narrow_all c.args.problem.now.segs c.loop-lines.lines-index (omega (arith, same, c.loop-lines-test.false)) c.loop-lines.invariant
+    narrow_all c.args.problem.now.segs c.loop-lines.lines-index (omega (arith, same, c.loop-lines-test.false))
+    c.loop-lines.invariant

@@ -5,4 +5,6 @@ use Rattle.dual_orders.proofs.settled.put_ahead.Goals as goal
 
 pub put_pairs-requires-clause-few : goal.put_pairs-requires-clause-few
 put_pairs-requires-clause-few c =
-    subst (λ (l : List LineId). length l ≤ 16) (sym c.lines.ensures) (few_lines c.args.part.now.problem.now.segs c.args.s (reach_narrow c.args.part.now.problem.now c.requires.part.reach))
+    subst (λ (l : List LineId). length l ≤ 16) (sym c.lines.ensures)
+    (few_lines c.args.part.now.problem.now.segs c.args.s
+    (reach_narrow c.args.part.now.problem.now c.requires.part.reach))

@@ -8,7 +8,10 @@ use Rattle.dual_orders.proofs.answers.Answers.none.Goals as goal
 
 pub returns : goal.returns
 returns c = λ pairs. record {
-  orders = subst (AreOrders c.args.part.now.problem.now.segs) (sym (c.in_ok-orders_of.ensures ∙ c.segs.ensures.lists)) (number_orders c.args.part.now.problem.now.segs);
-  within = subst (AreWithin c.args.part.now.problem.now.terms) (sym (c.in_ok-prices.ensures.items_if_clones_equal (search rules) ∙ ap (λ (n : ℕ). replicate n (pos 0)) (ap length c.terms.ensures.list))) (zeros_within c.args.part.now.problem.now.terms);
+  orders = subst (AreOrders c.args.part.now.problem.now.segs) (sym (c.in_ok-orders_of.ensures ∙ c.segs.ensures.lists))
+      (number_orders c.args.part.now.problem.now.segs);
+  within = subst (AreWithin c.args.part.now.problem.now.terms)
+      (sym (c.in_ok-prices.ensures.items_if_clones_equal (search rules) ∙ ap (λ (n : ℕ). replicate n (pos 0))
+      (ap length c.terms.ensures.list))) (zeros_within c.args.part.now.problem.now.terms);
   known = λ so. absurd (true≢false (sym so));
 }

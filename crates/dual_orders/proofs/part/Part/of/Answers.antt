@@ -30,6 +30,8 @@ returns-clause-part c =
       fits = c.in_ok-segments.ensures.fits;
       some = c.requires.some;
       reach = c.requires.reach;
-      tables = c.in_ok-on.ensures ∙ (ap (λ (ns : List ℕ). map (numbers_on p.terms ns) c.as_slice.result.now) numbers ∙ ap (λ (ss : List SegId). map (numbers_on p.terms (all_numbers p)) ss) segments);
+      tables = c.in_ok-on.ensures
+          ∙ (ap (λ (ns : List ℕ). map (numbers_on p.terms ns) c.as_slice.result.now) numbers ∙ ap
+          (λ (ss : List SegId). map (numbers_on p.terms (all_numbers p)) ss) segments);
       load = c.load_of-load.ensures;
     }

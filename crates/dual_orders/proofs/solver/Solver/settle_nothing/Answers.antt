@@ -6,4 +6,6 @@ use Rattle.dual_orders.proofs.solver.Solver.settle_nothing.Goals as goal
 
 pub returns-clause-told : goal.returns-clause-told
 returns-clause-told c =
-    subst (TellAhead [] c.args.lines.now) (sym (with_items_is c.args.self.now.ahead c.clear.new.ahead (c.clear.auto.ahead ∙ c.as_mut_slice.ensures.len))) (tell_nothing c.args.lines.now c.clear.new.ahead c.clear.ensures)
+    subst (TellAhead [] c.args.lines.now)
+    (sym (with_items_is c.args.self.now.ahead c.clear.new.ahead (c.clear.auto.ahead ∙ c.as_mut_slice.ensures.len)))
+    (tell_nothing c.args.lines.now c.clear.new.ahead c.clear.ensures)
