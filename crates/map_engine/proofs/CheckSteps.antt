@@ -8,23 +8,25 @@ use Rattle.decimal_text.specs.declared.fault.BadText.{BadText}
 use Rattle.decimal_text.specs.declared.fault.BadText.TheVariants as bad
 use Rattle.decimal_text.specs.Readers.{EndsAs}
 use Rattle.order_model.specs.declared.problem.ProblemParts.{ProblemParts}
-use Rattle.order_model.specs.Costs.{cost_of, AreOrders, AreBest}
+use Rattle.order_model.specs.Costs.{cost_of, AreOrders}
+use Rattle.map_method.specs.declared.claim.Claim.{Claim}
+use Rattle.order_check.specs.LowerBounds.{IsLowerBound}
 use Rattle.cert_file.specs.declared.certificate.Certificate.{Certificate}
 use Rattle.cert_file.specs.Reading.{certificate_end}
 use Rattle.map_engine.specs.declared.fault.CheckFault.{CheckFault}
 use Rattle.map_engine.specs.Faults.{text_stop}
 use Rattle.map_engine.specs.Problems.{problem_within}
-use Rattle.map_engine.specs.Promises.{CostLeast}
+use Rattle.map_engine.specs.Promises.{AreBounded}
 use Rattle.map_engine.specs.Readings.{certificate_in}
 use Rattle.map_engine.specs.Checking.{first_difference, checked_text, HasCause, Gives}
 use Rattle.map_engine.proofs.ReadAgain.{wrong_read}
 use Rattle.map_engine.proofs.MadeProblem.{problem_is}
 
 -- a text that is no certificate's is refused where reading stops
-pub text_refused : (feed : Feed) (choices : Choices) (graph : GraphParts) (bytes : List ℕ) (stop : BadText) → EndsAs (λ (c : Certificate). length bytes) (Err stop) (certificate_end bytes)
-    → HasCause (checked_text feed choices graph (certificate_in bytes)) (text_stop stop)
-text_refused feed choices graph bytes (bad.At at) h = ap (checked_text feed choices graph) (wrong_read bytes at h)
-text_refused feed choices graph bytes bad.NoMemory h = tt
+pub text_refused : (feed : Feed) (choices : Choices) (claim : Claim) (graph : GraphParts) (bytes : List ℕ) (stop : BadText) → EndsAs (λ (c : Certificate). length bytes) (Err stop) (certificate_end bytes)
+    → HasCause (checked_text feed choices claim graph (certificate_in bytes)) (text_stop stop)
+text_refused feed choices claim graph bytes (bad.At at) h = ap (checked_text feed choices claim graph) (wrong_read bytes at h)
+text_refused feed choices claim graph bytes bad.NoMemory h = tt
 
 -- what is given of an outcome is given of an equal one
 pub gives_same : {X Y : Type 0} (view : X → Y) (result : Result X CheckFault) (a b : Result Y CheckFault) → a ≡ b → Gives view result b → Gives view result a
@@ -42,14 +44,16 @@ no_difference (x ∷ xs) (y ∷ ys) none = by (x == y) refl (first_difference xs
     by true same (Some at) rest h = absurd cc
     by false same o rest h = absurd cc
 
--- line orders that cost least in the problem that was made cost least in the graph's
-pub costs_least : (feed : Feed) (choices : Choices) (graph : GraphParts) (p : ProblemParts) (orders : List (List LineId)) (cost : ℕ) → problem_within feed choices graph ≡ Ok p
-    → cost_of p.terms orders ≡ cost → AreBest p.segs p.terms orders → CostLeast feed choices graph orders cost
-costs_least feed choices graph p orders cost made costs best =
+-- what is proved of line orders in the problem that was made is proved in the graph's
+pub orders_bounded : (feed : Feed) (choices : Choices) (graph : GraphParts) (p : ProblemParts) (orders : List (List LineId))
+    (cost bound : ℕ) → problem_within feed choices graph ≡ Ok p
+    → cost_of p.terms orders ≡ cost → IsLowerBound p.segs p.terms bound
+    → AreBounded feed choices graph orders (record { cost = cost; bound = bound })
+orders_bounded feed choices graph p orders cost bound made costs least =
     let same = problem_is feed choices graph p made in
     record {
       costs = subst (λ (q : ProblemParts). cost_of q.terms orders ≡ cost) same costs;
-      best = subst (λ (q : ProblemParts). AreBest q.segs q.terms orders) same best;
+      bound = subst (λ (q : ProblemParts). IsLowerBound q.segs q.terms bound) same least;
     }
 
 -- orders of a graph's segments are orders of its problem's
