@@ -1,5 +1,5 @@
 -- What is known of least shares stays so where neither the prices nor the pairs of a segment change.
-use Rattle.std.proofs.Common.{◌≡◌, ◌≢◌, ℕ, zero, suc, ◌+◌, ◌*◌, ◌-◌, ◌<◌, ◌≤◌, ◌==◌, ◌||◌, Bool, true, false, cond, List, [], ◌∷◌, ◌++◌, length, map, filter, take, get_or, set, refl, sym, ◌∙◌, ap, subst, arith, ◌⊎◌, inl, inr, true≢false, eq-eqb, eqb-true, get_or-set_same, get_or-set_other, Option, Some, None}
+use Rattle.std.proofs.Common.{◌≡◌, ℕ, zero, suc, ◌+◌, ◌*◌, ◌-◌, ◌<◌, ◌≤◌, ◌==◌, ◌||◌, Bool, true, false, cond, List, [], ◌∷◌, ◌++◌, length, map, filter, take, get_or, set, refl, sym, ◌∙◌, ap, subst, arith, ◌⊎◌, inl, inr, true≢false, eq-eqb, eqb-true, get_or-set_same, get_or-set_other, Option, Some, None}
 use Rattle.std.specs.Prelude.{ℤ, pos, ◌+ℤ◌, ◌-ℤ◌}
 use Rattle.std.specs.List.{All, AllByRecursion}
 use Rattle.std.proofs.lemmas.Bool.{cases_eq, cases_lt, ne_eqb}
@@ -25,10 +25,10 @@ use Rattle.dual_bound.specs.Shares.{thousand, where_so, x_of, z_of, term_share, 
 use Rattle.dual_bound.specs.Values.{least_share}
 use Rattle.dual_shares.specs.Groups.{is_on}
 use Rattle.dual_shares.specs.GroupSteps.{IsPlaceInPart}
+use Rattle.dual_shares.proofs.Grouping.{places_rise}
 use Rattle.dual_check.specs.declared.asked.Asked.{Asked}
 use Rattle.dual_check.specs.declared.node.KnownShare.{KnownShare}
-use Rattle.dual_check.specs.declared.node.KnownShare.TheVariants.{Unknown, NoOrder, Least}
-use Rattle.dual_check.specs.Asking.{question_of}
+use Rattle.dual_check.specs.declared.node.KnownShare.TheVariants.{Unknown}
 use Rattle.dual_check.specs.Settling.{pairs_of}
 use Rattle.dual_check.specs.Nodes.{IsSo, known_at, segment_at, share_at, Forgets, IsForgotten, IsTermForgotten, ArePricedOff}
 use Rattle.dual_check.proofs.Walks.{pushed_pairs}
@@ -156,21 +156,11 @@ so_priced asked settled p q old between new one off two off_too so k below = eli
 
 -- Forgetting.
 
--- the rising places of a part
-segment_places : (part : List SegId) (i j : ℕ) → IsRisingPart part → i < j → j < length part → (segment_at part i).0 < (segment_at part j).0
-segment_places [] i j h below within = absurd (omega (arith, within))
-segment_places (s ∷ []) i j h below within = absurd (omega (arith, below, within))
-segment_places (s ∷ t ∷ part) i zero h below within = absurd (omega (arith, below))
-segment_places (s ∷ t ∷ part) zero (suc zero) h below within = h.0
-segment_places (s ∷ t ∷ part) zero (suc (suc j)) h below within =
-    let rest = segment_places (t ∷ part) zero (suc j) h.1 (omega arith) (omega (arith, within)) in let first = h.0 in omega (arith, rest, first)
-segment_places (s ∷ t ∷ part) (suc i) (suc j) h below within = segment_places (t ∷ part) i j h.1 (omega (arith, below)) (omega (arith, within))
-
 pub same_place : (part : List SegId) (i j : ℕ) → IsRisingPart part → i < length part → j < length part → (segment_at part i).0 ≡ (segment_at part j).0 → i ≡ j
 same_place part i j rising here there same = elim (cases_lt i j) [
-  | inl less ↦ (let rise = segment_places part i j rising less there in absurd (omega (arith, rise, same)))
+  | inl less ↦ (let rise = places_rise part i j (record { 0 = 0 }) rising less there in absurd (omega (arith, rise, same)))
   | inr over ↦ elim (cases_lt j i) [
-    | inl more ↦ (let rise = segment_places part j i rising more here in absurd (omega (arith, rise, same)))
+    | inl more ↦ (let rise = places_rise part j i (record { 0 = 0 }) rising more here in absurd (omega (arith, rise, same)))
     | inr under ↦ omega (arith, over, under)
   ]
 ]
@@ -178,7 +168,7 @@ same_place part i j rising here there same = elim (cases_lt i j) [
 place_above : (part : List SegId) (k : ℕ) → IsRisingPart part → k < length part → k ≤ (segment_at part k).0
 place_above part zero rising below = omega arith
 place_above part (suc k) rising below =
-    let rise = segment_places part k (suc k) rising (omega arith) below in let rest = place_above part k rising (omega (arith, below)) in omega (arith, rise, rest)
+    let rise = places_rise part k (suc k) (record { 0 = 0 }) rising (omega arith) below in let rest = place_above part k rising (omega (arith, below)) in omega (arith, rise, rest)
 
 -- a part has no more segments than there are
 pub part_few : (part : List SegId) (n : ℕ) → IsRisingPart part → All (λ (s : SegId). s.0 < n) part → length part ≤ n

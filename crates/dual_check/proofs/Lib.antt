@@ -1,7 +1,9 @@
 mod Walks
 mod Loads
-mod PriceTests
 mod Values
 mod Known
+mod PartSearch
 mod Pairs
+mod Finding
+mod PriceTests
 mod NodeSteps

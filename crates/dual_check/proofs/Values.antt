@@ -1,6 +1,6 @@
 -- The value of prices, summed from the last segment of a part to the first.
-use Rattle.std.proofs.Common.{◌≡◌, ℕ, ℤ, zero, suc, ◌+◌, ◌<◌, ◌≤◌, List, [], ◌∷◌, length, drop, get_or, refl, sym, ◌∙◌, ap, subst, arith, Option, Some, None}
-use Rattle.std.specs.Prelude.{pos, ◌+ℤ◌}
+use Rattle.std.proofs.Common.{◌≡◌, ℕ, ℤ, zero, suc, ◌+◌, ◌-◌, ◌*◌, ◌<◌, ◌≤◌, List, [], ◌∷◌, length, drop, get_or, refl, sym, ◌∙◌, ap, arith, Option, Some, None}
+use Rattle.std.specs.Prelude.{pos, ◌+ℤ◌, ◌-ℤ◌, ◌≤ℤ◌}
 use Rattle.std.proofs.lemmas.Int.{ints}
 use Rattle.std.proofs.lemmas.List.{drop_all}
 use Rattle.map_base.specs.declared.ids.SegId.{SegId}
@@ -42,3 +42,22 @@ module _ (segs : List (List LineId)) (terms : List (ℕ × Term)) (price : ℕ �
   -- where one segment has no order, there is no value
   pub value_none : (part : List SegId) (k : ℕ) (d : SegId) → k < length part → None ≡ least_share segs terms price settled (get_or part k d) → None ≡ value_of segs terms price settled part
   value_none part k d below is = sym (none_before part k (step part k d below ∙ ap (λ v. plus v (value_of segs terms price settled (drop (k + 1) part))) (sym is)))
+
+  -- as the code counts down
+  pub value_next : (part : List SegId) (k p : ℕ) (d : SegId) (share total : ℤ) → k ≡ p + 1 → p < length part → Some share ≡ least_share segs terms price settled (get_or part p d)
+      → Some total ≡ value_of segs terms price settled (drop k part) → Some (total +ℤ share) ≡ value_of segs terms price settled (drop p part)
+  value_next part k p d share total next below is rest = value_more part p d share total below is (rest ∙ ap (λ j. value_of segs terms price settled (drop j part)) next)
+
+-- How great a sum of shares is.
+
+pub sum_low : (n k p : ℕ) (total sum : ℤ) → k ≡ p + 1 → k ≤ n → (total -ℤ pos 9223372036854775808) ≤ℤ sum → (pos 0 -ℤ pos (9223372036854775808 * (n - k))) ≤ℤ total
+    → (pos 0 -ℤ pos (9223372036854775808 * (n - p))) ≤ℤ sum
+sum_low n k p total sum next within step low =
+    let more : 9223372036854775808 * (n - p) ≡ 9223372036854775808 * (n - k) + 9223372036854775808 = omega (arith, next, within) in
+    omega (arith, ints, step, low, more)
+
+pub sum_high : (n k p : ℕ) (total sum : ℤ) → k ≡ p + 1 → k ≤ n → sum ≤ℤ (total +ℤ pos 9223372036854775808) → total ≤ℤ pos (9223372036854775808 * (n - k))
+    → sum ≤ℤ pos (9223372036854775808 * (n - p))
+sum_high n k p total sum next within step high =
+    let more : 9223372036854775808 * (n - p) ≡ 9223372036854775808 * (n - k) + 9223372036854775808 = omega (arith, next, within) in
+    omega (arith, ints, step, high, more)

@@ -1,6 +1,5 @@
 -- A walk over a tree, node by node.
-use Rattle.std.proofs.Common.{◌≡◌, ℕ, ℤ, ◌+◌, ◌-◌, ◌<◌, ◌==◌, ◌&&◌, not, Bool, true, false, cond, List, [], ◌∷◌, ◌++◌, length, take, refl, sym, ◌∙◌, ap, subst, arith, true≢false, append_assoc, inl, inr, Some, None, Option}
-use Rattle.std.specs.Prelude.{reverse}
+use Rattle.std.proofs.Common.{◌≡◌, ℕ, ℤ, ◌-◌, ◌<◌, ◌≤◌, ◌==◌, ◌&&◌, not, Bool, true, false, cond, List, [], ◌∷◌, ◌++◌, length, take, refl, sym, ◌∙◌, ap, subst, arith, true≢false, append_assoc, inl, inr, Some, None, Option}
 use Rattle.std.specs.List.{All}
 use Rattle.std.proofs.Math.Seq.{take-append_seam}
 use Rattle.std.proofs.lemmas.Bool.{and_parts, not-true, eqb-false, ne_eqb}
@@ -13,12 +12,11 @@ use Rattle.order_model.specs.Places.{has_line}
 use Rattle.order_model.specs.PartTerms.{is_in}
 use Rattle.order_model.proofs.Lines.{either_true}
 use Rattle.order_model.specs.Questions.{Question}
-use Rattle.order_values.specs.DualTrees.{PlainDual, fork, stop}
+use Rattle.order_values.specs.DualTrees.{PlainDual, fork, stop, stops_of}
 use Rattle.dual_bound.specs.declared.settled.SettledPair.{SettledPair}
 use Rattle.dual_bound.specs.Settled.{with_pair}
 use Rattle.dual_bound.proofs.Segments.{same_seg}
 use Rattle.dual_bound.specs.Accepting.{is_stopped, is_fork, after_line, first_of, failing_below}
-use Rattle.dual_shares.specs.RowSteps.{AreTwoOf}
 use Rattle.dual_check.specs.Settling.{pairs_of, IsWalked, IsPairOn}
 
 -- A stop.
@@ -67,7 +65,7 @@ pushed_pairs stack p = reverse-append stack (p ∷ [])
 pub case_refused : (a : LineId) (outcome : Option (List LineId)) (before after : List LineId) → IsWalked outcome (before ++ a ∷ []) after false → IsWalked (after_line a outcome) before after false
 case_refused a outcome before after walked = (a ∷ walked.0, ap (after_line a) walked.1, walked.2 ∙ append_assoc before (a ∷ []) walked.0)
 
-all_in : (P : SegId → Type 0) (part : List SegId) (s : SegId) → All P part → is_in part s ≡ true → P s
+pub all_in : (P : SegId → Type 0) (part : List SegId) (s : SegId) → All P part → is_in part s ≡ true → P s
 all_in P [] s all h = absurd (true≢false (sym h))
 all_in P (t ∷ part) s all h = elim (either_true (t.0 == s.0) (is_in part s) h) [
   | inl here ↦ subst P (same_seg t s here) (All-head P t part all)
@@ -97,3 +95,8 @@ fork_pair q s a b known h =
       record { known = below; two = record { first_on = here.0; second_on = there.0; differ = apart } },
       record { known = below; two = record { first_on = there.0; second_on = here.0; differ = ne_eqb b.0 a.0 (λ e. eqb-false a.0 b.0 apart (sym e)) } },
     )
+
+-- each tree has a stop
+pub some_stops : (t : PlainDual) → 1 ≤ stops_of t
+some_stops (fork s a b first second) = let one = some_stops first in omega (arith, one)
+some_stops (stop prices) = omega arith

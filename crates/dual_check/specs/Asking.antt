@@ -1,5 +1,5 @@
 -- What a tree is asked to show, and the room at hand.
-use Rattle.std.specs.Prelude.{◌≡◌, ◌≤◌, ◌<◌, true, List, map, length, All}
+use Rattle.std.specs.Prelude.{◌≡◌, ◌≤◌, ◌<◌, true, map, length, All}
 use Rattle.map_base.specs.declared.ids.SegId.{SegId}
 use Rattle.order_model.specs.Problems.{IsProblem, lines_on}
 use Rattle.order_model.specs.Parts.{IsRisingPart}

@@ -1,5 +1,5 @@
 -- The lines to which chains of settled pairs lead, as sets of places.
-use Rattle.std.proofs.Common.{◌≡◌, ℕ, zero, suc, ◌+◌, ◌<◌, ◌≤◌, ◌==◌, ◌||◌, ◌&&◌, Bool, true, false, cond, List, [], ◌∷◌, length, get_or, refl, sym, ◌∙◌, ap, subst, arith, ◌⊎◌, inl, inr, true≢false, eq-eqb, eqb-true, max}
+use Rattle.std.proofs.Common.{◌≡◌, ℕ, zero, suc, ◌+◌, ◌-◌, ◌<◌, ◌≤◌, ◌==◌, ◌||◌, ◌&&◌, Bool, true, false, cond, List, [], ◌∷◌, length, refl, sym, ◌∙◌, ap, arith, inl, inr, true≢false, eq-eqb, eqb-true, max}
 use Rattle.std.specs.Prelude.{bit_or, slice_index}
 use Rattle.std.specs.Int.{bit_at}
 use Rattle.std.specs.List.{list_any, list_all}
@@ -9,13 +9,14 @@ use Rattle.std.proofs.lemmas.Nat.Bits.{bit_at_or, bit_at-lt, bit_at-zero}
 use Rattle.map_base.specs.declared.ids.LineId.{LineId}
 use Rattle.order_model.specs.Places.{has_line, place_of}
 use Rattle.order_model.proofs.Lines.{either_true, same_line}
-use Rattle.least_orders.specs.Rows.{line_at, named, is_settled, is_one_of}
+use Rattle.least_orders.specs.Rows.{line_at, named, is_one_of}
 use Rattle.least_orders.specs.Subsets.{has_place}
 use Rattle.least_orders.proofs.Lists.{Among, all_at, same_test}
 use Rattle.dual_shares.specs.SettledSets.{TellAhead}
 use Rattle.dual_shares.proofs.Entries.{place_known}
 use Rattle.dual_ascent.specs.OpenPairs as open_pairs
 use Rattle.dual_orders.specs.Closing.{joined, stepped, stepped_by}
+use Rattle.dual_orders.specs.NextPairs.{TellsPairs}
 
 -- Tests.
 
@@ -67,16 +68,19 @@ from_any f k (suc n) h = elim (either_true (f k) (any_from f (k + 1) n) h) [
 
 to_any : (f : ℕ → Bool) (k n m : ℕ) → k ≤ m → m < k + n → f m ≡ true → any_from f k n ≡ true
 to_any f k zero m h g e = absurd (omega (arith, h, g))
-to_any f k (suc n) m h g e = by_place (k == m) refl
+to_any f k (suc n) m h g e = by_place (k == m) refl (λ above. to_any f (k + 1) n m above (omega (arith, g)) e)
   where
-    by_place : (b : Bool) → (k == m) ≡ b → any_from f k (suc n) ≡ true
-    by_place true is = left_true (f k) (any_from f (k + 1) n) (ap f (eqb-true k m is) ∙ e)
-    by_place false apart = right_true (f k) (any_from f (k + 1) n) (to_any f (k + 1) n m (above k m h apart) (omega (arith, g)) e)
+    by_place : (b : Bool) → (k == m) ≡ b → (k + 1 ≤ m → any_from f (k + 1) n ≡ true) → any_from f k (suc n) ≡ true
+    by_place true is rest = left_true (f k) (any_from f (k + 1) n) (ap f (eqb-true k m is) ∙ e)
+    by_place false apart rest = right_true (f k) (any_from f (k + 1) n) (rest (past k m h apart))
       where
-        above : (k m : ℕ) → k ≤ m → (k == m) ≡ false → k + 1 ≤ m
-        above k m h apart = grind (arith, nat_tests)
+        past : (k m : ℕ) → k ≤ m → (k == m) ≡ false → k + 1 ≤ m
+        past k m h apart = grind (arith, nat_tests)
 
 -- What a step adds.
+
+one_less : (k n : ℕ) → k < n → n - k ≡ suc (n - (k + 1))
+one_less k n h = omega (arith, h)
 
 has_joined : (direct : List ℕ) (set i k n all : ℕ) → has_place (joined direct set k n all) i ≡ (has_place all i || any_from (λ m. has_place set m && has_place (slice_index direct m) i) k n)
 has_joined direct set i k zero all = or_false (has_place all i)
@@ -97,6 +101,19 @@ has_joined direct set i k (suc n) all =
     by_test true =
         ap (λ t. t || any_from (λ m. has_place set m && has_place (slice_index direct m) i) (k + 1) n) (has_or all (slice_index direct k) i)
         ∙ assoc (has_place all i) (has_place (slice_index direct k) i) (any_from (λ m. has_place set m && has_place (slice_index direct m) i) (k + 1) n)
+
+-- one place more of a set
+pub joined_more : (direct : List ℕ) (set k count all more : ℕ) → k < count
+    → more ≡ cond (has_place set k) (bit_or all (slice_index direct k)) all
+    → joined direct set (k + 1) (count - (k + 1)) more ≡ joined direct set k (count - k) all
+joined_more direct set k count all more below is = ap (joined direct set (k + 1) (count - (k + 1))) is ∙ sym
+    (ap (λ n. joined direct set k n all) (one_less k count below))
+
+-- one step more
+pub step_more : (direct : List ℕ) (count j set i most more : ℕ) → i < most → more ≡ stepped direct count j set
+    → stepped_by direct count j (most - (i + 1)) more ≡ stepped_by direct count j (most - i) set
+step_more direct count j set i most more below is = ap (stepped_by direct count j (most - (i + 1))) is ∙ sym
+    (ap (λ n. stepped_by direct count j n set) (one_less i most below))
 
 -- a step more at the end
 step_last : (direct : List ℕ) (count j n set : ℕ) → stepped_by direct count j (suc n) set ≡ stepped direct count j (stepped_by direct count j n set)
@@ -178,8 +195,28 @@ module _ (pairs : List (LineId × LineId)) (lines : List LineId) (direct : List 
       ∙ step_leads n i j (stepped_by direct (length lines) j n 0) here there (λ k below. steps_lead n k j below there)
 
   -- of two lines
-  pub lines_lead : (n : ℕ) (a b : LineId) → has_line lines a ≡ true → has_line lines b ≡ true
+  lines_lead : (n : ℕ) (a b : LineId) → has_line lines a ≡ true → has_line lines b ≡ true
       → has_place (stepped_by direct (length lines) (place_of lines b) n 0) (place_of lines a) ≡ open_pairs.leads n pairs a b
   lines_lead n a b h k =
       steps_lead n (place_of lines a) (place_of lines b) (place_known lines a h).0 (place_known lines b k).0
       ∙ (ap (λ u. open_pairs.leads n pairs u (name (place_of lines b))) (named_place a h) ∙ ap (λ u. open_pairs.leads n pairs a u) (named_place b k))
+
+-- whether the set of those ahead has a line
+pub leads_by : (pairs : List (LineId × LineId)) (lines : List LineId) (direct : List ℕ) (a b : LineId)
+    (chain i j set : ℕ) (r : Bool) → TellsPairs pairs lines direct → chain ≡ length pairs → has_line lines a ≡ true
+    → has_line lines b ≡ true → i ≡ place_of lines a → j ≡ place_of lines b
+    → set ≡ stepped_by direct (length lines) j chain 0 → r ≡ has_place set i
+    → r ≡ open_pairs.leads (length pairs) pairs a b
+leads_by pairs lines direct a b chain i j set r tells count first_on second_on first second made is =
+    is
+    ∙ (ap (λ s. has_place s i)
+    (made ∙ (ap (λ m. stepped_by direct (length lines) m chain 0) second ∙ ap
+    (λ n. stepped_by direct (length lines) (place_of lines b) n 0) count))
+    ∙ (ap (has_place (stepped_by direct (length lines) (place_of lines b) (length pairs) 0)) first ∙ lines_lead pairs
+    lines direct tells.told tells.known (length pairs) a b first_on second_on))
+
+pub settled_once : (a b : Bool) → a ≡ true → true ≡ (a || b)
+settled_once a b h = sym (left_true a b h)
+
+pub settled_back : (r a b : Bool) → a ≡ false → r ≡ b → r ≡ (a || b)
+settled_back r a b h is = is ∙ sym (ap (λ t. t || b) h)

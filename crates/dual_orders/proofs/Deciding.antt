@@ -1,38 +1,34 @@
 -- The most undecided pair, found pair by pair.
-use Rattle.std.proofs.Common.{◌≡◌, ℕ, zero, suc, ◌+◌, ◌-◌, ◌*◌, ◌<◌, ◌≤◌, ◌==◌, ◌||◌, ◌&&◌, not, Bool, true, false, cond, List, [], ◌∷◌, ◌++◌, length, map, filter, take, get_or, min, refl, sym, ◌∙◌, ap, subst, arith, true≢false, Option, Some, None}
-use Rattle.std.specs.Prelude.{ℤ, pos, negsuc, neg_ℤ, int_lt, nat_lt, sum_by, unsigned_abs}
-use Rattle.std.specs.List.{All, AllByRecursion, flat_map, list_all}
+use Rattle.std.proofs.Common.{◌≡◌, ℕ, zero, suc, ◌+◌, ◌*◌, ◌<◌, ◌≤◌, ◌==◌, ◌&&◌, not, Bool, true, false, cond, List, [], ◌∷◌, ◌++◌, length, map, filter, take, get_or, refl, sym, ◌∙◌, ap, subst, arith, true≢false, Option, Some, None}
+use Rattle.std.specs.Prelude.{ℤ, pos, neg_ℤ, int_lt, nat_lt, sum_by}
+use Rattle.std.specs.List.{All, flat_map}
 use Rattle.std.proofs.lemmas.Bool.Decides.{nat_tests}
 use Rattle.std.proofs.lemmas.Int.{ints}
-use Rattle.std.proofs.lemmas.List.{append-nil, append_assoc, map-append, take_more, take_all, flat_map_more}
+use Rattle.std.proofs.lemmas.List.{append_assoc, length-append, length-map, map-append, take_more, take_all, flat_map_more}
 use Rattle.std.proofs.lemmas.List.Elements.{All-from_recursion}
-use Rattle.std.proofs.lemmas.List.Sums.{sum_by-cons}
 use Rattle.map_base.specs.declared.ids.SegId.{SegId}
 use Rattle.map_base.specs.declared.ids.LineId.{LineId}
 use Rattle.graph_core.specs.Consistent.{AreRising}
 use Rattle.order_model.specs.declared.term.Term.{Term}
 use Rattle.order_model.specs.declared.term.Term.TheVariants.{Side, Link, Apart}
 use Rattle.order_model.specs.declared.problem.ProblemParts.{ProblemParts}
-use Rattle.order_model.specs.Problems.{lines_on, IsTerm}
+use Rattle.order_model.specs.Problems.{IsTerm}
 use Rattle.order_model.specs.PartTerms.{no_term}
-use Rattle.order_model.proofs.Lines.{neither}
-use Rattle.least_orders.specs.LeastOrders.{first_least, first_of}
 use Rattle.least_orders.proofs.Lists.{each_weaker}
 use Rattle.least_orders.proofs.LeastValues.{better, first_least-append}
 use Rattle.dual_bound.specs.declared.settled.SettledPair.{SettledPair}
 use Rattle.dual_bound.specs.Settled.{settled_on}
-use Rattle.dual_shares.specs.Groups.{is_on, numbers_on}
-use Rattle.dual_shares.specs.RowSteps.{AreTwoOf}
+use Rattle.dual_shares.specs.Groups.{is_on}
 use Rattle.dual_ascent.specs.declared.pair_average.PairAverage.{PairAverage}
 use Rattle.dual_ascent.specs.OwnNumbers.{all_segments}
-use Rattle.dual_ascent.specs.Averages.{always, pair_of, averages_on, ArePairs}
-use Rattle.dual_ascent.specs.OpenPairs.{is_settled, OpenPair, open_pair, open_on, open_pairs, link_weight, doubt, next_pair, is_swapped, ahead, behind}
+use Rattle.dual_ascent.specs.Averages.{pair_of, ArePairs, never, never_all}
+use Rattle.dual_ascent.specs.OpenPairs.{is_settled, OpenPair, open_pair, open_on, link_weight, doubt, next_pair}
 use Rattle.dual_ascent.proofs.OwnParts.{seg_number}
 use Rattle.dual_ascent.proofs.Pairs.{ArePair, pairs_of_lines}
 use Rattle.dual_rounds.proofs.SegmentLists.{length_segments}
 use Rattle.dual_orders.specs.OwnTerms as own
 use Rattle.dual_orders.specs.declared.open_pairs.Undecided.{Undecided}
-use Rattle.dual_orders.specs.NextPairs.{IsForkAt, IsNextPair, most_undecided, open_of, IsBest, is_more}
+use Rattle.dual_orders.specs.NextPairs.{IsForkAt, most_undecided, open_of, IsBest, is_more}
 use Rattle.dual_orders.specs.Values.{IsOfTwo}
 use Rattle.dual_orders.proofs.OwnTables.{segment_at}
 use Rattle.dual_orders.proofs.Exchanging.{off_sum, parted, terms_all}
@@ -45,12 +41,36 @@ averages_of_two p averages i rising pairs below =
     (each_weaker (λ (x : PairAverage). ArePair (get_or p.segs i []) (pair_of x)) (IsOfTwo (get_or p.segs i [])) (get_or averages i [])
     (λ x h. record { first_on = h.0; second_on = h.1; differ = h.2 }) (pairs_of_lines p averages i rising pairs below))
 
+few_never : (lines : List LineId) → length lines ≤ 16 → length (never_all lines) ≤ 16 * length lines
+few_never [] h = omega arith
+few_never (a ∷ lines) h =
+    let rest = few_never lines (omega (arith, h)) in
+    let both = length-append (map (never a) lines) (never_all lines) in
+    let each = length-map lines (never a) in
+    omega (arith, rest, both, each, h)
+
+-- a segment has few averages
+pub few_averages : (p : ProblemParts) (averages : List (List PairAverage)) (i : ℕ) → ArePairs p averages
+    → i < length p.segs → length (get_or p.segs i []) ≤ 16 → length (get_or averages i []) ≤ 256
+few_averages p averages i pairs below few =
+    let same = ap length (pairs i below) in
+    let one = length-map (get_or averages i []) pair_of in
+    let two = length-map (never_all (get_or p.segs i [])) pair_of in
+    let all = few_never (get_or p.segs i []) few in
+    omega (arith, same, one, two, all, few)
+
 -- One pair more.
 
 opposite_less : (d e : ℕ) → int_lt (neg_ℤ (pos d)) (neg_ℤ (pos e)) ≡ nat_lt e d
 opposite_less zero zero = refl
-opposite_less (suc d) zero = refl
-opposite_less zero (suc e) = refl
+opposite_less (suc d) zero = some d
+  where
+    some : (d : ℕ) → true ≡ nat_lt 0 (suc d)
+    some d = grind (arith, nat_tests)
+opposite_less zero (suc e) = none (suc e)
+  where
+    none : (e : ℕ) → false ≡ nat_lt e 0
+    none e = grind (arith, nat_tests)
 opposite_less (suc d) (suc e) = less (suc d) (suc e)
   where
     less : (d e : ℕ) → int_lt (neg_ℤ (pos d)) (neg_ℤ (pos e)) ≡ nat_lt e d
@@ -91,9 +111,6 @@ best_same p before best c is less =
 -- the pair of one average, where it is not settled
 pub open_one : (pairs : List (LineId × LineId)) (s : SegId) (x : PairAverage) → is_settled pairs x.lesser x.greater ≡ false → open_of pairs s (x ∷ []) ≡ open_pair s x ∷ []
 open_one pairs s x h = ap (λ t. map (open_pair s) (cond (not t) (x ∷ []) [])) h
-
-pub open_none : (pairs : List (LineId × LineId)) (s : SegId) (x : PairAverage) → is_settled pairs x.lesser x.greater ≡ true → open_of pairs s (x ∷ []) ≡ []
-open_none pairs s x h = ap (λ t. map (open_pair s) (cond (not t) (x ∷ []) [])) h
 
 filter_push : {A : Type 0} (t : A → Bool) (xs : List A) (x : A) → filter t (xs ++ x ∷ []) ≡ filter t xs ++ filter t (x ∷ [])
 filter_push t [] x = refl

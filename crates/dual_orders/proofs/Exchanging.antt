@@ -1,6 +1,6 @@
 -- What orders cost where one segment takes another order.
-use Rattle.std.proofs.Common.{◌≡◌, ◌≢◌, ℕ, zero, suc, ◌+◌, ◌<◌, ◌≤◌, ◌==◌, Bool, true, false, cond, List, [], ◌∷◌, length, map, set, get_or, refl, sym, ◌∙◌, ap, subst, arith, ◌⊎◌, inl, inr, get_or-set_other, true≢false, eq-eqb, Option, Some, None}
-use Rattle.std.specs.Prelude.{ℤ, pos, nat_lt, sum_by, unwrap_or, IsPermutation}
+use Rattle.std.proofs.Common.{◌≡◌, ℕ, ◌+◌, ◌<◌, ◌≤◌, ◌==◌, Bool, true, false, cond, List, [], ◌∷◌, length, map, set, get_or, refl, sym, ◌∙◌, ap, arith, get_or-set_other, true≢false, eq-eqb, Option, Some, None}
+use Rattle.std.specs.Prelude.{nat_lt, sum_by, unwrap_or}
 use Rattle.std.specs.List.{All}
 use Rattle.std.specs.Option.{option_map}
 use Rattle.std.proofs.lemmas.Bool.Decides.{nat_tests}
@@ -11,19 +11,16 @@ use Rattle.map_base.specs.declared.ids.SegId.{SegId}
 use Rattle.map_base.specs.declared.ids.LineId.{LineId}
 use Rattle.graph_core.specs.Consistent.{AreRising}
 use Rattle.order_model.specs.declared.term.Term.{Term}
-use Rattle.order_model.specs.declared.term.Term.TheVariants.{Side, Link, Apart}
 use Rattle.order_model.specs.declared.problem.ProblemParts.{ProblemParts}
 use Rattle.order_model.specs.Problems.{lines_on, IsTerm}
 use Rattle.order_model.specs.Costs.{seg_of, other_of, cost_on, term_cost, cost_of}
-use Rattle.order_model.specs.PartTerms.{numbered_from, plain_terms, no_term, terms_by_number}
+use Rattle.order_model.specs.PartTerms.{plain_terms, no_term, terms_by_number}
 use Rattle.order_model.proofs.Lines.{neither}
 use Rattle.least_orders.specs.Arrangements.{all_orders}
-use Rattle.least_orders.specs.LeastOrders.{least_value, first_least}
 use Rattle.least_orders.proofs.LeastValues.{some_least, least_of_first, first_among}
 use Rattle.least_orders.proofs.Arranging.{permutation_is_order, order_is_permutation}
 use Rattle.dual_bound.proofs.Segments.{rising_at}
 use Rattle.dual_shares.specs.Groups.{is_on, numbers_on}
-use Rattle.dual_ascent.specs.OwnNumbers.{all_segments, all_terms}
 use Rattle.dual_ascent.specs.LocalSearch.{cost_with, least_beside, exchanged, cheaper, improved_on}
 use Rattle.dual_ascent.proofs.OwnParts.{seg_number, plain_numbered}
 use Rattle.dual_orders.specs.OwnTerms as own
@@ -153,4 +150,6 @@ least_lines p orders s = by_option (least_beside p orders s) refl
     by_option : (o : Option (List LineId)) → least_beside p orders s ≡ o → length (unwrap_or o (lines_on p.segs s)) ≡ length (lines_on p.segs s)
     by_option None e = refl
     by_option (Some o) e =
-        sym (length_permutation (lines_on p.segs s) o (order_is_permutation (lines_on p.segs s) o (first_among (cost_with p orders s) (all_orders (lines_on p.segs s)) o e)))
+        length_permutation (lines_on p.segs s) o
+        (order_is_permutation (lines_on p.segs s) o
+        (first_among (cost_with p orders s) (all_orders (lines_on p.segs s)) o e))

@@ -1,13 +1,14 @@
 -- The lines and the terms of each segment of a part by itself, as they lie in memory.
-use Rattle.std.proofs.Common.{◌≡◌, ℕ, zero, suc, ◌+◌, ◌*◌, ◌/◌, ◌^◌, ◌<◌, ◌≤◌, ◌&&◌, Bool, true, false, List, [], ◌∷◌, ◌++◌, length, map, filter, take, get_or, refl, sym, ◌∙◌, ap, subst, arith, ◌⊎◌, inl, inr}
+use Rattle.std.proofs.Common.{◌≡◌, ◌≢◌, max, ℕ, ◌+◌, ◌*◌, ◌^◌, ◌<◌, ◌≤◌, Bool, true, false, List, [], ◌∷◌, ◌++◌, length, map, take, get_or, refl, sym, ◌∙◌, ap, subst, arith, ◌⊎◌, inl, inr, mul-le-mul}
+use Rattle.std.proofs.Math.Nat.{pow-le-pow_right}
 use Rattle.std.specs.Prelude.{Vec, nat_le, sum, sum_by}
 use Rattle.std.specs.Global.{Global}
 use Rattle.std.specs.List.{All, list_all}
-use Rattle.std.proofs.lemmas.Bool.{and_parts, and_from, cases_lt}
+use Rattle.std.proofs.lemmas.Bool.{and_parts, cases_lt, cases_eq}
 use Rattle.std.proofs.lemmas.Bool.Decides.{nat_tests}
-use Rattle.std.proofs.lemmas.List.{take_more, take_all, length-map, map-id, get_or-map, get_or_past, ext_get_or}
+use Rattle.std.proofs.lemmas.List.{take_more, take_all, length-map, map-id, get_or-map, get_or_past, get_or_default, ext_get_or}
 use Rattle.std.proofs.lemmas.List.Elements.{All-filter}
-use Rattle.std.proofs.lemmas.List.Folds.{list_all-map, list_all_more, list_all_at}
+use Rattle.std.proofs.lemmas.List.Folds.{list_all-map, list_all_at}
 use Rattle.std.proofs.lemmas.List.Sums.{sum-map, AllPass-from_list_all, length-filter, count_by-le-length}
 use Rattle.map_base.specs.declared.ids.SegId.{SegId}
 use Rattle.map_base.specs.declared.ids.LineId.{LineId}
@@ -17,9 +18,8 @@ use Rattle.order_model.specs.Problems.{lines_on, IsTerm}
 use Rattle.order_model.specs.Places.{tables_of}
 use Rattle.order_model.specs.PartTerms.{numbered_from, no_term, terms_by_number}
 use Rattle.order_model.proofs.KeptTerms.{part_numbers_known, part_terms_by_number}
-use Rattle.least_orders.proofs.Lists.{same_test}
 use Rattle.dual_bound.specs.Accepting.{is_narrow, steps_on, load_of, most_load}
-use Rattle.dual_shares.specs.Groups.{is_on, numbers_on}
+use Rattle.dual_shares.specs.Groups.{is_on}
 use Rattle.dual_ascent.specs.OwnNumbers.{segments_from, all_segments, all_terms}
 use Rattle.dual_ascent.specs.DualResults.{is_in_reach}
 use Rattle.dual_ascent.proofs.OwnParts.{seg_number, part_terms_all, all_made_at}
@@ -31,6 +31,12 @@ use Rattle.dual_orders.specs.OwnTerms.{all_numbers, own_numbers}
 
 pub segment_at : (segs : List (List LineId)) (i : ℕ) (d : SegId) → i < length segs → get_or (segments_from 0 segs) i d ≡ seg_number i
 segment_at segs i d h = ap (λ l. get_or l i d) (sym (map-id (segments_from 0 segs))) ∙ all_made_at segs (λ (s : SegId). s) i d h
+
+-- the lines of a segment that a loop is at
+pub lines_here : (segs xs : List (List LineId)) (i : ℕ) (x lines : List LineId) → xs ≡ segs → i < length xs
+    → x ≡ get_or xs i x → lines ≡ x → lines ≡ get_or segs i []
+lines_here segs xs i x lines same below is here = here
+    ∙ (is ∙ (get_or_default xs i x [] below ∙ ap (λ l. get_or l i []) same))
 
 -- what is made of the lines of each segment
 pub made_of_lines : {A : Type 0} (f : List LineId → A) (segs : List (List LineId)) → map (λ (s : SegId). f (lines_on segs s)) (segments_from 0 segs) ≡ map f segs
@@ -53,15 +59,6 @@ wide_at segs i below wide = sym (narrow_by_lines segs ∙ list_all_at (λ (l : L
     over : (n : ℕ) → 16 < n → nat_le n 16 ≡ false
     over n h = grind (arith, nat_tests)
 
-pub narrow_more : (segs : List (List LineId)) (i : ℕ) → i < length segs → length (get_or segs i []) ≤ 16 → list_all (λ (l : List LineId). nat_le (length l) 16) (take i segs) ≡ true
-    → list_all (λ (l : List LineId). nat_le (length l) 16) (take (i + 1) segs) ≡ true
-narrow_more segs i below narrow h =
-    list_all_more (λ (l : List LineId). nat_le (length l) 16) segs i [] below
-    ∙ and_from (list_all (λ (l : List LineId). nat_le (length l) 16) (take i segs)) (nat_le (length (get_or segs i [])) 16) h (under (length (get_or segs i [])) narrow)
-  where
-    under : (n : ℕ) → n ≤ 16 → nat_le n 16 ≡ true
-    under n h = grind (arith, nat_tests)
-
 pub narrow_all : (segs : List (List LineId)) (i : ℕ) → length segs ≤ i → list_all (λ (l : List LineId). nat_le (length l) 16) (take i segs) ≡ true → true ≡ is_narrow segs (segments_from 0 segs)
 narrow_all segs i over h = sym (narrow_by_lines segs ∙ (ap (list_all (λ (l : List LineId). nat_le (length l) 16)) (sym (take_all i segs over)) ∙ h))
 
@@ -72,14 +69,19 @@ pub steps_by_lines : (segs : List (List LineId)) → sum_by (steps_on segs) (seg
 steps_by_lines segs =
     sym (sum-map (steps_on segs) (segments_from 0 segs)) ∙ (ap sum (made_of_lines steps_of segs) ∙ sum-map steps_of segs)
 
+-- the steps of at most 16 lines
+pub steps_few : (n s : ℕ) → n ≤ 16 → s ≤ 2 ^ n → n * n * s ≤ 16777216
+steps_few n s few most =
+    let power : 2 ^ n ≤ 2 ^ 16 = pow-le-pow_right (omega arith) few in
+    let square : n * n ≤ 256 = mul-le-mul few few in
+    let small : s ≤ 65536 = omega (arith, most, power) in
+    mul-le-mul square small
+
 le_from : (m n : ℕ) → nat_le m n ≡ true → m ≤ n
 le_from m n h = grind (arith, nat_tests)
 
 pub reach_narrow : (p : ProblemParts) → is_in_reach p ≡ true → is_narrow p.segs (all_segments p) ≡ true
 reach_narrow p h = (and_parts (is_narrow p.segs (all_segments p)) (nat_le (load_of p.segs (all_segments p)) most_load) h).0
-
-pub reach_light : (p : ProblemParts) → is_in_reach p ≡ true → load_of p.segs (all_segments p) ≤ 100000
-reach_light p h = le_from (load_of p.segs (all_segments p)) 100000 (and_parts (is_narrow p.segs (all_segments p)) (nat_le (load_of p.segs (all_segments p)) most_load) h).1
 
 -- no segment has more than 16 lines
 pub few_lines : (segs : List (List LineId)) (k : ℕ) → is_narrow segs (segments_from 0 segs) ≡ true → length (get_or segs k []) ≤ 16
@@ -88,6 +90,25 @@ few_lines segs k h = by_place (cases_lt k (length segs))
     by_place : (k < length segs) ⊎ (length segs ≤ k) → length (get_or segs k []) ≤ 16
     by_place (inl below) = le_from (length (get_or segs k [])) 16 (AllPass-from_list_all (λ (l : List LineId). nat_le (length l) 16) segs (sym (narrow_by_lines segs) ∙ h) k [] below)
     by_place (inr over) = let none : get_or segs k [] ≡ [] = get_or_past segs k [] over in subst (λ (l : List LineId). length l ≤ 16) (sym none) (omega arith)
+
+-- the widest of so many segments
+abbrev pub IsWidest : List (List LineId) → ℕ → ℕ → Type 0
+IsWidest segs i most =
+    ((k : ℕ) → k < i → length (get_or segs k []) ≤ most)
+    × ((m : ℕ) → ((k : ℕ) → length (get_or segs k []) ≤ m) → most ≤ m)
+
+pub width_more : (segs : List (List LineId)) (i most next : ℕ) (lines : List LineId) → lines ≡ get_or segs i []
+    → next ≡ max (length lines) most → IsWidest segs i most → IsWidest segs (i + 1) next
+width_more segs i most next lines is larger widest = (
+  λ k below. by_place k below (cases_eq k i),
+  λ m each. (let one = widest.1 m each in let two = each i in let same = ap length is in
+      omega (arith, one, two, same, larger)),
+)
+  where
+    by_place : (k : ℕ) → k < i + 1 → (k ≡ i) ⊎ (k ≢ i) → length (get_or segs k []) ≤ next
+    by_place k below (inl here) =
+        let same = ap length (is ∙ ap (λ j. get_or segs j []) (sym here)) in omega (arith, same, larger)
+    by_place k below (inr apart) = let one = widest.0 k (omega (arith, below, apart)) in omega (arith, one, larger)
 
 -- Terms.
 
@@ -122,6 +143,32 @@ pub tables_within : (p : ProblemParts) (on : List (Vec ℕ Global)) → tables_o
 tables_within p on tables =
     sym (length-map on (λ (w : Vec ℕ Global). w.items)) ∙ (ap length tables ∙ (length-map (all_segments p) (own_numbers p) ∙ length_segments 0 p.segs))
 
+pub table_known : (p : ProblemParts) (on : List (Vec ℕ Global)) (s len : ℕ)
+    → tables_of on ≡ map (own_numbers p) (all_segments p) → s < length p.segs → len ≡ length on → s < len
+table_known p on s len tables below is = let each = tables_within p on tables in omega (arith, each, below, is)
+
+-- a number of the table of a segment is that of a term
+pub number_known : (p : ProblemParts) (s : SegId) (terms : List Term) (numbers : List ℕ) (i : ℕ)
+    → All (IsTerm p.segs) p.terms → terms ≡ p.terms → numbers ≡ own_numbers p s → i < length numbers
+    → get_or numbers i 0 < length terms
+number_known p s terms numbers i fit same is below =
+    subst (λ (l : List Term). get_or numbers i 0 < length l) (sym same)
+    (subst (λ (l : List ℕ). get_or l i 0 < length p.terms) (sym is)
+    (own_known p s fit i 0 (subst (λ (l : List ℕ). i < length l) is below)))
+
+pub number_fits : (p : ProblemParts) (s : SegId) (terms : List Term) (numbers : List ℕ) (i : ℕ) (d : Term)
+    → All (IsTerm p.segs) p.terms → terms ≡ p.terms → numbers ≡ own_numbers p s → i < length numbers
+    → IsTerm p.segs (get_or terms (get_or numbers i 0) d)
+number_fits p s terms numbers i d fit same is below =
+    subst (λ (l : List Term). IsTerm p.segs (get_or l (get_or numbers i 0) d)) (sym same)
+    (fit (get_or numbers i 0) d (number_known p s p.terms numbers i fit refl is below))
+
+-- there are few of them
+pub numbers_few : (p : ProblemParts) (s : SegId) (numbers : List ℕ) (i : ℕ) → length p.terms ≤ 4000000
+    → numbers ≡ own_numbers p s → i < length numbers → i < 4000000
+numbers_few p s numbers i few is below =
+    let each = own_few p s in let same = ap length is in omega (arith, few, below, each, same)
+
 -- the table of a segment
 pub table_is : (p : ProblemParts) (on : List (Vec ℕ Global)) (s : ℕ) (v : Vec ℕ Global) → tables_of on ≡ map (own_numbers p) (all_segments p) → s < length p.segs → v ≡ get_or on s v → v.items ≡ own_numbers p (seg_number s)
 table_is p on s v tables known is =
@@ -148,20 +195,3 @@ pushed_number p i items h below =
 
 pub all_numbers_pushed : (p : ProblemParts) (i : ℕ) (items : List ℕ) → items ≡ take i (all_numbers p) → length p.terms ≤ i → items ≡ all_numbers p
 all_numbers_pushed p i items h over = h ∙ take_all i (all_numbers p) (let each = length_numbers p in omega (arith, over, each))
-
--- The load.
-
-rounded : (n : ℕ) → nat_le n 100000000000 ≡ nat_le ((n + 999999) / 1000000) 100000
-rounded n = same_test (nat_le n 100000000000) (nat_le ((n + 999999) / 1000000) 100000) (λ h. le_true ((n + 999999) / 1000000) 100000 (let less = le_from n 100000000000 h in omega (arith, less)))
-    (λ h. le_true n 100000000000 (let less = le_from ((n + 999999) / 1000000) 100000 h in omega (arith, less)))
-  where
-    le_true : (m n : ℕ) → m ≤ n → nat_le m n ≡ true
-    le_true m n h = grind (arith, nat_tests)
-
--- a part is within reach where its segments are narrow and their steps few
-pub reach_by_steps : (p : ProblemParts) (steps : ℕ) → steps ≡ sum_by (steps_on p.segs) (all_segments p) → is_narrow p.segs (all_segments p) ≡ true → nat_le steps 100000000000 ≡ is_in_reach p
-reach_by_steps p steps is narrow =
-    ap (λ n. nat_le n 100000000000) is ∙ (rounded (sum_by (steps_on p.segs) (all_segments p)) ∙ sym (ap (λ b. b && nat_le (load_of p.segs (all_segments p)) most_load) narrow))
-
-pub not_in_reach : (p : ProblemParts) → is_narrow p.segs (all_segments p) ≡ false → false ≡ is_in_reach p
-not_in_reach p wide = sym (ap (λ b. b && nat_le (load_of p.segs (all_segments p)) most_load) wide)

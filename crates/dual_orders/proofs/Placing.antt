@@ -1,7 +1,7 @@
 -- The orders that are put in place segment by segment.
 use Rattle.std.proofs.Common.{◌≡◌, ℕ, ℤ, ◌<◌, ◌≤◌, ◌+◌, List, [], ◌∷◌, length, map, set, get_or, refl, sym, ◌∙◌, ap, subst, arith}
 use Rattle.std.specs.Prelude.{IsPermutation}
-use Rattle.std.proofs.lemmas.List.{length-map}
+use Rattle.std.proofs.lemmas.List.{length-map, get_or_default}
 use Rattle.std.proofs.lemmas.List.Sorted.{length_permutation}
 use Rattle.map_base.specs.declared.ids.SegId.{SegId}
 use Rattle.map_base.specs.declared.ids.LineId.{LineId}
@@ -14,10 +14,10 @@ use Rattle.dual_bound.specs.declared.settled.SettledPair.{SettledPair}
 use Rattle.dual_bound.specs.Settled.{settled_on}
 use Rattle.dual_bound.proofs.Segments.{order_at}
 use Rattle.dual_ascent.specs.declared.pair_average.PairAverage.{PairAverage}
-use Rattle.dual_ascent.specs.OwnNumbers.{segments_from, all_segments}
-use Rattle.dual_ascent.specs.Averages.{nearest_on, averaged_orders}
-use Rattle.dual_ascent.specs.DualSteps.{answer_on, answers}
-use Rattle.dual_ascent.specs.Walks.{first_or, orders_left}
+use Rattle.dual_ascent.specs.OwnNumbers.{segments_from}
+use Rattle.dual_ascent.specs.Averages.{nearest_on}
+use Rattle.dual_ascent.specs.DualSteps.{answer_on}
+use Rattle.dual_ascent.specs.Walks.{first_or}
 use Rattle.dual_ascent.proofs.OwnParts.{seg_number, all_made_at}
 use Rattle.dual_ascent.proofs.Meeting.{set_orders}
 use Rattle.dual_rounds.proofs.Filling.{IsFilledTo, fill_goes_on, fill_ends}
@@ -73,3 +73,13 @@ lengths_of (l ∷ segs) [] h = absurd h
 
 pub same_lengths : (segs orders others : List (List LineId)) → AreOrders segs orders → AreOrders segs others → map (λ o. length o) orders ≡ map (λ o. length o) others
 same_lengths segs orders others h k = lengths_of segs orders h ∙ sym (lengths_of segs others k)
+
+-- an order of a segment has as many lines as the one whose place it takes
+pub placed_length : (segs orders : List (List LineId)) (f : SegId → List LineId) (s : ℕ) (order : List LineId)
+    → AreOrders segs (map f (segments_from 0 segs)) → AreOrders segs orders → s < length segs → order ≡ f (seg_number s)
+    → length order ≡ length (get_or orders s order)
+placed_length segs orders f s order made are below is =
+    let each : length segs ≡ length orders = length-orders segs orders are in
+    ap length (is ∙ sym (all_made_at segs f s [] below))
+    ∙ (length_at segs (map f (segments_from 0 segs)) s made
+    ∙ (sym (length_at segs orders s are) ∙ ap length (get_or_default orders s [] order (omega (arith, each, below)))))

@@ -1,10 +1,11 @@
 -- Prices within their weights are small, and so is what a few of them add.
-use Rattle.std.proofs.Common.{◌≡◌, ℕ, zero, suc, ◌+◌, ◌*◌, ◌<◌, ◌≤◌, List, [], ◌∷◌, length, get_or, refl, sym, ◌∙◌, ap, subst, arith, ◌⊎◌, inl, inr}
+use Rattle.std.proofs.Common.{◌≡◌, ℕ, zero, suc, ◌+◌, ◌<◌, ◌≤◌, List, [], ◌∷◌, length, take, replicate, get_or, refl, sym, ◌∙◌, ap, subst, arith, ◌⊎◌, inl, inr, w64, to_z, of_z}
 use Rattle.std.specs.Prelude.{ℤ, pos, unsigned_abs}
 use Rattle.std.specs.List.{All}
 use Rattle.std.proofs.lemmas.Bool.{cases_lt}
-use Rattle.std.proofs.lemmas.List.{get_or_past}
-use Rattle.std.proofs.lemmas.List.Elements.{All-from_get_or}
+use Rattle.std.proofs.lemmas.Int.{to_z-of_z, fits_signed_from_abs}
+use Rattle.std.proofs.lemmas.List.{get_or_past, take_more}
+use Rattle.std.proofs.lemmas.List.Elements.{All-from_get_or, All-append, All-cons, All-nil}
 use Rattle.map_base.specs.declared.ids.LineId.{LineId}
 use Rattle.order_model.specs.declared.term.Term.{Term}
 use Rattle.order_model.specs.declared.term.Term.TheVariants.{Side, Link, Apart}
@@ -43,6 +44,13 @@ price_small segs terms prices k fit within = by_place (cases_lt k (length terms)
         let none : get_or prices k (pos 0) ≡ pos 0 = get_or_past prices k (pos 0) (let each = length_within terms prices within in omega (arith, over, each)) in
         subst (λ v. unsigned_abs v ≤ 256000000) (sym none) (omega arith)
 
+-- a price as it is read
+pub price_read : (segs : List (List LineId)) (terms : List Term) (prices : List ℤ) (k : ℕ) → All (IsTerm segs) terms
+    → AreWithin terms prices → to_z w64 (of_z w64 (get_or prices k (pos 0))) ≡ get_or prices k (pos 0)
+price_read segs terms prices k fit within =
+    let small = price_small segs terms prices k fit within in
+    to_z-of_z w64 (get_or prices k (pos 0)) (fits_signed_from_abs w64 (get_or prices k (pos 0)) (omega (arith, small)))
+
 pub prices_small : (segs : List (List LineId)) (terms : List Term) (prices : List ℤ) → All (IsTerm segs) terms → AreWithin terms prices → All IsPrice prices
 prices_small segs terms prices fit within = All-from_get_or IsPrice prices (pos 0) (λ i below. price_small segs terms prices i fit within)
 
@@ -52,3 +60,21 @@ small_up m n r h small = record {
   before_small = λ k below. (let most = small.before_small k below in omega (arith, most, h));
   beside_small = λ k below. (let most = small.beside_small k below in omega (arith, most, h));
 }
+
+-- prices that are the same bits are the same
+pub same_price : (segs : List (List LineId)) (terms : List Term) (f g : List ℤ) (n : ℕ) → All (IsTerm segs) terms
+    → AreWithin terms f → AreWithin terms g
+    → of_z w64 (get_or f n (pos 0)) ≡ of_z w64 (get_or g n (pos 0)) → get_or f n (pos 0) ≡ get_or g n (pos 0)
+same_price segs terms f g n fit one two e =
+    sym (price_read segs terms f n fit one) ∙ (ap (to_z w64) e ∙ price_read segs terms g n fit two)
+
+-- no price is beyond its term where all are 0
+pub zeros_within : (terms : List Term) → AreWithin terms (replicate (length terms) (pos 0))
+zeros_within [] = tt
+zeros_within (t ∷ terms) = (omega arith, zeros_within terms)
+
+-- one element more for which it holds
+pub all_more : {A : Type 0} (P : A → Type 0) (xs : List A) (i : ℕ) (d : A) → i < length xs → All P (take i xs)
+    → P (get_or xs i d) → All P (take (i + 1) xs)
+all_more P xs i d below all one = subst (All P) (sym (take_more xs i d below))
+    (All-append P (take i xs) (get_or xs i d ∷ []) all (All-cons P (get_or xs i d) [] one (All-nil P)))

@@ -1,5 +1,5 @@
 -- Where no price on a segment changes, its answer stays.
-use Rattle.std.proofs.Common.{◌≡◌, ℕ, zero, suc, ◌*◌, ◌<◌, ◌==◌, Bool, true, false, cond, List, [], ◌∷◌, length, map, set, get_or, refl, sym, ◌∙◌, ap, subst}
+use Rattle.std.proofs.Common.{◌≡◌, ℕ, ◌*◌, ◌==◌, false, cond, List, [], ◌∷◌, set, get_or, refl, sym, ◌∙◌, ap}
 use Rattle.std.specs.Prelude.{ℤ, pos, ◌+ℤ◌, ◌-ℤ◌, unwrap_or}
 use Rattle.std.specs.List.{All, AllByRecursion}
 use Rattle.std.proofs.lemmas.List.{set-get_or}
@@ -21,7 +21,7 @@ use Rattle.dual_bound.specs.Settled.{settled_on}
 use Rattle.dual_bound.specs.Shares.{thousand, where_so, x_of, z_of, term_share}
 use Rattle.dual_shares.specs.Groups.{is_on}
 use Rattle.dual_shares.proofs.Adding.{sum_on}
-use Rattle.dual_ascent.specs.OwnNumbers.{all_terms, number_of}
+use Rattle.dual_ascent.specs.OwnNumbers.{number_of}
 use Rattle.dual_ascent.specs.DualSteps.{share_under, answer_on}
 use Rattle.dual_ascent.proofs.OwnParts.{seg_number}
 use Rattle.dual_orders.specs.OwnTerms as own

@@ -1,15 +1,14 @@
 -- Pairs that are settled one after another, and those of one segment.
-use Rattle.std.proofs.Common.{◌≡◌, ℕ, ◌+◌, ◌-◌, ◌<◌, ◌≤◌, ◌==◌, ◌&&◌, Bool, true, false, cond, List, [], ◌∷◌, ◌++◌, length, map, filter, take, get_or, refl, sym, ◌∙◌, ap, subst, arith, inl, inr}
+use Rattle.std.proofs.Common.{◌≡◌, ℕ, ◌-◌, ◌<◌, ◌≤◌, ◌==◌, ◌&&◌, Bool, true, false, cond, List, [], ◌∷◌, ◌++◌, length, map, filter, get_or, refl, sym, ◌∙◌, ap, subst, arith, inl, inr}
 use Rattle.std.specs.Prelude.{reverse, sum_by, count_by}
 use Rattle.std.specs.List.{All, AllByRecursion, list_all}
 use Rattle.std.proofs.lemmas.Bool.{and_from, cases_lt}
-use Rattle.std.proofs.lemmas.List.{reverse-append, length-reverse, get_or-reverse, get_or_past, take_more, length-map}
-use Rattle.std.proofs.lemmas.List.Elements.{All-weaker, recursion_from_All}
+use Rattle.std.proofs.lemmas.List.{reverse-append, length-reverse, get_or-reverse, get_or_past, length-map}
+use Rattle.std.proofs.lemmas.List.Elements.{recursion_from_All}
 use Rattle.std.proofs.lemmas.List.Sums.{sum_by-append, sum_by-cons, length-filter}
 use Rattle.map_base.specs.declared.ids.SegId.{SegId}
 use Rattle.map_base.specs.declared.ids.LineId.{LineId}
 use Rattle.order_model.specs.Problems.{lines_on}
-use Rattle.order_model.specs.Places.{has_line}
 use Rattle.least_orders.specs.Rows.{is_one_of}
 use Rattle.dual_bound.specs.declared.settled.SettledPair.{SettledPair}
 use Rattle.dual_bound.specs.Settled.{settled_on}
@@ -19,23 +18,6 @@ use Rattle.dual_orders.specs.SettledPairs.{pairs_of, IsPairOn, IsPairHere}
 
 pub pushed_pairs : (stack : List SettledPair) (q : SettledPair) → pairs_of (stack ++ q ∷ []) ≡ q ∷ pairs_of stack
 pushed_pairs stack q = reverse-append stack (q ∷ [])
-
-module _ (stack : List SettledPair) (i : ℕ) (q : SettledPair) (s : SegId) (below : i < length stack) (is : q ≡ get_or stack i q) where
-  one_more : settled_on (pairs_of (take (i + 1) stack)) s ≡ settled_on (q ∷ pairs_of (take i stack)) s
-  one_more =
-      ap (λ l. settled_on (pairs_of l) s) (take_more stack i q below ∙ ap (λ r. take i stack ++ r ∷ []) (sym is))
-      ∙ ap (λ l. settled_on l s) (pushed_pairs (take i stack) q)
-
-  -- one pair more, of this segment or of another
-  pub more_here : (q.seg.0 == s.0) ≡ true → settled_on (pairs_of (take (i + 1) stack)) s ≡ (q.first, q.second) ∷ settled_on (pairs_of (take i stack)) s
-  more_here here =
-      one_more
-      ∙ ap (λ b. map (λ (r : SettledPair). (r.first, r.second)) (cond b (q ∷ filter (λ (r : SettledPair). r.seg.0 == s.0) (pairs_of (take i stack))) (filter (λ (r : SettledPair). r.seg.0 == s.0) (pairs_of (take i stack))))) here
-
-  pub more_there : (q.seg.0 == s.0) ≡ false → settled_on (pairs_of (take (i + 1) stack)) s ≡ settled_on (pairs_of (take i stack)) s
-  more_there there =
-      one_more
-      ∙ ap (λ b. map (λ (r : SettledPair). (r.first, r.second)) (cond b (q ∷ filter (λ (r : SettledPair). r.seg.0 == s.0) (pairs_of (take i stack))) (filter (λ (r : SettledPair). r.seg.0 == s.0) (pairs_of (take i stack))))) there
 
 -- where each place has 0, no place has more
 pub all_zero : (xs : List ℕ) (n : ℕ) → ((k : ℕ) → k < n → get_or xs k 0 ≡ 0) → length xs ≤ n → (k : ℕ) → get_or xs k 0 ≡ 0
@@ -54,9 +36,6 @@ reversed_all P xs h k d below =
 
 pair_here : (segs : List (List LineId)) (s : SegId) (q : SettledPair) → IsPairOn segs q → IsPairHere s (lines_on segs s) q
 pair_here segs s q on here = subst (λ (t : SegId). AreTwoOf (lines_on segs t) q.first q.second) (same_seg q.seg s here) on.two
-
-pub pairs_here : (segs : List (List LineId)) (s : SegId) (stack : List SettledPair) → All (IsPairOn segs) stack → All (IsPairHere s (lines_on segs s)) stack
-pairs_here segs s stack h = All-weaker (IsPairOn segs) (IsPairHere s (lines_on segs s)) (λ q on. pair_here segs s q on) stack h
 
 abbrev are_known : List LineId → LineId × LineId → Bool
 are_known lines p = is_one_of lines p.0 && is_one_of lines p.1

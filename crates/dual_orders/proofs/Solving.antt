@@ -1,5 +1,5 @@
 -- The least order by rows.
-use Rattle.std.proofs.Common.{◌≡◌, ◌≢◌, ℕ, ◌+◌, ◌*◌, ◌<◌, ◌≤◌, List, [], ◌∷◌, length, take, get_or, refl, sym, ◌∙◌, ap, subst, arith, Option, Some, None}
+use Rattle.std.proofs.Common.{◌≡◌, ℕ, ◌+◌, ◌*◌, ◌<◌, ◌≤◌, List, length, take, refl, sym, ◌∙◌, ap, subst, Option, Some, None}
 use Rattle.std.specs.Prelude.{ℤ, pos, unwrap_or}
 use Rattle.std.specs.Option.{option_map}
 use Rattle.std.proofs.lemmas.List.{get_or-take}
@@ -7,12 +7,11 @@ use Rattle.map_base.specs.declared.ids.LineId.{LineId}
 use Rattle.least_orders.specs.OrderCosts.{PairCosts, order_cost}
 use Rattle.least_orders.specs.Arrangements.{kept_orders}
 use Rattle.least_orders.specs.LeastOrders.{least_cost, least_order}
-use Rattle.least_orders.specs.Rows.{Rows, line_at, entry, AreRows, TellCosts}
+use Rattle.least_orders.specs.Rows.{Rows, line_at, entry, TellCosts}
 use Rattle.least_orders.proofs.LeastValues.{least_of_first}
 use Rattle.dual_shares.specs.Writing.{IsWritten}
 use Rattle.dual_shares.proofs.Entries.{row_before}
-use Rattle.dual_shares.specs.RowSteps.{AreSmall}
-use Rattle.dual_shares.proofs.Telling.{rows_told, rows_are_told, rows_are}
+use Rattle.dual_shares.proofs.Telling.{rows_told, rows_are_told}
 use Rattle.dual_orders.specs.declared.solver.Solver.{Solver}
 use Rattle.dual_orders.specs.Solvers.{HasRoom, AreReady, TellsCosts}
 
@@ -59,13 +58,6 @@ module _ (lines : List LineId) (s : Solver) (r : Rows) (room : HasRoom (length l
   are_told =
       rows_are_told r lines (take (length lines * length lines) s.rows.before.items) (take (length lines * length lines) s.rows.beside.items) s.ahead.items (count ∙ ready.count)
       (before ∙ ap (λ n. take (n * n) s.rows.before.items) ready.count) (beside ∙ ap (λ n. take (n * n) s.rows.beside.items) ready.count) ahead
-
-  pub solver_rows : AreRows r
-  solver_rows =
-      let each = room.ahead in
-      subst AreRows (sym are_told)
-      (rows_are lines s.rows.before.items s.rows.beside.items s.ahead.items ready.ahead.0 4000000 few room.rows.before_each room.rows.beside_each (omega (arith, few, each)) (omega arith)
-      (subst (λ n. AreSmall n 4000000 s.rows.before.items s.rows.beside.items) ready.count ready.small) ready.ahead.1)
 
   pub solver_tells : (costs : PairCosts) (settled : List (LineId × LineId)) → TellsCosts lines costs settled s → TellCosts r costs settled lines
   solver_tells costs settled tell =

@@ -1,6 +1,6 @@
 -- The value of prices, term by term.
-use Rattle.std.proofs.Common.{◌≡◌, ℕ, zero, suc, ◌+◌, ◌*◌, ◌<◌, ◌≤◌, ◌==◌, Bool, true, false, cond, List, [], ◌∷◌, ◌++◌, length, map, take, get_or, refl, sym, ◌∙◌, ap, subst, arith}
-use Rattle.std.specs.Prelude.{ℤ, pos, ◌+ℤ◌, ◌-ℤ◌, ◌*ℤ◌, unsigned_abs}
+use Rattle.std.proofs.Common.{◌≡◌, ℕ, suc, ◌+◌, ◌*◌, ◌<◌, ◌≤◌, ◌==◌, Bool, true, false, cond, List, [], ◌∷◌, length, take, get_or, refl, sym, ◌∙◌, ap, arith}
+use Rattle.std.specs.Prelude.{ℤ, pos, ◌+ℤ◌, ◌-ℤ◌, ◌*ℤ◌}
 use Rattle.std.specs.List.{All, AllByRecursion}
 use Rattle.std.proofs.lemmas.Bool.{and_parts}
 use Rattle.std.proofs.lemmas.Int.{ints}
@@ -12,14 +12,15 @@ use Rattle.order_model.specs.declared.term.Term.{Term}
 use Rattle.order_model.specs.declared.term.Term.TheVariants.{Side, Link, Apart}
 use Rattle.order_model.specs.declared.problem.ProblemParts.{ProblemParts}
 use Rattle.order_model.specs.Problems.{lines_on, IsTerm}
-use Rattle.order_model.specs.Costs.{comes_before, are_neighbours}
+use Rattle.order_model.specs.Costs.{comes_before, are_neighbours, cost_of}
 use Rattle.order_model.specs.PartTerms.{is_in, is_of, numbered_from, no_term}
 use Rattle.whole_sums.specs.Sums.{int_sum}
 use Rattle.whole_sums.proofs.Sums.{int_sum-append, int_sum_same, int_sum_swap}
 use Rattle.dual_bound.specs.Shares.{thousand, where_so, x_of, z_of, term_share}
 use Rattle.dual_bound.proofs.Segments.{part_apart, AreApart, one_counts, int_sum_less_by}
 use Rattle.dual_ascent.specs.OwnNumbers.{all_segments, all_terms, number_of}
-use Rattle.dual_ascent.specs.DualSteps.{value_with, subgradient}
+use Rattle.dual_ascent.specs.DualSteps.{value_with}
+use Rattle.dual_ascent.specs.LocalSearch as local
 use Rattle.dual_ascent.proofs.OwnParts.{segments_rise, all_are_of}
 use Rattle.dual_rounds.proofs.TermLists.{term_made_at}
 use Rattle.dual_orders.specs.Values.{term_value}
@@ -92,3 +93,9 @@ value_more prices orders terms i total more h is next =
 
 pub value_whole : (prices : List ℤ) (orders : List (List LineId)) (terms : List Term) (i : ℕ) → length terms ≤ i → int_sum (value_at prices orders) (take i (numbered_from 0 terms)) ≡ int_sum (value_at prices orders) (numbered_from 0 terms)
 value_whole prices orders terms i h = ap (int_sum (value_at prices orders)) (take_all i (numbered_from 0 terms) (let each = length_numbered 0 terms in omega (arith, h, each)))
+
+-- orders with what they cost
+pub incumbent_is : (p : ProblemParts) (cost : ℕ) (now orders : List (List LineId)) → cost ≡ cost_of p.terms now → now ≡ orders → ◌≡◌ {A = local.Incumbent} (record { cost = cost; orders = now }) (local.incumbent p orders)
+incumbent_is p cost now orders is same =
+    let by_cost : ℕ → local.Incumbent = λ n. record { cost = n; orders = now } in
+    ap by_cost is ∙ ap (local.incumbent p) same

@@ -1,6 +1,6 @@
 -- The pair that is settled next, as it lies in memory.
 use Rattle.std.specs.Prelude.{◌≡◌, ℕ, nat_lt, Bool, true, not, ◌&&◌, List, map, filter, Option, Some, None}
-use Rattle.std.specs.Prelude.{ℤ, pos, neg_ℤ}
+use Rattle.std.specs.Prelude.{pos, neg_ℤ}
 use Rattle.std.specs.List.{list_all}
 use Rattle.map_base.specs.declared.ids.SegId.{SegId}
 use Rattle.map_base.specs.declared.ids.LineId.{LineId}

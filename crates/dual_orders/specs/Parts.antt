@@ -1,5 +1,5 @@
 -- A part by itself as it lies in memory.
-use Rattle.std.specs.Prelude.{◌≡◌, ℕ, ◌<◌, true, length, map}
+use Rattle.std.specs.Prelude.{◌≡◌, ◌<◌, true, length, map}
 use Rattle.order_model.specs.Problems.{IsProblem}
 use Rattle.order_model.specs.Places.{tables_of}
 use Rattle.dual_bound.specs.Accepting.{load_of}

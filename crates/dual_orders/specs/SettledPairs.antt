@@ -1,5 +1,5 @@
 -- The pairs that are settled on the way to a node, the last of them at the end.
-use Rattle.std.specs.Prelude.{◌≡◌, ℕ, ◌<◌, ◌==◌, true, List, length, reverse}
+use Rattle.std.specs.Prelude.{◌≡◌, ◌<◌, ◌==◌, true, List, length, reverse}
 use Rattle.map_base.specs.declared.ids.SegId.{SegId}
 use Rattle.map_base.specs.declared.ids.LineId.{LineId}
 use Rattle.order_model.specs.Problems.{lines_on}

@@ -1,5 +1,5 @@
 -- What prices and averages of two lines are worth, and the incumbent as it lies in memory.
-use Rattle.std.specs.Prelude.{◌≡◌, ℕ, ◌*◌, List}
+use Rattle.std.specs.Prelude.{◌≡◌, ◌*◌, List}
 use Rattle.std.specs.Prelude.{ℤ, pos, ◌*ℤ◌}
 use Rattle.map_base.specs.declared.ids.LineId.{LineId}
 use Rattle.order_model.specs.declared.term.Term.{Term}

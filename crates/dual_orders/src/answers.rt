@@ -95,7 +95,7 @@ fn renew_all(
     requires room { HasRoomFor part.now.problem.now solver.old }
     requires settled { All (IsPairOn part.now.problem.now.segs) settled.now }
     requires prices { AreWithin part.now.problem.now.terms prices.now }
-    requires earlier { length earlier.now ≡ length part.now.problem.now.terms }
+    requires earlier { AreWithin part.now.problem.now.terms earlier.now }
     requires orders { AreOrders part.now.problem.now.segs orders.old }
     requires known { IsTrue known → orders.old ≡ answers part.now.problem.now (pairs_of settled.now) earlier.now }
     ensures orders { orders.new ≡ answers part.now.problem.now (pairs_of settled.now) prices.now }
@@ -121,7 +121,7 @@ fn renew(
     requires room { HasRoomFor part.now.problem.now solver.old }
     requires settled { All (IsPairOn part.now.problem.now.segs) settled.now }
     requires prices { AreWithin part.now.problem.now.terms prices.now }
-    requires earlier { length earlier.now ≡ length part.now.problem.now.terms }
+    requires earlier { AreWithin part.now.problem.now.terms earlier.now }
     requires at { s < length part.now.problem.now.segs }
     requires orders { AreOrders part.now.problem.now.segs orders.old }
     requires known { IsTrue known → slice_index_or orders.old s [] ≡ answer_on part.now.problem.now (pairs_of settled.now) earlier.now (record { 0 = s }) }
@@ -140,8 +140,8 @@ fn renew(
 fn are_same_on(part: &Part, s: usize, earlier: &[i64], prices: &[i64]) -> bool
     requires part { IsPart part.now }
     requires at { s < length part.now.problem.now.segs }
-    requires earlier { length earlier.now ≡ length part.now.problem.now.terms }
-    requires prices { length prices.now ≡ length part.now.problem.now.terms }
+    requires earlier { AreWithin part.now.problem.now.terms earlier.now }
+    requires prices { AreWithin part.now.problem.now.terms prices.now }
     ensures { IsTrue result → All (λ n. number_of earlier.now n ≡ number_of prices.now n) (own_numbers part.now.problem.now (record { 0 = s })) }
 {
     for k in part.on[s].as_slice() {

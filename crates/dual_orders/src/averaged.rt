@@ -1,7 +1,7 @@
 //! The orders nearest to averages.
 
 ghost use Rattle.std.specs.Prelude.{◌≡◌, ◌+◌, ◌<◌, ◌≤◌, ℕ, length, All, slice_index_or, slice_set};
-ghost use Rattle.std.specs.Prelude.{[]};
+ghost use Rattle.std.specs.Prelude.{[], pos, ◌-ℤ◌, unsigned_abs};
 ghost use Rattle.graph_core.specs.Consistent.{AreRising};
 ghost use Rattle.order_model.specs.Costs.{AreOrders};
 ghost use Rattle.least_orders.specs.OrderCosts.{summed_costs};
@@ -110,5 +110,14 @@ fn add_distance(lines: &[LineId], average: PairAverage, rows: &mut CostRows)
     let greater = average.greater;
     rows.add_before(lines, lesser, greater, i64::from(average.swapped));
     rows.add_before(lines, greater, lesser, i64::from(ALWAYS - average.swapped));
-    rows.add_beside(lines, lesser, greater, 32768 - i64::from(average.beside));
+    rows.add_beside(lines, lesser, greater, nearness(average.beside));
+}
+
+/// How often two lines did not stand side by side, less half of all times.
+fn nearness(beside: u32) -> i64
+    requires { beside ≤ 65536 }
+    ensures value { result ≡ pos 32768 -ℤ pos beside }
+    ensures small { unsigned_abs result ≤ 65536 }
+{
+    32768 - i64::from(beside)
 }

@@ -74,7 +74,13 @@ fn pair_of(best: Option<Undecided>) -> Option<SettledPair>
 fn count_on(settled: &[SettledPair], s: SegId) -> usize
     ensures { result ≡ length (settled_on (pairs_of settled.now) s) }
 {
-    settled.iter().filter(|pair| pair.seg == s).count()
+    let mut count = 0;
+    for pair in settled {
+        if pair.seg == s {
+            count += 1;
+        }
+    }
+    count
 }
 
 /// The better of the best so far and of the pairs of one segment, of equals the first. The sets tell what is settled there, by

@@ -1,7 +1,7 @@
 //! A part by itself, with the terms on each of its segments.
 
 ghost use Rattle.std.specs.Prelude.{◌≡◌, ◌*◌, ◌^◌, ◌<◌, ◌≤◌, true, length, sum_by, IfOk};
-ghost use Rattle.order_model.specs.Problems.{lines_on};
+ghost use Rattle.order_model.specs.Problems.{IsProblem, lines_on};
 ghost use Rattle.dual_bound.specs.Accepting.{is_narrow, load_of, steps_on};
 ghost use Rattle.dual_ascent.specs.OwnNumbers.{all_segments};
 ghost use Rattle.dual_ascent.specs.DualResults.{is_in_reach};
@@ -115,7 +115,8 @@ fn load_of(problem: &Problem) -> u32
 
 /// The segments, by number.
 fn all_segments(alloc: Global, problem: &Problem) -> Result<Vec<SegId>, NoMemory>
-    ensures { IfOk result (λ v. v.items ≡ all_segments problem.now) }
+    ensures items { IfOk result (λ v. v.items ≡ all_segments problem.now) }
+    ensures fits { IsProblem problem.now }
 {
     let count = problem.segs().len();
     let mut segments = Vec::with_capacity(alloc, count)?;

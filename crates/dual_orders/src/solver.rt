@@ -1,6 +1,6 @@
 //! How the least order of a segment is found.
 
-ghost use Rattle.std.specs.Prelude.{◌≡◌, ℕ, ◌≤◌, true, List, [], length, unwrap_or, slice_index_or, IfOk};
+ghost use Rattle.std.specs.Prelude.{◌≡◌, ℕ, ◌≤◌, true, List, [], length, take, unwrap_or, slice_index_or, IfOk};
 ghost use Rattle.map_base.specs.declared.ids.LineId.{LineId};
 ghost use Rattle.graph_core.specs.Consistent.{AreRising};
 ghost use Rattle.least_orders.specs.OrderCosts.{PairCosts};
@@ -78,14 +78,13 @@ impl Solver {
             → found_of self.new (length lines.now) ≡ unwrap_or (least_order costs settled lines.now) lines.now }
         ensures room { (width : ℕ) → HasRoom width self.old → HasRoom width self.new }
     {
-        let count = lines.len();
         let rows = self.rows.with_ahead(self.ahead.as_slice());
-        take_least(
+        take_least_ahead(
             &mut self.program,
             &rows,
             lines,
-            &mut self.places[..count],
-            &mut self.found[..count],
+            self.places.as_mut_slice(),
+            self.found.as_mut_slice(),
         );
     }
 
@@ -96,6 +95,34 @@ impl Solver {
     {
         &self.found[..count]
     }
+}
+
+/// The same as `take_least`, at the front of longer rows.
+fn take_least_ahead(
+    program: &mut SubsetProgram,
+    rows: &PairRows,
+    lines: &[LineId],
+    places: &mut [u32],
+    found: &mut [LineId],
+)
+    requires rows { AreRows (plain_rows rows.now) }
+    requires count { rows.now.count ≡ length lines.now }
+    requires rising { AreRising lines.now }
+    requires room { rows.now.count ≤ program.old }
+    requires places { length lines.now ≤ length places.old }
+    requires found { length lines.now ≤ length found.old }
+    ensures found { (costs : PairCosts) (settled : List (LineId × LineId)) → TellCosts (plain_rows rows.now) costs settled lines.now
+        → take (length lines.now) found.new ≡ unwrap_or (least_order costs settled lines.now) lines.now }
+    ensures room { program.new ≡ program.old }
+{
+    let count = lines.len();
+    take_least(
+        program,
+        rows,
+        lines,
+        &mut places[..count],
+        &mut found[..count],
+    );
 }
 
 /// Writes the least order of these lines under the rows, of those that keep the settled pairs; the lines as they are where no

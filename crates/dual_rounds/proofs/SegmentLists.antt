@@ -1,9 +1,9 @@
 -- Lists with one element a segment.
-use Rattle.std.proofs.Common.{◌≡◌, ℕ, zero, suc, ◌+◌, ◌-◌, ◌<◌, ◌≤◌, List, [], ◌∷◌, ◌++◌, length, map, drop, get_or, set, refl, sym, ◌∙◌, ap, subst, arith}
+use Rattle.std.proofs.Common.{◌≡◌, ℕ, zero, suc, ◌+◌, ◌<◌, List, [], ◌∷◌, ◌++◌, length, map, drop, get_or, set, refl, sym, ◌∙◌, ap, arith}
 use Rattle.std.specs.Prelude.{Vec}
 use Rattle.std.specs.Global.{Global}
 use Rattle.std.specs.List.{All}
-use Rattle.std.proofs.lemmas.List.Elements.{All-nil, All-cons, All-append, All-map}
+use Rattle.std.proofs.lemmas.List.Elements.{All-nil, All-cons, All-append}
 use Rattle.std.specs.Vec.{with_items}
 use Rattle.std.proofs.lemmas.List.{append_assoc, at_drop_more, get_or-map, map-set, with_items_is}
 use Rattle.map_base.specs.declared.ids.SegId.{SegId}
@@ -13,7 +13,7 @@ use Rattle.order_model.specs.Problems.{lines_on}
 use Rattle.dual_ascent.specs.declared.pair_average.PairAverage.{PairAverage}
 use Rattle.dual_ascent.specs.OwnNumbers.{segments_from, all_segments}
 use Rattle.dual_ascent.specs.Averages.{never, never_all, with_order, averages_on, averages_after}
-use Rattle.dual_ascent.proofs.OwnParts.{seg_number, all_made_at}
+use Rattle.dual_ascent.proofs.OwnParts.{all_made_at}
 use Rattle.dual_rounds.specs.Ranges.{IsAverage, averages_of}
 
 pub length_segments : (k : ℕ) (segs : List (List LineId)) → length (segments_from k segs) ≡ length segs

@@ -1,5 +1,5 @@
 -- Lists with one number a term.
-use Rattle.std.proofs.Common.{◌≡◌, ℕ, zero, suc, ◌+◌, ◌*◌, ◌<◌, ◌≤◌, List, [], ◌∷◌, length, map, get_or, refl, sym, ◌∙◌, ap, subst, arith}
+use Rattle.std.proofs.Common.{◌≡◌, ℕ, zero, suc, ◌+◌, ◌<◌, ◌≤◌, List, [], ◌∷◌, length, map, get_or, refl, sym, ◌∙◌, ap, subst, arith}
 use Rattle.std.specs.Prelude.{ℤ, pos}
 use Rattle.std.specs.List.{All}
 use Rattle.map_base.specs.declared.ids.LineId.{LineId}
@@ -10,7 +10,7 @@ use Rattle.order_model.specs.Problems.{IsTerm}
 use Rattle.order_model.specs.Costs.{weight_of, IsReadable}
 use Rattle.order_model.specs.PartTerms.{numbered_from, no_term}
 use Rattle.order_model.proofs.OrderLemmas.{readable_term}
-use Rattle.dual_ascent.specs.OwnNumbers.{number_of, all_terms}
+use Rattle.dual_ascent.specs.OwnNumbers.{number_of}
 use Rattle.dual_ascent.specs.DualSteps.{subgradient, most_price, next_direction, next_directions, square_sum, next_price, next_prices}
 
 pub length_made : {A : Type 0} (g : ℕ × Term → A) (k : ℕ) (terms : List Term) → length (map g (numbered_from k terms)) ≡ length terms

@@ -9,6 +9,7 @@ mod OwnDuals
 pub mod PutOrders
 mod OwnOrders
 mod OwnShown
+mod OwnSearches
 mod Serving
 mod Solving
 mod HeldParts

@@ -65,7 +65,7 @@ pub live_fault : (budget : ℕ) (p : ProblemParts) (part : List SegId) (e : Sear
 live_fault budget p part fault.NoMemory h = tt
 live_fault budget p part (fault.TooDeep limit) h =
     ap (λ (b : Bool). cond b (live_found budget (by_live (live_tree (part_in p part)))) too_deep)
-    (lt-leb 2048 (places_of p.segs part) h.0)
+    (lt-leb (places_of p.segs part) 2048 h.0)
     ∙ ap deep (sym h.1)
   where
     deep : Limit → Outcome
@@ -73,7 +73,7 @@ live_fault budget p part (fault.TooDeep limit) h =
 live_fault budget p part (fault.Spent n) h =
     live_goes_on budget p part h.0
     ∙ ap (λ (b : Bool). cond b (Ok (by_live (live_tree (part_in p part)))) (spent budget))
-    (lt-leb budget (branches_in p part) h.1)
+    (lt-leb (branches_in p part) budget h.1)
     ∙ ap over (sym h.2)
   where
     over : ℕ → Outcome

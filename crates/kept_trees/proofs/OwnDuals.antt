@@ -2,7 +2,7 @@
 use Rattle.std.proofs.Common.{◌≡◌, ◌≢◌, ℕ, suc, ◌+◌, ◌<◌, ◌≤◌, ◌==◌, ◌||◌, eqb-true, eq-eqb, inl, inr, cond, Bool, true, false, List, [], ◌∷◌, length, map, filter, get_or, refl, sym, ◌∙◌, ap, subst, true≢false, arith, None}
 use Rattle.std.specs.Prelude.{ℤ}
 use Rattle.std.specs.List.{AllByRecursion}
-use Rattle.std.proofs.lemmas.Bool.{and_from, and_parts}
+use Rattle.std.proofs.lemmas.Bool.{and_from, and_parts, eqb-false}
 use Rattle.std.proofs.lemmas.List.{get_or-map, length-map}
 use Rattle.map_base.specs.declared.ids.SegId.{SegId}
 use Rattle.map_base.specs.declared.ids.LineId.{LineId}
@@ -114,14 +114,13 @@ all_of part segs k (q ∷ rest) each of = (own_of part segs q.1 each of.0, all_o
 
 number_in : (k : ℕ) (ts : List Term) (i : ℕ) → k ≤ i → i < k + length ts → has_number (numbered_from k ts) i ≡ true
 number_in k [] i low high = absurd (omega (arith, low, high))
-number_in k (t ∷ ts) i low high = by (k == i) refl
+number_in k (t ∷ ts) i low high =
+    by (k == i) refl (λ e. number_in (k + 1) ts i (omega (arith, low, eqb-false k i e)) (omega (arith, high)))
   where
-    by : (b : Bool) → (k == i) ≡ b → (b || has_number (numbered_from (k + 1) ts) i) ≡ true
-    by true e = refl
-    by false e = number_in (k + 1) ts i (omega (arith, low, neq e)) (omega (arith, high))
-      where
-        neq : (k == i) ≡ false → k ≢ i
-        neq h same = true≢false (sym (eq-eqb k i same) ∙ h)
+    by : (b : Bool) → (k == i) ≡ b → ((k == i) ≡ false → has_number (numbered_from (k + 1) ts) i ≡ true)
+        → (b || has_number (numbered_from (k + 1) ts) i) ≡ true
+    by true e later = refl
+    by false e later = later e
 
 number_below : (k : ℕ) (ts : List Term) (i : ℕ) → has_number (numbered_from k ts) i ≡ true → i < k + length ts
 number_below k [] i h = absurd (true≢false (sym h))
@@ -208,7 +207,7 @@ module _ (p : ProblemParts) (part : List SegId) where
   renamed : IsRisingPart part → AreRenamed f g own.segs p.segs all (numbered_from 0 own.terms)
   renamed rising = record {
     lines = λ s on. sym (get_or-map (lines_on p.segs) part s.0 no_seg [] (omega (arith, each, within_from 0 own.segs s on)));
-    segs = λ s t on also.
+    apart = λ s t on also.
         let here = placed s on in
         let there = placed t also in
         same_tests (f s).0 (f t).0 s.0 t.0
@@ -220,10 +219,10 @@ module _ (p : ProblemParts) (part : List SegId) where
   }
 
   same_part : map f all ≡ part
-  same_part = back_from (lines_on p.segs) part 0 part (λ i j e below. ap (λ (n : ℕ). get_or part n no_seg) e)
+  same_part = back_from (lines_on p.segs) part 0 part (λ i j e below. let at : j ≡ i = omega (arith, e) in ap (λ (n : ℕ). get_or part n no_seg) at)
 
   same_terms : moved_terms f g (numbered_from 0 own.terms) ≡ terms
-  same_terms = terms_back part numbers 0 terms of (λ i j e below. ap (λ (n : ℕ). get_or numbers n 0) e)
+  same_terms = terms_back part numbers 0 terms of (λ i j e below. let at : j ≡ i = omega (arith, e) in ap (λ (n : ℕ). get_or numbers n 0) at)
 
   known_below : (prices : List (ℕ × ℤ))
       → AllByRecursion (λ (q : ℕ × ℤ). has_number (numbered_from 0 own.terms) q.0 ≡ true) prices

@@ -1,5 +1,5 @@
 -- Orders of a part by itself are orders of the part in its problem, and cost the same.
-use Rattle.std.proofs.Common.{◌≡◌, ◌≢◌, ◌∙◌, ap, sym, subst, refl, ℕ, ◌+◌, ◌<◌, ◌==◌, ◌||◌, Bool, true, false, cond, true≢false, List, [], ◌∷◌, length, map, sum_by, get_or, set, get_or-set_same, get_or-set_other, arith, eqb-true, eq-eqb}
+use Rattle.std.proofs.Common.{◌≡◌, ◌≢◌, ◌∙◌, ap, sym, subst, refl, ℕ, suc, ◌+◌, ◌<◌, ◌==◌, ◌||◌, Bool, true, false, cond, true≢false, List, [], ◌∷◌, length, map, sum_by, get_or, set, get_or-set_same, get_or-set_other, arith, eqb-true, eq-eqb}
 use Rattle.std.specs.List.{AllByRecursion}
 use Rattle.std.specs.List.Sorted.{IsPermutation}
 use Rattle.std.proofs.lemmas.Bool.{and_parts}
@@ -28,30 +28,36 @@ at_place : (part : List SegId) (lists orders : List (List LineId)) (u : SegId) �
     → lines_on (with_lists part lists orders) u ≡ get_or lists (place_in part u) []
 at_place [] lists orders u each h below = absurd (true≢false (sym h))
 at_place (s ∷ part) [] orders u each h below = absurd (omega (arith, each))
-at_place (s ∷ part) (order ∷ lists) orders u each h below = by (s.0 == u.0) refl h
+at_place (s ∷ part) (order ∷ lists) orders u each h below =
+    by (s.0 == u.0) refl h (λ i. at_place part lists orders u (omega (arith, each)) i below)
   where
     by : (b : Bool) → (s.0 == u.0) ≡ b → (b || is_in part u) ≡ true
+        → (is_in part u ≡ true → lines_on (with_lists part lists orders) u ≡ get_or lists (place_in part u) [])
         → get_or (set (with_lists part lists orders) s.0 order) u.0 [] ≡ get_or (order ∷ lists) (cond b 0 (1 + place_in part u)) []
-    by true e i =
+    by true e i later =
         subst (λ (n : ℕ). get_or (set (with_lists part lists orders) s.0 order) n [] ≡ order) (eqb-true s.0 u.0 e)
         (get_or-set_same (with_lists part lists orders) s.0 order [] (omega (arith, eqb-true s.0 u.0 e, below, length-with_lists part lists orders)))
-    by false e i =
+    by false e i later =
         let apart : u.0 ≢ s.0 = λ (same : u.0 ≡ s.0). true≢false (sym (eq-eqb s.0 u.0 (sym same)) ∙ e) in
-        get_or-set_other (with_lists part lists orders) s.0 u.0 order [] apart ∙ at_place part lists orders u (omega (arith, each)) i below
+        let next : suc (place_in part u) ≡ 1 + place_in part u = omega arith in
+        get_or-set_other (with_lists part lists orders) s.0 u.0 order [] apart
+        ∙ later i
+        ∙ ap (λ (n : ℕ). get_or (order ∷ lists) n []) next
 
 -- a segment that is not of the part keeps its lines
 away : (part : List SegId) (lists orders : List (List LineId)) (u : SegId) → is_in part u ≡ false
     → lines_on (with_lists part lists orders) u ≡ lines_on orders u
 away [] lists orders u h = refl
 away (s ∷ part) [] orders u h = refl
-away (s ∷ part) (order ∷ lists) orders u h = by (s.0 == u.0) refl h
+away (s ∷ part) (order ∷ lists) orders u h = by (s.0 == u.0) refl h (away part lists orders u)
   where
     by : (b : Bool) → (s.0 == u.0) ≡ b → (b || is_in part u) ≡ false
+        → (is_in part u ≡ false → lines_on (with_lists part lists orders) u ≡ lines_on orders u)
         → lines_on (set (with_lists part lists orders) s.0 order) u ≡ lines_on orders u
-    by true e i = absurd (true≢false i)
-    by false e i =
+    by true e i later = absurd (true≢false i)
+    by false e i later =
         let apart : u.0 ≢ s.0 = λ (same : u.0 ≡ s.0). true≢false (sym (eq-eqb s.0 u.0 (sym same)) ∙ e) in
-        get_or-set_other (with_lists part lists orders) s.0 u.0 order [] apart ∙ away part lists orders u i
+        get_or-set_other (with_lists part lists orders) s.0 u.0 order [] apart ∙ later i
 
 pub orders_in_problem : (segs : List (List LineId)) (part : List SegId) (lists : List (List LineId))
     → AreOrders (map (lines_on segs) part) lists → AreOrders segs (with_lists part lists segs)

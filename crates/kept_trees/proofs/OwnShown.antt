@@ -206,7 +206,7 @@ module _ (p : ProblemParts) (part : List SegId) (ok : IsProblem p) (known : All 
     found_here there same =
         let shows : Shows p part (result_found there) = subst (Shows p part) (sym same) shows_here in
         record {
-          found = outcome_here ∙ ap ok (sym same);
+          found = outcome_here ∙ ap as_ok (sym same);
           bound = shows.bound;
           cost = shows.cost;
           attained = shows.attained;
@@ -215,5 +215,5 @@ module _ (p : ProblemParts) (part : List SegId) (ok : IsProblem p) (known : All 
           of_proofs = shows.of_proofs;
         }
       where
-        ok : PartResult → Outcome
-        ok r = Ok r
+        as_ok : PartResult → Outcome
+        as_ok r = Ok r

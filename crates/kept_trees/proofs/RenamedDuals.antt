@@ -13,7 +13,7 @@ use Rattle.order_values.specs.DualTrees.{PlainDual, fork, stop, fork_depth, stop
 use Rattle.order_model.specs.declared.term.Term.{Term}
 use Rattle.order_model.specs.declared.term.Term.TheVariants.{Side, Link, Apart}
 use Rattle.order_model.specs.Problems.{lines_on}
-use Rattle.order_model.specs.Costs.{seg_of, other_of}
+use Rattle.order_model.specs.Costs.{seg_of, other_of, comes_before, are_neighbours}
 use Rattle.order_model.specs.Places.{has_line}
 use Rattle.order_model.specs.PartTerms.{is_in, is_of}
 use Rattle.order_model.specs.Questions.{Question, question}
@@ -54,7 +54,7 @@ has_number terms k = list_any (λ (q : Named). q.0 == k) terms
 -- the segments of a part, and the numbers of its terms, are told apart by their new numbers, and keep their lines
 pub record AreRenamed (f : SegId → SegId) (g : ℕ → ℕ) (segs others : List (List LineId)) (part : List SegId) (terms : List Named) : Type 0 where
   pub lines : (s : SegId) → is_in part s ≡ true → lines_on others (f s) ≡ lines_on segs s
-  pub segs : (s t : SegId) → is_in part s ≡ true → is_in part t ≡ true → ((f s).0 == (f t).0) ≡ (s.0 == t.0)
+  pub apart : (s t : SegId) → is_in part s ≡ true → is_in part t ≡ true → ((f s).0 == (f t).0) ≡ (s.0 == t.0)
   pub numbers : (i j : ℕ) → has_number terms i ≡ true → has_number terms j ≡ true → (g i == g j) ≡ (i == j)
   pub within : AllByRecursion (λ (q : Named). is_of part q.1 ≡ true) terms
 
@@ -65,15 +65,16 @@ module _ (f : SegId → SegId) (g : ℕ → ℕ) (segs others : List (List LineI
       → term_share p (f s) order (moved_term f t) ≡ term_share p s order t
   moved_share p s order (Side seg first second w) on of =
       let both = and_parts (is_in part seg) (is_in part seg) of in
-      ap (λ (b : Bool). cond b (where_so _ _) (pos 0)) (same.segs seg s both.0 on)
+      ap (λ (b : Bool). cond b (where_so (comes_before order second first) (pos (thousand * w))) (pos 0)) (same.apart seg s both.0 on)
   moved_share p s order (Link seg other flip a b w) on of =
       let both = and_parts (is_in part seg) (is_in part other) of in
-      ap (λ (c : Bool). cond c (where_so (z_of order flip a b) p) (pos 0) -ℤ cond ((f seg).0 == (f s).0) (where_so (x_of order a b) p) (pos 0)) (same.segs other s both.1 on)
-      ∙ ap (λ (c : Bool). cond (other.0 == s.0) (where_so (z_of order flip a b) p) (pos 0) -ℤ cond c (where_so (x_of order a b) p) (pos 0)) (same.segs seg s both.0 on)
+      ap (λ (c : Bool). cond c (where_so (z_of order flip a b) p) (pos 0) -ℤ cond ((f seg).0 == (f s).0) (where_so (x_of order a b) p) (pos 0)) (same.apart other s both.1 on)
+      ∙ ap (λ (c : Bool). cond (other.0 == s.0) (where_so (z_of order flip a b) p) (pos 0) -ℤ cond c (where_so (x_of order a b) p) (pos 0)) (same.apart seg s both.0 on)
   moved_share p s order (Apart seg other a b w) on of =
       let both = and_parts (is_in part seg) (is_in part other) of in
-      ap (λ (c : Bool). cond c (where_so _ p) (pos 0) -ℤ cond ((f seg).0 == (f s).0) (where_so _ p) (pos 0)) (same.segs other s both.1 on)
-      ∙ ap (λ (c : Bool). cond (other.0 == s.0) (where_so _ p) (pos 0) -ℤ cond c (where_so _ p) (pos 0)) (same.segs seg s both.0 on)
+      let beside : ℤ = where_so (are_neighbours order a b) p in
+      ap (λ (c : Bool). cond c beside (pos 0) -ℤ cond ((f seg).0 == (f s).0) beside (pos 0)) (same.apart other s both.1 on)
+      ∙ ap (λ (c : Bool). cond (other.0 == s.0) beside (pos 0) -ℤ cond c beside (pos 0)) (same.apart seg s both.0 on)
 
   -- what is to be known of each of some terms
   abbrev AreKnown : List Named → Type 0
@@ -124,8 +125,8 @@ module _ (f : SegId → SegId) (g : ℕ → ℕ) (segs others : List (List LineI
       → settled_on (moved_pairs f settled) (f s) ≡ settled_on settled s
   moved_settled [] s in_part on = refl
   moved_settled (p ∷ settled) s in_part on =
-      ap (λ (b : Bool). map pair_lines (cond b (record { seg = f p.seg; first = p.first; second = p.second } ∷ rest_moved) rest_moved)) (same.segs p.seg s in_part.0 on)
-      ∙ by (p.seg.0 == s.0)
+      ap (λ (b : Bool). map pair_lines (cond b (record { seg = f p.seg; first = p.first; second = p.second } ∷ rest_moved) rest_moved)) (same.apart p.seg s in_part.0 on)
+      ∙ by (p.seg.0 == s.0) (moved_settled settled s in_part.1 on)
     where
       rest_moved : List SettledPair
       rest_moved = filter (λ (q : SettledPair). q.seg.0 == (f s).0) (moved_pairs f settled)
@@ -133,10 +134,10 @@ module _ (f : SegId → SegId) (g : ℕ → ℕ) (segs others : List (List LineI
       rest : List SettledPair
       rest = filter (λ (q : SettledPair). q.seg.0 == s.0) settled
 
-      by : (b : Bool)
+      by : (b : Bool) → map pair_lines rest_moved ≡ map pair_lines rest
           → map pair_lines (cond b (record { seg = f p.seg; first = p.first; second = p.second } ∷ rest_moved) rest_moved) ≡ map pair_lines (cond b (p ∷ rest) rest)
-      by true = ap (λ (ls : List (LineId × LineId)). (p.first, p.second) ∷ ls) (moved_settled settled s in_part.1 on)
-      by false = moved_settled settled s in_part.1 on
+      by true later = ap (λ (ls : List (LineId × LineId)). (p.first, p.second) ∷ ls) later
+      by false later = later
 
   moved_least : (price other : ℕ → ℤ) (settled : List SettledPair) (s : SegId) → is_in part s ≡ true → AreKnown terms
       → AreSamePrices price other terms → AreSettledIn settled
@@ -207,7 +208,7 @@ module _ (f : SegId → SegId) (g : ℕ → ℕ) (segs others : List (List LineI
       → is_in (map f some) (f s) ≡ is_in some s
   moved_in [] s on in_part = refl
   moved_in (t ∷ some) s on in_part =
-      ap (λ (b : Bool). b || is_in (map f some) (f s)) (same.segs t s on.0 in_part) ∙ ap (λ (b : Bool). (t.0 == s.0) || b) (moved_in some s on.1 in_part)
+      ap (λ (b : Bool). b || is_in (map f some) (f s)) (same.apart t s on.0 in_part) ∙ ap (λ (b : Bool). (t.0 == s.0) || b) (moved_in some s on.1 in_part)
 
   module _ (target : ℕ) (all : AreIn part) (known : AreKnown terms) where
     abbrev Q : Question

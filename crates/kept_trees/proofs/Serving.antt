@@ -1,6 +1,8 @@
 -- What a complete search found serves every budget that allows its branch nodes; within a lesser one it is spent.
 use Rattle.std.proofs.Common.{◌≡◌, ℕ, ◌+◌, ◌<◌, ◌≤◌, nat_le, Bool, true, false, cond, refl, sym, ◌∙◌, ap, subst, arith, true≢false}
 use Rattle.std.proofs.Common.{List, Option, Some, None, Result, Ok, Err}
+use Rattle.std.specs.Prelude.{MatchOption, IfSome}
+use Rattle.std.specs.Borrow.{Bor}
 use Rattle.std.proofs.lemmas.Bool.{leb-true, le-leb, lt-leb}
 use Rattle.std.proofs.lemmas.Option.{none-some, same_Some}
 use Rattle.map_method.specs.declared.search.Search.{Search}
@@ -40,8 +42,8 @@ whole Bound budget r h = ap chosen_of h
 spent_best : (claim : Claim) (budget : ℕ) (r : PartResult) → r.complete ≡ false → leaves_bound claim r.tree ≡ false
     → is_by_pairs r.tree ≡ true
     → dual_outcome claim budget r ≡ spent budget
-spent_best Best budget r h no pairs = ap (λ (b : Bool). cond b (Ok r) (spent budget)) h
-spent_best Bound budget r h no pairs = absurd (true≢false (sym pairs ∙ no))
+spent_best Best budget r h bare pairs = ap (λ (b : Bool). cond b (Ok r) (spent budget)) h
+spent_best Bound budget r h bare pairs = absurd (true≢false (sym pairs ∙ bare))
 
 held_bound : (claim : Claim) (budget : ℕ) (r : PartResult) → r.complete ≡ false → (tree : PlainPartTree)
     → leaves_bound claim tree ≡ true
@@ -68,12 +70,12 @@ live_spent b budget places x r h many =
     let is = live_is b places x r h in
     ap (λ (c : Bool). cond c (live_found budget x) too_deep) is.0
     ∙ ap (live_found budget) is.2
-    ∙ ap (λ (c : Bool). cond c (Ok r) (spent budget)) (lt-leb budget r.branches many)
+    ∙ ap (λ (c : Bool). cond c (Ok r) (spent budget)) (lt-leb r.branches budget many)
 
 module _ (how : Search) (claim : Claim) (b budget : ℕ) (own : ProblemParts) (r : PartResult)
     (found : own_outcome (best_within how b) own ≡ Ok r) where
-  abbrev plan : SearchPlan
-  plan = record { search = how; claim = claim; budget = budget }
+  abbrev asked : SearchPlan
+  asked = record { search = how; claim = claim; budget = budget }
 
   abbrev dual : Bool
   dual = is_dual how own (all_segments own)
@@ -106,7 +108,7 @@ module _ (how : Search) (claim : Claim) (b budget : ℕ) (own : ProblemParts) (r
           absurd (found_same n m (branches_within own budget) many (ap (λ (x : DualResult). x.branches) same))
       by false e = refl
 
-  pub serves : r.branches ≤ budget → own_outcome plan own ≡ Ok r
+  pub serves : r.branches ≤ budget → own_outcome asked own ≡ Ok r
   serves few = by dual found
     where
       by : (d : Bool) → cond d (dual_outcome Best b (dual_own b own)) (live_outcome b own (all_segments own)) ≡ Ok r
@@ -127,8 +129,8 @@ module _ (how : Search) (claim : Claim) (b budget : ℕ) (own : ProblemParts) (r
       by true h = let is = found_dual h in sym (ap (λ (x : PartResult). x.complete) is.1) ∙ is.0
       by false h = sym (ap (λ (x : PartResult). x.complete) (live_is b places live r h).2)
 
-  pub is_spent : budget < r.branches → leaves_bound claim r.tree ≡ false → own_outcome plan own ≡ spent budget
-  is_spent many no = by dual found
+  pub is_spent : budget < r.branches → leaves_bound claim r.tree ≡ false → own_outcome asked own ≡ spent budget
+  is_spent many bare = by dual found
     where
       no_bound : (c : Claim) → leaves_bound c (dual_own b own).tree ≡ false
           → leaves_bound c (dual_own budget own).tree ≡ false
@@ -139,13 +141,13 @@ module _ (how : Search) (claim : Claim) (b budget : ℕ) (own : ProblemParts) (r
           → cond d (dual_outcome claim budget (dual_own budget own)) (live_outcome budget own (all_segments own)) ≡ spent budget
       by true h =
           let is = found_dual h in
-          let none = no_bound claim (subst (λ (x : PartResult). leaves_bound claim x.tree ≡ false) (sym is.1) no) in
+          let none = no_bound claim (subst (λ (x : PartResult). leaves_bound claim x.tree ≡ false) (sym is.1) bare) in
           spent_best claim budget (dual_own budget own)
           (not_complete is.0 (subst (λ (x : PartResult). budget < x.branches) (sym is.1) many)) none refl
       by false h = live_spent b budget places live r h many
 
   pub is_open : budget < r.branches → leaves_bound claim r.tree ≡ true
-      → spent_in budget (own_outcome plan own) ≡ Some budget
+      → spent_in budget (own_outcome asked own) ≡ Some budget
   is_open many leaves = by dual found
     where
       live_leaves : (c : Claim) → leaves_bound c live.tree ≡ true → ⊥
@@ -221,7 +223,7 @@ module _ (held : List HeldPart) (plan : SearchPlan) (h : HeldPart) (f : FoundPar
 
     pub complete_refused : plan.budget < f.branches → leaves_bound plan.claim (plain_part_tree f.tree) ≡ false
         → outcome ≡ spent plan.budget
-    complete_refused many no = is_spent plan.search plan.claim found_within.0 plan.budget h.part (result_found f) found_within.1 many no
+    complete_refused many bare = is_spent plan.search plan.claim found_within.0 plan.budget h.part (result_found f) found_within.1 many bare
 
     pub complete_missing : plan.budget < f.branches → leaves_bound plan.claim (plain_part_tree f.tree) ≡ true
         → IsMissing held plan h
@@ -240,6 +242,20 @@ module _ (held : List HeldPart) (plan : SearchPlan) (h : HeldPart) (f : FoundPar
         let spent_is : spent_in plan.budget outcome ≡ h.spent =
         ap (spent_in plan.budget) found ∙ ap (λ (b : Bool). cond b None (Some plan.budget)) found_spent.0 ∙ sym budget in
         (found, held_is_own held plan h how spent_is there)
+
+-- what a search that was spent within the budget left, if it is held
+module _ (held : List HeldPart) (plan : SearchPlan) (h : HeldPart) where
+  abbrev IsHeldOrNot : Option (Bor FoundPart) → Type 0
+  IsHeldOrNot r = MatchOption r (is_held held h ≡ false) (λ own. (is_held held h ≡ true) × IsOwnResult h own.now)
+
+  pub bound_serves : h.how ≡ plan.search → h.spent ≡ Some plan.budget → plan.claim ≡ Bound
+      → (r : Option (Bor FoundPart)) → IsHeldOrNot r → IfSome r (λ own. IsServed held plan h.part own.now)
+  bound_serves how budget bound None there = tt
+  bound_serves how budget bound (Some own) there = spent_serves held plan h own.now how there.1 budget bound there.0
+
+  pub bound_missing : (r : Option (Bor FoundPart)) → IsHeldOrNot r → r ≡ None → IsMissing held plan h
+  bound_missing None there none = λ _. there
+  bound_missing (Some own) there none = cc
 
 -- where best orders are claimed, nothing is held with a budget
 pub best_is_whole : (held : List HeldPart) (plan : SearchPlan) (h : HeldPart) → plan.claim ≡ Best
@@ -265,6 +281,17 @@ best_is_whole held plan h best budget same = absurd (by (is_dual plan.search h.p
     by true same = of_choice (dual_own plan.budget h.part).complete (dual_own plan.budget h.part) (fault.Spent (plan.budget + 1)) (λ e. e) same
     by false same =
         of_places (nat_le (places_of h.part.segs (all_segments h.part)) 2048) (by_live (live_tree (part_in h.part (all_segments h.part)))) refl same
+
+-- ---- what is held, and is met
+
+pub served_some : (held : List HeldPart) (plan : SearchPlan) (own : ProblemParts) (o : Option (Bor FoundPart)) (f : Bor FoundPart)
+    → o ≡ Some f → IfSome o (λ x. IsServed held plan own x.now) → IsServed held plan own f.now
+served_some held plan own o f is there = subst (λ (r : Option (Bor FoundPart)). IfSome r (λ x. IsServed held plan own x.now)) is there
+
+-- what is no result that is held is none
+pub none_left : (o : Option (Bor FoundPart)) → ((f : Bor FoundPart) → o ≡ Some f → ⊥) → o ≡ None
+none_left None other = refl
+none_left (Some f) other = absurd (other f refl)
 
 -- ---- what is found is held so that it serves
 

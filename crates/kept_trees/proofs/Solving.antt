@@ -1,8 +1,11 @@
 -- What is held of a part by itself, or found of it, in its problem.
 use Rattle.std.proofs.Common.{◌≡◌, ℕ, ◌+◌, ◌<◌, ◌≤◌, false, true, cond, Bool, List, [], ◌∷◌, ◌++◌, length, sym, ◌∙◌, ap, subst, arith}
-use Rattle.std.proofs.Common.{Option, Some, None, Ok, Err}
+use Rattle.std.proofs.Common.{Option, Some, None, Result, Ok, Err}
+use Rattle.std.specs.Prelude.{IfErr}
+use Rattle.std.specs.Result.{IsErrAnd}
 use Rattle.std.specs.List.{All}
 use Rattle.map_base.specs.declared.ids.SegId.{SegId}
+use Rattle.map_method.specs.declared.search.Search.{Search}
 use Rattle.order_model.specs.declared.problem.ProblemParts.{ProblemParts}
 use Rattle.order_model.specs.Problems.{IsProblem}
 use Rattle.order_model.specs.Parts.{IsRisingPart}
@@ -15,20 +18,26 @@ use Rattle.order_search.specs.ByItself.{by_itself}
 use Rattle.kept_trees.specs.declared.plan.SearchPlan.{SearchPlan}
 use Rattle.kept_trees.specs.declared.found_part.FoundPart.{FoundPart}
 use Rattle.kept_trees.specs.Renumbered.{renumbered_tree}
-use Rattle.kept_trees.specs.OwnTrees.{HeldPart, spent_in, held_own, held_as}
+use Rattle.kept_trees.specs.OwnTrees.{HeldPart, IsOwnResult, spent_in, held_own, held_as}
 use Rattle.kept_trees.specs.Results.{renumbered_result, result_found, own_outcome, part_outcome, own_branches, branches_met}
 use Rattle.kept_trees.specs.Results.{IsResult, IsOwnFound, IsFaultOf}
 use Rattle.kept_trees.specs.Keeping.{is_held, with_part, branches_to_meet, IsServed, IsMissing}
 use Rattle.kept_trees.proofs.LiveOutcomes.{Outcome}
 use Rattle.kept_trees.proofs.OwnOutcomes.{same_fault, same_branches}
 use Rattle.kept_trees.proofs.OwnShown.{tree_here, found_here}
-use Rattle.kept_trees.proofs.Serving.{missing}
+use Rattle.kept_trees.proofs.Serving.{missing, own_result}
 
 -- a refusal that comes by definition
 pub is_fault : (x : Outcome) (e : SearchFault) → x ≡ Err e → IsFaultOf x e
 is_fault x fault.NoMemory h = tt
 is_fault x (fault.Spent n) h = h
 is_fault x (fault.TooDeep limit) h = h
+
+-- a refusal that is handed on
+pub handed_on : (x : Outcome) (r : Result FoundPart SearchFault) (e : SearchFault) → IsErrAnd r (λ y. y ≡ e)
+    → IsFaultOf x e → IfErr r (IsFaultOf x)
+handed_on x (Ok f) e given h = tt
+handed_on x (Err y) e given h = subst (IsFaultOf x) (sym given) h
 
 module _ (p : ProblemParts) (part : List SegId) (ok : IsProblem p) (known : All (λ (s : SegId). s.0 < length p.segs) part) (rising : IsRisingPart part)
     (plan : SearchPlan) (light : plan.budget ≤ 100000) (own : ProblemParts) (own_is : own ≡ by_itself p part) where
@@ -62,10 +71,15 @@ module _ (p : ProblemParts) (part : List SegId) (ok : IsProblem p) (known : All 
         → steps ≡ steps + branches_to_meet held plan p part
     served_steps f served steps = omega (arith, ap (λ (b : Bool). cond b 0 (branches_met plan p part)) (held_here served.1))
 
-    module _ (none : IsMissing held plan (record { how = plan.search; spent = None; part = own }))
-        (some : IsMissing held plan (record { how = plan.search; spent = Some plan.budget; part = own })) where
+    -- what is held in neither way is searched
+    module _ (asked : Search) (how : asked ≡ plan.search) (whole : Option ℕ) (is_whole : whole ≡ None)
+        (none : IsMissing held plan (record { how = asked; spent = whole; part = own }))
+        (some : IsMissing held plan (record { how = asked; spent = Some plan.budget; part = own })) where
       absent : is_held held held_there ≡ false
-      absent = subst (λ (o : ProblemParts). is_held held (held_own plan o) ≡ false) own_is (missing held plan own none some)
+      absent =
+          let none_there = subst (IsMissing held plan) (λ i. record { how = how i; spent = is_whole i; part = own }) none in
+          let some_there = subst (IsMissing held plan) (λ i. record { how = how i; spent = Some plan.budget; part = own }) some in
+          subst (λ (o : ProblemParts). is_held held (held_own plan o) ≡ false) own_is (missing held plan own none_there some_there)
 
       -- the search meets what is to be met
       pub searched_steps : own_branches plan own ≡ branches_to_meet held plan p part
@@ -74,16 +88,24 @@ module _ (p : ProblemParts) (part : List SegId) (ok : IsProblem p) (known : All 
           ∙ sym (same_branches p part known rising plan)
           ∙ sym (ap (λ (b : Bool). cond b 0 (branches_met plan p part)) absent)
 
-      module _ (f : FoundPart) (found : IsOwnFound plan own f) (key : HeldPart)
-          (key_is : key ≡ record { how = plan.search; spent = spent_in plan.budget (Ok (result_found f)); part = own }) where
+      module _ (f : FoundPart) (found : IsOwnFound plan own f) (spent : Option ℕ)
+          (spent_is : spent ≡ spent_in plan.budget (Ok (result_found f))) where
+        abbrev key : HeldPart
+        key = record { how = asked; spent = spent; part = own }
+
         key_there : key ≡ held_there
         key_there =
-            key_is
+            (λ i. record { how = how i; spent = spent_is i; part = own })
             ∙ (λ i. record { how = plan.search; spent = spent_in plan.budget (sym found i); part = own })
             ∙ ap (held_own plan) own_is
 
         pub added_absent : is_held held key ≡ false
         added_absent = ap (is_held held) key_there ∙ absent
+
+        pub added_own : IsOwnResult key f
+        added_own =
+            subst (λ (h : HeldPart). IsOwnResult h f) (sym (λ i. record { how = how i; spent = spent_is i; part = own }))
+            (own_result plan own f found)
 
         pub added_held : held ++ key ∷ [] ≡ with_part held held_there
         added_held =

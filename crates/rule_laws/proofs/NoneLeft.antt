@@ -1,8 +1,8 @@
 -- Where no rule is left, none applies.
-use Rattle.std.proofs.Common.{◌≡◌, ℕ, zero, suc, ◌+◌, ◌<◌, ◌≤◌, ◌≢◌, ◌==◌, Bool, true, false, not, cond, ◌||◌, ◌&&◌, List, [], ◌∷◌, length, map}
-use Rattle.std.proofs.Common.{refl, sym, ◌∙◌, ap, subst, true≢false, eq-eqb, eqb-true, ◌⊎◌, inl, inr, arith, Option, Some, None}
-use Rattle.std.specs.List.{All, AllByRecursion, list_any, list_all, range_with_len}
-use Rattle.std.proofs.lemmas.Bool.{and_parts, or_cases, or_left, false_from_ne_true}
+use Rattle.std.proofs.Common.{◌≡◌, ℕ, zero, suc, ◌+◌, ◌<◌, ◌≤◌, ◌==◌, Bool, true, false, not, cond, ◌||◌, ◌&&◌, List, [], ◌∷◌, length, map}
+use Rattle.std.proofs.Common.{refl, sym, ◌∙◌, ap, subst, true≢false, eq-eqb, eqb-true, inl, inr, arith, Option, Some, None}
+use Rattle.std.specs.List.{AllByRecursion, list_any, list_all, range_with_len}
+use Rattle.std.proofs.lemmas.Bool.{and_parts, or_cases, or_left, false_from_ne_true, eqb-false}
 use Rattle.std.proofs.lemmas.List.Elements.{recursion_from_All}
 use Rattle.map_base.specs.declared.ids.SegId.{SegId}
 use Rattle.map_base.specs.declared.ids.LineId.{LineId}
@@ -12,10 +12,10 @@ use Rattle.order_model.specs.declared.term.Term.{Term}
 use Rattle.order_model.specs.declared.term.Term.TheVariants.{Side, Link, Apart}
 use Rattle.order_model.specs.declared.problem.ProblemParts.{ProblemParts}
 use Rattle.order_model.specs.Problems.{lines_on, IsTerm, IsProblem}
-use Rattle.order_model.specs.Parts.{are_ends, is_between}
+use Rattle.order_model.specs.Parts.{are_ends}
 use Rattle.order_model.specs.Places.{has_line}
 use Rattle.order_model.proofs.Lines.{same_line}
-use Rattle.order_rules.specs.PairWeights.{is_link, all_pairs}
+use Rattle.order_rules.specs.PairWeights.{all_pairs}
 use Rattle.order_rules.specs.Merging.{same_lines, has_flip, is_link_between, have_flip, outweighs, merge_applies}
 use Rattle.order_rules.specs.Dividing.{are_none, is_rising, others, most_apart, can_part, is_group, divide_applies, closure}
 use Rattle.order_rules.specs.Untangling.{rule_applies, or_else, first_some, all_segments, merge_of, first_merge, divide_of, first_divide, next_rule}
@@ -59,14 +59,12 @@ no_divide p e a h = by (are_none (others (lines_on p.segs e) (closure p e a))) r
 segment_from : (P : SegId → Type 0) (k n e : ℕ) → AllByRecursion P (map (λ (i : ℕ). let s : SegId = record { 0 = i } in s) (range_with_len k n)) → k ≤ e → e < k + n
     → P (record { 0 = e })
 segment_from P k zero e each low high = absurd (omega (arith, low, high))
-segment_from P k (suc n) e each low high = by (k == e) refl
+segment_from P k (suc n) e each low high =
+    by (k == e) refl (λ apart. segment_from P (k + 1) n e each.1 (omega (arith, low, eqb-false k e apart)) (omega (arith, high)))
   where
-    by : (b : Bool) → (k == e) ≡ b → P (record { 0 = e })
-    by true here = subst (λ (i : ℕ). P (record { 0 = i })) (eqb-true k e here) each.0
-    by false apart = segment_from P (k + 1) n e each.1 (omega (arith, low, apart_from)) (omega (arith, high))
-      where
-        apart_from : k ≢ e
-        apart_from same = true≢false (sym (eq-eqb k e same) ∙ apart)
+    by : (b : Bool) → (k == e) ≡ b → ((k == e) ≡ false → P (record { 0 = e })) → P (record { 0 = e })
+    by true here later = subst (λ (i : ℕ). P (record { 0 = i })) (eqb-true k e here) each.0
+    by false apart later = later apart
 
 segment_at : (P : SegId → Type 0) (p : ProblemParts) (e : SegId) → AllByRecursion P (all_segments p) → e.0 < length p.segs → P e
 segment_at P p e each known = segment_from P 0 (length p.segs) e.0 each (omega arith) (omega (arith, known))

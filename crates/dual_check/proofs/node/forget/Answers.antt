@@ -1,4 +1,4 @@
-use Rattle.std.proofs.Common.{◌<◌, length, sym, subst, arith}
+use Rattle.std.proofs.Common.{sym, subst, arith}
 use Rattle.dual_shares.specs.GroupSteps.{IsPlaceInPart}
 use Rattle.dual_check.specs.Nodes.{Forgets, IsForgotten}
 use Rattle.dual_check.proofs.Known.{forgets_none, forgets_at, forgotten_none, forgotten_at}

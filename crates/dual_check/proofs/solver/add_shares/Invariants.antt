@@ -1,4 +1,4 @@
-use Rattle.std.proofs.Common.{◌≡◌, ◌≤◌, take}
+use Rattle.std.proofs.Common.{◌≡◌, take}
 use Rattle.order_model.specs.Problems.{lines_on}
 use Rattle.order_model.specs.PartTerms.{terms_by_number}
 use Rattle.order_values.specs.PriceLists.{price_at}

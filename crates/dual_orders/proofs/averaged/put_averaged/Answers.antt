@@ -1,4 +1,4 @@
-use Rattle.std.proofs.Common.{[], length, sym, ◌∙◌, ap, arith}
+use Rattle.std.proofs.Common.{[], arith}
 use Rattle.dual_rounds.proofs.Filling.{fill_begins}
 use Rattle.dual_ascent.specs.Averages.{nearest_on}
 use Rattle.dual_ascent.proofs.Meeting.{averaged_are_orders}
@@ -12,13 +12,13 @@ loop-s-init c = (fill_begins (nearest_by c.args.part.now.problem.now c.args.sett
 
 pub loop-s-preserved : goal.loop-s-preserved
 loop-s-preserved c =
-    let known = c.len.ensures in
+    let known = c.len-s-end.ensures in
     let placed = placed_more c.args.part.now.problem.now.segs (nearest_on c.args.part.now.problem.now (pairs_of c.args.settled.now) (averages_of c.args.averages.now)) c.loop-s.s c.args.orders.now c.loop-s.orders c.put_nearest.new.orders c.loop-s.invariant.0
     (averaged_are_orders c.args.part.now.problem.now (pairs_of c.args.settled.now) (averages_of c.args.averages.now)) c.requires.orders c.loop-s.invariant.1 (omega (arith, known, c.loop-s-test.true)) c.put_nearest.ensures.orders in
     (placed.0, placed.1, c.put_nearest.ensures.room)
 
 pub returns-clause-orders : goal.returns-clause-orders
 returns-clause-orders c =
-    let known = c.len.ensures in
+    let known = c.len-s-end.ensures in
     all_placed c.args.part.now.problem.now.segs (nearest_on c.args.part.now.problem.now (pairs_of c.args.settled.now) (averages_of c.args.averages.now)) c.loop-s.s c.args.orders.now c.loop-s.orders c.loop-s.invariant.0
     (omega (arith, known, c.loop-s-test.false)) c.requires.orders

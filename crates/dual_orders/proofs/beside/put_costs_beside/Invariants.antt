@@ -1,4 +1,4 @@
-use Rattle.std.proofs.Common.{◌≡◌, take, length}
+use Rattle.std.proofs.Common.{◌≡◌, length}
 use Rattle.order_model.specs.Problems.{lines_on}
 use Rattle.least_orders.specs.OrderCosts.{summed_costs}
 use Rattle.dual_shares.specs.CostRows.{HasRoom, Tell, AreSmallCosts}

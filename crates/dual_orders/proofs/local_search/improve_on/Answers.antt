@@ -1,11 +1,11 @@
-use Rattle.std.proofs.Common.{◌≡◌, ◌≤◌, List, [], ◌∷◌, length, sym, ◌∙◌, ap, subst, arith}
+use Rattle.std.proofs.Common.{◌≡◌, List, [], ◌∷◌, length, sym, ◌∙◌, ap, subst, arith}
 use Rattle.std.specs.Prelude.{unwrap_or}
 use Rattle.map_base.specs.declared.ids.LineId.{LineId}
 use Rattle.order_model.specs.declared.problem.ProblemParts.{ProblemParts}
 use Rattle.order_model.specs.Problems.{lines_on}
 use Rattle.order_model.specs.Costs.{AreOrders}
 use Rattle.order_model.proofs.OrderLemmas.{length-orders}
-use Rattle.dual_ascent.specs.LocalSearch.{least_beside, improved_on}
+use Rattle.dual_ascent.specs.LocalSearch.{least_beside}
 use Rattle.dual_ascent.proofs.OwnParts.{seg_number}
 use Rattle.dual_ascent.proofs.Meeting.{segments_improve}
 use Rattle.dual_orders.specs.Solvers.{found_of}

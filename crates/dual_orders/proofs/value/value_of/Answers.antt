@@ -1,4 +1,4 @@
-use Rattle.std.proofs.Common.{◌≡◌, ◌+◌, ◌<◌, ◌≤◌, ℤ, pos, List, length, get_or, take, FitsSigned, w64, to_z, of_z, sym, ◌∙◌, ap, subst, arith}
+use Rattle.std.proofs.Common.{◌≡◌, ◌+◌, ◌≤◌, ℤ, pos, List, length, get_or, take, w64, to_z, of_z, sym, ◌∙◌, ap, subst, arith}
 use Rattle.std.specs.Prelude.{◌+ℤ◌, unsigned_abs}
 use Rattle.std.proofs.lemmas.Int.{ints, to_z-of_z, fits_signed_from_abs}
 use Rattle.whole_sums.specs.Sums.{int_sum}
@@ -8,7 +8,7 @@ use Rattle.dual_ascent.specs.OwnNumbers.{all_terms}
 use Rattle.dual_rounds.proofs.TermLists.{readable_at}
 use Rattle.dual_orders.specs.Values.{term_value}
 use Rattle.dual_orders.proofs.Valuing.{value_at, value_by_terms, value_more, value_whole}
-use Rattle.dual_orders.proofs.Pricing.{price_small}
+use Rattle.dual_orders.proofs.Pricing.{price_small, length_within}
 use Rattle.dual_orders.proofs.value.value_of.Goals as goal
 
 pub term_value-requires-clause-term : goal.term_value-requires-clause-term
@@ -20,6 +20,12 @@ term_value-requires-clause-price c =
     let price : ℤ = get_or c.args.prices.now c.loop-k.k (pos 0) in
     let small : unsigned_abs price ≤ 256000000 = price_small c.args.problem.now.segs c.args.problem.now.terms c.args.prices.now c.loop-k.k c.terms-terms.ensures.fits.terms c.requires.prices in
     subst (λ (v : ℤ). unsigned_abs v ≤ 256000000) (sym (to_z-of_z w64 price (fits_signed_from_abs w64 price (omega (arith, small))))) small
+
+pub bounds-prices-k : goal.bounds-prices-k
+bounds-prices-k c =
+    let same = ap length c.terms-terms.ensures.list in
+    let each = length_within c.args.problem.now.terms c.args.prices.now c.requires.prices in
+    omega (arith, same, each, c.loop-k-test.true)
 
 pub loop-k-preserved : goal.loop-k-preserved
 loop-k-preserved c =

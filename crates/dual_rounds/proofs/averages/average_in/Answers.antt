@@ -1,5 +1,4 @@
 use Rattle.std.proofs.Common.{◌≡◌, ◌<◌, ◌+◌, [], length, map, get_or, sym, ◌∙◌, ap, subst, arith}
-use Rattle.std.proofs.lemmas.List.{length-map}
 use Rattle.order_model.proofs.PrefixLemmas.{lines_at_segment}
 use Rattle.dual_ascent.specs.Averages.{with_order}
 use Rattle.dual_rounds.specs.Ranges.{averages_of}

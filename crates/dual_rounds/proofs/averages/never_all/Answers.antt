@@ -1,7 +1,6 @@
-use Rattle.std.proofs.Common.{◌≡◌, ◌++◌, drop, get_or, sym, ◌∙◌, ap, arith}
-use Rattle.std.proofs.lemmas.List.{get_or_default, drop_all, append-nil}
+use Rattle.std.proofs.Common.{◌++◌, sym, ◌∙◌, ap, arith}
+use Rattle.std.proofs.lemmas.List.{drop_all, append-nil}
 use Rattle.dual_ascent.specs.Averages.{never_all}
-use Rattle.dual_rounds.proofs.SegmentLists.{never_pushed}
 use Rattle.dual_rounds.proofs.averages.never_all.Goals as goal
 
 pub returns : goal.returns

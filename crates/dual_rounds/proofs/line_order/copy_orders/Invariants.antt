@@ -1,4 +1,4 @@
-use Rattle.std.proofs.Common.{[], get_or}
+use Rattle.std.proofs.Common.{[]}
 use Rattle.dual_rounds.proofs.Filling.{IsFilledTo}
 use Rattle.dual_rounds.proofs.SegmentLists.{copied_by}
 use Rattle.dual_rounds.proofs.line_order.copy_orders.Given as goal

@@ -1,4 +1,4 @@
-use Rattle.std.proofs.Common.{◌≡◌, ◌*◌, ◌≤◌, ◌*ℤ◌, pos, unsigned_abs, to_z, of_z, rules, sym, subst, arith}
+use Rattle.std.proofs.Common.{◌≡◌, ◌≤◌, ◌*ℤ◌, pos, unsigned_abs, to_z, of_z, rules, sym, subst, arith}
 use Rattle.std.specs.Int.{w128}
 use Rattle.dual_rounds.proofs.Sizes.{product_within}
 use Rattle.dual_rounds.proofs.prices.scaled.Goals as goal
