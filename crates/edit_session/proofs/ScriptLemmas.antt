@@ -7,12 +7,12 @@ use Rattle.std.proofs.lemmas.List.Elements.{All-contains}
 use Rattle.std.proofs.lemmas.List.Sums.{sum_by-cons}
 use Rattle.map_base.specs.declared.ids.SegId.{SegId}
 use Rattle.map_base.specs.Settings.{Choices}
-use Rattle.map_method.specs.declared.search.Search.{Search}
+use Rattle.kept_trees.specs.declared.plan.SearchPlan.{SearchPlan}
 use Rattle.map_method.specs.Methods.{MethodChoices}
 use Rattle.transit_feed.specs.Feeds.{Feed}
 use Rattle.order_model.specs.declared.problem.ProblemParts.{ProblemParts}
 use Rattle.kept_trees.specs.OwnTrees.{HeldPart, held_as}
-use Rattle.kept_trees.specs.Results.{branches_by}
+use Rattle.kept_trees.specs.Results.{branches_met}
 use Rattle.kept_trees.specs.Keeping.{is_held}
 use Rattle.kept_trees.proofs.HeldLists.{held_is_in, in_is_held}
 use Rattle.map_edits.specs.declared.edit.Edit.{Edit}
@@ -20,6 +20,7 @@ use Rattle.map_edits.specs.Effects.{feed_after, choices_after}
 use Rattle.map_engine.specs.declared.fault.MakeFault.{MakeFault}
 use Rattle.map_engine.specs.Problems.{Drawn, drawn_outcome, untangled_problem}
 use Rattle.map_engine.specs.Solving.{parts_in}
+use Rattle.map_engine.specs.Making.{plan_of}
 use Rattle.map_engine.specs.Keeping.{parts_missing, missing_branches, branches_left}
 use Rattle.edit_session.specs.Scripts.{finished_with, branches_over}
 
@@ -45,18 +46,18 @@ absent_before old new h kept absent = by_test (is_held old h) refl
         sym (ap not there) ∙ absent
 
 -- the more is held, the fewer branch nodes of a problem are left
-fewer_missing : (old new : List HeldPart) (how : Search) (p : ProblemParts) → All (Contains new) old → sum_by (branches_by how p) (parts_missing new how p) ≤ sum_by (branches_by how p) (parts_missing old how p)
-fewer_missing old new how p kept =
-    fewer_pass (branches_by how p) (λ (part : List SegId). not (is_held new (held_as how p part))) (λ (part : List SegId). not (is_held old (held_as how p part)))
-    (λ part absent. absent_before old new (held_as how p part) kept absent) (parts_in p)
+fewer_missing : (old new : List HeldPart) (plan : SearchPlan) (p : ProblemParts) → All (Contains new) old → sum_by (branches_met plan p) (parts_missing new plan p) ≤ sum_by (branches_met plan p) (parts_missing old plan p)
+fewer_missing old new plan p kept =
+    fewer_pass (branches_met plan p) (λ (part : List SegId). not (is_held new (held_as plan p part))) (λ (part : List SegId). not (is_held old (held_as plan p part)))
+    (λ part absent. absent_before old new (held_as plan p part) kept absent) (parts_in p)
 
 -- and of a map
 pub fewer_left : (old new : List HeldPart) (feed : Feed) (choices : Choices) (method : MethodChoices) → All (Contains new) old → branches_left new feed choices method ≤ branches_left old feed choices method
 fewer_left old new feed choices method kept = by_drawn (drawn_outcome feed choices method)
   where
-    by_drawn : (drawn : Result Drawn MakeFault) → missing_branches new method.search drawn ≤ missing_branches old method.search drawn
+    by_drawn : (drawn : Result Drawn MakeFault) → missing_branches new (plan_of choices method) drawn ≤ missing_branches old (plan_of choices method) drawn
     by_drawn (Err stop) = omega arith
-    by_drawn (Ok drawn) = fewer_missing old new method.search (untangled_problem drawn.problem) kept
+    by_drawn (Ok drawn) = fewer_missing old new (plan_of choices method) (untangled_problem drawn.problem) kept
 
 module _ (feed : Feed) (choices : Choices) (method : MethodChoices) where
   -- the parts that draws finish, one draw after another

@@ -7,6 +7,7 @@ use Rattle.files_door.specs.Files.{file_at}
 use Rattle.map_engine.specs.declared.fault.CheckItem.{CheckItem}
 use Rattle.map_engine.specs.declared.fault.CheckItem.TheVariants as found
 use Rattle.map_engine.specs.declared.checked.Checked.{Checked}
+use Rattle.map_engine.specs.declared.checked.Proved.{Proved}
 use Rattle.map_engine.specs.Checking.{PlainChecked, checked_bytes, first_difference, unless_refused}
 use Rattle.map_engine.specs.Promises.{IsCertified}
 use Rattle.command_run.specs.declared.output.Output.{Output}
@@ -19,7 +20,7 @@ use Rattle.run_status.specs.declared.refusal.Refusal.{Refusal}
 use Rattle.run_status.specs.declared.refusal.Refusal.TheVariants as refused
 use Rattle.command_paths.specs.Paths.{Chosen}
 use Rattle.command_inputs.specs.Inputs.{InputPaths, input_at}
-use Rattle.map_commands.specs.MapWorks.{best_line, built, certificate_work, picture_work, check_work, picture_checked, checked_as}
+use Rattle.map_commands.specs.MapWorks.{proved_line, built, certificate_work, picture_work, check_work, picture_checked, checked_as}
 use Rattle.run_status.specs.Outputs.{said}
 use Rattle.command_inputs.specs.Loading.{load_work}
 use Rattle.run_status.specs.Following.{Follows, Gives}
@@ -97,10 +98,10 @@ same_text (x ∷ picture) (y ∷ svg) is = by_test (x == y) refl (first_differen
     by_test false e rest same is = absurd (cc)
 
 -- what comes of a comparison
-compared : PlainChecked → Option ℕ → Result ℕ Refusal
-compared checked different = checked_as (unless_refused (option_map found.Picture different) (Ok checked.cost))
+compared : PlainChecked → Option ℕ → Result Proved Refusal
+compared checked different = checked_as (unless_refused (option_map found.Picture different) (Ok checked.proved))
 
-pub picture_same : (checked : PlainChecked) (svg : List ℕ) → first_difference checked.svg svg ≡ None → picture_checked checked (Some svg) ≡ Ok checked.cost
+pub picture_same : (checked : PlainChecked) (svg : List ℕ) → first_difference checked.svg svg ≡ None → picture_checked checked (Some svg) ≡ Ok checked.proved
 unfolding compared
 picture_same checked svg is = ap (compared checked) is
 
@@ -111,22 +112,25 @@ picture_other checked svg at is = ap (compared checked) is
 
 -- the yes of a map that is accepted
 pub says_yes : (told : Told) (inputs : InputPaths) (rose : Type 0) (loaded : Loaded) (checked : Checked) (result : Result (List Output) Refusal)
-    → Follows told (input_at inputs) rose same_loaded (load_work inputs.chosen) (Ok loaded) → IsAccepted told inputs loaded checked.svg.items checked.cost
+    → Follows told (input_at inputs) rose same_loaded (load_work inputs.chosen) (Ok loaded) → IsAccepted told inputs loaded checked.svg.items checked.proved
     → IfOk result (λ _. IfSome told (λ all. file_at all (input_at inputs input.Picture) ≡ Some checked.svg.items))
-    → IfOk result (λ outputs. outputs ≡ said (best_line checked.cost)) → IfOk result (AreOfYes told inputs)
+    → IfOk result (λ outputs. outputs ≡ said (proved_line checked.proved)) → IfOk result (AreOfYes told inputs)
 says_yes told inputs rose loaded checked (Err why) loads accepted lies are = tt
 says_yes told inputs rose loaded checked (Ok outputs) loads accepted lies are = record {
   loaded = loaded;
   loads = loads.1;
   picture = checked.svg.items;
   lies = lies;
-  cost = checked.cost;
+  proved = checked.proved;
   accepted = accepted;
   are = are;
 }
 
 -- a certificate that certifies, and lies at its path
-pub accepted_by : (told : Told) (inputs : InputPaths) (loaded : Loaded) (picture : List ℕ) (cost : ℕ) (bytes : Option (List ℕ)) → IfSome told (λ all. file_at all (input_at inputs input.Certificate) ≡ bytes)
-    → (certificate : List ℕ) × (bytes ≡ Some certificate) × IsCertified loaded.tables loaded.settings picture certificate cost → IsAccepted told inputs loaded picture cost
-accepted_by None inputs loaded picture cost bytes lies found = (found.0, tt, found.2)
-accepted_by (Some all) inputs loaded picture cost bytes lies found = (found.0, lies ∙ found.1, found.2)
+pub accepted_by : (told : Told) (inputs : InputPaths) (loaded : Loaded) (picture : List ℕ) (proved : Proved) (bytes : Option (List ℕ))
+    → IfSome told (λ all. file_at all (input_at inputs input.Certificate) ≡ bytes)
+    → (certificate : List ℕ) × (bytes ≡ Some certificate)
+    × IsCertified loaded.tables loaded.settings loaded.method.claim picture certificate proved
+    → IsAccepted told inputs loaded picture proved
+accepted_by None inputs loaded picture proved bytes lies found = (found.0, tt, found.2)
+accepted_by (Some all) inputs loaded picture proved bytes lies found = (found.0, lies ∙ found.1, found.2)

@@ -19,7 +19,7 @@ Told = Option (List (List ℕ × List ℕ))
 -- a map that was made of what was loaded
 pub are_of_map : (told : Told) (inputs : InputPaths) (rose : Type 0) (paths : MapPaths) (loaded : Loaded) (result : Result (List Output) Refusal)
     → Follows told (input_at inputs) rose (λ (l : Loaded). l) (load_work inputs.chosen) (Ok loaded)
-    → IfOk result (λ outputs. (made : MapBytes) × (make_outcome loaded.tables loaded.settings loaded.method ≡ Ok made) × IsMade loaded.tables loaded.settings made × (outputs ≡ map_outputs paths made)) → IfOk result (AreOfMap told inputs paths)
+    → IfOk result (λ outputs. (made : MapBytes) × (make_outcome loaded.tables loaded.settings loaded.method ≡ Ok made) × IsMade loaded.tables loaded.settings loaded.method.claim made × (outputs ≡ map_outputs paths made)) → IfOk result (AreOfMap told inputs paths)
 are_of_map told inputs rose paths loaded (Err why) loads made = tt
 are_of_map told inputs rose paths loaded (Ok outputs) loads made = record { loaded = loaded; loads = loads.1; made = made.0; defined = made.1; is_made = made.2; are = made.3 }
 

@@ -18,14 +18,13 @@ use Rattle.octi_grid.specs.Walks.{IsWalk}
 use Rattle.octi_grid.specs.Legal.{first_illegal}
 use Rattle.order_model.specs.declared.term.Term.{Term}
 use Rattle.order_model.specs.declared.term.Term.TheVariants.{Side, Link, Apart}
-use Rattle.map_method.specs.declared.search.Search.{Search}
+use Rattle.kept_trees.specs.declared.plan.SearchPlan.{SearchPlan}
 use Rattle.order_model.specs.declared.problem.ProblemParts.{ProblemParts}
 use Rattle.order_model.specs.Problems.{lines_on, IsProblem, IsTerm}
 use Rattle.order_model.specs.Costs.{cost_of, is_met, term_cost, weight_of, AreOrders}
 use Rattle.order_model.specs.Places.{has_line}
 use Rattle.order_model.specs.Parts.{AreParts, IsRisingPart}
-use Rattle.order_model.specs.PartTerms.{is_of, numbered_from, part_terms}
-use Rattle.order_model.specs.Prefixes.{none_placed}
+use Rattle.order_model.specs.PartTerms.{is_of, numbered_from, part_terms, plain_terms}
 use Rattle.order_model.proofs.KeptTerms.{plain_kept}
 use Rattle.order_model.proofs.Lines.{order_distinct}
 use Rattle.order_model.proofs.OneParts.{problem_parts_are}
@@ -33,7 +32,7 @@ use Rattle.order_model.proofs.PartLists.{part_known, parts_few}
 use Rattle.order_model.proofs.RisingLines.{few_rising}
 use Rattle.order_model.proofs.Shares.{contains_in}
 use Rattle.order_proof.specs.Plain.{PlainPart}
-use Rattle.order_proof.specs.Trees.{IsProofTree}
+use Rattle.order_proof.specs.Trees.{IsPartTree}
 use Rattle.order_proof.specs.Forms.{most_id}
 use Rattle.order_proof.specs.Ranges.{AreRisingSegments, IsPartInRange}
 use Rattle.order_model.specs.Questions.{question}
@@ -44,34 +43,33 @@ use Rattle.cert_file.specs.Ranges.{ArePairs, IsInRange, IsOrder}
 use Rattle.cert_file.specs.Readers.{IsTextOf}
 use Rattle.map_engine.specs.Tables.{importance_by, AreOfFeed}
 use Rattle.map_engine.specs.Problems.{Drawn, untangling_rules, untangled_problem}
-use Rattle.kept_trees.specs.Results.{result_of}
-use Rattle.map_engine.specs.Solving.{parts_in, solve_outcome, solved, SolvedPart}
+use Rattle.map_engine.specs.Solving.{parts_in, SolvedPart}
 use Rattle.map_engine.specs.Lifted.{lifted_by}
 use Rattle.map_engine.specs.Certificates.{certificate_of, drawn_lines, is_drawn, is_weighty, line_numbered, proof_part, weighed_line}
 use Rattle.map_engine.specs.Making.{map_of}
 use Rattle.map_engine.specs.Promises.{IsMade}
-use Rattle.map_engine.specs.Checking.{check_outcome}
+use Rattle.map_engine.specs.Checking.{check_outcome, proved_by}
 use Rattle.map_engine.specs.declared.best_orders.BestOrders.{BestOrders}
 use Rattle.map_engine.specs.declared.drawn_map.DrawnMap.{DrawnMap}
 use Rattle.map_engine.specs.Stages.{drawn_of, map_by, IsShown, AreBestBy, HaveProofTrees}
-use Rattle.map_engine.specs.Wholes.{done_in, IsWhole}
+use Rattle.map_engine.specs.Wholes.{IsWhole}
 use Rattle.map_engine.proofs.ImportanceLemmas.{number_at}
 use Rattle.map_engine.proofs.MadeLemmas.{map_is}
-use Rattle.map_engine.proofs.PartOrders.{all_are}
+use Rattle.map_engine.proofs.PartOrders.{segs_of, segs_are}
 use Rattle.map_engine.proofs.Promised.{accepts_map, ordered, segs_same, shows_certified}
 use Rattle.map_engine.proofs.ReadAgain.{text_read}
-use Rattle.map_engine.proofs.TreeRanges.{line_there, tree_range, IsAsked, IsTermInRange}
+use Rattle.map_engine.proofs.TreeRanges.{line_there, part_depth, part_tree_range, IsAsked, IsTermInRange}
 use Rattle.map_engine.proofs.RuleRanges.{all_filtered, lines_kept, rules_range, IsLineInRange}
 use Rattle.map_engine.proofs.UntangledLemmas.{last_is, rules_apply, untangled_fits}
 
 -- what a limited graph, its walks, its lines and its trees are
-pub record IsLimited (how : Search) (feed : Feed) (choices : Choices) (drawn : Drawn) : Type 0 where
+pub record IsLimited (feed : Feed) (choices : Choices) (drawn : Drawn) (parts : List SolvedPart) : Type 0 where
   pub fits : IsConsistent drawn.graph
   pub walks : AllByRecursion IsWalk drawn.walks
   pub of_feed : AreOfFeed feed drawn.graph
   pub few_lines : length feed.lines < 2 ^ 32
   pub importance : All (λ (p : List ℕ × ℕ). IsImportance p.1) choices.importance
-  pub trees : HaveProofTrees (done_in how (untangled_problem drawn.problem))
+  pub trees : HaveProofTrees parts
 
 -- The lines that are drawn: they rise, and are no more than the lines on all segments.
 
@@ -261,38 +259,51 @@ segments_rise most least (s ∷ []) few rising known from = (from, omega (arith,
 segments_rise most least (s ∷ t ∷ rest) few rising known from =
     (from, omega (arith, few, known.0), segments_rise most (suc s.0) (t ∷ rest) few rising.1 known.1 (omega (arith, rising.0)))
 
-part_range : (how : Search) (p : ProblemParts) → IsProblem p → AreSegments p.segs → (part : List SegId) → IsRisingPart part → All (λ (s : SegId). s.0 < length p.segs) part → IsShown how p part
-    → IsProofTree (result_of how p part).tree → IsPartInRange (proof_part (solved how p part))
-part_range how p fits are part rising known shown tree =
-    let orders : List (List LineId) = with_lists part (result_of how p part).lists p.segs in
-    let costs : cost_of (filter (is_of part) p.terms) orders ≡ (result_of how p part).target = sym (ap (λ (ts : List Term). cost_of ts orders) (plain_kept part p.terms)) ∙ shown.attained.costs in
+part_range : (plan : SearchPlan) (p : ProblemParts) → IsProblem p → AreSegments p.segs → (s : SolvedPart)
+    → IsRisingPart s.segs → All (λ (seg : SegId). seg.0 < length p.segs) s.segs → IsShown plan p s → IsPartTree s.tree
+    → IsPartInRange (proof_part s)
+part_range plan p fits are s rising known shown tree =
+    let orders : List (List LineId) = with_lists s.segs s.lists p.segs in
+    let costs : cost_of (filter (is_of s.segs) p.terms) orders ≡ cost_of (plain_terms (part_terms p.terms s.segs)) orders =
+    sym (ap (λ (ts : List Term). cost_of ts orders) (plain_kept s.segs p.terms)) in
     let light_terms = lights p.segs p.terms fits.terms in
-    let small = cost_small orders (filter (is_of part) p.terms) (all_filtered IsLight (is_of part) p.terms light_terms) in
+    let small = cost_small orders (filter (is_of s.segs) p.terms) (all_filtered IsLight (is_of s.segs) p.terms light_terms) in
     record {
-      target = omega (arith, costs, small, few_filtered (is_of part) p.terms, fits.few_terms);
-      segs = segments_rise (length p.segs) 0 part (omega (arith, fits.few_choices)) rising (recursion_from_All (λ (s : SegId). s.0 < length p.segs) part known) (starts_at_0 part);
-      tree = tree_range (question p.segs part (part_terms p.terms part) (result_of how p part).target) (asked_range p fits are part (result_of how p part).target known) (none_placed p.segs) (result_of how p part).tree
-          tree.is_tree shown.accepted;
-      depth = tree.depth;
+      target = omega (
+        arith,
+        shown.bound orders shown.attained.orders,
+        costs,
+        small,
+        few_filtered (is_of s.segs) p.terms,
+        fits.few_terms,
+      );
+      segs = segments_rise (length p.segs) 0 s.segs (omega (arith, fits.few_choices)) rising
+          (recursion_from_All (λ (seg : SegId). seg.0 < length p.segs) s.segs known) (starts_at_0 s.segs);
+      tree = part_tree_range (question p.segs s.segs (part_terms p.terms s.segs) s.target)
+          (asked_range p fits are s.segs s.target known) s.tree tree shown.accepted;
+      depth = part_depth s.tree tree;
     }
 
-parts_range : (how : Search) (p : ProblemParts) → IsProblem p → AreSegments p.segs → (parts : List (List SegId)) → AllByRecursion IsRisingPart parts → AllByRecursion (λ (q : List SegId). All (λ (s : SegId). s.0 < length p.segs) q) parts
-    → AllByRecursion (IsShown how p) parts → AllByRecursion (λ (q : PlainPart). IsProofTree q.tree) (map proof_part (map (solved how p) parts)) → AllByRecursion IsPartInRange (map proof_part (map (solved how p) parts))
-parts_range how p fits are [] rising known shown trees = tt
-parts_range how p fits are (part ∷ parts) rising known shown trees =
-    (part_range how p fits are part rising.0 known.0 shown.0 trees.0, parts_range how p fits are parts rising.1 known.1 shown.1 trees.1)
+parts_range : (plan : SearchPlan) (p : ProblemParts) → IsProblem p → AreSegments p.segs → (parts : List SolvedPart)
+    → AllByRecursion IsRisingPart (map segs_of parts)
+    → AllByRecursion (λ (q : List SegId). All (λ (s : SegId). s.0 < length p.segs) q) (map segs_of parts)
+    → AllByRecursion (IsShown plan p) parts → HaveProofTrees parts
+    → AllByRecursion IsPartInRange (map proof_part parts)
+parts_range plan p fits are [] rising known shown trees = tt
+parts_range plan p fits are (s ∷ parts) rising known shown trees = (
+  part_range plan p fits are s rising.0 known.0 shown.0 trees.0,
+  parts_range plan p fits are parts rising.1 known.1 shown.1 trees.1,
+)
 
 -- The whole certificate.
 
-module _ (how : Search) (feed : Feed) (choices : Choices) (drawn : Drawn) (whole : IsWhole how feed choices drawn) (limited : IsLimited how feed choices drawn) where
+module _ (plan : SearchPlan) (feed : Feed) (choices : Choices) (drawn : Drawn) (done : List SolvedPart)
+    (whole : IsWhole plan feed choices drawn done) (limited : IsLimited feed choices drawn done) where
   abbrev p : ProblemParts
   p = drawn.problem
 
   abbrev u : ProblemParts
   u = untangled_problem p
-
-  abbrev done : List SolvedPart
-  done = done_in how u
 
   abbrev known : List LineId
   known = limited.fits.few_lines.0
@@ -304,7 +315,7 @@ module _ (how : Search) (feed : Feed) (choices : Choices) (drawn : Drawn) (whole
   still : (Q : LineId → Type 0) → All (All Q) drawn.graph.lines → All (All Q) u.segs
   still Q all =
       subst (λ (q : ProblemParts). All (All Q) q.segs) (sym (last_is p whole.fits))
-      (lines_kept Q p (untangling_rules p) whole.fits (rules_apply p whole.fits) (subst (All (All Q)) (sym (segs_same how feed choices drawn whole)) all))
+      (lines_kept Q p (untangling_rules p) whole.fits (rules_apply p whole.fits) (subst (All (All Q)) (sym (segs_same plan feed choices drawn done whole)) all))
 
   graph_range : All (All IsLineInRange) drawn.graph.lines
   graph_range = λ k d h. (graph_lines feed drawn.graph limited.fits limited.of_feed limited.few_lines k d h).range
@@ -320,8 +331,10 @@ module _ (how : Search) (feed : Feed) (choices : Choices) (drawn : Drawn) (whole
       let fit = limited.fits in
       let ok : AreParts u.segs u.terms (parts_in u) = problem_parts_are u.segs u.terms fits.terms in
       let orders = orders_range drawn.graph.lines (lifted_by p done)
-      (recursion_from_All AreLines drawn.graph.lines (graph_lines feed drawn.graph fit limited.of_feed limited.few_lines)) (ordered how feed choices drawn whole) in
-      let counted = length-map (parts_in u) (solved how u) in
+      (recursion_from_All AreLines drawn.graph.lines (graph_lines feed drawn.graph fit limited.of_feed limited.few_lines)) (ordered plan feed choices drawn done whole) in
+      let each : map segs_of done ≡ parts_in u = segs_are plan u done whole.solved in
+      let counted = ap length each in
+      let counted_here = length-map done segs_of in
       let counted_again = length-map done proof_part in
       record {
         nodes = fit.few_nodes;
@@ -336,40 +349,43 @@ module _ (how : Search) (feed : Feed) (choices : Choices) (drawn : Drawn) (whole
         proof = record {
           few_rules = omega (arith, few_rules p (untangling_rules p) whole.fits (rules_apply p whole.fits), whole.fits.few_choices);
           rules = rules_range p (untangling_rules p) whole.fits (rules_apply p whole.fits)
-              (subst (All (All IsLineInRange)) (sym (segs_same how feed choices drawn whole)) graph_range);
-          few_parts = omega (arith, counted, counted_again, parts_few u.segs u.terms (parts_in u) ok, fits.few_choices);
-          parts = parts_range how u fits segments_are (parts_in u) (recursion_from_All IsRisingPart (parts_in u) ok.rising)
-              (recursion_from_All (λ (q : List SegId). All (λ (s : SegId). s.0 < length u.segs) q) (parts_in u) (λ k d below. part_known u.segs u.terms (parts_in u) ok k d below)) whole.shown limited.trees;
+              (subst (All (All IsLineInRange)) (sym (segs_same plan feed choices drawn done whole)) graph_range);
+          few_parts = omega (arith, counted, counted_here, counted_again, parts_few u.segs u.terms (parts_in u) ok, fits.few_choices);
+          parts = parts_range plan u fits segments_are done
+              (subst (AllByRecursion IsRisingPart) (sym each) (recursion_from_All IsRisingPart (parts_in u) ok.rising))
+              (subst (AllByRecursion (λ (q : List SegId). All (λ (s : SegId). s.0 < length u.segs) q)) (sym each)
+              (recursion_from_All (λ (q : List SegId). All (λ (s : SegId). s.0 < length u.segs) q) (parts_in u) (λ k d below. part_known u.segs u.terms (parts_in u) ok k d below)))
+              whole.shown limited.trees;
         };
       }
 
   -- so the map keeps its promise
-  pub made_is : first_illegal drawn.graph drawn.walks ≡ None → IsMade feed choices (map_of feed choices drawn done)
+  pub made_is : first_illegal drawn.graph drawn.walks ≡ None → IsMade feed choices plan.claim (map_of feed choices drawn done)
   made_is none_illegal =
       let c = certificate_of feed choices drawn done in
       let bytes = (map_of feed choices drawn done).certificate in
       let svg = (map_of feed choices drawn done).svg in
       let written : IsTextOf c bytes = record { range = certificate_range; text = refl } in
       record {
-        cost = c.cost;
-        certified = record { certificate = c; written = written; graph = drawn.graph; of_feed = whole.of_feed; shows = shows_certified how feed choices drawn whole };
-        accepted = ap (check_outcome feed choices svg) (text_read c bytes written) ∙ accepts_map how feed choices drawn whole none_illegal;
+        proved = proved_by c;
+        certified = record { certificate = c; written = written; graph = drawn.graph; of_feed = whole.of_feed; shows = shows_certified plan feed choices drawn done whole };
+        accepted = ap (check_outcome feed choices plan.claim svg) (text_read c bytes written) ∙ accepts_map plan feed choices drawn done whole none_illegal;
       }
 
 -- and so does what is written of a drawing with the line orders that were found
-pub made_by : (how : Search) (feed : Feed) (choices : Choices) (d : DrawnMap) (p : ProblemParts) (best : BestOrders) (parts : List SolvedPart) → IsWhole how feed choices (drawn_of (d, p)) → IsConsistent d.graph
-    → All IsWalk d.drawing.walks → first_illegal d.graph d.drawing.walks ≡ None → AreOfFeed feed d.graph → length feed.lines < 2 ^ 32 → All (λ (q : List ℕ × ℕ). IsImportance q.1) choices.importance
-    → d.importance.items ≡ importance_by feed choices → solve_outcome how choices.budget (untangled_problem p) ≡ Ok parts → AreBestBy how p parts best → IsMade feed choices (map_by feed d best)
-made_by how feed choices d p best parts whole fits walks none_illegal of_feed few importance numbers is_solved found =
-    let all : parts ≡ done_in how (untangled_problem p) = all_are how choices.budget (untangled_problem p) parts is_solved in
-    let limited : IsLimited how feed choices (drawn_of (d, p)) = record {
+pub made_by : (plan : SearchPlan) (feed : Feed) (choices : Choices) (d : DrawnMap) (p : ProblemParts) (best : BestOrders) (parts : List SolvedPart)
+    → IsWhole plan feed choices (drawn_of (d, p)) parts → IsConsistent d.graph
+    → All IsWalk d.drawing.walks → first_illegal d.graph d.drawing.walks ≡ None → AreOfFeed feed d.graph → length feed.lines < 2 ^ 32
+    → All (λ (q : List ℕ × ℕ). IsImportance q.1) choices.importance → d.importance.items ≡ importance_by feed choices
+    → AreBestBy plan p parts best → IsMade feed choices plan.claim (map_by feed d best)
+made_by plan feed choices d p best parts whole fits walks none_illegal of_feed few importance numbers found =
+    let limited : IsLimited feed choices (drawn_of (d, p)) parts = record {
       fits = fits;
       walks = recursion_from_All IsWalk d.drawing.walks walks;
       of_feed = of_feed;
       few_lines = few;
       importance = importance;
-      trees = subst HaveProofTrees all found.trees;
+      trees = found.trees;
     } in
-    let bytes : map_by feed d best ≡ map_of feed choices (drawn_of (d, p)) (done_in how (untangled_problem p)) =
-    map_is how feed choices d p best parts numbers found ∙ ap (map_of feed choices (drawn_of (d, p))) all in
-    subst (IsMade feed choices) (sym bytes) (made_is how feed choices (drawn_of (d, p)) whole limited none_illegal)
+    subst (IsMade feed choices plan.claim) (sym (map_is plan feed choices d p best parts numbers found))
+    (made_is plan feed choices (drawn_of (d, p)) parts whole limited none_illegal)

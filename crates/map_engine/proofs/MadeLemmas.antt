@@ -6,7 +6,7 @@ use Rattle.map_base.specs.Settings.{Choices}
 use Rattle.map_method.specs.Methods.{MethodChoices}
 use Rattle.transit_feed.specs.Feeds.{Feed}
 use Rattle.order_values.specs.declared.rule.Rule.{Rule}
-use Rattle.map_method.specs.declared.search.Search.{Search}
+use Rattle.kept_trees.specs.declared.plan.SearchPlan.{SearchPlan}
 use Rattle.order_model.specs.declared.problem.ProblemParts.{ProblemParts}
 use Rattle.order_model.specs.Problems.{IsProblem}
 use Rattle.order_model.specs.Costs.{cost_of, AreOrders}
@@ -27,7 +27,7 @@ use Rattle.map_engine.specs.Moving.{after_moves, improvement_of}
 use Rattle.map_engine.specs.Solving.{SolvedPart, solve_outcome, orders_by}
 use Rattle.map_engine.specs.Lifted.{lifted_by}
 use Rattle.map_engine.specs.Certificates.{line_count, is_weighty, weighed_line, drawn_lines}
-use Rattle.map_engine.specs.Making.{MapBytes, SolvedMap, bytes_of, if_solved, make_outcome, map_of, solved_map, solved_on, solved_outcome, solved_with, HasCause}
+use Rattle.map_engine.specs.Making.{MapBytes, SolvedMap, bytes_of, if_solved, make_outcome, map_of, plan_of, solved_map, solved_on, solved_outcome, solved_with, HasCause}
 use Rattle.map_engine.specs.Improving.{ImprovedBytes, improve_outcome, improved_bytes, improved_map}
 use Rattle.map_engine.specs.Stages.{drawn_after, drawn_of, map_by, plain_parts, AreBestBy, IsSolution, IsShown, IsWritten}
 use Rattle.map_engine.proofs.UntangledLemmas.{lifted_cost}
@@ -36,10 +36,10 @@ abbrev made_proof : List Rule → List PlainPart → PlainProof
 made_proof rs ps = record { rules = rs; parts = ps }
 
 -- what was found for the untangled problem, lifted, is what comes of the problem
-pub best_by : (how : Search) (p u : ProblemParts) (rules : List Rule) (s : Solution) (best : BestOrders) (parts : List SolvedPart) → IsProblem p → u ≡ untangled_problem p → rules ≡ untangling_rules p
-    → AreOrders u.segs s.orders.items → IsSolution how u parts s → best.orders.lists ≡ lifted_all rules s.orders.items → best.cost ≡ cost_of u.terms s.orders.items
-    → plain_proof best.proof ≡ record { rules = rules; parts = plain_parts s } → AreBestBy how p parts best
-best_by how p u rules s best parts is last through are solution orders cost proof =
+pub best_by : (plan : SearchPlan) (p u : ProblemParts) (rules : List Rule) (s : Solution) (best : BestOrders) (parts : List SolvedPart) → IsProblem p → u ≡ untangled_problem p → rules ≡ untangling_rules p
+    → AreOrders u.segs s.orders.items → IsSolution plan u parts s → best.orders.lists ≡ lifted_all rules s.orders.items → best.cost ≡ cost_of u.terms s.orders.items
+    → plain_proof best.proof ≡ record { rules = rules; parts = plain_parts s } → AreBestBy plan p parts best
+best_by plan p u rules s best parts is last through are solution orders cost proof =
     let ordered = subst (λ (q : ProblemParts). AreOrders q.segs (orders_by q parts)) last (subst (AreOrders u.segs) solution.orders are) in
     record {
       orders = orders ∙ ap (λ (rs : List Rule). lifted_all rs s.orders.items) through ∙ ap (lifted_all (untangling_rules p)) solution.orders
@@ -49,7 +49,7 @@ best_by how p u rules s best parts is last through are solution orders cost proo
       proof = proof ∙ ap (λ (rs : List Rule). made_proof rs (plain_parts s)) through ∙ ap (made_proof (untangling_rules p)) solution.proofs;
       trees = solution.trees;
       ordered = ordered;
-      shown = subst (λ (q : ProblemParts). AllByRecursion (λ (t : SolvedPart). IsShown how q t.segs) parts) last solution.shown;
+      shown = subst (λ (q : ProblemParts). AllByRecursion (IsShown plan q) parts) last solution.shown;
     }
 
 -- a map by what its certificate has of importance, orders and proof
@@ -68,9 +68,9 @@ map_with feed d importance orders cost proof = record {
   });
 }
 
-pub map_is : (how : Search) (feed : Feed) (choices : Choices) (d : DrawnMap) (p : ProblemParts) (best : BestOrders) (parts : List SolvedPart) → d.importance.items ≡ importance_by feed choices → AreBestBy how p parts best
+pub map_is : (plan : SearchPlan) (feed : Feed) (choices : Choices) (d : DrawnMap) (p : ProblemParts) (best : BestOrders) (parts : List SolvedPart) → d.importance.items ≡ importance_by feed choices → AreBestBy plan p parts best
     → map_by feed d best ≡ map_of feed choices (drawn_of (d, p)) parts
-map_is how feed choices d p best parts importance is =
+map_is plan feed choices d p best parts importance is =
     ap (λ (ns : List ℕ). map_with feed d ns best.orders.lists best.cost (plain_proof best.proof)) importance
     ∙ ap (λ (orders : List (List LineId)). map_with feed d (importance_by feed choices) orders best.cost (plain_proof best.proof)) is.orders
     ∙ ap (λ (cost : ℕ). map_with feed d (importance_by feed choices) (lifted_by p parts) cost (plain_proof best.proof)) is.cost
@@ -78,7 +78,7 @@ map_is how feed choices d p best parts importance is =
 
 -- where the drawing and the parts are there, so is the drawing after its moves, with its line orders
 pub solved_is : (feed : Feed) (choices : Choices) (method : MethodChoices) (d : DrawnMap) (p : ProblemParts) (parts : List SolvedPart) → drawn_outcome feed choices method ≡ Ok (drawn_of (d, p))
-    → solve_outcome method.search choices.budget (untangled_problem p) ≡ Ok parts → solved_outcome feed choices method ≡ Ok (record { drawn = drawn_of (drawn_after method.moves d, p); parts = parts })
+    → solve_outcome (plan_of choices method) (untangled_problem p) ≡ Ok parts → solved_outcome feed choices method ≡ Ok (record { drawn = drawn_of (drawn_after method.moves d, p); parts = parts })
 solved_is feed choices method d p parts drawn solved = ap (solved_on choices method) drawn ∙ ap (solved_with method.moves (drawn_of (d, p))) solved
 
 -- a map and what moves made of its drawing
@@ -87,12 +87,12 @@ of_two map improvement = Ok (record { map = map; improvement = improvement })
 
 -- and the improved map is that of the drawing after more moves
 pub outcome_is : (feed : Feed) (choices : Choices) (method : MethodChoices) (d : DrawnMap) (p : ProblemParts) (best : BestOrders) (parts : List SolvedPart) (moves : ℕ) (improved : ImprovedMap)
-    → drawn_outcome feed choices method ≡ Ok (drawn_of (d, p)) → solve_outcome method.search choices.budget (untangled_problem p) ≡ Ok parts → d.importance.items ≡ importance_by feed choices
-    → AreBestBy method.search p parts best → IsWritten feed d best method.moves moves improved → improve_outcome feed choices method moves ≡ Ok (improved_bytes improved)
+    → drawn_outcome feed choices method ≡ Ok (drawn_of (d, p)) → solve_outcome (plan_of choices method) (untangled_problem p) ≡ Ok parts → d.importance.items ≡ importance_by feed choices
+    → AreBestBy (plan_of choices method) p parts best → IsWritten feed d best method.moves moves improved → improve_outcome feed choices method moves ≡ Ok (improved_bytes improved)
 outcome_is feed choices method d p best parts moves improved drawn solved importance is written =
     let last : DrawnMap = drawn_after moves (drawn_after method.moves d) in
     ap (if_solved (improved_map feed choices moves)) (solved_is feed choices method d p parts drawn solved)
-    ∙ ap (λ (m : MapBytes). of_two m (improvement_of moves d.graph (drawn_after method.moves d).drawing.walks)) (sym (map_is method.search feed choices last p best parts importance is) ∙ sym written.map)
+    ∙ ap (λ (m : MapBytes). of_two m (improvement_of moves d.graph (drawn_after method.moves d).drawing.walks)) (sym (map_is (plan_of choices method) feed choices last p best parts importance is) ∙ sym written.map)
     ∙ ap (of_two (bytes_of improved.map)) (sym written.improvement)
 
 -- a drawing that is refused refuses all that is made of it
@@ -105,15 +105,15 @@ not_drawn A makes feed choices method (fault.Limit limit) h = ap (λ (o : Result
 
 -- and so do parts that are
 pub not_solved : (A : Type 0) (makes : SolvedMap → A) (feed : Feed) (choices : Choices) (method : MethodChoices) (d : DrawnMap) (p : ProblemParts) (e : MakeFault) → drawn_outcome feed choices method ≡ Ok (drawn_of (d, p))
-    → HasCause (solve_outcome method.search choices.budget (untangled_problem p)) e → HasCause (if_solved makes (solved_outcome feed choices method)) e
+    → HasCause (solve_outcome (plan_of choices method) (untangled_problem p)) e → HasCause (if_solved makes (solved_outcome feed choices method)) e
 not_solved A makes feed choices method d p e drawn h = by_fault e h
   where
-    refused : (f : MakeFault) → solve_outcome method.search choices.budget (untangled_problem p) ≡ Err f → if_solved makes (solved_outcome feed choices method) ≡ Err f
+    refused : (f : MakeFault) → solve_outcome (plan_of choices method) (untangled_problem p) ≡ Err f → if_solved makes (solved_outcome feed choices method) ≡ Err f
     refused f i =
         ap (λ (o : Result Drawn MakeFault). if_solved makes (solved_on choices method o)) drawn
         ∙ ap (λ (o : Result (List SolvedPart) MakeFault). if_solved makes (solved_with method.moves (drawn_of (d, p)) o)) i
 
-    by_fault : (f : MakeFault) → HasCause (solve_outcome method.search choices.budget (untangled_problem p)) f → HasCause (if_solved makes (solved_outcome feed choices method)) f
+    by_fault : (f : MakeFault) → HasCause (solve_outcome (plan_of choices method) (untangled_problem p)) f → HasCause (if_solved makes (solved_outcome feed choices method)) f
     by_fault fault.NoMemory i = tt
     by_fault (fault.NoRoute seg) i = refused (fault.NoRoute seg) i
     by_fault (fault.Spent component branches) i = refused (fault.Spent component branches) i
@@ -158,5 +158,5 @@ made_alike feed choices method moves improved h = by_drawn (drawn_outcome feed c
 
     by_drawn : (o : Result Drawn MakeFault) → if_solved (improved_map feed choices moves) (solved_on choices (record method { moves = 0 }) o) ≡ Ok improved
         → if_solved (solved_map feed choices) (solved_on choices (record method { moves = moves }) o) ≡ Ok improved.map
-    by_drawn (Ok drawn) i = by_parts drawn (solve_outcome method.search choices.budget (untangled_problem drawn.problem)) i
+    by_drawn (Ok drawn) i = by_parts drawn (solve_outcome (plan_of choices method) (untangled_problem drawn.problem)) i
     by_drawn (Err stop) i = cc

@@ -4,7 +4,7 @@ use Rattle.std.specs.Prelude.{nat_le, unsigned_abs, List}
 use Rattle.std.specs.List.{list_all}
 use Rattle.std.proofs.lemmas.Bool.{and_from, and_parts, le-leb, leb-true}
 use Rattle.map_base.specs.Settings.{Choices}
-use Rattle.map_method.specs.declared.search.Search.{Search}
+use Rattle.kept_trees.specs.declared.plan.SearchPlan.{SearchPlan}
 use Rattle.transit_feed.specs.Feeds.{Feed}
 use Rattle.octi_grid.specs.declared.point.GridPoint.{GridPoint}
 use Rattle.octi_grid.specs.Walks.{points_of, PlainWalk}
@@ -13,6 +13,7 @@ use Rattle.grid_board.specs.Points.{are_near, is_near}
 use Rattle.order_model.specs.declared.problem.ProblemParts.{ProblemParts}
 use Rattle.map_engine.specs.declared.drawn_map.DrawnMap.{DrawnMap}
 use Rattle.map_engine.specs.declared.improvement.Improvement.{Improvement}
+use Rattle.map_engine.specs.Solving.{SolvedPart}
 use Rattle.map_engine.specs.Stages.{drawn_after, drawn_of, IsDrawing}
 use Rattle.map_engine.specs.Wholes.{IsWhole}
 
@@ -38,15 +39,17 @@ pub same_numbers : (b c a e m n : ℕ) → b ≡ c → a ≡ e → m ≡ n → n
 same_numbers b c a e m n p q r = rw (p, q, r) refl
 
 -- a drawing that was moved twice is whole where it was before
-pub whole_moved : (how : Search) (feed : Feed) (choices : Choices) (d : DrawnMap) (p : ProblemParts) (first moves : ℕ) → IsWhole how feed choices (drawn_of (d, p)) → IsDrawing (drawn_after moves (drawn_after first d))
-    → IsWhole how feed choices (drawn_of (drawn_after moves (drawn_after first d), p))
-whole_moved how feed choices d p first moves whole drawing = record {
+pub whole_moved : (plan : SearchPlan) (feed : Feed) (choices : Choices) (d : DrawnMap) (p : ProblemParts) (parts : List SolvedPart)
+    (first moves : ℕ) → IsWhole plan feed choices (drawn_of (d, p)) parts → IsDrawing (drawn_after moves (drawn_after first d))
+    → IsWhole plan feed choices (drawn_of (drawn_after moves (drawn_after first d), p)) parts
+whole_moved plan feed choices d p parts first moves whole drawing = record {
   of_feed = whole.of_feed;
   each = drawing.each;
   legal = drawing.legal;
   counted = whole.counted;
   defined = whole.defined;
   fits = whole.fits;
+  solved = whole.solved;
   ordered = whole.ordered;
   shown = whole.shown;
 }

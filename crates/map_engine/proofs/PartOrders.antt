@@ -6,10 +6,11 @@ use Rattle.std.proofs.lemmas.List.Elements.{All-contains}
 use Rattle.map_base.specs.declared.ids.SegId.{SegId}
 use Rattle.map_base.specs.declared.ids.LineId.{LineId}
 use Rattle.order_model.specs.declared.term.Term.{Term}
-use Rattle.map_method.specs.declared.search.Search.{Search}
+use Rattle.map_method.specs.declared.claim.Claim.{Claim}
+use Rattle.map_method.specs.declared.claim.Claim.TheVariants.{Best}
 use Rattle.order_model.specs.declared.problem.ProblemParts.{ProblemParts}
 use Rattle.order_model.specs.Problems.{lines_on, IsProblem}
-use Rattle.order_model.specs.Costs.{cost_of, AreOrders, AreBest}
+use Rattle.order_model.specs.Costs.{cost_of, AreOrders}
 use Rattle.order_model.specs.Parts.{AreParts, is_wide}
 use Rattle.order_model.specs.PartTerms.{is_in, part_terms, plain_terms}
 use Rattle.order_model.proofs.Shares.{ShareNone, AreApartParts, parts_apart, part_cost, contains_in}
@@ -17,9 +18,12 @@ use Rattle.order_model.proofs.KeptTerms.{plain_kept}
 use Rattle.order_model.proofs.OneParts.{problem_parts_are}
 use Rattle.order_search.specs.Finding.{with_lists}
 use Rattle.map_engine.specs.declared.fault.MakeFault.{MakeFault}
-use Rattle.kept_trees.specs.Results.{result_of}
-use Rattle.map_engine.specs.Solving.{SolvedPart, solved, with_solved, with_parts, is_solvable, why_unsolved, solve_from, solve_outcome, parts_in, orders_by}
-use Rattle.map_engine.specs.Stages.{IsShown}
+use Rattle.order_check.specs.LowerBounds.{IsLowerBound}
+use Rattle.order_search.specs.declared.found.SearchFault.{SearchFault}
+use Rattle.kept_trees.specs.declared.plan.SearchPlan.{SearchPlan}
+use Rattle.kept_trees.specs.Results.{PartResult, part_outcome}
+use Rattle.map_engine.specs.Solving.{SolvedPart, solved, solved_first, with_parts, solve_from, solve_outcome, parts_in, orders_by}
+use Rattle.map_engine.specs.Stages.{CostClaimed, IsShown}
 use Rattle.kept_trees.proofs.PutOrders.{length-with_lists}
 use Rattle.map_engine.proofs.CostParts.{cost_shared, same_cost}
 
@@ -61,7 +65,7 @@ inside (s ∷ part) (order ∷ lists) some others u each h below within =
         ∙ rest i
         ∙ sym (get_or-set_other (with_lists part lists others) s.0 u.0 order [] other)
 
-abbrev segs_of : SolvedPart → List SegId
+abbrev pub segs_of : SolvedPart → List SegId
 segs_of s = s.segs
 
 all_away : (parts : List SolvedPart) (orders : List (List LineId)) (u : SegId) → AllByRecursion (λ (s : SolvedPart). is_in s.segs u ≡ false) parts
@@ -99,73 +103,93 @@ targets_are segs terms (s ∷ parts) orders same apart worth =
 
 -- All parts of a problem that are solved in turn.
 
-solved_list : (how : Search) (budget : ℕ) (p : ProblemParts) (k : ℕ) (parts : List (List SegId)) (done : List SolvedPart) → solve_from how budget p k parts ≡ Ok done → done ≡ map (solved how p) parts
-solved_list how budget p k [] done h = cc
-solved_list how budget p k (part ∷ parts) done h = by_test (is_solvable how budget p part) h (λ later i. solved_list how budget p (k + 1) parts later i)
+solved_segs : (plan : SearchPlan) (p : ProblemParts) (k : ℕ) (parts : List (List SegId)) (done : List SolvedPart)
+    → solve_from plan p k parts ≡ Ok done → map segs_of done ≡ parts
+solved_segs plan p k [] done h =
+    let none : done ≡ [] = cc in
+    ap (map segs_of) none
+solved_segs plan p k (part ∷ parts) done h =
+    by (part_outcome plan p part) (solve_from plan p (k + 1) parts) h (λ later i. solved_segs plan p (k + 1) parts later i)
   where
-    with_later : (later : Result (List SolvedPart) MakeFault) → solve_from how budget p (k + 1) parts ≡ later → with_solved (solved how p part) later ≡ Ok done
-        → ((rest : List SolvedPart) → solve_from how budget p (k + 1) parts ≡ Ok rest → rest ≡ map (solved how p) parts) → done ≡ solved how p part ∷ map (solved how p) parts
-    with_later (Err e) i h more = cc
-    with_later (Ok later) i h more =
-        let same : done ≡ solved how p part ∷ later = cc in
-        same ∙ ap (λ (ls : List SolvedPart). solved how p part ∷ ls) (more later i)
+    by : (o : Result PartResult SearchFault) (rest : Result (List SolvedPart) MakeFault)
+        → solved_first k part o rest ≡ Ok done
+        → ((later : List SolvedPart) → rest ≡ Ok later → map segs_of later ≡ parts)
+        → map segs_of done ≡ part ∷ parts
+    by (Ok r) (Ok later) e more =
+        let same : solved part r ∷ later ≡ done = cc in
+        ap (map segs_of) (sym same) ∙ ap (λ (ps : List (List SegId)). part ∷ ps) (more later refl)
+    by (Ok r) (Err stop) e more = absurd cc
+    by (Err why) rest e more = absurd cc
 
-    by_test : (b : Bool) → cond b (with_solved (solved how p part) (solve_from how budget p (k + 1) parts)) (Err (why_unsolved budget p k part)) ≡ Ok done
-        → ((rest : List SolvedPart) → solve_from how budget p (k + 1) parts ≡ Ok rest → rest ≡ map (solved how p) parts) → done ≡ solved how p part ∷ map (solved how p) parts
-    by_test true e more = with_later (solve_from how budget p (k + 1) parts) refl e more
-    by_test false e more = cc
+pub segs_are : (plan : SearchPlan) (p : ProblemParts) (parts : List SolvedPart)
+    → solve_outcome plan p ≡ Ok parts → map segs_of parts ≡ parts_in p
+segs_are plan p parts h = solved_segs plan p 0 (parts_in p) parts h
 
-pub all_are : (how : Search) (budget : ℕ) (p : ProblemParts) (parts : List SolvedPart) → solve_outcome how budget p ≡ Ok parts → parts ≡ map (solved how p) (parts_in p)
-all_are how budget p parts h = solved_list how budget p 0 (parts_in p) parts h
+-- the targets of solved parts
+abbrev pub target_sum : List SolvedPart → ℕ
+target_sum parts = sum_by (λ (s : SolvedPart). s.target) parts
 
-pub shown_each : (how : Search) (p : ProblemParts) (parts : List (List SegId)) → AllByRecursion (λ (s : SolvedPart). IsShown how p s.segs) (map (solved how p) parts) → AllByRecursion (IsShown how p) parts
-shown_each how p [] h = tt
-shown_each how p (part ∷ parts) h = (h.0, shown_each how p parts h.1)
+module _ (plan : SearchPlan) (p : ProblemParts) (fits : IsProblem p) (done : List SolvedPart)
+    (segs : map segs_of done ≡ parts_in p) (shown : AllByRecursion (IsShown plan p) done) where
+  parts_ok : AreParts p.segs p.terms (parts_in p)
+  parts_ok = problem_parts_are p.segs p.terms fits.terms
 
-segs_are : (how : Search) (p : ProblemParts) (parts : List (List SegId)) → map segs_of (map (solved how p) parts) ≡ parts
-segs_are how p [] = refl
-segs_are how p (part ∷ parts) = ap (λ (rest : List (List SegId)). part ∷ rest) (segs_are how p parts)
+  known_part : (part : List SegId) → Contains (parts_in p) part → All (λ (u : SegId). u.0 < length p.segs) part
+  known_part part there =
+      λ k d below. (All-contains (All (λ s. (s.0 < length p.segs) × IsTrue (is_wide p.segs s.0))) (parts_in p) part parts_ok.wide there k d below).0
 
-worth_of : (how : Search) (p : ProblemParts) (part : List SegId) → All (λ (u : SegId). u.0 < length p.segs) part → IsShown how p part → IsWorth p.segs p.terms (solved how p part)
-worth_of how p part known shown = record {
-  each = shown.attained.each;
-  known = known;
-  costs = sym (ap (λ (ts : List Term). cost_of ts (with_lists part (result_of how p part).lists p.segs)) (plain_kept part p.terms)) ∙ shown.attained.costs;
-}
+  -- No orders cost less than the targets sum to.
 
-worth_each : (how : Search) (p : ProblemParts) (some : List (List SegId)) → AreParts p.segs p.terms (parts_in p) → ((q : List SegId) → Contains some q → Contains (parts_in p) q)
-    → AllByRecursion (IsShown how p) some → AllByRecursion (IsWorth p.segs p.terms) (map (solved how p) some)
-worth_each how p [] ok sub shown = tt
-worth_each how p (part ∷ some) ok sub shown = (
-  worth_of how p part
-      (λ k d below. (All-contains (All (λ s. (s.0 < length p.segs) × IsTrue (is_wide p.segs s.0))) (parts_in p) part ok.wide (sub part (0, omega arith, refl)) k d below).0)
-      shown.0,
-  worth_each how p some ok (λ q c. sub q (suc c.0, omega (arith, c.1), c.2)) shown.1,
-)
+  least_each : (others : List (List LineId)) (some : List SolvedPart) → AreOrders p.segs others
+      → AllByRecursion (IsShown plan p) some → target_sum some ≤ sum_by (part_cost p.terms others) (map segs_of some)
+  least_each others [] are all = omega arith
+  least_each others (s ∷ some) are all =
+      let rest = least_each others some are all.1 in
+      let here = all.0.bound others are in
+      let same : cost_of (plain_terms (part_terms p.terms s.segs)) others ≡ part_cost p.terms others s.segs =
+      ap (λ (ts : List Term). cost_of ts others) (plain_kept s.segs p.terms) in
+      omega (
+        arith,
+        rest,
+        here,
+        same,
+        sum_by-cons (λ (t : SolvedPart). t.target) s some,
+        sum_by-cons (part_cost p.terms others) s.segs (map segs_of some),
+      )
 
--- the targets of all parts
-abbrev pub target_sum : Search → ProblemParts → ℕ
-target_sum how p = sum_by (λ (s : SolvedPart). s.target) (map (solved how p) (parts_in p))
+  pub bound_is : IsLowerBound p.segs p.terms (target_sum done)
+  bound_is others are =
+      let all : sum_by (part_cost p.terms others) (map segs_of done) ≡ sum_by (part_cost p.terms others) (parts_in p) =
+      ap (sum_by (part_cost p.terms others)) segs in
+      omega (
+        arith,
+        least_each others done are shown,
+        all,
+        cost_shared p.segs p.terms (parts_in p) parts_ok fits.terms others,
+      )
 
-pub cost_is : (how : Search) (p : ProblemParts) → IsProblem p → AllByRecursion (IsShown how p) (parts_in p) → cost_of p.terms (orders_by p (map (solved how p) (parts_in p))) ≡ target_sum how p
-cost_is how p fits shown =
-    let ok : AreParts p.segs p.terms (parts_in p) = problem_parts_are p.segs p.terms fits.terms in
-    let done : List SolvedPart = map (solved how p) (parts_in p) in
-    let apart : AreApartParts (map segs_of done) = subst AreApartParts (sym (segs_are how p (parts_in p))) (parts_apart p.segs p.terms (parts_in p) ok) in
-    sym (cost_shared p.segs p.terms (parts_in p) ok fits.terms (orders_by p done))
-    ∙ ap (sum_by (part_cost p.terms (orders_by p done))) (sym (segs_are how p (parts_in p)))
-    ∙ targets_are p.segs p.terms done p.segs refl apart (worth_each how p (parts_in p) ok (λ q c. c) shown)
+  -- Where best orders are claimed, the orders that were found cost so much.
 
-least_each : (how : Search) (p : ProblemParts) (others : List (List LineId)) (parts : List (List SegId)) → AreOrders p.segs others → AllByRecursion (IsShown how p) parts
-    → sum_by (λ (s : SolvedPart). s.target) (map (solved how p) parts) ≤ sum_by (part_cost p.terms others) parts
-least_each how p others [] are shown = omega arith
-least_each how p others (part ∷ parts) are shown =
-    let rest = least_each how p others parts are shown.1 in
-    let here = shown.0.least others are in
-    let same : cost_of (plain_terms (part_terms p.terms part)) others ≡ part_cost p.terms others part = ap (λ (ts : List Term). cost_of ts others) (plain_kept part p.terms) in
-    omega (arith, rest, here, same, sum_by-cons (λ (s : SolvedPart). s.target) (solved how p part) (map (solved how p) parts), sum_by-cons (part_cost p.terms others) part parts)
+  worth_each : plan.claim ≡ Best → (some : List SolvedPart)
+      → ((q : List SegId) → Contains (map segs_of some) q → Contains (parts_in p) q)
+      → AllByRecursion (IsShown plan p) some → AllByRecursion (IsWorth p.segs p.terms) some
+  worth_each best [] sub all = tt
+  worth_each best (s ∷ some) sub all = (
+    record {
+      each = all.0.attained.each;
+      known = known_part s.segs (sub s.segs (0, omega arith, refl));
+      costs = sym (ap (λ (ts : List Term). cost_of ts (with_lists s.segs s.lists p.segs)) (plain_kept s.segs p.terms))
+          ∙ all.0.attained.costs
+          ∙ subst (λ (claim : Claim). CostClaimed claim s.target all.0.cost) best all.0.claimed;
+    },
+    worth_each best some (λ q c. sub q (suc c.0, omega (arith, c.1), c.2)) all.1,
+  )
 
-pub best_is : (how : Search) (p : ProblemParts) → IsProblem p → AllByRecursion (IsShown how p) (parts_in p) → AreBest p.segs p.terms (orders_by p (map (solved how p) (parts_in p)))
-best_is how p fits shown others are =
-    let ok : AreParts p.segs p.terms (parts_in p) = problem_parts_are p.segs p.terms fits.terms in
-    omega (arith, cost_is how p fits shown, least_each how p others (parts_in p) are shown, cost_shared p.segs p.terms (parts_in p) ok fits.terms others)
+  pub cost_is : plan.claim ≡ Best → cost_of p.terms (orders_by p done) ≡ target_sum done
+  cost_is best =
+      let apart : AreApartParts (map segs_of done) =
+      subst AreApartParts (sym segs) (parts_apart p.segs p.terms (parts_in p) parts_ok) in
+      sym (cost_shared p.segs p.terms (parts_in p) parts_ok fits.terms (orders_by p done))
+      ∙ ap (sum_by (part_cost p.terms (orders_by p done))) (sym segs)
+      ∙ targets_are p.segs p.terms done p.segs refl apart
+      (worth_each best done (λ q c. subst (λ (ps : List (List SegId)). Contains ps q) segs c) shown)

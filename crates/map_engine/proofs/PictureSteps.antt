@@ -14,6 +14,8 @@ use Rattle.cert_file.specs.declared.certificate.Certificate.{Certificate}
 use Rattle.cert_file.specs.Plain.{PlainCertificate}
 use Rattle.cert_file.specs.Readers.{IsTextOf}
 use Rattle.cert_file.specs.Reading.{certificate_end}
+use Rattle.map_method.specs.declared.claim.Claim.{Claim}
+use Rattle.map_engine.specs.declared.checked.Proved.{Proved}
 use Rattle.map_engine.specs.Faults.{text_stop}
 use Rattle.map_engine.specs.Promises.{IsCertified}
 use Rattle.map_engine.specs.Readings.{certificate_in}
@@ -22,22 +24,23 @@ use Rattle.map_engine.specs.Labelling.{labelled_by, pictured_items, if_accepted,
 use Rattle.map_engine.specs.Geographic.{geographic_by, IsGeographicMap}
 use Rattle.map_engine.proofs.ReadAgain.{text_read, wrong_read}
 
-module _ (draw : PlainCertificate → List ℕ) (feed : Feed) (choices : Choices) (graph : GraphParts) where
+module _ (draw : PlainCertificate → List ℕ) (feed : Feed) (choices : Choices) (claim : Claim) (graph : GraphParts) where
   -- a text that is no certificate's is refused where reading stops
   pub text_undrawn : (bytes : List ℕ) (stop : BadText) → EndsAs (λ (c : Certificate). length bytes) (Err stop) (certificate_end bytes)
-      → HasCause (pictured_items draw feed choices graph (certificate_in bytes)) (text_stop stop)
-  text_undrawn bytes (bad.At at) h = ap (pictured_items draw feed choices graph) (wrong_read bytes at h)
+      → HasCause (pictured_items draw feed choices claim graph (certificate_in bytes)) (text_stop stop)
+  text_undrawn bytes (bad.At at) h = ap (pictured_items draw feed choices claim graph) (wrong_read bytes at h)
   text_undrawn bytes bad.NoMemory h = tt
 
   -- what it accepts has one
   pub accepted_drawn : (c : PlainCertificate) (bytes : List ℕ) (checked : PlainChecked) → IsTextOf c bytes
-      → checked_text feed choices graph (certificate_in bytes) ≡ Ok checked → pictured_items draw feed choices graph (certificate_in bytes) ≡ Ok (draw c)
+      → checked_text feed choices claim graph (certificate_in bytes) ≡ Ok checked → pictured_items draw feed choices claim graph (certificate_in bytes) ≡ Ok (draw c)
   accepted_drawn c bytes checked written h =
       let read = text_read c bytes written in
-      ap (pictured_items draw feed choices graph) read ∙ ap (if_accepted (draw c)) (sym (ap (checked_text feed choices graph) read) ∙ h)
+      ap (pictured_items draw feed choices claim graph) read ∙ ap (if_accepted (draw c)) (sym (ap (checked_text feed choices claim graph) read) ∙ h)
 
-module _ (feed : Feed) (choices : Choices) (graph : GraphParts) (c : PlainCertificate) (bytes picture : List ℕ) (cost : ℕ) (of_feed : graph_outcome choices.near feed ≡ Ok graph)
-    (written : IsTextOf c bytes) (certified : IsCertified feed choices picture bytes cost) where
+module _ (feed : Feed) (choices : Choices) (claim : Claim) (graph : GraphParts) (c : PlainCertificate) (bytes picture : List ℕ)
+    (proved : Proved) (of_feed : graph_outcome choices.near feed ≡ Ok graph)
+    (written : IsTextOf c bytes) (certified : IsCertified feed choices claim picture bytes proved) where
   -- the line graph and the certificate of what is certified are the feed's and the one that is read
   pub same_graph : graph ≡ certified.graph
   same_graph = let both = sym of_feed ∙ certified.of_feed in cc
@@ -45,18 +48,18 @@ module _ (feed : Feed) (choices : Choices) (graph : GraphParts) (c : PlainCertif
   pub same_certificate : c ≡ certified.certificate
   same_certificate = let both = sym (text_read c bytes written) ∙ text_read certified.certificate bytes certified.written in cc
 
-  pub is_labelled : (map : List ℕ) → map ≡ labelled_by feed graph c → IsLabelledMap feed choices map bytes
+  pub is_labelled : (map : List ℕ) → map ≡ labelled_by feed graph c → IsLabelledMap feed choices claim map bytes
   is_labelled map is = record {
     picture = picture;
-    cost = cost;
+    proved = proved;
     certified = certified;
     labelled = is ∙ ap (λ (g : GraphParts). labelled_by feed g c) same_graph ∙ ap (labelled_by feed certified.graph) same_certificate;
   }
 
-  pub is_geographic : (map : List ℕ) (lines : List (List Point)) → lines_outcome choices.near feed ≡ Ok lines → map ≡ geographic_by feed graph lines c → IsGeographicMap feed choices map bytes
+  pub is_geographic : (map : List ℕ) (lines : List (List Point)) → lines_outcome choices.near feed ≡ Ok lines → map ≡ geographic_by feed graph lines c → IsGeographicMap feed choices claim map bytes
   is_geographic map lines lines_of_feed is = record {
     picture = picture;
-    cost = cost;
+    proved = proved;
     certified = certified;
     lines = lines;
     of_feed = lines_of_feed;

@@ -1,5 +1,5 @@
 -- The check says yes to a drawing with its solved parts.
-use Rattle.std.proofs.Common.{◌≡◌, ◌∙◌, ap, sym, subst, refl, ℕ, zero, suc, ◌+◌, ◌<◌, ◌==◌, ◌&&◌, Bool, true, cond, List, [], ◌∷◌, length, get_or, option_map, arith, eq-eqb, Option, Some, None, Result, Ok}
+use Rattle.std.proofs.Common.{◌≡◌, ◌∙◌, ap, sym, subst, refl, ℕ, zero, suc, ◌+◌, ◌<◌, ◌==◌, ◌&&◌, Bool, true, cond, List, [], ◌∷◌, length, map, get_or, option_map, arith, eq-eqb, Option, Some, None, Result, Ok}
 use Rattle.std.specs.List.{All, AllByRecursion, list_all}
 use Rattle.std.specs.List.Sorted.{IsPermutation}
 use Rattle.std.proofs.lemmas.Bool.{and_from}
@@ -14,32 +14,36 @@ use Rattle.transit_feed.specs.Feeds.{Feed}
 use Rattle.graph_core.specs.declared.parts.GraphParts.{GraphParts}
 use Rattle.line_graph.specs.Outcome.{graph_outcome}
 use Rattle.octi_grid.specs.Legal.{first_illegal, legal}
-use Rattle.map_method.specs.declared.search.Search.{Search}
+use Rattle.map_method.specs.declared.claim.Claim.{Claim}
+use Rattle.map_method.specs.declared.claim.Claim.TheVariants.{Best, Bound}
+use Rattle.kept_trees.specs.declared.plan.SearchPlan.{SearchPlan}
+use Rattle.order_check.specs.LowerBounds.{IsLowerBound}
 use Rattle.order_model.specs.declared.problem.ProblemParts.{ProblemParts}
 use Rattle.order_model.specs.Places.{has_line}
 use Rattle.order_model.specs.Problems.{IsProblem}
-use Rattle.order_model.specs.Costs.{cost_of, AreOrders, AreBest}
+use Rattle.order_model.specs.Costs.{cost_of, AreOrders}
 use Rattle.svg_writer.specs.Picture.{picture_text}
 use Rattle.cert_file.specs.Plain.{PlainCertificate}
 use Rattle.map_engine.specs.declared.fault.CheckItem.{CheckItem}
 use Rattle.map_engine.specs.declared.fault.CheckItem.TheVariants as item
 use Rattle.map_engine.specs.Tables.{names_by}
+use Rattle.map_engine.specs.declared.checked.Proved.{Proved}
 use Rattle.map_engine.specs.Problems.{Drawn, drawn_outcome, problem_of, problem_within, untangled_problem}
 use Rattle.map_engine.specs.Solving.{SolvedPart, solve_outcome, parts_in, orders_by}
 use Rattle.map_engine.specs.Lifted.{lifted_by}
 use Rattle.map_engine.specs.Certificates.{line_count, weighty_lines, certificate_of}
-use Rattle.map_engine.specs.Making.{map_of}
-use Rattle.map_engine.specs.Promises.{ShowsCertified, ShowsLineGraph}
-use Rattle.map_engine.specs.Checking.{PlainChecked, walk_refused, refused_unless, unless_refused, graph_item, importance_item, walk_item, order_item, cost_item, proof_item, are_same_pairs, is_order, first_disorder, first_difference, checked_on, checked_orders, pictured, check_outcome}
-use Rattle.map_engine.specs.Wholes.{done_in, orders_in, IsWhole}
+use Rattle.map_engine.specs.Making.{map_of, plan_of}
+use Rattle.map_engine.specs.Promises.{IsClaimed, ShowsCertified, ShowsLineGraph}
+use Rattle.map_engine.specs.Checking.{PlainChecked, walk_refused, refused_unless, unless_refused, graph_item, importance_item, walk_item, order_item, cost_item, proof_item, are_same_pairs, is_order, first_disorder, first_difference, checked_on, checked_orders, pictured, proved_by, check_outcome}
+use Rattle.map_engine.specs.Wholes.{IsWhole}
 use Rattle.map_engine.specs.declared.best_orders.BestOrders.{BestOrders}
 use Rattle.map_engine.specs.declared.drawn_map.DrawnMap.{DrawnMap}
-use Rattle.map_engine.specs.Stages.{drawn_of, IsShown, AreBestBy}
+use Rattle.map_engine.specs.Stages.{drawn_of, AreBestBy}
 use Rattle.map_engine.proofs.DrawingLemmas.{graph_there, problem_there}
 use Rattle.map_engine.proofs.ItemLemmas.{has_at}
-use Rattle.map_engine.proofs.PartOrders.{all_are, shown_each, cost_is, best_is}
-use Rattle.map_engine.proofs.UntangledLemmas.{untangled_fits, lifted_are, lifted_cost, lifted_best}
-use Rattle.map_engine.proofs.Accepting.{verdict_none}
+use Rattle.map_engine.proofs.PartOrders.{segs_of, segs_are, target_sum, bound_is, cost_is}
+use Rattle.map_engine.proofs.UntangledLemmas.{untangled_fits, lifted_are, lifted_cost, bound_kept}
+use Rattle.map_engine.proofs.Accepting.{bound_none, targets_are, verdict_none}
 
 same_pairs : (pairs : List (LineId × ℕ)) → are_same_pairs pairs pairs ≡ true
 same_pairs [] = refl
@@ -84,54 +88,92 @@ none_disordered k (lines ∷ segs) (order ∷ orders) are =
 held : (holds : Bool) (i : CheckItem) → holds ≡ true → refused_unless holds i ≡ None
 held holds i h = ap (λ (b : Bool). cond b None (Some i)) h
 
-pub segs_same : (how : Search) (feed : Feed) (choices : Choices) (drawn : Drawn) → IsWhole how feed choices drawn → drawn.problem.segs ≡ drawn.graph.lines
-segs_same how feed choices drawn whole = ap (λ (p : ProblemParts). p.segs) whole.defined
+pub segs_same : (plan : SearchPlan) (feed : Feed) (choices : Choices) (drawn : Drawn) (parts : List SolvedPart)
+    → IsWhole plan feed choices drawn parts → drawn.problem.segs ≡ drawn.graph.lines
+segs_same plan feed choices drawn parts whole = ap (λ (p : ProblemParts). p.segs) whole.defined
 
-module _ (how : Search) (feed : Feed) (choices : Choices) (drawn : Drawn) (whole : IsWhole how feed choices drawn) where
+-- where best orders are claimed and cost the bound, what is claimed holds
+claimed_is : (claim : Claim) (proved : Proved) → (claim ≡ Best → proved.cost ≡ proved.bound) → IsClaimed claim proved
+claimed_is Best proved h = sym (h refl)
+claimed_is Bound proved h = tt
+
+module _ (plan : SearchPlan) (feed : Feed) (choices : Choices) (drawn : Drawn) (parts : List SolvedPart)
+    (whole : IsWhole plan feed choices drawn parts) where
   abbrev p : ProblemParts
   p = drawn.problem
 
   abbrev u : ProblemParts
   u = untangled_problem p
 
-  -- the solved parts of the untangled problem, and the orders of the problem by them
-  abbrev done : List SolvedPart
-  done = done_in how u
-
+  -- the orders of the problem by the solved parts of the untangled problem
   abbrev orders : List (List LineId)
-  orders = lifted_by p done
+  orders = lifted_by p parts
+
+  abbrev c : PlainCertificate
+  c = certificate_of feed choices drawn parts
+
+  fits : IsProblem u
+  fits = untangled_fits p whole.fits
+
+  segs : map segs_of parts ≡ parts_in u
+  segs = segs_are plan u parts whole.solved
 
   pub ordered : AreOrders drawn.graph.lines orders
   ordered =
-      subst (λ (segs : List (List LineId)). AreOrders segs orders) (segs_same how feed choices drawn whole) (lifted_are p whole.fits (orders_in how u) whole.ordered)
+      subst (λ (lists : List (List LineId)). AreOrders lists orders) (segs_same plan feed choices drawn parts whole)
+      (lifted_are p whole.fits (orders_by u parts) whole.ordered)
+
+  -- the bound is what the targets sum to
+  bound : IsLowerBound p.segs p.terms (proved_by c).bound
+  bound =
+      subst (IsLowerBound p.segs p.terms) (sym (targets_are parts))
+      (bound_kept p whole.fits (target_sum parts) (bound_is plan u fits parts segs whole.shown))
+
+  best_cost : plan.claim ≡ Best → cost_of p.terms orders ≡ target_sum parts
+  best_cost best =
+      lifted_cost p whole.fits (orders_by u parts) whole.ordered ∙ cost_is plan u fits parts segs whole.shown best
 
   -- the map shows the line graph, with the walks and the orders of its certificate
-  pub shows_certified : ShowsCertified feed choices drawn.graph (certificate_of feed choices drawn done) (map_of feed choices drawn done).svg (certificate_of feed choices drawn done).cost
+  pub shows_certified : ShowsCertified feed choices plan.claim drawn.graph c (map_of feed choices drawn parts).svg (proved_by c)
   shows_certified = record {
     shown = record { each = whole.each; legal = whole.legal; ordered = ordered; picture = refl };
-    least = record {
+    bounded = record {
       costs = ap (λ (q : ProblemParts). cost_of q.terms orders) (sym whole.defined);
-      best = subst (λ (q : ProblemParts). AreBest q.segs q.terms orders) whole.defined
-          (lifted_best p whole.fits (orders_in how u) whole.ordered (best_is how u (untangled_fits p whole.fits) whole.shown));
+      bound = subst (λ (lists : List (List LineId)). IsLowerBound lists (problem_of feed choices drawn.graph).terms (proved_by c).bound)
+          (segs_same plan feed choices drawn parts whole)
+          (subst (λ (q : ProblemParts). IsLowerBound p.segs q.terms (proved_by c).bound) whole.defined bound);
     };
+    claimed = claimed_is plan.claim (proved_by c) (λ best. best_cost best ∙ sym (targets_are parts));
   }
 
-  pub shows_graph : ShowsLineGraph feed choices (map_of feed choices drawn done).svg (certificate_of feed choices drawn done).cost
+  pub shows_graph : ShowsLineGraph feed choices plan.claim (map_of feed choices drawn parts).svg (proved_by c)
   shows_graph = record {
     graph = drawn.graph;
     of_feed = whole.of_feed;
-    shows = record { walks = drawn.walks; orders = orders; shown = shows_certified.shown; least = shows_certified.least };
+    shows = record {
+      walks = drawn.walks;
+      orders = orders;
+      shown = shows_certified.shown;
+      bounded = shows_certified.bounded;
+      claimed = shows_certified.claimed;
+    };
   }
+
+  -- no item of its proof is refused
+  proof_holds : (claim : Claim) → plan.claim ≡ claim → proof_item claim p c.orders c.proof ≡ None
+  proof_holds Best is =
+      ap (option_map item.Proof) (verdict_none plan p orders parts whole.fits segs whole.shown (best_cost is))
+  proof_holds Bound is = ap (option_map item.Proof) (bound_none plan p parts whole.fits segs whole.shown)
 
   -- and the check says yes to it
   pub accepts_map : first_illegal drawn.graph drawn.walks ≡ None
-      → check_outcome feed choices (map_of feed choices drawn done).svg (Ok (certificate_of feed choices drawn done)) ≡ Ok (certificate_of feed choices drawn done).cost
+      → check_outcome feed choices plan.claim (map_of feed choices drawn parts).svg (Ok c) ≡ Ok (proved_by c)
   accepts_map none_illegal =
       let graph : GraphParts = drawn.graph in
-      let c : PlainCertificate = certificate_of feed choices drawn done in
+      let claim : Claim = plan.claim in
       let svg : List ℕ = picture_text (names_by feed) graph drawn.walks orders in
-      let due : PlainChecked = record { cost = c.cost; svg = svg } in
-      let by_terms = checked_orders feed graph c (problem_within feed choices graph) in
+      let due : PlainChecked = record { proved = proved_by c; svg = svg } in
+      let by_terms = checked_orders feed claim graph c (problem_within feed choices graph) in
       let by_orders = unless_refused (order_item graph c) by_terms in
       let by_walks = unless_refused (walk_item graph c) by_orders in
       let by_importance = unless_refused (importance_item feed choices graph c) by_walks in
@@ -142,33 +184,32 @@ module _ (how : Search) (feed : Feed) (choices : Choices) (drawn : Drawn) (whole
       let walks : walk_item graph c ≡ None = ap (option_map walk_refused) none_illegal in
       let in_order : order_item graph c ≡ None = ap (option_map item.Order) (none_disordered 0 graph.lines orders ordered) in
       let cost : cost_item p c.orders c.cost ≡ None = held _ item.Cost (eq-eqb c.cost c.cost refl) in
-      let proof : proof_item p c.orders c.proof ≡ None =
-      ap (option_map item.Proof)
-      (verdict_none how p orders whole.fits whole.shown (lifted_cost p whole.fits (orders_in how u) whole.ordered ∙ cost_is how u (untangled_fits p whole.fits) whole.shown)) in
-      ap (λ (r : Result GraphParts Limit). pictured svg (checked_on feed choices (Ok c) r)) whole.of_feed
+      let proof : proof_item claim p c.orders c.proof ≡ None = proof_holds claim refl in
+      ap (λ (r : Result GraphParts Limit). pictured svg (checked_on feed choices claim (Ok c) r)) whole.of_feed
       ∙ ap (λ (o : Option CheckItem). pictured svg (unless_refused o by_importance)) counts
       ∙ ap (λ (o : Option CheckItem). pictured svg (unless_refused o by_walks)) pairs
       ∙ ap (λ (o : Option CheckItem). pictured svg (unless_refused o by_orders)) walks
       ∙ ap (λ (o : Option CheckItem). pictured svg (unless_refused o by_terms)) in_order
-      ∙ ap (λ (r : Result ProblemParts Limit). pictured svg (checked_orders feed graph c r)) whole.counted
-      ∙ ap (λ (o : Option CheckItem). pictured svg (unless_refused o (unless_refused (proof_item p c.orders c.proof) (Ok due)))) cost
+      ∙ ap (λ (r : Result ProblemParts Limit). pictured svg (checked_orders feed claim graph c r)) whole.counted
+      ∙ ap (λ (o : Option CheckItem). pictured svg (unless_refused o (unless_refused (proof_item claim p c.orders c.proof) (Ok due)))) cost
       ∙ ap (λ (o : Option CheckItem). pictured svg (unless_refused o (Ok due))) proof
-      ∙ ap (λ (o : Option ℕ). unless_refused (option_map item.Picture o) (Ok c.cost)) (same_bytes svg)
+      ∙ ap (λ (o : Option ℕ). unless_refused (option_map item.Picture o) (Ok (proved_by c))) (same_bytes svg)
 
 -- what is drawn and solved is whole
 pub whole_is : (feed : Feed) (choices : Choices) (method : MethodChoices) (d : DrawnMap) (p : ProblemParts) (best : BestOrders) (parts : List SolvedPart)
-    → drawn_outcome feed choices method ≡ Ok (drawn_of (d, p)) → length d.drawing.walks ≡ length d.graph.ends → legal d.graph d.drawing.walks ≡ true → p ≡ problem_of feed choices d.graph → IsProblem p
-    → solve_outcome method.search choices.budget (untangled_problem p) ≡ Ok parts → AreBestBy method.search p parts best → IsWhole method.search feed choices (drawn_of (d, p))
-whole_is feed choices method d p best parts drawn each is_legal defined fits is_solved found =
-    let u : ProblemParts = untangled_problem p in
-    let all : parts ≡ done_in method.search u = all_are method.search choices.budget u parts is_solved in
-    record {
-      of_feed = graph_there feed choices method (graph_outcome choices.near feed) (drawn_of (d, p)) drawn;
-      each = each;
-      legal = is_legal;
-      counted = problem_there feed choices method (graph_outcome choices.near feed) (drawn_of (d, p)) drawn;
-      defined = defined;
-      fits = fits;
-      ordered = subst (λ (ps : List SolvedPart). AreOrders u.segs (orders_by u ps)) all found.ordered;
-      shown = shown_each method.search u (parts_in u) (subst (AllByRecursion (λ (q : SolvedPart). IsShown method.search u q.segs)) all found.shown);
-    }
+    → drawn_outcome feed choices method ≡ Ok (drawn_of (d, p)) → length d.drawing.walks ≡ length d.graph.ends
+    → legal d.graph d.drawing.walks ≡ true → p ≡ problem_of feed choices d.graph → IsProblem p
+    → solve_outcome (plan_of choices method) (untangled_problem p) ≡ Ok parts
+    → AreBestBy (plan_of choices method) p parts best
+    → IsWhole (plan_of choices method) feed choices (drawn_of (d, p)) parts
+whole_is feed choices method d p best parts drawn each is_legal defined fits is_solved found = record {
+  of_feed = graph_there feed choices method (graph_outcome choices.near feed) (drawn_of (d, p)) drawn;
+  each = each;
+  legal = is_legal;
+  counted = problem_there feed choices method (graph_outcome choices.near feed) (drawn_of (d, p)) drawn;
+  defined = defined;
+  fits = fits;
+  solved = is_solved;
+  ordered = found.ordered;
+  shown = found.shown;
+}

@@ -7,10 +7,9 @@ use Rattle.map_base.specs.declared.ids.LineId.{LineId}
 use Rattle.octi_grid.specs.Walks.{PlainWalk, IsWalk}
 use Rattle.order_values.specs.declared.rule.Rule.{Rule}
 use Rattle.order_values.specs.DualTrees.{PlainDual, fork, stop, fork_depth}
-use Rattle.order_proof.specs.declared.line_word.LineWord.{LineWord}
 use Rattle.order_proof.specs.Plain.{PlainTree, split, close, Cases, no_case, case_of, PlainPartTree, by_cases, by_pairs, PlainPart, PlainProof}
 use Rattle.order_proof.specs.Trees.{depth_of, depth_of_cases, depth_of_part, count_of, most_depth}
-use Rattle.order_proof.specs.Lines.{word_text, price_numbers, line_text, rules_line, rule_line, parts_line, part_line, split_line, take_line, prices_line, fork_line}
+use Rattle.order_proof.specs.Lines.{word_text, price_numbers, line_text, rules_line, rule_line, parts_line, part_line, split_line, take_line, close_line, fork_line, stop_line}
 use Rattle.order_proof.specs.Forms.{most_id, most_cases, most_price, most_stop_price, rules_in, rule_in, parts_in, part_in, take_in}
 use Rattle.order_proof.specs.FrontLine.{front as proof_front}
 use Rattle.order_proof.specs.Text.{tree_text, cases_text, dual_text, part_tree_text, rules_text, part_text, parts_text, proof_text}
@@ -36,12 +35,18 @@ use Rattle.map_engine.specs.Readings.{importance_at, certificate_at, unless_wron
 
 -- ---- the proof
 
--- a line of counted prices, by its word and numbers
-prices_line_read : (most : ℕ) (word : LineWord) (prices : List (ℕ × ℤ)) (rest : List ℕ) → most ≤ most_stop_price → ArePrices most 0 prices
-    → spoken_at (line_text (prices_line word prices) ++ rest) ≡ Some ((word_text word, pos (length prices) ∷ price_numbers prices), rest)
-prices_line_read most word prices rest low range =
-    front_again (λ w numbers. Some (word_text w, numbers)) (prices_line word prices) (word_text word, pos (length prices) ∷ price_numbers prices) rest refl
-    (prices_line_few most word prices low range)
+-- a leaf of either kind, by its word and numbers
+close_read : (prices : List (ℕ × ℤ)) (rest : List ℕ) → ArePrices most_price 0 prices
+    → spoken_at (line_text (close_line prices) ++ rest) ≡ Some ((codes "close", pos (length prices) ∷ price_numbers prices), rest)
+close_read prices rest range =
+    front_again (λ w numbers. Some (word_text w, numbers)) (close_line prices) (codes "close", pos (length prices) ∷ price_numbers prices) rest refl
+    (prices_line_few most_price (close_line prices).word prices (omega arith) range)
+
+stop_read : (prices : List (ℕ × ℤ)) (rest : List ℕ) → ArePrices most_stop_price 0 prices
+    → spoken_at (line_text (stop_line prices) ++ rest) ≡ Some ((codes "stop", pos (length prices) ∷ price_numbers prices), rest)
+stop_read prices rest range =
+    front_again (λ w numbers. Some (word_text w, numbers)) (stop_line prices) (codes "stop", pos (length prices) ∷ price_numbers prices) rest refl
+    (prices_line_few most_stop_price (stop_line prices).word prices (omega arith) range)
 
 split_read : (e : SegId) (count : ℕ) (rest : List ℕ) → e.0 ≤ most_id → count ≤ most_cases → spoken_at (line_text (split_line e count) ++ rest) ≡ Some ((codes "split", pos e.0 ∷ pos count ∷ []), rest)
 split_read e count rest known few =
@@ -57,11 +62,11 @@ mutual
 
   tree_read : (tree : PlainTree) (room : ℕ) (rest : List ℕ) → IsTreeInRange tree → depth_of tree ≤ room → tree_at room (tree_text tree ++ rest) ≡ Some (tree, rest)
   tree_read (close prices) zero rest range deep =
-      let line = prices_line_read most_price LineWord.Close prices rest (omega arith) range in
+      let line = close_read prices rest range in
       let said = prices_again most_price 0 prices range in
       rw (line, said)
   tree_read (close prices) (suc room) rest range deep =
-      let line = prices_line_read most_price LineWord.Close prices rest (omega arith) range in
+      let line = close_read prices rest range in
       let said = prices_again most_price 0 prices range in
       rw (line, said)
   tree_read (split e cases) zero rest range deep = absurd (omega arith)
@@ -101,11 +106,11 @@ fork_said e a b known first second =
 dual_read : (tree : PlainDual) (room : ℕ) (rest : List ℕ) → IsDualInRange tree → fork_depth tree ≤ room → dual_at room (dual_text tree ++ rest) ≡ Some (tree, rest)
 unfolding dual_at
 dual_read (stop prices) zero rest range deep =
-    let line = prices_line_read most_stop_price LineWord.Stop prices rest (omega arith) range in
+    let line = stop_read prices rest range in
     let said = prices_again most_stop_price 0 prices range in
     rw (line, said)
 dual_read (stop prices) (suc room) rest range deep =
-    let line = prices_line_read most_stop_price LineWord.Stop prices rest (omega arith) range in
+    let line = stop_read prices rest range in
     let said = prices_again most_stop_price 0 prices range in
     rw (line, said)
 dual_read (fork e a b first second) zero rest range deep = absurd (omega arith)

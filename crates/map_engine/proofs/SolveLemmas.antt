@@ -1,38 +1,41 @@
 -- Parts that are solved one after the other.
-use Rattle.std.proofs.Common.{◌≡◌, ◌∙◌, ap, sym, subst, refl, ℕ, ◌+◌, ◌-◌, ◌<◌, ◌≤◌, Bool, true, false, cond, ◌&&◌, List, [], ◌∷◌, ◌++◌, length, map, take, drop, get_or, sum_by, arith, Some, Result, Ok, Err, set}
+use Rattle.std.proofs.Common.{◌≡◌, ◌∙◌, ap, sym, subst, refl, ℕ, ◌+◌, ◌-◌, ◌<◌, ◌≤◌, nat_le, Bool, true, false, cond, List, [], ◌∷◌, ◌++◌, length, map, take, drop, get_or, sum_by, arith, Option, Some, None, Result, Ok, Err, set}
 use Rattle.std.specs.Prelude.{Vec}
 use Rattle.std.specs.List.{AllByRecursion}
 use Rattle.std.specs.Global.{Global}
-use Rattle.std.proofs.lemmas.Bool.{le-leb, lt-leb, and_from}
 use Rattle.std.proofs.lemmas.List.{at_drop_more, at_drop_all, map-append, get_or_default, get_or-take, length-take-le, take-take}
 use Rattle.std.proofs.lemmas.List.Sums.{sum_by_more}
 use Rattle.map_base.specs.declared.ids.SegId.{SegId}
 use Rattle.map_base.specs.declared.ids.LineId.{LineId}
-use Rattle.map_method.specs.declared.search.Search.{Search}
+use Rattle.map_base.specs.declared.limit.LimitKind.TheVariants.{Places}
+use Rattle.map_base.specs.Limits.{limit_of, is_within}
+use Rattle.map_method.specs.declared.claim.Claim.{Claim}
+use Rattle.map_method.specs.declared.claim.Claim.TheVariants.{Best, Bound}
 use Rattle.order_model.specs.declared.problem.ProblemParts.{ProblemParts}
 use Rattle.order_model.specs.Gathering.{part_lists}
+use Rattle.order_model.specs.PartTerms.{part_terms}
+use Rattle.order_model.specs.Questions.{Question, question}
 use Rattle.order_model.proofs.Placing.{length-part_lists}
 use Rattle.order_model.proofs.PartLists.{part_at}
-use Rattle.order_proof.specs.Plain.{PlainTree, PlainPart, plain_part}
-use Rattle.order_proof.specs.Trees.{IsProofTree}
-use Rattle.order_search.specs.declared.found.Found.{Found}
+use Rattle.order_proof.specs.Plain.{PlainPart, PlainPartTree, by_cases, by_pairs, plain_part, plain_part_tree}
+use Rattle.order_proof.specs.Trees.{IsPartTree}
+use Rattle.order_check.specs.Verdict.{failing}
 use Rattle.order_search.specs.declared.found.SearchFault.{SearchFault}
 use Rattle.order_search.specs.declared.found.SearchFault.TheVariants as search
-use Rattle.order_bound.specs.Accepting.{accepts}
-use Rattle.order_model.specs.Questions.{question}
-use Rattle.order_model.specs.PartTerms.{part_terms}
-use Rattle.order_model.specs.Prefixes.{none_placed}
-use Rattle.order_search.specs.Finding.{with_lists, places_of, places_limit, IsSearchFault, IsLeast, AreAttained}
+use Rattle.order_search.specs.Finding.{with_lists, places_of}
 use Rattle.order_search.specs.FoundParts.{part_in}
-use Rattle.kept_trees.specs.Results.{PartResult, branches_by, IsResult}
+use Rattle.order_search.specs.LiveTrees.{live_tree}
+use Rattle.kept_trees.specs.declared.plan.SearchPlan.{SearchPlan}
+use Rattle.kept_trees.specs.declared.found_part.FoundPart.{FoundPart}
+use Rattle.kept_trees.specs.Results.{PartResult, by_live, is_dual, dual_part, dual_outcome, live_outcome, part_outcome, result_found, CostTarget, IsAccepted, IsResult, IsFaultOf}
 use Rattle.map_engine.specs.declared.fault.MakeFault.{MakeFault}
 use Rattle.map_engine.specs.declared.fault.MakeFault.TheVariants as fault
 use Rattle.map_engine.specs.declared.solution.Solution.{Solution}
 use Rattle.map_engine.specs.Faults.{of_search}
-use Rattle.map_engine.specs.Solving.{SolvedPart, is_shallow, is_affordable, solved, with_solved, with_parts, is_solvable, why_unsolved, solve_from, solve_outcome, parts_in}
+use Rattle.map_engine.specs.Solving.{SolvedPart, solved, solved_first, with_solved, with_parts, solve_from, solve_outcome, parts_in}
 use Rattle.map_engine.specs.Certificates.{proof_part}
 use Rattle.map_engine.specs.Making.{HasCause}
-use Rattle.map_engine.specs.Stages.{prepended, plain_parts, IsShown, IsSolution, IsMore, IsUnsolved, AreSolved, HaveProofTrees}
+use Rattle.map_engine.specs.Stages.{prepended, plain_parts, CostClaimed, IsShown, IsSolution, IsMore, IsUnsolved, AreSolved, HaveProofTrees}
 
 prepended-more : (done : List SolvedPart) (s : SolvedPart) (outcome : Result (List SolvedPart) MakeFault) → prepended (done ++ s ∷ []) outcome ≡ prepended done (with_solved s outcome)
 prepended-more [] s outcome = refl
@@ -54,69 +57,88 @@ proofs-more : (done : List SolvedPart) (s : SolvedPart) → map proof_part (done
 proofs-more [] s = refl
 proofs-more (d ∷ done) s = ap (λ (rest : List PlainPart). proof_part d ∷ rest) (proofs-more done s)
 
-shown-more : (how : Search) (p : ProblemParts) (done : List SolvedPart) (s : SolvedPart) → AllByRecursion (λ (t : SolvedPart). IsShown how p t.segs) done → IsShown how p s.segs
-    → AllByRecursion (λ (t : SolvedPart). IsShown how p t.segs) (done ++ s ∷ [])
-shown-more how p [] s all here = (here, tt)
-shown-more how p (d ∷ done) s all here = (all.0, shown-more how p done s all.1 here)
+shown-more : (plan : SearchPlan) (p : ProblemParts) (done : List SolvedPart) (s : SolvedPart) → AllByRecursion (IsShown plan p) done → IsShown plan p s
+    → AllByRecursion (IsShown plan p) (done ++ s ∷ [])
+shown-more plan p [] s all here = (here, tt)
+shown-more plan p (d ∷ done) s all here = (all.0, shown-more plan p done s all.1 here)
 
 -- what comes of the parts from k on
-parts_at : (how : Search) (budget : ℕ) (p : ProblemParts) (k : ℕ) (part : List SegId) → k < length (parts_in p) → part ≡ get_or (parts_in p) k part
-    → solve_from how budget p k (drop k (parts_in p)) ≡ solve_from how budget p k (part ∷ drop (k + 1) (parts_in p))
-parts_at how budget p k part below is =
-    at_drop_more (solve_from how budget p k) (parts_in p) k part below
-    ∙ ap (λ (q : List SegId). solve_from how budget p k (q ∷ drop (k + 1) (parts_in p))) (sym is)
+parts_at : (plan : SearchPlan) (p : ProblemParts) (k : ℕ) (part : List SegId) → k < length (parts_in p) → part ≡ get_or (parts_in p) k part
+    → solve_from plan p k (drop k (parts_in p)) ≡ solve_from plan p k (part ∷ drop (k + 1) (parts_in p))
+parts_at plan p k part below is =
+    at_drop_more (solve_from plan p k) (parts_in p) k part below
+    ∙ ap (λ (q : List SegId). solve_from plan p k (q ∷ drop (k + 1) (parts_in p))) (sym is)
 
-pub none_solved : (how : Search) (budget : ℕ) (p : ProblemParts) (s : Solution) → s.orders.items ≡ p.segs → s.parts.items ≡ [] → AreSolved how budget p 0 s
-none_solved how budget p s orders parts =
+pub none_solved : (plan : SearchPlan) (p : ProblemParts) (s : Solution) → s.orders.items ≡ p.segs → s.parts.items ≡ [] → AreSolved plan p 0 s
+none_solved plan p s orders parts =
     record { done = []; ahead = refl; solution = record { orders = orders; proofs = ap (map plain_part) parts; trees = tt; shown = tt } }
 
-trees-more : (done : List SolvedPart) (s : SolvedPart) → HaveProofTrees done → IsProofTree s.tree → HaveProofTrees (done ++ s ∷ [])
+trees-more : (done : List SolvedPart) (s : SolvedPart) → HaveProofTrees done → IsPartTree s.tree → HaveProofTrees (done ++ s ∷ [])
 trees-more [] s all tree = (tree, tt)
 trees-more (d ∷ done) s all tree = (all.0, trees-more done s all.1 tree)
 
 -- one part more
-pub one_solved : (how : Search) (budget : ℕ) (p : ProblemParts) (k : ℕ) (part : List SegId) (before after : Solution) → k < length (parts_in p) → part ≡ get_or (parts_in p) k part
-    → IsMore how budget p part before after → AreSolved how budget p k before → AreSolved how budget p (k + 1) after
-one_solved how budget p k part before after below is more so_far = record {
-  done = so_far.done ++ solved how p part ∷ [];
+pub one_solved : (plan : SearchPlan) (p : ProblemParts) (k : ℕ) (part : List SegId) (before after : Solution)
+    → k < length (parts_in p) → part ≡ get_or (parts_in p) k part
+    → IsMore plan p part before after → AreSolved plan p k before → AreSolved plan p (k + 1) after
+one_solved plan p k part before after below is more so_far = record {
+  done = so_far.done ++ s ∷ [];
   ahead = so_far.ahead
-      ∙ ap (prepended so_far.done) (parts_at how budget p k part below is ∙ ap (λ (b : Bool). cond b (with_solved (solved how p part) rest) (Err (why_unsolved budget p k part))) more.solvable)
-      ∙ sym (prepended-more so_far.done (solved how p part) rest);
+      ∙ ap (prepended so_far.done) (parts_at plan p k part below is
+      ∙ ap (λ (o : Result PartResult SearchFault). solved_first k part o rest) more.outcome)
+      ∙ sym (prepended-more so_far.done s rest);
   solution = record {
-    orders = more.orders ∙ ap (with_lists part (solved how p part).lists) so_far.solution.orders ∙ sym (with_parts-more so_far.done (solved how p part) p.segs);
-    proofs = more.proofs ∙ ap (λ (ps : List PlainPart). ps ++ proof_part (solved how p part) ∷ []) so_far.solution.proofs ∙ sym (proofs-more so_far.done (solved how p part));
-    trees = trees-more so_far.done (solved how p part) so_far.solution.trees more.tree;
-    shown = shown-more how p so_far.done (solved how p part) so_far.solution.shown more.shown;
+    orders = more.orders ∙ ap (with_lists part s.lists) so_far.solution.orders
+        ∙ sym (with_parts-more so_far.done s p.segs);
+    proofs = more.proofs ∙ ap (λ (ps : List PlainPart). ps ++ proof_part s ∷ []) so_far.solution.proofs
+        ∙ sym (proofs-more so_far.done s);
+    trees = trees-more so_far.done s so_far.solution.trees more.tree;
+    shown = shown-more plan p so_far.done s so_far.solution.shown more.shown;
   };
 }
   where
+    s : SolvedPart
+    s = solved part more.found
+
     rest : Result (List SolvedPart) MakeFault
-    rest = solve_from how budget p (k + 1) (drop (k + 1) (parts_in p))
+    rest = solve_from plan p (k + 1) (drop (k + 1) (parts_in p))
+
+-- a part that is refused is refused whatever comes of those after it
+refused_first : (k : ℕ) (part : List SegId) (o : Result PartResult SearchFault)
+    (rest : Result (List SolvedPart) MakeFault) (f : MakeFault)
+    → solved_first k part o (Ok []) ≡ Err f → solved_first k part o rest ≡ Err f
+refused_first k part (Ok r) rest f h = absurd cc
+refused_first k part (Err why) rest f h = h
 
 -- a part that is not solved ends all
-pub unsolved_ends : (how : Search) (budget : ℕ) (p : ProblemParts) (k : ℕ) (part : List SegId) (before : Solution) (e : MakeFault) → k < length (parts_in p) → part ≡ get_or (parts_in p) k part
-    → IsUnsolved how budget p k part e → AreSolved how budget p k before → HasCause (solve_outcome how budget p) e
-unsolved_ends how budget p k part before e below is why so_far = by_fault e why
+pub unsolved_ends : (plan : SearchPlan) (p : ProblemParts) (k : ℕ) (part : List SegId) (before : Solution)
+    (e : MakeFault) → k < length (parts_in p) → part ≡ get_or (parts_in p) k part
+    → IsUnsolved plan p k part e → AreSolved plan p k before → HasCause (solve_outcome plan p) e
+unsolved_ends plan p k part before e below is why so_far = by_fault e why
   where
-    ends : (f : MakeFault) → is_solvable how budget p part ≡ false → f ≡ why_unsolved budget p k part → solve_outcome how budget p ≡ Err f
-    ends f not_solvable because =
-        so_far.ahead
-        ∙ ap (prepended so_far.done) (parts_at how budget p k part below is
-        ∙ ap (λ (b : Bool). cond b (with_solved (solved how p part) (solve_from how budget p (k + 1) (drop (k + 1) (parts_in p)))) (Err (why_unsolved budget p k part))) not_solvable)
-        ∙ prepended-err so_far.done (why_unsolved budget p k part) ∙ ap Err (sym because)
+    rest : Result (List SolvedPart) MakeFault
+    rest = solve_from plan p (k + 1) (drop (k + 1) (parts_in p))
 
-    by_fault : (f : MakeFault) → IsUnsolved how budget p k part f → HasCause (solve_outcome how budget p) f
+    ends : (f : MakeFault) → solved_first k part (part_outcome plan p part) (Ok []) ≡ Err f
+        → solve_outcome plan p ≡ Err f
+    ends f w =
+        so_far.ahead
+        ∙ ap (prepended so_far.done) (parts_at plan p k part below is
+        ∙ refused_first k part (part_outcome plan p part) rest f w)
+        ∙ prepended-err so_far.done f
+
+    by_fault : (f : MakeFault) → IsUnsolved plan p k part f → HasCause (solve_outcome plan p) f
     by_fault fault.NoMemory w = tt
-    by_fault (fault.NoRoute seg) w = ends (fault.NoRoute seg) w.0 w.1
-    by_fault (fault.Spent component branches) w = ends (fault.Spent component branches) w.0 w.1
-    by_fault (fault.Limit limit) w = ends (fault.Limit limit) w.0 w.1
+    by_fault (fault.NoRoute seg) w = ends (fault.NoRoute seg) w
+    by_fault (fault.Spent component branches) w = ends (fault.Spent component branches) w
+    by_fault (fault.Limit limit) w = ends (fault.Limit limit) w
 
 -- all parts
-pub all_solved : (how : Search) (budget : ℕ) (p : ProblemParts) (k : ℕ) (s : Solution) → length (parts_in p) ≤ k → AreSolved how budget p k s
-    → (parts : List SolvedPart) × (solve_outcome how budget p ≡ Ok parts) × IsSolution how p parts s
-all_solved how budget p k s over so_far = (
+pub all_solved : (plan : SearchPlan) (p : ProblemParts) (k : ℕ) (s : Solution) → length (parts_in p) ≤ k → AreSolved plan p k s
+    → (parts : List SolvedPart) × (solve_outcome plan p ≡ Ok parts) × IsSolution plan p parts s
+all_solved plan p k s over so_far = (
   so_far.done,
-  so_far.ahead ∙ ap (prepended so_far.done) (at_drop_all (solve_from how budget p k) (parts_in p) k over) ∙ prepended-ok so_far.done,
+  so_far.ahead ∙ ap (prepended so_far.done) (at_drop_all (solve_from plan p k) (parts_in p) k over) ∙ prepended-ok so_far.done,
   so_far.solution,
 )
 
@@ -135,45 +157,94 @@ pub steps_more : (f : List SegId → ℕ) (p : ProblemParts) (k : ℕ) (part : L
     → sum_by f (take (k + 1) (parts_in p)) ≡ sum_by f (take k (parts_in p)) + f part
 steps_more f p k part below is = sum_by_more f (parts_in p) k part below ∙ ap (λ (q : List SegId). sum_by f (take k (parts_in p)) + f q) (sym is)
 
-abbrev part_of : List SegId → ℕ → PlainTree → PlainPart
+-- What is found of a part.
+
+-- the tree is accepted as a proof's is
+accepted_is : (q : Question) (tree : PlainPartTree) → IsAccepted q tree → failing q tree ≡ None
+accepted_is q (by_cases tree) h = h
+accepted_is q (by_pairs tree) h = h
+
+-- what a live search finds is complete
+live_complete : (budget : ℕ) (p : ProblemParts) (part : List SegId) (r : PartResult)
+    → live_outcome budget p part ≡ Ok r → r.complete ≡ true
+live_complete budget p part r h =
+    by_test (is_within Places (places_of p.segs part)) (nat_le grown.branches budget) h
+  where
+    grown : PartResult
+    grown = by_live (live_tree (part_in p part))
+
+    by_test : (shallow few : Bool)
+        → cond shallow (cond few (Ok grown) (Err (search.Spent (budget + 1)))) (Err (search.TooDeep (limit_of Places))) ≡ Ok r
+        → r.complete ≡ true
+    by_test true true e = let same : grown ≡ r = cc in ap (λ (x : PartResult). x.complete) (sym same)
+    by_test true false e = absurd cc
+    by_test false few e = absurd cc
+
+-- and so is what dual prices find, where best orders are claimed
+dual_complete : (budget : ℕ) (own r : PartResult) → dual_outcome Best budget own ≡ Ok r → r.complete ≡ true
+dual_complete budget own r h = by_test own.complete refl h
+  where
+    by_test : (b : Bool) → own.complete ≡ b → cond b (Ok own) (Err (search.Spent (budget + 1))) ≡ Ok r
+        → r.complete ≡ true
+    by_test true is e = let same : own ≡ r = cc in ap (λ (x : PartResult). x.complete) (sym same) ∙ is
+    by_test false is e = absurd cc
+
+best_complete : (plan : SearchPlan) (p : ProblemParts) (part : List SegId) (r : PartResult)
+    → part_outcome plan p part ≡ Ok r → plan.claim ≡ Best → r.complete ≡ true
+best_complete plan p part r h claims = by_test (is_dual plan.search p part) h
+  where
+    own : PartResult
+    own = dual_part plan.budget p part
+
+    by_test : (b : Bool)
+        → cond b (dual_outcome plan.claim plan.budget own) (live_outcome plan.budget p part) ≡ Ok r
+        → r.complete ≡ true
+    by_test true e =
+        dual_complete plan.budget own r
+        (subst (λ (claim : Claim). dual_outcome claim plan.budget own ≡ Ok r) claims e)
+    by_test false e = live_complete plan.budget p part r e
+
+-- so orders cost the target where best orders are claimed
+claimed_of : (claim : Claim) (complete : Bool) (target cost : ℕ) → (claim ≡ Best → complete ≡ true)
+    → CostTarget complete target cost → CostClaimed claim target cost
+claimed_of Best complete target cost ends costs = subst (λ (b : Bool). CostTarget b target cost) (ends refl) costs
+claimed_of Bound complete target cost ends costs = tt
+
+abbrev part_of : List SegId → ℕ → PlainPartTree → PlainPart
 part_of part target tree = record { segs = part; target = target; tree = tree }
 
 -- a part that was found is solved
-pub found_more : (how : Search) (budget : ℕ) (p : ProblemParts) (part : List SegId) (f : Found) (before after : Solution) → IsResult how p part f → f.branches ≤ budget
+pub found_more : (plan : SearchPlan) (p : ProblemParts) (part : List SegId) (f : FoundPart) (before after : Solution)
+    → IsResult plan p part f
     → after.orders.items ≡ with_lists part f.orders.lists before.orders.items
     → after.parts.items ≡ before.parts.items ++ record { segs = part; target = f.target; tree = f.tree } ∷ []
-    → IsMore how budget p part before after
-found_more how budget p part f before after found within orders parts = record {
-  solvable = and_from (is_shallow p part) (is_affordable how budget p part)
-      (le-leb (places_of p.segs part) 2048 found.places)
-      (le-leb (branches_by how p part) budget (omega (arith, ap (λ (x : PartResult). x.branches) found.found, within)));
-  tree = subst (λ (x : PartResult). IsProofTree x.tree) found.found found.of_proofs;
+    → IsMore plan p part before after
+found_more plan p part f before after found orders parts = record {
+  found = result_found f;
+  outcome = found.found;
+  tree = found.of_proofs;
   shown = record {
-    least = subst (λ (x : PartResult). IsLeast (part_in p part) x.target) found.found found.least;
-    attained = subst (λ (x : PartResult). AreAttained (part_in p part) x.lists x.target) found.found found.attained;
-    accepted = subst (λ (x : PartResult). accepts (question p.segs part (part_terms p.terms part) x.target) (none_placed p.segs) x.tree ≡ true) found.found found.accepted;
+    bound = found.bound;
+    cost = found.cost;
+    attained = found.attained;
+    claimed = claimed_of plan.claim f.complete f.target found.cost
+        (best_complete plan p part (result_found f) found.found) found.costs;
+    accepted = accepted_is (question p.segs part (part_terms p.terms part) f.target) (plain_part_tree f.tree)
+        found.accepted;
   };
-  orders = orders ∙ ap (λ (x : PartResult). with_lists part x.lists before.orders.items) found.found;
+  orders = orders;
   proofs = ap (map plain_part) parts
-      ∙ map-append plain_part before.parts.items (record { segs = part; target = f.target; tree = f.tree } ∷ [])
-      ∙ ap (λ (x : PartResult). plain_parts before ++ part_of part x.target x.tree ∷ []) found.found;
+      ∙ map-append plain_part before.parts.items (record { segs = part; target = f.target; tree = f.tree } ∷ []);
 }
 
--- a part that is over a limit is not solved
-pub not_found : (how : Search) (budget : ℕ) (p : ProblemParts) (k : ℕ) (part : List SegId) (stop : SearchFault) → IsSearchFault (places_of p.segs part) (branches_by how p part) budget stop
-    → IsUnsolved how budget p k part (of_search k stop)
-not_found how budget p k part search.NoMemory h = tt
-not_found how budget p k part (search.TooDeep limit) h =
-    let deep : is_shallow p part ≡ false = lt-leb (places_of p.segs part) 2048 h.0 in (
-      ap (λ (b : Bool). b && is_affordable how budget p part) deep,
-      ap fault.Limit h.1 ∙ sym (ap (λ (b : Bool). cond b (fault.Spent k (budget + 1)) (fault.Limit places_limit)) deep),
-    )
-not_found how budget p k part (search.Spent n) h =
-    let shallow : is_shallow p part ≡ true = le-leb (places_of p.segs part) 2048 h.0 in
-    let over : is_affordable how budget p part ≡ false = lt-leb (branches_by how p part) budget h.1 in (
-      ap (λ (b : Bool). b && is_affordable how budget p part) shallow ∙ over,
-      ap (fault.Spent k) h.2 ∙ sym (ap (λ (b : Bool). cond b (fault.Spent k (budget + 1)) (fault.Limit places_limit)) shallow),
-    )
+-- a part of which nothing is found is not solved
+pub not_found : (plan : SearchPlan) (p : ProblemParts) (k : ℕ) (part : List SegId) (stop : SearchFault)
+    → IsFaultOf (part_outcome plan p part) stop → IsUnsolved plan p k part (of_search k stop)
+not_found plan p k part search.NoMemory h = tt
+not_found plan p k part (search.TooDeep limit) h =
+    ap (λ (o : Result PartResult SearchFault). solved_first k part o (Ok [])) h
+not_found plan p k part (search.Spent n) h =
+    ap (λ (o : Result PartResult SearchFault). solved_first k part o (Ok [])) h
 
 -- the orders of one segment more
 pub put_more : (part : List SegId) (lists orders before after : List (List LineId)) (i j : ℕ) (d : SegId) (order : List LineId) → i ≡ j + 1 → j < length part → j < length lists

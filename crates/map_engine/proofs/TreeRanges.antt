@@ -1,5 +1,5 @@
 -- A tree that is accepted, and that a proof may have, is in range.
-use Rattle.std.proofs.Common.{◌≡◌, ◌≢◌, sym, subst, refl, ℕ, zero, suc, ◌≤◌, ◌==◌, ◌&&◌, ◌||◌, not, nat_lt, nat_le, Bool, true, false, true≢false, cond, ℤ, pos, negsuc, List, [], ◌∷◌, length, arith, eqb-true, leb-true, ◌⊎◌, inl, inr, Some, None, All}
+use Rattle.std.proofs.Common.{◌≡◌, ◌≢◌, sym, subst, refl, ℕ, zero, suc, ◌*◌, ◌≤◌, ◌==◌, ◌&&◌, ◌||◌, not, nat_lt, nat_le, Bool, true, false, true≢false, cond, ℤ, pos, negsuc, List, [], ◌∷◌, length, arith, eqb-true, leb-true, ◌⊎◌, inl, inr, Some, None, All}
 use Rattle.std.specs.Prelude.{unsigned_abs}
 use Rattle.std.specs.List.{AllByRecursion, Contains, list_all, list_any}
 use Rattle.std.proofs.lemmas.Bool.{and_parts, or_cases}
@@ -13,18 +13,27 @@ use Rattle.order_model.specs.Costs.{weight_of}
 use Rattle.order_model.specs.Places.{has_line}
 use Rattle.order_model.specs.Looks.{is_decided}
 use Rattle.order_model.specs.PartTerms.{is_in}
-use Rattle.order_model.specs.Prefixes.{is_left, is_placed, is_unplaced, AreApart}
+use Rattle.order_model.specs.Prefixes.{none_placed, is_left, is_placed, is_unplaced, AreApart}
 use Rattle.order_model.specs.Completions.{placed_more}
 use Rattle.order_model.proofs.Lines.{same_line}
 use Rattle.order_model.proofs.PrefixLemmas.{few_apart}
 use Rattle.order_model.proofs.RisingLines.{contains_first, contains_later}
 use Rattle.order_values.specs.PriceLists.{AreRisingPrices}
-use Rattle.order_proof.specs.Plain.{PlainTree, split, close, Cases, no_case, case_of}
-use Rattle.order_proof.specs.Trees.{count_of, is_among, lines_of, AreDistinct, AreNotZero, AreTrees, IsTree}
-use Rattle.order_proof.specs.Forms.{most_id, most_cases, most_price}
-use Rattle.order_proof.specs.Ranges.{AreCasesInRange, ArePrices, IsPrice, IsTreeInRange}
+use Rattle.order_values.specs.DualTrees.{PlainDual, fork, stop}
+use Rattle.order_proof.specs.Plain.{PlainTree, split, close, Cases, no_case, case_of, PlainPartTree, by_cases, by_pairs}
+use Rattle.order_proof.specs.Trees.{count_of, is_among, lines_of, AreDistinct, AreNotZero, AreTrees, IsTree, IsDualTree, IsPartTree, depth_of_part, most_depth}
+use Rattle.order_proof.specs.Forms.{most_id, most_cases, most_price, most_stop_price}
+use Rattle.order_proof.specs.Ranges.{AreCasesInRange, ArePrices, IsPrice, IsTreeInRange, IsDualInRange, IsPartTreeInRange}
 use Rattle.order_bound.specs.Accepting.{accepts, accepts_cases, are_those_left, is_closed, is_split, reaches}
 use Rattle.order_model.specs.Questions.{Question}
+use Rattle.order_bound.proofs.Failing.{accepted_exactly}
+use Rattle.dual_bound.specs.declared.settled.SettledPair.{SettledPair}
+use Rattle.dual_bound.specs.Settled.{with_pair}
+use Rattle.dual_bound.specs.Shares.{thousand}
+use Rattle.dual_bound.specs.Values as pairs
+use Rattle.dual_bound.specs.Accepting as dual
+use Rattle.dual_bound.proofs.Sound.{nothing_fails}
+use Rattle.order_check.specs.Verdict.{failing}
 use Rattle.order_bound.specs.Values.{allows, are_allowed, value_of}
 
 -- a line that is there is one of the list
@@ -49,8 +58,8 @@ pub record IsAsked (q : Question) : Type 0 where
 
 -- Prices that are allowed are in range.
 
-abbrev IsSmall : ℕ × ℤ → Type 0
-IsSmall q = (q.0 ≤ most_id) × (unsigned_abs q.1 ≤ most_price)
+abbrev IsSmall : ℕ → ℕ × ℤ → Type 0
+IsSmall most q = (q.0 ≤ most_id) × (unsigned_abs q.1 ≤ most)
 
 allowed_here : (placed : List (List LineId)) (q : ℕ × ℤ) (k : ℕ) (t : Term) → allows placed q k t ≡ true → (k ≡ q.0) × (unsigned_abs q.1 ≤ weight_of t)
 allowed_here placed q k (Side seg first second w) h = absurd (true≢false (sym h))
@@ -60,26 +69,26 @@ allowed_here placed q k (Link seg other flip a b w) h =
     (eqb-true k q.0 one.0, leb-true (unsigned_abs q.1) w parts.1)
 allowed_here placed q k (Apart seg other a b w) h = absurd (true≢false (sym h))
 
-price_small : (placed : List (List LineId)) (q : ℕ × ℤ) (terms : List (ℕ × Term)) → AllByRecursion IsTermInRange terms → list_any (λ (t : ℕ × Term). allows placed q t.0 t.1) terms ≡ true → IsSmall q
+price_small : (placed : List (List LineId)) (q : ℕ × ℤ) (terms : List (ℕ × Term)) → AllByRecursion IsTermInRange terms → list_any (λ (t : ℕ × Term). allows placed q t.0 t.1) terms ≡ true → IsSmall most_price q
 price_small placed q [] range h = absurd (true≢false (sym h))
 price_small placed q (t ∷ terms) range h = by_case (or_cases (allows placed q t.0 t.1) (list_any (λ (u : ℕ × Term). allows placed q u.0 u.1) terms) h) (price_small placed q terms range.1)
   where
     by_case : (allows placed q t.0 t.1 ≡ true) ⊎ (list_any (λ (u : ℕ × Term). allows placed q u.0 u.1) terms ≡ true)
-        → (list_any (λ (u : ℕ × Term). allows placed q u.0 u.1) terms ≡ true → IsSmall q) → IsSmall q
+        → (list_any (λ (u : ℕ × Term). allows placed q u.0 u.1) terms ≡ true → IsSmall most_price q) → IsSmall most_price q
     by_case (inl e) later = let at = allowed_here placed q t.0 t.1 e in (omega (arith, at.0, range.0.0), omega (arith, at.1, range.0.1))
     by_case (inr e) later = later e
 
 prices_small : (placed : List (List LineId)) (terms : List (ℕ × Term)) → AllByRecursion IsTermInRange terms → (prices : List (ℕ × ℤ)) → are_allowed placed terms prices ≡ true
-    → AllByRecursion IsSmall prices
+    → AllByRecursion (IsSmall most_price) prices
 prices_small placed terms range [] h = tt
 prices_small placed terms range (q ∷ prices) h =
     let parts = and_parts (list_any (λ (t : ℕ × Term). allows placed q t.0 t.1) terms) (are_allowed placed terms prices) h in
     (price_small placed q terms range parts.0, prices_small placed terms range prices parts.1)
 
-price_range : (y : ℤ) → y ≢ pos 0 → unsigned_abs y ≤ most_price → IsPrice y
-price_range (pos zero) some small = absurd (some refl)
-price_range (pos (suc n)) some small = (omega arith, small)
-price_range (negsuc n) some small = omega (arith, small)
+price_range : (most : ℕ) (y : ℤ) → y ≢ pos 0 → unsigned_abs y ≤ most → IsPrice most y
+price_range most (pos zero) some small = absurd (some refl)
+price_range most (pos (suc n)) some small = (omega arith, small)
+price_range most (negsuc n) some small = omega (arith, small)
 
 -- the first number is at least so much
 abbrev StartsAt : ℕ → List (ℕ × ℤ) → Type 0
@@ -90,11 +99,16 @@ starts_after : (p : ℕ × ℤ) (rest : List (ℕ × ℤ)) → AreRisingPrices (
 starts_after p [] rise = (tt, tt)
 starts_after p (q ∷ rest) rise = (omega (arith, rise.0), rise.1)
 
-prices_range : (least : ℕ) (prices : List (ℕ × ℤ)) → StartsAt least prices → AreRisingPrices prices → AreNotZero prices → AllByRecursion IsSmall prices → ArePrices least prices
-prices_range least [] starts rise some small = tt
-prices_range least (p ∷ rest) starts rise some small =
-    let after = starts_after p rest rise in
-    (starts, small.0.0, price_range p.1 some.0 small.0.1, prices_range (suc p.0) rest after.0 after.1 some.1 small.1)
+prices_range : (most least : ℕ) (prices : List (ℕ × ℤ)) → StartsAt least prices → AreRisingPrices prices → AreNotZero prices
+    → AllByRecursion (IsSmall most) prices → ArePrices most least prices
+prices_range most least [] starts rise some small = tt
+prices_range most least (p ∷ rest) starts rise some small =
+    let after = starts_after p rest rise in (
+      starts,
+      small.0.0,
+      price_range most p.1 some.0 small.0.1,
+      prices_range most (suc p.0) rest after.0 after.1 some.1 small.1,
+    )
 
 starts_at_0 : (prices : List (ℕ × ℤ)) → StartsAt 0 prices
 starts_at_0 [] = tt
@@ -153,7 +167,7 @@ mutual
       let at = split_range q asked placed s cases is.1 parts.0 in
       (at.seg, omega (arith, is.0), at.few, is.1, cases_range q asked placed s cases is.2 at.own parts.1)
   tree_range q asked placed (close prices) is h =
-      prices_range 0 prices (starts_at_0 prices) is.0 is.1 (prices_small placed q.terms asked.terms prices (allowed_where_closed q placed prices h))
+      prices_range most_price 0 prices (starts_at_0 prices) is.0 is.1 (prices_small placed q.terms asked.terms prices (allowed_where_closed q placed prices h))
 
   cases_range : (q : Question) → IsAsked q → (placed : List (List LineId)) (s : SegId) (cases : Cases) → AreTrees cases → AllByRecursion (λ (a : LineId). has_line (lines_on q.segs s) a ≡ true) (lines_of cases)
       → accepts_cases q placed s cases ≡ true → AreCasesInRange cases
@@ -161,3 +175,68 @@ mutual
   cases_range q asked placed s (case_of a tree rest) are own h =
       let parts = and_parts (accepts q (placed_more q.segs placed s a) tree) (accepts_cases q placed s rest) h in
       (asked.lines s a own.0, tree_range q asked (placed_more q.segs placed s a) tree are.0 parts.0, cases_range q asked placed s rest are.1 own.1 parts.1)
+
+-- The same of a tree of settled pairs.
+
+pair_allowed : (q : ℕ × ℤ) (t : ℕ × Term) → pairs.allows q t ≡ true
+    → (t.0 ≡ q.0) × (unsigned_abs q.1 ≤ thousand * weight_of t.1)
+pair_allowed q (k, Side seg first second w) h = absurd (true≢false (sym h))
+pair_allowed q (k, Link seg other flip a b w) h =
+    let parts = and_parts (k == q.0) (nat_le (unsigned_abs q.1) (thousand * w)) h in
+    (eqb-true k q.0 parts.0, leb-true (unsigned_abs q.1) (thousand * w) parts.1)
+pair_allowed q (k, Apart seg other a b w) h =
+    let parts = and_parts (k == q.0) (nat_le (unsigned_abs q.1) (thousand * w)) h in
+    (eqb-true k q.0 parts.0, leb-true (unsigned_abs q.1) (thousand * w) parts.1)
+
+stop_small : (q : ℕ × ℤ) (terms : List (ℕ × Term)) → AllByRecursion IsTermInRange terms
+    → list_any (pairs.allows q) terms ≡ true → IsSmall most_stop_price q
+stop_small q [] range h = absurd (true≢false (sym h))
+stop_small q (t ∷ terms) range h =
+    by_case (or_cases (pairs.allows q t) (list_any (pairs.allows q) terms) h) (stop_small q terms range.1)
+  where
+    by_case : (pairs.allows q t ≡ true) ⊎ (list_any (pairs.allows q) terms ≡ true)
+        → (list_any (pairs.allows q) terms ≡ true → IsSmall most_stop_price q) → IsSmall most_stop_price q
+    by_case (inl e) later =
+        let at = pair_allowed q t e in
+        (omega (arith, at.0, range.0.0), omega (arith, at.1, range.0.1))
+    by_case (inr e) later = later e
+
+stops_small : (terms : List (ℕ × Term)) → AllByRecursion IsTermInRange terms → (prices : List (ℕ × ℤ))
+    → pairs.are_allowed terms prices ≡ true → AllByRecursion (IsSmall most_stop_price) prices
+stops_small terms range [] h = tt
+stops_small terms range (q ∷ prices) h =
+    let parts = and_parts (list_any (pairs.allows q) terms) (pairs.are_allowed terms prices) h in
+    (stop_small q terms range parts.0, stops_small terms range prices parts.1)
+
+dual_range : (q : Question) → IsAsked q → (settled : List SettledPair) (tree : PlainDual) → IsDualTree tree
+    → dual.accepts q settled tree ≡ true → IsDualInRange tree
+dual_range q asked settled (fork s a b first second) is h =
+    let one = with_pair s a b settled in
+    let other = with_pair s b a settled in
+    let lines = lines_on q.segs s in
+    let parts = and_parts (dual.is_fork q s a b) (dual.accepts q one first && dual.accepts q other second) h in
+    let both = and_parts (dual.accepts q one first) (dual.accepts q other second) parts.1 in
+    let here = and_parts (is_in q.part s) (has_line lines a && (has_line lines b && not (a.0 == b.0))) parts.0 in
+    let from_a = and_parts (has_line lines a) (has_line lines b && not (a.0 == b.0)) here.1 in
+    let from_b = and_parts (has_line lines b) (not (a.0 == b.0)) from_a.1 in (
+      asked.segs s here.0,
+      asked.lines s a from_a.0,
+      asked.lines s b from_b.0,
+      dual_range q asked one first is.0 both.0,
+      dual_range q asked other second is.1 both.1,
+    )
+dual_range q asked settled (stop prices) is h =
+    let allowed = (and_parts (pairs.are_allowed q.terms prices) _ h).0 in
+    prices_range most_stop_price 0 prices (starts_at_0 prices) is.0 is.1 (stops_small q.terms asked.terms prices allowed)
+
+-- a part's tree that does not fail is in range
+pub part_tree_range : (q : Question) → IsAsked q → (tree : PlainPartTree) → IsPartTree tree → failing q tree ≡ None
+    → IsPartTreeInRange tree
+part_tree_range q asked (by_cases tree) is h =
+    tree_range q asked (none_placed q.segs) tree is.is_tree ((accepted_exactly q (none_placed q.segs) tree).1 h)
+part_tree_range q asked (by_pairs tree) is h =
+    dual_range q asked [] tree is.is_tree (((nothing_fails q tree).0 h).1)
+
+pub part_depth : (tree : PlainPartTree) → IsPartTree tree → depth_of_part tree ≤ most_depth
+part_depth (by_cases tree) is = is.depth
+part_depth (by_pairs tree) is = is.depth

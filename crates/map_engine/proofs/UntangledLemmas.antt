@@ -1,14 +1,15 @@
--- What the untangling of a problem keeps: its orders, what they cost, and that they are best.
-use Rattle.std.proofs.Common.{◌≡◌, sym, subst, List, arith}
+-- What the untangling of a problem keeps: its orders, what they cost, and what none cost less than.
+use Rattle.std.proofs.Common.{◌≡◌, ◌≤◌, ℕ, sym, subst, List, arith}
 use Rattle.std.specs.List.{sum_by}
 use Rattle.map_base.specs.declared.ids.LineId.{LineId}
 use Rattle.order_model.specs.declared.problem.ProblemParts.{ProblemParts}
 use Rattle.order_model.specs.Problems.{choices, IsProblem}
-use Rattle.order_model.specs.Costs.{cost_of, AreOrders, AreBest}
+use Rattle.order_model.specs.Costs.{cost_of, AreOrders}
 use Rattle.order_rules.specs.Untangling.{after_rules, untangling, ApplyInTurn}
 use Rattle.order_rules.specs.Lifting.{lifted_all}
-use Rattle.order_rules.proofs.RuleLaws.{all_problem, all_orders, all_cost, all_best}
+use Rattle.order_rules.proofs.RuleLaws.{all_problem, all_orders, all_cost, all_less}
 use Rattle.order_rules.proofs.UntanglingLaws.{untangled_ends, Ends}
+use Rattle.order_check.specs.LowerBounds.{IsLowerBound}
 use Rattle.map_engine.specs.Problems.{untangling_rules, untangled_problem}
 
 module _ (p : ProblemParts) (is : IsProblem p) where
@@ -36,6 +37,11 @@ module _ (p : ProblemParts) (is : IsProblem p) where
         subst (λ (q : ProblemParts). cost_of p.terms (lifted_all (untangling_rules p) orders) ≡ cost_of q.terms orders) (sym last_is)
         (all_cost p (untangling_rules p) orders is rules_apply are_of_last)
 
-    pub lifted_best : AreBest (untangled_problem p).segs (untangled_problem p).terms orders → AreBest p.segs p.terms (lifted_all (untangling_rules p) orders)
-    lifted_best best =
-        all_best p (untangling_rules p) orders is rules_apply are_of_last (subst (λ (q : ProblemParts). AreBest q.segs q.terms orders) last_is best)
+  -- what no orders of the untangled problem cost less than, none of the problem do
+  pub bound_kept : (bound : ℕ) → IsLowerBound (untangled_problem p).segs (untangled_problem p).terms bound
+      → IsLowerBound p.segs p.terms bound
+  bound_kept bound least others are =
+      let less = all_less p (untangling_rules p) others is rules_apply are in
+      let last = subst (λ (q : ProblemParts). IsLowerBound q.segs q.terms bound) last_is least in
+      let here : bound ≤ cost_of (after_rules p (untangling_rules p)).terms less.orders = last less.orders less.are in
+      omega (arith, here, less.less)

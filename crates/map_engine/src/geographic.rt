@@ -18,26 +18,29 @@ use geo_map::geographic;
 use graph_core::LineGraph;
 use line_graph::build_with_lines;
 use map_base::{NoMemory, Point, Sequence, Settings};
+use map_method::Claim;
 use std::alloc::Global;
 use transit_feed::Tables;
 
 /// The map of a feed over the courses of its segments, as they lie in the plane (SVG 1.1), by a certificate. All of the
 /// certificate is checked as `check_certificate` does, with the same refusals: so the map shows exactly the line graph of
-/// the feed, with line orders that cost least.
+/// the feed, with line orders of which the certificate proves what is claimed.
 pub fn geo(
     alloc: Global,
     tables: &Tables,
     settings: &Settings,
+    claim: Claim,
     certificate: &[u8],
 ) -> Result<Vec<u8>, CheckFault>
-    ensures outcome { Gives (λ map. map.items) result (geographic_outcome tables.now settings.now (certificate_in certificate.now)) }
-    ensures certified { IfOk result (λ map. IsGeographicMap tables.now settings.now map.items certificate.now) }
+    ensures outcome { Gives (λ map. map.items) result (geographic_outcome tables.now settings.now claim (certificate_in certificate.now)) }
+    ensures certified { IfOk result (λ map. IsGeographicMap tables.now settings.now claim map.items certificate.now) }
 {
     let made = build_with_lines(alloc, tables, settings)?;
     geo_on_graph(
         alloc,
         tables,
         settings,
+        claim,
         &made.graph,
         made.lines.as_slice(),
         certificate,
@@ -49,6 +52,7 @@ pub fn geo_on_graph(
     alloc: Global,
     tables: &Tables,
     settings: &Settings,
+    claim: Claim,
     graph: &LineGraph,
     lines: &[Sequence<Point>],
     certificate: &[u8],
@@ -56,10 +60,10 @@ pub fn geo_on_graph(
     requires graph { graph_outcome settings.now.near tables.now ≡ Ok graph.now }
     requires lines { lines_outcome settings.now.near tables.now ≡ Ok lines.now }
     requires courses { All IsCourse lines.now }
-    ensures outcome { Gives (λ map. map.items) result (geographic_items tables.now settings.now graph.now lines.now (certificate_in certificate.now)) }
-    ensures certified { IfOk result (λ map. IsGeographicMap tables.now settings.now map.items certificate.now) }
+    ensures outcome { Gives (λ map. map.items) result (geographic_items tables.now settings.now claim graph.now lines.now (certificate_in certificate.now)) }
+    ensures certified { IfOk result (λ map. IsGeographicMap tables.now settings.now claim map.items certificate.now) }
 {
-    let _accepted = check_on_graph(alloc, tables, settings, graph, certificate)?;
+    let _accepted = check_on_graph(alloc, tables, settings, claim, graph, certificate)?;
     let read = read_certificate(alloc, certificate)?;
     Ok(geographic_map(alloc, tables, graph, lines, read)?)
 }

@@ -1,6 +1,7 @@
 //! The map of a feed and its certificate.
 
-ghost use Rattle.std.specs.Prelude.{◌≡◌, ◌≤◌, ◌<◌, ◌+◌, ◌^◌, length, true, All, Contains, IfOk};
+ghost use Rattle.std.specs.Prelude.{◌≡◌, ◌≤◌, ◌<◌, ◌+◌, ◌^◌, ℕ, List, length, true, All, Contains, IfOk};
+ghost use Rattle.map_base.specs.Settings.{IsImportance};
 ghost use Rattle.grid_board.specs.Points.{are_near};
 ghost use Rattle.order_model.specs.Costs.{AreOrders};
 ghost use Rattle.map_engine.specs.Tables.{AreOfFeed};
@@ -139,7 +140,9 @@ fn make_with<L: Ledger>(
 
 /// How the orders of parts are searched for.
 fn plan_of(settings: &Settings, method: &Method) -> SearchPlan
-    ensures { result ≡ plan_of settings.now method.now }
+    ensures plan { result ≡ plan_of settings.now method.now }
+    ensures budget { result.budget ≤ 100000 }
+    ensures importance { All (λ (p : List ℕ × ℕ). IsImportance p.1) settings.now.importance }
 {
     SearchPlan {
         search: method.search,

@@ -6,7 +6,9 @@ use crate::feeds::Feed;
 use files_door::SteadyFiles;
 use gtfs_tables::read_tables;
 use map_base::{LineId, NoMemory, Settings, Steps, Text};
-use map_engine::{CheckFault, CheckItem, Kept, Made, MakeFault, check, check_certificate, make};
+use map_engine::{
+    CheckFault, CheckItem, Kept, Made, MakeFault, Proved, check, check_certificate, make,
+};
 use map_method::{Defaults, MapSettings};
 use map_settings::read_settings;
 use order_check::ProofItem;
@@ -18,7 +20,7 @@ use std::test::Fail;
 use transit_feed::Tables;
 
 /// The settings that a file makes beside the defaults of `make`.
-fn settings_of(alloc: Global, file: &str) -> Result<MapSettings, Fail> {
+pub(crate) fn settings_of(alloc: Global, file: &str) -> Result<MapSettings, Fail> {
     let settings = read_settings(alloc, file.as_bytes(), Defaults::Make)
         .ok()
         .ok_or("settings")?;
@@ -49,7 +51,7 @@ fn files_of(alloc: Global, feed: Feed) -> Result<SteadyFiles, NoMemory> {
 }
 
 /// The tables of a feed.
-fn tables_of(alloc: Global, feed: Feed, settings: &Settings) -> Result<Tables, Fail> {
+pub(crate) fn tables_of(alloc: Global, feed: Feed, settings: &Settings) -> Result<Tables, Fail> {
     let mut files = files_of(alloc, feed)?;
     let tables = read_tables(alloc, &mut files, "feed", settings.types.as_slice())
         .ok()
@@ -93,7 +95,7 @@ pub(crate) fn made(alloc: Global, feed: Feed, file: &str) -> Result<Result<Made,
 }
 
 /// Why there is no map.
-fn fault_text(alloc: Global, fault: MakeFault) -> Result<String, Fail> {
+pub(crate) fn fault_text(alloc: Global, fault: MakeFault) -> Result<String, Fail> {
     match fault {
         MakeFault::NoRoute { seg } => {
             let number = seg.0;
@@ -109,7 +111,7 @@ fn fault_text(alloc: Global, fault: MakeFault) -> Result<String, Fail> {
 }
 
 /// A map, and after it its certificate.
-fn both_texts(alloc: Global, map: &Made) -> Result<String, Fail> {
+pub(crate) fn both_texts(alloc: Global, map: &Made) -> Result<String, Fail> {
     let svg = str::from_utf8(map.svg.as_slice())?;
     let certificate = str::from_utf8(map.certificate.as_slice())?;
     Ok(format!(in alloc; "{svg}{certificate}")?)
@@ -173,7 +175,16 @@ fn refused_text(alloc: Global, fault: CheckFault) -> Result<String, Fail> {
     }
 }
 
-/// What the check answers to a map and its certificate: "best" with the cost, or the item that is refused.
+/// What is proved of line orders: "best" with their cost, where this is the bound, or both.
+fn proved_text(alloc: Global, proved: Proved) -> Result<String, Fail> {
+    let Proved { cost, bound } = proved;
+    if cost == bound {
+        return Ok(format!(in alloc; "best {cost}")?);
+    }
+    Ok(format!(in alloc; "cost {cost} bound {bound}")?)
+}
+
+/// What the check answers to a map and its certificate: what is proved, or the item that is refused.
 pub(crate) fn checked_text(
     alloc: Global,
     feed: Feed,
@@ -182,10 +193,11 @@ pub(crate) fn checked_text(
 ) -> Result<String, Fail> {
     let all = settings_of(alloc, file)?;
     let tables = tables_of(alloc, feed, &all.settings)?;
+    let claim = all.method.claim;
     let svg = map.svg.as_slice();
     let certificate = map.certificate.as_slice();
-    match check(alloc, &tables, &all.settings, svg, certificate) {
-        Ok(cost) => Ok(format!(in alloc; "best {cost}")?),
+    match check(alloc, &tables, &all.settings, claim, svg, certificate) {
+        Ok(proved) => proved_text(alloc, proved),
         Err(fault) => refused_text(alloc, fault),
     }
 }
@@ -199,11 +211,9 @@ pub(crate) fn certified_text(
 ) -> Result<String, Fail> {
     let all = settings_of(alloc, file)?;
     let tables = tables_of(alloc, feed, &all.settings)?;
-    match check_certificate(alloc, &tables, &all.settings, text) {
-        Ok(checked) => {
-            let cost = checked.cost;
-            Ok(format!(in alloc; "best {cost}")?)
-        }
+    let claim = all.method.claim;
+    match check_certificate(alloc, &tables, &all.settings, claim, text) {
+        Ok(checked) => proved_text(alloc, checked.proved),
         Err(fault) => refused_text(alloc, fault),
     }
 }

@@ -1,16 +1,18 @@
--- What is loaded over other settings where the user sets none: the same tables, and settings that differ in the budget alone.
+-- What is loaded over other settings where the user sets none: the same tables, settings that differ in the budget alone, and
+-- the same is to be proved.
 use Rattle.std.proofs.Common.{◌≡◌, ℕ, Bool, true, false, List, [], ◌∷◌, codes, if◌then◌else◌, Option, None, Some, option_map, Result, Ok, Err, refl, sym, ap, ◌∙◌, subst}
 use Rattle.std.specs.Str.{bytes_eq}
 use Rattle.map_base.specs.Settings.{Choices}
 use Rattle.map_method.specs.declared.defaults.Defaults.{Defaults}
+use Rattle.map_method.specs.declared.defaults.Defaults.TheVariants.{Make, Map}
 use Rattle.map_method.specs.declared.map_settings.MapSettings.{MapSettings}
 use Rattle.map_method.specs.Methods.{MethodChoices}
 use Rattle.map_method.specs.Defaults.{default_choices}
 use Rattle.transit_feed.specs.Feeds.{Feed}
 use Rattle.toml.specs.Data.{Data, Members}
-use Rattle.map_settings.specs.Values.{near_of, cell_of, budget_of, types_of, weights_of, importance_of}
+use Rattle.map_settings.specs.Values.{near_of, cell_of, budget_of, types_of, weights_of, importance_of, search_of, claim_of, spread_of, finest_of, moves_of}
 use Rattle.map_settings.specs.Tables.{entries}
-use Rattle.map_settings.specs.Entries.{near_is, cell_is, budget_is, types_are, junction_is, station_is, importance_is, settings_change, method_change, is_of_method, in_settings, in_method, change_of}
+use Rattle.map_settings.specs.Entries.{near_is, cell_is, budget_is, types_are, junction_is, station_is, importance_is, search_is, claim_is, spread_is, finest_is, moves_are, settings_change, method_change, is_of_method, in_settings, in_method, change_of}
 use Rattle.map_settings.specs.Outcome.{bad_keys, least, changed, after, unless_bad, table_outcome, with_table}
 use Rattle.map_edits.specs.declared.edit.Edit.{Edit}
 use Rattle.map_edits.specs.declared.edit.Edit.TheVariants as edit
@@ -60,23 +62,51 @@ settings_tame entry =
     by_tests false false false false false false true = tame_map importance_is (importance_of entry.1) (λ v a b e. ap (importance_is v) e)
     by_tests false false false false false false false = tt
 
+-- Nor does it tell apart what is to be proved.
+
+abbrev KeepsClaim : (MethodChoices → MethodChoices) → Type 0
+KeepsClaim change = (a b : MethodChoices) → a.claim ≡ b.claim → (change a).claim ≡ (change b).claim
+
+abbrev KeepClaim : Option (MethodChoices → MethodChoices) → Type 0
+KeepClaim None = Unit {0}
+KeepClaim (Some change) = KeepsClaim change
+
+claim_kept : {A : Type 0} (change : A → MethodChoices → MethodChoices) (value : Option A) → ((a : A) → KeepsClaim (change a)) → KeepClaim (option_map change value)
+claim_kept change None each = tt
+claim_kept change (Some a) each = each a
+
+method_tame : (entry : List ℕ × Data) → KeepClaim (method_change entry)
+method_tame entry =
+    by_tests (bytes_eq entry.0 (codes "search")) (bytes_eq entry.0 (codes "proof")) (bytes_eq entry.0 (codes "spread")) (bytes_eq entry.0 (codes "finest")) (bytes_eq entry.0 (codes "moves"))
+  where
+    by_tests : (search proof spread finest moves : Bool)
+        → KeepClaim (if search then option_map search_is (search_of entry.1) else if proof then option_map claim_is (claim_of entry.1) else if spread then option_map spread_is (spread_of entry.1)
+        else if finest then option_map finest_is (finest_of entry.1) else if moves then option_map moves_are (moves_of entry.1) else None)
+    by_tests true proof spread finest moves = claim_kept search_is (search_of entry.1) (λ v a b e. e)
+    by_tests false true spread finest moves = claim_kept claim_is (claim_of entry.1) (λ v a b e. refl)
+    by_tests false false true finest moves = claim_kept spread_is (spread_of entry.1) (λ v a b e. e)
+    by_tests false false false true moves = claim_kept finest_is (finest_of entry.1) (λ v a b e. e)
+    by_tests false false false false true = claim_kept moves_are (moves_of entry.1) (λ v a b e. e)
+    by_tests false false false false false = tt
+
+-- the settings are alike, and the same is to be proved
 abbrev Alike : MapSettings → MapSettings → Type 0
-Alike x y = AreAlike x.settings y.settings
+Alike x y = AreAlike x.settings y.settings × (x.method.claim ≡ y.method.claim)
 
 change_alike : (entry : List ℕ × Data) (x y : MapSettings) → Alike x y → Alike (changed (change_of entry) x) (changed (change_of entry) y)
 change_alike entry x y alike = by_test (is_of_method entry.0)
   where
-    of_method : (change : Option (MethodChoices → MethodChoices)) → Alike (changed (option_map in_method change) x) (changed (option_map in_method change) y)
-    of_method None = alike
-    of_method (Some change) = alike
+    of_method : (change : Option (MethodChoices → MethodChoices)) → KeepClaim change → Alike (changed (option_map in_method change) x) (changed (option_map in_method change) y)
+    of_method None keeps = alike
+    of_method (Some change) keeps = (alike.0, keeps x.method y.method alike.1)
 
     of_settings : (change : Option (Choices → Choices)) → AreTame change → Alike (changed (option_map in_settings change) x) (changed (option_map in_settings change) y)
     of_settings None tame = alike
-    of_settings (Some change) tame = tame x.settings y.settings alike
+    of_settings (Some change) tame = (tame x.settings y.settings alike.0, alike.1)
 
     by_test : (method : Bool) → Alike (changed (if method then option_map in_method (method_change entry) else option_map in_settings (settings_change entry)) x)
         (changed (if method then option_map in_method (method_change entry) else option_map in_settings (settings_change entry)) y)
-    by_test true = of_method (method_change entry)
+    by_test true = of_method (method_change entry) (method_tame entry)
     by_test false = of_settings (settings_change entry) (settings_tame entry)
 
 after_alike : (file : List (List ℕ × Data)) (x y : MapSettings) → Alike x y → Alike (after file x) (after file y)
@@ -90,6 +120,13 @@ AlikeBy same (Ok x) (Err why) = ⊥
 AlikeBy same (Err why) (Ok y) = ⊥
 AlikeBy same (Err why) (Err other) = why ≡ other
 
+-- the settings of every command are
+defaults_alike : (c d : Defaults) → Alike (default_choices c) (default_choices d)
+defaults_alike Make Make = (refl, refl)
+defaults_alike Make Map = (refl, refl)
+defaults_alike Map Make = (refl, refl)
+defaults_alike Map Map = (refl, refl)
+
 file_alike : (c d : Defaults) (file : Option (List ℕ)) → AlikeBy Alike (settings_in c file) (settings_in d file)
 file_alike c d None = refl
 file_alike c d (Some bytes) = by_table (table_outcome bytes)
@@ -99,7 +136,7 @@ file_alike c d (Some bytes) = by_table (table_outcome bytes)
     by_table (Some table) = by_bad (least (bad_keys (entries table)))
       where
         by_bad : (bad : Option (List ℕ)) → AlikeBy Alike (settings_given (unless_bad bad (after (entries table) (default_choices c)))) (settings_given (unless_bad bad (after (entries table) (default_choices d))))
-        by_bad None = after_alike (entries table) (default_choices c) (default_choices d) refl
+        by_bad None = after_alike (entries table) (default_choices c) (default_choices d) (defaults_alike c d)
         by_bad (Some key) = refl
 
 -- Works over alike settings.
@@ -114,16 +151,16 @@ abbrev by_file : Defaults → Option (List ℕ) → Work Input Refusal MapSettin
 by_file defaults file = ends (settings_in defaults file)
 
 settings_alike : (c d : Defaults) (settings : Option (List ℕ)) (given : Given) → AlikeBy Alike (outcome (settings_by c settings) given) (outcome (settings_by d settings) given)
-settings_alike c d None given = refl
+settings_alike c d None given = defaults_alike c d
 settings_alike c d (Some path) given = by_read (file_outcome (given input.Settings))
   where
     by_read : (read : Result (Option (List ℕ)) Refusal) → AlikeBy Alike (outcome (ends read >>= by_file c) given) (outcome (ends read >>= by_file d) given)
     by_read (Ok file) = file_alike c d file
     by_read (Err why) = refl
 
--- the tables are the same, and the settings alike
+-- the tables are the same, and the settings alike, and the same is to be proved
 abbrev pub AreLoadedAlike : Loaded → Loaded → Type 0
-AreLoadedAlike x y = (x.tables ≡ y.tables) × AreAlike x.settings y.settings
+AreLoadedAlike x y = (x.tables ≡ y.tables) × AreAlike x.settings y.settings × (x.method.claim ≡ y.method.claim)
 
 abbrev loaded_as : MapSettings → Feed → Work Input Refusal Loaded
 loaded_as all feed = ends (Ok (record { settings = all.settings; method = all.method; tables = feed }))
@@ -133,7 +170,7 @@ tables_as all = tables_work all.settings.types >>= loaded_as all
 
 tables_alike : (x y : MapSettings) (given : Given) → Alike x y → AlikeBy AreLoadedAlike (outcome (tables_as x) given) (outcome (tables_as y) given)
 tables_alike x y given alike =
-    let types : x.settings.types ≡ y.settings.types = ap (λ (c : Choices). c.types) alike in
+    let types : x.settings.types ≡ y.settings.types = ap (λ (c : Choices). c.types) alike.0 in
     let same : outcome (tables_work x.settings.types) given ≡ outcome (tables_work y.settings.types) given = ap (λ (t : List ℕ). outcome (tables_work t) given) types in
     let here = bound (tables_work x.settings.types) (loaded_as x) given in
     let there = bound (tables_work y.settings.types) (loaded_as y) given ∙ ap (λ (r : Result Feed Refusal). outcome (ends r >>= loaded_as y) given) (sym same) in
@@ -141,7 +178,7 @@ tables_alike x y given alike =
     (subst (λ (r : Result Loaded Refusal). AlikeBy AreLoadedAlike (outcome (ends (outcome (tables_work x.settings.types) given) >>= loaded_as x) given) r) (sym there) (by_feed (outcome (tables_work x.settings.types) given)))
   where
     by_feed : (feed : Result Feed Refusal) → AlikeBy AreLoadedAlike (outcome (ends feed >>= loaded_as x) given) (outcome (ends feed >>= loaded_as y) given)
-    by_feed (Ok feed) = (refl, alike)
+    by_feed (Ok feed) = (refl, alike.0, alike.1)
     by_feed (Err why) = refl
 
 -- the same files, over other settings where the user sets none
@@ -180,7 +217,7 @@ edits_alike [] a b alike = alike
 edits_alike (one ∷ later) a b alike = edits_alike later (choices_by one a) (choices_by one b) (edit_tame one a b alike)
 
 changed_alike : (x y : Loaded) (edits : Result (List Edit) Refusal) → AreLoadedAlike x y → AlikeBy AreLoadedAlike (changed_by x edits) (changed_by y edits)
-changed_alike x y (Ok edits) alike = (ap (feed_after edits) alike.0, edits_alike edits x.settings y.settings alike.1)
+changed_alike x y (Ok edits) alike = (ap (feed_after edits) alike.0, edits_alike edits x.settings y.settings alike.1, alike.2)
 changed_alike x y (Err why) alike = refl
 
 abbrev by_edits : Loaded → Option (List ℕ) → Work Input Refusal Loaded

@@ -126,7 +126,7 @@ means told (check feed paths chosen) finished old new apart promised none holds 
       loads = promised.loads;
       picture = promised.picture;
       lies = promised.lies;
-      cost = promised.cost;
+      proved = promised.proved;
       accepted = promised.accepted;
       printed = has Said;
     }

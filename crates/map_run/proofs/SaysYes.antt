@@ -18,6 +18,8 @@ use Rattle.gtfs_tables.specs.Feed.{routes_outcome, stops_table_outcome, trips_ou
 use Rattle.graph_core.specs.declared.parts.GraphParts.{GraphParts}
 use Rattle.line_graph.specs.Outcome.{graph_outcome}
 use Rattle.map_engine.specs.declared.fault.CheckFault.{CheckFault}
+use Rattle.map_method.specs.declared.claim.Claim.{Claim}
+use Rattle.map_engine.specs.declared.checked.Proved.{Proved}
 use Rattle.map_engine.specs.Making.{MapBytes}
 use Rattle.map_engine.specs.Readings.{certificate_in}
 use Rattle.map_engine.specs.Promises.{IsMade}
@@ -37,14 +39,14 @@ use Rattle.run_status.specs.declared.status.Status.TheVariants as status
 use Rattle.command_words.specs.Asked.{Asked, make, improve, check}
 use Rattle.command_paths.specs.Paths.{Chosen, MapPaths}
 use Rattle.map_run.specs.Inputs.{inputs_of, input_path}
-use Rattle.map_commands.specs.MapWorks.{best_line, best, built, certificate_checked, certificate_work, check_work, checked_as, picture_checked, picture_work}
+use Rattle.map_commands.specs.MapWorks.{proved_line, printed, built, certificate_checked, certificate_work, check_work, checked_as, picture_checked, picture_work}
 use Rattle.run_status.specs.Outputs.{said}
 use Rattle.map_run.proofs.Budgets.{AreLoadedAlike, loads_over}
 use Rattle.command_inputs.specs.Loading.{changed_in, edited_by, feed_work, file_outcome, given_by, load_work, settings_by, settings_in, tables_work, Loads}
 use Rattle.map_run.specs.Answers.{whole}
 use Rattle.map_run.specs.Commands.{work}
 use Rattle.map_run.specs.Ending.{Ends}
-use Rattle.map_run.specs.Headline.{IsImprovedMapWritten, IsMapWritten, LieAsMade, SaysBest, to_check}
+use Rattle.map_run.specs.Headline.{IsImprovedMapWritten, IsMapWritten, LieAsMade, SaysProved, to_check}
 use Rattle.map_commands.proofs.CheckLemmas.{graph_work, with_graph, with_loaded}
 use Rattle.map_run.proofs.DoneLemmas.{is_done}
 
@@ -150,12 +152,12 @@ file_whole bytes fits = by_test (is_within File (length bytes)) fits
     by_test true e = refl
     by_test false e = absurd (cc)
 
-module _ (given : Given) (loaded : Loaded) (graph : GraphParts) (made : MapBytes) (cost : ℕ)
+module _ (given : Given) (loaded : Loaded) (graph : GraphParts) (made : MapBytes) (proved : Proved)
     (certificate : given input.Certificate ≡ Some made.certificate) (certificate_fits : is_within File (length made.certificate) ≡ true)
     (map : given input.Picture ≡ Some made.svg) (map_fits : is_within File (length made.svg) ≡ true) where
   -- what is read of the certificate
   reading : Result PlainChecked CheckFault
-  reading = checked_text loaded.tables loaded.settings graph (certificate_in made.certificate)
+  reading = checked_text loaded.tables loaded.settings loaded.method.claim graph (certificate_in made.certificate)
 
   certificate_read : outcome (certificate_work loaded graph) given ≡ checked_as reading
   unfolding reading
@@ -164,38 +166,42 @@ module _ (given : Given) (loaded : Loaded) (graph : GraphParts) (made : MapBytes
       let whole : Result (Option (List ℕ)) Refusal → Result PlainChecked Refusal = λ file. outcome (ends file >>= next) given in
       ap (λ (file : Option (List ℕ)). whole (file_outcome file)) certificate ∙ ap whole (file_whole made.certificate certificate_fits)
 
-  map_read : (checked : PlainChecked) → outcome (picture_work checked) given ≡ best (checked_as (pictured made.svg (Ok checked)))
+  map_read : (checked : PlainChecked) → outcome (picture_work checked) given ≡ printed (checked_as (pictured made.svg (Ok checked)))
   map_read checked =
-      let next : Option (List ℕ) → Work Input Refusal (List Output) = λ file. ends (best (picture_checked checked file)) in
+      let next : Option (List ℕ) → Work Input Refusal (List Output) = λ file. ends (printed (picture_checked checked file)) in
       let whole : Result (Option (List ℕ)) Refusal → Result (List Output) Refusal = λ file. outcome (ends file >>= next) given in
       ap (λ (file : Option (List ℕ)). whole (file_outcome file)) map ∙ ap whole (file_whole made.svg map_fits)
 
-  after_graph : (read : Result PlainChecked CheckFault) → reading ≡ read → pictured made.svg read ≡ Ok cost → outcome (with_graph loaded graph) given ≡ Ok (said (best_line cost))
+  after_graph : (read : Result PlainChecked CheckFault) → reading ≡ read → pictured made.svg read ≡ Ok proved → outcome (with_graph loaded graph) given ≡ Ok (said (proved_line proved))
   after_graph (Err why) is due = absurd (cc)
   after_graph (Ok checked) is due =
       let found : outcome (certificate_work loaded graph) given ≡ Ok checked = certificate_read ∙ ap checked_as is in
-      then_outcome (certificate_work loaded graph) picture_work given checked found ∙ map_read checked ∙ ap (λ (r : Result ℕ CheckFault). best (checked_as r)) due
+      then_outcome (certificate_work loaded graph) picture_work given checked found ∙ map_read checked ∙ ap (λ (r : Result Proved CheckFault). printed (checked_as r)) due
 
-  after_loading : graph_outcome loaded.settings.near loaded.tables ≡ Ok graph → check_outcome loaded.tables loaded.settings made.svg (certificate_in made.certificate) ≡ Ok cost
-      → outcome (with_loaded loaded) given ≡ Ok (said (best_line cost))
+  after_loading : graph_outcome loaded.settings.near loaded.tables ≡ Ok graph → check_outcome loaded.tables loaded.settings loaded.method.claim made.svg (certificate_in made.certificate) ≡ Ok proved
+      → outcome (with_loaded loaded) given ≡ Ok (said (proved_line proved))
   unfolding reading
   after_loading of_feed accepted =
-      let due : pictured made.svg reading ≡ Ok cost = subst (λ g. pictured made.svg (checked_on loaded.tables loaded.settings (certificate_in made.certificate) g) ≡ Ok cost) of_feed accepted in
+      let due : pictured made.svg reading ≡ Ok proved = subst (λ g. pictured made.svg (checked_on loaded.tables loaded.settings loaded.method.claim (certificate_in made.certificate) g) ≡ Ok proved) of_feed accepted in
       then_outcome (graph_work loaded) (with_graph loaded) given graph (ap built of_feed) ∙ after_graph reading refl due
 
 -- a file that holds what was written
 fits_by : (held : Option (List ℕ)) (bytes : List ℕ) → held ≡ Some bytes → IfSome held (λ b. is_within File (length b) ≡ true) → is_within File (length bytes) ≡ true
 fits_by held bytes is fits = subst (λ (h : Option (List ℕ)). IfSome h (λ b. is_within File (length b) ≡ true)) is fits
 
--- what holds of tables and settings holds where these are alike but for the budget, of which it does not speak
-as_well : (P : Feed → Choices → Type 0) (x y : Loaded) → AreLoadedAlike x y → P x.tables (record x.settings { budget = y.settings.budget }) → P y.tables y.settings
-as_well P x y alike holds = subst (λ (t : Feed). P t y.settings) alike.0 (subst (λ (c : Choices). P x.tables c) alike.1 holds)
+-- what holds of tables, settings and what is to be proved holds where these are alike but for the budget, of which it does not speak
+as_well : (P : Feed → Choices → Claim → Type 0) (x y : Loaded) → AreLoadedAlike x y
+    → P x.tables (record x.settings { budget = y.settings.budget }) x.method.claim → P y.tables y.settings y.method.claim
+as_well P x y alike holds =
+    subst (λ (t : Feed). P t y.settings y.method.claim) alike.0
+    (subst (λ (c : Choices). P x.tables c y.method.claim) alike.1
+    (subst (P x.tables (record x.settings { budget = y.settings.budget })) alike.2 holds))
 
 -- A map of a feed that lies with its certificate as it was written, by whichever of the commands that make maps.
 module _ (feed : List ℕ) (paths : MapPaths) (chosen : Chosen) (files later : List (List ℕ × List ℕ)) (made : Written) (loaded : Loaded) (loads : Loads (Some files) (inputs_of (make feed paths chosen)) loaded)
-    (bytes : MapBytes) (is_made : IsMade loaded.tables loaded.settings bytes) (map : held_by (Path paths.picture) made ≡ Some bytes.svg) (certificate : held_by (Path paths.certificate) made ≡ Some bytes.certificate)
+    (bytes : MapBytes) (is_made : IsMade loaded.tables loaded.settings loaded.method.claim bytes) (map : held_by (Path paths.picture) made ≡ Some bytes.svg) (certificate : held_by (Path paths.certificate) made ≡ Some bytes.certificate)
     (lie : LieAsMade files later feed paths chosen made) where
-  yes_to : outcome (work (check feed paths (to_check chosen))) (file_of later (input_path (check feed paths (to_check chosen)))) ≡ Ok (whole (said (best_line is_made.cost)))
+  yes_to : outcome (work (check feed paths (to_check chosen))) (file_of later (input_path (check feed paths (to_check chosen)))) ≡ Ok (whole (said (proved_line is_made.proved)))
   yes_to =
       let before : Given = file_of files (input_path (make feed paths chosen)) in
       let given : Given = file_of later (input_path (check feed paths (to_check chosen))) in
@@ -203,50 +209,50 @@ module _ (feed : List ℕ) (paths : MapPaths) (chosen : Chosen) (files later : L
       let same : ReadsSame before given (load_work chosen) = load_same before given chosen (named_lies files later chosen.settings lie.same_settings) (named_lies files later chosen.edits lie.same_edits) lie.same_feed in
       let load : outcome (load_work chosen) given ≡ Ok loaded = same_outcome before given (load_work chosen) same ∙ loads_are files (make feed paths chosen) loaded loads in
       let other = loads_over chosen Make given loaded load in
-      let drawn = as_well (λ feed choices. graph_outcome choices.near feed ≡ Ok certified.graph) loaded other.0 other.2 certified.of_feed in
-      let accepted = as_well (λ feed choices. check_outcome feed choices bytes.svg (certificate_in bytes.certificate) ≡ Ok is_made.cost) loaded other.0 other.2 is_made.accepted in
-      let printed : outcome (check_work (to_check chosen)) given ≡ Ok (said (best_line is_made.cost)) =
+      let drawn = as_well (λ feed choices claim. graph_outcome choices.near feed ≡ Ok certified.graph) loaded other.0 other.2 certified.of_feed in
+      let accepted = as_well (λ feed choices claim. check_outcome feed choices claim bytes.svg (certificate_in bytes.certificate) ≡ Ok is_made.proved) loaded other.0 other.2 is_made.accepted in
+      let says : outcome (check_work (to_check chosen)) given ≡ Ok (said (proved_line is_made.proved)) =
       then_outcome (load_work (to_check chosen)) with_loaded given other.0 other.1
-      ∙ after_loading given other.0 certified.graph bytes is_made.cost
+      ∙ after_loading given other.0 certified.graph bytes is_made.proved
       (lie.certificate ∙ certificate) (fits_by (held_by (Path paths.certificate) made) bytes.certificate certificate lie.certificate_fits)
       (lie.map ∙ map) (fits_by (held_by (Path paths.picture) made) bytes.svg map lie.map_fits)
       drawn accepted in
-      then_outcome (check_work (to_check chosen)) (λ outputs. ends (Ok (whole outputs))) given (said (best_line is_made.cost)) printed
+      then_outcome (check_work (to_check chosen)) (λ outputs. ends (Ok (whole outputs))) given (said (proved_line is_made.proved)) says
 
   ends_yes : (files_rose rose : Type 0) (old new : Written) (ended : Status) → Ends (Some (check feed paths (to_check chosen))) (Some later) files_rose rose (Some old) (Some new) ended
-      → (files_rose → ⊥) → (rose → ⊥) → ((ended ≡ status.Done) × SaysBest old new is_made.cost) ⊎ (ended ≡ status.NoMemory)
+      → (files_rose → ⊥) → (rose → ⊥) → ((ended ≡ status.Done) × SaysProved old new is_made.proved) ⊎ (ended ≡ status.NoMemory)
   ends_yes files_rose rose old new ended finish told steady =
-      by_end (is_done (check feed paths (to_check chosen)) later files_rose rose old new ended (said (best_line is_made.cost)) finish yes_to told steady)
+      by_end (is_done (check feed paths (to_check chosen)) later files_rose rose old new ended (said (proved_line is_made.proved)) finish yes_to told steady)
     where
-      by_end : ((ended ≡ status.Done) × ((target : Target) → held_by target new ≡ held_after target (said (best_line is_made.cost)) (held_by target old))) ⊎ (ended ≡ status.NoMemory)
-          → ((ended ≡ status.Done) × SaysBest old new is_made.cost) ⊎ (ended ≡ status.NoMemory)
+      by_end : ((ended ≡ status.Done) × ((target : Target) → held_by target new ≡ held_after target (said (proved_line is_made.proved)) (held_by target old))) ⊎ (ended ≡ status.NoMemory)
+          → ((ended ≡ status.Done) × SaysProved old new is_made.proved) ⊎ (ended ≡ status.NoMemory)
       by_end (inl done) = inl (done.0, done.1 Said)
       by_end (inr out) = inr out
 
 -- what `make` wrote
 pub says_yes : (feed : List ℕ) (paths : MapPaths) (chosen : Chosen) (files later : List (List ℕ × List ℕ)) (made : Written)
     → (written : IsMapWritten (Some files) (make feed paths chosen) paths made) → LieAsMade files later feed paths chosen made
-    → outcome (work (check feed paths (to_check chosen))) (file_of later (input_path (check feed paths (to_check chosen)))) ≡ Ok (whole (said (best_line written.is_made.cost)))
+    → outcome (work (check feed paths (to_check chosen))) (file_of later (input_path (check feed paths (to_check chosen)))) ≡ Ok (whole (said (proved_line written.is_made.proved)))
 says_yes feed paths chosen files later made written lie =
     yes_to feed paths chosen files later made written.loaded written.loads written.made written.is_made written.map written.certificate lie
 
 pub ends_with_yes : (feed : List ℕ) (paths : MapPaths) (chosen : Chosen) (files later : List (List ℕ × List ℕ)) (made : Written) (files_rose rose : Type 0) (old new : Written) (ended : Status)
     → (written : IsMapWritten (Some files) (make feed paths chosen) paths made) → LieAsMade files later feed paths chosen made
     → Ends (Some (check feed paths (to_check chosen))) (Some later) files_rose rose (Some old) (Some new) ended → (files_rose → ⊥) → (rose → ⊥)
-    → ((ended ≡ status.Done) × SaysBest old new written.is_made.cost) ⊎ (ended ≡ status.NoMemory)
+    → ((ended ≡ status.Done) × SaysProved old new written.is_made.proved) ⊎ (ended ≡ status.NoMemory)
 ends_with_yes feed paths chosen files later made files_rose rose old new ended written lie finish told steady =
     ends_yes feed paths chosen files later made written.loaded written.loads written.made written.is_made written.map written.certificate lie files_rose rose old new ended finish told steady
 
 -- what `improve` wrote
 pub says_yes_again : (feed : List ℕ) (paths : MapPaths) (moves : ℕ) (chosen : Chosen) (files later : List (List ℕ × List ℕ)) (before made : Written)
     → (written : IsImprovedMapWritten (Some files) (improve feed paths moves chosen) paths moves before made) → LieAsMade files later feed paths chosen made
-    → outcome (work (check feed paths (to_check chosen))) (file_of later (input_path (check feed paths (to_check chosen)))) ≡ Ok (whole (said (best_line written.is_improved.made.cost)))
+    → outcome (work (check feed paths (to_check chosen))) (file_of later (input_path (check feed paths (to_check chosen)))) ≡ Ok (whole (said (proved_line written.is_improved.made.proved)))
 says_yes_again feed paths moves chosen files later before made written lie =
     yes_to feed paths chosen files later made written.loaded written.loads written.improved.map written.is_improved.made written.map written.certificate lie
 
 pub ends_with_yes_again : (feed : List ℕ) (paths : MapPaths) (moves : ℕ) (chosen : Chosen) (files later : List (List ℕ × List ℕ)) (before made : Written) (files_rose rose : Type 0) (old new : Written) (ended : Status)
     → (written : IsImprovedMapWritten (Some files) (improve feed paths moves chosen) paths moves before made) → LieAsMade files later feed paths chosen made
     → Ends (Some (check feed paths (to_check chosen))) (Some later) files_rose rose (Some old) (Some new) ended → (files_rose → ⊥) → (rose → ⊥)
-    → ((ended ≡ status.Done) × SaysBest old new written.is_improved.made.cost) ⊎ (ended ≡ status.NoMemory)
+    → ((ended ≡ status.Done) × SaysProved old new written.is_improved.made.proved) ⊎ (ended ≡ status.NoMemory)
 ends_with_yes_again feed paths moves chosen files later before made files_rose rose old new ended written lie finish told steady =
     ends_yes feed paths chosen files later made written.loaded written.loads written.improved.map written.is_improved.made written.map written.certificate lie files_rose rose old new ended finish told steady

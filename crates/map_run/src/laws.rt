@@ -16,12 +16,12 @@ ghost use Rattle.run_status.specs.declared.status.Status.TheVariants as status;
 ghost use Rattle.command_words.specs.Asked.{Asked, check, improve, make};
 ghost use Rattle.command_paths.specs.Paths.{Chosen, MapPaths};
 ghost use Rattle.map_run.specs.Inputs.{input_path};
-ghost use Rattle.map_commands.specs.MapWorks.{best_line};
+ghost use Rattle.map_commands.specs.MapWorks.{proved_line};
 ghost use Rattle.map_run.specs.Answers.{Finished, alone, answer_by, status_at, whole};
 ghost use Rattle.run_status.specs.Outputs.{said};
 ghost use Rattle.map_run.specs.Commands.{work};
 ghost use Rattle.map_run.specs.Ending.{Ends, IsAnswerTo, IsDue, IsLineOf, IsToBeWritten};
-ghost use Rattle.map_run.specs.Headline.{IsImprovedMapWritten, IsMapWritten, LieAsMade, SaysBest, to_check};
+ghost use Rattle.map_run.specs.Headline.{IsImprovedMapWritten, IsMapWritten, LieAsMade, SaysProved, to_check};
 
 /// Over files that are told, the answer that is due to a command is the one that they define, or it names the path of an input,
 /// and the files' count of faults rose.
@@ -79,28 +79,28 @@ pub fn what_is_defined_is_done()
 {}
 
 /// The check says yes to what `make` or `map` wrote. After a run of one of them that ended with status 0 let the feed be as it was, and
-/// the map and the certificate lie as they were written, neither longer than a file may be. Then `check` comes to the cost
-/// of the map; and a run of it on which no count of faults rises ends with status 0 and prints this cost, or memory ran
-/// out.
+/// the map and the certificate lie as they were written, neither longer than a file may be. Then `check` comes to what is
+/// proved of the map's line orders; and a run of it on which no count of faults rises ends with status 0 and prints this, or
+/// memory ran out.
 pub fn check_says_yes_to_what_make_wrote()
     ensures defined { (feed : List ℕ) (paths : MapPaths) (chosen : Chosen) (files later : List (List ℕ × List ℕ)) (made : Written)
         → (written : IsMapWritten (Some files) (make feed paths chosen) paths made) → LieAsMade files later feed paths chosen made
-        → outcome (work (check feed paths (to_check chosen))) (file_of later (input_path (check feed paths (to_check chosen)))) ≡ Ok (whole (said (best_line written.is_made.cost))) }
+        → outcome (work (check feed paths (to_check chosen))) (file_of later (input_path (check feed paths (to_check chosen)))) ≡ Ok (whole (said (proved_line written.is_made.proved))) }
     ensures done { (feed : List ℕ) (paths : MapPaths) (chosen : Chosen) (files later : List (List ℕ × List ℕ)) (made : Written) (files_before files_now before now : ℕ) (old new : Written) (ended : Status)
         → (written : IsMapWritten (Some files) (make feed paths chosen) paths made) → LieAsMade files later feed paths chosen made
         → Ends (Some (check feed paths (to_check chosen))) (Some later) (Rose files_before files_now) (Rose before now) (Some old) (Some new) ended
         → (Rose files_before files_now → ⊥) → (Rose before now → ⊥)
-        → ((ended ≡ status.Done) × SaysBest old new written.is_made.cost) ⊎ (ended ≡ status.NoMemory) }
+        → ((ended ≡ status.Done) × SaysProved old new written.is_made.proved) ⊎ (ended ≡ status.NoMemory) }
 {}
 
 /// The check says yes to what `improve` wrote, as to what `make` wrote.
 pub fn check_says_yes_to_what_improve_wrote()
     ensures defined { (feed : List ℕ) (paths : MapPaths) (moves : ℕ) (chosen : Chosen) (files later : List (List ℕ × List ℕ)) (before made : Written)
         → (written : IsImprovedMapWritten (Some files) (improve feed paths moves chosen) paths moves before made) → LieAsMade files later feed paths chosen made
-        → outcome (work (check feed paths (to_check chosen))) (file_of later (input_path (check feed paths (to_check chosen)))) ≡ Ok (whole (said (best_line written.is_improved.made.cost))) }
+        → outcome (work (check feed paths (to_check chosen))) (file_of later (input_path (check feed paths (to_check chosen)))) ≡ Ok (whole (said (proved_line written.is_improved.made.proved))) }
     ensures done { (feed : List ℕ) (paths : MapPaths) (moves : ℕ) (chosen : Chosen) (files later : List (List ℕ × List ℕ)) (before made : Written) (files_before files_now faults_before faults_now : ℕ) (old new : Written) (ended : Status)
         → (written : IsImprovedMapWritten (Some files) (improve feed paths moves chosen) paths moves before made) → LieAsMade files later feed paths chosen made
         → Ends (Some (check feed paths (to_check chosen))) (Some later) (Rose files_before files_now) (Rose faults_before faults_now) (Some old) (Some new) ended
         → (Rose files_before files_now → ⊥) → (Rose faults_before faults_now → ⊥)
-        → ((ended ≡ status.Done) × SaysBest old new written.is_improved.made.cost) ⊎ (ended ≡ status.NoMemory) }
+        → ((ended ≡ status.Done) × SaysProved old new written.is_improved.made.proved) ⊎ (ended ≡ status.NoMemory) }
 {}

@@ -61,7 +61,7 @@ module _ (kind : Picture) (told : Told) (paths : Input → List ℕ) (chosen : C
 pub picture_lies : (kind : Picture) (told : Told) (inputs : InputPaths) (path : List ℕ) (loaded : Loaded) (bytes : Option (List ℕ)) (result : Result (List Output) Refusal)
     → IfSome told (λ all. file_at all (input_at inputs input.Certificate) ≡ bytes)
     → IfOk result (λ outputs. (certificate : List ℕ) × (picture : List ℕ) × (bytes ≡ Some certificate)
-    × IsPicture kind loaded.tables loaded.settings picture certificate × (outputs ≡ picture_outputs path picture)) → IfOk result (IsPictureAt kind told inputs path loaded)
+    × IsPicture kind loaded.tables loaded.settings loaded.method.claim picture certificate × (outputs ≡ picture_outputs path picture)) → IfOk result (IsPictureAt kind told inputs path loaded)
 picture_lies kind told inputs path loaded bytes (Err why) lies found = tt
 picture_lies kind None inputs path loaded bytes (Ok outputs) lies found = (found.0, found.1, tt, found.3, found.4)
 picture_lies kind (Some all) inputs path loaded bytes (Ok outputs) lies found = (found.0, found.1, lies ∙ found.2, found.3, found.4)

@@ -14,6 +14,7 @@ use Rattle.map_engine.specs.Labelling.{labelled_by, pictured_items, IsLabelledMa
 use Rattle.map_engine.specs.Geographic.{geographic_by, lines_by, IsGeographicMap}
 use Rattle.cert_file.specs.Plain.{PlainCertificate}
 use Rattle.map_base.specs.Settings.{Choices}
+use Rattle.map_method.specs.declared.claim.Claim.{Claim}
 use Rattle.transit_feed.specs.Feeds.{Feed}
 use Rattle.command_paths.specs.declared.picture.Picture.{Picture}
 use Rattle.command_paths.specs.declared.picture.Picture.TheVariants.{Labelled, Geographic}
@@ -58,7 +59,7 @@ picture_given path (Err fault) = Err (of_check fault)
 abbrev pub picture_at : Picture → List ℕ → Loaded → GraphParts → Option (List ℕ) → Result (List Output) Refusal
 picture_at kind path loaded parts None = Err (refused.Refuted (item.Missing false))
 picture_at kind path loaded parts (Some bytes) =
-    picture_given path (pictured_items (picture_by kind loaded.tables loaded.settings parts) loaded.tables loaded.settings parts (certificate_in bytes))
+    picture_given path (pictured_items (picture_by kind loaded.tables loaded.settings parts) loaded.tables loaded.settings loaded.method.claim parts (certificate_in bytes))
 
 -- the certificate is read and checked, and the picture is made by it
 abbrev pub certificate_work : Picture → List ℕ → Loaded → GraphParts → Work Input Refusal (List Output)
@@ -75,16 +76,16 @@ picture_work kind chosen path = do
 
 -- what a picture of each kind shows: the certificate's walks and orders with names at free places, or its orders along the
 -- courses of segments
-abbrev pub IsPicture : Picture → Feed → Choices → List ℕ → List ℕ → Type 0
-IsPicture Labelled feed choices picture certificate = IsLabelledMap feed choices picture certificate
-IsPicture Geographic feed choices picture certificate = IsGeographicMap feed choices picture certificate
+abbrev pub IsPicture : Picture → Feed → Choices → Claim → List ℕ → List ℕ → Type 0
+IsPicture Labelled feed choices claim picture certificate = IsLabelledMap feed choices claim picture certificate
+IsPicture Geographic feed choices claim picture certificate = IsGeographicMap feed choices claim picture certificate
 
 -- The output is the picture by the certificate that lies at its path. That certificate shows exactly the line graph of the
--- feed, and no line orders cost less than its own.
+-- feed, and proves of its line orders what is claimed.
 abbrev pub IsPictureAt : Picture → Option (List (List ℕ × List ℕ)) → InputPaths → List ℕ → Loaded → List Output → Type 0
 IsPictureAt kind told inputs path loaded outputs =
     (certificate : List ℕ) × (picture : List ℕ) × IfSome told (λ files. file_at files inputs.files.certificate ≡ Some certificate)
-    × IsPicture kind loaded.tables loaded.settings picture certificate × (outputs ≡ picture_outputs path picture)
+    × IsPicture kind loaded.tables loaded.settings loaded.method.claim picture certificate × (outputs ≡ picture_outputs path picture)
 
 -- What `labels` and `geo` promise of their output, in the words of the feed.
 pub record AreOfPicture (kind : Picture) (told : Option (List (List ℕ × List ℕ))) (inputs : InputPaths) (path : List ℕ) (outputs : List Output) : Type 0 where

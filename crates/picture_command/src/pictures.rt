@@ -89,7 +89,7 @@ fn picture_at(
     requires lines { HasLines kind loaded.now graph.now.lines }
     ensures given { Gives (λ outputs. outputs) result (picture_at kind map.now loaded.now graph.now.graph (option_map (λ v. v.items) bytes)) }
     ensures labelled { IfOk result (λ outputs. (certificate : List ℕ) × (picture : List ℕ) × (option_map (λ v. v.items) bytes ≡ Some certificate)
-        × IsPicture kind loaded.now.tables loaded.now.settings picture certificate × (outputs ≡ picture_outputs map.now picture)) }
+        × IsPicture kind loaded.now.tables loaded.now.settings loaded.now.method.claim picture certificate × (outputs ≡ picture_outputs map.now picture)) }
 {
     let Some(bytes) = bytes else {
         return Err(Refusal::Refuted(Item::Missing { picture: false }));
@@ -108,16 +108,20 @@ fn picture_by(
 ) -> Result<Vec<u8>, CheckFault>
     requires graph { graph_outcome loaded.now.settings.near loaded.now.tables ≡ Ok graph.now.graph }
     requires lines { HasLines kind loaded.now graph.now.lines }
-    ensures given { EngineGives (λ map. map.items) result (pictured_items (picture_by kind loaded.now.tables loaded.now.settings graph.now.graph) loaded.now.tables loaded.now.settings graph.now.graph (certificate_in certificate.now)) }
-    ensures shown { IfOk result (λ map. IsPicture kind loaded.now.tables loaded.now.settings map.items certificate.now) }
+    ensures given { EngineGives (λ map. map.items) result (pictured_items (picture_by kind loaded.now.tables loaded.now.settings graph.now.graph) loaded.now.tables loaded.now.settings loaded.now.method.claim graph.now.graph (certificate_in certificate.now)) }
+    ensures shown { IfOk result (λ map. IsPicture kind loaded.now.tables loaded.now.settings loaded.now.method.claim map.items certificate.now) }
 {
     let (tables, settings) = (&loaded.tables, &loaded.settings);
+    let claim = loaded.method.claim;
     match kind {
-        Picture::Labelled => labels_on_graph(alloc, tables, settings, &graph.graph, certificate),
+        Picture::Labelled => {
+            labels_on_graph(alloc, tables, settings, claim, &graph.graph, certificate)
+        }
         Picture::Geographic => geo_on_graph(
             alloc,
             tables,
             settings,
+            claim,
             &graph.graph,
             graph.lines.as_slice(),
             certificate,

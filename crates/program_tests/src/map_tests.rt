@@ -87,6 +87,32 @@ fn a_straight_map_is_not_moved(rt: HostRuntime) -> Result<(), Fail> {
     Ok(())
 }
 
+/// The geographic map of the smallest feed: its line runs over each point of the net between its stations.
+const SMALLEST_GROUND: &str = "\
+<svg xmlns=\"http://www.w3.org/2000/svg\" version=\"1.1\" viewBox=\"-1000 -1000 13132 2000\">
+<path class=\"s0 l0\" d=\"M 0 0 L 742 0 L 1484 0 L 2226 0 L 2968 0 L 3710 0 L 4452 0 L 5194 0 L 5937 0 L 6679 0 L 7421 0 L 8163 0 L 8905 0 L 9647 0 L 10389 0 L 11132 0\" fill=\"none\" stroke=\"#e6194b\" stroke-width=\"50\"><title>A</title></path>
+<circle cx=\"0\" cy=\"0\" r=\"50\" fill=\"#ffffff\" stroke=\"#000000\" stroke-width=\"10\"/>
+<circle cx=\"11132\" cy=\"0\" r=\"50\" fill=\"#ffffff\" stroke=\"#000000\" stroke-width=\"10\"/>
+<text x=\"90\" y=\"-90\" font-size=\"200\">X</text>
+<text x=\"11222\" y=\"-90\" font-size=\"200\">Y</text>
+</svg>
+";
+
+#[test]
+fn the_smallest_map_is_drawn_over_the_ground(rt: HostRuntime) -> Result<(), Fail> {
+    let alloc = rt.alloc();
+    let words = words_of(alloc, "geo feed map.cert ground.svg")?;
+    let mut files = smallest_feed(alloc)?;
+    put_file(alloc, &mut files, "map.cert", SMALLEST_CERTIFICATE)?;
+    let mut files = SteadyFiles::with(files);
+    let mut sinks = SteadySinks::none(alloc);
+    assert_eq!(rt; run_on(alloc, &words, &mut files, &mut sinks), 0);
+    let map = sinks.written(&at(alloc, "ground.svg")?).unwrap_or(b"");
+    assert_eq!(rt; map, SMALLEST_GROUND.as_bytes());
+    assert_eq!(rt; sinks.written(&Target::Said), None);
+    Ok(())
+}
+
 #[test]
 fn a_map_that_is_cut_short_leaves_no_certificate(rt: HostRuntime) -> Result<(), Fail> {
     let alloc = rt.alloc();
@@ -124,6 +150,41 @@ fn the_smallest_map_is_checked(rt: HostRuntime) -> Result<(), Fail> {
         let (ended, answer) = checked(alloc, map, certificate)?;
         assert_eq!(rt; ended, status);
         assert_eq!(rt; answer.as_slice(), said.as_bytes());
+    }
+    Ok(())
+}
+
+/// Changes of the certificate of the smallest feed: what stands there, what stands in its place, and what is refused.
+const CHANGES: [(&str, &str, &str); 13] = [
+    (SMALLEST_CERTIFICATE, "", "text 0"),
+    ("octimap 1\n", "octimap 1\r\n", "text 0"),
+    (
+        "graph 2 1 1\n",
+        "graph 2 1 99999999999999999999\n",
+        "text 10",
+    ),
+    ("E50", "E00", "text 22"),
+    ("E50", "E25 E25", "text 22"),
+    ("walk 0 0 0", "walk 0 0 1", "walk 0"),
+    ("order 0 0", "order 0 4294967296", "text 37"),
+    ("order 0 0", "order 0 1", "order 0"),
+    ("cost 0", "cost -0", "text 47"),
+    ("cost 0", "cost 1", "cost"),
+    ("rules 0", "rules 20000001", "text 54"),
+    ("parts 0", "parts 1", "text 70"),
+    ("parts 0\n", "parts 0\n\n", "text 70"),
+];
+
+#[test]
+fn a_changed_certificate_is_refused_at_its_change(rt: HostRuntime) -> Result<(), Fail> {
+    let alloc = rt.alloc();
+    for (old, new, item) in CHANGES {
+        let (head, tail) = SMALLEST_CERTIFICATE.split_once(old).ok_or("a place")?;
+        let changed = format!(in alloc; "{head}{new}{tail}")?;
+        let wanted = format!(in alloc; "refuted: {item}\n")?;
+        let (status, said) = checked(alloc, SMALLEST_MAP, changed.as_str())?;
+        assert_eq!(rt; status, 1);
+        assert_eq!(rt; said.as_slice(), wanted.as_str().as_bytes());
     }
     Ok(())
 }

@@ -182,7 +182,7 @@ module _ (feed : Feed) (choices : Choices) (method : MethodChoices) (bytes : Lis
             (All-same (Contains new.session.held) (finished_with feed choices method standing) (draw_parts old.session) (sym (ap draw_parts way.session)) draws.redrawn.finished));
         kept =
             All-push (KeepsPromise feed choices method) drawn standing way.kept
-            (subst (λ (s : SessionState). IfOk (draw_outcome s) (IsMade (drawn_feed s) (drawn_choices s))) way.session draws.redrawn.made);
+            (subst (λ (s : SessionState). IfOk (draw_outcome s) (IsMade (drawn_feed s) (drawn_choices s) s.method.claim)) way.session draws.redrawn.made);
         steps = steps_draw drawn old.session now next way.session way.held way.steps more;
       }
     where

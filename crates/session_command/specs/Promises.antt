@@ -15,7 +15,7 @@ use Rattle.command_inputs.specs.Loading.{Loads}
 use Rattle.session_command.specs.SessionWorks.{Played, played_by}
 
 -- Where a draw with these edits is not refused, its map shows exactly the line graph of the feed that they make, in a legal
--- drawing, and no line orders cost less; the check says yes to the map and its certificate.
+-- drawing, and no line orders cost less than the bound that its certificate proves; the check says yes to the two.
 abbrev pub KeepsPromise : Feed → Choices → MethodChoices → List Edit → Type 0
 KeepsPromise feed choices method standing = IfOk (draw_with feed choices method standing) (IsMade (feed_after standing feed) (choices_after standing choices) method.claim)
 

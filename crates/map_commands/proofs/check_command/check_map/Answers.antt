@@ -56,7 +56,7 @@ returns-clause-keeps g c =
     let told = g.F.Files.told c.args.files.now in
     let inputs = inputs_by c.args.inputs.now in
     let checked = c.in_ok-checked.checked in
-    let accepted = subst (λ (t : Told). IsAccepted t inputs c.in_ok-loaded.loaded checked.svg.items checked.cost) c.in_ok-loaded.ensures.kept c.in_ok-checked.ensures.certified in
+    let accepted = subst (λ (t : Told). IsAccepted t inputs c.in_ok-loaded.loaded checked.svg.items checked.proved) c.in_ok-loaded.ensures.kept c.in_ok-checked.ensures.certified in
     let lies = subst (λ (t : Told). IfOk c.read_picture.result (λ _. IfSome t (λ all. file_at all (input_at inputs input.Picture) ≡ Some checked.svg.items))) (c.in_ok-checked.ensures.kept ∙ c.in_ok-loaded.ensures.kept) c.read_picture.ensures.lies in
     says_yes told inputs (Rose (g.F.Files.faults c.args.files.now) (g.F.Files.faults c.load.new.files)) c.in_ok-loaded.loaded checked c.read_picture.result
-    c.in_ok-loaded.ensures.follows accepted lies c.read_picture.ensures.best
+    c.in_ok-loaded.ensures.follows accepted lies c.read_picture.ensures.proved

@@ -4,7 +4,7 @@ use Rattle.order_values.specs.declared.rule.Rule.{Rule}
 use Rattle.order_model.specs.declared.problem.ProblemParts.{ProblemParts}
 use Rattle.order_model.specs.Costs.{AreOrders}
 use Rattle.order_proof.specs.Plain.{PlainPart}
-use Rattle.order_proof.specs.Trees.{IsProofTree}
+use Rattle.order_proof.specs.Trees.{IsPartTree}
 use Rattle.order_rules.specs.Lifting.{lifted_all}
 use Rattle.map_engine.specs.Keeping.{finished_of}
 use Rattle.map_engine.specs.Solving.{solve_outcome}
@@ -15,16 +15,16 @@ use Rattle.map_engine.proofs.best_orders.best_orders.Goals as goal
 pub lifted-requires-clause-trees : goal.lifted-requires-clause-trees
 lifted-requires-clause-trees g c =
     let found = c.in_ok-solution.ensures.solved in
-    subst (λ (parts : List PlainPart). AllByRecursion (λ (q : PlainPart). IsProofTree q.tree) parts) (sym found.2.proofs) found.2.trees
+    subst (λ (parts : List PlainPart). AllByRecursion (λ (q : PlainPart). IsPartTree q.tree) parts) (sym found.2.proofs) found.2.trees
 
 pub returns-clause-found : goal.returns-clause-found
 returns-clause-found g c =
     let found = c.in_ok-solution.ensures.solved in
     let last = c.in_ok-rules.ensures.problem in
-    let solved = subst (λ (q : ProblemParts). solve_outcome c.args.how c.args.budget q ≡ Ok found.0) last found.1 in (
+    let solved = subst (λ (q : ProblemParts). solve_outcome c.args.plan q ≡ Ok found.0) last found.1 in (
       found.0,
       solved,
-      best_by c.args.how c.args.problem c.in_ok-rules.untangled c.in_ok-rules.rules c.in_ok-solution.solution c.in_ok-lifted.field-0 found.0 c.requires.problem last c.in_ok-rules.ensures.rules
+      best_by c.args.plan c.args.problem c.in_ok-rules.untangled c.in_ok-rules.rules c.in_ok-solution.solution c.in_ok-lifted.field-0 found.0 c.requires.problem last c.in_ok-rules.ensures.rules
           c.in_ok-solution.ensures.orders found.2 c.in_ok-lifted.ensures.orders c.in_ok-lifted.ensures.cost c.in_ok-lifted.ensures.proof,
     )
 
@@ -36,4 +36,4 @@ returns-clause-orders g c =
 
 pub returns-clause-finished : goal.returns-clause-finished
 returns-clause-finished g c =
-    subst (λ (q : ProblemParts). All (Contains c.solve_parts.new.kept) (finished_of c.args.how c.args.budget q)) c.in_ok-rules.ensures.problem c.in_ok-solution.ensures.finished
+    subst (λ (q : ProblemParts). All (Contains c.solve_parts.new.kept) (finished_of c.args.plan q)) c.in_ok-rules.ensures.problem c.in_ok-solution.ensures.finished

@@ -10,7 +10,7 @@ use Rattle.map_engine.specs.Problems.{problem_within}
 use Rattle.map_engine.specs.Checking.{first_disorder}
 use Rattle.map_engine.proofs.ImportanceLemmas.{have_importance}
 use Rattle.map_engine.proofs.HeldOrders.{orders_held}
-use Rattle.map_engine.proofs.CheckSteps.{costs_least, orders_fit}
+use Rattle.map_engine.proofs.CheckSteps.{orders_bounded, orders_fit}
 use Rattle.map_engine.proofs.checking.check_walks.Goals as goal
 
 pub terms_of-requires-clause-importance : goal.terms_of-requires-clause-importance
@@ -49,6 +49,7 @@ returns-clause-certified c =
         ordered = orders_held lines orders 0 c.requires.range.orders (omega (arith, c.requires.range.orders_each, c.requires.segs, c.requires.fits.lines_each)) none;
         picture = c.in_ok-svg.ensures ∙ ap (λ (names : Names). picture_text names c.args.graph.now c.args.certificate.walks orders) c.in_ok-names.ensures;
       };
-      least = costs_least c.args.tables.now c.args.settings.now c.args.graph.now c.in_ok-problem.problem orders c.args.certificate.cost made
-          c.in_ok-check_orders.ensures.cost c.in_ok-check_orders.ensures.best;
+      bounded = orders_bounded c.args.tables.now c.args.settings.now c.args.graph.now c.in_ok-problem.problem orders
+          c.args.certificate.cost c.in_ok-bound.bound made c.in_ok-bound.ensures.cost c.in_ok-bound.ensures.bound;
+      claimed = c.in_ok-bound.ensures.claimed;
     }

@@ -9,23 +9,23 @@ use Rattle.map_engine.proofs.geographic.geo_on_graph.Goals as goal
 
 pub geographic_map-requires-clause-ordered : goal.geographic_map-requires-clause-ordered
 geographic_map-requires-clause-ordered c =
-    are_orders c.args.tables.now c.args.settings.now c.args.graph.now (plain c.in_ok-read.read) c.args.certificate.now
-    c.in_ok-_accepted._accepted.svg.items c.in_ok-_accepted._accepted.cost c.requires.graph c.in_ok-read.ensures.certificate c.in_ok-_accepted.ensures.certified
+    are_orders c.args.tables.now c.args.settings.now c.args.claim c.args.graph.now (plain c.in_ok-read.read) c.args.certificate.now
+    c.in_ok-_accepted._accepted.svg.items c.in_ok-_accepted._accepted.proved c.requires.graph c.in_ok-read.ensures.certificate c.in_ok-_accepted.ensures.certified
 
 pub returns-in_err-read-clause-outcome : goal.returns-in_err-read-clause-outcome
 returns-in_err-read-clause-outcome c =
     let p = err_from_is_err_and c.from_residual-in_err-read.result c.from_residual-in_err-read.ensures.1 in
-    rw (p.1, p.2) (text_undrawn (geographic_by c.args.tables.now c.args.graph.now c.args.lines.now) c.args.tables.now c.args.settings.now c.args.graph.now c.args.certificate.now c.in_err-read.field-0.0 c.in_err-read.ensures.end)
+    rw (p.1, p.2) (text_undrawn (geographic_by c.args.tables.now c.args.graph.now c.args.lines.now) c.args.tables.now c.args.settings.now c.args.claim c.args.graph.now c.args.certificate.now c.in_err-read.field-0.0 c.in_err-read.ensures.end)
 
 pub returns-clause-outcome : goal.returns-clause-outcome
 returns-clause-outcome c =
     let ok : List ℕ → Result (List ℕ) CheckFault = λ bytes. Ok bytes in
-    accepted_drawn (geographic_by c.args.tables.now c.args.graph.now c.args.lines.now) c.args.tables.now c.args.settings.now c.args.graph.now (plain c.in_ok-read.read) c.args.certificate.now (checked_bytes c.in_ok-_accepted._accepted)
+    accepted_drawn (geographic_by c.args.tables.now c.args.graph.now c.args.lines.now) c.args.tables.now c.args.settings.now c.args.claim c.args.graph.now (plain c.in_ok-read.read) c.args.certificate.now (checked_bytes c.in_ok-_accepted._accepted)
     c.in_ok-read.ensures.certificate c.in_ok-_accepted.ensures.outcome
     ∙ ap ok (sym c.in_ok-geographic_map.ensures)
 
 pub returns-clause-certified : goal.returns-clause-certified
 returns-clause-certified c =
-    is_geographic c.args.tables.now c.args.settings.now c.args.graph.now (plain c.in_ok-read.read) c.args.certificate.now
-    c.in_ok-_accepted._accepted.svg.items c.in_ok-_accepted._accepted.cost c.requires.graph c.in_ok-read.ensures.certificate c.in_ok-_accepted.ensures.certified
+    is_geographic c.args.tables.now c.args.settings.now c.args.claim c.args.graph.now (plain c.in_ok-read.read) c.args.certificate.now
+    c.in_ok-_accepted._accepted.svg.items c.in_ok-_accepted._accepted.proved c.requires.graph c.in_ok-read.ensures.certificate c.in_ok-_accepted.ensures.certified
     c.in_ok-geographic_map.field-0.items c.args.lines.now c.requires.lines c.in_ok-geographic_map.ensures

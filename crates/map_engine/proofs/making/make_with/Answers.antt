@@ -3,10 +3,10 @@ use Rattle.std.proofs.lemmas.List.{length-map}
 use Rattle.std.proofs.lemmas.List.Elements.{All-contains_itself}
 use Rattle.std.proofs.lemmas.Result.{err_from_is_err_and}
 use Rattle.map_base.specs.declared.ids.LineId.{LineId}
-use Rattle.map_base.specs.Settings.{Choices, IsImportance}
 use Rattle.transit_feed.specs.declared.line.Line.{Line}
 use Rattle.map_method.specs.Methods.{MethodChoices}
 use Rattle.order_model.specs.declared.problem.ProblemParts.{ProblemParts}
+use Rattle.kept_trees.specs.declared.plan.SearchPlan.{SearchPlan}
 use Rattle.kept_trees.specs.OwnTrees.{HeldPart}
 use Rattle.kept_trees.specs.Keeping.{branches_to_meet}
 use Rattle.order_model.specs.Costs.{AreOrders}
@@ -16,7 +16,7 @@ use Rattle.map_engine.specs.Tables.{importance_among}
 use Rattle.map_engine.specs.Problems.{untangled_problem}
 use Rattle.map_engine.specs.Solving.{solve_outcome, parts_in}
 use Rattle.map_engine.specs.Keeping.{finished_of, finished_parts, HoldsFinished}
-use Rattle.map_engine.specs.Making.{HasCause}
+use Rattle.map_engine.specs.Making.{plan_of, HasCause}
 use Rattle.map_engine.specs.Improving.{ImprovedBytes, improved_map}
 use Rattle.map_engine.specs.Stages.{drawn_after, drawn_of, AreBestBy, IsWritten}
 use Rattle.map_engine.specs.Promises.{IsMade}
@@ -36,15 +36,14 @@ pub returns-in_err-best-clause-outcome : goal.returns-in_err-best-clause-outcome
 returns-in_err-best-clause-outcome g c =
     let e = c.in_err-best.field-0.0 in
     let p = c.in_ok-drawn.problem in
-    let cause = subst (λ (m : MethodChoices). HasCause (solve_outcome m.search c.args.settings.now.budget (untangled_problem p)) e) c.method.view_is
-    (subst (λ (s : Choices). HasCause (solve_outcome c.method.inside.search s.budget (untangled_problem p)) e) c.settings.view_is c.in_err-best.ensures.found) in
+    let cause = subst (λ (plan : SearchPlan). HasCause (solve_outcome plan (untangled_problem p)) e) c.plan_of.ensures.plan c.in_err-best.ensures.found in
     let same = err_from_is_err_and c.from_residual-in_err-best.result c.from_residual-in_err-best.ensures.1 in
     rw (same.1, same.2) (not_solved ImprovedBytes (improved_map c.args.tables.now c.args.settings.now c.args.moves) c.args.tables.now c.args.settings.now c.args.method.now c.in_ok-drawn.drawn p e c.in_ok-drawn.ensures.outcome cause)
 
 pub returns-in_err-best-clause-steps : goal.returns-in_err-best-clause-steps
 returns-in_err-best-clause-steps g c =
     let p : ProblemParts = untangled_problem c.in_ok-drawn.problem in
-    let steps = subst (λ (m : MethodChoices). c.best_orders.new.steps ≤ c.args.steps.now + sum_by (branches_to_meet c.args.kept.now m.search p) (parts_in p)) c.method.view_is
+    let steps = subst (λ (plan : SearchPlan). c.best_orders.new.steps ≤ c.args.steps.now + sum_by (branches_to_meet c.args.kept.now plan p) (parts_in p)) c.plan_of.ensures.plan
     c.best_orders.ensures.steps in
     omega (
       arith,
@@ -55,7 +54,7 @@ returns-in_err-best-clause-steps g c =
 pub returns-in_err-moved_map-clause-steps : goal.returns-in_err-moved_map-clause-steps
 returns-in_err-moved_map-clause-steps g c =
     let p : ProblemParts = untangled_problem c.in_ok-drawn.problem in
-    let steps = subst (λ (m : MethodChoices). c.best_orders.new.steps ≤ c.args.steps.now + sum_by (branches_to_meet c.args.kept.now m.search p) (parts_in p)) c.method.view_is
+    let steps = subst (λ (plan : SearchPlan). c.best_orders.new.steps ≤ c.args.steps.now + sum_by (branches_to_meet c.args.kept.now plan p) (parts_in p)) c.plan_of.ensures.plan
     c.best_orders.ensures.steps in
     omega (
       arith,
@@ -66,7 +65,7 @@ returns-in_err-moved_map-clause-steps g c =
 pub returns-clause-steps : goal.returns-clause-steps
 returns-clause-steps g c =
     let p : ProblemParts = untangled_problem c.in_ok-drawn.problem in
-    let steps = subst (λ (m : MethodChoices). c.best_orders.new.steps ≤ c.args.steps.now + sum_by (branches_to_meet c.args.kept.now m.search p) (parts_in p)) c.method.view_is
+    let steps = subst (λ (plan : SearchPlan). c.best_orders.new.steps ≤ c.args.steps.now + sum_by (branches_to_meet c.args.kept.now plan p) (parts_in p)) c.plan_of.ensures.plan
     c.best_orders.ensures.steps in
     omega (
       arith,
@@ -87,8 +86,7 @@ returns-in_err-best-clause-finished g c =
     let e = c.in_err-best.field-0.0 in
     let p = c.in_ok-drawn.problem in
     let held = c.best_orders.new.kept in
-    let of_problem = subst (λ (m : MethodChoices). HoldsFinished {X = BestOrders} (Err e) (finished_of m.search c.args.settings.now.budget (untangled_problem p)) held) c.method.view_is
-    (subst (λ (s : Choices). HoldsFinished {X = BestOrders} (Err e) (finished_of c.method.inside.search s.budget (untangled_problem p)) held) c.settings.view_is c.in_err-best.ensures.finished) in
+    let of_problem = subst (λ (plan : SearchPlan). HoldsFinished {X = BestOrders} (Err e) (finished_of plan (untangled_problem p)) held) c.plan_of.ensures.plan c.in_err-best.ensures.finished in
     let of_feed = subst (λ (parts : List HeldPart). HoldsFinished {X = BestOrders} (Err e) parts held) (sym (finished_is c.args.tables.now c.args.settings.now c.args.method.now c.in_ok-drawn.drawn p c.in_ok-drawn.ensures.outcome)) of_problem in
     let same = err_from_is_err_and c.from_residual-in_err-best.result c.from_residual-in_err-best.ensures.1 in
     rw (same.1, same.2) (same_held BestOrders ImprovedMap e (finished_parts c.args.tables.now c.args.settings.now c.args.method.now) held of_feed)
@@ -97,8 +95,7 @@ pub returns-clause-finished : goal.returns-clause-finished
 returns-clause-finished g c =
     let p = c.in_ok-drawn.problem in
     let held = c.best_orders.new.kept in
-    let of_problem = subst (λ (m : MethodChoices). All (Contains held) (finished_of m.search c.args.settings.now.budget (untangled_problem p))) c.method.view_is
-    (subst (λ (s : Choices). All (Contains held) (finished_of c.method.inside.search s.budget (untangled_problem p))) c.settings.view_is c.in_ok-best.ensures.finished) in
+    let of_problem = subst (λ (plan : SearchPlan). All (Contains held) (finished_of plan (untangled_problem p))) c.plan_of.ensures.plan c.in_ok-best.ensures.finished in
     subst (λ (parts : List HeldPart). All (Contains held) parts) (sym (finished_is c.args.tables.now c.args.settings.now c.args.method.now c.in_ok-drawn.drawn p c.in_ok-drawn.ensures.outcome)) of_problem
 
 pub moved_map-requires-clause-lines : goal.moved_map-requires-clause-lines
@@ -116,9 +113,8 @@ returns-clause-outcome g c =
     let best = c.in_ok-best.best in
     let improved = c.in_ok-moved_map.field-0 in
     let found = c.in_ok-best.ensures.found in
-    let solved = subst (λ (m : MethodChoices). solve_outcome m.search c.args.settings.now.budget (untangled_problem p) ≡ Ok found.0) c.method.view_is
-    (subst (λ (k : Choices). solve_outcome c.method.inside.search k.budget (untangled_problem p) ≡ Ok found.0) c.settings.view_is found.1) in
-    let best_is = subst (λ (m : MethodChoices). AreBestBy m.search p found.0 best) c.method.view_is found.2 in
+    let solved = subst (λ (plan : SearchPlan). solve_outcome plan (untangled_problem p) ≡ Ok found.0) c.plan_of.ensures.plan found.1 in
+    let best_is = subst (λ (plan : SearchPlan). AreBestBy plan p found.0 best) c.plan_of.ensures.plan found.2 in
     let written = subst (λ (m : MethodChoices). IsWritten c.args.tables.now d best m.moves c.args.moves improved) c.method.view_is c.in_ok-moved_map.ensures in
     outcome_is c.args.tables.now c.args.settings.now c.args.method.now d p best found.0 c.args.moves improved c.in_ok-drawn.ensures.outcome solved c.in_ok-drawn.ensures.importance best_is written
 
@@ -127,23 +123,22 @@ returns-clause-improved g c =
     let feed = c.args.tables.now in
     let choices = c.args.settings.now in
     let method = c.args.method.now in
+    let plan = plan_of choices method in
     let d = c.in_ok-drawn.drawn in
     let p = c.in_ok-drawn.problem in
     let best = c.in_ok-best.best in
     let improved = c.in_ok-moved_map.field-0 in
     let found = c.in_ok-best.ensures.found in
-    let solved = subst (λ (m : MethodChoices). solve_outcome m.search choices.budget (untangled_problem p) ≡ Ok found.0) c.method.view_is
-    (subst (λ (k : Choices). solve_outcome c.method.inside.search k.budget (untangled_problem p) ≡ Ok found.0) c.settings.view_is found.1) in
-    let best_is = subst (λ (m : MethodChoices). AreBestBy m.search p found.0 best) c.method.view_is found.2 in
+    let solved = subst (λ (q : SearchPlan). solve_outcome q (untangled_problem p) ≡ Ok found.0) c.plan_of.ensures.plan found.1 in
+    let best_is = subst (λ (q : SearchPlan). AreBestBy q p found.0 best) c.plan_of.ensures.plan found.2 in
     let written = subst (λ (m : MethodChoices). IsWritten feed d best m.moves c.args.moves improved) c.method.view_is c.in_ok-moved_map.ensures in
-    let importance = subst (λ (k : Choices). All (λ (q : List ℕ × ℕ). IsImportance q.1) k.importance) c.settings.view_is c.settings.invariant.importance in
     let drawing = c.in_ok-drawn.ensures.drawing in
     let whole = whole_is feed choices method d p best found.0 c.in_ok-drawn.ensures.outcome drawing.each drawing.legal c.in_ok-drawn.ensures.problem c.in_ok-drawn.ensures.problem_fits solved best_is in
     let last = drawn_after c.args.moves (drawn_after method.moves d) in
     record {
-      made = subst (IsMade feed choices) (sym written.map)
-          (made_by method.search feed choices last p best found.0 (whole_moved method.search feed choices d p method.moves c.args.moves whole written.drawing) written.drawing.fits written.drawing.walks
-          written.drawing.first c.in_ok-drawn.ensures.lines written.few importance c.in_ok-drawn.ensures.importance solved best_is);
+      made = subst (IsMade feed choices method.claim) (sym written.map)
+          (made_by plan feed choices last p best found.0 (whole_moved plan feed choices d p found.0 method.moves c.args.moves whole written.drawing) written.drawing.fits written.drawing.walks
+          written.drawing.first c.in_ok-drawn.ensures.lines written.few c.plan_of.ensures.importance c.in_ok-drawn.ensures.importance best_is);
       no_heavier = written.no_heavier;
       solved = record { drawn = drawn_of (drawn_after method.moves d, p); parts = found.0 };
       of_feed = solved_is feed choices method d p found.0 c.in_ok-drawn.ensures.outcome solved;

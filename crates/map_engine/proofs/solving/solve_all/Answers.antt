@@ -27,10 +27,10 @@ loop-k-init g c =
     let segs = c.args.problem.now.segs in
     let orders = c.in_ok-number_orders.ensures ∙ c.segs.ensures.lists in
     record {
-      solved = none_solved c.args.how c.args.budget c.args.problem.now (record { orders = c.in_ok-number_orders.field-0; parts = c.in_ok-with_capacity.field-0 }) orders c.in_ok-with_capacity.ensures.items;
+      solved = none_solved c.args.plan c.args.problem.now (record { orders = c.in_ok-number_orders.field-0; parts = c.in_ok-with_capacity.field-0 }) orders c.in_ok-with_capacity.ensures.items;
       orders = rw orders (number_orders_are segs);
       kept = All-contains_itself c.args.kept.now;
-      held = All-nil (λ (q : List SegId). Contains c.args.kept.now (held_as c.args.how c.args.problem.now q));
+      held = All-nil (λ (q : List SegId). Contains c.args.kept.now (held_as c.args.plan c.args.problem.now q));
       steps = omega arith;
     }
 
@@ -62,20 +62,20 @@ loop-k-preserved g c =
     let p = c.args.problem.now in
     let part = c.index-parts-k.result in
     let here = part_here p c.args.parts.now c.loop-k.k part c.requires.parts c.loop-k-test.true c.index-parts-k.is in
-    let more = subst (λ (q : List SegId). IsMore c.args.how c.args.budget p q c.loop-k.solution c.solve_part.new.solution) c.as_slice.ensures.value c.in_ok-solve_part.ensures.more in
-    let held = subst (λ (q : List SegId). Contains c.solve_part.new.kept (held_as c.args.how p q)) c.as_slice.ensures.value c.in_ok-solve_part.ensures.held in
-    let taken = subst (λ (q : List SegId). c.solve_part.new.steps ≤ c.loop-k.steps + branches_to_meet c.loop-k.kept c.args.how p q) c.as_slice.ensures.value c.solve_part.ensures.steps in
+    let more = subst (λ (q : List SegId). IsMore c.args.plan p q c.loop-k.solution c.solve_part.new.solution) c.as_slice.ensures.value c.in_ok-solve_part.ensures.more in
+    let held = subst (λ (q : List SegId). Contains c.solve_part.new.kept (held_as c.args.plan p q)) c.as_slice.ensures.value c.in_ok-solve_part.ensures.held in
+    let taken = subst (λ (q : List SegId). c.solve_part.new.steps ≤ c.loop-k.steps + branches_to_meet c.loop-k.kept c.args.plan p q) c.as_slice.ensures.value c.solve_part.ensures.steps in
     record {
-      solved = one_solved c.args.how c.args.budget p c.loop-k.k part.items c.loop-k.solution c.solve_part.new.solution here.0 here.1 more c.loop-k.invariant.solved;
+      solved = one_solved c.args.plan p c.loop-k.k part.items c.loop-k.solution c.solve_part.new.solution here.0 here.1 more c.loop-k.invariant.solved;
       orders = c.in_ok-solve_part.ensures.orders;
       kept = still_held c.args.kept.now c.loop-k.kept c.solve_part.new.kept c.loop-k.invariant.kept c.solve_part.ensures.kept;
-      held = one_held c.args.how c.loop-k.kept c.solve_part.new.kept p c.loop-k.k part.items here.0 here.1 c.solve_part.ensures.kept held c.loop-k.invariant.held;
+      held = one_held c.args.plan c.loop-k.kept c.solve_part.new.kept p c.loop-k.k part.items here.0 here.1 c.solve_part.ensures.kept held c.loop-k.invariant.held;
       steps = omega (
         arith,
         taken,
         c.loop-k.invariant.steps,
-        fewer_to_meet c.args.kept.now c.loop-k.kept c.args.how p part.items c.loop-k.invariant.kept,
-        steps_more (branches_to_meet c.args.kept.now c.args.how p) p c.loop-k.k part.items here.0 here.1,
+        fewer_to_meet c.args.kept.now c.loop-k.kept c.args.plan p part.items c.loop-k.invariant.kept,
+        steps_more (branches_to_meet c.args.kept.now c.args.plan p) p c.loop-k.k part.items here.0 here.1,
       );
     }
 
@@ -85,10 +85,10 @@ returns-in_err-solve_part-clause-solved g c =
     let part = c.index-parts-k.result in
     let here = part_here p c.args.parts.now c.loop-k.k part c.requires.parts c.loop-k-test.true c.index-parts-k.is in
     let e = c.in_err-solve_part.field-0.0 in
-    let why = subst (λ (q : List SegId). IsUnsolved c.args.how c.args.budget p c.loop-k.k q e) c.as_slice.ensures.value c.in_err-solve_part.ensures.unsolved in
+    let why = subst (λ (q : List SegId). IsUnsolved c.args.plan p c.loop-k.k q e) c.as_slice.ensures.value c.in_err-solve_part.ensures.unsolved in
     let same = err_from_is_err_and c.from_residual-in_err-solve_part.result c.from_residual-in_err-solve_part.ensures.1 in
     rw (same.1, same.2)
-    (unsolved_ends c.args.how c.args.budget p c.loop-k.k part.items c.loop-k.solution e here.0 here.1 why c.loop-k.invariant.solved)
+    (unsolved_ends c.args.plan p c.loop-k.k part.items c.loop-k.solution e here.0 here.1 why c.loop-k.invariant.solved)
 
 pub returns-in_err-solve_part-clause-kept : goal.returns-in_err-solve_part-clause-kept
 returns-in_err-solve_part-clause-kept g c = still_held c.args.kept.now c.loop-k.kept c.solve_part.new.kept c.loop-k.invariant.kept c.solve_part.ensures.kept
@@ -99,26 +99,26 @@ returns-in_err-solve_part-clause-finished g c =
     let part = c.index-parts-k.result in
     let here = part_here p c.args.parts.now c.loop-k.k part c.requires.parts c.loop-k-test.true c.index-parts-k.is in
     let e = c.in_err-solve_part.field-0.0 in
-    let why = subst (λ (q : List SegId). IsUnsolved c.args.how c.args.budget p c.loop-k.k q e) c.as_slice.ensures.value c.in_err-solve_part.ensures.unsolved in
-    let before : AreHeld c.args.how c.solve_part.new.kept p (take c.loop-k.k (parts_in p)) =
-    all_held c.args.how c.loop-k.kept c.solve_part.new.kept p (take c.loop-k.k (parts_in p)) c.solve_part.ensures.kept c.loop-k.invariant.held in
+    let why = subst (λ (q : List SegId). IsUnsolved c.args.plan p c.loop-k.k q e) c.as_slice.ensures.value c.in_err-solve_part.ensures.unsolved in
+    let before : AreHeld c.args.plan c.solve_part.new.kept p (take c.loop-k.k (parts_in p)) =
+    all_held c.args.plan c.loop-k.kept c.solve_part.new.kept p (take c.loop-k.k (parts_in p)) c.solve_part.ensures.kept c.loop-k.invariant.held in
     let same = err_from_is_err_and c.from_residual-in_err-solve_part.result c.from_residual-in_err-solve_part.ensures.1 in
     rw (same.1, same.2)
-    (held_before c.args.how Solution c.args.budget p c.loop-k.k part.items c.solve_part.new.kept e here.0 here.1 why before)
+    (held_before c.args.plan Solution p c.loop-k.k part.items c.solve_part.new.kept e here.0 here.1 why before)
 
 pub returns-in_err-solve_part-clause-steps : goal.returns-in_err-solve_part-clause-steps
 returns-in_err-solve_part-clause-steps g c =
     let p = c.args.problem.now in
     let part = c.index-parts-k.result in
     let here = part_here p c.args.parts.now c.loop-k.k part c.requires.parts c.loop-k-test.true c.index-parts-k.is in
-    let taken = subst (λ (q : List SegId). c.solve_part.new.steps ≤ c.loop-k.steps + branches_to_meet c.loop-k.kept c.args.how p q) c.as_slice.ensures.value c.solve_part.ensures.steps in
+    let taken = subst (λ (q : List SegId). c.solve_part.new.steps ≤ c.loop-k.steps + branches_to_meet c.loop-k.kept c.args.plan p q) c.as_slice.ensures.value c.solve_part.ensures.steps in
     omega (
       arith,
       taken,
       c.loop-k.invariant.steps,
-      fewer_to_meet c.args.kept.now c.loop-k.kept c.args.how p part.items c.loop-k.invariant.kept,
-      steps_more (branches_to_meet c.args.kept.now c.args.how p) p c.loop-k.k part.items here.0 here.1,
-      sum_by-take-le (branches_to_meet c.args.kept.now c.args.how p) (parts_in p) (c.loop-k.k + 1),
+      fewer_to_meet c.args.kept.now c.loop-k.kept c.args.plan p part.items c.loop-k.invariant.kept,
+      steps_more (branches_to_meet c.args.kept.now c.args.plan p) p c.loop-k.k part.items here.0 here.1,
+      sum_by-take-le (branches_to_meet c.args.kept.now c.args.plan p) (parts_in p) (c.loop-k.k + 1),
     )
 
 pub returns-clause-solved : goal.returns-clause-solved
@@ -126,11 +126,11 @@ returns-clause-solved g c =
     let p = c.args.problem.now in
     let over : length (parts_in p) ≤ c.loop-k.k =
     subst (λ (ps : List (List SegId)). length ps ≤ c.loop-k.k) c.requires.parts (omega (arith, length-part_lists c.args.parts.now, c.loop-k-test.false)) in
-    all_solved c.args.how c.args.budget p c.loop-k.k c.loop-k.solution over c.loop-k.invariant.solved
+    all_solved c.args.plan p c.loop-k.k c.loop-k.solution over c.loop-k.invariant.solved
 
 pub returns-clause-finished : goal.returns-clause-finished
 returns-clause-finished g c =
     let p = c.args.problem.now in
     let over : length (parts_in p) ≤ c.loop-k.k =
     subst (λ (ps : List (List SegId)). length ps ≤ c.loop-k.k) c.requires.parts (omega (arith, length-part_lists c.args.parts.now, c.loop-k-test.false)) in
-    held_all c.args.how c.args.budget p c.loop-k.k c.loop-k.kept over c.loop-k.invariant.held
+    held_all c.args.plan p c.loop-k.k c.loop-k.kept over c.loop-k.invariant.held

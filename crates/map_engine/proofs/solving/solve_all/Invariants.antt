@@ -9,9 +9,9 @@ use Rattle.map_engine.proofs.solving.solve_all.Given as goal
 
 abbrev pub invariant-loop-k : goal.invariant-loop-k
 invariant-loop-k g l = record {
-  solved : AreSolved l.how l.budget l.problem l.k l.solution;
+  solved : AreSolved l.plan l.problem l.k l.solution;
   orders : AreOrders l.problem.segs l.solution.orders.items;
   kept : All (Contains l.kept) l.fn.kept;
-  held : AreHeld l.how l.kept l.problem (take l.k (parts_in l.problem));
-  steps : l.steps ≤ l.fn.steps + sum_by (branches_to_meet l.fn.kept l.how l.problem) (take l.k (parts_in l.problem));
+  held : AreHeld l.plan l.kept l.problem (take l.k (parts_in l.problem));
+  steps : l.steps ≤ l.fn.steps + sum_by (branches_to_meet l.fn.kept l.plan l.problem) (take l.k (parts_in l.problem));
 }

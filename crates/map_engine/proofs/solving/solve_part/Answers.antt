@@ -17,7 +17,7 @@ take_found-requires-clause-known g c =
 pub returns-in_ok-take_found-in-Ok-clause-more : goal.returns-in_ok-take_found-in-Ok-clause-more
 returns-in_ok-take_found-in-Ok-clause-more g c =
     let found = c.in-Ok.ensures.found in
-    found_more c.args.how c.args.budget c.args.problem.now c.args.part.now c.in-Ok.found c.args.solution.now c.take_found.new.solution found c.in-Ok.ensures.within
+    found_more c.args.plan c.args.problem.now c.args.part.now c.in-Ok.found c.args.solution.now c.take_found.new.solution found
     c.in_ok-take_found-in-Ok.ensures.orders c.in_ok-take_found-in-Ok.ensures.parts
 
 pub returns-in_ok-take_found-in-Ok-clause-orders : goal.returns-in_ok-take_found-in-Ok-clause-orders
@@ -27,16 +27,16 @@ returns-in_ok-take_found-in-Ok-clause-orders g c =
 
 pub returns-in_ok-take_found-in-Ok-clause-held : goal.returns-in_ok-take_found-in-Ok-clause-held
 returns-in_ok-take_found-in-Ok-clause-held g c =
-    let own : HeldPart = held_as c.args.how c.args.problem.now c.args.part.now in
+    let own : HeldPart = held_as c.args.plan c.args.problem.now c.args.part.now in
     subst (λ (held : List HeldPart). Contains held own) (sym c.in-Ok.ensures.held) (added_is_in c.args.kept.now own)
 
 pub returns-in_ok-take_found-in-Ok-clause-kept : goal.returns-in_ok-take_found-in-Ok-clause-kept
 returns-in_ok-take_found-in-Ok-clause-kept g c =
-    subst (λ (held : List HeldPart). All (Contains held) c.args.kept.now) (sym c.in-Ok.ensures.held) (all_stay c.args.kept.now (held_as c.args.how c.args.problem.now c.args.part.now))
+    subst (λ (held : List HeldPart). All (Contains held) c.args.kept.now) (sym c.in-Ok.ensures.held) (all_stay c.args.kept.now (held_as c.args.plan c.args.problem.now c.args.part.now))
 
 pub returns-in_err-take_found-in-Ok-clause-kept : goal.returns-in_err-take_found-in-Ok-clause-kept
 returns-in_err-take_found-in-Ok-clause-kept g c =
-    subst (λ (held : List HeldPart). All (Contains held) c.args.kept.now) (sym c.in-Ok.ensures.held) (all_stay c.args.kept.now (held_as c.args.how c.args.problem.now c.args.part.now))
+    subst (λ (held : List HeldPart). All (Contains held) c.args.kept.now) (sym c.in-Ok.ensures.held) (all_stay c.args.kept.now (held_as c.args.plan c.args.problem.now c.args.part.now))
 
 pub returns-in-Err-clause-kept : goal.returns-in-Err-clause-kept
 returns-in-Err-clause-kept g c =

@@ -14,10 +14,11 @@ pub returns-in-Geographic-clause-given : goal.returns-in-Geographic-clause-given
 returns-in-Geographic-clause-given c =
     let feed = c.args.loaded.now.tables in
     let choices = c.args.loaded.now.settings in
+    let claim = c.args.loaded.now.method.claim in
     let graph = c.args.graph.now.graph in
     let read = certificate_in c.args.certificate.now in
     let lines : HasLines Geographic c.args.loaded.now c.args.graph.now.lines = subst (λ (k : Picture). HasLines k c.args.loaded.now c.args.graph.now.lines) c.in-Geographic.is c.requires.lines in
     let is : lines_by choices feed ≡ c.args.graph.now.lines = ap lines_or_none lines.0 in
-    subst (λ (k : Picture). Gives (λ (v : Vec ℕ Global). v.items) c.geo_on_graph.result (pictured_items (picture_by k feed choices graph) feed choices graph read)) (sym c.in-Geographic.is)
-    (subst (λ (ls : List (List Point)). Gives (λ (v : Vec ℕ Global). v.items) c.geo_on_graph.result (pictured_items (geographic_by feed graph ls) feed choices graph read)) (sym is)
-    (subst (λ (ls : List (List Point)). Gives (λ (v : Vec ℕ Global). v.items) c.geo_on_graph.result (pictured_items (geographic_by feed graph ls) feed choices graph read)) c.as_slice.ensures c.geo_on_graph.ensures.outcome))
+    subst (λ (k : Picture). Gives (λ (v : Vec ℕ Global). v.items) c.geo_on_graph.result (pictured_items (picture_by k feed choices graph) feed choices claim graph read)) (sym c.in-Geographic.is)
+    (subst (λ (ls : List (List Point)). Gives (λ (v : Vec ℕ Global). v.items) c.geo_on_graph.result (pictured_items (geographic_by feed graph ls) feed choices claim graph read)) (sym is)
+    (subst (λ (ls : List (List Point)). Gives (λ (v : Vec ℕ Global). v.items) c.geo_on_graph.result (pictured_items (geographic_by feed graph ls) feed choices claim graph read)) c.as_slice.ensures c.geo_on_graph.ensures.outcome))
