@@ -1,7 +1,6 @@
 -- How the steps of a round follow each other.
 use Rattle.std.proofs.Common.{◌≡◌, ℕ, zero, suc, ◌+◌, ◌*◌, ◌/◌, ◌%◌, ◌<◌, ◌≤◌, ◌==◌, ◌&&◌, ◌||◌, Bool, true, false, cond, List, [], ◌∷◌, length, refl, sym, ◌∙◌, ap, subst, arith, eq-eqb}
-use Rattle.std.specs.Prelude.{ℤ, nat_lt, int_lt, unsigned_abs, sum_by}
-use Rattle.std.specs.List.{All, AllByRecursion, list_all}
+use Rattle.std.specs.Prelude.{ℤ, nat_lt, int_lt, unsigned_abs}
 use Rattle.std.proofs.lemmas.Bool.Decides.{nat_tests}
 use Rattle.std.proofs.lemmas.List.Elements.{All-weaker}
 use Rattle.std.proofs.lemmas.List.Sums.{sum_by-cons, sum_by-le}
@@ -18,7 +17,7 @@ use Rattle.dual_ascent.specs.DualSteps.{AreWithin, answers, value_with, next_dir
 use Rattle.dual_ascent.specs.declared.pair_average.PairAverage.{PairAverage}
 use Rattle.dual_ascent.specs.Averages.{averages_after, averaged_orders}
 use Rattle.dual_ascent.specs.LocalSearch.{Incumbent, after_offer}
-use Rattle.dual_ascent.specs.Rounds.{Search, Ascent, Stage, going, over, spent, onward, over_if, is_shown, with_offer, with_value, begun, looked, directed, rounded, shrunk, stepped, with_answers, answered, one_round, rounds, closed}
+use Rattle.dual_ascent.specs.Rounds.{Search, Ascent, Stage, going, over, spent, onward, over_if, is_shown, with_offer, with_value, directed, rounded, shrunk, stepped, with_answers, answered, one_round, rounds, closed}
 use Rattle.dual_orders.specs.declared.incumbent.Incumbent.{Incumbent as HeldIncumbent}
 use Rattle.dual_orders.specs.Values.{IsIncumbent}
 use Rattle.dual_orders.proofs.Pricing.{length_within}

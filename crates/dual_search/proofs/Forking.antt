@@ -1,5 +1,5 @@
 -- The pair of a fork is of two lines of its segment.
-use Rattle.std.proofs.Common.{◌≡◌, ℕ, zero, suc, ◌+◌, ◌<◌, ◌==◌, ◌&&◌, ◌||◌, Bool, true, false, not, List, [], ◌∷◌, length, refl, sym, ◌∙◌, ap, subst, arith, true≢false, Option, Some, None}
+use Rattle.std.proofs.Common.{◌≡◌, ℕ, suc, ◌+◌, ◌<◌, ◌==◌, ◌&&◌, ◌||◌, Bool, true, false, not, List, [], ◌∷◌, length, refl, sym, ◌∙◌, ap, subst, arith, true≢false, Some}
 use Rattle.std.specs.List.{All}
 use Rattle.std.proofs.lemmas.Bool.Decides.{nat_tests}
 use Rattle.map_base.specs.declared.ids.SegId.{SegId}
@@ -10,9 +10,8 @@ use Rattle.order_model.specs.Problems.{lines_on}
 use Rattle.order_model.specs.PartTerms.{is_in}
 use Rattle.order_model.specs.Places.{has_line}
 use Rattle.dual_bound.specs.declared.settled.SettledPair.{SettledPair}
-use Rattle.dual_shares.specs.RowSteps.{AreTwoOf}
 use Rattle.dual_ascent.specs.declared.pair_average.PairAverage.{PairAverage}
-use Rattle.dual_ascent.specs.OwnNumbers.{segments_from, all_segments}
+use Rattle.dual_ascent.specs.OwnNumbers.{segments_from}
 use Rattle.dual_ascent.specs.Averages.{ArePairs}
 use Rattle.dual_ascent.specs.OpenPairs.{OpenPair, next_pair, ahead, behind}
 use Rattle.dual_ascent.proofs.Pairs.{next_forks}

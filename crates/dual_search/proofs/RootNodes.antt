@@ -1,5 +1,5 @@
 -- What is found of the root.
-use Rattle.std.proofs.Common.{◌≡◌, ℕ, ◌+◌, ◌≤◌, List, [], refl, sym, ◌∙◌, ap, subst, arith, Option, Some, None}
+use Rattle.std.proofs.Common.{◌≡◌, ℕ, ◌≤◌, List, [], refl, sym, ◌∙◌, ap, arith, Option, Some, None}
 use Rattle.std.specs.Prelude.{ℤ}
 use Rattle.order_model.specs.declared.problem.ProblemParts.{ProblemParts}
 use Rattle.dual_bound.specs.declared.settled.SettledPair.{SettledPair}

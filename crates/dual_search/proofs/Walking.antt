@@ -1,5 +1,5 @@
 -- How nodes follow each other in a walk.
-use Rattle.std.proofs.Common.{◌≡◌, ℕ, zero, suc, ◌+◌, ◌<◌, ◌≤◌, Bool, true, false, cond, List, [], ◌∷◌, length, refl, sym, ◌∙◌, ap, subst, arith, Option, Some, None, Ok, Err}
+use Rattle.std.proofs.Common.{◌≡◌, ℕ, zero, suc, ◌≤◌, true, false, cond, List, [], ◌∷◌, refl, sym, ◌∙◌, ap, subst, Option, Some, None, Ok, Err}
 use Rattle.std.specs.Prelude.{ℤ, Result, IfErr}
 use Rattle.map_base.specs.declared.ids.SegId.{SegId}
 use Rattle.map_base.specs.declared.ids.LineId.{LineId}
@@ -7,17 +7,17 @@ use Rattle.order_model.specs.declared.problem.ProblemParts.{ProblemParts}
 use Rattle.dual_bound.specs.declared.settled.SettledPair.{SettledPair}
 use Rattle.dual_bound.specs.Settled.{with_pair}
 use Rattle.dual_ascent.specs.OwnNumbers.{zeros, listed}
-use Rattle.dual_ascent.specs.LocalSearch.{first_incumbent, after_offer}
+use Rattle.dual_ascent.specs.LocalSearch.{first_incumbent}
 use Rattle.dual_ascent.specs.OpenPairs.{OpenPair, next_pair, ahead, behind}
 use Rattle.dual_ascent.specs.Rounds.{Search, LowerBound, Ascent, Stage, over, spent, is_shown, first_ascent, rounds, closed, ascended}
-use Rattle.dual_ascent.specs.Walks.{WalkedTree, forked, stopped, Progress, Walked, whole, cut, progress, orders_left, exact_prices, at_orders, Below, after_first, after_second, at_pair, at_open, at_node, after_rounds, walked}
+use Rattle.dual_ascent.specs.Walks.{WalkedTree, forked, stopped, Progress, Walked, whole, cut, progress, orders_left, at_orders, Below, after_first, after_second, at_pair, at_open, at_node, after_rounds, walked}
 use Rattle.order_values.specs.DualTrees.{PlainDual, fork, stop}
 use Rattle.dual_bound.specs.Accepting.{shows}
 use Rattle.dual_ascent.specs.DualResults.{collapsed, most_forks, root_rounds, first_progress, last_of, root_bound, result_after, dual_result}
 use Rattle.dual_orders.specs.NextPairs.{IsForkAt, IsNextPair}
 use Rattle.dual_search.specs.declared.walked.WalkedTree.{WalkedTree as HeldTree}
 use Rattle.dual_search.specs.declared.walk.NodeEnd.TheVariants.{Fork as Fork'}
-use Rattle.dual_search.specs.Searching.{below, fork_from, fork_at, plain_walked, WalkIs, EndIs, counted}
+use Rattle.dual_search.specs.Searching.{below, fork_at, plain_walked, WalkIs, EndIs, counted}
 
 -- what holds however it is refused
 pub err_all : {A E P : Type 0} (r : Result A E) → P → IfErr r (λ (x : E). P)

@@ -1,4 +1,4 @@
-use Rattle.std.proofs.Common.{◌≡◌, ℕ, List, length, map, replicate, pos, rules, sym, ◌∙◌, ap}
+use Rattle.std.proofs.Common.{◌≡◌, length, map, rules, ◌∙◌, ap}
 use Rattle.order_model.specs.declared.problem.ProblemParts.{ProblemParts}
 use Rattle.dual_ascent.specs.OwnNumbers.{zeros}
 use Rattle.dual_ascent.specs.Averages.{never_all, no_averages}

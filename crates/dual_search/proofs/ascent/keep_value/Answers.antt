@@ -1,11 +1,10 @@
-use Rattle.std.proofs.Common.{◌≡◌, ◌≤◌, ℕ, ℤ, List, length, true, eq-eqb, FitsSigned, rules, w64, to_z, of_z, sym, ◌∙◌, ap, subst, arith}
+use Rattle.std.proofs.Common.{◌≡◌, ℤ, length, true, eq-eqb, FitsSigned, rules, w64, to_z, of_z, sym, ◌∙◌, ap, subst, arith}
 use Rattle.std.proofs.lemmas.List.{with_items_is}
 use Rattle.std.specs.Vec.{with_items}
 use Rattle.std.specs.Prelude.{int_lt, ◌||◌, ◌==◌}
 use Rattle.std.proofs.lemmas.Int.{to_z-of_z}
 use Rattle.order_model.specs.declared.problem.ProblemParts.{ProblemParts}
 use Rattle.dual_ascent.specs.DualSteps.{AreWithin}
-use Rattle.dual_ascent.specs.Rounds.{with_value}
 use Rattle.dual_orders.proofs.Pricing.{length_within}
 use Rattle.dual_search.specs.Searching.{ascent_of}
 use Rattle.dual_search.proofs.Composing.{kept_value, or_second}

@@ -1,4 +1,4 @@
-use Rattle.std.proofs.Common.{◌≡◌, ◌≤◌, ℕ, ℤ, List, length, w64, to_z, of_z, sym, ◌∙◌, ap, subst, arith}
+use Rattle.std.proofs.Common.{◌≡◌, ℤ, List, length, w64, to_z, of_z, sym, ◌∙◌, ap, subst}
 use Rattle.std.proofs.lemmas.Int.{to_z-of_z}
 use Rattle.std.specs.List.{All}
 use Rattle.std.proofs.lemmas.List.{with_items_is}
@@ -6,7 +6,7 @@ use Rattle.std.specs.Vec.{with_items}
 use Rattle.order_model.specs.declared.problem.ProblemParts.{ProblemParts}
 use Rattle.dual_ascent.specs.declared.pair_average.PairAverage.{PairAverage}
 use Rattle.dual_ascent.specs.Averages.{ArePairs, averages_after}
-use Rattle.dual_ascent.specs.Rounds.{Ascent, with_value}
+use Rattle.dual_ascent.specs.Rounds.{with_value}
 use Rattle.dual_ascent.proofs.Pairs.{pairs_after}
 use Rattle.dual_rounds.specs.Ranges.{IsAverage, averages_of}
 use Rattle.dual_rounds.proofs.SegmentLists.{length_of_averages, length_averages}

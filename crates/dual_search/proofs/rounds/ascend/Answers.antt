@@ -1,5 +1,4 @@
-use Rattle.std.proofs.Common.{◌≡◌, ◌+◌, ℕ, true, false, sym, subst, arith, inl, inr, true≢false}
-use Rattle.dual_bound.specs.declared.settled.SettledPair.{SettledPair}
+use Rattle.std.proofs.Common.{◌≡◌, subst, arith, inl, inr, true≢false}
 use Rattle.dual_ascent.specs.Rounds as rounds
 use Rattle.dual_orders.specs.SettledPairs.{pairs_of}
 use Rattle.dual_orders.specs.Values.{incumbent_of}

@@ -1,4 +1,4 @@
-use Rattle.std.proofs.Common.{◌≡◌, ◌+◌, ◌-◌, sym, ◌∙◌, arith}
+use Rattle.std.proofs.Common.{◌+◌, ◌-◌, sym, ◌∙◌, arith}
 use Rattle.dual_orders.specs.SettledPairs.{pairs_of}
 use Rattle.dual_search.specs.Searching.{search_of, ascent_of}
 use Rattle.dual_search.proofs.Composing.{rounds_over, rounds_spent}

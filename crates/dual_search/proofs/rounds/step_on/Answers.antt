@@ -1,6 +1,5 @@
-use Rattle.std.proofs.Common.{◌≡◌, ℤ, List, length, w64, to_z, of_z, sym, ◌∙◌, ap, subst}
+use Rattle.std.proofs.Common.{ℤ, List, length, w64, to_z, of_z, sym, ◌∙◌, ap, subst}
 use Rattle.std.proofs.lemmas.List.{with_items_is}
-use Rattle.std.specs.Vec.{with_items}
 use Rattle.std.specs.List.{All}
 use Rattle.order_model.specs.declared.problem.ProblemParts.{ProblemParts}
 use Rattle.dual_ascent.specs.DualSteps.{AreWithin}

@@ -1,4 +1,4 @@
-use Rattle.std.proofs.Common.{◌≡◌, ◌<◌, ℕ, ℤ, List, length, sym, ◌∙◌, ap, subst, arith}
+use Rattle.std.proofs.Common.{ℕ, ℤ, List, length, sym, ◌∙◌, ap, subst, arith}
 use Rattle.dual_ascent.specs.OwnNumbers.{listed}
 use Rattle.dual_ascent.specs.Walks.{stopped, whole}
 use Rattle.dual_orders.specs.SettledPairs.{pairs_of}

@@ -1,7 +1,6 @@
-use Rattle.std.proofs.Common.{◌≡◌, ◌≢◌, ◌+◌, ◌∷◌, ◌++◌, [], ℕ, ℤ, pos, Vec, w64, to_z, of_z, FitsSigned, get_or, take, rules, sym, ◌∙◌, ap, arith}
+use Rattle.std.proofs.Common.{◌≡◌, ℕ, ℤ, pos, Vec, w64, to_z, of_z, FitsSigned, get_or, rules, sym, ◌∙◌, ap, arith}
 use Rattle.std.specs.Global.{Global}
 use Rattle.std.proofs.lemmas.Int.{to_z-of_z}
-use Rattle.dual_ascent.specs.OwnNumbers.{listed}
 use Rattle.dual_search.proofs.Listing.{listed_more, listed_same, listed_whole, listed_rises}
 use Rattle.dual_search.proofs.walked.listed.Goals as goal
 use Rattle.dual_search.proofs.walked.listed.Goals.{then-prices-k-ne0+in_ok-push, else-prices-k-ne0}
