@@ -9,6 +9,8 @@ mod bound_tests;
 #[cfg(test)]
 mod deep_tests;
 #[cfg(test)]
+mod dual_tests;
+#[cfg(test)]
 mod known;
 #[cfg(test)]
 mod least_tests;
