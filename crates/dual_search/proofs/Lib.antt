@@ -3,3 +3,5 @@ pub mod Walking
 pub mod Counting
 pub mod Beginning
 pub mod Listing
+pub mod Forking
+pub mod RootNodes

@@ -15,6 +15,7 @@ use Rattle.dual_ascent.specs.Walks as walks
 use Rattle.dual_rounds.specs.Ranges.{IsDirection, IsAverage, averages_of}
 use Rattle.dual_orders.specs.NextPairs.{IsForkAt}
 use Rattle.dual_orders.specs.Parts.{IsPart}
+use Rattle.dual_orders.specs.SettledPairs.{IsPairOn}
 use Rattle.dual_orders.specs.Solvers.{HasRoomFor}
 use Rattle.dual_orders.specs.Values.{incumbent_of, IsIncumbent}
 use Rattle.dual_search.specs.declared.under_way.Search.{Search}
@@ -26,7 +27,7 @@ use Rattle.dual_search.specs.declared.rounds.Stage.TheVariants.{Going, Over, Spe
 use Rattle.dual_search.specs.declared.walk.NodeEnd.{NodeEnd}
 use Rattle.dual_search.specs.declared.walk.NodeEnd.TheVariants.{Stop as Stop', Fork as Fork'}
 use Rattle.dual_search.specs.declared.walked.WalkedTree.{WalkedTree}
-use Rattle.dual_search.specs.declared.walked.WalkedTree.TheVariants.{Forked, Stopped}
+use Rattle.dual_search.specs.declared.walked.WalkedTree.TheVariants.{Forked', Stopped}
 
 -- what is searched, and within what budget
 abbrev pub search_of : Search → rounds.Search
@@ -100,7 +101,7 @@ IsOverWhere false a s = s ≡ rounds.going a
 
 -- what was walked, as the definition tells it: nothing where it can't come to its end
 abbrev pub plain_walked : WalkedTree → walks.WalkedTree
-plain_walked (Forked value prices seg a b p first q second) = walks.forked value prices seg a b (plain_walked first) (plain_walked second)
+plain_walked (Forked' value prices seg a b p first q second) = walks.forked value prices seg a b (plain_walked first) (plain_walked second)
 plain_walked (Stopped prices) = walks.stopped prices
 
 abbrev pub WalkIs : Option WalkedTree → walks.Progress → walks.Walked → Type 0
@@ -129,3 +130,8 @@ fork_at q room c bound settled now = fork_from (below q room) c bound settled no
 abbrev pub counted : walks.Walked → ℕ
 counted (walks.whole tree now) = now.branches
 counted (walks.cut now) = now.branches
+
+-- the pair of a fork is of two lines of a segment
+abbrev pub IsForkOn : List (List LineId) → NodeEnd → Type 0
+IsForkOn segs (Stop' tree) = Unit {0}
+IsForkOn segs (Fork' pair) = IsPairOn segs pair

@@ -112,6 +112,7 @@ pub(crate) fn look(search: &Search, orders: &[LineOrder], value: i64, ascent: &m
     ensures looked { (now : Progress) → ascent_of now ascent.new ≡ with_value value (record (ascent_of now ascent.old) {
       averages = averages_after search.now.part.problem.now ascent.old.round orders.now (averages_of ascent.old.averages.items);
     }) }
+    ensures round { ascent.new.round ≡ ascent.old.round }
     ensures ascent { IsAscent search.now.part.problem.now ascent.new }
 {
     average_in(
@@ -128,6 +129,7 @@ fn keep_value(search: &Search, value: i64, ascent: &mut Ascent)
     requires ascent { IsAscent search.now.part.problem.now ascent.old }
     requires stale { ascent.old.stale < 20 }
     ensures kept { (now : Progress) → ascent_of now ascent.new ≡ with_value value (ascent_of now ascent.old) }
+    ensures round { ascent.new.round ≡ ascent.old.round }
     ensures ascent { IsAscent search.now.part.problem.now ascent.new }
 {
     if ascent.round == 1 || ascent.value < value {
@@ -146,6 +148,8 @@ fn keep_value(search: &Search, value: i64, ascent: &mut Ascent)
 pub(crate) fn shrink(search: &Search, ascent: &mut Ascent) -> bool
     requires ascent { IsAscent search.now.part.problem.now ascent.old }
     ensures over { (now : Progress) → IsOverWhere result (ascent_of now ascent.new) (shrunk (ascent_of now ascent.old)) }
+    ensures round { ascent.new.round ≡ ascent.old.round }
+    ensures directions { ascent.new.directions.items ≡ ascent.old.directions.items }
     ensures ascent { IsAscent search.now.part.problem.now ascent.new }
     ensures stale { ascent.new.stale < 20 }
 {

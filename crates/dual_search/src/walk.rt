@@ -9,7 +9,7 @@ ghost use Rattle.dual_ascent.specs.Walks.{walked, stopped, exact_prices, orders_
 ghost use Rattle.dual_orders.specs.Values.{incumbent_of};
 ghost use Rattle.dual_orders.specs.SettledPairs.{pairs_of, IsPairOn};
 ghost use Rattle.dual_orders.specs.NextPairs.{IsForkAt};
-ghost use Rattle.dual_search.specs.Searching.{search_of, ascent_of, bound_of, progress_of, fork_at, counted, plain_walked, IsSearch, IsUnderWay, IsAscent, WalkIs, EndIs};
+ghost use Rattle.dual_search.specs.Searching.{search_of, ascent_of, bound_of, progress_of, fork_at, counted, plain_walked, IsSearch, IsUnderWay, IsAscent, WalkIs, EndIs, IsForkOn};
 
 use crate::ascent::{Ascent, LowerBound, first_ascent, is_shown};
 use crate::rounds::{ascend, offer_trial};
@@ -50,6 +50,7 @@ pub(crate) fn node_end(
     ensures now { IsUnderWay search.now now.new }
     ensures branches { now.new.branches ≡ now.old.branches }
     ensures end { IfOk result (EndIs search.now.part.problem.now (pairs_of settled.now) (ascent_of now.old ascent.now) (progress_of now.new)) }
+    ensures pair { IfOk result (IsForkOn search.now.part.problem.now.segs) }
 {
     if is_shown(search, now, ascent) {
         let prices = listed(alloc, ascent.kept.as_slice())?;

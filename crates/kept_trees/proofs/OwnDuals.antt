@@ -1,5 +1,5 @@
 -- A dual tree that is accepted for a part by itself is accepted for the part in its problem, with the numbers of the problem.
-use Rattle.std.proofs.Common.{◌≡◌, ◌≢◌, ℕ, suc, ◌+◌, ◌<◌, ◌≤◌, ◌==◌, ◌||◌, eqb-true, eq-eqb, inl, inr, cond, Bool, true, false, List, [], ◌∷◌, length, map, filter, get_or, refl, sym, ◌∙◌, ap, subst, true≢false, arith, None}
+use Rattle.std.proofs.Common.{◌≡◌, ℕ, suc, ◌+◌, ◌<◌, ◌≤◌, ◌==◌, ◌||◌, eqb-true, inl, inr, Bool, true, false, List, [], ◌∷◌, length, map, get_or, refl, sym, ◌∙◌, ap, subst, true≢false, arith, None}
 use Rattle.std.specs.Prelude.{ℤ}
 use Rattle.std.specs.List.{AllByRecursion}
 use Rattle.std.proofs.lemmas.Bool.{and_from, and_parts, eqb-false}

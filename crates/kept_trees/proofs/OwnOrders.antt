@@ -1,5 +1,5 @@
 -- Orders of a part by itself are orders of the part in its problem, and cost the same.
-use Rattle.std.proofs.Common.{◌≡◌, ◌≢◌, ◌∙◌, ap, sym, subst, refl, ℕ, suc, ◌+◌, ◌<◌, ◌==◌, ◌||◌, Bool, true, false, cond, true≢false, List, [], ◌∷◌, length, map, sum_by, get_or, set, get_or-set_same, get_or-set_other, arith, eqb-true, eq-eqb}
+use Rattle.std.proofs.Common.{◌≡◌, ◌≢◌, ◌∙◌, ap, sym, subst, refl, ℕ, suc, ◌+◌, ◌<◌, ◌==◌, ◌||◌, Bool, true, false, cond, true≢false, List, [], ◌∷◌, length, map, get_or, set, get_or-set_same, get_or-set_other, arith, eqb-true, eq-eqb}
 use Rattle.std.specs.List.{AllByRecursion}
 use Rattle.std.specs.List.Sorted.{IsPermutation}
 use Rattle.std.proofs.lemmas.Bool.{and_parts}
@@ -12,7 +12,7 @@ use Rattle.order_model.specs.declared.term.Term.{Term}
 use Rattle.order_model.specs.declared.term.Term.TheVariants.{Side, Link, Apart}
 use Rattle.order_model.specs.declared.problem.ProblemParts.{ProblemParts}
 use Rattle.order_model.specs.Problems.{lines_on}
-use Rattle.order_model.specs.Costs.{seg_of, other_of, cost_on, term_cost, cost_of, AreOrders}
+use Rattle.order_model.specs.Costs.{cost_on, term_cost, cost_of, AreOrders}
 use Rattle.order_model.specs.PartTerms.{is_in, is_of, numbered_from, part_terms, plain_terms}
 use Rattle.order_bound.proofs.Lists.{filter_passes}
 use Rattle.order_search.specs.ByItself.{by_itself, seg_in, place_in, term_in}

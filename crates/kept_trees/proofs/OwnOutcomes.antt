@@ -1,5 +1,5 @@
 -- What comes of a part by itself comes of it in its problem, with the numbers of the problem in the tree.
-use Rattle.std.proofs.Common.{◌≡◌, ℕ, ◌+◌, ◌<◌, nat_le, Bool, true, false, cond, ◌&&◌, List, length, refl, sym, ◌∙◌, ap, Result, Ok, Err}
+use Rattle.std.proofs.Common.{◌≡◌, ℕ, ◌+◌, ◌<◌, nat_le, Bool, true, false, cond, ◌&&◌, List, length, refl, sym, ◌∙◌, ap, Ok, Err}
 use Rattle.std.specs.List.{All}
 use Rattle.map_base.specs.declared.ids.SegId.{SegId}
 use Rattle.map_method.specs.declared.search.Search.{Search}
@@ -22,7 +22,7 @@ use Rattle.dual_ascent.specs.OwnNumbers.{all_segments}
 use Rattle.kept_trees.specs.declared.plan.SearchPlan.{SearchPlan}
 use Rattle.kept_trees.specs.Results.{PartResult, by_live, is_dual, live_found, live_outcome, renumbered_result, dual_own, dual_part}
 use Rattle.kept_trees.specs.Results.{dual_outcome, part_outcome, own_outcome, branches_met, own_branches, IsFaultOf}
-use Rattle.kept_trees.proofs.LiveOutcomes.{Outcome, too_deep, spent}
+use Rattle.kept_trees.proofs.LiveOutcomes.{Outcome, too_deep}
 use Rattle.kept_trees.proofs.OwnNumbers.{all_are_own, places_by_itself, narrow_by_itself, load_by_itself}
 
 -- an outcome with the numbers of the problem

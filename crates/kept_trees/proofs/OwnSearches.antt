@@ -1,13 +1,12 @@
 -- What either search finds in a problem that is a part by itself is what comes of that part.
-use Rattle.std.proofs.Common.{◌≡◌, ℕ, Bool, true, false, cond, List, sym, ◌∙◌, ap, Result, Ok, Err}
+use Rattle.std.proofs.Common.{◌≡◌, ℕ, Bool, true, false, cond, List, sym, ◌∙◌, ap}
 use Rattle.map_base.specs.declared.ids.SegId.{SegId}
 use Rattle.order_model.specs.declared.problem.ProblemParts.{ProblemParts}
-use Rattle.order_search.specs.LiveTrees.{live_tree}
-use Rattle.order_search.specs.FoundParts.{part_in, branches_in}
+use Rattle.order_search.specs.FoundParts.{branches_in}
 use Rattle.dual_ascent.specs.DualResults.{dual_result}
 use Rattle.dual_ascent.specs.OwnNumbers.{all_segments}
 use Rattle.kept_trees.specs.declared.plan.SearchPlan.{SearchPlan}
-use Rattle.kept_trees.specs.Results.{is_dual, by_live, dual_own, dual_outcome, live_outcome, own_outcome, own_branches}
+use Rattle.kept_trees.specs.Results.{is_dual, dual_own, dual_outcome, live_outcome, own_outcome, own_branches}
 use Rattle.kept_trees.proofs.LiveOutcomes.{Outcome}
 
 module _ (plan : SearchPlan) (own problem : ProblemParts) (same : problem ≡ own) (asked : Bool)

@@ -1,13 +1,11 @@
 -- What comes of a part shows what none of its orders cost less than.
-use Rattle.std.proofs.Common.{◌≡◌, ℕ, suc, max, ◌+◌, ◌<◌, ◌≤◌, ◌==◌, ◌||◌, nat_le, Bool, true, false, cond, List, [], ◌∷◌, length, map, get_or}
-use Rattle.std.proofs.Common.{refl, sym, ◌∙◌, ap, subst, arith, inl, inr, eqb-true, true≢false, Option, Some, None, Result, Ok, Err}
-use Rattle.std.specs.Prelude.{ℤ}
-use Rattle.std.specs.List.{All, AllByRecursion, list_any}
+use Rattle.std.proofs.Common.{◌≡◌, ℕ, ◌+◌, ◌<◌, ◌≤◌, ◌==◌, nat_le, Bool, true, false, cond, List, [], ◌∷◌, length}
+use Rattle.std.proofs.Common.{refl, sym, ◌∙◌, ap, subst, arith, inl, inr, eqb-true, true≢false, Ok, Err}
+use Rattle.std.specs.List.{All, AllByRecursion}
 use Rattle.std.proofs.lemmas.Bool.{leb-true}
 use Rattle.std.proofs.lemmas.List.{length-map}
 use Rattle.std.proofs.lemmas.List.Elements.{recursion_from_All}
 use Rattle.map_base.specs.declared.ids.SegId.{SegId}
-use Rattle.map_base.specs.declared.ids.LineId.{LineId}
 use Rattle.map_method.specs.declared.search.Search.{Search}
 use Rattle.map_method.specs.declared.search.Search.TheVariants.{Live, Dual}
 use Rattle.map_method.specs.declared.claim.Claim.{Claim}
@@ -25,7 +23,7 @@ use Rattle.order_bound.proofs.Failing.{accepted_exactly}
 use Rattle.order_search.specs.declared.found.SearchFault.{SearchFault}
 use Rattle.order_search.specs.declared.found.SearchFault.TheVariants as fault
 use Rattle.order_search.specs.LiveTrees.{GrownTree, live_tree}
-use Rattle.order_search.specs.Finding.{places_of, most_places, with_lists, IsLeast, AreAttained}
+use Rattle.order_search.specs.Finding.{places_of, IsLeast, AreAttained}
 use Rattle.order_search.specs.FoundParts.{part_in}
 use Rattle.order_search.specs.ByItself.{by_itself}
 use Rattle.order_search.proofs.Shows as live
@@ -36,9 +34,9 @@ use Rattle.dual_ascent.proofs.Results.{reached_shown}
 use Rattle.kept_trees.specs.declared.plan.SearchPlan.{SearchPlan}
 use Rattle.kept_trees.specs.declared.found_part.FoundPart.{FoundPart}
 use Rattle.kept_trees.specs.Renumbered.{renumbered_dual}
-use Rattle.kept_trees.specs.Results.{PartResult, by_live, by_dual, is_dual, live_found, live_outcome, renumbered_result, dual_own, dual_part}
+use Rattle.kept_trees.specs.Results.{PartResult, by_live, by_dual, is_dual, live_found, live_outcome, renumbered_result, dual_part}
 use Rattle.kept_trees.specs.Results.{dual_outcome, part_outcome, result_found, IsAccepted, CostTarget, IsResult, IsOwnFound}
-use Rattle.kept_trees.proofs.LiveOutcomes.{Outcome, too_deep, spent}
+use Rattle.kept_trees.proofs.LiveOutcomes.{Outcome, too_deep}
 use Rattle.kept_trees.proofs.OwnOutcomes.{same_search, same_outcome, in_problem}
 use Rattle.kept_trees.proofs.OwnNumbers.{some_segments}
 use Rattle.kept_trees.proofs.OwnProblems.{problem_by_itself}

@@ -1,11 +1,10 @@
 -- A dual tree that is accepted for a part is accepted for the same part under other numbers of segments and terms.
-use Rattle.std.proofs.Common.{◌≡◌, ◌≢◌, ℕ, suc, max, ◌+◌, ◌*◌, ◌/◌, ◌^◌, ◌==◌, ◌≤◌, nat_le, ℤ, pos, Bool, true, false, ◌&&◌, ◌||◌, not, cond, List, [], ◌∷◌, length, map, filter, sum_by, refl, sym, ◌∙◌, ap, subst, true≢false, Option, Some, None, inl, inr, arith}
+use Rattle.std.proofs.Common.{◌≡◌, ◌≢◌, ℕ, suc, max, ◌+◌, ◌*◌, ◌/◌, ◌^◌, ◌==◌, nat_le, ℤ, pos, Bool, true, false, ◌&&◌, ◌||◌, not, cond, List, [], ◌∷◌, length, map, filter, sum_by, refl, sym, ◌∙◌, ap, true≢false, Option, Some, None, inl, inr}
 use Rattle.std.proofs.Math.Path.{fun_ext}
-use Rattle.std.specs.List.{list_all, list_any, AllByRecursion}
+use Rattle.std.specs.List.{list_any, AllByRecursion}
 use Rattle.std.proofs.lemmas.Bool.{and_from, and_parts, or_left, or_right}
 use Rattle.std.proofs.lemmas.List.Sums.{sum_by-cons}
 use Rattle.std.specs.Prelude.{◌-ℤ◌, ◌+ℤ◌, unsigned_abs}
-use Rattle.whole_sums.specs.Sums.{int_sum}
 use Rattle.map_base.specs.declared.ids.SegId.{SegId}
 use Rattle.map_base.specs.declared.ids.LineId.{LineId}
 use Rattle.order_values.specs.PriceLists.{AreRisingPrices, price_at}
@@ -13,7 +12,7 @@ use Rattle.order_values.specs.DualTrees.{PlainDual, fork, stop, fork_depth, stop
 use Rattle.order_model.specs.declared.term.Term.{Term}
 use Rattle.order_model.specs.declared.term.Term.TheVariants.{Side, Link, Apart}
 use Rattle.order_model.specs.Problems.{lines_on}
-use Rattle.order_model.specs.Costs.{seg_of, other_of, comes_before, are_neighbours}
+use Rattle.order_model.specs.Costs.{comes_before, are_neighbours}
 use Rattle.order_model.specs.Places.{has_line}
 use Rattle.order_model.specs.PartTerms.{is_in, is_of}
 use Rattle.order_model.specs.Questions.{Question, question}

@@ -1,9 +1,9 @@
 -- What a complete search found serves every budget that allows its branch nodes; within a lesser one it is spent.
 use Rattle.std.proofs.Common.{◌≡◌, ℕ, ◌+◌, ◌<◌, ◌≤◌, nat_le, Bool, true, false, cond, refl, sym, ◌∙◌, ap, subst, arith, true≢false}
-use Rattle.std.proofs.Common.{List, Option, Some, None, Result, Ok, Err}
+use Rattle.std.proofs.Common.{List, Option, Some, None, Ok, Err}
 use Rattle.std.specs.Prelude.{MatchOption, IfSome}
 use Rattle.std.specs.Borrow.{Bor}
-use Rattle.std.proofs.lemmas.Bool.{leb-true, le-leb, lt-leb}
+use Rattle.std.proofs.lemmas.Bool.{le-leb, lt-leb}
 use Rattle.std.proofs.lemmas.Option.{none-some, same_Some}
 use Rattle.map_method.specs.declared.search.Search.{Search}
 use Rattle.map_method.specs.declared.claim.Claim.{Claim}
@@ -26,7 +26,7 @@ use Rattle.kept_trees.specs.Results.{PartResult, by_live, by_dual, is_dual, live
 use Rattle.kept_trees.specs.Results.{leaves_bound, own_outcome, result_found, IsOwnFound}
 use Rattle.kept_trees.specs.Keeping.{is_held, IsServed, IsMissing}
 use Rattle.kept_trees.proofs.LiveOutcomes.{Outcome, too_deep, spent}
-use Rattle.kept_trees.proofs.OwnShown.{same_ok, no_ok, chosen, live_is}
+use Rattle.kept_trees.proofs.OwnShown.{same_ok, chosen, live_is}
 
 -- ---- either search, by its outcome
 

@@ -2,7 +2,6 @@
 use Rattle.std.specs.Prelude.{◌≡◌, ℕ, false, List, map, Option, Some, None, Result, Ok, Err, if◌then◌else◌}
 use Rattle.std.specs.List.{AllByRecursion}
 use Rattle.map_base.specs.declared.ids.SegId.{SegId}
-use Rattle.map_base.specs.declared.ids.LineId.{LineId}
 use Rattle.map_method.specs.declared.search.Search.{Search}
 use Rattle.order_model.specs.declared.problem.ProblemParts.{ProblemParts}
 use Rattle.map_method.specs.declared.claim.Claim.TheVariants.{Best, Bound}

@@ -1,0 +1,77 @@
+-- What is found of the root.
+use Rattle.std.proofs.Common.{◌≡◌, ℕ, ◌≤◌, List, [], refl, sym, ◌∙◌, ap, arith, Option, Some, None}
+use Rattle.std.specs.Prelude.{ℤ}
+use Rattle.order_model.specs.declared.problem.ProblemParts.{ProblemParts}
+use Rattle.dual_bound.specs.declared.settled.SettledPair.{SettledPair}
+use Rattle.dual_ascent.specs.OwnNumbers.{zeros}
+use Rattle.dual_ascent.specs.LocalSearch.{Incumbent, first_incumbent}
+use Rattle.dual_ascent.specs.OpenPairs.{OpenPair}
+use Rattle.dual_ascent.specs.Rounds.{Search, LowerBound, Ascent, Stage, over, spent, first_ascent, rounds, closed, ascended}
+use Rattle.dual_ascent.specs.Walks.{WalkedTree, Progress, Walked, whole, cut, progress, Below, at_pair, at_node}
+use Rattle.dual_ascent.specs.DualResults.{DualResult, most_forks, root_rounds, result_after, dual_result}
+use Rattle.dual_orders.specs.NextPairs.{IsForkAt}
+use Rattle.dual_search.specs.declared.walked.WalkedTree.{WalkedTree as HeldTree}
+use Rattle.dual_search.specs.declared.walk.NodeEnd.TheVariants.{Fork as Fork'}
+use Rattle.dual_search.specs.Searching.{below, fork_at, plain_walked, WalkIs, EndIs, counted}
+use Rattle.dual_search.proofs.Walking.{pair_is, result_spent, result_over}
+use Rattle.dual_search.proofs.Counting.{node_grows}
+
+counts_same : (b : LowerBound) (w : Walked) → (result_after b w).branches ≡ counted w
+counts_same b (whole tree now) = refl
+counts_same b (cut now) = refl
+
+-- what is left of a walk that may have come to its end
+abbrev pub result_of : LowerBound → Option HeldTree → Progress → DualResult
+result_of b (Some tree) later = result_after b (whole (plain_walked tree) later)
+result_of b None later = result_after b (cut later)
+
+by_walk : (b : LowerBound) (w : Option HeldTree) (later : Progress) (v : Walked) → WalkIs w later v → result_of b w later ≡ result_after b v
+by_walk b (Some tree) later v e = ap (result_after b) (sym e)
+by_walk b None later v e = ap (result_after b) (sym e)
+
+module _ (p : ProblemParts) (budget : ℕ) where
+  abbrev searched : Search
+  searched = record { problem = p; budget = budget }
+
+  abbrev root : Stage
+  root = ascended searched [] root_rounds (zeros p) (first_incumbent p) 0
+
+  pub root_are : (start : Ascent) (prices : List ℤ) (best : Incumbent) (branches : ℕ) (s : Stage) → start ≡ first_ascent searched prices best branches → prices ≡ zeros p → best ≡ first_incumbent p → branches ≡ 0
+      → closed searched [] (rounds searched [] root_rounds start) ≡ s → root ≡ s
+  root_are start prices best branches s e z f n h =
+      let same : start ≡ first_ascent searched (zeros p) (first_incumbent p) 0 =
+      e
+      ∙ (ap (λ (l : List ℤ). first_ascent searched l best branches) z
+      ∙ (ap (λ (x : Incumbent). first_ascent searched (zeros p) x branches) f ∙ ap (λ (k : ℕ). first_ascent searched (zeros p) (first_incumbent p) k) n)) in
+      ap (λ (a : Ascent). closed searched [] (rounds searched [] root_rounds a)) (sym same) ∙ h
+
+  pub spent_is : (a : Ascent) (b : LowerBound) → root ≡ spent a → b ≡ a.bound → result_after b (cut (progress a)) ≡ dual_result p budget
+  spent_is a b e h = ap (λ (x : LowerBound). result_after x (cut (progress a))) h ∙ sym (result_spent p budget a e)
+
+  pub stop_is : (a : Ascent) (b : LowerBound) (tree : WalkedTree) (next : Progress) → root ≡ over a → ((f : Option Below) → at_node p f [] a ≡ whole tree next) → result_after b (whole tree next) ≡ dual_result p budget
+  stop_is a b tree next e h = sym (result_over p budget a (whole tree next) e (h (below searched most_forks)))
+
+  -- the rounds of the root count no more than the whole search
+  pub over_few : (a : Ascent) → root ≡ over a → a.branches ≤ budget → a.branches ≤ (dual_result p budget).branches
+  over_few a e h =
+      let node : Walked = at_node p (below searched most_forks) [] a in
+      let same = ap (λ (r : DualResult). r.branches) (result_over p budget a node e refl) ∙ counts_same a.bound node in
+      let grown = node_grows p budget most_forks [] a h in
+      omega (arith, same, grown)
+
+  module _ (a : Ascent) (b : LowerBound) (next : Progress) (over_are : root ≡ over a) (is_bound : b ≡ a.bound) where
+    fork_result : (c : OpenPair) → next ≡ progress a → ((f : Option Below) → at_node p f [] a ≡ at_pair f c [] a) → dual_result p budget ≡ result_after b (fork_at searched most_forks c b [] next)
+    fork_result c same h =
+        result_over p budget a (fork_at searched most_forks c a.bound [] (progress a)) over_are (h (below searched most_forks) ∙ pair_is searched most_forks c [] a)
+        ∙ (ap (λ (x : LowerBound). result_after x (fork_at searched most_forks c x [] (progress a))) (sym is_bound)
+        ∙ ap (λ (n : Progress). result_after b (fork_at searched most_forks c b [] n)) (sym same))
+
+    pub fork_is : (pair : SettledPair) (w : Option HeldTree) (later : Progress) → EndIs p [] a next (Fork' pair) → ((c : OpenPair) → IsForkAt c pair → WalkIs w later (fork_at searched most_forks c b [] next))
+        → result_of b w later ≡ dual_result p budget
+    fork_is pair w later (same, c, at, h) made = by_walk b w later (fork_at searched most_forks c b [] next) (made c at) ∙ sym (fork_result c same h)
+
+    pub fork_few : (pair : SettledPair) (n : ℕ) → EndIs p [] a next (Fork' pair) → ((c : OpenPair) → IsForkAt c pair → n ≤ counted (fork_at searched most_forks c b [] next)) → n ≤ (dual_result p budget).branches
+    fork_few pair n (same, c, at, h) few =
+        let count = ap (λ (r : DualResult). r.branches) (fork_result c same h) ∙ counts_same b (fork_at searched most_forks c b [] next) in
+        let most = few c at in
+        omega (arith, count, most)
