@@ -12,7 +12,7 @@ use crate::settings::settings_for;
 use files_door::Files;
 use gtfs_tables::read_tables;
 use map_base::Settings;
-use map_method::Method;
+use map_method::{Claim, Method};
 use run_status::Refusal;
 use std::alloc::Global;
 use transit_feed::Tables;
@@ -23,6 +23,22 @@ pub struct Loaded {
     pub settings: Settings,
     pub method: Method,
     pub tables: Tables,
+}
+
+impl Loaded {
+    /// What is to be proved of the line orders of a map.
+    pub fn claim(&self) -> Claim
+        ensures { result ≡ self.now.method.claim }
+    {
+        claim_of(&self.method)
+    }
+}
+
+/// What is to be proved where maps are found like this.
+fn claim_of(method: &Method) -> Claim
+    ensures { result ≡ method.now.claim }
+{
+    method.claim
 }
 
 /// Reads what a command works on: its settings, then the tables of its feed by them, and last the edits of both.

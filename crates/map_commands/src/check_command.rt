@@ -82,7 +82,7 @@ fn check_certificate(
         return Err(Refusal::Refuted(Item::Missing { picture: false }));
     };
     let (tables, settings) = (&loaded.tables, &loaded.settings);
-    let claim = loaded.method.claim;
+    let claim = loaded.claim();
     Ok(check_on_graph(alloc, tables, settings, claim, graph, bytes.as_slice())?)
 }
 

@@ -40,8 +40,8 @@ pub record IsMapWritten (told : Option (List (List ℕ × List ℕ))) (asked : A
 
 -- The map of a feed is written after more moves on its drawing, and its certificate: those that are defined for the feed's
 -- tables. The map shows exactly the line graph of these tables, in a legal drawing that is no heavier than that of `make`; no
--- line orders cost less than the bound that the certificate proves, and the check says yes to both. The two files hold the two, and the line that tells of the moves is
--- printed behind what standard output held.
+-- line orders cost less than the bound that the certificate proves, and the check says yes to both. The two files hold the
+-- two, and the line that tells of the moves is printed behind what standard output held.
 pub record IsImprovedMapWritten (told : Option (List (List ℕ × List ℕ))) (asked : Asked) (paths : MapPaths) (moves : ℕ) (old new : Written) : Type 0 where
   pub loaded : Loaded
   pub loads : Loads told (inputs_of asked) loaded
@@ -81,8 +81,8 @@ pub record IsPictureWritten (kind : Picture) (told : Option (List (List ℕ × L
   pub holds : held_by (Path out) new ≡ Some map
 
 -- A script was followed to its end, and its draws are written: each has the bytes of a fresh map with the edits that stand
--- there, which shows exactly the line graph that these make, in a legal drawing, and no line orders cost less than the bound that its certificate
--- proves.
+-- there, which shows exactly the line graph that these make, in a legal drawing, and no line orders cost less than the bound
+-- that its certificate proves.
 pub record IsSessionWritten (told : Option (List (List ℕ × List ℕ))) (asked : Asked) (path out : List ℕ) (new : Written) : Type 0 where
   pub loaded : Loaded
   pub loads : Loads told (inputs_of asked) loaded

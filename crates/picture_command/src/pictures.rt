@@ -112,7 +112,7 @@ fn picture_by(
     ensures shown { IfOk result (λ map. IsPicture kind loaded.now.tables loaded.now.settings loaded.now.method.claim map.items certificate.now) }
 {
     let (tables, settings) = (&loaded.tables, &loaded.settings);
-    let claim = loaded.method.claim;
+    let claim = loaded.claim();
     match kind {
         Picture::Labelled => {
             labels_on_graph(alloc, tables, settings, claim, &graph.graph, certificate)

@@ -21,7 +21,7 @@ use Rattle.map_run.specs.Inputs.{input_path}
 use Rattle.map_run.specs.Answers.{alone, answer_by, whole_by}
 use Rattle.run_status.specs.Outputs.{said}
 use Rattle.table_commands.specs.TableWorks.{graph_work}
-use Rattle.map_commands.specs.MapWorks.{check_work, picture_work, made_at, best_line}
+use Rattle.map_commands.specs.MapWorks.{check_work, picture_work, made_at, best_line, bound_line, proved_line}
 use Rattle.run_status.specs.Items.{item_text}
 use Rattle.run_status.specs.Lines.{status_line, status_number}
 
@@ -85,10 +85,16 @@ no_route_text : status_line (status.NoRoute (record { 0 = 46 })) ≡ Some (codes
 unfolding digits
 no_route_text = refl
 
--- items by their names
-best_text : best_line 21 ≡ codes "best 21\n"
+-- what is proved: that orders are best, where the bound is their cost, or both
+best_text : proved_line (record { cost = 21; bound = 21 }) ≡ codes "best 21\n"
 unfolding digits
 best_text = refl
+
+bound_text : proved_line (record { cost = 21; bound = 9 }) ≡ codes "cost 21 bound 9\n"
+unfolding digits
+bound_text = refl
+
+-- items by their names
 
 refuted_text : status_line (status.Refuted (item.Found (found.Text 177))) ≡ Some (codes "refuted: text 177\n")
 unfolding digits
@@ -116,14 +122,17 @@ no_routes_checked : outcome (check_work standard) (λ _. None) ≡ Err (refused.
 no_routes_checked = refl
 
 -- a certificate that is accepted is no yes where the map is missing
-map_missing : outcome (picture_work (record { cost = 0; svg = codes "s" })) (λ _. None) ≡ Err (refused.Refuted (item.Missing true))
+map_missing : outcome (picture_work (record { proved = record { cost = 0; bound = 0 }; svg = codes "s" })) (λ _. None) ≡ Err (refused.Refuted (item.Missing true))
 map_missing = refl
 
-map_the_same : outcome (picture_work (record { cost = 7; svg = codes "s" })) (λ _. Some (codes "s")) ≡ Ok (said (best_line 7))
+map_the_same : outcome (picture_work (record { proved = record { cost = 7; bound = 7 }; svg = codes "s" })) (λ _. Some (codes "s")) ≡ Ok (said (best_line 7))
 map_the_same = refl
 
+map_with_a_bound : outcome (picture_work (record { proved = record { cost = 7; bound = 4 }; svg = codes "s" })) (λ _. Some (codes "s")) ≡ Ok (said (bound_line 7 4))
+map_with_a_bound = refl
+
 -- the first byte that differs
-map_differs : outcome (picture_work (record { cost = 7; svg = codes "abc" })) (λ _. Some (codes "abd")) ≡ Err (refused.Refuted (item.Found (found.Picture 2)))
+map_differs : outcome (picture_work (record { proved = record { cost = 7; bound = 7 }; svg = codes "abc" })) (λ _. Some (codes "abd")) ≡ Err (refused.Refuted (item.Found (found.Picture 2)))
 map_differs = refl
 
 -- a file of settings comes first, and has to be there

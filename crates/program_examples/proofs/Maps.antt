@@ -1,5 +1,5 @@
 -- Small cases of the definitions of the check.
-use Rattle.std.proofs.Common.{◌≡◌, ℕ, pos, true, false, [], ◌∷◌, codes, replicate, Some, None, Ok, Err, refl}
+use Rattle.std.proofs.Common.{◌≡◌, ℕ, pos, negsuc, true, false, [], ◌∷◌, codes, replicate, Some, None, Ok, Err, refl}
 use Rattle.map_base.specs.declared.ids.LineId.{LineId}
 use Rattle.map_base.specs.declared.ids.SegId.{SegId}
 use Rattle.octi_grid.specs.declared.dir.Dir.TheVariants as dir
@@ -7,9 +7,10 @@ use Rattle.decimal_text.specs.Lines as texts
 use Rattle.decimal_text.specs.Reading as lines
 use Rattle.order_proof.specs.FrontLine as proof_lines
 use Rattle.order_proof.specs.Reading as proofs
-use Rattle.order_proof.specs.Plain.{split, close, no_case, case_of}
+use Rattle.order_values.specs.DualTrees.{fork, stop}
+use Rattle.order_proof.specs.Plain.{split, close, no_case, case_of, by_cases, by_pairs}
 use Rattle.cert_file.specs.Forms.{spoken_front}
-use Rattle.map_engine.specs.FrontReadings.{tree_at, part_at, proof_at}
+use Rattle.map_engine.specs.FrontReadings.{tree_at, dual_at, part_at, proof_at}
 use Rattle.map_engine.specs.Readings.{certificate_at, certificate_in}
 use Rattle.map_engine.specs.Checking.{are_same_pairs, is_order, first_disorder, first_difference}
 
@@ -49,12 +50,33 @@ with_a_tree : certificate_in (codes "octimap 2\ngraph 0 0 0\nimportance 1 2\ncos
     parts = record {
       segs = seg 1 ∷ seg 3 ∷ [];
       target = 2;
-      tree = split (seg 1) (case_of (line 0) (split (seg 3) (case_of (line 1) (close []) no_case)) (case_of (line 1) (close []) no_case));
+      tree = by_cases (split (seg 1) (case_of (line 0) (split (seg 3) (case_of (line 1) (close []) no_case)) (case_of (line 1) (close []) no_case)));
     } ∷ [];
   };
 })
 unfolding certificate_in certificate_at proof_at part_at tree_at spoken_front lines.reading texts.front texts.first_line proofs.reading proof_lines.front proof_lines.front_line
 with_a_tree = refl
+
+-- a part with a tree of settled pairs
+with_pairs : certificate_in (codes "octimap 1\ngraph 0 0 0\ncost 2\nrules 0\nparts 1\npart 1 1 3\nfork 1 0 1\nstop 1 4 -1001\nstop 0\n") ≡ Ok (record {
+  nodes = 0;
+  segs = 0;
+  lines = 0;
+  importance = [];
+  walks = [];
+  orders = [];
+  cost = 2;
+  proof = record {
+    rules = [];
+    parts = record {
+      segs = seg 1 ∷ seg 3 ∷ [];
+      target = 1;
+      tree = by_pairs (fork (seg 1) (line 0) (line 1) (stop ((4, negsuc 1000) ∷ [])) (stop []));
+    } ∷ [];
+  };
+})
+unfolding certificate_in certificate_at proof_at part_at dual_at spoken_front lines.reading texts.front texts.first_line proofs.reading proof_lines.front proof_lines.front_line
+with_pairs = refl
 
 -- version 2 without a line of importance
 no_importance : certificate_in (codes "octimap 2\ngraph 2 1 1\nwalk 0 0 0 E50\norder 0 0\ncost 0\nrules 0\nparts 0\n") ≡ Err 22
