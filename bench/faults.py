@@ -115,9 +115,11 @@ def fault_of(program, judge, call, code, how, stand):
     program.set_outputs(judge.names, stand)
     status, said = program.run(judge.words, (KINDS.index(call.kind), call.number, how, code))
     fault = judge.fault(status, said, stand, allowed if allowed else (status,), is_line(judge, call))
+    is_known = allowed is not None and line is None
     if line is not None and said != line:
         fault = fault or f"standard output {said[:60]!r}"
-    elif line is not None and status == judge.status and program.outputs(judge.names) == ({name: OLD for name in judge.names} if stand else {}, []):
+    elif not is_known and status == judge.status and program.outputs(judge.names) == ({name: OLD for name in judge.names} if stand else {}, []):
+        # A file that is not there may be refused with the ordinary status; the outputs are what they were then.
         fault = ""
     if not fault and status in (8, 9) and not begins(said, judge.said, b"no memory\n"):
         fault = f"standard output {said[:60]!r}"
