@@ -1,9 +1,10 @@
 -- What a node begins with.
-use Rattle.std.proofs.Common.{◌≡◌, ℕ, List, [], ◌∷◌, length, map, replicate, refl, ◌∙◌, ap, arith}
+use Rattle.std.proofs.Common.{◌≡◌, ℕ, List, [], ◌∷◌, length, map, replicate, refl, ◌∙◌, ap, arith, sym}
 use Rattle.std.specs.Prelude.{ℤ, pos}
 use Rattle.std.specs.List.{All}
 use Rattle.std.proofs.lemmas.List.Elements.{All-replicate}
 use Rattle.order_model.specs.declared.term.Term.{Term}
+use Rattle.order_model.specs.declared.problem.ProblemParts.{ProblemParts}
 use Rattle.dual_ascent.specs.declared.pair_average.PairAverage.{PairAverage}
 use Rattle.dual_ascent.specs.OwnNumbers.{zeros}
 use Rattle.dual_ascent.specs.Averages.{no_averages}
@@ -18,6 +19,9 @@ zeros_are (t ∷ terms) = ap (λ l. pos 0 ∷ l) (zeros_are terms)
 
 pub zeros_as_many : (terms : List Term) (n : ℕ) → n ≡ length terms → replicate n (pos 0) ≡ map (λ (t : Term). pos 0) terms
 zeros_as_many terms n e = ap (λ m. replicate m (pos 0)) e ∙ zeros_are terms
+
+pub zero_prices : (p q : ProblemParts) (terms : List Term) → p ≡ q → terms ≡ q.terms → replicate (length terms) (pos 0) ≡ zeros p
+zero_prices p q terms same are = zeros_as_many q.terms (length terms) (ap length are) ∙ ap zeros (sym same)
 
 pub still_directions : (n : ℕ) → All IsDirection (replicate n (pos 0))
 still_directions n = All-replicate IsDirection n (pos 0) (omega arith)

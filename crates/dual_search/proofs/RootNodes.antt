@@ -1,6 +1,6 @@
 -- What is found of the root.
-use Rattle.std.proofs.Common.{◌≡◌, ℕ, ◌≤◌, List, [], refl, sym, ◌∙◌, ap, arith, Option, Some, None}
-use Rattle.std.specs.Prelude.{ℤ}
+use Rattle.std.proofs.Common.{◌≡◌, ℕ, ◌≤◌, List, [], refl, sym, ◌∙◌, ap, arith, Option, Some, None, ◌+◌, Result, subst, ◌<◌, true, length}
+use Rattle.std.specs.Prelude.{ℤ, IfOk}
 use Rattle.order_model.specs.declared.problem.ProblemParts.{ProblemParts}
 use Rattle.dual_bound.specs.declared.settled.SettledPair.{SettledPair}
 use Rattle.dual_ascent.specs.OwnNumbers.{zeros}
@@ -8,13 +8,38 @@ use Rattle.dual_ascent.specs.LocalSearch.{Incumbent, first_incumbent}
 use Rattle.dual_ascent.specs.OpenPairs.{OpenPair}
 use Rattle.dual_ascent.specs.Rounds.{Search, LowerBound, Ascent, Stage, over, spent, first_ascent, rounds, closed, ascended}
 use Rattle.dual_ascent.specs.Walks.{WalkedTree, Progress, Walked, whole, cut, progress, Below, at_pair, at_node}
-use Rattle.dual_ascent.specs.DualResults.{DualResult, most_forks, root_rounds, result_after, dual_result}
+use Rattle.dual_ascent.specs.DualResults.{DualResult, is_in_reach, most_forks, root_rounds, result_after, dual_result}
+use Rattle.dual_ascent.specs.Shown.{IsShown}
+use Rattle.dual_ascent.proofs.Results.{reached_shown}
+use Rattle.dual_search.specs.declared.found.DualFound.{DualFound}
+use Rattle.dual_search.specs.Finding.{result_found}
+use Rattle.dual_bound.specs.Accepting.{most_load}
+use Rattle.order_model.specs.Problems.{IsProblem}
+use Rattle.map_base.specs.declared.memory.NoMemory.{NoMemory}
+use Rattle.std.proofs.lemmas.Result.{IfOk-weaker}
 use Rattle.dual_orders.specs.NextPairs.{IsForkAt}
+use Rattle.dual_orders.specs.SettledPairs.{pairs_of}
 use Rattle.dual_search.specs.declared.walked.WalkedTree.{WalkedTree as HeldTree}
 use Rattle.dual_search.specs.declared.walk.NodeEnd.TheVariants.{Fork as Fork'}
 use Rattle.dual_search.specs.Searching.{below, fork_at, plain_walked, WalkIs, EndIs, counted}
 use Rattle.dual_search.proofs.Walking.{pair_is, result_spent, result_over}
 use Rattle.dual_search.proofs.Counting.{node_grows}
+
+-- What is handed out of a result.
+
+pub found_by : (r : Result DualFound NoMemory) (left want : DualResult) → left ≡ want → IfOk r (λ (f : DualFound). result_found f ≡ left) → IfOk r (λ (f : DualFound). result_found f ≡ want)
+found_by r left want is h = IfOk-weaker r (λ (f : DualFound). result_found f ≡ left) (λ (f : DualFound). result_found f ≡ want) (λ f e. e ∙ is) h
+
+pub shown_by : (r : Result DualFound NoMemory) (left : DualResult) (p : ProblemParts) (budget : ℕ) → IsProblem p → 0 < length p.segs → is_in_reach p ≡ true → budget ≤ most_load → left ≡ dual_result p budget
+    → IfOk r (λ (f : DualFound). result_found f ≡ left) → IfOk r (λ (f : DualFound). IsShown p budget (result_found f))
+shown_by r left p budget fits some reach light is h =
+    IfOk-weaker r (λ (f : DualFound). result_found f ≡ left) (λ (f : DualFound). IsShown p budget (result_found f))
+    (λ f e. subst (IsShown p budget) (sym (e ∙ is)) (reached_shown p budget fits.rising fits.terms some reach light)) h
+
+pub steps_by : (r : Result DualFound NoMemory) (left : DualResult) (old new : ℕ) → new ≡ old + left.branches → IfOk r (λ (f : DualFound). result_found f ≡ left) → IfOk r (λ (f : DualFound). new ≡ old + f.branches)
+steps_by r left old new same h =
+    IfOk-weaker r (λ (f : DualFound). result_found f ≡ left) (λ (f : DualFound). new ≡ old + f.branches)
+    (λ f e. (let count = ap (λ (x : DualResult). x.branches) e in omega (arith, same, count))) h
 
 counts_same : (b : LowerBound) (w : Walked) → (result_after b w).branches ≡ counted w
 counts_same b (whole tree now) = refl
@@ -30,15 +55,18 @@ by_walk b (Some tree) later v e = ap (result_after b) (sym e)
 by_walk b None later v e = ap (result_after b) (sym e)
 
 module _ (p : ProblemParts) (budget : ℕ) where
-  abbrev searched : Search
+  abbrev pub searched : Search
   searched = record { problem = p; budget = budget }
 
   abbrev root : Stage
   root = ascended searched [] root_rounds (zeros p) (first_incumbent p) 0
 
-  pub root_are : (start : Ascent) (prices : List ℤ) (best : Incumbent) (branches : ℕ) (s : Stage) → start ≡ first_ascent searched prices best branches → prices ≡ zeros p → best ≡ first_incumbent p → branches ≡ 0
-      → closed searched [] (rounds searched [] root_rounds start) ≡ s → root ≡ s
-  root_are start prices best branches s e z f n h =
+  pub root_are : (stack : List SettledPair) (start : Ascent) (prices : List ℤ) (best : Incumbent) (branches : ℕ) (s : Stage)
+      → stack ≡ [] → start ≡ first_ascent searched prices best branches → prices ≡ zeros p → best ≡ first_incumbent p → branches ≡ 0
+      → closed searched (pairs_of stack) (rounds searched (pairs_of stack) root_rounds start) ≡ s → root ≡ s
+  root_are stack start prices best branches s none e z f n made =
+      let h : closed searched [] (rounds searched [] root_rounds start) ≡ s =
+      subst (λ (l : List SettledPair). closed searched (pairs_of l) (rounds searched (pairs_of l) root_rounds start) ≡ s) none made in
       let same : start ≡ first_ascent searched (zeros p) (first_incumbent p) 0 =
       e
       ∙ (ap (λ (l : List ℤ). first_ascent searched l best branches) z

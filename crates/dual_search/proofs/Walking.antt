@@ -15,6 +15,7 @@ use Rattle.order_values.specs.DualTrees.{PlainDual, fork, stop}
 use Rattle.dual_bound.specs.Accepting.{shows}
 use Rattle.dual_ascent.specs.DualResults.{collapsed, most_forks, root_rounds, first_progress, last_of, root_bound, result_after, dual_result}
 use Rattle.dual_orders.specs.NextPairs.{IsForkAt, IsNextPair}
+use Rattle.dual_orders.specs.SettledPairs.{pairs_of}
 use Rattle.dual_search.specs.declared.walked.WalkedTree.{WalkedTree as HeldTree}
 use Rattle.dual_search.specs.declared.walk.NodeEnd.TheVariants.{Fork as Fork'}
 use Rattle.dual_search.specs.Searching.{below, fork_at, plain_walked, WalkIs, EndIs, counted}
@@ -129,8 +130,11 @@ module _ (q : Search) (room : ℕ) (settled : List SettledPair) (prices : List �
   abbrev rounds_of : Stage
   rounds_of = ascended q settled 200 prices now.incumbent now.branches
 
-  pub rounds_are : (start : Ascent) (s : Stage) → start ≡ first_ascent q prices now.incumbent now.branches → closed q settled (rounds q settled 200 start) ≡ s → rounds_of ≡ s
-  rounds_are start s e h = ap (λ (a : Ascent). closed q settled (rounds q settled 200 a)) (sym e) ∙ h
+  pub rounds_are : (stack : List SettledPair) (start : Ascent) (s : Stage) → pairs_of stack ≡ settled → start ≡ first_ascent q prices now.incumbent now.branches
+      → closed q (pairs_of stack) (rounds q (pairs_of stack) 200 start) ≡ s → rounds_of ≡ s
+  rounds_are stack start s same e h =
+      ap (λ (l : List SettledPair). closed q l (rounds q l 200 (first_ascent q prices now.incumbent now.branches))) (sym same)
+      ∙ (ap (λ (a : Ascent). closed q (pairs_of stack) (rounds q (pairs_of stack) 200 a)) (sym e) ∙ h)
 
   walk_from : (s : Stage) → rounds_of ≡ s → walked q room 200 settled prices now ≡ after_rounds q.problem (below q room) settled s
   walk_from s e = walked_is q room 200 settled prices now ∙ ap (after_rounds q.problem (below q room) settled) e

@@ -117,11 +117,10 @@ walk-returns-then-not-ascend-clause-walked g t c =
     let q : rounds.Search = search_of c.args.search.now in
     let start : walks.Progress = progress_of c.args.now.now in
     let settled : List SettledPair = pairs_of c.args.settled.now.items in
-    let first : rounds.Ascent = ascent_of c.args.now.now c.in_ok-ascent.ascent in
     let a : rounds.Ascent = ascent_of c.ascend.new.now c.ascend.new.ascent in
-    let closed : rounds.closed q settled (rounds.rounds q settled 200 first) ≡ rounds.spent a =
-    subst (λ (l : List SettledPair). rounds.closed q (pairs_of l) (rounds.rounds q (pairs_of l) 200 first) ≡ rounds.spent a) c.as_slice.ensures.value (c.if-not-ascend.ensures.spent refl) in
-    let made = rounds_are q c.args.room settled c.args.prices.now start first (rounds.spent a) (c.in_ok-ascent.ensures.first c.args.now.now) closed in
+    let made =
+    rounds_are q c.args.room settled c.args.prices.now start c.as_slice.result.now (ascent_of c.args.now.now c.in_ok-ascent.ascent) (rounds.spent a) (ap pairs_of c.as_slice.ensures.value)
+    (c.in_ok-ascent.ensures.first c.args.now.now) (c.if-not-ascend.ensures.spent refl) in
     walk_spent q c.args.room settled c.args.prices.now start a made
 
 pub walk-returns-in_err-tree-clause-few : goal.walk-returns-in_err-tree-clause-few
@@ -129,11 +128,10 @@ walk-returns-in_err-tree-clause-few g t c =
     let q : rounds.Search = search_of c.args.search.now in
     let start : walks.Progress = progress_of c.args.now.now in
     let settled : List SettledPair = pairs_of c.args.settled.now.items in
-    let first : rounds.Ascent = ascent_of c.args.now.now c.in_ok-ascent.ascent in
     let a : rounds.Ascent = ascent_of c.ascend.new.now c.ascend.new.ascent in
-    let closed : rounds.closed q settled (rounds.rounds q settled 200 first) ≡ rounds.over a =
-    subst (λ (l : List SettledPair). rounds.closed q (pairs_of l) (rounds.rounds q (pairs_of l) 200 first) ≡ rounds.over a) c.as_slice.ensures.value (c.if-not-ascend.ensures.over refl) in
-    let made = rounds_are q c.args.room settled c.args.prices.now start first (rounds.over a) (c.in_ok-ascent.ensures.first c.args.now.now) closed in
+    let made =
+    rounds_are q c.args.room settled c.args.prices.now start c.as_slice.result.now (ascent_of c.args.now.now c.in_ok-ascent.ascent) (rounds.over a) (ap pairs_of c.as_slice.ensures.value)
+    (c.in_ok-ascent.ensures.first c.args.now.now) (c.if-not-ascend.ensures.over refl) in
     let few = walk_few q.problem q.budget c.args.room settled c.args.prices.now start a made c.ascend.ensures.now.within in
     let same = c.node_end.ensures.branches in
     err_all c.from_residual-in_err-tree.result (omega (arith, few, same))
@@ -151,11 +149,10 @@ walk-returns-in-Stop-clause-walked g t c =
     let q : rounds.Search = search_of c.args.search.now in
     let start : walks.Progress = progress_of c.args.now.now in
     let settled : List SettledPair = pairs_of c.args.settled.now.items in
-    let first : rounds.Ascent = ascent_of c.args.now.now c.in_ok-ascent.ascent in
     let a : rounds.Ascent = ascent_of c.ascend.new.now c.ascend.new.ascent in
-    let closed : rounds.closed q settled (rounds.rounds q settled 200 first) ≡ rounds.over a =
-    subst (λ (l : List SettledPair). rounds.closed q (pairs_of l) (rounds.rounds q (pairs_of l) 200 first) ≡ rounds.over a) c.as_slice.ensures.value (c.if-not-ascend.ensures.over refl) in
-    let made = rounds_are q c.args.room settled c.args.prices.now start first (rounds.over a) (c.in_ok-ascent.ensures.first c.args.now.now) closed in
+    let made =
+    rounds_are q c.args.room settled c.args.prices.now start c.as_slice.result.now (ascent_of c.args.now.now c.in_ok-ascent.ascent) (rounds.over a) (ap pairs_of c.as_slice.ensures.value)
+    (c.in_ok-ascent.ensures.first c.args.now.now) (c.if-not-ascend.ensures.over refl) in
     let next : walks.Progress = progress_of c.node_end.new.now in
     let end : EndIs q.problem settled a next c.in_ok-tree.field-0 = subst (λ (l : List SettledPair). EndIs q.problem (pairs_of l) a next c.in_ok-tree.field-0) c.as_slice-2.ensures.value c.in_ok-tree.ensures.end in
     let stops : (f : Option walks.Below) → walks.at_node q.problem f settled a ≡ walks.whole (plain_walked c.in-Stop.tree) next = subst (λ (x : NodeEnd). EndIs q.problem settled a next x) c.in-Stop.is end in
@@ -166,11 +163,10 @@ walk-returns-in-Fork-clause-walked g t c =
     let q : rounds.Search = search_of c.args.search.now in
     let start : walks.Progress = progress_of c.args.now.now in
     let settled : List SettledPair = pairs_of c.args.settled.now.items in
-    let first : rounds.Ascent = ascent_of c.args.now.now c.in_ok-ascent.ascent in
     let a : rounds.Ascent = ascent_of c.ascend.new.now c.ascend.new.ascent in
-    let closed : rounds.closed q settled (rounds.rounds q settled 200 first) ≡ rounds.over a =
-    subst (λ (l : List SettledPair). rounds.closed q (pairs_of l) (rounds.rounds q (pairs_of l) 200 first) ≡ rounds.over a) c.as_slice.ensures.value (c.if-not-ascend.ensures.over refl) in
-    let made = rounds_are q c.args.room settled c.args.prices.now start first (rounds.over a) (c.in_ok-ascent.ensures.first c.args.now.now) closed in
+    let made =
+    rounds_are q c.args.room settled c.args.prices.now start c.as_slice.result.now (ascent_of c.args.now.now c.in_ok-ascent.ascent) (rounds.over a) (ap pairs_of c.as_slice.ensures.value)
+    (c.in_ok-ascent.ensures.first c.args.now.now) (c.if-not-ascend.ensures.over refl) in
     let next : walks.Progress = progress_of c.node_end.new.now in
     let end : EndIs q.problem settled a next c.in_ok-tree.field-0 = subst (λ (l : List SettledPair). EndIs q.problem (pairs_of l) a next c.in_ok-tree.field-0) c.as_slice-2.ensures.value c.in_ok-tree.ensures.end in
     let forks = subst (λ (x : NodeEnd). EndIs q.problem settled a next x) c.in-Fork.is end in
@@ -185,11 +181,10 @@ walk-returns-in-Fork-clause-few g t c =
     let q : rounds.Search = search_of c.args.search.now in
     let start : walks.Progress = progress_of c.args.now.now in
     let settled : List SettledPair = pairs_of c.args.settled.now.items in
-    let first : rounds.Ascent = ascent_of c.args.now.now c.in_ok-ascent.ascent in
     let a : rounds.Ascent = ascent_of c.ascend.new.now c.ascend.new.ascent in
-    let closed : rounds.closed q settled (rounds.rounds q settled 200 first) ≡ rounds.over a =
-    subst (λ (l : List SettledPair). rounds.closed q (pairs_of l) (rounds.rounds q (pairs_of l) 200 first) ≡ rounds.over a) c.as_slice.ensures.value (c.if-not-ascend.ensures.over refl) in
-    let made = rounds_are q c.args.room settled c.args.prices.now start first (rounds.over a) (c.in_ok-ascent.ensures.first c.args.now.now) closed in
+    let made =
+    rounds_are q c.args.room settled c.args.prices.now start c.as_slice.result.now (ascent_of c.args.now.now c.in_ok-ascent.ascent) (rounds.over a) (ap pairs_of c.as_slice.ensures.value)
+    (c.in_ok-ascent.ensures.first c.args.now.now) (c.if-not-ascend.ensures.over refl) in
     let next : walks.Progress = progress_of c.node_end.new.now in
     let end : EndIs q.problem settled a next c.in_ok-tree.field-0 = subst (λ (l : List SettledPair). EndIs q.problem (pairs_of l) a next c.in_ok-tree.field-0) c.as_slice-2.ensures.value c.in_ok-tree.ensures.end in
     let forks = subst (λ (x : NodeEnd). EndIs q.problem settled a next x) c.in-Fork.is end in
