@@ -17,10 +17,12 @@ pub zeros_are : (terms : List Term) → replicate (length terms) (pos 0) ≡ map
 zeros_are [] = refl
 zeros_are (t ∷ terms) = ap (λ l. pos 0 ∷ l) (zeros_are terms)
 
-pub zeros_as_many : (terms : List Term) (n : ℕ) → n ≡ length terms → replicate n (pos 0) ≡ map (λ (t : Term). pos 0) terms
+pub zeros_as_many : (terms : List Term) (n : ℕ) → n ≡ length terms
+    → replicate n (pos 0) ≡ map (λ (t : Term). pos 0) terms
 zeros_as_many terms n e = ap (λ m. replicate m (pos 0)) e ∙ zeros_are terms
 
-pub zero_prices : (p q : ProblemParts) (terms : List Term) → p ≡ q → terms ≡ q.terms → replicate (length terms) (pos 0) ≡ zeros p
+pub zero_prices : (p q : ProblemParts) (terms : List Term) → p ≡ q → terms ≡ q.terms
+    → replicate (length terms) (pos 0) ≡ zeros p
 zero_prices p q terms same are = zeros_as_many q.terms (length terms) (ap length are) ∙ ap zeros (sym same)
 
 pub still_directions : (n : ℕ) → All IsDirection (replicate n (pos 0))
@@ -40,8 +42,10 @@ begun_with best branches prices directions kept averages = record {
   branches = branches;
 }
 
-pub first_is : (q : Search) (prices : List ℤ) (best : Incumbent) (branches : ℕ) (at directions kept : List ℤ) (averages : List (List PairAverage)) → at ≡ prices → directions ≡ zeros q.problem → kept ≡ prices
-    → averages ≡ no_averages q.problem → begun_with best branches at directions kept averages ≡ first_ascent q prices best branches
+pub first_is : (q : Search) (prices : List ℤ) (best : Incumbent) (branches : ℕ) (at directions kept : List ℤ)
+    (averages : List (List PairAverage)) → at ≡ prices → directions ≡ zeros q.problem → kept ≡ prices
+    → averages ≡ no_averages q.problem
+    → begun_with best branches at directions kept averages ≡ first_ascent q prices best branches
 first_is q prices best branches at directions kept averages a d k v =
     ap (λ (l : List ℤ). begun_with best branches l directions kept averages) a
     ∙ (ap (λ (l : List ℤ). begun_with best branches prices l kept averages) d

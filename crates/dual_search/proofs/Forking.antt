@@ -26,13 +26,16 @@ later_or : (b c : Bool) → (b || c) ≡ true → b ≡ false → c ≡ true
 later_or true c h e = absurd (true≢false e)
 later_or false c h e = h
 
-in_segments : (k : ℕ) (segs : List (List LineId)) (s : SegId) → is_in (segments_from k segs) s ≡ true → s.0 < k + length segs
+in_segments : (k : ℕ) (segs : List (List LineId)) (s : SegId) → is_in (segments_from k segs) s ≡ true
+    → s.0 < k + length segs
 in_segments k [] s h = absurd (true≢false (sym h))
 in_segments k (l ∷ segs) s h = by_test (k == s.0) refl (in_segments (k + 1) segs s)
   where
-    by_test : (t : Bool) → (k == s.0) ≡ t → (is_in (segments_from (k + 1) segs) s ≡ true → s.0 < k + 1 + length segs) → s.0 < k + suc (length segs)
+    by_test : (t : Bool) → (k == s.0) ≡ t → (is_in (segments_from (k + 1) segs) s ≡ true → s.0 < k + 1 + length segs)
+        → s.0 < k + suc (length segs)
     by_test true e rest = let same = equal_numbers k s.0 e in omega (arith, same)
-    by_test false e rest = let below = rest (later_or (k == s.0) (is_in (segments_from (k + 1) segs) s) h e) in omega (arith, below)
+    by_test false e rest = let below = rest (later_or (k == s.0) (is_in (segments_from (k + 1) segs) s) h e) in omega
+        (arith, below)
 
 first_of : (b c : Bool) → (b && c) ≡ true → b ≡ true
 first_of true c h = refl
@@ -50,11 +53,16 @@ abbrev pair_of : SegId → LineId → LineId → SettledPair
 pair_of s a b = record { seg = s; first = a; second = b }
 
 fork_on : (segs : List (List LineId)) (s : SegId) (a b : LineId)
-    → (is_in (segments_from 0 segs) s && (has_line (lines_on segs s) a && (has_line (lines_on segs s) b && not (a.0 == b.0)))) ≡ true → IsPairOn segs (pair_of s a b)
+    → (is_in (segments_from 0 segs) s &&
+    (has_line (lines_on segs s) a && (has_line (lines_on segs s) b && not (a.0 == b.0)))) ≡ true
+    → IsPairOn segs (pair_of s a b)
 fork_on segs s a b h =
-    let lines = second_of (is_in (segments_from 0 segs) s) (has_line (lines_on segs s) a && (has_line (lines_on segs s) b && not (a.0 == b.0))) h in
+    let lines = second_of (is_in (segments_from 0 segs) s)
+    (has_line (lines_on segs s) a && (has_line (lines_on segs s) b && not (a.0 == b.0))) h in
     let more = second_of (has_line (lines_on segs s) a) (has_line (lines_on segs s) b && not (a.0 == b.0)) lines in
-    let known = in_segments 0 segs s (first_of (is_in (segments_from 0 segs) s) (has_line (lines_on segs s) a && (has_line (lines_on segs s) b && not (a.0 == b.0))) h) in
+    let known = in_segments 0 segs s
+    (first_of (is_in (segments_from 0 segs) s)
+    (has_line (lines_on segs s) a && (has_line (lines_on segs s) b && not (a.0 == b.0))) h) in
     record {
       known = omega (arith, known);
       two =
@@ -67,9 +75,11 @@ fork_on segs s a b h =
 
 same_pair : (q : SettledPair) (s : SegId) (a b : LineId) → q.seg ≡ s → q.first ≡ a → q.second ≡ b → pair_of s a b ≡ q
 same_pair q s a b e f g =
-    ap (λ (x : SegId). pair_of x a b) (sym e) ∙ (ap (λ (x : LineId). pair_of q.seg x b) (sym f) ∙ ap (λ (x : LineId). pair_of q.seg q.first x) (sym g))
+    ap (λ (x : SegId). pair_of x a b) (sym e)
+    ∙ (ap (λ (x : LineId). pair_of q.seg x b) (sym f) ∙ ap (λ (x : LineId). pair_of q.seg q.first x) (sym g))
 
-pub next_on : (p : ProblemParts) (settled : List SettledPair) (averages : List (List PairAverage)) (pair : SettledPair) → All AreRising p.segs → ArePairs p averages
+pub next_on : (p : ProblemParts) (settled : List SettledPair) (averages : List (List PairAverage)) (pair : SettledPair)
+    → All AreRising p.segs → ArePairs p averages
     → IsNextPair (next_pair p settled averages) (Some pair) → IsPairOn p.segs pair
 next_on p settled averages pair rising pairs is = by_pair (some_next (next_pair p settled averages) pair is)
   where

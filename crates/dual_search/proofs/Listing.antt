@@ -18,11 +18,14 @@ one_listed k y = cond (unsigned_abs y == 0) [] ((k, y) ∷ [])
 front_listed : (k : ℕ) (y : ℤ) (ys : List ℤ) → listed_from k (y ∷ ys) ≡ one_listed k y ++ listed_from (k + 1) ys
 front_listed k y ys = by_test (unsigned_abs y == 0)
   where
-    by_test : (t : Bool) → cond t (listed_from (k + 1) ys) ((k, y) ∷ listed_from (k + 1) ys) ≡ cond t [] ((k, y) ∷ []) ++ listed_from (k + 1) ys
+    by_test : (t : Bool)
+        → cond t (listed_from (k + 1) ys) ((k, y) ∷ listed_from (k + 1) ys)
+        ≡ cond t [] ((k, y) ∷ []) ++ listed_from (k + 1) ys
     by_test true = refl
     by_test false = refl
 
-end_listed : (k : ℕ) (xs : List ℤ) (y : ℤ) → listed_from k (xs ++ y ∷ []) ≡ listed_from k xs ++ one_listed (k + length xs) y
+end_listed : (k : ℕ) (xs : List ℤ) (y : ℤ)
+    → listed_from k (xs ++ y ∷ []) ≡ listed_from k xs ++ one_listed (k + length xs) y
 end_listed k [] y =
     let same : k ≡ k + 0 = omega arith in
     front_listed k y [] ∙ (append-nil (one_listed k y) ∙ ap (λ n. one_listed n y) same)
@@ -34,7 +37,8 @@ end_listed k (x ∷ xs) y =
     ∙ (ap (λ l. l ++ one_listed (k + 1 + length xs) y) (sym (front_listed k x xs))
     ∙ ap (λ n. listed_from k (x ∷ xs) ++ one_listed n y) same)))
 
-listed_next : (prices : List ℤ) (k : ℕ) → k < length prices → listed (take (k + 1) prices) ≡ listed (take k prices) ++ one_listed k (get_or prices k (pos 0))
+listed_next : (prices : List ℤ) (k : ℕ) → k < length prices
+    → listed (take (k + 1) prices) ≡ listed (take k prices) ++ one_listed k (get_or prices k (pos 0))
 listed_next prices k below =
     let count : 0 + length (take k prices) ≡ k = omega (arith, length-take-le k prices (omega (arith, below))) in
     ap listed (take_more prices k (pos 0) below)
@@ -50,7 +54,9 @@ not_nothing (pos (suc n)) h = apart_from_none (suc n) (omega arith)
 not_nothing (negsuc n) h = apart_from_none (suc n) (omega arith)
 
 -- a price that is not 0
-pub listed_more : (prices : List ℤ) (k : ℕ) (y : ℤ) (items : List (ℕ × ℤ)) → k < length prices → y ≡ get_or prices k (pos 0) → y ≢ pos 0 → items ≡ listed (take k prices) → items ++ (k, y) ∷ [] ≡ listed (take (k + 1) prices)
+pub listed_more : (prices : List ℤ) (k : ℕ) (y : ℤ) (items : List (ℕ × ℤ)) → k < length prices
+    → y ≡ get_or prices k (pos 0) → y ≢ pos 0 → items ≡ listed (take k prices)
+    → items ++ (k, y) ∷ [] ≡ listed (take (k + 1) prices)
 listed_more prices k y items below is some so_far =
     ap (λ l. l ++ (k, y) ∷ []) so_far
     ∙ (ap (λ (t : Bool). listed (take k prices) ++ cond t [] ((k, y) ∷ [])) (sym (not_nothing y some))
@@ -58,14 +64,16 @@ listed_more prices k y items below is some so_far =
     ∙ sym (listed_next prices k below)))
 
 -- one that is
-pub listed_same : (prices : List ℤ) (k : ℕ) (y : ℤ) (items : List (ℕ × ℤ)) → k < length prices → y ≡ get_or prices k (pos 0) → y ≡ pos 0 → items ≡ listed (take k prices) → items ≡ listed (take (k + 1) prices)
+pub listed_same : (prices : List ℤ) (k : ℕ) (y : ℤ) (items : List (ℕ × ℤ)) → k < length prices
+    → y ≡ get_or prices k (pos 0) → y ≡ pos 0 → items ≡ listed (take k prices) → items ≡ listed (take (k + 1) prices)
 listed_same prices k y items below is none so_far =
     so_far
     ∙ (sym (append-nil (listed (take k prices)))
     ∙ (ap (λ (v : ℤ). listed (take k prices) ++ one_listed k v) (sym none ∙ is)
     ∙ sym (listed_next prices k below)))
 
-pub listed_whole : (prices : List ℤ) (k : ℕ) (items : List (ℕ × ℤ)) → length prices ≤ k → items ≡ listed (take k prices) → items ≡ listed prices
+pub listed_whole : (prices : List ℤ) (k : ℕ) (items : List (ℕ × ℤ)) → length prices ≤ k → items ≡ listed (take k prices)
+    → items ≡ listed prices
 listed_whole prices k items over so_far = so_far ∙ ap listed (take_all k prices over)
 
 pub listed_rises : (prices : List ℤ) (items : List (ℕ × ℤ)) → items ≡ listed prices → AreRisingPrices items
@@ -76,7 +84,8 @@ listed_rises prices items is = subst AreRisingPrices (sym is) (listed_stop price
 abbrev pub exact_by : List (List LineId) → Term → ℤ
 exact_by orders t = pos (most_price t) *ℤ subgradient orders t
 
-pub exact_more : (orders : List (List LineId)) (terms : List Term) (i : ℕ) (items : List ℤ) (y : ℤ) → i < length terms → items ≡ map (exact_by orders) (take i terms) → y ≡ exact_by orders (get_or terms i no_term)
+pub exact_more : (orders : List (List LineId)) (terms : List Term) (i : ℕ) (items : List ℤ) (y : ℤ) → i < length terms
+    → items ≡ map (exact_by orders) (take i terms) → y ≡ exact_by orders (get_or terms i no_term)
     → items ++ y ∷ [] ≡ map (exact_by orders) (take (i + 1) terms)
 exact_more orders terms i items y below so_far is =
     ap (λ l. l ++ y ∷ []) so_far

@@ -27,16 +27,20 @@ use Rattle.dual_search.proofs.Counting.{node_grows}
 
 -- What is handed out of a result.
 
-pub found_by : (r : Result DualFound NoMemory) (left want : DualResult) → left ≡ want → IfOk r (λ (f : DualFound). result_found f ≡ left) → IfOk r (λ (f : DualFound). result_found f ≡ want)
-found_by r left want is h = IfOk-weaker r (λ (f : DualFound). result_found f ≡ left) (λ (f : DualFound). result_found f ≡ want) (λ f e. e ∙ is) h
+pub found_by : (r : Result DualFound NoMemory) (left want : DualResult) → left ≡ want
+    → IfOk r (λ (f : DualFound). result_found f ≡ left) → IfOk r (λ (f : DualFound). result_found f ≡ want)
+found_by r left want is h = IfOk-weaker r (λ (f : DualFound). result_found f ≡ left)
+    (λ (f : DualFound). result_found f ≡ want) (λ f e. e ∙ is) h
 
-pub shown_by : (r : Result DualFound NoMemory) (left : DualResult) (p : ProblemParts) (budget : ℕ) → IsProblem p → 0 < length p.segs → is_in_reach p ≡ true → budget ≤ most_load → left ≡ dual_result p budget
+pub shown_by : (r : Result DualFound NoMemory) (left : DualResult) (p : ProblemParts) (budget : ℕ) → IsProblem p
+    → 0 < length p.segs → is_in_reach p ≡ true → budget ≤ most_load → left ≡ dual_result p budget
     → IfOk r (λ (f : DualFound). result_found f ≡ left) → IfOk r (λ (f : DualFound). IsShown p budget (result_found f))
 shown_by r left p budget fits some reach light is h =
     IfOk-weaker r (λ (f : DualFound). result_found f ≡ left) (λ (f : DualFound). IsShown p budget (result_found f))
     (λ f e. subst (IsShown p budget) (sym (e ∙ is)) (reached_shown p budget fits.rising fits.terms some reach light)) h
 
-pub steps_by : (r : Result DualFound NoMemory) (left : DualResult) (old new : ℕ) → new ≡ old + left.branches → IfOk r (λ (f : DualFound). result_found f ≡ left) → IfOk r (λ (f : DualFound). new ≡ old + f.branches)
+pub steps_by : (r : Result DualFound NoMemory) (left : DualResult) (old new : ℕ) → new ≡ old + left.branches
+    → IfOk r (λ (f : DualFound). result_found f ≡ left) → IfOk r (λ (f : DualFound). new ≡ old + f.branches)
 steps_by r left old new same h =
     IfOk-weaker r (λ (f : DualFound). result_found f ≡ left) (λ (f : DualFound). new ≡ old + f.branches)
     (λ f e. (let count = ap (λ (x : DualResult). x.branches) e in omega (arith, same, count))) h
@@ -50,7 +54,8 @@ abbrev pub result_of : LowerBound → Option HeldTree → Progress → DualResul
 result_of b (Some tree) later = result_after b (whole (plain_walked tree) later)
 result_of b None later = result_after b (cut later)
 
-by_walk : (b : LowerBound) (w : Option HeldTree) (later : Progress) (v : Walked) → WalkIs w later v → result_of b w later ≡ result_after b v
+by_walk : (b : LowerBound) (w : Option HeldTree) (later : Progress) (v : Walked) → WalkIs w later v
+    → result_of b w later ≡ result_after b v
 by_walk b (Some tree) later v e = ap (result_after b) (sym e)
 by_walk b None later v e = ap (result_after b) (sym e)
 
@@ -61,22 +66,29 @@ module _ (p : ProblemParts) (budget : ℕ) where
   abbrev root : Stage
   root = ascended searched [] root_rounds (zeros p) (first_incumbent p) 0
 
-  pub root_are : (stack : List SettledPair) (start : Ascent) (prices : List ℤ) (best : Incumbent) (branches : ℕ) (s : Stage)
-      → stack ≡ [] → start ≡ first_ascent searched prices best branches → prices ≡ zeros p → best ≡ first_incumbent p → branches ≡ 0
+  pub root_are : (stack : List SettledPair) (start : Ascent) (prices : List ℤ) (best : Incumbent) (branches : ℕ)
+      (s : Stage)
+      → stack ≡ [] → start ≡ first_ascent searched prices best branches → prices ≡ zeros p → best ≡ first_incumbent p
+      → branches ≡ 0
       → closed searched (pairs_of stack) (rounds searched (pairs_of stack) root_rounds start) ≡ s → root ≡ s
   root_are stack start prices best branches s none e z f n made =
       let h : closed searched [] (rounds searched [] root_rounds start) ≡ s =
-      subst (λ (l : List SettledPair). closed searched (pairs_of l) (rounds searched (pairs_of l) root_rounds start) ≡ s) none made in
+      subst (λ (l : List SettledPair). closed searched (pairs_of l) (rounds searched (pairs_of l) root_rounds start)
+      ≡ s) none made in
       let same : start ≡ first_ascent searched (zeros p) (first_incumbent p) 0 =
       e
       ∙ (ap (λ (l : List ℤ). first_ascent searched l best branches) z
-      ∙ (ap (λ (x : Incumbent). first_ascent searched (zeros p) x branches) f ∙ ap (λ (k : ℕ). first_ascent searched (zeros p) (first_incumbent p) k) n)) in
+      ∙ (ap (λ (x : Incumbent). first_ascent searched (zeros p) x branches) f
+      ∙ ap (λ (k : ℕ). first_ascent searched (zeros p) (first_incumbent p) k) n)) in
       ap (λ (a : Ascent). closed searched [] (rounds searched [] root_rounds a)) (sym same) ∙ h
 
-  pub spent_is : (a : Ascent) (b : LowerBound) → root ≡ spent a → b ≡ a.bound → result_after b (cut (progress a)) ≡ dual_result p budget
+  pub spent_is : (a : Ascent) (b : LowerBound) → root ≡ spent a → b ≡ a.bound
+      → result_after b (cut (progress a)) ≡ dual_result p budget
   spent_is a b e h = ap (λ (x : LowerBound). result_after x (cut (progress a))) h ∙ sym (result_spent p budget a e)
 
-  pub stop_is : (a : Ascent) (b : LowerBound) (tree : WalkedTree) (next : Progress) → root ≡ over a → ((f : Option Below) → at_node p f [] a ≡ whole tree next) → result_after b (whole tree next) ≡ dual_result p budget
+  pub stop_is : (a : Ascent) (b : LowerBound) (tree : WalkedTree) (next : Progress) → root ≡ over a
+      → ((f : Option Below) → at_node p f [] a ≡ whole tree next)
+      → result_after b (whole tree next) ≡ dual_result p budget
   stop_is a b tree next e h = sym (result_over p budget a (whole tree next) e (h (below searched most_forks)))
 
   -- the rounds of the root count no more than the whole search
@@ -88,18 +100,25 @@ module _ (p : ProblemParts) (budget : ℕ) where
       omega (arith, same, grown)
 
   module _ (a : Ascent) (b : LowerBound) (next : Progress) (over_are : root ≡ over a) (is_bound : b ≡ a.bound) where
-    fork_result : (c : OpenPair) → next ≡ progress a → ((f : Option Below) → at_node p f [] a ≡ at_pair f c [] a) → dual_result p budget ≡ result_after b (fork_at searched most_forks c b [] next)
+    fork_result : (c : OpenPair) → next ≡ progress a → ((f : Option Below) → at_node p f [] a ≡ at_pair f c [] a)
+        → dual_result p budget ≡ result_after b (fork_at searched most_forks c b [] next)
     fork_result c same h =
-        result_over p budget a (fork_at searched most_forks c a.bound [] (progress a)) over_are (h (below searched most_forks) ∙ pair_is searched most_forks c [] a)
+        result_over p budget a (fork_at searched most_forks c a.bound [] (progress a)) over_are
+        (h (below searched most_forks) ∙ pair_is searched most_forks c [] a)
         ∙ (ap (λ (x : LowerBound). result_after x (fork_at searched most_forks c x [] (progress a))) (sym is_bound)
         ∙ ap (λ (n : Progress). result_after b (fork_at searched most_forks c b [] n)) (sym same))
 
-    pub fork_is : (pair : SettledPair) (w : Option HeldTree) (later : Progress) → EndIs p [] a next (Fork' pair) → ((c : OpenPair) → IsForkAt c pair → WalkIs w later (fork_at searched most_forks c b [] next))
+    pub fork_is : (pair : SettledPair) (w : Option HeldTree) (later : Progress) → EndIs p [] a next (Fork' pair)
+        → ((c : OpenPair) → IsForkAt c pair → WalkIs w later (fork_at searched most_forks c b [] next))
         → result_of b w later ≡ dual_result p budget
-    fork_is pair w later (same, c, at, h) made = by_walk b w later (fork_at searched most_forks c b [] next) (made c at) ∙ sym (fork_result c same h)
+    fork_is pair w later (same, c, at, h) made = by_walk b w later (fork_at searched most_forks c b [] next) (made c at)
+        ∙ sym (fork_result c same h)
 
-    pub fork_few : (pair : SettledPair) (n : ℕ) → EndIs p [] a next (Fork' pair) → ((c : OpenPair) → IsForkAt c pair → n ≤ counted (fork_at searched most_forks c b [] next)) → n ≤ (dual_result p budget).branches
+    pub fork_few : (pair : SettledPair) (n : ℕ) → EndIs p [] a next (Fork' pair)
+        → ((c : OpenPair) → IsForkAt c pair → n ≤ counted (fork_at searched most_forks c b [] next))
+        → n ≤ (dual_result p budget).branches
     fork_few pair n (same, c, at, h) few =
-        let count = ap (λ (r : DualResult). r.branches) (fork_result c same h) ∙ counts_same b (fork_at searched most_forks c b [] next) in
+        let count = ap (λ (r : DualResult). r.branches) (fork_result c same h)
+        ∙ counts_same b (fork_at searched most_forks c b [] next) in
         let most = few c at in
         omega (arith, count, most)

@@ -4,4 +4,10 @@ use Rattle.dual_ascent.specs.DualResults.{DualResult}
 use Rattle.dual_search.specs.declared.found.DualFound.{DualFound}
 
 abbrev pub result_found : DualFound → DualResult
-result_found f = record { complete = f.complete; target = f.target; tree = plain_dual f.tree; orders = f.orders.lists; branches = f.branches }
+result_found f = record {
+  complete = f.complete;
+  target = f.target;
+  tree = plain_dual f.tree;
+  orders = f.orders.lists;
+  branches = f.branches;
+}

@@ -92,7 +92,8 @@ IsGoing Spent = ⊥
 -- what comes in a round behind a value that does not show the incumbent's cost
 abbrev pub moved : rounds.Search → List SettledPair → List (List LineId) → ℤ → rounds.Ascent → rounds.Stage
 moved q settled orders value a =
-    rounds.onward (rounds.onward (rounds.onward (rounds.directed q orders a) (rounds.rounded q settled)) rounds.shrunk) (rounds.stepped q value)
+    rounds.onward (rounds.onward (rounds.onward (rounds.directed q orders a) (rounds.rounded q settled)) rounds.shrunk)
+    (rounds.stepped q value)
 
 -- they are over, or go on
 abbrev pub IsOverWhere : Bool → rounds.Ascent → rounds.Stage → Type 0
@@ -101,7 +102,8 @@ IsOverWhere false a s = s ≡ rounds.going a
 
 -- what was walked, as the definition tells it: nothing where it can't come to its end
 abbrev pub plain_walked : WalkedTree → walks.WalkedTree
-plain_walked (Forked' value prices seg a b p first q second) = walks.forked value prices seg a b (plain_walked first) (plain_walked second)
+plain_walked (Forked' value prices seg a b p first q second) = walks.forked value prices seg a b (plain_walked first)
+    (plain_walked second)
 plain_walked (Stopped prices) = walks.stopped prices
 
 abbrev pub WalkIs : Option WalkedTree → walks.Progress → walks.Walked → Type 0
@@ -110,8 +112,10 @@ WalkIs (Some tree) now w = w ≡ walks.whole (plain_walked tree) now
 
 -- what becomes of a node after its rounds, whatever lies below it: it is a stop, or a fork at a pair, where nothing changes
 abbrev pub EndIs : ProblemParts → List SettledPair → rounds.Ascent → walks.Progress → NodeEnd → Type 0
-EndIs p settled a now (Stop' tree) = (below : Option walks.Below) → walks.at_node p below settled a ≡ walks.whole (plain_walked tree) now
-EndIs p settled a now (Fork' pair) = (now ≡ walks.progress a) × (c : OpenPair) × IsForkAt c pair × ((below : Option walks.Below) → walks.at_node p below settled a ≡ walks.at_pair below c settled a)
+EndIs p settled a now (Stop' tree) = (below : Option walks.Below)
+    → walks.at_node p below settled a ≡ walks.whole (plain_walked tree) now
+EndIs p settled a now (Fork' pair) = (now ≡ walks.progress a) × (c : OpenPair) × IsForkAt c pair
+    × ((below : Option walks.Below) → walks.at_node p below settled a ≡ walks.at_pair below c settled a)
 
 -- what lies below a node, with room for so many forks
 abbrev pub below : rounds.Search → ℕ → Option walks.Below
@@ -119,9 +123,11 @@ below q zero = None
 below q (suc room) = Some (walks.walked q room 200)
 
 -- a fork at a pair
-abbrev pub fork_from : Option walks.Below → OpenPair → rounds.LowerBound → List SettledPair → walks.Progress → walks.Walked
+abbrev pub fork_from : Option walks.Below → OpenPair → rounds.LowerBound → List SettledPair → walks.Progress
+    → walks.Walked
 fork_from None c bound settled now = walks.cut now
-fork_from (Some f) c bound settled now = walks.after_first f c bound settled (f (with_pair c.seg (ahead c) (behind c) settled) bound.prices now)
+fork_from (Some f) c bound settled now = walks.after_first f c bound settled
+    (f (with_pair c.seg (ahead c) (behind c) settled) bound.prices now)
 
 abbrev pub fork_at : rounds.Search → ℕ → OpenPair → rounds.LowerBound → List SettledPair → walks.Progress → walks.Walked
 fork_at q room c bound settled now = fork_from (below q room) c bound settled now

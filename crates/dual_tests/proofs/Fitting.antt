@@ -54,15 +54,20 @@ torn_side = record {
 }
 
 abbrev torn_terms : List Term
-torn_terms = Side (seg 2) (line 0) (line 1) 1 ∷ Link (seg 0) (seg 1) false (line 0) (line 1) 1 ∷ Link (seg 0) (seg 1) true (line 0) (line 1) 1 ∷ []
+torn_terms = Side (seg 2) (line 0) (line 1) 1 ∷ Link (seg 0) (seg 1) false (line 0) (line 1) 1 ∷ Link (seg 0)
+    (seg 1) true (line 0) (line 1) 1 ∷ []
 
 pub torn_fits : IsProblem (record { segs = torn_segs; terms = torn_terms })
 torn_fits = record {
   rising = each_rises;
   terms =
-      All-cons (IsTerm torn_segs) (Side (seg 2) (line 0) (line 1) 1) (Link (seg 0) (seg 1) false (line 0) (line 1) 1 ∷ Link (seg 0) (seg 1) true (line 0) (line 1) 1 ∷ []) torn_side
-      (All-cons (IsTerm torn_segs) (Link (seg 0) (seg 1) false (line 0) (line 1) 1) (Link (seg 0) (seg 1) true (line 0) (line 1) 1 ∷ []) (torn_link false)
-      (All-cons (IsTerm torn_segs) (Link (seg 0) (seg 1) true (line 0) (line 1) 1) [] (torn_link true) (All-nil (IsTerm torn_segs))));
+      All-cons (IsTerm torn_segs) (Side (seg 2) (line 0) (line 1) 1)
+      (Link (seg 0) (seg 1) false (line 0) (line 1) 1 ∷ Link (seg 0) (seg 1) true (line 0) (line 1) 1 ∷ [])
+      torn_side
+      (All-cons (IsTerm torn_segs) (Link (seg 0) (seg 1) false (line 0) (line 1) 1)
+      (Link (seg 0) (seg 1) true (line 0) (line 1) 1 ∷ []) (torn_link false)
+      (All-cons (IsTerm torn_segs) (Link (seg 0) (seg 1) true (line 0) (line 1) 1) [] (torn_link true)
+      (All-nil (IsTerm torn_segs))));
   few_terms = omega arith;
   few_choices = lit≤ tt;
 }
@@ -70,7 +75,8 @@ torn_fits = record {
     each_rises : All AreRising torn_segs
     each_rises =
         All-cons AreRising two (two ∷ two ∷ []) (omega arith, tt)
-        (All-cons AreRising two (two ∷ []) (omega arith, tt) (All-cons AreRising two [] (omega arith, tt) (All-nil AreRising)))
+        (All-cons AreRising two (two ∷ []) (omega arith, tt)
+        (All-cons AreRising two [] (omega arith, tt) (All-nil AreRising)))
 
 -- Three lines on the first segment, two of them on the second.
 
@@ -84,28 +90,56 @@ abbrev wider_segs : List (List LineId)
 wider_segs = three ∷ outer ∷ []
 
 abbrev wider_terms : List Term
-wider_terms = Side (seg 1) (line 2) (line 0) 1 ∷ Side (seg 0) (line 1) (line 0) 1 ∷ Side (seg 0) (line 2) (line 1) 2 ∷ Apart (seg 0) (seg 1) (line 0) (line 2) 3 ∷ []
+wider_terms = Side (seg 1) (line 2) (line 0) 1 ∷ Side (seg 0) (line 1) (line 0) 1 ∷ Side (seg 0) (line 2)
+    (line 1) 2 ∷ Apart (seg 0) (seg 1) (line 0) (line 2) 3 ∷ []
 
 pub wider_fits : IsProblem (record { segs = wider_segs; terms = wider_terms })
 wider_fits = record {
-  rising = All-cons AreRising three (outer ∷ []) (omega arith, (omega arith, tt)) (All-cons AreRising outer [] (omega arith, tt) (All-nil AreRising));
+  rising = All-cons AreRising three (outer ∷ []) (omega arith, (omega arith, tt))
+      (All-cons AreRising outer [] (omega arith, tt) (All-nil AreRising));
   terms =
-      All-cons (IsTerm wider_segs) (Side (seg 1) (line 2) (line 0) 1) (Side (seg 0) (line 1) (line 0) 1 ∷ Side (seg 0) (line 2) (line 1) 2 ∷ Apart (seg 0) (seg 1) (line 0) (line 2) 3 ∷ []) one
-      (All-cons (IsTerm wider_segs) (Side (seg 0) (line 1) (line 0) 1) (Side (seg 0) (line 2) (line 1) 2 ∷ Apart (seg 0) (seg 1) (line 0) (line 2) 3 ∷ []) other
-      (All-cons (IsTerm wider_segs) (Side (seg 0) (line 2) (line 1) 2) (Apart (seg 0) (seg 1) (line 0) (line 2) 3 ∷ []) last
-      (All-cons (IsTerm wider_segs) (Apart (seg 0) (seg 1) (line 0) (line 2) 3) [] apart (All-nil (IsTerm wider_segs)))));
+      All-cons (IsTerm wider_segs) (Side (seg 1) (line 2) (line 0) 1)
+      (Side (seg 0) (line 1) (line 0) 1 ∷ Side (seg 0) (line 2) (line 1) 2 ∷ Apart (seg 0) (seg 1) (line 0)
+      (line 2) 3 ∷ []) one
+      (All-cons (IsTerm wider_segs) (Side (seg 0) (line 1) (line 0) 1)
+      (Side (seg 0) (line 2) (line 1) 2 ∷ Apart (seg 0) (seg 1) (line 0) (line 2) 3 ∷ []) other
+      (All-cons (IsTerm wider_segs) (Side (seg 0) (line 2) (line 1) 2)
+      (Apart (seg 0) (seg 1) (line 0) (line 2) 3 ∷ []) last
+      (All-cons (IsTerm wider_segs) (Apart (seg 0) (seg 1) (line 0) (line 2) 3) [] apart
+      (All-nil (IsTerm wider_segs)))));
   few_terms = omega arith;
   few_choices = lit≤ tt;
 }
   where
     one : IsTerm wider_segs (Side (seg 1) (line 2) (line 0) 1)
-    one = record { seg_known = omega arith; differ = λ e. omega (arith, e); first_on = second_of (line 0) (line 2) []; second_on = first_of (line 0) (line 2 ∷ []); weight = (omega arith, omega arith) }
+    one = record {
+      seg_known = omega arith;
+      differ = λ e. omega (arith, e);
+      first_on = second_of (line 0)
+          (line 2) [];
+      second_on = first_of (line 0) (line 2 ∷ []);
+      weight = (omega arith, omega arith);
+    }
 
     other : IsTerm wider_segs (Side (seg 0) (line 1) (line 0) 1)
-    other = record { seg_known = omega arith; differ = λ e. omega (arith, e); first_on = second_of (line 0) (line 1) (line 2 ∷ []); second_on = first_of (line 0) (line 1 ∷ line 2 ∷ []); weight = (omega arith, omega arith) }
+    other = record {
+      seg_known = omega arith;
+      differ = λ e. omega (arith, e);
+      first_on = second_of (line 0) (line 1)
+          (line 2 ∷ []);
+      second_on = first_of (line 0) (line 1 ∷ line 2 ∷ []);
+      weight = (omega arith, omega arith);
+    }
 
     last : IsTerm wider_segs (Side (seg 0) (line 2) (line 1) 2)
-    last = record { seg_known = omega arith; differ = λ e. omega (arith, e); first_on = third_of (line 0) (line 1) (line 2) []; second_on = second_of (line 0) (line 1) (line 2 ∷ []); weight = (omega arith, omega arith) }
+    last = record {
+      seg_known = omega arith;
+      differ = λ e. omega (arith, e);
+      first_on = third_of (line 0) (line 1)
+          (line 2) [];
+      second_on = second_of (line 0) (line 1) (line 2 ∷ []);
+      weight = (omega arith, omega arith);
+    }
 
     apart : IsTerm wider_segs (Apart (seg 0) (seg 1) (line 0) (line 2) 3)
     apart = record {
@@ -131,15 +165,23 @@ abbrev tie : Bool → ℕ → Term
 tie flip w = Link (seg 0) (seg 1) flip (line 1) (line 2) w
 
 abbrev tangled_terms : List Term
-tangled_terms = tie true 2 ∷ tie true 1 ∷ tie false 2 ∷ Side (seg 1) (line 0) (line 2) 2 ∷ Side (seg 0) (line 1) (line 2) 3 ∷ []
+tangled_terms = tie true 2 ∷ tie true 1 ∷ tie false 2 ∷ Side (seg 1) (line 0) (line 2) 2 ∷ Side (seg 0) (line 1)
+    (line 2) 3 ∷ []
 
 pub tangled_fits : IsProblem (record { segs = tangled_segs; terms = tangled_terms })
 tangled_fits = record {
-  rising = All-cons AreRising inner (three ∷ []) (omega arith, tt) (All-cons AreRising three [] (omega arith, (omega arith, tt)) (All-nil AreRising));
+  rising = All-cons AreRising inner (three ∷ []) (omega arith, tt)
+      (All-cons AreRising three [] (omega arith, (omega arith, tt)) (All-nil AreRising));
   terms =
-      All-cons (IsTerm tangled_segs) (tie true 2) (tie true 1 ∷ tie false 2 ∷ Side (seg 1) (line 0) (line 2) 2 ∷ Side (seg 0) (line 1) (line 2) 3 ∷ []) (tied true 2 (omega arith) (omega arith))
-      (All-cons (IsTerm tangled_segs) (tie true 1) (tie false 2 ∷ Side (seg 1) (line 0) (line 2) 2 ∷ Side (seg 0) (line 1) (line 2) 3 ∷ []) (tied true 1 (omega arith) (omega arith))
-      (All-cons (IsTerm tangled_segs) (tie false 2) (Side (seg 1) (line 0) (line 2) 2 ∷ Side (seg 0) (line 1) (line 2) 3 ∷ []) (tied false 2 (omega arith) (omega arith))
+      All-cons (IsTerm tangled_segs) (tie true 2)
+      (tie true 1 ∷ tie false 2 ∷ Side (seg 1) (line 0) (line 2) 2 ∷ Side (seg 0) (line 1) (line 2) 3 ∷ [])
+      (tied true 2 (omega arith) (omega arith))
+      (All-cons (IsTerm tangled_segs) (tie true 1)
+      (tie false 2 ∷ Side (seg 1) (line 0) (line 2) 2 ∷ Side (seg 0) (line 1) (line 2) 3 ∷ [])
+      (tied true 1 (omega arith) (omega arith))
+      (All-cons (IsTerm tangled_segs) (tie false 2)
+      (Side (seg 1) (line 0) (line 2) 2 ∷ Side (seg 0) (line 1) (line 2) 3 ∷ [])
+      (tied false 2 (omega arith) (omega arith))
       (All-cons (IsTerm tangled_segs) (Side (seg 1) (line 0) (line 2) 2) (Side (seg 0) (line 1) (line 2) 3 ∷ []) wide
       (All-cons (IsTerm tangled_segs) (Side (seg 0) (line 1) (line 2) 3) [] narrow (All-nil (IsTerm tangled_segs))))));
   few_terms = omega arith;
@@ -159,7 +201,22 @@ tangled_fits = record {
     }
 
     wide : IsTerm tangled_segs (Side (seg 1) (line 0) (line 2) 2)
-    wide = record { seg_known = omega arith; differ = λ e. omega (arith, e); first_on = first_of (line 0) (line 1 ∷ line 2 ∷ []); second_on = third_of (line 0) (line 1) (line 2) []; weight = (omega arith, omega arith) }
+    wide = record {
+      seg_known = omega arith;
+      differ = λ e. omega (arith, e);
+      first_on = first_of (line 0)
+          (line 1 ∷ line 2 ∷ []);
+      second_on = third_of (line 0) (line 1) (line 2) [];
+      weight =
+          (omega arith, omega arith);
+    }
 
     narrow : IsTerm tangled_segs (Side (seg 0) (line 1) (line 2) 3)
-    narrow = record { seg_known = omega arith; differ = λ e. omega (arith, e); first_on = first_of (line 1) (line 2 ∷ []); second_on = second_of (line 1) (line 2) []; weight = (omega arith, omega arith) }
+    narrow = record {
+      seg_known = omega arith;
+      differ = λ e. omega (arith, e);
+      first_on = first_of (line 1)
+          (line 2 ∷ []);
+      second_on = second_of (line 1) (line 2) [];
+      weight = (omega arith, omega arith);
+    }

@@ -12,7 +12,12 @@ pub returns-clause-first : goal.returns-clause-first
 returns-clause-first c =
     let p : ProblemParts = c.args.search.now.part.problem.now in
     let still : c.in_ok-directions.directions.items ≡ zeros p =
-    c.in_ok-directions.ensures.items_if_clones_equal (search rules) ∙ zeros_as_many p.terms (length c.terms.result.now) (ap length c.terms.ensures.list) in
-    let averages : averages_of c.in_ok-no_averages.field-0.items ≡ no_averages p = c.in_ok-no_averages.ensures.value ∙ ap (map never_all) c.segs-segs.ensures.lists in
-    λ now. first_is (search_of c.args.search.now) c.args.prices.now (incumbent_of now.incumbent) now.branches c.in_ok-from_slice.field-0.items c.in_ok-directions.directions.items c.in_ok-from_slice-2.field-0.items
-    (averages_of c.in_ok-no_averages.field-0.items) c.in_ok-from_slice.ensures.items still c.in_ok-from_slice-2.ensures.items averages
+    c.in_ok-directions.ensures.items_if_clones_equal (search rules)
+    ∙ zeros_as_many p.terms (length c.terms.result.now) (ap length c.terms.ensures.list) in
+    let averages : averages_of c.in_ok-no_averages.field-0.items ≡ no_averages p = c.in_ok-no_averages.ensures.value
+    ∙ ap (map never_all) c.segs-segs.ensures.lists in
+    λ now. first_is (search_of c.args.search.now) c.args.prices.now
+    (incumbent_of now.incumbent) now.branches c.in_ok-from_slice.field-0.items c.in_ok-directions.directions.items
+    c.in_ok-from_slice-2.field-0.items
+    (averages_of c.in_ok-no_averages.field-0.items) c.in_ok-from_slice.ensures.items still
+    c.in_ok-from_slice-2.ensures.items averages

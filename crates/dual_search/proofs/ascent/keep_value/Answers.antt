@@ -16,31 +16,41 @@ copy_from_slice-requires c =
     let p : ProblemParts = c.args.search.now.part.problem.now in
     ap length c.as_mut_slice.ensures.value
     ∙ (length_within p.terms c.args.ascent.now.kept.items c.requires.ascent.kept
-    ∙ (sym (length_within p.terms c.args.ascent.now.prices.items c.requires.ascent.prices) ∙ sym (ap length c.as_slice.ensures.value)))
+    ∙ (sym (length_within p.terms c.args.ascent.now.prices.items c.requires.ascent.prices)
+    ∙ sym (ap length c.as_slice.ensures.value)))
 
 pub returns-then-ascent-value-clause-kept : goal.returns-then-ascent-value-clause-kept
 returns-then-ascent-value-clause-kept c =
     let earlier : ℤ = c.args.ascent.now.value in
     let fits : FitsSigned w64 earlier = search rules in
     let same_earlier : to_z w64 (of_z w64 earlier) ≡ earlier = to_z-of_z w64 earlier fits in
-    let same : to_z w64 (of_z w64 c.args.value) ≡ c.args.value = to_z-of_z w64 c.args.value (record { sfits = c.ranges.value.sfits }) in
+    let same : to_z w64 (of_z w64 c.args.value)
+    ≡ c.args.value = to_z-of_z w64 c.args.value (record { sfits = c.ranges.value.sfits }) in
     let test : ((c.args.ascent.now.round == 1) || int_lt earlier c.args.value) ≡ true =
     elim c.if-ascent-eq1.branch [
-      | then-ascent-eq1 w ↦ ap (λ b. b || int_lt earlier c.args.value) (eq-eqb c.args.ascent.now.round 1 w.if-ascent-eq1.true)
+      | then-ascent-eq1 w ↦ ap (λ b. b || int_lt earlier c.args.value)
+          (eq-eqb c.args.ascent.now.round 1 w.if-ascent-eq1.true)
       | else-ascent-eq1 w ↦
           or_second (c.args.ascent.now.round == 1) (int_lt earlier c.args.value)
-          (sym (w.value-is ∙ (ap (λ (v : ℤ). int_lt v (to_z w64 (of_z w64 c.args.value))) same_earlier ∙ ap (λ (v : ℤ). int_lt earlier v) same)) ∙ c.if-ascent-value.true)
+          (sym (w.value-is
+          ∙ (ap (λ (v : ℤ). int_lt v (to_z w64 (of_z w64 c.args.value))) same_earlier
+          ∙ ap (λ (v : ℤ). int_lt earlier v) same)) ∙ c.if-ascent-value.true)
     ] in
     let prices : (with_items c.args.ascent.now.kept c.copy_from_slice.new.self).items ≡ c.args.ascent.now.prices.items =
-    with_items_is c.args.ascent.now.kept c.copy_from_slice.new.self (c.copy_from_slice.ensures.len ∙ c.as_mut_slice.ensures.len) ∙ (c.copy_from_slice.ensures.after ∙ c.as_slice.ensures.value) in
-    λ now. kept_value c.args.value (to_z w64 (of_z w64 c.args.value)) (ascent_of now c.args.ascent.now) (with_items c.args.ascent.now.kept c.copy_from_slice.new.self).items test same prices
+    with_items_is c.args.ascent.now.kept c.copy_from_slice.new.self
+    (c.copy_from_slice.ensures.len ∙ c.as_mut_slice.ensures.len)
+    ∙ (c.copy_from_slice.ensures.after ∙ c.as_slice.ensures.value) in
+    λ now. kept_value c.args.value (to_z w64 (of_z w64 c.args.value)) (ascent_of now c.args.ascent.now)
+    (with_items c.args.ascent.now.kept c.copy_from_slice.new.self).items test same prices
 
 pub returns-then-ascent-value-clause-ascent : goal.returns-then-ascent-value-clause-ascent
 returns-then-ascent-value-clause-ascent c =
     let p : ProblemParts = c.args.search.now.part.problem.now in
     let r = c.requires.ascent in
     let prices : (with_items c.args.ascent.now.kept c.copy_from_slice.new.self).items ≡ c.args.ascent.now.prices.items =
-    with_items_is c.args.ascent.now.kept c.copy_from_slice.new.self (c.copy_from_slice.ensures.len ∙ c.as_mut_slice.ensures.len) ∙ (c.copy_from_slice.ensures.after ∙ c.as_slice.ensures.value) in
+    with_items_is c.args.ascent.now.kept c.copy_from_slice.new.self
+    (c.copy_from_slice.ensures.len ∙ c.as_mut_slice.ensures.len)
+    ∙ (c.copy_from_slice.ensures.after ∙ c.as_slice.ensures.value) in
     record {
       prices = r.prices;
       kept = subst (AreWithin p.terms) (sym prices) r.prices;

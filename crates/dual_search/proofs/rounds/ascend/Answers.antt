@@ -15,10 +15,14 @@ returns-in-Going g c =
     let all : rounds.Stage = rounds.rounds q settled c.args.most (ascent_of c.args.now.now c.args.ascent.now) in
     let over : all ≡ rounds.over a =
     elim c.in-Going.is [
-      | inl e ↦ absurd (rounds_end q settled c.args.most (ascent_of c.args.now.now c.args.ascent.now) a (subst (λ (s : Stage). StageIs s a all) e c.go_on.ensures.stage))
+      | inl e ↦ absurd
+          (rounds_end q settled c.args.most (ascent_of c.args.now.now c.args.ascent.now) a
+          (subst (λ (s : Stage). StageIs s a all) e c.go_on.ensures.stage))
       | inr e ↦ subst (λ (s : Stage). StageIs s a all) e c.go_on.ensures.stage
     ] in
-    let closed = closed_is q settled all a (incumbent_of c.offer_averaged.new.now.incumbent) c.offer_averaged.new.now.branches over c.offer_averaged.ensures.offered c.offer_averaged.ensures.branches in
+    let closed = closed_is q settled all a
+    (incumbent_of c.offer_averaged.new.now.incumbent) c.offer_averaged.new.now.branches over
+    c.offer_averaged.ensures.offered c.offer_averaged.ensures.branches in
     record {
       answers = c.go_on.ensures.answers;
       now = c.offer_averaged.ensures.now;

@@ -8,7 +8,8 @@ use Rattle.dual_search.proofs.rounds.go_on.Given as goal
 -- the rounds that are left come to what all come to
 abbrev pub invariant-loop : goal.invariant-loop
 invariant-loop g l = record {
-  rounds_left : rounds (search_of l.search) (pairs_of l.settled) (l.most - l.counter) (ascent_of l.now l.ascent) ≡ rounds (search_of l.search) (pairs_of l.settled) l.most (ascent_of l.initial.now l.initial.ascent);
+  rounds_left : rounds (search_of l.search) (pairs_of l.settled) (l.most - l.counter) (ascent_of l.now l.ascent)
+      ≡ rounds (search_of l.search) (pairs_of l.settled) l.most (ascent_of l.initial.now l.initial.ascent);
   under_way : IsUnderWay l.search l.now;
   ascent : IsAscent l.search.part.problem.now l.ascent;
   answers : AreAnswers l.search.part.problem.now (pairs_of l.settled) l.held;

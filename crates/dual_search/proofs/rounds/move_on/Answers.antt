@@ -6,7 +6,8 @@ pub returns-then-shrink-clause-round : goal.returns-then-shrink-clause-round
 returns-then-shrink-clause-round c = c.shrink.ensures.round ∙ c.turn.ensures.round
 
 pub step_on-requires-clause-moves : goal.step_on-requires-clause-moves
-step_on-requires-clause-moves c = subst (λ (l : List ℤ). 0 < square_sum l) (sym c.shrink.ensures.directions) (c.turn.ensures.moves c.if-turn.false)
+step_on-requires-clause-moves c = subst (λ (l : List ℤ). 0 < square_sum l) (sym c.shrink.ensures.directions)
+    (c.turn.ensures.moves c.if-turn.false)
 
 pub returns-clause-round : goal.returns-clause-round
 returns-clause-round c = c.step_on.ensures.round ∙ (c.shrink.ensures.round ∙ c.turn.ensures.round)

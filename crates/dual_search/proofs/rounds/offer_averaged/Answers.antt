@@ -17,7 +17,10 @@ offer_trial-requires-clause-now c =
     let p : ProblemParts = c.args.search.now.part.problem.now in
     record {
       incumbent = c.requires.now.incumbent;
-      trial = subst (AreOrders p.segs) (sym (with_items_is c.args.now.now.trial c.put_averaged.new.orders (c.put_averaged.auto.orders ∙ c.as_mut_slice.ensures.len) ∙ c.put_averaged.ensures.orders)) (averaged_are_orders p (pairs_of c.args.settled.now) (averages_of c.as_slice.result.now));
+      trial = subst (AreOrders p.segs)
+          (sym (with_items_is c.args.now.now.trial c.put_averaged.new.orders
+          (c.put_averaged.auto.orders ∙ c.as_mut_slice.ensures.len) ∙ c.put_averaged.ensures.orders))
+          (averaged_are_orders p (pairs_of c.args.settled.now) (averages_of c.as_slice.result.now));
       room = c.put_averaged.ensures.room;
       within = c.requires.now.within;
     }
@@ -25,7 +28,11 @@ offer_trial-requires-clause-now c =
 pub returns-clause-offered : goal.returns-clause-offered
 returns-clause-offered c =
     let p : ProblemParts = c.args.search.now.part.problem.now in
-    let is : (with_items c.args.now.now.trial c.put_averaged.new.orders).items ≡ averaged_orders p (pairs_of c.args.settled.now) (averages_of c.args.ascent.now.averages.items) =
-    with_items_is c.args.now.now.trial c.put_averaged.new.orders (c.put_averaged.auto.orders ∙ c.as_mut_slice.ensures.len)
-    ∙ (c.put_averaged.ensures.orders ∙ ap (λ l. averaged_orders p (pairs_of c.args.settled.now) (averages_of l)) c.as_slice.ensures.value) in
-    c.offer_trial.ensures.offered ∙ ap (λ (o : List (List LineId)). after_offer p o (incumbent_of c.args.now.now.incumbent)) is
+    let is : (with_items c.args.now.now.trial c.put_averaged.new.orders).items
+    ≡ averaged_orders p (pairs_of c.args.settled.now) (averages_of c.args.ascent.now.averages.items) =
+    with_items_is c.args.now.now.trial c.put_averaged.new.orders
+    (c.put_averaged.auto.orders ∙ c.as_mut_slice.ensures.len)
+    ∙ (c.put_averaged.ensures.orders
+    ∙ ap (λ l. averaged_orders p (pairs_of c.args.settled.now) (averages_of l)) c.as_slice.ensures.value) in
+    c.offer_trial.ensures.offered
+    ∙ ap (λ (o : List (List LineId)). after_offer p o (incumbent_of c.args.now.now.incumbent)) is

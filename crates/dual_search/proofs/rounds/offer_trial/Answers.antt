@@ -7,4 +7,5 @@ use Rattle.dual_search.proofs.rounds.offer_trial.Goals as goal
 pub returns-clause-offered : goal.returns-clause-offered
 returns-clause-offered c =
     c.offer.ensures.best
-    ∙ ap (λ (o : List (List LineId)). after_offer c.args.search.now.part.problem.now o (incumbent_of c.args.now.now.incumbent)) c.as_mut_slice.ensures.value
+    ∙ ap (λ (o : List (List LineId)). after_offer c.args.search.now.part.problem.now o
+    (incumbent_of c.args.now.now.incumbent)) c.as_mut_slice.ensures.value

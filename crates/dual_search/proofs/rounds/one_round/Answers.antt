@@ -16,7 +16,8 @@ use Rattle.dual_search.proofs.rounds.one_round.Goals as goal
 pub look-requires-clause-orders : goal.look-requires-clause-orders
 look-requires-clause-orders g c =
     ap length c.as_slice-orders.ensures.value
-    ∙ sym (length-orders c.args.search.now.part.problem.now.segs c.answer-value.new.held.orders.items c.answer-value.ensures.answers.orders)
+    ∙ sym (length-orders c.args.search.now.part.problem.now.segs c.answer-value.new.held.orders.items
+    c.answer-value.ensures.answers.orders)
 
 pub returns-then-is_shown-clause-round : goal.returns-then-is_shown-clause-round
 returns-then-is_shown-clause-round g c =
@@ -42,16 +43,23 @@ returns-then-is_shown-clause-stage g c =
     let a : rounds.Ascent = ascent_of c.answer-value.new.now c.count_round.new.ascent in
     let b : rounds.Ascent = ascent_of c.answer-value.new.now c.look.new.ascent in
     let value : ℤ = to_z w64 (of_z w64 c.answer-value.result) in
-    let same : value ≡ c.answer-value.result = to_z-of_z w64 c.answer-value.result (record { sfits = c.answer-value.type_inv }) in
+    let same : value
+    ≡ c.answer-value.result = to_z-of_z w64 c.answer-value.result (record { sfits = c.answer-value.type_inv }) in
     let load = c.requires.search.part.load in
     let within = c.requires.now.within in
     let begins : rounds.one_round q settled start ≡ rounds.answered q settled a =
     round_begun q settled start (omega (arith, load, within, c.if-search-now.false))
-    ∙ ap (rounds.answered q settled) (sym (counted_is c.args.search.now c.args.now.now c.count_round.new.now c.answer-value.new.now c.args.ascent.now c.count_round.new.ascent load c.count_round.ensures.now c.answer-value.ensures.same c.count_round.ensures.ascent)) in
-    let orders : c.as_slice-orders.result.now ≡ answers p settled c.count_round.new.ascent.prices.items = c.as_slice-orders.ensures.value ∙ c.answer-value.ensures.orders in
+    ∙ ap (rounds.answered q settled)
+    (sym (counted_is c.args.search.now c.args.now.now c.count_round.new.now c.answer-value.new.now c.args.ascent.now
+    c.count_round.new.ascent load c.count_round.ensures.now c.answer-value.ensures.same
+    c.count_round.ensures.ascent)) in
+    let orders : c.as_slice-orders.result.now
+    ≡ answers p settled c.count_round.new.ascent.prices.items = c.as_slice-orders.ensures.value
+    ∙ c.answer-value.ensures.orders in
     let is_seen : b ≡ seen q (answers p settled c.count_round.new.ascent.prices.items) value a =
     c.look.ensures.looked c.answer-value.new.now ∙ ap (λ (o : List (List LineId)). seen q o value a) orders in
-    round_over q settled start a b value begins (same ∙ c.answer-value.ensures.value) is_seen (sym c.if-is_shown.ensures)
+    round_over q settled start a b value begins (same ∙ c.answer-value.ensures.value) is_seen
+    (sym c.if-is_shown.ensures)
 
 pub returns-then-move_on-clause-stage : goal.returns-then-move_on-clause-stage
 returns-then-move_on-clause-stage g c =
@@ -62,16 +70,23 @@ returns-then-move_on-clause-stage g c =
     let a : rounds.Ascent = ascent_of c.answer-value.new.now c.count_round.new.ascent in
     let b : rounds.Ascent = ascent_of c.answer-value.new.now c.look.new.ascent in
     let value : ℤ = to_z w64 (of_z w64 c.answer-value.result) in
-    let same : value ≡ c.answer-value.result = to_z-of_z w64 c.answer-value.result (record { sfits = c.answer-value.type_inv }) in
+    let same : value
+    ≡ c.answer-value.result = to_z-of_z w64 c.answer-value.result (record { sfits = c.answer-value.type_inv }) in
     let load = c.requires.search.part.load in
     let within = c.requires.now.within in
     let begins : rounds.one_round q settled start ≡ rounds.answered q settled a =
     round_begun q settled start (omega (arith, load, within, c.if-search-now.false))
-    ∙ ap (rounds.answered q settled) (sym (counted_is c.args.search.now c.args.now.now c.count_round.new.now c.answer-value.new.now c.args.ascent.now c.count_round.new.ascent load c.count_round.ensures.now c.answer-value.ensures.same c.count_round.ensures.ascent)) in
-    let orders : c.as_slice-orders.result.now ≡ answers p settled c.count_round.new.ascent.prices.items = c.as_slice-orders.ensures.value ∙ c.answer-value.ensures.orders in
+    ∙ ap (rounds.answered q settled)
+    (sym (counted_is c.args.search.now c.args.now.now c.count_round.new.now c.answer-value.new.now c.args.ascent.now
+    c.count_round.new.ascent load c.count_round.ensures.now c.answer-value.ensures.same
+    c.count_round.ensures.ascent)) in
+    let orders : c.as_slice-orders.result.now
+    ≡ answers p settled c.count_round.new.ascent.prices.items = c.as_slice-orders.ensures.value
+    ∙ c.answer-value.ensures.orders in
     let is_seen : b ≡ seen q (answers p settled c.count_round.new.ascent.prices.items) value a =
     c.look.ensures.looked c.answer-value.new.now ∙ ap (λ (o : List (List LineId)). seen q o value a) orders in
-    round_moves q settled start a b value begins (same ∙ c.answer-value.ensures.value) is_seen (rounds.over (ascent_of c.move_on.new.now c.move_on.new.ascent)) (sym c.if-is_shown.ensures)
+    round_moves q settled start a b value begins (same ∙ c.answer-value.ensures.value) is_seen
+    (rounds.over (ascent_of c.move_on.new.now c.move_on.new.ascent)) (sym c.if-is_shown.ensures)
     (ap (λ (o : List (List LineId)). moved q settled o value b) (sym orders) ∙ c.if-move_on.ensures.over)
 
 pub returns-clause-stage : goal.returns-clause-stage
@@ -83,14 +98,21 @@ returns-clause-stage g c =
     let a : rounds.Ascent = ascent_of c.answer-value.new.now c.count_round.new.ascent in
     let b : rounds.Ascent = ascent_of c.answer-value.new.now c.look.new.ascent in
     let value : ℤ = to_z w64 (of_z w64 c.answer-value.result) in
-    let same : value ≡ c.answer-value.result = to_z-of_z w64 c.answer-value.result (record { sfits = c.answer-value.type_inv }) in
+    let same : value
+    ≡ c.answer-value.result = to_z-of_z w64 c.answer-value.result (record { sfits = c.answer-value.type_inv }) in
     let load = c.requires.search.part.load in
     let within = c.requires.now.within in
     let begins : rounds.one_round q settled start ≡ rounds.answered q settled a =
     round_begun q settled start (omega (arith, load, within, c.if-search-now.false))
-    ∙ ap (rounds.answered q settled) (sym (counted_is c.args.search.now c.args.now.now c.count_round.new.now c.answer-value.new.now c.args.ascent.now c.count_round.new.ascent load c.count_round.ensures.now c.answer-value.ensures.same c.count_round.ensures.ascent)) in
-    let orders : c.as_slice-orders.result.now ≡ answers p settled c.count_round.new.ascent.prices.items = c.as_slice-orders.ensures.value ∙ c.answer-value.ensures.orders in
+    ∙ ap (rounds.answered q settled)
+    (sym (counted_is c.args.search.now c.args.now.now c.count_round.new.now c.answer-value.new.now c.args.ascent.now
+    c.count_round.new.ascent load c.count_round.ensures.now c.answer-value.ensures.same
+    c.count_round.ensures.ascent)) in
+    let orders : c.as_slice-orders.result.now
+    ≡ answers p settled c.count_round.new.ascent.prices.items = c.as_slice-orders.ensures.value
+    ∙ c.answer-value.ensures.orders in
     let is_seen : b ≡ seen q (answers p settled c.count_round.new.ascent.prices.items) value a =
     c.look.ensures.looked c.answer-value.new.now ∙ ap (λ (o : List (List LineId)). seen q o value a) orders in
-    round_moves q settled start a b value begins (same ∙ c.answer-value.ensures.value) is_seen (rounds.going (ascent_of c.move_on.new.now c.move_on.new.ascent)) (sym c.if-is_shown.ensures)
+    round_moves q settled start a b value begins (same ∙ c.answer-value.ensures.value) is_seen
+    (rounds.going (ascent_of c.move_on.new.now c.move_on.new.ascent)) (sym c.if-is_shown.ensures)
     (ap (λ (o : List (List LineId)). moved q settled o value b) (sym orders) ∙ c.if-move_on.ensures.over)

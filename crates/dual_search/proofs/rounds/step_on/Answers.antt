@@ -10,17 +10,20 @@ use Rattle.dual_search.proofs.Composing.{incumbent_within}
 use Rattle.dual_search.proofs.rounds.step_on.Goals as goal
 
 pub gap_of-gap-requires-clause-target : goal.gap_of-gap-requires-clause-target
-gap_of-gap-requires-clause-target c = incumbent_within c.args.search.now.part.problem.now c.args.now.now.incumbent c.requires.search.part.fits c.requires.now.incumbent
+gap_of-gap-requires-clause-target c = incumbent_within c.args.search.now.part.problem.now c.args.now.now.incumbent
+    c.requires.search.part.fits c.requires.now.incumbent
 
 pub step_prices-requires-clause-each : goal.step_prices-requires-clause-each
 step_prices-requires-clause-each c =
-    ap length c.as_mut_slice.ensures.value ∙ length_within c.args.search.now.part.problem.now.terms c.args.ascent.now.prices.items c.requires.ascent.prices
+    ap length c.as_mut_slice.ensures.value
+    ∙ length_within c.args.search.now.part.problem.now.terms c.args.ascent.now.prices.items c.requires.ascent.prices
 
 pub step_prices-requires-clause-within : goal.step_prices-requires-clause-within
 step_prices-requires-clause-within c =
     let p : ProblemParts = c.args.search.now.part.problem.now in
     subst (λ (l : List ℤ). All IsPrice l) (sym c.as_mut_slice.ensures.value)
-    (prices_small p.segs p.terms c.args.ascent.now.prices.items c.requires.search.part.fits.terms c.requires.ascent.prices)
+    (prices_small p.segs p.terms c.args.ascent.now.prices.items c.requires.search.part.fits.terms
+    c.requires.ascent.prices)
 
 pub returns-clause-ascent : goal.returns-clause-ascent
 returns-clause-ascent c =
@@ -28,8 +31,11 @@ returns-clause-ascent c =
     let r = c.requires.ascent in
     record {
       prices =
-          subst (AreWithin p.terms) (sym (with_items_is c.args.ascent.now.prices c.step_prices.new.prices (c.step_prices.auto.prices ∙ c.as_mut_slice.ensures.len) ∙ c.step_prices.ensures))
-          (next_within p c.args.ascent.now.step (to_z w64 (of_z w64 c.gap_of-gap.result)) c.as_mut_slice.result.now c.as_slice-2.result.now);
+          subst (AreWithin p.terms)
+          (sym (with_items_is c.args.ascent.now.prices c.step_prices.new.prices
+          (c.step_prices.auto.prices ∙ c.as_mut_slice.ensures.len) ∙ c.step_prices.ensures))
+          (next_within p c.args.ascent.now.step
+          (to_z w64 (of_z w64 c.gap_of-gap.result)) c.as_mut_slice.result.now c.as_slice-2.result.now);
       kept = r.kept;
       directions = r.directions;
       each = r.each;

@@ -14,11 +14,16 @@ loop-k-preserved c =
       | then-prices-k-ne0+in_ok-push w ↦
           ap (λ (v : Vec (ℕ × ℤ) Global). v.items) w.list-is
           ∙ (w.in_ok-push.ensures.items
-          ∙ listed_more c.args.prices.now c.loop-k.k (to_z w64 (of_z w64 price)) c.loop-k.list.items c.loop-k-test.true same (λ e. w.if-prices-k-ne0.true (ap (of_z w64) (sym same ∙ e))) c.loop-k.invariant)
+          ∙ listed_more c.args.prices.now c.loop-k.k
+          (to_z w64 (of_z w64 price)) c.loop-k.list.items c.loop-k-test.true same
+          (λ e. w.if-prices-k-ne0.true (ap (of_z w64) (sym same ∙ e))) c.loop-k.invariant)
       | else-prices-k-ne0 w ↦
           ap (λ (v : Vec (ℕ × ℤ) Global). v.items) w.list-is
-          ∙ listed_same c.args.prices.now c.loop-k.k (to_z w64 (of_z w64 price)) c.loop-k.list.items c.loop-k-test.true same (ap (to_z w64) w.if-prices-k-ne0.false) c.loop-k.invariant
+          ∙ listed_same c.args.prices.now c.loop-k.k
+          (to_z w64 (of_z w64 price)) c.loop-k.list.items c.loop-k-test.true same
+          (ap (to_z w64) w.if-prices-k-ne0.false) c.loop-k.invariant
     ]
 
 pub of-requires : goal.of-requires
-of-requires c = listed_rises c.args.prices.now c.loop-k.list.items (listed_whole c.args.prices.now c.loop-k.k c.loop-k.list.items (omega arith) c.loop-k.invariant)
+of-requires c = listed_rises c.args.prices.now c.loop-k.list.items
+    (listed_whole c.args.prices.now c.loop-k.k c.loop-k.list.items (omega arith) c.loop-k.invariant)
