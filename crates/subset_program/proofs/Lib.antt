@@ -3,3 +3,4 @@ mod Places
 mod Filling
 mod Firsts
 mod Walking
+mod Heads

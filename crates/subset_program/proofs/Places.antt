@@ -12,6 +12,7 @@ use Rattle.map_base.specs.declared.ids.LineId.{LineId}
 use Rattle.least_orders.specs.Rows.{Rows, AreRows, line_at}
 use Rattle.least_orders.specs.Subsets.{has_place, with_place, left_from, left}
 use Rattle.least_orders.proofs.Sets.{not_raised, with_same, with_other}
+use Rattle.subset_program.specs.Tables.{IsFirstFree}
 
 -- Entries.
 
@@ -48,52 +49,18 @@ more_than set k free =
 pub still_within : (set k n : ℕ) → set < 2 ^ n → k < n → with_place set k < 2 ^ n
 still_within set k n within below = or_lt n set (2 ^ k) within (pow-lt below)
 
--- where the set has all lines, none is left
-pub none_left : (set n : ℕ) → set + 1 ≡ 2 ^ n → (k m : ℕ) → k + m ≤ n → left_from set k m ≡ []
-none_left set n e k zero h = refl
-none_left set n e k (suc m) h =
-    let is : set ≡ 2 ^ n - 1 = omega (arith, e) in
-    let on : has_place set k ≡ true = eq-eqb (bit_at set k) 1 (ap (λ s. bit_at s k) is ∙ bit_at_ones n k (omega (arith, h))) in
-    ap (λ b. cond b (left_from set (k + 1) m) (line_at k ∷ left_from set (k + 1) m)) on ∙ none_left set n e (k + 1) m (omega (arith, h))
-
--- and else some
-all_there : (set k m : ℕ) → left_from set k m ≡ [] → (i : ℕ) → k ≤ i → i < k + m → has_place set i ≡ true
-all_there set k zero e i above below = absurd (omega (arith, above, below))
-all_there set k (suc m) e i above below = by_test (has_place set k) refl e (λ g over. all_there set (k + 1) m g i over (omega (arith, below)))
-  where
-    not_empty : (a : LineId) (l : List LineId) → a ∷ l ≡ [] → ⊥
-    not_empty a l e = cc
-
-    by_test : (b : Bool) → has_place set k ≡ b → cond b (left_from set (k + 1) m) (line_at k ∷ left_from set (k + 1) m) ≡ []
-        → (left_from set (k + 1) m ≡ [] → k + 1 ≤ i → has_place set i ≡ true) → has_place set i ≡ true
-    by_test false on g rest = absurd (not_empty (line_at k) (left_from set (k + 1) m) g)
-    by_test true on g rest = elim (cases_eq i k) [
-      | inl here ↦ ap (λ j. has_place set j) here ∙ on
-      | inr apart ↦ rest g (omega (arith, above, apart))
-    ]
-
-pub some_left : (set n : ℕ) → set < 2 ^ n → (set + 1) ≢ 2 ^ n → 0 < length (left_from set 0 n)
-some_left set n within apart = by_list (left_from set 0 n) refl
-  where
-    by_list : (l : List LineId) → left_from set 0 n ≡ l → 0 < length l
-    by_list (a ∷ l) e = omega arith
-    by_list [] e =
-        let some = pow_pos n in
-        let same : set ≡ 2 ^ n - 1 = same_from_bits_below n set (2 ^ n - 1) within (omega (arith, some))
-        (λ i below. eqb-true (bit_at set i) 1 (all_there set 0 n e i (omega arith) (omega (arith, below))) ∙ sym (bit_at_ones n i below)) in
-        absurd (apart (omega (arith, same, some)))
+-- one place more changes nothing behind it
+same_behind : (set k c j : ℕ) → k < c → left_from (with_place set k) c j ≡ left_from set c j
+same_behind set k c zero over = refl
+same_behind set k c (suc j) over =
+    ap (λ t. cond t (left_from (with_place set k) (c + 1) j) (line_at c ∷ left_from (with_place set k) (c + 1) j)) (with_other set k c (omega (arith, over)))
+    ∙ ap (λ l. cond (has_place set c) l (line_at c ∷ l)) (same_behind set k (c + 1) j (omega (arith, over)))
 
 -- one place more leaves one line less
 pub one_less : (set k n : ℕ) → has_place set k ≡ false → (b m : ℕ) → b ≤ k → k < b + m → length (left_from (with_place set k) b m) + 1 ≡ length (left_from set b m)
 one_less set k n free b zero above below = absurd (omega (arith, above, below))
 one_less set k n free b (suc m) above below = by_place (cases_eq b k) (λ over. one_less set k n free (b + 1) m over (omega (arith, below)))
   where
-    same_behind : (c j : ℕ) → k < c → left_from (with_place set k) c j ≡ left_from set c j
-    same_behind c zero over = refl
-    same_behind c (suc j) over =
-        ap (λ t. cond t (left_from (with_place set k) (c + 1) j) (line_at c ∷ left_from (with_place set k) (c + 1) j)) (with_other set k c (omega (arith, over)))
-        ∙ ap (λ l. cond (has_place set c) l (line_at c ∷ l)) (same_behind (c + 1) j (omega (arith, over)))
-
     by_place : (b ≡ k) ⊎ (b ≢ k) → (b + 1 ≤ k → length (left_from (with_place set k) (b + 1) m) + 1 ≡ length (left_from set (b + 1) m))
         → length (left_from (with_place set k) b (suc m)) + 1 ≡ length (left_from set b (suc m))
     by_place (inl is) rest =
@@ -103,7 +70,7 @@ one_less set k n free b (suc m) above below = by_place (cases_eq b k) (λ over. 
         ap (λ t. length (cond t (left_from (with_place set k) (b + 1) m) (line_at b ∷ left_from (with_place set k) (b + 1) m))) taken in
         let two : length (left_from set b (suc m)) ≡ suc (length (left_from set (b + 1) m)) =
         ap (λ t. length (cond t (left_from set (b + 1) m) (line_at b ∷ left_from set (b + 1) m))) open_here in
-        let same : length (left_from (with_place set k) (b + 1) m) ≡ length (left_from set (b + 1) m) = ap length (same_behind (b + 1) m (omega (arith, is))) in
+        let same : length (left_from (with_place set k) (b + 1) m) ≡ length (left_from set (b + 1) m) = ap length (same_behind set k (b + 1) m (omega (arith, is))) in
         omega (arith, one, two, same)
     by_place (inr apart) rest = by_test (has_place set b) refl (rest (omega (arith, above, apart)))
       where
@@ -112,3 +79,33 @@ one_less set k n free b (suc m) above below = by_place (cases_eq b k) (λ over. 
         by_test true e h = ap (λ t. length (cond t (left_from (with_place set k) (b + 1) m) (line_at b ∷ left_from (with_place set k) (b + 1) m)) + 1) (with_other set k b apart ∙ e) ∙ h
         by_test false e h =
             ap (λ t. length (cond t (left_from (with_place set k) (b + 1) m) (line_at b ∷ left_from (with_place set k) (b + 1) m)) + 1) (with_other set k b apart ∙ e) ∙ omega (arith, h)
+
+-- The first place that a set has not.
+
+-- places that the set has are passed over
+passed : (set d k m t free : ℕ) → t ≡ d + m → free ≡ k + d → ((j : ℕ) → j < free → has_place set j ≡ true) → left_from set k t ≡ left_from set free m
+passed set zero k m t free e f all =
+    let many : t ≡ m = omega (arith, e) in
+    let here : k ≡ free = omega (arith, f) in
+    ap (λ i. left_from set k i) many ∙ ap (λ i. left_from set i m) here
+passed set (suc d) k m zero free e f all = absurd (omega (arith, e))
+passed set (suc d) k m (suc t) free e f all =
+    ap (λ b. cond b (left_from set (k + 1) t) (line_at k ∷ left_from set (k + 1) t)) (all k (omega (arith, f)))
+    ∙ passed set d (k + 1) m t free (omega (arith, e)) (omega (arith, f)) all
+
+pub none_free : (set n free : ℕ) → IsFirstFree set n free → free ≡ n → left_from set 0 n ≡ []
+none_free set n free is e = passed set n 0 0 n free (omega arith) (omega (arith, e)) is.below
+
+pub first_left : (set n free : ℕ) → IsFirstFree set n free → free < n → left_from set 0 n ≡ line_at free ∷ left_from (with_place set free) 0 n
+first_left set n free is below =
+    passed set free 0 (suc (n - (free + 1))) n free (omega (arith, below)) (omega arith) is.below
+    ∙ (ap (λ b. cond b (left_from set (free + 1) (n - (free + 1))) (line_at free ∷ left_from set (free + 1) (n - (free + 1)))) (is.here below)
+    ∙ ap (λ l. line_at free ∷ l)
+    (sym (passed (with_place set free) (suc free) 0 (n - (free + 1)) n (free + 1) (omega (arith, below)) (omega arith) taken ∙ same_behind set free (free + 1) (n - (free + 1)) (omega arith))))
+  where
+    taken : (j : ℕ) → j < free + 1 → has_place (with_place set free) j ≡ true
+    taken j less = by_place (cases_eq j free)
+      where
+        by_place : (j ≡ free) ⊎ (j ≢ free) → has_place (with_place set free) j ≡ true
+        by_place (inl here) = ap (λ i. has_place (with_place set free) i) here ∙ with_same set free
+        by_place (inr apart) = with_other set free j apart ∙ is.below j (omega (arith, less, apart))

@@ -11,39 +11,19 @@ use Rattle.least_orders.specs.Subsets.{has_place, with_place, left_from, left, r
 use Rattle.least_orders.proofs.Bounds.{sum_within, left_few, rest_within, before_left_within}
 
 -- so many places are still to come, and one more before them
-one_more : (n j : ℕ) → j < n → n - j ≡ suc (n - (j + 1))
+pub one_more : (n j : ℕ) → j < n → n - j ≡ suc (n - (j + 1))
 one_more n j h = omega (arith, h)
 
-no_more : (n : ℕ) → n - n ≡ 0
+pub no_more : (n : ℕ) → n - n ≡ 0
 no_more n = omega arith
 
-all_of : (n : ℕ) → n - 0 ≡ n
+pub all_of : (n : ℕ) → n - 0 ≡ n
 all_of n = omega arith
 
 -- Sums.
 
 pub abs_sum : (a b : ℤ) (m n : ℕ) → unsigned_abs a ≤ m → unsigned_abs b ≤ n → unsigned_abs (a +ℤ b) ≤ m + n
 abs_sum a b m n p q = omega (arith, ints, p, q)
-
-pub sum_at_end : (f : LineId → ℤ) (set n : ℕ) → pos 0 ≡ int_sum f (left_from set n (n - n))
-sum_at_end f set n = sym (ap (λ m. int_sum f (left_from set n m)) (no_more n))
-
-pub sum_more : (f : LineId → ℤ) (set n j p : ℕ) → j ≡ p + 1 → j ≤ n
-    → int_sum f (left_from set j (n - j)) +ℤ cond (has_place set p) (pos 0) (f (line_at p)) ≡ int_sum f (left_from set p (n - p))
-sum_more f set n j p e within =
-    ap (λ i. int_sum f (left_from set i (n - i)) +ℤ cond (has_place set p) (pos 0) (f (line_at p))) e
-    ∙ (by_test (has_place set p) ∙ sym (ap (λ m. int_sum f (left_from set p m)) (one_more n p (omega (arith, e, within)))))
-  where
-    by_test : (b : Bool) → int_sum f (left_from set (p + 1) (n - (p + 1))) +ℤ cond b (pos 0) (f (line_at p))
-        ≡ int_sum f (cond b (left_from set (p + 1) (n - (p + 1))) (line_at p ∷ left_from set (p + 1) (n - (p + 1))))
-    by_test true = omega (arith, ints)
-    by_test false = turned (f (line_at p)) (int_sum f (left_from set (p + 1) (n - (p + 1))))
-      where
-        turned : (a b : ℤ) → b +ℤ a ≡ a +ℤ b
-        turned a b = omega (arith, ints)
-
-pub sum_of_all : (f : LineId → ℤ) (set n j : ℕ) → j ≡ 0 → int_sum f (left_from set j (n - j)) ≡ int_sum f (left_from set 0 n)
-sum_of_all f set n j e = ap (λ i. int_sum f (left_from set i (n - i))) e ∙ ap (λ m. int_sum f (left_from set 0 m)) (all_of n)
 
 -- Choices.
 
@@ -60,12 +40,6 @@ pub choice_of_all : (r : Rows) (set : ℕ) (last : Option ℕ) (j : ℕ) → j �
 choice_of_all r set last j e = ap (λ i. choice_from r set last i (r.count - i)) e ∙ ap (λ m. choice_from r set last 0 m) (all_of r.count)
 
 -- How great they may be.
-
-pub sum_small : (r : Rows) → AreRows r → (set k j n : ℕ) → n ≤ 16 → unsigned_abs (int_sum (entry r.count r.before (line_at k)) (left_from set j n)) ≤ 32000000000000000
-sum_small r fits set k j n few =
-    let sum = sum_within (entry r.count r.before (line_at k)) (left_from set j n) (λ b. fits.before_small (k * r.count + b.0)) in
-    let some = left_few set j n in
-    omega (arith, sum, few, some)
 
 some_same : (a b : ℤ) → Some a ≡ Some b → a ≡ b
 some_same a b e = cc

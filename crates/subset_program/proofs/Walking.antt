@@ -13,16 +13,18 @@ use Rattle.least_orders.specs.Subsets.{has_place, with_place, left_from, left, c
 use Rattle.least_orders.proofs.Stepping.{chosen, goes_on, ends}
 use Rattle.least_orders.proofs.Keeping.{least_order_of_rows, least_cost_of_rows}
 use Rattle.subset_program.specs.PlainRows.{ArePlacesOf}
-use Rattle.subset_program.specs.Tables.{IsWalked}
-use Rattle.subset_program.proofs.Places.{none_left, some_left, still_within, one_less}
+use Rattle.subset_program.specs.Tables.{IsWalked, IsFirstFree}
+use Rattle.subset_program.proofs.Places.{none_free, first_left, still_within, one_less}
 
 -- The costs behind a set.
 
-pub rest_at_end : (r : Rows) (set : ℕ) (last : Option ℕ) → set + 1 ≡ 2 ^ r.count → Some (pos 0) ≡ rest_cost r set last
-rest_at_end r set last e = sym (ends r set last (none_left set r.count e 0 r.count (omega arith))).1
+pub rest_at_end : (r : Rows) (set : ℕ) (last : Option ℕ) (free : ℕ) → IsFirstFree set r.count free → free ≡ r.count → Some (pos 0) ≡ rest_cost r set last
+rest_at_end r set last free is e = sym (ends r set last (none_free set r.count free is e)).1
 
-pub rest_by_choice : (r : Rows) → AreRows r → (set : ℕ) (last : Option ℕ) → set < 2 ^ r.count → (set + 1) ≢ 2 ^ r.count → option_map (λ (c : Choice). c.cost) (choice r set last) ≡ rest_cost r set last
-rest_by_choice r fits set last within apart = sym (goes_on r fits set last (some_left set r.count within apart)).1
+pub rest_by_choice : (r : Rows) → AreRows r → (set : ℕ) (last : Option ℕ) (free : ℕ) → IsFirstFree set r.count free → free < r.count
+    → option_map (λ (c : Choice). c.cost) (choice r set last) ≡ rest_cost r set last
+rest_by_choice r fits set last free is below =
+    sym (goes_on r fits set last (subst (λ (l : List LineId). 0 < length l) (sym (first_left set r.count free is below)) (omega arith))).1
 
 -- What a choice is.
 
@@ -79,6 +81,13 @@ all_left k (suc n) =
 nothing_first : (o : Option (List LineId)) → o ≡ option_map (λ (rest : List LineId). [] ++ rest) o
 nothing_first None = refl
 nothing_first (Some o) = refl
+
+-- at first
+pub nothing_at_all : (r : Rows) → r.count ≡ 0 → Some (pos 0) ≡ rest_cost r 0 None
+nothing_at_all r e = sym (ends r 0 None (ap (λ n. left_from 0 0 n) e)).1
+
+pub whole_by_choice : (r : Rows) → AreRows r → 0 < r.count → option_map (λ (c : Choice). c.cost) (choice r 0 None) ≡ rest_cost r 0 None
+whole_by_choice r fits some = sym (goes_on r fits 0 None (let each = all_left 0 r.count in omega (arith, each, some))).1
 
 pub walk_begins : (r : Rows) (order : List ℕ) → IsWalked r 0 order 0 None
 walk_begins r order = record {

@@ -4,6 +4,7 @@
 //! it tells the least cost of the orders that keep the settled pairs, and the least such order; a call takes no memory.
 #![tactic(auto)]
 
+mod entries;
 mod place_sets;
 mod program;
 mod rows;

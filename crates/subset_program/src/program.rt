@@ -5,9 +5,11 @@ ghost use Rattle.least_orders.specs.Rows.{AreRows, row_lines, row_costs, row_pai
 ghost use Rattle.least_orders.specs.LeastOrders.{least_cost, least_order};
 ghost use Rattle.subset_program.specs.PlainRows.{plain_rows, ArePlacesOf};
 
+use crate::entries::Tail;
 use crate::place_sets::sets_of;
 use crate::rows::PairRows;
 use crate::table;
+use least_orders::Choice;
 use map_base::NoMemory;
 use std::alloc::Global;
 use std::marker::Model;
@@ -17,9 +19,9 @@ use std::marker::Model;
 pub struct SubsetProgram {
     width: usize,
     /// For each set of lines and each line what is left behind it.
-    rests: Vec<Option<i64>>,
-    /// For each line what the orders cost that go on with it.
-    firsts: Vec<Option<i64>>,
+    tails: Vec<Tail>,
+    /// The lines to go on with behind one set.
+    heads: Vec<Choice>,
 }
 
 impl Model for SubsetProgram {
@@ -29,7 +31,7 @@ impl Model for SubsetProgram {
 
     ghost view = { λ p. p.width };
 
-    ghost invariant = { λ p. (p.width ≤ 16) × (length p.rests.items ≡ 2 ^ p.width * p.width) × (length p.firsts.items ≡ p.width) };
+    ghost invariant = { λ p. (p.width ≤ 16) × (length p.tails.items ≡ 2 ^ p.width * p.width) × (length p.heads.items ≡ p.width) };
 }
 
 impl SubsetProgram {
@@ -38,12 +40,12 @@ impl SubsetProgram {
         requires { width ≤ 16 }
         ensures { IfOk result (λ p. p ≡ width) }
     {
-        let rests = vec![in alloc; None; sets_of(width) * width]?;
-        let firsts = vec![in alloc; None; width]?;
+        let tails = vec![in alloc; Tail { left: 0, cost: 0 }; sets_of(width) * width]?;
+        let heads = vec![in alloc; Choice { place: 0, cost: 0 }; width]?;
         Ok(SubsetProgram {
             width,
-            rests,
-            firsts,
+            tails,
+            heads,
         })
     }
 
@@ -61,7 +63,7 @@ impl SubsetProgram {
         ensures cost { result ≡ least_cost (row_costs (plain_rows rows.now)) (row_pairs (plain_rows rows.now)) (row_lines (plain_rows rows.now)) }
         ensures room { self.new ≡ self.old }
     {
-        table::least_cost(self.rests.as_mut_slice(), self.firsts.as_mut_slice(), rows)
+        table::least_cost(self.tails.as_mut_slice(), self.heads.as_mut_slice(), rows)
     }
 
     /// The same, and into `order` the places of its lines, where there is such an order; among those of least cost it is the
@@ -75,8 +77,8 @@ impl SubsetProgram {
         ensures room { self.new ≡ self.old }
     {
         table::least_order(
-            self.rests.as_mut_slice(),
-            self.firsts.as_mut_slice(),
+            self.tails.as_mut_slice(),
+            self.heads.as_mut_slice(),
             rows,
             order,
         )

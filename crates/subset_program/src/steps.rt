@@ -1,43 +1,17 @@
-//! One step of the program: what it costs to go on with a line behind a set.
+//! One step of the program: the lines to go on with behind a set, and the best of them behind its last line.
 
-ghost use Rattle.std.specs.Prelude.{◌≡◌, ◌≤◌, ◌<◌, ◌+◌, ◌*◌, ◌^◌, ◌+ℤ◌, length, pos, unsigned_abs, true, IfSome, Some, if◌then◌else◌};
-ghost use Rattle.least_orders.specs.Rows.{AreRows, line_at, entry};
-ghost use Rattle.least_orders.specs.Subsets.{has_place, rest_cost, is_ready, before_left, first_cost, beside_last, choice_of, better_choice, choice};
+ghost use Rattle.std.specs.Prelude.{◌≡◌, ◌≤◌, ◌<◌, ◌+◌, ◌*◌, ◌^◌, ◌+ℤ◌, length, pos, unsigned_abs, true, Some, IfSome, int_lt, if◌then◌else◌};
+ghost use Rattle.std.specs.Option.{option_map};
+ghost use Rattle.least_orders.specs.declared.choice.Choice.{Choice};
+ghost use Rattle.least_orders.specs.Rows.{AreRows};
+ghost use Rattle.least_orders.specs.Subsets.{has_place, is_ready, first_cost, beside_last, choice_of, better_choice, choice};
 ghost use Rattle.subset_program.specs.PlainRows.{plain_rows};
-ghost use Rattle.subset_program.specs.Tables.{HasRests, HasFirsts};
+ghost use Rattle.subset_program.specs.Tables.{read, Tells, HasTails, HasHeads};
 
+use crate::entries::{NOTHING, Tail, read};
 use crate::place_sets::{has_place, with_place};
 use crate::rows::PairRows;
 use least_orders::Choice;
-
-/// What a line costs with another one behind it that a set has not; nothing where the set has it.
-fn before_one(rows: &PairRows, set: usize, k: usize, j: usize) -> i64
-    requires rows { AreRows (plain_rows rows.now) }
-    requires known { k < rows.now.count }
-    requires other { j < rows.now.count }
-    ensures value { result ≡ (if has_place set j then pos 0 else entry rows.now.count rows.now.before.now (line_at k) (line_at j)) }
-    ensures small { unsigned_abs result ≤ 2000000000000000 }
-{
-    if has_place(set, j) {
-        0
-    } else {
-        rows.before[k * rows.count + j]
-    }
-}
-
-/// What a line costs with those that a set has not.
-fn before_left(rows: &PairRows, set: usize, k: usize) -> i64
-    requires rows { AreRows (plain_rows rows.now) }
-    requires known { k < rows.now.count }
-    ensures value { result ≡ before_left (plain_rows rows.now) set k }
-    ensures small { unsigned_abs result ≤ 32000000000000000 }
-{
-    let mut total: i64 = 0;
-    for j in (0..rows.count).rev() {
-        total = sum(total, before_one(rows, set, k, j));
-    }
-    total
-}
 
 /// Whether a set has all lines that have to stand before this one.
 fn is_ready(rows: &PairRows, set: usize, k: usize) -> bool
@@ -50,25 +24,25 @@ fn is_ready(rows: &PairRows, set: usize, k: usize) -> bool
 }
 
 /// The entry of a set and one of its lines.
-fn rest_at(rests: &[Option<i64>], rows: &PairRows, set: usize, last: usize) -> Option<i64>
+pub(crate) fn tail_at(tails: &[Tail], rows: &PairRows, set: usize, last: usize) -> Tail
     requires rows { AreRows (plain_rows rows.now) }
-    requires room { 2 ^ rows.now.count * rows.now.count ≤ length rests.now }
+    requires room { 2 ^ rows.now.count * rows.now.count ≤ length tails.now }
     requires set { set < 2 ^ rows.now.count }
     requires last { last < rows.now.count }
     requires there { has_place set last ≡ true }
-    requires table { HasRests (plain_rows rows.now) set rests.now }
-    ensures { result ≡ rest_cost (plain_rows rows.now) set (Some last) }
+    requires table { HasTails (plain_rows rows.now) set tails.now }
+    ensures { Tells (plain_rows rows.now) set last result }
 {
-    rests[set * rows.count + last]
+    tails[set * rows.count + last]
 }
 
 /// What the orders behind a set that go on with a line cost at least, but for what it costs beside the last line of the set.
-fn first_cost(rests: &[Option<i64>], rows: &PairRows, set: usize, k: usize) -> Option<i64>
+fn first_cost(tails: &[Tail], rows: &PairRows, set: usize, k: usize) -> Option<i64>
     requires rows { AreRows (plain_rows rows.now) }
-    requires room { 2 ^ rows.now.count * rows.now.count ≤ length rests.now }
+    requires room { 2 ^ rows.now.count * rows.now.count ≤ length tails.now }
     requires set { set < 2 ^ rows.now.count }
     requires known { k < rows.now.count }
-    requires table { HasRests (plain_rows rows.now) (set + 1) rests.now }
+    requires table { HasTails (plain_rows rows.now) (set + 1) tails.now }
     ensures { result ≡ first_cost (plain_rows rows.now) set k }
 {
     if has_place(set, k) {
@@ -78,29 +52,50 @@ fn first_cost(rests: &[Option<i64>], rows: &PairRows, set: usize, k: usize) -> O
         return None;
     }
     let more = with_place(set, k);
-    match rest_at(rests, rows, more, k) {
-        None => None,
-        Some(rest) => Some(sum(rest, before_left(rows, more, k))),
+    read(tail_at(tails, rows, more, k).cost)
+}
+
+/// Puts a line behind so many heads where orders go on with it. How many there are then.
+fn put_head(
+    heads: &mut [Choice],
+    many: usize,
+    tails: &[Tail],
+    rows: &PairRows,
+    set: usize,
+    k: usize,
+) -> usize
+    requires rows { AreRows (plain_rows rows.now) }
+    requires room { 2 ^ rows.now.count * rows.now.count ≤ length tails.now }
+    requires each { rows.now.count ≤ length heads.old }
+    requires set { set < 2 ^ rows.now.count }
+    requires known { k < rows.now.count }
+    requires table { HasTails (plain_rows rows.now) (set + 1) tails.now }
+    requires heads { HasHeads (plain_rows rows.now) set (k + 1) many heads.old }
+    ensures { HasHeads (plain_rows rows.now) set k result heads.new }
+{
+    match first_cost(tails, rows, set, k) {
+        None => many,
+        Some(cost) => {
+            heads[many] = Choice { place: k, cost };
+            many + 1
+        }
     }
 }
 
-/// The same for all lines.
-pub(crate) fn put_firsts(
-    firsts: &mut [Option<i64>],
-    rests: &[Option<i64>],
-    rows: &PairRows,
-    set: usize,
-)
+/// The heads behind a set: the lines that orders go on with, each with what they cost at least. How many there are.
+pub(crate) fn put_heads(heads: &mut [Choice], tails: &[Tail], rows: &PairRows, set: usize) -> usize
     requires rows { AreRows (plain_rows rows.now) }
-    requires room { 2 ^ rows.now.count * rows.now.count ≤ length rests.now }
-    requires each { rows.now.count ≤ length firsts.old }
+    requires room { 2 ^ rows.now.count * rows.now.count ≤ length tails.now }
+    requires each { rows.now.count ≤ length heads.old }
     requires set { set < 2 ^ rows.now.count }
-    requires table { HasRests (plain_rows rows.now) (set + 1) rests.now }
-    ensures { HasFirsts (plain_rows rows.now) set rows.now.count firsts.new }
+    requires table { HasTails (plain_rows rows.now) (set + 1) tails.now }
+    ensures { HasHeads (plain_rows rows.now) set 0 result heads.new }
 {
-    for k in 0..rows.count {
-        firsts[k] = first_cost(rests, rows, set, k);
+    let mut many = 0;
+    for k in (0..rows.count).rev() {
+        many = put_head(heads, many, tails, rows, set, k);
     }
+    many
 }
 
 /// What a line costs beside the last one of a set, if there is one.
@@ -117,20 +112,18 @@ fn beside_last(rows: &PairRows, last: Option<usize>, k: usize) -> i64
     }
 }
 
-/// The choice of a line where orders go on with it.
-fn choice_of(rows: &PairRows, last: Option<usize>, k: usize, first: Option<i64>) -> Option<Choice>
+/// A head with what its line costs beside the last one.
+fn behind(rows: &PairRows, last: Option<usize>, head: Choice) -> Choice
     requires rows { AreRows (plain_rows rows.now) }
-    requires known { k < rows.now.count }
+    requires known { head.place < rows.now.count }
     requires last { IfSome last (λ l. l < rows.now.count) }
-    requires small { IfSome first (λ v. unsigned_abs v ≤ 600000000000000000) }
-    ensures { result ≡ choice_of (plain_rows rows.now) last k first }
+    requires small { unsigned_abs head.cost ≤ 600000000000000000 }
+    ensures value { Some result ≡ choice_of (plain_rows rows.now) last head.place (Some head.cost) }
+    ensures small { unsigned_abs result.cost ≤ 700000000000000000 }
 {
-    match first {
-        None => None,
-        Some(cost) => Some(Choice {
-            place: k,
-            cost: sum(cost, beside_last(rows, last, k)),
-        }),
+    Choice {
+        place: head.place,
+        cost: sum(head.cost, beside_last(rows, last, head.place)),
     }
 }
 
@@ -147,26 +140,55 @@ fn better_choice(one: Option<Choice>, other: Option<Choice>) -> Option<Choice>
 
 /// The best line to go on with behind a set and its last line.
 pub(crate) fn choose(
-    firsts: &[Option<i64>],
+    heads: &[Choice],
+    many: usize,
     rows: &PairRows,
     set: usize,
     last: Option<usize>,
 ) -> Option<Choice>
     requires rows { AreRows (plain_rows rows.now) }
-    requires each { rows.now.count ≤ length firsts.now }
+    requires each { rows.now.count ≤ length heads.now }
     requires last { IfSome last (λ l. l < rows.now.count) }
-    requires firsts { HasFirsts (plain_rows rows.now) set rows.now.count firsts.now }
+    requires heads { HasHeads (plain_rows rows.now) set 0 many heads.now }
     ensures { result ≡ choice (plain_rows rows.now) set last }
 {
     let mut best = None;
-    for k in (0..rows.count).rev() {
-        best = better_choice(choice_of(rows, last, k, firsts[k]), best);
+    for i in 0..many {
+        best = better_choice(Some(behind(rows, last, heads[i])), best);
     }
     best
 }
 
+/// The lesser of two numbers.
+fn lesser(a: i64, b: i64) -> i64
+    ensures { result ≡ (if int_lt b a then b else a) }
+{
+    if b < a { b } else { a }
+}
+
+/// What the best line to go on with costs there.
+pub(crate) fn least_choice(
+    heads: &[Choice],
+    many: usize,
+    rows: &PairRows,
+    set: usize,
+    last: usize,
+) -> Option<i64>
+    requires rows { AreRows (plain_rows rows.now) }
+    requires each { rows.now.count ≤ length heads.now }
+    requires last { last < rows.now.count }
+    requires heads { HasHeads (plain_rows rows.now) set 0 many heads.now }
+    ensures { result ≡ option_map (λ (c : Choice). c.cost) (choice (plain_rows rows.now) set (Some last)) }
+{
+    let mut least = NOTHING;
+    for i in 0..many {
+        least = lesser(behind(rows, Some(last), heads[i]).cost, least);
+    }
+    read(least)
+}
+
 /// The sum of two numbers.
-fn sum(a: i64, b: i64) -> i64
+pub(crate) fn sum(a: i64, b: i64) -> i64
     requires a_within { unsigned_abs a ≤ 1000000000000000000 }
     requires b_within { unsigned_abs b ≤ 1000000000000000000 }
     ensures { result ≡ a +ℤ b }
