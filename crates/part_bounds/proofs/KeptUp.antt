@@ -29,8 +29,8 @@ use Rattle.pair_bounds.specs.Slots.{HasRoom, KeepsRoom}
 use Rattle.part_bounds.specs.declared.kept_pairs.KeptPairs.{KeptPairs}
 use Rattle.part_bounds.specs.Kept.{HasRoomFor, ArePairsOf, AreKept, IsKeptUp}
 use Rattle.part_bounds.specs.declared.aparts.Aparts.{Aparts}
-use Rattle.pair_bounds.specs.Counted.{settled_sum}
-use Rattle.part_bounds.specs.Settled.{lists_in, AreSettled}
+use Rattle.pair_bounds.specs.Counted.{settled_cost, settled_sum}
+use Rattle.part_bounds.specs.Settled.{lists_in, aparts_on, AreSettled}
 use Rattle.part_bounds.proofs.OwnTerms.{parted, shares_bound}
 use Rattle.pair_bounds.proofs.PairCosts.{share_small}
 use Rattle.part_bounds.proofs.ApartLists.{settled_small, aparts_known, aparts_few}
@@ -244,6 +244,10 @@ list_known segs placed s terms aparts ok known all = subst (All (IsTerm segs)) (
 pub list_few : (segs placed : List (List LineId)) (s : SegId) (terms : List (ℕ × Term)) (aparts : Aparts) → AreSettled segs placed terms aparts → s.0 < length segs → length terms ≤ 4000000
     → length (get_or (lists_in aparts.lists.items) s.0 []) ≤ 4000000
 list_few segs placed s terms aparts ok known few = omega (arith, ap length (ok.by_ends.on s known), aparts_few s terms, few)
+
+pub list_sum : (segs placed : List (List LineId)) (s : SegId) (terms : List (ℕ × Term)) (aparts : Aparts) → AreSettled segs placed terms aparts → s.0 < length segs
+    → sum_by (settled_cost segs placed) (get_or (lists_in aparts.lists.items) s.0 []) ≡ sum_by (settled_cost segs placed) (aparts_on s terms)
+list_sum segs placed s terms aparts settled known = ap (sum_by (settled_cost segs placed)) (settled.by_ends.on s known)
 
 pub list_here : (segs placed : List (List LineId)) (s : SegId) (terms : List (ℕ × Term)) (aparts : Aparts) → AreSettled segs placed terms aparts → s.0 < length segs → s.0 < length aparts.lists.items
 list_here segs placed s terms aparts ok known = omega (arith, known, ok.by_ends.each, length-map aparts.lists.items (λ (v : Vec Term Global). v.items))

@@ -10,7 +10,7 @@ ghost use Rattle.order_model.specs.PartTerms.{part_terms, part_numbers};
 ghost use Rattle.order_model.specs.Prefixes.{is_placed, is_left, first_placed, none_placed, without_last};
 ghost use Rattle.order_bound.specs.Bounds.{bound_of};
 ghost use Rattle.order_bound.specs.CanonicalPrices.{prices_for};
-ghost use Rattle.part_bounds.specs.PartStates.{state_more, with_placed, IsWell};
+ghost use Rattle.part_bounds.specs.PartStates.{settled_at, state_more, with_placed, IsWell};
 
 use crate::aparts::{Aparts, aparts_by_end, moved, settled_on, settled_total};
 use crate::changes::{change_on, last_two, placed_count};
@@ -113,14 +113,24 @@ impl<'a> PartBounds<'a> {
         shares + self.aparts.total
     }
 
-    /// The bound once a line of a segment is placed next, and the one that is then left there alone; neither is.
+    /// What the settled Aparts with an end on a segment cost: what `bound_with` has to be told.
+    pub fn settled_on(&self, seg: SegId) -> u64
+        requires { seg.0 < length self.now.segs }
+        ensures { result ≡ settled_at self.now seg }
+    {
+        settled_on(self.problem, &self.prefix, &self.aparts, seg)
+    }
+
+    /// The bound once a line of a segment is placed next, and the one that is then left there alone; neither is. The settled
+    /// Aparts with an end on the segment cost `before` as the lines are placed now.
     #[tactic(auto, using(crate::proofs::Restored::restored, crate::proofs::Restored::chosen))]
-    pub fn bound_with(&mut self, seg: SegId, line: LineId) -> u64
+    pub fn bound_with(&mut self, seg: SegId, line: LineId, before: u64) -> u64
         requires rising { All AreRising self.old.segs }
         requires well { IsWell self.old.segs self.old.placed }
         requires known { seg.0 < length self.old.segs }
         requires line { Contains (lines_on self.old.segs seg) line }
         requires unplaced { is_placed (lines_on self.old.placed seg) line ≡ false }
+        requires before { before ≡ settled_at self.old seg }
         ensures bound { result ≡ bound_of self.old.segs self.old.part self.old.terms (placed_more self.old.segs self.old.placed seg line) }
         ensures kept { self.new ≡ self.old }
     {
@@ -132,7 +142,6 @@ impl<'a> PartBounds<'a> {
             &mut self.kept,
             &mut self.room,
         );
-        let before = settled_on(self.problem, &self.prefix, &self.aparts, seg);
         let count = placed_count(self.problem, &self.prefix, seg);
         self.prefix.place(self.problem, seg, line);
         let last = last_two(self.problem, &self.prefix, seg);

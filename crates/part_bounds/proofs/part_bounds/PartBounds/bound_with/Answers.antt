@@ -12,11 +12,11 @@ use Rattle.order_bound.proofs.Parts.{rising_apart}
 use Rattle.pair_bounds.specs.Counted.{settled_sum}
 use Rattle.part_bounds.specs.declared.pair_terms.PairTerms.{PairTerms}
 use Rattle.part_bounds.specs.PairGroups.{group_in, groups_in, terms_in, IsGroup}
-use Rattle.part_bounds.specs.PartStates.{PartState, IsWell}
+use Rattle.part_bounds.specs.PartStates.{PartState, IsWell, settled_at}
 use Rattle.part_bounds.specs.Settled.{AreSettled}
 use Rattle.part_bounds.specs.Changes.{IsChange}
 use Rattle.part_bounds.specs.Kept.{AreLeft, HasRoomFor, ArePairsOf, AreKept}
-use Rattle.part_bounds.proofs.KeptUp.{kept_up, kept_on, rooms_kept, list_here, list_known, list_few, whole_small, whole_bound}
+use Rattle.part_bounds.proofs.KeptUp.{kept_up, kept_on, rooms_kept, list_here, list_sum, list_known, list_few, whole_small, whole_bound}
 use Rattle.part_bounds.proofs.KeptShares.{left_shares}
 use Rattle.part_bounds.proofs.Restored.{taken_back}
 use Rattle.part_bounds.proofs.ApartLists.{total_low, total_most, total_next}
@@ -34,17 +34,6 @@ pub renew_pairs-requires-clause-kept : goal.renew_pairs-requires-clause-kept
 renew_pairs-requires-clause-kept c =
     subst (λ l. AreKept c.self.inside.problem.now c.self.inside.part.now c.self.inside.prefix.placed l c.self.inside.kept) (sym c.as_slice.ensures.value) c.self.invariant.kept_are
 
-pub settled_on-before-requires-clause-here : goal.settled_on-before-requires-clause-here
-settled_on-before-requires-clause-here c = list_here c.self.inside.problem.now.segs c.self.inside.prefix.placed c.args.seg (part_terms c.self.inside.problem.now.terms c.self.inside.part.now) c.self.inside.aparts c.self.invariant.settled (subst (λ (b : PartState). c.args.seg.0 < length b.segs) (sym c.self.view_is) c.requires.known)
-
-pub settled_on-before-requires-clause-known : goal.settled_on-before-requires-clause-known
-settled_on-before-requires-clause-known c =
-    list_known c.self.inside.problem.now.segs c.self.inside.prefix.placed c.args.seg (part_terms c.self.inside.problem.now.terms c.self.inside.part.now) c.self.inside.aparts c.self.invariant.settled (subst (λ (b : PartState). c.args.seg.0 < length b.segs) (sym c.self.view_is) c.requires.known) c.self.invariant.known_terms
-
-pub settled_on-before-requires-clause-few : goal.settled_on-before-requires-clause-few
-settled_on-before-requires-clause-few c =
-    list_few c.self.inside.problem.now.segs c.self.inside.prefix.placed c.args.seg (part_terms c.self.inside.problem.now.terms c.self.inside.part.now) c.self.inside.aparts c.self.invariant.settled (subst (λ (b : PartState). c.args.seg.0 < length b.segs) (sym c.self.view_is) c.requires.known) c.self.invariant.few_terms
-
 pub settled_on-after-requires-clause-here : goal.settled_on-after-requires-clause-here
 settled_on-after-requires-clause-here c = list_here c.self.inside.problem.now.segs c.self.inside.prefix.placed c.args.seg (part_terms c.self.inside.problem.now.terms c.self.inside.part.now) c.self.inside.aparts c.self.invariant.settled (subst (λ (b : PartState). c.args.seg.0 < length b.segs) (sym c.self.view_is) c.requires.known)
 
@@ -58,7 +47,8 @@ settled_on-after-requires-clause-few c =
 
 pub moved-requires-clause-low : goal.moved-requires-clause-low
 moved-requires-clause-low c =
-    total_low c.self.inside.problem.now.segs c.self.inside.prefix.placed c.args.seg (part_terms c.self.inside.problem.now.terms c.self.inside.part.now) c.self.inside.aparts c.settled_on-before.result c.self.invariant.settled (subst (λ (b : PartState). c.args.seg.0 < length b.segs) (sym c.self.view_is) c.requires.known) c.settled_on-before.ensures.value
+    total_low c.self.inside.problem.now.segs c.self.inside.prefix.placed c.args.seg (part_terms c.self.inside.problem.now.terms c.self.inside.part.now) c.self.inside.aparts c.args.before c.self.invariant.settled (subst (λ (b : PartState). c.args.seg.0 < length b.segs) (sym c.self.view_is) c.requires.known) (subst (λ (b : PartState). c.args.before ≡ settled_at b c.args.seg) (sym c.self.view_is) c.requires.before
+    ∙ sym (list_sum c.self.inside.problem.now.segs c.self.inside.prefix.placed c.args.seg (part_terms c.self.inside.problem.now.terms c.self.inside.part.now) c.self.inside.aparts c.self.invariant.settled (subst (λ (b : PartState). c.args.seg.0 < length b.segs) (sym c.self.view_is) c.requires.known)))
 
 pub moved-requires-clause-most : goal.moved-requires-clause-most
 moved-requires-clause-most c =
@@ -113,8 +103,9 @@ invariant_of-self c =
 
 settled_is : (c : goal.After-moved) → c.moved.result ≡ settled_sum c.self.inside.problem.now.segs c.place.new.self.placed (part_terms c.self.inside.problem.now.terms c.self.inside.part.now)
 settled_is c =
-    total_next c.self.inside.problem.now.segs c.self.inside.prefix.placed c.place.new.self.placed c.args.seg (part_terms c.self.inside.problem.now.terms c.self.inside.part.now) c.self.inside.aparts c.settled_on-before.result c.settled_on-after.result c.self.invariant.settled (subst (λ (b : PartState). c.args.seg.0 < length b.segs) (sym c.self.view_is) c.requires.known)
-    (moved_on c.self.inside.prefix.placed c.place.new.self.placed c.args.seg _ c.place.ensures.placed) c.settled_on-before.ensures.value c.settled_on-after.ensures.value c.moved.result c.moved.ensures
+    total_next c.self.inside.problem.now.segs c.self.inside.prefix.placed c.place.new.self.placed c.args.seg (part_terms c.self.inside.problem.now.terms c.self.inside.part.now) c.self.inside.aparts c.args.before c.settled_on-after.result c.self.invariant.settled (subst (λ (b : PartState). c.args.seg.0 < length b.segs) (sym c.self.view_is) c.requires.known)
+    (moved_on c.self.inside.prefix.placed c.place.new.self.placed c.args.seg _ c.place.ensures.placed) (subst (λ (b : PartState). c.args.before ≡ settled_at b c.args.seg) (sym c.self.view_is) c.requires.before
+    ∙ sym (list_sum c.self.inside.problem.now.segs c.self.inside.prefix.placed c.args.seg (part_terms c.self.inside.problem.now.terms c.self.inside.part.now) c.self.inside.aparts c.self.invariant.settled (subst (λ (b : PartState). c.args.seg.0 < length b.segs) (sym c.self.view_is) c.requires.known))) c.settled_on-after.ensures.value c.moved.result c.moved.ensures
 
 pub overflow_add-result : goal.overflow_add-result
 overflow_add-result c =
