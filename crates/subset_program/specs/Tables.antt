@@ -13,13 +13,14 @@ use Rattle.subset_program.specs.declared.entries.Tail.{Tail}
 abbrev pub read : ℤ → Option ℤ
 read v = if int_lt v (pos 1000000000000000000) then Some v else None
 
--- what the orders cost at least from the last line of a set on, with all lines that the set has not
+-- what the orders cost at least from the last line of a set on, which stands before all that the set has not
 abbrev pub tail_cost : Rows → ℕ → ℕ → Option ℤ
 tail_cost r set last = option_map (λ v. v +ℤ before_left r set last) (rest_cost r set (Some last))
 
+-- an entry tells of a set and its last line
 pub record Tells (r : Rows) (set last : ℕ) (tail : Tail) : Type 0 where
-  pub left : tail.left ≡ before_left r set last
-  pub cost : read tail.cost ≡ tail_cost r set last
+  pub with_left : tail.left ≡ before_left r set last
+  pub at_least : read tail.cost ≡ tail_cost r set last
 
 abbrev pub no_tail : Tail
 no_tail = record { left = pos 0; cost = pos 0 }

@@ -1,12 +1,12 @@
 //! One step of the program: the lines to go on with behind a set, and the best of them behind its last line.
 
-ghost use Rattle.std.specs.Prelude.{◌≡◌, ◌≤◌, ◌<◌, ◌+◌, ◌*◌, ◌^◌, ◌+ℤ◌, length, pos, unsigned_abs, true, Some, IfSome, int_lt, if◌then◌else◌};
+ghost use Rattle.std.specs.Prelude.{◌≡◌, ◌≤◌, ◌<◌, ◌+◌, ◌*◌, ◌^◌, ◌+ℤ◌, length, unsigned_abs, true, Some, IfSome, int_lt, if◌then◌else◌};
 ghost use Rattle.std.specs.Option.{option_map};
 ghost use Rattle.least_orders.specs.declared.choice.Choice.{Choice};
 ghost use Rattle.least_orders.specs.Rows.{AreRows};
 ghost use Rattle.least_orders.specs.Subsets.{has_place, is_ready, first_cost, beside_last, choice_of, better_choice, choice};
 ghost use Rattle.subset_program.specs.PlainRows.{plain_rows};
-ghost use Rattle.subset_program.specs.Tables.{read, Tells, HasTails, HasHeads};
+ghost use Rattle.subset_program.specs.Tables.{Tells, HasTails, HasHeads};
 
 use crate::entries::{NOTHING, Tail, read};
 use crate::place_sets::{has_place, with_place};

@@ -1,6 +1,6 @@
 //! The table of what is left behind each set.
 
-ghost use Rattle.std.specs.Prelude.{◌≡◌, ◌≤◌, ◌<◌, ◌+◌, ◌*◌, ◌^◌, ◌+ℤ◌, length, true, unsigned_abs, Some, IfSome};
+ghost use Rattle.std.specs.Prelude.{◌≡◌, ◌≤◌, ◌<◌, ◌+◌, ◌*◌, ◌^◌, ◌+ℤ◌, length, true, unsigned_abs, Some, None, IfSome};
 ghost use Rattle.std.specs.Option.{option_map};
 ghost use Rattle.least_orders.specs.Rows.{AreRows, row_lines, row_costs, row_pairs};
 ghost use Rattle.least_orders.specs.LeastOrders.{least_cost, least_order};

@@ -28,5 +28,5 @@ returns c =
     let free : has_place c.args.set c.args.k ≡ false = sym c.has_place.ensures ∙ c.if-has_place.false in
     let ready : is_ready (plain_rows c.args.rows.now) c.args.set c.args.k ≡ true = sym c.is_ready.ensures ∙ c.if-is_ready.false in
     c.read.ensures
-    ∙ (c.tail_at.ensures.cost
+    ∙ (c.tail_at.ensures.at_least
     ∙ (ap (λ s. tail_cost (plain_rows c.args.rows.now) s c.args.k) c.with_place-more.ensures ∙ first_there (plain_rows c.args.rows.now) c.args.set c.args.k free ready))
