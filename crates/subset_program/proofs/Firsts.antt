@@ -15,12 +15,12 @@ first_there r set k h g =
     sym (ap (λ b. cond {A = Option ℤ} b None (cond (is_ready r set k) (tail_cost r (with_place set k) k) None)) h
     ∙ ap (λ b. cond b (tail_cost r (with_place set k) k) None) g)
 
-pub rest_small : (r : Rows) → AreRows r → (set : ℕ) (last : Option ℕ) → IfSome (rest_cost r set last) (λ v. unsigned_abs v ≤ 514000000000000000)
+pub rest_small : (r : Rows) → AreRows r → (set : ℕ) (last : Option ℕ) → IfSome (rest_cost r set last) (λ v. unsigned_abs v ≤ 600000000000000000)
 rest_small r fits set last = by_cost (rest_cost r set last) refl
   where
-    by_cost : (o : Option ℤ) → rest_cost r set last ≡ o → IfSome o (λ v. unsigned_abs v ≤ 514000000000000000)
+    by_cost : (o : Option ℤ) → rest_cost r set last ≡ o → IfSome o (λ v. unsigned_abs v ≤ 600000000000000000)
     by_cost None e = tt
-    by_cost (Some v) e = rest_within r fits set last v e
+    by_cost (Some v) e = let small = rest_within r fits set last v e in omega (arith, small)
 
 pub tail_small : (r : Rows) → AreRows r → (set last : ℕ) → IfSome (tail_cost r set last) (λ v. unsigned_abs v ≤ 600000000000000000)
 tail_small r fits set last = by_rest (rest_cost r set (Some last)) refl

@@ -94,7 +94,7 @@ passed set (suc d) k m (suc t) free e f all =
     ∙ passed set d (k + 1) m t free (omega (arith, e)) (omega (arith, f)) all
 
 pub none_free : (set n free : ℕ) → IsFirstFree set n free → free ≡ n → left_from set 0 n ≡ []
-none_free set n free is e = passed set n 0 0 n free (omega arith) (omega (arith, e)) is.below
+none_free set n free is e = passed set n 0 zero n free (omega arith) (omega (arith, e)) is.below
 
 pub first_left : (set n free : ℕ) → IsFirstFree set n free → free < n → left_from set 0 n ≡ line_at free ∷ left_from (with_place set free) 0 n
 first_left set n free is below =
@@ -109,3 +109,7 @@ first_left set n free is below =
         by_place : (j ≡ free) ⊎ (j ≢ free) → has_place (with_place set free) j ≡ true
         by_place (inl here) = ap (λ i. has_place (with_place set free) i) here ∙ with_same set free
         by_place (inr apart) = with_other set free j apart ∙ is.below j (omega (arith, less, apart))
+
+-- the set with it has all places that the set has
+pub still_there : (set n free k : ℕ) → IsFirstFree set n free → free < n → has_place set k ≡ true → has_place (with_place set free) k ≡ true
+still_there set n free k is below has = with_other set free k (λ e. true≢false (sym has ∙ (ap (λ i. has_place set i) e ∙ is.here below))) ∙ has

@@ -2,7 +2,7 @@
 
 ghost use Rattle.std.specs.Prelude.{◌≡◌, ◌≤◌, ◌<◌, ◌+◌, ◌*◌, ◌^◌, ◌+ℤ◌, length, true, unsigned_abs, Some, None, IfSome};
 ghost use Rattle.std.specs.Option.{option_map};
-ghost use Rattle.least_orders.specs.Rows.{AreRows, row_lines, row_costs, row_pairs};
+ghost use Rattle.least_orders.specs.Rows.{AreRows, line_at, entry, row_lines, row_costs, row_pairs};
 ghost use Rattle.least_orders.specs.LeastOrders.{least_cost, least_order};
 ghost use Rattle.least_orders.specs.Subsets.{has_place, before_left, rest_cost};
 ghost use Rattle.subset_program.specs.PlainRows.{plain_rows, ArePlacesOf};
@@ -27,6 +27,17 @@ fn first_free(set: usize, count: usize) -> usize
     count
 }
 
+/// What a line costs where it stands before another.
+fn before_at(rows: &PairRows, k: usize, j: usize) -> i64
+    requires rows { AreRows (plain_rows rows.now) }
+    requires known { k < rows.now.count }
+    requires other { j < rows.now.count }
+    ensures value { result ≡ entry rows.now.count rows.now.before.now (line_at k) (line_at j) }
+    ensures small { unsigned_abs result ≤ 2000000000000000 }
+{
+    rows.before[k * rows.count + j]
+}
+
 /// What the last line of a set costs with those that the set has not.
 fn left_at(tails: &[Tail], rows: &PairRows, set: usize, last: usize, free: usize) -> i64
     requires rows { AreRows (plain_rows rows.now) }
@@ -43,7 +54,7 @@ fn left_at(tails: &[Tail], rows: &PairRows, set: usize, last: usize, free: usize
     }
     let more = with_place(set, free);
     let behind = tail_at(tails, rows, more, last).left;
-    sum(rows.before[last * rows.count + free], behind)
+    sum(before_at(rows, last, free), behind)
 }
 
 /// What the orders of the lines that a set has not cost at least behind its last line.
