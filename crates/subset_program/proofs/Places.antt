@@ -1,16 +1,14 @@
 -- Where entries of the table stand, and when no line is left.
-use Rattle.std.proofs.Common.{◌≡◌, ◌≢◌, ℕ, zero, suc, ◌+◌, ◌-◌, ◌*◌, ◌^◌, ◌<◌, ◌≤◌, ◌==◌, Bool, true, false, cond, List, [], ◌∷◌, length, refl, sym, ◌∙◌, ap, subst, arith, ◌⊎◌, inl, inr, true≢false, eq-eqb, eqb-true, Option, Some, None}
-use Rattle.std.specs.Prelude.{bit_and, bit_or}
-use Rattle.std.specs.Int.{bit_at}
+use Rattle.std.proofs.Common.{◌≡◌, ◌≢◌, ℕ, zero, suc, ◌+◌, ◌-◌, ◌*◌, ◌^◌, ◌<◌, ◌≤◌, Bool, true, false, cond, [], ◌∷◌, length, refl, sym, ◌∙◌, ap, arith, ◌⊎◌, inl, inr, true≢false}
+use Rattle.std.specs.Prelude.{bit_and}
 use Rattle.std.specs.Int.Bits.{or_add_and}
 use Rattle.std.proofs.Math.Nat.{mul-le-mul_right, suc-mul}
 use Rattle.std.proofs.Math.Pow.{pow-lt}
 use Rattle.std.proofs.lemmas.Nat.{or_lt, pow_pos}
-use Rattle.std.proofs.lemmas.Bool.{cases_eq, eqb-false}
-use Rattle.std.proofs.lemmas.Nat.Bits.{and_pow, bit_at_ones, bit_at-lt, same_from_bits_below}
-use Rattle.map_base.specs.declared.ids.LineId.{LineId}
-use Rattle.least_orders.specs.Rows.{Rows, AreRows, line_at}
-use Rattle.least_orders.specs.Subsets.{has_place, with_place, left_from, left}
+use Rattle.std.proofs.lemmas.Bool.{cases_eq}
+use Rattle.std.proofs.lemmas.Nat.Bits.{and_pow}
+use Rattle.least_orders.specs.Rows.{line_at}
+use Rattle.least_orders.specs.Subsets.{has_place, with_place, left_from}
 use Rattle.least_orders.proofs.Sets.{not_raised, with_same, with_other}
 use Rattle.subset_program.specs.Tables.{IsFirstFree}
 

@@ -1,14 +1,11 @@
 -- What loops over the lines from the last place down to the first have gone over.
-use Rattle.std.proofs.Common.{◌≡◌, ℕ, zero, suc, ◌+◌, ◌-◌, ◌*◌, ◌<◌, ◌≤◌, Bool, true, false, cond, List, [], ◌∷◌, length, get_or, refl, sym, ◌∙◌, ap, subst, arith, Option, Some, None}
-use Rattle.std.specs.Prelude.{ℤ, pos, ◌+ℤ◌, unsigned_abs, IfSome}
+use Rattle.std.proofs.Common.{◌≡◌, ℕ, suc, ◌+◌, ◌-◌, ◌<◌, ◌≤◌, Bool, true, false, cond, refl, sym, ◌∙◌, ap, arith, Option, Some, None}
+use Rattle.std.specs.Prelude.{ℤ, ◌+ℤ◌, unsigned_abs, IfSome}
 use Rattle.std.specs.Option.{option_map}
 use Rattle.std.proofs.lemmas.Int.{ints}
-use Rattle.map_base.specs.declared.ids.LineId.{LineId}
-use Rattle.whole_sums.specs.Sums.{int_sum}
-use Rattle.least_orders.specs.declared.choice.Choice.{Choice}
-use Rattle.least_orders.specs.Rows.{Rows, AreRows, line_at, entry, most_entry}
-use Rattle.least_orders.specs.Subsets.{has_place, with_place, left_from, left, rest_cost, is_ready, before_left, first_cost, choice_of, better_choice, choice_from, choice}
-use Rattle.least_orders.proofs.Bounds.{sum_within, left_few, rest_within, before_left_within}
+use Rattle.least_orders.specs.Rows.{Rows, AreRows}
+use Rattle.least_orders.specs.Subsets.{has_place, with_place, rest_cost, is_ready, before_left, first_cost, choice_of, better_choice, choice_from, choice}
+use Rattle.least_orders.proofs.Bounds.{rest_within, before_left_within}
 
 -- so many places are still to come, and one more before them
 pub one_more : (n j : ℕ) → j < n → n - j ≡ suc (n - (j + 1))

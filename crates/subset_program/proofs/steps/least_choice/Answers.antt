@@ -1,4 +1,4 @@
-use Rattle.std.proofs.Common.{◌≡◌, ◌+◌, ◌<◌, sym, ◌∙◌, ap, cond, arith, w64, to_z, of_z, FitsSigned, Some, int_lt}
+use Rattle.std.proofs.Common.{◌≡◌, ◌∙◌, ap, cond, arith, w64, to_z, of_z, FitsSigned, Some, int_lt}
 use Rattle.std.specs.Option.{option_map}
 use Rattle.std.proofs.lemmas.Int.{to_z-of_z, fits_signed_from_abs}
 use Rattle.least_orders.specs.declared.choice.Choice.{Choice}

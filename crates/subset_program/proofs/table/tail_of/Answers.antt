@@ -1,7 +1,7 @@
-use Rattle.std.proofs.Common.{◌≡◌, ◌≤◌, sym, ◌∙◌, ap, subst, arith, w64, to_z, of_z, FitsSigned, Some}
-use Rattle.std.specs.Prelude.{ℤ, ◌+ℤ◌, unsigned_abs, IfSome}
+use Rattle.std.proofs.Common.{◌≡◌, ◌≤◌, sym, ◌∙◌, ap, subst, w64, to_z, of_z, Some}
+use Rattle.std.specs.Prelude.{◌+ℤ◌, unsigned_abs, IfSome}
 use Rattle.std.specs.Option.{option_map}
-use Rattle.std.proofs.lemmas.Int.{to_z-of_z, fits_signed_from_abs}
+use Rattle.std.proofs.lemmas.Int.{to_z-of_z}
 use Rattle.least_orders.specs.Subsets.{rest_cost, before_left}
 use Rattle.least_orders.proofs.Bounds.{before_left_within}
 use Rattle.subset_program.specs.PlainRows.{plain_rows}

@@ -1,4 +1,4 @@
-use Rattle.std.proofs.Common.{◌≡◌, ◌+◌, ◌≤◌, ◌<◌, sym, ◌∙◌, ap, subst, arith, set, Some}
+use Rattle.std.proofs.Common.{◌+◌, sym, ◌∙◌, subst, arith, set, Some}
 use Rattle.subset_program.specs.PlainRows.{plain_rows}
 use Rattle.subset_program.specs.Tables.{IsWalked}
 use Rattle.subset_program.proofs.Walking.{chosen_free, walk_begins, walk_goes_on, walk_ends, walk_stops}
