@@ -1,7 +1,0 @@
-mod Walks
-mod Loads
-mod PriceTests
-mod Values
-mod Known
-mod Pairs
-mod NodeSteps
