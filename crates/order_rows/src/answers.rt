@@ -8,7 +8,7 @@ use crate::searching::{only_part, searched};
 use map_base::{LineId, SegId, Sequence};
 use order_check::{ProofItem, ProofStop, check_proof};
 use order_model::Problem;
-use order_proof::{Part, Proof, read_proof, write_proof};
+use order_proof::{Part, PartTree, Proof, read_proof, write_proof};
 use order_rules::lift;
 use order_search::{Found, SearchFault};
 use order_untangle::untangle;
@@ -51,7 +51,7 @@ fn proof_of(alloc: Global, segs: Vec<SegId>, found: Found) -> Result<Proof, Fail
     let part = Part {
         segs: Sequence::of(segs),
         target,
-        tree,
+        tree: PartTree::ByCases(tree),
     };
     Ok(Proof {
         rules: Sequence::of(Vec::new(alloc)),

@@ -4,6 +4,9 @@ use crate::answers::{checked_text, untangled_text};
 use crate::known;
 use crate::known::Small;
 use crate::problems::problem_of;
+use map_base::SegId;
+use order_rules::{apply_rule, rule_applies};
+use order_values::Rule;
 use std::alloc::Global;
 use std::test::Fail;
 
@@ -79,5 +82,27 @@ fn rules_that_do_not_apply_are_refused(rt: HostRuntime) -> Result<(), Fail> {
         let told = of_rule(alloc, rule)?;
         assert_eq!(rt; told.as_str(), "rule 0", "{rule}");
     }
+    Ok(())
+}
+
+/// Two lines that agree share two segments: the first stands for both after the merge.
+#[test]
+fn a_merge_leaves_no_lines_on_its_second_segment(rt: HostRuntime) -> Result<(), Fail> {
+    let alloc = rt.alloc();
+    let problem = problem_of(alloc, known::AGREEING.lines, known::AGREEING.terms)?;
+    let merge = Rule::Merge {
+        into: SegId(1),
+        from: SegId(3),
+        flip: false,
+    };
+    if !rule_applies(&problem, &merge) {
+        return Err(Fail::from("the merge does not apply"));
+    }
+    let after = apply_rule(alloc, problem, &merge)?;
+    let mut counts = Vec::new(alloc);
+    for lines in after.segs() {
+        counts.push(lines.as_slice().len())?;
+    }
+    assert_eq!(rt; counts.as_slice(), [1, 2, 1, 0, 1, 1].as_slice());
     Ok(())
 }

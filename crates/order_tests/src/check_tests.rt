@@ -2,7 +2,7 @@
 
 use crate::small::{agreeing, crossing};
 use map_base::LineId;
-use order_check::{ProofItem, ProofStop, check_proof};
+use order_check::{ProofItem, ProofStop, check_bound, check_proof};
 use order_model::Problem;
 use order_proof::read_proof;
 use std::alloc::Global;
@@ -154,6 +154,35 @@ fn refuses_rules_other_parts_and_totals(rt: HostRuntime) {
         matches!(
             checked(rt.alloc(), REFUSED[3]),
             Err(ProofStop::Refuted(ProofItem::Total))
+        )
+    );
+}
+
+/// What the text of a proof shows that no orders cost less than.
+fn bounded(alloc: Global, text: &[u8]) -> Result<u64, ProofStop> {
+    let (parts, _crossed) = crossing(alloc)?;
+    let proof = match read_proof(alloc, text) {
+        Ok((proof, _)) => proof,
+        Err(_) => return Err(ProofStop::NoMemory),
+    };
+    check_bound(alloc, Problem::new(parts), &proof)
+}
+
+/// A bound below the least cost, and the least cost as a bound.
+const BOUNDS: [&[u8]; 2] = [
+    b"rules 0\nparts 1\npart 0 1 3\nclose 0\n",
+    b"rules 0\nparts 1\npart 1 1 3\nstop 1 1 1000\n",
+];
+
+#[test]
+fn bounds_cost_by_the_targets(rt: HostRuntime) {
+    assert!(rt; matches!(bounded(rt.alloc(), BOUNDS[0]), Ok(0)));
+    assert!(rt; matches!(bounded(rt.alloc(), BOUNDS[1]), Ok(1)));
+    assert!(rt; matches!(checked(rt.alloc(), BOUNDS[1]), Ok(())));
+    assert!(rt;
+        matches!(
+            bounded(rt.alloc(), DEAR[1]),
+            Err(ProofStop::Refuted(ProofItem::Part { index: 0, .. }))
         )
     );
 }

@@ -9,7 +9,7 @@ ghost use Rattle.order_proof.specs.Trees.{IsProofTree};
 use crate::small::crossing;
 use map_base::{LineId, SegId, Sequence, Steps};
 use order_model::Problem;
-use order_proof::{Part, Proof, write_proof};
+use order_proof::{Part, PartTree, Proof, write_proof};
 use order_search::{Found, SearchFault, search};
 use std::alloc::{AllocError, Global};
 use std::marker::Brand;
@@ -68,7 +68,7 @@ fn finds_where_two_lines_cross(rt: HostRuntime) -> Result<(), Fail> {
     let part = Part {
         segs: Sequence::of(segs),
         target,
-        tree,
+        tree: PartTree::ByCases(tree),
     };
     let proof = Proof {
         rules: Sequence::of(Vec::new(alloc)),
