@@ -1,13 +1,13 @@
 //! What the crates of line orders answer to a problem, as text.
 
-ghost use Rattle.order_proof.specs.Plain.{plain};
-ghost use Rattle.order_proof.specs.Trees.{IsProofTree};
+ghost use Rattle.order_proof.specs.Plain.{plain, plain_part_tree};
+ghost use Rattle.order_proof.specs.Trees.{IsPartTree, IsProofTree};
 
 use crate::problems::number_order;
 use crate::searching::{only_part, searched};
 use map_base::{LineId, SegId, Sequence};
 use order_check::{ProofItem, ProofStop, check_proof};
-use order_model::Problem;
+use order_model::{Orders, Problem};
 use order_proof::{Part, PartTree, Proof, read_proof, write_proof};
 use order_rules::lift;
 use order_search::{Found, SearchFault};
@@ -44,14 +44,13 @@ fn put_proof(alloc: Global, text: &mut String, proof: &Proof) -> Result<(), Fail
 }
 
 /// The proof of one part, of these segments, and no rules.
-fn proof_of(alloc: Global, segs: Vec<SegId>, found: Found) -> Result<Proof, Fail>
-    requires { IsProofTree (plain found.tree) }
+fn proof_of(alloc: Global, segs: Vec<SegId>, target: u64, tree: PartTree) -> Result<Proof, Fail>
+    requires { IsPartTree (plain_part_tree tree) }
 {
-    let Found { target, tree, .. } = found;
     let part = Part {
         segs: Sequence::of(segs),
         target,
-        tree: PartTree::ByCases(tree),
+        tree,
     };
     Ok(Proof {
         rules: Sequence::of(Vec::new(alloc)),
@@ -60,16 +59,36 @@ fn proof_of(alloc: Global, segs: Vec<SegId>, found: Found) -> Result<Proof, Fail
 }
 
 /// The orders that a search found, its proof, and how many branch nodes it has.
-fn found_text(alloc: Global, segs: Vec<SegId>, found: Found) -> Result<String, Fail>
-    requires { IsProofTree (plain found.tree) }
+pub(crate) fn found_text(
+    alloc: Global,
+    segs: Vec<SegId>,
+    orders: &Orders,
+    target: u64,
+    tree: PartTree,
+    branches: u32,
+) -> Result<String, Fail>
+    requires { IsPartTree (plain_part_tree tree) }
 {
     let mut text = String::new(alloc);
-    let branches = found.branches;
-    put_orders(&mut text, found.orders.lists.as_slice())?;
-    let proof = proof_of(alloc, segs, found)?;
+    put_orders(&mut text, orders.lists.as_slice())?;
+    let proof = proof_of(alloc, segs, target, tree)?;
     put_proof(alloc, &mut text, &proof)?;
     write!(text, "branches {branches}\n")?;
     Ok(text)
+}
+
+/// The same of what the live search found.
+fn live_text(alloc: Global, segs: Vec<SegId>, found: Found) -> Result<String, Fail>
+    requires { IsProofTree (plain found.tree) }
+{
+    let Found {
+        orders,
+        target,
+        branches,
+        tree,
+    } = found;
+    let tree = PartTree::ByCases(tree);
+    found_text(alloc, segs, &orders, target, tree, branches)
 }
 
 /// Why a search found nothing.
@@ -88,7 +107,7 @@ fn fault_text(alloc: Global, fault: SearchFault) -> Result<String, Fail> {
 fn search_text(alloc: Global, problem: &Problem, budget: u16) -> Result<String, Fail> {
     let part = only_part(alloc, problem)?;
     match searched(alloc, problem, part.as_slice(), budget) {
-        Ok(found) => found_text(alloc, part, found),
+        Ok(found) => live_text(alloc, part, found),
         Err(fault) => fault_text(alloc, fault),
     }
 }
