@@ -34,6 +34,5 @@ pub fn check_dual(
     ensures accepted { IfOk result (λ _. failing (question problem.now.segs part.now (part_terms problem.now.terms part.now) target) (plain_dual tree.now) ≡ None) }
     ensures refused { IfErr result (IsCause (failing (question problem.now.segs part.now (part_terms problem.now.terms part.now) target) (plain_dual tree.now))) }
 {
-    let _asked = (alloc, problem, part, numbers, target, tree);
     Err(DualStop::NoMemory)
 }
