@@ -1,5 +1,5 @@
 -- The first item that is refused, one by one, and what it shows that there is none.
-use Rattle.std.proofs.Common.{◌≡◌, ◌≢◌, ℕ, zero, suc, ◌+◌, ◌*◌, ◌^◌, ◌<◌, ◌≤◌, ◌==◌, Bool, true, false, cond, List, [], ◌∷◌, length, map, drop, get_or, refl, sym, ◌∙◌, ap, subst, arith, Some, None, Option, eqb-true, eq-eqb}
+use Rattle.std.proofs.Common.{◌≡◌, ◌≢◌, ℕ, zero, suc, ◌+◌, ◌*◌, ◌^◌, ◌<◌, ◌≤◌, ◌==◌, Bool, true, false, cond, List, [], ◌∷◌, length, map, take, drop, get_or, refl, sym, ◌∙◌, ap, subst, arith, Some, None, Option, eqb-true, eq-eqb}
 use Rattle.std.specs.List.{All, AllByRecursion, sum_by}
 use Rattle.std.proofs.lemmas.List.{at_drop_more, drop_all, get_or-map, length-map}
 use Rattle.std.proofs.lemmas.List.Elements.{All-head, All-tail}
@@ -241,6 +241,20 @@ pub targets_few : (p : ProblemParts) (parts : List (List SegId)) (proofs : List 
 targets_few p parts proofs is ok none =
     let bound = targets_bound p parts proofs is ok none p.segs (own_orders p.segs) in
     omega (arith, bound, cost_few p.segs p.segs p.terms is.terms, is.few_terms)
+
+-- the targets of the first parts and of the next are among those of all
+pub target_within : (parts : List Part) (k : ℕ) (p : Part) → k < length parts → p ≡ get_or parts k p → targets (map plain_part (take k parts)) + p.target ≤ targets (map plain_part parts)
+target_within [] k p below is = absurd (omega (arith, below))
+target_within (q ∷ parts) zero p below is =
+    omega (arith, ap (λ (r : Part). r.target) is, sum_by-cons (λ (r : PlainPart). r.target) (plain_part q) (map plain_part parts))
+target_within (q ∷ parts) (suc k) p below is =
+    let rest = target_within parts k p (omega (arith, below)) is in
+    omega (
+      arith,
+      rest,
+      sum_by-cons (λ (r : PlainPart). r.target) (plain_part q) (map plain_part (take k parts)),
+      sum_by-cons (λ (r : PlainPart). r.target) (plain_part q) (map plain_part parts),
+    )
 
 -- The parts of a proof.
 

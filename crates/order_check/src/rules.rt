@@ -19,6 +19,7 @@ pub(crate) fn after_rules(
     rules: &[Rule],
 ) -> Result<Problem, ProofStop>
     requires { IsProblem problem }
+    ensures problem { IsProblem problem }
     ensures last { IfOk result (λ p. p ≡ after_rules problem rules.now) }
     ensures accepted { IfOk result (λ _. first_refused 0 problem rules.now ≡ None) }
     ensures refused { IfErr result (IsCause (rule_refusal (first_refused 0 problem rules.now))) }

@@ -1,4 +1,3 @@
-use Rattle.std.proofs.Common.{sym}
 use Rattle.std.proofs.lemmas.Result.{err_from_is_err_and}
 use Rattle.order_model.specs.Costs.{cost_of}
 use Rattle.order_proof.specs.Plain.{plain_proof}

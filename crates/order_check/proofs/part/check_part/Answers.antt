@@ -26,6 +26,6 @@ check_tree-requires-clause-asked c = record {
   known = c.requires.known;
   numbers = c.requires.numbers;
   terms = c.requires.terms;
-  table = subst (λ (ts : List (ℕ × Term)). IsPartTable ts c.in_ok-table.table.terms.items c.in_ok-table.table.slots.keys)
-      (ap (terms_by_number c.args.problem.now.terms) c.requires.terms ∙ part_terms_by_number c.args.segs.now c.args.problem.now.terms) c.in_ok-table.ensures;
+  table = subst (λ (ts : List (ℕ × Term)). IsPartTable ts c.in_ok-table-in-ByCases.table.terms.items c.in_ok-table-in-ByCases.table.slots.keys)
+      (ap (terms_by_number c.args.problem.now.terms) c.requires.terms ∙ part_terms_by_number c.args.segs.now c.args.problem.now.terms) c.in_ok-table-in-ByCases.ensures;
 }
