@@ -1,1 +1,5 @@
+pub mod Asking
+pub mod Prices
+pub mod Settling
+pub mod Nodes
 pub mod Answering

@@ -6,8 +6,15 @@
 //! until a price of a term on it, or a pair that is settled there, changes.
 #![tactic(auto)]
 
+mod asked;
 mod check;
+mod load;
+mod node;
+mod prices;
+mod solver;
 mod stop;
+mod value;
+mod walk;
 
 pub use check::check_dual;
 pub use stop::DualStop;

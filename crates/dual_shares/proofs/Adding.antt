@@ -1,6 +1,6 @@
 -- What terms add to the rows of a segment.
-use Rattle.std.proofs.Common.{◌≡◌, ℕ, zero, suc, ◌+◌, ◌*◌, ◌<◌, ◌≤◌, ◌==◌, ◌||◌, ◌&&◌, Bool, true, false, cond, List, [], ◌∷◌, ◌++◌, length, map, filter, get_or, refl, sym, ◌∙◌, ap, subst, arith, true≢false}
-use Rattle.std.specs.Prelude.{ℤ, pos, ◌+ℤ◌, ◌-ℤ◌, unsigned_abs}
+use Rattle.std.proofs.Common.{◌≡◌, ℕ, ◌*◌, ◌==◌, ◌||◌, ◌&&◌, Bool, true, false, cond, List, [], ◌∷◌, length, get_or, refl, ap, subst, arith, true≢false}
+use Rattle.std.specs.Prelude.{ℤ, pos, ◌+ℤ◌, ◌-ℤ◌}
 use Rattle.std.proofs.lemmas.Int.{ints}
 use Rattle.map_base.specs.declared.ids.SegId.{SegId}
 use Rattle.map_base.specs.declared.ids.LineId.{LineId}
@@ -9,13 +9,12 @@ use Rattle.order_model.specs.declared.term.Term.TheVariants.{Side, Link, Apart}
 use Rattle.order_model.specs.Costs.{are_these}
 use Rattle.order_model.specs.PartTerms.{no_term, terms_by_number}
 use Rattle.whole_sums.specs.Sums.{int_sum}
-use Rattle.whole_sums.proofs.Sums.{int_sum-append}
-use Rattle.least_orders.specs.OrderCosts.{PairCosts, summed_costs, less_costs, no_costs, cost_before, cost_beside}
+use Rattle.least_orders.specs.OrderCosts.{PairCosts, no_costs, cost_before, cost_beside}
 use Rattle.least_orders.specs.Rows.{line_at, named, entry}
 use Rattle.dual_bound.specs.Shares.{thousand}
-use Rattle.dual_bound.specs.ShareCosts.{costs_where, link_costs, term_costs, share_costs}
+use Rattle.dual_bound.specs.ShareCosts.{costs_where, link_costs, term_costs}
 use Rattle.dual_shares.specs.Groups.{is_on, numbers_on}
-use Rattle.dual_shares.specs.RowSteps.{row_entry, TellPairs, AreSmall, HaveAdded, IsAddedBefore, IsAddedBeside, IsMoreBy}
+use Rattle.dual_shares.specs.RowSteps.{HaveAdded, IsAddedBefore, IsAddedBeside}
 
 -- nothing is added
 more_of_nothing : (v : ℤ) → v ≡ v +ℤ pos 0
@@ -151,3 +150,19 @@ sum_on f terms s (n ∷ numbers) h = by_test (is_on s (get_or terms n no_term)) 
         → int_sum f (terms_by_number terms (cond b (n ∷ numbers_on terms numbers s) (numbers_on terms numbers s))) ≡ f (n, get_or terms n no_term) +ℤ int_sum f (terms_by_number terms numbers)
     by_test true e rest = ap (λ v. f (n, get_or terms n no_term) +ℤ v) rest
     by_test false e rest = let none = h (n, get_or terms n no_term) e in omega (arith, ints, rest, none)
+
+-- what two lines cost by their order alone, or as neighbours alone
+pub before_alone : (lines : List LineId) (first second : LineId) (amount : ℤ) (before_old before_new beside : List ℤ) → IsAddedBefore lines (cost_before first second amount) before_old before_new
+    → HaveAdded lines (cost_before first second amount) before_old beside before_new beside
+before_alone lines first second amount before_old before_new beside h = record { before_added = h; beside_added = λ i j here there. more_of_nothing (entry (length lines) beside (line_at i) (line_at j)) }
+
+pub beside_alone : (lines : List LineId) (a b : LineId) (amount : ℤ) (before beside_old beside_new : List ℤ) → IsAddedBeside lines (cost_beside a b amount) beside_old beside_new
+    → HaveAdded lines (cost_beside a b amount) before beside_old before beside_new
+beside_alone lines a b amount before beside_old beside_new h = record { before_added = λ i j here there. more_of_nothing (entry (length lines) before (line_at i) (line_at j)); beside_added = h }
+
+-- the same lines and costs, as they are read
+pub before_read : (read lines : List LineId) (c d : PairCosts) (old new : List ℤ) → read ≡ lines → c ≡ d → IsAddedBefore read c old new → IsAddedBefore lines d old new
+before_read read lines c d old new e f h = subst (λ l. IsAddedBefore l d old new) e (subst (λ x. IsAddedBefore read x old new) f h)
+
+pub beside_read : (read lines : List LineId) (c d : PairCosts) (old new : List ℤ) → read ≡ lines → c ≡ d → IsAddedBeside read c old new → IsAddedBeside lines d old new
+beside_read read lines c d old new e f h = subst (λ l. IsAddedBeside l d old new) e (subst (λ x. IsAddedBeside read x old new) f h)

@@ -1,23 +1,18 @@
 -- Which lines are settled to stand before a line, as sets of places.
-use Rattle.std.proofs.Common.{◌≡◌, ◌≢◌, ℕ, zero, suc, ◌+◌, ◌^◌, ◌<◌, ◌≤◌, ◌==◌, ◌||◌, ◌&&◌, Bool, true, false, cond, List, [], ◌∷◌, ◌++◌, length, map, filter, set, get_or, refl, sym, ◌∙◌, ap, subst, arith, ◌⊎◌, inl, inr, true≢false, eq-eqb, eqb-true, get_or-set_same, get_or-set_other}
-use Rattle.std.specs.Prelude.{bit_or, slice_index, reverse}
+use Rattle.std.proofs.Common.{◌≡◌, ◌≢◌, ℕ, ◌^◌, ◌<◌, ◌≤◌, ◌==◌, ◌||◌, ◌&&◌, Bool, true, false, List, [], ◌∷◌, length, set, get_or, refl, sym, ◌∙◌, ap, subst, arith, ◌⊎◌, inl, inr, eq-eqb, get_or-set_same, get_or-set_other}
+use Rattle.std.specs.Prelude.{slice_index}
 use Rattle.std.specs.Int.{bit_at}
-use Rattle.std.specs.List.{list_any}
 use Rattle.std.proofs.Math.Pow.{pow-lt}
 use Rattle.std.proofs.lemmas.Bool.{cases_eq, eqb-false, ne_eqb}
 use Rattle.std.proofs.lemmas.Bool.Decides.{nat_tests}
-use Rattle.std.proofs.lemmas.List.{take_more, get_or-replicate}
 use Rattle.std.proofs.lemmas.Nat.{or_lt, pow_pos}
 use Rattle.std.proofs.lemmas.Nat.Bits.{bit_at-zero}
-use Rattle.map_base.specs.declared.ids.SegId.{SegId}
 use Rattle.map_base.specs.declared.ids.LineId.{LineId}
 use Rattle.graph_core.specs.Consistent.{AreRising}
 use Rattle.order_model.specs.Places.{has_line, place_of}
 use Rattle.least_orders.specs.Rows.{line_at, named, is_settled}
 use Rattle.least_orders.specs.Subsets.{has_place, with_place}
 use Rattle.least_orders.proofs.Sets.{not_raised, with_same, with_other}
-use Rattle.dual_bound.specs.declared.settled.SettledPair.{SettledPair}
-use Rattle.dual_bound.specs.Settled.{settled_on}
 use Rattle.dual_shares.specs.RowSteps.{AreTwoOf}
 use Rattle.dual_shares.specs.SettledSets.{TellAhead}
 use Rattle.dual_shares.proofs.Entries.{place_known, name_at}

@@ -6,14 +6,13 @@ use Rattle.std.proofs.lemmas.Bool.{and_parts, cases_eq, cases_order, ne_eqb, eqb
 use Rattle.std.proofs.lemmas.Int.{ints}
 use Rattle.map_base.specs.declared.ids.LineId.{LineId}
 use Rattle.graph_core.specs.Consistent.{AreRising}
-use Rattle.order_model.specs.Costs.{are_these}
 use Rattle.order_model.specs.Places.{has_line, place_of}
 use Rattle.order_model.proofs.Lines.{either_true, same_line}
-use Rattle.least_orders.specs.OrderCosts.{PairCosts, cost_before, cost_beside}
-use Rattle.least_orders.specs.Rows.{line_at, named, entry}
+use Rattle.least_orders.specs.OrderCosts.{PairCosts, no_costs, cost_before, cost_beside}
+use Rattle.least_orders.specs.Rows.{line_at, named}
 use Rattle.least_orders.proofs.Renaming.{same_name}
 use Rattle.dual_bound.specs.ShareCosts.{costs_where}
-use Rattle.dual_shares.specs.RowSteps.{row_entry, AreSmall, IsAddedAt, IsAddedBefore, IsAddedBeside, IsMoreBy, IsRoomy, AreTwoOf, most_where}
+use Rattle.dual_shares.specs.RowSteps.{row_entry, TellPairs, AreSmall, IsAddedAt, IsAddedBefore, IsAddedBeside, IsMoreBy, IsRoomy, AreTwoOf, most_where}
 
 -- Places.
 
@@ -271,3 +270,11 @@ more_twice so at at_too amount old between new is apart small h g = subst (λ m.
 -- an entry that is not written is as it was
 pub not_written : (at k : ℕ) (amount : ℤ) (old new : List ℤ) → IsAddedAt at amount old new → k ≢ at → row_entry new k ≡ row_entry old k
 not_written at k amount old new h apart = h k ∙ ap (λ b. cond b (row_entry old k +ℤ amount) (row_entry old k)) (ne_eqb k at apart)
+
+-- where all entries are 0, no lines cost anything
+pub cleared_told : (lines : List LineId) (count : ℕ) (before beside : List ℤ) → length lines ≡ count → ((k : ℕ) → k < count * count → row_entry before k ≡ pos 0) → ((k : ℕ) → k < count * count → row_entry beside k ≡ pos 0)
+    → TellPairs lines no_costs before beside
+cleared_told lines count before beside each none none_too = record {
+  before_told = λ i j here there. none (i * length lines + j) (subst (λ n. i * length lines + j < n * n) each (row_before i (length lines) (length lines) j here there));
+  beside_told = λ i j here there. none_too (i * length lines + j) (subst (λ n. i * length lines + j < n * n) each (row_before i (length lines) (length lines) j here there));
+}

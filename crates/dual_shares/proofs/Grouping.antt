@@ -1,13 +1,20 @@
 -- How the terms of a part come to its segments.
-use Rattle.std.proofs.Common.{◌≡◌, ◌≢◌, ℕ, zero, suc, ◌+◌, ◌<◌, ◌≤◌, ◌==◌, ◌||◌, Bool, true, false, cond, List, [], ◌∷◌, ◌++◌, length, map, filter, take, get_or, set, refl, sym, ◌∙◌, ap, subst, arith, ◌⊎◌, inl, inr, true≢false, eqb-true, eq-eqb, Option, Some, None}
-use Rattle.std.proofs.lemmas.Bool.{eqb-false, ne_eqb}
+use Rattle.std.proofs.Common.{◌≡◌, ◌≢◌, ℕ, zero, suc, ◌+◌, ◌<◌, ◌≤◌, ◌==◌, ◌||◌, Bool, true, false, cond, List, [], ◌∷◌, ◌++◌, length, map, take, get_or, refl, sym, ◌∙◌, ap, subst, arith, inl, inr, true≢false, eqb-true, eq-eqb, Option, Some, None}
+use Rattle.std.specs.Prelude.{Vec, IfSome}
+use Rattle.std.specs.Global.{Global}
+use Rattle.std.specs.List.{HoldsAt}
+use Rattle.std.specs.List.Sorted.{IsNonDecreasingBy, IsPartitionPoint}
+use Rattle.std.specs.Ordering.{nat_cmp, ordering_index}
+use Rattle.std.specs.declared.cmp.Ordering.TheVariants.{Less, Equal, Greater}
+use Rattle.std.proofs.lemmas.Bool.{cases_eq, cases_lt, ne_eqb}
 use Rattle.std.proofs.lemmas.Bool.Decides.{nat_tests}
-use Rattle.std.proofs.lemmas.List.{take_more, append-nil}
+use Rattle.std.proofs.lemmas.List.{take_all, take_more, append-nil, length-map, get_or_default}
 use Rattle.std.proofs.lemmas.List.Elements.{filter-append}
 use Rattle.map_base.specs.declared.ids.SegId.{SegId}
 use Rattle.order_model.specs.declared.term.Term.{Term}
 use Rattle.order_model.specs.Costs.{seg_of, other_of}
 use Rattle.order_model.specs.Parts.{IsRisingPart}
+use Rattle.order_model.specs.Places.{tables_of}
 use Rattle.order_model.specs.PartTerms.{is_in, no_term, no_numbers, with_number}
 use Rattle.dual_bound.proofs.Segments.{AreApart, part_apart, same_seg}
 use Rattle.dual_shares.specs.Groups.{is_on, numbers_on}
@@ -124,3 +131,91 @@ groups_more terms numbers i n part below is = each part
 pub groups_none : (terms : List Term) (numbers : List ℕ) (part : List SegId) → no_numbers (length part) ≡ map (numbers_on terms (take 0 numbers)) part
 groups_none terms numbers [] = refl
 groups_none terms numbers (s ∷ part) = ap (λ r. [] ∷ r) (groups_none terms numbers part)
+
+-- as the code has it, with the place of each end
+pub place_within : (part : List SegId) (s : SegId) (place : Option ℕ) (n : ℕ) → n ≡ length part → IsPlaceInPart part s place → IfSome place (λ k. k < n)
+place_within part s None n e h = tt
+place_within part s (Some k) n e h = let below = h.0 in omega (arith, below, e)
+
+pub other_within : (part : List SegId) (s t : SegId) (place : Option ℕ) (n : ℕ) → n ≡ length part → (t.0 ≡ s.0 → place ≡ None) → (t.0 ≢ s.0 → IsPlaceInPart part t place) → IfSome place (λ k. k < n)
+other_within part s t place n e one two = elim (cases_eq t.0 s.0) [
+  | inl same ↦ subst (λ o. IfSome o (λ k. k < n)) (sym (one same)) tt
+  | inr apart ↦ place_within part t place n e (two apart)
+]
+
+pub term_added : (t : Term) (n : ℕ) (part : List SegId) (lists between new : List (List ℕ)) (place other_place : Option ℕ) (seg other : SegId) → seg ≡ seg_of t → other ≡ other_of t → IsRisingPart part
+    → length lists ≡ length part → IsPlaceInPart part seg place → (other.0 ≡ seg.0 → other_place ≡ None) → (other.0 ≢ seg.0 → IsPlaceInPart part other other_place)
+    → between ≡ with_number_at place n lists → new ≡ with_number_at other_place n between → new ≡ with_term part t n lists
+term_added t n part lists between new place other_place seg other e f rising each at one two first second = elim (cases_eq other.0 seg.0) [
+  | inl same ↦
+      second
+      ∙ (ap (λ o. with_number_at o n between) (one same)
+      ∙ (between_is ∙ one_end t n part lists (sym (ap (λ (u : SegId). u.0) f) ∙ (same ∙ ap (λ (u : SegId). u.0) e))))
+  | inr apart ↦
+      second
+      ∙ (at_place other n part between other_place (ap length between_is ∙ length_where (is_seg (seg_of t)) n part lists each) rising (two apart)
+      ∙ (ap (λ l. with_number_where (is_seg other) n part l) between_is
+      ∙ (ap (λ (u : SegId). with_number_where (is_seg u) n part (with_number_where (is_seg (seg_of t)) n part lists)) f
+      ∙ two_ends t n part lists (λ same. absurd (apart (ap (λ (u : SegId). u.0) f ∙ (same ∙ sym (ap (λ (u : SegId). u.0) e))))))))
+]
+  where
+    between_is : between ≡ with_number_where (is_seg (seg_of t)) n part lists
+    between_is = first ∙ (at_place seg n part lists place each rising at ∙ ap (λ (u : SegId). with_number_where (is_seg u) n part lists) e)
+
+abbrev pub items_of : Vec ℕ Global → List ℕ
+items_of v = v.items
+
+-- there is a list for each segment
+pub lists_each : (terms : List Term) (numbers : List ℕ) (part : List SegId) (groups : List (Vec ℕ Global)) → tables_of groups ≡ map (numbers_on terms numbers) part → length groups ≡ length part
+lists_each terms numbers part groups is = sym (length-map groups items_of) ∙ (ap length is ∙ length-map part (numbers_on terms numbers))
+
+-- all terms
+pub groups_whole : (terms : List Term) (numbers : List ℕ) (i : ℕ) (part : List SegId) → length numbers ≤ i → map (numbers_on terms (take i numbers)) part ≡ map (numbers_on terms numbers) part
+groups_whole terms numbers i part over = ap (λ l. map (numbers_on terms l) part) (take_all i numbers over)
+
+-- A search in a part.
+
+pub places_rise : (part : List SegId) (i j : ℕ) (d : SegId) → IsRisingPart part → i < j → j < length part → (get_or part i d).0 < (get_or part j d).0
+places_rise [] i j d h below within = absurd (omega (arith, within))
+places_rise (s ∷ []) i j d h below within = absurd (omega (arith, below, within))
+places_rise (s ∷ t ∷ part) i zero d h below within = absurd (omega (arith, below))
+places_rise (s ∷ t ∷ part) zero (suc zero) d h below within = h.0
+places_rise (s ∷ t ∷ part) zero (suc (suc j)) d h below within =
+    let rest = places_rise (t ∷ part) zero (suc j) d h.1 (omega arith) (omega (arith, within)) in let first = h.0 in omega (arith, rest, first)
+places_rise (s ∷ t ∷ part) (suc i) (suc j) d h below within = places_rise (t ∷ part) i j d h.1 (omega (arith, below)) (omega (arith, within))
+
+comparisons_rise : (part : List SegId) (s : SegId) → IsRisingPart part → IsNonDecreasingBy (λ (t : SegId). ordering_index (nat_cmp t.0 s.0)) part
+comparisons_rise part s rising i j d under within = by_number (get_or part i d).0 (get_or part j d).0 s.0 (elim (cases_lt i j) [
+  | inl less ↦ (let rise = places_rise part i j d rising less within in omega (arith, rise))
+  | inr over ↦ (let same = ap (λ k. (get_or part k d).0) {x = i} {y = j} (omega (arith, under, over)) in omega (arith, same))
+])
+  where
+    by_number : (a b q : ℕ) → a ≤ b → ordering_index (nat_cmp a q) ≤ ordering_index (nat_cmp b q)
+    by_number a b q l = grind (arith, nat_tests)
+
+pub found_in_part : (part : List SegId) (s : SegId) (k : ℕ) → k < length part → HoldsAt (λ (t : SegId). nat_cmp t.0 s.0 ≡ Equal) part k → IsPlaceInPart part s (Some k)
+found_in_part part s k below here = (below, same_seg (get_or part k s) s (eq-eqb (get_or part k s).0 s.0 (level (get_or part k s).0 s.0 (here s))))
+  where
+    level : (a q : ℕ) → nat_cmp a q ≡ Equal → a ≡ q
+    level a q h = grind (arith, nat_tests)
+
+none_in_part : (part : List SegId) (s : SegId) → ((i : ℕ) → i < length part → (get_or part i s).0 ≢ s.0) → is_in part s ≡ false
+none_in_part [] s h = refl
+none_in_part (t ∷ part) s h = ap (λ b. b || is_in part s) (ne_eqb t.0 s.0 (h 0 (omega arith))) ∙ none_in_part part s (λ i below. h (suc i) (omega (arith, below)))
+
+pub missing_in_part : (part : List SegId) (s : SegId) (at : ℕ) → IsRisingPart part
+    → (IsNonDecreasingBy (λ (t : SegId). ordering_index (nat_cmp t.0 s.0)) part → IsPartitionPoint (λ (t : SegId). nat_cmp t.0 s.0 ≡ Less) (λ (t : SegId). nat_cmp t.0 s.0 ≡ Greater) part at) → is_in part s ≡ false
+missing_in_part part s at rising found = none_in_part part s (λ i below here. elim (cases_lt i at) [
+  | inl under ↦ absurd (low (get_or part i s).0 s.0 ((found (comparisons_rise part s rising)).0 i s (omega arith) under) here)
+  | inr over ↦ absurd (high (get_or part i s).0 s.0 ((found (comparisons_rise part s rising)).1 i s over below) here)
+])
+  where
+    low : (a q : ℕ) → nat_cmp a q ≡ Less → a ≡ q → ⊥
+    low a q h e = grind (arith, nat_tests)
+
+    high : (a q : ℕ) → nat_cmp a q ≡ Greater → a ≡ q → ⊥
+    high a q h e = grind (arith, nat_tests)
+
+-- a term, as it is read
+pub term_read : (read terms : List Term) (n : ℕ) (d : Term) → read ≡ terms → n < length terms → get_or read n d ≡ get_or terms n no_term
+term_read read terms n d same below = ap (λ l. get_or l n d) same ∙ get_or_default terms n d no_term below

@@ -3,5 +3,5 @@ pub mod Adding
 pub mod Ahead
 pub mod Grouping
 pub mod Telling
-mod Terms
+pub mod Terms
 mod Writing

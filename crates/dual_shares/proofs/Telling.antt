@@ -1,24 +1,21 @@
 -- Rows and sets of one segment tell its least share.
-use Rattle.std.proofs.Common.{◌≡◌, ◌≢◌, ℕ, zero, suc, ◌+◌, ◌*◌, ◌^◌, ◌<◌, ◌≤◌, ◌==◌, ◌&&◌, Bool, true, false, cond, List, [], ◌∷◌, ◌++◌, length, map, filter, take, get_or, refl, sym, ◌∙◌, ap, subst, arith, ◌⊎◌, inl, inr, Option}
-use Rattle.std.specs.Prelude.{ℤ, pos, ◌+ℤ◌, ◌-ℤ◌, unsigned_abs, slice_index, slice_index_or}
-use Rattle.std.specs.Int.{bit_at}
+use Rattle.std.proofs.Common.{◌≡◌, ℕ, ◌+◌, ◌*◌, ◌<◌, ◌≤◌, ◌&&◌, true, List, [], ◌∷◌, ◌++◌, length, take, get_or, refl, sym, ◌∙◌, ap, subst, arith, ◌⊎◌, inl, inr}
+use Rattle.std.specs.Prelude.{ℤ, pos, ◌+ℤ◌, unsigned_abs}
 use Rattle.std.specs.List.{All, AllByRecursion, list_all}
 use Rattle.std.proofs.lemmas.Bool.{cases_lt}
 use Rattle.std.proofs.lemmas.Int.{ints}
 use Rattle.std.proofs.lemmas.List.{get_or-take, map_more, get_or_past, length-take}
-use Rattle.std.proofs.lemmas.List.Elements.{All-head, All-tail}
 use Rattle.map_base.specs.declared.ids.SegId.{SegId}
 use Rattle.map_base.specs.declared.ids.LineId.{LineId}
 use Rattle.graph_core.specs.Consistent.{AreRising}
 use Rattle.order_model.specs.declared.term.Term.{Term}
 use Rattle.order_model.specs.Problems.{lines_on, IsTerm}
-use Rattle.order_model.specs.Places.{has_line}
 use Rattle.order_model.specs.PartTerms.{no_term, terms_by_number}
 use Rattle.whole_sums.specs.Sums.{int_sum}
 use Rattle.whole_sums.proofs.Sums.{int_sum-append}
 use Rattle.least_orders.specs.OrderCosts.{PairCosts, summed_costs}
 use Rattle.least_orders.specs.LeastOrders.{least_cost}
-use Rattle.least_orders.specs.Rows.{Rows, line_at, entry, named, is_one_of, row_lines, row_costs, row_pairs, is_ahead, AreRows, TellCosts}
+use Rattle.least_orders.specs.Rows.{Rows, line_at, entry, named, is_one_of, row_lines, row_costs, row_pairs, AreRows, TellCosts}
 use Rattle.least_orders.proofs.Renaming.{least_cost_by_rows}
 use Rattle.dual_bound.specs.declared.settled.SettledPair.{SettledPair}
 use Rattle.dual_bound.specs.Settled.{settled_on}
@@ -26,7 +23,7 @@ use Rattle.dual_bound.specs.ShareCosts.{term_costs, share_costs}
 use Rattle.dual_bound.specs.Values.{least_share}
 use Rattle.dual_bound.proofs.Segments.{rising_at}
 use Rattle.dual_bound.proofs.ShareCosts.{least_share_is_cost}
-use Rattle.dual_shares.specs.Groups.{is_on, numbers_on}
+use Rattle.dual_shares.specs.Groups.{numbers_on}
 use Rattle.dual_shares.specs.RowSteps.{row_entry, TellPairs, AreSmall, HaveAdded}
 use Rattle.dual_shares.specs.SettledSets.{TellAhead}
 use Rattle.dual_shares.proofs.Adding.{off_costs, sum_on}

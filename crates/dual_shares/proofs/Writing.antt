@@ -12,7 +12,7 @@ use Rattle.least_orders.specs.OrderCosts.{PairCosts, order_cost}
 use Rattle.least_orders.specs.Arrangements.{keeps, all_orders, kept_orders}
 use Rattle.least_orders.specs.LeastOrders.{least_cost, least_order}
 use Rattle.least_orders.specs.Rows.{Rows, line_at, named, lines_from, row_lines, row_costs, row_pairs, TellCosts}
-use Rattle.least_orders.proofs.Lists.{Among, each_at, each_among, each_filter}
+use Rattle.least_orders.proofs.Lists.{each_at, each_among, each_filter}
 use Rattle.least_orders.proofs.LeastValues.{least_of_first, first_among}
 use Rattle.least_orders.proofs.Arranging.{order_is_permutation}
 use Rattle.least_orders.proofs.Keeping.{placed_among, among_placed}

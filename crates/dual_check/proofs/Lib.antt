@@ -1,0 +1,9 @@
+mod Walks
+mod Loads
+mod Values
+mod Known
+mod PartSearch
+mod Pairs
+mod Finding
+mod PriceTests
+mod NodeSteps
