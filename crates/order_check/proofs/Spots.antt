@@ -223,8 +223,10 @@ pub same_charges : (segs placed after : List (List LineId)) (s : SegId) (a : Lin
     → charges_by segs after t here there y ≡ charges_by segs placed t here there y
 same_charges segs placed after s a t here there y below is none = by (is_on s.0 t) refl
   where
-    lines before : List LineId
+    lines : List LineId
     lines = lines_on segs s
+
+    before : List LineId
     before = lines_on placed s
 
     by : (b : Bool) → is_on s.0 t ≡ b → charges_by segs after t here there y ≡ charges_by segs placed t here there y
