@@ -10,7 +10,8 @@ use Rattle.map_base.specs.declared.ids.SegId.{SegId}
 use Rattle.map_base.specs.declared.ids.LineId.{LineId}
 use Rattle.order_model.specs.declared.term.Term.{Term}
 use Rattle.order_model.specs.declared.term.Term.TheVariants.{Side, Link, Apart}
-use Rattle.order_model.specs.Problems.{IsTerm}
+use Rattle.order_model.specs.Problems.{lines_on, IsTerm}
+use Rattle.order_model.specs.Prefixes.{with_line}
 use Rattle.order_model.specs.Costs.{same_answer}
 use Rattle.order_bound.specs.Decided.{decided_cost, decided_sum}
 use Rattle.whole_sums.specs.Sums.{int_sum}
@@ -20,11 +21,14 @@ use Rattle.order_check.specs.declared.slot.SlotCost.{SlotCost}
 use Rattle.order_check.specs.declared.slot.Charge.{Charge}
 use Rattle.order_check.specs.declared.slot.Charges.{Charges}
 use Rattle.order_check.specs.declared.asked.Asked.{Asked}
+use Rattle.order_check.specs.declared.spot.Spot.{Spot}
 use Rattle.order_check.specs.Asking.{IsAsked}
 use Rattle.order_check.specs.Slots.{plain_term, cost_at, charge_on}
 use Rattle.order_check.specs.Charges.{charges_by}
 use Rattle.order_check.specs.Charging.{no_part_term, AreTerms}
-use Rattle.order_check.specs.Counting.{is_on, counts, added_by, counted_by, beside_by, decided_by, decided_beside, shifted, turned, AreSmallCosts, IsTally, IsTallyBeside}
+use Rattle.order_check.specs.Spots.{counts, spot_on}
+use Rattle.order_check.specs.Counting.{added_by, counted_by, beside_by, decided_by, decided_beside, shifted, turned, AreSmallCosts, IsTally, IsTallyBeside}
+use Rattle.order_check.proofs.Spots.{same_charges}
 use Rattle.order_check.proofs.SignedSums.{abs_sum, sum_more}
 use Rattle.order_check.proofs.Charging.{small_charges, decided_is}
 use Rattle.order_check.proofs.Closing.{table_fits, table_few}
@@ -58,14 +62,14 @@ turned_small true c h = omega (arith, ints, h)
 
 -- What a term adds is small.
 
-pub counted_if : (which : Option SegId) (segs placed : List (List LineId)) (k : ℕ) (x : Bool) (t : PartTerm) → IsTerm segs t.term → unsigned_abs (counted_by which segs placed k x t) ≤ 256000
+pub counted_if : (which : Option Spot) (segs placed : List (List LineId)) (k : ℕ) (x : Bool) (t : PartTerm) → IsTerm segs t.term → unsigned_abs (counted_by which segs placed k x t) ≤ 256000
 counted_if which segs placed k x t fits = by_test (counts which t.term)
   where
     by_test : (b : Bool) → unsigned_abs (cond b (added_by segs placed k x t) (pos 0)) ≤ 256000
     by_test true = (small_charges segs placed t.term t.here t.there (pos 0) fits (omega (arith, ints))).both k x
     by_test false = omega (arith, ints)
 
-beside_if : (which : Option SegId) (segs placed : List (List LineId)) (k : ℕ) (x : Bool) (t : PartTerm) → IsTerm segs t.term → unsigned_abs (beside_by which segs placed k x t) ≤ 256000
+beside_if : (which : Option Spot) (segs placed : List (List LineId)) (k : ℕ) (x : Bool) (t : PartTerm) → IsTerm segs t.term → unsigned_abs (beside_by which segs placed k x t) ≤ 256000
 beside_if which segs placed k x t fits = by_test (counts which t.term)
   where
     by_test : (b : Bool) → unsigned_abs (cond b (pos 0) (added_by segs placed k x t)) ≤ 256000
@@ -93,7 +97,7 @@ whole_small f xs d small few =
 
 -- All terms are those that count and the others.
 
-parted : (which : Option SegId) (segs placed : List (List LineId)) (k : ℕ) (x : Bool) (t : PartTerm)
+parted : (which : Option Spot) (segs placed : List (List LineId)) (k : ℕ) (x : Bool) (t : PartTerm)
     → added_by segs placed k x t ≡ beside_by which segs placed k x t +ℤ counted_by which segs placed k x t
 parted which segs placed k x t = by_test (counts which t.term)
   where
@@ -101,13 +105,13 @@ parted which segs placed k x t = by_test (counts which t.term)
     by_test true = omega (arith, ints)
     by_test false = omega (arith, ints)
 
-sums_parted : (which : Option SegId) (segs placed : List (List LineId)) (table : List PartTerm) (k : ℕ) (x : Bool)
+sums_parted : (which : Option Spot) (segs placed : List (List LineId)) (table : List PartTerm) (k : ℕ) (x : Bool)
     → int_sum (added_by segs placed k x) table ≡ int_sum (beside_by which segs placed k x) table +ℤ int_sum (counted_by which segs placed k x) table
 sums_parted which segs placed table k x =
     int_sum_equal (added_by segs placed k x) (λ t. beside_by which segs placed k x t +ℤ counted_by which segs placed k x t) table (parted which segs placed k x)
     ∙ int_sum_both (beside_by which segs placed k x) (counted_by which segs placed k x) table
 
-decided_parted : (which : Option SegId) (segs placed : List (List LineId)) (t : PartTerm)
+decided_parted : (which : Option Spot) (segs placed : List (List LineId)) (t : PartTerm)
     → pos (decided_cost segs placed t.term) ≡ pos (decided_beside which segs placed t) +ℤ pos (decided_by which segs placed t)
 decided_parted which segs placed t = by_test (counts which t.term)
   where
@@ -122,7 +126,7 @@ decided_table segs placed (t ∷ table) =
     ∙ ap (λ n. decided_cost segs placed t.term + n) (decided_table segs placed table)
     ∙ sym (sum_by-cons (λ (u : PartTerm). decided_cost segs placed u.term) t table)
 
-pub decided_parts : (which : Option SegId) (segs placed : List (List LineId)) (table : List PartTerm)
+pub decided_parts : (which : Option Spot) (segs placed : List (List LineId)) (table : List PartTerm)
     → decided_sum segs placed (map plain_term table) ≡ sum_by (decided_beside which segs placed) table + sum_by (decided_by which segs placed) table
 decided_parts which segs placed table =
     let f : PartTerm → ℕ = λ t. decided_cost segs placed t.term in
@@ -142,7 +146,7 @@ tally_small asked placed sum costs ok tally k x below =
     (get_or asked.table.now.terms.items j no_part_term).there (pos 0) (table_fits asked ok j no_part_term h) (omega (arith, ints))).both k x)
     (table_few asked ok))
 
-pub beside_small : (which : Option SegId) (asked : Asked) (placed : List (List LineId)) (sum : ℕ) (costs : List SlotCost) → IsAsked asked → IsTallyBeside which asked placed sum costs → AreSmallCosts costs
+pub beside_small : (which : Option Spot) (asked : Asked) (placed : List (List LineId)) (sum : ℕ) (costs : List SlotCost) → IsAsked asked → IsTallyBeside which asked placed sum costs → AreSmallCosts costs
 beside_small which asked placed sum costs ok tally k x below =
     rw (tally.slots k below x)
     (whole_small (beside_by which asked.problem.now.segs placed k x) asked.table.now.terms.items no_part_term
@@ -152,11 +156,11 @@ beside_small which asked placed sum costs ok tally k x below =
 -- Terms are taken off or put on.
 
 -- what counting does to a table
-abbrev pub AreShifted : Option SegId → Asked → List (List LineId) → Bool → List SlotCost → List SlotCost → Type 0
+abbrev pub AreShifted : Option Spot → Asked → List (List LineId) → Bool → List SlotCost → List SlotCost → Type 0
 AreShifted which asked placed off old new = (k : ℕ) → k < length old → (x : Bool)
     → cost_at new k x ≡ shifted off (cost_at old k x) (int_sum (counted_by which asked.problem.now.segs placed k x) asked.table.now.terms.items)
 
-pub taken_off : (which : Option SegId) (asked : Asked) (placed : List (List LineId)) (sum removed left : ℕ) (old new : List SlotCost) → IsTally asked placed sum old → length new ≡ length old
+pub taken_off : (which : Option Spot) (asked : Asked) (placed : List (List LineId)) (sum removed left : ℕ) (old new : List SlotCost) → IsTally asked placed sum old → length new ≡ length old
     → removed ≡ sum_by (decided_by which asked.problem.now.segs placed) asked.table.now.terms.items → AreShifted which asked placed true old new → left ≡ sum - removed
     → IsTallyBeside which asked placed left new
 taken_off which asked placed sum removed left old new tally each count shift is = record {
@@ -169,7 +173,7 @@ taken_off which asked placed sum removed left old new tally each count shift is 
       omega (arith, ints, whole, before, after));
 }
 
-pub put_back : (which : Option SegId) (asked : Asked) (placed : List (List LineId)) (sum added all : ℕ) (old new : List SlotCost) → IsTallyBeside which asked placed sum old → length new ≡ length old
+pub put_back : (which : Option Spot) (asked : Asked) (placed : List (List LineId)) (sum added all : ℕ) (old new : List SlotCost) → IsTallyBeside which asked placed sum old → length new ≡ length old
     → added ≡ sum_by (decided_by which asked.problem.now.segs placed) asked.table.now.terms.items → AreShifted which asked placed false old new → all ≡ sum + added
     → IsTally asked placed all new
 put_back which asked placed sum added all old new tally each count shift is = record {
@@ -197,7 +201,7 @@ none_beside asked placed costs clear = record {
         omega (arith, one, no_sum table)
 
 -- the sum of the decided terms is small
-small_part : (which : Option SegId) (segs placed : List (List LineId)) (t : PartTerm) → IsTerm segs t.term → decided_by which segs placed t ≤ 256000
+small_part : (which : Option Spot) (segs placed : List (List LineId)) (t : PartTerm) → IsTerm segs t.term → decided_by which segs placed t ≤ 256000
 small_part which segs placed t fits = by_test (counts which t.term)
   where
     one : decided_cost segs placed t.term ≤ 256000
@@ -217,7 +221,7 @@ small_decided_sum segs placed table fits few =
 pub tally_decided : (asked : Asked) (placed : List (List LineId)) (sum : ℕ) (costs : List SlotCost) → IsAsked asked → IsTally asked placed sum costs → sum ≤ 1024000000000
 tally_decided asked placed sum costs ok tally = omega (arith, tally.decided, small_decided_sum asked.problem.now.segs placed asked.table.now.terms.items (table_fits asked ok) (table_few asked ok))
 
-pub beside_decided : (which : Option SegId) (asked : Asked) (placed : List (List LineId)) (sum : ℕ) (costs : List SlotCost) → IsAsked asked → IsTallyBeside which asked placed sum costs → sum ≤ 1024000000000
+pub beside_decided : (which : Option Spot) (asked : Asked) (placed : List (List LineId)) (sum : ℕ) (costs : List SlotCost) → IsAsked asked → IsTallyBeside which asked placed sum costs → sum ≤ 1024000000000
 beside_decided which asked placed sum costs ok tally =
     omega (
       arith,
@@ -228,68 +232,59 @@ beside_decided which asked placed sum costs ok tally =
 
 -- Lines are placed on one segment.
 
-or_false : (a b : Bool) → (a || b) ≡ false → (a ≡ false) × (b ≡ false)
-or_false true b h = absurd (true≢false h)
-or_false false b h = (refl, h)
-
-apart : (a b : ℕ) (more : Bool) → ((a == b) || more) ≡ false → a ≢ b
-apart a b more h = eqb-false a b (or_false (a == b) more h).0
-
-apart_too : (a b c : ℕ) → ((a == c) || (b == c)) ≡ false → b ≢ c
-apart_too a b c h = eqb-false b c (or_false (a == c) (b == c) h).1
-
-elsewhere : (segs placed : List (List LineId)) (s : ℕ) (v : List LineId) (t : Term) (here there : ℕ) (y : ℤ) → is_on s t ≡ false → charges_by segs (set placed s v) t here there y ≡ charges_by segs placed t here there y
-elsewhere segs placed s v (Side seg first second w) here there y h = rw (get_or-set_other placed s seg.0 v [] (apart seg.0 s (seg.0 == s) h)) refl
-elsewhere segs placed s v (Link seg other flip a b w) here there y h =
-    rw (get_or-set_other placed s seg.0 v [] (apart seg.0 s (other.0 == s) h), get_or-set_other placed s other.0 v [] (apart_too seg.0 other.0 s h)) refl
-elsewhere segs placed s v (Apart seg other a b w) here there y h =
-    rw (get_or-set_other placed s seg.0 v [] (apart seg.0 s (other.0 == s) h), get_or-set_other placed s other.0 v [] (apart_too seg.0 other.0 s h)) refl
-
-beside_same : (segs placed : List (List LineId)) (s : SegId) (v : List LineId) (k : ℕ) (x : Bool) (t : PartTerm)
-    → beside_by (Some s) segs placed k x t ≡ beside_by (Some s) segs (set placed s.0 v) k x t
-beside_same segs placed s v k x t = by_test (is_on s.0 t.term) refl
+-- what is not at the spot of a line adds and costs the same once the line is placed
+beside_same : (segs placed after : List (List LineId)) (s : SegId) (a : LineId) (k : ℕ) (x : Bool) (t : PartTerm) → s.0 < length placed
+    → after ≡ set placed s.0 (with_line (lines_on segs s) (lines_on placed s) a)
+    → beside_by (Some (spot_on segs placed s a)) segs placed k x t ≡ beside_by (Some (spot_on segs placed s a)) segs after k x t
+beside_same segs placed after s a k x t below is = by_test (counts (Some (spot_on segs placed s a)) t.term) refl
   where
-    by_test : (b : Bool) → is_on s.0 t.term ≡ b → cond b (pos 0) (added_by segs placed k x t) ≡ cond b (pos 0) (added_by segs (set placed s.0 v) k x t)
+    by_test : (b : Bool) → counts (Some (spot_on segs placed s a)) t.term ≡ b → cond b (pos 0) (added_by segs placed k x t) ≡ cond b (pos 0) (added_by segs after k x t)
     by_test true e = refl
-    by_test false e = ap (λ (c : Charges). charge_on c.here k x +ℤ charge_on c.there k x) (sym (elsewhere segs placed s.0 v t.term t.here t.there (pos 0) e))
+    by_test false e = ap (λ (c : Charges). charge_on c.here k x +ℤ charge_on c.there k x) (sym (same_charges segs placed after s a t.term t.here t.there (pos 0) below is e))
 
-decided_same : (segs placed : List (List LineId)) (s : SegId) (v : List LineId) (t : PartTerm)
-    → decided_beside (Some s) segs placed t ≡ decided_beside (Some s) segs (set placed s.0 v) t
-decided_same segs placed s v t = by_test (is_on s.0 t.term) refl
+decided_same : (segs placed after : List (List LineId)) (s : SegId) (a : LineId) (t : PartTerm) → s.0 < length placed
+    → after ≡ set placed s.0 (with_line (lines_on segs s) (lines_on placed s) a)
+    → decided_beside (Some (spot_on segs placed s a)) segs placed t ≡ decided_beside (Some (spot_on segs placed s a)) segs after t
+decided_same segs placed after s a t below is = by_test (counts (Some (spot_on segs placed s a)) t.term) refl
   where
-    by_test : (b : Bool) → is_on s.0 t.term ≡ b → cond b 0 (decided_cost segs placed t.term) ≡ cond b 0 (decided_cost segs (set placed s.0 v) t.term)
+    by_test : (b : Bool) → counts (Some (spot_on segs placed s a)) t.term ≡ b → cond b 0 (decided_cost segs placed t.term) ≡ cond b 0 (decided_cost segs after t.term)
     by_test true e = refl
     by_test false e =
-        sym (decided_is segs placed t.term t.here t.there (pos 0)) ∙ ap (λ (c : Charges). c.decided) (sym (elsewhere segs placed s.0 v t.term t.here t.there (pos 0) e))
-        ∙ decided_is segs (set placed s.0 v) t.term t.here t.there (pos 0)
+        sym (decided_is segs placed t.term t.here t.there (pos 0)) ∙ ap (λ (c : Charges). c.decided) (sym (same_charges segs placed after s a t.term t.here t.there (pos 0) below is e))
+        ∙ decided_is segs after t.term t.here t.there (pos 0)
 
 sums_equal : {A : Type 0} (f g : A → ℕ) (xs : List A) → ((x : A) → f x ≡ g x) → sum_by f xs ≡ sum_by g xs
 sums_equal f g [] h = refl
 sums_equal f g (x ∷ xs) h = sum_by-cons f x xs ∙ ap (λ n. n + sum_by f xs) (h x) ∙ ap (λ n. g x + n) (sums_equal f g xs h) ∙ sym (sum_by-cons g x xs)
 
--- the tally beside a segment stays where lines are placed on it or taken back
-pub beside_stays : (s : SegId) (asked : Asked) (placed after : List (List LineId)) (v : List LineId) (sum : ℕ) (costs : List SlotCost) → after ≡ set placed s.0 v
-    → IsTallyBeside (Some s) asked placed sum costs → IsTallyBeside (Some s) asked after sum costs
-beside_stays s asked placed after v sum costs is tally = rw is (record {
-  decided = tally.decided ∙ sums_equal (decided_beside (Some s) asked.problem.now.segs placed) (decided_beside (Some s) asked.problem.now.segs (set placed s.0 v)) asked.table.now.terms.items
-      (decided_same asked.problem.now.segs placed s v);
-  slots = λ k below x. tally.slots k below x
-      ∙ int_sum_equal (beside_by (Some s) asked.problem.now.segs placed k x) (beside_by (Some s) asked.problem.now.segs (set placed s.0 v) k x) asked.table.now.terms.items
-      (beside_same asked.problem.now.segs placed s v k x);
-})
+-- the tally beside a spot stays where its line is placed
+pub beside_placed : (s : SegId) (a : LineId) (asked : Asked) (placed after : List (List LineId)) (sum : ℕ) (costs : List SlotCost) → s.0 < length placed
+    → after ≡ set placed s.0 (with_line (lines_on asked.problem.now.segs s) (lines_on placed s) a)
+    → IsTallyBeside (Some (spot_on asked.problem.now.segs placed s a)) asked placed sum costs → IsTallyBeside (Some (spot_on asked.problem.now.segs placed s a)) asked after sum costs
+beside_placed s a asked placed after sum costs below is tally =
+    let segs : List (List LineId) = asked.problem.now.segs in
+    let spot : Option Spot = Some (spot_on segs placed s a) in record {
+      decided = tally.decided ∙ sums_equal (decided_beside spot segs placed) (decided_beside spot segs after) asked.table.now.terms.items (λ t. decided_same segs placed after s a t below is);
+      slots = λ k under x. tally.slots k under x
+          ∙ int_sum_equal (beside_by spot segs placed k x) (beside_by spot segs after k x) asked.table.now.terms.items (λ t. beside_same segs placed after s a k x t below is);
+    }
 
--- after a case: its line is taken back
-pub case_tally : (s : SegId) (asked : Asked) (before walked after : List (List LineId)) (v : List LineId) (sum left : ℕ) (first costs : List SlotCost)
-    → IsTallyBeside (Some s) asked before sum first → IsTallyBeside (Some s) asked walked left costs → after ≡ set walked s.0 v → after ≡ before → IsTallyBeside (Some s) asked after sum costs
-case_tally s asked before walked after v sum left first costs tally off is restored = record {
-  decided = subst (λ (p : List (List LineId)). sum ≡ sum_by (decided_beside (Some s) asked.problem.now.segs p) asked.table.now.terms.items) (sym restored) tally.decided;
-  slots = (beside_stays s asked walked after v left costs is off).slots;
-}
+-- and where it is taken back
+pub beside_back : (s : SegId) (a : LineId) (asked : Asked) (placed after : List (List LineId)) (sum : ℕ) (costs : List SlotCost) → s.0 < length placed
+    → after ≡ set placed s.0 (with_line (lines_on asked.problem.now.segs s) (lines_on placed s) a)
+    → IsTallyBeside (Some (spot_on asked.problem.now.segs placed s a)) asked after sum costs → IsTallyBeside (Some (spot_on asked.problem.now.segs placed s a)) asked placed sum costs
+beside_back s a asked placed after sum costs below is tally =
+    let segs : List (List LineId) = asked.problem.now.segs in
+    let spot : Option Spot = Some (spot_on segs placed s a) in record {
+      decided = tally.decided ∙ sym (sums_equal (decided_beside spot segs placed) (decided_beside spot segs after) asked.table.now.terms.items (λ t. decided_same segs placed after s a t below is));
+      slots = λ k under x. tally.slots k under x
+          ∙ sym (int_sum_equal (beside_by spot segs placed k x) (beside_by spot segs after k x) asked.table.now.terms.items (λ t. beside_same segs placed after s a k x t below is));
+    }
 
--- after a Split: its terms are put on again
-pub split_tally : (asked : Asked) (before after : List (List LineId)) (sum all : ℕ) (first costs : List SlotCost) → IsTally asked before sum first → IsTally asked after all costs → after ≡ before
+-- after a case the sum of the decided terms is what it was
+pub case_tally : (asked : Asked) (before after : List (List LineId)) (sum all : ℕ) (first costs : List SlotCost) → IsTally asked before sum first → IsTally asked after all costs → after ≡ before
     → IsTally asked after sum costs
-split_tally asked before after sum all first costs tally on restored = record {
+case_tally asked before after sum all first costs tally on restored = record {
   decided = subst (λ (p : List (List LineId)). sum ≡ decided_sum asked.problem.now.segs p (map plain_term asked.table.now.terms.items)) (sym restored) tally.decided;
   slots = on.slots;
 }

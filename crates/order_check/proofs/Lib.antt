@@ -7,6 +7,7 @@ pub mod Charging
 pub mod PriceLemmas
 pub mod RuleTurns
 mod Closing
+mod Spots
 mod Counting
 mod Pricing
 mod Nodes

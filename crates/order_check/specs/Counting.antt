@@ -13,16 +13,9 @@ use Rattle.order_check.specs.declared.slot.Charge.{Charge}
 use Rattle.order_check.specs.declared.slot.Charges.{Charges}
 use Rattle.order_check.specs.declared.asked.Asked.{Asked}
 use Rattle.order_check.specs.Slots.{plain_term, cost_at, charge_on}
+use Rattle.order_check.specs.declared.spot.Spot.{Spot}
 use Rattle.order_check.specs.Charges.{charges_by}
-
--- the term is on the segment
-abbrev pub is_on : ℕ → Term → Bool
-is_on s t = (seg_of t).0 == s || (other_of t).0 == s
-
--- the terms on a segment count, or where none is named all
-abbrev pub counts : Option SegId → Term → Bool
-counts None t = true
-counts (Some s) t = is_on s.0 t
+use Rattle.order_check.specs.Spots.{counts}
 
 -- what a term adds to a slot by an order of its lines, with no price
 abbrev pub added_by : List (List LineId) → List (List LineId) → ℕ → Bool → PartTerm → ℤ
@@ -30,17 +23,17 @@ added_by segs placed k x t =
     let c : Charges = charges_by segs placed t.term t.here t.there (pos 0) in charge_on c.here k x +ℤ charge_on c.there k x
 
 -- the same of those that count, and of the others
-abbrev pub counted_by : Option SegId → List (List LineId) → List (List LineId) → ℕ → Bool → PartTerm → ℤ
+abbrev pub counted_by : Option Spot → List (List LineId) → List (List LineId) → ℕ → Bool → PartTerm → ℤ
 counted_by which segs placed k x t = if counts which t.term then added_by segs placed k x t else pos 0
 
-abbrev pub beside_by : Option SegId → List (List LineId) → List (List LineId) → ℕ → Bool → PartTerm → ℤ
+abbrev pub beside_by : Option Spot → List (List LineId) → List (List LineId) → ℕ → Bool → PartTerm → ℤ
 beside_by which segs placed k x t = if counts which t.term then pos 0 else added_by segs placed k x t
 
 -- what a term costs where it is decided: of those that count, and of the others
-abbrev pub decided_by : Option SegId → List (List LineId) → List (List LineId) → PartTerm → ℕ
+abbrev pub decided_by : Option Spot → List (List LineId) → List (List LineId) → PartTerm → ℕ
 decided_by which segs placed t = if counts which t.term then decided_cost segs placed t.term else 0
 
-abbrev pub decided_beside : Option SegId → List (List LineId) → List (List LineId) → PartTerm → ℕ
+abbrev pub decided_beside : Option Spot → List (List LineId) → List (List LineId) → PartTerm → ℕ
 decided_beside which segs placed t = if counts which t.term then 0 else decided_cost segs placed t.term
 
 -- a number less another, or more
@@ -63,7 +56,7 @@ pub record IsTally (asked : Asked) (placed : List (List LineId)) (sum : ℕ) (co
   pub slots : (k : ℕ) → k < length costs → (x : Bool) → cost_at costs k x ≡ int_sum (added_by asked.problem.now.segs placed k x) asked.table.now.terms.items
 
 -- the same of the terms that do not count
-pub record IsTallyBeside (which : Option SegId) (asked : Asked) (placed : List (List LineId)) (sum : ℕ) (costs : List SlotCost) : Type 0 where
+pub record IsTallyBeside (which : Option Spot) (asked : Asked) (placed : List (List LineId)) (sum : ℕ) (costs : List SlotCost) : Type 0 where
   pub decided : sum ≡ sum_by (decided_beside which asked.problem.now.segs placed) asked.table.now.terms.items
   pub slots : (k : ℕ) → k < length costs → (x : Bool)
       → cost_at costs k x ≡ int_sum (beside_by which asked.problem.now.segs placed k x) asked.table.now.terms.items

@@ -3,6 +3,7 @@ pub mod PartTables
 pub mod Charges
 pub mod Charging
 pub mod Prices
+pub mod Spots
 pub mod Counting
 pub mod Pricing
 pub mod Asking

@@ -15,6 +15,7 @@ mod refusal;
 mod rules;
 mod slot;
 mod slot_costs;
+mod spot;
 mod tally;
 mod term_prices;
 mod total;

@@ -8,12 +8,12 @@ ghost use Rattle.order_bound.specs.Values.{least_answer};
 ghost use Rattle.whole_sums.specs.Sums.{int_sum};
 ghost use Rattle.order_check.specs.Slots.{cost_in, cost_at, charge_on};
 ghost use Rattle.order_check.specs.Charging.{AreTerms};
-ghost use Rattle.order_check.specs.Counting.{is_on, counts, counted_by, decided_by, shifted, turned, AreSmallCosts};
+ghost use Rattle.order_check.specs.Counting.{counted_by, decided_by, shifted, turned, AreSmallCosts};
 
 use crate::charges::charges;
 use crate::slot::{Charge, PartTerm, SlotCost};
-use map_base::SegId;
-use order_model::{Prefix, Problem, Term};
+use crate::spot::{Spot, counts};
+use order_model::{Prefix, Problem};
 
 /// Adds to the table of slots what the terms that count add for a prefix, with no prices, or takes it off again. Sums those
 /// of them that are decided.
@@ -21,7 +21,7 @@ pub(crate) fn count(
     problem: &Problem,
     prefix: &Prefix,
     terms: &[PartTerm],
-    which: Option<SegId>,
+    which: Option<Spot>,
     costs: &mut [SlotCost],
     off: bool,
 ) -> u64
@@ -46,7 +46,7 @@ fn count_term(
     problem: &Problem,
     prefix: &Prefix,
     t: PartTerm,
-    which: Option<SegId>,
+    which: Option<Spot>,
     costs: &mut [SlotCost],
     off: bool,
 ) -> u64
@@ -65,28 +65,6 @@ fn count_term(
     add(costs, turned(added.here, off));
     add(costs, turned(added.there, off));
     added.decided
-}
-
-/// Whether a term counts: where a segment is named, it has to be on it.
-fn counts(which: Option<SegId>, term: Term) -> bool
-    ensures { result ≡ counts which term }
-{
-    match which {
-        None => true,
-        Some(s) => is_on(s, term),
-    }
-}
-
-/// Whether a term is on a segment.
-fn is_on(s: SegId, term: Term) -> bool
-    ensures { result ≡ is_on s.0 term }
-{
-    match term {
-        Term::Side { seg, .. } => seg.0 == s.0,
-        Term::Link { seg, other, .. } | Term::Apart { seg, other, .. } => {
-            seg.0 == s.0 || other.0 == s.0
-        }
-    }
 }
 
 /// A charge, or where it is taken off its contrary.

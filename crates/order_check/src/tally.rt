@@ -9,7 +9,7 @@ ghost use Rattle.order_check.specs.Counting.{IsTally, IsTallyBeside};
 use crate::asked::Asked;
 use crate::slot::SlotCost;
 use crate::slot_costs::{clear, count};
-use map_base::SegId;
+use crate::spot::Spot;
 use order_model::Prefix;
 
 /// The tally of all terms, whatever stood in the table. Answers the sum of the decided ones.
@@ -22,21 +22,21 @@ pub(crate) fn first_tally(asked: &Asked, prefix: &Prefix, costs: &mut [SlotCost]
     put_on(asked, prefix, None, 0, costs)
 }
 
-/// Takes the terms on a segment off the tally of all. Answers the sum of the decided ones that are left.
+/// Takes the terms at a spot off the tally of all. Answers the sum of the decided ones that are left.
 pub(crate) fn take_off(
     asked: &Asked,
     prefix: &Prefix,
-    seg: SegId,
+    spot: Spot,
     decided: u64,
     costs: &mut [SlotCost],
 ) -> u64
     requires asked { IsAsked asked.now }
     requires fits { IsPrefixOf asked.now.problem.now.segs prefix.now }
     requires tally { IsTally asked.now prefix.now.placed decided costs.old }
-    ensures { IsTallyBeside (Some seg) asked.now prefix.now.placed result costs.new }
+    ensures { IsTallyBeside (Some spot) asked.now prefix.now.placed result costs.new }
 {
     let terms = asked.table.terms.as_slice();
-    let removed = count(asked.problem, prefix, terms, Some(seg), costs, true);
+    let removed = count(asked.problem, prefix, terms, Some(spot), costs, true);
     decided - removed
 }
 
@@ -44,7 +44,7 @@ pub(crate) fn take_off(
 pub(crate) fn put_on(
     asked: &Asked,
     prefix: &Prefix,
-    which: Option<SegId>,
+    which: Option<Spot>,
     beside: u64,
     costs: &mut [SlotCost],
 ) -> u64

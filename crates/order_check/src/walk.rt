@@ -1,6 +1,6 @@
 //! The walk over a tree, node by node in the order of the text.
 
-ghost use Rattle.std.specs.Prelude.{◌≡◌, ◌<◌, length, true, false, Contains, IfOk, Some};
+ghost use Rattle.std.specs.Prelude.{◌≡◌, ◌<◌, length, true, false, Contains, IfOk};
 ghost use Rattle.order_model.specs.Problems.{lines_on};
 ghost use Rattle.order_model.specs.Prefixes.{IsPrefixOf, is_placed};
 ghost use Rattle.order_proof.specs.Plain.{split, plain, plain_children};
@@ -9,13 +9,14 @@ ghost use Rattle.order_model.specs.Completions.{placed_more};
 ghost use Rattle.order_bound.specs.Accepting.{after_line, failing};
 ghost use Rattle.order_check.specs.Asking.{question_of, IsAsked, HaveTables};
 ghost use Rattle.order_check.specs.Children.{child_lines};
-ghost use Rattle.order_check.specs.Counting.{IsTally, IsTallyBeside};
+ghost use Rattle.order_check.specs.Counting.{IsTally};
 ghost use Rattle.order_check.specs.Walking.{IsWalked, split_test};
 
 use crate::asked::Asked;
 use crate::close::is_closed;
 use crate::node::is_split;
 use crate::slot::SlotCost;
+use crate::spot::spot_on;
 use crate::tally::{put_on, take_off};
 use map_base::{LineId, NoMemory, SegId};
 use order_model::Prefix;
@@ -60,7 +61,7 @@ pub(crate) fn walk(
     }
 }
 
-/// The same of a Split. The terms on its segment are taken off the tally while its cases are walked.
+/// The same of a Split.
 #[cycle(walk)]
 fn walk_split(
     asked: &Asked,
@@ -85,18 +86,15 @@ fn walk_split(
     if !is_split(asked, prefix, seg, children) {
         return Ok(false);
     }
-    let beside = take_off(asked, prefix, seg, decided, costs);
-    let outcome = walk_cases(asked, prefix, beside, costs, trial, way, seg, children);
-    let _same = put_on(asked, prefix, Some(seg), beside, costs);
-    outcome
+    walk_cases(asked, prefix, decided, costs, trial, way, seg, children)
 }
 
-/// The same of the cases of a Split that holds, over the tally of the terms beside its segment.
+/// The same of the cases of a Split that holds.
 #[cycle(walk)]
 fn walk_cases(
     asked: &Asked,
     prefix: &mut Prefix,
-    beside: u64,
+    decided: u64,
     costs: &mut [SlotCost],
     trial: &mut [SlotCost],
     way: &mut Vec<LineId>,
@@ -107,16 +105,16 @@ fn walk_cases(
     requires fits { IsPrefixOf asked.now.problem.now.segs prefix.old }
     requires tree { IsTree (split seg (plain_children children.now)) }
     requires holds { split_test (question_of asked.now) prefix.old.placed seg (child_lines children.now) ≡ true }
-    requires tally { IsTallyBeside (Some seg) asked.now prefix.old.placed beside costs.old }
+    requires tally { IsTally asked.now prefix.old.placed decided costs.old }
     requires tables { HaveTables asked.now costs.old trial.old }
     ensures fits { IsPrefixOf asked.now.problem.now.segs prefix.new }
     ensures placed { prefix.new.placed ≡ prefix.old.placed }
-    ensures tally { IsTallyBeside (Some seg) asked.now prefix.new.placed beside costs.new }
+    ensures tally { IsTally asked.now prefix.new.placed decided costs.new }
     ensures walked { IfOk result (IsWalked (failing (question_of asked.now) prefix.old.placed (split seg (plain_children children.now))) way.old.items way.new.items) }
 {
     for child in children {
         if !walk_case(
-            asked, prefix, beside, costs, trial, way, seg, child.0, &child.1,
+            asked, prefix, decided, costs, trial, way, seg, child.0, &child.1,
         )? {
             return Ok(false);
         }
@@ -124,12 +122,13 @@ fn walk_cases(
     Ok(true)
 }
 
-/// The same of one case, whose line is placed while its tree is walked.
+/// The same of one case, whose line is placed while its tree is walked. The terms that this may change are taken off the tally,
+/// and put on again once it is placed; and so where it is taken back.
 #[cycle(walk)]
 fn walk_case(
     asked: &Asked,
     prefix: &mut Prefix,
-    beside: u64,
+    decided: u64,
     costs: &mut [SlotCost],
     trial: &mut [SlotCost],
     way: &mut Vec<LineId>,
@@ -143,20 +142,23 @@ fn walk_case(
     requires line { Contains (lines_on asked.now.problem.now.segs seg) line }
     requires unplaced { is_placed (lines_on prefix.old.placed seg) line ≡ false }
     requires tree { IsTree (plain tree.now) }
-    requires tally { IsTallyBeside (Some seg) asked.now prefix.old.placed beside costs.old }
+    requires tally { IsTally asked.now prefix.old.placed decided costs.old }
     requires tables { HaveTables asked.now costs.old trial.old }
     ensures fits { IsPrefixOf asked.now.problem.now.segs prefix.new }
     ensures placed { prefix.new.placed ≡ prefix.old.placed }
-    ensures tally { IsTallyBeside (Some seg) asked.now prefix.new.placed beside costs.new }
+    ensures tally { IsTally asked.now prefix.new.placed decided costs.new }
     ensures walked { IfOk result (IsWalked (after_line line (failing (question_of asked.now)
         (placed_more asked.now.problem.now.segs prefix.old.placed seg line) (plain tree.now))) way.old.items way.new.items) }
 {
     way.push(line)?;
+    let spot = spot_on(asked.problem, prefix, seg, line);
+    let beside = take_off(asked, prefix, spot, decided, costs);
     prefix.place(asked.problem, seg, line);
-    let decided = put_on(asked, prefix, Some(seg), beside, costs);
-    let outcome = walk(asked, prefix, decided, costs, trial, way, tree);
-    let _same = take_off(asked, prefix, seg, decided, costs);
+    let after = put_on(asked, prefix, Some(spot), beside, costs);
+    let outcome = walk(asked, prefix, after, costs, trial, way, tree);
+    let left = take_off(asked, prefix, spot, after, costs);
     prefix.take_back(asked.problem, seg);
+    let _same = put_on(asked, prefix, Some(spot), left, costs);
     if !outcome? {
         return Ok(false);
     }

@@ -7,7 +7,8 @@ use Rattle.order_check.specs.declared.slot.Charge.{Charge}
 use Rattle.order_check.specs.declared.slot.Charges.{Charges}
 use Rattle.order_check.specs.Slots.{cost_at, charge_on}
 use Rattle.order_check.specs.Charges.{charges_by}
-use Rattle.order_check.specs.Counting.{counts, added_by, shifted}
+use Rattle.order_check.specs.Spots.{counts}
+use Rattle.order_check.specs.Counting.{added_by, shifted}
 use Rattle.order_check.proofs.SignedSums.{abs_sum}
 use Rattle.order_check.proofs.Charging.{AreSmallCharges, small_charges, small_charge_on}
 use Rattle.order_check.proofs.Counting.{shifted_more, turned_on, turned_small}

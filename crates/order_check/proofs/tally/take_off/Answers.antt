@@ -25,16 +25,16 @@ overflow_sub-result c =
     let segs : List (List LineId) = c.args.asked.now.problem.now.segs in
     let placed : List (List LineId) = c.args.prefix.now.placed in
     let table : List PartTerm = c.args.asked.now.table.now.terms.items in
-    let count = c.count-removed.ensures.decided ∙ ap (sum_by (decided_by (Some c.args.seg) segs placed)) c.as_slice-terms.ensures.value in
-    omega (arith, count, c.requires.tally.decided, decided_parts (Some c.args.seg) segs placed table)
+    let count = c.count-removed.ensures.decided ∙ ap (sum_by (decided_by (Some c.args.spot) segs placed)) c.as_slice-terms.ensures.value in
+    omega (arith, count, c.requires.tally.decided, decided_parts (Some c.args.spot) segs placed table)
 
 pub returns : goal.returns
 returns c =
     let segs : List (List LineId) = c.args.asked.now.problem.now.segs in
     let placed : List (List LineId) = c.args.prefix.now.placed in
-    let count = c.count-removed.ensures.decided ∙ ap (sum_by (decided_by (Some c.args.seg) segs placed)) c.as_slice-terms.ensures.value in
+    let count = c.count-removed.ensures.decided ∙ ap (sum_by (decided_by (Some c.args.spot) segs placed)) c.as_slice-terms.ensures.value in
     let shift = subst (λ (ts : List PartTerm). (k : ℕ) → k < length c.args.costs.now → (x : Bool)
-    → cost_at c.count-removed.new.costs k x ≡ shifted true (cost_at c.args.costs.now k x) (int_sum (counted_by (Some c.args.seg) segs placed k x) ts))
+    → cost_at c.count-removed.new.costs k x ≡ shifted true (cost_at c.args.costs.now k x) (int_sum (counted_by (Some c.args.spot) segs placed k x) ts))
     c.as_slice-terms.ensures.value c.count-removed.ensures.slots in
-    taken_off (Some c.args.seg) c.args.asked.now placed c.args.decided c.count-removed.result (c.args.decided - c.count-removed.result) c.args.costs.now c.count-removed.new.costs
+    taken_off (Some c.args.spot) c.args.asked.now placed c.args.decided c.count-removed.result (c.args.decided - c.count-removed.result) c.args.costs.now c.count-removed.new.costs
     c.requires.tally c.count-removed.auto.costs count shift refl
