@@ -7,8 +7,11 @@ pub mod Charging
 pub mod PriceLemmas
 pub mod RuleTurns
 mod Closing
-mod Spots
+mod Leasts
+mod Placings
+mod SpotLists
 mod Counting
+mod Tallies
 mod Pricing
 mod Nodes
 mod Walks

@@ -1,104 +1,152 @@
-//! The terms that a placing may change.
+//! The terms of a part by segment and line.
 
-ghost use Rattle.std.specs.Prelude.{◌≡◌, ◌<◌, length};
-ghost use Rattle.order_model.specs.Prefixes.{IsPrefixOf};
-ghost use Rattle.order_check.specs.Spots.{is_on, has_either, counts, spot_on};
+ghost use Rattle.std.specs.Prelude.{◌≡◌, ◌≢◌, ◌<◌, ◌≤◌, ◌++◌, [], ◌∷◌, length, IfSome, OnOk, Option, position, if◌then◌else◌};
+ghost use Rattle.order_check.specs.declared.spot.Spot.{Spot};
+ghost use Rattle.order_check.specs.Spots.{is_at, is_either, is_spot, listed, term_lists, with_term, AreTwo, IsSpotTable};
 
-use map_base::{LineId, SegId};
-use order_model::{Prefix, Problem, Term};
+use crate::slot::PartTerm;
+use indexmap::IndexSet;
+use map_base::{LineId, NoMemory, SegId};
+use order_model::Term;
+use std::alloc::Global;
 
-/// The terms on a segment that the placing of a line there may change: those of the line or of the one that is placed last
-/// before it, or all where few lines are left. No other pair is decided by it, or settled as neighbours.
-#[derive(Clone, Copy, Debug)]
+/// A line on a segment.
+#[derive(Clone, Copy, Debug, PartialEq, Eq, Hash)]
 pub(crate) struct Spot {
     /// The segment.
     pub(crate) seg: SegId,
     /// The line.
     pub(crate) line: LineId,
-    /// The line that is placed last before it; itself where there is none.
-    pub(crate) last: LineId,
-    /// Whether no more than three lines are left.
-    pub(crate) few: bool,
 }
 
-/// The terms that the placing of a line may change.
-pub(crate) fn spot_on(problem: &Problem, prefix: &Prefix, seg: SegId, line: LineId) -> Spot
-    requires fits { IsPrefixOf problem.now.segs prefix.now }
-    requires seg { seg.0 < length problem.now.segs }
-    ensures { result ≡ spot_on problem.now.segs prefix.now.placed seg line }
+/// The terms at each spot, on its segment and of its line, in their order. A spot where there is none isn't listed.
+#[derive(Drop)]
+pub(crate) struct SpotTable {
+    /// The spots.
+    pub(crate) spots: IndexSet<Spot>,
+    /// The terms at each.
+    pub(crate) lists: Vec<Vec<PartTerm>>,
+}
+
+/// A table in which no spot is listed.
+pub(crate) fn no_spots(alloc: Global) -> SpotTable
+    ensures { IsSpotTable [] result.spots.keys (term_lists result.lists.items) }
 {
-    let segs = problem.segs();
-    let lines = segs[seg.0 as usize].as_slice();
-    let placed = prefix.placed(seg);
-    Spot {
-        seg,
-        line,
-        last: last_or(placed, line),
-        few: lines.len() <= placed.len() + 3,
+    SpotTable {
+        spots: IndexSet::new(alloc),
+        lists: Vec::new(alloc),
     }
 }
 
-/// The last of these lines, or another where there is none.
-fn last_or(lines: &[LineId], other: LineId) -> LineId
-    ensures { result ≡ last_or lines.now other }
+/// The place of a spot in the table.
+pub(crate) fn place_of(table: &SpotTable, spot: Spot) -> Option<usize>
+    ensures place { result ≡ position (is_spot spot) table.now.spots.keys }
+    ensures within { IfSome result (λ k. k < length table.now.spots.keys) }
 {
-    if lines.is_empty() {
-        return other;
-    }
-    lines[lines.len() - 1]
+    table.spots.get_index_of(&spot)
 }
 
-/// Whether a term counts: where a spot is named, it has to be there.
-pub(crate) fn counts(which: Option<Spot>, term: Term) -> bool
-    ensures { result ≡ counts which term }
+/// Lists a term at each of its spots.
+pub(crate) fn list_term(alloc: Global, table: &mut SpotTable, t: PartTerm) -> Result<(), NoMemory>
+    requires each { length table.old.lists.items ≡ length table.old.spots.keys }
+    requires two { AreTwo t.term }
+    ensures each { OnOk result (length table.new.lists.items ≡ length table.new.spots.keys) }
+    ensures listed { OnOk result ((u : Spot) → listed table.new.spots.keys (term_lists table.new.lists.items) u
+        ≡ listed table.old.spots.keys (term_lists table.old.lists.items) u ++ (if is_at u t.term then t ∷ [] else [])) }
 {
-    match which {
-        None => true,
-        Some(spot) => is_at(spot, term),
-    }
-}
-
-/// Whether a term is at a spot.
-fn is_at(spot: Spot, term: Term) -> bool
-    ensures { result ≡ counts (Some spot) term }
-{
-    if !is_on(spot.seg, term) {
-        return false;
-    }
-    if spot.few {
-        return true;
-    }
-    has_either(spot.line, spot.last, term)
-}
-
-/// Whether a term is on a segment.
-fn is_on(s: SegId, term: Term) -> bool
-    ensures { result ≡ is_on s.0 term }
-{
-    match term {
-        Term::Side { seg, .. } => seg.0 == s.0,
-        Term::Link { seg, other, .. } | Term::Apart { seg, other, .. } => {
-            seg.0 == s.0 || other.0 == s.0
+    match t.term {
+        Term::Side {
+            seg,
+            first,
+            second,
+            ..
+        } => list_on(alloc, table, seg, first, second, t),
+        Term::Link {
+            seg,
+            other,
+            a,
+            b,
+            ..
         }
+        | Term::Apart {
+            seg,
+            other,
+            a,
+            b,
+            ..
+        } => list_on_both(alloc, table, seg, other, a, b, t),
     }
 }
 
-/// Whether a term has one of two lines.
-fn has_either(line: LineId, last: LineId, term: Term) -> bool
-    ensures { result ≡ has_either line last term }
+/// Lists a term at two lines of two segments.
+fn list_on_both(
+    alloc: Global,
+    table: &mut SpotTable,
+    seg: SegId,
+    other: SegId,
+    a: LineId,
+    b: LineId,
+    t: PartTerm,
+) -> Result<(), NoMemory>
+    requires each { length table.old.lists.items ≡ length table.old.spots.keys }
+    requires differ { a.0 ≢ b.0 }
+    requires apart { seg.0 ≢ other.0 }
+    ensures each { OnOk result (length table.new.lists.items ≡ length table.new.spots.keys) }
+    ensures listed { OnOk result ((u : Spot) → listed table.new.spots.keys (term_lists table.new.lists.items) u
+        ≡ listed table.old.spots.keys (term_lists table.old.lists.items) u
+        ++ (if (seg.0 == u.seg.0 || other.0 == u.seg.0) && is_either a b u.line then t ∷ [] else [])) }
 {
-    match term {
-        Term::Side { first, second, .. } => is_either(line, last, first, second),
-        Term::Link { a, b, .. } | Term::Apart { a, b, .. } => is_either(line, last, a, b),
-    }
+    list_on(alloc, table, seg, a, b, t)?;
+    list_on(alloc, table, other, a, b, t)
 }
 
-/// Whether one of two lines is one of two others.
-fn is_either(line: LineId, last: LineId, a: LineId, b: LineId) -> bool
-    ensures { result ≡ is_either line last a b }
+/// Lists a term at two lines of a segment.
+fn list_on(
+    alloc: Global,
+    table: &mut SpotTable,
+    seg: SegId,
+    a: LineId,
+    b: LineId,
+    t: PartTerm,
+) -> Result<(), NoMemory>
+    requires each { length table.old.lists.items ≡ length table.old.spots.keys }
+    requires differ { a.0 ≢ b.0 }
+    ensures each { OnOk result (length table.new.lists.items ≡ length table.new.spots.keys) }
+    ensures listed { OnOk result ((u : Spot) → listed table.new.spots.keys (term_lists table.new.lists.items) u
+        ≡ listed table.old.spots.keys (term_lists table.old.lists.items) u
+        ++ (if seg.0 == u.seg.0 && is_either a b u.line then t ∷ [] else [])) }
 {
-    if a.0 == line.0 || b.0 == line.0 {
-        return true;
+    list_at(alloc, table, Spot { seg, line: a }, t)?;
+    list_at(alloc, table, Spot { seg, line: b }, t)
+}
+
+/// Lists a term at a spot.
+fn list_at(alloc: Global, table: &mut SpotTable, spot: Spot, t: PartTerm) -> Result<(), NoMemory>
+    requires each { length table.old.lists.items ≡ length table.old.spots.keys }
+    ensures each { OnOk result (length table.new.lists.items ≡ length table.new.spots.keys) }
+    ensures listed { OnOk result ((u : Spot) → listed table.new.spots.keys (term_lists table.new.lists.items) u
+        ≡ listed table.old.spots.keys (term_lists table.old.lists.items) u ++ (if is_spot spot u then t ∷ [] else [])) }
+{
+    let (k, _) = table.spots.insert_full(spot)?;
+    add_to(alloc, &mut table.lists, k, t)
+}
+
+/// Adds a term to the list at a place; behind the last one a new one begins with it.
+fn add_to(
+    alloc: Global,
+    lists: &mut Vec<Vec<PartTerm>>,
+    k: usize,
+    t: PartTerm,
+) -> Result<(), NoMemory>
+    requires { k ≤ length lists.old.items }
+    ensures { OnOk result (term_lists lists.new.items ≡ with_term (term_lists lists.old.items) k t) }
+{
+    if k == lists.len() {
+        let mut list = Vec::new(alloc);
+        list.push(t)?;
+        lists.push(list)?;
+        return Ok(());
     }
-    a.0 == last.0 || b.0 == last.0
+    lists[k].push(t)?;
+    Ok(())
 }
