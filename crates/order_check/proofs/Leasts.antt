@@ -1,7 +1,6 @@
 -- The sum over the slots of what the cheaper order of their lines costs.
 use Rattle.std.proofs.Common.{◌≡◌, ℕ, ◌+◌, ◌*◌, ◌<◌, ◌≤◌, ◌^◌, Bool, true, false, cond, List, [], ◌∷◌, suc, length, set, get_or, refl, sym, ◌∙◌, ap, subst, arith}
-use Rattle.std.specs.Prelude.{ℤ, pos, ◌+ℤ◌, ◌-ℤ◌, int_le, unsigned_abs}
-use Rattle.std.specs.Int.{int_min}
+use Rattle.std.specs.Prelude.{ℤ, pos, ◌+ℤ◌, ◌-ℤ◌, int_lt, unsigned_abs}
 use Rattle.std.proofs.lemmas.Int.{ints}
 use Rattle.order_bound.specs.Values.{least_answer}
 use Rattle.order_check.specs.declared.slot.SlotCost.{SlotCost}
@@ -10,11 +9,11 @@ use Rattle.order_check.specs.Counting.{least_sum}
 use Rattle.order_check.proofs.SignedSums.{sums_by_place, sum_set, sum_bound}
 
 least_small : (cost : Bool → ℤ) (m : ℕ) → unsigned_abs (cost true) ≤ m → unsigned_abs (cost false) ≤ m → unsigned_abs (least_answer cost) ≤ m
-least_small cost m h g = by_test (int_le (cost true) (cost false))
+least_small cost m h g = by_test (int_lt (cost false) (cost true))
   where
-    by_test : (b : Bool) → unsigned_abs (cond b (cost true) (cost false)) ≤ m
-    by_test true = h
-    by_test false = g
+    by_test : (b : Bool) → unsigned_abs (cond b (cost false) (cost true)) ≤ m
+    by_test true = g
+    by_test false = h
 
 -- the sum is small
 pub least_bound : (costs : List SlotCost) (least : ℤ) → length costs ≤ 8000000 → ((k : ℕ) (x : Bool) → k < length costs → unsigned_abs (cost_at costs k x) ≤ 2305843009213693952)

@@ -13,6 +13,7 @@ mod SpotLists
 mod Counting
 mod Tallies
 mod Pricing
+mod Closes
 mod Nodes
 mod Walks
 mod Verdicts

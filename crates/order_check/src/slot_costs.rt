@@ -13,7 +13,7 @@ ghost use Rattle.order_check.specs.Spots.{is_of_line};
 ghost use Rattle.order_check.specs.Counting.{counted_by, decided_by, shifted, turned, least_sum};
 
 use crate::charges::charges;
-use crate::slot::{Charge, PartTerm, SlotCost, Sums};
+use crate::slot::{Charge, Charges, PartTerm, SlotCost, Sums};
 use map_base::LineId;
 use order_model::{Prefix, Problem, Term};
 
@@ -84,11 +84,10 @@ fn count_term(
         return Sums { decided: 0, least };
     }
     let added = charges(problem, prefix, t, 0);
-    let first = add(costs, turned(added.here, off), least);
-    let second = add(costs, turned(added.there, off), first);
+    let least = add_both(costs, added, least, off);
     Sums {
         decided: added.decided,
-        least: second,
+        least,
     }
 }
 
@@ -122,8 +121,25 @@ fn is_of_line(line: LineId, term: Term) -> bool
     }
 }
 
+/// Adds what a term adds to its slots, or takes it off again. Answers the sum over the slots after it.
+pub(crate) fn add_both(costs: &mut [SlotCost], added: Charges, least: i128, off: bool) -> i128
+    requires few { length costs.old ≤ 8000000 }
+    requires small { (k : ℕ) (x : Bool) → k < length costs.old → unsigned_abs (cost_at costs.old k x) ≤ 2 ^ 60 }
+    requires here { unsigned_abs added.here.amount ≤ 256000 }
+    requires there { unsigned_abs added.there.amount ≤ 256000 }
+    requires least { least ≡ least_sum costs.old }
+    ensures slots { (k : ℕ) → k < length costs.old → (x : Bool)
+        → cost_at costs.new k x ≡ shifted off (cost_at costs.old k x) (charge_on added.here k x +ℤ charge_on added.there k x) }
+    ensures least { result ≡ least_sum costs.new }
+{
+    let here = turned(added.here, off);
+    let there = turned(added.there, off);
+    let first = add(costs, here, least);
+    add(costs, there, first)
+}
+
 /// A charge, or where it is taken off its contrary.
-pub(crate) fn turned(charge: Charge, off: bool) -> Charge
+fn turned(charge: Charge, off: bool) -> Charge
     requires { unsigned_abs charge.amount ≤ 256000 }
     ensures { result ≡ turned off charge }
 {
@@ -151,7 +167,7 @@ pub(crate) fn clear(costs: &mut [SlotCost])
 }
 
 /// Adds a charge to its slot, if there is such a slot. Answers the sum over the slots after it.
-pub(crate) fn add(costs: &mut [SlotCost], charge: Charge, least: i128) -> i128
+fn add(costs: &mut [SlotCost], charge: Charge, least: i128) -> i128
     requires few { length costs.old ≤ 8000000 }
     requires small { (k : ℕ) (x : Bool) → k < length costs.old → unsigned_abs (cost_at costs.old k x) ≤ 2 ^ 61 }
     requires amount { unsigned_abs charge.amount ≤ 256000 }

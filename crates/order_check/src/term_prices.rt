@@ -14,7 +14,7 @@ ghost use Rattle.order_check.specs.Pricing.{priced_by, price_on, ArePriced, AreS
 
 use crate::charges::price_charges;
 use crate::slot::{PartTerm, SlotCost};
-use crate::slot_costs::{add, turned};
+use crate::slot_costs::add_both;
 use order_model::{Prefix, Problem, Term};
 
 /// Whether all prices are allowed: each on an open Link of these terms, at most its weight either way.
@@ -38,7 +38,8 @@ pub(crate) fn are_allowed(
         let Some(i) = place_of(numbers, list[j].0) else {
             return false;
         };
-        if !may_have(problem, prefix, terms[i].term, price_of(list[j])) {
+        let price = price_of(list[j]);
+        if !may_have(problem, prefix, terms[i].term, price) {
             return false;
         }
     }
@@ -91,7 +92,7 @@ fn spread_price(
 {
     match place_of(numbers, entry.0) {
         None => least,
-        Some(i) => add_price(terms[i], entry.1, costs, least, off),
+        Some(i) => add_price(terms[i], price_of(entry), costs, least, off),
     }
 }
 
@@ -105,9 +106,7 @@ fn add_price(t: PartTerm, price: i64, costs: &mut [SlotCost], least: i128, off: 
         → cost_at costs.new k x ≡ shifted off (cost_at costs.old k x) (priced_by k x t price) }
     ensures least { result ≡ least_sum costs.new }
 {
-    let added = price_charges(t, price);
-    let first = add(costs, turned(added.here, off), least);
-    add(costs, turned(added.there, off), first)
+    add_both(costs, price_charges(t, price), least, off)
 }
 
 /// The price beside a number.

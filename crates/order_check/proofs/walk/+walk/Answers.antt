@@ -1,0 +1,173 @@
+use Rattle.std.proofs.Common.{◌≡◌, ◌∙◌, ◌<◌, true, false, List, length, sym, subst, arith, rules, Some}
+use Rattle.std.specs.List.{Contains}
+use Rattle.std.proofs.lemmas.Result.{IfOk-weaker}
+use Rattle.map_base.specs.declared.ids.SegId.{SegId}
+use Rattle.map_base.specs.declared.ids.LineId.{LineId}
+use Rattle.order_model.specs.Problems.{lines_on}
+use Rattle.order_model.specs.Prefixes.{is_placed, with_line, without_last}
+use Rattle.order_proof.specs.declared.tree.Tree.{Tree, the_lemmas}
+use Rattle.order_proof.specs.Plain.{split, plain, plain_children}
+use Rattle.order_bound.specs.Accepting.{failing}
+use Rattle.order_model.specs.Questions.{Question}
+use Rattle.order_bound.proofs.Sound.{rising_at, all_in}
+use Rattle.order_check.specs.Asking.{question_of}
+use Rattle.order_check.specs.Children.{child_lines}
+use Rattle.order_check.specs.declared.placing.Placing.{Placing}
+use Rattle.order_check.specs.Placings.{placing_of, changes}
+use Rattle.order_check.specs.Counting.{IsTallyBeside}
+use Rattle.order_check.specs.Walking.{IsWalked, split_test}
+use Rattle.order_check.proofs.Tallies.{beside_placed, beside_back, case_tally}
+use Rattle.order_check.proofs.Walks.{distinct_children, child_is_tree, split_walked, not_split_walked, case_next, of_part, case_refused, cases_passed, case_restored, chosen_walked}
+use Rattle.order_check.proofs.walk.+walk.Goals as goal
+
+pub walk-returns-in-Split-clause-walked : goal.walk-returns-in-Split-clause-walked
+walk-returns-in-Split-clause-walked t c =
+    let q : Question = question_of c.args.asked.now in
+    let placed : List (List LineId) = c.args.prefix.now.placed in
+    let way : List LineId = c.args.way.now.items in
+    let after : List LineId = c.walk_split.new.way.items in
+    IfOk-weaker c.walk_split.result
+    (IsWalked (failing q placed (split c.in-Split.seg (plain_children c.in-Split.children.items))) way after)
+    (IsWalked (failing q placed (plain c.args.tree.now)) way after)
+    (λ b h. split_walked q placed c.args.tree.now c.in-Split.seg c.in-Split.children way after b c.in-Split.is h)
+    (rw c.as_slice.ensures.value at c.walk_split.ensures.walked)
+
+pub walk_case-returns-in_err-outcome-clause-placed : goal.walk_case-returns-in_err-outcome-clause-placed
+walk_case-returns-in_err-outcome-clause-placed t c =
+    let s = c.args.seg in
+    case_restored c.args.asked.now.problem.now.segs c.args.prefix.now.placed c.place.new.self.placed c.walk-outcome.new.prefix.placed c.take_back.new.self.placed s c.args.line
+    (omega (arith, c.requires.seg, c.requires.fits.each)) (rising_at c.args.asked.now.problem.now.segs s.0 c.requires.asked.problem.rising) (c.requires.fits.lines s.0 c.requires.seg)
+    c.place.ensures.placed c.walk-outcome.ensures.placed c.take_back.ensures.placed
+
+pub walk_case-returns-then-not-branch-clause-placed : goal.walk_case-returns-then-not-branch-clause-placed
+walk_case-returns-then-not-branch-clause-placed t c =
+    let s = c.args.seg in
+    case_restored c.args.asked.now.problem.now.segs c.args.prefix.now.placed c.place.new.self.placed c.walk-outcome.new.prefix.placed c.take_back.new.self.placed s c.args.line
+    (omega (arith, c.requires.seg, c.requires.fits.each)) (rising_at c.args.asked.now.problem.now.segs s.0 c.requires.asked.problem.rising) (c.requires.fits.lines s.0 c.requires.seg)
+    c.place.ensures.placed c.walk-outcome.ensures.placed c.take_back.ensures.placed
+
+pub walk_case-returns-clause-placed : goal.walk_case-returns-clause-placed
+walk_case-returns-clause-placed t c =
+    let s = c.args.seg in
+    case_restored c.args.asked.now.problem.now.segs c.args.prefix.now.placed c.place.new.self.placed c.walk-outcome.new.prefix.placed c.take_back.new.self.placed s c.args.line
+    (omega (arith, c.requires.seg, c.requires.fits.each)) (rising_at c.args.asked.now.problem.now.segs s.0 c.requires.asked.problem.rising) (c.requires.fits.lines s.0 c.requires.seg)
+    c.place.ensures.placed c.walk-outcome.ensures.placed c.take_back.ensures.placed
+
+pub walk_split-returns-then-not-is_split-clause-walked : goal.walk_split-returns-then-not-is_split-clause-walked
+walk_split-returns-then-not-is_split-clause-walked t c =
+    not_split_walked (question_of c.args.asked.now) c.args.prefix.now.placed c.args.seg c.args.children.now c.args.way.now.items
+    (sym c.is_split.ensures ∙ c.if-not-is_split.true)
+
+pub walk_split-is_split-requires-clause-distinct : goal.walk_split-is_split-requires-clause-distinct
+walk_split-is_split-requires-clause-distinct t c = distinct_children c.args.seg c.args.children.now c.requires.tree
+
+pub walk_cases-walk_case-requires : goal.walk_cases-walk_case-requires
+walk_cases-walk_case-requires t c =
+    let q : Question = question_of c.args.asked.now in
+    let holds : split_test q c.args.prefix.now.placed c.args.seg (child_lines c.args.children.now) ≡ true = c.requires.holds in
+    let next = case_next q c.args.prefix.now.placed c.args.seg c.args.children.now c.loop-child.child-index c.child-item.result holds c.loop-child-test.true in
+    let child = c.child-item.result in
+    let on = subst (λ (x : LineId × Tree). Contains (lines_on c.args.asked.now.problem.now.segs c.args.seg) x.0) (sym c.child-item.is) next.on in
+    let fresh = subst (λ (x : LineId × Tree). is_placed (lines_on c.args.prefix.now.placed c.args.seg) x.0 ≡ false) (sym c.child-item.is) next.fresh in
+    let part = of_part q c.args.prefix.now.placed c.args.seg (child_lines c.args.children.now) holds in
+    let tree = child_is_tree c.args.seg c.args.children.now c.loop-child.child-index child c.requires.tree c.loop-child-test.true c.child-item.is in (
+      search (rules, the_lemmas),
+      (
+        c.requires.asked,
+        (
+          c.loop-child.invariant.0,
+          (
+            all_in (λ (s : SegId). s.0 < length c.args.asked.now.problem.now.segs) c.args.asked.now.part.now c.args.seg c.requires.asked.known part,
+            (on, (rw c.loop-child.invariant.1 fresh, (tree, (c.loop-child.invariant.5, c.loop-child.invariant.4)))),
+          ),
+        ),
+      ),
+    )
+
+pub walk_cases-returns-then-not-branch-clause-walked : goal.walk_cases-returns-then-not-branch-clause-walked
+walk_cases-returns-then-not-branch-clause-walked t c =
+    let q : Question = question_of c.args.asked.now in
+    let holds : split_test q c.args.prefix.now.placed c.args.seg (child_lines c.args.children.now) ≡ true = c.requires.holds in
+    case_refused q c.args.prefix.now.placed c.loop-child.prefix.placed c.args.seg c.args.children.now c.loop-child.child-index c.child-item.result
+    c.args.way.now.items c.loop-child.way.items c.walk_case.new.way.items c.in_ok-walk_case.field-0
+    c.loop-child-test.true holds c.loop-child.invariant.3 c.child-item.is c.loop-child.invariant.1 c.loop-child.invariant.2 c.if-not-branch.true
+    c.in_ok-walk_case.ensures.walked
+
+pub walk_cases-returns-clause-walked : goal.walk_cases-returns-clause-walked
+walk_cases-returns-clause-walked t c =
+    let q : Question = question_of c.args.asked.now in
+    let holds : split_test q c.args.prefix.now.placed c.args.seg (child_lines c.args.children.now) ≡ true = c.requires.holds in
+    let way : IsWalked (failing q c.args.prefix.now.placed (split c.args.seg (plain_children c.args.children.now))) c.args.way.now.items c.args.way.now.items true =
+    cases_passed q c.args.prefix.now.placed c.args.seg c.args.children.now c.loop-child.child-index c.args.way.now.items
+    (omega (arith, c.loop-child-test.false)) holds c.loop-child.invariant.3 in
+    (way.0, c.loop-child.invariant.2)
+
+pub walk_case-take_back-requires-clause-some : goal.walk_case-take_back-requires-clause-some
+walk_case-take_back-requires-clause-some t c =
+    let s = c.args.seg in
+    chosen_walked c.args.asked.now.problem.now.segs c.args.prefix.now.placed c.place.new.self.placed c.walk-outcome.new.prefix.placed s c.args.line
+    (omega (arith, c.requires.seg, c.requires.fits.each)) (c.requires.fits.lines s.0 c.requires.seg) c.requires.line c.requires.unplaced c.place.ensures.placed c.walk-outcome.ensures.placed
+
+pub walk_split-walk_cases-requires-clause-holds : goal.walk_split-walk_cases-requires-clause-holds
+walk_split-walk_cases-requires-clause-holds t c = sym c.is_split.ensures ∙ c.if-not-is_split.false
+
+-- the tally of the others, once the line is placed
+pub walk_case-put_on-after-requires-clause-tally : goal.walk_case-put_on-after-requires-clause-tally
+walk_case-put_on-after-requires-clause-tally t c =
+    let s = c.args.seg in
+    let asked = c.args.asked.now in
+    let placed : List (List LineId) = c.args.prefix.now.placed in
+    let beside = subst (λ (p : Placing). IsTallyBeside (changes p) asked placed c.take_off-beside.result c.take_off-beside.new.costs) c.placing_of-placing.ensures c.take_off-beside.ensures in
+    rw c.placing_of-placing.ensures
+    (beside_placed s c.args.line asked placed c.place.new.self.placed c.requires.asked (omega (arith, c.requires.seg, c.requires.fits.each)) (c.requires.fits.lines s.0 c.requires.seg) c.requires.line
+    c.requires.unplaced c.place.ensures.placed c.take_off-beside.result c.take_off-beside.new.costs beside)
+
+-- and once it is taken back
+pub walk_case-put_on-same-requires-clause-tally : goal.walk_case-put_on-same-requires-clause-tally
+walk_case-put_on-same-requires-clause-tally t c =
+    let s = c.args.seg in
+    let asked = c.args.asked.now in
+    let placed : List (List LineId) = c.args.prefix.now.placed in
+    let known = omega (arith, c.requires.seg, c.requires.fits.each) in
+    let placing = placing_of asked.problem.now.segs placed s c.args.line in
+    let walked = subst (λ (p : Placing). IsTallyBeside (changes p) asked c.walk-outcome.new.prefix.placed c.take_off-left.result c.take_off-left.new.costs) c.placing_of-placing.ensures c.take_off-left.ensures in
+    let there = subst (λ (l : List (List LineId)). IsTallyBeside (changes placing) asked l c.take_off-left.result c.take_off-left.new.costs) c.walk-outcome.ensures.placed walked in
+    let here = beside_back s c.args.line asked placed c.place.new.self.placed c.requires.asked known (c.requires.fits.lines s.0 c.requires.seg) c.requires.line c.requires.unplaced c.place.ensures.placed
+    c.take_off-left.result c.take_off-left.new.costs there in
+    let restored = case_restored asked.problem.now.segs placed c.place.new.self.placed c.walk-outcome.new.prefix.placed c.take_back.new.self.placed s c.args.line known
+    (rising_at asked.problem.now.segs s.0 c.requires.asked.problem.rising) (c.requires.fits.lines s.0 c.requires.seg) c.place.ensures.placed c.walk-outcome.ensures.placed c.take_back.ensures.placed in
+    rw c.placing_of-placing.ensures
+    (subst (λ (l : List (List LineId)). IsTallyBeside (changes placing) asked l c.take_off-left.result c.take_off-left.new.costs) (sym restored) here)
+
+pub walk_case-returns-in_err-outcome-clause-tally : goal.walk_case-returns-in_err-outcome-clause-tally
+walk_case-returns-in_err-outcome-clause-tally t c =
+    let s = c.args.seg in
+    let asked = c.args.asked.now in
+    let placed : List (List LineId) = c.args.prefix.now.placed in
+    case_tally asked placed c.take_back.new.self.placed c.args.sums c.put_on-same.result c.args.costs.now c.put_on-same.new.costs c.requires.tally c.put_on-same.ensures
+    (omega (arith, c.take_off-beside.auto.costs, c.put_on-after.auto.costs, c.walk-outcome.auto.costs, c.take_off-left.auto.costs, c.put_on-same.auto.costs))
+    (case_restored asked.problem.now.segs placed c.place.new.self.placed c.walk-outcome.new.prefix.placed c.take_back.new.self.placed s c.args.line
+    (omega (arith, c.requires.seg, c.requires.fits.each)) (rising_at asked.problem.now.segs s.0 c.requires.asked.problem.rising) (c.requires.fits.lines s.0 c.requires.seg)
+    c.place.ensures.placed c.walk-outcome.ensures.placed c.take_back.ensures.placed)
+
+pub walk_case-returns-then-not-branch-clause-tally : goal.walk_case-returns-then-not-branch-clause-tally
+walk_case-returns-then-not-branch-clause-tally t c =
+    let s = c.args.seg in
+    let asked = c.args.asked.now in
+    let placed : List (List LineId) = c.args.prefix.now.placed in
+    case_tally asked placed c.take_back.new.self.placed c.args.sums c.put_on-same.result c.args.costs.now c.put_on-same.new.costs c.requires.tally c.put_on-same.ensures
+    (omega (arith, c.take_off-beside.auto.costs, c.put_on-after.auto.costs, c.walk-outcome.auto.costs, c.take_off-left.auto.costs, c.put_on-same.auto.costs))
+    (case_restored asked.problem.now.segs placed c.place.new.self.placed c.walk-outcome.new.prefix.placed c.take_back.new.self.placed s c.args.line
+    (omega (arith, c.requires.seg, c.requires.fits.each)) (rising_at asked.problem.now.segs s.0 c.requires.asked.problem.rising) (c.requires.fits.lines s.0 c.requires.seg)
+    c.place.ensures.placed c.walk-outcome.ensures.placed c.take_back.ensures.placed)
+
+pub walk_case-returns-clause-tally : goal.walk_case-returns-clause-tally
+walk_case-returns-clause-tally t c =
+    let s = c.args.seg in
+    let asked = c.args.asked.now in
+    let placed : List (List LineId) = c.args.prefix.now.placed in
+    case_tally asked placed c.take_back.new.self.placed c.args.sums c.put_on-same.result c.args.costs.now c.put_on-same.new.costs c.requires.tally c.put_on-same.ensures
+    (omega (arith, c.take_off-beside.auto.costs, c.put_on-after.auto.costs, c.walk-outcome.auto.costs, c.take_off-left.auto.costs, c.put_on-same.auto.costs))
+    (case_restored asked.problem.now.segs placed c.place.new.self.placed c.walk-outcome.new.prefix.placed c.take_back.new.self.placed s c.args.line
+    (omega (arith, c.requires.seg, c.requires.fits.each)) (rising_at asked.problem.now.segs s.0 c.requires.asked.problem.rising) (c.requires.fits.lines s.0 c.requires.seg)
+    c.place.ensures.placed c.walk-outcome.ensures.placed c.take_back.ensures.placed)
