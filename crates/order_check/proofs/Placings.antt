@@ -2,9 +2,9 @@
 use Rattle.std.proofs.Common.{◌≡◌, ◌≢◌, ℕ, ◌+◌, ◌-◌, ◌<◌, ◌≤◌, ◌==◌, ◌&&◌, ◌||◌, not, Bool, true, false, cond, List, [], ◌∷◌, ◌++◌, length, set, get_or, refl, sym, ◌∙◌, ap, subst, arith, length-append, Option, Some, None, inl, inr, ◌⊎◌, true≢false, eqb-true}
 use Rattle.std.specs.Prelude.{ℤ, pos, nat_lt, nat_le}
 use Rattle.std.specs.List.{All, Contains, find}
-use Rattle.std.specs.Option.{option_to_list}
+use Rattle.std.specs.Option.{option_to_list, unwrap_or}
 use Rattle.std.proofs.Common.{append_assoc}
-use Rattle.std.proofs.lemmas.Bool.{eqb-false, ne_eqb, leb-false, leb-true, or_parts}
+use Rattle.std.proofs.lemmas.Bool.{eqb-false, ne_eqb, leb-false, le-leb, or_parts}
 use Rattle.std.proofs.lemmas.List.{get_or-set_same, get_or-set_other, get_or_default}
 use Rattle.std.proofs.lemmas.List.Elements.{All-push}
 use Rattle.map_base.specs.declared.ids.SegId.{SegId}
@@ -125,12 +125,8 @@ behind lines placed a = by_test (length (placed ++ a ∷ []) + 1 == length lines
       where
         left : left_or lines placed a ≡ m
         left =
-            ap (λ b. cond b (other_left placed a lines) a) (leb-true (length lines) (length placed + 3) (omega (arith, two)))
-            ∙ ap (λ (o : Option LineId). unwrap o) found
-          where
-            unwrap : Option LineId → LineId
-            unwrap None = a
-            unwrap (Some x) = x
+            ap (λ b. cond b (other_left placed a lines) a) (le-leb (length lines) (length placed + 3) (omega (arith, two)))
+            ∙ ap (λ (o : Option LineId). unwrap_or o a) found
 
     by : (b : Bool) → (length (placed ++ a ∷ []) + 1 == length lines) ≡ b → Behind b
     by true e = by_found (last_left lines placed a) refl (omega (arith, eqb-true (length (placed ++ a ∷ []) + 1) (length lines) e, length-append placed (a ∷ [])))
@@ -199,7 +195,7 @@ many_left lines placed a x y aside left free free_too = by (nat_le (length lines
 
     crowded : nat_le (length lines) (length placed + 3) ≡ true → (m : LineId) → find (is_unplaced next) lines ≡ Some m → Contains lines m → is_unplaced next m ≡ true → length placed + 4 ≤ length lines
     crowded e m found on free_m =
-        let is : left_or lines placed a ≡ m = ap (λ b. cond b (other_left placed a lines) a) e ∙ ap unwrap found in
+        let is : left_or lines placed a ≡ m = ap (λ b. cond b (other_left placed a lines) a) e ∙ ap (λ (o : Option LineId). unwrap_or o a) found in
         let with_m : List LineId = next ++ m ∷ [] in
         let with_x : List LineId = with_m ++ x ∷ [] in
         let apart_m : AreApart with_m = apart_push next m apart (not_true (is_placed next m) free_m) in
@@ -221,10 +217,6 @@ many_left lines placed a x y aside left free free_too = by (nat_le (length lines
           length-append next (m ∷ []),
           length-append placed (a ∷ []),
         )
-      where
-        unwrap : Option LineId → LineId
-        unwrap None = a
-        unwrap (Some l) = l
 
     by : (b : Bool) → nat_le (length lines) (length placed + 3) ≡ b → length placed + 3 < length lines
     by false e = leb-false (length lines) (length placed + 3) e

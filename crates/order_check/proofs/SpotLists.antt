@@ -1,8 +1,8 @@
 -- Lists of terms by spots.
 use Rattle.std.proofs.Common.{◌≡◌, ◌≢◌, ℕ, zero, suc, ◌+◌, ◌<◌, ◌≤◌, ◌==◌, ◌&&◌, ◌||◌, not, Bool, true, false, cond, List, [], ◌∷◌, ◌++◌, length, set, get_or, append-nil, length-append, refl, sym, ◌∙◌, ap, subst, arith, Option, Some, None, true≢false, eqb-true, eq-eqb}
-use Rattle.std.specs.Prelude.{nat_lt, position, position_or_len}
-use Rattle.std.specs.List.{list_any, filter}
-use Rattle.std.proofs.lemmas.Bool.{and_parts, eqb-false, ne_eqb}
+use Rattle.std.specs.Prelude.{nat_lt, position}
+use Rattle.std.specs.List.{list_any, filter, position_or_len}
+use Rattle.std.proofs.lemmas.Bool.{and_parts, eqb-false, ne_eqb, ltb-false}
 use Rattle.std.proofs.lemmas.List.Elements.{filter-append}
 use Rattle.map_base.specs.declared.ids.SegId.{SegId}
 use Rattle.map_base.specs.declared.ids.LineId.{LineId}
@@ -18,6 +18,9 @@ pub two_of_term : (segs : List (List LineId)) (t : Term) → IsTerm segs t → A
 two_of_term segs (Side seg first second w) fits = fits.differ
 two_of_term segs (Link seg other flip a b w) fits = ((λ e. omega (arith, e, fits.a_below)), λ e. omega (arith, e, fits.seg_below))
 two_of_term segs (Apart seg other a b w) fits = ((λ e. omega (arith, e, fits.a_below)), λ e. omega (arith, e, fits.seg_below))
+
+one_more : (n : ℕ) → 1 + n ≡ suc n
+one_more n = omega arith
 
 -- Spots that are the same.
 
@@ -47,7 +50,7 @@ listed_place (s ∷ spots) (l ∷ lists) u each = by_test (is_spot u s)
   where
     by_test : (b : Bool) → cond b l (listed spots lists u) ≡ get_or (l ∷ lists) (cond (not b) (1 + position_or_len (is_spot u) spots) 0) []
     by_test true = refl
-    by_test false = listed_place spots lists u (omega (arith, each))
+    by_test false = listed_place spots lists u (omega (arith, each)) ∙ ap (λ n. get_or (l ∷ lists) n []) (sym (one_more (position_or_len (is_spot u) spots)))
 
 pub listed_at : (spots : List Spot) (lists : List (List PartTerm)) (u : Spot) (k : ℕ) → length lists ≡ length spots → position (is_spot u) spots ≡ Some k → listed spots lists u ≡ get_or lists k []
 listed_at spots lists u k each found = listed_place spots lists u each ∙ ap (λ n. get_or lists n []) (by_test (nat_lt (position_or_len (is_spot u) spots) (length spots)) found)
@@ -73,7 +76,7 @@ listed_none spots lists u each found = listed_place spots lists u each ∙ beyon
         is_there : Option ℕ → Bool
         is_there None = false
         is_there (Some n) = true
-    by_test false e f = omega (arith, each, e)
+    by_test false e f = omega (arith, each, ltb-false (position_or_len (is_spot u) spots) (length spots) e)
 
     beyond : (lists : List (List PartTerm)) (n : ℕ) → length lists ≤ n → get_or lists n [] ≡ []
     beyond [] n over = refl
@@ -101,7 +104,8 @@ with_each (k ∷ spots) (l ∷ lists) s t each = by_test (is_spot s k)
     by_test true = omega (arith, each)
     by_test false =
         let rest = with_each spots lists s t (omega (arith, each)) in
-        omega (arith, rest, ap length (noted_later (list_any (is_spot s) spots) k s spots))
+        ap (λ n. length (with_term (l ∷ lists) n t)) (one_more (position_or_len (is_spot s) spots))
+        ∙ omega (arith, rest, ap length (noted_later (list_any (is_spot s) spots) k s spots))
 
 pub listed_more : (spots : List Spot) (lists : List (List PartTerm)) (s : Spot) (t : PartTerm) (u : Spot) → length lists ≡ length spots
     → listed (noted spots s) (with_term lists (position_or_len (is_spot s) spots) t) u ≡ listed spots lists u ++ cond (is_spot s u) (t ∷ []) []
@@ -130,7 +134,8 @@ listed_more (k ∷ spots) (l ∷ lists) s t u each = by_test (is_spot s k) refl
         let same : k ≡ s = sym (same_spot s k e) in
         here (is_spot u k) (spot_turned k u) refl ∙ ap (λ (v : Spot). cond (is_spot u k) l (listed spots lists u) ++ cond (is_spot v u) (t ∷ []) []) same
     by_test false e =
-        ap (λ ks. listed ks (l ∷ with_term lists (position_or_len (is_spot s) spots) t) u) (noted_later (list_any (is_spot s) spots) k s spots)
+        ap (λ n. listed (cond (list_any (is_spot s) spots) (k ∷ spots) ((k ∷ spots) ++ s ∷ [])) (with_term (l ∷ lists) n t) u) (one_more (position_or_len (is_spot s) spots))
+        ∙ ap (λ ks. listed ks (l ∷ with_term lists (position_or_len (is_spot s) spots) t) u) (noted_later (list_any (is_spot s) spots) k s spots)
         ∙ ap (λ r. cond (is_spot u k) l r) (listed_more spots lists s t u (omega (arith, each)))
         ∙ later e (is_spot u k) refl
 
