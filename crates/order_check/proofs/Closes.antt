@@ -1,7 +1,8 @@
 -- Prices are spread over the tally, and taken off again.
-use Rattle.std.proofs.Common.{◌≡◌, ℕ, ◌<◌, ◌≤◌, Bool, true, false, List, length, sym, ◌∙◌, ap, arith}
+use Rattle.std.proofs.Common.{◌≡◌, ℕ, ◌<◌, ◌≤◌, Bool, true, false, List, length, take, sym, ◌∙◌, ap, subst, arith}
 use Rattle.std.specs.Prelude.{ℤ, pos, ◌+ℤ◌, int_le, unsigned_abs}
 use Rattle.std.proofs.lemmas.Int.{ints}
+use Rattle.std.proofs.lemmas.List.{take_all}
 use Rattle.map_base.specs.declared.ids.LineId.{LineId}
 use Rattle.order_bound.specs.Accepting.{is_closed}
 use Rattle.whole_sums.specs.Sums.{int_sum}
@@ -20,6 +21,22 @@ use Rattle.order_check.proofs.Tallies.{tally_small, tally_stays}
 -- what prices do to a table
 abbrev pub ArePricesOn : List PartTerm → List (ℕ × ℤ) → Bool → List SlotCost → List SlotCost → Type 0
 ArePricesOn table prices off old new = (k : ℕ) → k < length old → (x : Bool) → cost_at new k x ≡ shifted off (cost_at old k x) (int_sum (price_on table k x) prices)
+
+-- the same of the terms and prices as they are read
+pub read_on : (read items : List PartTerm) (list prices : List (ℕ × ℤ)) (off : Bool) (old new : List SlotCost) → read ≡ items → list ≡ prices → ArePricesOn read list off old new
+    → ArePricesOn items prices off old new
+read_on read items list prices off old new terms qs on = subst (λ ts. ArePricesOn ts prices off old new) terms (subst (λ l. ArePricesOn read l off old new) qs on)
+
+pub read_priced : (segs placed : List (List LineId)) (read items : List PartTerm) (list prices : List (ℕ × ℤ)) → read ≡ items → list ≡ prices → ArePriced segs placed read list
+    → ArePriced segs placed items prices
+read_priced segs placed read items list prices terms qs priced = subst (λ ts. ArePriced segs placed ts prices) terms (subst (λ l. ArePriced segs placed read l) qs priced)
+
+pub read_small : (read items : List PartTerm) (list prices : List (ℕ × ℤ)) → read ≡ items → list ≡ prices → AreSmallPrices read list (length list) → (k : ℕ) (x : Bool)
+    → unsigned_abs (int_sum (price_on items k x) prices) ≤ 2048000000000
+read_small read items list prices terms qs small k x =
+    let all : take (length list) list ≡ list = take_all (length list) list (omega arith) in
+    subst (λ ts. unsigned_abs (int_sum (price_on ts k x) prices) ≤ 2048000000000) terms
+    (subst (λ l. unsigned_abs (int_sum (price_on read k x) l) ≤ 2048000000000) (all ∙ qs) (small.sums (length list) (omega arith) k x))
 
 -- the table stays small
 pub spread_small : (asked : Asked) (placed : List (List LineId)) (sums : Sums) (prices : List (ℕ × ℤ)) (old new : List SlotCost) → IsAsked asked → IsTally asked placed sums old

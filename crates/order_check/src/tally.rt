@@ -101,32 +101,18 @@ fn count_changed(
         ≡ shifted off (cost_at costs.old k x) (int_sum (counted_by (changes placing) asked.now.problem.now.segs prefix.now.placed k x) asked.now.table.now.terms.items) }
 {
     let (line, last) = (placing.line, placing.last);
-    let before = counted(None, None);
-    let own = count_at(
-        asked,
-        prefix,
-        spot_on(placing, line),
-        before,
-        costs,
-        least,
-        off,
-    );
-    let before = counted(Some(line), None);
+    let own = count_at(asked, prefix, placing, line, None, None, costs, least, off);
+    let first = Some(line);
     let others = count_at(
-        asked,
-        prefix,
-        spot_on(placing, last),
-        before,
-        costs,
-        own.least,
-        off,
+        asked, prefix, placing, last, first, None, costs, own.least, off,
     );
-    let before = counted(Some(line), Some(last));
     let left = count_at(
         asked,
         prefix,
-        spot_on(placing, placing.left),
-        before,
+        placing,
+        placing.left,
+        first,
+        Some(last),
         costs,
         others.least,
         off,
@@ -137,12 +123,14 @@ fn count_changed(
     }
 }
 
-/// Counts the terms at a spot, but not those of lines that were counted before.
+/// Counts the terms of a line on the segment of a placing, but not those of lines that were counted before.
 fn count_at(
     asked: &Asked,
     prefix: &Prefix,
-    spot: Spot,
-    counted: Counted,
+    placing: Placing,
+    line: LineId,
+    first: Option<LineId>,
+    second: Option<LineId>,
     costs: &mut [SlotCost],
     least: i128,
     off: bool,
@@ -152,35 +140,20 @@ fn count_at(
     requires table { HasTable asked.now costs.old }
     requires small { (k : ℕ) (x : Bool) → k < length costs.old → unsigned_abs (cost_at costs.old k x) ≤ 8192000000000 }
     requires least { least ≡ least_sum costs.old }
-    ensures decided { result.decided ≡ sum_by (decided_by (is_fresh_at spot counted) asked.now.problem.now.segs prefix.now.placed) asked.now.table.now.terms.items }
+    ensures decided { result.decided ≡ sum_by (decided_by (is_fresh_at (spot_on placing line) (counted first second)) asked.now.problem.now.segs prefix.now.placed) asked.now.table.now.terms.items }
     ensures most { result.decided ≤ 1024000000000 }
     ensures least { result.least ≡ least_sum costs.new }
     ensures slots { (k : ℕ) → k < length costs.old → (x : Bool) → cost_at costs.new k x
-        ≡ shifted off (cost_at costs.old k x) (int_sum (counted_by (is_fresh_at spot counted) asked.now.problem.now.segs prefix.now.placed k x) asked.now.table.now.terms.items) }
+        ≡ shifted off (cost_at costs.old k x) (int_sum (counted_by (is_fresh_at (spot_on placing line) (counted first second)) asked.now.problem.now.segs prefix.now.placed k x) asked.now.table.now.terms.items) }
 {
     let table = &asked.table.spots;
-    match place_of(table, spot) {
+    let seg = placing.seg;
+    match place_of(table, Spot { seg, line }) {
         None => Sums { decided: 0, least },
         Some(k) => {
             let terms = table.lists[k].as_slice();
+            let counted = Counted { first, second };
             count(asked.problem, prefix, terms, counted, costs, least, off)
         }
     }
-}
-
-/// The spot of a line on the segment of a placing.
-fn spot_on(placing: Placing, line: LineId) -> Spot
-    ensures { result ≡ spot_on placing line }
-{
-    Spot {
-        seg: placing.seg,
-        line,
-    }
-}
-
-/// That the terms of these lines were counted before.
-fn counted(first: Option<LineId>, second: Option<LineId>) -> Counted
-    ensures { result ≡ counted first second }
-{
-    Counted { first, second }
 }

@@ -1,6 +1,7 @@
-use Rattle.std.proofs.Common.{◌≡◌, ℕ, ◌<◌, ◌≤◌, ◌∙◌, Bool, true, false, List, length, take, ap, sym, subst, arith}
-use Rattle.std.specs.Prelude.{ℤ, pos, ◌+ℤ◌, unsigned_abs}
-use Rattle.std.proofs.lemmas.List.{take_all}
+use Rattle.std.proofs.Common.{◌≡◌, ℕ, ◌<◌, ◌≤◌, ◌∙◌, Bool, true, false, List, length, ap, sym, subst, arith, FitsSigned, to_z, of_z, rules}
+use Rattle.std.specs.Prelude.{ℤ, pos, ◌+ℤ◌, int_le, unsigned_abs}
+use Rattle.std.specs.Int.{w128}
+use Rattle.std.proofs.lemmas.Int.{to_z-of_z}
 use Rattle.map_base.specs.declared.ids.LineId.{LineId}
 use Rattle.whole_sums.specs.Sums.{int_sum}
 use Rattle.order_bound.specs.Accepting.{is_closed}
@@ -15,7 +16,7 @@ use Rattle.order_check.specs.Pricing.{price_on, ArePriced, AreSmallPrices}
 use Rattle.order_check.proofs.Closing.{table_fits, table_few, slots_few, table_numbers, not_closed}
 use Rattle.order_check.proofs.Leasts.{least_bound}
 use Rattle.order_check.proofs.Tallies.{tally_small}
-use Rattle.order_check.proofs.Closes.{ArePricesOn, spread_small, closed_by_prices, restored}
+use Rattle.order_check.proofs.Closes.{ArePricesOn, read_on, read_priced, read_small, spread_small, closed_by_prices, restored}
 use Rattle.order_check.proofs.close.is_closed.Goals as goal
 
 pub are_allowed-requires-clause-terms : goal.are_allowed-requires-clause-terms
@@ -46,3 +47,61 @@ spread-same-requires-clause-numbers c =
 
 pub spread-same-requires-clause-few : goal.spread-same-requires-clause-few
 spread-same-requires-clause-few c = omega (arith, c.requires.table, c.spread-least.auto.costs, slots_few c.args.asked.now c.requires.asked)
+
+pub spread-same-requires-clause-costs : goal.spread-same-requires-clause-costs
+spread-same-requires-clause-costs c = λ k x below.
+    (let asked : Asked = c.args.asked.now in
+    let placed : List (List LineId) = c.args.prefix.now.placed in
+    let table : List PartTerm = asked.table.now.terms.items in
+    let prices : List (ℕ × ℤ) = c.args.prices.now in
+    let mid : List SlotCost = c.spread-least.new.costs in
+    let on : ArePricesOn table prices false c.args.costs.now mid =
+    read_on c.as_slice-terms.result.now table c.as_slice-list.result.now prices false c.args.costs.now mid c.as_slice-terms.ensures.value c.as_slice-list.ensures.list c.spread-least.ensures.slots in
+    let small = read_small c.as_slice-terms.result.now table c.as_slice-list.result.now prices c.as_slice-terms.ensures.value c.as_slice-list.ensures.list
+    (c.are_allowed.ensures.small c.if-not-are_allowed.false) in
+    let most = spread_small asked placed c.args.sums prices c.args.costs.now mid c.requires.asked c.requires.tally small c.spread-least.auto.costs on in
+    let here = most k x below in
+    omega (arith, here))
+
+pub reaches-requires : goal.reaches-requires
+reaches-requires c =
+    let asked : Asked = c.args.asked.now in
+    let placed : List (List LineId) = c.args.prefix.now.placed in
+    let table : List PartTerm = asked.table.now.terms.items in
+    let prices : List (ℕ × ℤ) = c.args.prices.now in
+    let mid : List SlotCost = c.spread-least.new.costs in
+    let on : ArePricesOn table prices false c.args.costs.now mid =
+    read_on c.as_slice-terms.result.now table c.as_slice-list.result.now prices false c.args.costs.now mid c.as_slice-terms.ensures.value c.as_slice-list.ensures.list c.spread-least.ensures.slots in
+    let small = read_small c.as_slice-terms.result.now table c.as_slice-list.result.now prices c.as_slice-terms.ensures.value c.as_slice-list.ensures.list
+    (c.are_allowed.ensures.small c.if-not-are_allowed.false) in
+    let most = spread_small asked placed c.args.sums prices c.args.costs.now mid c.requires.asked c.requires.tally small c.spread-least.auto.costs on in
+    least_bound mid c.spread-least.result (omega (arith, c.requires.table, c.spread-least.auto.costs, slots_few asked c.requires.asked)) (λ k x below. (let here = most k x below in omega (arith, here)))
+    c.spread-least.ensures.least
+
+pub returns-clause-closed : goal.returns-clause-closed
+returns-clause-closed c =
+    let asked : Asked = c.args.asked.now in
+    let placed : List (List LineId) = c.args.prefix.now.placed in
+    let table : List PartTerm = asked.table.now.terms.items in
+    let prices : List (ℕ × ℤ) = c.args.prices.now in
+    let mid : List SlotCost = c.spread-least.new.costs in
+    let on : ArePricesOn table prices false c.args.costs.now mid =
+    read_on c.as_slice-terms.result.now table c.as_slice-list.result.now prices false c.args.costs.now mid c.as_slice-terms.ensures.value c.as_slice-list.ensures.list c.spread-least.ensures.slots in
+    let priced : ArePriced asked.problem.now.segs placed table prices =
+    read_priced asked.problem.now.segs placed c.as_slice-terms.result.now table c.as_slice-list.result.now prices c.as_slice-terms.ensures.value c.as_slice-list.ensures.list
+    (c.are_allowed.ensures.priced c.if-not-are_allowed.false) in
+    c.reaches.ensures
+    ∙ closed_by_prices asked placed c.args.sums prices c.args.costs.now mid c.spread-least.result c.requires.asked c.requires.tally c.requires.table priced c.spread-least.auto.costs on c.spread-least.ensures.least
+
+pub returns-clause-tally : goal.returns-clause-tally
+returns-clause-tally c =
+    let asked : Asked = c.args.asked.now in
+    let placed : List (List LineId) = c.args.prefix.now.placed in
+    let table : List PartTerm = asked.table.now.terms.items in
+    let prices : List (ℕ × ℤ) = c.args.prices.now in
+    let mid : List SlotCost = c.spread-least.new.costs in
+    let on : ArePricesOn table prices false c.args.costs.now mid =
+    read_on c.as_slice-terms.result.now table c.as_slice-list.result.now prices false c.args.costs.now mid c.as_slice-terms.ensures.value c.as_slice-list.ensures.list c.spread-least.ensures.slots in
+    let off : ArePricesOn table prices true mid c.spread-same.new.costs =
+    read_on c.as_slice-terms.result.now table c.as_slice-list.result.now prices true mid c.spread-same.new.costs c.as_slice-terms.ensures.value c.as_slice-list.ensures.list c.spread-same.ensures.slots in
+    restored asked placed c.args.sums prices c.args.costs.now mid c.spread-same.new.costs c.requires.tally c.spread-least.auto.costs c.spread-same.auto.costs on off

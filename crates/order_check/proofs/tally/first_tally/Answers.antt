@@ -1,13 +1,10 @@
-use Rattle.std.proofs.Common.{◌≡◌, ◌<◌, ◌∙◌, ℕ, Bool, List, true, false, length, ap, sym, subst, arith, None}
+use Rattle.std.proofs.Common.{◌≡◌, ◌<◌, ◌∙◌, ℕ, Bool, List, true, false, length, ap, sym, subst, arith}
 use Rattle.std.specs.Prelude.{ℤ, pos}
 use Rattle.std.specs.List.{sum_by}
 use Rattle.map_base.specs.declared.ids.LineId.{LineId}
 use Rattle.whole_sums.specs.Sums.{int_sum}
-use Rattle.order_check.specs.declared.slot.PartTerm.{PartTerm}
-use Rattle.order_check.specs.declared.slot_costs.Counted.{Counted}
 use Rattle.order_check.specs.Charging.{AreTerms}
 use Rattle.order_check.specs.Slots.{cost_at}
-use Rattle.order_check.specs.Placings.{is_fresh}
 use Rattle.order_check.specs.Counting.{counted_by, decided_by, shifted}
 use Rattle.order_check.proofs.Closing.{table_fits, table_few, slots_few}
 use Rattle.order_check.proofs.Leasts.{least_none}
@@ -33,10 +30,7 @@ pub returns : goal.returns
 returns c =
     let segs : List (List LineId) = c.args.asked.now.problem.now.segs in
     let placed : List (List LineId) = c.args.prefix.now.placed in
-    let decided = c.count.ensures.decided ∙ ap (λ (l : Counted). sum_by (decided_by (is_fresh l) segs placed) c.as_slice-terms.result.now) c.counted.ensures
-    ∙ ap (sum_by (decided_by (λ t. true) segs placed)) c.as_slice-terms.ensures.value in
+    let decided = c.count.ensures.decided ∙ ap (sum_by (decided_by (λ t. true) segs placed)) c.as_slice-terms.ensures.value in
     let shift : AreShifted (λ t. true) c.args.asked.now placed false c.clear.new.costs c.count.new.costs = λ k below x.
-    (c.count.ensures.slots k below x
-    ∙ ap (λ (l : Counted). shifted false (cost_at c.clear.new.costs k x) (int_sum (counted_by (is_fresh l) segs placed k x) c.as_slice-terms.result.now)) c.counted.ensures
-    ∙ ap (λ ts. shifted false (cost_at c.clear.new.costs k x) (int_sum (counted_by (λ t. true) segs placed k x) ts)) c.as_slice-terms.ensures.value) in
+    (c.count.ensures.slots k below x ∙ ap (λ ts. shifted false (cost_at c.clear.new.costs k x) (int_sum (counted_by (λ t. true) segs placed k x) ts)) c.as_slice-terms.ensures.value) in
     tally_first c.args.asked.now placed c.count.result c.clear.new.costs c.count.new.costs c.count.auto.costs c.clear.ensures decided c.count.ensures.least shift
