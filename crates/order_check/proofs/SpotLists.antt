@@ -4,6 +4,7 @@ use Rattle.std.specs.Prelude.{nat_lt, position}
 use Rattle.std.specs.List.{list_any, filter, position_or_len}
 use Rattle.std.proofs.lemmas.Bool.{and_parts, eqb-false, ne_eqb, ltb-false}
 use Rattle.std.proofs.lemmas.List.Elements.{filter-append}
+use Rattle.std.proofs.lemmas.List.Sums.{prefix_len-le-length}
 use Rattle.map_base.specs.declared.ids.SegId.{SegId}
 use Rattle.map_base.specs.declared.ids.LineId.{LineId}
 use Rattle.order_model.specs.declared.term.Term.{Term}
@@ -83,9 +84,12 @@ listed_none spots lists u each found = listed_place spots lists u each ∙ beyon
     beyond (l ∷ lists) zero over = absurd (omega (arith, over))
     beyond (l ∷ lists) (suc n) over = beyond lists n (omega (arith, over))
 
+pub place_within : (spots : List Spot) (u : Spot) → position_or_len (is_spot u) spots ≤ length spots
+place_within spots u = prefix_len-le-length (λ s. not (is_spot u s)) spots
+
 -- A term is added at a spot.
 
-abbrev noted : List Spot → Spot → List Spot
+abbrev pub noted : List Spot → Spot → List Spot
 noted spots s = cond (list_any (is_spot s) spots) spots (spots ++ s ∷ [])
 
 noted_later : (b : Bool) (k s : Spot) (spots : List Spot) → cond b (k ∷ spots) ((k ∷ spots) ++ s ∷ []) ≡ k ∷ cond b spots (spots ++ s ∷ [])

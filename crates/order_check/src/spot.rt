@@ -60,7 +60,10 @@ pub(crate) fn list_term(alloc: Global, table: &mut SpotTable, t: PartTerm) -> Re
             first,
             second,
             ..
-        } => list_on(alloc, table, seg, first, second, t),
+        } => {
+            list_on(alloc, table, seg, first, second, t)?;
+            Ok(())
+        }
         Term::Link {
             seg,
             other,
@@ -74,7 +77,10 @@ pub(crate) fn list_term(alloc: Global, table: &mut SpotTable, t: PartTerm) -> Re
             a,
             b,
             ..
-        } => list_on_both(alloc, table, seg, other, a, b, t),
+        } => {
+            list_on_both(alloc, table, seg, other, a, b, t)?;
+            Ok(())
+        }
     }
 }
 
@@ -97,7 +103,8 @@ fn list_on_both(
         ++ (if (seg.0 == u.seg.0 || other.0 == u.seg.0) && is_either a b u.line then t ∷ [] else [])) }
 {
     list_on(alloc, table, seg, a, b, t)?;
-    list_on(alloc, table, other, a, b, t)
+    list_on(alloc, table, other, a, b, t)?;
+    Ok(())
 }
 
 /// Lists a term at two lines of a segment.
@@ -117,7 +124,8 @@ fn list_on(
         ++ (if seg.0 == u.seg.0 && is_either a b u.line then t ∷ [] else [])) }
 {
     list_at(alloc, table, Spot { seg, line: a }, t)?;
-    list_at(alloc, table, Spot { seg, line: b }, t)
+    list_at(alloc, table, Spot { seg, line: b }, t)?;
+    Ok(())
 }
 
 /// Lists a term at a spot.
@@ -128,7 +136,8 @@ fn list_at(alloc: Global, table: &mut SpotTable, spot: Spot, t: PartTerm) -> Res
         ≡ listed table.old.spots.keys (term_lists table.old.lists.items) u ++ (if is_spot spot u then t ∷ [] else [])) }
 {
     let (k, _) = table.spots.insert_full(spot)?;
-    add_to(alloc, &mut table.lists, k, t)
+    add_to(alloc, &mut table.lists, k, t)?;
+    Ok(())
 }
 
 /// Adds a term to the list at a place; behind the last one a new one begins with it.
