@@ -142,7 +142,7 @@ spot_few asked ok u list is = omega (arith, ap length is, fewer (λ (t : PartTer
     fewer p [] = omega arith
     fewer p (t ∷ ts) = by_test (p t)
       where
-        by_test : (b : Bool) → length (let l : List PartTerm = cond b (t ∷ filter p ts) (filter p ts) in l) ≤ length ts + 1
+        by_test : (b : Bool) → length (let l : List PartTerm = cond b (t ∷ filter p ts) (filter p ts) in l) ≤ length (t ∷ ts)
         by_test true = omega (arith, fewer p ts)
         by_test false = omega (arith, fewer p ts)
 
