@@ -1,6 +1,6 @@
 -- The sum over the slots of what the cheaper order of their lines costs.
 use Rattle.std.proofs.Common.{◌≡◌, ℕ, ◌+◌, ◌*◌, ◌<◌, ◌≤◌, ◌^◌, Bool, true, false, cond, List, [], ◌∷◌, suc, length, set, get_or, refl, sym, ◌∙◌, ap, subst, arith}
-use Rattle.std.specs.Prelude.{ℤ, pos, ◌+ℤ◌, ◌-ℤ◌, int_lt, unsigned_abs}
+use Rattle.std.specs.Prelude.{ℤ, pos, ◌+ℤ◌, ◌-ℤ◌, ◌≤ℤ◌, int_lt, unsigned_abs}
 use Rattle.std.proofs.lemmas.Int.{ints}
 use Rattle.order_bound.specs.Values.{least_answer}
 use Rattle.order_check.specs.declared.slot.SlotCost.{SlotCost}
@@ -16,12 +16,19 @@ least_small cost m h g = by_test (int_lt (cost false) (cost true))
     by_test false = h
 
 -- the sum is small
+pub record IsWithin (least : ℤ) : Type 0 where
+  pub low : (pos 0 -ℤ pos (2 ^ 100)) ≤ℤ least
+  pub high : least ≤ℤ pos (2 ^ 100)
+
 pub least_bound : (costs : List SlotCost) (least : ℤ) → length costs ≤ 8000000 → ((k : ℕ) (x : Bool) → k < length costs → unsigned_abs (cost_at costs k x) ≤ 2305843009213693952)
-    → least ≡ least_sum costs → unsigned_abs least ≤ 2 ^ 100
+    → least ≡ least_sum costs → IsWithin least
 least_bound costs least few small is =
     let most = sum_bound (λ (c : SlotCost). least_answer (cost_in c)) costs no_cost
     (λ k h. least_small (cost_in (get_or costs k no_cost)) 2305843009213693952 (small k true h) (small k false h)) in
-    rw is (omega (arith, most, few))
+    within least (least_sum costs) (length costs) is most few
+  where
+    within : (a b : ℤ) (n : ℕ) → a ≡ b → unsigned_abs b ≤ 2305843009213693952 * n → n ≤ 8000000 → IsWithin a
+    within a b n e p q = record { low = omega (arith, ints, e, p, q); high = omega (arith, ints, e, p, q) }
 
 -- one slot costs something else
 pub least_moved : (old new : List SlotCost) (k : ℕ) (c : SlotCost) (least before after result : ℤ) → k < length old → new ≡ set old k c → least ≡ least_sum old

@@ -162,13 +162,13 @@ shifted_thirds true a b c d u v w s p q r e = omega (arith, ints, p, q, r, e)
 module _ (s : SegId) (a : LineId) (asked : Asked) (placed after : List (List LineId)) (ok : IsAsked asked) (below : s.0 < length placed)
     (fits : ArePlacedLines (lines_on asked.problem.now.segs s) (lines_on placed s)) (on : Contains (lines_on asked.problem.now.segs s) a) (free : is_placed (lines_on placed s) a ≡ false)
     (is : after ≡ set placed s.0 (with_line (lines_on asked.problem.now.segs s) (lines_on placed s) a)) where
-  abbrev segs : List (List LineId)
+  abbrev pub segs : List (List LineId)
   segs = asked.problem.now.segs
 
-  abbrev table : List PartTerm
+  abbrev pub table : List PartTerm
   table = asked.table.now.terms.items
 
-  abbrev changed : Term → Bool
+  abbrev pub changed : Term → Bool
   changed = changes (placing_of asked.problem.now.segs placed s a)
 
   -- what is not changed adds and costs the same once the line is placed

@@ -1,6 +1,6 @@
 //! Whether a Close holds for a prefix.
 
-ghost use Rattle.std.specs.Prelude.{◌≡◌, ◌≤◌, ◌+ℤ◌, ◌^◌, int_le, pos, unsigned_abs};
+ghost use Rattle.std.specs.Prelude.{◌≡◌, ◌≤◌, ◌+ℤ◌, ◌-ℤ◌, ◌≤ℤ◌, ◌^◌, int_le, pos};
 ghost use Rattle.order_model.specs.Prefixes.{IsPrefixOf};
 ghost use Rattle.order_bound.specs.Accepting.{is_closed};
 ghost use Rattle.order_check.specs.Asking.{question_of, IsAsked, HasTable};
@@ -40,7 +40,8 @@ pub(crate) fn is_closed(
 
 /// Whether the decided terms and the slots together cost at least the target.
 fn reaches(target: u64, decided: u64, least: i128) -> bool
-    requires { unsigned_abs least ≤ 2 ^ 100 }
+    requires low { (pos 0 -ℤ pos (2 ^ 100)) ≤ℤ least }
+    requires high { least ≤ℤ pos (2 ^ 100) }
     ensures { result ≡ int_le (pos target) (pos decided +ℤ least) }
 {
     i128::from(target) <= i128::from(decided) + least

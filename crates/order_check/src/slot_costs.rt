@@ -1,6 +1,6 @@
 //! What terms add to the slots of a part, for a prefix.
 
-ghost use Rattle.std.specs.Prelude.{◌≡◌, ◌<◌, ◌≤◌, ◌+ℤ◌, ◌-ℤ◌, ◌^◌, ℕ, Bool, length, sum_by, unsigned_abs, pos, if◌then◌else◌};
+ghost use Rattle.std.specs.Prelude.{◌≡◌, ◌<◌, ◌≤◌, ◌+ℤ◌, ◌-ℤ◌, ◌≤ℤ◌, ◌^◌, ℕ, Bool, length, sum_by, unsigned_abs, pos, if◌then◌else◌};
 ghost use Rattle.order_model.specs.Problems.{IsTerm};
 ghost use Rattle.order_model.specs.Costs.{same_answer};
 ghost use Rattle.order_model.specs.Prefixes.{IsPrefixOf};
@@ -227,8 +227,10 @@ fn sum(a: i64, b: i64) -> i64
 
 /// A sum, once one of its numbers is another.
 fn moved(sum: i128, before: i64, after: i64) -> i128
-    requires { unsigned_abs sum ≤ 2 ^ 100 }
+    requires low { (pos 0 -ℤ pos (2 ^ 100)) ≤ℤ sum }
+    requires high { sum ≤ℤ pos (2 ^ 100) }
     ensures { result ≡ (sum -ℤ before) +ℤ after }
 {
-    sum - i128::from(before) + i128::from(after)
+    let without = sum - i128::from(before);
+    without + i128::from(after)
 }

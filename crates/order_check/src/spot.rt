@@ -1,6 +1,6 @@
 //! The terms of a part by segment and line.
 
-ghost use Rattle.std.specs.Prelude.{◌≡◌, ◌≢◌, ◌<◌, ◌≤◌, ◌++◌, [], ◌∷◌, length, IfSome, OnOk, Option, position, if◌then◌else◌};
+ghost use Rattle.std.specs.Prelude.{◌≡◌, ◌≢◌, ◌<◌, ◌≤◌, ◌==◌, ◌&&◌, ◌||◌, ◌++◌, [], ◌∷◌, length, IfSome, OnOk, Option, position, if◌then◌else◌};
 ghost use Rattle.order_check.specs.declared.spot.Spot.{Spot};
 ghost use Rattle.order_check.specs.Spots.{is_at, is_either, is_spot, listed, term_lists, with_term, AreTwo, IsSpotTable};
 

@@ -75,8 +75,8 @@ reaches-requires c =
     let small = read_small c.as_slice-terms.result.now table c.as_slice-list.result.now prices c.as_slice-terms.ensures.value c.as_slice-list.ensures.list
     (c.are_allowed.ensures.small c.if-not-are_allowed.false) in
     let most = spread_small asked placed c.args.sums prices c.args.costs.now mid c.requires.asked c.requires.tally small c.spread-least.auto.costs on in
-    least_bound mid c.spread-least.result (omega (arith, c.requires.table, c.spread-least.auto.costs, slots_few asked c.requires.asked)) (λ k x below. (let here = most k x below in omega (arith, here)))
-    c.spread-least.ensures.least
+    let within = least_bound mid c.spread-least.result (omega (arith, c.requires.table, c.spread-least.auto.costs, slots_few asked c.requires.asked)) (λ k x below. (let here = most k x below in omega (arith, here)))
+    c.spread-least.ensures.least in record { low = within.low; high = within.high }
 
 pub returns-clause-closed : goal.returns-clause-closed
 returns-clause-closed c =

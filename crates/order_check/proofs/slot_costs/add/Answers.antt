@@ -9,4 +9,5 @@ pub with_charge-after-requires-clause-greater : goal.with_charge-after-requires-
 with_charge-after-requires-clause-greater c = c.requires.small c.args.charge.slot false (omega (arith, c.if-k-costs.false))
 
 pub moved-requires : goal.moved-requires
-moved-requires c = least_bound c.args.costs.now c.args.least c.requires.few c.requires.small c.requires.least
+moved-requires c =
+    let within = least_bound c.args.costs.now c.args.least c.requires.few c.requires.small c.requires.least in record { low = within.low; high = within.high }
