@@ -203,11 +203,11 @@ changed_decided p segs placed table =
 
 filtered_sum : {A : Type 0} (f : A → ℤ) (p : A → Bool) (xs : List A) → int_sum f (filter p xs) ≡ int_sum (λ x. cond (p x) (f x) (pos 0)) xs
 filtered_sum f p [] = refl
-filtered_sum f p (x ∷ xs) = by_test (p x)
+filtered_sum f p (x ∷ xs) = by_test (p x) (int_sum f (filter p xs)) (int_sum (λ y. cond (p y) (f y) (pos 0)) xs) (filtered_sum f p xs) refl
   where
-    by_test : (b : Bool) → int_sum f (cond b (x ∷ filter p xs) (filter p xs)) ≡ cond b (f x) (pos 0) +ℤ int_sum (λ y. cond (p y) (f y) (pos 0)) xs
-    by_test true = ap (λ v. f x +ℤ v) (filtered_sum f p xs)
-    by_test false = (let rest = filtered_sum f p xs in omega (arith, ints, rest))
+    by_test : (b : Bool) (u v : ℤ) → u ≡ v → int_sum f (filter p xs) ≡ u → int_sum f (cond b (x ∷ filter p xs) (filter p xs)) ≡ cond b (f x) (pos 0) +ℤ v
+    by_test true u v rest is = ap (λ w. f x +ℤ w) (is ∙ rest)
+    by_test false u v rest is = omega (arith, ints, rest, is)
 
 pub spot_sum : (u : Spot) (c : Counted) (segs placed : List (List LineId)) (table : List PartTerm) (k : ℕ) (x : Bool)
     → int_sum (counted_by (is_fresh c) segs placed k x) (filter (λ (t : PartTerm). is_at u t.term) table) ≡ int_sum (counted_by (is_fresh_at u c) segs placed k x) table

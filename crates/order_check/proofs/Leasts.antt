@@ -1,10 +1,14 @@
 -- The sum over the slots of what the cheaper order of their lines costs.
-use Rattle.std.proofs.Common.{◌≡◌, ℕ, ◌+◌, ◌*◌, ◌<◌, ◌≤◌, ◌^◌, Bool, true, false, cond, List, [], ◌∷◌, suc, length, set, get_or, refl, sym, ◌∙◌, ap, subst, arith}
+use Rattle.std.proofs.Common.{◌≡◌, ℕ, ◌+◌, ◌*◌, ◌<◌, ◌≤◌, ◌^◌, ◌==◌, ◌&&◌, Bool, true, false, cond, List, [], ◌∷◌, suc, length, set, get_or, refl, sym, ◌∙◌, ap, subst, arith}
 use Rattle.std.specs.Prelude.{ℤ, pos, ◌+ℤ◌, ◌-ℤ◌, ◌≤ℤ◌, int_lt, unsigned_abs}
+use Rattle.std.proofs.lemmas.Bool.{eqb-true, eqb-false}
 use Rattle.std.proofs.lemmas.Int.{ints}
+use Rattle.std.proofs.lemmas.List.{get_or-set_same, get_or-set_other}
+use Rattle.order_model.specs.Costs.{same_answer}
 use Rattle.order_bound.specs.Values.{least_answer}
+use Rattle.order_check.specs.declared.slot.Charge.{Charge}
 use Rattle.order_check.specs.declared.slot.SlotCost.{SlotCost}
-use Rattle.order_check.specs.Slots.{no_cost, cost_in, cost_at}
+use Rattle.order_check.specs.Slots.{no_cost, cost_in, cost_at, charge_on}
 use Rattle.order_check.specs.Counting.{least_sum}
 use Rattle.order_check.proofs.SignedSums.{sums_by_place, sum_set, sum_bound}
 
@@ -55,3 +59,20 @@ least_none costs clear = sym (none costs (λ k h. rw (clear k true, clear k fals
       where
         zero_sum : (a b : ℤ) → a ≡ pos 0 → b ≡ pos 0 → a +ℤ b ≡ pos 0
         zero_sum a b p q = omega (arith, ints, p, q)
+
+-- A charge at its slot.
+pub charge_set : (costs : List SlotCost) (charge : Charge) (c : SlotCost) → charge.slot < length costs
+    → ((x : Bool) → cost_in c x ≡ cost_in (get_or costs charge.slot no_cost) x +ℤ cond (same_answer charge.lesser_first x) charge.amount (pos 0))
+    → (k : ℕ) → k < length costs → (x : Bool) → cost_at (set costs charge.slot c) k x ≡ cost_at costs k x +ℤ charge_on charge k x
+charge_set costs charge c within changed k below x = by_test (charge.slot == k) refl
+  where
+    none_more : (a : ℤ) → a ≡ a +ℤ pos 0
+    none_more a = omega (arith, ints)
+
+    by_test : (b : Bool) → (charge.slot == k) ≡ b → cost_at (set costs charge.slot c) k x ≡ cost_at costs k x +ℤ cond (b && same_answer charge.lesser_first x) charge.amount (pos 0)
+    by_test true e =
+        let same : charge.slot ≡ k = eqb-true charge.slot k e in
+        ap (λ n. cost_at (set costs charge.slot c) n x) (sym same) ∙ ap (λ d. cost_in d x) (get_or-set_same costs charge.slot c no_cost within) ∙ changed x
+        ∙ ap (λ n. cost_in (get_or costs n no_cost) x +ℤ cond (same_answer charge.lesser_first x) charge.amount (pos 0)) same
+    by_test false e =
+        ap (λ d. cost_in d x) (get_or-set_other costs charge.slot k c no_cost (λ h. eqb-false charge.slot k e (sym h))) ∙ none_more (cost_at costs k x)

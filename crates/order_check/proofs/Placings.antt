@@ -76,11 +76,11 @@ neighbours_more (z ∷ w ∷ rest) zs x y none none_too = ap (λ b. are_these z 
 
 place_more : (xs zs : List LineId) (x : LineId) → is_placed xs x ≡ true → place_of (xs ++ zs) x ≡ place_of xs x
 place_more [] zs x on = absurd (true≢false (sym on))
-place_more (z ∷ xs) zs x on = by (z.0 == x.0) refl
+place_more (z ∷ xs) zs x on = by (z.0 == x.0) refl (place_more xs zs x)
   where
-    by : (b : Bool) → (z.0 == x.0) ≡ b → cond b 0 (1 + place_of (xs ++ zs) x) ≡ cond b 0 (1 + place_of xs x)
-    by true e = refl
-    by false e = ap (λ n. 1 + n) (place_more xs zs x (subst (λ b. (b || is_placed xs x) ≡ true) e on))
+    by : (b : Bool) → (z.0 == x.0) ≡ b → (is_placed xs x ≡ true → place_of (xs ++ zs) x ≡ place_of xs x) → cond b 0 (1 + place_of (xs ++ zs) x) ≡ cond b 0 (1 + place_of xs x)
+    by true e rest = refl
+    by false e rest = ap (λ n. 1 + n) (rest (subst (λ b. (b || is_placed xs x) ≡ true) e on))
 
 -- What a placing places: the line, and where just one is then left this one too.
 
@@ -135,7 +135,7 @@ behind lines placed a = by_test (length (placed ++ a ∷ []) + 1 == length lines
     by_test : (b : Bool) → (length (placed ++ a ∷ []) + 1 == length lines) ≡ b → (zs : List LineId) × IsPlacedBehind lines placed a zs
     by_test b e =
         let h = by b e in
-        (h.0, record { more = ap (λ c. cond c ((placed ++ a ∷ []) ++ option_to_list (last_left lines placed a)) (placed ++ a ∷ [])) e ∙ h.1; some = h.2; none = h.3; one = h.4 })
+        (h.0, record { more = ap (λ c. cond c ((placed ++ a ∷ []) ++ option_to_list (last_left lines placed a)) (placed ++ a ∷ [])) e ∙ h.1.0; some = h.1.1.0; none = h.1.1.1.0; one = h.1.1.1.1 })
 
 -- Neither of two lines is the one that is placed, or the last before it, or the other one left.
 pub record AreAside (lines placed : List LineId) (a x y : LineId) : Type 0 where
@@ -222,7 +222,7 @@ many_left lines placed a x y aside left free free_too = by (nat_le (length lines
     by false e = leb-false (length lines) (length placed + 3) e
     by true e = elim (found_one (is_unplaced next) lines) [
       | inl h ↦ (let most = crowded e h.0 h.1 h.2 h.3 in omega (arith, most))
-      | inr h ↦ absurd (true≢false (sym (all_at h.1 left.first_on) ∙ sym open_next))
+      | inr h ↦ absurd (true≢false (sym open_next ∙ all_at h.1 left.first_on))
     ]
       where
         all_at : All (λ l. is_unplaced next l ≡ false) lines → Contains lines x → is_unplaced next x ≡ false
@@ -322,12 +322,12 @@ module _ (segs placed after : List (List LineId)) (s : SegId) (a : LineId) (zs :
 
   aside_of : (x y : LineId) → is_either x y a ≡ false → is_either x y (last_or (lines_on placed s) a) ≡ false → is_either x y (left_or (lines_on segs s) (lines_on placed s) a) ≡ false
       → AreAside (lines_on segs s) (lines_on placed s) a x y
-  aside_of x y no no_last no_left =
+  aside_of x y not_own not_last_one not_left =
       let last : LineId = last_or (lines_on placed s) a in
       let left : LineId = left_or (lines_on segs s) (lines_on placed s) a in
-      let own = or_parts (x.0 == a.0) (y.0 == a.0) no in
-      let lasts = or_parts (x.0 == last.0) (y.0 == last.0) no_last in
-      let lefts = or_parts (x.0 == left.0) (y.0 == left.0) no_left in record {
+      let own = or_parts (x.0 == a.0) (y.0 == a.0) not_own in
+      let lasts = or_parts (x.0 == last.0) (y.0 == last.0) not_last_one in
+      let lefts = or_parts (x.0 == left.0) (y.0 == left.0) not_left in record {
         first = eqb-false x.0 a.0 own.0;
         second = eqb-false y.0 a.0 own.1;
         first_last = eqb-false x.0 last.0 lasts.0;
@@ -340,20 +340,20 @@ module _ (segs placed after : List (List LineId)) (s : SegId) (a : LineId) (zs :
   charges_kept : (t : Term) (here there : ℕ) (y : ℤ) → IsTerm segs t → ArePlacedLines (lines_on segs s) (lines_on placed s) → Contains (lines_on segs s) a → is_placed (lines_on placed s) a ≡ false
       → is_of_line a t ≡ false → is_of_line (last_or (lines_on placed s) a) t ≡ false → is_of_line (left_or (lines_on segs s) (lines_on placed s) a) t ≡ false
       → charges_by segs after t here there y ≡ charges_by segs placed t here there y
-  charges_kept (Side seg first second w) here there y fits ok on free no no_last no_left =
-      let aside = aside_of first second no no_last no_left in
+  charges_kept (Side seg first second w) here there y fits ok on free not_own not_last_one not_left =
+      let aside = aside_of first second not_own not_last_one not_left in
       ap (λ b. cond b (decided_charges (cond (comes_before (lines_on after seg) second first) w 0)) (one_charge here (nat_lt second.0 first.0) (pos w)))
       (decided_kept seg first second (next.none first aside.first aside.first_left) (next.none second aside.second aside.second_left))
       ∙ ap (λ b. cond (is_decided placed seg first second) (decided_charges (cond b w 0)) (one_charge here (nat_lt second.0 first.0) (pos w)))
       (before_kept seg second first (next.none second aside.second aside.second_left))
-  charges_kept (Link seg other flip x z w) here there y fits ok on free no no_last no_left =
-      let aside = aside_of x z no no_last no_left in
+  charges_kept (Link seg other flip x z w) here there y fits ok on free not_own not_last_one not_left =
+      let aside = aside_of x z not_own not_last_one not_left in
       let no_x = next.none x aside.first aside.first_left in
       let no_z = next.none z aside.second aside.second_left in
       ap (λ o. link_charges here there o (looked after other x z) flip w y) (looked_kept seg x z no_x no_z)
       ∙ ap (λ o. link_charges here there (looked placed seg x z) o flip w y) (looked_kept other x z no_x no_z)
-  charges_kept (Apart seg other x z w) here there y fits ok on free no no_last no_left =
-      let aside = aside_of x z no no_last no_left in
+  charges_kept (Apart seg other x z w) here there y fits ok on free not_own not_last_one not_left =
+      let aside = aside_of x z not_own not_last_one not_left in
       let differ : x.0 ≢ z.0 = λ e. omega (arith, e, fits.a_below) in
       let left : seg.0 ≡ s.0 → AreLeft (lines_on segs s) (lines_on placed s) a x z = λ e. record {
         ok = ok;
@@ -405,9 +405,9 @@ same_charges segs placed after s a t here there y below ok on free is fits none 
     by : (b : Bool) → is_on s.0 t ≡ b → charges_by segs after t here there y ≡ charges_by segs placed t here there y
     by false e = ap (λ (p : List (List LineId)). charges_by segs p t here there y) is ∙ elsewhere segs placed s.0 (with_line lines before a) t here there y e
     by true e =
-        let no : (is_of_line a t || (is_of_line (last_or before a) t || is_of_line (left_or lines before a) t)) ≡ false =
+        let none_of : (is_of_line a t || (is_of_line (last_or before a) t || is_of_line (left_or lines before a) t)) ≡ false =
         subst (λ b. (b && (is_of_line a t || (is_of_line (last_or before a) t || is_of_line (left_or lines before a) t))) ≡ false) e none in
-        let one = or_parts (is_of_line a t) (is_of_line (last_or before a) t || is_of_line (left_or lines before a) t) no in
+        let one = or_parts (is_of_line a t) (is_of_line (last_or before a) t || is_of_line (left_or lines before a) t) none_of in
         let two = or_parts (is_of_line (last_or before a) t) (is_of_line (left_or lines before a) t) one.1 in
         let next = behind lines before a in
         charges_kept segs placed after s a next.0 below (is ∙ ap (set placed s.0) next.1.more) next.1 t here there y fits ok on free one.0 two.0 two.1

@@ -47,11 +47,12 @@ listed_place : (spots : List Spot) (lists : List (List PartTerm)) (u : Spot) →
 listed_place [] [] u each = refl
 listed_place [] (l ∷ lists) u each = absurd (omega (arith, each))
 listed_place (s ∷ spots) [] u each = refl
-listed_place (s ∷ spots) (l ∷ lists) u each = by_test (is_spot u s)
+listed_place (s ∷ spots) (l ∷ lists) u each = by_test (is_spot u s) (listed_place spots lists u (omega (arith, each)))
   where
-    by_test : (b : Bool) → cond b l (listed spots lists u) ≡ get_or (l ∷ lists) (cond (not b) (1 + position_or_len (is_spot u) spots) 0) []
-    by_test true = refl
-    by_test false = listed_place spots lists u (omega (arith, each)) ∙ ap (λ n. get_or (l ∷ lists) n []) (sym (one_more (position_or_len (is_spot u) spots)))
+    by_test : (b : Bool) → listed spots lists u ≡ get_or lists (position_or_len (is_spot u) spots) []
+        → cond b l (listed spots lists u) ≡ get_or (l ∷ lists) (cond (not b) (1 + position_or_len (is_spot u) spots) 0) []
+    by_test true rest = refl
+    by_test false rest = rest ∙ ap (λ n. get_or (l ∷ lists) n []) (sym (one_more (position_or_len (is_spot u) spots)))
 
 pub listed_at : (spots : List Spot) (lists : List (List PartTerm)) (u : Spot) (k : ℕ) → length lists ≡ length spots → position (is_spot u) spots ≡ Some k → listed spots lists u ≡ get_or lists k []
 listed_at spots lists u k each found = listed_place spots lists u each ∙ ap (λ n. get_or lists n []) (by_test (nat_lt (position_or_len (is_spot u) spots) (length spots)) found)
@@ -101,13 +102,13 @@ pub with_each : (spots : List Spot) (lists : List (List PartTerm)) (s : Spot) (t
 with_each [] [] s t each = refl
 with_each [] (l ∷ lists) s t each = absurd (omega (arith, each))
 with_each (k ∷ spots) [] s t each = absurd (omega (arith, each))
-with_each (k ∷ spots) (l ∷ lists) s t each = by_test (is_spot s k)
+with_each (k ∷ spots) (l ∷ lists) s t each = by_test (is_spot s k) (with_each spots lists s t (omega (arith, each)))
   where
-    by_test : (b : Bool) → length (with_term (l ∷ lists) (cond (not b) (1 + position_or_len (is_spot s) spots) 0) t)
+    by_test : (b : Bool) → length (with_term lists (position_or_len (is_spot s) spots) t) ≡ length (noted spots s)
+        → length (with_term (l ∷ lists) (cond (not b) (1 + position_or_len (is_spot s) spots) 0) t)
         ≡ length (let r : List Spot = cond (b || list_any (is_spot s) spots) (k ∷ spots) ((k ∷ spots) ++ s ∷ []) in r)
-    by_test true = omega (arith, each)
-    by_test false =
-        let rest = with_each spots lists s t (omega (arith, each)) in
+    by_test true rest = omega (arith, each)
+    by_test false rest =
         ap (λ n. length (with_term (l ∷ lists) n t)) (one_more (position_or_len (is_spot s) spots))
         ∙ omega (arith, rest, ap length (noted_later (list_any (is_spot s) spots) k s spots))
 
@@ -116,7 +117,7 @@ pub listed_more : (spots : List Spot) (lists : List (List PartTerm)) (s : Spot) 
 listed_more [] [] s t u each = ap (λ b. cond b (t ∷ []) []) (spot_turned u s)
 listed_more [] (l ∷ lists) s t u each = absurd (omega (arith, each))
 listed_more (k ∷ spots) [] s t u each = absurd (omega (arith, each))
-listed_more (k ∷ spots) (l ∷ lists) s t u each = by_test (is_spot s k) refl
+listed_more (k ∷ spots) (l ∷ lists) s t u each = by_test (is_spot s k) refl (listed_more spots lists s t u (omega (arith, each)))
   where
     own : List PartTerm
     own = cond (is_spot s u) (t ∷ []) []
@@ -131,16 +132,16 @@ listed_more (k ∷ spots) (l ∷ lists) s t u each = by_test (is_spot s k) refl
         let none : is_spot s u ≡ false = ap (is_spot s) (same_spot u k f) ∙ e in
         sym (ap (λ c. l ++ cond c (t ∷ []) []) none ∙ append-nil l)
 
-    by_test : (b : Bool) → is_spot s k ≡ b
+    by_test : (b : Bool) → is_spot s k ≡ b → listed (noted spots s) (with_term lists (position_or_len (is_spot s) spots) t) u ≡ listed spots lists u ++ own
         → listed (cond (b || list_any (is_spot s) spots) (k ∷ spots) ((k ∷ spots) ++ s ∷ [])) (with_term (l ∷ lists) (cond (not b) (1 + position_or_len (is_spot s) spots) 0) t) u
         ≡ cond (is_spot u k) l (listed spots lists u) ++ own
-    by_test true e =
+    by_test true e rest =
         let same : k ≡ s = sym (same_spot s k e) in
         here (is_spot u k) (spot_turned k u) refl ∙ ap (λ (v : Spot). cond (is_spot u k) l (listed spots lists u) ++ cond (is_spot v u) (t ∷ []) []) same
-    by_test false e =
+    by_test false e rest =
         ap (λ n. listed (cond (list_any (is_spot s) spots) (k ∷ spots) ((k ∷ spots) ++ s ∷ [])) (with_term (l ∷ lists) n t) u) (one_more (position_or_len (is_spot s) spots))
         ∙ ap (λ ks. listed ks (l ∷ with_term lists (position_or_len (is_spot s) spots) t) u) (noted_later (list_any (is_spot s) spots) k s spots)
-        ∙ ap (λ r. cond (is_spot u k) l r) (listed_more spots lists s t u (omega (arith, each)))
+        ∙ ap (λ r. cond (is_spot u k) l r) rest
         ∙ later e (is_spot u k) refl
 
 -- a term is added to one of the lists, or begins a new one

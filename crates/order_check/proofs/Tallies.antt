@@ -1,9 +1,10 @@
 -- The tally of a part's terms, once those that a placing may change are taken off or put on, and where lines are placed.
-use Rattle.std.proofs.Common.{◌≡◌, ℕ, ◌+◌, ◌-◌, ◌<◌, ◌≤◌, Bool, true, false, cond, List, [], ◌∷◌, length, map, set, get_or, refl, sym, ◌∙◌, ap, subst, arith, Some, None}
+use Rattle.std.proofs.Common.{◌≡◌, ℕ, ◌+◌, ◌-◌, ◌<◌, ◌≤◌, Bool, true, false, cond, not, List, [], ◌∷◌, length, map, set, get_or, refl, sym, ◌∙◌, ap, subst, arith, Some, None}
 use Rattle.std.specs.Prelude.{ℤ, pos, ◌+ℤ◌, unsigned_abs, position}
 use Rattle.std.specs.List.{sum_by, filter, All, Contains}
 use Rattle.std.proofs.lemmas.Int.{ints}
 use Rattle.std.proofs.lemmas.List.Elements.{All-filter}
+use Rattle.std.proofs.lemmas.List.Filters.{length-filter_both}
 use Rattle.map_base.specs.declared.ids.SegId.{SegId}
 use Rattle.map_base.specs.declared.ids.LineId.{LineId}
 use Rattle.order_model.specs.declared.term.Term.{Term}
@@ -136,15 +137,8 @@ spot_fits asked ok u list is =
     (All-filter (λ (t : PartTerm). is_at u t.term) (λ (t : PartTerm). IsTerm asked.problem.now.segs t.term) asked.table.now.terms.items (table_fits asked ok))
 
 pub spot_few : (asked : Asked) (ok : IsAsked asked) (u : Spot) (list : List PartTerm) → list ≡ filter (λ (t : PartTerm). is_at u t.term) asked.table.now.terms.items → length list ≤ 4000000
-spot_few asked ok u list is = omega (arith, ap length is, fewer (λ (t : PartTerm). is_at u t.term) asked.table.now.terms.items, table_few asked ok)
-  where
-    fewer : (p : PartTerm → Bool) (ts : List PartTerm) → length (filter p ts) ≤ length ts
-    fewer p [] = omega arith
-    fewer p (t ∷ ts) = by_test (p t)
-      where
-        by_test : (b : Bool) → length (let l : List PartTerm = cond b (t ∷ filter p ts) (filter p ts) in l) ≤ length (t ∷ ts)
-        by_test true = omega (arith, fewer p ts)
-        by_test false = omega (arith, fewer p ts)
+spot_few asked ok u list is =
+    omega (arith, ap length is, length-filter_both (λ (t : PartTerm). is_at u t.term) (λ (t : PartTerm). not (is_at u t.term)) (λ t. refl) asked.table.now.terms.items, table_few asked ok)
 
 -- a spot that lists none
 pub spot_none : (asked : Asked) (ok : IsAsked asked) (u : Spot) → position (is_spot u) asked.table.now.spots.spots.keys ≡ None

@@ -182,7 +182,10 @@ fn add(costs: &mut [SlotCost], charge: Charge, least: i128) -> i128
     let before = costs[k];
     let after = with_charge(before, charge);
     costs[k] = after;
-    moved(least, least_of(before), least_of(after))
+    let was = least_of(before);
+    let will = least_of(after);
+    let rest = without(least, was);
+    with(rest, will)
 }
 
 /// The costs of a slot after a charge.
@@ -225,12 +228,22 @@ fn sum(a: i64, b: i64) -> i64
     a + b
 }
 
-/// A sum, once one of its numbers is another.
-fn moved(sum: i128, before: i64, after: i64) -> i128
+/// A sum without one of its numbers.
+fn without(sum: i128, number: i64) -> i128
     requires low { (pos 0 -ℤ pos (2 ^ 100)) ≤ℤ sum }
     requires high { sum ≤ℤ pos (2 ^ 100) }
-    ensures { result ≡ (sum -ℤ before) +ℤ after }
+    ensures sum { result ≡ sum -ℤ number }
+    ensures low { (sum -ℤ pos (2 ^ 63)) ≤ℤ result }
+    ensures high { result ≤ℤ (sum +ℤ pos (2 ^ 63)) }
 {
-    let without = sum - i128::from(before);
-    without + i128::from(after)
+    sum - i128::from(number)
+}
+
+/// A sum with one number more.
+fn with(sum: i128, number: i64) -> i128
+    requires low { (pos 0 -ℤ pos (2 ^ 101)) ≤ℤ sum }
+    requires high { sum ≤ℤ pos (2 ^ 101) }
+    ensures { result ≡ sum +ℤ number }
+{
+    sum + i128::from(number)
 }

@@ -26,15 +26,11 @@ pub(crate) fn first_tally(asked: &Asked, prefix: &Prefix, costs: &mut [SlotCost]
 {
     clear(costs);
     let terms = asked.table.terms.as_slice();
-    count(
-        asked.problem,
-        prefix,
-        terms,
-        counted(None, None),
-        costs,
-        0,
-        false,
-    )
+    let none = Counted {
+        first: None,
+        second: None,
+    };
+    count(asked.problem, prefix, terms, none, costs, 0, false)
 }
 
 /// Takes the terms that a placing may change off the tally of all.

@@ -1,7 +1,7 @@
 use Rattle.std.proofs.Common.{◌≡◌, ℕ, ◌<◌, ◌≤◌, ◌∙◌, Bool, true, false, List, length, ap, sym, subst, arith, FitsSigned, to_z, of_z, rules}
 use Rattle.std.specs.Prelude.{ℤ, pos, ◌+ℤ◌, int_le, unsigned_abs}
 use Rattle.std.specs.Int.{w128}
-use Rattle.std.proofs.lemmas.Int.{to_z-of_z}
+use Rattle.std.proofs.lemmas.Int.{ints, to_z-of_z}
 use Rattle.map_base.specs.declared.ids.LineId.{LineId}
 use Rattle.whole_sums.specs.Sums.{int_sum}
 use Rattle.order_bound.specs.Accepting.{is_closed}
@@ -63,8 +63,8 @@ spread-same-requires-clause-costs c = λ k x below.
     let here = most k x below in
     omega (arith, here))
 
-pub reaches-requires : goal.reaches-requires
-reaches-requires c =
+pub reaches-requires-clause-low : goal.reaches-requires-clause-low
+reaches-requires-clause-low c =
     let asked : Asked = c.args.asked.now in
     let placed : List (List LineId) = c.args.prefix.now.placed in
     let table : List PartTerm = asked.table.now.terms.items in
@@ -76,7 +76,26 @@ reaches-requires c =
     (c.are_allowed.ensures.small c.if-not-are_allowed.false) in
     let most = spread_small asked placed c.args.sums prices c.args.costs.now mid c.requires.asked c.requires.tally small c.spread-least.auto.costs on in
     let within = least_bound mid c.spread-least.result (omega (arith, c.requires.table, c.spread-least.auto.costs, slots_few asked c.requires.asked)) (λ k x below. (let here = most k x below in omega (arith, here)))
-    c.spread-least.ensures.least in record { low = within.low; high = within.high }
+    c.spread-least.ensures.least in
+    let read : to_z w128 (of_z w128 c.spread-least.result) ≡ c.spread-least.result = to_z-of_z w128 c.spread-least.result (search rules) in
+    omega (arith, ints, within.low, read)
+
+pub reaches-requires-clause-high : goal.reaches-requires-clause-high
+reaches-requires-clause-high c =
+    let asked : Asked = c.args.asked.now in
+    let placed : List (List LineId) = c.args.prefix.now.placed in
+    let table : List PartTerm = asked.table.now.terms.items in
+    let prices : List (ℕ × ℤ) = c.args.prices.now in
+    let mid : List SlotCost = c.spread-least.new.costs in
+    let on : ArePricesOn table prices false c.args.costs.now mid =
+    read_on c.as_slice-terms.result.now table c.as_slice-list.result.now prices false c.args.costs.now mid c.as_slice-terms.ensures.value c.as_slice-list.ensures.list c.spread-least.ensures.slots in
+    let small = read_small c.as_slice-terms.result.now table c.as_slice-list.result.now prices c.as_slice-terms.ensures.value c.as_slice-list.ensures.list
+    (c.are_allowed.ensures.small c.if-not-are_allowed.false) in
+    let most = spread_small asked placed c.args.sums prices c.args.costs.now mid c.requires.asked c.requires.tally small c.spread-least.auto.costs on in
+    let within = least_bound mid c.spread-least.result (omega (arith, c.requires.table, c.spread-least.auto.costs, slots_few asked c.requires.asked)) (λ k x below. (let here = most k x below in omega (arith, here)))
+    c.spread-least.ensures.least in
+    let read : to_z w128 (of_z w128 c.spread-least.result) ≡ c.spread-least.result = to_z-of_z w128 c.spread-least.result (search rules) in
+    omega (arith, ints, within.high, read)
 
 pub returns-clause-closed : goal.returns-clause-closed
 returns-clause-closed c =
@@ -90,7 +109,8 @@ returns-clause-closed c =
     let priced : ArePriced asked.problem.now.segs placed table prices =
     read_priced asked.problem.now.segs placed c.as_slice-terms.result.now table c.as_slice-list.result.now prices c.as_slice-terms.ensures.value c.as_slice-list.ensures.list
     (c.are_allowed.ensures.priced c.if-not-are_allowed.false) in
-    c.reaches.ensures
+    let read : to_z w128 (of_z w128 c.spread-least.result) ≡ c.spread-least.result = to_z-of_z w128 c.spread-least.result (search rules) in
+    c.reaches.ensures ∙ ap (λ v. int_le (pos asked.target) (pos c.args.sums.decided +ℤ v)) read
     ∙ closed_by_prices asked placed c.args.sums prices c.args.costs.now mid c.spread-least.result c.requires.asked c.requires.tally c.requires.table priced c.spread-least.auto.costs on c.spread-least.ensures.least
 
 pub returns-clause-tally : goal.returns-clause-tally

@@ -1,4 +1,4 @@
-use Rattle.std.proofs.Common.{◌≡◌, ℕ, ◌*◌, ◌<◌, ◌∙◌, List, length, take, get_or, ap, sym, arith, refl}
+use Rattle.std.proofs.Common.{◌≡◌, ℕ, ◌*◌, ◌<◌, ◌∙◌, List, length, take, get_or, ap, sym, arith, refl, rules}
 use Rattle.std.specs.Prelude.{ℤ}
 use Rattle.std.specs.List.{sum_by}
 use Rattle.std.proofs.lemmas.List.{take_all}
@@ -13,6 +13,8 @@ use Rattle.order_check.specs.Counting.{counted_by, decided_by, shifted}
 use Rattle.order_check.proofs.SignedSums.{sum_more}
 use Rattle.order_check.proofs.Counting.{counted_if, small_sum, shifted_more, shifted_small, shifted_none}
 use Rattle.order_check.proofs.slot_costs.count.Goals as goal
+use Rattle.std.specs.Int.{w128}
+use Rattle.std.proofs.lemmas.Int.{to_z-of_z}
 
 pub count_term-added-requires-clause-small : goal.count_term-added-requires-clause-small
 count_term-added-requires-clause-small c = λ k x below.
@@ -30,7 +32,7 @@ loop-i-init c = record {
   decided = refl;
   most = omega arith;
   each = refl;
-  least = c.requires.least;
+  least = to_z-of_z w128 c.args.least c.ranges.least ∙ c.requires.least;
   slots = λ k below x. shifted_none c.args.off (cost_at c.args.costs.now k x);
 }
 
@@ -43,7 +45,7 @@ loop-i-preserved c =
       decided = (omega (arith, c.loop-i.invariant.decided, c.count_term-added.ensures.decided, sum_by_more (decided_by (is_fresh c.args.counted) segs placed) terms i no_part_term c.loop-i-test.true));
       most = omega (arith, c.loop-i.invariant.most, c.count_term-added.ensures.most);
       each = omega (arith, c.loop-i.invariant.each, c.count_term-added.auto.costs);
-      least = c.count_term-added.ensures.least;
+      least = to_z-of_z w128 c.count_term-added.result.least (search rules) ∙ c.count_term-added.ensures.least;
       slots = λ k below x.
           (let f : PartTerm → ℤ = counted_by (is_fresh c.args.counted) segs placed k x in
           let under : k < length c.loop-i.costs = omega (arith, below, c.count_term-added.auto.costs) in

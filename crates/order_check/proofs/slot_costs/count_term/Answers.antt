@@ -33,3 +33,10 @@ returns-clause-slots c = λ k below x.
     c.add_both-least.ensures.slots k below x
     ∙ ap (λ (d : Charges). shifted c.args.off a (charge_on d.here k x +ℤ charge_on d.there k x)) c.charges-added.ensures
     ∙ sym (ap (λ b. shifted c.args.off a (cond b (added_by segs placed k x c.args.t) (pos 0))) counted))
+
+pub returns-clause-most : goal.returns-clause-most
+returns-clause-most c =
+    let t : PartTerm = c.args.t in
+    let small : AreSmallCharges c.charges-added.result =
+    rw c.charges-added.ensures (small_charges c.args.problem.now.segs c.args.prefix.now.placed t.term t.here t.there (pos 0) c.requires.term (omega (arith, ints))) in
+    small.decided

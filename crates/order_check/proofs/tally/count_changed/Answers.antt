@@ -1,4 +1,4 @@
-use Rattle.std.proofs.Common.{◌≡◌, ◌+◌, ◌<◌, ◌≤◌, ◌∙◌, ℕ, Bool, List, length, ap, sym, arith}
+use Rattle.std.proofs.Common.{◌≡◌, ◌+◌, ◌<◌, ◌≤◌, ◌∙◌, ℕ, Bool, List, length, ap, sym, arith, rules}
 use Rattle.std.specs.Prelude.{ℤ, ◌+ℤ◌, unsigned_abs}
 use Rattle.map_base.specs.declared.ids.LineId.{LineId}
 use Rattle.whole_sums.specs.Sums.{int_sum}
@@ -12,6 +12,8 @@ use Rattle.order_check.proofs.Closing.{table_fits, table_few}
 use Rattle.order_check.proofs.Counting.{shifted_small, counted_small, own_terms, last_terms, left_terms, changed_sum, changed_decided}
 use Rattle.order_check.proofs.Tallies.{shifted_thirds}
 use Rattle.order_check.proofs.tally.count_changed.Goals as goal
+use Rattle.std.specs.Int.{w128}
+use Rattle.std.proofs.lemmas.Int.{to_z-of_z}
 
 pub count_at-own-requires-clause-small : goal.count_at-own-requires-clause-small
 count_at-own-requires-clause-small c = λ k x below. (let most = c.requires.small k x below in omega (arith, most))
@@ -54,7 +56,7 @@ returns c =
     record {
       decided = omega (arith, changed_decided p segs placed table, c.count_at-own.ensures.decided, c.count_at-others.ensures.decided, c.count_at-left.ensures.decided);
       most = omega (arith, c.count_at-own.ensures.most, c.count_at-others.ensures.most, c.count_at-left.ensures.most);
-      least = c.count_at-left.ensures.least;
+      least = to_z-of_z w128 c.count_at-left.result.least (search rules) ∙ c.count_at-left.ensures.least;
       slots = λ k below x.
           (let first : k < length c.count_at-own.new.costs = omega (arith, below, c.count_at-own.auto.costs) in
           let second : k < length c.count_at-others.new.costs = omega (arith, first, c.count_at-others.auto.costs) in

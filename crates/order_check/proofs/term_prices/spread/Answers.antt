@@ -1,4 +1,4 @@
-use Rattle.std.proofs.Common.{◌≡◌, ℕ, ◌<◌, ◌≤◌, ◌∙◌, Bool, List, length, take, get_or, ap, sym, arith, refl}
+use Rattle.std.proofs.Common.{◌≡◌, ℕ, ◌<◌, ◌≤◌, ◌∙◌, Bool, List, length, take, get_or, ap, sym, arith, refl, rules}
 use Rattle.std.specs.Prelude.{ℤ, pos, unsigned_abs}
 use Rattle.std.proofs.lemmas.List.{take_all}
 use Rattle.whole_sums.specs.Sums.{int_sum}
@@ -8,6 +8,8 @@ use Rattle.order_check.specs.Pricing.{price_on}
 use Rattle.order_check.proofs.SignedSums.{sum_more}
 use Rattle.order_check.proofs.Counting.{shifted_none, shifted_more, shifted_small}
 use Rattle.order_check.proofs.term_prices.spread.Goals as goal
+use Rattle.std.specs.Int.{w128}
+use Rattle.std.proofs.lemmas.Int.{to_z-of_z}
 
 pub spread_price-least-requires-clause-price : goal.spread_price-least-requires-clause-price
 spread_price-least-requires-clause-price c = c.requires.small.each c.loop-j.j c.loop-j-test.true
@@ -22,14 +24,14 @@ spread_price-least-requires-clause-small c = λ k x below.
 pub loop-j-init : goal.loop-j-init
 loop-j-init c = record {
   each = refl;
-  least = c.requires.least;
+  least = to_z-of_z w128 c.args.least c.ranges.least ∙ c.requires.least;
   slots = λ k below x. shifted_none c.args.off (cost_at c.args.costs.now k x);
 }
 
 pub loop-j-preserved : goal.loop-j-preserved
 loop-j-preserved c = record {
   each = omega (arith, c.loop-j.invariant.each, c.spread_price-least.auto.costs);
-  least = c.spread_price-least.ensures.least;
+  least = to_z-of_z w128 c.spread_price-least.result (search rules) ∙ c.spread_price-least.ensures.least;
   slots = λ k below x.
       (let f : ℕ × ℤ → ℤ = price_on c.args.terms.now k x in
       let under : k < length c.loop-j.costs = omega (arith, below, c.spread_price-least.auto.costs) in

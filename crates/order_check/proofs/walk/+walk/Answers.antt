@@ -108,9 +108,6 @@ walk_case-take_back-requires-clause-some t c =
     chosen_walked c.args.asked.now.problem.now.segs c.args.prefix.now.placed c.place.new.self.placed c.walk-outcome.new.prefix.placed s c.args.line
     (omega (arith, c.requires.seg, c.requires.fits.each)) (c.requires.fits.lines s.0 c.requires.seg) c.requires.line c.requires.unplaced c.place.ensures.placed c.walk-outcome.ensures.placed
 
-pub walk_split-walk_cases-requires-clause-holds : goal.walk_split-walk_cases-requires-clause-holds
-walk_split-walk_cases-requires-clause-holds t c = sym c.is_split.ensures ∙ c.if-not-is_split.false
-
 -- the tally of the others, once the line is placed
 pub walk_case-put_on-after-requires-clause-tally : goal.walk_case-put_on-after-requires-clause-tally
 walk_case-put_on-after-requires-clause-tally t c =
@@ -128,7 +125,7 @@ walk_case-put_on-same-requires-clause-tally t c =
     let s = c.args.seg in
     let asked = c.args.asked.now in
     let placed : List (List LineId) = c.args.prefix.now.placed in
-    let known = omega (arith, c.requires.seg, c.requires.fits.each) in
+    let known : s.0 < length placed = omega (arith, c.requires.seg, c.requires.fits.each) in
     let placing = placing_of asked.problem.now.segs placed s c.args.line in
     let walked = subst (λ (p : Placing). IsTallyBeside (changes p) asked c.walk-outcome.new.prefix.placed c.take_off-left.result c.take_off-left.new.costs) c.placing_of-placing.ensures c.take_off-left.ensures in
     let there = subst (λ (l : List (List LineId)). IsTallyBeside (changes placing) asked l c.take_off-left.result c.take_off-left.new.costs) c.walk-outcome.ensures.placed walked in
