@@ -25,7 +25,7 @@ pub list_term-requires-clause-two : goal.list_term-requires-clause-two
 list_term-requires-clause-two c =
     let terms : List Term = c.terms-terms.result.now in
     let n : ℕ = get_or c.args.numbers.now c.loop-n.n-index 0 in
-    let same : terms ≡ c.args.problem.now.terms = c.terms-terms.ensures in
+    let same : terms ≡ c.args.problem.now.terms = c.terms-terms.ensures.list in
     let known : n < length c.args.problem.now.terms = c.requires.known c.loop-n.n-index 0 c.loop-n-test.true in
     let is : c.in_ok-entry.entry.term ≡ get_or terms n no_term = ap (λ (q : ℕ × Term). q.1) c.in_ok-entry.ensures.plain in
     subst AreTwo (sym (is ∙ ap (λ ts. get_or ts n no_term) same)) (two_of_term c.args.problem.now.segs (get_or c.args.problem.now.terms n no_term) (c.requires.problem.terms n no_term known))

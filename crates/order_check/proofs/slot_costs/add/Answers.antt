@@ -47,5 +47,6 @@ returns-clause-least c =
     let was : to_z w64 (of_z w64 c.least_of-was.result) ≡ c.least_of-was.result = to_z-of_z w64 c.least_of-was.result (search rules) in
     let will : to_z w64 (of_z w64 c.least_of-will.result) ≡ c.least_of-will.result = to_z-of_z w64 c.least_of-will.result (search rules) in
     let moved : c.with.result ≡ (c.args.least -ℤ c.least_of-was.result) +ℤ c.least_of-will.result = omega (arith, ints, own, rest, was, will, c.without-rest.ensures.sum, c.with.ensures) in
-    least_moved c.args.costs.now (set c.args.costs.now c.args.charge.slot c.with_charge-after.result) c.args.charge.slot c.with_charge-after.result c.args.least c.least_of-was.result c.least_of-will.result
+    to_z-of_z w128 c.with.result (search rules)
+    ∙ least_moved c.args.costs.now (set c.args.costs.now c.args.charge.slot c.with_charge-after.result) c.args.charge.slot c.with_charge-after.result c.args.least c.least_of-was.result c.least_of-will.result
     c.with.result (omega (arith, c.if-k-costs.false)) refl c.requires.least c.least_of-was.ensures c.least_of-will.ensures moved
