@@ -12,7 +12,7 @@ use Rattle.order_check.specs.declared.slot.Sums.{Sums}
 use Rattle.order_check.specs.declared.asked.Asked.{Asked}
 use Rattle.order_check.specs.Asking.{question_of, IsAsked, HasTable}
 use Rattle.order_check.specs.Slots.{cost_at}
-use Rattle.order_check.specs.Counting.{added_by, shifted, least_sum, IsTally}
+use Rattle.order_check.specs.Counting.{shifted, least_sum, IsTally}
 use Rattle.order_check.specs.Pricing.{price_on, ArePriced, AreSmallPrices}
 use Rattle.order_check.proofs.Closing.{closed_by_costs}
 use Rattle.order_check.proofs.Counting.{shifted_small}

@@ -12,7 +12,7 @@ use Rattle.map_base.specs.declared.ids.LineId.{LineId}
 use Rattle.order_model.specs.declared.term.Term.{Term}
 use Rattle.order_model.specs.declared.term.Term.TheVariants.{Side, Link, Apart}
 use Rattle.order_model.specs.Problems.{lines_on, IsTerm}
-use Rattle.order_model.specs.Costs.{seg_of, other_of, comes_before, are_these, are_neighbours}
+use Rattle.order_model.specs.Costs.{comes_before, are_these, are_neighbours}
 use Rattle.order_model.specs.Places.{place_of}
 use Rattle.order_model.specs.Prefixes.{is_placed, is_unplaced, with_line, AreApart, ArePlacedLines}
 use Rattle.order_model.specs.Looks.{is_decided, is_last, beside_unplaced, neighbours_on}

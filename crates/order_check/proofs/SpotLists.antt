@@ -1,5 +1,5 @@
 -- Lists of terms by spots.
-use Rattle.std.proofs.Common.{◌≡◌, ◌≢◌, ℕ, zero, suc, ◌+◌, ◌<◌, ◌≤◌, ◌==◌, ◌&&◌, ◌||◌, not, Bool, true, false, cond, List, [], ◌∷◌, ◌++◌, length, set, get_or, append-nil, length-append, refl, sym, ◌∙◌, ap, subst, arith, Option, Some, None, true≢false, eqb-true, eq-eqb}
+use Rattle.std.proofs.Common.{◌≡◌, ◌≢◌, ℕ, zero, suc, ◌+◌, ◌<◌, ◌≤◌, ◌==◌, ◌&&◌, ◌||◌, not, Bool, true, false, cond, List, [], ◌∷◌, ◌++◌, length, set, get_or, append-nil, refl, sym, ◌∙◌, ap, arith, Option, Some, None, true≢false, eqb-true, eq-eqb}
 use Rattle.std.specs.Prelude.{nat_lt, position}
 use Rattle.std.specs.List.{list_any, filter, position_or_len}
 use Rattle.std.proofs.lemmas.Bool.{and_parts, eqb-false, ne_eqb, ltb-false}
@@ -12,7 +12,7 @@ use Rattle.order_model.specs.declared.term.Term.TheVariants.{Side, Link, Apart}
 use Rattle.order_model.specs.Problems.{IsTerm}
 use Rattle.order_check.specs.declared.slot.PartTerm.{PartTerm}
 use Rattle.order_check.specs.declared.spot.Spot.{Spot}
-use Rattle.order_check.specs.Spots.{is_on, is_either, is_at, is_spot, listed, with_term, AreTwo, IsSpotTable}
+use Rattle.order_check.specs.Spots.{is_either, is_at, is_spot, listed, with_term, AreTwo, IsSpotTable}
 
 -- the lines of a term of a problem are two, and so are its segments
 pub two_of_term : (segs : List (List LineId)) (t : Term) → IsTerm segs t → AreTwo t

@@ -1,7 +1,7 @@
 -- The tally of a part's terms, once those that a placing may change are taken off or put on, and where lines are placed.
-use Rattle.std.proofs.Common.{◌≡◌, ℕ, ◌+◌, ◌-◌, ◌<◌, ◌≤◌, Bool, true, false, cond, not, List, [], ◌∷◌, length, map, set, get_or, refl, sym, ◌∙◌, ap, subst, arith, Some, None}
-use Rattle.std.specs.Prelude.{ℤ, pos, ◌+ℤ◌, unsigned_abs, position}
-use Rattle.std.specs.List.{sum_by, filter, All, Contains}
+use Rattle.std.proofs.Common.{◌≡◌, ℕ, ◌+◌, ◌-◌, ◌<◌, ◌≤◌, Bool, true, false, cond, not, List, [], length, set, get_or, refl, sym, ◌∙◌, ap, subst, arith, Some, None}
+use Rattle.std.specs.Prelude.{ℤ, pos, ◌+ℤ◌, position}
+use Rattle.std.specs.List.{sum_by, filter, Contains}
 use Rattle.std.proofs.lemmas.Int.{ints}
 use Rattle.std.proofs.lemmas.List.Elements.{All-filter}
 use Rattle.std.proofs.lemmas.List.Filters.{length-filter_both}
@@ -10,7 +10,7 @@ use Rattle.map_base.specs.declared.ids.LineId.{LineId}
 use Rattle.order_model.specs.declared.term.Term.{Term}
 use Rattle.order_model.specs.Problems.{lines_on, IsTerm}
 use Rattle.order_model.specs.Prefixes.{is_placed, with_line, ArePlacedLines}
-use Rattle.order_bound.specs.Decided.{decided_cost, decided_sum}
+use Rattle.order_bound.specs.Decided.{decided_cost}
 use Rattle.whole_sums.specs.Sums.{int_sum}
 use Rattle.whole_sums.proofs.Sums.{int_sum_pos}
 use Rattle.order_check.specs.declared.slot.PartTerm.{PartTerm}
@@ -18,10 +18,9 @@ use Rattle.order_check.specs.declared.slot.SlotCost.{SlotCost}
 use Rattle.order_check.specs.declared.slot.Charges.{Charges}
 use Rattle.order_check.specs.declared.slot.Sums.{Sums}
 use Rattle.order_check.specs.declared.spot.Spot.{Spot}
-use Rattle.order_check.specs.declared.placing.Placing.{Placing}
 use Rattle.order_check.specs.declared.asked.Asked.{Asked}
 use Rattle.order_check.specs.Asking.{IsAsked}
-use Rattle.order_check.specs.Slots.{plain_term, cost_at, charge_on}
+use Rattle.order_check.specs.Slots.{cost_at, charge_on}
 use Rattle.order_check.specs.Charging.{no_part_term, AreTerms}
 use Rattle.order_check.specs.Spots.{is_at, is_spot, term_lists}
 use Rattle.order_check.specs.Placings.{placing_of, changes}
@@ -30,7 +29,7 @@ use Rattle.order_check.proofs.SignedSums.{sums_by_place}
 use Rattle.order_check.proofs.Charging.{small_charges, decided_is}
 use Rattle.order_check.proofs.Closing.{table_fits, table_few}
 use Rattle.order_check.proofs.Counting.{whole_small, beside_if, sums_parted, decided_parts, decided_table, small_decided_sum}
-use Rattle.order_check.proofs.Leasts.{same_least, least_none}
+use Rattle.order_check.proofs.Leasts.{same_least}
 use Rattle.order_check.proofs.SpotLists.{listed_at, listed_none}
 use Rattle.order_check.proofs.Placings.{same_charges}
 

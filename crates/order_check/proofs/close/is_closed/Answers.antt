@@ -1,19 +1,15 @@
-use Rattle.std.proofs.Common.{◌≡◌, ℕ, ◌<◌, ◌≤◌, ◌∙◌, Bool, true, false, List, length, ap, sym, subst, arith, FitsSigned, to_z, of_z, rules}
-use Rattle.std.specs.Prelude.{ℤ, pos, ◌+ℤ◌, int_le, unsigned_abs}
+use Rattle.std.proofs.Common.{◌≡◌, ℕ, ◌∙◌, true, false, List, length, ap, sym, subst, arith, to_z, of_z, rules}
+use Rattle.std.specs.Prelude.{ℤ, pos, ◌+ℤ◌, int_le}
 use Rattle.std.specs.Int.{w128}
 use Rattle.std.proofs.lemmas.Int.{ints, to_z-of_z}
 use Rattle.map_base.specs.declared.ids.LineId.{LineId}
-use Rattle.whole_sums.specs.Sums.{int_sum}
-use Rattle.order_bound.specs.Accepting.{is_closed}
 use Rattle.order_check.specs.declared.slot.PartTerm.{PartTerm}
 use Rattle.order_check.specs.declared.slot.SlotCost.{SlotCost}
 use Rattle.order_check.specs.declared.asked.Asked.{Asked}
-use Rattle.order_check.specs.Asking.{question_of}
-use Rattle.order_check.specs.Slots.{cost_at}
 use Rattle.order_check.specs.Charging.{AreTerms}
 use Rattle.order_check.specs.Prices.{AreNumbersOf}
-use Rattle.order_check.specs.Pricing.{price_on, ArePriced, AreSmallPrices}
-use Rattle.order_check.proofs.Closing.{table_fits, table_few, slots_few, table_numbers, not_closed}
+use Rattle.order_check.specs.Pricing.{ArePriced}
+use Rattle.order_check.proofs.Closing.{table_fits, table_few, slots_few, table_numbers}
 use Rattle.order_check.proofs.Leasts.{least_bound}
 use Rattle.order_check.proofs.Tallies.{tally_small}
 use Rattle.order_check.proofs.Closes.{ArePricesOn, read_on, read_priced, read_small, spread_small, closed_by_prices, restored}

@@ -1,9 +1,7 @@
-use Rattle.std.proofs.Common.{◌≡◌, ◌≢◌, ◌<◌, ◌∙◌, ℕ, List, length, map, take, ap, sym, subst, arith, get_or, refl}
+use Rattle.std.proofs.Common.{◌≡◌, ◌<◌, ◌∙◌, ℕ, List, length, take, ap, sym, subst, arith, get_or, refl}
 use Rattle.std.proofs.lemmas.List.{length-map, length-take-le}
 use Rattle.order_model.specs.declared.term.Term.{Term}
-use Rattle.order_model.specs.Problems.{IsTerm}
 use Rattle.order_model.specs.PartTerms.{terms_by_number, no_term}
-use Rattle.order_check.specs.Slots.{plain_term}
 use Rattle.order_check.specs.Spots.{term_lists, AreTwo}
 use Rattle.order_check.specs.PartTables.{IsPartTable}
 use Rattle.order_check.proofs.TableSteps.{few_slots, table_more, numbers_more}

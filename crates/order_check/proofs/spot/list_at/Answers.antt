@@ -1,10 +1,8 @@
-use Rattle.std.proofs.Common.{◌≡◌, ◌≤◌, ◌∙◌, ◌++◌, cond, ◌∷◌, [], List, ℕ, sym, ap, map, length, arith}
-use Rattle.std.specs.List.{position_or_len}
+use Rattle.std.proofs.Common.{◌≡◌, ◌∙◌, List, sym, ap, length, arith}
 use Rattle.std.proofs.lemmas.List.{length-map}
-use Rattle.std.proofs.lemmas.List.Sums.{prefix_len-le-length}
 use Rattle.order_check.specs.declared.slot.PartTerm.{PartTerm}
 use Rattle.order_check.specs.declared.spot.Spot.{Spot}
-use Rattle.order_check.specs.Spots.{is_spot, listed, term_lists, with_term}
+use Rattle.order_check.specs.Spots.{listed, term_lists, with_term}
 use Rattle.order_check.proofs.SpotLists.{noted, with_each, listed_more, place_within}
 use Rattle.order_check.proofs.spot.list_at.Goals as goal
 

@@ -1,5 +1,4 @@
-use Rattle.std.proofs.Common.{◌≡◌, ◌∙◌, ◌++◌, cond, ◌∷◌, [], List, ap}
-use Rattle.order_check.specs.declared.slot.PartTerm.{PartTerm}
+use Rattle.std.proofs.Common.{◌∙◌, ◌++◌, cond, ◌∷◌, [], ap}
 use Rattle.order_check.specs.declared.spot.Spot.{Spot}
 use Rattle.order_check.specs.Spots.{is_spot, listed, term_lists}
 use Rattle.order_check.proofs.SpotLists.{on_two_lines}

@@ -1,5 +1,4 @@
-use Rattle.std.proofs.Common.{◌≡◌, ◌∙◌, ◌++◌, ◌==◌, ◌&&◌, cond, ◌∷◌, [], Bool, List, ap}
-use Rattle.order_check.specs.declared.slot.PartTerm.{PartTerm}
+use Rattle.std.proofs.Common.{◌∙◌, ◌++◌, ◌==◌, ◌&&◌, cond, ◌∷◌, [], Bool, ap}
 use Rattle.order_check.specs.Spots.{is_either, listed, term_lists}
 use Rattle.order_check.proofs.SpotLists.{on_two_segments}
 use Rattle.order_check.proofs.spot.list_on_both.Goals as goal

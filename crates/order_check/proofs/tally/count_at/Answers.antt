@@ -1,5 +1,5 @@
-use Rattle.std.proofs.Common.{◌≡◌, ◌<◌, ◌∙◌, ℕ, Bool, List, [], length, map, get_or, ap, sym, subst, arith, Option, None, Some}
-use Rattle.std.specs.Prelude.{ℤ, pos, IfSome}
+use Rattle.std.proofs.Common.{◌≡◌, ◌<◌, ◌∙◌, ℕ, List, [], length, ap, sym, subst, arith, Option}
+use Rattle.std.specs.Prelude.{IfSome}
 use Rattle.std.specs.List.{sum_by, filter}
 use Rattle.std.proofs.lemmas.List.{get_or-map, length-map}
 use Rattle.map_base.specs.declared.ids.LineId.{LineId}
@@ -9,7 +9,7 @@ use Rattle.order_check.specs.declared.spot.Spot.{Spot}
 use Rattle.order_check.specs.declared.slot_costs.Counted.{Counted}
 use Rattle.order_check.specs.declared.asked.Asked.{Asked}
 use Rattle.order_check.specs.Slots.{cost_at}
-use Rattle.order_check.specs.Spots.{is_at, term_lists}
+use Rattle.order_check.specs.Spots.{is_at}
 use Rattle.order_check.specs.Placings.{is_fresh}
 use Rattle.order_check.specs.Counting.{counted_by, decided_by, shifted}
 use Rattle.order_check.proofs.Closing.{slots_few}

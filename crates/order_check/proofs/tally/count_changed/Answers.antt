@@ -1,5 +1,4 @@
-use Rattle.std.proofs.Common.{◌≡◌, ◌+◌, ◌<◌, ◌≤◌, ◌∙◌, ℕ, Bool, List, length, ap, sym, arith, rules}
-use Rattle.std.specs.Prelude.{ℤ, ◌+ℤ◌, unsigned_abs}
+use Rattle.std.proofs.Common.{◌<◌, ◌∙◌, List, length, arith, rules}
 use Rattle.map_base.specs.declared.ids.LineId.{LineId}
 use Rattle.whole_sums.specs.Sums.{int_sum}
 use Rattle.order_check.specs.declared.slot.PartTerm.{PartTerm}
@@ -7,7 +6,7 @@ use Rattle.order_check.specs.declared.placing.Placing.{Placing}
 use Rattle.order_check.specs.declared.asked.Asked.{Asked}
 use Rattle.order_check.specs.Slots.{cost_at}
 use Rattle.order_check.specs.Placings.{changes}
-use Rattle.order_check.specs.Counting.{counted_by, shifted}
+use Rattle.order_check.specs.Counting.{counted_by}
 use Rattle.order_check.proofs.Closing.{table_fits, table_few}
 use Rattle.order_check.proofs.Counting.{shifted_small, counted_small, own_terms, last_terms, left_terms, changed_sum, changed_decided}
 use Rattle.order_check.proofs.Tallies.{shifted_thirds}

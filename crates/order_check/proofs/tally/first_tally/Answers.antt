@@ -1,5 +1,4 @@
-use Rattle.std.proofs.Common.{◌≡◌, ◌<◌, ◌∙◌, ℕ, Bool, List, true, false, length, ap, sym, subst, arith}
-use Rattle.std.specs.Prelude.{ℤ, pos}
+use Rattle.std.proofs.Common.{◌∙◌, List, true, false, length, ap, sym, subst, arith}
 use Rattle.std.specs.List.{sum_by}
 use Rattle.map_base.specs.declared.ids.LineId.{LineId}
 use Rattle.whole_sums.specs.Sums.{int_sum}

@@ -1,4 +1,4 @@
-use Rattle.std.proofs.Common.{◌≡◌, ◌+◌, ◌<◌, ◌^◌, arith, refl, rules, to_z, of_z, ◌∙◌}
+use Rattle.std.proofs.Common.{◌+◌, ◌<◌, ◌^◌, arith, refl, rules, to_z, of_z, ◌∙◌}
 use Rattle.order_check.specs.declared.slot.Sums.{Sums}
 use Rattle.order_check.specs.Placings.{changes}
 use Rattle.order_check.proofs.Tallies.{beside_small, beside_decided, put_back}

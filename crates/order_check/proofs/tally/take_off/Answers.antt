@@ -1,6 +1,4 @@
-use Rattle.std.proofs.Common.{◌≡◌, ◌-◌, arith, refl, rules, to_z, of_z, ◌∙◌}
-use Rattle.std.proofs.Common.{List}
-use Rattle.map_base.specs.declared.ids.LineId.{LineId}
+use Rattle.std.proofs.Common.{◌-◌, arith, refl, rules, to_z, of_z, ◌∙◌}
 use Rattle.order_check.specs.declared.slot.Sums.{Sums}
 use Rattle.order_check.specs.Placings.{changes}
 use Rattle.order_check.proofs.Counting.{decided_parts}

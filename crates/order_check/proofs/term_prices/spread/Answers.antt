@@ -1,5 +1,5 @@
-use Rattle.std.proofs.Common.{◌≡◌, ℕ, ◌<◌, ◌≤◌, ◌∙◌, Bool, List, length, take, get_or, ap, sym, arith, refl, rules}
-use Rattle.std.specs.Prelude.{ℤ, pos, unsigned_abs}
+use Rattle.std.proofs.Common.{◌≡◌, ℕ, ◌<◌, ◌∙◌, length, take, get_or, ap, sym, arith, refl, rules}
+use Rattle.std.specs.Prelude.{ℤ, pos}
 use Rattle.std.proofs.lemmas.List.{take_all}
 use Rattle.whole_sums.specs.Sums.{int_sum}
 use Rattle.order_check.specs.Slots.{cost_at}

@@ -1,5 +1,4 @@
-use Rattle.std.proofs.Common.{◌≡◌, ℕ, ◌<◌, ◌≤◌, ◌∙◌, Bool, length, get_or, ap, sym, subst, arith, FitsSigned, w64, to_z, of_z, None, Some}
-use Rattle.std.specs.Prelude.{ℤ, unsigned_abs}
+use Rattle.std.proofs.Common.{◌≡◌, ◌∙◌, get_or, ap, sym, subst, FitsSigned, w64, to_z, of_z, None, Some}
 use Rattle.std.proofs.lemmas.Int.{to_z-of_z}
 use Rattle.order_check.specs.declared.slot.PartTerm.{PartTerm}
 use Rattle.order_check.specs.Slots.{cost_at}

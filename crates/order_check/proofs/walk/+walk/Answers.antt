@@ -1,10 +1,10 @@
-use Rattle.std.proofs.Common.{◌≡◌, ◌∙◌, ◌<◌, true, false, List, length, sym, subst, arith, rules, Some}
+use Rattle.std.proofs.Common.{◌≡◌, ◌∙◌, ◌<◌, true, false, List, length, sym, subst, arith, rules}
 use Rattle.std.specs.List.{Contains}
 use Rattle.std.proofs.lemmas.Result.{IfOk-weaker}
 use Rattle.map_base.specs.declared.ids.SegId.{SegId}
 use Rattle.map_base.specs.declared.ids.LineId.{LineId}
 use Rattle.order_model.specs.Problems.{lines_on}
-use Rattle.order_model.specs.Prefixes.{is_placed, with_line, without_last}
+use Rattle.order_model.specs.Prefixes.{is_placed}
 use Rattle.order_proof.specs.declared.tree.Tree.{Tree, the_lemmas}
 use Rattle.order_proof.specs.Plain.{split, plain, plain_children}
 use Rattle.order_bound.specs.Accepting.{failing}
