@@ -135,18 +135,37 @@ def trunk_of_lines(lines, segments):
     return feed(middle + west + east, trips)
 
 
-def certificate_of_many_lines(lines):
-    """A certificate whose tree places each of many lines on one segment, one after another; they all go on along another one."""
+def certificate_of_lines(lines, tree):
+    """A certificate over lines that all share two segments, with the text of a tree on the first one's number."""
     files = feed([(48, 16), (48.01, 16.005), (48.02, 16)], [(f"L{k:04}", [0, 1, 2], None) for k in range(lines)])
 
     def certificate(made):
         front = made[: made.index(b"rules ")]
-        orders = [line.split() for line in front.split(b"\n") if line.startswith(b"order ")]
-        first = orders[0]
-        tree = b"split %s %d\n" % (first[1], lines) + b"".join(b"take %d\nclose 0\n" % k for k in range(lines))
-        return front + b"rules 0\nparts 1\npart 0 " + b" ".join(line[1] for line in orders) + b"\n" + tree
+        segments = [line.split()[1].decode() for line in front.split(b"\n") if line.startswith(b"order ")]
+        return front + f"rules 0\nparts 1\npart 0 {' '.join(segments)}\n{tree(segments[0])}".encode()
 
     return files, "check feed svg cert", certificate
+
+
+def certificate_of_many_lines(lines):
+    """A certificate whose tree places each of many lines on one segment, one after another; they all go on along another one."""
+    return certificate_of_lines(lines, lambda seg: f"split {seg} {lines}\n" + "".join(f"take {k}\nclose 0\n" for k in range(lines)))
+
+
+def certificate_of_a_path(lines, left):
+    """A certificate whose tree places one line after another, and tries all orders of the last few."""
+
+    def orders(seg, rest):
+        if len(rest) < 2:
+            return "close 0\n"
+        return f"split {seg} {len(rest)}\n" + "".join(f"take {a}\n{orders(seg, [b for b in rest if b != a])}" for a in rest)
+
+    def tree(seg):
+        firsts = [f"split {seg} {lines - a}\ntake {a}\n" for a in range(lines - left)]
+        others = ["".join(f"take {b}\nclose 0\n" for b in range(a + 1, lines)) for a in range(lines - left)]
+        return "".join(firsts) + orders(seg, list(range(lines - left, lines))) + "".join(reversed(others))
+
+    return certificate_of_lines(lines, tree)
 
 
 def stations_on_one_point():
@@ -274,6 +293,8 @@ FAMILIES = {family.__name__: family for family in [
 ]}
 for count in (250, 500, 1_000):
     FAMILIES[f"certificate_of_{count}_lines"] = lambda count=count: certificate_of_many_lines(count)
+for count, left in ((250, 2), (600, 2), (100, 8)):
+    FAMILIES[f"certificate_of_a_path_of_{count}_lines_{left}"] = lambda count=count, left=left: certificate_of_a_path(count, left)
 FAMILIES["trunk_of_1000_lines"] = lambda: (trunk_of_lines(1_000, 10), MAKE)
 
 

@@ -1,33 +1,29 @@
--- The tally of a part's terms, once those on a segment are taken off or put on, and where lines are placed there.
-use Rattle.std.proofs.Common.{◌≡◌, ◌≢◌, ℕ, zero, suc, ◌+◌, ◌-◌, ◌*◌, ◌<◌, ◌≤◌, ◌==◌, ◌&&◌, ◌||◌, Bool, true, false, cond, List, [], ◌∷◌, length, map, take, set, get_or, refl, sym, ◌∙◌, ap, subst, arith, Option, Some, None, true≢false}
+-- Sums over a part's terms: of those that count, and of the others.
+use Rattle.std.proofs.Common.{◌≡◌, ℕ, zero, suc, ◌+◌, ◌*◌, ◌<◌, ◌≤◌, ◌==◌, ◌&&◌, ◌||◌, not, Bool, true, false, cond, List, [], ◌∷◌, length, map, take, get_or, refl, sym, ◌∙◌, ap, subst, arith, Some, None}
 use Rattle.std.specs.Prelude.{ℤ, pos, ◌+ℤ◌, ◌-ℤ◌, unsigned_abs}
-use Rattle.std.specs.List.{sum_by}
-use Rattle.std.proofs.lemmas.Bool.{eqb-false}
+use Rattle.std.specs.List.{sum_by, filter}
 use Rattle.std.proofs.lemmas.Int.{ints}
-use Rattle.std.proofs.lemmas.List.{get_or-set_other, take_all}
+use Rattle.std.proofs.lemmas.List.{take_all}
 use Rattle.std.proofs.lemmas.List.Sums.{sum_by-cons}
-use Rattle.map_base.specs.declared.ids.SegId.{SegId}
 use Rattle.map_base.specs.declared.ids.LineId.{LineId}
 use Rattle.order_model.specs.declared.term.Term.{Term}
-use Rattle.order_model.specs.declared.term.Term.TheVariants.{Side, Link, Apart}
 use Rattle.order_model.specs.Problems.{IsTerm}
 use Rattle.order_model.specs.Costs.{same_answer}
 use Rattle.order_bound.specs.Decided.{decided_cost, decided_sum}
 use Rattle.whole_sums.specs.Sums.{int_sum}
-use Rattle.whole_sums.proofs.Sums.{int_sum_equal, int_sum_both, int_sum_zero, int_sum_pos}
+use Rattle.whole_sums.proofs.Sums.{int_sum_equal, int_sum_both, int_sum_pos}
 use Rattle.order_check.specs.declared.slot.PartTerm.{PartTerm}
-use Rattle.order_check.specs.declared.slot.SlotCost.{SlotCost}
 use Rattle.order_check.specs.declared.slot.Charge.{Charge}
-use Rattle.order_check.specs.declared.slot.Charges.{Charges}
-use Rattle.order_check.specs.declared.asked.Asked.{Asked}
-use Rattle.order_check.specs.Asking.{IsAsked}
-use Rattle.order_check.specs.Slots.{plain_term, cost_at, charge_on}
-use Rattle.order_check.specs.Charges.{charges_by}
+use Rattle.order_check.specs.declared.spot.Spot.{Spot}
+use Rattle.order_check.specs.declared.placing.Placing.{Placing}
+use Rattle.order_check.specs.declared.slot_costs.Counted.{Counted}
+use Rattle.order_check.specs.Slots.{plain_term, charge_on}
 use Rattle.order_check.specs.Charging.{no_part_term, AreTerms}
-use Rattle.order_check.specs.Counting.{is_on, counts, added_by, counted_by, beside_by, decided_by, decided_beside, shifted, turned, AreSmallCosts, IsTally, IsTallyBeside}
+use Rattle.order_check.specs.Spots.{is_on, is_of_line, is_at}
+use Rattle.order_check.specs.Placings.{spot_on, changes, counted, is_fresh, is_fresh_at}
+use Rattle.order_check.specs.Counting.{added_by, counted_by, beside_by, decided_by, decided_beside, shifted, turned}
 use Rattle.order_check.proofs.SignedSums.{abs_sum, sum_more}
 use Rattle.order_check.proofs.Charging.{small_charges, decided_is}
-use Rattle.order_check.proofs.Closing.{table_fits, table_few}
 
 -- Added, or taken off.
 
@@ -58,15 +54,15 @@ turned_small true c h = omega (arith, ints, h)
 
 -- What a term adds is small.
 
-pub counted_if : (which : Option SegId) (segs placed : List (List LineId)) (k : ℕ) (x : Bool) (t : PartTerm) → IsTerm segs t.term → unsigned_abs (counted_by which segs placed k x t) ≤ 256000
-counted_if which segs placed k x t fits = by_test (counts which t.term)
+pub counted_if : (counts : Term → Bool) (segs placed : List (List LineId)) (k : ℕ) (x : Bool) (t : PartTerm) → IsTerm segs t.term → unsigned_abs (counted_by counts segs placed k x t) ≤ 256000
+counted_if counts segs placed k x t fits = by_test (counts t.term)
   where
     by_test : (b : Bool) → unsigned_abs (cond b (added_by segs placed k x t) (pos 0)) ≤ 256000
     by_test true = (small_charges segs placed t.term t.here t.there (pos 0) fits (omega (arith, ints))).both k x
     by_test false = omega (arith, ints)
 
-beside_if : (which : Option SegId) (segs placed : List (List LineId)) (k : ℕ) (x : Bool) (t : PartTerm) → IsTerm segs t.term → unsigned_abs (beside_by which segs placed k x t) ≤ 256000
-beside_if which segs placed k x t fits = by_test (counts which t.term)
+pub beside_if : (counts : Term → Bool) (segs placed : List (List LineId)) (k : ℕ) (x : Bool) (t : PartTerm) → IsTerm segs t.term → unsigned_abs (beside_by counts segs placed k x t) ≤ 256000
+beside_if counts segs placed k x t fits = by_test (counts t.term)
   where
     by_test : (b : Bool) → unsigned_abs (cond b (pos 0) (added_by segs placed k x t)) ≤ 256000
     by_test false = (small_charges segs placed t.term t.here t.there (pos 0) fits (omega (arith, ints))).both k x
@@ -83,7 +79,7 @@ small_sum f xs d (suc i) small h =
     let sum = abs_sum (int_sum f (take i xs)) (f (get_or xs i d)) (256000 * i) 256000 rest (small i (omega (arith, h))) in
     rw more (omega (arith, sum))
 
-whole_small : {A : Type 0} (f : A → ℤ) (xs : List A) (d : A) → ((j : ℕ) → j < length xs → unsigned_abs (f (get_or xs j d)) ≤ 256000) → length xs ≤ 4000000
+pub whole_small : {A : Type 0} (f : A → ℤ) (xs : List A) (d : A) → ((j : ℕ) → j < length xs → unsigned_abs (f (get_or xs j d)) ≤ 256000) → length xs ≤ 4000000
     → unsigned_abs (int_sum f xs) ≤ 1024000000000
 whole_small f xs d small few =
     let all : take (length xs) xs ≡ xs = take_all (length xs) xs (omega arith) in
@@ -93,112 +89,48 @@ whole_small f xs d small few =
 
 -- All terms are those that count and the others.
 
-parted : (which : Option SegId) (segs placed : List (List LineId)) (k : ℕ) (x : Bool) (t : PartTerm)
-    → added_by segs placed k x t ≡ beside_by which segs placed k x t +ℤ counted_by which segs placed k x t
-parted which segs placed k x t = by_test (counts which t.term)
+parted : (counts : Term → Bool) (segs placed : List (List LineId)) (k : ℕ) (x : Bool) (t : PartTerm)
+    → added_by segs placed k x t ≡ beside_by counts segs placed k x t +ℤ counted_by counts segs placed k x t
+parted counts segs placed k x t = by_test (counts t.term)
   where
     by_test : (b : Bool) → added_by segs placed k x t ≡ cond b (pos 0) (added_by segs placed k x t) +ℤ cond b (added_by segs placed k x t) (pos 0)
     by_test true = omega (arith, ints)
     by_test false = omega (arith, ints)
 
-sums_parted : (which : Option SegId) (segs placed : List (List LineId)) (table : List PartTerm) (k : ℕ) (x : Bool)
-    → int_sum (added_by segs placed k x) table ≡ int_sum (beside_by which segs placed k x) table +ℤ int_sum (counted_by which segs placed k x) table
-sums_parted which segs placed table k x =
-    int_sum_equal (added_by segs placed k x) (λ t. beside_by which segs placed k x t +ℤ counted_by which segs placed k x t) table (parted which segs placed k x)
-    ∙ int_sum_both (beside_by which segs placed k x) (counted_by which segs placed k x) table
+pub sums_parted : (counts : Term → Bool) (segs placed : List (List LineId)) (table : List PartTerm) (k : ℕ) (x : Bool)
+    → int_sum (added_by segs placed k x) table ≡ int_sum (beside_by counts segs placed k x) table +ℤ int_sum (counted_by counts segs placed k x) table
+sums_parted counts segs placed table k x =
+    int_sum_equal (added_by segs placed k x) (λ t. beside_by counts segs placed k x t +ℤ counted_by counts segs placed k x t) table (parted counts segs placed k x)
+    ∙ int_sum_both (beside_by counts segs placed k x) (counted_by counts segs placed k x) table
 
-decided_parted : (which : Option SegId) (segs placed : List (List LineId)) (t : PartTerm)
-    → pos (decided_cost segs placed t.term) ≡ pos (decided_beside which segs placed t) +ℤ pos (decided_by which segs placed t)
-decided_parted which segs placed t = by_test (counts which t.term)
+decided_parted : (counts : Term → Bool) (segs placed : List (List LineId)) (t : PartTerm)
+    → pos (decided_cost segs placed t.term) ≡ pos (decided_beside counts segs placed t) +ℤ pos (decided_by counts segs placed t)
+decided_parted counts segs placed t = by_test (counts t.term)
   where
     by_test : (b : Bool) → pos (decided_cost segs placed t.term) ≡ pos (cond b 0 (decided_cost segs placed t.term)) +ℤ pos (cond b (decided_cost segs placed t.term) 0)
     by_test true = omega (arith, ints)
     by_test false = omega (arith, ints)
 
-decided_table : (segs placed : List (List LineId)) (table : List PartTerm) → decided_sum segs placed (map plain_term table) ≡ sum_by (λ (t : PartTerm). decided_cost segs placed t.term) table
+pub decided_table : (segs placed : List (List LineId)) (table : List PartTerm) → decided_sum segs placed (map plain_term table) ≡ sum_by (λ (t : PartTerm). decided_cost segs placed t.term) table
 decided_table segs placed [] = refl
 decided_table segs placed (t ∷ table) =
     sum_by-cons (λ (u : ℕ × Term). decided_cost segs placed u.1) (plain_term t) (map plain_term table)
     ∙ ap (λ n. decided_cost segs placed t.term + n) (decided_table segs placed table)
     ∙ sym (sum_by-cons (λ (u : PartTerm). decided_cost segs placed u.term) t table)
 
-pub decided_parts : (which : Option SegId) (segs placed : List (List LineId)) (table : List PartTerm)
-    → decided_sum segs placed (map plain_term table) ≡ sum_by (decided_beside which segs placed) table + sum_by (decided_by which segs placed) table
-decided_parts which segs placed table =
+pub decided_parts : (counts : Term → Bool) (segs placed : List (List LineId)) (table : List PartTerm)
+    → decided_sum segs placed (map plain_term table) ≡ sum_by (decided_beside counts segs placed) table + sum_by (decided_by counts segs placed) table
+decided_parts counts segs placed table =
     let f : PartTerm → ℕ = λ t. decided_cost segs placed t.term in
-    let whole : int_sum (λ t. pos (f t)) table ≡ int_sum (λ t. pos (decided_beside which segs placed t)) table +ℤ int_sum (λ t. pos (decided_by which segs placed t)) table =
-    int_sum_equal (λ t. pos (f t)) (λ t. pos (decided_beside which segs placed t) +ℤ pos (decided_by which segs placed t)) table (decided_parted which segs placed)
-    ∙ int_sum_both (λ t. pos (decided_beside which segs placed t)) (λ t. pos (decided_by which segs placed t)) table in
+    let whole : int_sum (λ t. pos (f t)) table ≡ int_sum (λ t. pos (decided_beside counts segs placed t)) table +ℤ int_sum (λ t. pos (decided_by counts segs placed t)) table =
+    int_sum_equal (λ t. pos (f t)) (λ t. pos (decided_beside counts segs placed t) +ℤ pos (decided_by counts segs placed t)) table (decided_parted counts segs placed)
+    ∙ int_sum_both (λ t. pos (decided_beside counts segs placed t)) (λ t. pos (decided_by counts segs placed t)) table in
     decided_table segs placed table
-    ∙ omega (arith, ints, whole, int_sum_pos f table, int_sum_pos (decided_beside which segs placed) table, int_sum_pos (decided_by which segs placed) table)
-
--- The tally stays small.
-
-pub tally_small : (asked : Asked) (placed : List (List LineId)) (sum : ℕ) (costs : List SlotCost) → IsAsked asked → IsTally asked placed sum costs → AreSmallCosts costs
-tally_small asked placed sum costs ok tally k x below =
-    rw (tally.slots k below x)
-    (whole_small (added_by asked.problem.now.segs placed k x) asked.table.now.terms.items no_part_term
-    (λ j h. (small_charges asked.problem.now.segs placed (get_or asked.table.now.terms.items j no_part_term).term (get_or asked.table.now.terms.items j no_part_term).here
-    (get_or asked.table.now.terms.items j no_part_term).there (pos 0) (table_fits asked ok j no_part_term h) (omega (arith, ints))).both k x)
-    (table_few asked ok))
-
-pub beside_small : (which : Option SegId) (asked : Asked) (placed : List (List LineId)) (sum : ℕ) (costs : List SlotCost) → IsAsked asked → IsTallyBeside which asked placed sum costs → AreSmallCosts costs
-beside_small which asked placed sum costs ok tally k x below =
-    rw (tally.slots k below x)
-    (whole_small (beside_by which asked.problem.now.segs placed k x) asked.table.now.terms.items no_part_term
-    (λ j h. beside_if which asked.problem.now.segs placed k x (get_or asked.table.now.terms.items j no_part_term) (table_fits asked ok j no_part_term h))
-    (table_few asked ok))
-
--- Terms are taken off or put on.
-
--- what counting does to a table
-abbrev pub AreShifted : Option SegId → Asked → List (List LineId) → Bool → List SlotCost → List SlotCost → Type 0
-AreShifted which asked placed off old new = (k : ℕ) → k < length old → (x : Bool)
-    → cost_at new k x ≡ shifted off (cost_at old k x) (int_sum (counted_by which asked.problem.now.segs placed k x) asked.table.now.terms.items)
-
-pub taken_off : (which : Option SegId) (asked : Asked) (placed : List (List LineId)) (sum removed left : ℕ) (old new : List SlotCost) → IsTally asked placed sum old → length new ≡ length old
-    → removed ≡ sum_by (decided_by which asked.problem.now.segs placed) asked.table.now.terms.items → AreShifted which asked placed true old new → left ≡ sum - removed
-    → IsTallyBeside which asked placed left new
-taken_off which asked placed sum removed left old new tally each count shift is = record {
-  decided = omega (arith, is, count, tally.decided, decided_parts which asked.problem.now.segs placed asked.table.now.terms.items);
-  slots = λ k below x.
-      (let under : k < length old = omega (arith, below, each) in
-      let whole = sums_parted which asked.problem.now.segs placed asked.table.now.terms.items k x in
-      let before = tally.slots k under x in
-      let after = shift k under x in
-      omega (arith, ints, whole, before, after));
-}
-
-pub put_back : (which : Option SegId) (asked : Asked) (placed : List (List LineId)) (sum added all : ℕ) (old new : List SlotCost) → IsTallyBeside which asked placed sum old → length new ≡ length old
-    → added ≡ sum_by (decided_by which asked.problem.now.segs placed) asked.table.now.terms.items → AreShifted which asked placed false old new → all ≡ sum + added
-    → IsTally asked placed all new
-put_back which asked placed sum added all old new tally each count shift is = record {
-  decided = omega (arith, is, count, tally.decided, decided_parts which asked.problem.now.segs placed asked.table.now.terms.items);
-  slots = λ k below x.
-      (let under : k < length old = omega (arith, below, each) in
-      let whole = sums_parted which asked.problem.now.segs placed asked.table.now.terms.items k x in
-      let before = tally.slots k under x in
-      let after = shift k under x in
-      omega (arith, ints, whole, before, after));
-}
-
--- nothing counts beside all terms
-pub none_beside : (asked : Asked) (placed : List (List LineId)) (costs : List SlotCost) → ((k : ℕ) (x : Bool) → cost_at costs k x ≡ pos 0) → IsTallyBeside None asked placed 0 costs
-none_beside asked placed costs clear = record {
-  decided = sym (no_sum asked.table.now.terms.items);
-  slots = λ k below x. clear k x ∙ sym (int_sum_zero asked.table.now.terms.items);
-}
-  where
-    no_sum : (table : List PartTerm) → sum_by (decided_beside None asked.problem.now.segs placed) table ≡ 0
-    no_sum [] = refl
-    no_sum (t ∷ table) =
-        let one : sum_by (decided_beside None asked.problem.now.segs placed) (t ∷ table) ≡ 0 + sum_by (decided_beside None asked.problem.now.segs placed) table =
-        sum_by-cons (decided_beside None asked.problem.now.segs placed) t table in
-        omega (arith, one, no_sum table)
+    ∙ omega (arith, ints, whole, int_sum_pos f table, int_sum_pos (decided_beside counts segs placed) table, int_sum_pos (decided_by counts segs placed) table)
 
 -- the sum of the decided terms is small
-small_part : (which : Option SegId) (segs placed : List (List LineId)) (t : PartTerm) → IsTerm segs t.term → decided_by which segs placed t ≤ 256000
-small_part which segs placed t fits = by_test (counts which t.term)
+small_part : (counts : Term → Bool) (segs placed : List (List LineId)) (t : PartTerm) → IsTerm segs t.term → decided_by counts segs placed t ≤ 256000
+small_part counts segs placed t fits = by_test (counts t.term)
   where
     one : decided_cost segs placed t.term ≤ 256000
     one = subst (λ n. n ≤ 256000) (decided_is segs placed t.term t.here t.there (pos 0)) (small_charges segs placed t.term t.here t.there (pos 0) fits (omega (arith, ints))).decided
@@ -210,86 +142,99 @@ small_part which segs placed t fits = by_test (counts which t.term)
 pub small_decided_sum : (segs placed : List (List LineId)) (table : List PartTerm) → AreTerms segs table → length table ≤ 4000000 → decided_sum segs placed (map plain_term table) ≤ 1024000000000
 small_decided_sum segs placed table fits few =
     let f : PartTerm → ℕ = λ t. decided_cost segs placed t.term in
-    let most = whole_small (λ t. pos (decided_by None segs placed t)) table no_part_term
-    (λ j h. (let one : decided_by None segs placed (get_or table j no_part_term) ≤ 256000 = small_part None segs placed (get_or table j no_part_term) (fits j no_part_term h) in omega (arith, ints, one))) few in
+    let most = whole_small (λ t. pos (decided_by (λ t. true) segs placed t)) table no_part_term
+    (λ j h. (let one : decided_by (λ t. true) segs placed (get_or table j no_part_term) ≤ 256000 = small_part (λ t. true) segs placed (get_or table j no_part_term) (fits j no_part_term h) in omega (arith, ints, one))) few in
     omega (arith, ints, most, int_sum_pos f table, decided_table segs placed table)
 
-pub tally_decided : (asked : Asked) (placed : List (List LineId)) (sum : ℕ) (costs : List SlotCost) → IsAsked asked → IsTally asked placed sum costs → sum ≤ 1024000000000
-tally_decided asked placed sum costs ok tally = omega (arith, tally.decided, small_decided_sum asked.problem.now.segs placed asked.table.now.terms.items (table_fits asked ok) (table_few asked ok))
+-- The terms that a placing may change, one line after the other.
 
-pub beside_decided : (which : Option SegId) (asked : Asked) (placed : List (List LineId)) (sum : ℕ) (costs : List SlotCost) → IsAsked asked → IsTallyBeside which asked placed sum costs → sum ≤ 1024000000000
-beside_decided which asked placed sum costs ok tally =
+thirds : (g : Bool → ℤ) → g false ≡ pos 0 → (a b c d : Bool)
+    → g (a && (b || (c || d))) ≡ (g ((a && b) && not (false || false)) +ℤ g ((a && c) && not (b || false))) +ℤ g ((a && d) && not (b || c))
+thirds g none false b c d = omega (arith, ints, none)
+thirds g none true true true true = omega (arith, ints, none)
+thirds g none true true true false = omega (arith, ints, none)
+thirds g none true true false true = omega (arith, ints, none)
+thirds g none true true false false = omega (arith, ints, none)
+thirds g none true false true true = omega (arith, ints, none)
+thirds g none true false true false = omega (arith, ints, none)
+thirds g none true false false true = omega (arith, ints, none)
+thirds g none true false false false = omega (arith, ints, none)
+
+abbrev pub own_terms : Placing → Term → Bool
+own_terms p = is_fresh_at (spot_on p p.line) (counted None None)
+
+abbrev pub last_terms : Placing → Term → Bool
+last_terms p = is_fresh_at (spot_on p p.last) (counted (Some p.line) None)
+
+abbrev pub left_terms : Placing → Term → Bool
+left_terms p = is_fresh_at (spot_on p p.left) (counted (Some p.line) (Some p.last))
+
+changed_parts : (g : Bool → ℤ) → g false ≡ pos 0 → (p : Placing) (t : Term) → g (changes p t) ≡ (g (own_terms p t) +ℤ g (last_terms p t)) +ℤ g (left_terms p t)
+changed_parts g none p t = thirds g none (is_on p.seg.0 t) (is_of_line p.line t) (is_of_line p.last t) (is_of_line p.left t)
+
+in_thirds : (f a b c : PartTerm → ℤ) (table : List PartTerm) → ((t : PartTerm) → f t ≡ (a t +ℤ b t) +ℤ c t) → int_sum f table ≡ (int_sum a table +ℤ int_sum b table) +ℤ int_sum c table
+in_thirds f a b c table same =
+    int_sum_equal f (λ t. (a t +ℤ b t) +ℤ c t) table same ∙ int_sum_both (λ t. a t +ℤ b t) c table ∙ ap (λ v. v +ℤ int_sum c table) (int_sum_both a b table)
+
+pub changed_sum : (p : Placing) (segs placed : List (List LineId)) (table : List PartTerm) (k : ℕ) (x : Bool)
+    → int_sum (counted_by (changes p) segs placed k x) table
+    ≡ (int_sum (counted_by (own_terms p) segs placed k x) table +ℤ int_sum (counted_by (last_terms p) segs placed k x) table) +ℤ int_sum (counted_by (left_terms p) segs placed k x) table
+changed_sum p segs placed table k x =
+    in_thirds (counted_by (changes p) segs placed k x) (counted_by (own_terms p) segs placed k x) (counted_by (last_terms p) segs placed k x) (counted_by (left_terms p) segs placed k x) table
+    (λ t. changed_parts (λ b. cond b (added_by segs placed k x t) (pos 0)) refl p t.term)
+
+pub changed_decided : (p : Placing) (segs placed : List (List LineId)) (table : List PartTerm)
+    → sum_by (decided_by (changes p) segs placed) table
+    ≡ sum_by (decided_by (own_terms p) segs placed) table + sum_by (decided_by (last_terms p) segs placed) table + sum_by (decided_by (left_terms p) segs placed) table
+changed_decided p segs placed table =
+    let whole = in_thirds (λ t. pos (decided_by (changes p) segs placed t)) (λ t. pos (decided_by (own_terms p) segs placed t)) (λ t. pos (decided_by (last_terms p) segs placed t))
+    (λ t. pos (decided_by (left_terms p) segs placed t)) table (λ t. changed_parts (λ b. pos (cond b (decided_cost segs placed t.term) 0)) refl p t.term) in
     omega (
       arith,
-      tally.decided,
-      decided_parts which asked.problem.now.segs placed asked.table.now.terms.items,
-      small_decided_sum asked.problem.now.segs placed asked.table.now.terms.items (table_fits asked ok) (table_few asked ok),
+      ints,
+      whole,
+      int_sum_pos (decided_by (changes p) segs placed) table,
+      int_sum_pos (decided_by (own_terms p) segs placed) table,
+      int_sum_pos (decided_by (last_terms p) segs placed) table,
+      int_sum_pos (decided_by (left_terms p) segs placed) table,
     )
 
--- Lines are placed on one segment.
+-- The terms at a spot are those of its list.
 
-or_false : (a b : Bool) → (a || b) ≡ false → (a ≡ false) × (b ≡ false)
-or_false true b h = absurd (true≢false h)
-or_false false b h = (refl, h)
-
-apart : (a b : ℕ) (more : Bool) → ((a == b) || more) ≡ false → a ≢ b
-apart a b more h = eqb-false a b (or_false (a == b) more h).0
-
-apart_too : (a b c : ℕ) → ((a == c) || (b == c)) ≡ false → b ≢ c
-apart_too a b c h = eqb-false b c (or_false (a == c) (b == c) h).1
-
-elsewhere : (segs placed : List (List LineId)) (s : ℕ) (v : List LineId) (t : Term) (here there : ℕ) (y : ℤ) → is_on s t ≡ false → charges_by segs (set placed s v) t here there y ≡ charges_by segs placed t here there y
-elsewhere segs placed s v (Side seg first second w) here there y h = rw (get_or-set_other placed s seg.0 v [] (apart seg.0 s (seg.0 == s) h)) refl
-elsewhere segs placed s v (Link seg other flip a b w) here there y h =
-    rw (get_or-set_other placed s seg.0 v [] (apart seg.0 s (other.0 == s) h), get_or-set_other placed s other.0 v [] (apart_too seg.0 other.0 s h)) refl
-elsewhere segs placed s v (Apart seg other a b w) here there y h =
-    rw (get_or-set_other placed s seg.0 v [] (apart seg.0 s (other.0 == s) h), get_or-set_other placed s other.0 v [] (apart_too seg.0 other.0 s h)) refl
-
-beside_same : (segs placed : List (List LineId)) (s : SegId) (v : List LineId) (k : ℕ) (x : Bool) (t : PartTerm)
-    → beside_by (Some s) segs placed k x t ≡ beside_by (Some s) segs (set placed s.0 v) k x t
-beside_same segs placed s v k x t = by_test (is_on s.0 t.term) refl
+filtered_sum : {A : Type 0} (f : A → ℤ) (p : A → Bool) (xs : List A) → int_sum f (filter p xs) ≡ int_sum (λ x. cond (p x) (f x) (pos 0)) xs
+filtered_sum f p [] = refl
+filtered_sum f p (x ∷ xs) = by_test (p x) (int_sum f (filter p xs)) (int_sum (λ y. cond (p y) (f y) (pos 0)) xs) (filtered_sum f p xs) refl
   where
-    by_test : (b : Bool) → is_on s.0 t.term ≡ b → cond b (pos 0) (added_by segs placed k x t) ≡ cond b (pos 0) (added_by segs (set placed s.0 v) k x t)
-    by_test true e = refl
-    by_test false e = ap (λ (c : Charges). charge_on c.here k x +ℤ charge_on c.there k x) (sym (elsewhere segs placed s.0 v t.term t.here t.there (pos 0) e))
+    by_test : (b : Bool) (u v : ℤ) → u ≡ v → int_sum f (filter p xs) ≡ u → int_sum f (cond b (x ∷ filter p xs) (filter p xs)) ≡ cond b (f x) (pos 0) +ℤ v
+    by_test true u v rest is = ap (λ w. f x +ℤ w) (is ∙ rest)
+    by_test false u v rest is = omega (arith, ints, rest, is)
 
-decided_same : (segs placed : List (List LineId)) (s : SegId) (v : List LineId) (t : PartTerm)
-    → decided_beside (Some s) segs placed t ≡ decided_beside (Some s) segs (set placed s.0 v) t
-decided_same segs placed s v t = by_test (is_on s.0 t.term) refl
+pub spot_sum : (u : Spot) (c : Counted) (segs placed : List (List LineId)) (table : List PartTerm) (k : ℕ) (x : Bool)
+    → int_sum (counted_by (is_fresh c) segs placed k x) (filter (λ (t : PartTerm). is_at u t.term) table) ≡ int_sum (counted_by (is_fresh_at u c) segs placed k x) table
+spot_sum u c segs placed table k x =
+    filtered_sum (counted_by (is_fresh c) segs placed k x) (λ (t : PartTerm). is_at u t.term) table
+    ∙ int_sum_equal (λ (t : PartTerm). cond (is_at u t.term) (counted_by (is_fresh c) segs placed k x t) (pos 0)) (counted_by (is_fresh_at u c) segs placed k x) table (λ t. by_test t (is_at u t.term))
   where
-    by_test : (b : Bool) → is_on s.0 t.term ≡ b → cond b 0 (decided_cost segs placed t.term) ≡ cond b 0 (decided_cost segs (set placed s.0 v) t.term)
-    by_test true e = refl
-    by_test false e =
-        sym (decided_is segs placed t.term t.here t.there (pos 0)) ∙ ap (λ (c : Charges). c.decided) (sym (elsewhere segs placed s.0 v t.term t.here t.there (pos 0) e))
-        ∙ decided_is segs (set placed s.0 v) t.term t.here t.there (pos 0)
+    by_test : (t : PartTerm) (b : Bool) → cond b (cond (is_fresh c t.term) (added_by segs placed k x t) (pos 0)) (pos 0) ≡ cond (b && is_fresh c t.term) (added_by segs placed k x t) (pos 0)
+    by_test t true = refl
+    by_test t false = refl
 
-sums_equal : {A : Type 0} (f g : A → ℕ) (xs : List A) → ((x : A) → f x ≡ g x) → sum_by f xs ≡ sum_by g xs
-sums_equal f g [] h = refl
-sums_equal f g (x ∷ xs) h = sum_by-cons f x xs ∙ ap (λ n. n + sum_by f xs) (h x) ∙ ap (λ n. g x + n) (sums_equal f g xs h) ∙ sym (sum_by-cons g x xs)
+pub spot_decided : (u : Spot) (c : Counted) (segs placed : List (List LineId)) (table : List PartTerm)
+    → sum_by (decided_by (is_fresh c) segs placed) (filter (λ (t : PartTerm). is_at u t.term) table) ≡ sum_by (decided_by (is_fresh_at u c) segs placed) table
+spot_decided u c segs placed table =
+    let listed : List PartTerm = filter (λ (t : PartTerm). is_at u t.term) table in
+    let whole = filtered_sum (λ t. pos (decided_by (is_fresh c) segs placed t)) (λ (t : PartTerm). is_at u t.term) table
+    ∙ int_sum_equal (λ (t : PartTerm). cond (is_at u t.term) (pos (decided_by (is_fresh c) segs placed t)) (pos 0)) (λ t. pos (decided_by (is_fresh_at u c) segs placed t)) table
+    (λ t. by_test t (is_at u t.term)) in
+    omega (arith, ints, whole, int_sum_pos (decided_by (is_fresh c) segs placed) listed, int_sum_pos (decided_by (is_fresh_at u c) segs placed) table)
+  where
+    by_test : (t : PartTerm) (b : Bool)
+        → cond b (pos (cond (is_fresh c t.term) (decided_cost segs placed t.term) 0)) (pos 0) ≡ pos (cond (b && is_fresh c t.term) (decided_cost segs placed t.term) 0)
+    by_test t true = refl
+    by_test t false = refl
 
--- the tally beside a segment stays where lines are placed on it or taken back
-pub beside_stays : (s : SegId) (asked : Asked) (placed after : List (List LineId)) (v : List LineId) (sum : ℕ) (costs : List SlotCost) → after ≡ set placed s.0 v
-    → IsTallyBeside (Some s) asked placed sum costs → IsTallyBeside (Some s) asked after sum costs
-beside_stays s asked placed after v sum costs is tally = rw is (record {
-  decided = tally.decided ∙ sums_equal (decided_beside (Some s) asked.problem.now.segs placed) (decided_beside (Some s) asked.problem.now.segs (set placed s.0 v)) asked.table.now.terms.items
-      (decided_same asked.problem.now.segs placed s v);
-  slots = λ k below x. tally.slots k below x
-      ∙ int_sum_equal (beside_by (Some s) asked.problem.now.segs placed k x) (beside_by (Some s) asked.problem.now.segs (set placed s.0 v) k x) asked.table.now.terms.items
-      (beside_same asked.problem.now.segs placed s v k x);
-})
-
--- after a case: its line is taken back
-pub case_tally : (s : SegId) (asked : Asked) (before walked after : List (List LineId)) (v : List LineId) (sum left : ℕ) (first costs : List SlotCost)
-    → IsTallyBeside (Some s) asked before sum first → IsTallyBeside (Some s) asked walked left costs → after ≡ set walked s.0 v → after ≡ before → IsTallyBeside (Some s) asked after sum costs
-case_tally s asked before walked after v sum left first costs tally off is restored = record {
-  decided = subst (λ (p : List (List LineId)). sum ≡ sum_by (decided_beside (Some s) asked.problem.now.segs p) asked.table.now.terms.items) (sym restored) tally.decided;
-  slots = (beside_stays s asked walked after v left costs is off).slots;
-}
-
--- after a Split: its terms are put on again
-pub split_tally : (asked : Asked) (before after : List (List LineId)) (sum all : ℕ) (first costs : List SlotCost) → IsTally asked before sum first → IsTally asked after all costs → after ≡ before
-    → IsTally asked after sum costs
-split_tally asked before after sum all first costs tally on restored = record {
-  decided = subst (λ (p : List (List LineId)). sum ≡ decided_sum asked.problem.now.segs p (map plain_term asked.table.now.terms.items)) (sym restored) tally.decided;
-  slots = on.slots;
-}
+-- what the counted terms of a list add is small
+pub counted_small : (counts : Term → Bool) (segs placed : List (List LineId)) (table : List PartTerm) (k : ℕ) (x : Bool) → AreTerms segs table → length table ≤ 4000000
+    → unsigned_abs (int_sum (counted_by counts segs placed k x) table) ≤ 1024000000000
+counted_small counts segs placed table k x fits few =
+    whole_small (counted_by counts segs placed k x) table no_part_term (λ j h. counted_if counts segs placed k x (get_or table j no_part_term) (fits j no_part_term h)) few

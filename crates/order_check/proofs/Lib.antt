@@ -7,8 +7,13 @@ pub mod Charging
 pub mod PriceLemmas
 pub mod RuleTurns
 mod Closing
+mod Leasts
+mod Placings
+mod SpotLists
 mod Counting
+mod Tallies
 mod Pricing
+mod Closes
 mod Nodes
 mod Walks
 mod Verdicts

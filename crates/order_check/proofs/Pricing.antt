@@ -1,7 +1,7 @@
 -- Prices are added to a table, one by one.
-use Rattle.std.proofs.Common.{◌≡◌, ◌≢◌, ℕ, zero, suc, ◌+◌, ◌<◌, ◌≤◌, ◌==◌, ◌&&◌, ◌||◌, not, nat_le, Bool, true, false, cond, List, [], ◌∷◌, length, map, take, set, get_or, refl, sym, ◌∙◌, ap, arith, Some, None, true≢false, eqb-true}
+use Rattle.std.proofs.Common.{◌≡◌, ◌≢◌, ℕ, zero, suc, ◌+◌, ◌<◌, ◌≤◌, ◌==◌, ◌&&◌, ◌||◌, not, nat_le, Bool, true, false, cond, List, [], ◌∷◌, length, map, take, set, get_or, refl, sym, ◌∙◌, ap, subst, arith, Some, None, inl, inr, true≢false, eqb-true, eq-eqb}
 use Rattle.std.specs.Prelude.{ℤ, pos, ◌+ℤ◌, ◌-ℤ◌, unsigned_abs}
-use Rattle.std.proofs.lemmas.Bool.{eqb-false}
+use Rattle.std.proofs.lemmas.Bool.{eqb-false, ne_eqb, cases_lt}
 use Rattle.std.proofs.lemmas.Int.{ints}
 use Rattle.std.proofs.lemmas.List.{get_or-set_same, get_or-set_other, get_or-take, length-map, length-take-le, take_all}
 use Rattle.map_base.specs.declared.ids.LineId.{LineId}
@@ -14,16 +14,16 @@ use Rattle.order_values.specs.PriceLists.{AreRisingPrices}
 use Rattle.order_values.specs.PriceLists.{price_at}
 use Rattle.whole_sums.specs.Sums.{int_sum}
 use Rattle.order_check.specs.declared.slot.PartTerm.{PartTerm}
-use Rattle.order_check.specs.declared.slot.SlotCost.{SlotCost}
 use Rattle.order_check.specs.declared.slot.Charges.{Charges}
-use Rattle.order_check.specs.Slots.{cost_at, charge_on}
+use Rattle.order_check.specs.Slots.{charge_on}
 use Rattle.order_check.specs.Charges.{open_charges, link_charges, charges_by, price_charges}
 use Rattle.order_check.specs.Charging.{no_part_term, added_at, charged, AreTerms}
-use Rattle.order_check.specs.Counting.{added_by, AreSmallCosts}
-use Rattle.order_check.specs.Prices.{may_have, AreNumbersOf}
-use Rattle.order_check.specs.Pricing.{priced_by, ArePriced}
+use Rattle.order_check.specs.Counting.{added_by}
+use Rattle.order_check.specs.Prices.{may_have, AreNumbersOf, IsPlaceOf}
+use Rattle.order_check.specs.Pricing.{priced_by, term_of, priced_if, price_on, ArePriced, AreSmallPrices}
 use Rattle.order_check.proofs.SignedSums.{sum_more}
-use Rattle.order_check.proofs.Charging.{small_charged}
+use Rattle.order_check.proofs.Charging.{small_charges, small_charged}
+use Rattle.order_check.proofs.Counting.{whole_small}
 use Rattle.order_check.proofs.PriceLemmas.{count_read, number_read, rising_all, spread_none, spread_more}
 
 -- What an open Link adds.
@@ -132,22 +132,54 @@ zeros [] i = refl
 zeros (t ∷ table) zero = refl
 zeros (t ∷ table) (suc i) = zeros table i
 
-pub priced_none : (segs placed : List (List LineId)) (table : List PartTerm) (costs : List SlotCost)
-    → ((k : ℕ) → k < length costs → (x : Bool) → cost_at costs k x ≡ int_sum (added_by segs placed k x) table) → ArePriced segs placed table [] costs
-priced_none segs placed table costs plain = record {
+pub priced_none : (segs placed : List (List LineId)) (table : List PartTerm) → ArePriced segs placed table []
+priced_none segs placed table = record {
   prices = map (λ (t : PartTerm). pos 0) table;
   spread = spread_none placed table (map (λ (t : PartTerm). pos 0) table) (length-map table (λ (t : PartTerm). pos 0)) (zeros table);
-  slots = λ k below x. plain k below x
-      ∙ sym (charged_plain segs placed table (map (λ (t : PartTerm). pos 0) table) (length table) k x (zeros table) (omega arith)
-      ∙ ap (int_sum (added_by segs placed k x)) (take_all (length table) table (omega arith)));
+  slots = λ k x. charged_plain segs placed table (map (λ (t : PartTerm). pos 0) table) (length table) k x (zeros table) (omega arith)
+      ∙ ap (int_sum (added_by segs placed k x)) (take_all (length table) table (omega arith)) ∙ none_more (int_sum (added_by segs placed k x) table);
 }
+  where
+    none_more : (a : ℤ) → a ≡ a +ℤ pos 0
+    none_more a = omega (arith, ints)
 
--- what stands in it is small
-pub priced_small : (segs placed : List (List LineId)) (table : List PartTerm) (qs : List (ℕ × ℤ)) (costs : List SlotCost) → AreTerms segs table → length table ≤ 4000000
-    → ArePriced segs placed table qs costs → AreSmallCosts costs
-priced_small segs placed table qs costs fits few priced k x below =
+-- what they add is small
+priced_small : (segs placed : List (List LineId)) (table : List PartTerm) (qs : List (ℕ × ℤ)) → AreTerms segs table → length table ≤ 4000000 → ArePriced segs placed table qs
+    → (k : ℕ) (x : Bool) → unsigned_abs (int_sum (price_on table k x) qs) ≤ 2048000000000
+priced_small segs placed table qs fits few priced k x =
     let most = small_charged segs placed table priced.prices (length table) k x fits priced.spread.small (omega arith) in
-    rw (priced.slots k below x) (omega (arith, most, few))
+    let plain = whole_small (added_by segs placed k x) table no_part_term
+    (λ j h. (let t : PartTerm = get_or table j no_part_term in (small_charges segs placed t.term t.here t.there (pos 0) (fits j no_part_term h) (omega (arith, ints))).both k x)) few in
+    difference (charged segs placed table priced.prices (length table) k x) (int_sum (added_by segs placed k x) table) (int_sum (price_on table k x) qs) (priced.slots k x)
+    (omega (arith, most, few)) plain
+  where
+    difference : (a b c : ℤ) → a ≡ b +ℤ c → unsigned_abs a ≤ 1024000000000 → unsigned_abs b ≤ 1024000000000 → unsigned_abs c ≤ 2048000000000
+    difference a b c e p q = omega (arith, ints, e, p, q)
+
+-- The term of a number.
+
+none_found : (table : List PartTerm) (n : ℕ) → ((i : ℕ) → i < length table → (get_or table i no_part_term).number ≢ n) → term_of table n ≡ None
+none_found [] n none = refl
+none_found (t ∷ table) n none =
+    ap (λ b. cond b (Some t) (term_of table n)) (ne_eqb t.number n (none 0 (omega arith))) ∙ none_found table n (λ i h. none (suc i) (omega (arith, h)))
+
+found_at : (table : List PartTerm) (n i : ℕ) → i < length table → (get_or table i no_part_term).number ≡ n → ((j : ℕ) → j < i → (get_or table j no_part_term).number ≢ n)
+    → term_of table n ≡ Some (get_or table i no_part_term)
+found_at [] n i below is none = absurd (omega (arith, below))
+found_at (t ∷ table) n zero below is none = ap (λ b. cond b (Some t) (term_of table n)) (eq-eqb t.number n is)
+found_at (t ∷ table) n (suc i) below is none =
+    ap (λ b. cond b (Some t) (term_of table n)) (ne_eqb t.number n (none 0 (omega arith)))
+    ∙ found_at table n i (omega (arith, below)) is (λ j h. none (suc j) (omega (arith, h)))
+
+pub term_nowhere : (table : List PartTerm) (numbers : List ℕ) (n : ℕ) → AreNumbersOf table numbers → IsPlaceOf numbers n None → term_of table n ≡ None
+term_nowhere table numbers n ok none =
+    none_found table n (λ i h. (let here = number_read table numbers i ok.listed h in let not = none i (omega (arith, h, count_read table numbers ok)) in λ e. not (here ∙ e)))
+
+pub term_at : (table : List PartTerm) (numbers : List ℕ) (n i : ℕ) → AreNumbersOf table numbers → IsPlaceOf numbers n (Some i) → term_of table n ≡ Some (get_or table i no_part_term)
+term_at table numbers n i ok there =
+    let inside : i < length table = omega (arith, there.0, count_read table numbers ok) in
+    found_at table n i inside (sym (number_read table numbers i ok.listed inside) ∙ there.1)
+    (λ j h. (let up = ok.rising j i h there.0 in let here = number_read table numbers j ok.listed (omega (arith, h, inside)) in λ e. omega (arith, up, here, e, there.1)))
 
 -- One price more.
 
@@ -159,23 +191,26 @@ price_none (q ∷ qs) n under = by_test (q.0 == n) refl (price_none qs n (λ j h
     by_test true e rest = absurd (let first = under 0 (omega arith) in omega (arith, first, eqb-true q.0 n e))
     by_test false e rest = rest
 
-pub priced_more : (segs placed : List (List LineId)) (table : List PartTerm) (numbers : List ℕ) (list : List (ℕ × ℤ)) (j i : ℕ) (old new : List SlotCost) → AreTerms segs table → AreNumbersOf table numbers
-    → AreRisingPrices list → j < length list → ArePriced segs placed table (take j list) old → i < length numbers → get_or numbers i 0 ≡ (get_or list j (0, pos 0)).0
-    → may_have placed (get_or table i no_part_term).term (get_or list j (0, pos 0)).1 ≡ true → length new ≡ length old
-    → ((k : ℕ) → k < length old → (x : Bool) → cost_at new k x ≡ cost_at old k x +ℤ priced_by k x (get_or table i no_part_term) (get_or list j (0, pos 0)).1)
-    → ArePriced segs placed table (take (j + 1) list) new
-priced_more segs placed table numbers list j i old new fits ok rising known priced below here may each added = record {
+pub priced_more : (segs placed : List (List LineId)) (table : List PartTerm) (numbers : List ℕ) (list : List (ℕ × ℤ)) (j i : ℕ) → AreTerms segs table → AreNumbersOf table numbers
+    → AreRisingPrices list → j < length list → ArePriced segs placed table (take j list) → i < length numbers → get_or numbers i 0 ≡ (get_or list j (0, pos 0)).0
+    → may_have placed (get_or table i no_part_term).term (get_or list j (0, pos 0)).1 ≡ true → ArePriced segs placed table (take (j + 1) list)
+priced_more segs placed table numbers list j i fits ok rising known priced below here may = record {
   prices = set priced.prices i (get_or list j (0, pos 0)).1;
   spread = spread_more segs placed table numbers list j i priced.prices fits ok rising known priced.spread below here may;
-  slots = λ k under x.
-      (let before : k < length old = omega (arith, under, each) in
-      added k before x
-      ∙ ap (λ v. v +ℤ priced_by k x (get_or table i no_part_term) (get_or list j (0, pos 0)).1) (priced.slots k before x)
+  slots = λ k x.
+      charged_set segs placed table priced.prices i (get_or list j (0, pos 0)).1 (length table) k x inside (omega (arith, inside, priced.spread.each)) (free k x)
       ∙ ap (λ (c : Charges). charged segs placed table priced.prices (length table) k x +ℤ (charge_on c.here k x +ℤ charge_on c.there k x))
-      (sym (open_link segs placed (get_or table i no_part_term).term (get_or table i no_part_term).here (get_or table i no_part_term).there (get_or list j (0, pos 0)).1 (get_or list j (0, pos 0)).1 may))
-      ∙ sym (charged_set segs placed table priced.prices i (get_or list j (0, pos 0)).1 (length table) k x inside (omega (arith, inside, priced.spread.each)) (free k x)));
+      (open_link segs placed (get_or table i no_part_term).term (get_or table i no_part_term).here (get_or table i no_part_term).there (get_or list j (0, pos 0)).1 (get_or list j (0, pos 0)).1 may)
+      ∙ ap (λ v. v +ℤ priced_by k x (get_or table i no_part_term) (get_or list j (0, pos 0)).1) (priced.slots k x)
+      ∙ moved (int_sum (added_by segs placed k x) table) (int_sum (price_on table k x) (take j list)) (priced_by k x (get_or table i no_part_term) (get_or list j (0, pos 0)).1)
+      ∙ ap (λ o. int_sum (added_by segs placed k x) table +ℤ (int_sum (price_on table k x) (take j list) +ℤ priced_if k x o (get_or list j (0, pos 0)).1))
+      (sym (term_at table numbers (get_or list j (0, pos 0)).0 i ok (below, here)))
+      ∙ ap (λ v. int_sum (added_by segs placed k x) table +ℤ v) (sym (sum_more (price_on table k x) list j (0, pos 0) known));
 }
   where
+    moved : (a b c : ℤ) → (a +ℤ b) +ℤ c ≡ a +ℤ (b +ℤ c)
+    moved a b c = omega (arith, ints)
+
     inside : i < length table
     inside = omega (arith, below, count_read table numbers ok)
 
@@ -197,3 +232,30 @@ priced_more segs placed table numbers list j i old new fits ok rising known pric
         ∙ ap (λ (c : Charges). charge_on c.here k x +ℤ charge_on c.there k x)
         (open_link segs placed (get_or table i no_part_term).term (get_or table i no_part_term).here (get_or table i no_part_term).there (get_or list j (0, pos 0)).1 (pos 0) may)
         ∙ free_link placed (get_or table i no_part_term).term (get_or table i no_part_term).here (get_or table i no_part_term).there k x (get_or list j (0, pos 0)).1 may
+
+-- Small prices.
+
+pub small_none : (table : List PartTerm) (qs : List (ℕ × ℤ)) → AreSmallPrices table qs 0
+small_none table qs = record {
+  each = λ i h. absurd (omega (arith, h));
+  sums = λ i h k x. (let none : i ≡ 0 = omega (arith, h) in rw none (omega (arith, ints)));
+}
+
+pub small_more : (segs placed : List (List LineId)) (table : List PartTerm) (qs : List (ℕ × ℤ)) (j : ℕ) → AreTerms segs table → length table ≤ 4000000 → AreSmallPrices table qs j
+    → unsigned_abs (get_or qs j (0, pos 0)).1 ≤ 256000 → ArePriced segs placed table (take (j + 1) qs) → AreSmallPrices table qs (j + 1)
+small_more segs placed table qs j fits few small one priced = record {
+  each = λ i h. elim (cases_lt i j) [
+    | inl under ↦ small.each i under
+    | inr over ↦ subst (λ n. unsigned_abs (get_or qs n (0, pos 0)).1 ≤ 256000) (last i h over) one
+  ];
+  sums = λ i h k x. elim (cases_lt j i) [
+    | inl past ↦ subst (λ n. unsigned_abs (int_sum (price_on table k x) (take n qs)) ≤ 2048000000000) (next i h past) (priced_small segs placed table (take (j + 1) qs) fits few priced k x)
+    | inr within ↦ small.sums i (omega (arith, within)) k x
+  ];
+}
+  where
+    last : (i : ℕ) → i < j + 1 → j ≤ i → j ≡ i
+    last i h over = omega (arith, h, over)
+
+    next : (i : ℕ) → i ≤ j + 1 → j < i → j + 1 ≡ i
+    next i h past = omega (arith, h, past)

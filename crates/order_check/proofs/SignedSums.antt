@@ -1,6 +1,6 @@
 -- Absolute values of sums, and sums over lists that agree place by place.
-use Rattle.std.proofs.Common.{◌≡◌, ℕ, suc, ◌+◌, ◌<◌, ◌≤◌, List, [], ◌∷◌, length, take, get_or, refl, ◌∙◌, ap, arith}
-use Rattle.std.specs.Prelude.{ℤ, pos, ◌+ℤ◌, unsigned_abs}
+use Rattle.std.proofs.Common.{◌≡◌, ℕ, zero, suc, ◌+◌, ◌*◌, ◌<◌, ◌≤◌, List, [], ◌∷◌, length, take, set, get_or, refl, ◌∙◌, ap, arith}
+use Rattle.std.specs.Prelude.{ℤ, pos, ◌+ℤ◌, ◌-ℤ◌, unsigned_abs}
 use Rattle.std.proofs.Common.{w64, to_z, of_z}
 use Rattle.std.proofs.lemmas.Int.{ints, to_z-of_z, fits_signed_from_abs}
 use Rattle.std.proofs.lemmas.List.{take_more}
@@ -31,3 +31,24 @@ sums_by_place f g (x ∷ xs) (y ∷ ys) d e each same =
     let here : f x ≡ g y = same 0 (omega arith) in
     let rest : int_sum f xs ≡ int_sum g ys = sums_by_place f g xs ys d e (omega (arith, each)) (λ i h. same (suc i) (omega (arith, h))) in
     ap (λ v. v +ℤ int_sum f xs) here ∙ ap (λ v. g y +ℤ v) rest
+
+-- one element is another
+pub sum_set : {A : Type 0} (f : A → ℤ) (xs : List A) (k : ℕ) (y d : A) → k < length xs → int_sum f (set xs k y) ≡ (int_sum f xs -ℤ f (get_or xs k d)) +ℤ f y
+sum_set f [] k y d below = absurd (omega (arith, below))
+sum_set f (x ∷ xs) zero y d below = one (f x) (f y) (int_sum f xs)
+  where
+    one : (a b s : ℤ) → b +ℤ s ≡ ((a +ℤ s) -ℤ a) +ℤ b
+    one a b s = omega (arith, ints)
+sum_set f (x ∷ xs) (suc k) y d below = more (f x) (int_sum f (set xs k y)) (int_sum f xs) (f (get_or xs k d)) (f y) (sum_set f xs k y d (omega (arith, below)))
+  where
+    more : (a s t u v : ℤ) → s ≡ (t -ℤ u) +ℤ v → a +ℤ s ≡ ((a +ℤ t) -ℤ u) +ℤ v
+    more a s t u v h = omega (arith, ints, h)
+
+-- a sum of numbers up to 2 ^ 61
+pub sum_bound : {A : Type 0} (f : A → ℤ) (xs : List A) (d : A) → ((k : ℕ) → k < length xs → unsigned_abs (f (get_or xs k d)) ≤ 2305843009213693952) → unsigned_abs (int_sum f xs) ≤ 2305843009213693952 * length xs
+sum_bound f [] d small = omega (arith, ints)
+sum_bound f (x ∷ xs) d small =
+    let rest = sum_bound f xs d (λ k h. small (suc k) (omega (arith, h))) in
+    let one : unsigned_abs (f x) ≤ 2305843009213693952 = small 0 (omega arith) in
+    let sum = abs_sum (f x) (int_sum f xs) 2305843009213693952 (2305843009213693952 * length xs) one rest in
+    omega (arith, sum)

@@ -7,6 +7,7 @@ use Rattle.order_model.specs.PartTerms.{part_terms, part_numbers}
 use Rattle.order_model.specs.Numbers.{TellPart}
 use Rattle.order_model.specs.Questions.{Question, question}
 use Rattle.order_check.specs.PartTables.{IsPartTable}
+use Rattle.order_check.specs.Spots.{term_lists, IsSpotTable}
 use Rattle.order_check.specs.declared.slot.SlotCost.{SlotCost}
 use Rattle.order_check.specs.declared.asked.Asked.{Asked}
 
@@ -22,8 +23,8 @@ pub record IsAsked (asked : Asked) : Type 0 where
   pub numbers : TellPart asked.part.now asked.k (length asked.problem.now.segs) asked.numbers.now
   pub terms : asked.terms.now ≡ part_numbers asked.problem.now.terms asked.part.now
   pub table : IsPartTable (part_terms asked.problem.now.terms asked.part.now) asked.table.now.terms.items asked.table.now.slots.keys
+  pub spots : IsSpotTable asked.table.now.terms.items asked.table.now.spots.spots.keys (term_lists asked.table.now.spots.lists.items)
 
--- two tables with a place for each slot of the part
-pub record HaveTables (asked : Asked) (costs trial : List SlotCost) : Type 0 where
-  pub costs_each : length costs ≡ length asked.table.now.slots.keys
-  pub trial_each : length trial ≡ length asked.table.now.slots.keys
+-- a table with a place for each slot of the part
+abbrev pub HasTable : Asked → List SlotCost → Type 0
+HasTable asked costs = length costs ≡ length asked.table.now.slots.keys

@@ -1,28 +1,19 @@
 -- What the terms of a part come to with no prices, as it is kept while lines are placed.
-use Rattle.std.specs.Prelude.{◌≡◌, ℕ, ◌<◌, ◌≤◌, ◌==◌, ◌||◌, Bool, true, false, List, length, map, sum_by, Option, Some, None, if◌then◌else◌}
+use Rattle.std.specs.Prelude.{◌≡◌, ℕ, ◌<◌, ◌≤◌, Bool, true, false, List, length, map, sum_by, if◌then◌else◌}
 use Rattle.std.specs.Prelude.{ℤ, pos, ◌+ℤ◌, ◌-ℤ◌, unsigned_abs}
-use Rattle.map_base.specs.declared.ids.SegId.{SegId}
 use Rattle.map_base.specs.declared.ids.LineId.{LineId}
 use Rattle.order_model.specs.declared.term.Term.{Term}
-use Rattle.order_model.specs.Costs.{seg_of, other_of}
 use Rattle.order_bound.specs.Decided.{decided_cost, decided_sum}
+use Rattle.order_bound.specs.Values.{least_answer}
 use Rattle.whole_sums.specs.Sums.{int_sum}
 use Rattle.order_check.specs.declared.slot.PartTerm.{PartTerm}
 use Rattle.order_check.specs.declared.slot.SlotCost.{SlotCost}
 use Rattle.order_check.specs.declared.slot.Charge.{Charge}
 use Rattle.order_check.specs.declared.slot.Charges.{Charges}
+use Rattle.order_check.specs.declared.slot.Sums.{Sums}
 use Rattle.order_check.specs.declared.asked.Asked.{Asked}
-use Rattle.order_check.specs.Slots.{plain_term, cost_at, charge_on}
+use Rattle.order_check.specs.Slots.{plain_term, cost_in, cost_at, charge_on}
 use Rattle.order_check.specs.Charges.{charges_by}
-
--- the term is on the segment
-abbrev pub is_on : ℕ → Term → Bool
-is_on s t = (seg_of t).0 == s || (other_of t).0 == s
-
--- the terms on a segment count, or where none is named all
-abbrev pub counts : Option SegId → Term → Bool
-counts None t = true
-counts (Some s) t = is_on s.0 t
 
 -- what a term adds to a slot by an order of its lines, with no price
 abbrev pub added_by : List (List LineId) → List (List LineId) → ℕ → Bool → PartTerm → ℤ
@@ -30,18 +21,18 @@ added_by segs placed k x t =
     let c : Charges = charges_by segs placed t.term t.here t.there (pos 0) in charge_on c.here k x +ℤ charge_on c.there k x
 
 -- the same of those that count, and of the others
-abbrev pub counted_by : Option SegId → List (List LineId) → List (List LineId) → ℕ → Bool → PartTerm → ℤ
-counted_by which segs placed k x t = if counts which t.term then added_by segs placed k x t else pos 0
+abbrev pub counted_by : (Term → Bool) → List (List LineId) → List (List LineId) → ℕ → Bool → PartTerm → ℤ
+counted_by counts segs placed k x t = if counts t.term then added_by segs placed k x t else pos 0
 
-abbrev pub beside_by : Option SegId → List (List LineId) → List (List LineId) → ℕ → Bool → PartTerm → ℤ
-beside_by which segs placed k x t = if counts which t.term then pos 0 else added_by segs placed k x t
+abbrev pub beside_by : (Term → Bool) → List (List LineId) → List (List LineId) → ℕ → Bool → PartTerm → ℤ
+beside_by counts segs placed k x t = if counts t.term then pos 0 else added_by segs placed k x t
 
 -- what a term costs where it is decided: of those that count, and of the others
-abbrev pub decided_by : Option SegId → List (List LineId) → List (List LineId) → PartTerm → ℕ
-decided_by which segs placed t = if counts which t.term then decided_cost segs placed t.term else 0
+abbrev pub decided_by : (Term → Bool) → List (List LineId) → List (List LineId) → PartTerm → ℕ
+decided_by counts segs placed t = if counts t.term then decided_cost segs placed t.term else 0
 
-abbrev pub decided_beside : Option SegId → List (List LineId) → List (List LineId) → PartTerm → ℕ
-decided_beside which segs placed t = if counts which t.term then 0 else decided_cost segs placed t.term
+abbrev pub decided_beside : (Term → Bool) → List (List LineId) → List (List LineId) → PartTerm → ℕ
+decided_beside counts segs placed t = if counts t.term then 0 else decided_cost segs placed t.term
 
 -- a number less another, or more
 abbrev pub shifted : Bool → ℤ → ℤ → ℤ
@@ -57,13 +48,19 @@ turned false c = c
 abbrev pub AreSmallCosts : List SlotCost → Type 0
 AreSmallCosts costs = (k : ℕ) (x : Bool) → k < length costs → unsigned_abs (cost_at costs k x) ≤ 1024000000000
 
--- the table has what all terms of the part add with no prices, and the sum is that of the decided ones
-pub record IsTally (asked : Asked) (placed : List (List LineId)) (sum : ℕ) (costs : List SlotCost) : Type 0 where
-  pub decided : sum ≡ decided_sum asked.problem.now.segs placed (map plain_term asked.table.now.terms.items)
+-- the sum over the slots of what the cheaper order of their lines costs
+abbrev pub least_sum : List SlotCost → ℤ
+least_sum costs = int_sum (λ (c : SlotCost). least_answer (cost_in c)) costs
+
+-- the table has what all terms of the part add with no prices, and the sums are those of the decided terms and of the slots
+pub record IsTally (asked : Asked) (placed : List (List LineId)) (sums : Sums) (costs : List SlotCost) : Type 0 where
+  pub decided : sums.decided ≡ decided_sum asked.problem.now.segs placed (map plain_term asked.table.now.terms.items)
   pub slots : (k : ℕ) → k < length costs → (x : Bool) → cost_at costs k x ≡ int_sum (added_by asked.problem.now.segs placed k x) asked.table.now.terms.items
+  pub least : sums.least ≡ least_sum costs
 
 -- the same of the terms that do not count
-pub record IsTallyBeside (which : Option SegId) (asked : Asked) (placed : List (List LineId)) (sum : ℕ) (costs : List SlotCost) : Type 0 where
-  pub decided : sum ≡ sum_by (decided_beside which asked.problem.now.segs placed) asked.table.now.terms.items
+pub record IsTallyBeside (counts : Term → Bool) (asked : Asked) (placed : List (List LineId)) (sums : Sums) (costs : List SlotCost) : Type 0 where
+  pub decided : sums.decided ≡ sum_by (decided_beside counts asked.problem.now.segs placed) asked.table.now.terms.items
   pub slots : (k : ℕ) → k < length costs → (x : Bool)
-      → cost_at costs k x ≡ int_sum (beside_by which asked.problem.now.segs placed k x) asked.table.now.terms.items
+      → cost_at costs k x ≡ int_sum (beside_by counts asked.problem.now.segs placed k x) asked.table.now.terms.items
+  pub least : sums.least ≡ least_sum costs

@@ -1,8 +1,10 @@
 pub mod Slots
-pub mod PartTables
 pub mod Charges
 pub mod Charging
 pub mod Prices
+pub mod Spots
+pub mod Placings
+pub mod PartTables
 pub mod Counting
 pub mod Pricing
 pub mod Asking

@@ -109,8 +109,8 @@ fn check_pairs(
     }
 }
 
-/// Refuses the part where its tree isn't accepted from the prefix in which no line is chosen. The tables that a Close
-/// needs are made once.
+/// Refuses the part where its tree isn't accepted from the prefix in which no line is chosen. The table of
+/// slots is made once.
 fn check_tree(
     alloc: Global,
     asked: &Asked,
@@ -131,19 +131,10 @@ fn check_tree(
         greater_first: 0,
     };
     let mut costs = vec![in alloc; nothing; asked.table.slots.len()]?;
-    let mut trial = vec![in alloc; nothing; asked.table.slots.len()]?;
     let mut way = Vec::new(alloc);
     let costs = costs.as_mut_slice();
-    let decided = first_tally(asked, prefix, costs);
-    if walk(
-        asked,
-        prefix,
-        decided,
-        costs,
-        trial.as_mut_slice(),
-        &mut way,
-        tree,
-    )? {
+    let sums = first_tally(asked, prefix, costs);
+    if walk(asked, prefix, sums, costs, &mut way, tree)? {
         return Ok(());
     }
     Err(ProofStop::Refuted(ProofItem::Part {

@@ -1,12 +1,15 @@
 //! The terms of a part with the slots at their ends.
 
 ghost use Rattle.std.specs.Prelude.{◌≡◌, ◌<◌, ◌≤◌, ◌*◌, length, All, IfOk, OnOk};
+ghost use Rattle.order_model.specs.Problems.{IsProblem};
 ghost use Rattle.order_model.specs.PartTerms.{terms_by_number};
 ghost use Rattle.order_check.specs.Slots.{slot_on, slot_of, noted, with_slots, plain_term, StandsAt, HasEnds};
+ghost use Rattle.order_check.specs.Spots.{term_lists, IsSpotTable};
 ghost use Rattle.order_check.specs.PartTables.{IsPartTable};
 ghost use Rattle.order_bound.specs.Pairs.{pair_of};
 
 use crate::slot::{PartTerm, Slot};
+use crate::spot::{SpotTable, list_term, no_spots};
 use indexmap::IndexSet;
 use map_base::{LineId, NoMemory, SegId};
 use order_model::{Problem, Term};
@@ -19,6 +22,8 @@ pub(crate) struct PartTable {
     pub(crate) terms: Vec<PartTerm>,
     /// The slots.
     pub(crate) slots: IndexSet<Slot>,
+    /// The terms by segment and line.
+    pub(crate) spots: SpotTable,
 }
 
 /// The table of the terms that have these numbers in the problem.
@@ -27,20 +32,25 @@ pub(crate) fn part_table(
     problem: &Problem,
     numbers: &[u32],
 ) -> Result<PartTable, NoMemory>
+    requires problem { IsProblem problem.now }
     requires known { All (λ n. n < length problem.now.terms) numbers.now }
     requires few { length numbers.now ≤ 4000000 }
-    ensures { IfOk result (λ t. IsPartTable (terms_by_number problem.now.terms numbers.now) t.terms.items t.slots.keys) }
+    ensures table { IfOk result (λ t. IsPartTable (terms_by_number problem.now.terms numbers.now) t.terms.items t.slots.keys) }
+    ensures spots { IfOk result (λ t. IsSpotTable t.terms.items t.spots.spots.keys (term_lists t.spots.lists.items)) }
 {
     let terms = problem.terms();
     let mut entries = Vec::with_capacity(alloc, numbers.len())?;
     let mut slots = IndexSet::new(alloc);
+    let mut spots = no_spots(alloc);
     for n in numbers {
         let entry = part_term(&mut slots, *n, terms[*n as usize])?;
+        list_term(alloc, &mut spots, entry)?;
         entries.push(entry)?;
     }
     Ok(PartTable {
         terms: entries,
         slots,
+        spots,
     })
 }
 

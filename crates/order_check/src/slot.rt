@@ -37,6 +37,15 @@ pub(crate) struct SlotCost {
     pub(crate) greater_first: i64,
 }
 
+/// What terms come to: the sum of the decided ones, and the sum over the slots of what the cheaper order of their lines costs.
+#[derive(Clone, Copy, Debug)]
+pub(crate) struct Sums {
+    /// What the decided terms cost.
+    pub(crate) decided: u64,
+    /// What the slots cost at least.
+    pub(crate) least: i128,
+}
+
 /// What a term adds to a slot by one order of its lines.
 #[derive(Clone, Copy, Debug)]
 pub(crate) struct Charge {

@@ -1,6 +1,6 @@
-//! What a part's terms add to its slots, for a prefix.
+//! What terms add to the slots of a part, for a prefix.
 
-ghost use Rattle.std.specs.Prelude.{◌≡◌, ◌<◌, ◌≤◌, ◌+ℤ◌, ◌^◌, ℕ, Bool, length, sum_by, unsigned_abs, pos, if◌then◌else◌};
+ghost use Rattle.std.specs.Prelude.{◌≡◌, ◌<◌, ◌≤◌, ◌+ℤ◌, ◌-ℤ◌, ◌≤ℤ◌, ◌^◌, ℕ, Bool, length, sum_by, unsigned_abs, pos, if◌then◌else◌};
 ghost use Rattle.order_model.specs.Problems.{IsTerm};
 ghost use Rattle.order_model.specs.Costs.{same_answer};
 ghost use Rattle.order_model.specs.Prefixes.{IsPrefixOf};
@@ -8,85 +8,134 @@ ghost use Rattle.order_bound.specs.Values.{least_answer};
 ghost use Rattle.whole_sums.specs.Sums.{int_sum};
 ghost use Rattle.order_check.specs.Slots.{cost_in, cost_at, charge_on};
 ghost use Rattle.order_check.specs.Charging.{AreTerms};
-ghost use Rattle.order_check.specs.Counting.{is_on, counts, counted_by, decided_by, shifted, turned, AreSmallCosts};
+ghost use Rattle.order_check.specs.Placings.{is_of_any, is_fresh};
+ghost use Rattle.order_check.specs.Spots.{is_of_line};
+ghost use Rattle.order_check.specs.Counting.{counted_by, decided_by, shifted, turned, least_sum};
 
 use crate::charges::charges;
-use crate::slot::{Charge, PartTerm, SlotCost};
-use map_base::SegId;
+use crate::slot::{Charge, Charges, PartTerm, SlotCost, Sums};
+use map_base::LineId;
 use order_model::{Prefix, Problem, Term};
 
-/// Adds to the table of slots what the terms that count add for a prefix, with no prices, or takes it off again. Sums those
-/// of them that are decided.
+/// Lines whose terms were counted before.
+#[derive(Clone, Copy, Debug)]
+pub(crate) struct Counted {
+    /// The first.
+    pub(crate) first: Option<LineId>,
+    /// The second.
+    pub(crate) second: Option<LineId>,
+}
+
+/// Adds to the table of slots what terms add for a prefix, with no prices, or takes it off again; but not the terms of lines
+/// that were counted before. Sums those of them that are decided, and keeps up the sum over the slots.
 pub(crate) fn count(
     problem: &Problem,
     prefix: &Prefix,
     terms: &[PartTerm],
-    which: Option<SegId>,
+    counted: Counted,
     costs: &mut [SlotCost],
+    least: i128,
     off: bool,
-) -> u64
+) -> Sums
     requires fits { IsPrefixOf problem.now.segs prefix.now }
     requires terms { AreTerms problem.now.segs terms.now }
     requires few { length terms.now ≤ 4000000 }
-    requires small { AreSmallCosts costs.old }
-    ensures decided { result ≡ sum_by (decided_by which problem.now.segs prefix.now.placed) terms.now }
-    ensures most { result ≤ 1024000000000 }
+    requires few_slots { length costs.old ≤ 8000000 }
+    requires small { (k : ℕ) (x : Bool) → k < length costs.old → unsigned_abs (cost_at costs.old k x) ≤ 8192000000000 }
+    requires least { least ≡ least_sum costs.old }
+    ensures decided { result.decided ≡ sum_by (decided_by (is_fresh counted) problem.now.segs prefix.now.placed) terms.now }
+    ensures most { result.decided ≤ 1024000000000 }
+    ensures least { result.least ≡ least_sum costs.new }
     ensures slots { (k : ℕ) → k < length costs.old → (x : Bool)
-        → cost_at costs.new k x ≡ shifted off (cost_at costs.old k x) (int_sum (counted_by which problem.now.segs prefix.now.placed k x) terms.now) }
+        → cost_at costs.new k x ≡ shifted off (cost_at costs.old k x) (int_sum (counted_by (is_fresh counted) problem.now.segs prefix.now.placed k x) terms.now) }
 {
     let mut decided: u64 = 0;
+    let mut least = least;
     for i in 0..terms.len() {
-        decided += count_term(problem, prefix, terms[i], which, costs, off);
+        let added = count_term(problem, prefix, terms[i], counted, costs, least, off);
+        decided += added.decided;
+        least = added.least;
     }
-    decided
+    Sums { decided, least }
 }
 
-/// The same of one term: what it costs where it counts and is decided.
+/// The same of one term.
 fn count_term(
     problem: &Problem,
     prefix: &Prefix,
     t: PartTerm,
-    which: Option<SegId>,
+    counted: Counted,
     costs: &mut [SlotCost],
+    least: i128,
     off: bool,
-) -> u64
+) -> Sums
     requires fits { IsPrefixOf problem.now.segs prefix.now }
     requires term { IsTerm problem.now.segs t.term }
+    requires few_slots { length costs.old ≤ 8000000 }
     requires small { (k : ℕ) (x : Bool) → k < length costs.old → unsigned_abs (cost_at costs.old k x) ≤ 2 ^ 60 }
-    ensures decided { result ≡ decided_by which problem.now.segs prefix.now.placed t }
-    ensures most { result ≤ 256000 }
+    requires least { least ≡ least_sum costs.old }
+    ensures decided { result.decided ≡ decided_by (is_fresh counted) problem.now.segs prefix.now.placed t }
+    ensures most { result.decided ≤ 256000 }
+    ensures least { result.least ≡ least_sum costs.new }
     ensures slots { (k : ℕ) → k < length costs.old → (x : Bool)
-        → cost_at costs.new k x ≡ shifted off (cost_at costs.old k x) (counted_by which problem.now.segs prefix.now.placed k x t) }
+        → cost_at costs.new k x ≡ shifted off (cost_at costs.old k x) (counted_by (is_fresh counted) problem.now.segs prefix.now.placed k x t) }
 {
-    if !counts(which, t.term) {
-        return 0;
+    if !is_fresh(counted, t.term) {
+        return Sums { decided: 0, least };
     }
     let added = charges(problem, prefix, t, 0);
-    add(costs, turned(added.here, off));
-    add(costs, turned(added.there, off));
-    added.decided
-}
-
-/// Whether a term counts: where a segment is named, it has to be on it.
-fn counts(which: Option<SegId>, term: Term) -> bool
-    ensures { result ≡ counts which term }
-{
-    match which {
-        None => true,
-        Some(s) => is_on(s, term),
+    let least = add_both(costs, added, least, off);
+    Sums {
+        decided: added.decided,
+        least,
     }
 }
 
-/// Whether a term is on a segment.
-fn is_on(s: SegId, term: Term) -> bool
-    ensures { result ≡ is_on s.0 term }
+/// Whether a term has none of the lines whose terms were counted before.
+fn is_fresh(counted: Counted, term: Term) -> bool
+    ensures { result ≡ is_fresh counted term }
+{
+    if is_of_any(counted.first, term) {
+        return false;
+    }
+    !is_of_any(counted.second, term)
+}
+
+/// Whether a term has a line, if there is one.
+fn is_of_any(line: Option<LineId>, term: Term) -> bool
+    ensures { result ≡ is_of_any line term }
+{
+    match line {
+        None => false,
+        Some(line) => is_of_line(line, term),
+    }
+}
+
+/// Whether a term has a line.
+fn is_of_line(line: LineId, term: Term) -> bool
+    ensures { result ≡ is_of_line line term }
 {
     match term {
-        Term::Side { seg, .. } => seg.0 == s.0,
-        Term::Link { seg, other, .. } | Term::Apart { seg, other, .. } => {
-            seg.0 == s.0 || other.0 == s.0
-        }
+        Term::Side { first, second, .. } => first.0 == line.0 || second.0 == line.0,
+        Term::Link { a, b, .. } | Term::Apart { a, b, .. } => a.0 == line.0 || b.0 == line.0,
     }
+}
+
+/// Adds what a term adds to its slots, or takes it off again. Answers the sum over the slots after it.
+pub(crate) fn add_both(costs: &mut [SlotCost], added: Charges, least: i128, off: bool) -> i128
+    requires few { length costs.old ≤ 8000000 }
+    requires small { (k : ℕ) (x : Bool) → k < length costs.old → unsigned_abs (cost_at costs.old k x) ≤ 2 ^ 60 }
+    requires here { unsigned_abs added.here.amount ≤ 256000 }
+    requires there { unsigned_abs added.there.amount ≤ 256000 }
+    requires least { least ≡ least_sum costs.old }
+    ensures slots { (k : ℕ) → k < length costs.old → (x : Bool)
+        → cost_at costs.new k x ≡ shifted off (cost_at costs.old k x) (charge_on added.here k x +ℤ charge_on added.there k x) }
+    ensures least { result ≡ least_sum costs.new }
+{
+    let here = turned(added.here, off);
+    let there = turned(added.there, off);
+    let first = add(costs, here, least);
+    add(costs, there, first)
 }
 
 /// A charge, or where it is taken off its contrary.
@@ -117,16 +166,26 @@ pub(crate) fn clear(costs: &mut [SlotCost])
     }
 }
 
-/// Adds a charge to its slot, if there is such a slot.
-pub(crate) fn add(costs: &mut [SlotCost], charge: Charge)
+/// Adds a charge to its slot, if there is such a slot. Answers the sum over the slots after it.
+fn add(costs: &mut [SlotCost], charge: Charge, least: i128) -> i128
+    requires few { length costs.old ≤ 8000000 }
     requires small { (k : ℕ) (x : Bool) → k < length costs.old → unsigned_abs (cost_at costs.old k x) ≤ 2 ^ 61 }
     requires amount { unsigned_abs charge.amount ≤ 256000 }
-    ensures { (k : ℕ) → k < length costs.old → (x : Bool) → cost_at costs.new k x ≡ cost_at costs.old k x +ℤ charge_on charge k x }
+    requires least { least ≡ least_sum costs.old }
+    ensures slots { (k : ℕ) → k < length costs.old → (x : Bool) → cost_at costs.new k x ≡ cost_at costs.old k x +ℤ charge_on charge k x }
+    ensures least { result ≡ least_sum costs.new }
 {
     let k = charge.slot as usize;
-    if k < costs.len() {
-        costs[k] = with_charge(costs[k], charge);
+    if k >= costs.len() {
+        return least;
     }
+    let before = costs[k];
+    let after = with_charge(before, charge);
+    costs[k] = after;
+    let was = least_of(before);
+    let will = least_of(after);
+    let rest = without(least, was);
+    with(rest, will)
 }
 
 /// The costs of a slot after a charge.
@@ -151,10 +210,7 @@ fn with_charge(cost: SlotCost, charge: Charge) -> SlotCost
 
 /// What the cheaper order of a slot's lines costs.
 fn least_of(cost: SlotCost) -> i64
-    requires lesser { unsigned_abs cost.lesser_first ≤ 1024000000000 }
-    requires greater { unsigned_abs cost.greater_first ≤ 1024000000000 }
-    ensures value { result ≡ least_answer (cost_in cost) }
-    ensures within { unsigned_abs result ≤ 1024000000000 }
+    ensures { result ≡ least_answer (cost_in cost) }
 {
     if cost.greater_first < cost.lesser_first {
         cost.greater_first
@@ -164,7 +220,7 @@ fn least_of(cost: SlotCost) -> i64
 }
 
 /// The sum of two numbers.
-pub(crate) fn sum(a: i64, b: i64) -> i64
+fn sum(a: i64, b: i64) -> i64
     requires a_within { unsigned_abs a ≤ 8192000000000000000 }
     requires b_within { unsigned_abs b ≤ 1000000000000000000 }
     ensures { result ≡ a +ℤ b }
@@ -172,16 +228,22 @@ pub(crate) fn sum(a: i64, b: i64) -> i64
     a + b
 }
 
-/// The sum over the slots of what the cheaper order of their lines costs.
-pub(crate) fn least_sum(costs: &[SlotCost]) -> i64
-    requires few { length costs.now ≤ 8000000 }
-    requires small { AreSmallCosts costs.now }
-    ensures sum { result ≡ int_sum (λ c. least_answer (cost_in c)) costs.now }
-    ensures most { unsigned_abs result ≤ 8192000000000000000 }
+/// A sum without one of its numbers.
+fn without(sum: i128, number: i64) -> i128
+    requires low { (pos 0 -ℤ pos (2 ^ 100)) ≤ℤ sum }
+    requires high { sum ≤ℤ pos (2 ^ 100) }
+    ensures sum { result ≡ sum -ℤ number }
+    ensures low { (sum -ℤ pos (2 ^ 63)) ≤ℤ result }
+    ensures high { result ≤ℤ (sum +ℤ pos (2 ^ 63)) }
 {
-    let mut total: i64 = 0;
-    for cost in costs {
-        total = sum(total, least_of(*cost));
-    }
-    total
+    sum - i128::from(number)
+}
+
+/// A sum with one number more.
+fn with(sum: i128, number: i64) -> i128
+    requires low { (pos 0 -ℤ pos (2 ^ 101)) ≤ℤ sum }
+    requires high { sum ≤ℤ pos (2 ^ 101) }
+    ensures { result ≡ sum +ℤ number }
+{
+    sum + i128::from(number)
 }

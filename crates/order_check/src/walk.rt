@@ -1,21 +1,22 @@
 //! The walk over a tree, node by node in the order of the text.
 
-ghost use Rattle.std.specs.Prelude.{◌≡◌, ◌<◌, length, true, false, Contains, IfOk, Some};
+ghost use Rattle.std.specs.Prelude.{◌≡◌, ◌<◌, length, true, false, Contains, IfOk};
 ghost use Rattle.order_model.specs.Problems.{lines_on};
 ghost use Rattle.order_model.specs.Prefixes.{IsPrefixOf, is_placed};
 ghost use Rattle.order_proof.specs.Plain.{split, plain, plain_children};
 ghost use Rattle.order_proof.specs.Trees.{IsTree};
 ghost use Rattle.order_model.specs.Completions.{placed_more};
 ghost use Rattle.order_bound.specs.Accepting.{after_line, failing};
-ghost use Rattle.order_check.specs.Asking.{question_of, IsAsked, HaveTables};
+ghost use Rattle.order_check.specs.Asking.{question_of, IsAsked, HasTable};
 ghost use Rattle.order_check.specs.Children.{child_lines};
-ghost use Rattle.order_check.specs.Counting.{IsTally, IsTallyBeside};
+ghost use Rattle.order_check.specs.Counting.{IsTally};
 ghost use Rattle.order_check.specs.Walking.{IsWalked, split_test};
 
 use crate::asked::Asked;
 use crate::close::is_closed;
 use crate::node::is_split;
-use crate::slot::SlotCost;
+use crate::placing::placing_of;
+use crate::slot::{SlotCost, Sums};
 use crate::tally::{put_on, take_off};
 use map_base::{LineId, NoMemory, SegId};
 use order_model::Prefix;
@@ -27,47 +28,36 @@ use order_proof::Tree;
 pub(crate) fn walk(
     asked: &Asked,
     prefix: &mut Prefix,
-    decided: u64,
+    sums: Sums,
     costs: &mut [SlotCost],
-    trial: &mut [SlotCost],
     way: &mut Vec<LineId>,
     tree: &Tree,
 ) -> Result<bool, NoMemory>
     requires asked { IsAsked asked.now }
     requires fits { IsPrefixOf asked.now.problem.now.segs prefix.old }
     requires tree { IsTree (plain tree.now) }
-    requires tally { IsTally asked.now prefix.old.placed decided costs.old }
-    requires tables { HaveTables asked.now costs.old trial.old }
+    requires tally { IsTally asked.now prefix.old.placed sums costs.old }
+    requires table { HasTable asked.now costs.old }
     ensures fits { IsPrefixOf asked.now.problem.now.segs prefix.new }
     ensures placed { prefix.new.placed ≡ prefix.old.placed }
-    ensures tally { IsTally asked.now prefix.new.placed decided costs.new }
+    ensures tally { IsTally asked.now prefix.new.placed sums costs.new }
     ensures walked { IfOk result (IsWalked (failing (question_of asked.now) prefix.old.placed (plain tree.now)) way.old.items way.new.items) }
 {
     match tree {
-        Tree::Close { prices } => Ok(is_closed(asked, prefix, decided, costs, trial, prices)),
+        Tree::Close { prices } => Ok(is_closed(asked, prefix, sums, costs, prices)),
         Tree::Split { seg, children } => {
-            walk_split(
-                asked,
-                prefix,
-                decided,
-                costs,
-                trial,
-                way,
-                *seg,
-                children.as_slice(),
-            )
+            walk_split(asked, prefix, sums, costs, way, *seg, children.as_slice())
         }
     }
 }
 
-/// The same of a Split. The terms on its segment are taken off the tally while its cases are walked.
+/// The same of a Split.
 #[cycle(walk)]
 fn walk_split(
     asked: &Asked,
     prefix: &mut Prefix,
-    decided: u64,
+    sums: Sums,
     costs: &mut [SlotCost],
-    trial: &mut [SlotCost],
     way: &mut Vec<LineId>,
     seg: SegId,
     children: &[(LineId, Tree)],
@@ -75,30 +65,26 @@ fn walk_split(
     requires asked { IsAsked asked.now }
     requires fits { IsPrefixOf asked.now.problem.now.segs prefix.old }
     requires tree { IsTree (split seg (plain_children children.now)) }
-    requires tally { IsTally asked.now prefix.old.placed decided costs.old }
-    requires tables { HaveTables asked.now costs.old trial.old }
+    requires tally { IsTally asked.now prefix.old.placed sums costs.old }
+    requires table { HasTable asked.now costs.old }
     ensures fits { IsPrefixOf asked.now.problem.now.segs prefix.new }
     ensures placed { prefix.new.placed ≡ prefix.old.placed }
-    ensures tally { IsTally asked.now prefix.new.placed decided costs.new }
+    ensures tally { IsTally asked.now prefix.new.placed sums costs.new }
     ensures walked { IfOk result (IsWalked (failing (question_of asked.now) prefix.old.placed (split seg (plain_children children.now))) way.old.items way.new.items) }
 {
     if !is_split(asked, prefix, seg, children) {
         return Ok(false);
     }
-    let beside = take_off(asked, prefix, seg, decided, costs);
-    let outcome = walk_cases(asked, prefix, beside, costs, trial, way, seg, children);
-    let _same = put_on(asked, prefix, Some(seg), beside, costs);
-    outcome
+    walk_cases(asked, prefix, sums, costs, way, seg, children)
 }
 
-/// The same of the cases of a Split that holds, over the tally of the terms beside its segment.
+/// The same of the cases of a Split that holds.
 #[cycle(walk)]
 fn walk_cases(
     asked: &Asked,
     prefix: &mut Prefix,
-    beside: u64,
+    sums: Sums,
     costs: &mut [SlotCost],
-    trial: &mut [SlotCost],
     way: &mut Vec<LineId>,
     seg: SegId,
     children: &[(LineId, Tree)],
@@ -107,31 +93,29 @@ fn walk_cases(
     requires fits { IsPrefixOf asked.now.problem.now.segs prefix.old }
     requires tree { IsTree (split seg (plain_children children.now)) }
     requires holds { split_test (question_of asked.now) prefix.old.placed seg (child_lines children.now) ≡ true }
-    requires tally { IsTallyBeside (Some seg) asked.now prefix.old.placed beside costs.old }
-    requires tables { HaveTables asked.now costs.old trial.old }
+    requires tally { IsTally asked.now prefix.old.placed sums costs.old }
+    requires table { HasTable asked.now costs.old }
     ensures fits { IsPrefixOf asked.now.problem.now.segs prefix.new }
     ensures placed { prefix.new.placed ≡ prefix.old.placed }
-    ensures tally { IsTallyBeside (Some seg) asked.now prefix.new.placed beside costs.new }
+    ensures tally { IsTally asked.now prefix.new.placed sums costs.new }
     ensures walked { IfOk result (IsWalked (failing (question_of asked.now) prefix.old.placed (split seg (plain_children children.now))) way.old.items way.new.items) }
 {
     for child in children {
-        if !walk_case(
-            asked, prefix, beside, costs, trial, way, seg, child.0, &child.1,
-        )? {
+        if !walk_case(asked, prefix, sums, costs, way, seg, child.0, &child.1)? {
             return Ok(false);
         }
     }
     Ok(true)
 }
 
-/// The same of one case, whose line is placed while its tree is walked.
+/// The same of one case, whose line is placed while its tree is walked. The terms that this may change are taken off the tally,
+/// and put on again once it is placed; and so where it is taken back.
 #[cycle(walk)]
 fn walk_case(
     asked: &Asked,
     prefix: &mut Prefix,
-    beside: u64,
+    sums: Sums,
     costs: &mut [SlotCost],
-    trial: &mut [SlotCost],
     way: &mut Vec<LineId>,
     seg: SegId,
     line: LineId,
@@ -143,20 +127,23 @@ fn walk_case(
     requires line { Contains (lines_on asked.now.problem.now.segs seg) line }
     requires unplaced { is_placed (lines_on prefix.old.placed seg) line ≡ false }
     requires tree { IsTree (plain tree.now) }
-    requires tally { IsTallyBeside (Some seg) asked.now prefix.old.placed beside costs.old }
-    requires tables { HaveTables asked.now costs.old trial.old }
+    requires tally { IsTally asked.now prefix.old.placed sums costs.old }
+    requires table { HasTable asked.now costs.old }
     ensures fits { IsPrefixOf asked.now.problem.now.segs prefix.new }
     ensures placed { prefix.new.placed ≡ prefix.old.placed }
-    ensures tally { IsTallyBeside (Some seg) asked.now prefix.new.placed beside costs.new }
+    ensures tally { IsTally asked.now prefix.new.placed sums costs.new }
     ensures walked { IfOk result (IsWalked (after_line line (failing (question_of asked.now)
         (placed_more asked.now.problem.now.segs prefix.old.placed seg line) (plain tree.now))) way.old.items way.new.items) }
 {
     way.push(line)?;
+    let placing = placing_of(asked.problem, prefix, seg, line);
+    let beside = take_off(asked, prefix, placing, sums, costs);
     prefix.place(asked.problem, seg, line);
-    let decided = put_on(asked, prefix, Some(seg), beside, costs);
-    let outcome = walk(asked, prefix, decided, costs, trial, way, tree);
-    let _same = take_off(asked, prefix, seg, decided, costs);
+    let after = put_on(asked, prefix, placing, beside, costs);
+    let outcome = walk(asked, prefix, after, costs, way, tree);
+    let left = take_off(asked, prefix, placing, after, costs);
     prefix.take_back(asked.problem, seg);
+    let _same = put_on(asked, prefix, placing, left, costs);
     if !outcome? {
         return Ok(false);
     }

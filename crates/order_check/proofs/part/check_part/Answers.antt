@@ -9,6 +9,7 @@ use Rattle.order_check.proofs.part.check_part.Goals as goal
 
 pub part_table-requires : goal.part_table-requires
 part_table-requires c = record {
+  problem = c.requires.problem;
   known = subst (All (λ n. n < length c.args.problem.now.terms)) (sym c.requires.terms) (part_numbers_known c.args.segs.now c.args.problem.now.terms);
   few = omega (
     arith,
@@ -27,5 +28,6 @@ check_tree-requires-clause-asked c = record {
   numbers = c.requires.numbers;
   terms = c.requires.terms;
   table = subst (λ (ts : List (ℕ × Term)). IsPartTable ts c.in_ok-table-in-ByCases.table.terms.items c.in_ok-table-in-ByCases.table.slots.keys)
-      (ap (terms_by_number c.args.problem.now.terms) c.requires.terms ∙ part_terms_by_number c.args.segs.now c.args.problem.now.terms) c.in_ok-table-in-ByCases.ensures;
+      (ap (terms_by_number c.args.problem.now.terms) c.requires.terms ∙ part_terms_by_number c.args.segs.now c.args.problem.now.terms) c.in_ok-table-in-ByCases.ensures.table;
+  spots = c.in_ok-table-in-ByCases.ensures.spots;
 }

@@ -1,40 +1,26 @@
-use Rattle.std.proofs.Common.{◌≡◌, ℕ, ◌-◌, ◌<◌, ◌∙◌, Bool, true, List, length, Some, ap, sym, subst, arith, refl}
-use Rattle.std.specs.List.{sum_by}
-use Rattle.map_base.specs.declared.ids.LineId.{LineId}
-use Rattle.whole_sums.specs.Sums.{int_sum}
-use Rattle.order_check.specs.declared.slot.PartTerm.{PartTerm}
-use Rattle.order_check.specs.Slots.{cost_at}
-use Rattle.order_check.specs.Charging.{AreTerms}
-use Rattle.order_check.specs.Counting.{counted_by, decided_by, shifted}
-use Rattle.order_check.proofs.Closing.{table_fits, table_few}
-use Rattle.order_check.proofs.Counting.{decided_parts, tally_small, taken_off}
+use Rattle.std.proofs.Common.{◌-◌, arith, refl, rules, to_z, of_z, ◌∙◌}
+use Rattle.order_check.specs.declared.slot.Sums.{Sums}
+use Rattle.order_check.specs.Placings.{changes}
+use Rattle.order_check.proofs.Counting.{decided_parts}
+use Rattle.order_check.proofs.Tallies.{tally_small, taken_off}
 use Rattle.order_check.proofs.tally.take_off.Goals as goal
+use Rattle.std.specs.Int.{w128}
+use Rattle.std.proofs.lemmas.Int.{to_z-of_z}
 
-pub count-removed-requires-clause-terms : goal.count-removed-requires-clause-terms
-count-removed-requires-clause-terms c =
-    subst (AreTerms c.args.asked.now.problem.now.segs) (sym c.as_slice-terms.ensures.value) (table_fits c.args.asked.now c.requires.asked)
-
-pub count-removed-requires-clause-few : goal.count-removed-requires-clause-few
-count-removed-requires-clause-few c = omega (arith, ap length c.as_slice-terms.ensures.value, table_few c.args.asked.now c.requires.asked)
-
-pub count-removed-requires-clause-small : goal.count-removed-requires-clause-small
-count-removed-requires-clause-small c = tally_small c.args.asked.now c.args.prefix.now.placed c.args.decided c.args.costs.now c.requires.asked c.requires.tally
+pub count_changed-removed-requires-clause-small : goal.count_changed-removed-requires-clause-small
+count_changed-removed-requires-clause-small c = tally_small c.args.asked.now c.args.prefix.now.placed c.args.sums c.args.costs.now c.requires.asked c.requires.tally
 
 pub overflow_sub-result : goal.overflow_sub-result
 overflow_sub-result c =
-    let segs : List (List LineId) = c.args.asked.now.problem.now.segs in
-    let placed : List (List LineId) = c.args.prefix.now.placed in
-    let table : List PartTerm = c.args.asked.now.table.now.terms.items in
-    let count = c.count-removed.ensures.decided ∙ ap (sum_by (decided_by (Some c.args.seg) segs placed)) c.as_slice-terms.ensures.value in
-    omega (arith, count, c.requires.tally.decided, decided_parts (Some c.args.seg) segs placed table)
+    omega (
+      arith,
+      c.count_changed-removed.ensures.decided,
+      c.requires.tally.decided,
+      decided_parts (changes c.args.placing) c.args.asked.now.problem.now.segs c.args.prefix.now.placed c.args.asked.now.table.now.terms.items,
+    )
 
 pub returns : goal.returns
 returns c =
-    let segs : List (List LineId) = c.args.asked.now.problem.now.segs in
-    let placed : List (List LineId) = c.args.prefix.now.placed in
-    let count = c.count-removed.ensures.decided ∙ ap (sum_by (decided_by (Some c.args.seg) segs placed)) c.as_slice-terms.ensures.value in
-    let shift = subst (λ (ts : List PartTerm). (k : ℕ) → k < length c.args.costs.now → (x : Bool)
-    → cost_at c.count-removed.new.costs k x ≡ shifted true (cost_at c.args.costs.now k x) (int_sum (counted_by (Some c.args.seg) segs placed k x) ts))
-    c.as_slice-terms.ensures.value c.count-removed.ensures.slots in
-    taken_off (Some c.args.seg) c.args.asked.now placed c.args.decided c.count-removed.result (c.args.decided - c.count-removed.result) c.args.costs.now c.count-removed.new.costs
-    c.requires.tally c.count-removed.auto.costs count shift refl
+    let left : Sums = record { decided = c.args.sums.decided - c.count_changed-removed.result.decided; least = to_z w128 (of_z w128 c.count_changed-removed.result.least) } in
+    taken_off (changes c.args.placing) c.args.asked.now c.args.prefix.now.placed c.args.sums c.count_changed-removed.result left c.args.costs.now c.count_changed-removed.new.costs
+    c.requires.tally c.count_changed-removed.auto.costs c.count_changed-removed.ensures.decided c.count_changed-removed.ensures.slots refl (to_z-of_z w128 c.count_changed-removed.result.least (search rules) ∙ c.count_changed-removed.ensures.least)

@@ -1,70 +1,49 @@
-use Rattle.std.proofs.Common.{◌≡◌, ℕ, ◌<◌, ◌∙◌, true, List, length, map, take, get_or, ap, sym, subst, arith, FitsSigned, w64, to_z, of_z, None, Some}
-use Rattle.std.specs.Prelude.{ℤ, pos, ◌+ℤ◌, ◌≤◌, unsigned_abs}
-use Rattle.std.proofs.lemmas.Int.{to_z-of_z}
+use Rattle.std.proofs.Common.{◌≡◌, ℕ, ◌<◌, ◌∙◌, length, take, get_or, ap, sym, arith, refl, rules}
+use Rattle.std.specs.Prelude.{ℤ, pos}
 use Rattle.std.proofs.lemmas.List.{take_all}
-use Rattle.order_bound.specs.Values.{are_allowed}
-use Rattle.order_check.specs.declared.slot.PartTerm.{PartTerm}
-use Rattle.order_check.specs.Slots.{plain_term, cost_at}
-use Rattle.order_check.specs.Charging.{no_part_term}
-use Rattle.order_check.specs.Prices.{may_have, IsPlaceOf}
-use Rattle.order_check.specs.Pricing.{priced_by, ArePriced}
-use Rattle.order_check.proofs.PriceLemmas.{is_allowed, allowed_at, allowed_nowhere, not_all, count_read, small_allowed}
-use Rattle.order_check.proofs.Pricing.{priced_none, priced_small, priced_more}
+use Rattle.whole_sums.specs.Sums.{int_sum}
+use Rattle.order_check.specs.Slots.{cost_at}
+use Rattle.order_check.specs.Counting.{shifted}
+use Rattle.order_check.specs.Pricing.{price_on}
+use Rattle.order_check.proofs.SignedSums.{sum_more}
+use Rattle.order_check.proofs.Counting.{shifted_none, shifted_more, shifted_small}
 use Rattle.order_check.proofs.term_prices.spread.Goals as goal
+use Rattle.std.specs.Int.{w128}
+use Rattle.std.proofs.lemmas.Int.{to_z-of_z}
 
-pub returns-in_default-clause-allowed : goal.returns-in_default-clause-allowed
-returns-in_default-clause-allowed c =
-    let q : ℕ × ℤ = get_or c.args.list.now c.loop-j.j (0, pos 0) in
-    let none : IsPlaceOf c.args.numbers.now q.0 None = subst (IsPlaceOf c.args.numbers.now q.0) c.in_default.is c.place_of.ensures in
-    sym (not_all (is_allowed c.args.prefix.now.placed (map plain_term c.args.terms.now)) c.args.list.now c.loop-j.j (0, pos 0) c.loop-j-test.true
-    (allowed_nowhere c.args.prefix.now.placed c.args.terms.now c.args.numbers.now q c.requires.numbers none))
+pub spread_price-least-requires-clause-price : goal.spread_price-least-requires-clause-price
+spread_price-least-requires-clause-price c = c.requires.small.each c.loop-j.j c.loop-j-test.true
 
-pub returns-then-not-may_have-clause-allowed : goal.returns-then-not-may_have-clause-allowed
-returns-then-not-may_have-clause-allowed c =
-    let q : ℕ × ℤ = get_or c.args.list.now c.loop-j.j (0, pos 0) in
-    let there : IsPlaceOf c.args.numbers.now q.0 (Some c.in-Some.i) = subst (IsPlaceOf c.args.numbers.now q.0) c.in-Some.is c.place_of.ensures in
-    let fits : FitsSigned w64 c.price_of-price.result = record { sfits = c.price_of-price.type_inv } in
-    let price : to_z w64 (of_z w64 c.price_of-price.result) ≡ q.1 = to_z-of_z w64 c.price_of-price.result fits ∙ c.price_of-price.ensures in
-    sym (not_all (is_allowed c.args.prefix.now.placed (map plain_term c.args.terms.now)) c.args.list.now c.loop-j.j (0, pos 0) c.loop-j-test.true
-    (allowed_at c.args.prefix.now.placed c.args.terms.now c.args.numbers.now q c.in-Some.i c.requires.numbers there.0 there.1
-    ∙ ap (may_have c.args.prefix.now.placed (get_or c.args.terms.now c.in-Some.i no_part_term).term) (sym price) ∙ sym c.may_have.ensures ∙ c.if-not-may_have.true))
+pub spread_price-least-requires-clause-small : goal.spread_price-least-requires-clause-small
+spread_price-least-requires-clause-small c = λ k x below.
+    (let under : k < length c.args.costs.now = omega (arith, below, c.loop-j.invariant.each) in
+    let sum = shifted_small c.args.off (cost_at c.args.costs.now k x) (int_sum (price_on c.args.terms.now k x) (take c.loop-j.j c.args.list.now)) 8192000000000 2048000000000 (c.requires.costs k x under)
+    (c.requires.small.sums c.loop-j.j (omega (arith, c.loop-j-test.true)) k x) in
+    rw (c.loop-j.invariant.slots k below x) (omega (arith, sum)))
 
 pub loop-j-init : goal.loop-j-init
-loop-j-init c = priced_none c.args.problem.now.segs c.args.prefix.now.placed c.args.terms.now c.args.costs.now c.requires.plain
-
-pub add_price-requires-clause-price : goal.add_price-requires-clause-price
-add_price-requires-clause-price c =
-    let q : ℕ × ℤ = get_or c.args.list.now c.loop-j.j (0, pos 0) in
-    let there : IsPlaceOf c.args.numbers.now q.0 (Some c.in-Some.i) = subst (IsPlaceOf c.args.numbers.now q.0) c.in-Some.is c.place_of.ensures in
-    let fits : FitsSigned w64 c.price_of-price.result = record { sfits = c.price_of-price.type_inv } in
-    let price : to_z w64 (of_z w64 c.price_of-price.result) ≡ c.price_of-price.result = to_z-of_z w64 c.price_of-price.result fits in
-    let inside : c.in-Some.i < length c.args.terms.now = omega (arith, there.0, count_read c.args.terms.now c.args.numbers.now c.requires.numbers) in
-    subst (λ (y : ℤ). unsigned_abs y ≤ 256000) (sym price)
-    (small_allowed c.args.problem.now.segs c.args.prefix.now.placed (get_or c.args.terms.now c.in-Some.i no_part_term).term c.price_of-price.result (c.requires.terms c.in-Some.i no_part_term inside)
-    (ap (may_have c.args.prefix.now.placed (get_or c.args.terms.now c.in-Some.i no_part_term).term) (sym price) ∙ sym c.may_have.ensures ∙ c.if-not-may_have.false))
-
-pub add_price-requires-clause-small : goal.add_price-requires-clause-small
-add_price-requires-clause-small c =
-    priced_small c.args.problem.now.segs c.args.prefix.now.placed c.args.terms.now (take c.loop-j.j c.args.list.now) c.loop-j.costs c.requires.terms c.requires.few c.loop-j.invariant
+loop-j-init c = record {
+  each = refl;
+  least = to_z-of_z w128 c.args.least c.ranges.least ∙ c.requires.least;
+  slots = λ k below x. shifted_none c.args.off (cost_at c.args.costs.now k x);
+}
 
 pub loop-j-preserved : goal.loop-j-preserved
-loop-j-preserved c =
-    let q : ℕ × ℤ = get_or c.args.list.now c.loop-j.j (0, pos 0) in
-    let t : PartTerm = get_or c.args.terms.now c.in-Some.i no_part_term in
-    let there : IsPlaceOf c.args.numbers.now q.0 (Some c.in-Some.i) = subst (IsPlaceOf c.args.numbers.now q.0) c.in-Some.is c.place_of.ensures in
-    let fits : FitsSigned w64 c.price_of-price.result = record { sfits = c.price_of-price.type_inv } in
-    let price : to_z w64 (of_z w64 c.price_of-price.result) ≡ q.1 = to_z-of_z w64 c.price_of-price.result fits ∙ c.price_of-price.ensures in
-    priced_more c.args.problem.now.segs c.args.prefix.now.placed c.args.terms.now c.args.numbers.now c.args.list.now c.loop-j.j c.in-Some.i c.loop-j.costs c.add_price.new.costs c.requires.terms
-    c.requires.numbers c.requires.rising c.loop-j-test.true c.loop-j.invariant there.0 there.1
-    (ap (may_have c.args.prefix.now.placed t.term) (sym price) ∙ sym c.may_have.ensures ∙ c.if-not-may_have.false) c.add_price.auto.costs
-    (λ k below x. c.add_price.ensures k below x ∙ ap (λ y. cost_at c.loop-j.costs k x +ℤ priced_by k x t y) price)
+loop-j-preserved c = record {
+  each = omega (arith, c.loop-j.invariant.each, c.spread_price-least.auto.costs);
+  least = to_z-of_z w128 c.spread_price-least.result (search rules) ∙ c.spread_price-least.ensures.least;
+  slots = λ k below x.
+      (let f : ℕ × ℤ → ℤ = price_on c.args.terms.now k x in
+      let under : k < length c.loop-j.costs = omega (arith, below, c.spread_price-least.auto.costs) in
+      shifted_more c.args.off (cost_at c.args.costs.now k x) (int_sum f (take c.loop-j.j c.args.list.now)) (f (get_or c.args.list.now c.loop-j.j (0, pos 0))) (cost_at c.spread_price-least.new.costs k x)
+      (c.spread_price-least.ensures.slots k under x ∙ ap (λ v. shifted c.args.off v (f (get_or c.args.list.now c.loop-j.j (0, pos 0)))) (c.loop-j.invariant.slots k under x))
+      ∙ ap (shifted c.args.off (cost_at c.args.costs.now k x)) (sym (sum_more f c.args.list.now c.loop-j.j (0, pos 0) c.loop-j-test.true)));
+}
 
-pub returns-clause-priced : goal.returns-clause-priced
-returns-clause-priced c = λ _.
-    subst (λ (qs : List (ℕ × ℤ)). ArePriced c.args.problem.now.segs c.args.prefix.now.placed c.args.terms.now qs c.loop-j.costs)
-    (take_all c.loop-j.j c.args.list.now (omega (arith, c.loop-j-test.false))) c.loop-j.invariant
-
-pub returns-clause-allowed : goal.returns-clause-allowed
-returns-clause-allowed c =
-    sym (subst (λ (qs : List (ℕ × ℤ)). are_allowed c.args.prefix.now.placed (map plain_term c.args.terms.now) qs ≡ true)
-    (take_all c.loop-j.j c.args.list.now (omega (arith, c.loop-j-test.false))) c.loop-j.invariant.spread.allowed)
+pub returns : goal.returns
+returns c =
+    let all : take c.loop-j.j c.args.list.now ≡ c.args.list.now = take_all c.loop-j.j c.args.list.now (omega (arith, c.loop-j-test.false)) in record {
+      slots = λ k below x. c.loop-j.invariant.slots k (omega (arith, below, c.loop-j.invariant.each)) x
+          ∙ ap (λ qs. shifted c.args.off (cost_at c.args.costs.now k x) (int_sum (price_on c.args.terms.now k x) qs)) all;
+      least = c.loop-j.invariant.least;
+    }

@@ -4,16 +4,19 @@ use Rattle.std.proofs.lemmas.Result.{IfOk-weaker}
 use Rattle.map_base.specs.declared.ids.SegId.{SegId}
 use Rattle.map_base.specs.declared.ids.LineId.{LineId}
 use Rattle.order_model.specs.Problems.{lines_on}
-use Rattle.order_model.specs.Prefixes.{is_placed, with_line, without_last}
+use Rattle.order_model.specs.Prefixes.{is_placed}
 use Rattle.order_proof.specs.declared.tree.Tree.{Tree, the_lemmas}
 use Rattle.order_proof.specs.Plain.{split, plain, plain_children}
 use Rattle.order_bound.specs.Accepting.{failing}
 use Rattle.order_model.specs.Questions.{Question}
 use Rattle.order_bound.proofs.Sound.{rising_at, all_in}
-use Rattle.order_check.specs.Asking.{question_of, HaveTables}
+use Rattle.order_check.specs.Asking.{question_of}
 use Rattle.order_check.specs.Children.{child_lines}
+use Rattle.order_check.specs.declared.placing.Placing.{Placing}
+use Rattle.order_check.specs.Placings.{placing_of, changes}
+use Rattle.order_check.specs.Counting.{IsTallyBeside}
 use Rattle.order_check.specs.Walking.{IsWalked, split_test}
-use Rattle.order_check.proofs.Counting.{beside_stays, case_tally, split_tally}
+use Rattle.order_check.proofs.Tallies.{beside_placed, beside_back, case_tally}
 use Rattle.order_check.proofs.Walks.{distinct_children, child_is_tree, split_walked, not_split_walked, case_next, of_part, case_refused, cases_passed, case_restored, chosen_walked}
 use Rattle.order_check.proofs.walk.+walk.Goals as goal
 
@@ -105,52 +108,63 @@ walk_case-take_back-requires-clause-some t c =
     chosen_walked c.args.asked.now.problem.now.segs c.args.prefix.now.placed c.place.new.self.placed c.walk-outcome.new.prefix.placed s c.args.line
     (omega (arith, c.requires.seg, c.requires.fits.each)) (c.requires.fits.lines s.0 c.requires.seg) c.requires.line c.requires.unplaced c.place.ensures.placed c.walk-outcome.ensures.placed
 
-pub walk_split-walk_cases-outcome-requires : goal.walk_split-walk_cases-outcome-requires
-walk_split-walk_cases-outcome-requires t c =
-    let holds : split_test (question_of c.args.asked.now) c.args.prefix.now.placed c.args.seg (child_lines c.args.children.now) ≡ true = sym c.is_split.ensures ∙ c.if-not-is_split.false in
-    let tables : HaveTables c.args.asked.now c.take_off-beside.new.costs c.args.trial.now = record {
-      costs_each = omega (arith, c.requires.tables.costs_each, c.take_off-beside.auto.costs);
-      trial_each = c.requires.tables.trial_each;
-    } in
-    (search (rules, the_lemmas), (c.requires.asked, (c.requires.fits, (c.requires.tree, (holds, (c.take_off-beside.ensures, tables))))))
+-- the tally of the others, once the line is placed
+pub walk_case-put_on-after-requires-clause-tally : goal.walk_case-put_on-after-requires-clause-tally
+walk_case-put_on-after-requires-clause-tally t c =
+    let s = c.args.seg in
+    let asked = c.args.asked.now in
+    let placed : List (List LineId) = c.args.prefix.now.placed in
+    let beside = subst (λ (p : Placing). IsTallyBeside (changes p) asked placed c.take_off-beside.result c.take_off-beside.new.costs) c.placing_of-placing.ensures c.take_off-beside.ensures in
+    rw c.placing_of-placing.ensures
+    (beside_placed s c.args.line asked placed c.place.new.self.placed c.requires.asked (omega (arith, c.requires.seg, c.requires.fits.each)) (c.requires.fits.lines s.0 c.requires.seg) c.requires.line
+    c.requires.unplaced c.place.ensures.placed c.take_off-beside.result c.take_off-beside.new.costs beside)
 
-pub walk_case-put_on-decided-requires-clause-tally : goal.walk_case-put_on-decided-requires-clause-tally
-walk_case-put_on-decided-requires-clause-tally t c =
-    let segs : List (List LineId) = c.args.asked.now.problem.now.segs in
-    beside_stays c.args.seg c.args.asked.now c.args.prefix.now.placed c.place.new.self.placed (with_line (lines_on segs c.args.seg) (lines_on c.args.prefix.now.placed c.args.seg) c.args.line)
-    c.args.beside c.args.costs.now c.place.ensures.placed c.requires.tally
-
-pub walk_split-returns-clause-tally : goal.walk_split-returns-clause-tally
-walk_split-returns-clause-tally t c =
-    split_tally c.args.asked.now c.args.prefix.now.placed c.walk_cases-outcome.new.prefix.placed c.args.decided c.put_on-same.result c.args.costs.now c.put_on-same.new.costs c.requires.tally c.put_on-same.ensures
-    c.walk_cases-outcome.ensures.placed
+-- and once it is taken back
+pub walk_case-put_on-same-requires-clause-tally : goal.walk_case-put_on-same-requires-clause-tally
+walk_case-put_on-same-requires-clause-tally t c =
+    let s = c.args.seg in
+    let asked = c.args.asked.now in
+    let placed : List (List LineId) = c.args.prefix.now.placed in
+    let known : s.0 < length placed = omega (arith, c.requires.seg, c.requires.fits.each) in
+    let placing = placing_of asked.problem.now.segs placed s c.args.line in
+    let walked = subst (λ (p : Placing). IsTallyBeside (changes p) asked c.walk-outcome.new.prefix.placed c.take_off-left.result c.take_off-left.new.costs) c.placing_of-placing.ensures c.take_off-left.ensures in
+    let there = subst (λ (l : List (List LineId)). IsTallyBeside (changes placing) asked l c.take_off-left.result c.take_off-left.new.costs) c.walk-outcome.ensures.placed walked in
+    let here = beside_back s c.args.line asked placed c.place.new.self.placed c.requires.asked known (c.requires.fits.lines s.0 c.requires.seg) c.requires.line c.requires.unplaced c.place.ensures.placed
+    c.take_off-left.result c.take_off-left.new.costs there in
+    let restored = case_restored asked.problem.now.segs placed c.place.new.self.placed c.walk-outcome.new.prefix.placed c.take_back.new.self.placed s c.args.line known
+    (rising_at asked.problem.now.segs s.0 c.requires.asked.problem.rising) (c.requires.fits.lines s.0 c.requires.seg) c.place.ensures.placed c.walk-outcome.ensures.placed c.take_back.ensures.placed in
+    rw c.placing_of-placing.ensures
+    (subst (λ (l : List (List LineId)). IsTallyBeside (changes placing) asked l c.take_off-left.result c.take_off-left.new.costs) (sym restored) here)
 
 pub walk_case-returns-in_err-outcome-clause-tally : goal.walk_case-returns-in_err-outcome-clause-tally
 walk_case-returns-in_err-outcome-clause-tally t c =
     let s = c.args.seg in
-    let segs : List (List LineId) = c.args.asked.now.problem.now.segs in
-    case_tally s c.args.asked.now c.args.prefix.now.placed c.walk-outcome.new.prefix.placed c.take_back.new.self.placed (without_last (lines_on segs s) (lines_on c.walk-outcome.new.prefix.placed s))
-    c.args.beside c.take_off-same.result c.args.costs.now c.take_off-same.new.costs c.requires.tally c.take_off-same.ensures c.take_back.ensures.placed
-    (case_restored segs c.args.prefix.now.placed c.place.new.self.placed c.walk-outcome.new.prefix.placed c.take_back.new.self.placed s c.args.line
-    (omega (arith, c.requires.seg, c.requires.fits.each)) (rising_at segs s.0 c.requires.asked.problem.rising) (c.requires.fits.lines s.0 c.requires.seg)
+    let asked = c.args.asked.now in
+    let placed : List (List LineId) = c.args.prefix.now.placed in
+    case_tally asked placed c.take_back.new.self.placed c.args.sums c.put_on-same.result c.args.costs.now c.put_on-same.new.costs c.requires.tally c.put_on-same.ensures
+    (omega (arith, c.take_off-beside.auto.costs, c.put_on-after.auto.costs, c.walk-outcome.auto.costs, c.take_off-left.auto.costs, c.put_on-same.auto.costs))
+    (case_restored asked.problem.now.segs placed c.place.new.self.placed c.walk-outcome.new.prefix.placed c.take_back.new.self.placed s c.args.line
+    (omega (arith, c.requires.seg, c.requires.fits.each)) (rising_at asked.problem.now.segs s.0 c.requires.asked.problem.rising) (c.requires.fits.lines s.0 c.requires.seg)
     c.place.ensures.placed c.walk-outcome.ensures.placed c.take_back.ensures.placed)
 
 pub walk_case-returns-then-not-branch-clause-tally : goal.walk_case-returns-then-not-branch-clause-tally
 walk_case-returns-then-not-branch-clause-tally t c =
     let s = c.args.seg in
-    let segs : List (List LineId) = c.args.asked.now.problem.now.segs in
-    case_tally s c.args.asked.now c.args.prefix.now.placed c.walk-outcome.new.prefix.placed c.take_back.new.self.placed (without_last (lines_on segs s) (lines_on c.walk-outcome.new.prefix.placed s))
-    c.args.beside c.take_off-same.result c.args.costs.now c.take_off-same.new.costs c.requires.tally c.take_off-same.ensures c.take_back.ensures.placed
-    (case_restored segs c.args.prefix.now.placed c.place.new.self.placed c.walk-outcome.new.prefix.placed c.take_back.new.self.placed s c.args.line
-    (omega (arith, c.requires.seg, c.requires.fits.each)) (rising_at segs s.0 c.requires.asked.problem.rising) (c.requires.fits.lines s.0 c.requires.seg)
+    let asked = c.args.asked.now in
+    let placed : List (List LineId) = c.args.prefix.now.placed in
+    case_tally asked placed c.take_back.new.self.placed c.args.sums c.put_on-same.result c.args.costs.now c.put_on-same.new.costs c.requires.tally c.put_on-same.ensures
+    (omega (arith, c.take_off-beside.auto.costs, c.put_on-after.auto.costs, c.walk-outcome.auto.costs, c.take_off-left.auto.costs, c.put_on-same.auto.costs))
+    (case_restored asked.problem.now.segs placed c.place.new.self.placed c.walk-outcome.new.prefix.placed c.take_back.new.self.placed s c.args.line
+    (omega (arith, c.requires.seg, c.requires.fits.each)) (rising_at asked.problem.now.segs s.0 c.requires.asked.problem.rising) (c.requires.fits.lines s.0 c.requires.seg)
     c.place.ensures.placed c.walk-outcome.ensures.placed c.take_back.ensures.placed)
 
 pub walk_case-returns-clause-tally : goal.walk_case-returns-clause-tally
 walk_case-returns-clause-tally t c =
     let s = c.args.seg in
-    let segs : List (List LineId) = c.args.asked.now.problem.now.segs in
-    case_tally s c.args.asked.now c.args.prefix.now.placed c.walk-outcome.new.prefix.placed c.take_back.new.self.placed (without_last (lines_on segs s) (lines_on c.walk-outcome.new.prefix.placed s))
-    c.args.beside c.take_off-same.result c.args.costs.now c.take_off-same.new.costs c.requires.tally c.take_off-same.ensures c.take_back.ensures.placed
-    (case_restored segs c.args.prefix.now.placed c.place.new.self.placed c.walk-outcome.new.prefix.placed c.take_back.new.self.placed s c.args.line
-    (omega (arith, c.requires.seg, c.requires.fits.each)) (rising_at segs s.0 c.requires.asked.problem.rising) (c.requires.fits.lines s.0 c.requires.seg)
+    let asked = c.args.asked.now in
+    let placed : List (List LineId) = c.args.prefix.now.placed in
+    case_tally asked placed c.take_back.new.self.placed c.args.sums c.put_on-same.result c.args.costs.now c.put_on-same.new.costs c.requires.tally c.put_on-same.ensures
+    (omega (arith, c.take_off-beside.auto.costs, c.put_on-after.auto.costs, c.walk-outcome.auto.costs, c.take_off-left.auto.costs, c.put_on-same.auto.costs))
+    (case_restored asked.problem.now.segs placed c.place.new.self.placed c.walk-outcome.new.prefix.placed c.take_back.new.self.placed s c.args.line
+    (omega (arith, c.requires.seg, c.requires.fits.each)) (rising_at asked.problem.now.segs s.0 c.requires.asked.problem.rising) (c.requires.fits.lines s.0 c.requires.seg)
     c.place.ensures.placed c.walk-outcome.ensures.placed c.take_back.ensures.placed)
