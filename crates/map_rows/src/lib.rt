@@ -1,5 +1,5 @@
-//! Maps of small feeds whose certificates are known: each is made from the text of its feed, and checked. Nothing stands on
-//! this crate.
+//! Maps of small feeds whose certificates are known: each is made from the text of its feed, and checked, at once and in
+//! sessions. Nothing stands on this crate.
 #![tactic(auto)]
 
 #[cfg(test)]
@@ -15,4 +15,8 @@ mod feeds;
 #[cfg(test)]
 mod known_tests;
 #[cfg(test)]
+mod price_tests;
+#[cfg(test)]
 mod refused_tests;
+#[cfg(test)]
+mod session_tests;

@@ -153,3 +153,38 @@ fn the_smallest_map_is_checked(rt: HostRuntime) -> Result<(), Fail> {
     }
     Ok(())
 }
+
+/// Changes of the certificate of the smallest feed: what stands there, what stands in its place, and what is refused.
+const CHANGES: [(&str, &str, &str); 13] = [
+    (SMALLEST_CERTIFICATE, "", "text 0"),
+    ("octimap 1\n", "octimap 1\r\n", "text 0"),
+    (
+        "graph 2 1 1\n",
+        "graph 2 1 99999999999999999999\n",
+        "text 10",
+    ),
+    ("E50", "E00", "text 22"),
+    ("E50", "E25 E25", "text 22"),
+    ("walk 0 0 0", "walk 0 0 1", "walk 0"),
+    ("order 0 0", "order 0 4294967296", "text 37"),
+    ("order 0 0", "order 0 1", "order 0"),
+    ("cost 0", "cost -0", "text 47"),
+    ("cost 0", "cost 1", "cost"),
+    ("rules 0", "rules 20000001", "text 54"),
+    ("parts 0", "parts 1", "text 70"),
+    ("parts 0\n", "parts 0\n\n", "text 70"),
+];
+
+#[test]
+fn a_changed_certificate_is_refused_at_its_change(rt: HostRuntime) -> Result<(), Fail> {
+    let alloc = rt.alloc();
+    for (old, new, item) in CHANGES {
+        let (head, tail) = SMALLEST_CERTIFICATE.split_once(old).ok_or("a place")?;
+        let changed = format!(in alloc; "{head}{new}{tail}")?;
+        let wanted = format!(in alloc; "refuted: {item}\n")?;
+        let (status, said) = checked(alloc, SMALLEST_MAP, changed.as_str())?;
+        assert_eq!(rt; status, 1);
+        assert_eq!(rt; said.as_slice(), wanted.as_str().as_bytes());
+    }
+    Ok(())
+}
