@@ -1,0 +1,5 @@
+mod Steps
+mod Curves
+mod Clockwise
+mod Legal
+mod NoRoute
