@@ -1,5 +1,6 @@
 -- The text of elements tells them.
-use Rattle.std.proofs.Common.{◌≡◌, refl, sym, ◌∙◌, ap, ap₂, subst, ℕ, ◌*◌, ◌≤◌, ◌^◌, Bool, true, false, cond, ◌==◌, ℤ, pos, ◌+ℤ◌, ◌-ℤ◌, List, [], ◌∷◌, ◌++◌, append_assoc, append_cancel_left, get_or, map, codes, decimal, flat_map, arith}
+use Rattle.std.proofs.Common.{◌≡◌, refl, sym, ◌∙◌, ap, ap₂, subst, ℕ, ◌*◌, ◌≤◌, ◌^◌, Bool, true, false, cond, ◌==◌, ℤ, pos, ◌+ℤ◌, ◌-ℤ◌, List, [], ◌∷◌, ◌++◌, append_assoc, append_cancel_left, drop, get_or, map, codes, decimal, flat_map, arith}
+use Rattle.std.proofs.lemmas.Bool.{eqb-true, or_right}
 use Rattle.std.proofs.lemmas.Int.{ints}
 use Rattle.std.specs.Fmt.{signed_decimal}
 use Rattle.std.specs.List.{AllByRecursion}
@@ -17,38 +18,46 @@ same_front a b r c s e = append_cancel_left a (b ++ r) (c ++ s) (shift a b r a c
 
 -- ---- paths
 
--- corners after the first, up to `"`
-next_cut : (cs ds : List Corner) (r s : List ℕ) → AllByRecursion IsNearCorner cs → AllByRecursion IsNearCorner ds
-    → flat_map next_text cs ++ (34 ∷ r) ≡ flat_map next_text ds ++ (34 ∷ s) → (cs ≡ ds) × ((34 ∷ r) ≡ (34 ∷ s))
-next_cut [] [] r s lc ld e = (refl, e)
-next_cut [] (d ∷ ds) r s lc ld e = let clash : 34 ≡ 32 = ap (λ (l : List ℕ). get_or l 0 0) e in absurd (omega (arith, clash))
-next_cut (c ∷ cs) [] r s lc ld e = let clash : 32 ≡ 34 = ap (λ (l : List ℕ). get_or l 0 0) e in absurd (omega (arith, clash))
-next_cut (c ∷ cs) (d ∷ ds) r s lc ld e =
-    let front = shift (next_text c) (flat_map next_text cs) (34 ∷ r) (next_text d) (flat_map next_text ds) (34 ∷ s) e in
-    let corner = same_front (codes " L ") (corner_text c) (flat_map next_text cs ++ (34 ∷ r)) (corner_text d) (flat_map next_text ds ++ (34 ∷ s)) front in
-    let both = corner_cut 32 [] refl c d (flat_map next_text cs ++ (34 ∷ r)) (flat_map next_text ds ++ (34 ∷ s)) lc.0 ld.0 (begins cs r) (begins ds s) corner in
-    let rest = next_cut cs ds r s lc.1 ld.1 both.1 in
-    (ap₂ (λ (x : Corner) (xs : List Corner). x ∷ xs) both.0 rest.0, rest.1)
-  where
-    begins : (cs : List Corner) (r : List ℕ) → Begins ends_number (flat_map next_text cs ++ (34 ∷ r))
-    begins [] r = refl
-    begins (c ∷ cs) r = refl
+abbrev is_quote : ℕ → Bool
+is_quote c = c == 34
 
-path_cut : (cs ds : List Corner) (r s : List ℕ) → AllByRecursion IsNearCorner cs → AllByRecursion IsNearCorner ds → path_text cs ++ (34 ∷ r) ≡ path_text ds ++ (34 ∷ s)
-    → (cs ≡ ds) × ((34 ∷ r) ≡ (34 ∷ s))
-path_cut [] [] r s lc ld e = (refl, e)
-path_cut [] (d ∷ ds) r s lc ld e = let clash : 34 ≡ 77 = ap (λ (l : List ℕ). get_or l 0 0) e in absurd (omega (arith, clash))
-path_cut (c ∷ cs) [] r s lc ld e = let clash : 77 ≡ 34 = ap (λ (l : List ℕ). get_or l 0 0) e in absurd (omega (arith, clash))
-path_cut (c ∷ cs) (d ∷ ds) r s lc ld e =
-    let behind = same_front (codes "M ") (corner_text c ++ flat_map next_text cs) (34 ∷ r) (corner_text d ++ flat_map next_text ds) (34 ∷ s) e in
-    let corner = shift (corner_text c) (flat_map next_text cs) (34 ∷ r) (corner_text d) (flat_map next_text ds) (34 ∷ s) behind in
-    let both = corner_cut 32 [] refl c d (flat_map next_text cs ++ (34 ∷ r)) (flat_map next_text ds ++ (34 ∷ s)) lc.0 ld.0 (begins cs r) (begins ds s) corner in
-    let rest = next_cut cs ds r s lc.1 ld.1 both.1 in
+-- what begins with a quotation mark begins with no other byte, and ends a number
+first_is : (r : List ℕ) (c : ℕ) (t : List ℕ) → Begins is_quote r → r ≡ c ∷ t → c ≡ 34
+first_is [] c t br e = absurd br
+first_is (d ∷ r) c t br e = let same : d ≡ c = cc in sym same ∙ eqb-true d 34 br
+
+quote_ends : (r : List ℕ) → Begins is_quote r → Begins ends_number r
+quote_ends [] br = br
+quote_ends (c ∷ r) br = or_right (c == 32) (c == 34) br
+
+corners_end : (cs : List Corner) (r : List ℕ) → Begins is_quote r → Begins ends_number (flat_map next_text cs ++ r)
+corners_end [] r br = quote_ends r br
+corners_end (c ∷ cs) r br = refl
+
+-- corners after the first, up to a quotation mark
+next_cut : (cs ds : List Corner) (r s : List ℕ) → AllByRecursion IsNearCorner cs → AllByRecursion IsNearCorner ds → Begins is_quote r → Begins is_quote s
+    → flat_map next_text cs ++ r ≡ flat_map next_text ds ++ s → (cs ≡ ds) × (r ≡ s)
+next_cut [] [] r s lc ld br bs e = (refl, e)
+next_cut [] (d ∷ ds) r s lc ld br bs e = absurd (omega (arith, first_is r 32 (drop 1 (flat_map next_text (d ∷ ds) ++ s)) br e))
+next_cut (c ∷ cs) [] r s lc ld br bs e = absurd (omega (arith, first_is s 32 (drop 1 (flat_map next_text (c ∷ cs) ++ r)) bs (sym e)))
+next_cut (c ∷ cs) (d ∷ ds) r s lc ld br bs e =
+    let front = shift (next_text c) (flat_map next_text cs) r (next_text d) (flat_map next_text ds) s e in
+    let corner = same_front (codes " L ") (corner_text c) (flat_map next_text cs ++ r) (corner_text d) (flat_map next_text ds ++ s) front in
+    let both = corner_cut 32 [] refl c d (flat_map next_text cs ++ r) (flat_map next_text ds ++ s) lc.0 ld.0 (corners_end cs r br) (corners_end ds s bs) corner in
+    let rest = next_cut cs ds r s lc.1 ld.1 br bs both.1 in
     (ap₂ (λ (x : Corner) (xs : List Corner). x ∷ xs) both.0 rest.0, rest.1)
-  where
-    begins : (cs : List Corner) (r : List ℕ) → Begins ends_number (flat_map next_text cs ++ (34 ∷ r))
-    begins [] r = refl
-    begins (c ∷ cs) r = refl
+
+path_cut : (cs ds : List Corner) (r s : List ℕ) → AllByRecursion IsNearCorner cs → AllByRecursion IsNearCorner ds → Begins is_quote r → Begins is_quote s
+    → path_text cs ++ r ≡ path_text ds ++ s → (cs ≡ ds) × (r ≡ s)
+path_cut [] [] r s lc ld br bs e = (refl, e)
+path_cut [] (d ∷ ds) r s lc ld br bs e = absurd (omega (arith, first_is r 77 (drop 1 (path_text (d ∷ ds) ++ s)) br e))
+path_cut (c ∷ cs) [] r s lc ld br bs e = absurd (omega (arith, first_is s 77 (drop 1 (path_text (c ∷ cs) ++ r)) bs (sym e)))
+path_cut (c ∷ cs) (d ∷ ds) r s lc ld br bs e =
+    let behind = same_front (codes "M ") (corner_text c ++ flat_map next_text cs) r (corner_text d ++ flat_map next_text ds) s e in
+    let corner = shift (corner_text c) (flat_map next_text cs) r (corner_text d) (flat_map next_text ds) s behind in
+    let both = corner_cut 32 [] refl c d (flat_map next_text cs ++ r) (flat_map next_text ds ++ s) lc.0 ld.0 (corners_end cs r br) (corners_end ds s bs) corner in
+    let rest = next_cut cs ds r s lc.1 ld.1 br bs both.1 in
+    (ap₂ (λ (x : Corner) (xs : List Corner). x ∷ xs) both.0 rest.0, rest.1)
 
 -- two numbers of a class, and what stands behind them
 ids_cut : (n m k l : ℕ) (r s : List ℕ) → n ≤ 10 ^ 15 → m ≤ 10 ^ 15 → k ≤ 10 ^ 15 → l ≤ 10 ^ 15 → ids_text n k ++ r ≡ ids_text m l ++ s → (n ≡ m) × (k ≡ l) × (r ≡ s)
