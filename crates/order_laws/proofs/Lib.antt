@@ -1,0 +1,5 @@
+mod Free
+mod Pieces
+mod Stopped
+mod Once
+mod Prefixes
