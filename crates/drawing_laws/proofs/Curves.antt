@@ -1,6 +1,7 @@
 -- Walks of a legal drawing as curves.
 use Rattle.std.proofs.Common.{◌≡◌, ◌≢◌, refl, sym, ◌∙◌, ap, subst, ℕ, zero, suc, ◌+◌, ◌-◌, ◌*◌, ◌<◌, ◌≤◌, ◌⊎◌, inl, inr, Bool, true, false, cond, leb, List, [], ◌∷◌, length, slice_get, Some, arith, Contains}
 use Rattle.std.proofs.lemmas.Bool.{and_parts, or_cases, not-true, eqb-true, le-leb, leb-true, cases_eq, cases_lt}
+use Rattle.std.proofs.Math.Nat.{mul-suc}
 use Rattle.std.specs.List.{list_all}
 use Rattle.octi_grid.specs.declared.dir.Dir.{Dir}
 use Rattle.octi_grid.specs.declared.point.GridPoint.{GridPoint}
@@ -53,7 +54,7 @@ later n p d ds q (inside g e k low high m f) = inside g e k low high (inr (inr m
 
 -- what is left of a way's length after a step
 rest_within : (n t m : ℕ) → n < t → t ≤ n * suc m → t - n ≤ n * m
-rest_within n t m above within = let more : n * suc m ≡ n + n * m = omega arith in omega arith
+rest_within n t m above within = let more = mul-suc n m in omega arith
 
 -- along a way, step by step
 pub along_first : (n : ℕ) (p : GridPoint) (d : Dir) (ds : List Dir) (t : ℕ) → t ≤ n → along n p (d ∷ ds) t ≡ on_step n p d t

@@ -2,6 +2,7 @@
 use Rattle.std.proofs.Common.{◌≡◌, refl, sym, ◌∙◌, ap, subst, ℕ, suc, ◌+◌, ◌*◌, ◌⊎◌, inl, inr, Bool, true, false, cond, not, List, [], ◌∷◌, ◌++◌, length, length-append, map, filter, count_by, flat_map, arith}
 use Rattle.std.proofs.lemmas.Bool.{true≢false}
 use Rattle.std.proofs.lemmas.List.Sums.{sum_by-append}
+use Rattle.std.proofs.Math.Nat.{suc-mul}
 use Rattle.order_laws.specs.Counts.{AreOnce, IsIn}
 
 -- ---- what is in a list
@@ -107,7 +108,7 @@ length_flat f c (x ∷ xs) each =
     let rest : length (flat_map f xs) ≡ length xs * c = length_flat f c xs (λ z m. each z (inr m)) in
     let whole = length-append (f x) (flat_map f xs) in
     let here : length (f x) ≡ c = each x (inl refl) in
-    let more : suc (length xs) * c ≡ c + length xs * c = refl in
+    let more = suc-mul (length xs) c in
     omega (arith, whole, rest, here, more)
 
 pub count_flat : {X Y : Type 0} (p : Y → Bool) (f : X → List Y) (c : ℕ) (xs : List X) → ((x : X) → IsIn x xs → count_by p (f x) ≡ c) → count_by p (flat_map f xs) ≡ length xs * c
@@ -116,7 +117,7 @@ count_flat p f c (x ∷ xs) each =
     let rest : count_by p (flat_map f xs) ≡ length xs * c = count_flat p f c xs (λ z m. each z (inr m)) in
     let whole : count_by p (f x ++ flat_map f xs) ≡ count_by p (f x) + count_by p (flat_map f xs) = sum_by-append (λ y. cond (p y) 1 0) (f x) (flat_map f xs) in
     let here : count_by p (f x) ≡ c = each x (inl refl) in
-    let more : suc (length xs) * c ≡ c + length xs * c = refl in
+    let more = suc-mul (length xs) c in
     omega (arith, whole, rest, here, more)
 
 pub count_map : {X Y : Type 0} (p : Y → Bool) (f : X → Y) (xs : List X) → count_by p (map f xs) ≡ count_by (λ x. p (f x)) xs

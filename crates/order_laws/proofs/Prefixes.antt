@@ -4,6 +4,7 @@ use Rattle.std.proofs.lemmas.Bool.{and_from, and_parts, eq-eqb, eqb-true, eqb-fa
 use Rattle.std.proofs.lemmas.List.{length-map}
 use Rattle.std.proofs.lemmas.List.Elements.{recursion_from_All}
 use Rattle.std.proofs.lemmas.List.Sums.{sum_by-append}
+use Rattle.std.proofs.Math.Nat.{add-mul}
 use Rattle.std.specs.List.{AllByRecursion}
 use Rattle.map_base.specs.declared.ids.LineId.{LineId}
 use Rattle.map_base.specs.declared.ids.SegId.{SegId}
@@ -353,7 +354,7 @@ module _ (segs : List (List LineId)) (distinct : (s : SegId) → AreDistinct (li
       each (p ∷ ps) =
           sum_by-append (λ (lists : List (List LineId)). cond (are_complete segs (s ∷ part) lists) 1 0) (followed_by part p) (flat_map (followed_by part) ps)
           ∙ ap₂ (λ (i j : ℕ). i + j) (one p) (each ps)
-          ∙ sym (mul-add-right (cond (length p == length (lines_on segs s)) 1 0) (count_by (λ (q : List LineId). length q == length (lines_on segs s)) ps) (count_by (are_complete segs part) (tuples part)))
+          ∙ sym (add-mul (cond (length p == length (lines_on segs s)) 1 0) (count_by (λ (q : List LineId). length q == length (lines_on segs s)) ps) (count_by (are_complete segs part) (tuples part)))
 
   pub counted : (part : List SegId) → AreCounted (IsIncomplete segs part) (incomplete_in segs part)
   counted part = record {
