@@ -1,0 +1,28 @@
+//! The law.
+
+ghost use Rattle.std.specs.Prelude.{◌≡◌, ℕ, List, Result, Some, Ok, slice_get};
+ghost use Rattle.std.specs.Str.Lines.{lines};
+ghost use Rattle.map_base.specs.Settings.{Choices};
+ghost use Rattle.map_method.specs.Methods.{MethodChoices};
+ghost use Rattle.transit_feed.specs.Feeds.{Feed};
+ghost use Rattle.map_edits.specs.declared.edit.Edit.{Edit};
+ghost use Rattle.map_edits.specs.Effects.{choices_after, feed_after};
+ghost use Rattle.map_edits.specs.Standing.{edits_in};
+ghost use Rattle.map_engine.specs.declared.fault.MakeFault.{MakeFault};
+ghost use Rattle.map_engine.specs.Making.{MapBytes, make_outcome};
+ghost use Rattle.edit_session.specs.Scripts.{draws_in, followed_in};
+ghost use Rattle.session_laws.specs.Before.{edits_before};
+
+/// Draw k of a script gives what `make` gives with a file of edits that has the script's lines up to that draw, but for the
+/// draws: such a file, however its lines end, gives exactly the edits that stand at the draw, and the map, or the refusal,
+/// is that of the tables and the settings that these edits make.
+pub fn each_draw_is_a_make_with_its_edits()
+    ensures edits { (feed : Feed) (script file : List ℕ) (k : ℕ) (standing : List Edit)
+        → slice_get (followed_in feed script).draws k ≡ Some standing → lines file ≡ edits_before k (lines script)
+        → edits_in feed file ≡ Ok standing }
+    ensures made { (feed : Feed) (choices : Choices) (method : MethodChoices) (script file : List ℕ) (k : ℕ)
+        (made : Result MapBytes MakeFault) → slice_get (draws_in feed choices method script) k ≡ Some made
+        → lines file ≡ edits_before k (lines script)
+        → (edits : List Edit) × (edits_in feed file ≡ Ok edits)
+        × (made ≡ make_outcome (feed_after edits feed) (choices_after edits choices) method) }
+{}
