@@ -9,7 +9,7 @@ abbrev pub draws : Option ScriptLine → Bool
 draws (Some script.Draw) = true
 draws line = false
 
-mutual
+abbrev mutual
   -- the lines before draw k of a script, from 0, but for the draws themselves
   pub edits_before : ℕ → List (List ℕ) → List (List ℕ)
   edits_before k [] = []
