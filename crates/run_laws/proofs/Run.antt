@@ -55,8 +55,8 @@ module _ (asked : Asked) (files : List (List ℕ × List ℕ)) (files_rose sinks
   delivered : (answer : Answer) (line : List ℕ) (ending : Ending) (ended : Status) → IsAnswerOver asked files files_rose answer → IsLineOf answer.status line
       → IsDelivered answer.outputs line sinks_rose (Some old) (Some new) ending → ended ≡ status_after answer.status ending
       → IsRunOf asked files files_rose sinks_rose old new ended
-  delivered answer line ending ended is its_line as same =
-      let standing = standing_of answer.outputs line sinks_rose old new ending as in
+  delivered answer line ending ended is its_line how same =
+      let standing = standing_of answer.outputs line sinks_rose old new ending how in
       record { answer = answer; line = line; ending = ending; standing = standing.0; is_answer = is; is_line = its_line; is_status = same; stands = standing.1; held = standing.2 }
 
   -- each status may print some line
