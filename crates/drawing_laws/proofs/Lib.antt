@@ -3,3 +3,4 @@ mod Curves
 mod Clockwise
 mod Legal
 mod NoRoute
+mod Examples

@@ -3,3 +3,4 @@ mod Pieces
 mod Stopped
 mod Once
 mod Prefixes
+mod Examples

@@ -99,7 +99,7 @@ without_distinct a (b ∷ lines) distinct = by (not (b.0 == a.0))
 -- ---- the prefixes of one segment
 
 -- the prefixes of n lines
-prefixes : ℕ → List LineId → List (List LineId)
+pub prefixes : ℕ → List LineId → List (List LineId)
 prefixes zero lines = [] ∷ []
 prefixes (suc zero) lines = lines ∷ []
 prefixes (suc (suc n)) lines = [] ∷ flat_map (λ a. map (λ (p : List LineId). a ∷ p) (prefixes (suc n) (without a lines))) lines
