@@ -1,2 +1,3 @@
 mod Draws
+mod Comes
 mod Examples
