@@ -211,6 +211,7 @@ a_part n l more e t h =
 a_node : (room : ℕ) (l : Line) (more : List Due) → after_node room l.word l.numbers ≡ Some more → (t : List ℕ) → AreAll more t → IsTreeText room (line_text l ++ t)
 a_node room l more e t h = by n.0 (node_is room l n.0 n.1) (subst (λ (ds : List Due). AreAll ds t) (sym n.2) h)
   where
+    n : (node : NodeLine) × (node_in room l.word l.numbers ≡ Some node) × (node_due room node ≡ more)
     n = some_is (node_due room) (node_in room l.word l.numbers) more e
 
     by : (node : NodeLine) → (l ≡ node_line node) × IsNodeWithin room node → AreAll (node_due room node) t → IsTreeText room (line_text l ++ t)
@@ -234,6 +235,7 @@ a_node room l more e t h = by n.0 (node_is room l n.0 n.1) (subst (λ (ds : List
 a_dual : (room : ℕ) (l : Line) (more : List Due) → after_dual room l.word l.numbers ≡ Some more → (t : List ℕ) → AreAll more t → IsDualText room (line_text l ++ t)
 a_dual room l more e t h = by n.0 (dual_is room l n.0 n.1) (subst (λ (ds : List Due). AreAll ds t) (sym n.2) h)
   where
+    n : (node : DualLine) × (dual_in room l.word l.numbers ≡ Some node) × (dual_due room node ≡ more)
     n = some_is (dual_due room) (dual_in room l.word l.numbers) more e
 
     by : (node : DualLine) → (l ≡ dual_line node) × IsDualWithin room node → AreAll (dual_due room node) t → IsDualText room (line_text l ++ t)

@@ -150,6 +150,7 @@ both_room (d ∷ first) later a b = (a.0, both_room first later a.1 b)
 node_room : (depth : ℕ) (l : Line) (more : List Due) → after_node depth l.word l.numbers ≡ Some more → AllByRecursion IsRoom more
 node_room depth l more e = subst (AllByRecursion IsRoom) n.2 (by n.0 (node_is depth l n.0 n.1).1)
   where
+    n : (node : NodeLine) × (node_in depth l.word l.numbers ≡ Some node) × (node_due depth node ≡ more)
     n = some_is (node_due depth) (node_in depth l.word l.numbers) more e
 
     by : (node : NodeLine) → IsNodeWithin depth node → AllByRecursion IsRoom (node_due depth node)
@@ -159,6 +160,7 @@ node_room depth l more e = subst (AllByRecursion IsRoom) n.2 (by n.0 (node_is de
 dual_room : (depth : ℕ) (l : Line) (more : List Due) → after_dual depth l.word l.numbers ≡ Some more → AllByRecursion IsRoom more
 dual_room depth l more e = subst (AllByRecursion IsRoom) n.2 (by n.0)
   where
+    n : (node : DualLine) × (dual_in depth l.word l.numbers ≡ Some node) × (dual_due depth node ≡ more)
     n = some_is (dual_due depth) (dual_in depth l.word l.numbers) more e
 
     by : (node : DualLine) → AllByRecursion IsRoom (dual_due depth node)
@@ -265,6 +267,7 @@ stops_within bytes at e = let stop = err_left bytes at e in omega (arith, stop.2
 pub stops_at_line : (bytes : List ℕ) (at : ℕ) → proof_end bytes ≡ Err at → BeginsLine bytes at
 stops_at_line bytes at e = by begun.1.ends
   where
+    begun : (left : List ℕ) × IsBegun (RuleCount ∷ []) bytes left × (length bytes - length left ≡ at)
     begun = begun_at bytes at e
 
     place : at ≡ length begun.1.done
