@@ -5,11 +5,11 @@ use Rattle.octi_grid.specs.declared.dir.Dir.TheVariants as dir
 use Rattle.octi_grid.specs.declared.point.GridPoint.{GridPoint}
 use Rattle.drawing_laws.specs.Plane.{PlanePoint, along}
 
-origin : GridPoint
+abbrev origin : GridPoint
 origin = record { x = pos 0; y = pos 0 }
 
 -- a way of two steps, by halves of steps
-walked : ℕ → PlanePoint
+abbrev walked : ℕ → PlanePoint
 walked t = along 2 origin (dir.N ∷ dir.NE ∷ []) t
 
 in_the_first_step : walked 1 ≡ record { across = pos 0; up = pos 1 }

@@ -6,13 +6,13 @@ use Rattle.order_search.specs.Finding.{incomplete_in}
 use Rattle.order_laws.specs.Counts.{are_complete, are_lines_of}
 use Rattle.order_laws.proofs.Prefixes.{prefixes}
 
-first : LineId
+abbrev first : LineId
 first = record { 0 = 0 }
 
-second : LineId
+abbrev second : LineId
 second = record { 0 = 1 }
 
-segment : SegId
+abbrev segment : SegId
 segment = record { 0 = 0 }
 
 -- none is placed, or both are

@@ -99,12 +99,12 @@ without_distinct a (b ∷ lines) distinct = by (not (b.0 == a.0))
 -- ---- the prefixes of one segment
 
 -- the prefixes of n lines
-pub prefixes : ℕ → List LineId → List (List LineId)
+abbrev pub prefixes : ℕ → List LineId → List (List LineId)
 prefixes zero lines = [] ∷ []
 prefixes (suc zero) lines = lines ∷ []
 prefixes (suc (suc n)) lines = [] ∷ flat_map (λ a. map (λ (p : List LineId). a ∷ p) (prefixes (suc n) (without a lines))) lines
 
-begun_with : ℕ → List LineId → LineId → List (List LineId)
+abbrev begun_with : ℕ → List LineId → LineId → List (List LineId)
 begun_with n lines a = map (λ (p : List LineId). a ∷ p) (prefixes (suc n) (without a lines))
 
 in_has : (a : LineId) (lines : List LineId) → IsIn a lines → has_line lines a ≡ true
@@ -278,14 +278,14 @@ complete_count (suc (suc n)) lines distinct long =
 -- ---- the prefixes of a part
 
 module _ (segs : List (List LineId)) (distinct : (s : SegId) → AreDistinct (lines_on segs s)) where
-  own_prefixes : SegId → List (List LineId)
+  abbrev own_prefixes : SegId → List (List LineId)
   own_prefixes s = prefixes (length (lines_on segs s)) (lines_on segs s)
 
-  tuples : List SegId → List (List (List LineId))
+  abbrev tuples : List SegId → List (List (List LineId))
   tuples [] = [] ∷ []
   tuples (s ∷ part) = flat_map (λ p. map (λ (rest : List (List LineId)). p ∷ rest) (tuples part)) (own_prefixes s)
 
-  followed_by : List SegId → List LineId → List (List (List LineId))
+  abbrev followed_by : List SegId → List LineId → List (List (List LineId))
   followed_by part p = map (λ (rest : List (List LineId)). p ∷ rest) (tuples part)
 
   tuples_long : (part : List SegId) → length (tuples part) ≡ product (λ s. prefixes_of (length (lines_on segs s))) part

@@ -65,7 +65,7 @@ one_each p f g (x ∷ xs) each = ap (λ ys. ys ++ flat_map g xs) (each x) ∙ by
 -- ---- kinds of elements
 
 -- the number of an element's kind
-sort_of : Element → ℕ
+abbrev sort_of : Element → ℕ
 sort_of (Head bounds) = 0
 sort_of (OnSegment seg line path colour name) = 1
 sort_of (AtNode node line start end colour) = 2

@@ -205,10 +205,10 @@ label_tells style c d x y r s p q e =
 -- ---- kinds
 
 -- the mark by which a text tells the kind of its first element: its second byte, and of a path the first of its class
-mark_of : List ℕ → ℕ
+abbrev mark_of : List ℕ → ℕ
 mark_of text = cond (get_or text 1 0 == 112) (1000 + get_or text 13 0) (get_or text 1 0)
 
-kind_of : Element → ℕ
+abbrev kind_of : Element → ℕ
 kind_of (Head bounds) = 115
 kind_of (OnSegment seg line path colour name) = 1115
 kind_of (AtNode node line start end colour) = 1110
@@ -234,36 +234,7 @@ one_tells style e f r s p q h = by e f p q h (sym (marked style e r) ∙ ap mark
     by (Marker c n) (Marker d m) p q h same = marker_tells style c d n m r s p q h
     by (Label c x) (Label d y) p q h same = label_tells style c d x y r s p q h
     by Tail Tail p q h same = (refl, append_cancel_left (codes "</svg>\n") r s h)
-    by (Head a) (OnSegment n2 k2 cs2 a2 x2) p q h same = absurd (omega (arith, same))
-    by (Head a) (AtNode n2 k2 c2 u2 a2) p q h same = absurd (omega (arith, same))
-    by (Head a) (Marker c2 n2) p q h same = absurd (omega (arith, same))
-    by (Head a) (Label c2 x2) p q h same = absurd (omega (arith, same))
-    by (Head a) Tail p q h same = absurd (omega (arith, same))
-    by (OnSegment n k cs a x) (Head a2) p q h same = absurd (omega (arith, same))
-    by (OnSegment n k cs a x) (AtNode n2 k2 c2 u2 a2) p q h same = absurd (omega (arith, same))
-    by (OnSegment n k cs a x) (Marker c2 n2) p q h same = absurd (omega (arith, same))
-    by (OnSegment n k cs a x) (Label c2 x2) p q h same = absurd (omega (arith, same))
-    by (OnSegment n k cs a x) Tail p q h same = absurd (omega (arith, same))
-    by (AtNode n k c u a) (Head a2) p q h same = absurd (omega (arith, same))
-    by (AtNode n k c u a) (OnSegment n2 k2 cs2 a2 x2) p q h same = absurd (omega (arith, same))
-    by (AtNode n k c u a) (Marker c2 n2) p q h same = absurd (omega (arith, same))
-    by (AtNode n k c u a) (Label c2 x2) p q h same = absurd (omega (arith, same))
-    by (AtNode n k c u a) Tail p q h same = absurd (omega (arith, same))
-    by (Marker c n) (Head a2) p q h same = absurd (omega (arith, same))
-    by (Marker c n) (OnSegment n2 k2 cs2 a2 x2) p q h same = absurd (omega (arith, same))
-    by (Marker c n) (AtNode n2 k2 c2 u2 a2) p q h same = absurd (omega (arith, same))
-    by (Marker c n) (Label c2 x2) p q h same = absurd (omega (arith, same))
-    by (Marker c n) Tail p q h same = absurd (omega (arith, same))
-    by (Label c x) (Head a2) p q h same = absurd (omega (arith, same))
-    by (Label c x) (OnSegment n2 k2 cs2 a2 x2) p q h same = absurd (omega (arith, same))
-    by (Label c x) (AtNode n2 k2 c2 u2 a2) p q h same = absurd (omega (arith, same))
-    by (Label c x) (Marker c2 n2) p q h same = absurd (omega (arith, same))
-    by (Label c x) Tail p q h same = absurd (omega (arith, same))
-    by Tail (Head a2) p q h same = absurd (omega (arith, same))
-    by Tail (OnSegment n2 k2 cs2 a2 x2) p q h same = absurd (omega (arith, same))
-    by Tail (AtNode n2 k2 c2 u2 a2) p q h same = absurd (omega (arith, same))
-    by Tail (Marker c2 n2) p q h same = absurd (omega (arith, same))
-    by Tail (Label c2 x2) p q h same = absurd (omega (arith, same))
+    by e f p q h same = absurd (omega (arith, same))
 
 -- an element has a text
 some_text : (style : Style) (e : Element) (r : List ℕ) → element_text style e ++ r ≡ [] → ⊥

@@ -2,7 +2,7 @@
 use Rattle.std.proofs.Common.{◌≡◌, refl, ℕ, List, [], ◌∷◌, codes}
 use Rattle.session_laws.specs.Before.{edits_before}
 
-script : List (List ℕ)
+abbrev script : List (List ℕ)
 script = codes "reset" ∷ codes "draw" ∷ codes "undo" ∷ codes "draw" ∷ codes "reset" ∷ []
 
 before_first : edits_before 0 script ≡ codes "reset" ∷ []
