@@ -76,7 +76,7 @@ avoids_feed chosen =
     avoids_then (settings_by chosen.defaults chosen.settings) (λ all. tables_work all.settings.types >>= after_all all) (by chosen.settings)
     (λ all. avoids_then (tables_work all.settings.types) (after_all all) (avoids_tables all.settings.types) (λ feed. tt))
   where
-    abbrev after_all : MapSettings → Feed → Work Input Refusal Loaded
+    after_all : MapSettings → Feed → Work Input Refusal Loaded
     after_all all feed = ends (Ok (record { settings = all.settings; method = all.method; tables = feed }))
 
     by : (settings : Option (List ℕ)) → Avoids (settings_by chosen.defaults settings)
@@ -123,7 +123,7 @@ comes_to chosen paths given loaded path text file k made none loads draw same sh
     at : (edits : List Edit) × (edits_in loaded.tables file ≡ Ok edits) × (made ≡ make_outcome (feed_after edits loaded.tables) (choices_after edits loaded.settings) loaded.method)
     at = drawn_at loaded.tables loaded.settings loaded.method text file k made draw same
 
-    abbrev changed : Loaded
+    changed : Loaded
     changed = record { settings = choices_after at.0 loaded.settings; method = loaded.method; tables = feed_after at.0 loaded.tables }
 
     first : outcome (feed_work (with_edits chosen path)) (edits_given given file) ≡ Ok loaded
