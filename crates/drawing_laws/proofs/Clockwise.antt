@@ -48,7 +48,7 @@ from_first d ds (suc i) (suc j) a b clockwise less e h = rises d 0 ds i j a b cl
 
 -- ---- seen from another port
 
-below_eight : (d : Dir) → number_of d < 8
+pub below_eight : (d : Dir) → number_of d < 8
 below_eight dir.N = omega arith
 below_eight dir.NE = omega arith
 below_eight dir.E = omega arith

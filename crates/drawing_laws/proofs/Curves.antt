@@ -67,7 +67,7 @@ along_later n p d ds t above = by (leb t n) refl
     by true e = absurd (omega (arith, leb-true t n e, above))
     by false e = ap (λ (c : Bool). cond c (on_step n p d t) (along n (step_from p d) ds (t - n))) e
 
-along_start : (n : ℕ) (p : GridPoint) (ds : List Dir) → along n p ds 0 ≡ in_parts n p
+pub along_start : (n : ℕ) (p : GridPoint) (ds : List Dir) → along n p ds 0 ≡ in_parts n p
 along_start n p [] = refl
 along_start n p (d ∷ ds) = along_first n p d ds 0 (omega arith) ∙ step_begins n p d
 

@@ -2,5 +2,6 @@ mod Steps
 mod Curves
 mod Clockwise
 mod Legal
+mod Planar
 mod NoRoute
 mod Examples

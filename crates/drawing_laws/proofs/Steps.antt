@@ -146,13 +146,13 @@ at_end n a u = sym (*ℤ-+ℤ (pos n) a u)
 
 -- ---- points
 
-plane_point : {a b c d : ℤ} → a ≡ b → c ≡ d → (let p : PlanePoint = record { across = a; up = c } in p) ≡ record { across = b; up = d }
+pub plane_point : {a b c d : ℤ} → a ≡ b → c ≡ d → (let p : PlanePoint = record { across = a; up = c } in p) ≡ record { across = b; up = d }
 plane_point e f = ap₂ (λ (x y : ℤ). let p : PlanePoint = record { across = x; up = y } in p) e f
 
-across_of : (p q : PlanePoint) → p ≡ q → p.across ≡ q.across
+pub across_of : (p q : PlanePoint) → p ≡ q → p.across ≡ q.across
 across_of p q e = ap (λ (r : PlanePoint). r.across) e
 
-up_of : (p q : PlanePoint) → p ≡ q → p.up ≡ q.up
+pub up_of : (p q : PlanePoint) → p ≡ q → p.up ≡ q.up
 up_of p q e = ap (λ (r : PlanePoint). r.up) e
 
 -- points inside two steps

@@ -1,12 +1,13 @@
 -- Walks as curves in the plane.
-use Rattle.std.specs.Prelude.{◌≡◌, ℕ, ◌-◌, ◌*◌, nat_le, ℤ, pos, ◌+ℤ◌, ◌*ℤ◌, List, [], ◌∷◌, length, slice_index_or, if◌then◌else◌, Contains}
+use Rattle.std.specs.Prelude.{◌≡◌, ◌≢◌, ℕ, ◌-◌, ◌*◌, ◌<◌, ◌≤◌, ◌⊎◌, nat_le, true, ℤ, pos, ◌+ℤ◌, ◌*ℤ◌, List, [], ◌∷◌, length, slice_index_or, if◌then◌else◌, Some, slice_get, Contains}
 use Rattle.std.specs.List.{filter_map}
 use Rattle.map_base.specs.declared.ids.SegId.{SegId}
 use Rattle.octi_grid.specs.declared.dir.Dir.{Dir}
 use Rattle.octi_grid.specs.declared.point.GridPoint.{GridPoint}
 use Rattle.octi_grid.specs.Ways.{east_of, north_of, step_from}
 use Rattle.octi_grid.specs.Walks.{PlainWalk}
-use Rattle.octi_grid.specs.Legal.{Leg, port_of, puts_by}
+use Rattle.octi_grid.specs.Costs.{clockwise_from}
+use Rattle.octi_grid.specs.Legal.{is_even, port_of, puts_by, puts_of, Leg, Put}
 
 -- a point of the plane, by its coordinates in n-th parts of a grid step
 pub record PlanePoint : Type 0 where
@@ -50,3 +51,26 @@ pub record IsCommonEnd (n : ℕ) (l m : Leg) (q : PlanePoint) : Type 0 where
 -- the ports of the segments at a node that have a walk, in the order of its round
 abbrev pub ports_round : List (List SegId) → List Leg → ℕ → List Dir
 ports_round rounds legs n = filter_map (port_of legs n) (slice_index_or rounds n [])
+
+-- a drawing that is clear in the plane, by the rounds of its nodes and its segments with their walks, in order
+pub record IsPlaneDrawing (rounds : List (List SegId)) (legs : List Leg) : Type 0 where
+  -- all walks that end at a node put it at one point, which is even, and no two nodes share a point
+  pub one_point : (p q : Put) → Contains (puts_of legs) p → Contains (puts_of legs) q → p.0 ≡ q.0 → p.1 ≡ q.1
+  pub one_node : (p q : Put) → Contains (puts_of legs) p → Contains (puts_of legs) q → p.1 ≡ q.1 → p.0 ≡ q.0
+  pub even : (p : Put) → Contains (puts_of legs) p → is_even p.1 ≡ true
+  -- no walk meets itself
+  pub simple : (l : Leg) (n s t : ℕ) → Contains legs l → 0 < n → s ≤ length_in n l.1 → t ≤ length_in n l.1
+      → point_at n l.1 s ≡ point_at n l.1 t → s ≡ t
+  -- two walks share a point only where both their segments end at one node, and the point is the node's
+  pub apart : (i j : ℕ) (l m : Leg) (n s t : ℕ) → slice_get legs i ≡ Some l → slice_get legs j ≡ Some m → i ≢ j → 0 < n
+      → point_at n l.1 s ≡ point_at n m.1 t → IsCommonEnd n l m (point_at n l.1 s)
+  -- no node lies on the walk of a segment that doesn't end there
+  pub clear : (l : Leg) (p : Put) (n s : ℕ) → Contains legs l → Contains (puts_of legs) p → 0 < n
+      → point_at n l.1 s ≡ in_parts n p.1 → (l.0.0.0 ≡ p.0) ⊎ (l.0.1.0 ≡ p.0)
+  -- the ports round a node are distinct; and seen from any of them, of two later ones in the round the second is the
+  -- farther one clockwise
+  pub distinct : (n i j : ℕ) (a b : Dir) → n < length rounds → i < j → slice_get (ports_round rounds legs n) i ≡ Some a
+      → slice_get (ports_round rounds legs n) j ≡ Some b → a ≢ b
+  pub clockwise : (n i j k : ℕ) (a b c : Dir) → n < length rounds → i < j → j < k
+      → slice_get (ports_round rounds legs n) i ≡ Some a → slice_get (ports_round rounds legs n) j ≡ Some b
+      → slice_get (ports_round rounds legs n) k ≡ Some c → clockwise_from a b < clockwise_from a c
