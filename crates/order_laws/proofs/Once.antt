@@ -1,7 +1,7 @@
 -- Lists without repeats, made from others, and how long they are.
 use Rattle.std.proofs.Common.{◌≡◌, refl, sym, ◌∙◌, ap, subst, ℕ, suc, ◌+◌, ◌*◌, ◌⊎◌, inl, inr, Bool, true, false, cond, not, List, [], ◌∷◌, ◌++◌, length, length-append, map, filter, count_by, flat_map, arith}
 use Rattle.std.proofs.lemmas.Bool.{true≢false}
-use Rattle.std.proofs.lemmas.List.Sums.{sum_by-append}
+use Rattle.std.proofs.lemmas.List.Sums.{sum_by-append, sum_by-cons}
 use Rattle.std.proofs.Math.Nat.{suc-mul}
 use Rattle.order_laws.specs.Counts.{AreOnce, IsIn}
 
@@ -103,7 +103,7 @@ once_kept {X} p (x ∷ xs) a = by (p x)
 -- ---- how many
 
 pub length_flat : {X Y : Type 0} (f : X → List Y) (c : ℕ) (xs : List X) → ((x : X) → IsIn x xs → length (f x) ≡ c) → length (flat_map f xs) ≡ length xs * c
-length_flat f c [] each = refl
+length_flat f c [] each = omega arith
 length_flat f c (x ∷ xs) each =
     let rest : length (flat_map f xs) ≡ length xs * c = length_flat f c xs (λ z m. each z (inr m)) in
     let whole = length-append (f x) (flat_map f xs) in
@@ -112,7 +112,7 @@ length_flat f c (x ∷ xs) each =
     omega (arith, whole, rest, here, more)
 
 pub count_flat : {X Y : Type 0} (p : Y → Bool) (f : X → List Y) (c : ℕ) (xs : List X) → ((x : X) → IsIn x xs → count_by p (f x) ≡ c) → count_by p (flat_map f xs) ≡ length xs * c
-count_flat p f c [] each = refl
+count_flat p f c [] each = omega arith
 count_flat p f c (x ∷ xs) each =
     let rest : count_by p (flat_map f xs) ≡ length xs * c = count_flat p f c xs (λ z m. each z (inr m)) in
     let whole : count_by p (f x ++ flat_map f xs) ≡ count_by p (f x) + count_by p (flat_map f xs) = sum_by-append (λ y. cond (p y) 1 0) (f x) (flat_map f xs) in
@@ -120,23 +120,22 @@ count_flat p f c (x ∷ xs) each =
     let more = suc-mul (length xs) c in
     omega (arith, whole, rest, here, more)
 
+pub count_cons : {X : Type 0} (p : X → Bool) (x : X) (xs : List X) → count_by p (x ∷ xs) ≡ cond (p x) 1 0 + count_by p xs
+count_cons p x xs = sum_by-cons (λ y. cond (p y) 1 0) x xs
+
 pub count_map : {X Y : Type 0} (p : Y → Bool) (f : X → Y) (xs : List X) → count_by p (map f xs) ≡ count_by (λ x. p (f x)) xs
 count_map p f [] = refl
-count_map p f (x ∷ xs) = ap (λ (n : ℕ). cond (p (f x)) 1 0 + n) (count_map p f xs)
+count_map p f (x ∷ xs) = omega (arith, count_cons p (f x) (map f xs), count_cons (λ y. p (f y)) x xs, count_map p f xs)
 
 -- what a test doesn't keep
 pub length_rest : {X : Type 0} (p : X → Bool) (xs : List X) → length (filter (λ x. not (p x)) xs) + count_by p xs ≡ length xs
 length_rest p [] = refl
-length_rest {X} p (x ∷ xs) = by (p x)
+length_rest {X} p (x ∷ xs) = by (p x) (count_cons p x xs)
   where
     rest : length (filter (λ y. not (p y)) xs) + count_by p xs ≡ length xs
     rest = length_rest p xs
 
-    by : (b : Bool) → length (cond (not b) (x ∷ filter (λ y. not (p y)) xs) (filter (λ y. not (p y)) xs)) + (cond b 1 0 + count_by p xs) ≡ suc (length xs)
-    by true = omega (arith, rest)
-    by false = omega (arith, rest)
-
--- a test that is the same on a list counts as many
-pub count_same : {X : Type 0} (p q : X → Bool) (xs : List X) → ((x : X) → p x ≡ q x) → count_by p xs ≡ count_by q xs
-count_same p q [] same = refl
-count_same p q (x ∷ xs) same = ap (λ (b : Bool). cond b 1 0 + count_by p xs) (same x) ∙ ap (λ (n : ℕ). cond (q x) 1 0 + n) (count_same p q xs same)
+    by : (b : Bool) → count_by p (x ∷ xs) ≡ cond b 1 0 + count_by p xs
+        → length (cond (not b) (x ∷ filter (λ y. not (p y)) xs) (filter (λ y. not (p y)) xs)) + count_by p (x ∷ xs) ≡ suc (length xs)
+    by true whole = omega (arith, rest, whole)
+    by false whole = omega (arith, rest, whole)

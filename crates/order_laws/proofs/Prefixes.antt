@@ -14,7 +14,7 @@ use Rattle.order_model.specs.Problems.{lines_on}
 use Rattle.order_model.proofs.Lines.{same_line}
 use Rattle.order_search.specs.Finding.{incomplete_in, orders_of, prefixes_of, product}
 use Rattle.order_laws.specs.Counts.{are_complete, are_lines_of, AreCounted, AreOnce, ArePrefixes, IsIn, IsIncomplete, IsPrefix}
-use Rattle.order_laws.proofs.Once.{count_flat, count_map, count_same, from_flat, from_kept, from_map, in_flat, in_kept, in_map, length_flat, length_rest, once_flat, once_kept, once_map}
+use Rattle.order_laws.proofs.Once.{count_cons, count_flat, count_map, from_flat, from_kept, from_map, in_flat, in_kept, in_map, length_flat, length_rest, once_flat, once_kept, once_map}
 
 -- ---- lines without repeats
 
@@ -126,10 +126,14 @@ prefixes_long : (n : ℕ) (lines : List LineId) → AreDistinct lines → length
 prefixes_long zero lines distinct long = refl
 prefixes_long (suc zero) lines distinct long = refl
 prefixes_long (suc (suc n)) lines distinct long =
-    ap suc (length_flat (begun_with n lines) (prefixes_of (suc n)) lines
-    (λ a on. length-map (prefixes (suc n) (without a lines)) (λ (p : List LineId). a ∷ p)
-    ∙ prefixes_long (suc n) (without a lines) (without_distinct a lines distinct) (without_few n a lines distinct long on))
-    ∙ ap (λ (k : ℕ). k * prefixes_of (suc n)) long)
+    let flat : length (flat_map (begun_with n lines) lines) ≡ suc (suc n) * prefixes_of (suc n) =
+    length_flat (begun_with n lines) (prefixes_of (suc n)) lines each ∙ ap (λ (k : ℕ). k * prefixes_of (suc n)) long in
+    omega (arith, flat)
+  where
+    each : (a : LineId) → IsIn a lines → length (begun_with n lines a) ≡ prefixes_of (suc n)
+    each a on =
+        length-map (prefixes (suc n) (without a lines)) (λ (p : List LineId). a ∷ p)
+        ∙ prefixes_long (suc n) (without a lines) (without_distinct a lines distinct) (without_few n a lines distinct long on)
 
 same_tail : {a b : LineId} {p q : List LineId} → (a ∷ p) ≡ (b ∷ q) → p ≡ q
 same_tail e = cc
@@ -267,13 +271,20 @@ listed_prefix (suc (suc n)) lines placed distinct long (inr m) =
 -- how many of them place all lines
 complete_count : (n : ℕ) (lines : List LineId) → AreDistinct lines → length lines ≡ n → count_by (λ (p : List LineId). length p == n) (prefixes n lines) ≡ orders_of n
 complete_count zero lines distinct long = refl
-complete_count (suc zero) lines distinct long = ap (λ (b : Bool). cond b 1 0 + 0) (eq-eqb (length lines) 1 long)
+complete_count (suc zero) lines distinct long =
+    let one : cond (length lines == 1) 1 0 ≡ 1 = ap (λ (b : Bool). cond b 1 0) (eq-eqb (length lines) 1 long) in
+    omega (arith, count_cons (λ (p : List LineId). length p == 1) lines [], one)
 complete_count (suc (suc n)) lines distinct long =
-    count_flat (λ (p : List LineId). length p == suc (suc n)) (begun_with n lines) (orders_of (suc n)) lines
-    (λ a on. count_map (λ (p : List LineId). length p == suc (suc n)) (λ (p : List LineId). a ∷ p) (prefixes (suc n) (without a lines))
-    ∙ count_same (λ (p : List LineId). suc (length p) == suc (suc n)) (λ (p : List LineId). length p == suc n) (prefixes (suc n) (without a lines)) (λ p. refl)
-    ∙ complete_count (suc n) (without a lines) (without_distinct a lines distinct) (without_few n a lines distinct long on))
-    ∙ ap (λ (k : ℕ). k * orders_of (suc n)) long
+    let none = count_cons (λ (p : List LineId). length p == suc (suc n)) [] (flat_map (begun_with n lines) lines) in
+    let flat : count_by (λ (p : List LineId). length p == suc (suc n)) (flat_map (begun_with n lines) lines) ≡ suc (suc n) * orders_of (suc n) =
+    count_flat (λ (p : List LineId). length p == suc (suc n)) (begun_with n lines) (orders_of (suc n)) lines each
+    ∙ ap (λ (k : ℕ). k * orders_of (suc n)) long in
+    omega (arith, none, flat)
+  where
+    each : (a : LineId) → IsIn a lines → count_by (λ (p : List LineId). length p == suc (suc n)) (begun_with n lines a) ≡ orders_of (suc n)
+    each a on =
+        count_map (λ (p : List LineId). length p == suc (suc n)) (λ (p : List LineId). a ∷ p) (prefixes (suc n) (without a lines))
+        ∙ complete_count (suc n) (without a lines) (without_distinct a lines distinct) (without_few n a lines distinct long on)
 
 -- ---- the prefixes of a part
 
@@ -336,7 +347,7 @@ module _ (segs : List (List LineId)) (distinct : (s : SegId) → AreDistinct (li
     where
       none : (xs : List (List (List LineId))) → count_by (λ (rest : List (List LineId)). false) xs ≡ 0
       none [] = refl
-      none (x ∷ xs) = none xs
+      none (x ∷ xs) = omega (arith, count_cons (λ (rest : List (List LineId)). false) x xs, none xs)
 
       one : (p : List LineId)
           → count_by (are_complete segs (s ∷ part)) (followed_by part p) ≡ cond (length p == length (lines_on segs s)) 1 0 * count_by (are_complete segs part) (tuples part)
@@ -345,7 +356,7 @@ module _ (segs : List (List LineId)) (distinct : (s : SegId) → AreDistinct (li
         where
           by : (b : Bool) → count_by (λ (rest : List (List LineId)). b && are_complete segs part rest) (tuples part) ≡ cond b 1 0 * count_by (are_complete segs part) (tuples part)
           by true = omega arith
-          by false = none (tuples part)
+          by false = omega (arith, none (tuples part))
 
       each : (ps : List (List LineId))
           → count_by (are_complete segs (s ∷ part)) (flat_map (followed_by part) ps)

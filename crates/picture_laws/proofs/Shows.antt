@@ -2,7 +2,7 @@
 use Rattle.std.proofs.Common.{◌≡◌, refl, sym, ◌∙◌, ap, subst, ℕ, zero, suc, ◌+◌, ◌<◌, ◌≤◌, Bool, true, false, cond, ◌==◌, ◌&&◌, List, [], ◌∷◌, ◌++◌, length, map, filter, slice_get, Option, Some, None, count_by, Contains, flat_map, arith}
 use Rattle.std.proofs.lemmas.Bool.{and_from, and_parts, eq-eqb, eqb-true, eqb-false, true≢false, false_from_ne_true}
 use Rattle.std.proofs.lemmas.List.Elements.{Contains-append_left, Contains-append_right, filter-append}
-use Rattle.std.proofs.lemmas.List.Sums.{sum_by-append}
+use Rattle.std.proofs.lemmas.List.Sums.{sum_by-append, sum_by-cons}
 use Rattle.std.specs.List.{list_all, range_with_len}
 use Rattle.map_base.specs.declared.ids.LineId.{LineId}
 use Rattle.graph_core.specs.declared.parts.GraphParts.{GraphParts}
@@ -41,11 +41,15 @@ kept_none p q (x ∷ xs) other all =
     let parts = and_parts (p x) (list_all p xs) all in
     ap (λ (b : Bool). cond b (x ∷ filter q xs) (filter q xs)) (other x parts.0) ∙ kept_none p q xs other parts.1
 
+count_cons : {X : Type 0} (q : X → Bool) (x : X) (xs : List X) → count_by q (x ∷ xs) ≡ cond (q x) 1 0 + count_by q xs
+count_cons q x xs = sum_by-cons (λ y. cond (q y) 1 0) x xs
+
 count_none : {X : Type 0} (p q : X → Bool) (xs : List X) → ((x : X) → p x ≡ true → q x ≡ false) → list_all p xs ≡ true → count_by q xs ≡ 0
 count_none p q [] other all = refl
 count_none p q (x ∷ xs) other all =
     let parts = and_parts (p x) (list_all p xs) all in
-    ap (λ (b : Bool). cond b 1 0 + count_by q xs) (other x parts.0) ∙ count_none p q xs other parts.1
+    let here : cond (q x) 1 0 ≡ 0 = ap (λ (b : Bool). cond b 1 0) (other x parts.0) in
+    omega (arith, count_cons q x xs, here, count_none p q xs other parts.1)
 
 count_append : {X : Type 0} (q : X → Bool) (xs ys : List X) → count_by q (xs ++ ys) ≡ count_by q xs + count_by q ys
 count_append q xs ys = sum_by-append (λ x. cond (q x) 1 0) xs ys
@@ -252,16 +256,24 @@ own_paths : (names : Names) (courses : Courses) (s n i : ℕ) (l : LineId) (orde
     → count_by (is_path_of s l) (line_elements names courses s n i order) ≡ count_by (λ (a : LineId). a.0 == l.0) order
 own_paths names courses s n i l [] = refl
 own_paths names courses s n i l (a ∷ order) =
-    ap (λ (b : Bool). cond (b && a.0 == l.0) 1 0 + count_by (is_path_of s l) (line_elements names courses s n (i + 1) order)) (eq-eqb s s refl)
-    ∙ ap (λ (k : ℕ). cond (a.0 == l.0) 1 0 + k) (own_paths names courses s n (i + 1) l order)
+    let path : Element = OnSegment s a.0 (courses.path s (gauge n i)) (colour_of names a) (name_of names a) in
+    let one : cond (is_path_of s l path) 1 0 ≡ cond (a.0 == l.0) 1 0 = ap (λ (b : Bool). cond (b && a.0 == l.0) 1 0) (eq-eqb s s refl) in
+    omega (
+      arith,
+      count_cons (is_path_of s l) path (line_elements names courses s n (i + 1) order),
+      count_cons (λ (b : LineId). b.0 == l.0) a order,
+      one,
+      own_paths names courses s n (i + 1) l order,
+    )
 
 -- another segment has none of its paths
 other_paths : (names : Names) (courses : Courses) (s t n i : ℕ) (l : LineId) (order : List LineId) → (t == s) ≡ false
     → count_by (is_path_of s l) (line_elements names courses t n i order) ≡ 0
 other_paths names courses s t n i l [] apart = refl
 other_paths names courses s t n i l (a ∷ order) apart =
-    ap (λ (b : Bool). cond (b && a.0 == l.0) 1 0 + count_by (is_path_of s l) (line_elements names courses t n (i + 1) order)) apart
-    ∙ other_paths names courses s t n (i + 1) l order apart
+    let path : Element = OnSegment t a.0 (courses.path t (gauge n i)) (colour_of names a) (name_of names a) in
+    let none : cond (is_path_of s l path) 1 0 ≡ 0 = ap (λ (b : Bool). cond (b && a.0 == l.0) 1 0) apart in
+    omega (arith, count_cons (is_path_of s l) path (line_elements names courses t n (i + 1) order), none, other_paths names courses s t n (i + 1) l order apart)
 
 module _ (names : Names) (courses : Courses) (orders : List (List LineId)) (s : ℕ) (l : LineId) where
   abbrev paths_from : ℕ → ℕ → ℕ
