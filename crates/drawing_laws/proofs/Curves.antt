@@ -1,5 +1,5 @@
 -- Walks of a legal drawing as curves.
-use Rattle.std.proofs.Common.{◌≡◌, ◌≢◌, refl, sym, ◌∙◌, ap, subst, ℕ, zero, suc, ◌+◌, ◌-◌, ◌*◌, ◌<◌, ◌≤◌, ◌⊎◌, inl, inr, Bool, true, false, cond, leb, List, [], ◌∷◌, length, slice_get, Some, arith, Contains}
+use Rattle.std.proofs.Common.{◌≡◌, ◌≢◌, refl, sym, ◌∙◌, ap, subst, ℕ, zero, suc, ◌+◌, ◌-◌, ◌*◌, ◌<◌, ◌≤◌, ◌⊎◌, inl, inr, Bool, true, false, cond, leb, ◌==◌, ◌||◌, List, [], ◌∷◌, length, slice_get, Some, arith, Contains}
 use Rattle.std.proofs.lemmas.Bool.{and_parts, or_cases, not-true, eqb-true, le-leb, leb-true, cases_eq, cases_lt}
 use Rattle.std.proofs.Math.Nat.{mul-suc}
 use Rattle.std.specs.List.{list_all}
@@ -20,11 +20,10 @@ use Rattle.drawing_laws.proofs.Steps.{not_inside, same_grid_point, same_middle, 
 
 pub in_contains : {X : Type 0} (x : X) (xs : List X) → Contains xs x → In x xs
 in_contains x [] h = absurd (omega (arith, h.1))
-in_contains x (y ∷ ys) h = of_cases (Contains-cases y x ys h)
-  where
-    of_cases : (y ≡ x) ⊎ Contains ys x → In x (y ∷ ys)
-    of_cases (inl e) = inl (sym e)
-    of_cases (inr k) = inr (in_contains x ys k)
+in_contains x (y ∷ ys) h = elim (Contains-cases y x ys h) [
+  | inl e ↦ inl (sym e)
+  | inr k ↦ inr (in_contains x ys k)
+]
 
 pub contains_in : {X : Type 0} (x : X) (xs : List X) → In x xs → Contains xs x
 contains_in x [] m = absurd m
@@ -87,7 +86,7 @@ on_one n k within = by (cases_eq k 0) (cases_eq k n)
 
 pub on_way : (n : ℕ) (p : GridPoint) (ds : List Dir) (t : ℕ) → OnWay n p ds (along n p ds t)
 on_way n p [] t = at_grid p (inl refl) refl
-on_way n p (d ∷ ds) t = by (cases_lt n t)
+on_way n p (d ∷ ds) t = by (cases_lt n t) (on_way n (step_from p d) ds (t - n))
   where
     of_step : t ≤ n → OnStep n t → OnWay n p (d ∷ ds) (along n p (d ∷ ds) t)
     of_step within (begin e) = at_grid p (inl refl) (along_first n p d ds t within ∙ ap (on_step n p d) e ∙ step_begins n p d)
@@ -95,9 +94,9 @@ on_way n p (d ∷ ds) t = by (cases_lt n t)
         at_grid (step_from p d) (inr (inr (start_on (step_from p d) ds))) (along_first n p d ds t within ∙ ap (on_step n p d) e ∙ step_ends n p d)
     of_step within (between low high) = inside p d t low high (inr (inl refl)) (along_first n p d ds t within)
 
-    by : (n < t) ⊎ (t ≤ n) → OnWay n p (d ∷ ds) (along n p (d ∷ ds) t)
-    by (inr within) = of_step within (on_one n t within)
-    by (inl above) = subst (OnWay n p (d ∷ ds)) (sym (along_later n p d ds t above)) (later n p d ds (along n (step_from p d) ds (t - n)) (on_way n (step_from p d) ds (t - n)))
+    by : (n < t) ⊎ (t ≤ n) → OnWay n (step_from p d) ds (along n (step_from p d) ds (t - n)) → OnWay n p (d ∷ ds) (along n p (d ∷ ds) t)
+    by (inr within) rest = of_step within (on_one n t within)
+    by (inl above) rest = subst (OnWay n p (d ∷ ds)) (sym (along_later n p d ds t above)) (later n p d ds (along n (step_from p d) ds (t - n)) rest)
 
 -- ---- a walk doesn't meet itself
 
@@ -128,14 +127,14 @@ not_again n p d ds s q some once less e way = by (on_one n s (omega (arith, less
 pub one_place : (n : ℕ) (p : GridPoint) (ds : List Dir) (s t : ℕ) → 0 < n → are_distinct (doubled_from p ds) ≡ true → s ≤ n * length ds → t ≤ n * length ds
     → along n p ds s ≡ along n p ds t → s ≡ t
 one_place n p [] s t some once ls lt e = omega arith
-one_place n p (d ∷ ds) s t some once ls lt e = by (cases_lt n s) (cases_lt n t)
+one_place n p (d ∷ ds) s t some once ls lt e =
+    by (cases_lt n s) (cases_lt n t) (λ a b la lb f. one_place n (step_from p d) ds a b some
+    (distinct_rest (step_from (doubled p) d) (doubled_from (step_from p d) ds) (distinct_rest (doubled p) (step_from (doubled p) d ∷ doubled_from (step_from p d) ds) once)) la lb f)
   where
-    rest_once : are_distinct (doubled_from (step_from p d) ds) ≡ true
-    rest_once = distinct_rest (step_from (doubled p) d) (doubled_from (step_from p d) ds) (distinct_rest (doubled p) (step_from (doubled p) d ∷ doubled_from (step_from p d) ds) once)
-
     -- a point of the first step is none behind it
-    apart : (a b : ℕ) → a ≤ n → n < b → b ≤ n * suc (length ds) → on_step n p d a ≡ along n (step_from p d) ds (b - n) → ⊥
-    apart a b la ab lb f = of_end (cases_eq a n)
+    apart : (a b : ℕ) → ((a b : ℕ) → a ≤ n * length ds → b ≤ n * length ds → along n (step_from p d) ds a ≡ along n (step_from p d) ds b → a ≡ b)
+        → a ≤ n → n < b → b ≤ n * suc (length ds) → on_step n p d a ≡ along n (step_from p d) ds (b - n) → ⊥
+    apart a b again la ab lb f = of_end (cases_eq a n)
       where
         of_end : (a ≡ n) ⊎ (a ≡ n → ⊥) → ⊥
         of_end (inl z) =
@@ -147,13 +146,14 @@ one_place n p (d ∷ ds) s t some once ls lt e = by (cases_lt n s) (cases_lt n t
             let less : a ≢ n = g in
             not_again n p d ds a (along n (step_from p d) ds (b - n)) some once (omega (arith, less, la)) f (on_way n (step_from p d) ds (b - n))
 
-    by : (n < s) ⊎ (s ≤ n) → (n < t) ⊎ (t ≤ n) → s ≡ t
-    by (inr hs) (inr ht) = same_place n p d s t (sym (along_first n p d ds s hs) ∙ e ∙ along_first n p d ds t ht)
-    by (inr hs) (inl ht) = absurd (apart s t hs ht lt (sym (along_first n p d ds s hs) ∙ e ∙ along_later n p d ds t ht))
-    by (inl hs) (inr ht) = absurd (apart t s ht hs ls (sym (along_first n p d ds t ht) ∙ sym e ∙ along_later n p d ds s hs))
-    by (inl hs) (inl ht) =
+    by : (n < s) ⊎ (s ≤ n) → (n < t) ⊎ (t ≤ n)
+        → ((a b : ℕ) → a ≤ n * length ds → b ≤ n * length ds → along n (step_from p d) ds a ≡ along n (step_from p d) ds b → a ≡ b) → s ≡ t
+    by (inr hs) (inr ht) again = same_place n p d s t (sym (along_first n p d ds s hs) ∙ e ∙ along_first n p d ds t ht)
+    by (inr hs) (inl ht) again = absurd (apart s t again hs ht lt (sym (along_first n p d ds s hs) ∙ e ∙ along_later n p d ds t ht))
+    by (inl hs) (inr ht) again = absurd (apart t s again ht hs ls (sym (along_first n p d ds t ht) ∙ sym e ∙ along_later n p d ds s hs))
+    by (inl hs) (inl ht) again =
         let same : s - n ≡ t - n =
-        one_place n (step_from p d) ds (s - n) (t - n) some rest_once (rest_within n s (length ds) hs ls) (rest_within n t (length ds) ht lt)
+        again (s - n) (t - n) (rest_within n s (length ds) hs ls) (rest_within n t (length ds) ht lt)
         (sym (along_later n p d ds s hs) ∙ e ∙ along_later n p d ds t ht) in
         omega (arith, same, hs, ht)
 

@@ -1,9 +1,10 @@
 -- A legal drawing is clear in the plane.
-use Rattle.std.proofs.Common.{◌≡◌, refl, ℕ, ◌<◌, true, List, length, Option, Some, None, is_none}
+use Rattle.std.proofs.Common.{◌≡◌, refl, subst, ℕ, ◌+◌, ◌<◌, true, List, [], length, get_or, Option, Some, None, is_none, arith}
+use Rattle.std.specs.List.{filter_map}
 use Rattle.graph_core.specs.declared.parts.GraphParts.{GraphParts}
 use Rattle.octi_grid.specs.declared.drawing.DrawWhy.{DrawWhy}
 use Rattle.octi_grid.specs.Walks.{PlainWalk}
-use Rattle.octi_grid.specs.Legal.{are_clockwise, legal, legs_of, puts_of, why_illegal, Leg}
+use Rattle.octi_grid.specs.Legal.{are_clockwise, legal, legs_of, port_of, puts_of, why_illegal, Leg}
 use Rattle.octi_grid.proofs.LegalLemmas.{EndsFit, EndsFit-from}
 use Rattle.octi_grid.proofs.MeetsLemmas.{MeetsFit, MeetsFit-from}
 use Rattle.octi_grid.proofs.PortsLemmas.{ports_at_node, AreLegal, AreLegal-from}
@@ -41,4 +42,7 @@ clear_in_plane graph walks h = record {
     meets = MeetsFit-from (legs_of graph.ends walks) (are_legal graph walks h).meets
 
     clockwise : (n : ℕ) → n < length graph.rounds → are_clockwise (ports_round graph.rounds (legs_of graph.ends walks) n) ≡ true
-    clockwise n below = ports_at_node (legs_of graph.ends walks) 0 graph.rounds n (are_legal graph walks h).ports below
+    clockwise n below =
+        let same : 0 + n ≡ n = omega arith in
+        subst (λ (m : ℕ). are_clockwise (filter_map (port_of (legs_of graph.ends walks) m) (get_or graph.rounds n [])) ≡ true) same
+        (ports_at_node (legs_of graph.ends walks) 0 graph.rounds n (are_legal graph walks h).ports below)

@@ -1,40 +1,29 @@
 -- Where a segment has no route: the segments before it have theirs, and no walk is free for it.
 use Rattle.std.proofs.Common.{◌≡◌, ◌≢◌, refl, sym, ◌∙◌, ap, subst, ℕ, zero, suc, ◌+◌, ◌<◌, ◌≤◌, ◌⊎◌, inl, inr, Bool, true, false, cond, not, leb, List, [], ◌∷◌, ◌++◌, length, get_or, map, filter, take, slice_get, Option, Some, None, Result, Ok, Err, arith}
-use Rattle.std.proofs.lemmas.Bool.{leb-true, not-true}
-use Rattle.std.specs.List.{list_all}
 use Rattle.map_base.specs.declared.ids.NodeId.{NodeId}
 use Rattle.map_base.specs.declared.ids.SegId.{SegId}
-use Rattle.map_base.specs.declared.limit.Limit.{Limit}
-use Rattle.map_method.specs.declared.spread.Spread.{Spread}
-use Rattle.map_method.specs.declared.spread.Spread.TheVariants.{Percent, Auto}
-use Rattle.map_method.specs.Methods.{IsSpread}
 use Rattle.graph_core.specs.declared.parts.GraphParts.{GraphParts}
 use Rattle.graph_core.specs.Consistent.{IsConsistent}
 use Rattle.octi_grid.specs.Walks.{PlainWalk}
 use Rattle.octi_grid.specs.Legal.{legal}
-use Rattle.octi_grid.proofs.Members.{all_at, false_from, from_flat_map, In}
+use Rattle.octi_grid.proofs.Members.{false_from, In}
 use Rattle.walk_search.specs.declared.ends.End.{End}
 use Rattle.walk_search.specs.Moves.{is_all_or_none, Question, IsQuestion}
 use Rattle.walk_search.specs.Routes.{is_free}
 use Rattle.walk_search.proofs.Best as best
 use Rattle.node_homes.specs.declared.placing.Placing.{Placing}
-use Rattle.node_homes.specs.Cells.{is_too_fine, limit_found, limit_of}
+use Rattle.node_homes.specs.Cells.{is_too_fine}
 use Rattle.node_homes.specs.Homes.{placing_at, IsPlacing}
 use Rattle.node_homes.specs.Spreads.{spread_offsets}
 use Rattle.node_homes.proofs.HomeFacts.{placing_fits}
 use Rattle.node_homes.proofs.SpreadLemmas.{spread_each}
-use Rattle.segment_router.specs.declared.attempts.Attempt.{Attempt}
-use Rattle.segment_router.specs.declared.fault.RouteFault.{RouteFault}
-use Rattle.segment_router.specs.declared.fault.RouteFault.TheVariants as fault
 use Rattle.segment_router.specs.Orders.{routing_order}
-use Rattle.segment_router.specs.Routes.{after_route, begun, end_at, ends_of, is_settled, route_each, route_of, routed_after, walks_of, with_route, Routed}
-use Rattle.segment_router.specs.Routing.{as_outcome, attempts_of, attempts_on, first_drawn, grids_upto, nothing_drawn, or_else, outcome_under, percents_of, route_outcome, routes_at, IsAttempt}
+use Rattle.segment_router.specs.Routes.{after_route, begun, end_at, ends_of, is_settled, route_each, route_of, routed_after, routes_from, walks_of, with_route, Routed}
 use Rattle.segment_router.specs.Underway.{IsUnderway}
-use Rattle.segment_router.proofs.RouteLemmas.{in_filter, in_map}
 use Rattle.segment_router.proofs.LaidLemmas.{laid_more, IsLaid}
 use Rattle.segment_router.proofs.LegalRoutes.{laid_begins, legal_routes, route_each_segment}
 use Rattle.segment_router.proofs.RoutingLemmas.{mask_read, order_place}
-use Rattle.drawing_laws.specs.Routing.{is_free_for, placing_of, HasNoWalk}
+use Rattle.drawing_laws.specs.Routing.{is_free_for, HasNoWalk}
 use Rattle.drawing_laws.proofs.Curves.{in_get}
 
 -- ---- one segment
@@ -90,10 +79,12 @@ record IsStuck (graph : GraphParts) (order : List SegId) (r : Routed) (s : SegId
 stuck : (graph : GraphParts) → IsConsistent graph → (order : List SegId) (r : Routed) (s : SegId) → IsLaid graph r → ((t : SegId) → In t order → t.0 < length graph.ends)
     → route_each graph order r ≡ Err s → IsStuck graph order r s
 stuck graph fit [] r s laid known e = cc
-stuck graph fit (t ∷ order) r s laid known e = by (route_of graph r t) refl e
+stuck graph fit (t ∷ order) r s laid known e =
+    by (route_of graph r t) refl e (λ later more f. stuck graph fit order later s more (λ u m. known u (inr m)) f)
   where
-    by : (o : Option PlainWalk) → route_of graph r t ≡ o → after_route t (λ w. route_each graph order (with_route graph r t w)) o ≡ Err s → IsStuck graph (t ∷ order) r s
-    by None is h =
+    by : (o : Option PlainWalk) → route_of graph r t ≡ o → after_route t (λ w. route_each graph order (with_route graph r t w)) o ≡ Err s
+        → ((later : Routed) → IsLaid graph later → route_each graph order later ≡ Err s → IsStuck graph order later s) → IsStuck graph (t ∷ order) r s
+    by None is h go_on =
         let same : t ≡ s = cc in
         record {
           before = 0;
@@ -102,8 +93,8 @@ stuck graph fit (t ∷ order) r s laid known e = by (route_of graph r t) refl e
           next = ap (λ (u : SegId). Some u) same;
           none = subst (λ (u : SegId). (w : PlainWalk) → is_free_for graph r u w ≡ false) same (none_free graph fit r laid t (known t (inl refl)) is);
         }
-    by (Some w) is h =
-        let rest = stuck graph fit order (with_route graph r t w) s (laid_more graph fit r laid t (known t (inl refl)) w is) (λ u m. known u (inr m)) h in
+    by (Some w) is h go_on =
+        let rest = go_on (with_route graph r t w) (laid_more graph fit r laid t (known t (inl refl)) w is) h in
         record {
           before = suc rest.before;
           routed = rest.routed;
@@ -139,103 +130,17 @@ stuck_here graph fit placing placed s e = by (route_each graph (routing_order gr
         let here = stuck graph fit (routing_order graph.lines) (begun graph placing) s (laid_begins graph placing placed) known (is ∙ ap (λ (u : SegId). Err u) same) in
         record { before = here.before; routed = here.routed; so_far = here.so_far; next = here.next; none = here.none }
 
-no_walk_at : (graph : GraphParts) (cell : ℕ) (a : Attempt) (s : SegId) → IsConsistent graph → is_too_fine graph.places cell ≡ false → IsAttempt a → routes_at graph cell a ≡ Err s
-    → HasNoWalk graph (placing_of graph cell a) s
-no_walk_at graph cell a s fit fine one e = stuck_here graph fit (placing_of graph cell a) (fits graph cell a.fineness a.percent fit fine one.fine) s e
-
--- ---- all attempts
-
-is_grid : (finest f : ℕ) → In f (grids_upto finest) → (0 < f) × (f ≤ 16)
-is_grid finest f (inl e) = (omega arith, omega arith)
-is_grid finest f (inr m) = of_list (in_filter (λ fineness. leb fineness finest) (2 ∷ 4 ∷ 8 ∷ 16 ∷ []) f m).1
-  where
-    of_list : In f (2 ∷ 4 ∷ 8 ∷ 16 ∷ []) → (0 < f) × (f ≤ 16)
-    of_list (inl e) = (omega arith, omega arith)
-    of_list (inr (inl e)) = (omega arith, omega arith)
-    of_list (inr (inr (inl e))) = (omega arith, omega arith)
-    of_list (inr (inr (inr (inl e)))) = (omega arith, omega arith)
-    of_list (inr (inr (inr (inr m)))) = absurd m
-
-is_percent : (spread : Spread) → IsSpread spread → (p : ℕ) → In p (percents_of spread) → p ≤ 100
-is_percent (Percent percent) h p (inl e) = omega (arith, e, h)
-is_percent (Percent percent) h p (inr m) = absurd m
-is_percent Auto h p m = leb-true p 100 (all_at (λ n. leb n 100) (percents_of Auto) p refl m)
-
-is_attempt : (spread : Spread) (finest : ℕ) (a : Attempt) → IsSpread spread → In a (attempts_of spread finest) → IsAttempt a
-is_attempt spread finest a h m =
-    let grid = from_flat_map (attempts_on (percents_of spread)) (grids_upto finest) a m in
-    let part = in_map (λ percent. let b : Attempt = record { fineness = grid.0; percent = percent } in b) (percents_of spread) a grid.2 in
-    let fine = is_grid finest grid.0 grid.1 in
-    let within = is_percent spread h part.0 part.1 in
-    subst IsAttempt (sym part.2) (record { some = fine.0; fine = fine.1; within = within })
-
--- where nothing is drawn, no attempt gives a drawing
-none_drawn : (graph : GraphParts) (cell : ℕ) (before : Result (List PlainWalk) SegId) (attempts : List Attempt) (s : SegId) → first_drawn graph cell before attempts ≡ Err s
-    → (a : Attempt) → In a attempts → (t : SegId) × (routes_at graph cell a ≡ Err t)
-none_drawn graph cell before [] s e a m = absurd m
-none_drawn graph cell (Ok walks) (b ∷ rest) s e a m = cc
-none_drawn graph cell (Err t) (b ∷ rest) s e a (inl here) = subst (λ (c : Attempt). (t : SegId) × (routes_at graph cell c ≡ Err t)) (sym here) (failed (routes_at graph cell b) refl e)
-  where
-    failed : (o : Result (List PlainWalk) SegId) → routes_at graph cell b ≡ o → first_drawn graph cell o rest ≡ Err s → (t : SegId) × (routes_at graph cell b ≡ Err t)
-    failed (Err t) is h = (t, is)
-    failed (Ok walks) is h = absurd (never_lost rest h)
-      where
-        never_lost : (more : List Attempt) → first_drawn graph cell (Ok walks) more ≡ Err s → ⊥
-        never_lost [] h = cc
-        never_lost (c ∷ more) h = cc
-none_drawn graph cell (Err t) (b ∷ rest) s e a (inr m) = none_drawn graph cell (routes_at graph cell b) rest s e a m
-
-last_drawn : (graph : GraphParts) (cell : ℕ) (before : Result (List PlainWalk) SegId) (earlier : List Attempt) (a : Attempt) (s : SegId)
-    → first_drawn graph cell before (earlier ++ a ∷ []) ≡ Err s → routes_at graph cell a ≡ Err s
-last_drawn graph cell (Ok walks) [] a s e = cc
-last_drawn graph cell (Err t) [] a s e = e
-last_drawn graph cell (Ok walks) (b ∷ earlier) a s e = cc
-last_drawn graph cell (Err t) (b ∷ earlier) a s e = last_drawn graph cell (routes_at graph cell b) earlier a s e
-
--- what it means that a segment is named
-record IsNamed (graph : GraphParts) (cell : ℕ) (attempts : List Attempt) (s : SegId) : Type 0 where
-  pub fine : is_too_fine graph.places cell ≡ false
-  pub none : first_drawn graph cell nothing_drawn attempts ≡ Err s
-
-named : (graph : GraphParts) (cell : ℕ) (attempts : List Attempt) (s : SegId)
-    → outcome_under (limit_of graph.places cell) (first_drawn graph cell nothing_drawn attempts) ≡ Err (fault.NoRoute s) → IsNamed graph cell attempts s
-named graph cell attempts s e = of_limit (is_too_fine graph.places cell) refl e
-  where
-    of_drawing : (o : Result (List PlainWalk) SegId) → first_drawn graph cell nothing_drawn attempts ≡ o → as_outcome o ≡ Err (fault.NoRoute s)
-        → first_drawn graph cell nothing_drawn attempts ≡ Err s
-    of_drawing (Ok walks) is h = cc
-    of_drawing (Err t) is h = let same : t ≡ s = cc in is ∙ ap (λ (u : SegId). Err u) same
-
-    of_limit : (b : Bool) → is_too_fine graph.places cell ≡ b
-        → outcome_under (cond b (Some (limit_found graph.places cell)) None) (first_drawn graph cell nothing_drawn attempts) ≡ Err (fault.NoRoute s)
-        → IsNamed graph cell attempts s
-    of_limit true is h = cc
-    of_limit false is h = record { fine = is; none = of_drawing (first_drawn graph cell nothing_drawn attempts) refl h }
-
-pub last_has_no_walk : (graph : GraphParts) (cell : ℕ) (spread : Spread) (finest : ℕ) (s : SegId) (earlier : List Attempt) (a : Attempt) → IsConsistent graph → IsSpread spread
-    → route_outcome graph cell spread finest ≡ Err (fault.NoRoute s) → attempts_of spread finest ≡ earlier ++ a ∷ [] → HasNoWalk graph (placing_of graph cell a) s
-last_has_no_walk graph cell spread finest s earlier a fit h e is =
-    let here = named graph cell (attempts_of spread finest) s e in
-    no_walk_at graph cell a s fit here.fine (is_attempt spread finest a h (subst (In a) (sym is) (at_last earlier)))
-    (last_drawn graph cell nothing_drawn earlier a s (sym (ap (first_drawn graph cell nothing_drawn) is) ∙ here.none))
-  where
-    at_last : (before : List Attempt) → In a (before ++ a ∷ [])
-    at_last [] = inl refl
-    at_last (b ∷ before) = inr (at_last before)
-
-pub each_has_no_walk : (graph : GraphParts) (cell : ℕ) (spread : Spread) (finest : ℕ) (s : SegId) (a : Attempt) → IsConsistent graph → IsSpread spread
-    → route_outcome graph cell spread finest ≡ Err (fault.NoRoute s) → In a (attempts_of spread finest) → (t : SegId) × HasNoWalk graph (placing_of graph cell a) t
-each_has_no_walk graph cell spread finest s a fit h e m =
-    let here = named graph cell (attempts_of spread finest) s e in
-    let failed = none_drawn graph cell nothing_drawn (attempts_of spread finest) s here.none a m in
-    (failed.0, no_walk_at graph cell a failed.0 fit here.fine (is_attempt spread finest a h m) failed.1)
+pub stuck_from : (graph : GraphParts) (placing : Placing) (s : SegId) → IsConsistent graph → IsPlacing graph placing → routes_from graph placing ≡ Err s → HasNoWalk graph placing s
+stuck_from graph placing s fit placed e = stuck_here graph fit placing placed s e
 
 -- ---- where each segment has its route
 
-pub attempt_legal : (graph : GraphParts) (cell : ℕ) (a : Attempt) (walks : List PlainWalk) → IsConsistent graph → is_too_fine graph.places cell ≡ false → IsAttempt a
-    → routes_at graph cell a ≡ Ok walks → legal graph walks ≡ true
-attempt_legal graph cell a walks fit fine one e = legal_routes graph (placing_of graph cell a) walks fit (fits graph cell a.fineness a.percent fit fine one.fine) e
+pub homes_legal : (graph : GraphParts) (cell fineness percent : ℕ) (walks : List PlainWalk) → IsConsistent graph → is_too_fine graph.places cell ≡ false → fineness ≤ 16
+    → routes_from graph (placing_at graph cell fineness (spread_offsets graph.places percent)) ≡ Ok walks → legal graph walks ≡ true
+homes_legal graph cell fineness percent walks fit fine few e =
+    legal_routes graph (placing_at graph cell fineness (spread_offsets graph.places percent)) walks fit (fits graph cell fineness percent fit fine few) e
 
-pub attempt_each : (graph : GraphParts) (cell : ℕ) (a : Attempt) (walks : List PlainWalk) → IsConsistent graph → is_too_fine graph.places cell ≡ false → IsAttempt a
-    → routes_at graph cell a ≡ Ok walks → length walks ≡ length graph.ends
-attempt_each graph cell a walks fit fine one e = route_each_segment graph (placing_of graph cell a) walks fit (fits graph cell a.fineness a.percent fit fine one.fine) e
+pub homes_each : (graph : GraphParts) (cell fineness percent : ℕ) (walks : List PlainWalk) → IsConsistent graph → is_too_fine graph.places cell ≡ false → fineness ≤ 16
+    → routes_from graph (placing_at graph cell fineness (spread_offsets graph.places percent)) ≡ Ok walks → length walks ≡ length graph.ends
+homes_each graph cell fineness percent walks fit fine few e =
+    route_each_segment graph (placing_at graph cell fineness (spread_offsets graph.places percent)) walks fit (fits graph cell fineness percent fit fine few) e

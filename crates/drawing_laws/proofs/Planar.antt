@@ -51,9 +51,9 @@ two_more : (p : GridPoint) (d : Dir) (ds : List Dir) (t : ℕ) → along 2 p (d 
 two_more p d ds t = by (cases_eq t 0)
   where
     by : (t ≡ 0) ⊎ (t ≡ 0 → ⊥) → along 2 p (d ∷ ds) (t + 2) ≡ along 2 (step_from p d) ds t
-    by (inl none) =
-        ap (λ (k : ℕ). along 2 p (d ∷ ds) (k + 2)) none ∙ along_first 2 p d ds 2 (omega arith) ∙ step_ends 2 p d ∙ sym (along_start 2 (step_from p d) ds)
-        ∙ ap (along 2 (step_from p d) ds) (sym none)
+    by (inl nought) =
+        ap (λ (k : ℕ). along 2 p (d ∷ ds) (k + 2)) nought ∙ along_first 2 p d ds 2 (omega arith) ∙ step_ends 2 p d ∙ sym (along_start 2 (step_from p d) ds)
+        ∙ ap (along 2 (step_from p d) ds) (sym nought)
     by (inr some) =
         let apart : t ≢ 0 = some in
         let back : (t + 2) - 2 ≡ t = omega arith in
@@ -183,7 +183,7 @@ some_turn : (a b : Dir) → a ≢ b → 0 < clockwise_from a b
 some_turn a b apart = by (cases_eq (clockwise_from a b) 0)
   where
     by : (clockwise_from a b ≡ 0) ⊎ (clockwise_from a b ≡ 0 → ⊥) → 0 < clockwise_from a b
-    by (inl none) = absurd (apart (same_direction a b (no_turn (number_of a) (number_of b) (below_eight a) (below_eight b) none)))
+    by (inl level) = absurd (apart (same_direction a b (no_turn (number_of a) (number_of b) (below_eight a) (below_eight b) level)))
     by (inr some) = let more : clockwise_from a b ≢ 0 = some in omega arith
 
 clockwise_from_all : (ports : List Dir) → ((i j : ℕ) (a b : Dir) → i < j → slice_get ports i ≡ Some a → slice_get ports j ≡ Some b → a ≢ b)
@@ -194,10 +194,17 @@ clockwise_from_all (d ∷ ds) distinct clockwise =
     rising_from d 0 ds (λ a on. let place = place_in a ds on in some_turn d a (distinct 0 (suc place.0) d a (omega arith) refl place.1))
     (λ i j a b less e f. clockwise 0 (suc i) (suc j) d a b (omega arith) (omega (arith, less)) refl e f)
 
+-- the ports of a round, as the test of all rounds reads them
+round_fits : (rounds : List (List SegId)) (legs : List Leg) (n : ℕ) → are_clockwise (ports_round rounds legs n) ≡ true
+    → are_clockwise (filter_map (port_of legs (0 + n)) (get_or rounds n [])) ≡ true
+round_fits rounds legs n e =
+    let same : n ≡ 0 + n = omega arith in subst (λ (m : ℕ). are_clockwise (filter_map (port_of legs m) (get_or rounds n [])) ≡ true) same e
+
 pub legal_from : (graph : GraphParts) (walks : List PlainWalk) → IsPlaneDrawing graph.rounds (legs_of graph.ends walks) → legal graph walks ≡ true
 legal_from graph walks h =
     ap is_none
     (why_ports graph.rounds (legs_of graph.ends walks) true (ends_fit graph.rounds (legs_of graph.ends walks) h) (meets_fit graph.rounds (legs_of graph.ends walks) h)
     (ports_each (legs_of graph.ends walks) 0 graph.rounds
-    (λ n below. clockwise_from_all (ports_round graph.rounds (legs_of graph.ends walks) n) (λ i j a b less e f. h.distinct n i j a b below less e f)
-    (λ i j k a b c first second e f g. h.clockwise n i j k a b c below first second e f g))))
+    (λ n below. round_fits graph.rounds (legs_of graph.ends walks) n
+    (clockwise_from_all (ports_round graph.rounds (legs_of graph.ends walks) n) (λ i j a b less e f. h.distinct n i j a b below less e f)
+    (λ i j k a b c first second e f g. h.clockwise n i j k a b c below first second e f g)))))

@@ -5,15 +5,8 @@ use Rattle.graph_core.specs.declared.parts.GraphParts.{GraphParts}
 use Rattle.octi_grid.specs.Walks.{PlainWalk}
 use Rattle.walk_search.specs.Routes.{is_free}
 use Rattle.node_homes.specs.declared.placing.Placing.{Placing}
-use Rattle.node_homes.specs.Homes.{placing_at}
-use Rattle.node_homes.specs.Spreads.{spread_offsets}
-use Rattle.segment_router.specs.declared.attempts.Attempt.{Attempt}
 use Rattle.segment_router.specs.Orders.{routing_order}
 use Rattle.segment_router.specs.Routes.{end_at, ends_of, routed_after, Routed}
-
--- the placing of an attempt, on cells of a side
-abbrev pub placing_of : GraphParts → ℕ → Attempt → Placing
-placing_of graph cell a = placing_at graph cell a.fineness (spread_offsets graph.places a.percent)
 
 -- a walk is free between the two ends of a segment, as routing has come so far
 abbrev pub is_free_for : GraphParts → Routed → SegId → PlainWalk → Bool

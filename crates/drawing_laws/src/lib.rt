@@ -7,5 +7,5 @@ mod routing;
 
 pub use plane::legal_drawings_are_clear_in_the_plane;
 pub use routing::{
-    homes_are_on_the_grid, no_route_means_no_free_walk, routing_gives_a_legal_drawing,
+    homes_are_on_the_grid, no_route_means_no_free_walk, routing_from_homes_is_legal,
 };

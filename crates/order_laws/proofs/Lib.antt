@@ -1,6 +1,3 @@
-mod Free
-mod Pieces
-mod Stopped
 mod Once
 mod Prefixes
 mod Examples

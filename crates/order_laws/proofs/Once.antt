@@ -48,25 +48,22 @@ from_flat f (x ∷ xs) y m = elim (in_append y (f x) (flat_map f xs) m) [
 
 pub in_kept : {X : Type 0} (p : X → Bool) (xs : List X) (x : X) → IsIn x xs → p x ≡ true → IsIn x (filter p xs)
 in_kept p [] x m h = absurd m
-in_kept {X} p (y ∷ xs) x m h = by (p y) refl m
+in_kept {X} p (y ∷ xs) x m h = by (p y) refl m (λ later. in_kept p xs x later h)
   where
-    by : (b : Bool) → p y ≡ b → (x ≡ y) ⊎ IsIn x xs → IsIn x (cond b (y ∷ filter p xs) (filter p xs))
-    by true e (inl here) = inl here
-    by true e (inr later) = inr (in_kept p xs x later h)
-    by false e (inl here) = absurd (true≢false (sym h ∙ ap p here ∙ e))
-    by false e (inr later) = in_kept p xs x later h
+    by : (b : Bool) → p y ≡ b → (x ≡ y) ⊎ IsIn x xs → (IsIn x xs → IsIn x (filter p xs)) → IsIn x (cond b (y ∷ filter p xs) (filter p xs))
+    by true e (inl here) rest = inl here
+    by true e (inr later) rest = inr (rest later)
+    by false e (inl here) rest = absurd (true≢false (sym h ∙ ap p here ∙ e))
+    by false e (inr later) rest = rest later
 
 pub from_kept : {X : Type 0} (p : X → Bool) (xs : List X) (x : X) → IsIn x (filter p xs) → IsIn x xs × (p x ≡ true)
 from_kept p [] x m = absurd m
-from_kept {X} p (y ∷ xs) x m = by (p y) refl m
+from_kept {X} p (y ∷ xs) x m = by (p y) refl m (λ n. let rest = from_kept p xs x n in (inr rest.0, rest.1))
   where
-    later : IsIn x (filter p xs) → IsIn x (y ∷ xs) × (p x ≡ true)
-    later n = let rest = from_kept p xs x n in (inr rest.0, rest.1)
-
-    by : (b : Bool) → p y ≡ b → IsIn x (cond b (y ∷ filter p xs) (filter p xs)) → IsIn x (y ∷ xs) × (p x ≡ true)
-    by true e (inl here) = (inl here, ap p here ∙ e)
-    by true e (inr n) = later n
-    by false e n = later n
+    by : (b : Bool) → p y ≡ b → IsIn x (cond b (y ∷ filter p xs) (filter p xs)) → (IsIn x (filter p xs) → IsIn x (y ∷ xs) × (p x ≡ true)) → IsIn x (y ∷ xs) × (p x ≡ true)
+    by true e (inl here) later = (inl here, ap p here ∙ e)
+    by true e (inr n) later = later n
+    by false e n later = later n
 
 -- ---- nothing twice
 
@@ -94,11 +91,11 @@ once_flat {X} f (x ∷ xs) a each tells =
 
 pub once_kept : {X : Type 0} (p : X → Bool) (xs : List X) → AreOnce xs → AreOnce (filter p xs)
 once_kept p [] a = tt
-once_kept {X} p (x ∷ xs) a = by (p x)
+once_kept {X} p (x ∷ xs) a = by (p x) (once_kept p xs a.1)
   where
-    by : (b : Bool) → AreOnce (cond b (x ∷ filter p xs) (filter p xs))
-    by true = ((λ m. a.0 (from_kept p xs x m).0), once_kept p xs a.1)
-    by false = once_kept p xs a.1
+    by : (b : Bool) → AreOnce (filter p xs) → AreOnce (cond b (x ∷ filter p xs) (filter p xs))
+    by true rest = ((λ m. a.0 (from_kept p xs x m).0), rest)
+    by false rest = rest
 
 -- ---- how many
 
@@ -130,12 +127,9 @@ count_map p f (x ∷ xs) = omega (arith, count_cons p (f x) (map f xs), count_co
 -- what a test doesn't keep
 pub length_rest : {X : Type 0} (p : X → Bool) (xs : List X) → length (filter (λ x. not (p x)) xs) + count_by p xs ≡ length xs
 length_rest p [] = refl
-length_rest {X} p (x ∷ xs) = by (p x) (count_cons p x xs)
+length_rest {X} p (x ∷ xs) = by (p x) (count_cons p x xs) (length_rest p xs)
   where
-    rest : length (filter (λ y. not (p y)) xs) + count_by p xs ≡ length xs
-    rest = length_rest p xs
-
-    by : (b : Bool) → count_by p (x ∷ xs) ≡ cond b 1 0 + count_by p xs
+    by : (b : Bool) → count_by p (x ∷ xs) ≡ cond b 1 0 + count_by p xs → length (filter (λ y. not (p y)) xs) + count_by p xs ≡ length xs
         → length (cond (not b) (x ∷ filter (λ y. not (p y)) xs) (filter (λ y. not (p y)) xs)) + count_by p (x ∷ xs) ≡ suc (length xs)
-    by true whole = omega (arith, rest, whole)
-    by false whole = omega (arith, rest, whole)
+    by true whole rest = omega (arith, rest, whole)
+    by false whole rest = omega (arith, rest, whole)

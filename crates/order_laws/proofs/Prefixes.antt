@@ -48,53 +48,51 @@ without_none a (b ∷ lines) e =
 -- without a line there is one fewer, and all others stay
 without_length : (a : LineId) (lines : List LineId) → AreDistinct lines → has_line lines a ≡ true → length (without a lines) + 1 ≡ length lines
 without_length a [] distinct on = absurd (true≢false (sym on))
-without_length a (b ∷ lines) distinct on = by (b.0 == a.0) refl
+without_length a (b ∷ lines) distinct on = by (b.0 == a.0) refl (λ later. without_length a lines distinct.1 later)
   where
-    by : (t : Bool) → (b.0 == a.0) ≡ t → length (cond (not (b.0 == a.0)) (b ∷ without a lines) (without a lines)) + 1 ≡ suc (length lines)
-    by true e =
+    by : (t : Bool) → (b.0 == a.0) ≡ t → (has_line lines a ≡ true → length (without a lines) + 1 ≡ length lines)
+        → length (cond (not (b.0 == a.0)) (b ∷ without a lines) (without a lines)) + 1 ≡ suc (length lines)
+    by true e rest =
         let gone : without a lines ≡ lines = without_none a lines (ap (has_line lines) (sym (same_line b a e)) ∙ distinct.0) in
         ap (λ (t : Bool). length (cond (not t) (b ∷ without a lines) (without a lines)) + 1) e ∙ ap (λ (ls : List LineId). length ls + 1) gone ∙ omega arith
-    by false e =
+    by false e rest =
         let later = elim (or_cases (b.0 == a.0) (has_line lines a) on) [
           | inl same ↦ absurd (true≢false (sym same ∙ e))
           | inr rest ↦ rest
         ] in
-        ap (λ (t : Bool). length (cond (not t) (b ∷ without a lines) (without a lines)) + 1) e ∙ ap suc (without_length a lines distinct.1 later)
+        ap (λ (t : Bool). length (cond (not t) (b ∷ without a lines) (without a lines)) + 1) e ∙ ap suc (rest later)
 
 without_has : (a b : LineId) (lines : List LineId) → has_line (without a lines) b ≡ has_line lines b && not (b.0 == a.0)
 without_has a b [] = refl
-without_has a b (c ∷ lines) = by (c.0 == a.0) refl (c.0 == b.0) refl
+without_has a b (c ∷ lines) = by (c.0 == a.0) refl (c.0 == b.0) refl (without_has a b lines)
   where
-    rest : has_line (without a lines) b ≡ has_line lines b && not (b.0 == a.0)
-    rest = without_has a b lines
-
     kept_out : (x : Bool) → (x && false) ≡ false
     kept_out true = refl
     kept_out false = refl
 
-    by : (t : Bool) → (c.0 == a.0) ≡ t → (u : Bool) → (c.0 == b.0) ≡ u
+    by : (t : Bool) → (c.0 == a.0) ≡ t → (u : Bool) → (c.0 == b.0) ≡ u → (has_line (without a lines) b ≡ (has_line lines b && not (b.0 == a.0)))
         → has_line (cond (not (c.0 == a.0)) (c ∷ without a lines) (without a lines)) b ≡ (c.0 == b.0 || has_line lines b) && not (b.0 == a.0)
-    by true e true f =
+    by true e true f rest =
         let same : (b.0 == a.0) ≡ true = ap (λ (n : ℕ). n == a.0) (sym (eqb-true c.0 b.0 f)) ∙ e in
         ap (λ (t : Bool). has_line (cond (not t) (c ∷ without a lines) (without a lines)) b) e ∙ rest ∙ ap (λ (t : Bool). has_line lines b && not t) same ∙ kept_out (has_line lines b)
         ∙ sym (ap (λ (t : Bool). (c.0 == b.0 || has_line lines b) && not t) same ∙ kept_out (c.0 == b.0 || has_line lines b))
-    by true e false f =
+    by true e false f rest =
         ap (λ (t : Bool). has_line (cond (not t) (c ∷ without a lines) (without a lines)) b) e ∙ rest ∙ sym (ap (λ (t : Bool). (t || has_line lines b) && not (b.0 == a.0)) f)
-    by false e true f =
+    by false e true f rest =
         let other : (b.0 == a.0) ≡ false = ap (λ (n : ℕ). n == a.0) (sym (eqb-true c.0 b.0 f)) ∙ e in
         ap (λ (t : Bool). has_line (cond (not t) (c ∷ without a lines) (without a lines)) b) e ∙ ap (λ (t : Bool). t || has_line (without a lines) b) f
         ∙ sym (ap (λ (t : Bool). (t || has_line lines b) && not (b.0 == a.0)) f ∙ ap not other)
-    by false e false f =
+    by false e false f rest =
         ap (λ (t : Bool). has_line (cond (not t) (c ∷ without a lines) (without a lines)) b) e ∙ ap (λ (t : Bool). t || has_line (without a lines) b) f ∙ rest
         ∙ sym (ap (λ (t : Bool). (t || has_line lines b) && not (b.0 == a.0)) f)
 
 without_distinct : (a : LineId) (lines : List LineId) → AreDistinct lines → AreDistinct (without a lines)
 without_distinct a [] distinct = tt
-without_distinct a (b ∷ lines) distinct = by (not (b.0 == a.0))
+without_distinct a (b ∷ lines) distinct = by (not (b.0 == a.0)) (without_distinct a lines distinct.1)
   where
-    by : (t : Bool) → AreDistinct (cond t (b ∷ without a lines) (without a lines))
-    by true = (without_has a b lines ∙ ap (λ (t : Bool). t && not (b.0 == a.0)) distinct.0, without_distinct a lines distinct.1)
-    by false = without_distinct a lines distinct.1
+    by : (t : Bool) → AreDistinct (without a lines) → AreDistinct (cond t (b ∷ without a lines) (without a lines))
+    by true rest = (without_has a b lines ∙ ap (λ (t : Bool). t && not (b.0 == a.0)) distinct.0, rest)
+    by false rest = rest
 
 -- ---- the prefixes of one segment
 
@@ -127,13 +125,11 @@ prefixes_long zero lines distinct long = refl
 prefixes_long (suc zero) lines distinct long = refl
 prefixes_long (suc (suc n)) lines distinct long =
     let flat : length (flat_map (begun_with n lines) lines) ≡ suc (suc n) * prefixes_of (suc n) =
-    length_flat (begun_with n lines) (prefixes_of (suc n)) lines each ∙ ap (λ (k : ℕ). k * prefixes_of (suc n)) long in
+    length_flat (begun_with n lines) (prefixes_of (suc n)) lines
+    (λ a on. length-map (prefixes (suc n) (without a lines)) (λ (p : List LineId). a ∷ p)
+    ∙ prefixes_long (suc n) (without a lines) (without_distinct a lines distinct) (without_few n a lines distinct long on))
+    ∙ ap (λ (k : ℕ). k * prefixes_of (suc n)) long in
     omega (arith, flat)
-  where
-    each : (a : LineId) → IsIn a lines → length (begun_with n lines a) ≡ prefixes_of (suc n)
-    each a on =
-        length-map (prefixes (suc n) (without a lines)) (λ (p : List LineId). a ∷ p)
-        ∙ prefixes_long (suc n) (without a lines) (without_distinct a lines distinct) (without_few n a lines distinct long on)
 
 same_tail : {a b : LineId} {p q : List LineId} → (a ∷ p) ≡ (b ∷ q) → p ≡ q
 same_tail e = cc
@@ -272,19 +268,16 @@ listed_prefix (suc (suc n)) lines placed distinct long (inr m) =
 complete_count : (n : ℕ) (lines : List LineId) → AreDistinct lines → length lines ≡ n → count_by (λ (p : List LineId). length p == n) (prefixes n lines) ≡ orders_of n
 complete_count zero lines distinct long = refl
 complete_count (suc zero) lines distinct long =
-    let one : cond (length lines == 1) 1 0 ≡ 1 = ap (λ (b : Bool). cond b 1 0) (eq-eqb (length lines) 1 long) in
+    let one : ◌≡◌ {A = ℕ} (cond (length lines == 1) 1 0) 1 = ap (λ (b : Bool). cond {A = ℕ} b 1 0) (eq-eqb (length lines) 1 long) in
     omega (arith, count_cons (λ (p : List LineId). length p == 1) lines [], one)
 complete_count (suc (suc n)) lines distinct long =
     let none = count_cons (λ (p : List LineId). length p == suc (suc n)) [] (flat_map (begun_with n lines) lines) in
     let flat : count_by (λ (p : List LineId). length p == suc (suc n)) (flat_map (begun_with n lines) lines) ≡ suc (suc n) * orders_of (suc n) =
-    count_flat (λ (p : List LineId). length p == suc (suc n)) (begun_with n lines) (orders_of (suc n)) lines each
+    count_flat (λ (p : List LineId). length p == suc (suc n)) (begun_with n lines) (orders_of (suc n)) lines
+    (λ a on. count_map (λ (p : List LineId). length p == suc (suc n)) (λ (p : List LineId). a ∷ p) (prefixes (suc n) (without a lines))
+    ∙ complete_count (suc n) (without a lines) (without_distinct a lines distinct) (without_few n a lines distinct long on))
     ∙ ap (λ (k : ℕ). k * orders_of (suc n)) long in
     omega (arith, none, flat)
-  where
-    each : (a : LineId) → IsIn a lines → count_by (λ (p : List LineId). length p == suc (suc n)) (begun_with n lines a) ≡ orders_of (suc n)
-    each a on =
-        count_map (λ (p : List LineId). length p == suc (suc n)) (λ (p : List LineId). a ∷ p) (prefixes (suc n) (without a lines))
-        ∙ complete_count (suc n) (without a lines) (without_distinct a lines distinct) (without_few n a lines distinct long on)
 
 -- ---- the prefixes of a part
 
@@ -361,7 +354,7 @@ module _ (segs : List (List LineId)) (distinct : (s : SegId) → AreDistinct (li
       each : (ps : List (List LineId))
           → count_by (are_complete segs (s ∷ part)) (flat_map (followed_by part) ps)
           ≡ count_by (λ (p : List LineId). length p == length (lines_on segs s)) ps * count_by (are_complete segs part) (tuples part)
-      each [] = refl
+      each [] = omega arith
       each (p ∷ ps) =
           sum_by-append (λ (lists : List (List LineId)). cond (are_complete segs (s ∷ part) lists) 1 0) (followed_by part p) (flat_map (followed_by part) ps)
           ∙ ap₂ (λ (i j : ℕ). i + j) (one p) (each ps)

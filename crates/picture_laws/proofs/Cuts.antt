@@ -1,7 +1,8 @@
 -- Texts that tell what they write, by a mark behind them.
-use Rattle.std.proofs.Common.{◌≡◌, refl, sym, ◌∙◌, ap, ap₂, ℕ, ◌+◌, ◌*◌, ◌/◌, ◌%◌, ◌<◌, ◌≤◌, ◌^◌, Bool, true, false, cond, not, ltb, ◌==◌, ◌&&◌, ◌||◌, ℤ, pos, negsuc, unsigned_abs, List, [], ◌∷◌, ◌++◌, append_assoc, append_cancel_left, suc, Some, decimal, flat_map, arith}
+use Rattle.std.proofs.Common.{◌≡◌, refl, sym, ◌∙◌, ap, ap₂, ℕ, ◌+◌, ◌*◌, ◌/◌, ◌%◌, ◌<◌, ◌≤◌, ◌^◌, Bool, true, false, cond, not, ltb, ◌==◌, ◌&&◌, ◌||◌, ℤ, pos, negsuc, unsigned_abs, List, [], ◌∷◌, ◌++◌, append_assoc, suc, Some, decimal, flat_map, arith}
 use Rattle.std.proofs.lemmas.Bool.{and_from, and_parts, eqb-true, false_from_ne_true, leb-true, not-true, or_left, or_right, true≢false}
 use Rattle.std.proofs.lemmas.Int.{ints}
+use Rattle.std.proofs.lemmas.List.{append_cancel_left}
 use Rattle.std.proofs.lemmas.Str.{digit_value-digit_char}
 use Rattle.std.specs.Char.{digit_char, digit_value, is_ascii_digit}
 use Rattle.std.specs.Fmt.{signed_decimal}

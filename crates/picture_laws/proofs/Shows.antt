@@ -31,7 +31,7 @@ all_flat p f (x ∷ xs) each = all_append p (f x) (flat_map f xs) (each x) (all_
 -- a test that holds of all keeps all, and one that never holds with it keeps none
 kept_all : {X : Type 0} (p : X → Bool) (xs : List X) → list_all p xs ≡ true → filter p xs ≡ xs
 kept_all p [] all = refl
-kept_all p (x ∷ xs) all =
+kept_all {X = X} p (x ∷ xs) all =
     let parts = and_parts (p x) (list_all p xs) all in
     ap (λ (b : Bool). cond b (x ∷ filter p xs) (filter p xs)) parts.0 ∙ ap (λ (ys : List X). x ∷ ys) (kept_all p xs parts.1)
 
@@ -48,7 +48,7 @@ count_none : {X : Type 0} (p q : X → Bool) (xs : List X) → ((x : X) → p x 
 count_none p q [] other all = refl
 count_none p q (x ∷ xs) other all =
     let parts = and_parts (p x) (list_all p xs) all in
-    let here : cond (q x) 1 0 ≡ 0 = ap (λ (b : Bool). cond b 1 0) (other x parts.0) in
+    let here : ◌≡◌ {A = ℕ} (cond (q x) 1 0) 0 = ap (λ (b : Bool). cond {A = ℕ} b 1 0) (other x parts.0) in
     omega (arith, count_cons q x xs, here, count_none p q xs other parts.1)
 
 count_append : {X : Type 0} (q : X → Bool) (xs ys : List X) → count_by q (xs ++ ys) ≡ count_by q xs + count_by q ys
@@ -60,11 +60,11 @@ none_more (x ∷ xs) = ap (λ ys. x ∷ ys) (none_more xs)
 
 one_each : {X Y : Type 0} (p : X → Bool) (f : X → Y) (g : X → List Y) (xs : List X) → ((x : X) → g x ≡ cond (p x) (f x ∷ []) []) → flat_map g xs ≡ map f (filter p xs)
 one_each p f g [] each = refl
-one_each p f g (x ∷ xs) each = ap (λ ys. ys ++ flat_map g xs) (each x) ∙ by (p x)
+one_each p f g (x ∷ xs) each = ap (λ ys. ys ++ flat_map g xs) (each x) ∙ by (p x) (one_each p f g xs each)
   where
-    by : (b : Bool) → cond b (f x ∷ []) [] ++ flat_map g xs ≡ map f (cond b (x ∷ filter p xs) (filter p xs))
-    by true = ap (λ ys. f x ∷ ys) (one_each p f g xs each)
-    by false = one_each p f g xs each
+    by : (b : Bool) → flat_map g xs ≡ map f (filter p xs) → cond b (f x ∷ []) [] ++ flat_map g xs ≡ map f (cond b (x ∷ filter p xs) (filter p xs))
+    by true rest = ap (λ ys. f x ∷ ys) rest
+    by false rest = rest
 
 -- ---- kinds of elements
 
@@ -257,7 +257,7 @@ own_paths : (names : Names) (courses : Courses) (s n i : ℕ) (l : LineId) (orde
 own_paths names courses s n i l [] = refl
 own_paths names courses s n i l (a ∷ order) =
     let path : Element = OnSegment s a.0 (courses.path s (gauge n i)) (colour_of names a) (name_of names a) in
-    let one : cond (is_path_of s l path) 1 0 ≡ cond (a.0 == l.0) 1 0 = ap (λ (b : Bool). cond (b && a.0 == l.0) 1 0) (eq-eqb s s refl) in
+    let one : ◌≡◌ {A = ℕ} (cond (is_path_of s l path) 1 0) (cond (a.0 == l.0) 1 0) = ap (λ (b : Bool). cond {A = ℕ} (b && a.0 == l.0) 1 0) (eq-eqb s s refl) in
     omega (
       arith,
       count_cons (is_path_of s l) path (line_elements names courses s n (i + 1) order),
@@ -272,7 +272,7 @@ other_paths : (names : Names) (courses : Courses) (s t n i : ℕ) (l : LineId) (
 other_paths names courses s t n i l [] apart = refl
 other_paths names courses s t n i l (a ∷ order) apart =
     let path : Element = OnSegment t a.0 (courses.path t (gauge n i)) (colour_of names a) (name_of names a) in
-    let none : cond (is_path_of s l path) 1 0 ≡ 0 = ap (λ (b : Bool). cond (b && a.0 == l.0) 1 0) apart in
+    let none : ◌≡◌ {A = ℕ} (cond (is_path_of s l path) 1 0) 0 = ap (λ (b : Bool). cond {A = ℕ} (b && a.0 == l.0) 1 0) apart in
     omega (arith, count_cons (is_path_of s l) path (line_elements names courses t n (i + 1) order), none, other_paths names courses s t n (i + 1) l order apart)
 
 module _ (names : Names) (courses : Courses) (orders : List (List LineId)) (s : ℕ) (l : LineId) where
@@ -289,20 +289,21 @@ module _ (names : Names) (courses : Courses) (orders : List (List LineId)) (s : 
 
   paths_counted : (k n : ℕ) → k ≤ s → s < k + n → paths_from k n ≡ count_by (λ (a : LineId). a.0 == l.0) (order_at orders s)
   paths_counted k zero low high = absurd (omega (arith, low, high))
-  paths_counted k (suc n) low high = by (k == s) refl
+  paths_counted k (suc n) low high = by (k == s) refl (λ more high. paths_counted (k + 1) n more high)
     where
       whole : paths_from k (suc n) ≡ count_by (is_path_of s l) (segment_elements names courses orders k) + paths_from (k + 1) n
       whole = count_append (is_path_of s l) (segment_elements names courses orders k) (flat_map (segment_elements names courses orders) (range_with_len (k + 1) n))
 
-      by : (b : Bool) → (k == s) ≡ b → paths_from k (suc n) ≡ count_by (λ (a : LineId). a.0 == l.0) (order_at orders s)
-      by true e =
+      by : (b : Bool) → (k == s) ≡ b → (k + 1 ≤ s → s < k + 1 + n → paths_from (k + 1) n ≡ count_by (λ (a : LineId). a.0 == l.0) (order_at orders s))
+          → paths_from k (suc n) ≡ count_by (λ (a : LineId). a.0 == l.0) (order_at orders s)
+      by true e rest =
           let same : k ≡ s = eqb-true k s e in
           let here : count_by (is_path_of s l) (segment_elements names courses orders k) ≡ count_by (λ (a : LineId). a.0 == l.0) (order_at orders s) =
           ap (λ (t : ℕ). count_by (is_path_of s l) (segment_elements names courses orders t)) same ∙ own_paths names courses s (length (order_at orders s)) 0 l (order_at orders s) in
           omega (arith, whole, here, later_paths (k + 1) n (omega (arith, same)))
-      by false e =
+      by false e rest =
           let here = other_paths names courses s k (length (order_at orders k)) 0 l (order_at orders k) e in
-          omega (arith, whole, here, paths_counted (k + 1) n (above k s low e) (omega (arith, high)))
+          omega (arith, whole, here, rest (above k s low e) (omega (arith, high)))
 
 pub one_path_each : (style : Style) (names : Names) (g : GraphParts) (courses : Courses) (orders : List (List LineId)) (frame : Bounds) (labels : List Element) (s : ℕ) (l : LineId)
     → list_all is_label labels ≡ true → s < length g.ends
@@ -329,13 +330,11 @@ line_there names courses s n k (suc i) l (a ∷ order) e =
 
 flat_there : (f : ℕ → List Element) (e : Element) (s k n : ℕ) → k ≤ s → s < k + n → Contains (f s) e → Contains (flat_map f (range_with_len k n)) e
 flat_there f e s k zero low high here = absurd (omega (arith, low, high))
-flat_there f e s k (suc n) low high here = by (k == s) refl
+flat_there f e s k (suc n) low high here = by (k == s) refl (λ more high. flat_there f e s (k + 1) n more high here)
   where
-    by : (b : Bool) → (k == s) ≡ b → Contains (flat_map f (range_with_len k (suc n))) e
-    by true h = Contains-append_left (f k) (flat_map f (range_with_len (k + 1) n)) e (subst (λ (t : ℕ). Contains (f t) e) (sym (eqb-true k s h)) here)
-    by false h =
-        Contains-append_right (f k) (flat_map f (range_with_len (k + 1) n)) e
-        (flat_there f e s (k + 1) n (above k s low h) (omega (arith, high)) here)
+    by : (b : Bool) → (k == s) ≡ b → (k + 1 ≤ s → s < k + 1 + n → Contains (flat_map f (range_with_len (k + 1) n)) e) → Contains (flat_map f (range_with_len k (suc n))) e
+    by true h rest = Contains-append_left (f k) (flat_map f (range_with_len (k + 1) n)) e (subst (λ (t : ℕ). Contains (f t) e) (sym (eqb-true k s h)) here)
+    by false h rest = Contains-append_right (f k) (flat_map f (range_with_len (k + 1) n)) e (rest (above k s low h) (omega (arith, high)))
 
 pub path_there : (style : Style) (names : Names) (g : GraphParts) (courses : Courses) (orders : List (List LineId)) (frame : Bounds) (labels : List Element) (s i : ℕ) (l : LineId)
     → s < length g.ends → slice_get (order_at orders s) i ≡ Some l
@@ -348,3 +347,6 @@ path_there style names g courses orders frame labels s i l known e =
     (flat_there (segment_elements names courses orders) path s 0 (length g.ends) (omega arith) (omega (arith, known))
     (line_there names courses s (length (order_at orders s)) 0 i l (order_at orders s) e)) in
     (suc place.0, omega (arith, place.1), place.2)
+  where
+    none_before : (n : ℕ) → 0 + n ≡ n
+    none_before n = omega arith

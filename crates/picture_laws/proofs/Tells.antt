@@ -1,7 +1,8 @@
 -- The text of elements tells them.
-use Rattle.std.proofs.Common.{◌≡◌, refl, sym, ◌∙◌, ap, ap₂, subst, ℕ, ◌*◌, ◌≤◌, ◌^◌, Bool, true, false, cond, ◌==◌, ℤ, pos, ◌+ℤ◌, ◌-ℤ◌, List, [], ◌∷◌, ◌++◌, append_assoc, append_cancel_left, drop, get_or, map, codes, decimal, flat_map, arith}
+use Rattle.std.proofs.Common.{◌≡◌, refl, sym, ◌∙◌, ap, ap₂, subst, ℕ, ◌+◌, ◌*◌, ◌≤◌, ◌^◌, Bool, true, false, cond, ◌==◌, ℤ, pos, ◌+ℤ◌, ◌-ℤ◌, List, [], ◌∷◌, ◌++◌, append_assoc, drop, get_or, map, codes, decimal, flat_map, arith}
 use Rattle.std.proofs.lemmas.Bool.{eqb-true, or_right}
 use Rattle.std.proofs.lemmas.Int.{ints}
+use Rattle.std.proofs.lemmas.List.{append_cancel_left}
 use Rattle.std.specs.Fmt.{signed_decimal}
 use Rattle.std.specs.List.{AllByRecursion}
 use Rattle.line_offsets.specs.declared.corner.Corner.{Corner}
@@ -126,9 +127,7 @@ same_bounds style a b p q =
 
     from_parts : {l k r q t u b d : ℤ} → l ≡ k → r ≡ q → t ≡ u → b ≡ d
         → (let one : Bounds = record { left = l; right = r; top = t; bottom = b } in one) ≡ record { left = k; right = q; top = u; bottom = d }
-    from_parts e f g h =
-        ap₂ (λ (x y : ℤ). let one : Bounds = record { left = x; right = y; top = _; bottom = _ } in one) e f
-        ∙ ap₂ (λ (x y : ℤ). let one : Bounds = record { left = _; right = _; top = x; bottom = y } in one) g h
+    from_parts e f g h = cc
 
 head_tells : (style : Style) (a b : Bounds) (r s : List ℕ) → IsWritable style (Head a) → IsWritable style (Head b)
     → element_text style (Head a) ++ r ≡ element_text style (Head b) ++ s → Tells style (Head a) (Head b) r s
