@@ -34,30 +34,35 @@ nothing_there (suc k) x e = cc
 standing_at : (named : Named) (done other : ℕ) (before : List Edit) (ls : List (List ℕ)) (k : ℕ) (standing : List Edit)
     → slice_get (followed_from named done before ls).draws k ≡ Some standing → edits_from named other before (edits_before k ls) ≡ Ok standing
 standing_at named done other before [] k standing e = absurd (nothing_there k standing e)
-standing_at named done other before (line ∷ rest) k standing e = by (script_line_in line) refl e
+standing_at named done other before (line ∷ rest) k standing e =
+    by (script_line_in line) refl e (λ i next f. standing_at named (suc done) other next rest i standing f) (λ next f. standing_at named (suc done) (suc other) next rest k standing f)
   where
-    of_draw : (k : ℕ) → slice_get (before ∷ (followed_from named (suc done) before rest).draws) k ≡ Some standing → edits_from named other before (after_draw k rest) ≡ Ok standing
-    of_draw zero f = let same : before ≡ standing = cc in ap (λ (s : List Edit). Ok s) same
-    of_draw (suc k) f = standing_at named (suc done) other before rest k standing f
+    of_draw : (i : ℕ) → ((i : ℕ) → slice_get (followed_from named (suc done) before rest).draws i ≡ Some standing → edits_from named other before (edits_before i rest) ≡ Ok standing)
+        → slice_get (before ∷ (followed_from named (suc done) before rest).draws) i ≡ Some standing → edits_from named other before (after_draw i rest) ≡ Ok standing
+    of_draw zero behind f = let same : before ≡ standing = cc in ap (λ (s : List Edit). Ok s) same
+    of_draw (suc i) behind f = behind i f
 
     of_edit : (edit : Edit) → edit_in line ≡ Some edit → (due : Bool) → is_due named before edit ≡ due
+        → (slice_get (followed_from named (suc done) (after_edit before edit) rest).draws k ≡ Some standing → edits_from named (suc other) (after_edit before edit) (edits_before k rest) ≡ Ok standing)
         → slice_get (cond due (followed_from named (suc done) (after_edit before edit) rest) (record { draws = []; bad = Some (suc done) })).draws k ≡ Some standing
         → edits_from named other before (line ∷ edits_before k rest) ≡ Ok standing
-    of_edit edit says false is f = absurd (nothing_there k standing f)
-    of_edit edit says true is f =
+    of_edit edit says false is behind f = absurd (nothing_there k standing f)
+    of_edit edit says true is behind f =
         ap (λ (o : Option Edit). unless_bad (suc other) (after_line named before o) (λ next. edits_from named (suc other) next (edits_before k rest))) says
         ∙ ap (λ (b : Bool). unless_bad (suc other) (cond b (Some (after_edit before edit)) None) (λ next. edits_from named (suc other) next (edits_before k rest))) is
-        ∙ standing_at named (suc done) (suc other) (after_edit before edit) rest k standing f
+        ∙ behind f
 
     by : (o : Option ScriptLine) → script_line_in line ≡ o
         → slice_get (followed_by named done before o (λ next. followed_from named (suc done) next rest)).draws k ≡ Some standing
+        → ((i : ℕ) (next : List Edit) → slice_get (followed_from named (suc done) next rest).draws i ≡ Some standing → edits_from named other next (edits_before i rest) ≡ Ok standing)
+        → ((next : List Edit) → slice_get (followed_from named (suc done) next rest).draws k ≡ Some standing → edits_from named (suc other) next (edits_before k rest) ≡ Ok standing)
         → edits_from named other before (edits_before k (line ∷ rest)) ≡ Ok standing
-    by None is f = absurd (nothing_there k standing f)
-    by (Some script.Draw) is f =
-        ap (λ (o : Option ScriptLine). edits_from named other before (cond (draws o) (after_draw k rest) (line ∷ edits_before k rest))) is ∙ of_draw k f
-    by (Some (script.Edit edit)) is f =
+    by None is f drawn edited = absurd (nothing_there k standing f)
+    by (Some script.Draw) is f drawn edited =
+        ap (λ (o : Option ScriptLine). edits_from named other before (cond (draws o) (after_draw k rest) (line ∷ edits_before k rest))) is ∙ of_draw k (λ i g. drawn i before g) f
+    by (Some (script.Edit edit)) is f drawn edited =
         ap (λ (o : Option ScriptLine). edits_from named other before (cond (draws o) (after_draw k rest) (line ∷ edits_before k rest))) is
-        ∙ of_edit edit (edit_same line edit is) (is_due named before edit) refl f
+        ∙ of_edit edit (edit_same line edit is) (is_due named before edit) refl (λ g. edited (after_edit before edit) g) f
 
 pub edits_at : (feed : Feed) (text file : List ℕ) (k : ℕ) (standing : List Edit) → slice_get (followed_in feed text).draws k ≡ Some standing → lines file ≡ edits_before k (lines text)
     → edits_in feed file ≡ Ok standing
