@@ -139,7 +139,7 @@ one_place n p (d ∷ ds) s t some once ls lt e =
         of_end : (a ≡ n) ⊎ (a ≡ n → ⊥) → ⊥
         of_end (inl z) =
             let none : 0 ≡ b - n =
-            one_place n (step_from p d) ds 0 (b - n) some rest_once (omega arith) (rest_within n b (length ds) ab lb)
+            again 0 (b - n) (omega arith) (rest_within n b (length ds) ab lb)
             (along_start n (step_from p d) ds ∙ sym (step_ends n p d) ∙ ap (on_step n p d) (sym z) ∙ f) in
             absurd (omega (arith, none, ab))
         of_end (inr g) =

@@ -124,6 +124,13 @@ pub count_map : {X Y : Type 0} (p : Y → Bool) (f : X → Y) (xs : List X) → 
 count_map p f [] = refl
 count_map p f (x ∷ xs) = omega (arith, count_cons p (f x) (map f xs), count_cons (λ y. p (f y)) x xs, count_map p f xs)
 
+-- tests that are the same count as many
+pub count_same : {X : Type 0} (p q : X → Bool) (xs : List X) → ((x : X) → p x ≡ q x) → count_by p xs ≡ count_by q xs
+count_same p q [] same = refl
+count_same p q (x ∷ xs) same =
+    let one : ◌≡◌ {A = ℕ} (cond (p x) 1 0) (cond (q x) 1 0) = ap (λ (b : Bool). cond {A = ℕ} b 1 0) (same x) in
+    omega (arith, count_cons p x xs, count_cons q x xs, one, count_same p q xs same)
+
 -- what a test doesn't keep
 pub length_rest : {X : Type 0} (p : X → Bool) (xs : List X) → length (filter (λ x. not (p x)) xs) + count_by p xs ≡ length xs
 length_rest p [] = refl

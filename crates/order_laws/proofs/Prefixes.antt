@@ -14,7 +14,7 @@ use Rattle.order_model.specs.Problems.{lines_on}
 use Rattle.order_model.proofs.Lines.{same_line}
 use Rattle.order_search.specs.Finding.{incomplete_in, orders_of, prefixes_of, product}
 use Rattle.order_laws.specs.Counts.{are_complete, are_lines_of, AreCounted, AreOnce, ArePrefixes, IsIn, IsIncomplete, IsPrefix}
-use Rattle.order_laws.proofs.Once.{count_cons, count_flat, count_map, from_flat, from_kept, from_map, in_flat, in_kept, in_map, length_flat, length_rest, once_flat, once_kept, once_map}
+use Rattle.order_laws.proofs.Once.{count_cons, count_flat, count_map, count_same, from_flat, from_kept, from_map, in_flat, in_kept, in_map, length_flat, length_rest, once_flat, once_kept, once_map}
 
 -- ---- lines without repeats
 
@@ -56,7 +56,7 @@ without_length a (b ∷ lines) distinct on = by (b.0 == a.0) refl (λ later. wit
         let gone : without a lines ≡ lines = without_none a lines (ap (has_line lines) (sym (same_line b a e)) ∙ distinct.0) in
         ap (λ (t : Bool). length (cond (not t) (b ∷ without a lines) (without a lines)) + 1) e ∙ ap (λ (ls : List LineId). length ls + 1) gone ∙ omega arith
     by false e rest =
-        let later = elim (or_cases (b.0 == a.0) (has_line lines a) on) [
+        let later : has_line lines a ≡ true = elim (or_cases (b.0 == a.0) (has_line lines a) on) [
           | inl same ↦ absurd (true≢false (sym same ∙ e))
           | inr rest ↦ rest
         ] in
@@ -264,6 +264,14 @@ listed_prefix (suc (suc n)) lines placed distinct long (inr m) =
       not_last = λ last. rest.not_last (omega (arith, last, few, long));
     })
 
+-- numbers are the same where the next ones are
+same_suc : (a b : ℕ) → (suc a == suc b) ≡ (a == b)
+same_suc a b = by (a == b) refl
+  where
+    by : (t : Bool) → (a == b) ≡ t → (suc a == suc b) ≡ t
+    by true e = eq-eqb (suc a) (suc b) (ap suc (eqb-true a b e))
+    by false e = false_from_ne_true (suc a == suc b) (λ h. omega (arith, eqb-false a b e, eqb-true (suc a) (suc b) h))
+
 -- how many of them place all lines
 complete_count : (n : ℕ) (lines : List LineId) → AreDistinct lines → length lines ≡ n → count_by (λ (p : List LineId). length p == n) (prefixes n lines) ≡ orders_of n
 complete_count zero lines distinct long = refl
@@ -275,6 +283,7 @@ complete_count (suc (suc n)) lines distinct long =
     let flat : count_by (λ (p : List LineId). length p == suc (suc n)) (flat_map (begun_with n lines) lines) ≡ suc (suc n) * orders_of (suc n) =
     count_flat (λ (p : List LineId). length p == suc (suc n)) (begun_with n lines) (orders_of (suc n)) lines
     (λ a on. count_map (λ (p : List LineId). length p == suc (suc n)) (λ (p : List LineId). a ∷ p) (prefixes (suc n) (without a lines))
+    ∙ count_same (λ (p : List LineId). length (a ∷ p) == suc (suc n)) (λ (p : List LineId). length p == suc n) (prefixes (suc n) (without a lines)) (λ p. same_suc (length p) (suc n))
     ∙ complete_count (suc n) (without a lines) (without_distinct a lines distinct) (without_few n a lines distinct long on))
     ∙ ap (λ (k : ℕ). k * orders_of (suc n)) long in
     omega (arith, none, flat)
@@ -356,9 +365,11 @@ module _ (segs : List (List LineId)) (distinct : (s : SegId) → AreDistinct (li
           ≡ count_by (λ (p : List LineId). length p == length (lines_on segs s)) ps * count_by (are_complete segs part) (tuples part)
       each [] = omega arith
       each (p ∷ ps) =
-          sum_by-append (λ (lists : List (List LineId)). cond (are_complete segs (s ∷ part) lists) 1 0) (followed_by part p) (flat_map (followed_by part) ps)
+          sum_by-append (λ (lists : List (List LineId)). cond {A = ℕ} (are_complete segs (s ∷ part) lists) 1 0) (followed_by part p) (flat_map (followed_by part) ps)
           ∙ ap₂ (λ (i j : ℕ). i + j) (one p) (each ps)
-          ∙ sym (add-mul (cond (length p == length (lines_on segs s)) 1 0) (count_by (λ (q : List LineId). length q == length (lines_on segs s)) ps) (count_by (are_complete segs part) (tuples part)))
+          ∙ sym (add-mul (cond {A = ℕ} (length p == length (lines_on segs s)) 1 0) (count_by (λ (q : List LineId). length q == length (lines_on segs s)) ps)
+          (count_by (are_complete segs part) (tuples part)))
+          ∙ ap (λ (k : ℕ). k * count_by (are_complete segs part) (tuples part)) (sym (count_cons (λ (q : List LineId). length q == length (lines_on segs s)) p ps))
 
   pub counted : (part : List SegId) → AreCounted (IsIncomplete segs part) (incomplete_in segs part)
   counted part = record {

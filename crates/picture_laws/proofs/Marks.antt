@@ -11,7 +11,7 @@ is_text b = not (is_markup b)
 
 -- a byte of a character beyond ASCII is none of the marks
 high_byte : (b : ℕ) → 128 ≤ b → is_text b ≡ true
-high_byte b high = ap₂ (λ (t u : Bool). not (t || u)) (off 34 (omega arith)) (ap₂ (λ (t u : Bool). t || u) (off 60 (omega arith)) (off 62 (omega arith)))
+high_byte b high = ap₂ (λ (t u : Bool). not (t || u)) (ap₂ (λ (t u : Bool). t || u) (off 34 (omega arith)) (off 60 (omega arith))) (off 62 (omega arith))
   where
     off : (m : ℕ) → m < 128 → (b == m) ≡ false
     off m low = false_from_ne_true (b == m) (λ h. omega (arith, eqb-true b m h, high, low))
@@ -47,7 +47,7 @@ char_text c = by (c == 38) (c == 60) refl (c == 62) refl (c == 34) refl (is_allo
     by false false e false f true g allowed = refl
     by false false e false f false g true =
         text_encoded c
-        (ap₂ (λ (t u : Bool). not (t || u)) g (ap₂ (λ (t u : Bool). t || u) e f))
+        (ap₂ (λ (t u : Bool). not (t || u)) (ap₂ (λ (t u : Bool). t || u) g e) f)
     by false false e false f false g false = replaced
 
 all_append : (xs ys : List ℕ) → list_all is_text xs ≡ true → list_all is_text ys ≡ true → list_all is_text (xs ++ ys) ≡ true

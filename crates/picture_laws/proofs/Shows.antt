@@ -345,7 +345,8 @@ path_there style names g courses orders frame labels s i l known e =
     let rest : List Element = all_joins names g courses orders ++ (all_markers style g courses ++ (labels ++ Tail ∷ [])) in
     let place = Contains-append_left (all_lines names g courses orders) rest path
     (flat_there (segment_elements names courses orders) path s 0 (length g.ends) (omega arith) (omega (arith, known))
-    (line_there names courses s (length (order_at orders s)) 0 i l (order_at orders s) e)) in
+    (subst (λ (j : ℕ). Contains (segment_elements names courses orders s) (OnSegment s l.0 (courses.path s (gauge (length (order_at orders s)) j)) (colour_of names l) (name_of names l)))
+    (none_before i) (line_there names courses s (length (order_at orders s)) 0 i l (order_at orders s) e))) in
     (suc place.0, omega (arith, place.1), place.2)
   where
     none_before : (n : ℕ) → 0 + n ≡ n

@@ -154,7 +154,8 @@ segment_tells style n m k l cs ds a b x y r s p q e =
     ids_cut n m k l ((path_text cs ++ (stroke_text style a ++ title_text x)) ++ r) ((path_text ds ++ (stroke_text style b ++ title_text y)) ++ s) p.0 q.0 p.1 q.1
     (shift (ids_text n k) (path_text cs ++ (stroke_text style a ++ title_text x)) r (ids_text m l) (path_text ds ++ (stroke_text style b ++ title_text y)) s first) in
     let path =
-    path_cut cs ds _ _ p.2 q.2 (shift (path_text cs) (stroke_text style a ++ title_text x) r (path_text ds) (stroke_text style b ++ title_text y) s ids.2) in
+    path_cut cs ds ((stroke_text style a ++ title_text x) ++ r) ((stroke_text style b ++ title_text y) ++ s) p.2 q.2 refl refl
+    (shift (path_text cs) (stroke_text style a ++ title_text x) r (path_text ds) (stroke_text style b ++ title_text y) s ids.2) in
     let stroke = stroke_cut style a b (title_text x ++ r) (title_text y ++ s) p.3 q.3 (shift (stroke_text style a) (title_text x) r (stroke_text style b) (title_text y) s path.1) in
     let title = title_cut x y r s stroke.1 in
     (same ids.0 ids.1 path.0 stroke.0 title.0, title.1)
@@ -174,7 +175,8 @@ node_tells style n m k l c d u v a b r s p q e =
     ids_cut n m k l ((path_text one ++ (stroke_text style a ++ end)) ++ r) ((path_text other ++ (stroke_text style b ++ end)) ++ s) p.0 q.0 p.1 q.1
     (shift (ids_text n k) (path_text one ++ (stroke_text style a ++ end)) r (ids_text m l) (path_text other ++ (stroke_text style b ++ end)) s first) in
     let path =
-    path_cut one other _ _ (p.2, (p.3, tt)) (q.2, (q.3, tt)) (shift (path_text one) (stroke_text style a ++ end) r (path_text other) (stroke_text style b ++ end) s ids.2) in
+    path_cut one other ((stroke_text style a ++ end) ++ r) ((stroke_text style b ++ end) ++ s) (p.2, (p.3, tt)) (q.2, (q.3, tt)) refl refl
+    (shift (path_text one) (stroke_text style a ++ end) r (path_text other) (stroke_text style b ++ end) s ids.2) in
     let stroke = stroke_cut style a b (end ++ r) (end ++ s) p.4 q.4 (shift (stroke_text style a) end r (stroke_text style b) end s path.1) in
     (same ids.0 ids.1 path.0 stroke.0, append_cancel_left end r s stroke.1)
   where
