@@ -45,6 +45,9 @@ without_none a (b ∷ lines) e =
     let parts = or_parts (b.0 == a.0) (has_line lines a) e in
     ap (λ (t : Bool). cond (not t) (b ∷ without a lines) (without a lines)) parts.0 ∙ ap (λ (ls : List LineId). b ∷ ls) (without_none a lines parts.1)
 
+one_more : (m n : ℕ) → m + 1 ≡ n → suc m + 1 ≡ suc n
+one_more m n e = omega arith
+
 -- without a line there is one fewer, and all others stay
 without_length : (a : LineId) (lines : List LineId) → AreDistinct lines → has_line lines a ≡ true → length (without a lines) + 1 ≡ length lines
 without_length a [] distinct on = absurd (true≢false (sym on))
@@ -60,7 +63,7 @@ without_length a (b ∷ lines) distinct on = by (b.0 == a.0) refl (λ later. wit
           | inl same ↦ absurd (true≢false (sym same ∙ e))
           | inr rest ↦ rest
         ] in
-        ap (λ (t : Bool). length (cond (not t) (b ∷ without a lines) (without a lines)) + 1) e ∙ ap suc (rest later)
+        ap (λ (t : Bool). length (cond (not t) (b ∷ without a lines) (without a lines)) + 1) e ∙ one_more (length (without a lines)) (length lines) (rest later)
 
 without_has : (a b : LineId) (lines : List LineId) → has_line (without a lines) b ≡ has_line lines b && not (b.0 == a.0)
 without_has a b [] = refl
@@ -286,7 +289,9 @@ complete_count (suc (suc n)) lines distinct long =
     ∙ count_same (λ (p : List LineId). length (a ∷ p) == suc (suc n)) (λ (p : List LineId). length p == suc n) (prefixes (suc n) (without a lines)) (λ p. same_suc (length p) (suc n))
     ∙ complete_count (suc n) (without a lines) (without_distinct a lines distinct) (without_few n a lines distinct long on))
     ∙ ap (λ (k : ℕ). k * orders_of (suc n)) long in
-    omega (arith, none, flat)
+    let not_all : ◌≡◌ {A = ℕ} (cond (length {A = LineId} [] == suc (suc n)) 1 0) 0 =
+    ap (λ (b : Bool). cond {A = ℕ} b 1 0) (false_from_ne_true (length {A = LineId} [] == suc (suc n)) (λ h. omega (arith, eqb-true (length {A = LineId} []) (suc (suc n)) h))) in
+    omega (arith, none, flat, not_all)
 
 -- ---- the prefixes of a part
 
