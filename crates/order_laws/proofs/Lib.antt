@@ -1,3 +1,0 @@
-mod Once
-mod Prefixes
-mod Examples

@@ -1,3 +1,0 @@
-mod Draws
-mod Comes
-mod Examples
