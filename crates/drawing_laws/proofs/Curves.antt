@@ -1,5 +1,5 @@
 -- Walks of a legal drawing as curves.
-use Rattle.std.proofs.Common.{◌≡◌, ◌≢◌, refl, sym, ◌∙◌, ap, subst, ℕ, zero, suc, ◌+◌, ◌-◌, ◌*◌, ◌<◌, ◌≤◌, ◌⊎◌, inl, inr, Bool, true, false, cond, leb, ◌==◌, ◌||◌, List, [], ◌∷◌, length, slice_get, Some, arith, Contains}
+use Rattle.std.proofs.Common.{◌≡◌, ◌≢◌, refl, sym, ◌∙◌, ap, subst, ℕ, zero, suc, ◌-◌, ◌*◌, ◌<◌, ◌≤◌, ◌⊎◌, inl, inr, Bool, true, false, cond, leb, ◌==◌, ◌||◌, List, [], ◌∷◌, length, slice_get, Some, arith, Contains}
 use Rattle.std.proofs.lemmas.Bool.{and_parts, or_cases, not-true, eqb-true, le-leb, leb-true, cases_eq, cases_lt}
 use Rattle.std.proofs.Math.Nat.{mul-suc}
 use Rattle.std.specs.List.{list_all}
@@ -7,13 +7,13 @@ use Rattle.octi_grid.specs.declared.dir.Dir.{Dir}
 use Rattle.octi_grid.specs.declared.point.GridPoint.{GridPoint}
 use Rattle.octi_grid.specs.Ways.{doubled, doubled_from, step_from}
 use Rattle.octi_grid.specs.Walks.{doubled_of}
-use Rattle.octi_grid.specs.Legal.{all_apart, are_apart, are_distinct, is_clear, puts_by, puts_of, Leg, Put}
+use Rattle.octi_grid.specs.Legal.{all_apart, are_apart, are_distinct, puts_by, puts_of, Leg, Put}
 use Rattle.octi_grid.proofs.Members.{all_at, in_flat_map, In, not_in}
 use Rattle.octi_grid.proofs.LegalLemmas.{EndsFit}
 use Rattle.octi_grid.proofs.MeetsLemmas.{apart_at, distinct_not_later, distinct_rest, doubled-same, CommonEnd, MeetsFit}
 use Rattle.state_search.proofs.Tables.{Contains-cases, Contains-front, Contains-behind}
 use Rattle.walk_search.proofs.FreeWalks.{never_middle}
-use Rattle.drawing_laws.specs.Plane.{PlanePoint, along, in_parts, length_in, on_step, point_at, IsCommonEnd}
+use Rattle.drawing_laws.specs.Plane.{PlanePoint, along, in_parts, on_step, point_at, IsCommonEnd}
 use Rattle.drawing_laws.proofs.Steps.{not_inside, same_grid_point, same_middle, same_place, step_begins, step_ends}
 
 -- ---- lists

@@ -1,6 +1,5 @@
 -- Points along a way, computed.
-use Rattle.std.proofs.Common.{◌≡◌, refl, ℕ, pos, List, [], ◌∷◌}
-use Rattle.octi_grid.specs.declared.dir.Dir.{Dir}
+use Rattle.std.proofs.Common.{◌≡◌, refl, ℕ, pos, [], ◌∷◌}
 use Rattle.octi_grid.specs.declared.dir.Dir.TheVariants as dir
 use Rattle.octi_grid.specs.declared.point.GridPoint.{GridPoint}
 use Rattle.drawing_laws.specs.Plane.{PlanePoint, along}

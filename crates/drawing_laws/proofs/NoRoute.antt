@@ -1,15 +1,12 @@
 -- Where a segment has no route: the segments before it have theirs, and no walk is free for it.
-use Rattle.std.proofs.Common.{◌≡◌, ◌≢◌, refl, sym, ◌∙◌, ap, subst, ℕ, zero, suc, ◌+◌, ◌<◌, ◌≤◌, ◌⊎◌, inl, inr, Bool, true, false, cond, not, leb, List, [], ◌∷◌, ◌++◌, length, get_or, map, filter, take, slice_get, Option, Some, None, Result, Ok, Err, arith}
-use Rattle.map_base.specs.declared.ids.NodeId.{NodeId}
+use Rattle.std.proofs.Common.{◌≡◌, refl, sym, ◌∙◌, ap, subst, ℕ, zero, suc, ◌<◌, ◌≤◌, inl, inr, true, false, not, List, [], ◌∷◌, length, get_or, take, slice_get, Option, Some, None, Result, Ok, Err, arith}
 use Rattle.map_base.specs.declared.ids.SegId.{SegId}
 use Rattle.graph_core.specs.declared.parts.GraphParts.{GraphParts}
 use Rattle.graph_core.specs.Consistent.{IsConsistent}
 use Rattle.octi_grid.specs.Walks.{PlainWalk}
 use Rattle.octi_grid.specs.Legal.{legal}
 use Rattle.octi_grid.proofs.Members.{false_from, In}
-use Rattle.walk_search.specs.declared.ends.End.{End}
 use Rattle.walk_search.specs.Moves.{is_all_or_none, Question, IsQuestion}
-use Rattle.walk_search.specs.Routes.{is_free}
 use Rattle.walk_search.proofs.Best as best
 use Rattle.node_homes.specs.declared.placing.Placing.{Placing}
 use Rattle.node_homes.specs.Cells.{is_too_fine}
@@ -18,13 +15,11 @@ use Rattle.node_homes.specs.Spreads.{spread_offsets}
 use Rattle.node_homes.proofs.HomeFacts.{placing_fits}
 use Rattle.node_homes.proofs.SpreadLemmas.{spread_each}
 use Rattle.segment_router.specs.Orders.{routing_order}
-use Rattle.segment_router.specs.Routes.{after_route, begun, end_at, ends_of, is_settled, route_each, route_of, routed_after, routes_from, walks_of, with_route, Routed}
-use Rattle.segment_router.specs.Underway.{IsUnderway}
+use Rattle.segment_router.specs.Routes.{after_route, begun, end_at, ends_of, is_settled, route_each, route_of, routes_from, walks_of, with_route, Routed}
 use Rattle.segment_router.proofs.LaidLemmas.{laid_more, IsLaid}
 use Rattle.segment_router.proofs.LegalRoutes.{laid_begins, legal_routes, route_each_segment}
 use Rattle.segment_router.proofs.RoutingLemmas.{mask_read, order_place}
 use Rattle.drawing_laws.specs.Routing.{is_free_for, HasNoWalk}
-use Rattle.drawing_laws.proofs.Curves.{in_get}
 
 -- ---- one segment
 

@@ -1,9 +1,9 @@
 -- A drawing that is clear in the plane is legal: halves of steps are enough to tell.
-use Rattle.std.proofs.Common.{◌≡◌, ◌≢◌, refl, sym, ◌∙◌, ap, ap₂, subst, ℕ, zero, suc, ◌+◌, ◌-◌, ◌*◌, ◌%◌, ◌<◌, ◌≤◌, ◌⊎◌, inl, inr, Bool, true, false, ℤ, pos, ◌+ℤ◌, ◌*ℤ◌, List, [], ◌∷◌, length, map, get_or, slice_get, Some, None, is_none, arith, Contains}
+use Rattle.std.proofs.Common.{◌≡◌, ◌≢◌, refl, sym, ◌∙◌, ap, subst, ℕ, suc, ◌+◌, ◌-◌, ◌*◌, ◌%◌, ◌<◌, ◌≤◌, ◌⊎◌, inl, inr, true, false, ℤ, pos, ◌+ℤ◌, ◌*ℤ◌, List, [], ◌∷◌, length, map, get_or, slice_get, Some, is_none, arith}
 use Rattle.std.proofs.lemmas.Bool.{and_from, cases_Bool, cases_eq, eq-eqb, lt-ltb, not_from_false, or_left, or_right}
 use Rattle.std.proofs.lemmas.Int.{ints}
 use Rattle.std.proofs.Math.Nat.{mul-suc}
-use Rattle.std.specs.List.{filter_map, list_all}
+use Rattle.std.specs.List.{filter_map}
 use Rattle.graph_core.specs.declared.parts.GraphParts.{GraphParts}
 use Rattle.map_base.specs.declared.ids.SegId.{SegId}
 use Rattle.octi_grid.specs.declared.dir.Dir.{Dir}
@@ -11,15 +11,15 @@ use Rattle.octi_grid.specs.declared.point.GridPoint.{GridPoint}
 use Rattle.octi_grid.specs.Ways.{doubled, doubled_from, east_of, north_of, number_of, step_from}
 use Rattle.octi_grid.specs.Costs.{clockwise_from}
 use Rattle.octi_grid.specs.Walks.{doubled_of, PlainWalk}
-use Rattle.octi_grid.specs.Legal.{all_apart, are_apart, are_clockwise, are_distinct, are_rising, ends_hold, is_among, is_clear, is_common_end, legal, legs_of, meets_hold, port_of, ports_hold, puts_by, puts_of, Leg, Put}
-use Rattle.octi_grid.proofs.LegalLemmas.{EndsFit, ends_hold-from}
+use Rattle.octi_grid.specs.Legal.{all_apart, are_apart, are_clockwise, are_distinct, are_rising, ends_hold, is_among, is_clear, is_common_end, legal, legs_of, meets_hold, port_of, puts_by, puts_of, Leg, Put}
+use Rattle.octi_grid.proofs.LegalLemmas.{ends_hold-from}
 use Rattle.octi_grid.proofs.Members.{all_from, among_at, In}
-use Rattle.octi_grid.proofs.MeetsLemmas.{apart_from, common_from, distinct_from, meets_hold-from, MeetsFit}
+use Rattle.octi_grid.proofs.MeetsLemmas.{apart_from, common_from, distinct_from, meets_hold-from}
 use Rattle.octi_grid.proofs.PortsLemmas.{ports_each, why_ports}
 use Rattle.octi_grid.proofs.RunLemmas.{same_direction}
 use Rattle.octi_grid.proofs.WayLemmas.{same_point}
 use Rattle.walk_search.proofs.FreeWalks.{IsUnit, none, more, less, east_unit, north_unit}
-use Rattle.drawing_laws.specs.Plane.{PlanePoint, along, in_parts, on_step, point_at, ports_round, IsCommonEnd, IsPlaneDrawing}
+use Rattle.drawing_laws.specs.Plane.{PlanePoint, along, in_parts, on_step, ports_round, IsPlaneDrawing}
 use Rattle.drawing_laws.proofs.Clockwise.{below_eight}
 use Rattle.drawing_laws.proofs.Curves.{along_first, along_later, along_start, contains_in, in_contains}
 use Rattle.drawing_laws.proofs.Steps.{across_of, plane_point, step_begins, step_ends, up_of}
