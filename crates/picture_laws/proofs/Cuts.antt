@@ -1,20 +1,19 @@
 -- Texts that tell what they write, by a mark behind them.
-use Rattle.std.proofs.Common.{◌≡◌, refl, sym, ◌∙◌, ap, ap₂, ℕ, ◌+◌, ◌*◌, ◌/◌, ◌%◌, ◌<◌, ◌≤◌, ◌^◌, Bool, true, false, cond, not, ltb, ◌==◌, ◌&&◌, ◌||◌, ℤ, pos, negsuc, unsigned_abs, List, [], ◌∷◌, ◌++◌, append_assoc, suc, Some, decimal, flat_map, arith}
-use Rattle.std.proofs.lemmas.Bool.{and_from, and_parts, eqb-true, false_from_ne_true, leb-true, not-true, or_left, or_right, true≢false}
-use Rattle.std.proofs.lemmas.Int.{ints}
+use Rattle.std.proofs.Common.{◌≡◌, refl, sym, ◌∙◌, ap, ap₂, ℕ, ◌+◌, ◌/◌, ◌%◌, ◌<◌, ◌≤◌, ◌^◌, Bool, true, false, cond, not, ltb, ◌==◌, ◌||◌, ℤ, pos, negsuc, unsigned_abs, List, [], ◌∷◌, ◌++◌, append_assoc, suc, Some, decimal, flat_map, arith}
+use Rattle.std.proofs.lemmas.Bool.{and_from, and_parts, eqb-true, false_from_ne_true, leb-true, not-true, true≢false}
 use Rattle.std.proofs.lemmas.List.{append_cancel_left}
 use Rattle.std.proofs.lemmas.Str.{digit_value-digit_char}
 use Rattle.std.specs.Char.{digit_char, digit_value, is_ascii_digit}
 use Rattle.std.specs.Fmt.{signed_decimal}
-use Rattle.std.specs.List.{list_all, AllByRecursion}
+use Rattle.std.specs.List.{list_all}
 use Rattle.std.specs.Str.{all_ascii_digits}
 use Rattle.line_offsets.specs.declared.corner.Corner.{Corner}
-use Rattle.decimal_text.specs.Numbers.{most_number, number_of}
+use Rattle.decimal_text.specs.Numbers.{number_of}
 use Rattle.decimal_text.proofs.NumberLemmas.{digits_written, number_again, IsNumber}
 use Rattle.svg_writer.specs.Elements.{colour_text, hex_byte}
 use Rattle.svg_writer.specs.Escaping.{escaped}
 use Rattle.picture_laws.specs.Written.{is_markup, IsColour, IsNearCorner}
-use Rattle.picture_laws.proofs.Marks.{escaped_text, is_text}
+use Rattle.picture_laws.proofs.Marks.{escaped_text}
 
 -- a byte that ends a number: a space or `"`
 abbrev pub ends_number : ℕ → Bool

@@ -1,16 +1,15 @@
 -- The text of elements tells them.
-use Rattle.std.proofs.Common.{◌≡◌, refl, sym, ◌∙◌, ap, ap₂, subst, ℕ, ◌+◌, ◌*◌, ◌≤◌, ◌^◌, Bool, true, false, cond, ◌==◌, ℤ, pos, ◌+ℤ◌, ◌-ℤ◌, List, [], ◌∷◌, ◌++◌, append_assoc, drop, get_or, map, codes, decimal, flat_map, arith}
+use Rattle.std.proofs.Common.{◌≡◌, refl, sym, ◌∙◌, ap, ap₂, ℕ, ◌+◌, ◌*◌, ◌≤◌, ◌^◌, Bool, cond, ◌==◌, ℤ, pos, ◌+ℤ◌, ◌-ℤ◌, List, [], ◌∷◌, ◌++◌, drop, get_or, map, codes, decimal, flat_map, arith}
 use Rattle.std.proofs.lemmas.Bool.{eqb-true, or_right}
 use Rattle.std.proofs.lemmas.Int.{ints}
 use Rattle.std.proofs.lemmas.List.{append_cancel_left}
-use Rattle.std.specs.Fmt.{signed_decimal}
 use Rattle.std.specs.List.{AllByRecursion}
 use Rattle.line_offsets.specs.declared.corner.Corner.{Corner}
 use Rattle.svg_writer.specs.declared.bounds.Bounds.{Bounds}
 use Rattle.svg_writer.specs.declared.style.Style.{Style}
 use Rattle.svg_writer.specs.Elements.{Element, Head, OnSegment, AtNode, Marker, Label, Tail, centre_text, circle_text, colour_text, corner_text, element_text, ids_text, label_text, next_text, path_text, place_text, quoted, stroke_text, texts, title_text, view_place, view_size, view_text}
 use Rattle.svg_writer.specs.Escaping.{escaped}
-use Rattle.picture_laws.specs.Written.{as_written, is_markup, IsColour, IsNearCorner, IsWritable}
+use Rattle.picture_laws.specs.Written.{as_written, IsColour, IsNearCorner, IsWritable}
 use Rattle.picture_laws.proofs.Cuts.{colour_cut, corner_cut, ends_number, name_cut, natural_cut, shift, Begins}
 
 -- a text that stands in both is taken off both

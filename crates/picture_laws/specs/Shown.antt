@@ -8,7 +8,7 @@ use Rattle.graph_core.specs.declared.parts.NodeKind.TheVariants.{Station, Juncti
 use Rattle.svg_writer.specs.declared.names.Names.{Names}
 use Rattle.svg_writer.specs.declared.style.Style.{Style}
 use Rattle.svg_writer.specs.Courses.{Courses}
-use Rattle.svg_writer.specs.Elements.{Element, Head, OnSegment, AtNode, Marker, Label, Tail}
+use Rattle.svg_writer.specs.Elements.{Element, OnSegment, Marker, Label}
 use Rattle.svg_writer.specs.Picture.{beside, kind_at, radius_in, station_name}
 
 -- the element is the path of a line on a segment
