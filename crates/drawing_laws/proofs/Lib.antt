@@ -1,0 +1,7 @@
+mod Steps
+mod Curves
+mod Clockwise
+mod Legal
+mod Planar
+mod NoRoute
+mod Examples

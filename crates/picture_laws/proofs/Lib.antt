@@ -1,0 +1,4 @@
+mod Shows
+mod Marks
+mod Cuts
+mod Tells
