@@ -1,4 +1,4 @@
-//! Sessions: what refusals leave, and that later draws are those of a map made afresh.
+//! Sessions: what refused edits leave.
 
 ghost use Rattle.std.specs.Prelude.{◌≡◌, ◌<◌};
 
@@ -49,27 +49,6 @@ fn session_of_two(alloc: Global) -> Result<Session, Fail> {
 fn edit(alloc: Global, session: &mut Session, line: &str) -> Result<(), EditStop> {
     let edit = read_edit(alloc, line.as_bytes())?;
     session.edit(edit)
-}
-
-#[test]
-fn a_refused_draw_leaves_the_edits_and_later_draws(rt: HostRuntime) -> Result<(), Fail> {
-    let alloc = rt.alloc();
-    let mut session = session_of_two(alloc)?;
-    let fresh = made_text(alloc, feeds::CROSSING, WIDE)?;
-    // Refused before anything is kept, and then with what the draws before it kept.
-    for round in 0..2u32 {
-        for (line, told) in [("budget\t1", "spent 0 2"), ("cell\t10", "limit")] {
-            assert_eq!(rt; edit(alloc, &mut session, line).is_ok(), true);
-            for _ in 0..2u32 {
-                assert_eq!(rt; drawn(alloc, &mut session)?.as_str(), told, "{round}");
-                assert_eq!(rt; session.standing().len(), 1);
-            }
-            assert_eq!(rt; edit(alloc, &mut session, "undo").is_ok(), true);
-        }
-        let later = drawn(alloc, &mut session)?;
-        assert_eq!(rt; later.as_str(), fresh.as_str());
-    }
-    Ok(())
 }
 
 #[test]
