@@ -2,7 +2,7 @@
 
 ghost use Rattle.std.specs.Prelude.{◌≡◌, map, IfOk};
 ghost use Rattle.transit_feed.specs.declared.line.Line.{Line as FeedLine};
-ghost use Rattle.map_engine.specs.Tables.{importance_among, importance_by};
+ghost use Rattle.graph_maps.specs.Tables.{importance_among, importance_by};
 
 use map_base::{NoMemory, Settings, Text};
 use std::alloc::Global;

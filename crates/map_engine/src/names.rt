@@ -3,7 +3,7 @@
 ghost use Rattle.std.specs.Prelude.{◌≡◌, map, IfOk};
 ghost use Rattle.transit_feed.specs.declared.station.Station.{Station as FeedStation};
 ghost use Rattle.transit_feed.specs.declared.line.Line.{Line as FeedLine};
-ghost use Rattle.map_engine.specs.Tables.{names_by};
+ghost use Rattle.graph_maps.specs.Tables.{names_by};
 
 use map_base::{NoMemory, Sequence, Text};
 use std::alloc::Global;

@@ -1,6 +1,6 @@
 use Rattle.std.proofs.Common.{◌≡◌, drop}
-use Rattle.map_engine.specs.Tables.{importance_among}
-use Rattle.map_engine.proofs.importance.importance_among.Given as goal
+use Rattle.graph_maps.specs.Subjects.{importance_among}
+use Rattle.graph_maps.proofs.importance.importance_among.Given as goal
 
 -- what is left gives what all give
 abbrev pub invariant-loop-pair : goal.invariant-loop-pair

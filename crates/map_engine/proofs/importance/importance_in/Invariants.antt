@@ -1,7 +1,7 @@
 use Rattle.std.proofs.Common.{◌≡◌, map, take}
 use Rattle.transit_feed.specs.declared.line.Line.{Line}
-use Rattle.map_engine.specs.Tables.{importance_among}
-use Rattle.map_engine.proofs.importance.importance_in.Given as goal
+use Rattle.graph_maps.specs.Subjects.{importance_among}
+use Rattle.graph_maps.proofs.importance.importance_in.Given as goal
 
 -- the numbers so far
 abbrev pub invariant-loop-line : goal.invariant-loop-line

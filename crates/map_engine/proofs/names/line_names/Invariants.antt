@@ -1,6 +1,6 @@
 use Rattle.std.proofs.Common.{◌≡◌, map, take}
 use Rattle.transit_feed.specs.declared.line.Line.{Line}
-use Rattle.map_engine.proofs.names.line_names.Given as goal
+use Rattle.graph_maps.proofs.names.line_names.Given as goal
 
 -- the names and colours so far
 abbrev pub invariant-loop-line : goal.invariant-loop-line

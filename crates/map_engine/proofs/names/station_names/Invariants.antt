@@ -1,6 +1,6 @@
 use Rattle.std.proofs.Common.{◌≡◌, map, take}
 use Rattle.transit_feed.specs.declared.station.Station.{Station}
-use Rattle.map_engine.proofs.names.station_names.Given as goal
+use Rattle.graph_maps.proofs.names.station_names.Given as goal
 
 -- the names so far
 abbrev pub invariant-loop-station : goal.invariant-loop-station
