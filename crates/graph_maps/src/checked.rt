@@ -1,5 +1,8 @@
 //! A certificate that is accepted.
 
+use octi_grid::Drawing;
+use order_model::Orders;
+
 /// What a certificate that is accepted proves of its line orders.
 #[derive(Clone, Copy, Debug, PartialEq, Eq)]
 pub struct Proved {
@@ -9,11 +12,11 @@ pub struct Proved {
     pub bound: u64,
 }
 
-/// What is known of a certificate that is accepted, before its picture is looked at.
+/// What a certificate that is accepted holds, before a picture is made of it: a legal drawing of the line graph, line orders,
+/// and what is proved of these.
 #[derive(Debug, Drop)]
-pub struct Checked {
-    /// What it proves of its line orders.
+pub struct CheckedMap {
+    pub drawing: Drawing,
+    pub orders: Orders,
     pub proved: Proved,
-    /// The picture that is due (SVG 1.1).
-    pub svg: Vec<u8>,
 }

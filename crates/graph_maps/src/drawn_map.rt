@@ -1,15 +1,10 @@
-//! A line graph with its drawing.
+//! A line graph's drawing.
 
-use graph_core::LineGraph;
 use octi_grid::Drawing;
 
-/// A feed's line graph and its drawing.
+/// The drawing of a line graph.
 #[derive(Debug, Drop)]
 pub(crate) struct DrawnMap {
-    /// The line graph.
-    pub graph: LineGraph,
     /// The walk of each segment.
     pub drawing: Drawing,
-    /// How much each line of the feed counts.
-    pub importance: Vec<u32>,
 }

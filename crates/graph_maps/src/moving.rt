@@ -7,6 +7,7 @@ ghost use Rattle.graph_maps.specs.Stages.{IsDrawing, IsMoved};
 use crate::drawing::are_walks;
 use crate::drawn_map::DrawnMap;
 use crate::improvement::Improvement;
+use graph_core::LineGraph;
 use map_base::NoMemory;
 use octi_grid::illegal_drawings_have_a_first_walk;
 use octi_moves::improve;
@@ -15,19 +16,15 @@ use std::alloc::Global;
 /// A drawing after at most so many moves, each the first that makes it lighter, and what they made of it.
 pub(crate) fn moved(
     alloc: Global,
+    graph: &LineGraph,
     drawn: DrawnMap,
     moves: u32,
 ) -> Result<(DrawnMap, Improvement), NoMemory>
-    requires drawing { IsDrawing drawn }
+    requires drawing { IsDrawing graph.now drawn }
     requires near { are_near 1900 drawn.drawing.walks ≡ true }
-    ensures { IfOk result (IsMoved moves drawn) }
+    ensures { IfOk result (IsMoved moves graph.now drawn) }
 {
-    let DrawnMap {
-        graph,
-        drawing,
-        importance,
-    } = drawn;
-    let improved = improve(alloc, &graph, drawing, moves)?;
+    let improved = improve(alloc, graph, drawn.drawing, moves)?;
     are_walks(improved.drawing.walks.as_slice());
     illegal_drawings_have_a_first_walk();
     let improvement = Improvement {
@@ -36,9 +33,7 @@ pub(crate) fn moved(
         made: improved.made,
     };
     let moved = DrawnMap {
-        graph,
         drawing: improved.drawing,
-        importance,
     };
     Ok((moved, improvement))
 }
