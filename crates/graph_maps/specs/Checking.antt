@@ -99,14 +99,14 @@ abbrev pub unless_refused : {A : Type 0} → Option CheckItem → Result A Check
 unless_refused None next = next
 unless_refused (Some i) next = Err (fault.Refuted i)
 
--- what was found of a certificate that is accepted but for the picture: what is proved of its orders, and the picture that
--- is due
+-- what a certificate that is accepted holds: its walks, its line orders, and what is proved of these
 pub record PlainChecked : Type 0 where
+  pub walks : List PlainWalk
+  pub orders : List (List LineId)
   pub proved : Proved
-  pub svg : List ℕ
 
-abbrev pub checked_bytes : Checked → PlainChecked
-checked_bytes checked = record { proved = checked.proved; svg = checked.svg.items }
+abbrev pub checked_map : CheckedMap → PlainChecked
+checked_map checked = record { walks = checked.drawing.walks; orders = checked.orders.lists; proved = checked.proved }
 
 -- what a certificate proves: what its orders cost, and the sum of its targets, which no orders cost less than
 abbrev pub proved_by : PlainCertificate → Proved
@@ -116,37 +116,43 @@ proved_by c = record { cost = c.cost; bound = targets c.proof.parts }
 abbrev pub unless_costlier : {A : Type 0} → Claim → ProblemParts → List (List LineId) → ℕ → PlainProof → Result A CheckFault → Result A CheckFault
 unless_costlier claim p orders cost proof next = unless_refused (cost_item p orders cost) (unless_refused (proof_item claim p orders proof) next)
 
+-- what a certificate holds
+abbrev pub held_by : PlainCertificate → PlainChecked
+held_by c = record { walks = c.walks; orders = c.orders; proved = proved_by c }
+
 -- cost and proof, by the problem of the line graph
-abbrev pub checked_orders : Subject → Claim → GraphParts → PlainCertificate → Result ProblemParts Limit → Result PlainChecked CheckFault
-checked_orders subject claim graph c (Err limit) = Err (fault.Limit limit)
-checked_orders subject claim graph c (Ok p) =
-    unless_costlier claim p c.orders c.cost c.proof (Ok (record { proved = proved_by c; svg = picture_text subject.names graph c.walks c.orders }))
+abbrev pub accepted_orders : Claim → PlainCertificate → Result ProblemParts Limit → Result PlainChecked CheckFault
+accepted_orders claim c (Err limit) = Err (fault.Limit limit)
+accepted_orders claim c (Ok p) = unless_costlier claim p c.orders c.cost c.proof (Ok (held_by c))
 
 -- walks and orders; then the terms are counted
-abbrev pub checked_walks : Subject → Choices → Claim → GraphParts → PlainCertificate → Result PlainChecked CheckFault
-checked_walks subject choices claim graph c =
+abbrev pub accepted_walks : List ℕ → Choices → Claim → GraphParts → PlainCertificate → Result PlainChecked CheckFault
+accepted_walks importance choices claim graph c =
     unless_refused (walk_item graph c) (unless_refused (order_item graph c)
-    (checked_orders subject claim graph c (problem_within subject choices graph)))
+    (accepted_orders claim c (problem_within importance choices graph)))
 
 -- counts and importance come first
-abbrev pub checked_items : Subject → Choices → Claim → GraphParts → PlainCertificate → Result PlainChecked CheckFault
-checked_items subject choices claim graph c =
-    unless_refused (graph_item subject graph c) (unless_refused (importance_item subject choices graph c) (checked_walks subject choices claim graph c))
+abbrev pub accepted_items : List ℕ → Choices → Claim → GraphParts → PlainCertificate → Result PlainChecked CheckFault
+accepted_items importance choices claim graph c =
+    unless_refused (graph_item importance graph c)
+    (unless_refused (importance_item importance graph c) (accepted_walks importance choices claim graph c))
 
--- a text that is no certificate's is refused where its first wrong line begins
-abbrev pub checked_text : Subject → Choices → Claim → GraphParts → Result PlainCertificate ℕ → Result PlainChecked CheckFault
-checked_text subject choices claim graph (Err at) = Err (fault.Refuted (item.Text at))
-checked_text subject choices claim graph (Ok c) = checked_items subject choices claim graph c
+-- Every item but the picture, by what the certificate's text is read as: what the certificate holds, or the limit that is met
+-- or the item refused first. A text that is no certificate's is refused where its first wrong line begins.
+abbrev pub accepted_text : List ℕ → Choices → Claim → GraphParts → Result PlainCertificate ℕ → Result PlainChecked CheckFault
+accepted_text importance choices claim graph (Err at) = Err (fault.Refuted (item.Text at))
+accepted_text importance choices claim graph (Ok c) = accepted_items importance choices claim graph c
 
 -- last the picture
-abbrev pub pictured : List ℕ → Result PlainChecked CheckFault → Result Proved CheckFault
-pictured svg (Err stop) = Err stop
-pictured svg (Ok checked) = unless_refused (picture_item checked.svg svg) (Ok checked.proved)
+abbrev pub pictured : Names → GraphParts → List ℕ → Result PlainChecked CheckFault → Result Proved CheckFault
+pictured names graph svg (Err stop) = Err stop
+pictured names graph svg (Ok c) = unless_refused (picture_item (picture_text names graph c.walks c.orders) svg) (Ok c.proved)
 
--- what is proved of a map of a line graph that is accepted with its certificate, by what the certificate's text is read as;
--- or the limit that is met or the item refused first
+-- what is proved of a map of a line graph that is accepted with its certificate; or the limit that is met or the item that is
+-- refused first
 abbrev pub check_on : Subject → Choices → Claim → GraphParts → List ℕ → Result PlainCertificate ℕ → Result Proved CheckFault
-check_on subject choices claim graph svg read = pictured svg (checked_text subject choices claim graph read)
+check_on subject choices claim graph svg read =
+    pictured subject.names graph svg (accepted_text subject.importance choices claim graph read)
 
 -- the fault is the one that comes by definition; want of memory is free
 abbrev pub HasCause : {A : Type 0} → Result A CheckFault → CheckFault → Type 0

@@ -1,29 +1,25 @@
-//! The check of a map and its certificate.
+//! The check of a map of a line graph and its certificate.
 
-ghost use Rattle.std.specs.Prelude.{◌≡◌, length, IfOk, Ok};
+ghost use Rattle.std.specs.Prelude.{◌≡◌, ◌<◌, ◌^◌, length, IfOk, Ok};
 ghost use Rattle.graph_core.specs.Consistent.{IsConsistent};
-ghost use Rattle.line_graph.specs.Outcome.{graph_outcome};
 ghost use Rattle.order_model.specs.Costs.{cost_of, AreOrders};
+ghost use Rattle.order_terms.specs.Terms.{HaveImportance};
 ghost use Rattle.order_check.specs.Verdict.{targets};
 ghost use Rattle.order_check.specs.LowerBounds.{IsLowerBound};
 ghost use Rattle.order_proof.specs.Plain.{plain_proof};
-ghost use Rattle.graph_maps.specs.Tables.{AreOfFeed};
 ghost use Rattle.cert_file.specs.Plain.{plain as certificate_of};
 ghost use Rattle.cert_file.specs.Ranges.{IsInRange};
-ghost use Rattle.graph_maps.specs.Tables.{importance_by};
+ghost use Rattle.graph_maps.specs.Subjects.{told_by};
 ghost use Rattle.graph_maps.specs.Readings.{certificate_in};
-ghost use Rattle.graph_maps.specs.Checking.{certificate_outcome, check_outcome, checked_bytes, checked_items, checked_text, checked_walks, unless_costlier, Gives};
-ghost use Rattle.graph_maps.specs.Promises.{IsCertified, IsClaimed, ShowsCertified, ShowsLineGraph};
+ghost use Rattle.graph_maps.specs.Checking.{accepted_text, accepted_items, accepted_walks, check_on, checked_map, unless_costlier, Gives};
+ghost use Rattle.graph_maps.specs.Promises.{IsAccepted, IsCertifiedOn, IsClaimed};
 
-use crate::checked::{Checked, Proved};
+use crate::checked::{CheckedMap, Proved};
 use crate::drawn_lines::{drawn_lines, weighty_lines};
 use crate::fault::{CheckFault, CheckItem};
-use crate::importance::importance_of;
 use crate::items::{are_same_pairs, first_difference, first_disorder};
-use crate::names::names_of;
 use cert_file::{Certificate, read_certificate};
 use graph_core::LineGraph;
-use line_graph::build;
 use map_base::Settings;
 use map_method::Claim;
 use octi_grid::{Drawing, check_drawing};
@@ -32,130 +28,99 @@ use order_model::{Orders, Problem, cost_by_tables};
 use order_proof::Proof;
 use order_terms::terms_of;
 use std::alloc::Global;
-use svg_writer::picture;
-use transit_feed::Tables;
+use svg_writer::{Names, picture};
 
-/// Whether a map and its certificate show exactly the line graph of a feed, in a legal drawing and with line orders of
-/// which the certificate proves what is claimed: then it answers what they cost, and what none cost less than. The items
-/// are checked in order: the certificate's text; the counts of the line graph; the importance of lines; the walks; the
-/// orders; their cost; the proof that none cost less than the sum of its targets, and that this is their cost where best
-/// orders are claimed; last the map, byte by byte. The first item that is refused is named. Whoever made map and
-/// certificate isn't trusted.
-pub fn check(
+/// Whether a map and its certificate show exactly a line graph, in a legal drawing and with line orders of which the
+/// certificate proves what is claimed: then it answers what they cost, and what none cost less than. The items are checked
+/// in order: the certificate's text; the counts of the line graph; the importance of lines; the walks; the orders; their
+/// cost; the proof that none cost less than the sum of its targets, and that this is their cost where best orders are
+/// claimed; last the map, byte by byte. The first item that is refused is named. Whoever made map and certificate isn't
+/// trusted.
+pub fn check_on_graph(
     alloc: Global,
-    tables: &Tables,
+    graph: &LineGraph,
+    names: &Names,
+    importance: &[u32],
     settings: &Settings,
     claim: Claim,
     svg: &[u8],
     certificate: &[u8],
 ) -> Result<Proved, CheckFault>
-    ensures outcome { Gives (λ proved. proved) result (check_outcome tables.now settings.now claim svg.now (certificate_in certificate.now)) }
-    ensures certified { IfOk result (λ proved. IsCertified tables.now settings.now claim svg.now certificate.now proved) }
-    ensures shown { IfOk result (λ proved. ShowsLineGraph tables.now settings.now claim svg.now proved) }
+    requires importance { HaveImportance importance.now graph.now.lines }
+    requires few { length importance.now < 2 ^ 32 }
+    ensures outcome { Gives (λ proved. proved) result (check_on (told_by names.now importance.now) settings.now claim graph.now svg.now (certificate_in certificate.now)) }
+    ensures certified { IfOk result (λ proved. IsCertifiedOn (told_by names.now importance.now) settings.now claim graph.now svg.now certificate.now proved) }
 {
-    let checked = check_certificate(alloc, tables, settings, claim, certificate)?;
-    match first_difference(checked.svg.as_slice(), svg) {
+    let checked = checked_certificate(alloc, graph, importance, settings, claim, certificate)?;
+    let due = picture(alloc, graph, names, &checked.drawing, &checked.orders)?;
+    match first_difference(due.as_slice(), svg) {
         None => Ok(checked.proved),
         Some(at) => Err(CheckFault::Refuted(CheckItem::Picture { at: at as u64 })),
     }
 }
 
-/// The same but for the map: what the certificate proves of its line orders, and the picture that is due.
-pub fn check_certificate(
+/// The same but for the map: the drawing and the line orders of a certificate that is accepted, from which pictures are made,
+/// and what it proves.
+pub fn checked_certificate(
     alloc: Global,
-    tables: &Tables,
-    settings: &Settings,
-    claim: Claim,
-    certificate: &[u8],
-) -> Result<Checked, CheckFault>
-    ensures outcome { Gives checked_bytes result (certificate_outcome tables.now settings.now claim (certificate_in certificate.now)) }
-    ensures certified { IfOk result (λ checked. IsCertified tables.now settings.now claim checked.svg.items certificate.now checked.proved) }
-    ensures shown { IfOk result (λ checked. ShowsLineGraph tables.now settings.now claim checked.svg.items checked.proved) }
-{
-    let graph = build(alloc, tables, settings)?;
-    check_on_graph(alloc, tables, settings, claim, &graph, certificate)
-}
-
-/// The same by the line graph of the tables, where that is known.
-pub fn check_on_graph(
-    alloc: Global,
-    tables: &Tables,
-    settings: &Settings,
-    claim: Claim,
     graph: &LineGraph,
+    importance: &[u32],
+    settings: &Settings,
+    claim: Claim,
     certificate: &[u8],
-) -> Result<Checked, CheckFault>
-    requires { graph_outcome settings.now.near tables.now ≡ Ok graph.now }
-    ensures outcome { Gives checked_bytes result (checked_text tables.now settings.now claim graph.now (certificate_in certificate.now)) }
-    ensures certified { IfOk result (λ checked. IsCertified tables.now settings.now claim checked.svg.items certificate.now checked.proved) }
-    ensures shown { IfOk result (λ checked. ShowsLineGraph tables.now settings.now claim checked.svg.items checked.proved) }
+) -> Result<CheckedMap, CheckFault>
+    requires importance { HaveImportance importance.now graph.now.lines }
+    requires few { length importance.now < 2 ^ 32 }
+    ensures outcome { Gives checked_map result (accepted_text importance.now settings.now claim graph.now (certificate_in certificate.now)) }
+    ensures accepted { IfOk result (λ checked. IsAccepted importance.now settings.now claim graph.now certificate.now (checked_map checked)) }
 {
     let read = read_certificate(alloc, certificate)?;
-    check_items(alloc, tables, settings, claim, graph, read)
+    check_items(alloc, graph, importance, settings, claim, read)
 }
 
 /// The items of a certificate that was read.
 fn check_items(
     alloc: Global,
-    tables: &Tables,
+    graph: &LineGraph,
+    importance: &[u32],
     settings: &Settings,
     claim: Claim,
-    graph: &LineGraph,
     certificate: Certificate,
-) -> Result<Checked, CheckFault>
-    requires lines { AreOfFeed tables.now graph.now }
+) -> Result<CheckedMap, CheckFault>
+    requires importance { HaveImportance importance.now graph.now.lines }
+    requires few { length importance.now < 2 ^ 32 }
     requires range { IsInRange (certificate_of certificate) }
-    ensures outcome { Gives checked_bytes result (checked_items tables.now settings.now claim graph.now (certificate_of certificate)) }
-    ensures certified { IfOk result (λ checked. ShowsCertified tables.now settings.now claim graph.now (certificate_of certificate) checked.svg.items checked.proved) }
+    ensures outcome { Gives checked_map result (accepted_items importance.now settings.now claim graph.now (certificate_of certificate)) }
 {
     let nodes = graph.nodes();
-    let importance = importance_of(alloc, tables, settings)?;
-    let lines = drawn_lines(alloc, graph, line_total(tables))?;
+    let lines = drawn_lines(alloc, graph, importance.len() as u32)?;
     if certificate.nodes != nodes
         || certificate.segs != graph.segs()
         || certificate.lines as usize != lines.len()
     {
         return Err(CheckFault::Refuted(CheckItem::Graph));
     }
-    let weighty = weighty_lines(alloc, lines.as_slice(), importance.as_slice())?;
+    let weighty = weighty_lines(alloc, lines.as_slice(), importance)?;
     if !are_same_pairs(weighty.as_slice(), certificate.importance.as_slice()) {
         return Err(CheckFault::Refuted(CheckItem::Importance));
     }
-    check_walks(
-        alloc,
-        tables,
-        settings,
-        claim,
-        graph,
-        importance,
-        certificate,
-    )
-}
-
-/// How many lines a feed has.
-fn line_total(tables: &Tables) -> u32
-    ensures { result ≡ length tables.now.lines }
-{
-    tables.lines.len() as u32
+    check_walks(alloc, graph, importance, settings, claim, certificate)
 }
 
 /// The walks of a certificate, its orders, and the proof that none cost less.
 fn check_walks(
     alloc: Global,
-    tables: &Tables,
+    graph: &LineGraph,
+    importance: &[u32],
     settings: &Settings,
     claim: Claim,
-    graph: &LineGraph,
-    importance: Vec<u32>,
     certificate: Certificate,
-) -> Result<Checked, CheckFault>
+) -> Result<CheckedMap, CheckFault>
     requires fits { IsConsistent graph.now }
-    requires lines { AreOfFeed tables.now graph.now }
+    requires importance { HaveImportance importance.now graph.now.lines }
     requires range { IsInRange (certificate_of certificate) }
     requires segs { certificate.segs ≡ length graph.now.ends }
-    requires importance { importance.items ≡ importance_by tables.now settings.now }
-    ensures outcome { Gives checked_bytes result (checked_walks tables.now settings.now claim graph.now (certificate_of certificate)) }
-    ensures certified { IfOk result (λ checked. ShowsCertified tables.now settings.now claim graph.now (certificate_of certificate) checked.svg.items checked.proved) }
+    ensures outcome { Gives checked_map result (accepted_walks importance.now settings.now claim graph.now (certificate_of certificate)) }
 {
     let drawing = Drawing {
         walks: certificate.walks,
@@ -165,14 +130,13 @@ fn check_walks(
     if let Some(seg) = first_disorder(graph, orders.lists.as_slice()) {
         return Err(CheckFault::Refuted(CheckItem::Order { seg }));
     }
-    let problem = terms_of(alloc, graph, &settings.weights, importance.as_slice())?;
+    let problem = terms_of(alloc, graph, &settings.weights, importance)?;
     let cost = certificate.cost;
     let bound = check_orders(alloc, problem, &orders, claim, cost, certificate.proof)?;
-    let names = names_of(alloc, tables)?;
-    let svg = picture(alloc, graph, &names, &drawing, &orders)?;
-    Ok(Checked {
+    Ok(CheckedMap {
+        drawing,
+        orders,
         proved: Proved { cost, bound },
-        svg,
     })
 }
 
