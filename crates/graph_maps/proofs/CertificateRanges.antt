@@ -11,7 +11,6 @@ use Rattle.std.proofs.lemmas.List.Elements.{All-contains, All-from_recursion, Al
 use Rattle.map_base.specs.declared.ids.SegId.{SegId}
 use Rattle.map_base.specs.declared.ids.LineId.{LineId}
 use Rattle.map_base.specs.Settings.{Choices, IsImportance}
-use Rattle.transit_feed.specs.Feeds.{Feed}
 use Rattle.graph_core.specs.declared.parts.GraphParts.{GraphParts}
 use Rattle.graph_core.specs.Consistent.{AreRising, IsConsistent}
 use Rattle.octi_grid.specs.Walks.{IsWalk}
@@ -41,19 +40,18 @@ use Rattle.order_search.specs.Finding.{with_lists}
 use Rattle.cert_file.specs.Forms.{are_distinct, is_among}
 use Rattle.cert_file.specs.Ranges.{ArePairs, IsInRange, IsOrder}
 use Rattle.cert_file.specs.Readers.{IsTextOf}
-use Rattle.graph_maps.specs.Tables.{importance_by, AreOfFeed}
+use Rattle.graph_maps.specs.Subjects.{Subject, AreListed}
 use Rattle.graph_maps.specs.Problems.{Drawn, untangling_rules, untangled_problem}
 use Rattle.graph_maps.specs.Solving.{parts_in, SolvedPart}
 use Rattle.graph_maps.specs.Lifted.{lifted_by}
 use Rattle.graph_maps.specs.Certificates.{certificate_of, drawn_lines, is_drawn, is_weighty, line_numbered, proof_part, weighed_line}
 use Rattle.graph_maps.specs.Making.{map_of}
-use Rattle.graph_maps.specs.Promises.{IsMade}
-use Rattle.graph_maps.specs.Checking.{check_outcome, proved_by}
+use Rattle.graph_maps.specs.Promises.{IsMadeOn}
+use Rattle.graph_maps.specs.Checking.{check_on, proved_by}
 use Rattle.graph_maps.specs.declared.best_orders.BestOrders.{BestOrders}
-use Rattle.graph_maps.specs.declared.drawn_map.DrawnMap.{DrawnMap}
-use Rattle.graph_maps.specs.Stages.{drawn_of, map_by, IsShown, AreBestBy, HaveProofTrees}
+use Rattle.graph_maps.specs.Stages.{map_by, IsDrawing, IsShown, AreBestBy, HaveProofTrees}
 use Rattle.graph_maps.specs.Wholes.{IsWhole}
-use Rattle.graph_maps.proofs.ImportanceLemmas.{number_at}
+use Rattle.graph_maps.proofs.Importance.{number_at}
 use Rattle.graph_maps.proofs.MadeLemmas.{map_is}
 use Rattle.graph_maps.proofs.PartOrders.{segs_of, segs_are}
 use Rattle.graph_maps.proofs.Promised.{accepts_map, ordered, segs_same, shows_certified}
@@ -63,12 +61,12 @@ use Rattle.graph_maps.proofs.RuleRanges.{all_filtered, lines_kept, rules_range, 
 use Rattle.graph_maps.proofs.UntangledLemmas.{last_is, rules_apply, untangled_fits}
 
 -- what a limited graph, its walks, its lines and its trees are
-pub record IsLimited (feed : Feed) (choices : Choices) (drawn : Drawn) (parts : List SolvedPart) : Type 0 where
+pub record IsLimited (importance : List ℕ) (drawn : Drawn) (parts : List SolvedPart) : Type 0 where
   pub fits : IsConsistent drawn.graph
   pub walks : AllByRecursion IsWalk drawn.walks
-  pub of_feed : AreOfFeed feed drawn.graph
-  pub few_lines : length feed.lines < 2 ^ 32
-  pub importance : All (λ (p : List ℕ × ℕ). IsImportance p.1) choices.importance
+  pub listed : AreListed importance drawn.graph
+  pub few_lines : length importance < 2 ^ 32
+  pub numbers : All IsImportance importance
   pub trees : HaveProofTrees parts
 
 -- The lines that are drawn: they rise, and are no more than the lines on all segments.
@@ -175,12 +173,12 @@ orders_range (lines ∷ segs) (o ∷ orders) all are =
     let rest = orders_range segs orders all.1 are.1 in
     (ap suc rest.0, (order_range lines o all.0 are.0, rest.1))
 
-graph_lines : (feed : Feed) (graph : GraphParts) → IsConsistent graph → AreOfFeed feed graph → length feed.lines < 2 ^ 32 → (k : ℕ) (d : List LineId) → k < length graph.lines
+graph_lines : (importance : List ℕ) (graph : GraphParts) → IsConsistent graph → AreListed importance graph → length importance < 2 ^ 32 → (k : ℕ) (d : List LineId) → k < length graph.lines
     → AreLines (get_or graph.lines k d)
-graph_lines feed graph fit of_feed few k d h = record {
+graph_lines importance graph fit listed few k d h = record {
   some = (fit.lines k d h).0;
   rising = (fit.lines k d h).1;
-  range = λ i e below. omega (arith, few, of_feed k d h i e below);
+  range = λ i e below. omega (arith, few, listed k d h i e below);
 }
 
 -- The costs.
@@ -297,8 +295,8 @@ parts_range plan p fits are (s ∷ parts) rising known shown trees = (
 
 -- The whole certificate.
 
-module _ (plan : SearchPlan) (feed : Feed) (choices : Choices) (drawn : Drawn) (done : List SolvedPart)
-    (whole : IsWhole plan feed choices drawn done) (limited : IsLimited feed choices drawn done) where
+module _ (plan : SearchPlan) (subject : Subject) (choices : Choices) (drawn : Drawn) (done : List SolvedPart)
+    (whole : IsWhole plan subject.importance choices drawn done) (limited : IsLimited subject.importance drawn done) where
   abbrev p : ProblemParts
   p = drawn.problem
 
@@ -315,10 +313,10 @@ module _ (plan : SearchPlan) (feed : Feed) (choices : Choices) (drawn : Drawn) (
   still : (Q : LineId → Type 0) → All (All Q) drawn.graph.lines → All (All Q) u.segs
   still Q all =
       subst (λ (q : ProblemParts). All (All Q) q.segs) (sym (last_is p whole.fits))
-      (lines_kept Q p (untangling_rules p) whole.fits (rules_apply p whole.fits) (subst (All (All Q)) (sym (segs_same plan feed choices drawn done whole)) all))
+      (lines_kept Q p (untangling_rules p) whole.fits (rules_apply p whole.fits) (subst (All (All Q)) (sym (segs_same plan subject.importance choices drawn done whole)) all))
 
   graph_range : All (All IsLineInRange) drawn.graph.lines
-  graph_range = λ k d h. (graph_lines feed drawn.graph limited.fits limited.of_feed limited.few_lines k d h).range
+  graph_range = λ k d h. (graph_lines subject.importance drawn.graph limited.fits limited.listed limited.few_lines k d h).range
 
   segments_are : AreSegments u.segs
   segments_are = record {
@@ -326,12 +324,12 @@ module _ (plan : SearchPlan) (feed : Feed) (choices : Choices) (drawn : Drawn) (
     few = λ k d h. omega (arith, few_rising (get_or u.segs k d) known (fits.rising k d h) (still (Contains known) limited.fits.few_lines.2 k d h), limited.fits.few_lines.1);
   }
 
-  pub certificate_range : IsInRange (certificate_of feed choices drawn done)
+  pub certificate_range : IsInRange (certificate_of subject.importance drawn done)
   certificate_range =
       let fit = limited.fits in
       let ok : AreParts u.segs u.terms (parts_in u) = problem_parts_are u.segs u.terms fits.terms in
       let orders = orders_range drawn.graph.lines (lifted_by p done)
-      (recursion_from_All AreLines drawn.graph.lines (graph_lines feed drawn.graph fit limited.of_feed limited.few_lines)) (ordered plan feed choices drawn done whole) in
+      (recursion_from_All AreLines drawn.graph.lines (graph_lines subject.importance drawn.graph fit limited.listed limited.few_lines)) (ordered plan subject choices drawn done whole) in
       let each : map segs_of done ≡ parts_in u = segs_are plan u done whole.solved in
       let counted = ap length each in
       let counted_here = length-map done segs_of in
@@ -339,8 +337,8 @@ module _ (plan : SearchPlan) (feed : Feed) (choices : Choices) (drawn : Drawn) (
       record {
         nodes = fit.few_nodes;
         segs = fit.few_segments;
-        lines = few_drawn drawn.graph fit (length feed.lines);
-        importance = pairs_range (importance_by feed choices) (number_at feed choices limited.importance) (is_drawn drawn.graph) 0 (length feed.lines) 0 (omega (arith, limited.few_lines)) (omega arith);
+        lines = few_drawn drawn.graph fit (length subject.importance);
+        importance = pairs_range subject.importance (number_at subject.importance limited.numbers) (is_drawn drawn.graph) 0 (length subject.importance) 0 (omega (arith, limited.few_lines)) (omega arith);
         walks_each = whole.each;
         walks = limited.walks;
         orders_each = orders.0 ∙ fit.lines_each;
@@ -349,7 +347,7 @@ module _ (plan : SearchPlan) (feed : Feed) (choices : Choices) (drawn : Drawn) (
         proof = record {
           few_rules = omega (arith, few_rules p (untangling_rules p) whole.fits (rules_apply p whole.fits), whole.fits.few_choices);
           rules = rules_range p (untangling_rules p) whole.fits (rules_apply p whole.fits)
-              (subst (All (All IsLineInRange)) (sym (segs_same plan feed choices drawn done whole)) graph_range);
+              (subst (All (All IsLineInRange)) (sym (segs_same plan subject.importance choices drawn done whole)) graph_range);
           few_parts = omega (arith, counted, counted_here, counted_again, parts_few u.segs u.terms (parts_in u) ok, fits.few_choices);
           parts = parts_range plan u fits segments_are done
               (subst (AllByRecursion IsRisingPart) (sym each) (recursion_from_All IsRisingPart (parts_in u) ok.rising))
@@ -360,32 +358,31 @@ module _ (plan : SearchPlan) (feed : Feed) (choices : Choices) (drawn : Drawn) (
       }
 
   -- so the map keeps its promise
-  pub made_is : first_illegal drawn.graph drawn.walks ≡ None → IsMade feed choices plan.claim (map_of feed choices drawn done)
+  pub made_is : first_illegal drawn.graph drawn.walks ≡ None → IsMadeOn subject choices plan.claim drawn.graph (map_of subject drawn done)
   made_is none_illegal =
-      let c = certificate_of feed choices drawn done in
-      let bytes = (map_of feed choices drawn done).certificate in
-      let svg = (map_of feed choices drawn done).svg in
+      let c = certificate_of subject.importance drawn done in
+      let bytes = (map_of subject drawn done).certificate in
+      let svg = (map_of subject drawn done).svg in
       let written : IsTextOf c bytes = record { range = certificate_range; text = refl } in
       record {
         proved = proved_by c;
-        certified = record { certificate = c; written = written; graph = drawn.graph; of_feed = whole.of_feed; shows = shows_certified plan feed choices drawn done whole };
-        accepted = ap (check_outcome feed choices plan.claim svg) (text_read c bytes written) ∙ accepts_map plan feed choices drawn done whole none_illegal;
+        certified = record { certificate = c; written = written; shows = shows_certified plan subject choices drawn done whole };
+        accepted = ap (check_on subject choices plan.claim drawn.graph svg) (text_read c bytes written) ∙ accepts_map plan subject choices drawn done whole none_illegal;
       }
 
 -- and so does what is written of a drawing with the line orders that were found
-pub made_by : (plan : SearchPlan) (feed : Feed) (choices : Choices) (d : DrawnMap) (p : ProblemParts) (best : BestOrders) (parts : List SolvedPart)
-    → IsWhole plan feed choices (drawn_of (d, p)) parts → IsConsistent d.graph
-    → All IsWalk d.drawing.walks → first_illegal d.graph d.drawing.walks ≡ None → AreOfFeed feed d.graph → length feed.lines < 2 ^ 32
-    → All (λ (q : List ℕ × ℕ). IsImportance q.1) choices.importance → d.importance.items ≡ importance_by feed choices
-    → AreBestBy plan p parts best → IsMade feed choices plan.claim (map_by feed d best)
-made_by plan feed choices d p best parts whole fits walks none_illegal of_feed few importance numbers found =
-    let limited : IsLimited feed choices (drawn_of (d, p)) parts = record {
-      fits = fits;
-      walks = recursion_from_All IsWalk d.drawing.walks walks;
-      of_feed = of_feed;
+pub made_by : (plan : SearchPlan) (subject : Subject) (choices : Choices) (drawn : Drawn) (best : BestOrders) (parts : List SolvedPart)
+    → IsWhole plan subject.importance choices drawn parts → IsDrawing drawn.graph drawn.walks → AreListed subject.importance drawn.graph
+    → length subject.importance < 2 ^ 32 → All IsImportance subject.importance
+    → AreBestBy plan drawn.problem parts best → IsMadeOn subject choices plan.claim drawn.graph (map_by subject drawn.graph drawn.walks best)
+made_by plan subject choices drawn best parts whole drawing listed few numbers found =
+    let limited : IsLimited subject.importance drawn parts = record {
+      fits = drawing.fits;
+      walks = recursion_from_All IsWalk drawn.walks drawing.walks;
+      listed = listed;
       few_lines = few;
-      importance = importance;
+      numbers = numbers;
       trees = found.trees;
     } in
-    subst (IsMade feed choices plan.claim) (sym (map_is plan feed choices d p best parts numbers found))
-    (made_is plan feed choices (drawn_of (d, p)) parts whole limited none_illegal)
+    subst (IsMadeOn subject choices plan.claim drawn.graph) (sym (map_is plan subject drawn best parts found))
+    (made_is plan subject choices drawn parts whole limited drawing.first)

@@ -2,7 +2,6 @@
 use Rattle.std.proofs.Common.{◌≡◌, ◌∙◌, ap, sym, subst, refl, arith, ℕ, ◌+◌, ◌==◌, eq-eqb, eqb-true, Bool, true, false, cond, List, [], ◌∷◌, length, Option, Some, None, option_map, Result, Ok, Err}
 use Rattle.map_base.specs.declared.ids.LineId.{LineId}
 use Rattle.map_base.specs.Settings.{Choices}
-use Rattle.transit_feed.specs.Feeds.{Feed}
 use Rattle.graph_core.specs.declared.parts.GraphParts.{GraphParts}
 use Rattle.decimal_text.specs.declared.fault.BadText.{BadText}
 use Rattle.decimal_text.specs.declared.fault.BadText.TheVariants as bad
@@ -18,23 +17,25 @@ use Rattle.order_check.specs.Verdict.{first_item, targets, total_refusal, bound_
 use Rattle.order_proof.specs.Plain.{PlainProof}
 use Rattle.order_check.specs.LowerBounds.{IsLowerBound}
 use Rattle.cert_file.specs.declared.certificate.Certificate.{Certificate}
+use Rattle.cert_file.specs.Plain.{PlainCertificate}
 use Rattle.cert_file.specs.Reading.{certificate_end}
-use Rattle.graph_maps.specs.declared.fault.CheckItem.{CheckItem}
-use Rattle.graph_maps.specs.declared.fault.CheckItem.TheVariants as item
-use Rattle.graph_maps.specs.declared.fault.CheckFault.{CheckFault}
-use Rattle.graph_maps.specs.Faults.{proof_stop, text_stop}
+use Rattle.map_faults.specs.declared.fault.CheckItem.{CheckItem}
+use Rattle.map_faults.specs.declared.fault.CheckItem.TheVariants as item
+use Rattle.map_faults.specs.declared.fault.CheckFault.{CheckFault}
+use Rattle.map_faults.specs.Faults.{proof_stop, text_stop}
 use Rattle.graph_maps.specs.Problems.{problem_within}
 use Rattle.graph_maps.specs.Promises.{AreBounded}
 use Rattle.graph_maps.specs.Readings.{certificate_in}
-use Rattle.graph_maps.specs.Checking.{first_difference, checked_text, proof_item, unless_costlier, unless_refused, HasCause, Gives}
+use Rattle.graph_maps.specs.Checking.{first_difference, accepted_text, proof_item, unless_costlier, unless_refused, HasCause, Gives}
 use Rattle.graph_maps.proofs.ReadAgain.{wrong_read}
 use Rattle.graph_maps.proofs.MadeProblem.{problem_is}
 
 -- a text that is no certificate's is refused where reading stops
-pub text_refused : (feed : Feed) (choices : Choices) (claim : Claim) (graph : GraphParts) (bytes : List ℕ) (stop : BadText) → EndsAs (λ (c : Certificate). length bytes) (Err stop) (certificate_end bytes)
-    → HasCause (checked_text feed choices claim graph (certificate_in bytes)) (text_stop stop)
-text_refused feed choices claim graph bytes (bad.At at) h = ap (checked_text feed choices claim graph) (wrong_read bytes at h)
-text_refused feed choices claim graph bytes bad.NoMemory h = tt
+pub text_refused : {A : Type 0} (gives : PlainCertificate → A) (importance : List ℕ) (choices : Choices) (claim : Claim) (graph : GraphParts) (bytes : List ℕ) (stop : BadText)
+    → EndsAs (λ (c : Certificate). length bytes) (Err stop) (certificate_end bytes)
+    → HasCause (accepted_text gives importance choices claim graph (certificate_in bytes)) (text_stop stop)
+text_refused gives importance choices claim graph bytes (bad.At at) h = ap (accepted_text gives importance choices claim graph) (wrong_read bytes at h)
+text_refused gives importance choices claim graph bytes bad.NoMemory h = tt
 
 -- what is given of an outcome is given of an equal one
 pub gives_same : {X Y : Type 0} (view : X → Y) (result : Result X CheckFault) (a b : Result Y CheckFault) → a ≡ b → Gives view result b → Gives view result a
@@ -53,21 +54,21 @@ no_difference (x ∷ xs) (y ∷ ys) none = by (x == y) refl (first_difference xs
     by false same o rest h = absurd cc
 
 -- what is proved of line orders in the problem that was made is proved in the graph's
-pub orders_bounded : (feed : Feed) (choices : Choices) (graph : GraphParts) (p : ProblemParts) (orders : List (List LineId))
-    (cost bound : ℕ) → problem_within feed choices graph ≡ Ok p
+pub orders_bounded : (importance : List ℕ) (choices : Choices) (graph : GraphParts) (p : ProblemParts) (orders : List (List LineId))
+    (cost bound : ℕ) → problem_within importance choices graph ≡ Ok p
     → cost_of p.terms orders ≡ cost → IsLowerBound p.segs p.terms bound
-    → AreBounded feed choices graph orders (record { cost = cost; bound = bound })
-orders_bounded feed choices graph p orders cost bound made costs least =
-    let same = problem_is feed choices graph p made in
+    → AreBounded importance choices graph orders (record { cost = cost; bound = bound })
+orders_bounded importance choices graph p orders cost bound made costs least =
+    let same = problem_is importance choices graph p made in
     record {
       costs = subst (λ (q : ProblemParts). cost_of q.terms orders ≡ cost) same costs;
       bound = subst (λ (q : ProblemParts). IsLowerBound q.segs q.terms bound) same least;
     }
 
 -- orders of a graph's segments are orders of its problem's
-pub orders_fit : (feed : Feed) (choices : Choices) (graph : GraphParts) (p : ProblemParts) (orders : List (List LineId)) → problem_within feed choices graph ≡ Ok p
+pub orders_fit : (importance : List ℕ) (choices : Choices) (graph : GraphParts) (p : ProblemParts) (orders : List (List LineId)) → problem_within importance choices graph ≡ Ok p
     → AreOrders graph.lines orders → AreOrders p.segs orders
-orders_fit feed choices graph p orders made are = subst (λ (q : ProblemParts). AreOrders q.segs orders) (sym (problem_is feed choices graph p made)) are
+orders_fit importance choices graph p orders made are = subst (λ (q : ProblemParts). AreOrders q.segs orders) (sym (problem_is importance choices graph p made)) are
 
 -- Cost and proof.
 

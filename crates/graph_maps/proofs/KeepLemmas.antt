@@ -6,24 +6,20 @@ use Rattle.std.proofs.lemmas.List.{take_all}
 use Rattle.std.proofs.lemmas.List.Elements.{All-from_recursion, recursion_from_All, All-map, All-more, All-weaker, All-contains, All-contains_itself, All-nil}
 use Rattle.std.proofs.lemmas.List.Sums.{take_while-cons, sum_by-cons}
 use Rattle.map_base.specs.declared.ids.SegId.{SegId}
-use Rattle.map_base.specs.Settings.{Choices}
 use Rattle.kept_trees.specs.declared.plan.SearchPlan.{SearchPlan}
-use Rattle.map_method.specs.Methods.{MethodChoices}
-use Rattle.transit_feed.specs.Feeds.{Feed}
 use Rattle.order_model.specs.declared.problem.ProblemParts.{ProblemParts}
 use Rattle.order_search.specs.declared.found.SearchFault.{SearchFault}
 use Rattle.kept_trees.specs.Results.{PartResult, part_outcome, branches_met}
 use Rattle.kept_trees.specs.OwnTrees.{HeldPart, held_as}
 use Rattle.kept_trees.specs.Keeping.{is_held, with_part, branches_to_meet}
 use Rattle.kept_trees.proofs.HeldLists.{stays_in}
-use Rattle.graph_maps.specs.declared.drawn_map.DrawnMap.{DrawnMap}
-use Rattle.graph_maps.specs.declared.fault.MakeFault.{MakeFault}
-use Rattle.graph_maps.specs.declared.fault.MakeFault.TheVariants as fault
-use Rattle.graph_maps.specs.Problems.{drawn_outcome, untangled_problem}
+use Rattle.map_faults.specs.declared.fault.MakeFault.{MakeFault}
+use Rattle.map_faults.specs.declared.fault.MakeFault.TheVariants as fault
+use Rattle.graph_maps.specs.Problems.{Drawn, untangled_problem}
 use Rattle.graph_maps.specs.Solving.{is_found, parts_in, is_solvable, solved_first}
-use Rattle.graph_maps.specs.Making.{HasCause, plan_of}
-use Rattle.graph_maps.specs.Stages.{drawn_of, IsUnsolved}
-use Rattle.graph_maps.specs.Keeping.{finished_of, finished_in, finished_parts, HoldsFinished, missing_branches, branches_left}
+use Rattle.graph_maps.specs.Making.{HasCause}
+use Rattle.graph_maps.specs.Stages.{IsUnsolved}
+use Rattle.graph_maps.specs.Keeping.{finished_of, finished_in, HoldsFinished, missing_branches}
 
 -- what is held is held
 pub itself_held : (held : List HeldPart) → All (Contains held) held
@@ -143,24 +139,26 @@ missing_sum plan held p (part ∷ parts) = by_test (is_held held (held_as plan p
         omega (arith, left, later, here, all, sum_by-cons (branches_met plan p) part rest)
 
 -- the branch nodes that are left are those that the parts of the untangled problem have to meet
-pub left_is : (held : List HeldPart) (feed : Feed) (choices : Choices) (method : MethodChoices) (d : DrawnMap) (p : ProblemParts) → drawn_outcome feed choices method ≡ Ok (drawn_of (d, p))
-    → branches_left held feed choices method ≡ sum_by (branches_to_meet held (plan_of choices method) (untangled_problem p)) (parts_in (untangled_problem p))
-left_is held feed choices method d p drawn = ap (missing_branches held (plan_of choices method)) drawn ∙ missing_sum (plan_of choices method) held (untangled_problem p) (parts_in (untangled_problem p))
+pub left_is : (held : List HeldPart) (plan : SearchPlan) (outcome : Result Drawn MakeFault) (drawn : Drawn) → outcome ≡ Ok drawn
+    → missing_branches held plan outcome ≡ sum_by (branches_to_meet held plan (untangled_problem drawn.problem)) (parts_in (untangled_problem drawn.problem))
+left_is held plan outcome drawn is =
+    ap (missing_branches held plan) is
+    ∙ missing_sum plan held (untangled_problem drawn.problem) (parts_in (untangled_problem drawn.problem))
 
 -- what a map finishes is what its untangled problem finishes
-pub finished_is : (feed : Feed) (choices : Choices) (method : MethodChoices) (d : DrawnMap) (p : ProblemParts) → drawn_outcome feed choices method ≡ Ok (drawn_of (d, p))
-    → finished_parts feed choices method ≡ finished_of (plan_of choices method) (untangled_problem p)
-finished_is feed choices method d p drawn = ap (finished_in (plan_of choices method)) drawn
+pub finished_is : (plan : SearchPlan) (outcome : Result Drawn MakeFault) (drawn : Drawn) → outcome ≡ Ok drawn
+    → finished_in plan outcome ≡ finished_of plan (untangled_problem drawn.problem)
+finished_is plan outcome drawn is = ap (finished_in plan) is
 
 -- where there is no problem, nothing is finished
-pub nothing_finished : (X : Type 0) (feed : Feed) (choices : Choices) (method : MethodChoices) (held : List HeldPart) (e : MakeFault) → HasCause (drawn_outcome feed choices method) e
-    → HoldsFinished {X = X} (Err e) (finished_parts feed choices method) held
-nothing_finished X feed choices method held e cause = by_fault e cause
+pub nothing_finished : (X : Type 0) (plan : SearchPlan) (outcome : Result Drawn MakeFault) (held : List HeldPart) (e : MakeFault)
+    → HasCause outcome e → HoldsFinished {X = X} (Err e) (finished_in plan outcome) held
+nothing_finished X plan outcome held e cause = by_fault e cause
   where
-    none : (f : MakeFault) → drawn_outcome feed choices method ≡ Err f → All (Contains held) (finished_parts feed choices method)
-    none f h = subst (All (Contains held)) (sym (ap (finished_in (plan_of choices method)) h)) (All-nil (Contains held))
+    none : (f : MakeFault) → outcome ≡ Err f → All (Contains held) (finished_in plan outcome)
+    none f h = subst (All (Contains held)) (sym (ap (finished_in plan) h)) (All-nil (Contains held))
 
-    by_fault : (f : MakeFault) → HasCause (drawn_outcome feed choices method) f → HoldsFinished {X = X} (Err f) (finished_parts feed choices method) held
+    by_fault : (f : MakeFault) → HasCause outcome f → HoldsFinished {X = X} (Err f) (finished_in plan outcome) held
     by_fault fault.NoMemory h = tt
     by_fault (fault.NoRoute seg) h = none (fault.NoRoute seg) h
     by_fault (fault.Spent component branches) h = none (fault.Spent component branches) h

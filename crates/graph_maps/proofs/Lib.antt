@@ -3,17 +3,17 @@ mod ItemLemmas
 mod HeldOrders
 mod ReadAgain
 mod MadeProblem
-mod CheckSteps
-mod PictureSteps
+pub mod CheckSteps
+pub mod Accepted
 pub mod Shown
 mod SolveLemmas
-mod ImportanceLemmas
+mod Importance
 mod DrawingLemmas
 mod UntangledLemmas
 mod MovedDrawings
-mod MadeLemmas
-mod KeepLemmas
-mod NoneLeft
+pub mod MadeLemmas
+pub mod KeepLemmas
+pub mod NoneLeft
 mod CostParts
 mod PartOrders
 mod Accepting

@@ -7,18 +7,18 @@ use Rattle.map_base.specs.declared.ids.SegId.{SegId}
 use Rattle.map_base.specs.Settings.{Choices}
 use Rattle.kept_trees.specs.declared.plan.SearchPlan.{SearchPlan}
 use Rattle.map_method.specs.Methods.{MethodChoices}
-use Rattle.transit_feed.specs.Feeds.{Feed}
+use Rattle.graph_maps.specs.Subjects.{Subject}
 use Rattle.order_model.specs.declared.problem.ProblemParts.{ProblemParts}
 use Rattle.order_search.specs.declared.found.SearchFault.{SearchFault}
 use Rattle.kept_trees.specs.Results.{PartResult, part_outcome, branches_met}
 use Rattle.kept_trees.specs.OwnTrees.{HeldPart, held_as}
 use Rattle.kept_trees.specs.Keeping.{branches_to_meet}
 use Rattle.kept_trees.proofs.HeldLists.{in_is_held}
-use Rattle.graph_maps.specs.declared.fault.MakeFault.{MakeFault}
-use Rattle.graph_maps.specs.Problems.{Drawn, drawn_outcome, untangled_problem}
+use Rattle.map_faults.specs.declared.fault.MakeFault.{MakeFault}
+use Rattle.graph_maps.specs.Problems.{Drawn, untangled_problem}
 use Rattle.graph_maps.specs.Solving.{SolvedPart, solved, with_solved, is_found, is_solvable, solved_first, solve_from, solve_outcome, parts_in}
-use Rattle.graph_maps.specs.Making.{MapBytes, if_solved, make_outcome, plan_of, solved_map, solved_on, solved_with}
-use Rattle.graph_maps.specs.Keeping.{finished_in, finished_of, finished_parts, missing_branches, branches_left}
+use Rattle.graph_maps.specs.Making.{MapBytes, if_solved, plan_of, solved_map, solved_of, solved_with}
+use Rattle.graph_maps.specs.Keeping.{finished_in, finished_of, missing_branches}
 use Rattle.graph_maps.proofs.KeepLemmas.{missing_sum}
 
 -- where a part and those after it are solved, those after it are
@@ -60,20 +60,17 @@ none_missing plan held p done h there =
     (subst (λ (parts : List (List SegId)). All (Contains held) (map (held_as plan p) parts)) (all_taken plan p 0 (parts_in p) done h) there))
 
 -- where a map is made of a drawing, its parts are solved
-parts_solved : (feed : Feed) (choices : Choices) (moves : ℕ) (drawn : Drawn) (outcome : Result (List SolvedPart) MakeFault) (made : MapBytes)
-    → if_solved (solved_map feed choices) (solved_with moves drawn outcome) ≡ Ok made → (done : List SolvedPart) × (outcome ≡ Ok done)
-parts_solved feed choices moves drawn (Ok done) made h = (done, refl)
-parts_solved feed choices moves drawn (Err stop) made h = absurd cc
+parts_solved : (subject : Subject) (moves : ℕ) (drawn : Drawn) (outcome : Result (List SolvedPart) MakeFault) (made : MapBytes)
+    → if_solved (solved_map subject) (solved_with moves drawn outcome) ≡ Ok made → (done : List SolvedPart) × (outcome ≡ Ok done)
+parts_solved subject moves drawn (Ok done) made h = (done, refl)
+parts_solved subject moves drawn (Err stop) made h = absurd cc
 
-left_of : (feed : Feed) (choices : Choices) (method : MethodChoices) (drawn : Result Drawn MakeFault) (made : MapBytes) (held : List HeldPart)
-    → if_solved (solved_map feed choices) (solved_on choices method drawn) ≡ Ok made → All (Contains held) (finished_in (plan_of choices method) drawn) → missing_branches held (plan_of choices method) drawn ≡ 0
-left_of feed choices method (Err stop) made held h there = refl
-left_of feed choices method (Ok drawn) made held h there =
+-- where a map is made of what is drawn and each part that it finishes is held, no branch node is left
+pub none_left : (subject : Subject) (choices : Choices) (method : MethodChoices) (drawn : Result Drawn MakeFault) (made : MapBytes) (held : List HeldPart)
+    → if_solved (solved_map subject) (solved_of choices method drawn) ≡ Ok made → All (Contains held) (finished_in (plan_of choices method) drawn)
+    → missing_branches held (plan_of choices method) drawn ≡ 0
+none_left subject choices method (Err stop) made held h there = refl
+none_left subject choices method (Ok drawn) made held h there =
     let p : ProblemParts = untangled_problem drawn.problem in
-    let found = parts_solved feed choices method.moves drawn (solve_outcome (plan_of choices method) p) made h in
+    let found = parts_solved subject method.moves drawn (solve_outcome (plan_of choices method) p) made h in
     missing_sum (plan_of choices method) held p (parts_in p) ∙ none_missing (plan_of choices method) held p found.0 found.1 there
-
--- where the map of a feed is made and each part that it finishes is held, no branch node is left
-pub none_left : (feed : Feed) (choices : Choices) (method : MethodChoices) (made : MapBytes) (held : List HeldPart) → make_outcome feed choices method ≡ Ok made → All (Contains held) (finished_parts feed choices method)
-    → branches_left held feed choices method ≡ 0
-none_left feed choices method made held h there = left_of feed choices method (drawn_outcome feed choices method) made held h there

@@ -17,7 +17,7 @@ use Rattle.order_model.proofs.Shares.{ShareNone, AreApartParts, parts_apart, par
 use Rattle.order_model.proofs.KeptTerms.{plain_kept}
 use Rattle.order_model.proofs.OneParts.{problem_parts_are}
 use Rattle.order_search.specs.Finding.{with_lists}
-use Rattle.graph_maps.specs.declared.fault.MakeFault.{MakeFault}
+use Rattle.map_faults.specs.declared.fault.MakeFault.{MakeFault}
 use Rattle.order_check.specs.LowerBounds.{IsLowerBound}
 use Rattle.order_search.specs.declared.found.SearchFault.{SearchFault}
 use Rattle.kept_trees.specs.declared.plan.SearchPlan.{SearchPlan}

@@ -10,9 +10,8 @@ use Rattle.map_base.specs.declared.ids.LineId.{LineId}
 use Rattle.map_base.specs.declared.limit.Limit.{Limit}
 use Rattle.map_base.specs.Settings.{Choices}
 use Rattle.map_method.specs.Methods.{MethodChoices}
-use Rattle.transit_feed.specs.Feeds.{Feed}
+use Rattle.graph_maps.specs.Subjects.{Subject}
 use Rattle.graph_core.specs.declared.parts.GraphParts.{GraphParts}
-use Rattle.line_graph.specs.Outcome.{graph_outcome}
 use Rattle.octi_grid.specs.Legal.{first_illegal, legal}
 use Rattle.map_method.specs.declared.claim.Claim.{Claim}
 use Rattle.map_method.specs.declared.claim.Claim.TheVariants.{Best, Bound}
@@ -24,22 +23,20 @@ use Rattle.order_model.specs.Problems.{IsProblem}
 use Rattle.order_model.specs.Costs.{cost_of, AreOrders}
 use Rattle.svg_writer.specs.Picture.{picture_text}
 use Rattle.cert_file.specs.Plain.{PlainCertificate}
-use Rattle.graph_maps.specs.declared.fault.CheckItem.{CheckItem}
-use Rattle.graph_maps.specs.declared.fault.CheckItem.TheVariants as item
-use Rattle.graph_maps.specs.Tables.{names_by}
+use Rattle.map_faults.specs.declared.fault.CheckItem.{CheckItem}
+use Rattle.map_faults.specs.declared.fault.CheckItem.TheVariants as item
 use Rattle.graph_maps.specs.declared.checked.Proved.{Proved}
-use Rattle.graph_maps.specs.Problems.{Drawn, drawn_outcome, problem_of, problem_within, untangled_problem}
+use Rattle.graph_maps.specs.Problems.{Drawn, drawn_on, problem_of, problem_within, untangled_problem}
 use Rattle.graph_maps.specs.Solving.{SolvedPart, solve_outcome, parts_in, orders_by}
 use Rattle.graph_maps.specs.Lifted.{lifted_by}
 use Rattle.graph_maps.specs.Certificates.{line_count, weighty_lines, certificate_of}
 use Rattle.graph_maps.specs.Making.{map_of, plan_of}
-use Rattle.graph_maps.specs.Promises.{IsClaimed, ShowsCertified, ShowsLineGraph}
-use Rattle.graph_maps.specs.Checking.{PlainChecked, walk_refused, refused_unless, unless_refused, graph_item, importance_item, walk_item, order_item, cost_item, proof_item, are_same_pairs, is_order, first_disorder, first_difference, checked_on, checked_orders, pictured, proved_by, check_outcome}
+use Rattle.graph_maps.specs.Promises.{IsClaimed, ShowsCertified, ShowsGraph}
+use Rattle.graph_maps.specs.Checking.{PlainChecked, walk_refused, refused_unless, unless_refused, graph_item, importance_item, walk_item, order_item, cost_item, proof_item, are_same_pairs, is_order, first_disorder, first_difference, accepted_orders, pictured, proved_by, check_on}
 use Rattle.graph_maps.specs.Wholes.{IsWhole}
 use Rattle.graph_maps.specs.declared.best_orders.BestOrders.{BestOrders}
-use Rattle.graph_maps.specs.declared.drawn_map.DrawnMap.{DrawnMap}
-use Rattle.graph_maps.specs.Stages.{drawn_of, AreBestBy}
-use Rattle.graph_maps.proofs.DrawingLemmas.{graph_there, problem_there}
+use Rattle.graph_maps.specs.Stages.{AreBestBy}
+use Rattle.graph_maps.proofs.DrawingLemmas.{problem_there}
 use Rattle.graph_maps.proofs.ItemLemmas.{has_at}
 use Rattle.graph_maps.proofs.PartOrders.{segs_of, segs_are, target_sum, bound_is, cost_is}
 use Rattle.graph_maps.proofs.UntangledLemmas.{untangled_fits, lifted_are, lifted_cost, bound_kept}
@@ -88,17 +85,17 @@ none_disordered k (lines ∷ segs) (order ∷ orders) are =
 held : (holds : Bool) (i : CheckItem) → holds ≡ true → refused_unless holds i ≡ None
 held holds i h = ap (λ (b : Bool). cond b None (Some i)) h
 
-pub segs_same : (plan : SearchPlan) (feed : Feed) (choices : Choices) (drawn : Drawn) (parts : List SolvedPart)
-    → IsWhole plan feed choices drawn parts → drawn.problem.segs ≡ drawn.graph.lines
-segs_same plan feed choices drawn parts whole = ap (λ (p : ProblemParts). p.segs) whole.defined
+pub segs_same : (plan : SearchPlan) (importance : List ℕ) (choices : Choices) (drawn : Drawn) (parts : List SolvedPart)
+    → IsWhole plan importance choices drawn parts → drawn.problem.segs ≡ drawn.graph.lines
+segs_same plan importance choices drawn parts whole = ap (λ (p : ProblemParts). p.segs) whole.defined
 
 -- where best orders are claimed and cost the bound, what is claimed holds
 claimed_is : (claim : Claim) (proved : Proved) → (claim ≡ Best → proved.cost ≡ proved.bound) → IsClaimed claim proved
 claimed_is Best proved h = sym (h refl)
 claimed_is Bound proved h = tt
 
-module _ (plan : SearchPlan) (feed : Feed) (choices : Choices) (drawn : Drawn) (parts : List SolvedPart)
-    (whole : IsWhole plan feed choices drawn parts) where
+module _ (plan : SearchPlan) (subject : Subject) (choices : Choices) (drawn : Drawn) (parts : List SolvedPart)
+    (whole : IsWhole plan subject.importance choices drawn parts) where
   abbrev p : ProblemParts
   p = drawn.problem
 
@@ -110,7 +107,7 @@ module _ (plan : SearchPlan) (feed : Feed) (choices : Choices) (drawn : Drawn) (
   orders = lifted_by p parts
 
   abbrev c : PlainCertificate
-  c = certificate_of feed choices drawn parts
+  c = certificate_of subject.importance drawn parts
 
   fits : IsProblem u
   fits = untangled_fits p whole.fits
@@ -120,7 +117,7 @@ module _ (plan : SearchPlan) (feed : Feed) (choices : Choices) (drawn : Drawn) (
 
   pub ordered : AreOrders drawn.graph.lines orders
   ordered =
-      subst (λ (lists : List (List LineId)). AreOrders lists orders) (segs_same plan feed choices drawn parts whole)
+      subst (λ (lists : List (List LineId)). AreOrders lists orders) (segs_same plan subject.importance choices drawn parts whole)
       (lifted_are p whole.fits (orders_by u parts) whole.ordered)
 
   -- the bound is what the targets sum to
@@ -134,29 +131,25 @@ module _ (plan : SearchPlan) (feed : Feed) (choices : Choices) (drawn : Drawn) (
       lifted_cost p whole.fits (orders_by u parts) whole.ordered ∙ cost_is plan u fits parts segs whole.shown best
 
   -- the map shows the line graph, with the walks and the orders of its certificate
-  pub shows_certified : ShowsCertified feed choices plan.claim drawn.graph c (map_of feed choices drawn parts).svg (proved_by c)
+  pub shows_certified : ShowsCertified subject choices plan.claim drawn.graph c (map_of subject drawn parts).svg (proved_by c)
   shows_certified = record {
     shown = record { each = whole.each; legal = whole.legal; ordered = ordered; picture = refl };
     bounded = record {
       costs = ap (λ (q : ProblemParts). cost_of q.terms orders) (sym whole.defined);
-      bound = subst (λ (lists : List (List LineId)). IsLowerBound lists (problem_of feed choices drawn.graph).terms (proved_by c).bound)
-          (segs_same plan feed choices drawn parts whole)
+      bound = subst (λ (lists : List (List LineId)). IsLowerBound lists (problem_of subject.importance choices drawn.graph).terms (proved_by c).bound)
+          (segs_same plan subject.importance choices drawn parts whole)
           (subst (λ (q : ProblemParts). IsLowerBound p.segs q.terms (proved_by c).bound) whole.defined bound);
     };
     claimed = claimed_is plan.claim (proved_by c) (λ best. best_cost best ∙ sym (targets_are parts));
   }
 
-  pub shows_graph : ShowsLineGraph feed choices plan.claim (map_of feed choices drawn parts).svg (proved_by c)
+  pub shows_graph : ShowsGraph subject choices plan.claim drawn.graph (map_of subject drawn parts).svg (proved_by c)
   shows_graph = record {
-    graph = drawn.graph;
-    of_feed = whole.of_feed;
-    shows = record {
-      walks = drawn.walks;
-      orders = orders;
-      shown = shows_certified.shown;
-      bounded = shows_certified.bounded;
-      claimed = shows_certified.claimed;
-    };
+    walks = drawn.walks;
+    orders = orders;
+    shown = shows_certified.shown;
+    bounded = shows_certified.bounded;
+    claimed = shows_certified.claimed;
   }
 
   -- no item of its proof is refused
@@ -167,46 +160,45 @@ module _ (plan : SearchPlan) (feed : Feed) (choices : Choices) (drawn : Drawn) (
 
   -- and the check says yes to it
   pub accepts_map : first_illegal drawn.graph drawn.walks ≡ None
-      → check_outcome feed choices plan.claim (map_of feed choices drawn parts).svg (Ok c) ≡ Ok (proved_by c)
+      → check_on subject choices plan.claim drawn.graph (map_of subject drawn parts).svg (Ok c) ≡ Ok (proved_by c)
   accepts_map none_illegal =
       let graph : GraphParts = drawn.graph in
       let claim : Claim = plan.claim in
-      let svg : List ℕ = picture_text (names_by feed) graph drawn.walks orders in
+      let importance : List ℕ = subject.importance in
+      let svg : List ℕ = picture_text subject.names graph drawn.walks orders in
       let due : PlainChecked = record { proved = proved_by c; svg = svg } in
-      let by_terms = checked_orders feed claim graph c (problem_within feed choices graph) in
+      let by_terms = accepted_orders claim c due (problem_within importance choices graph) in
       let by_orders = unless_refused (order_item graph c) by_terms in
       let by_walks = unless_refused (walk_item graph c) by_orders in
-      let by_importance = unless_refused (importance_item feed choices graph c) by_walks in
-      let counts : graph_item feed graph c ≡ None =
-      held _ item.Graph (and_from (c.nodes == length graph.kinds && c.segs == length graph.ends) (c.lines == line_count feed graph)
+      let by_importance = unless_refused (importance_item importance graph c) by_walks in
+      let counts : graph_item importance graph c ≡ None =
+      held _ item.Graph (and_from (c.nodes == length graph.kinds && c.segs == length graph.ends) (c.lines == line_count importance graph)
       (and_from (c.nodes == length graph.kinds) (c.segs == length graph.ends) (eq-eqb c.nodes c.nodes refl) (eq-eqb c.segs c.segs refl)) (eq-eqb c.lines c.lines refl)) in
-      let pairs : importance_item feed choices graph c ≡ None = held _ item.Importance (same_pairs (weighty_lines feed choices graph)) in
+      let pairs : importance_item importance graph c ≡ None = held _ item.Importance (same_pairs (weighty_lines importance graph)) in
       let walks : walk_item graph c ≡ None = ap (option_map walk_refused) none_illegal in
       let in_order : order_item graph c ≡ None = ap (option_map item.Order) (none_disordered 0 graph.lines orders ordered) in
       let cost : cost_item p c.orders c.cost ≡ None = held _ item.Cost (eq-eqb c.cost c.cost refl) in
       let proof : proof_item claim p c.orders c.proof ≡ None = proof_holds claim refl in
-      ap (λ (r : Result GraphParts Limit). pictured svg (checked_on feed choices claim (Ok c) r)) whole.of_feed
-      ∙ ap (λ (o : Option CheckItem). pictured svg (unless_refused o by_importance)) counts
+      ap (λ (o : Option CheckItem). pictured svg (unless_refused o by_importance)) counts
       ∙ ap (λ (o : Option CheckItem). pictured svg (unless_refused o by_walks)) pairs
       ∙ ap (λ (o : Option CheckItem). pictured svg (unless_refused o by_orders)) walks
       ∙ ap (λ (o : Option CheckItem). pictured svg (unless_refused o by_terms)) in_order
-      ∙ ap (λ (r : Result ProblemParts Limit). pictured svg (checked_orders feed claim graph c r)) whole.counted
+      ∙ ap (λ (r : Result ProblemParts Limit). pictured svg (accepted_orders claim c due r)) whole.counted
       ∙ ap (λ (o : Option CheckItem). pictured svg (unless_refused o (unless_refused (proof_item claim p c.orders c.proof) (Ok due)))) cost
       ∙ ap (λ (o : Option CheckItem). pictured svg (unless_refused o (Ok due))) proof
       ∙ ap (λ (o : Option ℕ). unless_refused (option_map item.Picture o) (Ok (proved_by c))) (same_bytes svg)
 
 -- what is drawn and solved is whole
-pub whole_is : (feed : Feed) (choices : Choices) (method : MethodChoices) (d : DrawnMap) (p : ProblemParts) (best : BestOrders) (parts : List SolvedPart)
-    → drawn_outcome feed choices method ≡ Ok (drawn_of (d, p)) → length d.drawing.walks ≡ length d.graph.ends
-    → legal d.graph d.drawing.walks ≡ true → p ≡ problem_of feed choices d.graph → IsProblem p
-    → solve_outcome (plan_of choices method) (untangled_problem p) ≡ Ok parts
-    → AreBestBy (plan_of choices method) p parts best
-    → IsWhole (plan_of choices method) feed choices (drawn_of (d, p)) parts
-whole_is feed choices method d p best parts drawn each is_legal defined fits is_solved found = record {
-  of_feed = graph_there feed choices method (graph_outcome choices.near feed) (drawn_of (d, p)) drawn;
+pub whole_is : (importance : List ℕ) (choices : Choices) (method : MethodChoices) (graph : GraphParts) (drawn : Drawn) (best : BestOrders) (parts : List SolvedPart)
+    → drawn_on importance choices method graph ≡ Ok drawn → length drawn.walks ≡ length drawn.graph.ends
+    → legal drawn.graph drawn.walks ≡ true → drawn.problem ≡ problem_of importance choices drawn.graph → IsProblem drawn.problem
+    → solve_outcome (plan_of choices method) (untangled_problem drawn.problem) ≡ Ok parts
+    → AreBestBy (plan_of choices method) drawn.problem parts best
+    → IsWhole (plan_of choices method) importance choices drawn parts
+whole_is importance choices method graph drawn best parts is each is_legal defined fits is_solved found = record {
   each = each;
   legal = is_legal;
-  counted = problem_there feed choices method (graph_outcome choices.near feed) (drawn_of (d, p)) drawn;
+  counted = problem_there importance choices method graph drawn is;
   defined = defined;
   fits = fits;
   solved = is_solved;

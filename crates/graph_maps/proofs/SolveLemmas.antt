@@ -28,10 +28,10 @@ use Rattle.order_search.specs.LiveTrees.{live_tree}
 use Rattle.kept_trees.specs.declared.plan.SearchPlan.{SearchPlan}
 use Rattle.kept_trees.specs.declared.found_part.FoundPart.{FoundPart}
 use Rattle.kept_trees.specs.Results.{PartResult, by_live, is_dual, dual_part, dual_outcome, live_outcome, part_outcome, result_found, CostTarget, IsAccepted, IsResult, IsFaultOf}
-use Rattle.graph_maps.specs.declared.fault.MakeFault.{MakeFault}
-use Rattle.graph_maps.specs.declared.fault.MakeFault.TheVariants as fault
+use Rattle.map_faults.specs.declared.fault.MakeFault.{MakeFault}
+use Rattle.map_faults.specs.declared.fault.MakeFault.TheVariants as fault
 use Rattle.graph_maps.specs.declared.solution.Solution.{Solution}
-use Rattle.graph_maps.specs.Faults.{of_search}
+use Rattle.graph_maps.specs.Solving.{of_search}
 use Rattle.graph_maps.specs.Solving.{SolvedPart, solved, solved_first, with_solved, with_parts, solve_from, solve_outcome, parts_in}
 use Rattle.graph_maps.specs.Certificates.{proof_part}
 use Rattle.graph_maps.specs.Making.{HasCause}

@@ -2,8 +2,6 @@
 use Rattle.std.specs.Prelude.{ℕ, nat_lt, Bool, List, length, map, filter, slice_index_or}
 use Rattle.std.specs.List.{list_any, range_with_len}
 use Rattle.map_base.specs.declared.ids.LineId.{LineId}
-use Rattle.map_base.specs.Settings.{Choices}
-use Rattle.graph_maps.specs.Subjects.{Subject}
 use Rattle.graph_core.specs.declared.parts.GraphParts.{GraphParts}
 use Rattle.order_model.specs.declared.problem.ProblemParts.{ProblemParts}
 use Rattle.order_model.specs.Costs.{cost_of}
@@ -26,9 +24,9 @@ is_drawn graph a = list_any (λ (lines : List LineId). has_line lines a) graph.l
 abbrev pub drawn_lines : ℕ → GraphParts → List LineId
 drawn_lines count graph = filter (is_drawn graph) (map line_numbered (range_with_len 0 count))
 
--- how many lines of the subject stand on segments
-abbrev pub line_count : Subject → GraphParts → ℕ
-line_count subject graph = length (drawn_lines (length subject.importance) graph)
+-- how many lines stand on segments
+abbrev pub line_count : List ℕ → GraphParts → ℕ
+line_count importance graph = length (drawn_lines (length importance) graph)
 
 -- a line with how much it counts
 abbrev pub weighed_line : List ℕ → LineId → LineId × ℕ
@@ -39,9 +37,9 @@ abbrev pub is_weighty : LineId × ℕ → Bool
 is_weighty pair = nat_lt 1 pair.1
 
 -- the lines on segments that count more than 1, rising, each with its number
-abbrev pub weighty_lines : Subject → Choices → GraphParts → List (LineId × ℕ)
-weighty_lines subject choices graph =
-    filter is_weighty (map (weighed_line subject.importance) (drawn_lines (length subject.importance) graph))
+abbrev pub weighty_lines : List ℕ → GraphParts → List (LineId × ℕ)
+weighty_lines importance graph =
+    filter is_weighty (map (weighed_line importance) (drawn_lines (length importance) graph))
 
 -- a solved part as a proof has it
 abbrev pub proof_part : SolvedPart → PlainPart
@@ -52,12 +50,12 @@ abbrev pub proof_of : ProblemParts → List SolvedPart → PlainProof
 proof_of p parts = record { rules = untangling_rules p; parts = map proof_part parts }
 
 -- the certificate of a drawing with the solved parts of its untangled problem
-abbrev pub certificate_of : Subject → Choices → Drawn → List SolvedPart → PlainCertificate
-certificate_of subject choices drawn parts = record {
+abbrev pub certificate_of : List ℕ → Drawn → List SolvedPart → PlainCertificate
+certificate_of importance drawn parts = record {
   nodes = length drawn.graph.kinds;
   segs = length drawn.graph.ends;
-  lines = line_count subject drawn.graph;
-  importance = weighty_lines subject choices drawn.graph;
+  lines = line_count importance drawn.graph;
+  importance = weighty_lines importance drawn.graph;
   walks = drawn.walks;
   orders = lifted_by drawn.problem parts;
   cost = cost_of drawn.problem.terms (lifted_by drawn.problem parts);

@@ -9,6 +9,7 @@ use Rattle.graph_maps.specs.Subjects.{Subject}
 use Rattle.graph_core.specs.declared.parts.GraphParts.{GraphParts}
 use Rattle.octi_grid.specs.declared.drawing.DrawWhy.{DrawWhy}
 use Rattle.octi_grid.specs.Legal.{first_illegal}
+use Rattle.octi_grid.specs.Walks.{PlainWalk}
 use Rattle.order_model.specs.declared.problem.ProblemParts.{ProblemParts}
 use Rattle.order_model.specs.Costs.{cost_of}
 use Rattle.order_model.specs.Places.{has_line}
@@ -16,13 +17,15 @@ use Rattle.map_method.specs.declared.claim.Claim.{Claim}
 use Rattle.map_method.specs.declared.claim.Claim.TheVariants.{Best, Bound}
 use Rattle.order_check.specs.Verdict.{verdict, bound_refusal, targets}
 use Rattle.order_proof.specs.Plain.{PlainProof}
+use Rattle.svg_writer.specs.declared.names.Names.{Names}
 use Rattle.svg_writer.specs.Picture.{picture_text}
 use Rattle.cert_file.specs.Plain.{PlainCertificate}
-use Rattle.graph_maps.specs.declared.fault.CheckItem.{CheckItem}
-use Rattle.graph_maps.specs.declared.fault.CheckItem.TheVariants as item
-use Rattle.graph_maps.specs.declared.fault.CheckFault.{CheckFault}
-use Rattle.graph_maps.specs.declared.fault.CheckFault.TheVariants as fault
+use Rattle.map_faults.specs.declared.fault.CheckItem.{CheckItem}
+use Rattle.map_faults.specs.declared.fault.CheckItem.TheVariants as item
+use Rattle.map_faults.specs.declared.fault.CheckFault.{CheckFault}
+use Rattle.map_faults.specs.declared.fault.CheckFault.TheVariants as fault
 use Rattle.graph_maps.specs.declared.checked.Checked.{Checked}
+use Rattle.graph_maps.specs.declared.checked.CheckedMap.{CheckedMap}
 use Rattle.graph_maps.specs.declared.checked.Proved.{Proved}
 use Rattle.graph_maps.specs.Problems.{problem_within}
 use Rattle.graph_maps.specs.Certificates.{line_count, weighty_lines}
@@ -34,9 +37,9 @@ abbrev pub refused_unless : Bool → CheckItem → Option CheckItem
 refused_unless holds item = if holds then None else Some item
 
 -- the counts are those of the line graph
-abbrev pub graph_item : Subject → GraphParts → PlainCertificate → Option CheckItem
-graph_item subject graph c =
-    refused_unless (c.nodes == length graph.kinds && c.segs == length graph.ends && c.lines == line_count subject graph) item.Graph
+abbrev pub graph_item : List ℕ → GraphParts → PlainCertificate → Option CheckItem
+graph_item importance graph c =
+    refused_unless (c.nodes == length graph.kinds && c.segs == length graph.ends && c.lines == line_count importance graph) item.Graph
 
 -- the same lines with the same numbers
 abbrev pub are_same_pairs : List (LineId × ℕ) → List (LineId × ℕ) → Bool
@@ -46,8 +49,8 @@ are_same_pairs (p ∷ pairs) [] = false
 are_same_pairs (p ∷ pairs) (q ∷ others) = p.0.0 == q.0.0 && p.1 == q.1 && are_same_pairs pairs others
 
 -- the important lines are those of the line graph
-abbrev pub importance_item : Subject → Choices → GraphParts → PlainCertificate → Option CheckItem
-importance_item subject choices graph c = refused_unless (are_same_pairs (weighty_lines subject choices graph) c.importance) item.Importance
+abbrev pub importance_item : List ℕ → GraphParts → PlainCertificate → Option CheckItem
+importance_item importance graph c = refused_unless (are_same_pairs (weighty_lines importance graph) c.importance) item.Importance
 
 -- the first walk that with its predecessors is not legal
 abbrev pub walk_refused : SegId × DrawWhy → CheckItem
@@ -99,15 +102,6 @@ abbrev pub unless_refused : {A : Type 0} → Option CheckItem → Result A Check
 unless_refused None next = next
 unless_refused (Some i) next = Err (fault.Refuted i)
 
--- what a certificate that is accepted holds: its walks, its line orders, and what is proved of these
-pub record PlainChecked : Type 0 where
-  pub walks : List PlainWalk
-  pub orders : List (List LineId)
-  pub proved : Proved
-
-abbrev pub checked_map : CheckedMap → PlainChecked
-checked_map checked = record { walks = checked.drawing.walks; orders = checked.orders.lists; proved = checked.proved }
-
 -- what a certificate proves: what its orders cost, and the sum of its targets, which no orders cost less than
 abbrev pub proved_by : PlainCertificate → Proved
 proved_by c = record { cost = c.cost; bound = targets c.proof.parts }
@@ -116,43 +110,66 @@ proved_by c = record { cost = c.cost; bound = targets c.proof.parts }
 abbrev pub unless_costlier : {A : Type 0} → Claim → ProblemParts → List (List LineId) → ℕ → PlainProof → Result A CheckFault → Result A CheckFault
 unless_costlier claim p orders cost proof next = unless_refused (cost_item p orders cost) (unless_refused (proof_item claim p orders proof) next)
 
--- what a certificate holds
-abbrev pub held_by : PlainCertificate → PlainChecked
-held_by c = record { walks = c.walks; orders = c.orders; proved = proved_by c }
-
 -- cost and proof, by the problem of the line graph
-abbrev pub accepted_orders : Claim → PlainCertificate → Result ProblemParts Limit → Result PlainChecked CheckFault
-accepted_orders claim c (Err limit) = Err (fault.Limit limit)
-accepted_orders claim c (Ok p) = unless_costlier claim p c.orders c.cost c.proof (Ok (held_by c))
+abbrev pub accepted_orders : {A : Type 0} → Claim → PlainCertificate → A → Result ProblemParts Limit → Result A CheckFault
+accepted_orders claim c given (Err limit) = Err (fault.Limit limit)
+accepted_orders claim c given (Ok p) = unless_costlier claim p c.orders c.cost c.proof (Ok given)
 
 -- walks and orders; then the terms are counted
-abbrev pub accepted_walks : List ℕ → Choices → Claim → GraphParts → PlainCertificate → Result PlainChecked CheckFault
-accepted_walks importance choices claim graph c =
+abbrev pub accepted_walks : {A : Type 0} → List ℕ → Choices → Claim → GraphParts → PlainCertificate → A → Result A CheckFault
+accepted_walks importance choices claim graph c given =
     unless_refused (walk_item graph c) (unless_refused (order_item graph c)
-    (accepted_orders claim c (problem_within importance choices graph)))
+    (accepted_orders claim c given (problem_within importance choices graph)))
 
 -- counts and importance come first
-abbrev pub accepted_items : List ℕ → Choices → Claim → GraphParts → PlainCertificate → Result PlainChecked CheckFault
-accepted_items importance choices claim graph c =
+abbrev pub accepted_items : {A : Type 0} → List ℕ → Choices → Claim → GraphParts → PlainCertificate → A → Result A CheckFault
+accepted_items importance choices claim graph c given =
     unless_refused (graph_item importance graph c)
-    (unless_refused (importance_item importance graph c) (accepted_walks importance choices claim graph c))
+    (unless_refused (importance_item importance graph c) (accepted_walks importance choices claim graph c given))
 
--- Every item but the picture, by what the certificate's text is read as: what the certificate holds, or the limit that is met
--- or the item refused first. A text that is no certificate's is refused where its first wrong line begins.
-abbrev pub accepted_text : List ℕ → Choices → Claim → GraphParts → Result PlainCertificate ℕ → Result PlainChecked CheckFault
-accepted_text importance choices claim graph (Err at) = Err (fault.Refuted (item.Text at))
-accepted_text importance choices claim graph (Ok c) = accepted_items importance choices claim graph c
+-- What is given of a certificate where each of its items is accepted, by what its text is read as; or the limit that is met
+-- or the item that is refused first. A text that is no certificate's is refused where its first wrong line begins.
+abbrev pub accepted_text : {A : Type 0} → (PlainCertificate → A) → List ℕ → Choices → Claim → GraphParts → Result PlainCertificate ℕ → Result A CheckFault
+accepted_text gives importance choices claim graph (Err at) = Err (fault.Refuted (item.Text at))
+accepted_text gives importance choices claim graph (Ok c) = accepted_items importance choices claim graph c (gives c)
+
+-- what a certificate that is accepted holds: its walks, its line orders, and what is proved of these
+pub record AcceptedMap : Type 0 where
+  pub walks : List PlainWalk
+  pub orders : List (List LineId)
+  pub proved : Proved
+
+abbrev pub accepted_map : CheckedMap → AcceptedMap
+accepted_map checked = record { walks = checked.drawing.walks; orders = checked.orders.lists; proved = checked.proved }
+
+abbrev pub held_by : PlainCertificate → AcceptedMap
+held_by c = record { walks = c.walks; orders = c.orders; proved = proved_by c }
+
+-- what is found of a certificate that is accepted: what is proved of its orders, and the picture that is due
+pub record PlainChecked : Type 0 where
+  pub proved : Proved
+  pub svg : List ℕ
+
+abbrev pub checked_bytes : Checked → PlainChecked
+checked_bytes checked = record { proved = checked.proved; svg = checked.svg.items }
+
+abbrev pub due_of : Names → GraphParts → AcceptedMap → PlainChecked
+due_of names graph a = record { proved = a.proved; svg = picture_text names graph a.walks a.orders }
+
+-- every item but the picture
+abbrev pub certificate_on : Subject → Choices → Claim → GraphParts → Result PlainCertificate ℕ → Result PlainChecked CheckFault
+certificate_on subject choices claim graph read =
+    accepted_text (λ c. due_of subject.names graph (held_by c)) subject.importance choices claim graph read
 
 -- last the picture
-abbrev pub pictured : Names → GraphParts → List ℕ → Result PlainChecked CheckFault → Result Proved CheckFault
-pictured names graph svg (Err stop) = Err stop
-pictured names graph svg (Ok c) = unless_refused (picture_item (picture_text names graph c.walks c.orders) svg) (Ok c.proved)
+abbrev pub pictured : List ℕ → Result PlainChecked CheckFault → Result Proved CheckFault
+pictured svg (Err stop) = Err stop
+pictured svg (Ok checked) = unless_refused (picture_item checked.svg svg) (Ok checked.proved)
 
 -- what is proved of a map of a line graph that is accepted with its certificate; or the limit that is met or the item that is
 -- refused first
 abbrev pub check_on : Subject → Choices → Claim → GraphParts → List ℕ → Result PlainCertificate ℕ → Result Proved CheckFault
-check_on subject choices claim graph svg read =
-    pictured subject.names graph svg (accepted_text subject.importance choices claim graph read)
+check_on subject choices claim graph svg read = pictured svg (certificate_on subject choices claim graph read)
 
 -- the fault is the one that comes by definition; want of memory is free
 abbrev pub HasCause : {A : Type 0} → Result A CheckFault → CheckFault → Type 0

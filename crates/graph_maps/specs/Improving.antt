@@ -5,7 +5,7 @@ use Rattle.map_method.specs.Methods.{MethodChoices}
 use Rattle.graph_core.specs.declared.parts.GraphParts.{GraphParts}
 use Rattle.graph_maps.specs.Subjects.{Subject}
 use Rattle.octi_moves.specs.Moves.{next_of}
-use Rattle.graph_maps.specs.declared.fault.MakeFault.{MakeFault}
+use Rattle.map_faults.specs.declared.fault.MakeFault.{MakeFault}
 use Rattle.graph_maps.specs.declared.improvement.Improvement.{Improvement}
 use Rattle.graph_maps.specs.declared.improvement.ImprovedMap.{ImprovedMap}
 use Rattle.graph_maps.specs.Problems.{Drawn}
@@ -19,15 +19,15 @@ pub record ImprovedBytes : Type 0 where
   pub improvement : Improvement
 
 -- a drawing with its line orders after at most so many moves more: the orders stay, and so does their proof
-abbrev pub improved_map : Subject → Choices → ℕ → SolvedMap → ImprovedBytes
-improved_map subject choices moves solved = record {
-  map = map_of subject choices (after_moves moves solved.drawn) solved.parts;
+abbrev pub improved_map : Subject → ℕ → SolvedMap → ImprovedBytes
+improved_map subject moves solved = record {
+  map = map_of subject (after_moves moves solved.drawn) solved.parts;
   improvement = improvement_of moves solved.drawn.graph solved.drawn.walks;
 }
 
 -- The map of a line graph, its drawing after at most so many moves more; or the cause why there is no map.
 abbrev pub improved_on : Subject → Choices → MethodChoices → ℕ → GraphParts → Result ImprovedBytes MakeFault
-improved_on subject choices method moves graph = if_solved (improved_map subject choices moves) (solved_on subject choices method graph)
+improved_on subject choices method moves graph = if_solved (improved_map subject moves) (solved_on subject.importance choices method graph)
 
 -- the bytes of what was improved
 abbrev pub improved_bytes : ImprovedMap → ImprovedBytes
@@ -44,5 +44,5 @@ pub record IsImprovedOn (subject : Subject) (choices : Choices) (method : Method
   pub made : IsMadeOn subject choices method.claim graph improved.map
   pub no_heavier : improved.improvement.after ≤ improved.improvement.before
   pub solved : SolvedMap
-  pub of_graph : solved_on subject choices method graph ≡ Ok solved
+  pub of_graph : solved_on subject.importance choices method graph ≡ Ok solved
   pub to_the_end : IsAtTheEnd moves solved.drawn improved.improvement.made

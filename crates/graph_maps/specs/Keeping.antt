@@ -5,14 +5,13 @@ use Rattle.map_base.specs.declared.ids.SegId.{SegId}
 use Rattle.map_base.specs.Settings.{Choices}
 use Rattle.map_method.specs.Methods.{MethodChoices}
 use Rattle.graph_core.specs.declared.parts.GraphParts.{GraphParts}
-use Rattle.graph_maps.specs.Subjects.{Subject}
 use Rattle.order_model.specs.declared.problem.ProblemParts.{ProblemParts}
 use Rattle.kept_trees.specs.declared.plan.SearchPlan.{SearchPlan}
 use Rattle.kept_trees.specs.Results.{branches_met}
 use Rattle.kept_trees.specs.OwnTrees.{HeldPart, held_as}
 use Rattle.kept_trees.specs.Keeping.{is_held}
-use Rattle.graph_maps.specs.declared.fault.MakeFault.{MakeFault}
-use Rattle.graph_maps.specs.declared.fault.MakeFault.TheVariants as fault
+use Rattle.map_faults.specs.declared.fault.MakeFault.{MakeFault}
+use Rattle.map_faults.specs.declared.fault.MakeFault.TheVariants as fault
 use Rattle.graph_maps.specs.Problems.{Drawn, drawn_on, untangled_problem}
 use Rattle.graph_maps.specs.Solving.{parts_in, is_solvable}
 use Rattle.graph_maps.specs.Making.{plan_of}
@@ -27,8 +26,8 @@ abbrev pub finished_in : SearchPlan → Result Drawn MakeFault → List HeldPart
 finished_in plan (Err stop) = []
 finished_in plan (Ok drawn) = finished_of plan (untangled_problem drawn.problem)
 
-abbrev pub finished_on : Subject → Choices → MethodChoices → GraphParts → List HeldPart
-finished_on subject choices method graph = finished_in (plan_of choices method) (drawn_on subject choices method graph)
+abbrev pub finished_on : List ℕ → Choices → MethodChoices → GraphParts → List HeldPart
+finished_on importance choices method graph = finished_in (plan_of choices method) (drawn_on importance choices method graph)
 
 -- every part that the map finishes is held afterwards, unless memory ran out
 abbrev pub HoldsFinished : {X : Type 0} → Result X MakeFault → List HeldPart → List HeldPart → Type 0
@@ -48,5 +47,5 @@ missing_branches held plan (Err stop) = 0
 missing_branches held plan (Ok drawn) = let p = untangled_problem drawn.problem in sum_by (branches_met plan p) (parts_missing held plan p)
 
 -- how many branch nodes the searches of those parts of a line graph's untangled problem meet that are not held
-abbrev pub left_on : List HeldPart → Subject → Choices → MethodChoices → GraphParts → ℕ
-left_on held subject choices method graph = missing_branches held (plan_of choices method) (drawn_on subject choices method graph)
+abbrev pub left_on : List HeldPart → List ℕ → Choices → MethodChoices → GraphParts → ℕ
+left_on held importance choices method graph = missing_branches held (plan_of choices method) (drawn_on importance choices method graph)

@@ -1,5 +1,4 @@
 pub mod Subjects
-pub mod Faults
 pub mod Problems
 pub mod Solving
 pub mod Lifted
@@ -16,4 +15,3 @@ pub mod Promises
 pub mod Improving
 pub mod Wholes
 pub mod Labelling
-pub mod Geographic

@@ -7,8 +7,8 @@ use Rattle.graph_maps.specs.Subjects.{Subject}
 use Rattle.kept_trees.specs.declared.plan.SearchPlan.{SearchPlan}
 use Rattle.svg_writer.specs.Picture.{picture_text}
 use Rattle.cert_file.specs.Text.{certificate_text}
-use Rattle.graph_maps.specs.declared.fault.MakeFault.{MakeFault}
-use Rattle.graph_maps.specs.declared.fault.MakeFault.TheVariants as fault
+use Rattle.map_faults.specs.declared.fault.MakeFault.{MakeFault}
+use Rattle.map_faults.specs.declared.fault.MakeFault.TheVariants as fault
 use Rattle.graph_maps.specs.declared.made.Made.{Made}
 use Rattle.graph_maps.specs.Problems.{Drawn, drawn_on, untangled_problem}
 use Rattle.graph_maps.specs.Moving.{after_moves}
@@ -22,10 +22,10 @@ pub record MapBytes : Type 0 where
   pub certificate : List ℕ
 
 -- the map and the certificate of a drawing with the solved parts of its untangled problem
-abbrev pub map_of : Subject → Choices → Drawn → List SolvedPart → MapBytes
-map_of subject choices drawn parts = record {
+abbrev pub map_of : Subject → Drawn → List SolvedPart → MapBytes
+map_of subject drawn parts = record {
   svg = picture_text subject.names drawn.graph drawn.walks (lifted_by drawn.problem parts);
-  certificate = certificate_text (certificate_of subject choices drawn parts);
+  certificate = certificate_text (certificate_of subject.importance drawn parts);
 }
 
 -- how the orders of parts are searched for
@@ -42,6 +42,7 @@ abbrev pub solved_with : ℕ → Drawn → Result (List SolvedPart) MakeFault �
 solved_with moves drawn (Ok parts) = Ok (record { drawn = after_moves moves drawn; parts = parts })
 solved_with moves drawn (Err stop) = Err stop
 
+-- the same of the drawing of a line graph, where there is one
 abbrev pub solved_of : Choices → MethodChoices → Result Drawn MakeFault → Result SolvedMap MakeFault
 solved_of choices method (Ok drawn) = solved_with method.moves drawn (solve_outcome (plan_of choices method) (untangled_problem drawn.problem))
 solved_of choices method (Err stop) = Err stop
@@ -49,8 +50,8 @@ solved_of choices method (Err stop) = Err stop
 -- The drawing of a line graph and its line orders; or the first cause why there is none: a limit of cells, no route, a
 -- limit of terms, or a part of the untangled problem that is over the limit of places or over the budget. It never is want
 -- of memory. The moves follow the routes, and no order depends on them.
-abbrev pub solved_on : Subject → Choices → MethodChoices → GraphParts → Result SolvedMap MakeFault
-solved_on subject choices method graph = solved_of choices method (drawn_on subject choices method graph)
+abbrev pub solved_on : List ℕ → Choices → MethodChoices → GraphParts → Result SolvedMap MakeFault
+solved_on importance choices method graph = solved_of choices method (drawn_on importance choices method graph)
 
 -- what is made of a drawing with its line orders, where they are there
 abbrev pub if_solved : {A : Type 0} → (SolvedMap → A) → Result SolvedMap MakeFault → Result A MakeFault
@@ -58,12 +59,12 @@ if_solved makes (Ok solved) = Ok (makes solved)
 if_solved makes (Err stop) = Err stop
 
 -- the map and the certificate of a drawing with its line orders
-abbrev pub solved_map : Subject → Choices → SolvedMap → MapBytes
-solved_map subject choices solved = map_of subject choices solved.drawn solved.parts
+abbrev pub solved_map : Subject → SolvedMap → MapBytes
+solved_map subject solved = map_of subject solved.drawn solved.parts
 
 -- The map of a line graph and its certificate; or the first cause why there is none.
 abbrev pub made_on : Subject → Choices → MethodChoices → GraphParts → Result MapBytes MakeFault
-made_on subject choices method graph = if_solved (solved_map subject choices) (solved_on subject choices method graph)
+made_on subject choices method graph = if_solved (solved_map subject) (solved_on subject.importance choices method graph)
 
 -- the bytes of what was made
 abbrev pub bytes_of : Made → MapBytes

@@ -1,9 +1,8 @@
 -- The drawing of a line graph, and the problem of its line orders; or why there is none.
-use Rattle.std.specs.Prelude.{List, Result, Ok, Err}
+use Rattle.std.specs.Prelude.{ℕ, List, Result, Ok, Err}
 use Rattle.map_base.specs.declared.limit.Limit.{Limit}
 use Rattle.map_base.specs.Settings.{Choices}
 use Rattle.map_method.specs.Methods.{MethodChoices}
-use Rattle.graph_maps.specs.Subjects.{Subject}
 use Rattle.graph_core.specs.declared.parts.GraphParts.{GraphParts}
 use Rattle.octi_grid.specs.Walks.{PlainWalk}
 use Rattle.segment_router.specs.declared.fault.RouteFault.{RouteFault}
@@ -13,17 +12,17 @@ use Rattle.order_values.specs.declared.rule.Rule.{Rule}
 use Rattle.order_rules.specs.Untangling.{untangling}
 use Rattle.order_terms.specs.Terms.{graph_terms}
 use Rattle.order_terms.specs.Limits.{graph_problem}
-use Rattle.graph_maps.specs.declared.fault.MakeFault.{MakeFault}
-use Rattle.graph_maps.specs.declared.fault.MakeFault.TheVariants as fault
-use Rattle.graph_maps.specs.Faults.{of_route}
+use Rattle.map_faults.specs.declared.fault.MakeFault.{MakeFault}
+use Rattle.map_faults.specs.declared.fault.MakeFault.TheVariants as fault
+use Rattle.map_faults.specs.Faults.{of_route}
 
 -- the problem of a graph's line orders: the lines of its segments and its terms
-abbrev pub problem_of : Subject → Choices → GraphParts → ProblemParts
-problem_of subject choices graph = record { segs = graph.lines; terms = graph_terms graph choices.weights subject.importance }
+abbrev pub problem_of : List ℕ → Choices → GraphParts → ProblemParts
+problem_of importance choices graph = record { segs = graph.lines; terms = graph_terms graph choices.weights importance }
 
 -- the same, unless there are too many terms
-abbrev pub problem_within : Subject → Choices → GraphParts → Result ProblemParts Limit
-problem_within subject choices graph = graph_problem graph choices.weights subject.importance
+abbrev pub problem_within : List ℕ → Choices → GraphParts → Result ProblemParts Limit
+problem_within importance choices graph = graph_problem graph choices.weights importance
 
 -- the rules that untangle a problem
 abbrev pub untangling_rules : ProblemParts → List Rule
@@ -45,10 +44,10 @@ drawn_with graph walks (Ok problem) = Ok (record { graph = graph; walks = walks;
 drawn_with graph walks (Err limit) = Err (fault.Limit limit)
 
 -- what comes of a graph and its route
-abbrev pub routed_by : Subject → Choices → GraphParts → Result (List PlainWalk) RouteFault → Result Drawn MakeFault
-routed_by subject choices graph (Ok walks) = drawn_with graph walks (problem_within subject choices graph)
-routed_by subject choices graph (Err stop) = Err (of_route stop)
+abbrev pub routed_by : List ℕ → Choices → GraphParts → Result (List PlainWalk) RouteFault → Result Drawn MakeFault
+routed_by importance choices graph (Ok walks) = drawn_with graph walks (problem_within importance choices graph)
+routed_by importance choices graph (Err stop) = Err (of_route stop)
 
 -- The drawing of a line graph and the problem of its line orders: its walks come first, then its terms are counted.
-abbrev pub drawn_on : Subject → Choices → MethodChoices → GraphParts → Result Drawn MakeFault
-drawn_on subject choices method graph = routed_by subject choices graph (route_outcome graph choices.cell method.spread method.finest)
+abbrev pub drawn_on : List ℕ → Choices → MethodChoices → GraphParts → Result Drawn MakeFault
+drawn_on importance choices method graph = routed_by importance choices graph (route_outcome graph choices.cell method.spread method.finest)

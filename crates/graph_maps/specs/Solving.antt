@@ -6,11 +6,18 @@ use Rattle.order_model.specs.declared.problem.ProblemParts.{ProblemParts}
 use Rattle.order_model.specs.Gathering.{problem_parts}
 use Rattle.order_proof.specs.Plain.{PlainPartTree}
 use Rattle.order_search.specs.declared.found.SearchFault.{SearchFault}
+use Rattle.order_search.specs.declared.found.SearchFault.TheVariants as search
 use Rattle.order_search.specs.Finding.{with_lists}
 use Rattle.kept_trees.specs.declared.plan.SearchPlan.{SearchPlan}
 use Rattle.kept_trees.specs.Results.{PartResult, part_outcome}
-use Rattle.graph_maps.specs.declared.fault.MakeFault.{MakeFault}
-use Rattle.graph_maps.specs.Faults.{of_search}
+use Rattle.map_faults.specs.declared.fault.MakeFault.{MakeFault}
+use Rattle.map_faults.specs.declared.fault.MakeFault.TheVariants as make
+
+-- why part k is not solved
+abbrev pub of_search : ℕ → SearchFault → MakeFault
+of_search k (search.Spent branches) = make.Spent k branches
+of_search k (search.TooDeep l) = make.Limit l
+of_search k search.NoMemory = make.NoMemory
 
 -- a part is solved where its search finds something
 abbrev pub is_found : Result PartResult SearchFault → Bool

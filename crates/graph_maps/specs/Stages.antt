@@ -1,5 +1,5 @@
 -- What stands between the steps of making a map.
-use Rattle.std.specs.Prelude.{◌≡◌, ◌≤◌, ◌<◌, ◌+◌, ◌^◌, ◌⊎◌, ℕ, false, true, All, None, List, [], ◌∷◌, ◌++◌, length, map, filter, drop, Result, Ok, Err}
+use Rattle.std.specs.Prelude.{◌≡◌, ◌≤◌, ◌+◌, ◌⊎◌, ℕ, true, All, None, List, [], ◌∷◌, ◌++◌, length, map, drop, Result, Ok, Err}
 use Rattle.std.specs.List.{AllByRecursion}
 use Rattle.map_base.specs.declared.ids.SegId.{SegId}
 use Rattle.map_method.specs.declared.claim.Claim.{Claim}
@@ -7,8 +7,10 @@ use Rattle.map_method.specs.declared.claim.Claim.TheVariants.{Best, Bound}
 use Rattle.kept_trees.specs.declared.plan.SearchPlan.{SearchPlan}
 use Rattle.order_model.specs.declared.problem.ProblemParts.{ProblemParts}
 use Rattle.graph_maps.specs.Subjects.{Subject}
+use Rattle.graph_core.specs.declared.parts.GraphParts.{GraphParts}
 use Rattle.graph_core.specs.Consistent.{IsConsistent}
-use Rattle.octi_grid.specs.Walks.{IsWalk}
+use Rattle.octi_grid.specs.declared.drawing.Drawing.{Drawing}
+use Rattle.octi_grid.specs.Walks.{IsWalk, PlainWalk}
 use Rattle.octi_grid.specs.Legal.{first_illegal, legal}
 use Rattle.grid_board.specs.Points.{are_near}
 use Rattle.octi_moves.specs.Moves.{next_of}
@@ -24,45 +26,40 @@ use Rattle.order_model.specs.PartTerms.{part_terms}
 use Rattle.order_search.specs.Finding.{with_lists, IsLeast, AreAttained}
 use Rattle.order_search.specs.FoundParts.{part_in}
 use Rattle.graph_maps.specs.declared.best_orders.BestOrders.{BestOrders}
-use Rattle.graph_maps.specs.declared.drawn_map.DrawnMap.{DrawnMap}
 use Rattle.graph_maps.specs.declared.improvement.Improvement.{Improvement}
 use Rattle.graph_maps.specs.declared.improvement.ImprovedMap.{ImprovedMap}
 use Rattle.graph_maps.specs.declared.solution.Solution.{Solution}
-use Rattle.graph_maps.specs.declared.fault.MakeFault.{MakeFault}
-use Rattle.graph_maps.specs.declared.fault.MakeFault.TheVariants as fault
+use Rattle.map_faults.specs.declared.fault.MakeFault.{MakeFault}
+use Rattle.map_faults.specs.declared.fault.MakeFault.TheVariants as fault
 use Rattle.graph_maps.specs.Problems.{Drawn, untangled_problem}
 use Rattle.graph_maps.specs.Moving.{improvement_of, walks_after}
 use Rattle.kept_trees.specs.Results.{PartResult, part_outcome}
 use Rattle.graph_maps.specs.Solving.{SolvedPart, solved, with_solved, solved_first, orders_by, solve_from, solve_outcome, parts_in}
 use Rattle.graph_maps.specs.Lifted.{lifted_by}
-use Rattle.graph_maps.specs.Certificates.{proof_part, proof_of, line_count, is_weighty, weighed_line, drawn_lines}
+use Rattle.graph_maps.specs.Certificates.{proof_part, proof_of, line_count, weighty_lines}
 use Rattle.graph_maps.specs.Making.{bytes_of, HasCause, MapBytes}
 
--- a drawing and its problem, without what else is kept of it
-abbrev pub drawn_of : DrawnMap × ProblemParts → Drawn
-drawn_of d = record { graph = d.0.graph; walks = d.0.drawing.walks; problem = d.1 }
+-- a line graph with its drawing and its problem
+abbrev pub drawn_of : GraphParts → Drawing × ProblemParts → Drawn
+drawn_of graph d = record { graph = graph; walks = d.0.walks; problem = d.1 }
 
--- a legal drawing, with a walk for each segment of a line graph that fits together
-pub record IsDrawing (d : DrawnMap) : Type 0 where
-  pub fits : IsConsistent d.graph
-  pub walks : All IsWalk d.drawing.walks
-  pub each : length d.drawing.walks ≡ length d.graph.ends
-  pub legal : legal d.graph d.drawing.walks ≡ true
-  pub first : first_illegal d.graph d.drawing.walks ≡ None
+-- walks are a legal drawing, with a walk for each segment, of a line graph that fits together
+pub record IsDrawing (graph : GraphParts) (walks : List PlainWalk) : Type 0 where
+  pub fits : IsConsistent graph
+  pub walks : All IsWalk walks
+  pub each : length walks ≡ length graph.ends
+  pub legal : legal graph walks ≡ true
+  pub first : first_illegal graph walks ≡ None
 
--- a drawing after at most so many moves
-abbrev pub drawn_after : ℕ → DrawnMap → DrawnMap
-drawn_after moves d = record d { drawing = record { walks = walks_after moves d.graph d.drawing.walks } }
-
--- A drawing came of another by at most so many moves. It is legal, at most four steps farther from the origin and no
+-- A drawing came of these walks by at most so many moves. It is legal, at most four steps farther from the origin and no
 -- heavier, and all moves were made, or none makes it lighter.
-pub record IsMoved (moves : ℕ) (d : DrawnMap) (moved : DrawnMap × Improvement) : Type 0 where
-  pub drawn : moved.0 ≡ drawn_after moves d
-  pub drawing : IsDrawing moved.0
-  pub near : (most : ℕ) → are_near most d.drawing.walks ≡ true → are_near (most + 4) moved.0.drawing.walks ≡ true
-  pub improvement : moved.1 ≡ improvement_of moves d.graph d.drawing.walks
+pub record IsMoved (moves : ℕ) (graph : GraphParts) (walks : List PlainWalk) (moved : Drawing × Improvement) : Type 0 where
+  pub drawn : moved.0.walks ≡ walks_after moves graph walks
+  pub drawing : IsDrawing graph moved.0.walks
+  pub near : (most : ℕ) → are_near most walks ≡ true → are_near (most + 4) moved.0.walks ≡ true
+  pub improvement : moved.1 ≡ improvement_of moves graph walks
   pub no_heavier : moved.1.after ≤ moved.1.before
-  pub to_the_end : (moved.1.made ≡ moves) ⊎ (next_of d.graph d.drawing.walks moved.0.drawing.walks ≡ None)
+  pub to_the_end : (moved.1.made ≡ moves) ⊎ (next_of graph walks moved.0.walks ≡ None)
 
 -- the parts of a proof without where they lie in memory
 abbrev pub plain_parts : Solution → List PlainPart
@@ -126,33 +123,33 @@ abbrev pub IsUnsolved : SearchPlan → ProblemParts → ℕ → List SegId → M
 IsUnsolved plan p k part stop = HasCause (solved_first k part (part_outcome plan p part) (Ok [])) stop
 
 -- the certificate of a drawing with these line orders
-abbrev pub certificate_by : Subject → DrawnMap → BestOrders → PlainCertificate
-certificate_by subject d best = record {
-  nodes = length d.graph.kinds;
-  segs = length d.graph.ends;
-  lines = line_count subject d.graph;
-  importance = filter is_weighty (map (weighed_line d.importance.items) (drawn_lines (length subject.importance) d.graph));
-  walks = d.drawing.walks;
+abbrev pub certificate_by : List ℕ → GraphParts → List PlainWalk → BestOrders → PlainCertificate
+certificate_by importance graph walks best = record {
+  nodes = length graph.kinds;
+  segs = length graph.ends;
+  lines = line_count importance graph;
+  importance = weighty_lines importance graph;
+  walks = walks;
   orders = best.orders.lists;
   cost = best.cost;
   proof = plain_proof best.proof;
 }
 
 -- the map and the certificate of a drawing with these line orders
-abbrev pub map_by : Subject → DrawnMap → BestOrders → MapBytes
-map_by subject d best = record {
-  svg = picture_text subject.names d.graph d.drawing.walks best.orders.lists;
-  certificate = certificate_text (certificate_by subject d best);
+abbrev pub map_by : Subject → GraphParts → List PlainWalk → BestOrders → MapBytes
+map_by subject graph walks best = record {
+  svg = picture_text subject.names graph walks best.orders.lists;
+  certificate = certificate_text (certificate_by subject.importance graph walks best);
 }
 
 -- a drawing that was moved twice, and then written with these line orders
-pub record IsWritten (subject : Subject) (d : DrawnMap) (best : BestOrders) (first moves : ℕ) (improved : ImprovedMap) : Type 0 where
-  pub map : bytes_of improved.map ≡ map_by subject (drawn_after moves (drawn_after first d)) best
-  pub few : length subject.importance < 2 ^ 32
-  pub drawing : IsDrawing (drawn_after moves (drawn_after first d))
-  pub improvement : improved.improvement ≡ improvement_of moves d.graph (drawn_after first d).drawing.walks
+pub record IsWritten (subject : Subject) (graph : GraphParts) (walks : List PlainWalk) (best : BestOrders) (first moves : ℕ) (improved : ImprovedMap) : Type 0 where
+  pub map : bytes_of improved.map ≡ map_by subject graph (walks_after moves graph (walks_after first graph walks)) best
+  pub drawing : IsDrawing graph (walks_after moves graph (walks_after first graph walks))
+  pub improvement : improved.improvement ≡ improvement_of moves graph (walks_after first graph walks)
   pub no_heavier : improved.improvement.after ≤ improved.improvement.before
-  pub to_the_end : (improved.improvement.made ≡ moves) ⊎ (next_of d.graph (drawn_after first d).drawing.walks (drawn_after moves (drawn_after first d)).drawing.walks ≡ None)
+  pub to_the_end : (improved.improvement.made ≡ moves)
+      ⊎ (next_of graph (walks_after first graph walks) (walks_after moves graph (walks_after first graph walks)) ≡ None)
 
 -- solved parts before what comes of those after them
 abbrev pub prepended : List SolvedPart → Result (List SolvedPart) MakeFault → Result (List SolvedPart) MakeFault

@@ -13,6 +13,6 @@ pub record Subject : Type 0 where
 abbrev pub told_by : Names → List ℕ → Subject
 told_by names importance = record { names = names; importance = importance }
 
--- each line on a segment is one of those that are told of
-abbrev pub AreListed : Subject → GraphParts → Type 0
-AreListed subject graph = All (All (λ (a : LineId). a.0 < length subject.importance)) graph.lines
+-- each line on a segment is one of those that have a number
+abbrev pub AreListed : List ℕ → GraphParts → Type 0
+AreListed importance graph = All (All (λ (a : LineId). a.0 < length importance)) graph.lines

@@ -12,7 +12,7 @@ ghost use Rattle.graph_maps.specs.Problems.{untangled_problem};
 ghost use Rattle.graph_maps.specs.Solving.{parts_in, solve_outcome};
 ghost use Rattle.graph_maps.specs.Stages.{plain_parts, Finds};
 
-use crate::fault::MakeFault;
+use map_faults::MakeFault;
 use crate::solution::Solution;
 use crate::solving::solve_parts;
 use kept_trees::{Kept, SearchPlan};

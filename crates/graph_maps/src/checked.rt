@@ -12,11 +12,22 @@ pub struct Proved {
     pub bound: u64,
 }
 
-/// What a certificate that is accepted holds, before a picture is made of it: a legal drawing of the line graph, line orders,
-/// and what is proved of these.
+/// What a certificate that is accepted holds, before a picture is made of it.
 #[derive(Debug, Drop)]
 pub struct CheckedMap {
+    /// A legal drawing of the line graph.
     pub drawing: Drawing,
+    /// The order of each segment.
     pub orders: Orders,
+    /// What it proves of these.
     pub proved: Proved,
+}
+
+/// What is known of a certificate that is accepted, before its picture is looked at.
+#[derive(Debug, Drop)]
+pub struct Checked {
+    /// What it proves of its line orders.
+    pub proved: Proved,
+    /// The picture that is due (SVG 1.1).
+    pub svg: Vec<u8>,
 }

@@ -1,26 +1,26 @@
 //! The check of a map of a line graph and its certificate.
 
-ghost use Rattle.std.specs.Prelude.{◌≡◌, ◌<◌, ◌^◌, length, IfOk, Ok};
+ghost use Rattle.std.specs.Prelude.{◌≡◌, ◌<◌, ◌^◌, length, All, IfOk, Ok};
+ghost use Rattle.map_base.specs.Settings.{IsImportance};
 ghost use Rattle.graph_core.specs.Consistent.{IsConsistent};
 ghost use Rattle.order_model.specs.Costs.{cost_of, AreOrders};
-ghost use Rattle.order_terms.specs.Terms.{HaveImportance};
 ghost use Rattle.order_check.specs.Verdict.{targets};
 ghost use Rattle.order_check.specs.LowerBounds.{IsLowerBound};
 ghost use Rattle.order_proof.specs.Plain.{plain_proof};
 ghost use Rattle.cert_file.specs.Plain.{plain as certificate_of};
 ghost use Rattle.cert_file.specs.Ranges.{IsInRange};
-ghost use Rattle.graph_maps.specs.Subjects.{told_by};
+ghost use Rattle.graph_maps.specs.Subjects.{told_by, AreListed};
 ghost use Rattle.graph_maps.specs.Readings.{certificate_in};
-ghost use Rattle.graph_maps.specs.Checking.{accepted_text, accepted_items, accepted_walks, check_on, checked_map, unless_costlier, Gives};
-ghost use Rattle.graph_maps.specs.Promises.{IsAccepted, IsCertifiedOn, IsClaimed};
+ghost use Rattle.graph_maps.specs.Checking.{accepted_items, accepted_map, accepted_text, accepted_walks, certificate_on, checked_bytes, held_by, unless_costlier, Gives};
+ghost use Rattle.graph_maps.specs.Promises.{IsAcceptedOn, IsCertifiedOn, IsClaimed, ShowsAccepted};
 
-use crate::checked::{CheckedMap, Proved};
+use crate::checked::{Checked, CheckedMap, Proved};
 use crate::drawn_lines::{drawn_lines, weighty_lines};
-use crate::fault::{CheckFault, CheckItem};
-use crate::items::{are_same_pairs, first_difference, first_disorder};
+use crate::items::{are_same_pairs, first_disorder};
 use cert_file::{Certificate, read_certificate};
 use graph_core::LineGraph;
 use map_base::Settings;
+use map_faults::{CheckFault, CheckItem};
 use map_method::Claim;
 use octi_grid::{Drawing, check_drawing};
 use order_check::{check_bound, check_proof};
@@ -30,12 +30,10 @@ use order_terms::terms_of;
 use std::alloc::Global;
 use svg_writer::{Names, picture};
 
-/// Whether a map and its certificate show exactly a line graph, in a legal drawing and with line orders of which the
-/// certificate proves what is claimed: then it answers what they cost, and what none cost less than. The items are checked
-/// in order: the certificate's text; the counts of the line graph; the importance of lines; the walks; the orders; their
-/// cost; the proof that none cost less than the sum of its targets, and that this is their cost where best orders are
-/// claimed; last the map, byte by byte. The first item that is refused is named. Whoever made map and certificate isn't
-/// trusted.
+/// What a certificate proves of the line orders of a line graph, and the picture that is due. The items are checked in
+/// order: the certificate's text; the counts of the line graph; the importance of lines; the walks; the orders; their cost;
+/// the proof that none cost less than the sum of its targets, and that this is their cost where best orders are claimed. The
+/// first item that is refused is named. Whoever made the certificate isn't trusted.
 pub fn check_on_graph(
     alloc: Global,
     graph: &LineGraph,
@@ -43,24 +41,24 @@ pub fn check_on_graph(
     importance: &[u32],
     settings: &Settings,
     claim: Claim,
-    svg: &[u8],
     certificate: &[u8],
-) -> Result<Proved, CheckFault>
-    requires importance { HaveImportance importance.now graph.now.lines }
+) -> Result<Checked, CheckFault>
+    requires numbers { All IsImportance importance.now }
+    requires lines { AreListed importance.now graph.now }
     requires few { length importance.now < 2 ^ 32 }
-    ensures outcome { Gives (λ proved. proved) result (check_on (told_by names.now importance.now) settings.now claim graph.now svg.now (certificate_in certificate.now)) }
-    ensures certified { IfOk result (λ proved. IsCertifiedOn (told_by names.now importance.now) settings.now claim graph.now svg.now certificate.now proved) }
+    ensures outcome { Gives checked_bytes result (certificate_on (told_by names.now importance.now) settings.now claim graph.now (certificate_in certificate.now)) }
+    ensures certified { IfOk result (λ checked. IsCertifiedOn (told_by names.now importance.now) settings.now claim graph.now checked.svg.items certificate.now checked.proved) }
 {
     let checked = checked_certificate(alloc, graph, importance, settings, claim, certificate)?;
-    let due = picture(alloc, graph, names, &checked.drawing, &checked.orders)?;
-    match first_difference(due.as_slice(), svg) {
-        None => Ok(checked.proved),
-        Some(at) => Err(CheckFault::Refuted(CheckItem::Picture { at: at as u64 })),
-    }
+    let svg = picture(alloc, graph, names, &checked.drawing, &checked.orders)?;
+    Ok(Checked {
+        proved: checked.proved,
+        svg,
+    })
 }
 
-/// The same but for the map: the drawing and the line orders of a certificate that is accepted, from which pictures are made,
-/// and what it proves.
+/// The drawing and the line orders of a certificate that is accepted, from which pictures are made, and what it proves. It is
+/// refused as `check_on_graph` does.
 pub fn checked_certificate(
     alloc: Global,
     graph: &LineGraph,
@@ -69,10 +67,11 @@ pub fn checked_certificate(
     claim: Claim,
     certificate: &[u8],
 ) -> Result<CheckedMap, CheckFault>
-    requires importance { HaveImportance importance.now graph.now.lines }
+    requires numbers { All IsImportance importance.now }
+    requires lines { AreListed importance.now graph.now }
     requires few { length importance.now < 2 ^ 32 }
-    ensures outcome { Gives checked_map result (accepted_text importance.now settings.now claim graph.now (certificate_in certificate.now)) }
-    ensures accepted { IfOk result (λ checked. IsAccepted importance.now settings.now claim graph.now certificate.now (checked_map checked)) }
+    ensures outcome { Gives accepted_map result (accepted_text held_by importance.now settings.now claim graph.now (certificate_in certificate.now)) }
+    ensures accepted { IfOk result (λ checked. IsAcceptedOn importance.now settings.now claim graph.now certificate.now (accepted_map checked)) }
 {
     let read = read_certificate(alloc, certificate)?;
     check_items(alloc, graph, importance, settings, claim, read)
@@ -87,10 +86,12 @@ fn check_items(
     claim: Claim,
     certificate: Certificate,
 ) -> Result<CheckedMap, CheckFault>
-    requires importance { HaveImportance importance.now graph.now.lines }
+    requires numbers { All IsImportance importance.now }
+    requires lines { AreListed importance.now graph.now }
     requires few { length importance.now < 2 ^ 32 }
     requires range { IsInRange (certificate_of certificate) }
-    ensures outcome { Gives checked_map result (accepted_items importance.now settings.now claim graph.now (certificate_of certificate)) }
+    ensures outcome { Gives accepted_map result (accepted_items importance.now settings.now claim graph.now (certificate_of certificate) (held_by (certificate_of certificate))) }
+    ensures accepted { IfOk result (λ checked. ShowsAccepted importance.now settings.now claim graph.now (certificate_of certificate) (accepted_map checked)) }
 {
     let nodes = graph.nodes();
     let lines = drawn_lines(alloc, graph, importance.len() as u32)?;
@@ -117,10 +118,12 @@ fn check_walks(
     certificate: Certificate,
 ) -> Result<CheckedMap, CheckFault>
     requires fits { IsConsistent graph.now }
-    requires importance { HaveImportance importance.now graph.now.lines }
+    requires numbers { All IsImportance importance.now }
+    requires lines { AreListed importance.now graph.now }
     requires range { IsInRange (certificate_of certificate) }
     requires segs { certificate.segs ≡ length graph.now.ends }
-    ensures outcome { Gives checked_map result (accepted_walks importance.now settings.now claim graph.now (certificate_of certificate)) }
+    ensures outcome { Gives accepted_map result (accepted_walks importance.now settings.now claim graph.now (certificate_of certificate) (held_by (certificate_of certificate))) }
+    ensures accepted { IfOk result (λ checked. ShowsAccepted importance.now settings.now claim graph.now (certificate_of certificate) (accepted_map checked)) }
 {
     let drawing = Drawing {
         walks: certificate.walks,

@@ -5,11 +5,10 @@ ghost use Rattle.grid_board.specs.Points.{are_near};
 ghost use Rattle.graph_maps.specs.Stages.{IsDrawing, IsMoved};
 
 use crate::drawing::are_walks;
-use crate::drawn_map::DrawnMap;
 use crate::improvement::Improvement;
 use graph_core::LineGraph;
 use map_base::NoMemory;
-use octi_grid::illegal_drawings_have_a_first_walk;
+use octi_grid::{Drawing, illegal_drawings_have_a_first_walk};
 use octi_moves::improve;
 use std::alloc::Global;
 
@@ -17,14 +16,14 @@ use std::alloc::Global;
 pub(crate) fn moved(
     alloc: Global,
     graph: &LineGraph,
-    drawn: DrawnMap,
+    drawing: Drawing,
     moves: u32,
-) -> Result<(DrawnMap, Improvement), NoMemory>
-    requires drawing { IsDrawing graph.now drawn }
-    requires near { are_near 1900 drawn.drawing.walks ≡ true }
-    ensures { IfOk result (IsMoved moves graph.now drawn) }
+) -> Result<(Drawing, Improvement), NoMemory>
+    requires drawing { IsDrawing graph.now drawing.walks }
+    requires near { are_near 1900 drawing.walks ≡ true }
+    ensures { IfOk result (IsMoved moves graph.now drawing.walks) }
 {
-    let improved = improve(alloc, graph, drawn.drawing, moves)?;
+    let improved = improve(alloc, graph, drawing, moves)?;
     are_walks(improved.drawing.walks.as_slice());
     illegal_drawings_have_a_first_walk();
     let improvement = Improvement {
@@ -32,8 +31,5 @@ pub(crate) fn moved(
         after: improved.after,
         made: improved.made,
     };
-    let moved = DrawnMap {
-        drawing: improved.drawing,
-    };
-    Ok((moved, improvement))
+    Ok((improved.drawing, improvement))
 }

@@ -11,12 +11,12 @@ ghost use Rattle.order_model.specs.Places.{tables_of};
 ghost use Rattle.order_search.specs.Finding.{with_lists};
 ghost use Rattle.kept_trees.specs.Keeping.{branches_to_meet};
 ghost use Rattle.kept_trees.specs.OwnTrees.{held_as};
-ghost use Rattle.graph_maps.specs.Faults.{of_search};
+ghost use Rattle.graph_maps.specs.Solving.{of_search};
 ghost use Rattle.graph_maps.specs.Keeping.{finished_of, HoldsFinished};
 ghost use Rattle.graph_maps.specs.Solving.{parts_in, solve_outcome};
 ghost use Rattle.graph_maps.specs.Stages.{IsMore, IsUnsolved, Solves};
 
-use crate::fault::MakeFault;
+use map_faults::MakeFault;
 use crate::solution::Solution;
 use kept_trees::{FoundPart, Kept, SearchPlan};
 use map_base::{LineId, NoMemory, SegId, Sequence, Steps};

@@ -1,26 +1,27 @@
-use Rattle.std.proofs.Common.{◌∙◌, ap, sym, Ok, ℕ, List, Result}
+use Rattle.std.proofs.Common.{◌∙◌, ap, sym, List, ℕ, Ok, Result}
 use Rattle.std.proofs.lemmas.Result.{err_from_is_err_and}
-use Rattle.cert_file.specs.Plain.{plain}
-use Rattle.graph_maps.specs.declared.fault.CheckFault.{CheckFault}
-use Rattle.graph_maps.specs.Checking.{checked_bytes}
-use Rattle.graph_maps.specs.Labelling.{labelled_by}
-use Rattle.graph_maps.proofs.PictureSteps.{accepted_drawn, is_labelled, text_undrawn}
+use Rattle.map_faults.specs.declared.fault.CheckFault.{CheckFault}
+use Rattle.graph_maps.specs.Subjects.{told_by}
+use Rattle.graph_maps.specs.Readings.{certificate_in}
+use Rattle.graph_maps.specs.Checking.{accepted_map, held_by}
+use Rattle.graph_maps.specs.Labelling.{labelled_of}
+use Rattle.graph_maps.proofs.Accepted.{accepted_made, labelled_by, refused_made}
 use Rattle.graph_maps.proofs.labelled.labels_on_graph.Goals as goal
 
-pub returns-in_err-read-clause-outcome : goal.returns-in_err-read-clause-outcome
-returns-in_err-read-clause-outcome c =
-    let p = err_from_is_err_and c.from_residual-in_err-read.result c.from_residual-in_err-read.ensures.1 in
-    rw (p.1, p.2) (text_undrawn (labelled_by c.args.tables.now c.args.graph.now) c.args.tables.now c.args.settings.now c.args.claim c.args.graph.now c.args.certificate.now c.in_err-read.field-0.0 c.in_err-read.ensures.end)
+pub returns-in_err-checked-clause-outcome : goal.returns-in_err-checked-clause-outcome
+returns-in_err-checked-clause-outcome c =
+    let p = err_from_is_err_and c.from_residual.result c.from_residual.ensures.1 in
+    rw (p.1, p.2) (refused_made (labelled_of c.args.names.now c.args.graph.now) c.args.importance.now c.args.settings.now c.args.claim c.args.graph.now
+    held_by (certificate_in c.args.certificate.now) c.in_err-checked.field-0.0 c.in_err-checked.ensures.outcome)
 
 pub returns-clause-outcome : goal.returns-clause-outcome
 returns-clause-outcome c =
     let ok : List ℕ → Result (List ℕ) CheckFault = λ bytes. Ok bytes in
-    accepted_drawn (labelled_by c.args.tables.now c.args.graph.now) c.args.tables.now c.args.settings.now c.args.claim c.args.graph.now (plain c.in_ok-read.read) c.args.certificate.now (checked_bytes c.in_ok-_accepted._accepted)
-    c.in_ok-read.ensures.certificate c.in_ok-_accepted.ensures.outcome
-    ∙ ap ok (sym c.in_ok-labelled_map.ensures)
+    accepted_made (labelled_of c.args.names.now c.args.graph.now) c.args.importance.now c.args.settings.now c.args.claim c.args.graph.now
+    held_by (certificate_in c.args.certificate.now) (accepted_map c.in_ok-checked.checked) c.in_ok-checked.ensures.outcome
+    ∙ ap ok (sym c.in_ok-labelled.ensures)
 
 pub returns-clause-certified : goal.returns-clause-certified
 returns-clause-certified c =
-    is_labelled c.args.tables.now c.args.settings.now c.args.claim c.args.graph.now (plain c.in_ok-read.read) c.args.certificate.now
-    c.in_ok-_accepted._accepted.svg.items c.in_ok-_accepted._accepted.proved c.requires c.in_ok-read.ensures.certificate c.in_ok-_accepted.ensures.certified
-    c.in_ok-labelled_map.field-0.items c.in_ok-labelled_map.ensures
+    labelled_by (told_by c.args.names.now c.args.importance.now) c.args.settings.now c.args.claim c.args.graph.now c.args.certificate.now
+    (accepted_map c.in_ok-checked.checked) c.in_ok-checked.ensures.accepted c.in_ok-labelled.field-0.items c.in_ok-labelled.ensures

@@ -1,24 +1,19 @@
 use Rattle.std.proofs.Common.{◌≡◌, ◌<◌, ◌^◌, ◌∙◌, ℕ, length, All, sym, ap, subst, arith, rules}
 use Rattle.map_base.specs.declared.ids.LineId.{LineId}
-use Rattle.transit_feed.specs.Feeds.{Feed}
 use Rattle.graph_maps.specs.Certificates.{drawn_lines}
 use Rattle.graph_maps.proofs.DrawnLemmas.{drawn_below, drawn_few}
 use Rattle.graph_maps.proofs.making.written.Goals as goal
 
 pub weighty_lines-requires : goal.weighty_lines-requires
 weighty_lines-requires c =
-    let lines : c.as_slice.result.now ≡ drawn_lines c.len.result c.args.drawn.graph = c.as_slice.ensures.value ∙ c.in_ok-lines.ensures in
-    let each : c.len.result ≡ length c.as_slice-2.result.now =
-    c.len.ensures ∙ c.tables.inside.lines.ok.0 ∙ ap (λ (f : Feed). length f.lines) c.tables.view_is ∙ sym c.requires.lines ∙ ap length (sym c.as_slice-2.ensures.value) in
+    let lines : c.as_slice.result.now ≡ drawn_lines c.len.result c.args.graph.now = c.as_slice.ensures.value ∙ c.in_ok-lines.ensures in
+    let each : c.len.result ≡ length c.args.importance.now = c.len.ensures in
     subst (λ (n : ℕ). All (λ (a : LineId). a.0 < n) c.as_slice.result.now) each
-    (subst (All (λ (a : LineId). a.0 < c.len.result)) (sym lines) (drawn_below c.len.result c.args.drawn.graph))
+    (subst (All (λ (a : LineId). a.0 < c.len.result)) (sym lines) (drawn_below c.len.result c.args.graph.now))
 
 pub overflow_cast-certificate : goal.overflow_cast-certificate
 overflow_cast-certificate c =
-    let lines : c.in_ok-lines.lines.items ≡ drawn_lines c.len.result c.args.drawn.graph = c.in_ok-lines.ensures in
+    let lines : c.in_ok-lines.lines.items ≡ drawn_lines c.len.result c.args.graph.now = c.in_ok-lines.ensures in
     let below : c.len-2.result < 2 ^ 32 =
-    omega (arith, c.len-2.ensures, c.in_ok-lines.lines.ok.0, ap length lines, drawn_few c.len.result c.args.drawn.graph, c.len.ensures, c.tables.inside.lines.ok.0, c.tables.invariant.few_lines) in
+    omega (arith, c.len-2.ensures, c.in_ok-lines.lines.ok.0, ap length lines, drawn_few c.len.result c.args.graph.now, c.len.ensures, c.requires.few) in
     search rules
-
-pub returns-clause-few : goal.returns-clause-few
-returns-clause-few c = subst (λ (f : Feed). length f.lines < 2 ^ 32) c.tables.view_is c.tables.invariant.few_lines
