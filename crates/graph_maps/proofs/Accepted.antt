@@ -83,7 +83,7 @@ accepted_by importance choices claim graph c bytes (Err stop) written shows = tt
 module _ (subject : Subject) (choices : Choices) (claim : Claim) (graph : GraphParts) (bytes : List ℕ) (a : AcceptedMap)
     (is : IsAcceptedOn subject.importance choices claim graph bytes a) where
   -- the picture that is due is certified
-  pub certified_by : (svg : List ℕ) → svg ≡ picture_text subject.names graph a.walks a.orders → IsCertifiedOn subject choices claim graph svg bytes a.proved
+  abbrev pub certified_by : (svg : List ℕ) → svg ≡ picture_text subject.names graph a.walks a.orders → IsCertifiedOn subject choices claim graph svg bytes a.proved
   certified_by svg due = record {
     certificate = is.certificate;
     written = is.written;

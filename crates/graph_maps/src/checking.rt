@@ -34,7 +34,7 @@ use svg_writer::{Names, picture};
 /// order: the certificate's text; the counts of the line graph; the importance of lines; the walks; the orders; their cost;
 /// the proof that none cost less than the sum of its targets, and that this is their cost where best orders are claimed. The
 /// first item that is refused is named. Whoever made the certificate isn't trusted.
-pub fn check_on_graph(
+pub fn check_from(
     alloc: Global,
     graph: &LineGraph,
     names: &Names,
@@ -58,7 +58,7 @@ pub fn check_on_graph(
 }
 
 /// The drawing and the line orders of a certificate that is accepted, from which pictures are made, and what it proves. It is
-/// refused as `check_on_graph` does.
+/// refused as `check_from` does.
 pub fn checked_certificate(
     alloc: Global,
     graph: &LineGraph,

@@ -17,9 +17,9 @@ use std::alloc::Global;
 use svg_writer::Names;
 
 /// The map of a line graph with the names of its stations at free places (SVG 1.1), by a certificate. All of the certificate
-/// is checked as `check_on_graph` does, with the same refusals: so the map shows exactly the line graph, in a legal drawing
+/// is checked as `check_from` does, with the same refusals: so the map shows exactly the line graph, in a legal drawing
 /// and with line orders of which the certificate proves what is claimed.
-pub fn labels_on_graph(
+pub fn labels_from(
     alloc: Global,
     graph: &LineGraph,
     names: &Names,

@@ -26,12 +26,12 @@ mod solution;
 mod solving;
 
 pub use checked::{Checked, CheckedMap, Proved};
-pub use checking::{check_on_graph, checked_certificate};
+pub use checking::{check_from, checked_certificate};
 pub use improvement::{ImprovedMap, Improvement};
 pub use items::first_difference;
 pub use kept_trees::Kept;
 pub use kept_walks::KeptWalks;
-pub use labelled::labels_on_graph;
+pub use labelled::labels_from;
 pub use laws::{
     each_certificate_is_read_from_its_text, each_other_text_is_refused_at_its_first_wrong_line,
     moves_change_walks_alone,

@@ -6,7 +6,7 @@ use Rattle.graph_maps.specs.Readings.{certificate_in}
 use Rattle.graph_maps.specs.Checking.{accepted_map, held_by}
 use Rattle.graph_maps.specs.Labelling.{labelled_of}
 use Rattle.graph_maps.proofs.Accepted.{accepted_made, labelled_by, refused_made}
-use Rattle.graph_maps.proofs.labelled.labels_on_graph.Goals as goal
+use Rattle.graph_maps.proofs.labelled.labels_from.Goals as goal
 
 pub returns-in_err-checked-clause-outcome : goal.returns-in_err-checked-clause-outcome
 returns-in_err-checked-clause-outcome c =

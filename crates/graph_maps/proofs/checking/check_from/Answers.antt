@@ -5,7 +5,7 @@ use Rattle.graph_maps.specs.Subjects.{told_by}
 use Rattle.graph_maps.specs.Readings.{certificate_in}
 use Rattle.graph_maps.specs.Checking.{PlainChecked, accepted_map, due_of, held_by}
 use Rattle.graph_maps.proofs.Accepted.{accepted_made, certified_by, refused_made}
-use Rattle.graph_maps.proofs.checking.check_on_graph.Goals as goal
+use Rattle.graph_maps.proofs.checking.check_from.Goals as goal
 
 pub returns-in_err-checked-clause-outcome : goal.returns-in_err-checked-clause-outcome
 returns-in_err-checked-clause-outcome c =
