@@ -12,11 +12,11 @@ ghost use Rattle.graph_maps.specs.Problems.{untangled_problem};
 ghost use Rattle.graph_maps.specs.Solving.{parts_in, solve_outcome};
 ghost use Rattle.graph_maps.specs.Stages.{plain_parts, Finds};
 
-use map_faults::MakeFault;
 use crate::solution::Solution;
 use crate::solving::solve_parts;
 use kept_trees::{Kept, SearchPlan};
 use map_base::{NoMemory, Sequence, Steps};
+use map_faults::MakeFault;
 use order_model::{Orders, Problem, cost_by_tables};
 use order_proof::Proof;
 use order_rules::lift;

@@ -97,7 +97,14 @@ pub fn make_improved_from<L: Ledger>(
     let (drawing, problem) = drawn_map(alloc, graph, importance, settings, method, last)?;
     let best = best_orders(alloc, problem, plan_of(settings, method), kept, steps)?;
     Ok(moved_map(
-        alloc, graph, names, importance, drawing, best, method.moves, moves,
+        alloc,
+        graph,
+        names,
+        importance,
+        drawing,
+        best,
+        method.moves,
+        moves,
     )?)
 }
 

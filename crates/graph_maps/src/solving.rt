@@ -16,10 +16,10 @@ ghost use Rattle.graph_maps.specs.Keeping.{finished_of, HoldsFinished};
 ghost use Rattle.graph_maps.specs.Solving.{parts_in, solve_outcome};
 ghost use Rattle.graph_maps.specs.Stages.{IsMore, IsUnsolved, Solves};
 
-use map_faults::MakeFault;
 use crate::solution::Solution;
 use kept_trees::{FoundPart, Kept, SearchPlan};
 use map_base::{LineId, NoMemory, SegId, Sequence, Steps};
+use map_faults::MakeFault;
 use order_model::{Problem, numbers_of, parts_of, terms_by_part};
 use order_proof::Part;
 use order_search::SearchFault;

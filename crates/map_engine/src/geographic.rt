@@ -63,6 +63,13 @@ pub fn geo_on_graph(
 {
     let names = names_of(alloc, tables)?;
     let importance = line_numbers(alloc, tables, settings)?;
-    let checked = checked_certificate(alloc, graph, importance.as_slice(), settings, claim, certificate)?;
+    let checked = checked_certificate(
+        alloc,
+        graph,
+        importance.as_slice(),
+        settings,
+        claim,
+        certificate,
+    )?;
     Ok(geographic(alloc, graph, &names, lines, &checked.orders)?)
 }

@@ -17,10 +17,7 @@ mod names;
 
 pub use checking::{check, check_certificate, check_on_graph};
 pub use geographic::{geo, geo_on_graph};
-pub use graph_maps::{
-    Checked, ImprovedMap, Improvement, Kept, Made, Proved, each_certificate_is_read_from_its_text,
-    first_difference,
-};
+pub use graph_maps::{Checked, ImprovedMap, Improvement, Kept, Made, Proved, first_difference};
 pub use importance::importance_of;
 pub use kept_drawing::LastDrawing;
 pub use labelled::{labels, labels_on_graph};
