@@ -138,7 +138,7 @@ fn moved_map(
     requires orders { AreOrders graph.now.lines best.orders.lists }
     ensures { IfOk result (IsWritten (told_by names.now importance.now) graph.now drawing.walks best first moves) }
 {
-    let (once, _) = moved(alloc, graph, drawing, first)?;
+    let (once, _earlier) = moved(alloc, graph, drawing, first)?;
     let (twice, improvement) = moved(alloc, graph, once, moves)?;
     let map = written(alloc, graph, names, importance, twice, best)?;
     Ok(ImprovedMap { map, improvement })
