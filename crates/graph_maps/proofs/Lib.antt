@@ -21,3 +21,4 @@ mod Promised
 mod TreeRanges
 mod RuleRanges
 mod CertificateRanges
+mod Alike

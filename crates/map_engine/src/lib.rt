@@ -17,9 +17,10 @@ mod names;
 
 pub use checking::{check, check_certificate, check_on_graph};
 pub use geographic::{geo, geo_on_graph};
-pub use graph_maps::{Checked, ImprovedMap, Improvement, Kept, Made, Proved, first_difference};
+pub use graph_maps::{Checked, ImprovedMap, Improvement, Made, Proved, first_difference};
 pub use importance::importance_of;
 pub use kept_drawing::LastDrawing;
+pub use kept_trees::Kept;
 pub use labelled::{labels, labels_on_graph};
 pub use laws::{
     maps_are_made_of_the_line_graph, moves_follow_routes_or_come_later,
