@@ -15,7 +15,7 @@ ghost use Rattle.graph_maps.specs.Checking.{accepted_items, accepted_map, accept
 ghost use Rattle.graph_maps.specs.Promises.{IsAcceptedOn, IsCertifiedOn, IsClaimed, ShowsAccepted};
 
 use crate::checked::{Checked, CheckedMap, Proved};
-use crate::drawn_lines::{drawn_lines, weighty_lines};
+use crate::drawn_lines::{drawn_lines, line_total, weighty_lines};
 use crate::items::{are_same_pairs, first_disorder};
 use cert_file::{Certificate, read_certificate};
 use graph_core::LineGraph;
@@ -94,7 +94,7 @@ fn check_items(
     ensures accepted { IfOk result (λ checked. ShowsAccepted importance.now settings.now claim graph.now (certificate_of certificate) (accepted_map checked)) }
 {
     let nodes = graph.nodes();
-    let lines = drawn_lines(alloc, graph, importance.len() as u32)?;
+    let lines = drawn_lines(alloc, graph, line_total(importance))?;
     if certificate.nodes != nodes
         || certificate.segs != graph.segs()
         || certificate.lines as usize != lines.len()

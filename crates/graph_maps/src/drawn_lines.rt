@@ -10,6 +10,14 @@ use graph_core::LineGraph;
 use map_base::{LineId, NoMemory, SegId};
 use std::alloc::Global;
 
+/// How many lines there are, by how much each counts.
+pub(crate) fn line_total(importance: &[u32]) -> u32
+    requires { length importance.now < 2 ^ 32 }
+    ensures { result ≡ length importance.now }
+{
+    importance.len() as u32
+}
+
 /// Of so many lines those that stand on segments of a graph, rising.
 pub(crate) fn drawn_lines(
     alloc: Global,

@@ -13,7 +13,7 @@ ghost use Rattle.graph_maps.specs.Promises.{IsMadeOn};
 
 use crate::best_orders::{BestOrders, best_orders};
 use crate::drawing::drawn_map;
-use crate::drawn_lines::{drawn_lines, weighty_lines};
+use crate::drawn_lines::{drawn_lines, line_total, weighty_lines};
 use crate::improvement::ImprovedMap;
 use crate::made::Made;
 use crate::moving::moved;
@@ -160,7 +160,7 @@ fn written(
 {
     let nodes = graph.nodes();
     let svg = picture(alloc, graph, names, &drawing, &best.orders)?;
-    let lines = drawn_lines(alloc, graph, importance.len() as u32)?;
+    let lines = drawn_lines(alloc, graph, line_total(importance))?;
     let weighty = weighty_lines(alloc, lines.as_slice(), importance)?;
     let certificate = Certificate {
         nodes,
