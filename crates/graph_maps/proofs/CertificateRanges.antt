@@ -378,7 +378,7 @@ pub made_by : (plan : SearchPlan) (subject : Subject) (choices : Choices) (drawn
 made_by plan subject choices drawn best parts whole drawing listed few numbers found =
     let limited : IsLimited subject.importance drawn parts = record {
       fits = drawing.fits;
-      walks = recursion_from_All IsWalk drawn.walks drawing.walks;
+      walks = recursion_from_All IsWalk drawn.walks drawing.are_walks;
       listed = listed;
       few_lines = few;
       numbers = numbers;

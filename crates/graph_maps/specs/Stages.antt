@@ -46,7 +46,7 @@ drawn_of graph d = record { graph = graph; walks = d.0.walks; problem = d.1 }
 -- walks are a legal drawing, with a walk for each segment, of a line graph that fits together
 pub record IsDrawing (graph : GraphParts) (walks : List PlainWalk) : Type 0 where
   pub fits : IsConsistent graph
-  pub walks : All IsWalk walks
+  pub are_walks : All IsWalk walks
   pub each : length walks ≡ length graph.ends
   pub legal : legal graph walks ≡ true
   pub first : first_illegal graph walks ≡ None
