@@ -16,11 +16,14 @@ use Rattle.map_engine.specs.Tables.{importance_among, importance_by, names_by, s
 abbrev HasNumber : List ℕ × ℕ → Type 0
 HasNumber p = IsImportance p.1
 
-among_in_range : (pairs : List (List ℕ × ℕ)) (id : List ℕ) → All HasNumber pairs → IsImportance (importance_among pairs id)
+among_in_range : (pairs : List (List ℕ × ℕ)) (id : List ℕ) → All HasNumber pairs
+    → IsImportance (importance_among pairs id)
 among_in_range [] id all = (omega arith, omega arith)
-among_in_range (p ∷ pairs) id all = by_test (bytes_eq p.0 id) (All-head HasNumber p pairs all) (among_in_range pairs id (All-tail HasNumber p pairs all))
+among_in_range (p ∷ pairs) id all = by_test (bytes_eq p.0 id) (All-head HasNumber p pairs all)
+    (among_in_range pairs id (All-tail HasNumber p pairs all))
   where
-    by_test : (b : Bool) → IsImportance p.1 → IsImportance (importance_among pairs id) → IsImportance (cond b p.1 (importance_among pairs id))
+    by_test : (b : Bool) → IsImportance p.1 → IsImportance (importance_among pairs id)
+        → IsImportance (cond b p.1 (importance_among pairs id))
     by_test true here rest = here
     by_test false here rest = rest
 
@@ -29,16 +32,19 @@ module _ (feed : Feed) (choices : Choices) where
   number l = importance_among choices.importance l.id
 
   pub numbers_in : All HasNumber choices.importance → All IsImportance (importance_by feed choices)
-  numbers_in all = All-map IsImportance number feed.lines (λ k d h. among_in_range choices.importance (get_or feed.lines k d).id all)
+  numbers_in all = All-map IsImportance number feed.lines
+      (λ k d h. among_in_range choices.importance (get_or feed.lines k d).id all)
 
   pub few_in : length feed.lines < 2 ^ 32 → length (importance_by feed choices) < 2 ^ 32
   few_in few = omega (arith, few, length-map feed.lines number)
 
-  pub listed_in : (graph : GraphParts) (numbers : List ℕ) → numbers ≡ importance_by feed choices → AreOfFeed feed graph → AreListed numbers graph
+  pub listed_in : (graph : GraphParts) (numbers : List ℕ) → numbers ≡ importance_by feed choices → AreOfFeed feed graph
+      → AreListed numbers graph
   listed_in graph numbers are of_feed =
       subst (λ (ns : List ℕ). AreListed ns graph) (sym are)
       (subst (λ (n : ℕ). All (All (λ (a : LineId). a.0 < n)) graph.lines) (sym (length-map feed.lines number)) of_feed)
 
-  pub subject_is : (names : Names) (numbers : List ℕ) → names ≡ names_by feed → numbers ≡ importance_by feed choices → told_by names numbers ≡ subject_of feed choices
+  pub subject_is : (names : Names) (numbers : List ℕ) → names ≡ names_by feed → numbers ≡ importance_by feed choices
+      → told_by names numbers ≡ subject_of feed choices
   subject_is names numbers named are =
       ap (λ (ns : Names). told_by ns numbers) named ∙ ap (told_by (names_by feed)) are

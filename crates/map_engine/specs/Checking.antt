@@ -14,10 +14,12 @@ use Rattle.graph_maps.specs.Checking.{PlainChecked, certificate_on, pictured}
 use Rattle.map_engine.specs.Tables.{subject_of}
 
 -- every item but the picture, by the line graph of the feed
-abbrev pub checked_text : Feed → Choices → Claim → GraphParts → Result PlainCertificate ℕ → Result PlainChecked CheckFault
+abbrev pub checked_text : Feed → Choices → Claim → GraphParts → Result PlainCertificate ℕ
+    → Result PlainChecked CheckFault
 checked_text feed choices claim graph read = certificate_on (subject_of feed choices) choices claim graph read
 
-abbrev pub checked_on : Feed → Choices → Claim → Result PlainCertificate ℕ → Result GraphParts Limit → Result PlainChecked CheckFault
+abbrev pub checked_on : Feed → Choices → Claim → Result PlainCertificate ℕ → Result GraphParts Limit
+    → Result PlainChecked CheckFault
 checked_on feed choices claim read (Err limit) = Err (fault.Limit limit)
 checked_on feed choices claim read (Ok graph) = checked_text feed choices claim graph read
 

@@ -15,4 +15,5 @@ finished_parts feed choices method = finished_in (plan_of choices method) (drawn
 
 -- how many branch nodes the searches of those parts of a feed's untangled problem meet that are not held
 abbrev pub branches_left : List HeldPart → Feed → Choices → MethodChoices → ℕ
-branches_left held feed choices method = missing_branches held (plan_of choices method) (drawn_outcome feed choices method)
+branches_left held feed choices method = missing_branches held (plan_of choices method)
+    (drawn_outcome feed choices method)

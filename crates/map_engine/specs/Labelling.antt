@@ -17,8 +17,10 @@ use Rattle.map_engine.specs.Promises.{IsCertified}
 
 -- A picture of a certificate: all items of the certificate are checked but the picture that is due; a text that is no
 -- certificate's is refused where its first wrong line begins.
-abbrev pub pictured_items : (PlainCertificate → List ℕ) → Feed → Choices → Claim → GraphParts → Result PlainCertificate ℕ → Result (List ℕ) CheckFault
-pictured_items draw feed choices claim graph read = accepted_text draw (importance_by feed choices) choices claim graph read
+abbrev pub pictured_items : (PlainCertificate → List ℕ) → Feed → Choices → Claim → GraphParts
+    → Result PlainCertificate ℕ → Result (List ℕ) CheckFault
+pictured_items draw feed choices claim graph read = accepted_text draw
+    (importance_by feed choices) choices claim graph read
 
 -- the walks and the orders of a certificate as a map with its names at free places
 abbrev pub labelled_by : Feed → GraphParts → PlainCertificate → List ℕ
@@ -28,7 +30,8 @@ labelled_by feed graph c = labelled_text (names_by feed) graph c.walks c.orders
 abbrev pub labelled_items : Feed → Choices → Claim → GraphParts → Result PlainCertificate ℕ → Result (List ℕ) CheckFault
 labelled_items feed choices claim graph read = pictured_items (labelled_by feed graph) feed choices claim graph read
 
-abbrev pub labels_on : Feed → Choices → Claim → Result PlainCertificate ℕ → Result GraphParts Limit → Result (List ℕ) CheckFault
+abbrev pub labels_on : Feed → Choices → Claim → Result PlainCertificate ℕ → Result GraphParts Limit
+    → Result (List ℕ) CheckFault
 labels_on feed choices claim read (Err limit) = Err (fault.Limit limit)
 labels_on feed choices claim read (Ok graph) = labelled_items feed choices claim graph read
 

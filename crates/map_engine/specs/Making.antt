@@ -20,7 +20,8 @@ over_graph makes (Err limit) = Err (fault.Limit limit)
 -- The drawing of a feed's line graph and the problem of its line orders: the graph comes first, then its walks, then the
 -- terms are counted.
 abbrev pub drawn_outcome : Feed → Choices → MethodChoices → Result Drawn MakeFault
-drawn_outcome feed choices method = over_graph (λ graph. drawn_on (importance_by feed choices) choices method graph) (graph_outcome choices.near feed)
+drawn_outcome feed choices method = over_graph (λ graph. drawn_on (importance_by feed choices) choices method graph)
+    (graph_outcome choices.near feed)
 
 -- The drawing of a feed and its line orders; or the first cause why there is none: a limit of the line graph or of
 -- cells, no route, a limit of terms, or a part of the untangled problem that is over the limit of places or over the

@@ -15,7 +15,8 @@ use Rattle.map_engine.specs.Tables.{subject_of}
 use Rattle.map_engine.specs.Checking.{check_outcome}
 
 -- the map shows exactly the line graph of the feed: a legal drawing of it, with line orders of which this is proved
-pub record ShowsLineGraph (feed : Feed) (choices : Choices) (claim : Claim) (svg : List ℕ) (proved : Proved) : Type 0 where
+pub record ShowsLineGraph (feed : Feed) (choices : Choices) (claim : Claim) (svg : List ℕ)
+    (proved : Proved) : Type 0 where
   pub graph : GraphParts
   pub of_feed : graph_outcome choices.near feed ≡ Ok graph
   pub shows : ShowsGraph (subject_of feed choices) choices claim graph svg proved
@@ -23,7 +24,8 @@ pub record ShowsLineGraph (feed : Feed) (choices : Choices) (claim : Claim) (svg
 -- A map that is certified by a certificate, whoever made the two: the bytes are a certificate's text; its walks are a legal
 -- drawing of the feed's line graph, and the map is the picture of it; its orders are orders of the segments, they cost so
 -- much, and none cost less than the bound, which is this cost where best orders are claimed. This is what a yes means.
-pub record IsCertified (feed : Feed) (choices : Choices) (claim : Claim) (svg bytes : List ℕ) (proved : Proved) : Type 0 where
+pub record IsCertified (feed : Feed) (choices : Choices) (claim : Claim) (svg bytes : List ℕ)
+    (proved : Proved) : Type 0 where
   pub certificate : PlainCertificate
   pub written : IsTextOf certificate bytes
   pub graph : GraphParts

@@ -32,8 +32,10 @@ pub fn check(
     svg: &[u8],
     certificate: &[u8],
 ) -> Result<Proved, CheckFault>
-    ensures outcome { Gives (λ proved. proved) result (check_outcome tables.now settings.now claim svg.now (certificate_in certificate.now)) }
-    ensures certified { IfOk result (λ proved. IsCertified tables.now settings.now claim svg.now certificate.now proved) }
+    ensures outcome { Gives (λ proved. proved) result
+        (check_outcome tables.now settings.now claim svg.now (certificate_in certificate.now)) }
+    ensures certified { IfOk result (λ proved. IsCertified tables.now settings.now claim svg.now certificate.now
+        proved) }
     ensures shown { IfOk result (λ proved. ShowsLineGraph tables.now settings.now claim svg.now proved) }
 {
     let checked = check_certificate(alloc, tables, settings, claim, certificate)?;
@@ -51,9 +53,12 @@ pub fn check_certificate(
     claim: Claim,
     certificate: &[u8],
 ) -> Result<Checked, CheckFault>
-    ensures outcome { Gives checked_bytes result (certificate_outcome tables.now settings.now claim (certificate_in certificate.now)) }
-    ensures certified { IfOk result (λ checked. IsCertified tables.now settings.now claim checked.svg.items certificate.now checked.proved) }
-    ensures shown { IfOk result (λ checked. ShowsLineGraph tables.now settings.now claim checked.svg.items checked.proved) }
+    ensures outcome { Gives checked_bytes result
+        (certificate_outcome tables.now settings.now claim (certificate_in certificate.now)) }
+    ensures certified { IfOk result (λ checked. IsCertified tables.now settings.now claim checked.svg.items
+        certificate.now checked.proved) }
+    ensures shown { IfOk result (λ checked. ShowsLineGraph tables.now settings.now claim checked.svg.items
+        checked.proved) }
 {
     let graph = build(alloc, tables, settings)?;
     check_on_graph(alloc, tables, settings, claim, &graph, certificate)
@@ -69,9 +74,12 @@ pub fn check_on_graph(
     certificate: &[u8],
 ) -> Result<Checked, CheckFault>
     requires { graph_outcome settings.now.near tables.now ≡ Ok graph.now }
-    ensures outcome { Gives checked_bytes result (checked_text tables.now settings.now claim graph.now (certificate_in certificate.now)) }
-    ensures certified { IfOk result (λ checked. IsCertified tables.now settings.now claim checked.svg.items certificate.now checked.proved) }
-    ensures shown { IfOk result (λ checked. ShowsLineGraph tables.now settings.now claim checked.svg.items checked.proved) }
+    ensures outcome { Gives checked_bytes result
+        (checked_text tables.now settings.now claim graph.now (certificate_in certificate.now)) }
+    ensures certified { IfOk result (λ checked. IsCertified tables.now settings.now claim checked.svg.items
+        certificate.now checked.proved) }
+    ensures shown { IfOk result (λ checked. ShowsLineGraph tables.now settings.now claim checked.svg.items
+        checked.proved) }
 {
     let names = names_of(alloc, tables)?;
     let importance = line_numbers(alloc, tables, settings)?;

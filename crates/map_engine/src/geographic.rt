@@ -30,7 +30,8 @@ pub fn geo(
     claim: Claim,
     certificate: &[u8],
 ) -> Result<Vec<u8>, CheckFault>
-    ensures outcome { Gives (λ map. map.items) result (geographic_outcome tables.now settings.now claim (certificate_in certificate.now)) }
+    ensures outcome { Gives (λ map. map.items) result
+        (geographic_outcome tables.now settings.now claim (certificate_in certificate.now)) }
     ensures certified { IfOk result (λ map. IsGeographicMap tables.now settings.now claim map.items certificate.now) }
 {
     let made = build_with_lines(alloc, tables, settings)?;
@@ -58,7 +59,8 @@ pub fn geo_on_graph(
     requires graph { graph_outcome settings.now.near tables.now ≡ Ok graph.now }
     requires lines { lines_outcome settings.now.near tables.now ≡ Ok lines.now }
     requires courses { All IsCourse lines.now }
-    ensures outcome { Gives (λ map. map.items) result (geographic_items tables.now settings.now claim graph.now lines.now (certificate_in certificate.now)) }
+    ensures outcome { Gives (λ map. map.items) result
+        (geographic_items tables.now settings.now claim graph.now lines.now (certificate_in certificate.now)) }
     ensures certified { IfOk result (λ map. IsGeographicMap tables.now settings.now claim map.items certificate.now) }
 {
     let names = names_of(alloc, tables)?;

@@ -44,7 +44,8 @@ pub(crate) fn line_numbers(
 
 /// The same by pairs of an id and a number.
 fn importance_in(alloc: Global, lines: &[Line], pairs: &[(Text, u32)]) -> Result<Vec<u32>, NoMemory>
-    ensures { IfOk result (λ numbers. numbers.items ≡ map (λ (l : FeedLine). importance_among pairs.now l.id) lines.now) }
+    ensures { IfOk result (λ numbers. numbers.items
+        ≡ map (λ (l : FeedLine). importance_among pairs.now l.id) lines.now) }
 {
     let mut numbers = Vec::with_capacity(alloc, lines.len())?;
     for line in lines {

@@ -27,7 +27,8 @@ pub fn labels(
     claim: Claim,
     certificate: &[u8],
 ) -> Result<Vec<u8>, CheckFault>
-    ensures outcome { Gives (λ map. map.items) result (labels_outcome tables.now settings.now claim (certificate_in certificate.now)) }
+    ensures outcome { Gives (λ map. map.items) result
+        (labels_outcome tables.now settings.now claim (certificate_in certificate.now)) }
     ensures certified { IfOk result (λ map. IsLabelledMap tables.now settings.now claim map.items certificate.now) }
 {
     let graph = build(alloc, tables, settings)?;
@@ -44,7 +45,8 @@ pub fn labels_on_graph(
     certificate: &[u8],
 ) -> Result<Vec<u8>, CheckFault>
     requires { graph_outcome settings.now.near tables.now ≡ Ok graph.now }
-    ensures outcome { Gives (λ map. map.items) result (labelled_items tables.now settings.now claim graph.now (certificate_in certificate.now)) }
+    ensures outcome { Gives (λ map. map.items) result
+        (labelled_items tables.now settings.now claim graph.now (certificate_in certificate.now)) }
     ensures certified { IfOk result (λ map. IsLabelledMap tables.now settings.now claim map.items certificate.now) }
 {
     let names = names_of(alloc, tables)?;

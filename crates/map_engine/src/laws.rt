@@ -18,17 +18,20 @@ ghost use Rattle.map_engine.specs.Improving.{improve_outcome};
 /// map that is made again with what was kept takes no step.
 pub fn what_was_made_is_not_searched_again()
     ensures { (feed : Feed) (choices : Choices) (method : MethodChoices) (made : MapBytes) (held : List HeldPart)
-        → make_outcome feed choices method ≡ Ok made → All (Contains held) (finished_parts feed choices method) → branches_left held feed choices method ≡ 0 }
+        → make_outcome feed choices method ≡ Ok made → All (Contains held) (finished_parts feed choices method)
+        → branches_left held feed choices method ≡ 0 }
 {}
 
 /// Where a map is made without moves and then improved by so many, it is the map that is made with so many.
 pub fn moves_follow_routes_or_come_later()
     ensures { (feed : Feed) (choices : Choices) (method : MethodChoices) (moves : ℕ) (improved : ImprovedBytes)
-        → improve_outcome feed choices (record method { moves = 0 }) moves ≡ Ok improved → make_outcome feed choices (record method { moves = moves }) ≡ Ok improved.map }
+        → improve_outcome feed choices (record method { moves = 0 }) moves ≡ Ok improved
+        → make_outcome feed choices (record method { moves = moves }) ≡ Ok improved.map }
 {}
 
 /// The map of a feed is made of its line graph, and of what its tables tell of stations and lines, alone.
 pub fn maps_are_made_of_the_line_graph()
     ensures { (feed : Feed) (choices : Choices) (method : MethodChoices) (graph : GraphParts)
-        → graph_outcome choices.near feed ≡ Ok graph → make_outcome feed choices method ≡ made_on (subject_of feed choices) choices method graph }
+        → graph_outcome choices.near feed ≡ Ok graph
+        → make_outcome feed choices method ≡ made_on (subject_of feed choices) choices method graph }
 {}

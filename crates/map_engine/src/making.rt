@@ -89,7 +89,8 @@ pub fn make_improved<L: Ledger>(
 
     // The map keeps what `make` promises. Its drawing is no heavier than before these moves, and all of them were made,
     // or none makes it lighter.
-    ensures improved { IfOk result (λ improved. IsImprovedMap tables.now settings.now method.now moves (improved_bytes improved)) }
+    ensures improved { IfOk result (λ improved. IsImprovedMap tables.now settings.now method.now moves
+        (improved_bytes improved)) }
 
     // What is held stays, each part that was finished is held, and no part that is held is searched again.
     ensures kept { All (Contains kept.new) kept.old }
@@ -117,7 +118,8 @@ fn make_with<L: Ledger>(
 
     // The map keeps what `make` promises. Its drawing is no heavier than before these moves, and all of them were made,
     // or none makes it lighter.
-    ensures improved { IfOk result (λ improved. IsImprovedMap tables.now settings.now method.now moves (improved_bytes improved)) }
+    ensures improved { IfOk result (λ improved. IsImprovedMap tables.now settings.now method.now moves
+        (improved_bytes improved)) }
 
     // What is held stays, each part that was finished is held, and no part that is held is searched again.
     ensures kept { All (Contains kept.new) kept.old }

@@ -14,39 +14,55 @@ use Rattle.map_engine.proofs.FeedMaps.{certified_of, shown_of}
 use Rattle.map_engine.proofs.checking.check_on_graph.Goals as goal
 
 pub check_from-requires-clause-numbers : goal.check_from-requires-clause-numbers
-check_from-requires-clause-numbers c = subst (All IsImportance) (sym c.as_slice.ensures.value) c.in_ok-importance.ensures.range
+check_from-requires-clause-numbers c = subst (All IsImportance)
+    (sym c.as_slice.ensures.value) c.in_ok-importance.ensures.range
 
 pub check_from-requires-clause-lines : goal.check_from-requires-clause-lines
 check_from-requires-clause-lines c =
-    listed_in c.args.tables.now c.args.settings.now c.args.graph.now c.as_slice.result.now (c.as_slice.ensures.value ∙ c.in_ok-importance.ensures.value)
+    listed_in c.args.tables.now c.args.settings.now c.args.graph.now c.as_slice.result.now
+    (c.as_slice.ensures.value ∙ c.in_ok-importance.ensures.value)
     (lines_of_feed c.args.settings.now.near c.args.tables.now c.args.graph.now c.requires)
 
 pub check_from-requires-clause-few : goal.check_from-requires-clause-few
-check_from-requires-clause-few c = subst (λ (ns : List ℕ). length ns < 2 ^ 32) (sym c.as_slice.ensures.value) c.in_ok-importance.ensures.few
+check_from-requires-clause-few c = subst (λ (ns : List ℕ). length ns < 2 ^ 32)
+    (sym c.as_slice.ensures.value) c.in_ok-importance.ensures.few
 
 pub returns-clause-outcome : goal.returns-clause-outcome
 returns-clause-outcome c =
-    let told = subject_is c.args.tables.now c.args.settings.now c.in_ok-names.names c.as_slice.result.now c.in_ok-names.ensures (c.as_slice.ensures.value ∙ c.in_ok-importance.ensures.value) in
-    subst (λ (s : Subject). Gives checked_bytes c.check_from.result (certificate_on s c.args.settings.now c.args.claim c.args.graph.now (certificate_in c.args.certificate.now))) told c.check_from.ensures.outcome
+    let told = subject_is c.args.tables.now c.args.settings.now c.in_ok-names.names c.as_slice.result.now
+    c.in_ok-names.ensures (c.as_slice.ensures.value ∙ c.in_ok-importance.ensures.value) in
+    subst (λ (s : Subject). Gives checked_bytes c.check_from.result
+    (certificate_on s c.args.settings.now c.args.claim c.args.graph.now (certificate_in c.args.certificate.now)))
+    told c.check_from.ensures.outcome
 
 pub returns-clause-certified : goal.returns-clause-certified
 returns-clause-certified c =
     let feed = c.args.tables.now in
     let choices = c.args.settings.now in
-    let told = subject_is feed choices c.in_ok-names.names c.as_slice.result.now c.in_ok-names.ensures (c.as_slice.ensures.value ∙ c.in_ok-importance.ensures.value) in
+    let told = subject_is feed choices c.in_ok-names.names c.as_slice.result.now c.in_ok-names.ensures
+    (c.as_slice.ensures.value ∙ c.in_ok-importance.ensures.value) in
     IfOk-weaker c.check_from.result
-    (λ (x : Checked). IsCertifiedOn (subject_of feed choices) choices c.args.claim c.args.graph.now x.svg.items c.args.certificate.now x.proved)
+    (λ (x : Checked). IsCertifiedOn (subject_of feed choices) choices c.args.claim c.args.graph.now x.svg.items
+    c.args.certificate.now x.proved)
     (λ (x : Checked). IsCertified feed choices c.args.claim x.svg.items c.args.certificate.now x.proved)
-    (λ x is. certified_of feed choices c.args.graph.now c.requires c.args.claim x.svg.items c.args.certificate.now x.proved is)
-    (subst (λ (s : Subject). IfOk c.check_from.result (λ (x : Checked). IsCertifiedOn s choices c.args.claim c.args.graph.now x.svg.items c.args.certificate.now x.proved)) told c.check_from.ensures.certified)
+    (λ x is. certified_of feed choices c.args.graph.now c.requires c.args.claim x.svg.items c.args.certificate.now
+    x.proved is)
+    (subst (λ (s : Subject). IfOk c.check_from.result
+    (λ (x : Checked). IsCertifiedOn s choices c.args.claim c.args.graph.now x.svg.items c.args.certificate.now
+    x.proved)) told c.check_from.ensures.certified)
 
 pub returns-clause-shown : goal.returns-clause-shown
 returns-clause-shown c =
     let feed = c.args.tables.now in
     let choices = c.args.settings.now in
-    let told = subject_is feed choices c.in_ok-names.names c.as_slice.result.now c.in_ok-names.ensures (c.as_slice.ensures.value ∙ c.in_ok-importance.ensures.value) in
+    let told = subject_is feed choices c.in_ok-names.names c.as_slice.result.now c.in_ok-names.ensures
+    (c.as_slice.ensures.value ∙ c.in_ok-importance.ensures.value) in
     IfOk-weaker c.check_from.result
-    (λ (x : Checked). IsCertifiedOn (subject_of feed choices) choices c.args.claim c.args.graph.now x.svg.items c.args.certificate.now x.proved)
+    (λ (x : Checked). IsCertifiedOn (subject_of feed choices) choices c.args.claim c.args.graph.now x.svg.items
+    c.args.certificate.now x.proved)
     (λ (x : Checked). ShowsLineGraph feed choices c.args.claim x.svg.items x.proved)
-    (λ x is. shown_of feed choices c.args.graph.now c.requires c.args.claim x.svg.items c.args.certificate.now x.proved is)
-    (subst (λ (s : Subject). IfOk c.check_from.result (λ (x : Checked). IsCertifiedOn s choices c.args.claim c.args.graph.now x.svg.items c.args.certificate.now x.proved)) told c.check_from.ensures.certified)
+    (λ x is. shown_of feed choices c.args.graph.now c.requires c.args.claim x.svg.items c.args.certificate.now x.proved
+    is)
+    (subst (λ (s : Subject). IfOk c.check_from.result
+    (λ (x : Checked). IsCertifiedOn s choices c.args.claim c.args.graph.now x.svg.items c.args.certificate.now
+    x.proved)) told c.check_from.ensures.certified)

@@ -14,6 +14,13 @@ returns-clause-outcome c =
     let feed = c.args.tables.now in
     let choices = c.args.settings.now in
     let read = certificate_in c.args.certificate.now in
-    subst (λ (graph : Result GraphParts Limit). Gives (λ (map : Vec ℕ Global). map.items) c.geo_on_graph.result (geographic_on feed choices c.args.claim read graph (lines_outcome choices.near feed))) (sym c.in_ok-made.ensures.graph)
-    (subst (λ (lines : Result (List (List Point)) Limit). Gives (λ (map : Vec ℕ Global). map.items) c.geo_on_graph.result (geographic_on feed choices c.args.claim read (Ok c.in_ok-made.made.graph) lines)) (sym c.in_ok-made.ensures.lines)
-    (subst (λ (lines : List (List Point)). Gives (λ (map : Vec ℕ Global). map.items) c.geo_on_graph.result (geographic_on feed choices c.args.claim read (Ok c.in_ok-made.made.graph) (Ok lines))) c.as_slice.ensures c.geo_on_graph.ensures.outcome))
+    subst (λ (graph : Result GraphParts Limit). Gives (λ (map : Vec ℕ Global). map.items) c.geo_on_graph.result
+    (geographic_on feed choices c.args.claim read graph (lines_outcome choices.near feed)))
+    (sym c.in_ok-made.ensures.graph)
+    (subst (λ (lines : Result (List (List Point)) Limit). Gives
+    (λ (map : Vec ℕ Global). map.items) c.geo_on_graph.result
+    (geographic_on feed choices c.args.claim read (Ok c.in_ok-made.made.graph) lines))
+    (sym c.in_ok-made.ensures.lines)
+    (subst (λ (lines : List (List Point)). Gives (λ (map : Vec ℕ Global). map.items) c.geo_on_graph.result
+    (geographic_on feed choices c.args.claim read (Ok c.in_ok-made.made.graph) (Ok lines))) c.as_slice.ensures
+    c.geo_on_graph.ensures.outcome))

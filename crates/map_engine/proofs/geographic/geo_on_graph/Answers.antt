@@ -18,20 +18,24 @@ use Rattle.map_engine.proofs.FeedMaps.{certified_of}
 use Rattle.map_engine.proofs.geographic.geo_on_graph.Goals as goal
 
 pub checked_certificate-requires-clause-numbers : goal.checked_certificate-requires-clause-numbers
-checked_certificate-requires-clause-numbers c = subst (All IsImportance) (sym c.as_slice.ensures.value) c.in_ok-importance.ensures.range
+checked_certificate-requires-clause-numbers c = subst (All IsImportance)
+    (sym c.as_slice.ensures.value) c.in_ok-importance.ensures.range
 
 pub checked_certificate-requires-clause-lines : goal.checked_certificate-requires-clause-lines
 checked_certificate-requires-clause-lines c =
-    listed_in c.args.tables.now c.args.settings.now c.args.graph.now c.as_slice.result.now (c.as_slice.ensures.value ∙ c.in_ok-importance.ensures.value)
+    listed_in c.args.tables.now c.args.settings.now c.args.graph.now c.as_slice.result.now
+    (c.as_slice.ensures.value ∙ c.in_ok-importance.ensures.value)
     (lines_of_feed c.args.settings.now.near c.args.tables.now c.args.graph.now c.requires.graph)
 
 pub checked_certificate-requires-clause-few : goal.checked_certificate-requires-clause-few
-checked_certificate-requires-clause-few c = subst (λ (ns : List ℕ). length ns < 2 ^ 32) (sym c.as_slice.ensures.value) c.in_ok-importance.ensures.few
+checked_certificate-requires-clause-few c = subst (λ (ns : List ℕ). length ns < 2 ^ 32)
+    (sym c.as_slice.ensures.value) c.in_ok-importance.ensures.few
 
 pub geographic-requires-clause-ordered : goal.geographic-requires-clause-ordered
 geographic-requires-clause-ordered c =
     let is = c.in_ok-checked.ensures.accepted in
-    subst (λ (orders : List (List LineId)). AreOrders c.args.graph.now.lines orders) (sym is.shows.orders) is.shows.ordered
+    subst (λ (orders : List (List LineId)). AreOrders c.args.graph.now.lines orders)
+    (sym is.shows.orders) is.shows.ordered
 
 pub returns-in_err-checked-clause-outcome : goal.returns-in_err-checked-clause-outcome
 returns-in_err-checked-clause-outcome c =
@@ -41,8 +45,10 @@ returns-in_err-checked-clause-outcome c =
     let read = certificate_in c.args.certificate.now in
     let e = c.in_err-checked.field-0.0 in
     let p = err_from_is_err_and c.from_residual-in_err-checked.result c.from_residual-in_err-checked.ensures.1 in
-    let cause = subst (λ (ns : List ℕ). HasCause (accepted_text held_by ns choices c.args.claim graph read) e) (c.as_slice.ensures.value ∙ c.in_ok-importance.ensures.value) c.in_err-checked.ensures.outcome in
-    rw (p.1, p.2) (refused_made (λ (a : AcceptedMap). geographic_text (names_by feed) graph c.args.lines.now a.orders) (importance_by feed choices) choices c.args.claim graph held_by read e cause)
+    let cause = subst (λ (ns : List ℕ). HasCause (accepted_text held_by ns choices c.args.claim graph read) e)
+    (c.as_slice.ensures.value ∙ c.in_ok-importance.ensures.value) c.in_err-checked.ensures.outcome in
+    rw (p.1, p.2) (refused_made (λ (a : AcceptedMap). geographic_text (names_by feed) graph c.args.lines.now a.orders)
+    (importance_by feed choices) choices c.args.claim graph held_by read e cause)
 
 pub returns-clause-outcome : goal.returns-clause-outcome
 returns-clause-outcome c =
@@ -52,9 +58,12 @@ returns-clause-outcome c =
     let read = certificate_in c.args.certificate.now in
     let a = accepted_map c.in_ok-checked.checked in
     let ok : List ℕ → Result (List ℕ) CheckFault = λ bytes. Ok bytes in
-    let accepted = subst (λ (ns : List ℕ). accepted_text held_by ns choices c.args.claim graph read ≡ Ok a) (c.as_slice.ensures.value ∙ c.in_ok-importance.ensures.value) c.in_ok-checked.ensures.outcome in
-    let drawn = c.in_ok-geographic.ensures ∙ ap (λ (ns : Names). geographic_text ns graph c.args.lines.now a.orders) c.in_ok-names.ensures in
-    accepted_made (λ (x : AcceptedMap). geographic_text (names_by feed) graph c.args.lines.now x.orders) (importance_by feed choices) choices c.args.claim graph held_by read a accepted
+    let accepted = subst (λ (ns : List ℕ). accepted_text held_by ns choices c.args.claim graph read ≡ Ok a)
+    (c.as_slice.ensures.value ∙ c.in_ok-importance.ensures.value) c.in_ok-checked.ensures.outcome in
+    let drawn = c.in_ok-geographic.ensures
+    ∙ ap (λ (ns : Names). geographic_text ns graph c.args.lines.now a.orders) c.in_ok-names.ensures in
+    accepted_made (λ (x : AcceptedMap). geographic_text (names_by feed) graph c.args.lines.now x.orders)
+    (importance_by feed choices) choices c.args.claim graph held_by read a accepted
     ∙ ap ok (sym drawn)
 
 pub returns-clause-certified : goal.returns-clause-certified
@@ -65,8 +74,10 @@ returns-clause-certified c =
     let a = accepted_map c.in_ok-checked.checked in
     let subject = subject_of feed choices in
     let picture = picture_text subject.names graph a.walks a.orders in
-    let is = subst (λ (ns : List ℕ). IsAcceptedOn ns choices c.args.claim graph c.args.certificate.now a) (c.as_slice.ensures.value ∙ c.in_ok-importance.ensures.value) c.in_ok-checked.ensures.accepted in
-    let drawn = c.in_ok-geographic.ensures ∙ ap (λ (ns : Names). geographic_text ns graph c.args.lines.now a.orders) c.in_ok-names.ensures in
+    let is = subst (λ (ns : List ℕ). IsAcceptedOn ns choices c.args.claim graph c.args.certificate.now a)
+    (c.as_slice.ensures.value ∙ c.in_ok-importance.ensures.value) c.in_ok-checked.ensures.accepted in
+    let drawn = c.in_ok-geographic.ensures
+    ∙ ap (λ (ns : Names). geographic_text ns graph c.args.lines.now a.orders) c.in_ok-names.ensures in
     record {
       picture = picture;
       proved = a.proved;
@@ -74,5 +85,6 @@ returns-clause-certified c =
           (certified_by subject choices c.args.claim graph c.args.certificate.now a is picture refl);
       lines = c.args.lines.now;
       of_feed = c.requires.lines;
-      drawn = drawn ∙ ap (λ (orders : List (List LineId)). geographic_text (names_by feed) graph c.args.lines.now orders) is.shows.orders;
+      drawn = drawn ∙ ap (λ (orders : List (List LineId)). geographic_text
+          (names_by feed) graph c.args.lines.now orders) is.shows.orders;
     }

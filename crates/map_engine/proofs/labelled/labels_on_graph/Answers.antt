@@ -14,28 +14,38 @@ use Rattle.map_engine.proofs.FeedMaps.{labelled_of}
 use Rattle.map_engine.proofs.labelled.labels_on_graph.Goals as goal
 
 pub labels_from-requires-clause-numbers : goal.labels_from-requires-clause-numbers
-labels_from-requires-clause-numbers c = subst (All IsImportance) (sym c.as_slice.ensures.value) c.in_ok-importance.ensures.range
+labels_from-requires-clause-numbers c = subst (All IsImportance)
+    (sym c.as_slice.ensures.value) c.in_ok-importance.ensures.range
 
 pub labels_from-requires-clause-lines : goal.labels_from-requires-clause-lines
 labels_from-requires-clause-lines c =
-    listed_in c.args.tables.now c.args.settings.now c.args.graph.now c.as_slice.result.now (c.as_slice.ensures.value ∙ c.in_ok-importance.ensures.value)
+    listed_in c.args.tables.now c.args.settings.now c.args.graph.now c.as_slice.result.now
+    (c.as_slice.ensures.value ∙ c.in_ok-importance.ensures.value)
     (lines_of_feed c.args.settings.now.near c.args.tables.now c.args.graph.now c.requires)
 
 pub labels_from-requires-clause-few : goal.labels_from-requires-clause-few
-labels_from-requires-clause-few c = subst (λ (ns : List ℕ). length ns < 2 ^ 32) (sym c.as_slice.ensures.value) c.in_ok-importance.ensures.few
+labels_from-requires-clause-few c = subst (λ (ns : List ℕ). length ns < 2 ^ 32)
+    (sym c.as_slice.ensures.value) c.in_ok-importance.ensures.few
 
 pub returns-clause-outcome : goal.returns-clause-outcome
 returns-clause-outcome c =
-    let told = subject_is c.args.tables.now c.args.settings.now c.in_ok-names.names c.as_slice.result.now c.in_ok-names.ensures (c.as_slice.ensures.value ∙ c.in_ok-importance.ensures.value) in
-    subst (λ (s : Subject). Gives (λ (v : Vec ℕ Global). v.items) c.labels_from.result (labelled_on s c.args.settings.now c.args.claim c.args.graph.now (certificate_in c.args.certificate.now))) told c.labels_from.ensures.outcome
+    let told = subject_is c.args.tables.now c.args.settings.now c.in_ok-names.names c.as_slice.result.now
+    c.in_ok-names.ensures (c.as_slice.ensures.value ∙ c.in_ok-importance.ensures.value) in
+    subst (λ (s : Subject). Gives (λ (v : Vec ℕ Global). v.items) c.labels_from.result
+    (labelled_on s c.args.settings.now c.args.claim c.args.graph.now (certificate_in c.args.certificate.now))) told
+    c.labels_from.ensures.outcome
 
 pub returns-clause-certified : goal.returns-clause-certified
 returns-clause-certified c =
     let feed = c.args.tables.now in
     let choices = c.args.settings.now in
-    let told = subject_is feed choices c.in_ok-names.names c.as_slice.result.now c.in_ok-names.ensures (c.as_slice.ensures.value ∙ c.in_ok-importance.ensures.value) in
+    let told = subject_is feed choices c.in_ok-names.names c.as_slice.result.now c.in_ok-names.ensures
+    (c.as_slice.ensures.value ∙ c.in_ok-importance.ensures.value) in
     IfOk-weaker c.labels_from.result
-    (λ (v : Vec ℕ Global). IsLabelledOn (subject_of feed choices) choices c.args.claim c.args.graph.now v.items c.args.certificate.now)
+    (λ (v : Vec ℕ Global). IsLabelledOn (subject_of feed choices) choices c.args.claim c.args.graph.now v.items
+    c.args.certificate.now)
     (λ (v : Vec ℕ Global). IsLabelledMap feed choices c.args.claim v.items c.args.certificate.now)
     (λ v is. labelled_of feed choices c.args.graph.now c.requires c.args.claim v.items c.args.certificate.now is)
-    (subst (λ (s : Subject). IfOk c.labels_from.result (λ (v : Vec ℕ Global). IsLabelledOn s choices c.args.claim c.args.graph.now v.items c.args.certificate.now)) told c.labels_from.ensures.certified)
+    (subst (λ (s : Subject). IfOk c.labels_from.result
+    (λ (v : Vec ℕ Global). IsLabelledOn s choices c.args.claim c.args.graph.now v.items c.args.certificate.now))
+    told c.labels_from.ensures.certified)

@@ -12,7 +12,8 @@ use Rattle.map_engine.proofs.making.make_again.Goals as goal
 pub returns-in_err-improved-clause-outcome : goal.returns-in_err-improved-clause-outcome
 returns-in_err-improved-clause-outcome g c =
     let same = err_from_is_err_and c.from_residual.result c.from_residual.ensures.1 in
-    rw (same.1, same.2) (none_of_none (subject_of c.args.tables.now c.args.settings.now) (solved_outcome c.args.tables.now c.args.settings.now c.args.method.now)
+    rw (same.1, same.2) (none_of_none (subject_of c.args.tables.now c.args.settings.now)
+    (solved_outcome c.args.tables.now c.args.settings.now c.args.method.now)
     c.in_err-improved.field-0.0 c.in_err-improved.ensures.outcome)
 
 pub returns-in_err-improved-clause-finished : goal.returns-in_err-improved-clause-finished
@@ -24,7 +25,8 @@ returns-in_err-improved-clause-finished g c =
 
 pub returns-clause-outcome : goal.returns-clause-outcome
 returns-clause-outcome g c =
-    made_of_none (subject_of c.args.tables.now c.args.settings.now) (solved_outcome c.args.tables.now c.args.settings.now c.args.method.now)
+    made_of_none (subject_of c.args.tables.now c.args.settings.now)
+    (solved_outcome c.args.tables.now c.args.settings.now c.args.method.now)
     (improved_bytes c.in_ok-improved.improved) c.in_ok-improved.ensures.outcome
 
 pub returns-clause-made : goal.returns-clause-made
