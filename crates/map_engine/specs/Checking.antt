@@ -23,8 +23,8 @@ abbrev pub checked_on : Feed → Choices → Claim → Result PlainCertificate �
 checked_on feed choices claim read (Err limit) = Err (fault.Limit limit)
 checked_on feed choices claim read (Ok graph) = checked_text feed choices claim graph read
 
--- Every item but the picture, by what the certificate's text is read as: what is proved of its orders and the picture that
--- is due, or the limit that is met or the item refused first.
+-- Every item but the picture, by what the certificate's text is read as: what is proved of its orders and the picture
+-- that is due, or the limit that is met or the item refused first.
 abbrev pub certificate_outcome : Feed → Choices → Claim → Result PlainCertificate ℕ → Result PlainChecked CheckFault
 certificate_outcome feed choices claim read = checked_on feed choices claim read (graph_outcome choices.near feed)
 

@@ -16,8 +16,8 @@ improve_outcome feed choices method moves = if_solved (improved_map (subject_of 
     (solved_outcome feed choices method)
 
 -- What moves promise of a map: it is one that is made, so it shows exactly the line graph, with what its certificate
--- proves of the line orders, and the check says yes to it and its certificate. Its drawing is no heavier than before, and
--- all moves were made, or none makes it lighter.
+-- proves of the line orders, and the check says yes to it and its certificate. Its drawing is no heavier than before,
+-- and all moves were made, or none makes it lighter.
 pub record IsImprovedMap (feed : Feed) (choices : Choices) (method : MethodChoices) (moves : ℕ)
     (improved : ImprovedBytes) : Type 0 where
   pub made : IsMade feed choices method.claim improved.map

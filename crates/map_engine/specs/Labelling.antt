@@ -35,13 +35,14 @@ abbrev pub labels_on : Feed → Choices → Claim → Result PlainCertificate �
 labels_on feed choices claim read (Err limit) = Err (fault.Limit limit)
 labels_on feed choices claim read (Ok graph) = labelled_items feed choices claim graph read
 
--- The map with its names, by what the certificate's text is read as; or the limit that is met, or the item refused first.
+-- The map with its names, by what the certificate's text is read as; or the limit that is met, or the item refused
+-- first.
 abbrev pub labels_outcome : Feed → Choices → Claim → Result PlainCertificate ℕ → Result (List ℕ) CheckFault
 labels_outcome feed choices claim read = labels_on feed choices claim read (graph_outcome choices.near feed)
 
--- A map with its names, by a certificate, whoever made that: the certificate certifies the picture that is due, as `check`
--- does, so its walks are a legal drawing of exactly the feed's line graph, with line orders of which this is proved; and
--- the map shows these walks and orders, with the names at free places.
+-- A map with its names, by a certificate, whoever made that: the certificate certifies the picture that is due, as
+-- `check` does, so its walks are a legal drawing of exactly the feed's line graph, with line orders of which this is
+-- proved; and the map shows these walks and orders, with the names at free places.
 pub record IsLabelledMap (feed : Feed) (choices : Choices) (claim : Claim) (map bytes : List ℕ) : Type 0 where
   pub picture : List ℕ
   pub proved : Proved

@@ -17,8 +17,8 @@ abbrev pub over_graph : {A : Type 0} → (GraphParts → Result A MakeFault) →
 over_graph makes (Ok graph) = makes graph
 over_graph makes (Err limit) = Err (fault.Limit limit)
 
--- The drawing of a feed's line graph and the problem of its line orders: the graph comes first, then its walks, then the
--- terms are counted.
+-- The drawing of a feed's line graph and the problem of its line orders: the graph comes first, then its walks, then
+-- the terms are counted.
 abbrev pub drawn_outcome : Feed → Choices → MethodChoices → Result Drawn MakeFault
 drawn_outcome feed choices method = over_graph (λ graph. drawn_on (importance_by feed choices) choices method graph)
     (graph_outcome choices.near feed)

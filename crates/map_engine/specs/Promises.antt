@@ -21,9 +21,10 @@ pub record ShowsLineGraph (feed : Feed) (choices : Choices) (claim : Claim) (svg
   pub of_feed : graph_outcome choices.near feed ≡ Ok graph
   pub shows : ShowsGraph (subject_of feed choices) choices claim graph svg proved
 
--- A map that is certified by a certificate, whoever made the two: the bytes are a certificate's text; its walks are a legal
--- drawing of the feed's line graph, and the map is the picture of it; its orders are orders of the segments, they cost so
--- much, and none cost less than the bound, which is this cost where best orders are claimed. This is what a yes means.
+-- A map that is certified by a certificate, whoever made the two: the bytes are a certificate's text; its walks are a
+-- legal drawing of the feed's line graph, and the map is the picture of it; its orders are orders of the segments, they
+-- cost so much, and none cost less than the bound, which is this cost where best orders are claimed. This is what a yes
+-- means.
 pub record IsCertified (feed : Feed) (choices : Choices) (claim : Claim) (svg bytes : List ℕ)
     (proved : Proved) : Type 0 where
   pub certificate : PlainCertificate
@@ -32,8 +33,8 @@ pub record IsCertified (feed : Feed) (choices : Choices) (claim : Claim) (svg by
   pub of_feed : graph_outcome choices.near feed ≡ Ok graph
   pub shows : ShowsCertified (subject_of feed choices) choices claim graph certificate svg proved
 
--- What is made keeps the promise: the map is certified by its certificate, so it shows exactly the line graph and no line
--- orders cost less than the bound; and the check says yes to the two, with this cost and bound.
+-- What is made keeps the promise: the map is certified by its certificate, so it shows exactly the line graph and no
+-- line orders cost less than the bound; and the check says yes to the two, with this cost and bound.
 pub record IsMade (feed : Feed) (choices : Choices) (claim : Claim) (made : MapBytes) : Type 0 where
   pub proved : Proved
   pub certified : IsCertified feed choices claim made.svg made.certificate proved

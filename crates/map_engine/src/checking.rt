@@ -19,11 +19,11 @@ use std::alloc::Global;
 use transit_feed::Tables;
 
 /// Whether a map and its certificate show exactly the line graph of a feed, in a legal drawing and with line orders of
-/// which the certificate proves what is claimed: then it answers what they cost, and what none cost less than. The items
-/// are checked in order: the certificate's text; the counts of the line graph; the importance of lines; the walks; the
-/// orders; their cost; the proof that none cost less than the sum of its targets, and that this is their cost where best
-/// orders are claimed; last the map, byte by byte. The first item that is refused is named. Whoever made map and
-/// certificate isn't trusted.
+/// which the certificate proves what is claimed: then it answers what they cost, and what none cost less than. The
+/// items are checked in order: the certificate's text; the counts of the line graph; the importance of lines; the
+/// walks; the orders; their cost; the proof that none cost less than the sum of its targets, and that this is their
+/// cost where best orders are claimed; last the map, byte by byte. The first item that is refused is named. Whoever
+/// made map and certificate isn't trusted.
 pub fn check(
     alloc: Global,
     tables: &Tables,

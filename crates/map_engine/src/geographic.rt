@@ -21,8 +21,8 @@ use std::alloc::Global;
 use transit_feed::Tables;
 
 /// The map of a feed over the courses of its segments, as they lie in the plane (SVG 1.1), by a certificate. All of the
-/// certificate is checked as `check_certificate` does, with the same refusals: so the map shows exactly the line graph of
-/// the feed, with line orders of which the certificate proves what is claimed.
+/// certificate is checked as `check_certificate` does, with the same refusals: so the map shows exactly the line graph
+/// of the feed, with line orders of which the certificate proves what is claimed.
 pub fn geo(
     alloc: Global,
     tables: &Tables,

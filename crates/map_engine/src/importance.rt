@@ -9,8 +9,8 @@ use map_base::{NoMemory, Settings, Text};
 use std::alloc::Global;
 use transit_feed::{Line, Tables};
 
-/// How much a crossing of each line counts, in the order of the lines: the number of the line's id in the settings, and 1
-/// where it has none.
+/// How much a crossing of each line counts, in the order of the lines: the number of the line's id in the settings, and
+/// 1 where it has none.
 pub fn importance_of(
     alloc: Global,
     tables: &Tables,

@@ -17,9 +17,9 @@ use map_method::Claim;
 use std::alloc::Global;
 use transit_feed::Tables;
 
-/// The map of a feed with the names of its stations at free places (SVG 1.1), by a certificate. All of the certificate is
-/// checked as `check_certificate` does, with the same refusals: so the map shows exactly the line graph of the feed, in a
-/// legal drawing and with line orders of which the certificate proves what is claimed.
+/// The map of a feed with the names of its stations at free places (SVG 1.1), by a certificate. All of the certificate
+/// is checked as `check_certificate` does, with the same refusals: so the map shows exactly the line graph of the feed,
+/// in a legal drawing and with line orders of which the certificate proves what is claimed.
 pub fn labels(
     alloc: Global,
     tables: &Tables,

@@ -14,8 +14,8 @@ ghost use Rattle.map_engine.specs.Keeping.{finished_parts, branches_left};
 ghost use Rattle.map_engine.specs.Making.{make_outcome};
 ghost use Rattle.map_engine.specs.Improving.{improve_outcome};
 
-/// Where the map of a feed is made, and each part that was finished is held since, no branch node is left to search. So a
-/// map that is made again with what was kept takes no step.
+/// Where the map of a feed is made, and each part that was finished is held since, no branch node is left to search. So
+/// a map that is made again with what was kept takes no step.
 pub fn what_was_made_is_not_searched_again()
     ensures { (feed : Feed) (choices : Choices) (method : MethodChoices) (made : MapBytes) (held : List HeldPart)
         → make_outcome feed choices method ≡ Ok made → All (Contains held) (finished_parts feed choices method)

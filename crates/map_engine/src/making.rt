@@ -21,10 +21,10 @@ use std::alloc::Global;
 use std::sync::ledger::Ledger;
 use transit_feed::Tables;
 
-/// The map of a feed and its certificate. The first cause why there is none is answered: a limit of the line graph or of
-/// the grid's cells, a segment without a walk, a limit of terms, or the first part of the untangled problem that is over
-/// the limit of places or whose search meets more branch nodes than the budget; where a bound is claimed, a part that is
-/// searched by dual prices is not refused for its budget. What `kept` holds changes none of this.
+/// The map of a feed and its certificate. The first cause why there is none is answered: a limit of the line graph or
+/// of the grid's cells, a segment without a walk, a limit of terms, or the first part of the untangled problem that is
+/// over the limit of places or whose search meets more branch nodes than the budget; where a bound is claimed, a part
+/// that is searched by dual prices is not refused for its budget. What `kept` holds changes none of this.
 pub fn make<L: Ledger>(
     alloc: Global,
     tables: &Tables,
@@ -35,8 +35,8 @@ pub fn make<L: Ledger>(
 ) -> Result<Made, MakeFault>
     ensures outcome { Gives bytes_of result (make_outcome tables.now settings.now method.now) }
 
-    // The map shows exactly the feed's line graph, in a legal drawing; no line orders of it cost less than the bound that
-    // its certificate proves, which is the cost where best orders are claimed; and the check says yes to the two.
+    // The map shows exactly the feed's line graph, in a legal drawing; no line orders of it cost less than the bound
+    // that its certificate proves, which is the cost where best orders are claimed; and the check says yes to the two.
     ensures made { IfOk result (λ made. IsMade tables.now settings.now method.now.claim (bytes_of made)) }
 
     // What is held stays, each part that was finished is held, and no part that is held is searched again.
@@ -48,8 +48,8 @@ pub fn make<L: Ledger>(
     make_again(alloc, tables, settings, method, &mut last, kept, steps)
 }
 
-/// The same where a map of the feed may have been drawn before: what `last` holds of the line graph and the drawing is taken
-/// again where nothing changed on which they depend. It changes none of what is made.
+/// The same where a map of the feed may have been drawn before: what `last` holds of the line graph and the drawing is
+/// taken again where nothing changed on which they depend. It changes none of what is made.
 pub fn make_again<L: Ledger>(
     alloc: Global,
     tables: &Tables,
@@ -61,8 +61,8 @@ pub fn make_again<L: Ledger>(
 ) -> Result<Made, MakeFault>
     ensures outcome { Gives bytes_of result (make_outcome tables.now settings.now method.now) }
 
-    // The map shows exactly the feed's line graph, in a legal drawing; no line orders of it cost less than the bound that
-    // its certificate proves, which is the cost where best orders are claimed; and the check says yes to the two.
+    // The map shows exactly the feed's line graph, in a legal drawing; no line orders of it cost less than the bound
+    // that its certificate proves, which is the cost where best orders are claimed; and the check says yes to the two.
     ensures made { IfOk result (λ made. IsMade tables.now settings.now method.now.claim (bytes_of made)) }
 
     // What is held stays, each part that was finished is held, and no part that is held is searched again.
@@ -75,7 +75,8 @@ pub fn make_again<L: Ledger>(
 }
 
 /// The map that `make` makes, and its certificate, after at most so many moves more on its drawing, and what these made
-/// of it. The line orders stay, and so does their proof. There is no map exactly where `make` makes none, for the same cause.
+/// of it. The line orders stay, and so does their proof. There is no map exactly where `make` makes none, for the same
+/// cause.
 pub fn make_improved<L: Ledger>(
     alloc: Global,
     tables: &Tables,
