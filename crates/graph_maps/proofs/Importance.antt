@@ -16,7 +16,8 @@ number_at importance all k = by_place (cases_lt k (length importance))
     by_place (inr h) = omega (arith, get_or_past importance k 1 h)
 
 -- all lines of a graph have their numbers
-pub have_importance : (importance : List ℕ) (graph : GraphParts) → All IsImportance importance → AreListed importance graph
+pub have_importance : (importance : List ℕ) (graph : GraphParts) → All IsImportance importance
+    → AreListed importance graph
     → HaveImportance importance graph.lines
 have_importance importance graph all listed = λ k d h i e below.
     (listed k d h i e below, all (get_or (get_or graph.lines k d) i e).0 0 (listed k d h i e below))

@@ -31,14 +31,17 @@ near_point few most p h e =
     (le-leb (unsigned_abs p.x) most (omega (arith, h, leb-true (unsigned_abs p.x) few parts.0)))
     (le-leb (unsigned_abs p.y) most (omega (arith, h, leb-true (unsigned_abs p.y) few parts.1)))
 
-pub near_more : (few most : ℕ) (walks : List PlainWalk) → few ≤ most → are_near few walks ≡ true → are_near most walks ≡ true
+pub near_more : (few most : ℕ) (walks : List PlainWalk) → few ≤ most → are_near few walks ≡ true
+    → are_near most walks ≡ true
 near_more few most walks h e =
     all_from (λ (w : PlainWalk). list_all (is_near most) (points_of w)) walks
     (λ w m. all_from (is_near most) (points_of w)
-    (λ p k. near_point few most p h (all_at (is_near few) (points_of w) p (all_at (λ (v : PlainWalk). list_all (is_near few) (points_of v)) walks w e m) k)))
+    (λ p k. near_point few most p h (all_at (is_near few) (points_of w) p
+    (all_at (λ (v : PlainWalk). list_all (is_near few) (points_of v)) walks w e m) k)))
 
 -- a drawing that was moved twice is whole where it was before
-pub whole_moved : (plan : SearchPlan) (importance : List ℕ) (choices : Choices) (drawn : Drawn) (parts : List SolvedPart)
+pub whole_moved : (plan : SearchPlan) (importance : List ℕ) (choices : Choices) (drawn : Drawn)
+    (parts : List SolvedPart)
     (first moves : ℕ) → IsWhole plan importance choices drawn parts
     → IsDrawing drawn.graph (after_moves moves (after_moves first drawn)).walks
     → IsWhole plan importance choices (after_moves moves (after_moves first drawn)) parts
@@ -55,7 +58,8 @@ whole_moved plan importance choices drawn parts first moves whole drawing = reco
 
 -- a drawing that was moved twice and then written
 pub written_by : (subject : Subject) (graph : GraphParts) (walks : List PlainWalk) (best : BestOrders) (first moves : ℕ)
-    (once twice : Drawing × Improvement) (map : Made) → IsMoved first graph walks once → IsMoved moves graph once.0.walks twice
+    (once twice : Drawing × Improvement) (map : Made) → IsMoved first graph walks once
+    → IsMoved moves graph once.0.walks twice
     → bytes_of map ≡ map_by subject graph twice.0.walks best
     → IsWritten subject graph walks best first moves (record { map = map; improvement = twice.1 })
 written_by subject graph walks best first moves once twice map one two made =
@@ -67,5 +71,6 @@ written_by subject graph walks best first moves once twice map one two made =
       improvement = two.improvement ∙ ap (improvement_of moves graph) one.drawn;
       no_heavier = two.no_heavier;
       to_the_end = subst (λ (ws : List PlainWalk). (twice.1.made ≡ moves) ⊎ (next_of graph start ws ≡ None)) last
-          (subst (λ (ws : List PlainWalk). (twice.1.made ≡ moves) ⊎ (next_of graph ws twice.0.walks ≡ None)) one.drawn two.to_the_end);
+          (subst (λ (ws : List PlainWalk). (twice.1.made ≡ moves) ⊎ (next_of graph ws twice.0.walks ≡ None)) one.drawn
+          two.to_the_end);
     }

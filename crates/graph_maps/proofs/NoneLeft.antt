@@ -22,12 +22,14 @@ use Rattle.graph_maps.specs.Keeping.{finished_in, finished_of, missing_branches}
 use Rattle.graph_maps.proofs.KeepLemmas.{missing_sum}
 
 -- where a part and those after it are solved, those after it are
-rest_solved : (s : SolvedPart) (outcome : Result (List SolvedPart) MakeFault) (done : List SolvedPart) → with_solved s outcome ≡ Ok done → (later : List SolvedPart) × (outcome ≡ Ok later)
+rest_solved : (s : SolvedPart) (outcome : Result (List SolvedPart) MakeFault) (done : List SolvedPart)
+    → with_solved s outcome ≡ Ok done → (later : List SolvedPart) × (outcome ≡ Ok later)
 rest_solved s (Ok later) done h = (later, refl)
 rest_solved s (Err stop) done h = absurd cc
 
 -- where all parts are solved, none of them is the first that is not
-all_taken : (plan : SearchPlan) (p : ProblemParts) (k : ℕ) (parts : List (List SegId)) (done : List SolvedPart) → solve_from plan p k parts ≡ Ok done → take_while (is_solvable plan p) parts ≡ parts
+all_taken : (plan : SearchPlan) (p : ProblemParts) (k : ℕ) (parts : List (List SegId)) (done : List SolvedPart)
+    → solve_from plan p k parts ≡ Ok done → take_while (is_solvable plan p) parts ≡ parts
 all_taken plan p k [] done h = refl
 all_taken plan p k (part ∷ parts) done h =
     by_found (part_outcome plan p part) refl h (λ later i. all_taken plan p (k + 1) parts later i)
@@ -45,32 +47,41 @@ all_taken plan p k (part ∷ parts) done h =
     by_found (Err why) is e more = absurd cc
 
 -- no branch nodes are to be met for parts that are held
-none_to_meet : (plan : SearchPlan) (held : List HeldPart) (p : ProblemParts) (parts : List (List SegId)) → AllByRecursion (Contains held) (map (held_as plan p) parts) → sum_by (branches_to_meet held plan p) parts ≡ 0
+none_to_meet : (plan : SearchPlan) (held : List HeldPart) (p : ProblemParts) (parts : List (List SegId))
+    → AllByRecursion (Contains held) (map (held_as plan p) parts) → sum_by (branches_to_meet held plan p) parts ≡ 0
 none_to_meet plan held p [] there = refl
 none_to_meet plan held p (part ∷ parts) there =
-    let none : branches_to_meet held plan p part ≡ 0 = ap (λ (b : Bool). cond b 0 (branches_met plan p part)) (in_is_held held (held_as plan p part) there.0) in
+    let none : branches_to_meet held plan p part
+    ≡ 0 = ap (λ (b : Bool). cond b 0 (branches_met plan p part)) (in_is_held held (held_as plan p part) there.0) in
     omega (arith, sum_by-cons (branches_to_meet held plan p) part parts, none, none_to_meet plan held p parts there.1)
 
 -- where the parts of a problem are solved and those that it finishes are held, none is missing
-none_missing : (plan : SearchPlan) (held : List HeldPart) (p : ProblemParts) (done : List SolvedPart) → solve_outcome plan p ≡ Ok done → All (Contains held) (finished_of plan p)
+none_missing : (plan : SearchPlan) (held : List HeldPart) (p : ProblemParts) (done : List SolvedPart)
+    → solve_outcome plan p ≡ Ok done → All (Contains held) (finished_of plan p)
     → sum_by (branches_to_meet held plan p) (parts_in p) ≡ 0
 none_missing plan held p done h there =
     none_to_meet plan held p (parts_in p)
     (recursion_from_All (Contains held) (map (held_as plan p) (parts_in p))
-    (subst (λ (parts : List (List SegId)). All (Contains held) (map (held_as plan p) parts)) (all_taken plan p 0 (parts_in p) done h) there))
+    (subst (λ (parts : List (List SegId)). All (Contains held) (map (held_as plan p) parts))
+    (all_taken plan p 0 (parts_in p) done h) there))
 
 -- where a map is made of a drawing, its parts are solved
-parts_solved : (subject : Subject) (moves : ℕ) (drawn : Drawn) (outcome : Result (List SolvedPart) MakeFault) (made : MapBytes)
-    → if_solved (solved_map subject) (solved_with moves drawn outcome) ≡ Ok made → (done : List SolvedPart) × (outcome ≡ Ok done)
+parts_solved : (subject : Subject) (moves : ℕ) (drawn : Drawn) (outcome : Result (List SolvedPart) MakeFault)
+    (made : MapBytes)
+    → if_solved (solved_map subject) (solved_with moves drawn outcome) ≡ Ok made
+    → (done : List SolvedPart) × (outcome ≡ Ok done)
 parts_solved subject moves drawn (Ok done) made h = (done, refl)
 parts_solved subject moves drawn (Err stop) made h = absurd cc
 
 -- where a map is made of what is drawn and each part that it finishes is held, no branch node is left
-pub none_left : (subject : Subject) (choices : Choices) (method : MethodChoices) (drawn : Result Drawn MakeFault) (made : MapBytes) (held : List HeldPart)
-    → if_solved (solved_map subject) (solved_of choices method drawn) ≡ Ok made → All (Contains held) (finished_in (plan_of choices method) drawn)
+pub none_left : (subject : Subject) (choices : Choices) (method : MethodChoices) (drawn : Result Drawn MakeFault)
+    (made : MapBytes) (held : List HeldPart)
+    → if_solved (solved_map subject) (solved_of choices method drawn) ≡ Ok made
+    → All (Contains held) (finished_in (plan_of choices method) drawn)
     → missing_branches held (plan_of choices method) drawn ≡ 0
 none_left subject choices method (Err stop) made held h there = refl
 none_left subject choices method (Ok drawn) made held h there =
     let p : ProblemParts = untangled_problem drawn.problem in
     let found = parts_solved subject method.moves drawn (solve_outcome (plan_of choices method) p) made h in
-    missing_sum (plan_of choices method) held p (parts_in p) ∙ none_missing (plan_of choices method) held p found.0 found.1 there
+    missing_sum (plan_of choices method) held p (parts_in p)
+    ∙ none_missing (plan_of choices method) held p found.0 found.1 there

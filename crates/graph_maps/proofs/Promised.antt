@@ -45,22 +45,27 @@ use Rattle.graph_maps.proofs.Accepting.{bound_none, targets_are, verdict_none}
 same_pairs : (pairs : List (LineId × ℕ)) → are_same_pairs pairs pairs ≡ true
 same_pairs [] = refl
 same_pairs (p ∷ pairs) =
-    and_from (p.0.0 == p.0.0 && p.1 == p.1) (are_same_pairs pairs pairs) (and_from (p.0.0 == p.0.0) (p.1 == p.1) (eq-eqb p.0.0 p.0.0 refl) (eq-eqb p.1 p.1 refl)) (same_pairs pairs)
+    and_from (p.0.0 == p.0.0 && p.1 == p.1) (are_same_pairs pairs pairs)
+    (and_from (p.0.0 == p.0.0) (p.1 == p.1) (eq-eqb p.0.0 p.0.0 refl) (eq-eqb p.1 p.1 refl)) (same_pairs pairs)
 
 same_bytes : (bytes : List ℕ) → first_difference bytes bytes ≡ None
 same_bytes [] = refl
 same_bytes (x ∷ xs) =
-    ap (λ (b : Bool). cond b (option_map (λ (at : ℕ). 1 + at) (first_difference xs xs)) (Some 0)) (eq-eqb x x refl) ∙ ap (option_map (λ (at : ℕ). 1 + at)) (same_bytes xs)
+    ap (λ (b : Bool). cond b (option_map (λ (at : ℕ). 1 + at) (first_difference xs xs)) (Some 0)) (eq-eqb x x refl)
+    ∙ ap (option_map (λ (at : ℕ). 1 + at)) (same_bytes xs)
 
 -- a permutation of the lines of a segment is an order of it
 
-all_pass : (test : LineId → Bool) (lines : List LineId) → All (λ (a : LineId). test a ≡ true) lines → list_all test lines ≡ true
+all_pass : (test : LineId → Bool) (lines : List LineId) → All (λ (a : LineId). test a ≡ true) lines
+    → list_all test lines ≡ true
 all_pass test [] all = refl
 all_pass test (a ∷ lines) all =
-    and_from (test a) (list_all test lines) (All-head (λ (b : LineId). test b ≡ true) a lines all) (all_pass test lines (All-tail (λ (b : LineId). test b ≡ true) a lines all))
+    and_from (test a) (list_all test lines) (All-head (λ (b : LineId). test b ≡ true) a lines all)
+    (all_pass test lines (All-tail (λ (b : LineId). test b ≡ true) a lines all))
 
 own_lines : (lines : List LineId) → All (λ (a : LineId). has_line lines a ≡ true) lines
-own_lines lines k d below = has_at lines k (get_or lines k d) below (ap (λ (a : LineId). a.0) (same_default lines k d (get_or lines k d) below))
+own_lines lines k d below = has_at lines k (get_or lines k d) below
+    (ap (λ (a : LineId). a.0) (same_default lines k d (get_or lines k d) below))
   where
     same_default : (ls : List LineId) (i : ℕ) (x y : LineId) → i < length ls → get_or ls i y ≡ get_or ls i x
     same_default [] i x y h = absurd (omega (arith, h))
@@ -71,16 +76,19 @@ is_order_of : (lines order : List LineId) → IsPermutation lines order → is_o
 is_order_of lines order moved =
     and_from (length order == length lines) (list_all (has_line lines) order)
     (eq-eqb (length order) (length lines) (length_permutation lines order moved))
-    (all_pass (has_line lines) order (All-permutation (λ (a : LineId). has_line lines a ≡ true) lines order moved (own_lines lines)))
+    (all_pass (has_line lines) order (All-permutation (λ (a : LineId). has_line lines a ≡ true) lines order moved
+    (own_lines lines)))
 
 abbrev seg_numbered : ℕ → SegId
 seg_numbered n = record { 0 = n }
 
-none_disordered : (k : ℕ) (segs orders : List (List LineId)) → AreOrders segs orders → first_disorder k segs orders ≡ None
+none_disordered : (k : ℕ) (segs orders : List (List LineId)) → AreOrders segs orders
+    → first_disorder k segs orders ≡ None
 none_disordered k [] orders are = refl
 none_disordered k (lines ∷ segs) [] are = absurd are
 none_disordered k (lines ∷ segs) (order ∷ orders) are =
-    ap (λ (b : Bool). cond b (first_disorder (k + 1) segs orders) (Some (seg_numbered k))) (is_order_of lines order are.0) ∙ none_disordered (k + 1) segs orders are.1
+    ap (λ (b : Bool). cond b (first_disorder (k + 1) segs orders) (Some (seg_numbered k)))
+    (is_order_of lines order are.0) ∙ none_disordered (k + 1) segs orders are.1
 
 held : (holds : Bool) (i : CheckItem) → holds ≡ true → refused_unless holds i ≡ None
 held holds i h = ap (λ (b : Bool). cond b None (Some i)) h
@@ -117,7 +125,8 @@ module _ (plan : SearchPlan) (subject : Subject) (choices : Choices) (drawn : Dr
 
   pub ordered : AreOrders drawn.graph.lines orders
   ordered =
-      subst (λ (lists : List (List LineId)). AreOrders lists orders) (segs_same plan subject.importance choices drawn parts whole)
+      subst (λ (lists : List (List LineId)). AreOrders lists orders)
+      (segs_same plan subject.importance choices drawn parts whole)
       (lifted_are p whole.fits (orders_by u parts) whole.ordered)
 
   -- the bound is what the targets sum to
@@ -131,12 +140,14 @@ module _ (plan : SearchPlan) (subject : Subject) (choices : Choices) (drawn : Dr
       lifted_cost p whole.fits (orders_by u parts) whole.ordered ∙ cost_is plan u fits parts segs whole.shown best
 
   -- the map shows the line graph, with the walks and the orders of its certificate
-  pub shows_certified : ShowsCertified subject choices plan.claim drawn.graph c (map_of subject drawn parts).svg (proved_by c)
+  pub shows_certified : ShowsCertified subject choices plan.claim drawn.graph c (map_of subject drawn parts).svg
+      (proved_by c)
   shows_certified = record {
     shown = record { each = whole.each; legal = whole.legal; ordered = ordered; picture = refl };
     bounded = record {
       costs = ap (λ (q : ProblemParts). cost_of q.terms orders) (sym whole.defined);
-      bound = subst (λ (lists : List (List LineId)). IsLowerBound lists (problem_of subject.importance choices drawn.graph).terms (proved_by c).bound)
+      bound = subst (λ (lists : List (List LineId)). IsLowerBound lists
+          (problem_of subject.importance choices drawn.graph).terms (proved_by c).bound)
           (segs_same plan subject.importance choices drawn parts whole)
           (subst (λ (q : ProblemParts). IsLowerBound p.segs q.terms (proved_by c).bound) whole.defined bound);
     };
@@ -172,11 +183,15 @@ module _ (plan : SearchPlan) (subject : Subject) (choices : Choices) (drawn : Dr
       let by_walks = unless_refused (walk_item graph c) by_orders in
       let by_importance = unless_refused (importance_item importance graph c) by_walks in
       let counts : graph_item importance graph c ≡ None =
-      held _ item.Graph (and_from (c.nodes == length graph.kinds && c.segs == length graph.ends) (c.lines == line_count importance graph)
-      (and_from (c.nodes == length graph.kinds) (c.segs == length graph.ends) (eq-eqb c.nodes c.nodes refl) (eq-eqb c.segs c.segs refl)) (eq-eqb c.lines c.lines refl)) in
-      let pairs : importance_item importance graph c ≡ None = held _ item.Importance (same_pairs (weighty_lines importance graph)) in
+      held _ item.Graph (and_from (c.nodes == length graph.kinds && c.segs == length graph.ends)
+      (c.lines == line_count importance graph)
+      (and_from (c.nodes == length graph.kinds) (c.segs == length graph.ends) (eq-eqb c.nodes c.nodes refl)
+      (eq-eqb c.segs c.segs refl)) (eq-eqb c.lines c.lines refl)) in
+      let pairs : importance_item importance graph c
+      ≡ None = held _ item.Importance (same_pairs (weighty_lines importance graph)) in
       let walks : walk_item graph c ≡ None = ap (option_map walk_refused) none_illegal in
-      let in_order : order_item graph c ≡ None = ap (option_map item.Order) (none_disordered 0 graph.lines orders ordered) in
+      let in_order : order_item graph c ≡ None = ap (option_map item.Order)
+      (none_disordered 0 graph.lines orders ordered) in
       let cost : cost_item p c.orders c.cost ≡ None = held _ item.Cost (eq-eqb c.cost c.cost refl) in
       let proof : proof_item claim p c.orders c.proof ≡ None = proof_holds claim refl in
       ap (λ (o : Option CheckItem). pictured svg (unless_refused o by_importance)) counts
@@ -184,14 +199,17 @@ module _ (plan : SearchPlan) (subject : Subject) (choices : Choices) (drawn : Dr
       ∙ ap (λ (o : Option CheckItem). pictured svg (unless_refused o by_orders)) walks
       ∙ ap (λ (o : Option CheckItem). pictured svg (unless_refused o by_terms)) in_order
       ∙ ap (λ (r : Result ProblemParts Limit). pictured svg (accepted_orders claim c due r)) whole.counted
-      ∙ ap (λ (o : Option CheckItem). pictured svg (unless_refused o (unless_refused (proof_item claim p c.orders c.proof) (Ok due)))) cost
+      ∙ ap (λ (o : Option CheckItem). pictured svg
+      (unless_refused o (unless_refused (proof_item claim p c.orders c.proof) (Ok due)))) cost
       ∙ ap (λ (o : Option CheckItem). pictured svg (unless_refused o (Ok due))) proof
       ∙ ap (λ (o : Option ℕ). unless_refused (option_map item.Picture o) (Ok (proved_by c))) (same_bytes svg)
 
 -- what is drawn and solved is whole
-pub whole_is : (importance : List ℕ) (choices : Choices) (method : MethodChoices) (graph : GraphParts) (drawn : Drawn) (best : BestOrders) (parts : List SolvedPart)
+pub whole_is : (importance : List ℕ) (choices : Choices) (method : MethodChoices) (graph : GraphParts) (drawn : Drawn)
+    (best : BestOrders) (parts : List SolvedPart)
     → drawn_on importance choices method graph ≡ Ok drawn → length drawn.walks ≡ length drawn.graph.ends
-    → legal drawn.graph drawn.walks ≡ true → drawn.problem ≡ problem_of importance choices drawn.graph → IsProblem drawn.problem
+    → legal drawn.graph drawn.walks ≡ true → drawn.problem ≡ problem_of importance choices drawn.graph
+    → IsProblem drawn.problem
     → solve_outcome (plan_of choices method) (untangled_problem drawn.problem) ≡ Ok parts
     → AreBestBy (plan_of choices method) drawn.problem parts best
     → IsWhole (plan_of choices method) importance choices drawn parts

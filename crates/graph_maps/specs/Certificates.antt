@@ -45,7 +45,8 @@ weighty_lines importance graph =
 abbrev pub proof_part : SolvedPart → PlainPart
 proof_part s = record { segs = s.segs; target = s.target; tree = s.tree }
 
--- the proof of a problem's line orders: the rules that untangle it, and the trees of the untangled problem's solved parts
+-- the proof of a problem's line orders: the rules that untangle it, and the trees of the untangled problem's solved
+-- parts
 abbrev pub proof_of : ProblemParts → List SolvedPart → PlainProof
 proof_of p parts = record { rules = untangling_rules p; parts = map proof_part parts }
 

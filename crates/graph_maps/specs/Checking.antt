@@ -38,8 +38,8 @@ refused_unless holds item = if holds then None else Some item
 
 -- the counts are those of the line graph
 abbrev pub graph_item : List ℕ → GraphParts → PlainCertificate → Option CheckItem
-graph_item importance graph c =
-    refused_unless (c.nodes == length graph.kinds && c.segs == length graph.ends && c.lines == line_count importance graph) item.Graph
+graph_item importance graph c = refused_unless
+    (c.nodes == length graph.kinds && c.segs == length graph.ends && c.lines == line_count importance graph) item.Graph
 
 -- the same lines with the same numbers
 abbrev pub are_same_pairs : List (LineId × ℕ) → List (LineId × ℕ) → Bool
@@ -50,7 +50,8 @@ are_same_pairs (p ∷ pairs) (q ∷ others) = p.0.0 == q.0.0 && p.1 == q.1 && ar
 
 -- the important lines are those of the line graph
 abbrev pub importance_item : List ℕ → GraphParts → PlainCertificate → Option CheckItem
-importance_item importance graph c = refused_unless (are_same_pairs (weighty_lines importance graph) c.importance) item.Importance
+importance_item importance graph c = refused_unless
+    (are_same_pairs (weighty_lines importance graph) c.importance) item.Importance
 
 -- the first walk that with its predecessors is not legal
 abbrev pub walk_refused : SegId × DrawWhy → CheckItem
@@ -78,8 +79,8 @@ order_item graph c = option_map item.Order (first_disorder 0 graph.lines c.order
 abbrev pub cost_item : ProblemParts → List (List LineId) → ℕ → Option CheckItem
 cost_item p orders cost = refused_unless (cost == cost_of p.terms orders) item.Cost
 
--- the first item of the proof that is refused: where best orders are claimed, the total of the targets is an item, which has
--- to be the cost of the orders
+-- the first item of the proof that is refused: where best orders are claimed, the total of the targets is an item,
+-- which has to be the cost of the orders
 abbrev pub proof_item : Claim → ProblemParts → List (List LineId) → PlainProof → Option CheckItem
 proof_item Best p orders proof = option_map item.Proof (verdict p orders proof)
 proof_item Bound p orders proof = option_map item.Proof (bound_refusal p proof)
@@ -107,29 +108,35 @@ abbrev pub proved_by : PlainCertificate → Proved
 proved_by c = record { cost = c.cost; bound = targets c.proof.parts }
 
 -- what comes next, unless the cost of orders or the proof of their bound is refused
-abbrev pub unless_costlier : {A : Type 0} → Claim → ProblemParts → List (List LineId) → ℕ → PlainProof → Result A CheckFault → Result A CheckFault
-unless_costlier claim p orders cost proof next = unless_refused (cost_item p orders cost) (unless_refused (proof_item claim p orders proof) next)
+abbrev pub unless_costlier : {A : Type 0} → Claim → ProblemParts → List (List LineId) → ℕ → PlainProof
+    → Result A CheckFault → Result A CheckFault
+unless_costlier claim p orders cost proof next = unless_refused (cost_item p orders cost)
+    (unless_refused (proof_item claim p orders proof) next)
 
 -- cost and proof, by the problem of the line graph
-abbrev pub accepted_orders : {A : Type 0} → Claim → PlainCertificate → A → Result ProblemParts Limit → Result A CheckFault
+abbrev pub accepted_orders : {A : Type 0} → Claim → PlainCertificate → A → Result ProblemParts Limit
+    → Result A CheckFault
 accepted_orders claim c given (Err limit) = Err (fault.Limit limit)
 accepted_orders claim c given (Ok p) = unless_costlier claim p c.orders c.cost c.proof (Ok given)
 
 -- walks and orders; then the terms are counted
-abbrev pub accepted_walks : {A : Type 0} → List ℕ → Choices → Claim → GraphParts → PlainCertificate → A → Result A CheckFault
+abbrev pub accepted_walks : {A : Type 0} → List ℕ → Choices → Claim → GraphParts → PlainCertificate → A
+    → Result A CheckFault
 accepted_walks importance choices claim graph c given =
     unless_refused (walk_item graph c) (unless_refused (order_item graph c)
     (accepted_orders claim c given (problem_within importance choices graph)))
 
 -- counts and importance come first
-abbrev pub accepted_items : {A : Type 0} → List ℕ → Choices → Claim → GraphParts → PlainCertificate → A → Result A CheckFault
+abbrev pub accepted_items : {A : Type 0} → List ℕ → Choices → Claim → GraphParts → PlainCertificate → A
+    → Result A CheckFault
 accepted_items importance choices claim graph c given =
     unless_refused (graph_item importance graph c)
     (unless_refused (importance_item importance graph c) (accepted_walks importance choices claim graph c given))
 
--- What is given of a certificate where each of its items is accepted, by what its text is read as; or the limit that is met
--- or the item that is refused first. A text that is no certificate's is refused where its first wrong line begins.
-abbrev pub accepted_text : {A : Type 0} → (PlainCertificate → A) → List ℕ → Choices → Claim → GraphParts → Result PlainCertificate ℕ → Result A CheckFault
+-- What is given of a certificate where each of its items is accepted, by what its text is read as; or the limit that is
+-- met or the item that is refused first. A text that is no certificate's is refused where its first wrong line begins.
+abbrev pub accepted_text : {A : Type 0} → (PlainCertificate → A) → List ℕ → Choices → Claim → GraphParts
+    → Result PlainCertificate ℕ → Result A CheckFault
 accepted_text gives importance choices claim graph (Err at) = Err (fault.Refuted (item.Text at))
 accepted_text gives importance choices claim graph (Ok c) = accepted_items importance choices claim graph c (gives c)
 
@@ -157,7 +164,8 @@ abbrev pub due_of : Names → GraphParts → AcceptedMap → PlainChecked
 due_of names graph a = record { proved = a.proved; svg = picture_text names graph a.walks a.orders }
 
 -- every item but the picture
-abbrev pub certificate_on : Subject → Choices → Claim → GraphParts → Result PlainCertificate ℕ → Result PlainChecked CheckFault
+abbrev pub certificate_on : Subject → Choices → Claim → GraphParts → Result PlainCertificate ℕ
+    → Result PlainChecked CheckFault
 certificate_on subject choices claim graph read =
     accepted_text (λ c. due_of subject.names graph (held_by c)) subject.importance choices claim graph read
 
@@ -166,9 +174,10 @@ abbrev pub pictured : List ℕ → Result PlainChecked CheckFault → Result Pro
 pictured svg (Err stop) = Err stop
 pictured svg (Ok checked) = unless_refused (picture_item checked.svg svg) (Ok checked.proved)
 
--- what is proved of a map of a line graph that is accepted with its certificate; or the limit that is met or the item that is
--- refused first
-abbrev pub check_on : Subject → Choices → Claim → GraphParts → List ℕ → Result PlainCertificate ℕ → Result Proved CheckFault
+-- what is proved of a map of a line graph that is accepted with its certificate; or the limit that is met or the item
+-- that is refused first
+abbrev pub check_on : Subject → Choices → Claim → GraphParts → List ℕ → Result PlainCertificate ℕ
+    → Result Proved CheckFault
 check_on subject choices claim graph svg read = pictured svg (certificate_on subject choices claim graph read)
 
 -- the fault is the one that comes by definition; want of memory is free

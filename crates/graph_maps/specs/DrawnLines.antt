@@ -15,4 +15,5 @@ after_segments (lines ∷ segs) marks = after_segments segs (after_lines lines m
 -- the lines that are marked, where the first mark is that of line n
 abbrev pub marked_lines : ℕ → List Bool → List LineId
 marked_lines n [] = []
-marked_lines n (mark ∷ marks) = if mark then record { 0 = n } ∷ marked_lines (n + 1) marks else marked_lines (n + 1) marks
+marked_lines n (mark ∷ marks) = if mark then record { 0 = n } ∷ marked_lines (n + 1) marks else marked_lines
+    (n + 1) marks

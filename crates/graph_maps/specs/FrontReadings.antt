@@ -19,7 +19,8 @@ and_then (Some x) next = next x.0 x.1
 abbrev pub all_at : {A : Type 0} → (ℕ → List ℕ → Option (A × List ℕ)) → ℕ → ℕ → List ℕ → Option (List A × List ℕ)
 all_at one k zero text = Some ([], text)
 all_at one k (suc more) text =
-    and_then (one k text) (λ a behind. and_then (all_at one (suc k) more behind) (λ others rest. Some (a ∷ others, rest)))
+    and_then (one k text) (λ a behind. and_then (all_at one (suc k) more behind)
+    (λ others rest. Some (a ∷ others, rest)))
 
 -- so many cases of a split: the line of each, and its tree
 abbrev pub cases_at : (List ℕ → Option (PlainTree × List ℕ)) → ℕ → List ℕ → Option (Cases × List ℕ)
@@ -49,7 +50,8 @@ prices_in most [] = None
 prices_in most (count ∷ numbers) = prices_from most 0 numbers
 
 -- a split with its cases
-abbrev pub split_with : (ℕ → List ℕ → Option (Cases × List ℕ)) → List ℕ → Option (SegId × ℕ) → Option (PlainTree × List ℕ)
+abbrev pub split_with : (ℕ → List ℕ → Option (Cases × List ℕ)) → List ℕ → Option (SegId × ℕ)
+    → Option (PlainTree × List ℕ)
 split_with cases text None = None
 split_with cases text (Some s) = and_then (cases s.1 text) (λ children rest. Some (split s.0 children, rest))
 
@@ -61,7 +63,8 @@ close_with text (Some prices) = Some (close prices, text)
 -- a tree, behind the line of its first node
 abbrev pub tree_with : (ℕ → List ℕ → Option (Cases × List ℕ)) → List ℕ × List ℤ → List ℕ → Option (PlainTree × List ℕ)
 tree_with cases line text =
-    if bytes_eq line.0 (codes "split") then split_with cases text (split_in line.1) else close_with text (prices_in most_price line.1)
+    if bytes_eq line.0 (codes "split") then split_with cases text (split_in line.1) else close_with text
+    (prices_in most_price line.1)
 
 -- a tree with at most so many splits on a way to a leaf
 unfoldable pub tree_at : ℕ → List ℕ → Option (PlainTree × List ℕ)
@@ -78,10 +81,12 @@ fork_in (e ∷ a ∷ b ∷ []) = fork_by (natural_within most_id e) (natural_wit
 fork_in numbers = None
 
 -- a fork with its two trees
-abbrev pub fork_with : (List ℕ → Option (PlainDual × List ℕ)) → List ℕ → Option (SegId × LineId × LineId) → Option (PlainDual × List ℕ)
+abbrev pub fork_with : (List ℕ → Option (PlainDual × List ℕ)) → List ℕ → Option (SegId × LineId × LineId)
+    → Option (PlainDual × List ℕ)
 fork_with below text None = None
 fork_with below text (Some s) =
-    and_then (below text) (λ first behind. and_then (below behind) (λ second rest. Some (fork s.0 s.1 s.2 first second, rest)))
+    and_then (below text) (λ first behind. and_then (below behind)
+    (λ second rest. Some (fork s.0 s.1 s.2 first second, rest)))
 
 -- a stop with its prices
 abbrev pub stop_with : List ℕ → Option (List (ℕ × ℤ)) → Option (PlainDual × List ℕ)
@@ -91,7 +96,8 @@ stop_with text (Some prices) = Some (stop prices, text)
 -- a dual tree, behind the line of its first node
 abbrev pub dual_with : (List ℕ → Option (PlainDual × List ℕ)) → List ℕ × List ℤ → List ℕ → Option (PlainDual × List ℕ)
 dual_with below line text =
-    if bytes_eq line.0 (codes "fork") then fork_with below text (fork_in line.1) else stop_with text (prices_in most_stop_price line.1)
+    if bytes_eq line.0 (codes "fork") then fork_with below text (fork_in line.1) else stop_with text
+    (prices_in most_stop_price line.1)
 
 -- a dual tree with at most so many forks on a way to a stop
 unfoldable pub dual_at : ℕ → List ℕ → Option (PlainDual × List ℕ)

@@ -27,7 +27,8 @@ improved_map subject moves solved = record {
 
 -- The map of a line graph, its drawing after at most so many moves more; or the cause why there is no map.
 abbrev pub improved_on : Subject → Choices → MethodChoices → ℕ → GraphParts → Result ImprovedBytes MakeFault
-improved_on subject choices method moves graph = if_solved (improved_map subject moves) (solved_on subject.importance choices method graph)
+improved_on subject choices method moves graph = if_solved (improved_map subject moves)
+    (solved_on subject.importance choices method graph)
 
 -- the bytes of what was improved
 abbrev pub improved_bytes : ImprovedMap → ImprovedBytes
@@ -37,10 +38,11 @@ improved_bytes improved = record { map = bytes_of improved.map; improvement = im
 abbrev pub IsAtTheEnd : ℕ → Drawn → ℕ → Type 0
 IsAtTheEnd moves drawn made = (made ≡ moves) ⊎ (next_of drawn.graph drawn.walks (after_moves moves drawn).walks ≡ None)
 
--- What moves promise of a map: it is one that is made, so it shows exactly the line graph, with what its certificate proves
--- of the line orders, and the check says yes to it and its certificate. Its drawing is no heavier than before, and all moves
--- were made, or none makes it lighter.
-pub record IsImprovedOn (subject : Subject) (choices : Choices) (method : MethodChoices) (graph : GraphParts) (moves : ℕ) (improved : ImprovedBytes) : Type 0 where
+-- What moves promise of a map: it is one that is made, so it shows exactly the line graph, with what its certificate
+-- proves of the line orders, and the check says yes to it and its certificate. Its drawing is no heavier than before,
+-- and all moves were made, or none makes it lighter.
+pub record IsImprovedOn (subject : Subject) (choices : Choices) (method : MethodChoices) (graph : GraphParts)
+    (moves : ℕ) (improved : ImprovedBytes) : Type 0 where
   pub made : IsMadeOn subject choices method.claim graph improved.map
   pub no_heavier : improved.improvement.after ≤ improved.improvement.before
   pub solved : SolvedMap

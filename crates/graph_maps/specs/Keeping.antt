@@ -27,7 +27,8 @@ finished_in plan (Err stop) = []
 finished_in plan (Ok drawn) = finished_of plan (untangled_problem drawn.problem)
 
 abbrev pub finished_on : List ℕ → Choices → MethodChoices → GraphParts → List HeldPart
-finished_on importance choices method graph = finished_in (plan_of choices method) (drawn_on importance choices method graph)
+finished_on importance choices method graph = finished_in (plan_of choices method)
+    (drawn_on importance choices method graph)
 
 -- every part that the map finishes is held afterwards, unless memory ran out
 abbrev pub HoldsFinished : {X : Type 0} → Result X MakeFault → List HeldPart → List HeldPart → Type 0
@@ -44,8 +45,10 @@ parts_missing held plan p = filter (λ part. not (is_held held (held_as plan p p
 -- how many branch nodes their searches meet
 abbrev pub missing_branches : List HeldPart → SearchPlan → Result Drawn MakeFault → ℕ
 missing_branches held plan (Err stop) = 0
-missing_branches held plan (Ok drawn) = let p = untangled_problem drawn.problem in sum_by (branches_met plan p) (parts_missing held plan p)
+missing_branches held plan (Ok drawn) = let p = untangled_problem drawn.problem in sum_by (branches_met plan p)
+    (parts_missing held plan p)
 
 -- how many branch nodes the searches of those parts of a line graph's untangled problem meet that are not held
 abbrev pub left_on : List HeldPart → List ℕ → Choices → MethodChoices → GraphParts → ℕ
-left_on held importance choices method graph = missing_branches held (plan_of choices method) (drawn_on importance choices method graph)
+left_on held importance choices method graph = missing_branches held (plan_of choices method)
+    (drawn_on importance choices method graph)

@@ -21,10 +21,11 @@ abbrev pub labelled_on : Subject → Choices → Claim → GraphParts → Result
 labelled_on subject choices claim graph read =
     accepted_text (λ c. labelled_of subject.names graph (held_by c)) subject.importance choices claim graph read
 
--- A map of a line graph with its names, by a certificate, whoever made that: the certificate certifies the picture that is
--- due, as `check_from` does, so its walks are a legal drawing of exactly this graph, with line orders of which this is
--- proved; and the map shows these walks and orders, with the names at free places.
-pub record IsLabelledOn (subject : Subject) (choices : Choices) (claim : Claim) (graph : GraphParts) (map bytes : List ℕ) : Type 0 where
+-- A map of a line graph with its names, by a certificate, whoever made that: the certificate certifies the picture that
+-- is due, as `check_from` does, so its walks are a legal drawing of exactly this graph, with line orders of which this
+-- is proved; and the map shows these walks and orders, with the names at free places.
+pub record IsLabelledOn (subject : Subject) (choices : Choices) (claim : Claim) (graph : GraphParts)
+    (map bytes : List ℕ) : Type 0 where
   pub picture : List ℕ
   pub proved : Proved
   pub certified : IsCertifiedOn subject choices claim graph picture bytes proved

@@ -37,19 +37,21 @@ pub record SolvedMap : Type 0 where
   pub drawn : Drawn
   pub parts : List SolvedPart
 
--- what comes of a drawing and the parts of its untangled problem: the drawing after at most so many moves, with the parts
+-- what comes of a drawing and the parts of its untangled problem: the drawing after at most so many moves, with the
+-- parts
 abbrev pub solved_with : ℕ → Drawn → Result (List SolvedPart) MakeFault → Result SolvedMap MakeFault
 solved_with moves drawn (Ok parts) = Ok (record { drawn = after_moves moves drawn; parts = parts })
 solved_with moves drawn (Err stop) = Err stop
 
 -- the same of the drawing of a line graph, where there is one
 abbrev pub solved_of : Choices → MethodChoices → Result Drawn MakeFault → Result SolvedMap MakeFault
-solved_of choices method (Ok drawn) = solved_with method.moves drawn (solve_outcome (plan_of choices method) (untangled_problem drawn.problem))
+solved_of choices method (Ok drawn) = solved_with method.moves drawn
+    (solve_outcome (plan_of choices method) (untangled_problem drawn.problem))
 solved_of choices method (Err stop) = Err stop
 
 -- The drawing of a line graph and its line orders; or the first cause why there is none: a limit of cells, no route, a
--- limit of terms, or a part of the untangled problem that is over the limit of places or over the budget. It never is want
--- of memory. The moves follow the routes, and no order depends on them.
+-- limit of terms, or a part of the untangled problem that is over the limit of places or over the budget. It never is
+-- want of memory. The moves follow the routes, and no order depends on them.
 abbrev pub solved_on : List ℕ → Choices → MethodChoices → GraphParts → Result SolvedMap MakeFault
 solved_on importance choices method graph = solved_of choices method (drawn_on importance choices method graph)
 
@@ -64,7 +66,8 @@ solved_map subject solved = map_of subject solved.drawn solved.parts
 
 -- The map of a line graph and its certificate; or the first cause why there is none.
 abbrev pub made_on : Subject → Choices → MethodChoices → GraphParts → Result MapBytes MakeFault
-made_on subject choices method graph = if_solved (solved_map subject) (solved_on subject.importance choices method graph)
+made_on subject choices method graph = if_solved (solved_map subject)
+    (solved_on subject.importance choices method graph)
 
 -- the bytes of what was made
 abbrev pub bytes_of : Made → MapBytes

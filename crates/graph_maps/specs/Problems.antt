@@ -18,7 +18,11 @@ use Rattle.map_faults.specs.Faults.{of_route}
 
 -- the problem of a graph's line orders: the lines of its segments and its terms
 abbrev pub problem_of : List ℕ → Choices → GraphParts → ProblemParts
-problem_of importance choices graph = record { segs = graph.lines; terms = graph_terms graph choices.weights importance }
+problem_of importance choices graph = record {
+  segs = graph.lines;
+  terms = graph_terms graph choices.weights
+      importance;
+}
 
 -- the same, unless there are too many terms
 abbrev pub problem_within : List ℕ → Choices → GraphParts → Result ProblemParts Limit
@@ -50,4 +54,5 @@ routed_by importance choices graph (Err stop) = Err (of_route stop)
 
 -- The drawing of a line graph and the problem of its line orders: its walks come first, then its terms are counted.
 abbrev pub drawn_on : List ℕ → Choices → MethodChoices → GraphParts → Result Drawn MakeFault
-drawn_on importance choices method graph = routed_by importance choices graph (route_outcome graph choices.cell method.spread method.finest)
+drawn_on importance choices method graph = routed_by importance choices graph
+    (route_outcome graph choices.cell method.spread method.finest)

@@ -19,17 +19,19 @@ use Rattle.graph_maps.specs.Making.{MapBytes}
 use Rattle.graph_maps.specs.Readings.{certificate_in}
 use Rattle.graph_maps.specs.Checking.{AcceptedMap, check_on}
 
--- a picture of this line graph: a legal drawing with a walk for each segment, in which the lines of each segment stand in
--- some order
-pub record IsPictureOf (subject : Subject) (graph : GraphParts) (walks : List PlainWalk) (orders : List (List LineId)) (svg : List ℕ) : Type 0 where
+-- a picture of this line graph: a legal drawing with a walk for each segment, in which the lines of each segment stand
+-- in some order
+pub record IsPictureOf (subject : Subject) (graph : GraphParts) (walks : List PlainWalk) (orders : List (List LineId))
+    (svg : List ℕ) : Type 0 where
   pub each : length walks ≡ length graph.ends
   pub legal : legal graph walks ≡ true
   pub ordered : AreOrders graph.lines orders
   pub picture : svg ≡ picture_text subject.names graph walks orders
 
--- the orders cost so much, and no line orders of the graph cost less than the bound; so they are best where the bound is
--- what they cost
-pub record AreBounded (importance : List ℕ) (choices : Choices) (graph : GraphParts) (orders : List (List LineId)) (proved : Proved) : Type 0 where
+-- the orders cost so much, and no line orders of the graph cost less than the bound; so they are best where the bound
+-- is what they cost
+pub record AreBounded (importance : List ℕ) (choices : Choices) (graph : GraphParts) (orders : List (List LineId))
+    (proved : Proved) : Type 0 where
   pub costs : cost_of (problem_of importance choices graph).terms orders ≡ proved.cost
   pub bound : IsLowerBound graph.lines (problem_of importance choices graph).terms proved.bound
 
@@ -39,7 +41,8 @@ IsClaimed Best proved = proved.bound ≡ proved.cost
 IsClaimed Bound proved = Unit {0}
 
 -- the map shows exactly this line graph: a legal drawing of it, with line orders of which this is proved
-pub record ShowsGraph (subject : Subject) (choices : Choices) (claim : Claim) (graph : GraphParts) (svg : List ℕ) (proved : Proved) : Type 0 where
+pub record ShowsGraph (subject : Subject) (choices : Choices) (claim : Claim) (graph : GraphParts) (svg : List ℕ)
+    (proved : Proved) : Type 0 where
   pub walks : List PlainWalk
   pub orders : List (List LineId)
   pub shown : IsPictureOf subject graph walks orders svg
@@ -47,22 +50,26 @@ pub record ShowsGraph (subject : Subject) (choices : Choices) (claim : Claim) (g
   pub claimed : IsClaimed claim proved
 
 -- the same with the walks and the orders of this certificate
-pub record ShowsCertified (subject : Subject) (choices : Choices) (claim : Claim) (graph : GraphParts) (certificate : PlainCertificate) (svg : List ℕ) (proved : Proved) : Type 0 where
+pub record ShowsCertified (subject : Subject) (choices : Choices) (claim : Claim) (graph : GraphParts)
+    (certificate : PlainCertificate) (svg : List ℕ) (proved : Proved) : Type 0 where
   pub shown : IsPictureOf subject graph certificate.walks certificate.orders svg
   pub bounded : AreBounded subject.importance choices graph certificate.orders proved
   pub claimed : IsClaimed claim proved
 
--- A map of a line graph that is certified by a certificate, whoever made the two: the bytes are a certificate's text; its
--- walks are a legal drawing of the graph, and the map is the picture of it; its orders are orders of the segments, they cost
--- so much, and none cost less than the bound, which is this cost where best orders are claimed. This is what a yes means.
-pub record IsCertifiedOn (subject : Subject) (choices : Choices) (claim : Claim) (graph : GraphParts) (svg bytes : List ℕ) (proved : Proved) : Type 0 where
+-- A map of a line graph that is certified by a certificate, whoever made the two: the bytes are a certificate's text;
+-- its walks are a legal drawing of the graph, and the map is the picture of it; its orders are orders of the segments,
+-- they cost so much, and none cost less than the bound, which is this cost where best orders are claimed. This is what
+-- a yes means.
+pub record IsCertifiedOn (subject : Subject) (choices : Choices) (claim : Claim) (graph : GraphParts)
+    (svg bytes : List ℕ) (proved : Proved) : Type 0 where
   pub certificate : PlainCertificate
   pub written : IsTextOf certificate bytes
   pub shows : ShowsCertified subject choices claim graph certificate svg proved
 
--- What an accepted certificate shows, before any picture: its walks are a legal drawing of the graph, and its orders are
--- orders of the segments of which this is proved.
-pub record ShowsAccepted (importance : List ℕ) (choices : Choices) (claim : Claim) (graph : GraphParts) (certificate : PlainCertificate) (a : AcceptedMap) : Type 0 where
+-- What an accepted certificate shows, before any picture: its walks are a legal drawing of the graph, and its orders
+-- are orders of the segments of which this is proved.
+pub record ShowsAccepted (importance : List ℕ) (choices : Choices) (claim : Claim) (graph : GraphParts)
+    (certificate : PlainCertificate) (a : AcceptedMap) : Type 0 where
   pub walks : a.walks ≡ certificate.walks
   pub orders : a.orders ≡ certificate.orders
   pub each : length certificate.walks ≡ length graph.ends
@@ -71,14 +78,16 @@ pub record ShowsAccepted (importance : List ℕ) (choices : Choices) (claim : Cl
   pub bounded : AreBounded importance choices graph certificate.orders a.proved
   pub claimed : IsClaimed claim a.proved
 
-pub record IsAcceptedOn (importance : List ℕ) (choices : Choices) (claim : Claim) (graph : GraphParts) (bytes : List ℕ) (a : AcceptedMap) : Type 0 where
+pub record IsAcceptedOn (importance : List ℕ) (choices : Choices) (claim : Claim) (graph : GraphParts) (bytes : List ℕ)
+    (a : AcceptedMap) : Type 0 where
   pub certificate : PlainCertificate
   pub written : IsTextOf certificate bytes
   pub shows : ShowsAccepted importance choices claim graph certificate a
 
--- What is made keeps the promise: the map is certified by its certificate, so it shows exactly the line graph and no line
--- orders cost less than the bound; and the check says yes to the two, with this cost and bound.
-pub record IsMadeOn (subject : Subject) (choices : Choices) (claim : Claim) (graph : GraphParts) (made : MapBytes) : Type 0 where
+-- What is made keeps the promise: the map is certified by its certificate, so it shows exactly the line graph and no
+-- line orders cost less than the bound; and the check says yes to the two, with this cost and bound.
+pub record IsMadeOn (subject : Subject) (choices : Choices) (claim : Claim) (graph : GraphParts)
+    (made : MapBytes) : Type 0 where
   pub proved : Proved
   pub certified : IsCertifiedOn subject choices claim graph made.svg made.certificate proved
   pub accepted : check_on subject choices claim graph made.svg (certificate_in made.certificate) ≡ Ok proved

@@ -10,7 +10,8 @@ use Rattle.graph_maps.specs.FrontReadings.{and_then, all_at, proof_at}
 
 -- the importance of lines, which version 2 alone has
 abbrev pub importance_at : ℕ → List ℕ → Option (List (LineId × ℕ) × List ℕ)
-importance_at version text = if version == 2 then spoken_front (codes "importance") importance_of text else Some ([], text)
+importance_at version text = if version == 2 then spoken_front (codes "importance") importance_of text else Some
+    ([], text)
 
 -- a certificate at the front of a text, line by line: the version, the counts, the importance of lines, the walks, the
 -- orders, the cost, the proof
@@ -31,6 +32,7 @@ unless_wrong (Err at) found = Err at
 unless_wrong (Ok used) None = Err used
 unless_wrong (Ok used) (Some x) = Ok x.0
 
--- The certificate whose text these bytes are; or, with Err, where the first line begins that has not the form due there.
+-- The certificate whose text these bytes are; or, with Err, where the first line begins that has not the form due
+-- there.
 unfoldable pub certificate_in : List ℕ → Result PlainCertificate ℕ
 certificate_in bytes = unless_wrong (certificate_end bytes) (certificate_at bytes)

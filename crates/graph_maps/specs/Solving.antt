@@ -27,8 +27,8 @@ is_found (Err why) = false
 abbrev pub is_solvable : SearchPlan → ProblemParts → List SegId → Bool
 is_solvable plan p part = is_found (part_outcome plan p part)
 
--- a part with what its search finds: what none of its orders cost less than, the tree that shows it, and the orders of its
--- segments that are printed
+-- a part with what its search finds: what none of its orders cost less than, the tree that shows it, and the orders of
+-- its segments that are printed
 pub record SolvedPart : Type 0 where
   pub segs : List SegId
   pub target : ℕ
@@ -44,7 +44,8 @@ with_solved first (Ok later) = Ok (first ∷ later)
 with_solved first (Err stop) = Err stop
 
 -- part k by what its search finds, before what comes of those after it; or why it is not solved
-abbrev pub solved_first : ℕ → List SegId → Result PartResult SearchFault → Result (List SolvedPart) MakeFault → Result (List SolvedPart) MakeFault
+abbrev pub solved_first : ℕ → List SegId → Result PartResult SearchFault → Result (List SolvedPart) MakeFault
+    → Result (List SolvedPart) MakeFault
 solved_first k part (Ok r) later = with_solved (solved part r) later
 solved_first k part (Err why) later = Err (of_search k why)
 

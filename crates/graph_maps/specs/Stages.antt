@@ -51,9 +51,10 @@ pub record IsDrawing (graph : GraphParts) (walks : List PlainWalk) : Type 0 wher
   pub legal : legal graph walks ≡ true
   pub first : first_illegal graph walks ≡ None
 
--- A drawing came of these walks by at most so many moves. It is legal, at most four steps farther from the origin and no
--- heavier, and all moves were made, or none makes it lighter.
-pub record IsMoved (moves : ℕ) (graph : GraphParts) (walks : List PlainWalk) (moved : Drawing × Improvement) : Type 0 where
+-- A drawing came of these walks by at most so many moves. It is legal, at most four steps farther from the origin and
+-- no heavier, and all moves were made, or none makes it lighter.
+pub record IsMoved (moves : ℕ) (graph : GraphParts) (walks : List PlainWalk)
+    (moved : Drawing × Improvement) : Type 0 where
   pub drawn : moved.0.walks ≡ walks_after moves graph walks
   pub drawing : IsDrawing graph moved.0.walks
   pub near : (most : ℕ) → are_near most walks ≡ true → are_near (most + 4) moved.0.walks ≡ true
@@ -143,7 +144,8 @@ map_by subject graph walks best = record {
 }
 
 -- a drawing that was moved twice, and then written with these line orders
-pub record IsWritten (subject : Subject) (graph : GraphParts) (walks : List PlainWalk) (best : BestOrders) (first moves : ℕ) (improved : ImprovedMap) : Type 0 where
+pub record IsWritten (subject : Subject) (graph : GraphParts) (walks : List PlainWalk) (best : BestOrders)
+    (first moves : ℕ) (improved : ImprovedMap) : Type 0 where
   pub map : bytes_of improved.map ≡ map_by subject graph (walks_after moves graph (walks_after first graph walks)) best
   pub drawing : IsDrawing graph (walks_after moves graph (walks_after first graph walks))
   pub improvement : improved.improvement ≡ improvement_of moves graph (walks_after first graph walks)

@@ -12,7 +12,8 @@ use Rattle.graph_maps.specs.Stages.{IsShown}
 
 -- what is known of a drawing whose untangled problem has its parts solved: it is legal, with
 -- a walk for each segment, and what the search finds of each part shows its target
-pub record IsWhole (plan : SearchPlan) (importance : List ℕ) (choices : Choices) (drawn : Drawn) (parts : List SolvedPart) : Type 0 where
+pub record IsWhole (plan : SearchPlan) (importance : List ℕ) (choices : Choices) (drawn : Drawn)
+    (parts : List SolvedPart) : Type 0 where
   pub each : length drawn.walks ≡ length drawn.graph.ends
   pub legal : legal drawn.graph drawn.walks ≡ true
   pub counted : problem_within importance choices drawn.graph ≡ Ok drawn.problem

@@ -37,7 +37,8 @@ pub(crate) struct BestOrders {
 }
 
 /// The line orders of a problem, with the proof of what none cost less than. The problem is untangled, the parts of the
-/// untangled problem are solved by this plan, and their orders are lifted. The first part of which nothing is found ends it.
+/// untangled problem are solved by this plan, and their orders are lifted. The first part of which nothing is found
+/// ends it.
 #[tactic(auto, using(crate::proofs::KeepLemmas::itself_held))]
 pub(crate) fn best_orders<L: Ledger>(
     alloc: Global,
@@ -52,7 +53,8 @@ pub(crate) fn best_orders<L: Ledger>(
     ensures orders { IfOk result (λ best. AreOrders problem.segs best.orders.lists) }
     ensures kept { All (Contains kept.new) kept.old }
     ensures finished { HoldsFinished result (finished_of plan (untangled_problem problem)) kept.new }
-    ensures steps { steps.new ≤ steps.old + sum_by (branches_to_meet kept.old plan (untangled_problem problem)) (parts_in (untangled_problem problem)) }
+    ensures steps { steps.new ≤ steps.old + sum_by (branches_to_meet kept.old plan (untangled_problem problem))
+        (parts_in (untangled_problem problem)) }
 {
     let (rules, untangled) = untangle(alloc, problem)?;
     let solution = solve_parts(alloc, &untangled, plan, kept, steps)?;
@@ -70,7 +72,8 @@ fn lifted(
     requires trees { HasTrees (record { rules = rules; parts = plain_parts solution }) }
     ensures orders { IfOk result (λ best. best.orders.lists ≡ lifted_all rules solution.orders.items) }
     ensures cost { IfOk result (λ best. best.cost ≡ cost_of untangled.now.terms solution.orders.items) }
-    ensures proof { IfOk result (λ best. plain_proof best.proof ≡ record { rules = rules; parts = plain_parts solution }) }
+    ensures proof { IfOk result (λ best. plain_proof best.proof
+        ≡ record { rules = rules; parts = plain_parts solution }) }
 {
     let orders = Orders {
         lists: Sequence::of(solution.orders),

@@ -31,9 +31,9 @@ use std::alloc::Global;
 use svg_writer::{Names, picture};
 
 /// What a certificate proves of the line orders of a line graph, and the picture that is due. The items are checked in
-/// order: the certificate's text; the counts of the line graph; the importance of lines; the walks; the orders; their cost;
-/// the proof that none cost less than the sum of its targets, and that this is their cost where best orders are claimed. The
-/// first item that is refused is named. Whoever made the certificate isn't trusted.
+/// order: the certificate's text; the counts of the line graph; the importance of lines; the walks; the orders; their
+/// cost; the proof that none cost less than the sum of its targets, and that this is their cost where best orders are
+/// claimed. The first item that is refused is named. Whoever made the certificate isn't trusted.
 pub fn check_from(
     alloc: Global,
     graph: &LineGraph,
@@ -46,8 +46,12 @@ pub fn check_from(
     requires numbers { All IsImportance importance.now }
     requires lines { AreListed importance.now graph.now }
     requires few { length importance.now < 2 ^ 32 }
-    ensures outcome { Gives checked_bytes result (certificate_on (told_by names.now importance.now) settings.now claim graph.now (certificate_in certificate.now)) }
-    ensures certified { IfOk result (λ checked. IsCertifiedOn (told_by names.now importance.now) settings.now claim graph.now checked.svg.items certificate.now checked.proved) }
+    ensures outcome { Gives checked_bytes result
+        (certificate_on (told_by names.now importance.now) settings.now claim graph.now
+        (certificate_in certificate.now)) }
+    ensures certified { IfOk result (λ checked. IsCertifiedOn
+        (told_by names.now importance.now) settings.now claim graph.now checked.svg.items certificate.now
+        checked.proved) }
 {
     let checked = checked_certificate(alloc, graph, importance, settings, claim, certificate)?;
     let svg = picture(alloc, graph, names, &checked.drawing, &checked.orders)?;
@@ -57,8 +61,8 @@ pub fn check_from(
     })
 }
 
-/// The drawing and the line orders of a certificate that is accepted, from which pictures are made, and what it proves. It is
-/// refused as `check_from` does.
+/// The drawing and the line orders of a certificate that is accepted, from which pictures are made, and what it proves.
+/// It is refused as `check_from` does.
 pub fn checked_certificate(
     alloc: Global,
     graph: &LineGraph,
@@ -70,8 +74,10 @@ pub fn checked_certificate(
     requires numbers { All IsImportance importance.now }
     requires lines { AreListed importance.now graph.now }
     requires few { length importance.now < 2 ^ 32 }
-    ensures outcome { Gives accepted_map result (accepted_text held_by importance.now settings.now claim graph.now (certificate_in certificate.now)) }
-    ensures accepted { IfOk result (λ checked. IsAcceptedOn importance.now settings.now claim graph.now certificate.now (accepted_map checked)) }
+    ensures outcome { Gives accepted_map result
+        (accepted_text held_by importance.now settings.now claim graph.now (certificate_in certificate.now)) }
+    ensures accepted { IfOk result (λ checked. IsAcceptedOn importance.now settings.now claim graph.now certificate.now
+        (accepted_map checked)) }
 {
     let read = read_certificate(alloc, certificate)?;
     check_items(alloc, graph, importance, settings, claim, read)
@@ -90,8 +96,11 @@ fn check_items(
     requires lines { AreListed importance.now graph.now }
     requires few { length importance.now < 2 ^ 32 }
     requires range { IsInRange (certificate_of certificate) }
-    ensures outcome { Gives accepted_map result (accepted_items importance.now settings.now claim graph.now (certificate_of certificate) (held_by (certificate_of certificate))) }
-    ensures accepted { IfOk result (λ checked. ShowsAccepted importance.now settings.now claim graph.now (certificate_of certificate) (accepted_map checked)) }
+    ensures outcome { Gives accepted_map result
+        (accepted_items importance.now settings.now claim graph.now (certificate_of certificate)
+        (held_by (certificate_of certificate))) }
+    ensures accepted { IfOk result (λ checked. ShowsAccepted importance.now settings.now claim graph.now
+        (certificate_of certificate) (accepted_map checked)) }
 {
     let nodes = graph.nodes();
     let lines = drawn_lines(alloc, graph, line_total(importance))?;
@@ -122,8 +131,11 @@ fn check_walks(
     requires lines { AreListed importance.now graph.now }
     requires range { IsInRange (certificate_of certificate) }
     requires segs { certificate.segs ≡ length graph.now.ends }
-    ensures outcome { Gives accepted_map result (accepted_walks importance.now settings.now claim graph.now (certificate_of certificate) (held_by (certificate_of certificate))) }
-    ensures accepted { IfOk result (λ checked. ShowsAccepted importance.now settings.now claim graph.now (certificate_of certificate) (accepted_map checked)) }
+    ensures outcome { Gives accepted_map result
+        (accepted_walks importance.now settings.now claim graph.now (certificate_of certificate)
+        (held_by (certificate_of certificate))) }
+    ensures accepted { IfOk result (λ checked. ShowsAccepted importance.now settings.now claim graph.now
+        (certificate_of certificate) (accepted_map checked)) }
 {
     let drawing = Drawing {
         walks: certificate.walks,
@@ -153,7 +165,9 @@ fn check_orders(
     proof: Proof,
 ) -> Result<u64, CheckFault>
     requires { AreOrders problem.segs orders.now.lists }
-    ensures outcome { Gives (λ bound. bound) result (unless_costlier claim problem orders.now.lists cost (plain_proof proof) (Ok (targets (plain_proof proof).parts))) }
+    ensures outcome { Gives (λ bound. bound) result
+        (unless_costlier claim problem orders.now.lists cost (plain_proof proof)
+        (Ok (targets (plain_proof proof).parts))) }
     ensures cost { IfOk result (λ _. cost_of problem.terms orders.now.lists ≡ cost) }
     ensures bound { IfOk result (IsLowerBound problem.segs problem.terms) }
     ensures claimed { IfOk result (λ bound. IsClaimed claim (record { cost = cost; bound = bound })) }

@@ -28,7 +28,8 @@ pub fn each_other_text_is_refused_at_its_first_wrong_line()
 /// Moves change the walks of a certificate alone: its orders, their cost and their proof stay.
 pub fn moves_change_walks_alone()
     ensures { (importance : List ℕ) (drawn : Drawn) (parts : List SolvedPart) (moves : ℕ)
-        → certificate_of importance (after_moves moves drawn) parts ≡ record (certificate_of importance drawn parts) { walks = walks_after moves drawn.graph drawn.walks } }
+        → certificate_of importance (after_moves moves drawn) parts
+        ≡ record (certificate_of importance drawn parts) { walks = walks_after moves drawn.graph drawn.walks } }
 {}
 
 /// The map of a line graph depends on no settings but the weights, the cell and the budget.

@@ -29,11 +29,11 @@ use std::alloc::Global;
 use std::sync::ledger::Ledger;
 use svg_writer::{Names, picture};
 
-/// The map of a line graph and its certificate, by the names of its stations and lines and a number from 1 to 16 for each
-/// line. The first cause why there is none is answered: a limit of the grid's cells, a segment without a walk, a limit of
-/// terms, or the first part of the untangled problem that is over the limit of places or whose search meets more branch
-/// nodes than the budget; where a bound is claimed, a part that is searched by dual prices is not refused for its budget.
-/// What `kept` holds changes none of this. Of the settings the weights, the cell and the budget count.
+/// The map of a line graph and its certificate, by the names of its stations and lines and a number from 1 to 16 for
+/// each line. The first cause why there is none is answered: a limit of the grid's cells, a segment without a walk, a
+/// limit of terms, or the first part of the untangled problem that is over the limit of places or whose search meets
+/// more branch nodes than the budget; where a bound is claimed, a part that is searched by dual prices is not refused
+/// for its budget. What `kept` holds changes none of this. Of the settings the weights, the cell and the budget count.
 pub fn make_from<L: Ledger>(
     alloc: Global,
     graph: &LineGraph,
@@ -47,11 +47,13 @@ pub fn make_from<L: Ledger>(
     requires numbers { All IsImportance importance.now }
     requires lines { AreListed importance.now graph.now }
     requires few { length importance.now < 2 ^ 32 }
-    ensures outcome { Gives bytes_of result (made_on (told_by names.now importance.now) settings.now method.now graph.now) }
+    ensures outcome { Gives bytes_of result
+        (made_on (told_by names.now importance.now) settings.now method.now graph.now) }
 
     // The map shows exactly the line graph, in a legal drawing; no line orders of it cost less than the bound that its
     // certificate proves, which is the cost where best orders are claimed; and the check says yes to the two.
-    ensures made { IfOk result (λ made. IsMadeOn (told_by names.now importance.now) settings.now method.now.claim graph.now (bytes_of made)) }
+    ensures made { IfOk result (λ made. IsMadeOn
+        (told_by names.now importance.now) settings.now method.now.claim graph.now (bytes_of made)) }
 
     // What is held stays, each part that was finished is held, and no part that is held is searched again.
     ensures kept { All (Contains kept.new) kept.old }
@@ -65,9 +67,9 @@ pub fn make_from<L: Ledger>(
     Ok(improved.map)
 }
 
-/// The same after at most so many moves more on its drawing, with what these made of it. The line orders stay, and so does
-/// their proof. A drawing that `last` holds is taken again where nothing changed on which it depends; that changes none of
-/// what is made. There is no map exactly where `make_from` makes none, for the same cause.
+/// The same after at most so many moves more on its drawing, with what these made of it. The line orders stay, and so
+/// does their proof. A drawing that `last` holds is taken again where nothing changed on which it depends; that changes
+/// none of what is made. There is no map exactly where `make_from` makes none, for the same cause.
 pub fn make_improved_from<L: Ledger>(
     alloc: Global,
     graph: &LineGraph,
@@ -83,11 +85,13 @@ pub fn make_improved_from<L: Ledger>(
     requires numbers { All IsImportance importance.now }
     requires lines { AreListed importance.now graph.now }
     requires few { length importance.now < 2 ^ 32 }
-    ensures outcome { Gives improved_bytes result (improved_on (told_by names.now importance.now) settings.now method.now moves graph.now) }
+    ensures outcome { Gives improved_bytes result
+        (improved_on (told_by names.now importance.now) settings.now method.now moves graph.now) }
 
-    // The map keeps what `make_from` promises. Its drawing is no heavier than before these moves, and all of them were made,
-    // or none makes it lighter.
-    ensures improved { IfOk result (λ improved. IsImprovedOn (told_by names.now importance.now) settings.now method.now graph.now moves (improved_bytes improved)) }
+    // The map keeps what `make_from` promises. Its drawing is no heavier than before these moves, and all of them were
+    // made, or none makes it lighter.
+    ensures improved { IfOk result (λ improved. IsImprovedOn
+        (told_by names.now importance.now) settings.now method.now graph.now moves (improved_bytes improved)) }
 
     // What is held stays, each part that was finished is held, and no part that is held is searched again.
     ensures kept { All (Contains kept.new) kept.old }
@@ -120,7 +124,8 @@ fn plan_of(settings: &Settings, method: &Method) -> SearchPlan
     }
 }
 
-/// The map of a drawing and its certificate after so many moves and then so many more, and what the last ones made of it.
+/// The map of a drawing and its certificate after so many moves and then so many more, and what the last ones made of
+/// it.
 fn moved_map(
     alloc: Global,
     graph: &LineGraph,
@@ -156,7 +161,8 @@ fn written(
     requires lines { AreListed importance.now graph.now }
     requires few { length importance.now < 2 ^ 32 }
     requires orders { AreOrders graph.now.lines best.orders.lists }
-    ensures { IfOk result (λ made. bytes_of made ≡ map_by (told_by names.now importance.now) graph.now drawing.walks best) }
+    ensures { IfOk result (λ made. bytes_of made
+        ≡ map_by (told_by names.now importance.now) graph.now drawing.walks best) }
 {
     let nodes = graph.nodes();
     let svg = picture(alloc, graph, names, &drawing, &best.orders)?;

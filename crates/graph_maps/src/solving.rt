@@ -26,9 +26,9 @@ use order_search::SearchFault;
 use std::alloc::Global;
 use std::sync::ledger::Ledger;
 
-/// The line orders of a problem, part by part, each with its proof, as they are found by this plan. The first part of which
-/// nothing is found ends it. The terms of all parts are gathered once. A part of which what is to be known is kept is not
-/// searched, and each part that is solved is kept.
+/// The line orders of a problem, part by part, each with its proof, as they are found by this plan. The first part of
+/// which nothing is found ends it. The terms of all parts are gathered once. A part of which what is to be known is
+/// kept is not searched, and each part that is solved is kept.
 #[tactic(auto, using(crate::proofs::KeepLemmas::itself_held))]
 pub(crate) fn solve_parts<L: Ledger>(
     alloc: Global,
@@ -172,8 +172,10 @@ fn take_found(
 ) -> Result<(), NoMemory>
     requires each { length found.orders.lists ≡ length part.now }
     requires known { All (λ (s : Seg). s.0 < length solution.old.orders.items) part.now }
-    ensures orders { OnOk result (solution.new.orders.items ≡ with_lists part.now found.orders.lists solution.old.orders.items) }
-    ensures parts { OnOk result (solution.new.parts.items ≡ solution.old.parts.items ++ record { segs = part.now; target = found.target; tree = found.tree } ∷ []) }
+    ensures orders { OnOk result (solution.new.orders.items
+        ≡ with_lists part.now found.orders.lists solution.old.orders.items) }
+    ensures parts { OnOk result (solution.new.parts.items
+        ≡ solution.old.parts.items ++ record { segs = part.now; target = found.target; tree = found.tree } ∷ []) }
 {
     let segs = Vec::from_slice(alloc, part)?;
     put_orders(&mut solution.orders, part, found.orders.lists.into_vec());

@@ -19,9 +19,12 @@ check_orders-requires c =
     let importance = c.args.importance.now in
     let lines = graph.lines in
     let orders = c.args.certificate.orders.lists in
-    let none : first_disorder 0 lines orders ≡ None = ap (first_disorder 0 lines) (sym c.as_slice.ensures) ∙ sym c.first_disorder.ensures ∙ c.in_default.is in
-    let held = orders_held lines orders 0 c.requires.range.orders (omega (arith, c.requires.range.orders_each, c.requires.segs, c.requires.fits.lines_each)) none in
-    let weights : c.settings.inside.weights ≡ c.args.settings.now.weights = ap (λ (choices : Choices). choices.weights) c.settings.view_is in
+    let none : first_disorder 0 lines orders ≡ None = ap (first_disorder 0 lines) (sym c.as_slice.ensures)
+    ∙ sym c.first_disorder.ensures ∙ c.in_default.is in
+    let held = orders_held lines orders 0 c.requires.range.orders
+    (omega (arith, c.requires.range.orders_each, c.requires.segs, c.requires.fits.lines_each)) none in
+    let weights : c.settings.inside.weights
+    ≡ c.args.settings.now.weights = ap (λ (choices : Choices). choices.weights) c.settings.view_is in
     let made : problem_within importance c.args.settings.now graph ≡ Ok c.in_ok-problem.problem =
     ap (λ (ws : List Weights). graph_problem graph ws importance) (sym weights) ∙ c.in_ok-problem.ensures in
     orders_fit importance c.args.settings.now graph c.in_ok-problem.problem orders made held
@@ -32,8 +35,10 @@ returns-clause-accepted c =
     let importance = c.args.importance.now in
     let lines = graph.lines in
     let orders = c.args.certificate.orders.lists in
-    let none : first_disorder 0 lines orders ≡ None = ap (first_disorder 0 lines) (sym c.as_slice.ensures) ∙ sym c.first_disorder.ensures ∙ c.in_default.is in
-    let weights : c.settings.inside.weights ≡ c.args.settings.now.weights = ap (λ (choices : Choices). choices.weights) c.settings.view_is in
+    let none : first_disorder 0 lines orders ≡ None = ap (first_disorder 0 lines) (sym c.as_slice.ensures)
+    ∙ sym c.first_disorder.ensures ∙ c.in_default.is in
+    let weights : c.settings.inside.weights
+    ≡ c.args.settings.now.weights = ap (λ (choices : Choices). choices.weights) c.settings.view_is in
     let made : problem_within importance c.args.settings.now graph ≡ Ok c.in_ok-problem.problem =
     ap (λ (ws : List Weights). graph_problem graph ws importance) (sym weights) ∙ c.in_ok-problem.ensures in
     record {
@@ -41,7 +46,8 @@ returns-clause-accepted c =
       orders = refl;
       each = c.requires.range.walks_each ∙ c.requires.segs;
       legal = c.in_ok-check_drawing.ensures.legal;
-      ordered = orders_held lines orders 0 c.requires.range.orders (omega (arith, c.requires.range.orders_each, c.requires.segs, c.requires.fits.lines_each)) none;
+      ordered = orders_held lines orders 0 c.requires.range.orders
+          (omega (arith, c.requires.range.orders_each, c.requires.segs, c.requires.fits.lines_each)) none;
       bounded = orders_bounded importance c.args.settings.now graph c.in_ok-problem.problem orders
           c.args.certificate.cost c.in_ok-bound.bound made c.in_ok-bound.ensures.cost c.in_ok-bound.ensures.bound;
       claimed = c.in_ok-bound.ensures.claimed;

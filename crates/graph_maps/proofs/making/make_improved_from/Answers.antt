@@ -29,16 +29,20 @@ use Rattle.graph_maps.proofs.making.make_improved_from.Goals as goal
 pub returns-in_err-drawing-clause-outcome : goal.returns-in_err-drawing-clause-outcome
 returns-in_err-drawing-clause-outcome g c =
     let same = err_from_is_err_and c.from_residual.result c.from_residual.ensures.1 in
-    rw (same.1, same.2) (not_drawn ImprovedBytes (improved_map (told_by c.args.names.now c.args.importance.now) c.args.moves) c.args.settings.now c.args.method.now
-    (drawn_on c.args.importance.now c.args.settings.now c.args.method.now c.args.graph.now) c.in_err-drawing.field-0.0 c.in_err-drawing.ensures.outcome)
+    rw (same.1, same.2) (not_drawn ImprovedBytes (improved_map (told_by c.args.names.now c.args.importance.now)
+    c.args.moves) c.args.settings.now c.args.method.now
+    (drawn_on c.args.importance.now c.args.settings.now c.args.method.now c.args.graph.now) c.in_err-drawing.field-0.0
+    c.in_err-drawing.ensures.outcome)
 
 pub returns-in_err-best-clause-outcome : goal.returns-in_err-best-clause-outcome
 returns-in_err-best-clause-outcome g c =
     let e = c.in_err-best.field-0.0 in
     let p = c.in_ok-drawing.problem in
-    let cause = subst (λ (plan : SearchPlan). HasCause (solve_outcome plan (untangled_problem p)) e) c.plan_of.ensures.plan c.in_err-best.ensures.found in
+    let cause = subst (λ (plan : SearchPlan). HasCause (solve_outcome plan (untangled_problem p)) e)
+    c.plan_of.ensures.plan c.in_err-best.ensures.found in
     let same = err_from_is_err_and c.from_residual-in_err-best.result c.from_residual-in_err-best.ensures.1 in
-    rw (same.1, same.2) (not_solved ImprovedBytes (improved_map (told_by c.args.names.now c.args.importance.now) c.args.moves) c.args.settings.now c.args.method.now
+    rw (same.1, same.2) (not_solved ImprovedBytes (improved_map (told_by c.args.names.now c.args.importance.now)
+    c.args.moves) c.args.settings.now c.args.method.now
     (drawn_on c.args.importance.now c.args.settings.now c.args.method.now c.args.graph.now)
     (drawn_of c.args.graph.now (c.in_ok-drawing.drawing, p)) e c.in_ok-drawing.ensures.outcome cause)
 
@@ -47,11 +51,13 @@ returns-in_err-best-clause-steps g c =
     let drawn = drawn_of c.args.graph.now (c.in_ok-drawing.drawing, c.in_ok-drawing.problem) in
     let p : ProblemParts = untangled_problem c.in_ok-drawing.problem in
     let plan = plan_of c.args.settings.now c.args.method.now in
-    let steps = subst (λ (q : SearchPlan). c.best_orders.new.steps ≤ c.args.steps.now + sum_by (branches_to_meet c.args.kept.now q p) (parts_in p)) c.plan_of.ensures.plan
+    let steps = subst (λ (q : SearchPlan). c.best_orders.new.steps ≤ c.args.steps.now + sum_by
+    (branches_to_meet c.args.kept.now q p) (parts_in p)) c.plan_of.ensures.plan
     c.best_orders.ensures.steps in
     omega (
       arith,
-      left_is c.args.kept.now plan (drawn_on c.args.importance.now c.args.settings.now c.args.method.now c.args.graph.now) drawn c.in_ok-drawing.ensures.outcome,
+      left_is c.args.kept.now plan (drawn_on c.args.importance.now c.args.settings.now c.args.method.now
+          c.args.graph.now) drawn c.in_ok-drawing.ensures.outcome,
       steps,
     )
 
@@ -60,11 +66,13 @@ returns-in_err-moved_map-clause-steps g c =
     let drawn = drawn_of c.args.graph.now (c.in_ok-drawing.drawing, c.in_ok-drawing.problem) in
     let p : ProblemParts = untangled_problem c.in_ok-drawing.problem in
     let plan = plan_of c.args.settings.now c.args.method.now in
-    let steps = subst (λ (q : SearchPlan). c.best_orders.new.steps ≤ c.args.steps.now + sum_by (branches_to_meet c.args.kept.now q p) (parts_in p)) c.plan_of.ensures.plan
+    let steps = subst (λ (q : SearchPlan). c.best_orders.new.steps ≤ c.args.steps.now + sum_by
+    (branches_to_meet c.args.kept.now q p) (parts_in p)) c.plan_of.ensures.plan
     c.best_orders.ensures.steps in
     omega (
       arith,
-      left_is c.args.kept.now plan (drawn_on c.args.importance.now c.args.settings.now c.args.method.now c.args.graph.now) drawn c.in_ok-drawing.ensures.outcome,
+      left_is c.args.kept.now plan (drawn_on c.args.importance.now c.args.settings.now c.args.method.now
+          c.args.graph.now) drawn c.in_ok-drawing.ensures.outcome,
       steps,
     )
 
@@ -73,11 +81,13 @@ returns-clause-steps g c =
     let drawn = drawn_of c.args.graph.now (c.in_ok-drawing.drawing, c.in_ok-drawing.problem) in
     let p : ProblemParts = untangled_problem c.in_ok-drawing.problem in
     let plan = plan_of c.args.settings.now c.args.method.now in
-    let steps = subst (λ (q : SearchPlan). c.best_orders.new.steps ≤ c.args.steps.now + sum_by (branches_to_meet c.args.kept.now q p) (parts_in p)) c.plan_of.ensures.plan
+    let steps = subst (λ (q : SearchPlan). c.best_orders.new.steps ≤ c.args.steps.now + sum_by
+    (branches_to_meet c.args.kept.now q p) (parts_in p)) c.plan_of.ensures.plan
     c.best_orders.ensures.steps in
     omega (
       arith,
-      left_is c.args.kept.now plan (drawn_on c.args.importance.now c.args.settings.now c.args.method.now c.args.graph.now) drawn c.in_ok-drawing.ensures.outcome,
+      left_is c.args.kept.now plan (drawn_on c.args.importance.now c.args.settings.now c.args.method.now
+          c.args.graph.now) drawn c.in_ok-drawing.ensures.outcome,
       steps,
     )
 
@@ -88,7 +98,8 @@ pub returns-in_err-drawing-clause-finished : goal.returns-in_err-drawing-clause-
 returns-in_err-drawing-clause-finished g c =
     let same = err_from_is_err_and c.from_residual.result c.from_residual.ensures.1 in
     rw (same.1, same.2) (nothing_finished ImprovedMap (plan_of c.args.settings.now c.args.method.now)
-    (drawn_on c.args.importance.now c.args.settings.now c.args.method.now c.args.graph.now) c.args.kept.now c.in_err-drawing.field-0.0 c.in_err-drawing.ensures.outcome)
+    (drawn_on c.args.importance.now c.args.settings.now c.args.method.now c.args.graph.now) c.args.kept.now
+    c.in_err-drawing.field-0.0 c.in_err-drawing.ensures.outcome)
 
 pub returns-in_err-best-clause-finished : goal.returns-in_err-best-clause-finished
 returns-in_err-best-clause-finished g c =
@@ -96,9 +107,12 @@ returns-in_err-best-clause-finished g c =
     let p = c.in_ok-drawing.problem in
     let held = c.best_orders.new.kept in
     let parts = finished_on c.args.importance.now c.args.settings.now c.args.method.now c.args.graph.now in
-    let of_problem = subst (λ (plan : SearchPlan). HoldsFinished {X = BestOrders} (Err e) (finished_of plan (untangled_problem p)) held) c.plan_of.ensures.plan c.in_err-best.ensures.finished in
-    let of_graph = subst (λ (ps : List HeldPart). HoldsFinished {X = BestOrders} (Err e) ps held) (sym (finished_is (plan_of c.args.settings.now c.args.method.now)
-    (drawn_on c.args.importance.now c.args.settings.now c.args.method.now c.args.graph.now) (drawn_of c.args.graph.now (c.in_ok-drawing.drawing, p)) c.in_ok-drawing.ensures.outcome)) of_problem in
+    let of_problem = subst (λ (plan : SearchPlan). HoldsFinished {X = BestOrders} (Err e)
+    (finished_of plan (untangled_problem p)) held) c.plan_of.ensures.plan c.in_err-best.ensures.finished in
+    let of_graph = subst (λ (ps : List HeldPart). HoldsFinished {X = BestOrders} (Err e) ps held)
+    (sym (finished_is (plan_of c.args.settings.now c.args.method.now)
+    (drawn_on c.args.importance.now c.args.settings.now c.args.method.now c.args.graph.now)
+    (drawn_of c.args.graph.now (c.in_ok-drawing.drawing, p)) c.in_ok-drawing.ensures.outcome)) of_problem in
     let same = err_from_is_err_and c.from_residual-in_err-best.result c.from_residual-in_err-best.ensures.1 in
     rw (same.1, same.2) (same_held BestOrders ImprovedMap e parts held of_graph)
 
@@ -106,13 +120,17 @@ pub returns-clause-finished : goal.returns-clause-finished
 returns-clause-finished g c =
     let p = c.in_ok-drawing.problem in
     let held = c.best_orders.new.kept in
-    let of_problem = subst (λ (plan : SearchPlan). All (Contains held) (finished_of plan (untangled_problem p))) c.plan_of.ensures.plan c.in_ok-best.ensures.finished in
-    subst (λ (parts : List HeldPart). All (Contains held) parts) (sym (finished_is (plan_of c.args.settings.now c.args.method.now)
-    (drawn_on c.args.importance.now c.args.settings.now c.args.method.now c.args.graph.now) (drawn_of c.args.graph.now (c.in_ok-drawing.drawing, p)) c.in_ok-drawing.ensures.outcome)) of_problem
+    let of_problem = subst (λ (plan : SearchPlan). All (Contains held) (finished_of plan (untangled_problem p)))
+    c.plan_of.ensures.plan c.in_ok-best.ensures.finished in
+    subst (λ (parts : List HeldPart). All (Contains held) parts)
+    (sym (finished_is (plan_of c.args.settings.now c.args.method.now)
+    (drawn_on c.args.importance.now c.args.settings.now c.args.method.now c.args.graph.now)
+    (drawn_of c.args.graph.now (c.in_ok-drawing.drawing, p)) c.in_ok-drawing.ensures.outcome)) of_problem
 
 pub moved_map-requires-clause-orders : goal.moved_map-requires-clause-orders
 moved_map-requires-clause-orders g c =
-    subst (λ (segs : List (List LineId)). AreOrders segs c.in_ok-best.best.orders.lists) (ap (λ (p : ProblemParts). p.segs) c.in_ok-drawing.ensures.problem) c.in_ok-best.ensures.orders
+    subst (λ (segs : List (List LineId)). AreOrders segs c.in_ok-best.best.orders.lists)
+    (ap (λ (p : ProblemParts). p.segs) c.in_ok-drawing.ensures.problem) c.in_ok-best.ensures.orders
 
 pub returns-clause-outcome : goal.returns-clause-outcome
 returns-clause-outcome g c =
@@ -123,10 +141,13 @@ returns-clause-outcome g c =
     let best = c.in_ok-best.best in
     let improved = c.in_ok-moved_map.field-0 in
     let found = c.in_ok-best.ensures.found in
-    let solved = subst (λ (plan : SearchPlan). solve_outcome plan (untangled_problem p) ≡ Ok found.0) c.plan_of.ensures.plan found.1 in
+    let solved = subst (λ (plan : SearchPlan). solve_outcome plan (untangled_problem p) ≡ Ok found.0)
+    c.plan_of.ensures.plan found.1 in
     let best_is = subst (λ (plan : SearchPlan). AreBestBy plan p found.0 best) c.plan_of.ensures.plan found.2 in
-    let written = subst (λ (m : MethodChoices). IsWritten subject graph drawing.walks best m.moves c.args.moves improved) c.method.view_is c.in_ok-moved_map.ensures in
-    outcome_is subject c.args.settings.now c.args.method.now (drawn_on c.args.importance.now c.args.settings.now c.args.method.now graph) (drawn_of graph (drawing, p))
+    let written = subst (λ (m : MethodChoices). IsWritten subject graph drawing.walks best m.moves c.args.moves
+    improved) c.method.view_is c.in_ok-moved_map.ensures in
+    outcome_is subject c.args.settings.now c.args.method.now
+    (drawn_on c.args.importance.now c.args.settings.now c.args.method.now graph) (drawn_of graph (drawing, p))
     best found.0 c.args.moves improved c.in_ok-drawing.ensures.outcome solved best_is written
 
 pub returns-clause-improved : goal.returns-clause-improved
@@ -143,18 +164,24 @@ returns-clause-improved g c =
     let best = c.in_ok-best.best in
     let improved = c.in_ok-moved_map.field-0 in
     let found = c.in_ok-best.ensures.found in
-    let solved = subst (λ (q : SearchPlan). solve_outcome q (untangled_problem p) ≡ Ok found.0) c.plan_of.ensures.plan found.1 in
+    let solved = subst (λ (q : SearchPlan). solve_outcome q (untangled_problem p) ≡ Ok found.0) c.plan_of.ensures.plan
+    found.1 in
     let best_is = subst (λ (q : SearchPlan). AreBestBy q p found.0 best) c.plan_of.ensures.plan found.2 in
-    let written = subst (λ (m : MethodChoices). IsWritten subject graph drawing.walks best m.moves c.args.moves improved) c.method.view_is c.in_ok-moved_map.ensures in
+    let written = subst (λ (m : MethodChoices). IsWritten subject graph drawing.walks best m.moves c.args.moves
+    improved) c.method.view_is c.in_ok-moved_map.ensures in
     let is_drawing = c.in_ok-drawing.ensures.drawing in
-    let whole = whole_is importance choices method graph drawn best found.0 c.in_ok-drawing.ensures.outcome is_drawing.each is_drawing.legal c.in_ok-drawing.ensures.problem c.in_ok-drawing.ensures.problem_fits solved best_is in
+    let whole = whole_is importance choices method graph drawn best found.0 c.in_ok-drawing.ensures.outcome
+    is_drawing.each is_drawing.legal c.in_ok-drawing.ensures.problem c.in_ok-drawing.ensures.problem_fits solved
+    best_is in
     let last = after_moves c.args.moves (after_moves method.moves drawn) in
     record {
       made = subst (IsMadeOn subject choices method.claim graph) (sym written.map)
-          (made_by plan subject choices last best found.0 (whole_moved plan importance choices drawn found.0 method.moves c.args.moves whole written.drawing)
+          (made_by plan subject choices last best found.0
+          (whole_moved plan importance choices drawn found.0 method.moves c.args.moves whole written.drawing)
           written.drawing c.requires.lines c.requires.few c.requires.numbers best_is);
       no_heavier = written.no_heavier;
       solved = record { drawn = after_moves method.moves drawn; parts = found.0 };
-      of_graph = solved_is choices method (drawn_on importance choices method graph) drawn found.0 c.in_ok-drawing.ensures.outcome solved;
+      of_graph = solved_is choices method
+          (drawn_on importance choices method graph) drawn found.0 c.in_ok-drawing.ensures.outcome solved;
       to_the_end = written.to_the_end;
     }

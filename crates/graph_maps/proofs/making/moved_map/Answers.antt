@@ -12,6 +12,7 @@ moved-requires-2-clause-near c =
 
 pub returns : goal.returns
 returns c =
-    written_by (told_by c.args.names.now c.args.importance.now) c.args.graph.now c.args.drawing.walks c.args.best c.args.first c.args.moves
+    written_by (told_by c.args.names.now c.args.importance.now) c.args.graph.now c.args.drawing.walks c.args.best
+    c.args.first c.args.moves
     (c.in_ok-once.once, c.in_ok-once._earlier) (c.in_ok-twice.twice, c.in_ok-twice.improvement) c.in_ok-map.map
     c.in_ok-once.ensures c.in_ok-twice.ensures c.in_ok-map.ensures
