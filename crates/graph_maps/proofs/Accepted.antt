@@ -16,7 +16,7 @@ use Rattle.map_faults.specs.declared.fault.CheckFault.TheVariants as fault
 use Rattle.graph_maps.specs.Subjects.{Subject}
 use Rattle.graph_maps.specs.declared.checked.CheckedMap.{CheckedMap}
 use Rattle.graph_maps.specs.Problems.{problem_within}
-use Rattle.graph_maps.specs.Checking.{AcceptedMap, accepted_items, accepted_map, accepted_orders, accepted_text, accepted_walks, cost_item, graph_item, held_by, importance_item, order_item, proof_item, unless_refused, walk_item, HasCause}
+use Rattle.graph_maps.specs.Checking.{AcceptedMap, accepted_items, accepted_map, accepted_orders, accepted_text, cost_item, graph_item, importance_item, order_item, proof_item, unless_refused, walk_item, HasCause}
 use Rattle.graph_maps.specs.Labelling.{labelled_of, IsLabelledOn}
 use Rattle.graph_maps.specs.Promises.{IsAcceptedOn, IsCertifiedOn, ShowsAccepted}
 

@@ -13,7 +13,7 @@ use Rattle.map_faults.specs.declared.fault.MakeFault.{MakeFault}
 use Rattle.graph_maps.specs.Subjects.{Subject}
 use Rattle.graph_maps.specs.Problems.{Drawn, drawn_with, drawn_on, routed_by, untangled_problem}
 use Rattle.graph_maps.specs.Solving.{solve_outcome}
-use Rattle.graph_maps.specs.Making.{if_solved, made_on, plan_of, solved_map, solved_of, solved_with}
+use Rattle.graph_maps.specs.Making.{if_solved, made_on, solved_map, solved_of, solved_with}
 
 -- a plan with this budget
 abbrev plan_with : MethodChoices → ℕ → SearchPlan

@@ -1,5 +1,5 @@
 -- The certificate of a solved drawing is in range, so that it is read again from its text.
-use Rattle.std.proofs.Common.{◌≡◌, ◌∙◌, ap, sym, subst, refl, ℕ, zero, suc, ◌+◌, ◌*◌, ◌<◌, ◌≤◌, ◌==◌, nat_lt, not, Bool, true, false, true≢false, cond, List, [], ◌∷◌, length, map, get_or, arith, ltb-true, ◌⊎◌, inl, inr, All, None, Ok, ◌^◌}
+use Rattle.std.proofs.Common.{◌≡◌, ◌∙◌, ap, sym, subst, refl, ℕ, zero, suc, ◌+◌, ◌*◌, ◌<◌, ◌≤◌, ◌==◌, nat_lt, not, Bool, true, false, true≢false, cond, List, [], ◌∷◌, length, map, get_or, arith, ltb-true, ◌⊎◌, inl, inr, All, None, ◌^◌}
 use Rattle.std.specs.List.{AllByRecursion, Contains, IsDistinct, filter, list_any, range_with_len}
 use Rattle.std.specs.List.Sorted.{IsPermutation}
 use Rattle.std.proofs.lemmas.Bool.{and_from, cases_lt, or_cases}
@@ -30,7 +30,6 @@ use Rattle.order_model.proofs.OneParts.{problem_parts_are}
 use Rattle.order_model.proofs.PartLists.{part_known, parts_few}
 use Rattle.order_model.proofs.RisingLines.{few_rising}
 use Rattle.order_model.proofs.Shares.{contains_in}
-use Rattle.order_proof.specs.Plain.{PlainPart}
 use Rattle.order_proof.specs.Trees.{IsPartTree}
 use Rattle.order_proof.specs.Forms.{most_id}
 use Rattle.order_proof.specs.Ranges.{AreRisingSegments, IsPartInRange}

@@ -1,5 +1,5 @@
 -- What was made once is not searched again.
-use Rattle.std.proofs.Common.{◌≡◌, ◌∙◌, ap, refl, ℕ, ◌+◌, Bool, true, false, cond, List, [], ◌∷◌, map, sum_by, subst, arith, Contains, Result, Ok, Err}
+use Rattle.std.proofs.Common.{◌≡◌, ◌∙◌, ap, refl, ℕ, ◌+◌, Bool, cond, List, [], ◌∷◌, map, sum_by, subst, arith, Contains, Result, Ok, Err}
 use Rattle.std.specs.List.{All, AllByRecursion, take_while}
 use Rattle.std.proofs.lemmas.List.Elements.{recursion_from_All}
 use Rattle.std.proofs.lemmas.List.Sums.{take_while-cons, sum_by-cons}

@@ -1,9 +1,8 @@
-use Rattle.std.proofs.Common.{◌≡◌, ◌∙◌, ℕ, ◌+◌, ◌<◌, ◌≤◌, ◌^◌, List, length, All, Contains, IfOk, sym, ap, subst, arith}
+use Rattle.std.proofs.Common.{◌∙◌, ℕ, ◌<◌, ◌^◌, List, length, All, IfOk, sym, ap, subst, arith}
 use Rattle.std.proofs.lemmas.List.Elements.{All-contains_itself}
 use Rattle.std.proofs.lemmas.Result.{err_from_is_err_and, IfOk-weaker}
 use Rattle.map_base.specs.Settings.{IsImportance}
 use Rattle.kept_trees.specs.OwnTrees.{HeldPart}
-use Rattle.map_faults.specs.declared.fault.MakeFault.{MakeFault}
 use Rattle.map_faults.specs.Faults.{of_limit}
 use Rattle.graph_maps.specs.Subjects.{Subject}
 use Rattle.graph_maps.specs.declared.improvement.ImprovedMap.{ImprovedMap}
