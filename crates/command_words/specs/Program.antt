@@ -4,7 +4,7 @@ use Rattle.clap.specs.Walk.{Rule, Text}
 use Rattle.clap.specs.Simple.{App, new_app, new_rule, new_shape, with_rule, with_subcommand}
 use Rattle.clap.specs.declared.builder.command.Command.{Command}
 use Rattle.clap.specs.declared.builder.command.Command.TheViews.{out-Command}
-use Rattle.clap.specs.declared.builder.action.ArgAction.TheVariants.{Set}
+use Rattle.clap.specs.declared.builder.action.ArgAction.TheVariants.{Set, SetTrue}
 use Rattle.clap.specs.declared.builder.value_parser.ValueParser.TheVariants as parser
 
 -- a command has no argument that its commands share
@@ -18,6 +18,14 @@ operand name = record (new_rule name) { required = true }
 -- an option that names a file
 abbrev pub file_option : Text → Rule
 file_option name = record (new_rule name) { long = Some name; action = Some Set; value_names = 1 }
+
+-- `--quiet`, which leaves out the lines on standard error
+abbrev pub quiet_flag : Rule
+quiet_flag = record (new_rule (codes "quiet")) { long = Some (codes "quiet"); short = Some 113; action = Some SetTrue }
+
+-- a command with this flag alone
+abbrev pub plain_app : Text → App
+plain_app name = with_rule (new_app name) quiet_flag
 
 -- the command with `--settings FILE` and `--edits FILE`
 abbrev pub with_options : App → App
@@ -33,7 +41,7 @@ moves_operand = record (operand (codes "MOVES")) { parser = Some (parser.Signed 
 
 -- a command that works on a feed
 abbrev pub feed_app : Text → App
-feed_app name = with_rule (new_app name) (operand (codes "FEED"))
+feed_app name = with_rule (plain_app name) (operand (codes "FEED"))
 
 -- the command with a map and its certificate
 abbrev pub with_files : App → App
@@ -66,11 +74,11 @@ abbrev pub graph_app : App
 graph_app = with_options (feed_app (codes "graph"))
 
 abbrev pub trial_app : App
-trial_app = with_rule (new_app (codes "trial")) number_operand
+trial_app = with_rule (plain_app (codes "trial")) number_operand
 
 -- a page is made of a map
 abbrev pub page_app : App
-page_app = with_rule (with_rule (new_app (codes "page")) (operand (codes "SVG"))) (operand (codes "HTML"))
+page_app = with_rule (with_rule (plain_app (codes "page")) (operand (codes "SVG"))) (operand (codes "HTML"))
 
 -- the program before its commands: a command is required, and without one its help is shown; it tells its version
 abbrev pub octimap_alone : App

@@ -1,6 +1,7 @@
 -- What the words of the command line ask for.
-use Rattle.std.specs.Prelude.{◌≡◌, ℕ, ◌^◌, ◌&&◌, List, [], ◌∷◌, map, codes, if◌then◌else◌, Option, None, Some, option_and_then, nat_lt, Result, Ok, Err, ⊤, String, string_bytes}
+use Rattle.std.specs.Prelude.{◌≡◌, ℕ, ◌^◌, ◌&&◌, ◌||◌, Bool, not, take_while, List, [], ◌∷◌, map, codes, if◌then◌else◌, Option, None, Some, option_and_then, nat_lt, Result, Ok, Err, ⊤, String, string_bytes}
 use Rattle.std.specs.declared.alloc.Global.{Global}
+use Rattle.std.specs.List.{list_any}
 use Rattle.std.specs.Str.{bytes_eq}
 use Rattle.std.specs.Str.Parse.{digits_value, without_leading_plus}
 use Rattle.clap.specs.Walk.{Row, Text, first_of, one_of}
@@ -171,3 +172,11 @@ abbrev pub Reads : Option Asked → Result Command WordsFault → Type 0
 Reads asked (Ok command) = asked ≡ Some (asked_by command)
 Reads asked (Err (fault.Usage text)) = asked ≡ None
 Reads asked (Err fault.NoMemory) = ⊤
+
+-- the flag that leaves out the lines on standard error
+abbrev pub is_quiet_flag : String Global → Bool
+is_quiet_flag word = bytes_eq (string_bytes word) (codes "--quiet") || bytes_eq (string_bytes word) (codes "-q")
+
+-- whether it stands among the words, before any `--`
+abbrev pub is_quiet_in : List (String Global) → Bool
+is_quiet_in words = list_any is_quiet_flag (take_while (λ word. not (bytes_eq (string_bytes word) (codes "--"))) words)

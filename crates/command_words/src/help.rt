@@ -138,6 +138,9 @@ Example:
 
 pub(crate) const FEED: &str = "The folder with the tables of an unpacked GTFS Schedule feed";
 
+pub(crate) const QUIET: &str =
+    "Leave out the lines on standard error that say more than the status";
+
 pub(crate) const NEW_SVG: &str = "The file that the map is written to";
 
 pub(crate) const NEW_CERT: &str = "The file that the certificate is written to";
@@ -197,7 +200,7 @@ For more information, try '--help'.
 pub(crate) const ONE_PAGE: &str = "\
 error: SVG and HTML are one file
 
-Usage: octimap page <SVG> <HTML>
+Usage: octimap page [OPTIONS] <SVG> <HTML>
 
 For more information, try '--help'.
 ";

@@ -2,7 +2,7 @@
 
 ghost use Rattle.std.specs.Prelude.{◌≡◌, IfOk, codes, false};
 ghost use Rattle.clap.specs.Words.{app_of, new_app, rule_of};
-ghost use Rattle.command_words.specs.Program.{IsLocal, feed_app, file_option, graph_app, improve_app, labels_app, map_app, moves_operand, octimap_alone, octimap_app, octimap_maps, operand, page_app, session_app, trial_app, with_files, with_map, with_options};
+ghost use Rattle.command_words.specs.Program.{IsLocal, feed_app, file_option, graph_app, improve_app, labels_app, map_app, moves_operand, octimap_alone, octimap_app, octimap_maps, operand, page_app, plain_app, quiet_flag, session_app, trial_app, with_files, with_map, with_options};
 
 use crate::help;
 use clap::builder::ValueParser;
@@ -148,7 +148,7 @@ fn page<'a>(alloc: Global) -> Result<Command<'a>, AllocError>
     ensures app { IfOk result (λ command. app_of command ≡ page_app) }
     ensures local { IfOk result IsLocal }
 {
-    named_command(alloc, "page", help::PAGE, help::AFTER_PAGE)
+    named_command(alloc, "page", help::PAGE, help::AFTER_PAGE)?
         .arg(named_operand(alloc, "SVG", help::SHOWN_SVG))?
         .arg(named_operand(alloc, "HTML", help::HTML))
 }
@@ -159,7 +159,7 @@ fn trial<'a>(alloc: Global) -> Result<Command<'a>, AllocError>
     ensures local { IfOk result IsLocal }
 {
     let number = named_operand(alloc, "N", help::NUMBER).value_parser(value_parser!(u32));
-    named_command(alloc, "trial", help::TRIAL, help::AFTER_TRIAL).arg(number)
+    named_command(alloc, "trial", help::TRIAL, help::AFTER_TRIAL)?.arg(number)
 }
 
 /// A command that works on a feed.
@@ -172,7 +172,7 @@ fn over_feed<'a>(
     ensures app { IfOk result (λ command. app_of command ≡ feed_app name.entry.now) }
     ensures local { IfOk result IsLocal }
 {
-    named_command(alloc, name, about, after).arg(named_operand(alloc, "FEED", help::FEED))
+    named_command(alloc, name, about, after)?.arg(named_operand(alloc, "FEED", help::FEED))
 }
 
 /// The command with a map and its certificate, settings and edits.
@@ -214,12 +214,37 @@ fn with_options<'a>(alloc: Global, command: Command<'a>) -> Result<Command<'a>, 
         .arg(file_option(alloc, "edits", help::EDITS))
 }
 
+/// A command that takes nothing but `--quiet`.
+fn named_command<'a>(
+    alloc: Global,
+    name: &'a str,
+    about: &'a str,
+    after: &'a str,
+) -> Result<Command<'a>, AllocError>
+    ensures app { IfOk result (λ command. app_of command ≡ plain_app name.entry.now) }
+    ensures local { IfOk result IsLocal }
+{
+    bare_command(alloc, name, about, after).arg(quiet(alloc))
+}
+
 /// A command without arguments.
-fn named_command<'a>(alloc: Global, name: &'a str, about: &'a str, after: &'a str) -> Command<'a>
+fn bare_command<'a>(alloc: Global, name: &'a str, about: &'a str, after: &'a str) -> Command<'a>
     ensures app { app_of result ≡ new_app name.entry.now }
     ensures local { IsLocal result }
 {
     Command::new(alloc, name).about(about).after_help(after)
+}
+
+/// `--quiet`, which leaves out the lines on standard error.
+fn quiet<'a>(alloc: Global) -> Arg<'a>
+    ensures rule { rule_of result ≡ quiet_flag }
+    ensures local { result.global ≡ false }
+{
+    Arg::new(alloc, "quiet")
+        .long("quiet")
+        .short('q')
+        .action(ArgAction::SetTrue)
+        .help(help::QUIET)
 }
 
 /// An operand, which has to be there.

@@ -11,7 +11,7 @@ use map_base::Text;
 use std::alloc::Global;
 use std::fs::File;
 use std::io::Write;
-use std::rt;
+use std::{io, rt};
 
 /// Where the next bytes go.
 #[derive(Drop)]
@@ -32,6 +32,7 @@ pub struct DiskSinks<R: rt::Files + Print> {
     alloc: Global,
     place: Place<R::File>,
     failures: u64,
+    last_error: Option<io::Error>,
 }
 
 impl<R: rt::Files + Print> DiskSinks<R> {
@@ -45,7 +46,13 @@ impl<R: rt::Files + Print> DiskSinks<R> {
             alloc,
             place: Place::Nowhere,
             failures: 0,
+            last_error: None,
         }
+    }
+
+    /// The last error of the system in writing, if there was one.
+    pub fn last_error(&self) -> Option<io::Error> {
+        self.last_error
     }
 
     /// Makes the file of a path, and empties it where it is there.
@@ -60,7 +67,10 @@ impl<R: rt::Files + Print> DiskSinks<R> {
         };
         match File::create(&self.rt, path.as_str()) {
             Ok(file) => Ok(Place::Path(kept, file)),
-            Err(error) => Err(stop_of(&mut self.failures, &error)),
+            Err(error) => {
+                self.last_error = Some(error);
+                Err(stop_of(&mut self.failures, &error))
+            }
         }
     }
 }
@@ -94,7 +104,10 @@ impl<R: rt::Files + Print> Sinks for DiskSinks<R> {
                 }
                 Ok(count)
             }
-            Err(error) => Err(stop_of(&mut self.failures, &error)),
+            Err(error) => {
+                self.last_error = Some(error);
+                Err(stop_of(&mut self.failures, &error))
+            }
         }
     }
 }

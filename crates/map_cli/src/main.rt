@@ -4,6 +4,7 @@
 
 ghost use Rattle.std.specs.Prelude.{◌≡◌, ◌<◌};
 
+use command_words::is_quiet;
 use disk_door::{DiskFiles, DiskSinks};
 use map_base::Steps;
 use map_run::run;
@@ -12,6 +13,7 @@ use std::marker::Brand;
 use std::process::ExitCode;
 use std::sync::ledger::{Blank, Ledger};
 use std::{env, io};
+use user_messages::message;
 
 fn main(rt: HostRuntime) -> ExitCode {
     let status = match words_of(&rt) {
@@ -39,7 +41,18 @@ fn run_counted<L: Ledger>(rt: &HostRuntime, words: &[String], blank: Blank) -> S
     let mut files = DiskFiles::new(rt);
     let mut sinks = DiskSinks::new(rt, rt.alloc());
     let mut steps = Steps::<L>::open(blank);
-    run(rt.alloc(), words, &mut files, &mut sinks, &mut steps)
+    let status = run(rt.alloc(), words, &mut files, &mut sinks, &mut steps);
+    if !is_quiet(words) {
+        say_more(rt, words, &status, sinks.last_error());
+    }
+    status
+}
+
+/// Says on standard error what a status means for the user, if there is anything to say and memory for it.
+fn say_more(rt: &HostRuntime, words: &[String], status: &Status, fault: Option<io::Error>) {
+    if let Ok(lines) = message(rt, words, status, fault) {
+        let _not_shown = rt.eprint(lines.as_str());
+    }
 }
 
 /// The words are no text, or there is no memory for them.

@@ -137,6 +137,15 @@ a_page_at_its_map : asked (codes "page" ∷ codes "m.svg" ∷ codes "m.svg" ∷ 
 unfolding clap_on_literals asked faults met octimap_app
 a_page_at_its_map = refl
 
+-- `--quiet` asks for nothing more, and stands anywhere before `--`
+quiet_is_taken : asked (codes "stations" ∷ codes "--quiet" ∷ codes "feed" ∷ []) ≡ Some (stations (codes "feed"))
+unfolding clap_on_literals asked faults met octimap_app
+quiet_is_taken = refl
+
+quiet_may_be_a_folder : asked (codes "stations" ∷ codes "--" ∷ codes "-q" ∷ []) ≡ Some (stations (codes "-q"))
+unfolding clap_on_literals asked faults met octimap_app
+quiet_may_be_a_folder = refl
+
 -- help is no command
 help_is_asked : asked (codes "help" ∷ codes "make" ∷ []) ≡ None
 unfolding clap_on_literals asked faults met octimap_app

@@ -1,0 +1,5 @@
+pub mod Far
+pub mod Keys
+pub mod Meant
+pub mod Seems
+pub mod Troubles
