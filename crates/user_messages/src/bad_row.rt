@@ -5,7 +5,7 @@ use crate::lookup::bytes_at;
 use crate::row_lookup::{FoundRow, Sought, earlier_row, row_at};
 use crate::table_ids::{ids_at, question};
 use gtfs_fields::whole;
-use map_base::NoMemory;
+use map_base::{NoMemory, Text};
 use message_texts::{column_of, due_in, id_column, list_of, quoted, required_column};
 use run_status::file_name;
 use std::alloc::Global;
@@ -14,6 +14,9 @@ use table_rows::{Table, Why};
 
 /// How many names of columns, or fields of a row, are told.
 const TOLD: usize = 20;
+
+/// How many columns a table has to have at most.
+const MOST_REQUIRED: usize = 4;
 
 /// A bad row of a table: its number, and why it is bad.
 #[derive(Clone, Copy)]
@@ -70,18 +73,49 @@ fn lacks_column(alloc: Global, table: Table, found: &FoundRow) -> Result<String,
     let name = file_name(table);
     let names = found.names(alloc)?;
     let list = list_of(alloc, names.as_slice(), TOLD)?;
-    for place in 0..4 {
-        let Some(column) = required_column(table, place) else {
-            break;
-        };
+    match lacking(table, found) {
+        Some(column) => {
+            let other = other_names(alloc, table, names)?;
+            let near = question(alloc, column.as_bytes(), other.as_slice())?;
+            Ok(format!(in alloc;
+                "octimap: {name} has no column {column}; its columns are {list}{near}\n"
+            )?)
+        }
+        None => Ok(format!(in alloc; "octimap: {name} lacks a column; its columns are {list}\n")?),
+    }
+}
+
+/// The first column that a table has to have, and hasn't.
+fn lacking(table: Table, found: &FoundRow) -> Option<&'static str> {
+    for place in 0..MOST_REQUIRED {
+        let column = required_column(table, place)?;
         if found.column(column).is_none() {
-            let near = question(alloc, column.as_bytes(), names.as_slice())?;
-            return Ok(format!(in alloc;
-                "octimap: {name} has no column {column}{near}; its columns are {list}\n"
-            )?);
+            return Some(column);
         }
     }
-    Ok(format!(in alloc; "octimap: {name} lacks a column; its columns are {list}\n")?)
+    None
+}
+
+/// The names that are none of the columns that a table has to have.
+fn other_names(alloc: Global, table: Table, names: Vec<Text>) -> Result<Vec<Text>, NoMemory> {
+    let mut other = Vec::new(alloc);
+    for name in names {
+        if !is_required(table, name.as_str()) {
+            other.push(name)?;
+        }
+    }
+    Ok(other)
+}
+
+/// Whether a table has to have this column.
+fn is_required(table: Table, name: &str) -> bool {
+    for place in 0..MOST_REQUIRED {
+        match required_column(table, place) {
+            Some(column) if column == name => return true,
+            _ => {}
+        }
+    }
+    false
 }
 
 /// A row ends before a field that has to be there.
