@@ -24,16 +24,16 @@ _octimap()
         return
     fi
     case ${COMP_WORDS[1]} in
-        map) options='--settings --edits --help' kinds=(folder svg file) ;;
-        make) options='--settings --edits --help' kinds=(folder svg file) ;;
-        improve) options='--settings --edits --help' kinds=(folder svg file none) ;;
-        check) options='--settings --edits --help' kinds=(folder svg file) ;;
-        labels) options='--settings --edits --help' kinds=(folder file file) ;;
-        session) options='--settings --help' kinds=(folder file file) ;;
-        graph) options='--settings --edits --help' kinds=(folder) ;;
-        stations) options='--help' kinds=(folder) ;;
-        page) options='--help' kinds=(svg html) ;;
-        trial) options='--help' kinds=(none) ;;
+        map) options='--quiet --settings --edits --help' kinds=(folder svg file) ;;
+        make) options='--quiet --settings --edits --help' kinds=(folder svg file) ;;
+        improve) options='--quiet --settings --edits --help' kinds=(folder svg file none) ;;
+        check) options='--quiet --settings --edits --help' kinds=(folder svg file) ;;
+        labels) options='--quiet --settings --edits --help' kinds=(folder file file) ;;
+        session) options='--quiet --settings --help' kinds=(folder file file) ;;
+        graph) options='--quiet --settings --edits --help' kinds=(folder) ;;
+        stations) options='--quiet --help' kinds=(folder) ;;
+        page) options='--quiet --help' kinds=(svg html) ;;
+        trial) options='--quiet --help' kinds=(none) ;;
         help)
             ((COMP_CWORD > 2)) || mapfile -t COMPREPLY < <(compgen -W "$commands" -- "$current")
             return

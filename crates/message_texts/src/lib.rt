@@ -4,9 +4,9 @@
 #![tactic(auto)]
 
 mod edit_word;
-mod far_stations;
-mod limit_hint;
-mod meant;
+mod far_off;
+mod limit_hints;
+mod meant_word;
 mod row_field;
 mod seeming;
 mod setting_key;
@@ -14,11 +14,11 @@ mod shown;
 mod trouble;
 
 pub use edit_word::{EDIT_WORDS, EditWord};
-pub use far_stations::{far_stations, farther_than};
-pub use limit_hint::limit_hint;
-pub use meant::meant;
+pub use far_off::{far_stations, farther_than};
+pub use limit_hints::limit_hint;
+pub use meant_word::meant;
 pub use row_field::{column_of, due_in, id_column, required_column};
-pub use seeming::{Found, Seeming, seeming};
+pub use seeming::{Found, Seeming, path_seems};
 pub use setting_key::{SETTING_KEYS, SettingKey};
 pub use shown::{list_of, quoted};
 pub use trouble::{Trouble, trouble_of};

@@ -44,7 +44,7 @@ pub enum Seeming {
 }
 
 /// What a path seems to be, by what lies there.
-pub fn seeming(path: &str, found: Found) -> Seeming
+pub fn path_seems(path: &str, found: Found) -> Seeming
     ensures { result ≡ seeming_of path.now found }
 {
     match found {

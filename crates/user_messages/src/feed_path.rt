@@ -2,7 +2,7 @@
 
 use crate::lookup::{Folder, folder_at, is_archive, is_plain};
 use map_base::NoMemory;
-use message_texts::{Found, Seeming, list_of, meant, quoted, seeming};
+use message_texts::{Found, Seeming, list_of, meant, path_seems, quoted};
 use std::alloc::Global;
 use std::rt::Files;
 
@@ -18,7 +18,7 @@ pub(crate) fn missing_table<R: Files + AllocGlobal + Clone + Drop>(
     let alloc = rt.alloc();
     match folder_at(rt, feed)? {
         Some(folder) => in_folder(rt, feed, name, &folder),
-        None => no_folder(alloc, feed, seeming(feed, found_file(rt, feed))),
+        None => no_folder(alloc, feed, path_seems(feed, found_file(rt, feed))),
     }
 }
 
@@ -68,7 +68,7 @@ fn in_folder<R: Files + AllocGlobal>(
         folders: folder.folders.len(),
         archives: folder.archives.len(),
     };
-    match seeming(feed, found) {
+    match path_seems(feed, found) {
         Seeming::Outer => outer(rt, feed, name, folder),
         Seeming::HoldsPacked => holds_packed(alloc, feed, name, folder),
         _ => other(alloc, feed, name, folder),

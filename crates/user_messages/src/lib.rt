@@ -11,11 +11,11 @@ mod feed_path;
 mod files;
 mod limits;
 mod lookup;
-mod message;
+mod messages;
 mod network;
 mod no_route;
 mod refuted;
 mod row_lookup;
 mod table_ids;
 
-pub use message::message;
+pub use messages::message;
