@@ -9,6 +9,7 @@ use strsim::levenshtein;
 
 /// The place of the known word that was meant by `word`: one of the nearest, if it is near enough. Near enough is one
 /// that is made of `word` by putting in, taking out or changing at most a third of its characters and one more.
+#[tactic(auto, using(crate::proofs::MeantLemmas::nearest_is_meant))]
 pub fn meant(alloc: Global, word: &str, known: &[Text]) -> Result<Option<usize>, NoMemory>
     ensures { IfOk result (IsMeant word.now known.now) }
 {
@@ -17,6 +18,7 @@ pub fn meant(alloc: Global, word: &str, known: &[Text]) -> Result<Option<usize>,
 }
 
 /// The place of one of the nearest known words, and how far it is; none where no word is known.
+#[tactic(auto, using(crate::proofs::MeantLemmas::next_is_nearest))]
 fn nearest(alloc: Global, word: &str, known: &[Text]) -> Result<Option<(usize, usize)>, NoMemory>
     ensures { IfOk result (IsNearestBelow word.now known.now (length known.now)) }
 {
