@@ -3,7 +3,9 @@
 #![tactic(auto)]
 
 mod map_files;
+mod new_files;
 mod options;
 
 pub use map_files::MapFiles;
+pub use new_files::NewFiles;
 pub use options::Options;

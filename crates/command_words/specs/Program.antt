@@ -54,6 +54,10 @@ with_map command = with_options (with_files command)
 abbrev pub map_app : Text → App
 map_app name = with_map (feed_app name)
 
+-- a map that may have a page
+abbrev pub new_map_app : Text → App
+new_map_app name = with_rule (map_app name) (file_option (codes "page"))
+
 -- a map whose drawing is moved more often
 abbrev pub improve_app : App
 improve_app = with_options (with_rule (with_files (feed_app (codes "improve"))) moves_operand)
@@ -94,7 +98,7 @@ with_command program command = with_subcommand program command.top
 abbrev pub octimap_maps : App
 octimap_maps =
     with_command (with_command (with_command (with_command (with_command (with_command octimap_alone
-    (map_app (codes "map"))) (map_app (codes "make"))) improve_app) (map_app (codes "check"))) labels_app) session_app
+    (new_map_app (codes "map"))) (new_map_app (codes "make"))) improve_app) (map_app (codes "check"))) labels_app) session_app
 
 -- the program: these, `graph`, `stations`, `page` and `trial`
 unfoldable pub octimap_app : App

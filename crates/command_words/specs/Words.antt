@@ -15,7 +15,7 @@ use Rattle.map_method.specs.declared.defaults.Defaults.TheVariants.{Make, Map}
 use Rattle.command_words.specs.declared.command.Command.{Command}
 use Rattle.command_words.specs.declared.fault.WordsFault.{WordsFault}
 use Rattle.command_words.specs.declared.fault.WordsFault.TheVariants as fault
-use Rattle.command_paths.specs.Paths.{Chosen, MapPaths}
+use Rattle.command_paths.specs.Paths.{Chosen, MapPaths, NewPaths}
 use Rattle.command_words.specs.Asked.{Asked, asked_by, stations, graph, make, improve, check, labels, session, trial, page}
 use Rattle.command_words.specs.Program.{octimap_app}
 
@@ -69,11 +69,23 @@ two_paths_in rows = do
   paths ← paths_in rows
   apart paths
 
+-- a page at a path of its own
+abbrev pub page_apart : Option (List ℕ) → MapPaths → Option NewPaths
+page_apart None paths = Some (record { map = paths; page = None })
+page_apart (Some path) paths =
+    if bytes_eq path paths.picture || bytes_eq path paths.certificate then None else Some (record { map = paths; page = Some path })
+
+-- where a new map, its certificate and, if it is named, its page are to lie
+abbrev pub new_paths_in : List Row → Option NewPaths
+new_paths_in rows = do
+  paths ← two_paths_in rows
+  page_apart (first_of (codes "page") rows) paths
+
 -- by these settings where the user sets none
 abbrev pub make_in : Defaults → List Row → Option Asked
 make_in defaults rows = do
   feed ← first_of (codes "FEED") rows
-  paths ← two_paths_in rows
+  paths ← new_paths_in rows
   Some (make feed paths (options_in defaults rows))
 
 abbrev pub improve_in : List Row → Option Asked
@@ -152,7 +164,7 @@ unless (fault ∷ more) read = None
 
 -- The words after the program's name ask for the command that `clap` reads in them by the definition of the program.
 -- Where `clap` finds a fault in them, requests for help among them, they ask for none; nor where a map and its
--- certificate, or a map and its page, are to be one file.
+-- certificate, or a page and its map or certificate, are to be one file.
 unfoldable pub asked : List Text → Option Asked
 asked words = unless (faults words) (named_in (met words))
 

@@ -63,7 +63,8 @@ printed. SVG and CERT are two files; what they held before is lost. Finer grids 
 line orders are searched for longer than by `make`.
 
 Example:
-  octimap map examples/vienna-ubahn map.svg map.cert";
+  octimap map examples/vienna-ubahn map.svg map.cert
+  octimap map --page map.html examples/vienna-ubahn map.svg map.cert";
 
 pub(crate) const MAKE: &str = "Make the map of a feed by other settings than `map` has";
 
@@ -145,6 +146,8 @@ pub(crate) const NEW_SVG: &str = "The file that the map is written to";
 
 pub(crate) const NEW_CERT: &str = "The file that the certificate is written to";
 
+pub(crate) const NEW_PAGE: &str = "The file that a page of the map is written to, for a browser";
+
 pub(crate) const MOVES: &str = "How many moves there may be, from 0 to 10000";
 
 pub(crate) const SVG: &str = "The file of the map";
@@ -171,7 +174,7 @@ pub(crate) const NUMBER: &str = "The number of the feed, from 0 to 4294967295";
 
 /// What is said where a map and its certificate are to be one file.
 pub(crate) const ONE_MAP: &str = "\
-error: SVG and CERT are one file
+error: SVG, CERT and HTML are not files of their own
 
 Usage: octimap map [OPTIONS] <FEED> <SVG> <CERT>
 
@@ -180,7 +183,7 @@ For more information, try '--help'.
 
 /// The same of `make`.
 pub(crate) const ONE_FILE: &str = "\
-error: SVG and CERT are one file
+error: SVG, CERT and HTML are not files of their own
 
 Usage: octimap make [OPTIONS] <FEED> <SVG> <CERT>
 

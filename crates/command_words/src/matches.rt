@@ -2,13 +2,13 @@
 
 ghost use Rattle.std.specs.Prelude.{◌≡◌, option_map};
 ghost use Rattle.clap.specs.Words.{first_of, found_of, rows_of, subcommand_rows_of};
-ghost use Rattle.command_paths.specs.Paths.{options_by, paths_by};
+ghost use Rattle.command_paths.specs.Paths.{new_paths_by, options_by, paths_by};
 ghost use Rattle.command_words.specs.Asked.{asked_by};
-ghost use Rattle.command_words.specs.Words.{asked_as, check_in, graph_in, improve_in, labels_in, make_in, named_in, number_in, options_in, page_in, paths_in, session_in, settings_in, stations_in, trial_in, two_paths_in};
+ghost use Rattle.command_words.specs.Words.{asked_as, check_in, graph_in, improve_in, labels_in, make_in, named_in, new_paths_in, number_in, options_in, page_apart, page_in, paths_in, session_in, settings_in, stations_in, trial_in, two_paths_in};
 
 use crate::command::Command;
 use clap::ArgMatches;
-use command_paths::{MapFiles, Options};
+use command_paths::{MapFiles, NewFiles, Options};
 use map_method::Defaults;
 
 /// The command that the matches name; none where two of its files are to be one.
@@ -65,12 +65,12 @@ fn graph_in<'a>(given: &ArgMatches<'a>) -> Option<Command<'a>>
     Some(Command::Graph { feed, options })
 }
 
-/// `make FEED SVG CERT` or `map FEED SVG CERT`, of two files.
+/// `make FEED SVG CERT` or `map FEED SVG CERT`, of two files, or three with a page.
 fn make_in<'a>(given: &ArgMatches<'a>, defaults: Defaults) -> Option<Command<'a>>
     ensures { option_map asked_by result ≡ make_in defaults (rows_of (found_of given.now)) }
 {
     let feed = value_of(given, "FEED")?;
-    let files = two_files_in(given)?;
+    let files = new_files_in(given)?;
     let options = options_in(given, defaults);
     Some(Command::Make {
         feed,
@@ -159,6 +159,26 @@ fn page_in<'a>(given: &ArgMatches<'a>) -> Option<Command<'a>>
         return None;
     }
     Some(Command::Page { map, page })
+}
+
+/// Where a new map, its certificate and its page are to lie, at paths of their own.
+fn new_files_in<'a>(given: &ArgMatches<'a>) -> Option<NewFiles<'a>>
+    ensures { option_map new_paths_by result ≡ new_paths_in (rows_of (found_of given.now)) }
+{
+    let map = two_files_in(given)?;
+    page_apart(value_of(given, "page"), map)
+}
+
+/// The files of a new map, where its page has a path of its own.
+fn page_apart<'a>(page: Option<&'a str>, map: MapFiles<'a>) -> Option<NewFiles<'a>>
+    ensures { option_map new_paths_by result ≡ page_apart (option_map (λ path. path.now) page.entry) (paths_by map.entry) }
+{
+    if let Some(path) = page {
+        if path == map.picture || path == map.certificate {
+            return None;
+        }
+    }
+    Some(NewFiles { map, page })
 }
 
 /// Where the map and its certificate are to lie, at two paths.

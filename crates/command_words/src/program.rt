@@ -78,20 +78,33 @@ fn graph<'a>(alloc: Global) -> Result<Command<'a>, AllocError>
 
 /// `map FEED SVG CERT`
 fn map<'a>(alloc: Global) -> Result<Command<'a>, AllocError>
-    ensures app { IfOk result (λ command. app_of command ≡ map_app (codes "map")) }
+    ensures app { IfOk result (λ command. app_of command ≡ new_map_app (codes "map")) }
     ensures local { IfOk result IsLocal }
 {
-    let command = over_feed(alloc, "map", help::MAP, help::AFTER_MAP)?;
-    over_map(alloc, command, help::NEW_SVG, help::NEW_CERT)
+    new_map(alloc, "map", help::MAP, help::AFTER_MAP)
 }
 
 /// `make FEED SVG CERT`
 fn make<'a>(alloc: Global) -> Result<Command<'a>, AllocError>
-    ensures app { IfOk result (λ command. app_of command ≡ map_app (codes "make")) }
+    ensures app { IfOk result (λ command. app_of command ≡ new_map_app (codes "make")) }
     ensures local { IfOk result IsLocal }
 {
-    let command = over_feed(alloc, "make", help::MAKE, help::AFTER_MAKE)?;
-    over_map(alloc, command, help::NEW_SVG, help::NEW_CERT)
+    new_map(alloc, "make", help::MAKE, help::AFTER_MAKE)
+}
+
+/// A command that makes a map and its certificate, and with `--page HTML` its page.
+fn new_map<'a>(
+    alloc: Global,
+    name: &'a str,
+    about: &'a str,
+    after: &'a str,
+) -> Result<Command<'a>, AllocError>
+    ensures app { IfOk result (λ command. app_of command ≡ new_map_app name.entry.now) }
+    ensures local { IfOk result IsLocal }
+{
+    let command = over_feed(alloc, name, about, after)?;
+    let page = file_option(alloc, "page", help::NEW_PAGE).value_name("HTML");
+    over_map(alloc, command, help::NEW_SVG, help::NEW_CERT)?.arg(page)
 }
 
 /// `improve FEED SVG CERT MOVES`

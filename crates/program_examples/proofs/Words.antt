@@ -2,7 +2,7 @@
 use Rattle.std.proofs.Common.{◌≡◌, [], ◌∷◌, None, Some, codes, refl}
 use Rattle.clap.proofs.OnLiterals.{clap_on_literals}
 use Rattle.map_method.specs.declared.defaults.Defaults.TheVariants.{Make, Map}
-use Rattle.command_paths.specs.Paths.{MapPaths, Chosen}
+use Rattle.command_paths.specs.Paths.{MapPaths, NewPaths, Chosen}
 use Rattle.command_words.specs.Asked.{stations, graph, make, improve, check, labels, session, trial, page}
 use Rattle.command_words.specs.Program.{octimap_app}
 use Rattle.command_words.specs.Words.{asked, faults, met}
@@ -16,17 +16,20 @@ by_mine = record { defaults = Make; settings = Some (codes "my.toml"); edits = N
 abbrev map_and_certificate : MapPaths
 map_and_certificate = record { picture = codes "m.svg"; certificate = codes "m.cert" }
 
+abbrev without_page : NewPaths
+without_page = record { map = map_and_certificate; page = None }
+
 -- a map is made
-make_is_asked : asked (codes "make" ∷ codes "feed" ∷ codes "m.svg" ∷ codes "m.cert" ∷ []) ≡ Some (make (codes "feed") map_and_certificate no_settings)
+make_is_asked : asked (codes "make" ∷ codes "feed" ∷ codes "m.svg" ∷ codes "m.cert" ∷ []) ≡ Some (make (codes "feed") without_page no_settings)
 unfolding clap_on_literals asked faults met octimap_app
 make_is_asked = refl
 
 -- settings stand before the operands, between them or after them
-settings_come_first : asked (codes "make" ∷ codes "--settings" ∷ codes "my.toml" ∷ codes "feed" ∷ codes "m.svg" ∷ codes "m.cert" ∷ []) ≡ Some (make (codes "feed") map_and_certificate by_mine)
+settings_come_first : asked (codes "make" ∷ codes "--settings" ∷ codes "my.toml" ∷ codes "feed" ∷ codes "m.svg" ∷ codes "m.cert" ∷ []) ≡ Some (make (codes "feed") without_page by_mine)
 unfolding clap_on_literals asked faults met octimap_app
 settings_come_first = refl
 
-settings_come_between : asked (codes "make" ∷ codes "feed" ∷ codes "--settings" ∷ codes "my.toml" ∷ codes "m.svg" ∷ codes "m.cert" ∷ []) ≡ Some (make (codes "feed") map_and_certificate by_mine)
+settings_come_between : asked (codes "make" ∷ codes "feed" ∷ codes "--settings" ∷ codes "my.toml" ∷ codes "m.svg" ∷ codes "m.cert" ∷ []) ≡ Some (make (codes "feed") without_page by_mine)
 unfolding clap_on_literals asked faults met octimap_app
 settings_come_between = refl
 
@@ -60,7 +63,7 @@ unfolding clap_on_literals asked faults met octimap_app
 a_folder_may_look_like_an_option = refl
 
 -- `map` is `make` over other settings
-a_map_is_asked : asked (codes "map" ∷ codes "feed" ∷ codes "m.svg" ∷ codes "m.cert" ∷ []) ≡ Some (make (codes "feed") map_and_certificate (record no_settings { defaults = Map }))
+a_map_is_asked : asked (codes "map" ∷ codes "feed" ∷ codes "m.svg" ∷ codes "m.cert" ∷ []) ≡ Some (make (codes "feed") without_page (record no_settings { defaults = Map }))
 unfolding clap_on_literals asked faults met octimap_app
 a_map_is_asked = refl
 
@@ -136,6 +139,16 @@ a_page_is_asked = refl
 a_page_at_its_map : asked (codes "page" ∷ codes "m.svg" ∷ codes "m.svg" ∷ []) ≡ None
 unfolding clap_on_literals asked faults met octimap_app
 a_page_at_its_map = refl
+
+-- a page beside the map has a path of its own
+a_page_beside_a_map : asked (codes "make" ∷ codes "--page" ∷ codes "m.html" ∷ codes "feed" ∷ codes "m.svg" ∷ codes "m.cert" ∷ [])
+    ≡ Some (make (codes "feed") (record { map = map_and_certificate; page = Some (codes "m.html") }) no_settings)
+unfolding clap_on_literals asked faults met octimap_app
+a_page_beside_a_map = refl
+
+a_page_over_its_certificate : asked (codes "make" ∷ codes "feed" ∷ codes "m.svg" ∷ codes "m.cert" ∷ codes "--page=m.cert" ∷ []) ≡ None
+unfolding clap_on_literals asked faults met octimap_app
+a_page_over_its_certificate = refl
 
 -- `--quiet` asks for nothing more, and stands anywhere before `--`
 quiet_is_taken : asked (codes "stations" ∷ codes "--quiet" ∷ codes "feed" ∷ []) ≡ Some (stations (codes "feed"))

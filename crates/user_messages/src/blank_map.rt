@@ -25,7 +25,7 @@ pub(crate) fn blank_map<R: Files + AllocGlobal>(
     inputs: &Inputs<'_>,
 ) -> Result<String, NoMemory> {
     match command {
-        Command::Make { files, .. } => of_certificate(rt, files.certificate, inputs),
+        Command::Make { files, .. } => of_certificate(rt, files.map.certificate, inputs),
         Command::Improve { files, .. } => of_certificate(rt, files.certificate, inputs),
         _ => Ok(String::new(rt.alloc())),
     }

@@ -39,12 +39,11 @@ pub(crate) fn unwritten<R: Files + AllocGlobal>(
     fault: Option<io::Error>,
 ) -> Result<String, NoMemory> {
     let alloc = rt.alloc();
-    let (first, second) = outputs_of(command);
-    if let Some(probe) = write_fault(rt, first) {
-        return unwritten_at(alloc, first, fault.unwrap_or(probe));
-    }
-    if let Some(probe) = write_fault(rt, second) {
-        return unwritten_at(alloc, second, fault.unwrap_or(probe));
+    let (first, second, third) = outputs_of(command);
+    for path in [first, second, third] {
+        if let Some(probe) = write_fault(rt, path) {
+            return unwritten_at(alloc, path, fault.unwrap_or(probe));
+        }
     }
     match fault {
         Some(error) => Ok(format!(in alloc; "octimap: the output can't be written: {error}\n")?),
@@ -58,18 +57,22 @@ fn unwritten_at(alloc: Global, path: &str, error: io::Error) -> Result<String, N
     Ok(format!(in alloc; "octimap: {shown} can't be written: {error}\n")?)
 }
 
-/// Where a command writes files: up to two paths, empty where there is none.
-fn outputs_of<'a>(command: &Command<'a>) -> (&'a str, &'a str) {
+/// Where a command writes files: up to three paths, empty where there is none.
+fn outputs_of<'a>(command: &Command<'a>) -> (&'a str, &'a str, &'a str) {
     match command {
-        Command::Make { files, .. } => (files.picture, files.certificate),
-        Command::Improve { files, .. } => (files.picture, files.certificate),
-        Command::Labels { out, .. } => (out, ""),
-        Command::Session { out, .. } => (out, ""),
-        Command::Page { page, .. } => (page, ""),
-        Command::Stations { .. } => ("", ""),
-        Command::Graph { .. } => ("", ""),
-        Command::Check { .. } => ("", ""),
-        Command::Trial { .. } => ("", ""),
+        Command::Make { files, .. } => (
+            files.map.picture,
+            files.map.certificate,
+            files.page.unwrap_or(""),
+        ),
+        Command::Improve { files, .. } => (files.picture, files.certificate, ""),
+        Command::Labels { out, .. } => (out, "", ""),
+        Command::Session { out, .. } => (out, "", ""),
+        Command::Page { page, .. } => (page, "", ""),
+        Command::Stations { .. } => ("", "", ""),
+        Command::Graph { .. } => ("", "", ""),
+        Command::Check { .. } => ("", "", ""),
+        Command::Trial { .. } => ("", "", ""),
     }
 }
 
