@@ -40,10 +40,14 @@ pub(crate) fn unwritten<R: Files + AllocGlobal>(
 ) -> Result<String, NoMemory> {
     let alloc = rt.alloc();
     let (first, second, third) = outputs_of(command);
-    for path in [first, second, third] {
-        if let Some(probe) = write_fault(rt, path) {
-            return unwritten_at(alloc, path, fault.unwrap_or(probe));
-        }
+    if let Some(probe) = write_fault(rt, first) {
+        return unwritten_at(alloc, first, fault.unwrap_or(probe));
+    }
+    if let Some(probe) = write_fault(rt, second) {
+        return unwritten_at(alloc, second, fault.unwrap_or(probe));
+    }
+    if let Some(probe) = write_fault(rt, third) {
+        return unwritten_at(alloc, third, fault.unwrap_or(probe));
     }
     match fault {
         Some(error) => Ok(format!(in alloc; "octimap: the output can't be written: {error}\n")?),
