@@ -51,7 +51,7 @@ fn run_counted<L: Ledger>(rt: &HostRuntime, words: &[String], blank: Blank) -> S
 /// Says on standard error what a status means for the user, if there is anything to say and memory for it.
 fn say_more(rt: &HostRuntime, words: &[String], status: &Status, fault: Option<io::Error>) {
     if let Ok(lines) = message(rt, words, status, fault) {
-        let _not_shown = rt.eprint(lines.as_str());
+        let _not_shown = eprint!(rt; "{lines}");
     }
 }
 

@@ -1,20 +1,20 @@
 //! What stands in the place of a folder with a feed.
 
-use crate::told::told;
+use crate::told::{make_folder, told};
 use std::fs;
 use std::test::Fail;
 
 #[test]
 fn what_is_no_folder_of_a_feed_is_told(rt: HostRuntime) -> Result<(), Fail> {
-    fs::create_dir(&rt, "outer")?;
+    make_folder(&rt, "outer")?;
     fs::create_dir(&rt, "outer/inner")?;
     fs::write(&rt, "outer/inner/stops.txt", "stop_id,stop_lat,stop_lon\n")?;
-    fs::create_dir(&rt, "empty")?;
-    fs::create_dir(&rt, "holds")?;
+    make_folder(&rt, "empty")?;
+    make_folder(&rt, "holds")?;
     fs::write(&rt, "holds/feed.zip", "PK\u{3}\u{4}")?;
-    fs::create_dir(&rt, "other")?;
+    make_folder(&rt, "other")?;
     fs::write(&rt, "other/stop.txt", "stop_id,stop_lat,stop_lon\n")?;
-    fs::create_dir(&rt, "odd")?;
+    make_folder(&rt, "odd")?;
     fs::write(&rt, "odd/readme", "")?;
     fs::write(&rt, "packed.zip", "PK\u{3}\u{4}")?;
     fs::write(&rt, "plain.txt", "")?;

@@ -1,12 +1,12 @@
 //! Bad rows.
 
-use crate::told::{told, write_feed};
+use crate::told::{make_folder, told, write_feed};
 use std::fs;
 use std::test::Fail;
 
 #[test]
 fn a_bad_row_is_told_with_its_field(rt: HostRuntime) -> Result<(), Fail> {
-    fs::create_dir(&rt, "rows")?;
+    make_folder(&rt, "rows")?;
     let cases = [
         (
             "stop_id,stop_name,stop_lat,stop_lon\nX,X,148.8,0\n",

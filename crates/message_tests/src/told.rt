@@ -46,7 +46,7 @@ pub(crate) fn told(rt: &HostRuntime, line: &str) -> Result<String, Fail> {
 /// Writes the feed of a line from A to B into a folder that is made for it: the route U1, of this type.
 pub(crate) fn write_feed(rt: &HostRuntime, folder: &str, kind: &str) -> Result<(), Fail> {
     let alloc = rt.alloc();
-    fs::create_dir(rt, folder)?;
+    make_folder(rt, folder)?;
     let path = format!(in alloc; "{folder}/routes.txt")?;
     let text = format!(in alloc; "route_id,route_type,route_short_name\nU1,{kind},U1\n")?;
     fs::write(rt, path.as_str(), text.as_str())?;
@@ -64,5 +64,14 @@ pub(crate) fn write_feed(rt: &HostRuntime, folder: &str, kind: &str) -> Result<(
         path.as_str(),
         "trip_id,stop_id,stop_sequence\nT,A,1\nT,B,2\n",
     )?;
+    Ok(())
+}
+
+/// Makes a folder anew.
+pub(crate) fn make_folder(rt: &HostRuntime, folder: &str) -> Result<(), Fail> {
+    if fs::exists(rt, folder)? {
+        fs::remove_dir_all(rt, folder)?;
+    }
+    fs::create_dir(rt, folder)?;
     Ok(())
 }

@@ -85,7 +85,7 @@ fn fields_of(alloc: Global, row: &Row<'_>) -> Result<Vec<Vec<u8>>, NoMemory> {
 }
 
 /// What is looked for in the rows above one: the id in a column, and the number in another, where one is told.
-#[derive(Drop)]
+#[derive(Clone, Copy)]
 pub(crate) struct Sought<'a> {
     pub(crate) id_column: usize,
     pub(crate) id: &'a [u8],
