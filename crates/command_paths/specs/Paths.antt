@@ -1,6 +1,7 @@
 -- What words give to commands.
 use Rattle.std.specs.Prelude.{ℕ, List, Option, option_map}
 use Rattle.map_method.specs.declared.defaults.Defaults.{Defaults}
+use Rattle.command_paths.specs.Sets.{sets_of}
 use Rattle.command_paths.specs.declared.map_files.MapFiles.{MapFiles}
 use Rattle.command_paths.specs.declared.new_files.NewFiles.{NewFiles}
 use Rattle.command_paths.specs.declared.options.Options.{Options}
@@ -15,11 +16,13 @@ pub record NewPaths : Type 0 where
   pub map : MapPaths
   pub page : Option (List ℕ)
 
--- what a user chose: which settings hold where no file sets them, a file of settings, and one of edits, if any
+-- what a user chose: which settings hold where no file sets them, a file of settings, and one of edits, if any; and texts
+-- whose keys take the place of those of the file
 pub record Chosen : Type 0 where
   pub defaults : Defaults
   pub settings : Option (List ℕ)
   pub edits : Option (List ℕ)
+  pub sets : List (List ℕ)
 
 -- the paths of a map and its certificate in the program
 abbrev pub paths_by : MapFiles → MapPaths
@@ -31,4 +34,4 @@ new_paths_by files = record { map = paths_by files.map; page = option_map (λ pa
 
 -- the options of a command in the program
 abbrev pub options_by : Options → Chosen
-options_by options = record { defaults = options.defaults; settings = option_map (λ path. path.now) options.settings; edits = option_map (λ path. path.now) options.edits }
+options_by options = record { defaults = options.defaults; settings = option_map (λ path. path.now) options.settings; edits = option_map (λ path. path.now) options.edits; sets = sets_of options.words.now }

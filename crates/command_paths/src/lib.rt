@@ -5,7 +5,9 @@
 mod map_files;
 mod new_files;
 mod options;
+mod sets;
 
 pub use map_files::MapFiles;
 pub use new_files::NewFiles;
 pub use options::Options;
+pub use sets::next_set;

@@ -5,6 +5,7 @@ use Rattle.clap.specs.Walk.{Row, Text, first_of}
 use Rattle.clap.specs.Kinds.{Kinds}
 use Rattle.map_method.specs.declared.defaults.Defaults.TheVariants.{Make, Map}
 use Rattle.command_paths.specs.Paths.{Chosen, MapPaths, NewPaths}
+use Rattle.command_paths.specs.Sets.{sets_in}
 use Rattle.command_words.specs.Asked.{Asked, stations, graph, make, improve, check, labels, session, trial, page}
 use Rattle.command_words.specs.Words.{◌>>=◌, apart, asked, asked_as, check_in, faults, graph_in, improve_in, labels_in, make_in, met, named_in, new_paths_in, number_in, options_in, page_apart, page_at, page_in, paths_in, session_in, settings_in, stations_in, trial_in, two_paths_in, unless}
 
@@ -110,27 +111,27 @@ paged_apart (Some picture) (Some html) = paged_at picture html
 new_of : (rows : List Row) → IfSome (new_paths_in rows) AreNewApart
 new_of rows = new_apart (first_of (codes "page") rows) (two_paths_in rows) (two_apart (paths_in rows))
 
-as_apart : (name : Text) (rows : List Row) → AreApart (asked_as name rows)
-as_apart name rows =
+as_apart : (sets : List Text) (name : Text) (rows : List Row) → AreApart (asked_as sets name rows)
+as_apart sets name rows =
     by_tests (bytes_eq name (codes "map")) (bytes_eq name (codes "make")) (bytes_eq name (codes "improve")) (bytes_eq name (codes "check")) (bytes_eq name (codes "labels")) (bytes_eq name (codes "session")) (bytes_eq name (codes "graph")) (bytes_eq name (codes "stations")) (bytes_eq name (codes "page")) (bytes_eq name (codes "trial"))
   where
     by_tests : (mapped made improved checked labelled edited drawn listed paged tried : Bool)
-        → AreApart (if mapped then make_in Map rows else if made then make_in Make rows else if improved then improve_in rows else if checked then check_in rows else if labelled then labels_in rows else if edited then session_in rows else if drawn then graph_in rows else if listed then stations_in rows else if paged then page_in rows else if tried then trial_in rows else None)
-    by_tests true made improved checked labelled edited drawn listed paged tried = made_apart (options_in Map rows) (first_of (codes "FEED") rows) (new_paths_in rows) (new_of rows)
-    by_tests false true improved checked labelled edited drawn listed paged tried = made_apart (options_in Make rows) (first_of (codes "FEED") rows) (new_paths_in rows) (new_of rows)
-    by_tests false false true checked labelled edited drawn listed paged tried = improved_apart (options_in Make rows) (first_of (codes "FEED") rows) (two_paths_in rows) (number_in (codes "MOVES") rows) (two_apart (paths_in rows))
-    by_tests false false false true labelled edited drawn listed paged tried = checked_apart (options_in Make rows) (first_of (codes "FEED") rows) (paths_in rows)
-    by_tests false false false false true edited drawn listed paged tried = labelled_apart (options_in Make rows) (first_of (codes "FEED") rows) (first_of (codes "CERT") rows) (first_of (codes "OUT") rows)
-    by_tests false false false false false true drawn listed paged tried = edited_apart (settings_in Make rows) (first_of (codes "FEED") rows) (first_of (codes "SCRIPT") rows) (first_of (codes "OUT") rows)
-    by_tests false false false false false false true listed paged tried = drawn_apart (options_in Make rows) (first_of (codes "FEED") rows)
+        → AreApart (if mapped then make_in Map sets rows else if made then make_in Make sets rows else if improved then improve_in sets rows else if checked then check_in sets rows else if labelled then labels_in sets rows else if edited then session_in sets rows else if drawn then graph_in sets rows else if listed then stations_in rows else if paged then page_in rows else if tried then trial_in rows else None)
+    by_tests true made improved checked labelled edited drawn listed paged tried = made_apart (options_in Map sets rows) (first_of (codes "FEED") rows) (new_paths_in rows) (new_of rows)
+    by_tests false true improved checked labelled edited drawn listed paged tried = made_apart (options_in Make sets rows) (first_of (codes "FEED") rows) (new_paths_in rows) (new_of rows)
+    by_tests false false true checked labelled edited drawn listed paged tried = improved_apart (options_in Make sets rows) (first_of (codes "FEED") rows) (two_paths_in rows) (number_in (codes "MOVES") rows) (two_apart (paths_in rows))
+    by_tests false false false true labelled edited drawn listed paged tried = checked_apart (options_in Make sets rows) (first_of (codes "FEED") rows) (paths_in rows)
+    by_tests false false false false true edited drawn listed paged tried = labelled_apart (options_in Make sets rows) (first_of (codes "FEED") rows) (first_of (codes "CERT") rows) (first_of (codes "OUT") rows)
+    by_tests false false false false false true drawn listed paged tried = edited_apart (settings_in Make sets rows) (first_of (codes "FEED") rows) (first_of (codes "SCRIPT") rows) (first_of (codes "OUT") rows)
+    by_tests false false false false false false true listed paged tried = drawn_apart (options_in Make sets rows) (first_of (codes "FEED") rows)
     by_tests false false false false false false false true paged tried = listed_apart (first_of (codes "FEED") rows)
     by_tests false false false false false false false false true tried = paged_apart (first_of (codes "SVG") rows) (first_of (codes "HTML") rows)
     by_tests false false false false false false false false false true = tried_apart (number_in (codes "N") rows)
     by_tests false false false false false false false false false false = tt
 
-named_apart : (command : Option (Text × List Row)) → AreApart (named_in command)
-named_apart None = tt
-named_apart (Some command) = as_apart command.0 command.1
+named_apart : (sets : List Text) (command : Option (Text × List Row)) → AreApart (named_in sets command)
+named_apart sets None = tt
+named_apart sets (Some command) = as_apart sets command.0 command.1
 
 unless_apart : (kinds : Kinds) (read : Option Asked) → AreApart read → AreApart (unless kinds read)
 unless_apart [] read apart = apart
@@ -139,4 +140,4 @@ unless_apart (kind ∷ more) read apart = tt
 -- whatever words are read
 pub asked_apart : (words : List Text) → AreApart (asked words)
 unfolding asked
-asked_apart words = unless_apart (faults words) (named_in (met words)) (named_apart (met words))
+asked_apart words = unless_apart (faults words) (named_in (sets_in words) (met words)) (named_apart (sets_in words) (met words))

@@ -4,7 +4,7 @@ use Rattle.clap.specs.Walk.{Rule, Text}
 use Rattle.clap.specs.Simple.{App, new_app, new_rule, new_shape, with_rule, with_subcommand}
 use Rattle.clap.specs.declared.builder.command.Command.{Command}
 use Rattle.clap.specs.declared.builder.command.Command.TheViews.{out-Command}
-use Rattle.clap.specs.declared.builder.action.ArgAction.TheVariants.{Set, SetTrue}
+use Rattle.clap.specs.declared.builder.action.ArgAction.TheVariants.{Append, Set, SetTrue}
 use Rattle.clap.specs.declared.builder.value_parser.ValueParser.TheVariants as parser
 
 -- a command has no argument that its commands share
@@ -27,9 +27,17 @@ quiet_flag = record (new_rule (codes "quiet")) { long = Some (codes "quiet"); sh
 abbrev pub plain_app : Text → App
 plain_app name = with_rule (new_app name) quiet_flag
 
--- the command with `--settings FILE` and `--edits FILE`
+-- `--set KEY=VALUE`, as often as wanted
+abbrev pub set_option : Rule
+set_option = record (new_rule (codes "set")) { long = Some (codes "set"); action = Some Append; value_names = 1 }
+
+-- the command with `--settings FILE` and `--set KEY=VALUE`
+abbrev pub with_settings : App → App
+with_settings command = with_rule (with_rule command (file_option (codes "settings"))) set_option
+
+-- the command with `--settings FILE`, `--set KEY=VALUE` and `--edits FILE`
 abbrev pub with_options : App → App
-with_options command = with_rule (with_rule command (file_option (codes "settings"))) (file_option (codes "edits"))
+with_options command = with_rule (with_settings command) (file_option (codes "edits"))
 
 -- `N`, a number of 32 bits
 abbrev pub number_operand : Rule
@@ -72,7 +80,7 @@ labels_app = with_options (with_out (with_rule (feed_app (codes "labels")) (oper
 
 -- a script of edits and draws, whose settings alone are named
 abbrev pub session_app : App
-session_app = with_rule (with_out (with_rule (feed_app (codes "session")) (operand (codes "SCRIPT")))) (file_option (codes "settings"))
+session_app = with_settings (with_out (with_rule (feed_app (codes "session")) (operand (codes "SCRIPT"))))
 
 abbrev pub graph_app : App
 graph_app = with_options (feed_app (codes "graph"))

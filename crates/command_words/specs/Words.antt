@@ -16,6 +16,7 @@ use Rattle.command_words.specs.declared.command.Command.{Command}
 use Rattle.command_words.specs.declared.fault.WordsFault.{WordsFault}
 use Rattle.command_words.specs.declared.fault.WordsFault.TheVariants as fault
 use Rattle.command_paths.specs.Paths.{Chosen, MapPaths, NewPaths}
+use Rattle.command_paths.specs.Sets.{sets_in}
 use Rattle.command_words.specs.Asked.{Asked, asked_by, stations, graph, make, improve, check, labels, session, trial, page}
 use Rattle.command_words.specs.Program.{octimap_app}
 
@@ -24,13 +25,13 @@ infixl 10 ◌>>=◌
 abbrev pub ◌>>=◌ : {A B : Type 0} → Option A → (A → Option B) → Option B
 first >>= next = option_and_then next first
 
--- the file of settings, if it is named, over these settings; and no file of edits
-abbrev pub settings_in : Defaults → List Row → Chosen
-settings_in defaults rows = record { defaults = defaults; settings = first_of (codes "settings") rows; edits = None }
+-- the file of settings, if it is named, over these settings, and what is set in place of it; and no file of edits
+abbrev pub settings_in : Defaults → List Text → List Row → Chosen
+settings_in defaults sets rows = record { defaults = defaults; settings = first_of (codes "settings") rows; edits = None; sets = sets }
 
 -- the file of edits too, if it is named
-abbrev pub options_in : Defaults → List Row → Chosen
-options_in defaults rows = record (settings_in defaults rows) { edits = first_of (codes "edits") rows }
+abbrev pub options_in : Defaults → List Text → List Row → Chosen
+options_in defaults sets rows = record (settings_in defaults sets rows) { edits = first_of (codes "edits") rows }
 
 -- where the map and its certificate lie
 abbrev pub paths_in : List Row → Option MapPaths
@@ -54,10 +55,10 @@ stations_in rows = do
   feed ← first_of (codes "FEED") rows
   Some (stations feed)
 
-abbrev pub graph_in : List Row → Option Asked
-graph_in rows = do
+abbrev pub graph_in : List Text → List Row → Option Asked
+graph_in sets rows = do
   feed ← first_of (codes "FEED") rows
-  Some (graph feed (options_in Make rows))
+  Some (graph feed (options_in Make sets rows))
 
 -- two paths, and not one
 abbrev pub apart : MapPaths → Option MapPaths
@@ -82,38 +83,38 @@ new_paths_in rows = do
   page_apart (first_of (codes "page") rows) paths
 
 -- by these settings where the user sets none
-abbrev pub make_in : Defaults → List Row → Option Asked
-make_in defaults rows = do
+abbrev pub make_in : Defaults → List Text → List Row → Option Asked
+make_in defaults sets rows = do
   feed ← first_of (codes "FEED") rows
   paths ← new_paths_in rows
-  Some (make feed paths (options_in defaults rows))
+  Some (make feed paths (options_in defaults sets rows))
 
-abbrev pub improve_in : List Row → Option Asked
-improve_in rows = do
+abbrev pub improve_in : List Text → List Row → Option Asked
+improve_in sets rows = do
   feed ← first_of (codes "FEED") rows
   paths ← two_paths_in rows
   moves ← number_in (codes "MOVES") rows
-  Some (improve feed paths moves (options_in Make rows))
+  Some (improve feed paths moves (options_in Make sets rows))
 
-abbrev pub check_in : List Row → Option Asked
-check_in rows = do
+abbrev pub check_in : List Text → List Row → Option Asked
+check_in sets rows = do
   feed ← first_of (codes "FEED") rows
   paths ← paths_in rows
-  Some (check feed paths (options_in Make rows))
+  Some (check feed paths (options_in Make sets rows))
 
-abbrev pub labels_in : List Row → Option Asked
-labels_in rows = do
+abbrev pub labels_in : List Text → List Row → Option Asked
+labels_in sets rows = do
   feed ← first_of (codes "FEED") rows
   certificate ← first_of (codes "CERT") rows
   out ← first_of (codes "OUT") rows
-  Some (labels feed certificate out (options_in Make rows))
+  Some (labels feed certificate out (options_in Make sets rows))
 
-abbrev pub session_in : List Row → Option Asked
-session_in rows = do
+abbrev pub session_in : List Text → List Row → Option Asked
+session_in sets rows = do
   feed ← first_of (codes "FEED") rows
   script ← first_of (codes "SCRIPT") rows
   out ← first_of (codes "OUT") rows
-  Some (session feed script out (settings_in Make rows))
+  Some (session feed script out (settings_in Make sets rows))
 
 abbrev pub trial_in : List Row → Option Asked
 trial_in rows = do
@@ -130,24 +131,24 @@ page_in rows = do
   html ← first_of (codes "HTML") rows
   page_at picture html
 
--- what the matches of the command of this name ask for
-abbrev pub asked_as : Text → List Row → Option Asked
-asked_as name rows =
-    if bytes_eq name (codes "map") then make_in Map rows
-    else if bytes_eq name (codes "make") then make_in Make rows
-    else if bytes_eq name (codes "improve") then improve_in rows
-    else if bytes_eq name (codes "check") then check_in rows
-    else if bytes_eq name (codes "labels") then labels_in rows
-    else if bytes_eq name (codes "session") then session_in rows
-    else if bytes_eq name (codes "graph") then graph_in rows
+-- what the matches of the command of this name ask for, with what is set
+abbrev pub asked_as : List Text → Text → List Row → Option Asked
+asked_as sets name rows =
+    if bytes_eq name (codes "map") then make_in Map sets rows
+    else if bytes_eq name (codes "make") then make_in Make sets rows
+    else if bytes_eq name (codes "improve") then improve_in sets rows
+    else if bytes_eq name (codes "check") then check_in sets rows
+    else if bytes_eq name (codes "labels") then labels_in sets rows
+    else if bytes_eq name (codes "session") then session_in sets rows
+    else if bytes_eq name (codes "graph") then graph_in sets rows
     else if bytes_eq name (codes "stations") then stations_in rows
     else if bytes_eq name (codes "page") then page_in rows
     else if bytes_eq name (codes "trial") then trial_in rows
     else None
 
 -- what a command that was met asks for
-abbrev pub named_in : Option (Text × List Row) → Option Asked
-named_in met = option_and_then (λ command. asked_as command.0 command.1) met
+abbrev pub named_in : List Text → Option (Text × List Row) → Option Asked
+named_in sets met = option_and_then (λ command. asked_as sets command.0 command.1) met
 
 -- the faults that `clap` finds in the words, requests for help among them, by the definition of the program
 unfoldable pub faults : List Text → Kinds
@@ -166,17 +167,17 @@ unless (fault ∷ more) read = None
 -- Where `clap` finds a fault in them, requests for help among them, they ask for none; nor where a map and its
 -- certificate, or a page and its map or certificate, are to be one file.
 unfoldable pub asked : List Text → Option Asked
-asked words = unless (faults words) (named_in (met words))
+asked words = unless (faults words) (named_in (sets_in words) (met words))
 
 abbrev pub asked_in : List (String Global) → Option Asked
 asked_in words = asked (map string_bytes words)
 
 -- what the matches of words give: what the words ask for, or where they ask for nothing the text for the user; or
 -- memory ran out
-abbrev pub Matches : Option Asked → Result ArgMatches WordsFault → Type 0
-Matches asked (Ok matches) = asked ≡ named_in (subcommand_rows_of matches)
-Matches asked (Err (fault.Usage text)) = asked ≡ None
-Matches asked (Err fault.NoMemory) = ⊤
+abbrev pub Matches : List Text → Option Asked → Result ArgMatches WordsFault → Type 0
+Matches sets asked (Ok matches) = asked ≡ named_in sets (subcommand_rows_of matches)
+Matches sets asked (Err (fault.Usage text)) = asked ≡ None
+Matches sets asked (Err fault.NoMemory) = ⊤
 
 -- what reading words gives: the command that they ask for, or where they ask for none the text for the user; or memory
 -- ran out

@@ -163,6 +163,9 @@ pub(crate) const DRAWS: &str = "The file that the maps and certificates are writ
 
 pub(crate) const SETTINGS: &str = "A file of settings in TOML, such as examples/settings.toml";
 
+pub(crate) const SET: &str =
+    "A key of the settings in place of that of the file, as often as wanted, such as near=400";
+
 pub(crate) const EDITS: &str =
     "A file of edits, one a line, such as examples/edits.txt; they are done to the tables and settings first";
 

@@ -2,6 +2,7 @@
 
 ghost use Rattle.std.specs.Prelude.{◌≡◌, option_map};
 ghost use Rattle.clap.specs.Words.{first_of, found_of, rows_of, subcommand_rows_of};
+ghost use Rattle.command_paths.specs.Sets.{sets_of};
 ghost use Rattle.command_paths.specs.Paths.{new_paths_by, options_by, paths_by};
 ghost use Rattle.command_words.specs.Asked.{asked_by};
 ghost use Rattle.command_words.specs.Words.{asked_as, check_in, graph_in, improve_in, labels_in, make_in, named_in, new_paths_in, number_in, options_in, page_apart, page_in, paths_in, session_in, settings_in, stations_in, trial_in, two_paths_in};
@@ -11,32 +12,32 @@ use clap::ArgMatches;
 use command_paths::{MapFiles, NewFiles, Options};
 use map_method::Defaults;
 
-/// The command that the matches name; none where two of its files are to be one.
-pub(crate) fn command_in<'a>(matches: &ArgMatches<'a>) -> Option<Command<'a>>
-    ensures { option_map asked_by result ≡ named_in (subcommand_rows_of matches.now) }
+/// The command that the matches of these words name; none where two of its files are to be one.
+pub(crate) fn command_in<'a>(matches: &ArgMatches<'a>, words: &'a [String]) -> Option<Command<'a>>
+    ensures { option_map asked_by result ≡ named_in (sets_of words.now) (subcommand_rows_of matches.now) }
 {
     let (name, given) = matches.subcommand()?;
-    command_named(name, given)
+    command_named(name, given, words)
 }
 
 /// The command of this name.
-fn command_named<'a>(name: &str, given: &ArgMatches<'a>) -> Option<Command<'a>>
-    ensures { option_map asked_by result ≡ asked_as name.now (rows_of (found_of given.now)) }
+fn command_named<'a>(name: &str, given: &ArgMatches<'a>, words: &'a [String]) -> Option<Command<'a>>
+    ensures { option_map asked_by result ≡ asked_as (sets_of words.now) name.now (rows_of (found_of given.now)) }
 {
     if name == "map" {
-        make_in(given, Defaults::Map)
+        make_in(given, Defaults::Map, words)
     } else if name == "make" {
-        make_in(given, Defaults::Make)
+        make_in(given, Defaults::Make, words)
     } else if name == "improve" {
-        improve_in(given)
+        improve_in(given, words)
     } else if name == "check" {
-        check_in(given)
+        check_in(given, words)
     } else if name == "labels" {
-        labels_in(given)
+        labels_in(given, words)
     } else if name == "session" {
-        session_in(given)
+        session_in(given, words)
     } else if name == "graph" {
-        graph_in(given)
+        graph_in(given, words)
     } else if name == "stations" {
         stations_in(given)
     } else if name == "page" {
@@ -57,21 +58,25 @@ fn stations_in<'a>(given: &ArgMatches<'a>) -> Option<Command<'a>>
 }
 
 /// `graph FEED`
-fn graph_in<'a>(given: &ArgMatches<'a>) -> Option<Command<'a>>
-    ensures { option_map asked_by result ≡ graph_in (rows_of (found_of given.now)) }
+fn graph_in<'a>(given: &ArgMatches<'a>, words: &'a [String]) -> Option<Command<'a>>
+    ensures { option_map asked_by result ≡ graph_in (sets_of words.now) (rows_of (found_of given.now)) }
 {
     let feed = value_of(given, "FEED")?;
-    let options = options_in(given, Defaults::Make);
+    let options = options_in(given, Defaults::Make, words);
     Some(Command::Graph { feed, options })
 }
 
 /// `make FEED SVG CERT` or `map FEED SVG CERT`, of two files, or three with a page.
-fn make_in<'a>(given: &ArgMatches<'a>, defaults: Defaults) -> Option<Command<'a>>
-    ensures { option_map asked_by result ≡ make_in defaults (rows_of (found_of given.now)) }
+fn make_in<'a>(
+    given: &ArgMatches<'a>,
+    defaults: Defaults,
+    words: &'a [String],
+) -> Option<Command<'a>>
+    ensures { option_map asked_by result ≡ make_in defaults (sets_of words.now) (rows_of (found_of given.now)) }
 {
     let feed = value_of(given, "FEED")?;
     let files = new_files_in(given)?;
-    let options = options_in(given, defaults);
+    let options = options_in(given, defaults, words);
     Some(Command::Make {
         feed,
         files,
@@ -80,13 +85,13 @@ fn make_in<'a>(given: &ArgMatches<'a>, defaults: Defaults) -> Option<Command<'a>
 }
 
 /// `improve FEED SVG CERT MOVES`, of two files.
-fn improve_in<'a>(given: &ArgMatches<'a>) -> Option<Command<'a>>
-    ensures { option_map asked_by result ≡ improve_in (rows_of (found_of given.now)) }
+fn improve_in<'a>(given: &ArgMatches<'a>, words: &'a [String]) -> Option<Command<'a>>
+    ensures { option_map asked_by result ≡ improve_in (sets_of words.now) (rows_of (found_of given.now)) }
 {
     let feed = value_of(given, "FEED")?;
     let files = two_files_in(given)?;
     let moves = number_of(given, "MOVES")?;
-    let options = options_in(given, Defaults::Make);
+    let options = options_in(given, Defaults::Make, words);
     Some(Command::Improve {
         feed,
         files,
@@ -96,12 +101,12 @@ fn improve_in<'a>(given: &ArgMatches<'a>) -> Option<Command<'a>>
 }
 
 /// `check FEED SVG CERT`
-fn check_in<'a>(given: &ArgMatches<'a>) -> Option<Command<'a>>
-    ensures { option_map asked_by result ≡ check_in (rows_of (found_of given.now)) }
+fn check_in<'a>(given: &ArgMatches<'a>, words: &'a [String]) -> Option<Command<'a>>
+    ensures { option_map asked_by result ≡ check_in (sets_of words.now) (rows_of (found_of given.now)) }
 {
     let feed = value_of(given, "FEED")?;
     let files = files_in(given)?;
-    let options = options_in(given, Defaults::Make);
+    let options = options_in(given, Defaults::Make, words);
     Some(Command::Check {
         feed,
         files,
@@ -110,13 +115,13 @@ fn check_in<'a>(given: &ArgMatches<'a>) -> Option<Command<'a>>
 }
 
 /// `labels FEED CERT OUT`
-fn labels_in<'a>(given: &ArgMatches<'a>) -> Option<Command<'a>>
-    ensures { option_map asked_by result ≡ labels_in (rows_of (found_of given.now)) }
+fn labels_in<'a>(given: &ArgMatches<'a>, words: &'a [String]) -> Option<Command<'a>>
+    ensures { option_map asked_by result ≡ labels_in (sets_of words.now) (rows_of (found_of given.now)) }
 {
     let feed = value_of(given, "FEED")?;
     let certificate = value_of(given, "CERT")?;
     let out = value_of(given, "OUT")?;
-    let options = options_in(given, Defaults::Make);
+    let options = options_in(given, Defaults::Make, words);
     Some(Command::Labels {
         feed,
         certificate,
@@ -126,13 +131,13 @@ fn labels_in<'a>(given: &ArgMatches<'a>) -> Option<Command<'a>>
 }
 
 /// `session FEED SCRIPT OUT`
-fn session_in<'a>(given: &ArgMatches<'a>) -> Option<Command<'a>>
-    ensures { option_map asked_by result ≡ session_in (rows_of (found_of given.now)) }
+fn session_in<'a>(given: &ArgMatches<'a>, words: &'a [String]) -> Option<Command<'a>>
+    ensures { option_map asked_by result ≡ session_in (sets_of words.now) (rows_of (found_of given.now)) }
 {
     let feed = value_of(given, "FEED")?;
     let script = value_of(given, "SCRIPT")?;
     let out = value_of(given, "OUT")?;
-    let options = settings_in(given, Defaults::Make);
+    let options = settings_in(given, Defaults::Make, words);
     Some(Command::Session {
         feed,
         script,
@@ -205,25 +210,26 @@ fn files_in<'a>(given: &ArgMatches<'a>) -> Option<MapFiles<'a>>
 }
 
 /// What the user chose.
-fn options_in<'a>(given: &ArgMatches<'a>, defaults: Defaults) -> Options<'a>
-    ensures { options_by result ≡ options_in defaults (rows_of (found_of given.now)) }
+fn options_in<'a>(given: &ArgMatches<'a>, defaults: Defaults, words: &'a [String]) -> Options<'a>
+    ensures { options_by result ≡ options_in defaults (sets_of words.now) (rows_of (found_of given.now)) }
 {
     let edits = value_of(given, "edits");
     Options {
         edits,
-        ..settings_in(given, defaults)
+        ..settings_in(given, defaults, words)
     }
 }
 
 /// What the user chose where edits stand elsewhere.
-fn settings_in<'a>(given: &ArgMatches<'a>, defaults: Defaults) -> Options<'a>
-    ensures { options_by result ≡ settings_in defaults (rows_of (found_of given.now)) }
+fn settings_in<'a>(given: &ArgMatches<'a>, defaults: Defaults, words: &'a [String]) -> Options<'a>
+    ensures { options_by result ≡ settings_in defaults (sets_of words.now) (rows_of (found_of given.now)) }
 {
     let settings = value_of(given, "settings");
     Options {
         defaults,
         settings,
         edits: None,
+        words,
     }
 }
 

@@ -2,7 +2,7 @@
 
 ghost use Rattle.std.specs.Prelude.{◌≡◌, IfOk, codes, false};
 ghost use Rattle.clap.specs.Words.{app_of, new_app, rule_of};
-ghost use Rattle.command_words.specs.Program.{IsLocal, feed_app, file_option, graph_app, improve_app, labels_app, map_app, moves_operand, octimap_alone, octimap_app, octimap_maps, operand, page_app, plain_app, quiet_flag, session_app, trial_app, with_files, with_map, with_options};
+ghost use Rattle.command_words.specs.Program.{IsLocal, feed_app, file_option, graph_app, improve_app, labels_app, map_app, moves_operand, octimap_alone, octimap_app, octimap_maps, operand, page_app, plain_app, quiet_flag, session_app, set_option, trial_app, with_files, with_map, with_options, with_settings};
 
 use crate::help;
 use clap::builder::ValueParser;
@@ -150,10 +150,10 @@ fn session<'a>(alloc: Global) -> Result<Command<'a>, AllocError>
     ensures app { IfOk result (λ command. app_of command ≡ session_app) }
     ensures local { IfOk result IsLocal }
 {
-    over_feed(alloc, "session", help::SESSION, help::AFTER_SESSION)?
+    let command = over_feed(alloc, "session", help::SESSION, help::AFTER_SESSION)?
         .arg(named_operand(alloc, "SCRIPT", help::SCRIPT))?
-        .arg(named_operand(alloc, "OUT", help::DRAWS))?
-        .arg(file_option(alloc, "settings", help::SETTINGS))
+        .arg(named_operand(alloc, "OUT", help::DRAWS))?;
+    with_settings(alloc, command)
 }
 
 /// `page SVG HTML`
@@ -217,14 +217,34 @@ fn with_files<'a>(
         .arg(named_operand(alloc, "CERT", certificate))
 }
 
-/// The command with `--settings FILE` and `--edits FILE`.
-fn with_options<'a>(alloc: Global, command: Command<'a>) -> Result<Command<'a>, AllocError>
-    ensures app { IsLocal command.entry → IfOk result (λ r. app_of r ≡ with_options (app_of command.entry)) }
+/// The command with `--settings FILE` and `--set KEY=VALUE`.
+fn with_settings<'a>(alloc: Global, command: Command<'a>) -> Result<Command<'a>, AllocError>
+    ensures app { IsLocal command.entry → IfOk result (λ r. app_of r ≡ with_settings (app_of command.entry)) }
     ensures local { IsLocal command.entry → IfOk result IsLocal }
 {
     command
         .arg(file_option(alloc, "settings", help::SETTINGS))?
-        .arg(file_option(alloc, "edits", help::EDITS))
+        .arg(set_option(alloc))
+}
+
+/// `--set KEY=VALUE`, as often as wanted.
+fn set_option<'a>(alloc: Global) -> Arg<'a>
+    ensures rule { rule_of result ≡ set_option }
+    ensures local { result.global ≡ false }
+{
+    Arg::new(alloc, "set")
+        .long("set")
+        .value_name("KEY=VALUE")
+        .action(ArgAction::Append)
+        .help(help::SET)
+}
+
+/// The command with `--settings FILE`, `--set KEY=VALUE` and `--edits FILE`.
+fn with_options<'a>(alloc: Global, command: Command<'a>) -> Result<Command<'a>, AllocError>
+    ensures app { IsLocal command.entry → IfOk result (λ r. app_of r ≡ with_options (app_of command.entry)) }
+    ensures local { IsLocal command.entry → IfOk result IsLocal }
+{
+    with_settings(alloc, command)?.arg(file_option(alloc, "edits", help::EDITS))
 }
 
 /// A command that takes nothing but `--quiet`.

@@ -103,16 +103,16 @@ past_file : {A : Type 0} (given later : Given) (read : Result (Option (List ℕ)
 past_file given later (Ok file) gives = tt
 past_file given later (Err why) gives = tt
 
-settings_same : (given later : Given) (defaults : Defaults) (settings : Option (List ℕ)) → IfSome settings (λ path. later input.Settings ≡ given input.Settings) → ReadsSame given later (settings_by defaults settings)
-settings_same given later defaults None same = tt
-settings_same given later defaults (Some path) same = (same, λ file. past_file given later (file_outcome file) (settings_in defaults))
+settings_same : (given later : Given) (defaults : Defaults) (sets : List (List ℕ)) (settings : Option (List ℕ)) → IfSome settings (λ path. later input.Settings ≡ given input.Settings) → ReadsSame given later (settings_by defaults sets settings)
+settings_same given later defaults sets None same = tt
+settings_same given later defaults sets (Some path) same = (same, λ file. past_file given later (file_outcome file) (settings_in defaults sets))
 
 feed_same : (given later : Given) (chosen : Chosen) → IfSome chosen.settings (λ path. later input.Settings ≡ given input.Settings) → ((table : Table) → later (input.Table table) ≡ given (input.Table table))
     → ReadsSame given later (feed_work chosen)
 feed_same given later chosen settings tables =
     let loaded : MapSettings → Feed → Work Input Refusal Loaded = λ choices feed. ends (Ok (record { settings = choices.settings; method = choices.method; tables = feed })) in
     let after : MapSettings → Work Input Refusal Loaded = λ choices. tables_work choices.settings.types >>= loaded choices in
-    same_then given later (settings_by chosen.defaults chosen.settings) after (settings_same given later chosen.defaults chosen.settings settings)
+    same_then given later (settings_by chosen.defaults chosen.sets chosen.settings) after (settings_same given later chosen.defaults chosen.sets chosen.settings settings)
     (λ choices. same_then given later (tables_work choices.settings.types) (loaded choices) (tables_same given later tables choices.settings.types) (λ feed. tt))
 
 edits_same : (given later : Given) (edits : Option (List ℕ)) (loaded : Loaded) → IfSome edits (λ path. later input.Edits ≡ given input.Edits) → ReadsSame given later (edited_by edits loaded)

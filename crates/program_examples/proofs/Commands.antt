@@ -27,10 +27,10 @@ use Rattle.run_status.specs.Items.{item_text}
 use Rattle.run_status.specs.Lines.{status_line, status_number}
 
 abbrev standard : Chosen
-standard = record { defaults = Make; settings = None; edits = None }
+standard = record { defaults = Make; settings = None; edits = None; sets = [] }
 
 abbrev by_mine : Chosen
-by_mine = record { defaults = Make; settings = Some (codes "my.toml"); edits = None }
+by_mine = record { defaults = Make; settings = Some (codes "my.toml"); edits = None; sets = [] }
 
 -- where a table lies
 table_path : input_path (graph (codes "feed") standard) (input.Table StopTimes) ≡ codes "feed/stop_times.txt"

@@ -8,10 +8,10 @@ use Rattle.command_words.specs.Program.{octimap_app}
 use Rattle.command_words.specs.Words.{asked, faults, met}
 
 abbrev no_settings : Chosen
-no_settings = record { defaults = Make; settings = None; edits = None }
+no_settings = record { defaults = Make; settings = None; edits = None; sets = [] }
 
 abbrev by_mine : Chosen
-by_mine = record { defaults = Make; settings = Some (codes "my.toml"); edits = None }
+by_mine = record { defaults = Make; settings = Some (codes "my.toml"); edits = None; sets = [] }
 
 abbrev map_and_certificate : MapPaths
 map_and_certificate = record { picture = codes "m.svg"; certificate = codes "m.cert" }
@@ -44,7 +44,7 @@ settings_come_once = refl
 
 -- edits beside them, in either order
 edits_are_named : asked (codes "graph" ∷ codes "--edits" ∷ codes "my.edits" ∷ codes "feed" ∷ codes "--settings" ∷ codes "my.toml" ∷ [])
-    ≡ Some (graph (codes "feed") (record { defaults = Make; settings = Some (codes "my.toml"); edits = Some (codes "my.edits") }))
+    ≡ Some (graph (codes "feed") (record { defaults = Make; settings = Some (codes "my.toml"); edits = Some (codes "my.edits"); sets = [] }))
 unfolding clap_on_literals asked faults met octimap_app
 edits_are_named = refl
 
@@ -139,6 +139,16 @@ a_page_is_asked = refl
 a_page_at_its_map : asked (codes "page" ∷ codes "m.svg" ∷ codes "m.svg" ∷ []) ≡ None
 unfolding clap_on_literals asked faults met octimap_app
 a_page_at_its_map = refl
+
+-- what is set takes the place of the file's keys, one after another
+sets_are_taken : asked (codes "graph" ∷ codes "--set" ∷ codes "near=400" ∷ codes "feed" ∷ codes "--set=cell=0" ∷ [])
+    ≡ Some (graph (codes "feed") (record no_settings { sets = codes "near=400" ∷ codes "cell=0" ∷ [] }))
+unfolding clap_on_literals asked faults met octimap_app
+sets_are_taken = refl
+
+nothing_is_set : asked (codes "graph" ∷ codes "feed" ∷ codes "--set" ∷ []) ≡ None
+unfolding clap_on_literals asked faults met octimap_app
+nothing_is_set = refl
 
 -- a page beside the map has a path of its own
 a_page_beside_a_map : asked (codes "make" ∷ codes "--page" ∷ codes "m.html" ∷ codes "feed" ∷ codes "m.svg" ∷ codes "m.cert" ∷ [])
