@@ -1,4 +1,3 @@
-pub mod Far
 pub mod Keys
 pub mod Meant
 pub mod Seems

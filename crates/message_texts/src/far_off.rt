@@ -1,8 +1,5 @@
 //! Stations that lie far from all others, as one at 0, 0 whose place is not known.
 
-ghost use Rattle.std.specs.Prelude.{◌≡◌, IfOk};
-ghost use Rattle.message_texts.specs.Far.{farther_places, span_of};
-
 use map_base::{NoMemory, Point};
 use std::alloc::Global;
 
@@ -34,14 +31,12 @@ pub fn far_stations(alloc: Global, stations: &[Point]) -> Result<Vec<usize>, NoM
 
 /// The places of the stations whose coordinates differ by more than `most` decimetres from those of the middle, one or
 /// both.
-pub fn farther_than(
+fn farther_than(
     alloc: Global,
     stations: &[Point],
     middle: Point,
     most: u64,
-) -> Result<Vec<usize>, NoMemory>
-    ensures { IfOk result (λ far. far.items ≡ farther_places middle most 0 stations.now) }
-{
+) -> Result<Vec<usize>, NoMemory> {
     let mut far = Vec::new(alloc);
     for (place, station) in stations.iter().enumerate() {
         if span(*station, middle) > most {
@@ -52,9 +47,7 @@ pub fn farther_than(
 }
 
 /// By how many decimetres the coordinates of two points differ, of the two the greater number.
-fn span(one: Point, other: Point) -> u64
-    ensures { result ≡ span_of one other }
-{
+fn span(one: Point, other: Point) -> u64 {
     one.x.abs_diff(other.x).max(one.y.abs_diff(other.y))
 }
 

@@ -14,7 +14,7 @@ mod shown;
 mod trouble;
 
 pub use edit_word::{EDIT_WORDS, EditWord};
-pub use far_off::{far_stations, farther_than};
+pub use far_off::far_stations;
 pub use limit_hints::limit_hint;
 pub use meant_word::meant;
 pub use row_field::{column_of, due_in, id_column, required_column};

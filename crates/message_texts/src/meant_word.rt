@@ -1,6 +1,6 @@
 //! Which of the known words was meant.
 
-ghost use Rattle.std.specs.Prelude.{◌≡◌, ◌<◌, ◌≤◌, length, chars, IfOk, slice_index_or, []};
+ghost use Rattle.std.specs.Prelude.{◌≡◌, length, IfOk};
 ghost use Rattle.message_texts.specs.Meant.{IsMeant, IsNearestBelow, distance, near_enough, nearer};
 
 use map_base::{NoMemory, Text};
@@ -8,7 +8,8 @@ use std::alloc::Global;
 use strsim::levenshtein;
 
 /// The place of the known word that was meant by `word`: one of the nearest, if it is near enough. Near enough is one
-/// that is made of `word` by putting in, taking out or changing at most a third of its characters and one more.
+/// that is made of `word` by putting in, taking out or changing a third as many characters as it has
+/// bytes at most, and one more.
 #[tactic(auto, using(crate::proofs::MeantLemmas::nearest_is_meant))]
 pub fn meant(alloc: Global, word: &str, known: &[Text]) -> Result<Option<usize>, NoMemory>
     ensures { IfOk result (IsMeant word.now known.now) }
@@ -52,16 +53,9 @@ fn near_enough(word: &str, nearest: Option<(usize, usize)>) -> Option<usize>
     ensures { result ≡ near_enough word.now nearest }
 {
     let (place, distance) = nearest?;
-    if distance <= length_of(word) / 3 + 1 {
+    if distance <= word.len() / 3 + 1 {
         Some(place)
     } else {
         None
     }
-}
-
-/// How many characters a word has.
-fn length_of(word: &str) -> usize
-    ensures { result ≡ length (chars word.now) }
-{
-    word.chars().count()
 }

@@ -38,22 +38,44 @@ pub fn required_column(table: Table, place: usize) -> Option<&'static str> {
 pub fn column_of(table: Table, why: Why) -> Option<&'static str> {
     match why {
         Why::EmptyId | Why::RepeatedId => id_column(table),
-        Why::BadLatitude if table == Table::Shapes => Some("shape_pt_lat"),
-        Why::BadLatitude => Some("stop_lat"),
-        Why::BadLongitude if table == Table::Shapes => Some("shape_pt_lon"),
-        Why::BadLongitude => Some("stop_lon"),
-        Why::BadType if table == Table::Routes => Some("route_type"),
-        Why::BadType => Some("location_type"),
+        Why::BadLatitude => Some(latitude_column(table)),
+        Why::BadLongitude => Some(longitude_column(table)),
+        Why::BadType => Some(type_column(table)),
         Why::BadColour => Some("route_color"),
-        Why::BadWhole | Why::RepeatedSequence if table == Table::Shapes => Some(
-            "shape_pt_sequence",
-        ),
-        Why::BadWhole | Why::RepeatedSequence => Some("stop_sequence"),
+        Why::BadWhole | Why::RepeatedSequence => Some(sequence_column(table)),
         Why::UnknownParent => Some("parent_station"),
         Why::UnknownRoute => Some("route_id"),
         Why::UnknownTrip => Some("trip_id"),
         Why::UnknownStop => Some("stop_id"),
         Why::MissingFile | Why::MissingColumn | Why::WrongFields | Why::NotUtf8 => None,
+    }
+}
+
+fn latitude_column(table: Table) -> &'static str {
+    match table {
+        Table::Shapes => "shape_pt_lat",
+        _ => "stop_lat",
+    }
+}
+
+fn longitude_column(table: Table) -> &'static str {
+    match table {
+        Table::Shapes => "shape_pt_lon",
+        _ => "stop_lon",
+    }
+}
+
+fn type_column(table: Table) -> &'static str {
+    match table {
+        Table::Routes => "route_type",
+        _ => "location_type",
+    }
+}
+
+fn sequence_column(table: Table) -> &'static str {
+    match table {
+        Table::Shapes => "shape_pt_sequence",
+        _ => "stop_sequence",
     }
 }
 
@@ -64,9 +86,7 @@ pub fn due_in(table: Table, why: Why) -> &'static str {
         Why::RepeatedId => "each row has an id of its own",
         Why::BadLatitude => "a latitude is a number from -90 to 90",
         Why::BadLongitude => "a longitude is a number from -180 to 180",
-        Why::BadType if table == Table::Routes =>
-            "a route's type is a whole number, as 0 tram, 1 metro, 2 rail, 3 bus",
-        Why::BadType => "a stop's type is empty, or 0 to 4",
+        Why::BadType => due_type(table),
         Why::BadColour => "a colour is six hexadecimal digits without #, as 0060A8, or empty",
         Why::BadWhole => "a sequence is a whole number from 0 to 4294967295",
         Why::UnknownParent =>
@@ -79,5 +99,13 @@ pub fn due_in(table: Table, why: Why) -> &'static str {
         Why::NotUtf8 => "a feed is text in UTF-8",
         Why::MissingFile => "the file has to be there",
         Why::MissingColumn => "the column has to be there",
+    }
+}
+
+/// What is due as the type of a route or a stop.
+fn due_type(table: Table) -> &'static str {
+    match table {
+        Table::Routes => "a route's type is a whole number, as 0 tram, 1 metro, 2 rail, 3 bus",
+        _ => "a stop's type is empty, or 0 to 4",
     }
 }

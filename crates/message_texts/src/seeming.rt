@@ -92,5 +92,6 @@ fn seeming_of_folder(has_table: bool, folders: usize, archives: usize) -> Seemin
 fn is_address(path: &str) -> bool
     ensures { result ≡ is_address path.now }
 {
-    path.starts_with("http://") || path.starts_with("https://")
+    let path = path.as_bytes();
+    path.starts_with(b"http://".as_slice()) || path.starts_with(b"https://".as_slice())
 }
