@@ -7,7 +7,7 @@ use command_inputs::Inputs;
 use command_words::Command;
 use disk_door::DiskFiles;
 use gtfs_fields::whole;
-use gtfs_tables::read_stations;
+use stop_table::read_stations;
 use map_base::{NoMemory, Point, Text};
 use message_texts::far_stations;
 use std::alloc::Global;
