@@ -7,12 +7,12 @@ use command_inputs::Inputs;
 use command_words::Command;
 use disk_door::DiskFiles;
 use gtfs_fields::whole;
-use stop_table::read_stations;
 use map_base::{NoMemory, Point, Text};
 use message_texts::far_stations;
 use std::alloc::Global;
 use std::fmt::Write;
 use std::rt::Files;
+use stop_table::read_stations;
 
 /// How the certificate of a graph without nodes begins.
 const OF_NOTHING: &[u8] = b"octimap 1\ngraph 0 0 0\n";
