@@ -78,18 +78,24 @@ fn wrong_count(alloc: Global, word: EditWord, count: usize) -> Result<String, No
 
 /// The first word begins no edit.
 fn unknown(alloc: Global, line: &[u8]) -> Result<String, NoMemory> {
-    let first = match line.iter().position(|byte| *byte == b'\t' || *byte == b' ') {
-        Some(place) => line.split_at(place).0,
-        None => line,
-    };
     let mut words = Vec::new(alloc);
     for word in EDIT_WORDS {
         words.push(Text::of(alloc, word.name())?)?;
     }
-    let near = question(alloc, first, words.as_slice())?;
+    let near = question(alloc, first_word(line), words.as_slice())?;
     Ok(format!(in alloc;
         "an edit begins with hide, show, rename, move, colour, importance, weight, near, cell, budget or undo{near}"
     )?)
+}
+
+/// What stands before the first TAB or space.
+fn first_word(line: &[u8]) -> &[u8] {
+    for (place, byte) in line.iter().enumerate() {
+        if *byte == b'\t' || *byte == b' ' {
+            return line.split_at(place).0;
+        }
+    }
+    line
 }
 
 /// A line is an edit, but its line or station is not there, or there is nothing to undo.

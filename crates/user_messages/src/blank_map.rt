@@ -1,18 +1,21 @@
 //! A map that was made, and shows nothing; and one with stations far from all others.
 
-use crate::lookup::{bytes_at, is_plain};
+use crate::lookup::{begins_with, is_plain};
 use crate::network::network_of;
 use crate::table_ids::ids_at;
 use command_inputs::Inputs;
 use command_words::Command;
 use disk_door::DiskFiles;
 use gtfs_fields::whole;
-use gtfs_tables::read_stations;
 use map_base::{NoMemory, Point, Text};
 use message_texts::far_stations;
 use std::alloc::Global;
 use std::fmt::Write;
 use std::rt::Files;
+use stop_table::read_stations;
+
+/// How the certificate of a graph without nodes begins.
+const OF_NOTHING: &[u8] = b"octimap 1\ngraph 0 0 0\n";
 
 /// How many types of routes are told.
 const TOLD: usize = 12;
@@ -37,11 +40,10 @@ fn of_certificate<R: Files + AllocGlobal>(
     certificate: &str,
     inputs: &Inputs<'_>,
 ) -> Result<String, NoMemory> {
-    let alloc = rt.alloc();
-    match bytes_at(rt, certificate)? {
-        Some(bytes) if shows_nothing(bytes.as_slice()) => routes_line(rt, inputs),
-        Some(_) => far_line(rt, inputs),
-        None => Ok(String::new(alloc)),
+    if begins_with(rt, certificate, OF_NOTHING) {
+        routes_line(rt, inputs)
+    } else {
+        far_line(rt, inputs)
     }
 }
 
@@ -78,11 +80,6 @@ fn has_far_stations<R: Files + AllocGlobal>(rt: &R, feed: &str) -> Result<bool, 
     }
     let far = far_stations(alloc, places.as_slice())?;
     Ok(!far.is_empty())
-}
-
-/// Whether a certificate is of a graph without nodes.
-fn shows_nothing(certificate: &[u8]) -> bool {
-    certificate.starts_with(b"octimap 1\ngraph 0 0 0\n".as_slice())
 }
 
 /// How many routes a feed has, of which types, and what to do.

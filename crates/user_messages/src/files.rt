@@ -87,7 +87,9 @@ fn write_fault<R: Files>(rt: &R, path: &str) -> Option<io::Error> {
         return None;
     }
     if is_plain(rt, path) || is_folder(rt, path) {
-        return OpenOptions::new().append(true).open(rt, path).err();
+        let mut how = OpenOptions::new();
+        how.append(true);
+        return how.open(rt, path).err();
     }
     fs::metadata(rt, path).err()
 }

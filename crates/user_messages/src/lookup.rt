@@ -63,13 +63,18 @@ pub(crate) fn read_fault<R: Files>(rt: &R, path: &str) -> Option<io::Error> {
 
 /// Whether the file at a path begins as an archive does (ZIP).
 pub(crate) fn is_archive<R: Files>(rt: &R, path: &str) -> bool {
+    begins_with(rt, path, b"PK\x03\x04".as_slice())
+}
+
+/// Whether the plain file at a path begins with these bytes, of which there are 64 at most.
+pub(crate) fn begins_with<R: Files>(rt: &R, path: &str, begin: &[u8]) -> bool {
     if !is_plain(rt, path) {
         return false;
     }
-    let mut begin = [0u8; 4];
+    let mut front = [0u8; 64];
     match File::open(rt, path) {
-        Ok(mut file) => match file.read(&mut begin) {
-            Ok(count) => count == 4 && begin.as_slice() == b"PK\x03\x04".as_slice(),
+        Ok(mut file) => match file.read(&mut front) {
+            Ok(count) => front[..count].starts_with(begin),
             Err(_) => false,
         },
         Err(_) => false,

@@ -67,7 +67,7 @@ fn advance(reader: &mut RowReader<'_>, rows: u64) -> Result<bool, NoMemory>
     requires { IsReading reader.old }
     ensures { OnOk result (IsReading reader.new) }
 {
-    for _ in 0..rows {
+    'rows: for _ in 0..rows {
         if !reader.next()? {
             return Ok(false);
         }
