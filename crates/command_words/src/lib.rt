@@ -8,8 +8,10 @@ mod fault;
 mod help;
 mod matches;
 mod program;
+mod quiet;
 mod words;
 
 pub use command::Command;
 pub use fault::WordsFault;
+pub use quiet::is_quiet;
 pub use words::command_of;

@@ -1,7 +1,7 @@
 //! Standard output and real files, to be written.
 
 ghost use Rattle.std.specs.Prelude.{◌≡◌, ◌≤◌, None, Some, length, IfOk, IsErr, IsSome};
-ghost use Rattle.files_door.specs.Fault.{HasCause};
+ghost use Rattle.files_door.specs.Fault.{HasCause, Rose};
 ghost use Rattle.files_door.specs.declared.target.Target.TheVariants.{Path};
 ghost use Rattle.disk_door.specs.Places.{target_of};
 
@@ -46,6 +46,7 @@ pub struct DiskSinks<R: rt::Files + Print> {
     most: u64,
     failures: u64,
     is_lost: bool,
+    last_error: Option<io::Error>,
 }
 
 impl<R: rt::Files + Print> DiskSinks<R> {
@@ -63,7 +64,13 @@ impl<R: rt::Files + Print> DiskSinks<R> {
             most,
             failures: 0,
             is_lost: false,
+            last_error: None,
         }
+    }
+
+    /// The last error of the system in writing, if there was one.
+    pub fn last_error(&self) -> Option<io::Error> {
+        self.last_error
     }
 
     /// Puts all that was written in its place: each file that was begun is the new one, and its bytes are on the disk.
@@ -74,7 +81,7 @@ impl<R: rt::Files + Print> DiskSinks<R> {
     {
         match self.settle() {
             Ok(()) => Ok(()),
-            Err(error) => Err(stop_of(&mut self.failures, &error)),
+            Err(error) => Err(self.stopped(error)),
         }
     }
 
@@ -97,6 +104,17 @@ impl<R: rt::Files + Print> DiskSinks<R> {
             _ => false,
         };
         is_begun || self.drafts.iter().any(|draft| draft.length > 0)
+    }
+
+    /// What an error of the system is answered as. It is the last error from now on.
+    fn stopped(&mut self, error: io::Error) -> Stop
+        ensures place { self.new.place ≡ self.old.place }
+        ensures failed { result ≡ Stop.Failed → Rose self.old.failures self.new.failures }
+        ensures later { self.old.failures ≤ self.new.failures }
+    {
+        let stop = stop_of(&mut self.failures, &error);
+        self.last_error = Some(error);
+        stop
     }
 
     /// Closes the current target, and puts all drafts in their places.
@@ -232,7 +250,7 @@ impl<R: rt::Files + Print> Sinks for DiskSinks<R> {
     fn begin(&mut self, to: &Target) -> Result<(), Stop> {
         match self.turn_to(to) {
             Ok(()) => Ok(()),
-            Err(error) => Err(stop_of(&mut self.failures, &error)),
+            Err(error) => Err(self.stopped(error)),
         }
     }
 
@@ -244,7 +262,7 @@ impl<R: rt::Files + Print> Sinks for DiskSinks<R> {
                 }
                 Ok(count)
             }
-            Err(error) => Err(stop_of(&mut self.failures, &error)),
+            Err(error) => Err(self.stopped(error)),
         }
     }
 }

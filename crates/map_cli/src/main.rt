@@ -4,7 +4,7 @@
 
 ghost use Rattle.std.specs.Prelude.{◌≡◌, ◌<◌, ◌⊎◌, false, IsErrOf, OnOk};
 
-use command_words::command_of;
+use command_words::{command_of, is_quiet};
 use disk_door::{DiskFiles, DiskLeads, DiskSinks};
 use files_door::Stop;
 use map_base::{NoMemory, Steps};
@@ -15,6 +15,7 @@ use std::marker::Brand;
 use std::process::ExitCode;
 use std::sync::ledger::{Blank, Ledger};
 use std::{env, io, rt};
+use user_messages::message;
 
 fn main(rt: HostRuntime) -> ExitCode {
     let status = match words_of(&rt) {
@@ -59,7 +60,16 @@ fn run_on_disk<L: Ledger>(rt: &HostRuntime, words: &[String], blank: Blank) -> S
     let mut sinks = DiskSinks::new(rt, rt.alloc());
     let mut steps = Steps::<L>::open(blank);
     let status = run(rt.alloc(), words, &mut files, &mut sinks, &mut steps);
-    if is_put_in_place(&status, words, &sinks) {
+    let ended = end(status, words, &mut sinks);
+    if !is_quiet(words) {
+        say_more(rt, words, &ended, sinks.last_error());
+    }
+    ended
+}
+
+/// Puts what a run wrote in its place, or forgets it; the status that the program ends with.
+fn end<R: rt::Files + Print>(status: Status, words: &[String], sinks: &mut DiskSinks<R>) -> Status {
+    if is_put_in_place(&status, words, sinks) {
         return status_after(status, sinks.put_in_place());
     }
     sinks.discard();
@@ -102,7 +112,7 @@ fn status_after(status: Status, placed: Result<(), Stop>) -> Status
     }
 }
 
-/// An output of what the words ask for that is one file with an input, or with the other output. Words that are not
+/// An output of what the words ask for that is one file with an input, or with another output. Words that are not
 /// read are told by the run.
 fn clash_in(rt: &HostRuntime, words: &[String]) -> Result<Option<Clash>, NoMemory> {
     match command_of(rt.alloc(), words) {
@@ -121,6 +131,13 @@ fn refuse_clash(rt: &HostRuntime, clash: &Clash) -> Status
         "error: the output {output} is one file with {other}\n\nFor more information, try '--help'."
     );
     Status::Usage
+}
+
+/// Says on standard error what a status means for the user, if there is anything to say and memory for it.
+fn say_more(rt: &HostRuntime, words: &[String], status: &Status, fault: Option<io::Error>) {
+    if let Ok(lines) = message(rt, words, status, fault) {
+        let _not_shown = eprint!(rt; "{lines}");
+    }
 }
 
 /// The words are no text, or there is no memory for them.

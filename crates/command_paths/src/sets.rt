@@ -1,0 +1,33 @@
+//! The values of `--set` among the words of a command line.
+
+ghost use Rattle.std.specs.Prelude.{◌≡◌, ◌<◌, length, map, option_map, string_bytes, IfSome};
+ghost use Rattle.command_paths.specs.Sets.{sets_cut, sets_of};
+
+/// The value of the first `--set` among the words, and the words behind it. From `--` on there is none.
+pub fn next_set<'a>(words: &'a [String]) -> Option<(&'a str, &'a [String])>
+    ensures first { sets_of words.now ≡ sets_cut (option_map (λ x. (x.0.now, map string_bytes x.1.now)) result) }
+    ensures shorter { IfSome result (λ x. length x.1.now < length words.now) }
+{
+    let mut rest = words;
+    while let [word, behind @ ..] = rest {
+        if word.as_str() == "--" {
+            return None;
+        }
+        if word.as_str() == "--set" {
+            return first_of(behind);
+        }
+        if let Some(value) = word.as_str().strip_prefix("--set=") {
+            return Some((value, behind));
+        }
+        rest = behind;
+    }
+    None
+}
+
+/// The first word, and those behind it.
+fn first_of<'a>(words: &'a [String]) -> Option<(&'a str, &'a [String])> {
+    match words {
+        [value, behind @ ..] => Some((value.as_str(), behind)),
+        [] => None,
+    }
+}
