@@ -6,7 +6,8 @@ ghost use Rattle.map_method.specs.Defaults.{default_choices};
 ghost use Rattle.command_inputs.specs.Inputs.{input_at, inputs_by};
 ghost use Rattle.command_inputs.specs.Loading.{settings_by, settings_file_work, settings_given, settings_in};
 ghost use Rattle.command_paths.specs.Sets.{sets_of};
-ghost use Rattle.map_settings.specs.Outcome.{sets_outcome};
+ghost use Rattle.map_settings.specs.Faults.{Reads};
+ghost use Rattle.map_settings.specs.Outcome.{settings_outcome, sets_outcome};
 ghost use Rattle.run_status.specs.Following.{Follows, Gives};
 
 use crate::input_file::read_file;
@@ -14,7 +15,7 @@ use crate::inputs::Inputs;
 use command_paths::{Options, next_set};
 use files_door::Files;
 use map_method::MapSettings;
-use map_settings::{SettingsWhy, read_settings, set_settings};
+use map_settings::{SettingsFault, SettingsWhy, read_settings, set_settings};
 use run_status::{Input, Refusal};
 use std::alloc::Global;
 
@@ -42,7 +43,7 @@ fn standard(alloc: Global, options: &Options<'_>) -> Result<MapSettings, Refusal
     ensures { Gives (λ settings. settings) result (settings_given (sets_outcome (sets_of options.now.words.now) (Ok (default_choices options.now.defaults)))) }
 {
     let base = MapSettings::standard(alloc, options.defaults)?;
-    with_sets(alloc, base, options.words)
+    Ok(with_sets(alloc, base, options.words)?)
 }
 
 /// The settings by the file that the user names.
@@ -72,17 +73,34 @@ fn settings_in(
     let Some(bytes) = bytes else {
         return Err(Refusal::BadSettings(SettingsWhy::Missing));
     };
-    let base = read_settings(alloc, bytes.as_slice(), options.defaults)?;
+    Ok(settings_of(alloc, bytes.as_slice(), options)?)
+}
+
+/// The settings that the bytes of a file make, after what is set.
+#[tactic(auto, using(crate::proofs::SetLemmas::reads_after, crate::proofs::SetLemmas::refused_before))]
+fn settings_of(
+    alloc: Global,
+    bytes: &[u8],
+    options: &Options<'_>,
+) -> Result<MapSettings, SettingsFault>
+    ensures { Reads result (sets_outcome (sets_of options.now.words.now) (settings_outcome options.now.defaults bytes.now)) }
+{
+    let base = read_settings(alloc, bytes, options.defaults)?;
     with_sets(alloc, base, options.words)
 }
 
 /// The settings after those that the words set, one after another.
-fn with_sets(alloc: Global, base: MapSettings, words: &[String]) -> Result<MapSettings, Refusal>
-    ensures { Gives (λ settings. settings) result (settings_given (sets_outcome (sets_of words.now) (Ok base))) }
+#[tactic(auto, using(crate::proofs::SetLemmas::next_taken, crate::proofs::SetLemmas::next_refused, crate::proofs::SetLemmas::none_left))]
+fn with_sets(
+    alloc: Global,
+    base: MapSettings,
+    words: &[String],
+) -> Result<MapSettings, SettingsFault>
+    ensures { Reads result (sets_outcome (sets_of words.now) (Ok base)) }
 {
     let mut settings = base;
     let mut rest = words;
-    while let Some((set, behind)) = next_set(rest) {
+    'sets: while let Some((set, behind)) = next_set(rest) {
         settings = set_settings(alloc, set.as_bytes(), settings)?;
         rest = behind;
     }

@@ -196,3 +196,8 @@ is_quiet_flag word = bytes_eq (string_bytes word) (codes "--quiet") || bytes_eq 
 -- whether it stands among the words, before any `--`
 abbrev pub is_quiet_in : List (String Global) → Bool
 is_quiet_in words = list_any is_quiet_flag (take_while (λ word. not (bytes_eq (string_bytes word) (codes "--"))) words)
+
+-- the first word asks for the version of the program
+abbrev pub asks_version : List (String Global) → Bool
+asks_version [] = false
+asks_version (word ∷ more) = bytes_eq (string_bytes word) (codes "--version") || bytes_eq (string_bytes word) (codes "-V")

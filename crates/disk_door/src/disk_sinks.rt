@@ -12,7 +12,7 @@ use crate::outputs::{Output, output_at};
 use crate::placing::{place_all, remove_all};
 use crate::retries::write_once;
 use files_door::{Sinks, Stop, Target};
-use map_base::Text;
+use map_base::{NoMemory, Text};
 use std::alloc::Global;
 use std::fs::OpenFile;
 use std::io::{ErrorKind, Write};
@@ -47,6 +47,16 @@ pub struct DiskSinks<R: rt::Files + Print> {
     failures: u64,
     is_lost: bool,
     last_error: Option<io::Error>,
+    last_path: Option<Text>,
+}
+
+/// An error of the system in writing.
+#[derive(Clone, Copy, Debug)]
+pub struct WriteError<'a> {
+    /// What the system said.
+    pub error: io::Error,
+    /// The output that could not be written; none where it is standard output, or all of them.
+    pub path: Option<&'a str>,
 }
 
 impl<R: rt::Files + Print> DiskSinks<R> {
@@ -65,12 +75,15 @@ impl<R: rt::Files + Print> DiskSinks<R> {
             failures: 0,
             is_lost: false,
             last_error: None,
+            last_path: None,
         }
     }
 
     /// The last error of the system in writing, if there was one.
-    pub fn last_error(&self) -> Option<io::Error> {
-        self.last_error
+    pub fn last_error(&self) -> Option<WriteError<'_>> {
+        let error = self.last_error?;
+        let path = self.last_path.as_ref().map(|path| path.as_str());
+        Some(WriteError { error, path })
     }
 
     /// Puts all that was written in its place: each file that was begun is the new one, and its bytes are on the disk.
@@ -123,6 +136,9 @@ impl<R: rt::Files + Print> DiskSinks<R> {
         ensures count { self.new.failures ≡ self.old.failures }
     {
         let left = self.leave();
+        if left.is_ok() {
+            self.last_path = None;
+        }
         let drafts = mem::replace(&mut self.drafts, Vec::new(self.alloc));
         if let Err(error) = left {
             remove_all(&self.rt, &drafts);
@@ -168,9 +184,8 @@ impl<R: rt::Files + Print> DiskSinks<R> {
     {
         // Room for this draft where it is closed.
         self.drafts.reserve(1)?;
-        let Ok(kept) = Text::of(self.alloc, path.as_str()) else {
-            return Err(io::Error::from(ErrorKind::OutOfMemory));
-        };
+        let kept = copied(self.alloc, path)?;
+        self.last_path = Some(copied(self.alloc, path)?);
         match output_at(&self.rt, self.alloc, path.as_str())? {
             Output::Draft(draft) => Ok(Place::Draft(kept, draft)),
             Output::Straight(file) => Ok(Place::Straight(kept, file)),
@@ -184,6 +199,7 @@ impl<R: rt::Files + Print> DiskSinks<R> {
         ensures count { self.new.failures ≡ self.old.failures }
     {
         self.leave()?;
+        self.last_path = None;
         self.place = match to {
             Target::Said => Place::Said,
             Target::Path(path) => self.open(path)?,
@@ -204,6 +220,16 @@ impl<R: rt::Files + Print> DiskSinks<R> {
             Place::Draft(_, draft) => draft.write(piece, self.most),
             Place::Straight(_, file) => write_straight(file, piece, self.most),
         }
+    }
+}
+
+/// A path again.
+fn copied(alloc: Global, path: &Text) -> io::Result<Text>
+    ensures { IfOk result (λ text. text ≡ path.now) }
+{
+    match Text::of(alloc, path.as_str()) {
+        Ok(text) => Ok(text),
+        Err(NoMemory) => Err(io::Error::from(ErrorKind::OutOfMemory)),
     }
 }
 

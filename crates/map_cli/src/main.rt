@@ -4,8 +4,8 @@
 
 ghost use Rattle.std.specs.Prelude.{◌≡◌, ◌<◌, ◌⊎◌, false, IsErrOf, OnOk};
 
-use command_words::{command_of, is_quiet};
-use disk_door::{DiskFiles, DiskLeads, DiskSinks};
+use command_words::{VERSION, asks_version, command_of, is_quiet};
+use disk_door::{DiskFiles, DiskLeads, DiskSinks, WriteError};
 use files_door::Stop;
 use map_base::{NoMemory, Steps};
 use map_run::run;
@@ -19,10 +19,26 @@ use user_messages::message;
 
 fn main(rt: HostRuntime) -> ExitCode {
     let status = match words_of(&rt) {
-        Ok(words) => run_counted::<Brand>(&rt, &words, Blank::new(1)),
+        Ok(words) => run_words(&rt, &words),
         Err(error) => unread_words(&rt, &error),
     };
     ExitCode::from(status.number())
+}
+
+/// Tells the version where the words ask for it, and else runs.
+fn run_words(rt: &HostRuntime, words: &[String]) -> Status {
+    if asks_version(words) {
+        return tell_version(rt);
+    }
+    run_counted::<Brand>(rt, words, Blank::new(1))
+}
+
+/// Prints the version of the program.
+fn tell_version(rt: &HostRuntime) -> Status {
+    match println!(rt; "octimap {VERSION}") {
+        Ok(()) => Status::Done,
+        Err(_) => Status::WriteFault,
+    }
 }
 
 /// The words after the program's name.
@@ -134,7 +150,7 @@ fn refuse_clash(rt: &HostRuntime, clash: &Clash) -> Status
 }
 
 /// Says on standard error what a status means for the user, if there is anything to say and memory for it.
-fn say_more(rt: &HostRuntime, words: &[String], status: &Status, fault: Option<io::Error>) {
+fn say_more(rt: &HostRuntime, words: &[String], status: &Status, fault: Option<WriteError<'_>>) {
     if let Ok(lines) = message(rt, words, status, fault) {
         let _not_shown = eprint!(rt; "{lines}");
     }

@@ -10,11 +10,11 @@ fn a_bad_edit_is_told_with_what_is_wrong(rt: HostRuntime) -> Result<(), Fail> {
     let cases = [
         (
             "hide U1\n",
-            "octimap: \"my.edits\", line 1: \"hide U1\": between two words stands one TAB, and no space; hide takes ID, the route_id of a line\n",
+            "octimap: \"my.edits\", line 1: \"hide U1\": a TAB is due between two words, not spaces; hide takes ID, the route_id of a line\n",
         ),
         (
             "hide\tU1\nhide\tU2\n",
-            "octimap: \"my.edits\", line 2: \"hide\u{FFFD}U2\": routes.txt has no route_id \"U2\"; is \"U1\" meant?\n",
+            "octimap: \"my.edits\", line 2: \"hide\u{FFFD}U2\": routes.txt has no route_id \"U2\"; did you mean \"U1\"?\n",
         ),
         (
             "near\t10\n",
@@ -22,11 +22,11 @@ fn a_bad_edit_is_told_with_what_is_wrong(rt: HostRuntime) -> Result<(), Fail> {
         ),
         (
             "rename\tA\n",
-            "octimap: \"my.edits\", line 1: \"rename\u{FFFD}A\": behind the first word are 1 words, with a TAB before each; rename takes ID NAME: the stop_id of a station, and its new name\n",
+            "octimap: \"my.edits\", line 1: \"rename\u{FFFD}A\": 2 words are due behind the first, each after one TAB, and there are 1; rename takes ID NAME: the stop_id of a station, and its new name\n",
         ),
         (
             "color\tU1\tff0000\n",
-            "octimap: \"my.edits\", line 1: \"color\u{FFFD}U1\u{FFFD}ff0000\": an edit begins with hide, show, rename, move, colour, importance, weight, near, cell, budget or undo; is \"colour\" meant?\n",
+            "octimap: \"my.edits\", line 1: \"color\u{FFFD}U1\u{FFFD}ff0000\": no edit begins so; did you mean \"colour\"?; a line begins with \"hide\", \"show\", \"rename\", \"move\", \"colour\", \"importance\", \"weight\", \"near\", \"cell\", \"budget\", \"undo\"\n",
         ),
         (
             "undo\n",

@@ -10,12 +10,12 @@ fn a_blank_map_is_told_with_the_types_of_routes(rt: HostRuntime) -> Result<(), F
     let said = told(&rt, "make blank blank.svg blank.cert")?;
     assert_eq!(rt;
         said.as_str(),
-        "octimap: the map shows nothing: no route of a type that is drawn has a trip, or all are hidden\noctimap: routes.txt has 1 routes, of the types 401; a file of settings with the key types names those that are drawn: types = [401]\n"
+        "octimap: the map shows nothing: each route is of a type that is not drawn, has no trip, or is hidden\noctimap: the route_type of the 1 rows of routes.txt: 401; to draw them, add --set 'types=[401]'\n"
     );
     let said = told(&rt, "check blank blank.svg blank.svg")?;
     assert_eq!(rt;
         said.as_str(),
-        "octimap: at this byte of the certificate a line begins that none has there; is it of another version, or cut short?\n"
+        "octimap: from this byte on the certificate can't be read; is it cut short, changed, or no certificate at all?\n"
     );
     fs::remove_dir_all(&rt, "blank")?;
     fs::remove_file(&rt, "blank.svg")?;

@@ -6,18 +6,14 @@ use disk_door::{DiskFiles, DiskSinks};
 use map_base::Steps;
 use map_run::run;
 use run_status::Status;
+use std::fs;
 use std::marker::Brand;
 use std::sync::ledger::{Blank, Ledger};
 use std::test::Fail;
-use std::{fs, io};
 use user_messages::message;
 
-/// Runs over the disk, and answers the status with the last error of the system in writing.
-fn run_counted<L: Ledger>(
-    rt: &HostRuntime,
-    words: &[String],
-    blank: Blank,
-) -> (Status, Option<io::Error>)
+/// Runs over the disk, as the program does, and answers the lines that a user gets beside the status.
+fn run_counted<L: Ledger>(rt: &HostRuntime, words: &[String], blank: Blank) -> Result<String, Fail>
     requires name { blank.name ≡ L.name }
     requires parts { blank.parts ≡ L.parts }
     requires some_part { 0 < blank.parts }
@@ -26,7 +22,16 @@ fn run_counted<L: Ledger>(
     let mut sinks = DiskSinks::new(rt, rt.alloc());
     let mut steps = Steps::<L>::open(blank);
     let status = run(rt.alloc(), words, &mut files, &mut sinks, &mut steps);
-    (status, sinks.last_error())
+    match status {
+        Status::WriteFault => sinks.discard(),
+        _ => {
+            let _kept = sinks.put_in_place();
+        }
+    }
+    match message(rt, words, &status, sinks.last_error()) {
+        Ok(lines) => Ok(lines),
+        Err(_) => Err(Fail::from("no memory")),
+    }
 }
 
 /// The lines of a run on the words of this line, which are parted by spaces; `''` stands for an empty word.
@@ -36,11 +41,7 @@ pub(crate) fn told(rt: &HostRuntime, line: &str) -> Result<String, Fail> {
         let word = if word == "''" { "" } else { word };
         words.push(String::from_str(rt.alloc(), word)?)?;
     }
-    let (status, fault) = run_counted::<Brand>(rt, &words, Blank::new(1));
-    match message(rt, &words, &status, fault) {
-        Ok(lines) => Ok(lines),
-        Err(_) => Err(Fail::from("no memory")),
-    }
+    run_counted::<Brand>(rt, &words, Blank::new(1))
 }
 
 /// Writes the feed of a line from A to B into a folder that is made for it: the route U1, of this type.

@@ -16,11 +16,12 @@ pub enum SettingKey {
     Finest,
     Moves,
     Search,
+    Proof,
     Budget,
 }
 
 /// All keys.
-pub const SETTING_KEYS: [SettingKey; 11] = [
+pub const SETTING_KEYS: [SettingKey; 12] = [
     SettingKey::Types,
     SettingKey::Near,
     SettingKey::Junction,
@@ -31,6 +32,7 @@ pub const SETTING_KEYS: [SettingKey; 11] = [
     SettingKey::Finest,
     SettingKey::Moves,
     SettingKey::Search,
+    SettingKey::Proof,
     SettingKey::Budget,
 ];
 
@@ -50,6 +52,7 @@ impl SettingKey {
             SettingKey::Finest => "finest",
             SettingKey::Moves => "moves",
             SettingKey::Search => "search",
+            SettingKey::Proof => "proof",
             SettingKey::Budget => "budget",
         }
     }
@@ -83,7 +86,8 @@ impl SettingKey {
             SettingKey::Spread => "a whole number of per cent from 0 to 100, or \"auto\"",
             SettingKey::Finest => "4, 8 or 16",
             SettingKey::Moves => "a whole number from 0 to 10000",
-            SettingKey::Search => "\"live\" or \"rising\"",
+            SettingKey::Search => "\"live\" or \"dual\"",
+            SettingKey::Proof => "\"best\" or \"bound\"",
             SettingKey::Budget => "a whole number from 1 to 100000",
         }
     }

@@ -6,12 +6,17 @@ use std::alloc::Global;
 /// How many characters of a text are shown.
 const SHOWN: usize = 80;
 
-/// A text between quotes: its first 80 characters, and for each that would control a terminal, and for bytes that are no
-/// UTF-8, U+FFFD.
+/// A text between quotes, as `plain` shows it.
 pub fn quoted(alloc: Global, bytes: &[u8]) -> Result<String, NoMemory> {
+    let text = plain(alloc, bytes)?;
+    Ok(format!(in alloc; "\"{text}\"")?)
+}
+
+/// The first 80 characters of a text, and for each that would control a terminal, and for bytes that are no UTF-8,
+/// U+FFFD.
+pub fn plain(alloc: Global, bytes: &[u8]) -> Result<String, NoMemory> {
     let text = String::from_utf8_lossy(alloc, bytes)?;
     let mut shown = String::new(alloc);
-    shown.push('"')?;
     for (place, character) in text.as_str().chars().enumerate() {
         if place == SHOWN {
             shown.push_str("..")?;
@@ -19,7 +24,6 @@ pub fn quoted(alloc: Global, bytes: &[u8]) -> Result<String, NoMemory> {
         }
         shown.push(visible(character))?;
     }
-    shown.push('"')?;
     Ok(shown)
 }
 

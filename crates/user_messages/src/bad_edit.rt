@@ -6,18 +6,21 @@ use crate::table_ids::{ids_at, question};
 use command_inputs::Inputs;
 use map_base::{NoMemory, Text};
 use map_edits::{Edit, next_line};
-use message_texts::{EDIT_WORDS, EditWord, Trouble, quoted, trouble_of};
+use message_texts::{EDIT_WORDS, EditWord, Trouble, list_of, quoted, trouble_of};
 use std::alloc::Global;
 use std::rt::Files;
+
+/// How many first words of a line are named at most.
+const TOLD: usize = 20;
 
 /// The lines for the line of this number, counted from 1; 0 where there is no file.
 pub(crate) fn bad_edit<R: Files + AllocGlobal>(
     rt: &R,
-    path: &str,
     inputs: &Inputs<'_>,
     line: u64,
 ) -> Result<String, NoMemory> {
     let alloc = rt.alloc();
+    let path = edits_path(inputs);
     if line == 0 {
         return missing(rt, path);
     }
@@ -31,6 +34,15 @@ pub(crate) fn bad_edit<R: Files + AllocGlobal>(
     let shown = quoted(alloc, path.as_bytes())?;
     let text = quoted(alloc, text)?;
     Ok(format!(in alloc; "octimap: {shown}, line {line}: {text}: {wrong}\n")?)
+}
+
+/// Where the edits stand: in a script, or in a file of edits.
+fn edits_path<'a>(inputs: &Inputs<'a>) -> &'a str {
+    if inputs.script.is_empty() {
+        inputs.options.edits.unwrap_or("")
+    } else {
+        inputs.script
+    }
 }
 
 /// The line of this number, counted from 1.
@@ -56,7 +68,7 @@ fn wrong_in<R: Files + AllocGlobal>(
         Trouble::Reads(edit) => not_due(rt, inputs.feed, &edit),
         Trouble::Empty => Ok(String::from_str(alloc, "a line is empty; take it out")?),
         Trouble::Spaces(word) => spaces(alloc, word),
-        Trouble::Unknown => unknown(alloc, line),
+        Trouble::Unknown => unknown(alloc, line, !inputs.script.is_empty()),
         Trouble::Count(word, count) => wrong_count(alloc, word, count),
         Trouble::Value(word) => Ok(String::from_str(alloc, word.form())?),
     }
@@ -65,27 +77,40 @@ fn wrong_in<R: Files + AllocGlobal>(
 /// Spaces stand where TABs are due.
 fn spaces(alloc: Global, word: EditWord) -> Result<String, NoMemory> {
     let form = word.form();
-    Ok(format!(in alloc; "between two words stands one TAB, and no space; {form}")?)
+    Ok(format!(in alloc; "a TAB is due between two words, not spaces; {form}")?)
 }
 
 /// Too few or too many words.
 fn wrong_count(alloc: Global, word: EditWord, count: usize) -> Result<String, NoMemory> {
     let form = word.form();
+    let due = word.arguments();
     Ok(format!(in alloc;
-        "behind the first word are {count} words, with a TAB before each; {form}"
+        "{due} words are due behind the first, each after one TAB, and there are {count}; {form}"
     )?)
 }
 
-/// The first word begins no edit.
-fn unknown(alloc: Global, line: &[u8]) -> Result<String, NoMemory> {
+/// The first word begins no edit, nor is it the draw of a script.
+fn unknown(alloc: Global, line: &[u8], is_script: bool) -> Result<String, NoMemory> {
+    let first = first_word(line);
+    if is_script && first == b"draw".as_slice() {
+        return Ok(String::from_str(alloc, "draw takes nothing")?);
+    }
+    let words = first_words(alloc, is_script)?;
+    let near = question(alloc, first, words.as_slice())?;
+    let list = list_of(alloc, words.as_slice(), TOLD)?;
+    Ok(format!(in alloc; "no edit begins so{near}; a line begins with {list}")?)
+}
+
+/// The words that a line may begin with.
+fn first_words(alloc: Global, is_script: bool) -> Result<Vec<Text>, NoMemory> {
     let mut words = Vec::new(alloc);
     for word in EDIT_WORDS {
         words.push(Text::of(alloc, word.name())?)?;
     }
-    let near = question(alloc, first_word(line), words.as_slice())?;
-    Ok(format!(in alloc;
-        "an edit begins with hide, show, rename, move, colour, importance, weight, near, cell, budget or undo{near}"
-    )?)
+    if is_script {
+        words.push(Text::of(alloc, "draw")?)?;
+    }
+    Ok(words)
 }
 
 /// What stands before the first TAB or space.
@@ -121,7 +146,7 @@ fn no_line<R: Files + AllocGlobal>(rt: &R, feed: &str, line: &Text) -> Result<St
     let shown = quoted(alloc, line.as_str().as_bytes())?;
     if ids.iter().any(|id| id.as_str() == line.as_str()) {
         return Ok(format!(in alloc;
-            "the route {shown} is of a type that is not drawn; name its type by the key `types`"
+            "the route {shown} is not drawn; add its route_type to the key types"
         )?);
     }
     let near = question(alloc, line.as_str().as_bytes(), ids.as_slice())?;
@@ -135,9 +160,7 @@ fn no_station<R: Files + AllocGlobal>(rt: &R, feed: &str, stop: &Text) -> Result
     let ids = ids_at(rt, path.as_str(), "stop_id")?;
     let shown = quoted(alloc, stop.as_str().as_bytes())?;
     if ids.iter().any(|id| id.as_str() == stop.as_str()) {
-        return Ok(format!(in alloc;
-            "{shown} is a stop, entrance or boarding area; name its station (the parent_station)"
-        )?);
+        return Ok(format!(in alloc; "{shown} is no station of its own; name its parent_station")?);
     }
     let near = question(alloc, stop.as_str().as_bytes(), ids.as_slice())?;
     Ok(format!(in alloc; "stops.txt has no stop_id {shown}{near}")?)

@@ -94,8 +94,8 @@ fn routes_line<R: Files + AllocGlobal>(rt: &R, inputs: &Inputs<'_>) -> Result<St
     let count = types.len();
     let kinds = kinds_of(alloc, types.as_slice())?;
     Ok(format!(in alloc;
-        "octimap: the map shows nothing: no route of a type that is drawn has a trip, or all are hidden\n\
-        octimap: routes.txt has {count} routes, of the types {kinds}; a file of settings with the key types names those that are drawn: types = [{kinds}]\n"
+        "octimap: the map shows nothing: each route is of a type that is not drawn, has no trip, or is hidden\n\
+        octimap: the route_type of the {count} rows of routes.txt: {kinds}; to draw them, add --set 'types=[{kinds}]'\n"
     )?)
 }
 

@@ -8,8 +8,9 @@ use std::alloc::Global;
 pub(crate) fn spent(alloc: Global, branches: u32) -> Result<String, NoMemory> {
     let budget = branches.saturating_sub(1);
     Ok(format!(in alloc;
-        "octimap: no best line orders were found within {budget} branch nodes, the key `budget`\n\
-        octimap: a larger `budget` (100000 at most) or another `search` may do, as may fewer lines (the key `types`, edits with `hide`)\n"
+        "octimap: no line orders were proved best within {budget} branch nodes, the key budget\n\
+        octimap: to have good orders with a proved bound instead, add --set 'search=\"dual\"' --set 'proof=\"bound\"'; \
+        or raise budget (to 100000 at most), or draw fewer lines (the key types, or edits with hide)\n"
     )?)
 }
 
@@ -25,6 +26,6 @@ pub(crate) fn above(alloc: Global, limit: Limit) -> Result<String, NoMemory> {
 /// Memory ran out.
 pub(crate) fn no_memory(alloc: Global) -> Result<String, NoMemory> {
     Ok(format!(in alloc;
-        "octimap: there is not memory enough for a network of this size; draw fewer lines by the key `types`\n"
+        "octimap: there is not enough memory for a network of this size; draw fewer lines (the key types, or edits with hide)\n"
     )?)
 }

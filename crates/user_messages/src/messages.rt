@@ -10,10 +10,10 @@ use crate::no_route::no_route;
 use crate::refuted::refuted;
 use command_inputs::Inputs;
 use command_words::{Command, command_of};
+use disk_door::WriteError;
 use map_base::NoMemory;
 use map_run::inputs_of;
 use run_status::Status;
-use std::io;
 use std::rt::Files;
 
 /// The lines that standard error gets after a run of the program on these words that ended with this status, each with an
@@ -22,7 +22,7 @@ pub fn message<R: Files + AllocGlobal + Clone + Drop>(
     rt: &R,
     words: &[String],
     status: &Status,
-    fault: Option<io::Error>,
+    fault: Option<WriteError<'_>>,
 ) -> Result<String, NoMemory> {
     match command_of(rt.alloc(), words) {
         Ok(command) => of_command(rt, &command, status, fault),
@@ -35,13 +35,13 @@ fn of_command<R: Files + AllocGlobal + Clone + Drop>(
     rt: &R,
     command: &Command<'_>,
     status: &Status,
-    fault: Option<io::Error>,
+    fault: Option<WriteError<'_>>,
 ) -> Result<String, NoMemory> {
     let inputs = inputs_of(command);
     match status {
         Status::Done => blank_map(rt, command, &inputs),
-        Status::WriteFault => unwritten(rt, command, fault),
-        Status::BadEdit { line } => bad_edit(rt, edits_path(&inputs), &inputs, *line),
+        Status::WriteFault => unwritten(rt.alloc(), fault),
+        Status::BadEdit { line } => bad_edit(rt, &inputs, *line),
         _ => of_inputs(rt, &inputs, status),
     }
 }
@@ -64,19 +64,10 @@ fn of_inputs<R: Files + AllocGlobal + Clone + Drop>(
         Status::Limit(limit) => above(alloc, *limit),
         Status::Missing { path } => missing(rt, path.as_str()),
         Status::ReadFault { path } => unread(rt, path.as_str()),
-        Status::BadSettings(why) => bad_settings(rt, inputs.options.settings.unwrap_or(""), why),
+        Status::BadSettings(why) => bad_settings(rt, &inputs.options, why),
         Status::NoMemory => no_memory(alloc),
         Status::Done | Status::Usage | Status::WriteFault | Status::BadEdit { .. } => {
             Ok(String::new(alloc))
         }
-    }
-}
-
-/// Where the edits stand: in a script, or in a file of edits.
-fn edits_path<'a>(inputs: &Inputs<'a>) -> &'a str {
-    if inputs.script.is_empty() {
-        inputs.options.edits.unwrap_or("")
-    } else {
-        inputs.script
     }
 }

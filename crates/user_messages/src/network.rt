@@ -103,7 +103,7 @@ impl Network {
         let name = self.name(alloc, *node)?;
         let count = far.len();
         Ok(format!(in alloc;
-            "octimap: {count} of the stations lie far from all others, as {name}; look at their stop_lat and stop_lon\n"
+            "octimap: stations far from all others: {count}, the first is {name}; are their stop_lat and stop_lon right?\n"
         )?)
     }
 

@@ -63,12 +63,12 @@ fn meeting(network: &Network, node: NodeId) -> usize {
 fn hint(defaults: Defaults) -> &'static str {
     match defaults {
         Defaults::Make => {
-            "octimap: `octimap map` tries finer grids and gives a dense centre room, as do the settings \
-             finest = 16 and spread = \"auto\"\n"
+            "octimap: `octimap map` tries finer grids and gives a dense centre room, as do --set finest=16 and \
+             --set 'spread=\"auto\"'\n"
         }
         Defaults::Map => {
-            "octimap: a larger `near` joins ways that lie side by side; fewer lines have more room \
-             (the key `types`, edits with `hide`)\n"
+            "octimap: a larger near joins ways that lie side by side, as --set near=1000; fewer lines have more room \
+             (the key types, or edits with hide)\n"
         }
     }
 }
