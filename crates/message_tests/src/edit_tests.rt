@@ -14,19 +14,19 @@ fn a_bad_edit_is_told_with_what_is_wrong(rt: HostRuntime) -> Result<(), Fail> {
         ),
         (
             "hide\tU1\nhide\tU2\n",
-            "octimap: \"my.edits\", line 2: \"hide\u{FFFD}U2\": routes.txt has no route_id \"U2\"; did you mean \"U1\"?\n",
+            "octimap: \"my.edits\", line 2: \"hide<TAB>U2\": routes.txt has no route_id \"U2\" (did you mean \"U1\"?)\n",
         ),
         (
             "near\t10\n",
-            "octimap: \"my.edits\", line 1: \"near\u{FFFD}10\": near takes N, decimetres from 20 to 20000\n",
+            "octimap: \"my.edits\", line 1: \"near<TAB>10\": near takes N, decimetres from 20 to 20000\n",
         ),
         (
             "rename\tA\n",
-            "octimap: \"my.edits\", line 1: \"rename\u{FFFD}A\": 2 words are due behind the first, each after one TAB, and there are 1; rename takes ID NAME: the stop_id of a station, and its new name\n",
+            "octimap: \"my.edits\", line 1: \"rename<TAB>A\": words behind the first: 1, and 2 are due, each after one TAB; rename takes ID NAME: the stop_id of a station, and its new name\n",
         ),
         (
             "color\tU1\tff0000\n",
-            "octimap: \"my.edits\", line 1: \"color\u{FFFD}U1\u{FFFD}ff0000\": no edit begins so; did you mean \"colour\"?; a line begins with \"hide\", \"show\", \"rename\", \"move\", \"colour\", \"importance\", \"weight\", \"near\", \"cell\", \"budget\", \"undo\"\n",
+            "octimap: \"my.edits\", line 1: \"color<TAB>U1<TAB>ff0000\": no edit begins so (did you mean \"colour\"?); a line begins with \"hide\", \"show\", \"rename\", \"move\", \"colour\", \"importance\", \"weight\", \"near\", \"cell\", \"budget\", \"undo\"\n",
         ),
         (
             "undo\n",

@@ -50,7 +50,7 @@ fn what_is_no_folder_of_a_feed_is_told(rt: HostRuntime) -> Result<(), Fail> {
         ),
         (
             "stations other",
-            "octimap: there is no stops.txt in \"other\"; did you mean \"stop.txt\"?\n",
+            "octimap: there is no stops.txt in \"other\" (did you mean \"stop.txt\"?)\n",
         ),
         (
             "stations odd",

@@ -10,7 +10,7 @@ fn a_blank_map_is_told_with_the_types_of_routes(rt: HostRuntime) -> Result<(), F
     let said = told(&rt, "make blank blank.svg blank.cert")?;
     assert_eq!(rt;
         said.as_str(),
-        "octimap: the map shows nothing: each route is of a type that is not drawn, has no trip, or is hidden\noctimap: the route_type of the 1 rows of routes.txt: 401; to draw them, add --set 'types=[401]'\n"
+        "octimap: the map shows nothing: each route is of a type that is not drawn, has no trip, or is hidden\noctimap: the types of the routes (1 in routes.txt): 401; to draw them, add --set 'types=[401]'\n"
     );
     let said = told(&rt, "check blank blank.svg blank.svg")?;
     assert_eq!(rt;

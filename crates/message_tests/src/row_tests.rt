@@ -19,7 +19,7 @@ fn a_bad_row_is_told_with_its_field(rt: HostRuntime) -> Result<(), Fail> {
         ),
         (
             "stop_id,stop_lat,stop_lng\n",
-            "octimap: stops.txt has no column stop_lon; its columns are \"stop_id\", \"stop_lat\", \"stop_lng\"; did you mean \"stop_lng\"?\n",
+            "octimap: stops.txt has no column stop_lon; its columns are \"stop_id\", \"stop_lat\", \"stop_lng\" (did you mean \"stop_lng\"?)\n",
         ),
         (
             "stop_id,stop_lat,stop_lon\nA,0,0\nB,0,0\nA,1,1\n",
@@ -35,7 +35,7 @@ fn a_bad_row_is_told_with_its_field(rt: HostRuntime) -> Result<(), Fail> {
         ),
         (
             "stop_id,stop_lat,stop_lon,parent_station\nA,0,0,Bx\nB1,0,0,\n",
-            "octimap: stops.txt, row 2 (stop_id \"A\"): parent_station is \"Bx\"; a parent is a row of stops.txt with location_type 1, or for a boarding area a stop; did you mean \"B1\"?\n",
+            "octimap: stops.txt, row 2 (stop_id \"A\"): parent_station is \"Bx\"; a parent is a row of stops.txt with location_type 1, or for a boarding area a stop (did you mean \"B1\"?)\n",
         ),
         (
             "stop_id,stop_lat,stop_lon,location_type\nA\u{1b}[2J,0,0,7\n",
@@ -59,7 +59,7 @@ fn what_other_tables_lack_is_told(rt: HostRuntime) -> Result<(), Fail> {
         (
             "others/trips.txt",
             "route_id,trip_id\nU2,T\n",
-            "octimap: trips.txt, row 2 (trip_id \"T\"): route_id is \"U2\"; no row of routes.txt has this id; did you mean \"U1\"?\n",
+            "octimap: trips.txt, row 2 (trip_id \"T\"): route_id is \"U2\"; no row of routes.txt has this id (did you mean \"U1\"?)\n",
         ),
         ("others/trips.txt", "route_id,trip_id\nU1,T\n", ""),
         (

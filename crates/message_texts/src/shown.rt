@@ -12,8 +12,8 @@ pub fn quoted(alloc: Global, bytes: &[u8]) -> Result<String, NoMemory> {
     Ok(format!(in alloc; "\"{text}\"")?)
 }
 
-/// The first 80 characters of a text, and for each that would control a terminal, and for bytes that are no UTF-8,
-/// U+FFFD.
+/// The first 80 characters of a text, with `<TAB>` for a TAB, and U+FFFD for each that would control a terminal and for
+/// bytes that are no UTF-8.
 pub fn plain(alloc: Global, bytes: &[u8]) -> Result<String, NoMemory> {
     let text = String::from_utf8_lossy(alloc, bytes)?;
     let mut shown = String::new(alloc);
@@ -22,7 +22,10 @@ pub fn plain(alloc: Global, bytes: &[u8]) -> Result<String, NoMemory> {
             shown.push_str("..")?;
             break;
         }
-        shown.push(visible(character))?;
+        match character {
+            '\t' => shown.push_str("<TAB>")?,
+            _ => shown.push(visible(character))?,
+        }
     }
     Ok(shown)
 }

@@ -85,7 +85,7 @@ fn wrong_count(alloc: Global, word: EditWord, count: usize) -> Result<String, No
     let form = word.form();
     let due = word.arguments();
     Ok(format!(in alloc;
-        "{due} words are due behind the first, each after one TAB, and there are {count}; {form}"
+        "words behind the first: {count}, and {due} are due, each after one TAB; {form}"
     )?)
 }
 

@@ -95,7 +95,7 @@ fn routes_line<R: Files + AllocGlobal>(rt: &R, inputs: &Inputs<'_>) -> Result<St
     let kinds = kinds_of(alloc, types.as_slice())?;
     Ok(format!(in alloc;
         "octimap: the map shows nothing: each route is of a type that is not drawn, has no trip, or is hidden\n\
-        octimap: the route_type of the {count} rows of routes.txt: {kinds}; to draw them, add --set 'types=[{kinds}]'\n"
+        octimap: the types of the routes ({count} in routes.txt): {kinds}; to draw them, add --set 'types=[{kinds}]'\n"
     )?)
 }
 

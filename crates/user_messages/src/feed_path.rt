@@ -122,7 +122,7 @@ fn other(alloc: Global, feed: &str, name: &str, folder: &Folder) -> Result<Strin
         if let Some(near) = names.get(place) {
             let near = quoted(alloc, near.as_str().as_bytes())?;
             return Ok(format!(in alloc;
-                "octimap: there is no {name} in {shown}; did you mean {near}?\n"
+                "octimap: there is no {name} in {shown} (did you mean {near}?)\n"
             )?);
         }
     }

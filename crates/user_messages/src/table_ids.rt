@@ -52,7 +52,7 @@ fn asked(alloc: Global, near: Option<&Text>) -> Result<String, NoMemory> {
     match near {
         Some(near) => {
             let near = quoted(alloc, near.as_str().as_bytes())?;
-            Ok(format!(in alloc; "; did you mean {near}?")?)
+            Ok(format!(in alloc; " (did you mean {near}?)")?)
         }
         None => Ok(String::new(alloc)),
     }
