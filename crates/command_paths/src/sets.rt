@@ -1,15 +1,16 @@
 //! The values of `--set` among the words of a command line.
 
-ghost use Rattle.std.specs.Prelude.{◌≡◌, ◌<◌, length, map, option_map, string_bytes, IfSome};
-ghost use Rattle.command_paths.specs.Sets.{sets_cut, sets_of};
+ghost use Rattle.std.specs.Prelude.{◌≡◌, ◌<◌, true, length, map, option_map, string_bytes, IfSome};
+ghost use Rattle.command_paths.specs.Sets.{sets_cut, sets_from, sets_of};
 
 /// The value of the first `--set` among the words, and the words behind it. From `--` on there is none.
+#[tactic(auto, using(crate::proofs::StepLemmas::sets_end, crate::proofs::StepLemmas::sets_behind, crate::proofs::StepLemmas::sets_joined, crate::proofs::StepLemmas::sets_other))]
 pub fn next_set<'a>(words: &'a [String]) -> Option<(&'a str, &'a [String])>
     ensures first { sets_of words.now ≡ sets_cut (option_map (λ x. (x.0.now, map string_bytes x.1.now)) result) }
     ensures shorter { IfSome result (λ x. length x.1.now < length words.now) }
 {
     let mut rest = words;
-    while let [word, behind @ ..] = rest {
+    'words: while let [word, behind @ ..] = rest {
         if word.as_str() == "--" {
             return None;
         }
@@ -25,7 +26,10 @@ pub fn next_set<'a>(words: &'a [String]) -> Option<(&'a str, &'a [String])>
 }
 
 /// The first word, and those behind it.
-fn first_of<'a>(words: &'a [String]) -> Option<(&'a str, &'a [String])> {
+fn first_of<'a>(words: &'a [String]) -> Option<(&'a str, &'a [String])>
+    ensures first { sets_from true (map string_bytes words.now) ≡ sets_cut (option_map (λ x. (x.0.now, map string_bytes x.1.now)) result) }
+    ensures shorter { IfSome result (λ x. length x.1.now < length words.now) }
+{
     match words {
         [value, behind @ ..] => Some((value.as_str(), behind)),
         [] => None,
