@@ -1,25 +1,35 @@
 -- The values of `--set`, by the first word.
-use Rattle.std.proofs.Common.{◌≡◌, ℕ, Bool, true, false, List, [], ◌∷◌, codes, nat_eq, refl}
+use Rattle.std.proofs.Common.{◌≡◌, ℕ, Bool, true, false, List, [], ◌∷◌, codes, drop, length, map, nat_eq, Option, None, Some, option_map, String, string_bytes, if◌then◌else◌, MatchOption, refl, sym, ap, subst, ◌∙◌}
+use Rattle.std.proofs.lemmas.Str.Pattern.{starts_text}
+use Rattle.std.specs.Str.Pattern.{FindsTextPrefix, StripsPrefix}
+use Rattle.std.specs.declared.alloc.Global.{Global}
+use Rattle.std.specs.Str.{IsCharBoundary, bytes_eq}
 use Rattle.std.specs.List.{starts_with}
-use Rattle.std.specs.Str.{bytes_eq}
-use Rattle.std.specs.Prelude.{drop}
-use Rattle.command_paths.specs.Sets.{sets_from, sets_in}
+use Rattle.command_paths.specs.Sets.{set_joined, sets_from, sets_in, sets_of, with_set}
+use denote.Ref.{Bor}
 
--- `--`: there are none
-pub sets_end : (word : List ℕ) (more : List (List ℕ)) → bytes_eq word (codes "--") ≡ true → sets_in (word ∷ more) ≡ []
-sets_end word more end = rw end refl
+-- what `strip_prefix` gives
+pub stripped : (r : Option (Bor (List ℕ))) (n s : List ℕ) → MatchOption r (FindsTextPrefix n s None) (λ x. StripsPrefix (FindsTextPrefix n) s x.now)
+    → option_map (λ x. x.now) r ≡ (if starts_with nat_eq s n then Some (drop (length n) s) else None)
+stripped None n s none = ap (λ (b : Bool). if b then Some (drop (length n) s) else None) (starts_text false n s none)
+stripped (Some x) n s (k, found, rest, long) =
+    ap Some (rest ∙ ap (λ (m : ℕ). drop m s) found.0)
+    ∙ ap (λ (b : Bool). if b then Some (drop (length n) s) else None)
+    (starts_text true n s (k, found, subst (λ (m : ℕ). IsCharBoundary s m) (sym found.0) found.2))
 
--- `--set`: the next word is one
-pub sets_behind : (word : List ℕ) (more : List (List ℕ)) → bytes_eq word (codes "--") ≡ false → bytes_eq word (codes "--set") ≡ true
-    → sets_in (word ∷ more) ≡ sets_from true more
-sets_behind word more end set = rw end (rw set refl)
+module _ (rest words more : List (String Global)) (word : String Global) (left : sets_of rest ≡ sets_of words) (is : rest ≡ word ∷ more) where
+  first : sets_of words ≡ sets_in (string_bytes word ∷ map string_bytes more)
+  first = sym left ∙ ap sets_of is
 
--- `--set=`: what stands behind it is one
-pub sets_joined : (word : List ℕ) (more : List (List ℕ)) → bytes_eq word (codes "--") ≡ false → bytes_eq word (codes "--set") ≡ false
-    → starts_with nat_eq word (codes "--set=") ≡ true → sets_in (word ∷ more) ≡ drop 6 word ∷ sets_in more
-sets_joined word more end set joined = rw end (rw set (rw joined refl))
+  -- `--`: there are none
+  pub at_end : bytes_eq (string_bytes word) (codes "--") ≡ true → sets_of words ≡ []
+  at_end end = first ∙ rw end refl
 
--- another word is none
-pub sets_other : (word : List ℕ) (more : List (List ℕ)) → bytes_eq word (codes "--") ≡ false → bytes_eq word (codes "--set") ≡ false
-    → starts_with nat_eq word (codes "--set=") ≡ false → sets_in (word ∷ more) ≡ sets_in more
-sets_other word more end set joined = rw end (rw set (rw joined refl))
+  module _ (end : bytes_eq (string_bytes word) (codes "--") ≡ false) where
+    -- `--set`: the next word is one
+    pub at_set : bytes_eq (string_bytes word) (codes "--set") ≡ true → sets_of words ≡ sets_from true (map string_bytes more)
+    at_set set = first ∙ rw end (rw set refl)
+
+    -- another word: what stands behind `--set=` is one
+    pub at_other : bytes_eq (string_bytes word) (codes "--set") ≡ false → sets_of words ≡ with_set (set_joined (string_bytes word)) (sets_of more)
+    at_other set = first ∙ rw end (rw set refl)

@@ -4,6 +4,15 @@ use Rattle.std.specs.declared.alloc.Global.{Global}
 use Rattle.std.specs.List.{starts_with}
 use Rattle.std.specs.Str.{bytes_eq}
 
+-- what stands behind `--set=` in a word, if it begins so
+abbrev pub set_joined : List ℕ → Option (List ℕ)
+set_joined word = if starts_with nat_eq word (codes "--set=") then Some (drop 6 word) else None
+
+-- a value, if there is one, before others
+abbrev pub with_set : Option (List ℕ) → List (List ℕ) → List (List ℕ)
+with_set None more = more
+with_set (Some value) more = value ∷ more
+
 -- The values, in their order: the word behind `--set`, or what stands behind `--set=`; from `--` on there are none. The flag
 -- says whether the word before was `--set`.
 abbrev pub sets_from : Bool → List (List ℕ) → List (List ℕ)
@@ -12,8 +21,7 @@ sets_from true (word ∷ more) = word ∷ sets_from false more
 sets_from false (word ∷ more) =
     if bytes_eq word (codes "--") then []
     else if bytes_eq word (codes "--set") then sets_from true more
-    else if starts_with nat_eq word (codes "--set=") then drop 6 word ∷ sets_from false more
-    else sets_from false more
+    else with_set (set_joined word) (sets_from false more)
 
 abbrev pub sets_in : List (List ℕ) → List (List ℕ)
 sets_in words = sets_from false words

@@ -66,7 +66,7 @@ fn refused_text<R: Files + AllocGlobal>(
 /// The first value of `--set` that is refused.
 fn refused_set(alloc: Global, options: &Options<'_>) -> Result<Option<Refused>, NoMemory> {
     let mut rest = options.words;
-    while let Some((set, behind)) = next_set(rest) {
+    'sets: while let Some((set, behind)) = next_set(rest) {
         if is_refused(alloc, set.as_bytes(), options.defaults)? {
             return Ok(Some(refused_as(alloc, set)?));
         }

@@ -4,4 +4,7 @@ use Rattle.command_paths.proofs.sets.next_set.Given as goal
 
 -- the words that are left have all values
 abbrev pub invariant-words : goal.invariant-words
-invariant-words l = (sets_of l.rest.now ≡ sets_of l.fn.words.now) × (length l.rest.now ≤ length l.fn.words.now)
+invariant-words l = (sets_of l.rest ≡ sets_of l.fn.words) × (length l.rest ≤ length l.fn.words)
+
+abbrev pub decreases-words : goal.decreases-words
+decreases-words l = length l.rest
