@@ -4,6 +4,7 @@ ghost use Rattle.std.specs.Prelude.{◌≡◌, ◌<◌, true, length, map, optio
 ghost use Rattle.command_paths.specs.Sets.{set_joined, sets_cut, sets_from, sets_of};
 
 /// The value of the first `--set` among the words, and the words behind it. From `--` on there is none.
+#[tactic(auto, using(crate::proofs::StepLemmas::at_end, crate::proofs::StepLemmas::at_set, crate::proofs::StepLemmas::at_other))]
 pub fn next_set<'a>(words: &'a [String]) -> Option<(&'a str, &'a [String])>
     ensures first { sets_of words.now ≡ sets_cut (option_map (λ x. (x.0.now, map string_bytes x.1.now)) result) }
     ensures shorter { IfSome result (λ x. length x.1.now < length words.now) }

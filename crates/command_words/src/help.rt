@@ -5,7 +5,7 @@ pub(crate) const PROGRAM: &str =
     "Makes schematic maps of transit networks from GTFS Schedule feeds, and checks them";
 
 /// The version of the program, which `--version` prints: that of `dist/version`.
-pub(crate) const VERSION: &str = "0.1.0";
+pub const VERSION: &str = "0.1.0";
 
 /// What stands below the list of commands.
 pub(crate) const AFTER_PROGRAM: &str = "\

@@ -15,6 +15,7 @@ use std::rt::Files;
 const TOLD: usize = 20;
 
 /// A text of settings that is refused: how it is called, what it says, and how such a text is written.
+#[derive(Drop)]
 struct Refused {
     name: String,
     bytes: Vec<u8>,
@@ -27,17 +28,21 @@ pub(crate) fn bad_settings<R: Files + AllocGlobal>(
     options: &Options<'_>,
     why: &SettingsWhy,
 ) -> Result<String, NoMemory> {
-    let alloc = rt.alloc();
-    if let SettingsWhy::Missing = why {
-        return missing(rt, options.settings.unwrap_or(""));
+    match why {
+        SettingsWhy::Missing => missing(rt, options.settings.unwrap_or("")),
+        _ => match refused_text(rt, options)? {
+            Some(text) => in_text(rt.alloc(), &text, why),
+            None => Ok(String::new(rt.alloc())),
+        },
     }
-    let Some(text) = refused_text(rt, options)? else {
-        return Ok(String::new(alloc));
-    };
+}
+
+/// The lines for a text of settings that is refused for this reason.
+fn in_text(alloc: Global, text: &Refused, why: &SettingsWhy) -> Result<String, NoMemory> {
     match why {
         SettingsWhy::Missing => Ok(String::new(alloc)),
-        SettingsWhy::NotToml => not_toml(alloc, &text),
-        SettingsWhy::Key(key) => bad_key(alloc, &text, key.as_str()),
+        SettingsWhy::NotToml => not_toml(alloc, text),
+        SettingsWhy::Key(key) => bad_key(alloc, text, key.as_str()),
     }
 }
 

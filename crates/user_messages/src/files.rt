@@ -32,12 +32,15 @@ pub(crate) fn unread<R: Files + AllocGlobal>(rt: &R, path: &str) -> Result<Strin
 
 /// An output can't be written. `fault` is what the system said, if it said a word.
 pub(crate) fn unwritten(alloc: Global, fault: Option<WriteError<'_>>) -> Result<String, NoMemory> {
-    let Some(WriteError { error, path }) = fault else {
+    let Some(fault) = fault else {
         return Ok(format!(in alloc; "octimap: not all of the output was taken\n")?);
     };
-    let Some(path) = path else {
-        return Ok(format!(in alloc; "octimap: the output can't be written: {error}\n")?);
-    };
-    let shown = quoted(alloc, path.as_bytes())?;
-    Ok(format!(in alloc; "octimap: {shown} can't be written: {error}\n")?)
+    let error = fault.error;
+    match fault.path {
+        Some(path) => {
+            let shown = quoted(alloc, path.as_bytes())?;
+            Ok(format!(in alloc; "octimap: {shown} can't be written: {error}\n")?)
+        }
+        None => Ok(format!(in alloc; "octimap: the output can't be written: {error}\n")?),
+    }
 }
