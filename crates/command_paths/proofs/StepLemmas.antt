@@ -17,19 +17,35 @@ stripped (Some x) n s (k, found, rest, long) =
     ∙ ap (λ (b : Bool). if b then Some (drop (length n) s) else None)
     (starts_text true n s (k, found, subst (λ (m : ℕ). IsCharBoundary s m) (sym found.0) found.2))
 
+-- words that begin with `--`, with `--set`, or with another word
+begins_end : (word : List ℕ) (more : List (List ℕ)) → bytes_eq word (codes "--") ≡ true → sets_in (word ∷ more) ≡ []
+begins_end word more end =
+    ap (λ (b : Bool). if b then [] else if bytes_eq word (codes "--set") then sets_from true more else with_set (set_joined word) (sets_in more)) end
+
+begins_set : (word : List ℕ) (more : List (List ℕ)) → bytes_eq word (codes "--") ≡ false → bytes_eq word (codes "--set") ≡ true → sets_in (word ∷ more) ≡ sets_from true more
+begins_set word more end set =
+    ap (λ (b : Bool). if b then [] else if bytes_eq word (codes "--set") then sets_from true more else with_set (set_joined word) (sets_in more)) end
+    ∙ ap (λ (b : Bool). if b then sets_from true more else with_set (set_joined word) (sets_in more)) set
+
+begins_other : (word : List ℕ) (more : List (List ℕ)) → bytes_eq word (codes "--") ≡ false → bytes_eq word (codes "--set") ≡ false
+    → sets_in (word ∷ more) ≡ with_set (set_joined word) (sets_in more)
+begins_other word more end set =
+    ap (λ (b : Bool). if b then [] else if bytes_eq word (codes "--set") then sets_from true more else with_set (set_joined word) (sets_in more)) end
+    ∙ ap (λ (b : Bool). if b then sets_from true more else with_set (set_joined word) (sets_in more)) set
+
 module _ (rest words more : List (String Global)) (word : String Global) (left : sets_of rest ≡ sets_of words) (is : rest ≡ word ∷ more) where
   first : sets_of words ≡ sets_in (string_bytes word ∷ map string_bytes more)
   first = sym left ∙ ap sets_of is
 
   -- `--`: there are none
   pub at_end : bytes_eq (string_bytes word) (codes "--") ≡ true → sets_of words ≡ []
-  at_end end = first ∙ rw end refl
+  at_end end = first ∙ begins_end (string_bytes word) (map string_bytes more) end
 
   module _ (end : bytes_eq (string_bytes word) (codes "--") ≡ false) where
     -- `--set`: the next word is one
     pub at_set : bytes_eq (string_bytes word) (codes "--set") ≡ true → sets_of words ≡ sets_from true (map string_bytes more)
-    at_set set = first ∙ rw end (rw set refl)
+    at_set set = first ∙ begins_set (string_bytes word) (map string_bytes more) end set
 
     -- another word: what stands behind `--set=` is one
     pub at_other : bytes_eq (string_bytes word) (codes "--set") ≡ false → sets_of words ≡ with_set (set_joined (string_bytes word)) (sets_of more)
-    at_other set = first ∙ rw end (rw set refl)
+    at_other set = first ∙ begins_other (string_bytes word) (map string_bytes more) end set
