@@ -12,11 +12,12 @@ pub enum Found {
     File {
         is_zip: bool,
     },
-    /// A folder, with the table in it or not, and with so many folders and archives in it.
+    /// A folder, with the table in it or not, with a folder in it that has the table or not, and with an archive in it
+    /// or not.
     Folder {
         has_table: bool,
-        folders: usize,
-        archives: usize,
+        has_inner: bool,
+        has_packed: bool,
     },
 }
 
@@ -33,7 +34,7 @@ pub enum Seeming {
     Packed,
     /// A file that is no archive.
     File,
-    /// A folder in whose one folder the feed may lie.
+    /// A folder round the folder of a feed.
     Outer,
     /// A folder with a packed feed in it.
     HoldsPacked,
@@ -53,9 +54,9 @@ pub fn path_seems(path: &str, found: Found) -> Seeming
         Found::File { is_zip: false } => Seeming::File,
         Found::Folder {
             has_table,
-            folders,
-            archives,
-        } => seeming_of_folder(has_table, folders, archives),
+            has_inner,
+            has_packed,
+        } => seeming_of_folder(has_table, has_inner, has_packed),
     }
 }
 
@@ -73,16 +74,16 @@ fn seeming_of_nothing(path: &str) -> Seeming
 }
 
 /// What a folder seems to be.
-fn seeming_of_folder(has_table: bool, folders: usize, archives: usize) -> Seeming
-    ensures { result ≡ seeming_of [] (Found.Folder has_table folders archives) }
+fn seeming_of_folder(has_table: bool, has_inner: bool, has_packed: bool) -> Seeming
+    ensures { result ≡ seeming_of [] (Found.Folder has_table has_inner has_packed) }
 {
     if has_table {
         return Seeming::Feed;
     }
-    if folders == 1 {
+    if has_inner {
         return Seeming::Outer;
     }
-    if archives > 0 {
+    if has_packed {
         return Seeming::HoldsPacked;
     }
     Seeming::Other

@@ -63,34 +63,39 @@ fn in_folder<R: Files + AllocGlobal>(
     folder: &Folder,
 ) -> Result<String, NoMemory> {
     let alloc = rt.alloc();
+    let inner = inner_of(rt, feed, name, folder)?;
     let found = Found::Folder {
         has_table: false,
-        folders: folder.folders.len(),
-        archives: folder.archives.len(),
+        has_inner: inner.is_some(),
+        has_packed: !folder.archives.is_empty(),
     };
     match path_seems(feed, found) {
-        Seeming::Outer => outer(rt, feed, name, folder),
+        Seeming::Outer => outer(alloc, feed, name, inner.unwrap_or("")),
         Seeming::HoldsPacked => holds_packed(alloc, feed, name, folder),
         _ => other(alloc, feed, name, folder),
     }
 }
 
-/// A folder with one folder in it, in which the table may lie.
-fn outer<R: Files + AllocGlobal>(
+/// The first folder of a folder that has the table.
+fn inner_of<'a, R: Files + AllocGlobal>(
     rt: &R,
     feed: &str,
     name: &str,
-    folder: &Folder,
-) -> Result<String, NoMemory> {
+    folder: &'a Folder,
+) -> Result<Option<&'a str>, NoMemory> {
     let alloc = rt.alloc();
-    let Some(inner) = folder.folders.first() else {
-        return other(alloc, feed, name, folder);
-    };
-    let inner = inner.as_str();
-    let table = format!(in alloc; "{feed}/{inner}/{name}")?;
-    if !is_plain(rt, table.as_str()) {
-        return other(alloc, feed, name, folder);
+    for inner in &folder.folders {
+        let inner = inner.as_str();
+        let table = format!(in alloc; "{feed}/{inner}/{name}")?;
+        if is_plain(rt, table.as_str()) {
+            return Ok(Some(inner));
+        }
     }
+    Ok(None)
+}
+
+/// A folder with a folder in it that has the table.
+fn outer(alloc: Global, feed: &str, name: &str, inner: &str) -> Result<String, NoMemory> {
     let path = format!(in alloc; "{feed}/{inner}")?;
     let path = quoted(alloc, path.as_bytes())?;
     Ok(format!(in alloc; "octimap: {name} lies in {path}; name that folder\n")?)
