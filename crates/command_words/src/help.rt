@@ -191,7 +191,7 @@ pub(crate) const NUMBER: &str = "The number of the feed, from 0 to 4294967295";
 
 /// What is said where a map and its certificate are to be one file.
 pub(crate) const ONE_MAP: &str = "\
-error: SVG, CERT and HTML are not files of their own
+error: two of SVG, CERT and HTML are one file
 
 Usage: octimap map [OPTIONS] <FEED> <SVG> <CERT>
 
@@ -200,7 +200,7 @@ For more information, try '--help'.
 
 /// The same of `make`.
 pub(crate) const ONE_FILE: &str = "\
-error: SVG, CERT and HTML are not files of their own
+error: two of SVG, CERT and HTML are one file
 
 Usage: octimap make [OPTIONS] <FEED> <SVG> <CERT>
 
