@@ -1,5 +1,6 @@
 -- The values of `--set`, by the first word.
-use Rattle.std.proofs.Common.{◌≡◌, ℕ, Bool, true, false, List, [], ◌∷◌, codes, drop, length, map, nat_eq, Option, None, Some, option_map, String, string_bytes, if◌then◌else◌, MatchOption, refl, sym, ap, subst, ◌∙◌}
+use Rattle.std.proofs.Common.{◌≡◌, ℕ, Bool, true, false, List, [], ◌∷◌, codes, drop, length, map, nat_eq, refl, sym, ap, subst, ◌∙◌}
+use Rattle.std.proofs.Common.{Option, None, Some, option_map, String, string_bytes, if◌then◌else◌, MatchOption}
 use Rattle.std.proofs.lemmas.Str.Pattern.{starts_text}
 use Rattle.std.specs.Str.Pattern.{FindsTextPrefix, StripsPrefix}
 use Rattle.std.specs.declared.alloc.Global.{Global}
@@ -9,7 +10,8 @@ use Rattle.command_paths.specs.Sets.{set_joined, sets_from, sets_in, sets_of, wi
 use denote.Ref.{Bor}
 
 -- what `strip_prefix` gives
-pub stripped : (r : Option (Bor (List ℕ))) (n s : List ℕ) → MatchOption r (FindsTextPrefix n s None) (λ x. StripsPrefix (FindsTextPrefix n) s x.now)
+pub stripped : (r : Option (Bor (List ℕ))) (n s : List ℕ)
+    → MatchOption r (FindsTextPrefix n s None) (λ x. StripsPrefix (FindsTextPrefix n) s x.now)
     → option_map (λ x. x.now) r ≡ (if starts_with nat_eq s n then Some (drop (length n) s) else None)
 stripped None n s none = ap (λ (b : Bool). if b then Some (drop (length n) s) else None) (starts_text false n s none)
 stripped (Some x) n s (k, found, rest, long) =
@@ -17,35 +19,30 @@ stripped (Some x) n s (k, found, rest, long) =
     ∙ ap (λ (b : Bool). if b then Some (drop (length n) s) else None)
     (starts_text true n s (k, found, subst (λ (m : ℕ). IsCharBoundary s m) (sym found.0) found.2))
 
--- words that begin with `--`, with `--set`, or with another word
-begins_end : (word : List ℕ) (more : List (List ℕ)) → bytes_eq word (codes "--") ≡ true → sets_in (word ∷ more) ≡ []
-begins_end word more end =
-    ap (λ (b : Bool). if b then [] else if bytes_eq word (codes "--set") then sets_from true more else with_set (set_joined word) (sets_in more)) end
+-- a word by its two tests
+abbrev by_end : List ℕ → List (List ℕ) → Bool → Bool → List (List ℕ)
+by_end word more end set = if end then [] else if set then sets_from true more else with_set (set_joined word) (sets_in more)
 
-begins_set : (word : List ℕ) (more : List (List ℕ)) → bytes_eq word (codes "--") ≡ false → bytes_eq word (codes "--set") ≡ true → sets_in (word ∷ more) ≡ sets_from true more
-begins_set word more end set =
-    ap (λ (b : Bool). if b then [] else if bytes_eq word (codes "--set") then sets_from true more else with_set (set_joined word) (sets_in more)) end
-    ∙ ap (λ (b : Bool). if b then sets_from true more else with_set (set_joined word) (sets_in more)) set
+by_tests : (word : List ℕ) (more : List (List ℕ)) (end set : Bool) → bytes_eq word (codes "--") ≡ end
+    → bytes_eq word (codes "--set") ≡ set → sets_in (word ∷ more) ≡ by_end word more end set
+by_tests word more end set is_end is_set =
+    ap (λ (b : Bool). by_end word more b (bytes_eq word (codes "--set"))) is_end ∙ ap (λ (b : Bool). by_end word more end b) is_set
 
-begins_other : (word : List ℕ) (more : List (List ℕ)) → bytes_eq word (codes "--") ≡ false → bytes_eq word (codes "--set") ≡ false
-    → sets_in (word ∷ more) ≡ with_set (set_joined word) (sets_in more)
-begins_other word more end set =
-    ap (λ (b : Bool). if b then [] else if bytes_eq word (codes "--set") then sets_from true more else with_set (set_joined word) (sets_in more)) end
-    ∙ ap (λ (b : Bool). if b then sets_from true more else with_set (set_joined word) (sets_in more)) set
-
-module _ (rest words more : List (String Global)) (word : String Global) (left : sets_of rest ≡ sets_of words) (is : rest ≡ word ∷ more) where
+module _ (rest words more : List (String Global)) (word : String Global) (left : sets_of rest ≡ sets_of words)
+    (is : rest ≡ word ∷ more) where
   first : sets_of words ≡ sets_in (string_bytes word ∷ map string_bytes more)
   first = sym left ∙ ap sets_of is
 
   -- `--`: there are none
   pub at_end : bytes_eq (string_bytes word) (codes "--") ≡ true → sets_of words ≡ []
-  at_end end = first ∙ begins_end (string_bytes word) (map string_bytes more) end
+  at_end end = first ∙ by_tests (string_bytes word) (map string_bytes more) true _ end refl
 
   module _ (end : bytes_eq (string_bytes word) (codes "--") ≡ false) where
     -- `--set`: the next word is one
     pub at_set : bytes_eq (string_bytes word) (codes "--set") ≡ true → sets_of words ≡ sets_from true (map string_bytes more)
-    at_set set = first ∙ begins_set (string_bytes word) (map string_bytes more) end set
+    at_set set = first ∙ by_tests (string_bytes word) (map string_bytes more) false true end set
 
     -- another word: what stands behind `--set=` is one
-    pub at_other : bytes_eq (string_bytes word) (codes "--set") ≡ false → sets_of words ≡ with_set (set_joined (string_bytes word)) (sets_of more)
-    at_other set = first ∙ begins_other (string_bytes word) (map string_bytes more) end set
+    pub at_other : bytes_eq (string_bytes word) (codes "--set") ≡ false
+        → sets_of words ≡ with_set (set_joined (string_bytes word)) (sets_of more)
+    at_other set = first ∙ by_tests (string_bytes word) (map string_bytes more) false false end set
