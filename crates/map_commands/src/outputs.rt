@@ -1,6 +1,7 @@
 //! The outputs of `make`.
 
-ghost use Rattle.std.specs.Prelude.{◌≡◌, ◌++◌, IfOk, OnOk, option_map};
+ghost use Rattle.std.specs.Prelude.{◌≡◌, ◌++◌, IfOk, option_map};
+ghost use Rattle.std.specs.Option.{option_to_list};
 ghost use Rattle.map_engine.specs.Making.{bytes_of};
 ghost use Rattle.command_paths.specs.Paths.{new_paths_by, paths_by};
 ghost use Rattle.map_commands.specs.MapWorks.{map_outputs, new_outputs, page_output};
@@ -22,25 +23,35 @@ pub(crate) fn write_new(
     ensures { IfOk result (λ outputs. outputs ≡ new_outputs (new_paths_by files.now) (bytes_of made)) }
 {
     let page = page_at(alloc, files.page, made.svg.as_slice())?;
-    let mut outputs = write_map(alloc, &files.map, made)?.into_vec();
-    for output in page {
-        outputs.push(output)?;
-    }
-    Ok(Sequence::of(outputs))
+    let outputs = write_map(alloc, &files.map, made)?;
+    with_page(outputs.into_vec(), page)
 }
 
-/// The output of the page of a map, where one is named.
-fn page_at(alloc: Global, page: Option<&str>, svg: &[u8]) -> Result<Vec<Output>, NoMemory>
-    ensures { IfOk result (λ outputs. outputs.items ≡ page_output (option_map (λ path. path.now) page) svg.now) }
+/// Outputs with that of a page behind them, if there is one.
+fn with_page(outputs: Vec<Output>, page: Option<Output>) -> Result<Sequence<Output>, NoMemory>
+    ensures { IfOk result (λ all. all ≡ outputs.items ++ option_to_list page) }
 {
-    let mut outputs = Vec::new(alloc);
-    if let Some(path) = page {
-        outputs.push(Output {
+    let mut all = outputs;
+    match page {
+        None => Ok(Sequence::of(all)),
+        Some(output) => {
+            all.push(output)?;
+            Ok(Sequence::of(all))
+        }
+    }
+}
+
+/// The output of the page of a map, if one is named.
+fn page_at(alloc: Global, page: Option<&str>, svg: &[u8]) -> Result<Option<Output>, NoMemory>
+    ensures { IfOk result (λ output. option_to_list output ≡ page_output (option_map (λ path. path.now) page) svg.now) }
+{
+    match page {
+        None => Ok(None),
+        Some(path) => Ok(Some(Output {
             to: Target::Path(Text::of(alloc, path)?),
             bytes: Sequence::of(page_of(alloc, svg)?),
-        })?;
+        })),
     }
-    Ok(outputs)
 }
 
 /// The outputs of a map and its certificate to their files, the map first.
