@@ -82,7 +82,10 @@ impl<R: rt::Files + Print> DiskSinks<R> {
     /// The last error of the system in writing, if there was one.
     pub fn last_error(&self) -> Option<WriteError<'_>> {
         let error = self.last_error?;
-        let path = self.last_path.as_ref().map(|path| path.as_str());
+        let path = match &self.last_path {
+            Some(path) => Some(path.as_str()),
+            None => None,
+        };
         Some(WriteError { error, path })
     }
 
