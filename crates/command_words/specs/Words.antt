@@ -1,5 +1,5 @@
 -- What the words of the command line ask for.
-use Rattle.std.specs.Prelude.{◌≡◌, ℕ, ◌^◌, ◌&&◌, ◌||◌, Bool, not, take_while, List, [], ◌∷◌, map, codes, if◌then◌else◌, Option, None, Some, option_and_then, nat_lt, Result, Ok, Err, ⊤, String, string_bytes}
+use Rattle.std.specs.Prelude.{◌≡◌, ℕ, ◌^◌, ◌&&◌, ◌||◌, Bool, not, take_while, List, [], ◌∷◌, map, codes, if◌then◌else◌, Option, None, Some, option_and_then, nat_lt, Result, Ok, Err, ⊤, String, string_bytes, false}
 use Rattle.std.specs.declared.alloc.Global.{Global}
 use Rattle.std.specs.List.{list_any}
 use Rattle.std.specs.Str.{bytes_eq}

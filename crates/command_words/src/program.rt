@@ -2,7 +2,7 @@
 
 ghost use Rattle.std.specs.Prelude.{◌≡◌, IfOk, codes, false};
 ghost use Rattle.clap.specs.Words.{app_of, new_app, rule_of};
-ghost use Rattle.command_words.specs.Program.{IsLocal, feed_app, file_option, graph_app, improve_app, map_app, moves_operand, octimap_alone, octimap_app, octimap_maps, operand, page_app, picture_app, plain_app, quiet_flag, session_app, set_option, trial_app, with_files, with_map, with_options, with_settings};
+ghost use Rattle.command_words.specs.Program.{IsLocal, feed_app, file_option, graph_app, improve_app, map_app, moves_operand, new_map_app, octimap_alone, octimap_app, octimap_maps, operand, page_app, picture_app, plain_app, quiet_flag, session_app, set_option, trial_app, with_files, with_map, with_options, with_settings};
 
 use crate::help;
 use clap::builder::ValueParser;
