@@ -4,7 +4,7 @@ use Rattle.clap.specs.Walk.{Rule, Text}
 use Rattle.clap.specs.Simple.{App, new_app, new_rule, new_shape, with_rule, with_subcommand}
 use Rattle.clap.specs.declared.builder.command.Command.{Command}
 use Rattle.clap.specs.declared.builder.command.Command.TheViews.{out-Command}
-use Rattle.clap.specs.declared.builder.action.ArgAction.TheVariants.{Set}
+use Rattle.clap.specs.declared.builder.action.ArgAction.TheVariants.{Append, Set, SetTrue}
 use Rattle.clap.specs.declared.builder.value_parser.ValueParser.TheVariants as parser
 
 -- a command has no argument that its commands share
@@ -19,9 +19,25 @@ operand name = record (new_rule name) { required = true }
 abbrev pub file_option : Text → Rule
 file_option name = record (new_rule name) { long = Some name; action = Some Set; value_names = 1 }
 
--- the command with `--settings FILE` and `--edits FILE`
+-- `--quiet`, which leaves out the lines on standard error
+abbrev pub quiet_flag : Rule
+quiet_flag = record (new_rule (codes "quiet")) { long = Some (codes "quiet"); short = Some 113; action = Some SetTrue }
+
+-- a command with this flag alone
+abbrev pub plain_app : Text → App
+plain_app name = with_rule (new_app name) quiet_flag
+
+-- `--set KEY=VALUE`, as often as wanted
+abbrev pub set_option : Rule
+set_option = record (new_rule (codes "set")) { long = Some (codes "set"); action = Some Append; value_names = 1 }
+
+-- the command with `--settings FILE` and `--set KEY=VALUE`
+abbrev pub with_settings : App → App
+with_settings command = with_rule (with_rule command (file_option (codes "settings"))) set_option
+
+-- the command with `--settings FILE`, `--set KEY=VALUE` and `--edits FILE`
 abbrev pub with_options : App → App
-with_options command = with_rule (with_rule command (file_option (codes "settings"))) (file_option (codes "edits"))
+with_options command = with_rule (with_settings command) (file_option (codes "edits"))
 
 -- `N`, a number of 32 bits
 abbrev pub number_operand : Rule
@@ -33,7 +49,7 @@ moves_operand = record (operand (codes "MOVES")) { parser = Some (parser.Signed 
 
 -- a command that works on a feed
 abbrev pub feed_app : Text → App
-feed_app name = with_rule (new_app name) (operand (codes "FEED"))
+feed_app name = with_rule (plain_app name) (operand (codes "FEED"))
 
 -- the command with a map and its certificate
 abbrev pub with_files : App → App
@@ -45,6 +61,10 @@ with_map command = with_options (with_files command)
 
 abbrev pub map_app : Text → App
 map_app name = with_map (feed_app name)
+
+-- a map that may have a page
+abbrev pub new_map_app : Text → App
+new_map_app name = with_rule (map_app name) (file_option (codes "page"))
 
 -- a map whose drawing is moved more often
 abbrev pub improve_app : App
@@ -60,17 +80,17 @@ picture_app name = with_options (with_out (with_rule (feed_app name) (operand (c
 
 -- a script of edits and draws, whose settings alone are named
 abbrev pub session_app : App
-session_app = with_rule (with_out (with_rule (feed_app (codes "session")) (operand (codes "SCRIPT")))) (file_option (codes "settings"))
+session_app = with_settings (with_out (with_rule (feed_app (codes "session")) (operand (codes "SCRIPT"))))
 
 abbrev pub graph_app : App
 graph_app = with_options (feed_app (codes "graph"))
 
 abbrev pub trial_app : App
-trial_app = with_rule (new_app (codes "trial")) number_operand
+trial_app = with_rule (plain_app (codes "trial")) number_operand
 
 -- a page is made of a map
 abbrev pub page_app : App
-page_app = with_rule (with_rule (new_app (codes "page")) (operand (codes "SVG"))) (operand (codes "HTML"))
+page_app = with_rule (with_rule (plain_app (codes "page")) (operand (codes "SVG"))) (operand (codes "HTML"))
 
 -- the program before its commands: a command is required, and without one its help is shown; it tells its version
 abbrev pub octimap_alone : App
@@ -86,7 +106,7 @@ with_command program command = with_subcommand program command.top
 abbrev pub octimap_maps : App
 octimap_maps =
     with_command (with_command (with_command (with_command (with_command (with_command (with_command octimap_alone
-    (map_app (codes "map"))) (map_app (codes "make"))) improve_app) (map_app (codes "check"))) (picture_app (codes "labels")))
+    (new_map_app (codes "map"))) (new_map_app (codes "make"))) improve_app) (map_app (codes "check"))) (picture_app (codes "labels")))
     (picture_app (codes "geo"))) session_app
 
 -- the program: these, `graph`, `stations`, `page` and `trial`

@@ -5,7 +5,7 @@ pub(crate) const PROGRAM: &str =
     "Makes schematic maps of transit networks from GTFS Schedule feeds, and checks them";
 
 /// The version of the program, which `--version` prints: that of `dist/version`.
-pub(crate) const VERSION: &str = "0.1.0";
+pub const VERSION: &str = "0.1.0";
 
 /// What stands below the list of commands.
 pub(crate) const AFTER_PROGRAM: &str = "\
@@ -64,7 +64,8 @@ printed. SVG and CERT are two files; what they held before is lost. Finer grids 
 line orders are searched for longer than by `make`.
 
 Example:
-  octimap map examples/vienna-ubahn map.svg map.cert";
+  octimap map examples/vienna-ubahn map.svg map.cert
+  octimap map --page map.html examples/vienna-ubahn map.svg map.cert";
 
 pub(crate) const MAKE: &str = "Make the map of a feed by other settings than `map` has";
 
@@ -150,9 +151,14 @@ Example:
 
 pub(crate) const FEED: &str = "The folder with the tables of an unpacked GTFS Schedule feed";
 
+pub(crate) const QUIET: &str =
+    "Leave out the lines on standard error that say more than the status";
+
 pub(crate) const NEW_SVG: &str = "The file that the map is written to";
 
 pub(crate) const NEW_CERT: &str = "The file that the certificate is written to";
+
+pub(crate) const NEW_PAGE: &str = "The file that a page of the map is written to, for a browser";
 
 pub(crate) const MOVES: &str = "How many moves there may be, from 0 to 10000";
 
@@ -171,6 +177,9 @@ pub(crate) const DRAWS: &str = "The file that the maps and certificates are writ
 
 pub(crate) const SETTINGS: &str = "A file of settings in TOML, such as examples/settings.toml";
 
+pub(crate) const SET: &str =
+    "A key of the settings in place of that of the file, as often as wanted, such as near=400";
+
 pub(crate) const EDITS: &str =
     "A file of edits, one a line, such as examples/edits.txt; they are done to the tables and settings first";
 
@@ -182,7 +191,7 @@ pub(crate) const NUMBER: &str = "The number of the feed, from 0 to 4294967295";
 
 /// What is said where a map and its certificate are to be one file.
 pub(crate) const ONE_MAP: &str = "\
-error: SVG and CERT are one file
+error: two of SVG, CERT and HTML are one file
 
 Usage: octimap map [OPTIONS] <FEED> <SVG> <CERT>
 
@@ -191,7 +200,7 @@ For more information, try '--help'.
 
 /// The same of `make`.
 pub(crate) const ONE_FILE: &str = "\
-error: SVG and CERT are one file
+error: two of SVG, CERT and HTML are one file
 
 Usage: octimap make [OPTIONS] <FEED> <SVG> <CERT>
 
@@ -211,7 +220,7 @@ For more information, try '--help'.
 pub(crate) const ONE_PAGE: &str = "\
 error: SVG and HTML are one file
 
-Usage: octimap page <SVG> <HTML>
+Usage: octimap page [OPTIONS] <SVG> <HTML>
 
 For more information, try '--help'.
 ";

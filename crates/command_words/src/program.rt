@@ -2,7 +2,7 @@
 
 ghost use Rattle.std.specs.Prelude.{◌≡◌, IfOk, codes, false};
 ghost use Rattle.clap.specs.Words.{app_of, new_app, rule_of};
-ghost use Rattle.command_words.specs.Program.{IsLocal, feed_app, file_option, graph_app, improve_app, map_app, moves_operand, octimap_alone, octimap_app, octimap_maps, operand, page_app, picture_app, session_app, trial_app, with_files, with_map, with_options};
+ghost use Rattle.command_words.specs.Program.{IsLocal, feed_app, file_option, graph_app, improve_app, map_app, moves_operand, new_map_app, octimap_alone, octimap_app, octimap_maps, operand, page_app, picture_app, plain_app, quiet_flag, session_app, set_option, trial_app, with_files, with_map, with_options, with_settings};
 
 use crate::help;
 use clap::builder::ValueParser;
@@ -86,20 +86,33 @@ fn graph<'a>(alloc: Global) -> Result<Command<'a>, AllocError>
 
 /// `map FEED SVG CERT`
 fn map<'a>(alloc: Global) -> Result<Command<'a>, AllocError>
-    ensures app { IfOk result (λ command. app_of command ≡ map_app (codes "map")) }
+    ensures app { IfOk result (λ command. app_of command ≡ new_map_app (codes "map")) }
     ensures local { IfOk result IsLocal }
 {
-    let command = over_feed(alloc, "map", help::MAP, help::AFTER_MAP)?;
-    over_map(alloc, command, help::NEW_SVG, help::NEW_CERT)
+    new_map(alloc, "map", help::MAP, help::AFTER_MAP)
 }
 
 /// `make FEED SVG CERT`
 fn make<'a>(alloc: Global) -> Result<Command<'a>, AllocError>
-    ensures app { IfOk result (λ command. app_of command ≡ map_app (codes "make")) }
+    ensures app { IfOk result (λ command. app_of command ≡ new_map_app (codes "make")) }
     ensures local { IfOk result IsLocal }
 {
-    let command = over_feed(alloc, "make", help::MAKE, help::AFTER_MAKE)?;
-    over_map(alloc, command, help::NEW_SVG, help::NEW_CERT)
+    new_map(alloc, "make", help::MAKE, help::AFTER_MAKE)
+}
+
+/// A command that makes a map and its certificate, and with `--page HTML` its page.
+fn new_map<'a>(
+    alloc: Global,
+    name: &'a str,
+    about: &'a str,
+    after: &'a str,
+) -> Result<Command<'a>, AllocError>
+    ensures app { IfOk result (λ command. app_of command ≡ new_map_app name.entry.now) }
+    ensures local { IfOk result IsLocal }
+{
+    let command = over_feed(alloc, name, about, after)?;
+    let page = file_option(alloc, "page", help::NEW_PAGE).value_name("HTML");
+    over_map(alloc, command, help::NEW_SVG, help::NEW_CERT)?.arg(page)
 }
 
 /// `improve FEED SVG CERT MOVES`
@@ -151,10 +164,10 @@ fn session<'a>(alloc: Global) -> Result<Command<'a>, AllocError>
     ensures app { IfOk result (λ command. app_of command ≡ session_app) }
     ensures local { IfOk result IsLocal }
 {
-    over_feed(alloc, "session", help::SESSION, help::AFTER_SESSION)?
+    let command = over_feed(alloc, "session", help::SESSION, help::AFTER_SESSION)?
         .arg(named_operand(alloc, "SCRIPT", help::SCRIPT))?
-        .arg(named_operand(alloc, "OUT", help::DRAWS))?
-        .arg(file_option(alloc, "settings", help::SETTINGS))
+        .arg(named_operand(alloc, "OUT", help::DRAWS))?;
+    with_settings(alloc, command)
 }
 
 /// `page SVG HTML`
@@ -162,7 +175,7 @@ fn page<'a>(alloc: Global) -> Result<Command<'a>, AllocError>
     ensures app { IfOk result (λ command. app_of command ≡ page_app) }
     ensures local { IfOk result IsLocal }
 {
-    named_command(alloc, "page", help::PAGE, help::AFTER_PAGE)
+    named_command(alloc, "page", help::PAGE, help::AFTER_PAGE)?
         .arg(named_operand(alloc, "SVG", help::SHOWN_SVG))?
         .arg(named_operand(alloc, "HTML", help::HTML))
 }
@@ -173,7 +186,7 @@ fn trial<'a>(alloc: Global) -> Result<Command<'a>, AllocError>
     ensures local { IfOk result IsLocal }
 {
     let number = named_operand(alloc, "N", help::NUMBER).value_parser(value_parser!(u32));
-    named_command(alloc, "trial", help::TRIAL, help::AFTER_TRIAL).arg(number)
+    named_command(alloc, "trial", help::TRIAL, help::AFTER_TRIAL)?.arg(number)
 }
 
 /// A command that works on a feed.
@@ -186,7 +199,7 @@ fn over_feed<'a>(
     ensures app { IfOk result (λ command. app_of command ≡ feed_app name.entry.now) }
     ensures local { IfOk result IsLocal }
 {
-    named_command(alloc, name, about, after).arg(named_operand(alloc, "FEED", help::FEED))
+    named_command(alloc, name, about, after)?.arg(named_operand(alloc, "FEED", help::FEED))
 }
 
 /// The command with a map and its certificate, settings and edits.
@@ -218,22 +231,67 @@ fn with_files<'a>(
         .arg(named_operand(alloc, "CERT", certificate))
 }
 
-/// The command with `--settings FILE` and `--edits FILE`.
-fn with_options<'a>(alloc: Global, command: Command<'a>) -> Result<Command<'a>, AllocError>
-    ensures app { IsLocal command.entry → IfOk result (λ r. app_of r ≡ with_options (app_of command.entry)) }
+/// The command with `--settings FILE` and `--set KEY=VALUE`.
+fn with_settings<'a>(alloc: Global, command: Command<'a>) -> Result<Command<'a>, AllocError>
+    ensures app { IsLocal command.entry → IfOk result (λ r. app_of r ≡ with_settings (app_of command.entry)) }
     ensures local { IsLocal command.entry → IfOk result IsLocal }
 {
     command
         .arg(file_option(alloc, "settings", help::SETTINGS))?
-        .arg(file_option(alloc, "edits", help::EDITS))
+        .arg(set_option(alloc))
+}
+
+/// `--set KEY=VALUE`, as often as wanted.
+fn set_option<'a>(alloc: Global) -> Arg<'a>
+    ensures rule { rule_of result ≡ set_option }
+    ensures local { result.global ≡ false }
+{
+    Arg::new(alloc, "set")
+        .long("set")
+        .value_name("KEY=VALUE")
+        .action(ArgAction::Append)
+        .help(help::SET)
+}
+
+/// The command with `--settings FILE`, `--set KEY=VALUE` and `--edits FILE`.
+fn with_options<'a>(alloc: Global, command: Command<'a>) -> Result<Command<'a>, AllocError>
+    ensures app { IsLocal command.entry → IfOk result (λ r. app_of r ≡ with_options (app_of command.entry)) }
+    ensures local { IsLocal command.entry → IfOk result IsLocal }
+{
+    with_settings(alloc, command)?.arg(file_option(alloc, "edits", help::EDITS))
+}
+
+/// A command that takes nothing but `--quiet`.
+fn named_command<'a>(
+    alloc: Global,
+    name: &'a str,
+    about: &'a str,
+    after: &'a str,
+) -> Result<Command<'a>, AllocError>
+    ensures app { IfOk result (λ command. app_of command ≡ plain_app name.entry.now) }
+    ensures local { IfOk result IsLocal }
+{
+    bare_command(alloc, name, about, after).arg(quiet(alloc))
 }
 
 /// A command without arguments.
-fn named_command<'a>(alloc: Global, name: &'a str, about: &'a str, after: &'a str) -> Command<'a>
+fn bare_command<'a>(alloc: Global, name: &'a str, about: &'a str, after: &'a str) -> Command<'a>
     ensures app { app_of result ≡ new_app name.entry.now }
     ensures local { IsLocal result }
 {
     Command::new(alloc, name).about(about).after_help(after)
+}
+
+/// `--quiet`, which leaves out the lines on standard error.
+fn quiet<'a>(alloc: Global) -> Arg<'a>
+    ensures rule { rule_of result ≡ quiet_flag }
+    ensures local { result.global ≡ false }
+{
+    Arg::new(alloc, "quiet")
+        .long("quiet")
+        .short('q')
+        .action(ArgAction::SetTrue)
+        .help(help::QUIET)
 }
 
 /// An operand, which has to be there.

@@ -1,7 +1,7 @@
 -- The work of a command, by the command that is asked for.
 use Rattle.std.proofs.Common.{◌≡◌, ℕ, ◌⊎◌, inl, inr, true, List, [], length, take, Option, Some, Result, Ok, Err, IfOk, refl, sym, ap, subst, arith}
 use Rattle.std.proofs.Math.Seq.{take-length}
-use Rattle.command_paths.specs.Paths.{Chosen, MapPaths}
+use Rattle.command_paths.specs.Paths.{Chosen, MapPaths, NewPaths}
 use Rattle.files_door.specs.Targets.{Written}
 use Rattle.files_door.specs.Acts.{Act, Does}
 use Rattle.command_run.specs.declared.output.Output.{Output}
@@ -111,7 +111,7 @@ module _ (told : Told) (asked : Asked) where
       → Follows told (input_at inputs) rose same (graph_work inputs.chosen) result → Follows told (input_path asked) rose at_end (work asked) end
   graph_follows {feed} {chosen} rose result end inputs ended is lie follows = outputs_follow rose result end (graph feed chosen) inputs (λ p. graph_work p.chosen) ended is lie refl follows
 
-  pub make_follows : {feed : List ℕ} {paths : MapPaths} {chosen : Chosen} (rose : Type 0) (result : Result (List Output) Refusal) (end : Result Finished Refusal) (inputs : InputPaths) → end ≡ whole_by result → asked ≡ make feed paths chosen → inputs ≡ inputs_of asked
+  pub make_follows : {feed : List ℕ} {paths : NewPaths} {chosen : Chosen} (rose : Type 0) (result : Result (List Output) Refusal) (end : Result Finished Refusal) (inputs : InputPaths) → end ≡ whole_by result → asked ≡ make feed paths chosen → inputs ≡ inputs_of asked
       → Follows told (input_at inputs) rose same (make_work inputs.chosen paths) result → Follows told (input_path asked) rose at_end (work asked) end
   make_follows {feed} {paths} {chosen} rose result end inputs ended is lie follows = outputs_follow rose result end (make feed paths chosen) inputs (λ p. make_work p.chosen paths) ended is lie refl follows
 
@@ -165,7 +165,7 @@ module _ (told : Told) (asked : Asked) where
   by_inputs : (P : InputPaths → Type 0) (command : Asked) (inputs : InputPaths) → asked ≡ command → inputs ≡ inputs_of asked → P inputs → P (inputs_of command)
   by_inputs P command inputs is lie promised = subst (λ (a : Asked). P (inputs_of a)) is (subst P lie promised)
 
-  pub make_keeps : {feed : List ℕ} {paths : MapPaths} {chosen : Chosen} (inputs : InputPaths) (result : Result (List Output) Refusal) (end : Result Finished Refusal) → end ≡ whole_by result → asked ≡ make feed paths chosen → inputs ≡ inputs_of asked
+  pub make_keeps : {feed : List ℕ} {paths : NewPaths} {chosen : Chosen} (inputs : InputPaths) (result : Result (List Output) Refusal) (end : Result Finished Refusal) → end ≡ whole_by result → asked ≡ make feed paths chosen → inputs ≡ inputs_of asked
       → IfOk result (AreOfMap told inputs paths) → Keeps told asked end
   make_keeps {feed} {paths} {chosen} inputs (Ok outputs) end ended is lie are =
       keeps_as (make feed paths chosen) (Ok (whole outputs)) end ended is (by_inputs (λ p. AreOfMap told p paths outputs) (make feed paths chosen) inputs is lie are)
@@ -270,7 +270,7 @@ module _ (told : Told) (asked : Asked) where
   pub trial_steps : {number : ℕ} (before now : ℕ) → asked ≡ trial number → TakesTrialSteps number before now → TakesSteps told (Some asked) before now
   trial_steps {number} before now is few = steps_as (trial number) before now is few
 
-  pub make_steps : {feed : List ℕ} {paths : MapPaths} {chosen : Chosen} (inputs : InputPaths) (before now : ℕ) → asked ≡ make feed paths chosen → inputs ≡ inputs_of asked
+  pub make_steps : {feed : List ℕ} {paths : NewPaths} {chosen : Chosen} (inputs : InputPaths) (before now : ℕ) → asked ≡ make feed paths chosen → inputs ≡ inputs_of asked
       → SearchesParts told inputs before now → TakesSteps told (Some asked) before now
   make_steps {feed} {paths} {chosen} inputs before now is lie few =
       steps_as (make feed paths chosen) before now is (by_inputs (λ p. SearchesParts told p before now) (make feed paths chosen) inputs is lie few)

@@ -19,9 +19,10 @@ use Rattle.run_status.specs.declared.status.Status.TheVariants as status
 use Rattle.command_words.specs.Asked.{Asked, stations, graph, make, improve, check, depict, session, trial, page}
 use Rattle.command_paths.specs.Paths.{MapPaths}
 use Rattle.command_words.specs.Words.{asked, asked_in}
-use Rattle.command_words.proofs.Apart.{AreApart, asked_apart}
+use Rattle.command_words.proofs.Apart.{AreApart, AreNewApart, asked_apart}
 use Rattle.map_run.specs.Inputs.{input_path}
-use Rattle.map_commands.specs.MapWorks.{map_outputs}
+use Rattle.map_page.specs.Pages.{page_bytes}
+use Rattle.map_commands.specs.MapWorks.{map_outputs, page_output}
 use Rattle.session_command.specs.SessionWorks.{Played, session_text}
 use Rattle.map_run.specs.Answers.{Finished, answer_by, status_at}
 use Rattle.run_status.specs.Statuses.{status_of}
@@ -57,6 +58,36 @@ certificate_held : (paths : MapPaths) (made : MapBytes) (held : Option (List ℕ
 certificate_held paths made held = by_test (bytes_eq paths.certificate paths.certificate) (if bytes_eq paths.picture paths.certificate then Some ([] ++ made.svg) else held) ((bytes_eq-Decides paths.certificate paths.certificate).1 refl)
   where
     by_test : (second : Bool) (before : Option (List ℕ)) → second ≡ true → (if second then Some ([] ++ made.certificate) else before) ≡ Some made.certificate
+    by_test true before e = refl
+    by_test false before e = absurd (cc)
+
+-- what targets hold after the outputs of a new map, with its page or without one
+
+-- another target doesn't touch what is held
+not_this : (same : Bool) (bytes : List ℕ) (before : Option (List ℕ)) → same ≡ false → (if same then Some ([] ++ bytes) else before) ≡ before
+not_this true bytes before e = absurd (cc)
+not_this false bytes before e = refl
+
+new_map_held : (paths : MapPaths) (page : Option (List ℕ)) (made : MapBytes) (held : Option (List ℕ)) → AreNewApart (record { map = paths; page = page })
+    → held_after (Path paths.picture) (map_outputs paths made ++ page_output page made.svg) held ≡ Some made.svg
+new_map_held paths None made held apart = map_held paths made held apart.0
+new_map_held paths (Some path) made held apart =
+    not_this (bytes_eq path paths.picture) (page_bytes made.svg) (held_after (Path paths.picture) (map_outputs paths made) held) apart.1.0 ∙ map_held paths made held apart.0
+
+new_certificate_held : (paths : MapPaths) (page : Option (List ℕ)) (made : MapBytes) (held : Option (List ℕ)) → AreNewApart (record { map = paths; page = page })
+    → held_after (Path paths.certificate) (map_outputs paths made ++ page_output page made.svg) held ≡ Some made.certificate
+new_certificate_held paths None made held apart = certificate_held paths made held
+new_certificate_held paths (Some path) made held apart =
+    not_this (bytes_eq path paths.certificate) (page_bytes made.svg) (held_after (Path paths.certificate) (map_outputs paths made) held) apart.1.1 ∙ certificate_held paths made held
+
+new_page_held : (paths : MapPaths) (page : Option (List ℕ)) (made : MapBytes) (old new : Written)
+    → ((target : Target) → held_by target new ≡ held_after target (map_outputs paths made ++ page_output page made.svg) (held_by target old))
+    → IfSome page (λ path. held_by (Path path) new ≡ Some (page_bytes made.svg))
+new_page_held paths None made old new holds = tt
+new_page_held paths (Some path) made old new holds =
+    holds (Path path) ∙ by_test (bytes_eq path path) (held_after (Path path) (map_outputs paths made) (held_by (Path path) old)) ((bytes_eq-Decides path path).1 refl)
+  where
+    by_test : (same : Bool) (before : Option (List ℕ)) → same ≡ true → (if same then Some ([] ++ page_bytes made.svg) else before) ≡ Some (page_bytes made.svg)
     by_test true before e = refl
     by_test false before e = absurd (cc)
 
@@ -104,8 +135,9 @@ means told (make feed paths chosen) finished old new apart promised none holds =
       made = promised.made;
       defined = promised.defined;
       is_made = promised.is_made;
-      map = has (Path paths.picture) ∙ map_held paths promised.made (held_by (Path paths.picture) old) apart;
-      certificate = has (Path paths.certificate) ∙ certificate_held paths promised.made (held_by (Path paths.certificate) old);
+      map = has (Path paths.map.picture) ∙ new_map_held paths.map paths.page promised.made (held_by (Path paths.map.picture) old) apart;
+      certificate = has (Path paths.map.certificate) ∙ new_certificate_held paths.map paths.page promised.made (held_by (Path paths.map.certificate) old) apart;
+      page = new_page_held paths.map paths.page promised.made old new has;
     }
 means told (improve feed paths moves chosen) finished old new apart promised none holds =
     let has = subst (λ (o : List Output). Holds o old new) promised.are holds in

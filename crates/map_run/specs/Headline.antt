@@ -20,7 +20,8 @@ use Rattle.session_command.specs.SessionWorks.{session_text}
 use Rattle.session_command.specs.Promises.{KeepDraws}
 use Rattle.command_inputs.specs.declared.loaded.Loaded.{Loaded}
 use Rattle.command_words.specs.Asked.{Asked, stations, graph, make, improve, check, depict, session, trial, page}
-use Rattle.command_paths.specs.Paths.{Chosen, MapPaths}
+use Rattle.command_paths.specs.Paths.{Chosen, MapPaths, NewPaths}
+use Rattle.map_page.specs.Pages.{page_bytes}
 use Rattle.map_commands.specs.MapWorks.{proved_line}
 use Rattle.graph_maps.specs.declared.checked.Proved.{Proved}
 use Rattle.improve_command.specs.ImproveWorks.{improved_line}
@@ -30,15 +31,17 @@ use Rattle.map_commands.specs.Promises.{IsAccepted}
 
 -- The map of a feed is written, and its certificate: those that are defined for the feed's tables. The map shows exactly
 -- the line graph of these tables, in a legal drawing; no line orders cost less than the bound that the certificate proves, which
--- is the cost where best orders are claimed: the check says yes to both. The two files hold the two.
-pub record IsMapWritten (told : Option (List (List ℕ × List ℕ))) (asked : Asked) (paths : MapPaths) (new : Written) : Type 0 where
+-- is the cost where best orders are claimed: the check says yes to both. The two files hold the two, and a third one the page
+-- of the map, where it is named.
+pub record IsMapWritten (told : Option (List (List ℕ × List ℕ))) (asked : Asked) (paths : NewPaths) (new : Written) : Type 0 where
   pub loaded : Loaded
   pub loads : Loads told (inputs_of asked) loaded
   pub made : MapBytes
   pub defined : make_outcome loaded.tables loaded.settings loaded.method ≡ Ok made
   pub is_made : IsMade loaded.tables loaded.settings loaded.method.claim made
-  pub map : held_by (Path paths.picture) new ≡ Some made.svg
-  pub certificate : held_by (Path paths.certificate) new ≡ Some made.certificate
+  pub map : held_by (Path paths.map.picture) new ≡ Some made.svg
+  pub certificate : held_by (Path paths.map.certificate) new ≡ Some made.certificate
+  pub page : IfSome paths.page (λ path. held_by (Path path) new ≡ Some (page_bytes made.svg))
 
 -- The map of a feed is written after more moves on its drawing, and its certificate: those that are defined for the feed's
 -- tables. The map shows exactly the line graph of these tables, in a legal drawing that is no heavier than that of `make`; no

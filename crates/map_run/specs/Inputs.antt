@@ -8,7 +8,7 @@ use Rattle.command_inputs.specs.Inputs.{InputPaths, input_at}
 
 -- no file of settings, and none of edits: the settings of `make`
 abbrev pub no_choice : Chosen
-no_choice = record { defaults = Make; settings = None; edits = None }
+no_choice = record { defaults = Make; settings = None; edits = None; sets = [] }
 
 -- no map and no certificate
 abbrev pub no_map : MapPaths

@@ -60,6 +60,7 @@ fn no_choice<'a>() -> Options<'a>
         defaults: Defaults::Make,
         settings: None,
         edits: None,
+        words: &[],
     }
 }
 

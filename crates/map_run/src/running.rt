@@ -119,10 +119,10 @@ fn run_command<F: Files, S: Sinks, L: Ledger>(
             write_outcome(alloc, command, outcome, sinks)
         }
         Command::Make {
-            files: map_files,
+            files: new_files,
             ..
         } => {
-            let outcome = make_map(alloc, &inputs, map_files, files, steps);
+            let outcome = make_map(alloc, &inputs, new_files, files, steps);
             write_outcome(alloc, command, outcome, sinks)
         }
         Command::Improve {

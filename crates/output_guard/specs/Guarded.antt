@@ -1,8 +1,9 @@
 -- What a command writes and reads by path, and which two of these files are one.
-use Rattle.std.specs.Prelude.{ℕ, Bool, true, false, List, [], ◌∷◌, ◌++◌, Option, None, is_some, option_map, if◌then◌else◌}
+use Rattle.std.specs.Prelude.{ℕ, Bool, true, false, List, [], ◌∷◌, ◌++◌, Option, None, Some, is_some, option_map, if◌then◌else◌}
 use Rattle.std.specs.List.{find}
 use Rattle.std.specs.Option.{option_or}
 use Rattle.table_rows.specs.declared.why.Table.TheVariants.{Routes, Stops, Trips, Shapes, StopTimes}
+use Rattle.command_paths.specs.Paths.{NewPaths, new_paths_by}
 use Rattle.command_words.specs.Asked.{Asked, stations, graph, make, improve, check, depict, session, trial, page}
 use Rattle.run_status.specs.declared.input.Input.{Input}
 use Rattle.run_status.specs.declared.input.Input.TheVariants as input
@@ -11,17 +12,26 @@ use Rattle.output_guard.specs.declared.clash.Clash.{Clash}
 use Rattle.output_guard.specs.declared.outputs.Outputs.{Outputs}
 use Rattle.output_guard.specs.declared.outputs.Outputs.TheVariants as output
 
+-- the file of a page, if one is named
+abbrev pub page_file : Option (List ℕ) → List (List ℕ)
+page_file None = []
+page_file (Some path) = path ∷ []
+
+-- the files of a map, of its certificate and of its page
+abbrev pub files_of : NewPaths → List (List ℕ)
+files_of paths = paths.map.picture ∷ paths.map.certificate ∷ page_file paths.page
+
 -- the files that the program's value stands for
 abbrev pub outputs_by : Outputs → List (List ℕ)
 outputs_by output.Nothing = []
 outputs_by (output.File path) = path.now ∷ []
-outputs_by (output.Pair picture certificate) = picture.now ∷ certificate.now ∷ []
+outputs_by (output.Map files) = files_of (new_paths_by files)
 
 -- what each command writes, in the order in which it writes
 abbrev pub outputs_of : Asked → List (List ℕ)
 outputs_of (stations feed) = []
 outputs_of (graph feed chosen) = []
-outputs_of (make feed paths chosen) = paths.picture ∷ paths.certificate ∷ []
+outputs_of (make feed paths chosen) = files_of paths
 outputs_of (improve feed paths moves chosen) = paths.picture ∷ paths.certificate ∷ []
 outputs_of (check feed paths chosen) = []
 outputs_of (depict kind feed certificate out chosen) = out ∷ []

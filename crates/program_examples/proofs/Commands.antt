@@ -15,7 +15,8 @@ use Rattle.run_status.specs.declared.item.Item.TheVariants as item
 use Rattle.run_status.specs.declared.refusal.Refusal.TheVariants as refused
 use Rattle.run_status.specs.declared.status.Status.TheVariants as status
 use Rattle.command_words.specs.Asked.{graph, make, check, page}
-use Rattle.command_paths.specs.Paths.{Chosen, MapPaths}
+use Rattle.map_page.specs.Pages.{page_bytes}
+use Rattle.command_paths.specs.Paths.{Chosen, MapPaths, NewPaths}
 use Rattle.page_command.specs.PageWorks.{page_work}
 use Rattle.map_run.specs.Inputs.{input_path}
 use Rattle.map_run.specs.Answers.{alone, answer_by, whole_by}
@@ -26,10 +27,10 @@ use Rattle.run_status.specs.Items.{item_text}
 use Rattle.run_status.specs.Lines.{status_line, status_number}
 
 abbrev standard : Chosen
-standard = record { defaults = Make; settings = None; edits = None }
+standard = record { defaults = Make; settings = None; edits = None; sets = [] }
 
 abbrev by_mine : Chosen
-by_mine = record { defaults = Make; settings = Some (codes "my.toml"); edits = None }
+by_mine = record { defaults = Make; settings = Some (codes "my.toml"); edits = None; sets = [] }
 
 -- where a table lies
 table_path : input_path (graph (codes "feed") standard) (input.Table StopTimes) ≡ codes "feed/stop_times.txt"
@@ -58,6 +59,10 @@ routes_unread = refl
 places : MapPaths
 places = record { picture = codes "map.svg"; certificate = codes "map.cert" }
 
+-- the same of a map that is made, without a page
+new_places : NewPaths
+new_places = record { map = places; page = None }
+
 -- what is checked lies at the two paths, and what is made is no input
 certificate_path : input_path (check (codes "feed") places standard) input.Certificate ≡ codes "map.cert"
 unfolding places
@@ -68,13 +73,19 @@ unfolding places
 picture_path = refl
 
 -- the map goes before its certificate, each to its file
-both_files : made_at places (Ok (record { svg = codes "s"; certificate = codes "c" })) ≡ Ok (record { to = Path (codes "map.svg"); bytes = codes "s" } ∷ record { to = Path (codes "map.cert"); bytes = codes "c" } ∷ [])
-unfolding places
+both_files : made_at new_places (Ok (record { svg = codes "s"; certificate = codes "c" })) ≡ Ok (record { to = Path (codes "map.svg"); bytes = codes "s" } ∷ record { to = Path (codes "map.cert"); bytes = codes "c" } ∷ [])
+unfolding places new_places
 both_files = refl
 
--- a part over the budget is named, with its branch nodes
-spent_line : answer_by (input_path (make (codes "feed") places standard)) (whole_by (made_at places (Err (fault.Spent 0 2)))) ≡ alone (status.Spent 0 2)
+-- and then its page, where one is named
+page_too : made_at (record { map = places; page = Some (codes "map.html") }) (Ok (record { svg = codes "s"; certificate = codes "c" }))
+    ≡ Ok (record { to = Path (codes "map.svg"); bytes = codes "s" } ∷ record { to = Path (codes "map.cert"); bytes = codes "c" } ∷ record { to = Path (codes "map.html"); bytes = page_bytes (codes "s") } ∷ [])
 unfolding places
+page_too = refl
+
+-- a part over the budget is named, with its branch nodes
+spent_line : answer_by (input_path (make (codes "feed") new_places standard)) (whole_by (made_at new_places (Err (fault.Spent 0 2)))) ≡ alone (status.Spent 0 2)
+unfolding places new_places
 spent_line = refl
 
 spent_text : status_line (status.Spent 0 2) ≡ Some (codes "spent: 0 2\n")

@@ -2,32 +2,35 @@
 use Rattle.std.proofs.Common.{◌≡◌, [], ◌∷◌, None, Some, codes, refl}
 use Rattle.clap.proofs.OnLiterals.{clap_on_literals}
 use Rattle.map_method.specs.declared.defaults.Defaults.TheVariants.{Make, Map}
-use Rattle.command_paths.specs.Paths.{MapPaths, Chosen}
+use Rattle.command_paths.specs.Paths.{MapPaths, NewPaths, Chosen}
 use Rattle.command_words.specs.Asked.{stations, graph, make, improve, check, depict, session, trial, page}
 use Rattle.command_paths.specs.declared.picture.Picture.TheVariants.{Labelled, Geographic}
 use Rattle.command_words.specs.Program.{octimap_app}
 use Rattle.command_words.specs.Words.{asked, faults, met}
 
 abbrev no_settings : Chosen
-no_settings = record { defaults = Make; settings = None; edits = None }
+no_settings = record { defaults = Make; settings = None; edits = None; sets = [] }
 
 abbrev by_mine : Chosen
-by_mine = record { defaults = Make; settings = Some (codes "my.toml"); edits = None }
+by_mine = record { defaults = Make; settings = Some (codes "my.toml"); edits = None; sets = [] }
 
 abbrev map_and_certificate : MapPaths
 map_and_certificate = record { picture = codes "m.svg"; certificate = codes "m.cert" }
 
+abbrev without_page : NewPaths
+without_page = record { map = map_and_certificate; page = None }
+
 -- a map is made
-make_is_asked : asked (codes "make" ∷ codes "feed" ∷ codes "m.svg" ∷ codes "m.cert" ∷ []) ≡ Some (make (codes "feed") map_and_certificate no_settings)
+make_is_asked : asked (codes "make" ∷ codes "feed" ∷ codes "m.svg" ∷ codes "m.cert" ∷ []) ≡ Some (make (codes "feed") without_page no_settings)
 unfolding clap_on_literals asked faults met octimap_app
 make_is_asked = refl
 
 -- settings stand before the operands, between them or after them
-settings_come_first : asked (codes "make" ∷ codes "--settings" ∷ codes "my.toml" ∷ codes "feed" ∷ codes "m.svg" ∷ codes "m.cert" ∷ []) ≡ Some (make (codes "feed") map_and_certificate by_mine)
+settings_come_first : asked (codes "make" ∷ codes "--settings" ∷ codes "my.toml" ∷ codes "feed" ∷ codes "m.svg" ∷ codes "m.cert" ∷ []) ≡ Some (make (codes "feed") without_page by_mine)
 unfolding clap_on_literals asked faults met octimap_app
 settings_come_first = refl
 
-settings_come_between : asked (codes "make" ∷ codes "feed" ∷ codes "--settings" ∷ codes "my.toml" ∷ codes "m.svg" ∷ codes "m.cert" ∷ []) ≡ Some (make (codes "feed") map_and_certificate by_mine)
+settings_come_between : asked (codes "make" ∷ codes "feed" ∷ codes "--settings" ∷ codes "my.toml" ∷ codes "m.svg" ∷ codes "m.cert" ∷ []) ≡ Some (make (codes "feed") without_page by_mine)
 unfolding clap_on_literals asked faults met octimap_app
 settings_come_between = refl
 
@@ -42,7 +45,7 @@ settings_come_once = refl
 
 -- edits beside them, in either order
 edits_are_named : asked (codes "graph" ∷ codes "--edits" ∷ codes "my.edits" ∷ codes "feed" ∷ codes "--settings" ∷ codes "my.toml" ∷ [])
-    ≡ Some (graph (codes "feed") (record { defaults = Make; settings = Some (codes "my.toml"); edits = Some (codes "my.edits") }))
+    ≡ Some (graph (codes "feed") (record { defaults = Make; settings = Some (codes "my.toml"); edits = Some (codes "my.edits"); sets = [] }))
 unfolding clap_on_literals asked faults met octimap_app
 edits_are_named = refl
 
@@ -61,7 +64,7 @@ unfolding clap_on_literals asked faults met octimap_app
 a_folder_may_look_like_an_option = refl
 
 -- `map` is `make` over other settings
-a_map_is_asked : asked (codes "map" ∷ codes "feed" ∷ codes "m.svg" ∷ codes "m.cert" ∷ []) ≡ Some (make (codes "feed") map_and_certificate (record no_settings { defaults = Map }))
+a_map_is_asked : asked (codes "map" ∷ codes "feed" ∷ codes "m.svg" ∷ codes "m.cert" ∷ []) ≡ Some (make (codes "feed") without_page (record no_settings { defaults = Map }))
 unfolding clap_on_literals asked faults met octimap_app
 a_map_is_asked = refl
 
@@ -143,6 +146,35 @@ a_page_is_asked = refl
 a_page_at_its_map : asked (codes "page" ∷ codes "m.svg" ∷ codes "m.svg" ∷ []) ≡ None
 unfolding clap_on_literals asked faults met octimap_app
 a_page_at_its_map = refl
+
+-- what is set takes the place of the file's keys, one after another
+sets_are_taken : asked (codes "graph" ∷ codes "--set" ∷ codes "near=400" ∷ codes "feed" ∷ codes "--set=cell=0" ∷ [])
+    ≡ Some (graph (codes "feed") (record no_settings { sets = codes "near=400" ∷ codes "cell=0" ∷ [] }))
+unfolding clap_on_literals asked faults met octimap_app
+sets_are_taken = refl
+
+nothing_is_set : asked (codes "graph" ∷ codes "feed" ∷ codes "--set" ∷ []) ≡ None
+unfolding clap_on_literals asked faults met octimap_app
+nothing_is_set = refl
+
+-- a page beside the map has a path of its own
+a_page_beside_a_map : asked (codes "make" ∷ codes "--page" ∷ codes "m.html" ∷ codes "feed" ∷ codes "m.svg" ∷ codes "m.cert" ∷ [])
+    ≡ Some (make (codes "feed") (record { map = map_and_certificate; page = Some (codes "m.html") }) no_settings)
+unfolding clap_on_literals asked faults met octimap_app
+a_page_beside_a_map = refl
+
+a_page_over_its_certificate : asked (codes "make" ∷ codes "feed" ∷ codes "m.svg" ∷ codes "m.cert" ∷ codes "--page=m.cert" ∷ []) ≡ None
+unfolding clap_on_literals asked faults met octimap_app
+a_page_over_its_certificate = refl
+
+-- `--quiet` asks for nothing more, and stands anywhere before `--`
+quiet_is_taken : asked (codes "stations" ∷ codes "--quiet" ∷ codes "feed" ∷ []) ≡ Some (stations (codes "feed"))
+unfolding clap_on_literals asked faults met octimap_app
+quiet_is_taken = refl
+
+quiet_may_be_a_folder : asked (codes "stations" ∷ codes "--" ∷ codes "-q" ∷ []) ≡ Some (stations (codes "-q"))
+unfolding clap_on_literals asked faults met octimap_app
+quiet_may_be_a_folder = refl
 
 -- help is no command
 help_is_asked : asked (codes "help" ∷ codes "make" ∷ []) ≡ None

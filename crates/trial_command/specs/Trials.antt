@@ -25,7 +25,7 @@ use Rattle.trial_feed.specs.Summary.{trial_line}
 
 -- the inputs of a trial: its folder, no file of settings and none of edits
 abbrev pub trial_inputs : InputPaths
-trial_inputs = record { feed = codes "trial"; chosen = record { defaults = Make; settings = None; edits = None }; files = record { picture = []; certificate = [] }; script = [] }
+trial_inputs = record { feed = codes "trial"; chosen = record { defaults = Make; settings = None; edits = None; sets = [] }; files = record { picture = []; certificate = [] }; script = [] }
 
 -- the settings and the tables of the folder of a trial: what each command loads, where these are the files
 unfoldable pub trial_loaded : ℕ → Result Loaded Refusal

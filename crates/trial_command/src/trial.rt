@@ -44,6 +44,7 @@ fn trial_inputs() -> Inputs<'static>
             defaults: Defaults::Make,
             settings: None,
             edits: None,
+            words: &[],
         },
         files: MapFiles {
             picture: "",

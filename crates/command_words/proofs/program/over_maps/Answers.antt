@@ -1,13 +1,13 @@
 use Rattle.std.proofs.lemmas.Result.{IfOk-weaker}
 use Rattle.std.proofs.Common.{codes}
-use Rattle.command_words.specs.Program.{octimap_alone, improve_app, map_app, picture_app, session_app}
+use Rattle.command_words.specs.Program.{octimap_alone, improve_app, map_app, new_map_app, picture_app, session_app}
 use Rattle.command_words.proofs.Building.{added}
 use Rattle.command_words.proofs.program.over_maps.Goals as goal
 
 pub returns : goal.returns
 returns c =
-    let one = added _ _ _ octimap_alone (map_app (codes "map")) c.in_ok-subcommand.ensures c.in_ok-map.ensures.local c.in_ok-alone.ensures c.in_ok-map.ensures.app in
-    let two = added _ _ _ _ (map_app (codes "make")) c.in_ok-subcommand-2.ensures c.in_ok-make.ensures.local one c.in_ok-make.ensures.app in
+    let one = added _ _ _ octimap_alone (new_map_app (codes "map")) c.in_ok-subcommand.ensures c.in_ok-map.ensures.local c.in_ok-alone.ensures c.in_ok-map.ensures.app in
+    let two = added _ _ _ _ (new_map_app (codes "make")) c.in_ok-subcommand-2.ensures c.in_ok-make.ensures.local one c.in_ok-make.ensures.app in
     let three = added _ _ _ _ improve_app c.in_ok-subcommand-3.ensures c.in_ok-improve.ensures.local two c.in_ok-improve.ensures.app in
     let four = added _ _ _ _ (map_app (codes "check")) c.in_ok-subcommand-4.ensures c.in_ok-check.ensures.local three c.in_ok-check.ensures.app in
     let five = added _ _ _ _ (picture_app (codes "labels")) c.in_ok-subcommand-5.ensures c.in_ok-labels.ensures.local four c.in_ok-labels.ensures.app in
