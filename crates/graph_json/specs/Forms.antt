@@ -1,11 +1,13 @@
 -- What the entries of a graph file are read as. Members that no form names are passed over.
-use Rattle.std.specs.Prelude.{ℕ, ◌+◌, ◌-◌, ◌*◌, ◌^◌, ◌==◌, ◌&&◌, Bool, true, false, ℤ, pos, negsuc, List, [], ◌∷◌, length, map, codes, nat_lt, nat_le, int_le, if◌then◌else◌, Option, Some, None, option_map, option_and_then}
+use Rattle.std.specs.Prelude.{ℕ, ◌^◌, ◌&&◌, Bool, true, false, ℤ, pos, negsuc, List, [], ◌∷◌, codes, nat_lt, nat_le, int_le, if◌then◌else◌, Option, Some, None, option_map, option_and_then}
 use Rattle.std.specs.Str.{bytes_eq}
+use Rattle.std.specs.Result.{result_ok}
 use Rattle.map_base.specs.declared.ids.LineId.{LineId}
 use Rattle.map_base.specs.declared.ids.NodeId.{NodeId}
 use Rattle.map_base.specs.declared.ids.SegId.{SegId}
 use Rattle.map_base.specs.declared.point.Point.{Point}
 use Rattle.graph_core.specs.declared.parts.Join.{Join}
+use Rattle.hex.specs.Hex.{decode_sized}
 use Rattle.serde_json.specs.Data.{Data, Items, no_items, item}
 use Rattle.serde_json.specs.Find.{get, as_str, as_array, as_number, as_u64, as_i64}
 use Rattle.graph_json.specs.declared.forms.LineForm.{LineForm}
@@ -64,33 +66,21 @@ near_enough z = where_true (int_le (negsuc 299999999) z && int_le z (pos 3000000
 abbrev pub coordinate_of : Data → Option ℤ
 coordinate_of value = option_and_then near_enough (option_and_then as_i64 (as_number value))
 
--- exactly two, and exactly three
-abbrev pub two : {A : Type 0} → List A → Option (A × A)
-two (a ∷ b ∷ []) = Some (a, b)
-two _ = None
+-- what two values make, where there are exactly two and something comes of each
+abbrev pub of_two : {A B : Type 0} → (Data → Option A) → (A → A → B) → List Data → Option B
+of_two f make (a ∷ b ∷ []) = option_and_then (λ x. option_map (make x) (f b)) (f a)
+of_two f make _ = None
 
-abbrev pub three : {A : Type 0} → List A → Option (A × A × A)
-three (a ∷ b ∷ c ∷ []) = Some (a, b, c)
-three _ = None
+-- what three values make
+abbrev pub of_three : {A B : Type 0} → (Data → Option A) → (A → A → A → B) → List Data → Option B
+of_three f make (a ∷ b ∷ c ∷ []) = option_and_then (λ x. option_and_then (λ y. option_map (make x y) (f c)) (f b)) (f a)
+of_three f make _ = None
 
 -- ---- lines
 
--- a hexadecimal digit of either case
-abbrev pub hex_value : ℕ → Option ℕ
-hex_value c =
-    if nat_le 48 c && nat_le c 57 then Some (c - 48)
-    else if nat_le 97 c && nat_le c 102 then Some (c - 87)
-    else if nat_le 65 c && nat_le c 70 then Some (c - 55)
-    else None
-
--- the bytes that pairs of digits spell
-abbrev pub bytes_spelled : List ℕ → List ℕ
-bytes_spelled (a ∷ b ∷ rest) = (16 * a + b) ∷ bytes_spelled rest
-bytes_spelled _ = []
-
--- a colour: six hexadecimal digits
+-- a colour: three bytes, each as two hexadecimal digits of either case
 abbrev pub colour_of_text : List ℕ → Option (List ℕ)
-colour_of_text text = where_true (length text == 6) (option_map bytes_spelled (of_each hex_value text))
+colour_of_text text = result_ok (decode_sized text 3)
 
 abbrev pub importance : ℕ → Option ℕ
 importance n = where_true (nat_le 1 n && nat_le n 16) (Some n)
@@ -105,9 +95,9 @@ line_with name colour importance = record { name = name; colour = colour; import
 abbrev pub line_of : Data → Option LineForm
 line_of value =
     option_and_then (λ name. option_and_then (λ colour. option_map (line_with name colour)
-      (option_and_then importance_of (get (codes "importance") value)))
-      (option_and_then colour_of_text (text_at (codes "colour") value)))
-      (text_at (codes "name") value)
+    (option_and_then importance_of (get (codes "importance") value)))
+    (option_and_then colour_of_text (text_at (codes "colour") value)))
+    (text_at (codes "name") value)
 
 -- ---- features
 
@@ -117,24 +107,24 @@ seg_of value = option_map (λ n. record { 0 = n }) (small_of value)
 abbrev pub line_id_of : Data → Option LineId
 line_id_of value = option_map (λ n. record { 0 = n }) (small_of value)
 
-abbrev pub join_with : ℕ × ℕ × ℕ → Join
-join_with n = record { e = record { 0 = n.0 }; f = record { 0 = n.1 }; line = record { 0 = n.2 } }
+abbrev pub join_with : ℕ → ℕ → ℕ → Join
+join_with e f line = record { e = record { 0 = e }; f = record { 0 = f }; line = record { 0 = line } }
 
 -- a connection: the numbers of two segments and of a line
 abbrev pub join_of : Data → Option Join
-join_of value = option_map join_with (option_and_then three (array_of_each small_of value))
+join_of value = option_and_then (of_three small_of join_with) (array_of value)
 
 -- a name that may be missing: nothing where it is no text
 abbrev pub name_or_none : Option Data → Option (Option (List ℕ))
 name_or_none None = Some None
 name_or_none (Some value) = option_map Some (as_str value)
 
-abbrev pub point_with : ℤ × ℤ → Point
-point_with p = record { x = p.0; y = p.1 }
+abbrev pub point_with : ℤ → ℤ → Point
+point_with x y = record { x = x; y = y }
 
 -- two coordinates
 abbrev pub place_of : Data → Option Point
-place_of value = option_map point_with (option_and_then two (array_of_each coordinate_of value))
+place_of value = option_and_then (of_two coordinate_of point_with) (array_of value)
 
 abbrev pub node_with : Point → Option (List ℕ) → List SegId → List Join → NodeForm
 node_with place name round joins = record { place = place; name = name; round = round; joins = joins }
@@ -143,14 +133,17 @@ node_with place name round joins = record { place = place; name = name; round = 
 abbrev pub node_of : Data → Data → Option NodeForm
 node_of geometry properties =
     option_and_then (λ place. option_and_then (λ name. option_and_then (λ round. option_map (node_with place name round)
-      (option_and_then (array_of_each join_of) (get (codes "joins") properties)))
-      (option_and_then (array_of_each seg_of) (get (codes "round") properties)))
-      (name_or_none (get (codes "name") properties)))
-      (option_and_then place_of (get (codes "coordinates") geometry))
+    (option_and_then (array_of_each join_of) (get (codes "joins") properties)))
+    (option_and_then (array_of_each seg_of) (get (codes "round") properties)))
+    (name_or_none (get (codes "name") properties)))
+    (option_and_then place_of (get (codes "coordinates") geometry))
+
+abbrev pub ends_with : ℕ → ℕ → NodeId × NodeId
+ends_with lower upper = (record { 0 = lower }, record { 0 = upper })
 
 -- the numbers of two nodes
 abbrev pub ends_of : Data → Option (NodeId × NodeId)
-ends_of value = option_map (λ (n : ℕ × ℕ). (record { 0 = n.0 }, record { 0 = n.1 })) (option_and_then two (array_of_each small_of value))
+ends_of value = option_and_then (of_two small_of ends_with) (array_of value)
 
 abbrev pub segment_with : NodeId × NodeId → List LineId → SegmentForm
 segment_with ends lines = record { ends = ends; lines = lines }
@@ -159,9 +152,9 @@ segment_with ends lines = record { ends = ends; lines = lines }
 abbrev pub segment_of : Data → Data → Option SegmentForm
 segment_of geometry properties =
     option_and_then (λ _. option_and_then (λ ends. option_map (segment_with ends)
-      (option_and_then (array_of_each line_id_of) (get (codes "lines") properties)))
-      (option_and_then ends_of (get (codes "ends") properties)))
-      (option_and_then as_array (get (codes "coordinates") geometry))
+    (option_and_then (array_of_each line_id_of) (get (codes "lines") properties)))
+    (option_and_then ends_of (get (codes "ends") properties)))
+    (option_and_then as_array (get (codes "coordinates") geometry))
 
 -- a node or a segment, by the type of its geometry
 abbrev pub shaped : Data → Data → Option Feature
@@ -173,7 +166,7 @@ shaped geometry properties =
 abbrev pub feature_of : Data → Option Feature
 feature_of value =
     where_true (is_text (codes "Feature") (text_at (codes "type") value))
-      (option_and_then (λ geometry. option_and_then (shaped geometry) (get (codes "properties") value)) (get (codes "geometry") value))
+    (option_and_then (λ geometry. option_and_then (shaped geometry) (get (codes "properties") value)) (get (codes "geometry") value))
 
 -- ---- the whole
 
@@ -181,5 +174,5 @@ feature_of value =
 abbrev pub arrays_of : Data → Option (List Data × List Data)
 arrays_of value =
     where_true (is_text (codes "FeatureCollection") (text_at (codes "type") value))
-      (option_and_then (λ lines. option_map (λ features. (lines, features)) (option_and_then array_of (get (codes "features") value)))
-        (option_and_then array_of (get (codes "lines") value)))
+    (option_and_then (λ lines. option_map (λ features. (lines, features)) (option_and_then array_of (get (codes "features") value)))
+    (option_and_then array_of (get (codes "lines") value)))

@@ -3,4 +3,5 @@ pub mod Written
 pub mod Forms
 pub mod Limits
 pub mod References
+pub mod Columns
 pub mod Outcome

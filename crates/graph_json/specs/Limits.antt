@@ -1,29 +1,29 @@
 -- How many of each thing the features of a graph file have, and the first limit that is met.
-use Rattle.std.specs.Prelude.{ℕ, suc, nat_lt, ◌==◌, List, [], ◌∷◌, ◌++◌, Bool, length, fold, any, if◌then◌else◌, Option, Some, None}
+use Rattle.std.specs.Prelude.{ℕ, nat_lt, ◌==◌, List, [], ◌∷◌, ◌++◌, Bool, length, fold, filter_map, if◌then◌else◌, Option, Some, None}
+use Rattle.std.specs.List.{list_any}
 use Rattle.map_base.specs.declared.ids.LineId.{LineId}
 use Rattle.map_base.specs.declared.limit.Limit.{Limit}
 use Rattle.map_base.specs.declared.limit.LimitKind.{LimitKind}
 use Rattle.map_base.specs.declared.limit.LimitKind.TheVariants as kind
 use Rattle.map_base.specs.Limits.{limit_of, limit_most}
-use Rattle.graph_core.specs.declared.parts.GraphParts.{GraphParts}
-use Rattle.graph_core.specs.declared.parts.NodeKind.{NodeKind}
-use Rattle.graph_core.specs.declared.parts.NodeKind.TheVariants.{Station, Junction}
 
 abbrev pub is_line : LineId → LineId → Bool
 is_line a b = a.0 == b.0
 
 -- these lines, and this one behind them where it is not among them
 abbrev pub with_line : List LineId → LineId → List LineId
-with_line known l = if any (is_line l) known then known else known ++ l ∷ []
+with_line known l = if list_any (is_line l) known then known else known ++ l ∷ []
+
+abbrev pub with_lines : List LineId → List LineId → List LineId
+with_lines known lines = fold with_line known lines
 
 -- the lines on segments, each once
 abbrev pub lines_on : List (List LineId) → List LineId
-lines_on lines = fold (λ known ls. fold with_line known ls) [] lines
+lines_on segments = fold with_lines [] segments
 
-abbrev pub stations_in : List NodeKind → ℕ
-stations_in [] = 0
-stations_in (Station s ∷ rest) = suc (stations_in rest)
-stations_in (Junction ∷ rest) = stations_in rest
+-- the names among names that may be missing
+abbrev pub names_in : List (Option (List ℕ)) → List (List ℕ)
+names_in names = filter_map (λ name. name) names
 
 -- the limit that a count is above
 abbrev pub above : LimitKind → ℕ → Option Limit
@@ -33,8 +33,9 @@ abbrev pub first_of : Option Limit → Option Limit → Option Limit
 first_of (Some limit) rest = Some limit
 first_of None rest = rest
 
--- lines on segments come first, then stations, nodes and segments
-abbrev pub limit_met : GraphParts → Option Limit
-limit_met g =
-    first_of (above kind.Lines (length (lines_on g.lines))) (first_of (above kind.Stations (stations_in g.kinds))
-      (first_of (above kind.Nodes (length g.kinds)) (above kind.Segments (length g.ends))))
+-- Of segments with these lines and nodes with these names, of which the stations alone have one: lines come first, then
+-- stations, nodes and segments.
+abbrev pub limit_met : List (List LineId) → List (Option (List ℕ)) → Option Limit
+limit_met lines names =
+    first_of (above kind.Lines (length (lines_on lines))) (first_of (above kind.Stations (length (names_in names)))
+    (first_of (above kind.Nodes (length names)) (above kind.Segments (length lines))))

@@ -1,21 +1,25 @@
 -- What a graph file is read as, from its bytes.
-use Rattle.std.specs.Prelude.{◌≡◌, ℕ, ◌+◌, List, [], ◌∷◌, length, map, Option, Some, None, option_and_then, Result, Ok, Err, if◌then◌else◌}
+use Rattle.std.specs.Prelude.{◌≡◌, ◌≢◌, ◌<◌, ◌≤◌, ◌⊎◌, ℕ, ◌+◌, List, [], ◌∷◌, All, length, map, Option, Some, None, option_and_then, Result, Ok, Err, if◌then◌else◌}
 use Rattle.std.specs.Str.{is_utf8}
+use Rattle.map_base.specs.declared.ids.LineId.{LineId}
 use Rattle.map_base.specs.declared.limit.Limit.{Limit}
 use Rattle.graph_core.specs.declared.parts.GraphParts.{GraphParts}
-use Rattle.svg_writer.specs.declared.names.Names.{Names}
+use Rattle.graph_core.specs.declared.parts.NodeKind.{NodeKind}
+use Rattle.graph_core.specs.declared.parts.NodeKind.TheVariants.{Station, Junction}
+use Rattle.graph_core.specs.Consistent.{IsNear}
 use Rattle.serde_json.specs.Data.{Data}
+use Rattle.serde_json.specs.View.{view}
+use Rattle.serde_json.specs.declared.value.Value.{Value}
 use Rattle.serde_json.specs.Read.{read}
 use Rattle.graph_json.specs.declared.fault.JsonFault.{JsonFault}
 use Rattle.graph_json.specs.declared.fault.JsonFault.TheVariants as fault
-use Rattle.graph_json.specs.declared.fault.FormFault.{FormFault}
-use Rattle.graph_json.specs.declared.fault.FormFault.TheVariants as form
 use Rattle.graph_json.specs.declared.forms.LineForm.{LineForm}
 use Rattle.graph_json.specs.declared.forms.Feature.{Feature}
+use Rattle.graph_json.specs.declared.forms.Feature.TheVariants.{Node, Segment}
 use Rattle.graph_json.specs.declared.imported.Imported.{Imported}
 use Rattle.graph_json.specs.Forms.{line_of, feature_of, arrays_of}
-use Rattle.graph_json.specs.Limits.{limit_met}
-use Rattle.graph_json.specs.References.{nodes_in, segments_in, names_in, names_of_nodes, graph_of, is_node, broken_from}
+use Rattle.graph_json.specs.Limits.{limit_met, names_in}
+use Rattle.graph_json.specs.References.{nodes_in, segments_in, names_of_nodes, graph_of, is_node, broken_from}
 
 -- one in front of what comes of the rest, or the number of the first of which nothing comes
 abbrev pub in_order : {B : Type 0} → Option B → ℕ → Result (List B) ℕ → Result (List B) ℕ
@@ -28,32 +32,38 @@ abbrev pub each_or_first : {A B : Type 0} → (A → Option B) → ℕ → List 
 each_or_first f i [] = Ok []
 each_or_first f i (x ∷ xs) = in_order (f x) i (each_or_first f (i + 1) xs)
 
--- the names of the stations in the order of nodes, and of the lines with their colours
-abbrev pub names_made : List LineForm → List Feature → Names
-names_made lines features = record {
-    stations = names_in (names_of_nodes (nodes_in features));
-    lines = map (λ (l : LineForm). (l.name, l.colour)) lines }
-
 abbrev pub graph_made : List Feature → GraphParts
 graph_made features = graph_of (nodes_in features) (segments_in features)
 
+-- a graph with the names of its stations in the order of nodes, and with the names, colours and importances of lines
+abbrev pub imported_with : List LineForm → GraphParts → List (List ℕ) → Imported
+imported_with lines graph stations = record {
+  graph = graph;
+  names = record { stations = stations; lines = map (λ (l : LineForm). (l.name, l.colour)) lines };
+  importance = map (λ (l : LineForm). l.importance) lines;
+}
+
 abbrev pub imported_of : List LineForm → List Feature → Imported
-imported_of lines features = record {
-    graph = graph_made features;
-    names = names_made lines features;
-    importance = map (λ (l : LineForm). l.importance) lines }
+imported_of lines features = imported_with lines (graph_made features) (names_in (names_of_nodes (nodes_in features)))
 
 abbrev pub unless_broken : List LineForm → List Feature → Option ℕ → Result Imported JsonFault
 unless_broken lines features None = Ok (imported_of lines features)
 unless_broken lines features (Some i) = Err (fault.Feature i)
 
+-- the first feature whose references don't hold, where so many lines are listed
+abbrev pub broken_in : List Feature → ℕ → Option ℕ
+broken_in features listed = broken_from (graph_made features) listed 0 0 0 (map is_node features)
+
 abbrev pub within_limits : List LineForm → List Feature → Option Limit → Result Imported JsonFault
 within_limits lines features (Some limit) = Err (fault.Limit limit)
-within_limits lines features None = unless_broken lines features (broken_from (graph_made features) (length lines) 0 0 0 (map is_node features))
+within_limits lines features None = unless_broken lines features (broken_in features (length lines))
+
+abbrev pub limit_of_features : List Feature → Option Limit
+limit_of_features features = limit_met (graph_made features).lines (names_of_nodes (nodes_in features))
 
 abbrev pub with_features : List LineForm → Result (List Feature) ℕ → Result Imported JsonFault
 with_features lines (Err i) = Err (fault.Feature i)
-with_features lines (Ok features) = within_limits lines features (limit_met (graph_made features))
+with_features lines (Ok features) = within_limits lines features (limit_of_features features)
 
 abbrev pub with_lines : List Data → Result (List LineForm) ℕ → Result Imported JsonFault
 with_lines features (Err i) = Err (fault.Line i)
@@ -81,17 +91,29 @@ graph_outcome bytes = of_value (value_of bytes)
 -- the reading is the one that comes by definition
 abbrev pub Reads : Result Imported JsonFault → Result Imported JsonFault → Type 0
 Reads (Ok imported) outcome = outcome ≡ Ok imported
-Reads (Err fault.NoMemory) outcome = Unit {0}
-Reads (Err refused) outcome = outcome ≡ Err refused
+Reads (Err refused) outcome = refused ≢ fault.NoMemory → outcome ≡ Err refused
 
--- each entry gives one, or the first that gives none is named
-abbrev pub GivesEach : {A : Type 0} → (ℕ → JsonFault) → Result (List A) JsonFault → Result (List A) ℕ → Type 0
-GivesEach named (Ok xs) outcome = outcome ≡ Ok xs
-GivesEach named (Err fault.NoMemory) outcome = Unit {0}
-GivesEach named (Err refused) outcome = (i : ℕ) × (outcome ≡ Err i) × (refused ≡ named i)
+-- a value comes where there is one by definition
+abbrev pub ReadsValue : Result Value JsonFault → Option Data → Type 0
+ReadsValue (Ok value) outcome = outcome ≡ Some (view value)
+ReadsValue (Err refused) outcome = (refused ≡ fault.NoMemory) ⊎ (refused ≡ fault.Json) × (outcome ≡ None)
 
--- the value gives this, or by definition nothing
-abbrev pub Gives : {A : Type 0} → Result A FormFault → Option A → Type 0
-Gives (Ok x) outcome = outcome ≡ Some x
-Gives (Err form.Bad) outcome = outcome ≡ None
-Gives (Err form.NoMemory) outcome = Unit {0}
+-- a station's number is below the number of names
+abbrev pub IsNamed : ℕ → NodeKind → Type 0
+IsNamed names (Station s) = s.0 < names
+IsNamed names Junction = Unit {0}
+
+abbrev pub IsImportant : LineForm → Type 0
+IsImportant l = (1 ≤ l.importance) × (l.importance ≤ 16)
+
+abbrev pub LiesNear : Feature → Type 0
+LiesNear (Node n) = IsNear n.place
+LiesNear (Segment s) = Unit {0}
+
+-- What else is known of a graph that was read: there is a name for each of its stations and lines, and an importance from 1
+-- to 16 for each line of the file.
+pub record IsComplete (read : Imported) : Type 0 where
+  pub stations : All (IsNamed (length read.names.stations)) read.graph.kinds
+  pub lines : All (All (λ (l : LineId). l.0 < length read.names.lines)) read.graph.lines
+  pub importance_each : length read.importance ≡ length read.names.lines
+  pub importance : All (λ n. (1 ≤ n) × (n ≤ 16)) read.importance

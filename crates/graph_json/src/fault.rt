@@ -2,7 +2,6 @@
 
 ghost use Rattle.std.specs.Prelude.{◌≡◌};
 ghost use Rattle.graph_json.specs.declared.fault.JsonFault.TheVariants.{NoMemory as OutOfMemory};
-ghost use Rattle.graph_json.specs.declared.fault.FormFault.TheVariants.{NoMemory as NoRoom};
 
 use map_base::{Limit, NoMemory};
 use std::alloc::{AllocError, AllocFailed};
@@ -51,38 +50,5 @@ impl<T: Drop> From<AllocFailed<T>> for JsonFault {
 
     fn from(_refused: AllocFailed<T>) -> JsonFault {
         JsonFault::NoMemory
-    }
-}
-
-/// Why a value has not the form that is due.
-#[derive(Clone, Copy, Debug, PartialEq, Eq)]
-pub(crate) enum FormFault {
-    /// A member is missing, of another type or out of range.
-    Bad,
-    /// The allocator had no room.
-    NoMemory,
-}
-
-impl From<NoMemory> for FormFault {
-    ghost from_gives = { λ _ fault. fault ≡ NoRoom };
-
-    fn from(_refused: NoMemory) -> FormFault {
-        FormFault::NoMemory
-    }
-}
-
-impl From<AllocError> for FormFault {
-    ghost from_gives = { λ _ fault. fault ≡ NoRoom };
-
-    fn from(_refused: AllocError) -> FormFault {
-        FormFault::NoMemory
-    }
-}
-
-impl<T: Drop> From<AllocFailed<T>> for FormFault {
-    ghost from_gives = { λ _ fault. fault ≡ NoRoom };
-
-    fn from(_refused: AllocFailed<T>) -> FormFault {
-        FormFault::NoMemory
     }
 }

@@ -4,18 +4,20 @@
 //! to the numbers of its stations.
 #![tactic(auto)]
 
+mod columns;
+mod entries;
 mod fault;
 mod features;
 mod forms;
 mod imported;
 mod limits;
 mod lines;
+mod made;
 mod reading;
 mod references;
-mod rounds;
 mod values;
-mod written;
 mod writing;
+mod written;
 
 pub use fault::JsonFault;
 pub use imported::Imported;

@@ -1,16 +1,20 @@
 //! Reading a graph file.
 
-ghost use Rattle.std.specs.Prelude.{◌≡◌};
-ghost use Rattle.graph_json.specs.Outcome.{Reads, graph_outcome, of_value, with_lines, with_features};
+ghost use Rattle.std.specs.Prelude.{◌≡◌, All, Ok, Some, map, IfOk};
+ghost use Rattle.serde_json.specs.View.{view};
+ghost use Rattle.graph_core.specs.Consistent.{IsConsistent};
+ghost use Rattle.graph_json.specs.declared.forms.LineForm.{LineForm};
+ghost use Rattle.graph_json.specs.Outcome.{Reads, ReadsValue, IsComplete, IsImportant, LiesNear, graph_outcome, value_of, of_value, with_features, imported_with};
 
+use crate::columns::columns_of;
+use crate::entries::entries_of;
 use crate::fault::JsonFault;
-use crate::features::features_of;
 use crate::forms::{Feature, LineForm};
 use crate::imported::Imported;
 use crate::limits::limit_met;
-use crate::lines::lines_of;
-use crate::references::{assembled, broken};
-use crate::values::is_text_at;
+use crate::made::{Made, made_of};
+use crate::references::broken;
+use crate::values::{array_of, is_text_at};
 use graph_core::LineGraph;
 use map_base::{NoMemory, Sequence, Text};
 use serde_json::Value;
@@ -21,50 +25,81 @@ use svg_writer::Names;
 /// the whole, a line, a feature by itself, a limit (lines on segments, stations, nodes, segments), and last a feature
 /// whose references don't hold.
 pub fn read_graph(alloc: Global, bytes: &[u8]) -> Result<Imported, JsonFault>
-    ensures { Reads result (graph_outcome bytes.now) }
+    ensures reads { Reads result (graph_outcome bytes.now) }
+    ensures complete { IfOk result IsComplete }
 {
     let value = value_of(alloc, bytes)?;
-    if !is_text_at(&value, "type", "FeatureCollection") {
-        return Err(JsonFault::Whole);
-    }
-    let entries = array_at(&value, "lines")?;
-    let features = array_at(&value, "features")?;
-    let lines = lines_of(alloc, entries)?;
-    graph_with(alloc, lines, features_of(alloc, features)?)
+    graph_of_value(alloc, &value)
 }
 
 /// The value that a text is (RFC 8259).
-fn value_of(alloc: Global, bytes: &[u8]) -> Result<Value, JsonFault> {
-    let text = match str::from_utf8(bytes) {
-        Ok(text) => text,
-        Err(_) => return Err(JsonFault::Json),
-    };
-    match Value::from_str(alloc, text) {
+fn value_of(alloc: Global, bytes: &[u8]) -> Result<Value, JsonFault>
+    ensures { ReadsValue result (value_of bytes.now) }
+{
+    match Value::from_slice(alloc, bytes) {
         Ok(value) => Ok(value),
-        Err(fault) if fault.is_memory() => Err(JsonFault::NoMemory),
-        Err(_) => Err(JsonFault::Json),
+        Err(fault) => {
+            if fault.is_memory() {
+                Err(JsonFault::NoMemory)
+            } else {
+                Err(JsonFault::Json)
+            }
+        }
     }
 }
 
-/// The elements of a member that is an array.
-fn array_at<'a>(value: &'a Value, key: &str) -> Result<&'a [Value], JsonFault> {
-    match value.get(key).and_then(Value::as_array) {
-        Some(items) => Ok(items.as_slice()),
-        None => Err(JsonFault::Whole),
+/// The graph that a value is.
+fn graph_of_value(alloc: Global, value: &Value) -> Result<Imported, JsonFault>
+    ensures reads { Reads result (of_value (Some (view value.now))) }
+    ensures complete { IfOk result IsComplete }
+{
+    if !is_text_at(value, "type", "FeatureCollection") {
+        return Err(JsonFault::Whole);
     }
+    let Some(lines) = value.get("lines").and_then(array_of) else {
+        return Err(JsonFault::Whole);
+    };
+    let Some(features) = value.get("features").and_then(array_of) else {
+        return Err(JsonFault::Whole);
+    };
+    let lines = match entries_of::<LineForm>(alloc, lines)? {
+        Ok(lines) => lines,
+        Err(index) => return Err(JsonFault::Line { index }),
+    };
+    let features = match entries_of::<Feature>(alloc, features)? {
+        Ok(features) => features,
+        Err(index) => return Err(JsonFault::Feature { index }),
+    };
+    graph_with(alloc, lines, features)
 }
 
 /// The graph that features make with lines, or why there is none.
-fn graph_with(alloc: Global, lines: Vec<LineForm>, features: Vec<Feature>) -> Result<Imported, JsonFault>
-    ensures { Reads result (with_features lines.items (Ok features.items)) }
+fn graph_with(
+    alloc: Global,
+    lines: Vec<LineForm>,
+    features: Vec<Feature>,
+) -> Result<Imported, JsonFault>
+    requires lines { All IsImportant lines.items }
+    requires features { All LiesNear features.items }
+    ensures reads { Reads result (with_features lines.items (Ok features.items)) }
+    ensures complete { IfOk result IsComplete }
 {
-    if let Some(limit) = limit_met(alloc, features.as_slice())? {
+    let columns = columns_of(alloc, features)?;
+    if let Some(limit) = limit_met(alloc, &columns.lines, &columns.names)? {
         return Err(JsonFault::Limit(limit));
     }
-    let made = assembled(alloc, features)?;
-    if let Some(index) = broken(alloc, &made, lines.len())? {
+    let made = made_of(alloc, columns)?;
+    if let Some(index) = broken(&made.parts, lines.len(), &made.are_nodes) {
         return Err(JsonFault::Feature { index });
     }
+    Ok(imported(alloc, lines, made)?)
+}
+
+/// What these lines and this graph make.
+fn imported(alloc: Global, lines: Vec<LineForm>, made: Made) -> Result<Imported, NoMemory>
+    requires { IsConsistent made.parts }
+    ensures { IfOk result (λ read. read ≡ imported_with lines.items made.parts made.stations.items) }
+{
     let (names, importance) = named(alloc, lines)?;
     Ok(Imported {
         graph: LineGraph::new(made.parts),
@@ -77,7 +112,10 @@ fn graph_with(alloc: Global, lines: Vec<LineForm>, features: Vec<Feature>) -> Re
 }
 
 /// The names and colours of lines, and how important they are.
-fn named(alloc: Global, lines: Vec<LineForm>) -> Result<(Vec<(Text, [u8; 3])>, Vec<u32>), NoMemory> {
+fn named(alloc: Global, lines: Vec<LineForm>) -> Result<(Vec<(Text, [u8; 3])>, Vec<u32>), NoMemory>
+    ensures names { IfOk result (λ both. both.0.items ≡ map (λ (l : LineForm). (l.name, l.colour)) lines.items) }
+    ensures importance { IfOk result (λ both. both.1.items ≡ map (λ (l : LineForm). l.importance) lines.items) }
+{
     let mut names = Vec::new(alloc);
     let mut importance = Vec::new(alloc);
     for line in lines {

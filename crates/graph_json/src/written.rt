@@ -1,14 +1,66 @@
 //! The values that a graph file is written of.
 
-ghost use Rattle.std.specs.Prelude.{◌≡◌, IfOk, map};
+ghost use Rattle.std.specs.Prelude.{◌≡◌, ◌<◌, length, map, IfOk};
+ghost use Rattle.serde_json.specs.Data.{Members, object, string};
 ghost use Rattle.serde_json.specs.View.{view};
-ghost use Rattle.graph_json.specs.Written.{point_data, line_data, node_data, segment_data, join_data, seg_data, line_number, list_data};
+ghost use Rattle.hex.specs.Hex.{encode_lower};
+ghost use Rattle.graph_json.specs.Written.{feature_data, point_data, node_data, node_properties, segment_data, segment_properties, line_object, list_data};
 
 use graph_core::{Join, LineGraph, NodeKind};
-use map_base::{LineId, NoMemory, NodeId, Point, SegId};
+use map_base::{LineId, NodeId, Point, SegId};
 use serde_json::{Value, json};
 use std::alloc::{AllocError, Global};
-use svg_writer::Names;
+use svg_writer::{Names, station_name};
+
+/// What an element of a list is written as.
+pub(crate) trait Datum: Drop {
+    /// What is written, by definition.
+    ghost data: { Self → Data };
+
+    fn value(&self, alloc: Global) -> Result<Value, AllocError>
+        ensures { IfOk result (λ v. view v ≡ data self.now) };
+}
+
+impl Datum for SegId {
+    ghost use Rattle.graph_json.specs.Written.{seg_data};
+
+    ghost data = { seg_data };
+
+    fn value(&self, _alloc: Global) -> Result<Value, AllocError> {
+        Ok(Value::from(self.0))
+    }
+}
+
+impl Datum for LineId {
+    ghost use Rattle.graph_json.specs.Written.{line_number};
+
+    ghost data = { line_number };
+
+    fn value(&self, _alloc: Global) -> Result<Value, AllocError> {
+        Ok(Value::from(self.0))
+    }
+}
+
+impl Datum for Join {
+    ghost use Rattle.graph_json.specs.Written.{join_data};
+
+    ghost data = { join_data };
+
+    fn value(&self, alloc: Global) -> Result<Value, AllocError> {
+        json!(in alloc; [self.e.0, self.f.0, self.line.0])
+    }
+}
+
+/// What is written of each, as a list.
+fn list<T: Datum>(alloc: Global, items: &[T]) -> Result<Value, AllocError>
+    ensures { IfOk result (λ v. view v ≡ list_data (map T.data items.now)) }
+{
+    let mut values = Vec::with_capacity(alloc, items.len())?;
+    for item in items {
+        values.push(item.value(alloc)?)?;
+    }
+    Ok(Value::Array(values))
+}
 
 /// The coordinates of a point.
 fn point(alloc: Global, place: Point) -> Result<Value, AllocError>
@@ -17,41 +69,15 @@ fn point(alloc: Global, place: Point) -> Result<Value, AllocError>
     json!(in alloc; [place.x, place.y])
 }
 
-/// The numbers of segments, in order.
-fn seg_numbers(alloc: Global, segs: &[SegId]) -> Result<Value, AllocError>
-    ensures { IfOk result (λ v. view v ≡ list_data (map seg_data segs.now)) }
-{
-    let mut numbers = Vec::new(alloc);
-    for seg in segs {
-        numbers.push(Value::from(seg.0))?;
-    }
-    Ok(Value::Array(numbers))
-}
-
-/// The numbers of lines, in order.
-fn line_numbers(alloc: Global, lines: &[LineId]) -> Result<Value, AllocError>
-    ensures { IfOk result (λ v. view v ≡ list_data (map line_number lines.now)) }
-{
-    let mut numbers = Vec::new(alloc);
-    for line in lines {
-        numbers.push(Value::from(line.0))?;
-    }
-    Ok(Value::Array(numbers))
-}
-
-/// Connections, each the numbers of its segments and of its line.
-fn join_triples(alloc: Global, joins: &[Join]) -> Result<Value, AllocError>
-    ensures { IfOk result (λ v. view v ≡ list_data (map join_data joins.now)) }
-{
-    let mut triples = Vec::new(alloc);
-    for join in joins {
-        triples.push(json!(in alloc; [join.e.0, join.f.0, join.line.0])?)?;
-    }
-    Ok(Value::Array(triples))
-}
-
 /// A feature of this geometry and these properties.
-fn feature(alloc: Global, shape: &str, coordinates: Value, properties: Value) -> Result<Value, AllocError> {
+fn feature(
+    alloc: Global,
+    shape: &str,
+    coordinates: Value,
+    properties: Value,
+) -> Result<Value, AllocError>
+    ensures { IfOk result (λ v. (members : Members) → view properties ≡ object members → view v ≡ feature_data shape.now (view coordinates) members) }
+{
     json!(in alloc; {
         "geometry": {"coordinates": coordinates, "type": shape},
         "properties": properties,
@@ -59,48 +85,78 @@ fn feature(alloc: Global, shape: &str, coordinates: Value, properties: Value) ->
     })
 }
 
-/// Node `n`, which is a node of the graph.
-pub(crate) fn node(alloc: Global, graph: &LineGraph, names: &Names, n: NodeId) -> Result<Value, AllocError>
+/// The properties of a node.
+fn properties_of_node(
+    alloc: Global,
+    names: &Names,
+    kind: NodeKind,
+    joins: &[Join],
+    round: &[SegId],
+) -> Result<Value, AllocError>
+    ensures { IfOk result (λ v. view v ≡ object (node_properties names.now kind joins.now round.now)) }
+{
+    let joins = list(alloc, joins)?;
+    let round = list(alloc, round)?;
+    match kind {
+        NodeKind::Station(station) => {
+            let name = station_name(names, station.0);
+            json!(in alloc; {"joins": joins, "name": name, "round": round})
+        }
+        NodeKind::Junction => json!(in alloc; {"joins": joins, "round": round}),
+    }
+}
+
+/// Node `n`.
+pub(crate) fn node(
+    alloc: Global,
+    graph: &LineGraph,
+    names: &Names,
+    n: NodeId,
+) -> Result<Value, AllocError>
     requires { n.0 < length graph.now.kinds }
     ensures { IfOk result (λ v. view v ≡ node_data graph.now names.now n.0) }
 {
-    let joins = join_triples(alloc, graph.joins(n))?;
-    let round = seg_numbers(alloc, graph.round(n))?;
-    let properties = match graph.kind(n) {
-        NodeKind::Station(station) => {
-            json!(in alloc; {"joins": joins, "name": station_name(names, station), "round": round})?
-        }
-        NodeKind::Junction => json!(in alloc; {"joins": joins, "round": round})?,
-    };
-    feature(alloc, "Point", point(alloc, graph.place(n))?, properties)
+    let coordinates = point(alloc, graph.place(n))?;
+    let properties =
+        properties_of_node(alloc, names, graph.kind(n), graph.joins(n), graph.round(n))?;
+    feature(alloc, "Point", coordinates, properties)
 }
 
-/// Segment `s`, which is a segment of the graph.
+/// The properties of a segment.
+fn properties_of_segment(
+    alloc: Global,
+    ends: (NodeId, NodeId),
+    lines: &[LineId],
+) -> Result<Value, AllocError>
+    ensures { IfOk result (λ v. view v ≡ object (segment_properties ends lines.now)) }
+{
+    let (lower, upper) = ends;
+    let lines = list(alloc, lines)?;
+    json!(in alloc; {"ends": [lower.0, upper.0], "lines": lines})
+}
+
+/// Segment `s`.
 pub(crate) fn segment(alloc: Global, graph: &LineGraph, s: SegId) -> Result<Value, AllocError>
     requires { s.0 < length graph.now.ends }
     ensures { IfOk result (λ v. view v ≡ segment_data graph.now s.0) }
 {
     let (lower, upper) = graph.ends(s);
-    let lines = line_numbers(alloc, graph.lines(s))?;
-    let coordinates =
-        json!(in alloc; [point(alloc, graph.place(lower))?, point(alloc, graph.place(upper))?])?;
-    let properties = json!(in alloc; {"ends": [lower.0, upper.0], "lines": lines})?;
+    let start = point(alloc, graph.place(lower))?;
+    let end = point(alloc, graph.place(upper))?;
+    let coordinates = json!(in alloc; [start, end])?;
+    let properties = properties_of_segment(alloc, (lower, upper), graph.lines(s))?;
     feature(alloc, "LineString", coordinates, properties)
 }
 
-/// A line of this name and colour (red, green and blue) and this importance.
-pub(crate) fn line(alloc: Global, name: &str, colour: &[u8], importance: u32) -> Result<Value, AllocError> {
-    let colour = colour_digits(alloc, colour)?;
-    json!(in alloc; {"colour": colour, "importance": importance, "name": name})
-}
-
-/// Two hexadecimal digits a byte, in lower case.
-fn colour_digits(alloc: Global, colour: &[u8]) -> Result<String, AllocError>
-    ensures { IfOk result (λ s. string_bytes s ≡ colour_digits colour.now) }
+/// A line of this name, this colour (red, green and blue) and this importance.
+pub(crate) fn line(
+    alloc: Global,
+    name: &str,
+    colour: &[u8],
+    importance: u32,
+) -> Result<Value, AllocError>
+    ensures { IfOk result (λ v. view v ≡ line_object name.now colour.now importance) }
 {
-    let mut digits = String::new(alloc);
-    for byte in colour {
-        write!(digits, "{byte:02x}")?;
-    }
-    Ok(digits)
+    let colour = hex::encode(alloc, colour)?;
+    json!(in alloc; {"colour": colour, "importance": importance, "name": name})
 }
