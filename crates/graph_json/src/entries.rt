@@ -1,6 +1,7 @@
 //! The entries of a graph file, in order.
 
-ghost use Rattle.std.specs.Prelude.{◌≡◌, map, Ok, Err, IfOk, MatchResult};
+ghost use Rattle.std.specs.Prelude.{◌≡◌, Option, map, Ok, Err, IfOk, MatchResult};
+ghost use Rattle.serde_json.specs.Data.{Data};
 ghost use Rattle.serde_json.specs.View.{view};
 ghost use Rattle.graph_json.specs.Outcome.{each_or_first};
 

@@ -1,7 +1,8 @@
 //! What values are read as: texts, numbers and lists of them.
 
-ghost use Rattle.std.specs.Prelude.{◌≡◌, ◌≤◌, ◌≤ℤ◌, pos, negsuc, map, option_map, option_and_then, IfOk, IfSome};
+ghost use Rattle.std.specs.Prelude.{◌≡◌, Option, map, option_map, option_and_then, IfOk};
 ghost use Rattle.serde_json.specs.Find.{get};
+ghost use Rattle.serde_json.specs.Data.{Data};
 ghost use Rattle.serde_json.specs.View.{view};
 ghost use Rattle.graph_json.specs.Forms.{text_at, small_of, coordinate_of, is_text, array_of, array_of_each, importance_of};
 

@@ -1,7 +1,7 @@
 //! The values that a graph file is written of.
 
 ghost use Rattle.std.specs.Prelude.{◌≡◌, ◌<◌, length, map, IfOk};
-ghost use Rattle.serde_json.specs.Data.{Members, object, string};
+ghost use Rattle.serde_json.specs.Data.{Data, Members, object};
 ghost use Rattle.serde_json.specs.View.{view};
 ghost use Rattle.hex.specs.Hex.{encode_lower};
 ghost use Rattle.graph_json.specs.Written.{feature_data, point_data, node_data, node_properties, segment_data, segment_properties, line_object, list_data};
@@ -15,16 +15,16 @@ use svg_writer::{Names, station_name};
 /// What an element of a list is written as.
 pub(crate) trait Datum: Drop {
     /// What is written, by definition.
-    ghost data: { Self → Data };
+    ghost datum: { Self → Data };
 
     fn value(&self, alloc: Global) -> Result<Value, AllocError>
-        ensures { IfOk result (λ v. view v ≡ data self.now) };
+        ensures { IfOk result (λ v. view v ≡ datum self.now) };
 }
 
 impl Datum for SegId {
     ghost use Rattle.graph_json.specs.Written.{seg_data};
 
-    ghost data = { seg_data };
+    ghost datum = { seg_data };
 
     fn value(&self, _alloc: Global) -> Result<Value, AllocError> {
         Ok(Value::from(self.0))
@@ -34,7 +34,7 @@ impl Datum for SegId {
 impl Datum for LineId {
     ghost use Rattle.graph_json.specs.Written.{line_number};
 
-    ghost data = { line_number };
+    ghost datum = { line_number };
 
     fn value(&self, _alloc: Global) -> Result<Value, AllocError> {
         Ok(Value::from(self.0))
@@ -44,7 +44,7 @@ impl Datum for LineId {
 impl Datum for Join {
     ghost use Rattle.graph_json.specs.Written.{join_data};
 
-    ghost data = { join_data };
+    ghost datum = { join_data };
 
     fn value(&self, alloc: Global) -> Result<Value, AllocError> {
         json!(in alloc; [self.e.0, self.f.0, self.line.0])
@@ -53,7 +53,7 @@ impl Datum for Join {
 
 /// What is written of each, as a list.
 fn list<T: Datum>(alloc: Global, items: &[T]) -> Result<Value, AllocError>
-    ensures { IfOk result (λ v. view v ≡ list_data (map T.data items.now)) }
+    ensures { IfOk result (λ v. view v ≡ list_data (map T.datum items.now)) }
 {
     let mut values = Vec::with_capacity(alloc, items.len())?;
     for item in items {
@@ -117,8 +117,13 @@ pub(crate) fn node(
     ensures { IfOk result (λ v. view v ≡ node_data graph.now names.now n.0) }
 {
     let coordinates = point(alloc, graph.place(n))?;
-    let properties =
-        properties_of_node(alloc, names, graph.kind(n), graph.joins(n), graph.round(n))?;
+    let properties = properties_of_node(
+        alloc,
+        names,
+        graph.kind(n),
+        graph.joins(n),
+        graph.round(n),
+    )?;
     feature(alloc, "Point", coordinates, properties)
 }
 
