@@ -1,0 +1,5 @@
+mod Lists
+mod ColumnLemmas
+mod Rounds
+mod Consistency
+mod Assembly
