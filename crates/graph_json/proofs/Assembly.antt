@@ -2,7 +2,7 @@
 use Rattle.std.proofs.Common.{◌≡◌, refl, sym, ap, subst, ◌∙◌, ℕ, zero, suc, ◌+◌, ◌<◌, ◌≤◌, Bool, true, false, ◌||◌, ◌&&◌, ◌==◌, List, [], ◌∷◌, ◌++◌, length, map, get_or, fold, arith, inl, inr, nat_lt, append-nil, append_assoc}
 use Rattle.std.specs.Prelude.{All, Contains, Option, Some, None, if◌then◌else◌}
 use Rattle.std.specs.List.{list_any, filter_map}
-use Rattle.std.proofs.lemmas.Bool.{eqb-true, eqb-refl, ltb-false}
+use Rattle.std.proofs.lemmas.Bool.{eqb-true, eq-eqb, ltb-false}
 use Rattle.std.proofs.lemmas.List.{length-map}
 use Rattle.std.specs.List.{AllByRecursion as ByRecursion}
 use Rattle.std.proofs.lemmas.List.Elements.{All-from_recursion, recursion_from_All, All-map, Contains-from_at}
@@ -91,7 +91,7 @@ added_one known l = by (list_any (is_line l) known) refl
   where
     by : (b : Bool) → list_any (is_line l) known ≡ b → In (if b then known else known ++ l ∷ []) l
     by true e = e
-    by false e = list_any-append (is_line l) known (l ∷ []) ∙ ap (λ (b : Bool). b || list_any (is_line l) (l ∷ [])) e ∙ ap (λ (b : Bool). b || false) (eqb-refl l.0)
+    by false e = list_any-append (is_line l) known (l ∷ []) ∙ ap (λ (b : Bool). b || list_any (is_line l) (l ∷ [])) e ∙ ap (λ (b : Bool). b || false) (eq-eqb l.0 l.0 refl)
 
 kept : (known ls : List LineId) (x : LineId) → In known x → In (with_lines known ls) x
 kept known [] x h = h

@@ -3,3 +3,4 @@ mod ColumnLemmas
 mod Rounds
 mod Consistency
 mod Assembly
+mod FormFacts
