@@ -7,13 +7,14 @@ use Rattle.map_method.specs.declared.defaults.Defaults.TheVariants.{Make, Map}
 use Rattle.command_paths.specs.Paths.{Chosen, MapPaths}
 use Rattle.command_paths.specs.declared.picture.Picture.{Picture}
 use Rattle.command_paths.specs.declared.picture.Picture.TheVariants.{Labelled, Geographic}
-use Rattle.command_words.specs.Asked.{Asked, stations, graph, make, improve, check, depict, session, trial, page}
-use Rattle.command_words.specs.Words.{◌>>=◌, apart, asked, asked_as, check_in, faults, graph_in, improve_in, make_in, met, named_in, number_in, options_in, page_at, page_in, paths_in, picture_in, session_in, settings_in, stations_in, trial_in, two_paths_in, unless}
+use Rattle.command_words.specs.Asked.{Asked, stations, graph, export, make, improve, check, depict, session, trial, page}
+use Rattle.command_words.specs.Words.{◌>>=◌, apart, asked, asked_as, check_in, export_in, faults, graph_in, improve_in, make_in, met, named_in, number_in, options_in, page_at, page_in, paths_in, picture_in, session_in, settings_in, stations_in, trial_in, two_paths_in, unless}
 
 abbrev pub AreApart : Option Asked → Type 0
 AreApart None = Unit {0}
 AreApart (Some (stations feed)) = Unit {0}
 AreApart (Some (graph feed chosen)) = Unit {0}
+AreApart (Some (export feed out chosen)) = Unit {0}
 AreApart (Some (make feed paths chosen)) = bytes_eq paths.picture paths.certificate ≡ false
 AreApart (Some (improve feed paths moves chosen)) = bytes_eq paths.picture paths.certificate ≡ false
 AreApart (Some (check feed paths chosen)) = Unit {0}

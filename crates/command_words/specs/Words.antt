@@ -17,7 +17,7 @@ use Rattle.command_words.specs.declared.fault.WordsFault.TheVariants as fault
 use Rattle.command_paths.specs.Paths.{Chosen, MapPaths}
 use Rattle.command_paths.specs.declared.picture.Picture.{Picture}
 use Rattle.command_paths.specs.declared.picture.Picture.TheVariants.{Labelled, Geographic}
-use Rattle.command_words.specs.Asked.{Asked, asked_by, stations, graph, make, improve, check, depict, session, trial, page}
+use Rattle.command_words.specs.Asked.{Asked, asked_by, stations, graph, export, make, improve, check, depict, session, trial, page}
 use Rattle.command_words.specs.Program.{octimap_app}
 
 -- one choice after another: none where the first is none
@@ -59,6 +59,12 @@ abbrev pub graph_in : List Row → Option Asked
 graph_in rows = do
   feed ← first_of (codes "FEED") rows
   Some (graph feed (options_in Make rows))
+
+abbrev pub export_in : List Row → Option Asked
+export_in rows = do
+  feed ← first_of (codes "FEED") rows
+  out ← first_of (codes "OUT") rows
+  Some (export feed out (options_in Make rows))
 
 -- two paths, and not one
 abbrev pub apart : MapPaths → Option MapPaths
@@ -130,6 +136,7 @@ asked_as name rows =
     else if bytes_eq name (codes "geo") then picture_in Geographic rows
     else if bytes_eq name (codes "session") then session_in rows
     else if bytes_eq name (codes "graph") then graph_in rows
+    else if bytes_eq name (codes "export") then export_in rows
     else if bytes_eq name (codes "stations") then stations_in rows
     else if bytes_eq name (codes "page") then page_in rows
     else if bytes_eq name (codes "trial") then trial_in rows

@@ -14,6 +14,12 @@ pub enum Command<'a> {
         feed: &'a str,
         options: Options<'a>,
     },
+    /// The line graph of the feed in this folder, as a file.
+    Export {
+        feed: &'a str,
+        out: &'a str,
+        options: Options<'a>,
+    },
     /// The map of the feed in this folder, and its certificate; `map` and `make` differ in the settings where the user
     /// sets none.
     Make {

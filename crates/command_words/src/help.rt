@@ -19,6 +19,7 @@ Examples:
   octimap page map.svg map.html
   octimap session examples/vienna-ubahn examples/session.txt draws.txt
   octimap graph examples/vienna-ubahn
+  octimap export examples/vienna-ubahn graph.json
   octimap stations examples/vienna-ubahn
   octimap trial 152
 
@@ -54,6 +55,16 @@ north, and where lines go on from segment to segment. X and Y are whole decimetr
 
 Example:
   octimap graph examples/vienna-ubahn";
+
+pub(crate) const EXPORT: &str = "Write the line graph of a feed as GeoJSON";
+
+pub(crate) const AFTER_EXPORT: &str = "\
+OUT is one line of JSON. Nodes are Points with the segments round them, the lines that go on there and, at a station,
+its name; segments are LineStrings with the numbers of their two nodes and of their lines. Beside these stand the lines
+with names, colours and importance. Coordinates are whole decimetres, X eastwards and Y northwards, and not degrees.
+
+Example:
+  octimap export examples/vienna-ubahn graph.json";
 
 pub(crate) const MAP: &str =
     "Make the map of a feed, and a certificate that its line orders cost least";
@@ -161,6 +172,8 @@ pub(crate) const SVG: &str = "The file of the map";
 pub(crate) const CERT: &str = "The file of its certificate";
 
 pub(crate) const LABELLED: &str = "The file that the map with its names is written to";
+
+pub(crate) const GRAPH_FILE: &str = "The file that the line graph is written to";
 
 pub(crate) const GEOGRAPHIC: &str = "The file that the geographic map is written to";
 

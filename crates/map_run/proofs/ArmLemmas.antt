@@ -11,7 +11,7 @@ use Rattle.command_run.specs.Delivered.{outputs_acts, IsSaid, IsDelivered}
 use Rattle.command_run.specs.Work.{Work, ends}
 use Rattle.command_run.proofs.ActLemmas.{delivered_whole}
 use Rattle.output_pieces.proofs.PieceLemmas.{delivered_left}
-use Rattle.command_words.specs.Asked.{Asked, stations, graph, make, improve, check, depict, session, trial, page}
+use Rattle.command_words.specs.Asked.{Asked, stations, graph, export, make, improve, check, depict, session, trial, page}
 use Rattle.run_status.specs.declared.input.Input.{Input}
 use Rattle.run_status.specs.declared.refusal.Refusal.{Refusal}
 use Rattle.run_status.specs.declared.status.Status.{Status}
@@ -20,6 +20,7 @@ use Rattle.run_status.proofs.FollowLemmas.{follows_refused, follows_value, gives
 use Rattle.command_inputs.specs.Inputs.{InputPaths, input_at}
 use Rattle.table_commands.specs.TableWorks.{graph_work, stations_work}
 use Rattle.map_commands.specs.MapWorks.{check_work, make_work}
+use Rattle.export_command.specs.ExportWorks.{export_work}
 use Rattle.page_command.specs.PageWorks.{page_work}
 use Rattle.map_commands.specs.Promises.{AreOfMap, AreOfYes, SearchesParts}
 use Rattle.improve_command.specs.ImproveWorks.{improve_work, AreOfImproved}
@@ -111,6 +112,10 @@ module _ (told : Told) (asked : Asked) where
       → Follows told (input_at inputs) rose same (graph_work inputs.chosen) result → Follows told (input_path asked) rose at_end (work asked) end
   graph_follows {feed} {chosen} rose result end inputs ended is lie follows = outputs_follow rose result end (graph feed chosen) inputs (λ p. graph_work p.chosen) ended is lie refl follows
 
+  pub export_follows : {feed out : List ℕ} {chosen : Chosen} (rose : Type 0) (result : Result (List Output) Refusal) (end : Result Finished Refusal) (inputs : InputPaths) → end ≡ whole_by result → asked ≡ export feed out chosen → inputs ≡ inputs_of asked
+      → Follows told (input_at inputs) rose same (export_work inputs.chosen out) result → Follows told (input_path asked) rose at_end (work asked) end
+  export_follows {feed} {out} {chosen} rose result end inputs ended is lie follows = outputs_follow rose result end (export feed out chosen) inputs (λ p. export_work p.chosen out) ended is lie refl follows
+
   pub make_follows : {feed : List ℕ} {paths : MapPaths} {chosen : Chosen} (rose : Type 0) (result : Result (List Output) Refusal) (end : Result Finished Refusal) (inputs : InputPaths) → end ≡ whole_by result → asked ≡ make feed paths chosen → inputs ≡ inputs_of asked
       → Follows told (input_at inputs) rose same (make_work inputs.chosen paths) result → Follows told (input_path asked) rose at_end (work asked) end
   make_follows {feed} {paths} {chosen} rose result end inputs ended is lie follows = outputs_follow rose result end (make feed paths chosen) inputs (λ p. make_work p.chosen paths) ended is lie refl follows
@@ -152,6 +157,10 @@ module _ (told : Told) (asked : Asked) where
   pub graph_keeps : {feed : List ℕ} {chosen : Chosen} (result : Result (List Output) Refusal) (end : Result Finished Refusal) → end ≡ whole_by result → asked ≡ graph feed chosen → Keeps told asked end
   graph_keeps {feed} {chosen} (Ok outputs) end ended is = keeps_as (graph feed chosen) (Ok (whole outputs)) end ended is tt
   graph_keeps {feed} {chosen} (Err why) end ended is = keeps_as (graph feed chosen) (Err why) end ended is tt
+
+  pub export_keeps : {feed out : List ℕ} {chosen : Chosen} (result : Result (List Output) Refusal) (end : Result Finished Refusal) → end ≡ whole_by result → asked ≡ export feed out chosen → Keeps told asked end
+  export_keeps {feed} {out} {chosen} (Ok outputs) end ended is = keeps_as (export feed out chosen) (Ok (whole outputs)) end ended is tt
+  export_keeps {feed} {out} {chosen} (Err why) end ended is = keeps_as (export feed out chosen) (Err why) end ended is tt
 
   pub trial_keeps : {number : ℕ} (result : Result (List Output) Refusal) (end : Result Finished Refusal) → end ≡ whole_by result → asked ≡ trial number → Keeps told asked end
   trial_keeps {number} (Ok outputs) end ended is = keeps_as (trial number) (Ok (whole outputs)) end ended is tt
@@ -252,6 +261,9 @@ module _ (told : Told) (asked : Asked) where
 
   pub graph_steps : {feed : List ℕ} {chosen : Chosen} (steps : ℕ) → asked ≡ graph feed chosen → TakesSteps told (Some asked) steps steps
   graph_steps {feed} {chosen} steps is = steps_as (graph feed chosen) steps steps is refl
+
+  pub export_steps : {feed out : List ℕ} {chosen : Chosen} (steps : ℕ) → asked ≡ export feed out chosen → TakesSteps told (Some asked) steps steps
+  export_steps {feed} {out} {chosen} steps is = steps_as (export feed out chosen) steps steps is refl
 
   pub check_steps : {feed : List ℕ} {paths : MapPaths} {chosen : Chosen} (steps : ℕ) → asked ≡ check feed paths chosen → TakesSteps told (Some asked) steps steps
   check_steps {feed} {paths} {chosen} steps is = steps_as (check feed paths chosen) steps steps is refl

@@ -16,7 +16,7 @@ use Rattle.run_status.specs.declared.refusal.Refusal.{Refusal}
 use Rattle.run_status.specs.declared.refusal.Refusal.TheVariants as refused
 use Rattle.run_status.specs.declared.status.Status.{Status}
 use Rattle.run_status.specs.declared.status.Status.TheVariants as status
-use Rattle.command_words.specs.Asked.{Asked, stations, graph, make, improve, check, depict, session, trial, page}
+use Rattle.command_words.specs.Asked.{Asked, stations, graph, export, make, improve, check, depict, session, trial, page}
 use Rattle.command_paths.specs.Paths.{MapPaths}
 use Rattle.command_words.specs.Words.{asked, asked_in}
 use Rattle.command_words.proofs.Apart.{AreApart, asked_apart}
@@ -94,6 +94,7 @@ Holds outputs old new = (target : Target) → held_by target new ≡ held_after 
 means : (told : Told) (command : Asked) (finished : Finished) (old new : Written) → AreApart (Some command) → Promised told command finished → finished.bad_line ≡ None → Holds finished.outputs old new → MeansDone told command old new
 means told (stations feed) finished old new apart promised none holds = tt
 means told (graph feed chosen) finished old new apart promised none holds = tt
+means told (export feed out chosen) finished old new apart promised none holds = tt
 means told (trial number) finished old new apart promised none holds = tt
 means told (page shown html) finished old new apart promised none holds = tt
 means told (make feed paths chosen) finished old new apart promised none holds =

@@ -17,7 +17,7 @@ use Rattle.edit_session.specs.Scripts.{followed_in}
 use Rattle.session_command.specs.SessionWorks.{session_text}
 use Rattle.session_command.specs.Promises.{KeepDraws}
 use Rattle.command_inputs.specs.declared.loaded.Loaded.{Loaded}
-use Rattle.command_words.specs.Asked.{Asked, stations, graph, make, improve, check, depict, session, trial, page}
+use Rattle.command_words.specs.Asked.{Asked, stations, graph, export, make, improve, check, depict, session, trial, page}
 use Rattle.command_paths.specs.Paths.{Chosen, MapPaths}
 use Rattle.map_commands.specs.MapWorks.{proved_line}
 use Rattle.map_engine.specs.declared.checked.Proved.{Proved}
@@ -96,6 +96,7 @@ pub record IsSessionWritten (told : Option (List (List ℕ × List ℕ))) (asked
 abbrev pub MeansDone : Option (List (List ℕ × List ℕ)) → Asked → Written → Written → Type 0
 MeansDone told (stations feed) old new = ⊤
 MeansDone told (graph feed chosen) old new = ⊤
+MeansDone told (export feed out chosen) old new = ⊤
 MeansDone told (make feed paths chosen) old new = IsMapWritten told (make feed paths chosen) paths new
 MeansDone told (improve feed paths moves chosen) old new = IsImprovedMapWritten told (improve feed paths moves chosen) paths moves old new
 MeansDone told (depict kind feed certificate out chosen) old new = IsPictureWritten kind told (depict kind feed certificate out chosen) certificate out new

@@ -21,6 +21,7 @@ pub fn inputs_of<'a>(command: &Command<'a>) -> Inputs<'a>
     match command {
         Command::Stations { feed } => of_feed(feed, no_choice()),
         Command::Graph { feed, options } => of_feed(feed, *options),
+        Command::Export { feed, options, .. } => of_feed(feed, *options),
         Command::Make { feed, options, .. } => of_feed(feed, *options),
         Command::Improve { feed, options, .. } => of_feed(feed, *options),
         Command::Check {

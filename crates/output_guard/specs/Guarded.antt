@@ -3,7 +3,7 @@ use Rattle.std.specs.Prelude.{ℕ, Bool, true, false, List, [], ◌∷◌, ◌++
 use Rattle.std.specs.List.{find}
 use Rattle.std.specs.Option.{option_or}
 use Rattle.table_rows.specs.declared.why.Table.TheVariants.{Routes, Stops, Trips, Shapes, StopTimes}
-use Rattle.command_words.specs.Asked.{Asked, stations, graph, make, improve, check, depict, session, trial, page}
+use Rattle.command_words.specs.Asked.{Asked, stations, graph, export, make, improve, check, depict, session, trial, page}
 use Rattle.run_status.specs.declared.input.Input.{Input}
 use Rattle.run_status.specs.declared.input.Input.TheVariants as input
 use Rattle.map_run.specs.Inputs.{input_path, inputs_of}
@@ -21,6 +21,7 @@ outputs_by (output.Pair picture certificate) = picture.now ∷ certificate.now �
 abbrev pub outputs_of : Asked → List (List ℕ)
 outputs_of (stations feed) = []
 outputs_of (graph feed chosen) = []
+outputs_of (export feed out chosen) = out ∷ []
 outputs_of (make feed paths chosen) = paths.picture ∷ paths.certificate ∷ []
 outputs_of (improve feed paths moves chosen) = paths.picture ∷ paths.certificate ∷ []
 outputs_of (check feed paths chosen) = []

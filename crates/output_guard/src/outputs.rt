@@ -25,6 +25,7 @@ pub fn outputs_of<'a>(command: &Command<'a>) -> Outputs<'a>
         Command::Make { files, .. } => Outputs::Pair(files.picture, files.certificate),
         Command::Improve { files, .. } => Outputs::Pair(files.picture, files.certificate),
         Command::Depict { out, .. } => Outputs::File(out),
+        Command::Export { out, .. } => Outputs::File(out),
         Command::Session { out, .. } => Outputs::File(out),
         Command::Page { page, .. } => Outputs::File(page),
         Command::Stations { .. } => Outputs::Nothing,
