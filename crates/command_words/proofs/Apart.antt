@@ -69,6 +69,11 @@ drawn_apart : (chosen : Chosen) (feed : Option (List ℕ)) → AreApart (feed >>
 drawn_apart chosen None = tt
 drawn_apart chosen (Some feed) = tt
 
+exported_apart : (chosen : Chosen) (feed out : Option (List ℕ)) → AreApart (feed >>= (λ f. out >>= (λ o. Some (export f o chosen))))
+exported_apart chosen None out = tt
+exported_apart chosen (Some feed) None = tt
+exported_apart chosen (Some feed) (Some out) = tt
+
 listed_apart : (feed : Option (List ℕ)) → AreApart (feed >>= (λ f. Some (stations f)))
 listed_apart None = tt
 listed_apart (Some feed) = tt
@@ -91,22 +96,23 @@ paged_apart (Some map) (Some html) = paged_at map html
 
 as_apart : (name : Text) (rows : List Row) → AreApart (asked_as name rows)
 as_apart name rows =
-    by_tests (bytes_eq name (codes "map")) (bytes_eq name (codes "make")) (bytes_eq name (codes "improve")) (bytes_eq name (codes "check")) (bytes_eq name (codes "labels")) (bytes_eq name (codes "geo")) (bytes_eq name (codes "session")) (bytes_eq name (codes "graph")) (bytes_eq name (codes "stations")) (bytes_eq name (codes "page")) (bytes_eq name (codes "trial"))
+    by_tests (bytes_eq name (codes "map")) (bytes_eq name (codes "make")) (bytes_eq name (codes "improve")) (bytes_eq name (codes "check")) (bytes_eq name (codes "labels")) (bytes_eq name (codes "geo")) (bytes_eq name (codes "session")) (bytes_eq name (codes "graph")) (bytes_eq name (codes "export")) (bytes_eq name (codes "stations")) (bytes_eq name (codes "page")) (bytes_eq name (codes "trial"))
   where
-    by_tests : (mapped made improved checked labelled grounded edited drawn listed paged tried : Bool)
-        → AreApart (if mapped then make_in Map rows else if made then make_in Make rows else if improved then improve_in rows else if checked then check_in rows else if labelled then picture_in Labelled rows else if grounded then picture_in Geographic rows else if edited then session_in rows else if drawn then graph_in rows else if listed then stations_in rows else if paged then page_in rows else if tried then trial_in rows else None)
-    by_tests true made improved checked labelled grounded edited drawn listed paged tried = made_apart (options_in Map rows) (first_of (codes "FEED") rows) (two_paths_in rows) (two_apart (paths_in rows))
-    by_tests false true improved checked labelled grounded edited drawn listed paged tried = made_apart (options_in Make rows) (first_of (codes "FEED") rows) (two_paths_in rows) (two_apart (paths_in rows))
-    by_tests false false true checked labelled grounded edited drawn listed paged tried = improved_apart (options_in Make rows) (first_of (codes "FEED") rows) (two_paths_in rows) (number_in (codes "MOVES") rows) (two_apart (paths_in rows))
-    by_tests false false false true labelled grounded edited drawn listed paged tried = checked_apart (options_in Make rows) (first_of (codes "FEED") rows) (paths_in rows)
-    by_tests false false false false true grounded edited drawn listed paged tried = depicted_apart Labelled (options_in Make rows) (first_of (codes "FEED") rows) (first_of (codes "CERT") rows) (first_of (codes "OUT") rows)
-    by_tests false false false false false true edited drawn listed paged tried = depicted_apart Geographic (options_in Make rows) (first_of (codes "FEED") rows) (first_of (codes "CERT") rows) (first_of (codes "OUT") rows)
-    by_tests false false false false false false true drawn listed paged tried = edited_apart (settings_in Make rows) (first_of (codes "FEED") rows) (first_of (codes "SCRIPT") rows) (first_of (codes "OUT") rows)
-    by_tests false false false false false false false true listed paged tried = drawn_apart (options_in Make rows) (first_of (codes "FEED") rows)
-    by_tests false false false false false false false false true paged tried = listed_apart (first_of (codes "FEED") rows)
-    by_tests false false false false false false false false false true tried = paged_apart (first_of (codes "SVG") rows) (first_of (codes "HTML") rows)
-    by_tests false false false false false false false false false false true = tried_apart (number_in (codes "N") rows)
-    by_tests false false false false false false false false false false false = tt
+    by_tests : (mapped made improved checked labelled grounded edited drawn exported listed paged tried : Bool)
+        → AreApart (if mapped then make_in Map rows else if made then make_in Make rows else if improved then improve_in rows else if checked then check_in rows else if labelled then picture_in Labelled rows else if grounded then picture_in Geographic rows else if edited then session_in rows else if drawn then graph_in rows else if exported then export_in rows else if listed then stations_in rows else if paged then page_in rows else if tried then trial_in rows else None)
+    by_tests true made improved checked labelled grounded edited drawn exported listed paged tried = made_apart (options_in Map rows) (first_of (codes "FEED") rows) (two_paths_in rows) (two_apart (paths_in rows))
+    by_tests false true improved checked labelled grounded edited drawn exported listed paged tried = made_apart (options_in Make rows) (first_of (codes "FEED") rows) (two_paths_in rows) (two_apart (paths_in rows))
+    by_tests false false true checked labelled grounded edited drawn exported listed paged tried = improved_apart (options_in Make rows) (first_of (codes "FEED") rows) (two_paths_in rows) (number_in (codes "MOVES") rows) (two_apart (paths_in rows))
+    by_tests false false false true labelled grounded edited drawn exported listed paged tried = checked_apart (options_in Make rows) (first_of (codes "FEED") rows) (paths_in rows)
+    by_tests false false false false true grounded edited drawn exported listed paged tried = depicted_apart Labelled (options_in Make rows) (first_of (codes "FEED") rows) (first_of (codes "CERT") rows) (first_of (codes "OUT") rows)
+    by_tests false false false false false true edited drawn exported listed paged tried = depicted_apart Geographic (options_in Make rows) (first_of (codes "FEED") rows) (first_of (codes "CERT") rows) (first_of (codes "OUT") rows)
+    by_tests false false false false false false true drawn exported listed paged tried = edited_apart (settings_in Make rows) (first_of (codes "FEED") rows) (first_of (codes "SCRIPT") rows) (first_of (codes "OUT") rows)
+    by_tests false false false false false false false true exported listed paged tried = drawn_apart (options_in Make rows) (first_of (codes "FEED") rows)
+    by_tests false false false false false false false false true listed paged tried = exported_apart (options_in Make rows) (first_of (codes "FEED") rows) (first_of (codes "OUT") rows)
+    by_tests false false false false false false false false false true paged tried = listed_apart (first_of (codes "FEED") rows)
+    by_tests false false false false false false false false false false true tried = paged_apart (first_of (codes "SVG") rows) (first_of (codes "HTML") rows)
+    by_tests false false false false false false false false false false false true = tried_apart (number_in (codes "N") rows)
+    by_tests false false false false false false false false false false false false = tt
 
 named_apart : (command : Option (Text × List Row)) → AreApart (named_in command)
 named_apart None = tt

@@ -4,3 +4,4 @@ mod Rounds
 mod Consistency
 mod Assembly
 mod FormFacts
+mod PlainValues
