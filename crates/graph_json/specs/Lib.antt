@@ -5,3 +5,4 @@ pub mod Limits
 pub mod References
 pub mod Columns
 pub mod Outcome
+pub mod Again

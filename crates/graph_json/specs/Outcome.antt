@@ -1,5 +1,5 @@
 -- What a graph file is read as, from its bytes.
-use Rattle.std.specs.Prelude.{◌≡◌, ◌≢◌, ◌<◌, ◌≤◌, ◌⊎◌, ℕ, ◌+◌, List, [], ◌∷◌, All, length, map, Option, Some, None, option_and_then, Result, Ok, Err, if◌then◌else◌}
+use Rattle.std.specs.Prelude.{◌≡◌, ◌≢◌, ◌<◌, ◌≤◌, ◌⊎◌, ℕ, ◌+◌, ◌-◌, ◌==◌, List, [], ◌∷◌, All, length, map, take, slice_index, Option, Some, None, option_and_then, Result, Ok, Err, if◌then◌else◌}
 use Rattle.std.specs.Str.{is_utf8}
 use Rattle.map_base.specs.declared.ids.LineId.{LineId}
 use Rattle.map_base.specs.declared.limit.Limit.{Limit}
@@ -77,9 +77,16 @@ abbrev pub of_value : Option Data → Result Imported JsonFault
 of_value None = Err fault.Json
 of_value (Some value) = of_arrays (arrays_of value)
 
--- the bytes as a value, where they are JSON in UTF-8
+-- the bytes without a line feed at their end, where JSON has any white space
+abbrev pub without_feed : List ℕ → List ℕ
+without_feed bytes = if slice_index bytes (length bytes - 1) == 10 then take (length bytes - 1) bytes else bytes
+
+-- the value of a text, where it is JSON in UTF-8
+abbrev pub text_value : List ℕ → Option Data
+text_value text = if is_utf8 text then read text else None
+
 abbrev pub value_of : List ℕ → Option Data
-value_of bytes = if is_utf8 bytes then read bytes else None
+value_of bytes = text_value (without_feed bytes)
 
 -- The graph of a file, or the first thing that is wrong with it: the text, the whole, a line, a feature, a limit, and last
 -- the references of a feature.

@@ -4,7 +4,7 @@ ghost use Rattle.std.specs.Prelude.{◌≡◌, All, Ok, Some, map, IfOk};
 ghost use Rattle.serde_json.specs.View.{view};
 ghost use Rattle.graph_core.specs.Consistent.{IsConsistent};
 ghost use Rattle.graph_json.specs.declared.forms.LineForm.{LineForm};
-ghost use Rattle.graph_json.specs.Outcome.{Reads, ReadsValue, IsComplete, IsImportant, LiesNear, graph_outcome, value_of, of_value, with_features, imported_with};
+ghost use Rattle.graph_json.specs.Outcome.{Reads, ReadsValue, IsComplete, IsImportant, LiesNear, graph_outcome, without_feed, text_value, of_value, with_features, imported_with};
 
 use crate::columns::columns_of;
 use crate::entries::entries_of;
@@ -28,15 +28,30 @@ pub fn read_graph(alloc: Global, bytes: &[u8]) -> Result<Imported, JsonFault>
     ensures reads { Reads result (graph_outcome bytes.now) }
     ensures complete { IfOk result IsComplete }
 {
-    let value = value_of(alloc, bytes)?;
+    let value = text_value(alloc, without_feed(bytes))?;
     graph_of_value(alloc, &value)
 }
 
-/// The value that a text is (RFC 8259).
-fn value_of(alloc: Global, bytes: &[u8]) -> Result<Value, JsonFault>
-    ensures { ReadsValue result (value_of bytes.now) }
+/// The bytes without a line feed at their end.
+fn without_feed(bytes: &[u8]) -> &[u8]
+    ensures { result.now ≡ without_feed bytes.now }
 {
-    match Value::from_slice(alloc, bytes) {
+    if bytes.is_empty() {
+        return bytes;
+    }
+    let last = bytes.len() - 1;
+    if bytes[last] == b'\n' {
+        &bytes[..last]
+    } else {
+        bytes
+    }
+}
+
+/// The value that a text is (RFC 8259).
+fn text_value(alloc: Global, text: &[u8]) -> Result<Value, JsonFault>
+    ensures { ReadsValue result (text_value text.now) }
+{
+    match Value::from_slice(alloc, text) {
         Ok(value) => Ok(value),
         Err(fault) => {
             if fault.is_memory() {

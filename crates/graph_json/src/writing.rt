@@ -1,10 +1,11 @@
 //! Writing a graph file.
 
-ghost use Rattle.std.specs.Prelude.{◌≡◌, ◌≤◌, ◌++◌, length, map, IfOk, OnOk};
+ghost use Rattle.std.specs.Prelude.{◌≡◌, ◌++◌, Ok, length, map, IfOk, OnOk};
 ghost use Rattle.std.specs.List.{range_with_len};
 ghost use Rattle.serde_json.specs.View.{view};
-ghost use Rattle.graph_json.specs.Written.{graph_text, graph_data, lines_listed, after_lines, node_data, segment_data, line_data, lines_data, list_data, line_object, importance_at};
-ghost use Rattle.svg_writer.specs.Picture.{name_of, colour_of};
+ghost use Rattle.graph_json.specs.Written.{after_lines, graph_data, graph_text, line_data, lines_data, lines_listed, list_data, node_data, segment_data};
+ghost use Rattle.graph_json.specs.Again.{CanBeRead, read_again};
+ghost use Rattle.graph_json.specs.Outcome.{graph_outcome};
 
 use crate::written::{line, node, segment};
 use graph_core::LineGraph;
@@ -15,14 +16,17 @@ use svg_writer::Names;
 
 /// The text of a line graph as GeoJSON: one compact line. Coordinates are whole decimetres of the plane. `names` has the
 /// names of stations and the names and colours of lines by their numbers (an empty text where it has none), `importance`
-/// a number from 1 to 16 for each line (1 where it has none).
+/// a number from 1 to 16 for each line (1 where it has none). What is written is read as the same graph, up to the numbers
+/// of its stations, with the same names, colours and importances.
 pub fn write_graph(
     alloc: Global,
     graph: &LineGraph,
     names: &Names,
     importance: &[u32],
 ) -> Result<Vec<u8>, NoMemory>
-    ensures { IfOk result (λ bytes. bytes.items ≡ graph_text graph.now names.now importance.now) }
+    ensures text { IfOk result (λ bytes. bytes.items ≡ graph_text graph.now names.now importance.now) }
+    ensures again { IfOk result (λ bytes. CanBeRead graph.now names.now importance.now
+        → graph_outcome bytes.items ≡ Ok (read_again graph.now names.now importance.now)) }
 {
     let mut text = whole(alloc, graph, names, importance)?.to_vec(alloc)?;
     text.push(b'\n')?;
