@@ -5,3 +5,5 @@ mod Consistency
 mod Assembly
 mod FormFacts
 mod PlainValues
+mod ListBack
+mod ReadBack
