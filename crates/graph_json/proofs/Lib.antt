@@ -7,3 +7,4 @@ mod FormFacts
 mod PlainValues
 mod ListBack
 mod ReadBack
+mod Sound

@@ -14,16 +14,16 @@ module _ {A B C : Type 0} (f : A → Option B) (h : C → A) (k : C → B) where
   of_each_mapped (x ∷ xs) e = ap₂ in_front e.0 (of_each_mapped xs e.1)
 
 module _ {A B : Type 0} (f : A → Option B) where
-  pub of_each_append : (xs ys : List A) (as bs : List B) → of_each f xs ≡ Some as → of_each f ys ≡ Some bs → of_each f (xs ++ ys) ≡ Some (as ++ bs)
-  of_each_append [] ys as bs e d = let none : [] ≡ as = cc in d ∙ ap (λ l. Some (l ++ bs)) none
-  of_each_append (x ∷ xs) ys as bs e d = by (f x) refl (of_each f xs) refl e
+  pub of_each_append : (xs ys : List A) (cs ds : List B) → of_each f xs ≡ Some cs → of_each f ys ≡ Some ds → of_each f (xs ++ ys) ≡ Some (cs ++ ds)
+  of_each_append [] ys cs ds e d = let none : [] ≡ cs = cc in d ∙ ap (λ l. Some (l ++ ds)) none
+  of_each_append (x ∷ xs) ys cs ds e d = by (f x) refl (of_each f xs) refl e
     where
-      by : (o : Option B) → f x ≡ o → (rest : Option (List B)) → of_each f xs ≡ rest → in_front o rest ≡ Some as → in_front (f x) (of_each f (xs ++ ys)) ≡ Some (as ++ bs)
+      by : (o : Option B) → f x ≡ o → (rest : Option (List B)) → of_each f xs ≡ rest → in_front o rest ≡ Some cs → in_front (f x) (of_each f (xs ++ ys)) ≡ Some (cs ++ ds)
       by None is rest rests e = absurd (cc)
       by (Some y) is None rests e = absurd (cc)
       by (Some y) is (Some zs) rests e =
-          let same : y ∷ zs ≡ as = cc in
-          ap₂ in_front is (of_each_append xs ys zs bs rests d) ∙ ap (λ l. Some (l ++ bs)) same
+          let same : y ∷ zs ≡ cs = cc in
+          ap₂ in_front is (of_each_append xs ys zs ds rests d) ∙ ap (λ l. Some (l ++ ds)) same
 
   -- where something comes of each, no entry is the first of which nothing does
   pub all_entries : (i : ℕ) (xs : List A) (ys : List B) → of_each f xs ≡ Some ys → each_or_first f i xs ≡ Ok ys
