@@ -124,7 +124,7 @@ few_lines segments h = (
 
 -- ---- the whole
 
-length-kinds_from : (s : ℕ) (names : List (Option (List ℕ))) → length (kinds_from s names) ≡ length names
+pub length-kinds_from : (s : ℕ) (names : List (Option (List ℕ))) → length (kinds_from s names) ≡ length names
 length-kinds_from s [] = refl
 length-kinds_from s (Some name ∷ names) = ap suc (length-kinds_from (s + 1) names)
 length-kinds_from s (None ∷ names) = ap suc (length-kinds_from s names)

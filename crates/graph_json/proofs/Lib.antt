@@ -8,3 +8,4 @@ mod PlainValues
 mod ListBack
 mod ReadBack
 mod Sound
+mod WrittenAgain
