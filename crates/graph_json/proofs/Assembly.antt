@@ -7,6 +7,7 @@ use Rattle.std.proofs.lemmas.List.{length-map}
 use Rattle.std.specs.List.{AllByRecursion as ByRecursion}
 use Rattle.std.proofs.lemmas.List.Elements.{All-from_recursion, recursion_from_All, All-map, Contains-from_at}
 use Rattle.std.proofs.lemmas.List.Folds.{Any-from_list_any, list_any-append}
+use Rattle.std.specs.Option.{option_or}
 use Rattle.map_base.specs.declared.ids.LineId.{LineId}
 use Rattle.map_base.specs.declared.limit.Limit.{Limit}
 use Rattle.map_base.specs.declared.limit.LimitKind.{LimitKind}
@@ -20,7 +21,7 @@ use Rattle.graph_json.specs.declared.forms.NodeForm.{NodeForm}
 use Rattle.graph_json.specs.declared.forms.SegmentForm.{SegmentForm}
 use Rattle.graph_json.specs.declared.forms.Feature.{Feature}
 use Rattle.graph_json.specs.declared.forms.Feature.TheVariants.{Node, Segment}
-use Rattle.graph_json.specs.Limits.{is_line, with_line, with_lines, lines_on, names_in, above, first_of, limit_met}
+use Rattle.graph_json.specs.Limits.{is_line, with_line, with_lines, lines_on, names_in, above, limit_met}
 use Rattle.graph_json.specs.References.{nodes_in, segments_in, names_of_nodes, kinds_from, graph_of, is_node, node_holds, segment_holds, broken_from}
 use Rattle.graph_json.specs.Outcome.{graph_made, imported_of, broken_in, limit_of_features, IsNamed, IsImportant, LiesNear, IsComplete}
 use Rattle.graph_json.proofs.Consistency.{IsShaped, consistent, lines_listed}
@@ -64,7 +65,7 @@ module _ (g : GraphParts) (listed : ℕ) where
 
 -- ---- limits
 
-none_first : (a b : Option Limit) → first_of a b ≡ None → (a ≡ None) × (b ≡ None)
+none_first : (a b : Option Limit) → option_or a b ≡ None → (a ≡ None) × (b ≡ None)
 none_first None b e = (refl, e)
 none_first (Some x) b e = absurd (cc)
 

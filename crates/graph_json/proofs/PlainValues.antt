@@ -11,10 +11,10 @@ use Rattle.graph_core.specs.declared.parts.NodeKind.{NodeKind}
 use Rattle.graph_core.specs.declared.parts.NodeKind.TheVariants.{Station, Junction}
 use Rattle.svg_writer.specs.declared.names.Names.{Names}
 use Rattle.svg_writer.specs.Picture.{ends_at, kind_at, round_at, joins_at, lines_at}
-use Rattle.serde_json.specs.Data.{Data, number, Items, Members, depth, items_depth, members_depth}
+use Rattle.serde_json.specs.Data.{Data, object, Items, depth, items_depth}
 use Rattle.serde_json.specs.Find.{is_float, of_integer}
 use Rattle.serde_json.specs.View.{items_of}
-use Rattle.serde_json.specs.Written.{has_float, items_have_float, members_have_float}
+use Rattle.serde_json.specs.Written.{has_float, items_have_float}
 use Rattle.graph_json.specs.Written as w
 
 -- a value without floats that nests at most so deep
@@ -25,10 +25,6 @@ pub record IsPlain (most : ℕ) (d : Data) : Type 0 where
 record ArePlain (most : ℕ) (ds : Items) : Type 0 where
   whole : items_have_float ds ≡ false
   shallow : items_depth ds ≤ most
-
-record AreMembersPlain (most : ℕ) (ms : Members) : Type 0 where
-  whole : members_have_float ms ≡ false
-  shallow : members_depth ms ≤ most
 
 items : (most : ℕ) (ds : List Data) → ByRecursion (IsPlain most) ds → ArePlain most (items_of ds)
 items most [] h = record { whole = refl; shallow = omega arith }
@@ -69,16 +65,16 @@ join j = list 0 (w.count_data j.e.0 ∷ w.count_data j.f.0 ∷ w.count_data j.li
 line : (names : Names) (importance : List ℕ) (l : ℕ) → IsPlain 1 (w.line_data names importance l)
 line names importance l = record { whole = refl; shallow = omega arith }
 
-feature : (shape : List ℕ) (coordinates : Data) (properties : Members) → IsPlain 2 coordinates → AreMembersPlain 2 properties → IsPlain 4 (w.feature_data shape coordinates properties)
+feature : (shape : List ℕ) (coordinates properties : Data) → IsPlain 2 coordinates → IsPlain 3 properties → IsPlain 4 (w.feature_data shape coordinates properties)
 feature shape coordinates properties c p = record {
   whole = ap₂ (λ a b. (a || (false || false)) || (b || (false || false))) c.whole p.whole;
   shallow = omega (arith, c.shallow, p.shallow);
 }
 
-properties : (names : Names) (kind : NodeKind) (joins : List Join) (round : List SegId) → AreMembersPlain 2 (w.node_properties names kind joins round)
+properties : (names : Names) (kind : NodeKind) (joins : List Join) (round : List SegId) → IsPlain 3 (object (w.node_properties names kind joins round))
 properties names kind joins round = by kind (list 1 (map w.join_data joins) (mapped 1 w.join_data join joins)) (list 0 (map w.seg_data round) (mapped 0 w.seg_data (λ (s : SegId). count s.0) round))
   where
-    by : (kind : NodeKind) → IsPlain 2 (w.list_data (map w.join_data joins)) → IsPlain 1 (w.list_data (map w.seg_data round)) → AreMembersPlain 2 (w.node_properties names kind joins round)
+    by : (kind : NodeKind) → IsPlain 2 (w.list_data (map w.join_data joins)) → IsPlain 1 (w.list_data (map w.seg_data round)) → IsPlain 3 (object (w.node_properties names kind joins round))
     by (Station s) j r = record { whole = ap₂ (λ a b. a || (false || (b || false))) j.whole r.whole; shallow = omega (arith, j.shallow, r.shallow) }
     by Junction j r = record { whole = ap₂ (λ a b. a || (b || false)) j.whole r.whole; shallow = omega (arith, j.shallow, r.shallow) }
 
@@ -94,7 +90,7 @@ segment g s =
     let places = list 1 (w.point_data (w.point_at g.places ends.0.0) ∷ w.point_data (w.point_at g.places ends.1.0) ∷ []) (point (w.point_at g.places ends.0.0), point (w.point_at g.places ends.1.0), tt) in
     let numbers = list 0 (w.count_data ends.0.0 ∷ w.count_data ends.1.0 ∷ []) (count ends.0.0, count ends.1.0, tt) in
     let lines = list 0 (map w.line_number (lines_at g.lines s)) (mapped 0 w.line_number (λ (l : LineId). count l.0) (lines_at g.lines s)) in
-    feature (codes "LineString") _ (w.segment_properties ends (lines_at g.lines s)) places
+    feature (codes "LineString") _ (object (w.segment_properties ends (lines_at g.lines s))) places
     (record { whole = ap₂ (λ a b. a || (b || false)) numbers.whole lines.whole; shallow = omega (arith, numbers.shallow, lines.shallow) })
 
 pub graph_plain : (g : GraphParts) (names : Names) (importance : List ℕ) → IsPlain 6 (w.graph_data g names importance)

@@ -107,7 +107,7 @@ module _ (names : Names) (joins : List Join) (round : List SegId) where
   joins_at Junction = refl
 
   pub node_back : (kind : NodeKind) (p : Point) → IsNear p → ByRecursion IsSmall joins → ByRecursion (λ (s : SegId). s.0 < 2 ^ 32) round
-      → forms.feature_of (w.feature_data (codes "Point") (w.point_data p) (w.node_properties names kind joins round))
+      → forms.feature_of (w.feature_data (codes "Point") (w.point_data p) (properties kind))
       ≡ Some (Node (forms.node_with p (node_name names kind) round joins))
   node_back kind p near small few =
       let rounds = ap (option_and_then (forms.array_of_each forms.seg_of)) (round_at kind) ∙ list_back forms.seg_of w.seg_data round (each_seg round few) in
@@ -132,7 +132,7 @@ module _ (names : Names) (joins : List Join) (round : List SegId) where
 -- ---- segments
 
 pub segment_back : (start end : Point) (ends : NodeId × NodeId) (lines : List LineId) → ends.0.0 < 2 ^ 32 → ends.1.0 < 2 ^ 32 → ByRecursion (λ (l : LineId). l.0 < 2 ^ 32) lines
-    → forms.feature_of (w.feature_data (codes "LineString") (w.list_data (w.point_data start ∷ w.point_data end ∷ [])) (w.segment_properties ends lines))
+    → forms.feature_of (w.feature_data (codes "LineString") (w.list_data (w.point_data start ∷ w.point_data end ∷ [])) (object (w.segment_properties ends lines)))
     ≡ Some (Segment (forms.segment_with ends lines))
 segment_back start end ends lines lower upper few =
     ap₂ (λ e l. option_map Segment (option_and_then (λ both. option_map (forms.segment_with both) l) e)) ends_back (list_back forms.line_id_of w.line_number lines (each lines few))

@@ -10,6 +10,7 @@ use Rattle.std.proofs.lemmas.List.FromFn.{length-range_with_len}
 use Rattle.std.proofs.lemmas.List.Sorted.{All-permutation}
 use Rattle.std.proofs.lemmas.Option.{unwrap_or-slice_get}
 use Rattle.std.proofs.lemmas.Str.{is_utf8-from_IsUtf8}
+use Rattle.std.specs.Option.{option_or}
 use Rattle.map_base.specs.declared.ids.LineId.{LineId}
 use Rattle.map_base.specs.declared.ids.NodeId.{NodeId}
 use Rattle.map_base.specs.declared.ids.SegId.{SegId}
@@ -37,7 +38,7 @@ use Rattle.graph_json.specs.declared.imported.Imported.{Imported}
 use Rattle.graph_json.specs.Forms as forms
 use Rattle.graph_json.specs.Written as w
 use Rattle.graph_json.specs.Again.{node_name, name_and_colour, read_again, CanBeRead}
-use Rattle.graph_json.specs.Limits.{lines_on, names_in, above, first_of, limit_met}
+use Rattle.graph_json.specs.Limits.{lines_on, names_in, above, limit_met}
 use Rattle.graph_json.specs.References.{node_in, segment_in, nodes_in, segments_in, names_of_nodes, kinds_from, graph_of, is_node, is_sound_segment, node_holds, segment_holds, broken_from}
 use Rattle.graph_json.specs.Outcome.{without_feed, text_value, value_of, of_value, of_arrays, with_lines, with_features, within_limits, unless_broken, limit_of_features, broken_in, graph_made, imported_of, each_or_first, graph_outcome}
 use Rattle.graph_json.proofs.Assembly.{length-kinds_from}
@@ -255,10 +256,10 @@ module _ (g : GraphParts) (names : Names) (importance : List ℕ) (fit : IsConsi
   limits : limit_of_features features ≡ None
   limits =
       ap₂ limit_met lines_made names_made
-      ∙ ap₂ (λ a b. first_of a (first_of b (first_of (above kind.Nodes (length (map (node_name names) g.kinds))) (above kind.Segments (length g.lines)))))
+      ∙ ap₂ (λ a b. option_or a (option_or b (option_or (above kind.Nodes (length (map (node_name names) g.kinds))) (above kind.Segments (length g.lines)))))
       (within kind.Lines _ (few_lines 1000 g.lines fit.few_lines.0 fit.few_lines.1 fit.few_lines.2))
       (within kind.Stations _ (omega (arith, named_most (map (node_name names) g.kinds), length-map g.kinds (node_name names), fit.few_nodes)))
-      ∙ ap₂ (λ a b. first_of a b) (within kind.Nodes _ (omega (arith, length-map g.kinds (node_name names), fit.few_nodes)))
+      ∙ ap₂ (λ a b. option_or a b) (within kind.Nodes _ (omega (arith, length-map g.kinds (node_name names), fit.few_nodes)))
       (within kind.Segments _ (omega (arith, fit.lines_each, fit.few_segments)))
 
   count_nodes : length (nodes_in features) ≡ length g.kinds

@@ -1,6 +1,7 @@
 -- How many of each thing the features of a graph file have, and the first limit that is met.
 use Rattle.std.specs.Prelude.{ℕ, nat_lt, ◌==◌, List, [], ◌∷◌, ◌++◌, Bool, length, fold, filter_map, if◌then◌else◌, Option, Some, None}
 use Rattle.std.specs.List.{list_any}
+use Rattle.std.specs.Option.{option_or}
 use Rattle.map_base.specs.declared.ids.LineId.{LineId}
 use Rattle.map_base.specs.declared.limit.Limit.{Limit}
 use Rattle.map_base.specs.declared.limit.LimitKind.{LimitKind}
@@ -29,13 +30,9 @@ names_in names = filter_map (λ name. name) names
 abbrev pub above : LimitKind → ℕ → Option Limit
 above of count = if nat_lt (limit_most of) count then Some (limit_of of) else None
 
-abbrev pub first_of : Option Limit → Option Limit → Option Limit
-first_of (Some limit) rest = Some limit
-first_of None rest = rest
-
 -- Of segments with these lines and nodes with these names, of which the stations alone have one: lines come first, then
 -- stations, nodes and segments.
 abbrev pub limit_met : List (List LineId) → List (Option (List ℕ)) → Option Limit
 limit_met lines names =
-    first_of (above kind.Lines (length (lines_on lines))) (first_of (above kind.Stations (length (names_in names)))
-    (first_of (above kind.Nodes (length names)) (above kind.Segments (length lines))))
+    option_or (above kind.Lines (length (lines_on lines))) (option_or (above kind.Stations (length (names_in names)))
+    (option_or (above kind.Nodes (length names)) (above kind.Segments (length lines))))

@@ -63,10 +63,10 @@ line_data names importance l =
 -- ---- features
 
 -- a feature of this geometry and these properties
-abbrev pub feature_data : List ℕ → Data → Members → Data
+abbrev pub feature_data : List ℕ → Data → Data → Data
 feature_data shape coordinates properties =
     object (member (codes "geometry") (object (member (codes "coordinates") coordinates (member (codes "type") (word shape) no_members)))
-    (member (codes "properties") (object properties) (member (codes "type") (word (codes "Feature")) no_members)))
+    (member (codes "properties") properties (member (codes "type") (word (codes "Feature")) no_members)))
 
 abbrev pub seg_data : SegId → Data
 seg_data s = count_data s.0
@@ -93,7 +93,7 @@ point_at places n = unwrap_or (slice_get places n) (record { x = pos 0; y = pos 
 
 abbrev pub node_data : GraphParts → Names → ℕ → Data
 node_data g names n =
-    feature_data (codes "Point") (point_data (point_at g.places n)) (node_properties names (kind_at g.kinds n) (joins_at g.joins n) (round_at g.rounds n))
+    feature_data (codes "Point") (point_data (point_at g.places n)) (object (node_properties names (kind_at g.kinds n) (joins_at g.joins n) (round_at g.rounds n)))
 
 abbrev pub segment_properties : NodeId × NodeId → List LineId → Members
 segment_properties ends lines =
@@ -105,7 +105,7 @@ abbrev pub segment_data : GraphParts → ℕ → Data
 segment_data g s =
     feature_data (codes "LineString")
     (list_data (point_data (point_at g.places (ends_at g.ends s).0.0) ∷ point_data (point_at g.places (ends_at g.ends s).1.0) ∷ []))
-    (segment_properties (ends_at g.ends s) (lines_at g.lines s))
+    (object (segment_properties (ends_at g.ends s) (lines_at g.lines s)))
 
 -- ---- the whole
 

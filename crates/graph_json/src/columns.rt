@@ -62,10 +62,16 @@ impl Columns {
     fn add_node(&mut self, node: NodeForm) -> Result<(), NoMemory>
         ensures { OnOk result ((done : List Feature) → AreColumns self.old done → AreColumns self.new (done ++ Node node ∷ [])) }
     {
-        self.names.push(node.name)?;
-        self.places.push(node.place)?;
-        self.rounds.push(node.round)?;
-        self.joins.push(node.joins)?;
+        let NodeForm {
+            place,
+            name,
+            round,
+            joins,
+        } = node;
+        self.names.push(name)?;
+        self.places.push(place)?;
+        self.rounds.push(round)?;
+        self.joins.push(joins)?;
         self.are_nodes.push(true)?;
         Ok(())
     }
@@ -73,8 +79,9 @@ impl Columns {
     fn add_segment(&mut self, segment: SegmentForm) -> Result<(), NoMemory>
         ensures { OnOk result ((done : List Feature) → AreColumns self.old done → AreColumns self.new (done ++ Segment segment ∷ [])) }
     {
-        self.ends.push(segment.ends)?;
-        self.lines.push(segment.lines)?;
+        let SegmentForm { ends, lines } = segment;
+        self.ends.push(ends)?;
+        self.lines.push(lines)?;
         self.are_nodes.push(false)?;
         Ok(())
     }

@@ -16,11 +16,11 @@ pub(crate) fn limit_met(
 ) -> Result<Option<Limit>, NoMemory>
     ensures { IfOk result (λ met. met ≡ limit_met lines.now names.now) }
 {
-    let met = above(LimitKind::Lines, lines_on(alloc, lines)?)
-        .or(above(LimitKind::Stations, stations_in(names)))
-        .or(above(LimitKind::Nodes, names.len()))
-        .or(above(LimitKind::Segments, lines.len()));
-    Ok(met)
+    let of_lines = above(LimitKind::Lines, lines_on(alloc, lines)?);
+    let of_stations = above(LimitKind::Stations, stations_in(names));
+    let of_nodes = above(LimitKind::Nodes, names.len());
+    let of_segments = above(LimitKind::Segments, lines.len());
+    Ok(of_lines.or(of_stations.or(of_nodes.or(of_segments))))
 }
 
 /// The limit that a count is above.

@@ -107,11 +107,11 @@ fn graph_with(
     if let Some(index) = broken(&made.parts, lines.len(), &made.are_nodes) {
         return Err(JsonFault::Feature { index });
     }
-    Ok(imported(alloc, lines, made)?)
+    Ok(with_names(alloc, lines, made)?)
 }
 
 /// What these lines and this graph make.
-fn imported(alloc: Global, lines: Vec<LineForm>, made: Made) -> Result<Imported, NoMemory>
+fn with_names(alloc: Global, lines: Vec<LineForm>, made: Made) -> Result<Imported, NoMemory>
     requires { IsConsistent made.parts }
     ensures { IfOk result (λ read. read ≡ imported_with lines.items made.parts made.stations.items) }
 {
@@ -134,8 +134,13 @@ fn named(alloc: Global, lines: Vec<LineForm>) -> Result<(Vec<(Text, [u8; 3])>, V
     let mut names = Vec::new(alloc);
     let mut importance = Vec::new(alloc);
     for line in lines {
-        names.push((line.name, line.colour))?;
-        importance.push(line.importance)?;
+        let LineForm {
+            name,
+            colour,
+            importance: number,
+        } = line;
+        names.push((name, colour))?;
+        importance.push(number)?;
     }
     Ok((names, importance))
 }

@@ -28,7 +28,8 @@ pub fn write_graph(
     ensures again { IfOk result (λ bytes. CanBeRead graph.now names.now importance.now
         → graph_outcome bytes.items ≡ Ok (read_again graph.now names.now importance.now)) }
 {
-    let mut text = whole(alloc, graph, names, importance)?.to_vec(alloc)?;
+    let value = whole(alloc, graph, names, importance)?;
+    let mut text = value.to_vec(alloc)?;
     text.push(b'\n')?;
     Ok(text)
 }
@@ -109,7 +110,10 @@ fn line_of_number(
         None => 1,
     };
     match names.lines.as_slice().get(l as usize) {
-        Some((name, colour)) => line(alloc, name.as_str(), &colour[..], importance),
+        Some(entry) => {
+            let colour = &entry.1;
+            line(alloc, entry.0.as_str(), &colour[..], importance)
+        }
         None => line(alloc, "", &[], importance),
     }
 }

@@ -1,7 +1,7 @@
 //! The values that a graph file is written of.
 
 ghost use Rattle.std.specs.Prelude.{◌≡◌, ◌<◌, length, map, IfOk};
-ghost use Rattle.serde_json.specs.Data.{Data, Members, object};
+ghost use Rattle.serde_json.specs.Data.{Data, object};
 ghost use Rattle.serde_json.specs.View.{view};
 ghost use Rattle.hex.specs.Hex.{encode_lower};
 ghost use Rattle.graph_json.specs.Written.{feature_data, point_data, node_data, node_properties, segment_data, segment_properties, line_object, list_data};
@@ -63,7 +63,7 @@ fn list<T: Datum>(alloc: Global, items: &[T]) -> Result<Value, AllocError>
 }
 
 /// The coordinates of a point.
-fn point(alloc: Global, place: Point) -> Result<Value, AllocError>
+fn coordinates(alloc: Global, place: Point) -> Result<Value, AllocError>
     ensures { IfOk result (λ v. view v ≡ point_data place) }
 {
     json!(in alloc; [place.x, place.y])
@@ -76,7 +76,7 @@ fn feature(
     coordinates: Value,
     properties: Value,
 ) -> Result<Value, AllocError>
-    ensures { IfOk result (λ v. (members : Members) → view properties ≡ object members → view v ≡ feature_data shape.now (view coordinates) members) }
+    ensures { IfOk result (λ v. view v ≡ feature_data shape.now (view coordinates) (view properties)) }
 {
     json!(in alloc; {
         "geometry": {"coordinates": coordinates, "type": shape},
@@ -116,7 +116,7 @@ pub(crate) fn node(
     requires { n.0 < length graph.now.kinds }
     ensures { IfOk result (λ v. view v ≡ node_data graph.now names.now n.0) }
 {
-    let coordinates = point(alloc, graph.place(n))?;
+    let place = coordinates(alloc, graph.place(n))?;
     let properties = properties_of_node(
         alloc,
         names,
@@ -124,7 +124,7 @@ pub(crate) fn node(
         graph.joins(n),
         graph.round(n),
     )?;
-    feature(alloc, "Point", coordinates, properties)
+    feature(alloc, "Point", place, properties)
 }
 
 /// The properties of a segment.
@@ -146,11 +146,11 @@ pub(crate) fn segment(alloc: Global, graph: &LineGraph, s: SegId) -> Result<Valu
     ensures { IfOk result (λ v. view v ≡ segment_data graph.now s.0) }
 {
     let (lower, upper) = graph.ends(s);
-    let start = point(alloc, graph.place(lower))?;
-    let end = point(alloc, graph.place(upper))?;
-    let coordinates = json!(in alloc; [start, end])?;
+    let start = coordinates(alloc, graph.place(lower))?;
+    let end = coordinates(alloc, graph.place(upper))?;
+    let places = json!(in alloc; [start, end])?;
     let properties = properties_of_segment(alloc, (lower, upper), graph.lines(s))?;
-    feature(alloc, "LineString", coordinates, properties)
+    feature(alloc, "LineString", places, properties)
 }
 
 /// A line of this name, this colour (red, green and blue) and this importance.
