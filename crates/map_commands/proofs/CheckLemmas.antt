@@ -4,11 +4,11 @@ use Rattle.std.specs.Option.{option_map}
 use Rattle.graph_core.specs.declared.parts.GraphParts.{GraphParts}
 use Rattle.line_graph.specs.Outcome.{graph_outcome}
 use Rattle.files_door.specs.Files.{file_at}
-use Rattle.map_engine.specs.declared.fault.CheckItem.{CheckItem}
-use Rattle.map_engine.specs.declared.fault.CheckItem.TheVariants as found
-use Rattle.map_engine.specs.declared.checked.Checked.{Checked}
-use Rattle.map_engine.specs.declared.checked.Proved.{Proved}
-use Rattle.map_engine.specs.Checking.{PlainChecked, checked_bytes, first_difference, unless_refused}
+use Rattle.map_faults.specs.declared.fault.CheckItem.{CheckItem}
+use Rattle.map_faults.specs.declared.fault.CheckItem.TheVariants as found
+use Rattle.graph_maps.specs.declared.checked.Checked.{Checked}
+use Rattle.graph_maps.specs.declared.checked.Proved.{Proved}
+use Rattle.graph_maps.specs.Checking.{PlainChecked, checked_bytes, first_difference, unless_refused}
 use Rattle.map_engine.specs.Promises.{IsCertified}
 use Rattle.command_run.specs.declared.output.Output.{Output}
 use Rattle.command_run.specs.Work.{Work, ends, ◌>>=◌}

@@ -1,7 +1,8 @@
 -- What `make` promises, and how many steps it takes.
 use Rattle.std.proofs.Common.{◌≡◌, ◌≤◌, ◌+◌, ℕ, inl, inr, List, [], Option, Some, Result, Ok, Err, IfOk, sym, subst}
 use Rattle.command_run.specs.declared.output.Output.{Output}
-use Rattle.map_engine.specs.Making.{MapBytes, make_outcome}
+use Rattle.graph_maps.specs.Making.{MapBytes}
+use Rattle.map_engine.specs.Making.{make_outcome}
 use Rattle.map_engine.specs.Keeping.{branches_left}
 use Rattle.map_engine.specs.Promises.{IsMade}
 use Rattle.command_inputs.specs.declared.loaded.Loaded.{Loaded}

@@ -4,12 +4,14 @@ use Rattle.std.specs.Fmt.{decimal}
 use Rattle.map_base.specs.declared.limit.Limit.{Limit}
 use Rattle.graph_core.specs.declared.parts.GraphParts.{GraphParts}
 use Rattle.line_graph.specs.Outcome.{graph_outcome}
-use Rattle.map_engine.specs.declared.fault.MakeFault.{MakeFault}
-use Rattle.map_engine.specs.declared.fault.CheckFault.{CheckFault}
-use Rattle.map_engine.specs.declared.checked.Proved.{Proved}
-use Rattle.map_engine.specs.Making.{MapBytes, make_outcome}
-use Rattle.map_engine.specs.Readings.{certificate_in}
-use Rattle.map_engine.specs.Checking.{PlainChecked, checked_text, pictured}
+use Rattle.map_faults.specs.declared.fault.MakeFault.{MakeFault}
+use Rattle.map_faults.specs.declared.fault.CheckFault.{CheckFault}
+use Rattle.graph_maps.specs.declared.checked.Proved.{Proved}
+use Rattle.graph_maps.specs.Making.{MapBytes}
+use Rattle.map_engine.specs.Making.{make_outcome}
+use Rattle.graph_maps.specs.Readings.{certificate_in}
+use Rattle.graph_maps.specs.Checking.{PlainChecked, pictured}
+use Rattle.map_engine.specs.Checking.{checked_text}
 use Rattle.files_door.specs.declared.target.Target.TheVariants.{Path}
 use Rattle.command_run.specs.declared.output.Output.{Output}
 use Rattle.command_run.specs.Work.{Work, ends, ◌>>=◌}

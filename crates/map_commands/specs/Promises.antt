@@ -2,8 +2,9 @@
 use Rattle.std.specs.Prelude.{◌≡◌, ◌≤◌, ◌⊎◌, ℕ, ◌+◌, List, [], Option, Some, Ok, IfSome}
 use Rattle.files_door.specs.Files.{file_at}
 use Rattle.command_run.specs.declared.output.Output.{Output}
-use Rattle.map_engine.specs.declared.checked.Proved.{Proved}
-use Rattle.map_engine.specs.Making.{MapBytes, make_outcome}
+use Rattle.graph_maps.specs.declared.checked.Proved.{Proved}
+use Rattle.graph_maps.specs.Making.{MapBytes}
+use Rattle.map_engine.specs.Making.{make_outcome}
 use Rattle.map_engine.specs.Keeping.{branches_left}
 use Rattle.map_engine.specs.Promises.{IsMade, IsCertified}
 use Rattle.command_paths.specs.Paths.{MapPaths}

@@ -2,7 +2,8 @@
 
 ghost use Rattle.std.specs.Prelude.{Ok, ◌≡◌, ◌≤◌, ◌+◌, [], IfOk};
 ghost use Rattle.files_door.specs.Fault.{Rose};
-ghost use Rattle.map_engine.specs.Making.{MapBytes, make_outcome};
+ghost use Rattle.graph_maps.specs.Making.{MapBytes};
+ghost use Rattle.map_engine.specs.Making.{make_outcome};
 ghost use Rattle.map_engine.specs.Keeping.{branches_left};
 ghost use Rattle.map_engine.specs.Promises.{IsMade};
 ghost use Rattle.command_paths.specs.Paths.{paths_by};

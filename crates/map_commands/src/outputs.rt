@@ -1,7 +1,7 @@
 //! The outputs of `make`.
 
 ghost use Rattle.std.specs.Prelude.{◌≡◌, IfOk};
-ghost use Rattle.map_engine.specs.Making.{bytes_of};
+ghost use Rattle.graph_maps.specs.Making.{bytes_of};
 ghost use Rattle.command_paths.specs.Paths.{paths_by};
 ghost use Rattle.map_commands.specs.MapWorks.{map_outputs};
 

@@ -9,12 +9,12 @@ use Rattle.line_graph.specs.Outcome.{graph_outcome}
 use Rattle.line_graph.specs.SegmentLines.{lines_outcome}
 use Rattle.geo_map.specs.GeoMap.{geographic_text}
 use Rattle.cert_file.specs.Plain.{PlainCertificate}
-use Rattle.map_engine.specs.declared.fault.CheckFault.{CheckFault}
-use Rattle.map_engine.specs.declared.fault.CheckFault.TheVariants as fault
+use Rattle.map_faults.specs.declared.fault.CheckFault.{CheckFault}
+use Rattle.map_faults.specs.declared.fault.CheckFault.TheVariants as fault
 use Rattle.map_engine.specs.Tables.{names_by}
 use Rattle.map_engine.specs.Promises.{IsCertified}
 use Rattle.map_engine.specs.Labelling.{pictured_items}
-use Rattle.map_engine.specs.declared.checked.Proved.{Proved}
+use Rattle.graph_maps.specs.declared.checked.Proved.{Proved}
 use Rattle.map_method.specs.declared.claim.Claim.{Claim}
 
 -- the orders of a certificate as a map over the courses of segments
@@ -43,8 +43,7 @@ abbrev pub geographic_outcome : Feed → Choices → Claim → Result PlainCerti
 geographic_outcome feed choices claim read = geographic_on feed choices claim read (graph_outcome choices.near feed) (lines_outcome choices.near feed)
 
 -- A geographic map, by a certificate, whoever made that: the certificate certifies the picture that is due, as `check`
--- does, so of its line orders that is proved; and the map shows these orders along the
--- courses of the feed's segments.
+-- does, so of its line orders this is proved; and the map shows these orders along the courses of the feed's segments.
 pub record IsGeographicMap (feed : Feed) (choices : Choices) (claim : Claim) (map bytes : List ℕ) : Type 0 where
   pub picture : List ℕ
   pub proved : Proved

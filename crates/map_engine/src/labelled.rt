@@ -2,21 +2,18 @@
 
 ghost use Rattle.std.specs.Prelude.{◌≡◌, IfOk, Ok};
 ghost use Rattle.line_graph.specs.Outcome.{graph_outcome};
-ghost use Rattle.cert_file.specs.Plain.{plain as certificate_of};
-ghost use Rattle.map_engine.specs.Readings.{certificate_in};
-ghost use Rattle.map_engine.specs.Checking.{Gives};
-ghost use Rattle.map_engine.specs.Labelling.{labelled_by, labelled_items, labels_outcome, IsLabelledMap};
+ghost use Rattle.graph_maps.specs.Readings.{certificate_in};
+ghost use Rattle.graph_maps.specs.Checking.{Gives};
+ghost use Rattle.map_engine.specs.Labelling.{labelled_items, labels_outcome, IsLabelledMap};
 
-use crate::checking::check_on_graph;
-use crate::fault::CheckFault;
+use crate::importance::line_numbers;
 use crate::names::names_of;
-use cert_file::{Certificate, read_certificate};
 use graph_core::LineGraph;
-use label_place::labelled;
+use graph_maps::labels_from;
 use line_graph::build;
-use map_base::{NoMemory, Settings};
+use map_base::Settings;
+use map_faults::CheckFault;
 use map_method::Claim;
-use octi_grid::Drawing;
 use std::alloc::Global;
 use transit_feed::Tables;
 
@@ -50,23 +47,15 @@ pub fn labels_on_graph(
     ensures outcome { Gives (λ map. map.items) result (labelled_items tables.now settings.now claim graph.now (certificate_in certificate.now)) }
     ensures certified { IfOk result (λ map. IsLabelledMap tables.now settings.now claim map.items certificate.now) }
 {
-    let _accepted = check_on_graph(alloc, tables, settings, claim, graph, certificate)?;
-    let read = read_certificate(alloc, certificate)?;
-    Ok(labelled_map(alloc, tables, graph, read)?)
-}
-
-/// The map with its names of the walks and the orders of a certificate.
-fn labelled_map(
-    alloc: Global,
-    tables: &Tables,
-    graph: &LineGraph,
-    certificate: Certificate,
-) -> Result<Vec<u8>, NoMemory>
-    ensures { IfOk result (λ map. map.items ≡ labelled_by tables.now graph.now (certificate_of certificate)) }
-{
     let names = names_of(alloc, tables)?;
-    let drawing = Drawing {
-        walks: certificate.walks,
-    };
-    labelled(alloc, graph, &names, &drawing, &certificate.orders)
+    let importance = line_numbers(alloc, tables, settings)?;
+    labels_from(
+        alloc,
+        graph,
+        &names,
+        importance.as_slice(),
+        settings,
+        claim,
+        certificate,
+    )
 }

@@ -9,7 +9,7 @@ use Rattle.files_door.specs.Targets.{Written, held_by}
 use Rattle.std.proofs.lemmas.Slice.Eq.{bytes_eq-Decides}
 use Rattle.command_run.specs.declared.output.Output.{Output}
 use Rattle.command_run.specs.Held.{held_after, line_outputs, IsBeginning}
-use Rattle.map_engine.specs.Making.{MapBytes}
+use Rattle.graph_maps.specs.Making.{MapBytes}
 use Rattle.map_run.specs.declared.answer.Answer.{Answer}
 use Rattle.run_status.specs.declared.input.Input.{Input}
 use Rattle.run_status.specs.declared.refusal.Refusal.{Refusal}

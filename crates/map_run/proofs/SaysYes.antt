@@ -17,13 +17,14 @@ use Rattle.transit_feed.specs.Feeds.{Feed}
 use Rattle.gtfs_tables.specs.Feed.{routes_outcome, stops_table_outcome, trips_outcome, shapes_outcome, stop_times_outcome}
 use Rattle.graph_core.specs.declared.parts.GraphParts.{GraphParts}
 use Rattle.line_graph.specs.Outcome.{graph_outcome}
-use Rattle.map_engine.specs.declared.fault.CheckFault.{CheckFault}
+use Rattle.map_faults.specs.declared.fault.CheckFault.{CheckFault}
 use Rattle.map_method.specs.declared.claim.Claim.{Claim}
-use Rattle.map_engine.specs.declared.checked.Proved.{Proved}
-use Rattle.map_engine.specs.Making.{MapBytes}
-use Rattle.map_engine.specs.Readings.{certificate_in}
+use Rattle.graph_maps.specs.declared.checked.Proved.{Proved}
+use Rattle.graph_maps.specs.Making.{MapBytes}
+use Rattle.graph_maps.specs.Readings.{certificate_in}
 use Rattle.map_engine.specs.Promises.{IsMade}
-use Rattle.map_engine.specs.Checking.{PlainChecked, check_outcome, checked_on, checked_text, pictured}
+use Rattle.graph_maps.specs.Checking.{PlainChecked, pictured}
+use Rattle.map_engine.specs.Checking.{check_outcome, checked_on, checked_text}
 use Rattle.command_run.specs.declared.output.Output.{Output}
 use Rattle.command_run.specs.Work.{Work, ends, reads, ◌>>=◌, outcome}
 use Rattle.command_run.specs.Held.{held_after}

@@ -8,9 +8,11 @@ use Rattle.files_door.specs.Files.{file_at}
 use Rattle.files_door.specs.Targets.{Written, held_by}
 use Rattle.table_rows.specs.declared.why.Table.{Table}
 use Rattle.table_rows.specs.Folder.{path_in}
-use Rattle.map_engine.specs.Making.{MapBytes, make_outcome}
+use Rattle.graph_maps.specs.Making.{MapBytes}
+use Rattle.map_engine.specs.Making.{make_outcome}
 use Rattle.map_engine.specs.Promises.{IsMade}
-use Rattle.map_engine.specs.Improving.{ImprovedBytes, improve_outcome, IsImprovedMap}
+use Rattle.graph_maps.specs.Improving.{ImprovedBytes}
+use Rattle.map_engine.specs.Improving.{improve_outcome, IsImprovedMap}
 use Rattle.command_paths.specs.declared.picture.Picture.{Picture}
 use Rattle.picture_command.specs.PictureWorks.{IsPicture}
 use Rattle.edit_session.specs.Scripts.{followed_in}
@@ -20,7 +22,7 @@ use Rattle.command_inputs.specs.declared.loaded.Loaded.{Loaded}
 use Rattle.command_words.specs.Asked.{Asked, stations, graph, export, make, improve, check, depict, session, trial, page}
 use Rattle.command_paths.specs.Paths.{Chosen, MapPaths}
 use Rattle.map_commands.specs.MapWorks.{proved_line}
-use Rattle.map_engine.specs.declared.checked.Proved.{Proved}
+use Rattle.graph_maps.specs.declared.checked.Proved.{Proved}
 use Rattle.improve_command.specs.ImproveWorks.{improved_line}
 use Rattle.command_inputs.specs.Loading.{Loads}
 use Rattle.map_run.specs.Inputs.{inputs_of}

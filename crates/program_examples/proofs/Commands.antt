@@ -7,8 +7,8 @@ use Rattle.table_rows.specs.declared.why.Table.TheVariants.{Routes, Trips, StopT
 use Rattle.table_rows.specs.declared.why.Why.TheVariants.{MissingFile}
 use Rattle.command_run.specs.Work.{outcome, Runs}
 use Rattle.map_settings.specs.declared.fault.SettingsWhy.TheVariants as why
-use Rattle.map_engine.specs.declared.fault.MakeFault.TheVariants as fault
-use Rattle.map_engine.specs.declared.fault.CheckItem.TheVariants as found
+use Rattle.map_faults.specs.declared.fault.MakeFault.TheVariants as fault
+use Rattle.map_faults.specs.declared.fault.CheckItem.TheVariants as found
 use Rattle.order_check.specs.declared.refusal.ProofItem.TheVariants as proof
 use Rattle.run_status.specs.declared.input.Input.TheVariants as input
 use Rattle.run_status.specs.declared.item.Item.TheVariants as item

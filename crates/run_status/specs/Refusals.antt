@@ -11,10 +11,10 @@ use Rattle.map_edits.specs.declared.fault.EditsFault.{EditsFault}
 use Rattle.map_edits.specs.declared.fault.EditsFault.TheVariants as edits
 use Rattle.map_base.specs.declared.limit_fault.LimitFault.{LimitFault}
 use Rattle.map_base.specs.declared.limit_fault.LimitFault.TheVariants as limit
-use Rattle.map_engine.specs.declared.fault.MakeFault.{MakeFault}
-use Rattle.map_engine.specs.declared.fault.MakeFault.TheVariants as make
-use Rattle.map_engine.specs.declared.fault.CheckFault.{CheckFault}
-use Rattle.map_engine.specs.declared.fault.CheckFault.TheVariants as check
+use Rattle.map_faults.specs.declared.fault.MakeFault.{MakeFault}
+use Rattle.map_faults.specs.declared.fault.MakeFault.TheVariants as make
+use Rattle.map_faults.specs.declared.fault.CheckFault.{CheckFault}
+use Rattle.map_faults.specs.declared.fault.CheckFault.TheVariants as check
 use Rattle.run_status.specs.declared.input.Input.{Input}
 use Rattle.run_status.specs.declared.input.Input.TheVariants as input
 use Rattle.run_status.specs.declared.item.Item.TheVariants as item

@@ -8,7 +8,7 @@ use crate::input::Input;
 use crate::item::Item;
 use map_base::{Limit, LimitFault, NoMemory, SegId};
 use map_edits::EditsFault;
-use map_engine::{CheckFault, MakeFault};
+use map_faults::{CheckFault, MakeFault};
 use map_settings::{SettingsFault, SettingsWhy};
 use table_rows::{FeedFault, Table, Why};
 

@@ -4,10 +4,11 @@ use Rattle.map_method.specs.declared.defaults.Defaults.TheVariants.{Make}
 use Rattle.order_proof.specs.Plain.{PlainPartTree, by_cases, by_pairs, PlainPart}
 use Rattle.order_proof.specs.Trees.{splits_of}
 use Rattle.cert_file.specs.Plain.{PlainCertificate}
-use Rattle.map_engine.specs.declared.fault.MakeFault.{MakeFault}
-use Rattle.map_engine.specs.Making.{MapBytes, make_outcome}
+use Rattle.map_faults.specs.declared.fault.MakeFault.{MakeFault}
+use Rattle.graph_maps.specs.Making.{MapBytes}
+use Rattle.map_engine.specs.Making.{make_outcome}
 use Rattle.map_engine.specs.Keeping.{branches_left}
-use Rattle.map_engine.specs.Readings.{certificate_in}
+use Rattle.graph_maps.specs.Readings.{certificate_in}
 use Rattle.command_run.specs.declared.output.Output.{Output}
 use Rattle.command_run.specs.Work.{Work, ends, outcome}
 use Rattle.command_run.specs.Told.{file_of}

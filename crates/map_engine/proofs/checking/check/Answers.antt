@@ -1,6 +1,6 @@
 use Rattle.std.proofs.Common.{◌∙◌, sym, subst, ℕ, List}
 use Rattle.map_engine.specs.Promises.{IsCertified, ShowsLineGraph}
-use Rattle.map_engine.proofs.CheckSteps.{no_difference}
+use Rattle.graph_maps.proofs.CheckSteps.{no_difference}
 use Rattle.map_engine.proofs.checking.check.Goals as goal
 
 pub returns-in-None-clause-certified : goal.returns-in-None-clause-certified

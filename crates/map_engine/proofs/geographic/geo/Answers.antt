@@ -4,8 +4,8 @@ use Rattle.map_base.specs.declared.limit.Limit.{Limit}
 use Rattle.map_base.specs.declared.point.Point.{Point}
 use Rattle.graph_core.specs.declared.parts.GraphParts.{GraphParts}
 use Rattle.line_graph.specs.SegmentLines.{lines_outcome}
-use Rattle.map_engine.specs.Readings.{certificate_in}
-use Rattle.map_engine.specs.Checking.{Gives}
+use Rattle.graph_maps.specs.Readings.{certificate_in}
+use Rattle.graph_maps.specs.Checking.{Gives}
 use Rattle.map_engine.specs.Geographic.{geographic_on}
 use Rattle.map_engine.proofs.geographic.geo.Goals as goal
 
