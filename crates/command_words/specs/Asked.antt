@@ -10,6 +10,7 @@ pub data Asked : Type 0 where
   stations : List ℕ → Asked
   graph : List ℕ → Chosen → Asked
   export : List ℕ → List ℕ → Chosen → Asked
+  imported : List ℕ → MapPaths → Chosen → Asked
   make : List ℕ → MapPaths → Chosen → Asked
   improve : List ℕ → MapPaths → ℕ → Chosen → Asked
   check : List ℕ → MapPaths → Chosen → Asked
@@ -23,6 +24,7 @@ abbrev pub asked_by : Command → Asked
 asked_by (command.Stations feed) = stations feed.now
 asked_by (command.Graph feed options) = graph feed.now (options_by options)
 asked_by (command.Export feed out options) = export feed.now out.now (options_by options)
+asked_by (command.Import graph files options) = imported graph.now (paths_by files) (options_by options)
 asked_by (command.Make feed files options) = make feed.now (paths_by files) (options_by options)
 asked_by (command.Improve feed files moves options) = improve feed.now (paths_by files) moves (options_by options)
 asked_by (command.Check feed files options) = check feed.now (paths_by files) (options_by options)

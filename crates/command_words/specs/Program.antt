@@ -69,6 +69,10 @@ graph_app = with_options (feed_app (codes "graph"))
 abbrev pub export_app : App
 export_app = with_options (with_out (feed_app (codes "export")))
 
+-- a map of a graph file, whose settings alone are named
+abbrev pub import_app : App
+import_app = with_rule (with_files (with_rule (new_app (codes "import")) (operand (codes "JSON")))) (file_option (codes "settings"))
+
 abbrev pub trial_app : App
 trial_app = with_rule (new_app (codes "trial")) number_operand
 
@@ -93,6 +97,6 @@ octimap_maps =
     (map_app (codes "map"))) (map_app (codes "make"))) improve_app) (map_app (codes "check"))) (picture_app (codes "labels")))
     (picture_app (codes "geo"))) session_app
 
--- the program: these, `graph`, `export`, `stations`, `page` and `trial`
+-- the program: these, `graph`, `export`, `import`, `stations`, `page` and `trial`
 unfoldable pub octimap_app : App
-octimap_app = with_command (with_command (with_command (with_command (with_command octimap_maps graph_app) export_app) (feed_app (codes "stations"))) page_app) trial_app
+octimap_app = with_command (with_command (with_command (with_command (with_command (with_command octimap_maps graph_app) export_app) import_app) (feed_app (codes "stations"))) page_app) trial_app

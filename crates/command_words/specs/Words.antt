@@ -17,7 +17,7 @@ use Rattle.command_words.specs.declared.fault.WordsFault.TheVariants as fault
 use Rattle.command_paths.specs.Paths.{Chosen, MapPaths}
 use Rattle.command_paths.specs.declared.picture.Picture.{Picture}
 use Rattle.command_paths.specs.declared.picture.Picture.TheVariants.{Labelled, Geographic}
-use Rattle.command_words.specs.Asked.{Asked, asked_by, stations, graph, export, make, improve, check, depict, session, trial, page}
+use Rattle.command_words.specs.Asked.{Asked, asked_by, stations, graph, export, imported, make, improve, check, depict, session, trial, page}
 use Rattle.command_words.specs.Program.{octimap_app}
 
 -- one choice after another: none where the first is none
@@ -75,6 +75,13 @@ abbrev pub two_paths_in : List Row → Option MapPaths
 two_paths_in rows = do
   paths ← paths_in rows
   apart paths
+
+-- the settings of a graph file's map are those of `make`
+abbrev pub import_in : List Row → Option Asked
+import_in rows = do
+  graph ← first_of (codes "JSON") rows
+  paths ← two_paths_in rows
+  Some (imported graph paths (settings_in Make rows))
 
 -- by these settings where the user sets none
 abbrev pub make_in : Defaults → List Row → Option Asked
@@ -137,6 +144,7 @@ asked_as name rows =
     else if bytes_eq name (codes "session") then session_in rows
     else if bytes_eq name (codes "graph") then graph_in rows
     else if bytes_eq name (codes "export") then export_in rows
+    else if bytes_eq name (codes "import") then import_in rows
     else if bytes_eq name (codes "stations") then stations_in rows
     else if bytes_eq name (codes "page") then page_in rows
     else if bytes_eq name (codes "trial") then trial_in rows

@@ -20,6 +20,12 @@ pub enum Command<'a> {
         out: &'a str,
         options: Options<'a>,
     },
+    /// The map of a graph file, and its certificate.
+    Import {
+        graph: &'a str,
+        files: MapFiles<'a>,
+        options: Options<'a>,
+    },
     /// The map of the feed in this folder, and its certificate; `map` and `make` differ in the settings where the user
     /// sets none.
     Make {

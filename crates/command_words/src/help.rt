@@ -20,6 +20,7 @@ Examples:
   octimap session examples/vienna-ubahn examples/session.txt draws.txt
   octimap graph examples/vienna-ubahn
   octimap export examples/vienna-ubahn graph.json
+  octimap import graph.json map.svg map.cert
   octimap stations examples/vienna-ubahn
   octimap trial 152
 
@@ -36,6 +37,7 @@ Exit status:
    9  no memory
   10  the settings are bad; the line names the key
   11  an edit is bad; the line names its line in the file, or 0 where there is no file
+  12  the graph file is bad; the line names what is wrong
   13  a file that is needed is not there; the line names it";
 
 pub(crate) const STATIONS: &str = "Print each station of a feed: its place and its id";
@@ -65,6 +67,16 @@ with names, colours and importance. Coordinates are whole decimetres, X eastward
 
 Example:
   octimap export examples/vienna-ubahn graph.json";
+
+pub(crate) const IMPORT: &str = "Make the map of a graph file, and its certificate";
+
+pub(crate) const AFTER_IMPORT: &str = "\
+JSON is a file as `octimap export` writes it, of a feed or changed by hand. Of the settings those count that draw a map
+and order its lines; what a feed is chosen and named by stands in the file.
+
+Example:
+  octimap export examples/vienna-ubahn graph.json
+  octimap import graph.json map.svg map.cert";
 
 pub(crate) const MAP: &str =
     "Make the map of a feed, and a certificate that its line orders cost least";
@@ -172,6 +184,8 @@ pub(crate) const SVG: &str = "The file of the map";
 pub(crate) const CERT: &str = "The file of its certificate";
 
 pub(crate) const LABELLED: &str = "The file that the map with its names is written to";
+
+pub(crate) const READ_GRAPH: &str = "The graph file";
 
 pub(crate) const GRAPH_FILE: &str = "The file that the line graph is written to";
 

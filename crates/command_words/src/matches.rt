@@ -4,7 +4,7 @@ ghost use Rattle.std.specs.Prelude.{◌≡◌, option_map};
 ghost use Rattle.clap.specs.Words.{first_of, found_of, rows_of, subcommand_rows_of};
 ghost use Rattle.command_paths.specs.Paths.{options_by, paths_by};
 ghost use Rattle.command_words.specs.Asked.{asked_by};
-ghost use Rattle.command_words.specs.Words.{asked_as, check_in, export_in, graph_in, improve_in, make_in, named_in, number_in, options_in, page_in, paths_in, picture_in, session_in, settings_in, stations_in, trial_in, two_paths_in};
+ghost use Rattle.command_words.specs.Words.{asked_as, check_in, export_in, graph_in, import_in, improve_in, make_in, named_in, number_in, options_in, page_in, paths_in, picture_in, session_in, settings_in, stations_in, trial_in, two_paths_in};
 
 use crate::command::Command;
 use clap::ArgMatches;
@@ -41,6 +41,8 @@ fn command_named<'a>(name: &str, given: &ArgMatches<'a>) -> Option<Command<'a>>
         graph_in(given)
     } else if name == "export" {
         export_in(given)
+    } else if name == "import" {
+        import_in(given)
     } else if name == "stations" {
         stations_in(given)
     } else if name == "page" {
@@ -77,6 +79,20 @@ fn export_in<'a>(given: &ArgMatches<'a>) -> Option<Command<'a>>
     let out = value_of(given, "OUT")?;
     let options = options_in(given, Defaults::Make);
     Some(Command::Export { feed, out, options })
+}
+
+/// `import JSON SVG CERT`, of two files.
+fn import_in<'a>(given: &ArgMatches<'a>) -> Option<Command<'a>>
+    ensures { option_map asked_by result ≡ import_in (rows_of (found_of given.now)) }
+{
+    let graph = value_of(given, "JSON")?;
+    let files = two_files_in(given)?;
+    let options = settings_in(given, Defaults::Make);
+    Some(Command::Import {
+        graph,
+        files,
+        options,
+    })
 }
 
 /// `make FEED SVG CERT` or `map FEED SVG CERT`, of two files.

@@ -2,7 +2,7 @@
 
 ghost use Rattle.std.specs.Prelude.{◌≡◌, IfOk, codes, false};
 ghost use Rattle.clap.specs.Words.{app_of, new_app, rule_of};
-ghost use Rattle.command_words.specs.Program.{IsLocal, export_app, feed_app, file_option, graph_app, improve_app, map_app, moves_operand, octimap_alone, octimap_app, octimap_maps, operand, page_app, picture_app, session_app, trial_app, with_files, with_map, with_options};
+ghost use Rattle.command_words.specs.Program.{IsLocal, export_app, feed_app, file_option, graph_app, import_app, improve_app, map_app, moves_operand, octimap_alone, octimap_app, octimap_maps, operand, page_app, picture_app, session_app, trial_app, with_files, with_map, with_options};
 
 use crate::help;
 use clap::builder::ValueParser;
@@ -15,12 +15,14 @@ pub(crate) fn program<'a>(alloc: Global) -> Result<Command<'a>, AllocError>
 {
     let graph = graph(alloc)?;
     let export = export(alloc)?;
+    let import = import(alloc)?;
     let stations = stations(alloc)?;
     let page = page(alloc)?;
     let trial = trial(alloc)?;
     over_maps(alloc)?
         .subcommand(graph)?
         .subcommand(export)?
+        .subcommand(import)?
         .subcommand(stations)?
         .subcommand(page)?
         .subcommand(trial)
@@ -97,6 +99,21 @@ fn export<'a>(alloc: Global) -> Result<Command<'a>, AllocError>
         help::GRAPH_FILE,
     ))?;
     with_options(alloc, command)
+}
+
+/// `import JSON SVG CERT`
+fn import<'a>(alloc: Global) -> Result<Command<'a>, AllocError>
+    ensures app { IfOk result (λ command. app_of command ≡ import_app) }
+    ensures local { IfOk result IsLocal }
+{
+    let command = named_command(alloc, "import", help::IMPORT, help::AFTER_IMPORT).arg(
+        named_operand(alloc, "JSON", help::READ_GRAPH),
+    )?;
+    with_files(alloc, command, help::NEW_SVG, help::NEW_CERT)?.arg(file_option(
+        alloc,
+        "settings",
+        help::SETTINGS,
+    ))
 }
 
 /// `map FEED SVG CERT`

@@ -108,6 +108,7 @@ fn input_paths(alloc: Global, command: &Command<'_>) -> Result<Vec<Text>, NoMemo
     push_read(alloc, command, Input::Settings, &mut paths)?;
     push_read(alloc, command, Input::Edits, &mut paths)?;
     push_tables(alloc, command, &mut paths)?;
+    push_read(alloc, command, Input::Graph, &mut paths)?;
     push_read(alloc, command, Input::Script, &mut paths)?;
     push_read(alloc, command, Input::Certificate, &mut paths)?;
     push_read(alloc, command, Input::Picture, &mut paths)?;
@@ -149,6 +150,7 @@ fn is_read(command: &Command<'_>, input: Input) -> bool
         Input::Settings => inputs_of(command).options.settings.is_some(),
         Input::Edits => inputs_of(command).options.edits.is_some(),
         Input::Table(_) => has_feed(command),
+        Input::Graph => has_graph(command),
         Input::Script => has_script(command),
         Input::Certificate => has_certificate(command),
         Input::Picture => has_picture(command),
@@ -160,9 +162,20 @@ fn has_feed(command: &Command<'_>) -> bool
     ensures { result ≡ has_feed (asked_by command.now) }
 {
     match command {
+        Command::Import { .. } => false,
         Command::Trial { .. } => false,
         Command::Page { .. } => false,
         _ => true,
+    }
+}
+
+/// Whether a command reads a graph file.
+fn has_graph(command: &Command<'_>) -> bool
+    ensures { result ≡ has_graph (asked_by command.now) }
+{
+    match command {
+        Command::Import { .. } => true,
+        _ => false,
     }
 }
 

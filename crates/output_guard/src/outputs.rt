@@ -22,6 +22,7 @@ pub fn outputs_of<'a>(command: &Command<'a>) -> Outputs<'a>
     ensures { outputs_by result ≡ outputs_of (asked_by command.now) }
 {
     match command {
+        Command::Import { files, .. } => Outputs::Pair(files.picture, files.certificate),
         Command::Make { files, .. } => Outputs::Pair(files.picture, files.certificate),
         Command::Improve { files, .. } => Outputs::Pair(files.picture, files.certificate),
         Command::Depict { out, .. } => Outputs::File(out),
