@@ -3,7 +3,7 @@
 ghost use Rattle.std.specs.Prelude.{◌≡◌, [], ◌∷◌, IfOk, IfSome, OnOk, option_map};
 ghost use Rattle.std.specs.List.{find};
 ghost use Rattle.command_words.specs.Asked.{asked_by};
-ghost use Rattle.output_guard.specs.Guarded.{clash_with, first_clash, has_feed, has_certificate, has_picture, has_script, is_read, outputs_of, paths_read, with_read, with_tables};
+ghost use Rattle.output_guard.specs.Guarded.{clash_with, first_clash, has_feed, has_graph, has_certificate, has_picture, has_script, is_read, outputs_of, paths_read, with_read, with_tables};
 
 use crate::outputs::{Outputs, outputs_of};
 use command_words::Command;
