@@ -85,6 +85,14 @@ session_app = with_settings (with_out (with_rule (feed_app (codes "session")) (o
 abbrev pub graph_app : App
 graph_app = with_options (feed_app (codes "graph"))
 
+-- the line graph as a file
+abbrev pub export_app : App
+export_app = with_options (with_out (feed_app (codes "export")))
+
+-- a map of a graph file, whose settings alone are named
+abbrev pub import_app : App
+import_app = with_settings (with_files (with_rule (plain_app (codes "import")) (operand (codes "JSON"))))
+
 abbrev pub trial_app : App
 trial_app = with_rule (plain_app (codes "trial")) number_operand
 
@@ -109,6 +117,6 @@ octimap_maps =
     (new_map_app (codes "map"))) (new_map_app (codes "make"))) improve_app) (map_app (codes "check"))) (picture_app (codes "labels")))
     (picture_app (codes "geo"))) session_app
 
--- the program: these, `graph`, `stations`, `page` and `trial`
+-- the program: these, `graph`, `export`, `import`, `stations`, `page` and `trial`
 unfoldable pub octimap_app : App
-octimap_app = with_command (with_command (with_command (with_command octimap_maps graph_app) (feed_app (codes "stations"))) page_app) trial_app
+octimap_app = with_command (with_command (with_command (with_command (with_command (with_command octimap_maps graph_app) export_app) import_app) (feed_app (codes "stations"))) page_app) trial_app

@@ -19,7 +19,7 @@ use Rattle.command_paths.specs.Paths.{Chosen, MapPaths, NewPaths}
 use Rattle.command_paths.specs.Sets.{sets_in}
 use Rattle.command_paths.specs.declared.picture.Picture.{Picture}
 use Rattle.command_paths.specs.declared.picture.Picture.TheVariants.{Labelled, Geographic}
-use Rattle.command_words.specs.Asked.{Asked, asked_by, stations, graph, make, improve, check, depict, session, trial, page}
+use Rattle.command_words.specs.Asked.{Asked, asked_by, stations, graph, export, imported, make, improve, check, depict, session, trial, page}
 use Rattle.command_words.specs.Program.{octimap_app}
 
 -- one choice after another: none where the first is none
@@ -62,6 +62,12 @@ graph_in sets rows = do
   feed ← first_of (codes "FEED") rows
   Some (graph feed (options_in Make sets rows))
 
+abbrev pub export_in : List Text → List Row → Option Asked
+export_in sets rows = do
+  feed ← first_of (codes "FEED") rows
+  out ← first_of (codes "OUT") rows
+  Some (export feed out (options_in Make sets rows))
+
 -- two paths, and not one
 abbrev pub apart : MapPaths → Option MapPaths
 apart paths = if bytes_eq paths.picture paths.certificate then None else Some paths
@@ -71,6 +77,13 @@ abbrev pub two_paths_in : List Row → Option MapPaths
 two_paths_in rows = do
   paths ← paths_in rows
   apart paths
+
+-- the settings of a graph file's map are those of `make`
+abbrev pub import_in : List Text → List Row → Option Asked
+import_in sets rows = do
+  graph ← first_of (codes "JSON") rows
+  paths ← two_paths_in rows
+  Some (imported graph paths (settings_in Make sets rows))
 
 -- a page at a path of its own
 abbrev pub page_apart : Option (List ℕ) → MapPaths → Option NewPaths
@@ -144,6 +157,8 @@ asked_as sets name rows =
     else if bytes_eq name (codes "geo") then picture_in Geographic sets rows
     else if bytes_eq name (codes "session") then session_in sets rows
     else if bytes_eq name (codes "graph") then graph_in sets rows
+    else if bytes_eq name (codes "export") then export_in sets rows
+    else if bytes_eq name (codes "import") then import_in sets rows
     else if bytes_eq name (codes "stations") then stations_in rows
     else if bytes_eq name (codes "page") then page_in rows
     else if bytes_eq name (codes "trial") then trial_in rows

@@ -14,6 +14,18 @@ pub enum Command<'a> {
         feed: &'a str,
         options: Options<'a>,
     },
+    /// The line graph of the feed in this folder, as a file.
+    Export {
+        feed: &'a str,
+        out: &'a str,
+        options: Options<'a>,
+    },
+    /// The map of a graph file, and its certificate.
+    Import {
+        graph: &'a str,
+        files: MapFiles<'a>,
+        options: Options<'a>,
+    },
     /// The map of the feed in this folder, its certificate, and its page where one is asked for; `map` and `make` differ
     /// in the settings where the user sets none.
     Make {

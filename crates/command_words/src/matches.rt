@@ -5,7 +5,7 @@ ghost use Rattle.clap.specs.Words.{first_of, found_of, rows_of, subcommand_rows_
 ghost use Rattle.command_paths.specs.Sets.{sets_of};
 ghost use Rattle.command_paths.specs.Paths.{new_paths_by, options_by, paths_by};
 ghost use Rattle.command_words.specs.Asked.{asked_by};
-ghost use Rattle.command_words.specs.Words.{asked_as, check_in, graph_in, improve_in, make_in, named_in, new_paths_in, number_in, options_in, page_apart, page_in, paths_in, picture_in, session_in, settings_in, stations_in, trial_in, two_paths_in};
+ghost use Rattle.command_words.specs.Words.{asked_as, check_in, graph_in, improve_in, make_in, named_in, new_paths_in, number_in, options_in, page_apart, page_in, paths_in, picture_in, session_in, settings_in, stations_in, trial_in, two_paths_in, export_in, import_in};
 
 use crate::command::Command;
 use clap::ArgMatches;
@@ -40,6 +40,10 @@ fn command_named<'a>(name: &str, given: &ArgMatches<'a>, words: &'a [String]) ->
         session_in(given, words)
     } else if name == "graph" {
         graph_in(given, words)
+    } else if name == "export" {
+        export_in(given, words)
+    } else if name == "import" {
+        import_in(given, words)
     } else if name == "stations" {
         stations_in(given)
     } else if name == "page" {
@@ -66,6 +70,30 @@ fn graph_in<'a>(given: &ArgMatches<'a>, words: &'a [String]) -> Option<Command<'
     let feed = value_of(given, "FEED")?;
     let options = options_in(given, Defaults::Make, words);
     Some(Command::Graph { feed, options })
+}
+
+/// `export FEED OUT`
+fn export_in<'a>(given: &ArgMatches<'a>, words: &'a [String]) -> Option<Command<'a>>
+    ensures { option_map asked_by result ≡ export_in (sets_of words.now) (rows_of (found_of given.now)) }
+{
+    let feed = value_of(given, "FEED")?;
+    let out = value_of(given, "OUT")?;
+    let options = options_in(given, Defaults::Make, words);
+    Some(Command::Export { feed, out, options })
+}
+
+/// `import JSON SVG CERT`, of two files.
+fn import_in<'a>(given: &ArgMatches<'a>, words: &'a [String]) -> Option<Command<'a>>
+    ensures { option_map asked_by result ≡ import_in (sets_of words.now) (rows_of (found_of given.now)) }
+{
+    let graph = value_of(given, "JSON")?;
+    let files = two_files_in(given)?;
+    let options = settings_in(given, Defaults::Make, words);
+    Some(Command::Import {
+        graph,
+        files,
+        options,
+    })
 }
 
 /// `make FEED SVG CERT` or `map FEED SVG CERT`, of two files, or three with a page.

@@ -2,7 +2,7 @@
 
 ghost use Rattle.std.specs.Prelude.{◌≡◌, IfOk, codes, false};
 ghost use Rattle.clap.specs.Words.{app_of, new_app, rule_of};
-ghost use Rattle.command_words.specs.Program.{IsLocal, feed_app, file_option, graph_app, improve_app, map_app, moves_operand, new_map_app, octimap_alone, octimap_app, octimap_maps, operand, page_app, picture_app, plain_app, quiet_flag, session_app, set_option, trial_app, with_files, with_map, with_options, with_settings};
+ghost use Rattle.command_words.specs.Program.{IsLocal, feed_app, file_option, graph_app, improve_app, map_app, moves_operand, new_map_app, octimap_alone, octimap_app, octimap_maps, operand, page_app, picture_app, plain_app, quiet_flag, session_app, set_option, trial_app, with_files, with_map, with_options, with_settings, export_app, import_app};
 
 use crate::help;
 use clap::builder::ValueParser;
@@ -14,11 +14,15 @@ pub(crate) fn program<'a>(alloc: Global) -> Result<Command<'a>, AllocError>
     ensures { IfOk result (λ program. app_of program ≡ octimap_app) }
 {
     let graph = graph(alloc)?;
+    let export = export(alloc)?;
+    let import = import(alloc)?;
     let stations = stations(alloc)?;
     let page = page(alloc)?;
     let trial = trial(alloc)?;
     over_maps(alloc)?
         .subcommand(graph)?
+        .subcommand(export)?
+        .subcommand(import)?
         .subcommand(stations)?
         .subcommand(page)?
         .subcommand(trial)
@@ -82,6 +86,27 @@ fn graph<'a>(alloc: Global) -> Result<Command<'a>, AllocError>
 {
     let command = over_feed(alloc, "graph", help::GRAPH, help::AFTER_GRAPH)?;
     with_options(alloc, command)
+}
+
+/// `export FEED OUT`
+fn export<'a>(alloc: Global) -> Result<Command<'a>, AllocError>
+    ensures app { IfOk result (λ command. app_of command ≡ export_app) }
+    ensures local { IfOk result IsLocal }
+{
+    let command = over_feed(alloc, "export", help::EXPORT, help::AFTER_EXPORT)?
+        .arg(named_operand(alloc, "OUT", help::GRAPH_FILE))?;
+    with_options(alloc, command)
+}
+
+/// `import JSON SVG CERT`
+fn import<'a>(alloc: Global) -> Result<Command<'a>, AllocError>
+    ensures app { IfOk result (λ command. app_of command ≡ import_app) }
+    ensures local { IfOk result IsLocal }
+{
+    let command = named_command(alloc, "import", help::IMPORT, help::AFTER_IMPORT)?
+        .arg(named_operand(alloc, "JSON", help::READ_GRAPH))?;
+    let command = with_files(alloc, command, help::NEW_SVG, help::NEW_CERT)?;
+    with_settings(alloc, command)
 }
 
 /// `map FEED SVG CERT`

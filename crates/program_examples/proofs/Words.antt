@@ -3,7 +3,7 @@ use Rattle.std.proofs.Common.{◌≡◌, [], ◌∷◌, None, Some, codes, refl}
 use Rattle.clap.proofs.OnLiterals.{clap_on_literals}
 use Rattle.map_method.specs.declared.defaults.Defaults.TheVariants.{Make, Map}
 use Rattle.command_paths.specs.Paths.{MapPaths, NewPaths, Chosen}
-use Rattle.command_words.specs.Asked.{stations, graph, make, improve, check, depict, session, trial, page}
+use Rattle.command_words.specs.Asked.{stations, graph, make, improve, check, depict, session, trial, page, export}
 use Rattle.command_paths.specs.declared.picture.Picture.TheVariants.{Labelled, Geographic}
 use Rattle.command_words.specs.Program.{octimap_app}
 use Rattle.command_words.specs.Words.{asked, faults, met}
@@ -127,6 +127,11 @@ a_geographic_map_is_asked : asked (codes "geo" ∷ codes "feed" ∷ codes "m.cer
     ≡ Some (depict Geographic (codes "feed") (codes "m.cert") (codes "n.svg") by_mine)
 unfolding clap_on_literals asked faults met octimap_app
 a_geographic_map_is_asked = refl
+
+-- a graph file is written with settings and with edits
+an_export_is_asked : asked (codes "export" ∷ codes "feed" ∷ codes "g.json" ∷ codes "--settings" ∷ codes "my.toml" ∷ []) ≡ Some (export (codes "feed") (codes "g.json") by_mine)
+unfolding clap_on_literals asked faults met octimap_app
+an_export_is_asked = refl
 
 -- a session takes settings, and no file of edits: its edits stand in the script
 a_session_is_asked : asked (codes "session" ∷ codes "feed" ∷ codes "my.script" ∷ codes "draws" ∷ codes "--settings" ∷ codes "my.toml" ∷ [])

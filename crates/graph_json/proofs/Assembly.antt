@@ -1,0 +1,186 @@
+-- What features of a graph file make: a consistent graph, where limits and references hold.
+use Rattle.std.proofs.Common.{◌≡◌, refl, sym, ap, subst, ◌∙◌, ℕ, zero, suc, ◌+◌, ◌<◌, ◌≤◌, Bool, true, false, ◌||◌, ◌&&◌, ◌==◌, List, [], ◌∷◌, ◌++◌, length, map, get_or, fold, arith, inl, inr, nat_lt, append-nil, append_assoc}
+use Rattle.std.specs.Prelude.{All, Contains, Option, Some, None, if◌then◌else◌}
+use Rattle.std.specs.List.{list_any, filter_map}
+use Rattle.std.proofs.lemmas.Bool.{eqb-true, eq-eqb, ltb-false}
+use Rattle.std.proofs.lemmas.List.{length-map}
+use Rattle.std.specs.List.{AllByRecursion as ByRecursion}
+use Rattle.std.proofs.lemmas.List.Elements.{All-from_recursion, recursion_from_All, All-map, Contains-from_at}
+use Rattle.std.proofs.lemmas.List.Folds.{Any-from_list_any, list_any-append}
+use Rattle.std.specs.Option.{option_or}
+use Rattle.map_base.specs.declared.ids.LineId.{LineId}
+use Rattle.map_base.specs.declared.limit.Limit.{Limit}
+use Rattle.map_base.specs.declared.limit.LimitKind.{LimitKind}
+use Rattle.map_base.specs.declared.limit.LimitKind.TheVariants as kind
+use Rattle.map_base.specs.Limits.{limit_of, limit_most}
+use Rattle.graph_core.specs.declared.parts.GraphParts.{GraphParts}
+use Rattle.graph_core.specs.declared.parts.NodeKind.{NodeKind}
+use Rattle.graph_core.specs.Consistent.{IsConsistent, IsNear, AreFewLines}
+use Rattle.graph_json.specs.declared.forms.LineForm.{LineForm}
+use Rattle.graph_json.specs.declared.forms.NodeForm.{NodeForm}
+use Rattle.graph_json.specs.declared.forms.SegmentForm.{SegmentForm}
+use Rattle.graph_json.specs.declared.forms.Feature.{Feature}
+use Rattle.graph_json.specs.declared.forms.Feature.TheVariants.{Node, Segment}
+use Rattle.graph_json.specs.Limits.{is_line, with_line, with_lines, lines_on, names_in, above, limit_met}
+use Rattle.graph_json.specs.References.{nodes_in, segments_in, names_of_nodes, kinds_from, graph_of, is_node, node_holds, segment_holds, broken_from}
+use Rattle.graph_json.specs.Outcome.{graph_made, imported_of, broken_in, limit_of_features, IsNamed, IsImportant, LiesNear, IsComplete}
+use Rattle.graph_json.proofs.Consistency.{IsShaped, consistent, lines_listed}
+
+-- ---- references
+
+module _ (g : GraphParts) (listed : ℕ) where
+  nodes_hold : (i n s : ℕ) (fs : List Feature) → broken_from g listed i n s (map is_node fs) ≡ None → (k : ℕ) → k < length (nodes_in fs) → node_holds g (n + k) ≡ true
+  nodes_hold i n s [] none k h = absurd (omega arith)
+  nodes_hold i n s (Segment x ∷ fs) none k h = by (segment_holds g listed s) none
+    where
+      by : (b : Bool) → (if b then broken_from g listed (i + 1) n (s + 1) (map is_node fs) else Some i) ≡ None → node_holds g (n + k) ≡ true
+      by true none = nodes_hold (i + 1) n (s + 1) fs none k h
+      by false none = absurd (cc)
+  nodes_hold i n s (Node x ∷ fs) none k h = by (node_holds g n) refl none k h
+    where
+      by : (b : Bool) → node_holds g n ≡ b → (if b then broken_from g listed (i + 1) (n + 1) s (map is_node fs) else Some i) ≡ None
+          → (k : ℕ) → k < suc (length (nodes_in fs)) → node_holds g (n + k) ≡ true
+      by true e none zero h = let here : n + 0 ≡ n = omega arith in ap (node_holds g) here ∙ e
+      by true e none (suc k) h =
+          let here : n + suc k ≡ (n + 1) + k = omega arith in
+          ap (node_holds g) here ∙ nodes_hold (i + 1) (n + 1) s fs none k (omega arith)
+      by false e none k h = absurd (cc)
+
+  segments_hold : (i n s : ℕ) (fs : List Feature) → broken_from g listed i n s (map is_node fs) ≡ None → (k : ℕ) → k < length (segments_in fs) → segment_holds g listed (s + k) ≡ true
+  segments_hold i n s [] none k h = absurd (omega arith)
+  segments_hold i n s (Node x ∷ fs) none k h = by (node_holds g n) none
+    where
+      by : (b : Bool) → (if b then broken_from g listed (i + 1) (n + 1) s (map is_node fs) else Some i) ≡ None → segment_holds g listed (s + k) ≡ true
+      by true none = segments_hold (i + 1) (n + 1) s fs none k h
+      by false none = absurd (cc)
+  segments_hold i n s (Segment x ∷ fs) none k h = by (segment_holds g listed s) refl none k h
+    where
+      by : (b : Bool) → segment_holds g listed s ≡ b → (if b then broken_from g listed (i + 1) n (s + 1) (map is_node fs) else Some i) ≡ None
+          → (k : ℕ) → k < suc (length (segments_in fs)) → segment_holds g listed (s + k) ≡ true
+      by true e none zero h = let here : s + 0 ≡ s = omega arith in ap (segment_holds g listed) here ∙ e
+      by true e none (suc k) h =
+          let here : s + suc k ≡ (s + 1) + k = omega arith in
+          ap (segment_holds g listed) here ∙ segments_hold (i + 1) n (s + 1) fs none k (omega arith)
+      by false e none k h = absurd (cc)
+
+-- ---- limits
+
+none_first : (a b : Option Limit) → option_or a b ≡ None → (a ≡ None) × (b ≡ None)
+none_first None b e = (refl, e)
+none_first (Some x) b e = absurd (cc)
+
+within : (of : LimitKind) (count : ℕ) → above of count ≡ None → count ≤ limit_most of
+within of count e = by (nat_lt (limit_most of) count) refl e
+  where
+    by : (b : Bool) → nat_lt (limit_most of) count ≡ b → (if b then Some (limit_of of) else None) ≡ None → count ≤ limit_most of
+    by true t e = absurd (cc)
+    by false t e = ltb-false (limit_most of) count t
+
+-- a line is known once it is added, and what was known stays
+abbrev In : List LineId → LineId → Type 0
+In known l = list_any (is_line l) known ≡ true
+
+kept_one : (known : List LineId) (l x : LineId) → In known x → In (with_line known l) x
+kept_one known l x h = by (list_any (is_line l) known)
+  where
+    by : (b : Bool) → In (if b then known else known ++ l ∷ []) x
+    by true = h
+    by false = list_any-append (is_line x) known (l ∷ []) ∙ ap (λ (b : Bool). b || list_any (is_line x) (l ∷ [])) h
+
+added_one : (known : List LineId) (l : LineId) → In (with_line known l) l
+added_one known l = by (list_any (is_line l) known) refl
+  where
+    by : (b : Bool) → list_any (is_line l) known ≡ b → In (if b then known else known ++ l ∷ []) l
+    by true e = e
+    by false e = list_any-append (is_line l) known (l ∷ []) ∙ ap (λ (b : Bool). b || list_any (is_line l) (l ∷ [])) e ∙ ap (λ (b : Bool). b || false) (eq-eqb l.0 l.0 refl)
+
+kept : (known ls : List LineId) (x : LineId) → In known x → In (with_lines known ls) x
+kept known [] x h = h
+kept known (l ∷ ls) x h = kept (with_line known l) ls x (kept_one known l x h)
+
+kept_all : (known : List LineId) (segments : List (List LineId)) (x : LineId) → In known x → In (fold with_lines known segments) x
+kept_all known [] x h = h
+kept_all known (ls ∷ segments) x h = kept_all (with_lines known ls) segments x (kept known ls x h)
+
+added : (known ls : List LineId) (segments : List (List LineId)) → ByRecursion (In (fold with_lines (with_lines known ls) segments)) ls
+added known [] segments = tt
+added known (l ∷ ls) segments = (kept_all _ segments l (kept (with_line known l) ls l (added_one known l)), added (with_line known l) ls segments)
+
+added_all : (known : List LineId) (segments : List (List LineId)) → ByRecursion (ByRecursion (In (fold with_lines known segments))) segments
+added_all known [] = tt
+added_all known (ls ∷ segments) = (added known ls segments, added_all (with_lines known ls) segments)
+
+contained : (known : List LineId) (x : LineId) → In known x → Contains known x
+contained known x t =
+    let there = Any-from_list_any (is_line x) known t in
+    Contains-from_at known x (there.0, there.1, λ d. ap (λ (n : ℕ). record { 0 = n }) (sym (eqb-true _ _ (there.2 d))))
+
+few_lines : (segments : List (List LineId)) → length (lines_on segments) ≤ 1000 → AreFewLines 1000 segments
+few_lines segments h = (
+  lines_on segments,
+  h,
+  λ k d i. λ j e m.
+      contained (lines_on segments) _ (All-from_recursion _ _ (All-from_recursion _ segments (added_all [] segments) k d i) j e m),
+)
+
+-- ---- the whole
+
+pub length-kinds_from : (s : ℕ) (names : List (Option (List ℕ))) → length (kinds_from s names) ≡ length names
+length-kinds_from s [] = refl
+length-kinds_from s (Some name ∷ names) = ap suc (length-kinds_from (s + 1) names)
+length-kinds_from s (None ∷ names) = ap suc (length-kinds_from s names)
+
+pub kinds_each : (fs : List Feature) → length (graph_made fs).kinds ≡ length (nodes_in fs)
+kinds_each fs = length-kinds_from 0 (names_of_nodes (nodes_in fs)) ∙ length-map (nodes_in fs) (λ (n : NodeForm). n.name)
+
+named : (s : ℕ) (names : List (Option (List ℕ))) (all : ℕ) → s + length (names_in names) ≤ all → ByRecursion (IsNamed all) (kinds_from s names)
+named s [] all h = tt
+named s (Some name ∷ names) all h = (omega arith, named (s + 1) names all (omega arith))
+named s (None ∷ names) all h = (tt, named s names all h)
+
+near_places : (fs : List Feature) → ByRecursion LiesNear fs → ByRecursion (λ (n : NodeForm). IsNear n.place) (nodes_in fs)
+near_places [] h = tt
+near_places (Node n ∷ fs) h = (h.0, near_places fs h.1)
+near_places (Segment s ∷ fs) h = near_places fs h.1
+
+module _ (lines : List LineForm) (fs : List Feature) (limits : limit_of_features fs ≡ None) (whole : broken_in fs (length lines) ≡ None) (near : All LiesNear fs) where
+  g : GraphParts
+  g = graph_made fs
+
+  pub shaped : IsShaped g
+  shaped =
+      let first = none_first (above kind.Lines (length (lines_on g.lines))) _ limits in
+      let second = none_first (above kind.Stations _) _ first.1 in
+      let third = none_first (above kind.Nodes _) _ second.1 in
+      let kinds = kinds_each fs in
+      record {
+        place_each = length-map (nodes_in fs) (λ (n : NodeForm). n.place) ∙ sym kinds;
+        round_each = length-map (nodes_in fs) (λ (n : NodeForm). n.round) ∙ sym kinds;
+        joins_each = length-map (nodes_in fs) (λ (n : NodeForm). n.joins) ∙ sym kinds;
+        lines_each = length-map (segments_in fs) (λ (s : SegmentForm). s.lines) ∙ sym (length-map (segments_in fs) (λ (s : SegmentForm). s.ends));
+        few_nodes = omega (arith, within kind.Nodes _ third.0, kinds, length-map (nodes_in fs) (λ (n : NodeForm). n.name));
+        few_segments = omega (arith, within kind.Segments _ third.1, length-map (segments_in fs) (λ (s : SegmentForm). s.lines), length-map (segments_in fs) (λ (s : SegmentForm). s.ends));
+        few_lines = few_lines g.lines (within kind.Lines _ first.0);
+      }
+
+  node : (n : ℕ) → n < length g.kinds → node_holds g n ≡ true
+  node n h = nodes_hold g (length lines) 0 0 0 fs whole n (omega (arith, kinds_each fs))
+
+  segment : (s : ℕ) → s < length g.ends → segment_holds g (length lines) s ≡ true
+  segment s h = segments_hold g (length lines) 0 0 0 fs whole s (omega (arith, length-map (segments_in fs) (λ (s : SegmentForm). s.ends)))
+
+  places : All IsNear g.places
+  places = All-map IsNear (λ (n : NodeForm). n.place) (nodes_in fs) (All-from_recursion _ (nodes_in fs) (near_places fs (recursion_from_All _ fs near)))
+
+  pub made_consistent : IsConsistent g
+  made_consistent = consistent g (length lines) shaped node segment places
+
+  pub complete : All IsImportant lines → IsComplete (imported_of lines fs)
+  complete important =
+      let listed : length (map (λ (l : LineForm). (l.name, l.colour)) lines) ≡ length lines = length-map lines (λ (l : LineForm). (l.name, l.colour)) in
+      record {
+        stations = All-from_recursion _ g.kinds (named 0 (names_of_nodes (nodes_in fs)) _ (omega arith));
+        lines = λ k d i. λ j e m. subst (λ (n : ℕ). _ < n) (sym listed) (lines_listed g (length lines) shaped node segment k d i j e m);
+        importance_each = length-map lines (λ (l : LineForm). l.importance) ∙ sym listed;
+        importance = All-map (λ n. (1 ≤ n) × (n ≤ 16)) (λ (l : LineForm). l.importance) lines important;
+      }

@@ -1,0 +1,11 @@
+mod Lists
+mod ColumnLemmas
+mod Rounds
+mod Consistency
+mod Assembly
+mod FormFacts
+mod PlainValues
+mod ListBack
+mod ReadBack
+mod Sound
+mod WrittenAgain
