@@ -243,6 +243,15 @@ Usage: octimap improve [OPTIONS] <FEED> <SVG> <CERT> <MOVES>
 For more information, try '--help'.
 ";
 
+/// The same of `import`.
+pub(crate) const ONE_IMPORTED: &str = "\
+error: SVG and CERT are one file
+
+Usage: octimap import [OPTIONS] <JSON> <SVG> <CERT>
+
+For more information, try '--help'.
+";
+
 /// What is said where a map and its page are to be one file.
 pub(crate) const ONE_PAGE: &str = "\
 error: SVG and HTML are one file
