@@ -81,9 +81,9 @@ two_paths_in rows = do
 -- the settings of a graph file's map are those of `make`
 unfoldable pub import_in : List Text → List Row → Option Asked
 import_in sets rows = do
-  graph ← first_of (codes "JSON") rows
+  json ← first_of (codes "JSON") rows
   paths ← two_paths_in rows
-  Some (imported graph paths (settings_in Make sets rows))
+  Some (imported json paths (settings_in Make sets rows))
 
 -- a page at a path of its own
 abbrev pub page_apart : Option (List ℕ) → MapPaths → Option NewPaths
