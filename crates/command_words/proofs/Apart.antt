@@ -9,6 +9,7 @@ use Rattle.command_paths.specs.Sets.{sets_in}
 use Rattle.command_paths.specs.declared.picture.Picture.{Picture}
 use Rattle.command_paths.specs.declared.picture.Picture.TheVariants.{Labelled, Geographic}
 use Rattle.command_words.specs.Asked.{Asked, stations, graph, make, improve, check, depict, session, trial, page, export, imported}
+use Rattle.command_words.proofs.OnLiterals.{rows_written_out}
 use Rattle.command_words.specs.Words.{◌>>=◌, apart, asked, asked_as, check_in, faults, graph_in, improve_in, make_in, met, named_in, new_paths_in, number_in, options_in, page_apart, page_at, page_in, paths_in, picture_in, session_in, settings_in, stations_in, trial_in, two_paths_in, unless, export_in, import_in}
 
 -- a map, its certificate and its page at paths of their own
@@ -124,9 +125,11 @@ paged_apart (Some map) None = tt
 paged_apart (Some map) (Some html) = paged_at map html
 
 new_of : (rows : List Row) → IfSome (new_paths_in rows) AreNewApart
+unfolding rows_written_out
 new_of rows = new_apart (first_of (codes "page") rows) (two_paths_in rows) (two_apart (paths_in rows))
 
 as_apart : (sets : List Text) (name : Text) (rows : List Row) → AreApart (asked_as sets name rows)
+unfolding rows_written_out
 as_apart sets name rows =
     by_tests (bytes_eq name (codes "map")) (bytes_eq name (codes "make")) (bytes_eq name (codes "improve")) (bytes_eq name (codes "check")) (bytes_eq name (codes "labels")) (bytes_eq name (codes "geo")) (bytes_eq name (codes "session")) (bytes_eq name (codes "graph")) (bytes_eq name (codes "export")) (bytes_eq name (codes "import")) (bytes_eq name (codes "stations")) (bytes_eq name (codes "page")) (bytes_eq name (codes "trial"))
   where

@@ -24,7 +24,7 @@ abbrev pub asked_by : Command → Asked
 asked_by (command.Stations feed) = stations feed.now
 asked_by (command.Graph feed options) = graph feed.now (options_by options)
 asked_by (command.Export feed out options) = export feed.now out.now (options_by options)
-asked_by (command.Import graph files options) = imported graph.now (paths_by files) (options_by options)
+asked_by (command.Import json files options) = imported json.now (paths_by files) (options_by options)
 asked_by (command.Make feed files options) = make feed.now (new_paths_by files) (options_by options)
 asked_by (command.Improve feed files moves options) = improve feed.now (paths_by files) moves (options_by options)
 asked_by (command.Check feed files options) = check feed.now (paths_by files) (options_by options)

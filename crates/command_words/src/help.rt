@@ -27,7 +27,7 @@ Examples:
 Exit status:
    0  done
    1  the map or its certificate is refused; the line names the first item that is wrong
-   2  the words were not understood, or help or the version was asked for
+   2  the words were not understood, or help was asked for
    3  the feed has a bad row; the line names the table, the row and the reason
    4  no grid is fine enough for the network; the line names the first segment without a way
    5  the search for line orders took too long; the line names the part and its branch nodes
@@ -239,6 +239,15 @@ pub(crate) const ONE_IMPROVED: &str = "\
 error: SVG and CERT are one file
 
 Usage: octimap improve [OPTIONS] <FEED> <SVG> <CERT> <MOVES>
+
+For more information, try '--help'.
+";
+
+/// The same of `import`.
+pub(crate) const ONE_IMPORTED: &str = "\
+error: SVG and CERT are one file
+
+Usage: octimap import [OPTIONS] <JSON> <SVG> <CERT>
 
 For more information, try '--help'.
 ";

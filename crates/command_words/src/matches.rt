@@ -21,6 +21,7 @@ pub(crate) fn command_in<'a>(matches: &ArgMatches<'a>, words: &'a [String]) -> O
 }
 
 /// The command of this name.
+#[tactic(auto, unfolding(crate::specs::Words::asked_as))]
 fn command_named<'a>(name: &str, given: &ArgMatches<'a>, words: &'a [String]) -> Option<Command<'a>>
     ensures { option_map asked_by result ≡ asked_as (sets_of words.now) name.now (rows_of (found_of given.now)) }
 {
@@ -56,6 +57,7 @@ fn command_named<'a>(name: &str, given: &ArgMatches<'a>, words: &'a [String]) ->
 }
 
 /// `stations FEED`
+#[tactic(auto, unfolding(crate::specs::Words::stations_in))]
 fn stations_in<'a>(given: &ArgMatches<'a>) -> Option<Command<'a>>
     ensures { option_map asked_by result ≡ stations_in (rows_of (found_of given.now)) }
 {
@@ -64,6 +66,7 @@ fn stations_in<'a>(given: &ArgMatches<'a>) -> Option<Command<'a>>
 }
 
 /// `graph FEED`
+#[tactic(auto, unfolding(crate::specs::Words::graph_in))]
 fn graph_in<'a>(given: &ArgMatches<'a>, words: &'a [String]) -> Option<Command<'a>>
     ensures { option_map asked_by result ≡ graph_in (sets_of words.now) (rows_of (found_of given.now)) }
 {
@@ -73,6 +76,7 @@ fn graph_in<'a>(given: &ArgMatches<'a>, words: &'a [String]) -> Option<Command<'
 }
 
 /// `export FEED OUT`
+#[tactic(auto, unfolding(crate::specs::Words::export_in))]
 fn export_in<'a>(given: &ArgMatches<'a>, words: &'a [String]) -> Option<Command<'a>>
     ensures { option_map asked_by result ≡ export_in (sets_of words.now) (rows_of (found_of given.now)) }
 {
@@ -83,6 +87,7 @@ fn export_in<'a>(given: &ArgMatches<'a>, words: &'a [String]) -> Option<Command<
 }
 
 /// `import JSON SVG CERT`, of two files.
+#[tactic(auto, unfolding(crate::specs::Words::import_in))]
 fn import_in<'a>(given: &ArgMatches<'a>, words: &'a [String]) -> Option<Command<'a>>
     ensures { option_map asked_by result ≡ import_in (sets_of words.now) (rows_of (found_of given.now)) }
 {
@@ -97,6 +102,7 @@ fn import_in<'a>(given: &ArgMatches<'a>, words: &'a [String]) -> Option<Command<
 }
 
 /// `make FEED SVG CERT` or `map FEED SVG CERT`, of two files, or three with a page.
+#[tactic(auto, unfolding(crate::specs::Words::make_in))]
 fn make_in<'a>(
     given: &ArgMatches<'a>,
     defaults: Defaults,
@@ -115,6 +121,7 @@ fn make_in<'a>(
 }
 
 /// `improve FEED SVG CERT MOVES`, of two files.
+#[tactic(auto, unfolding(crate::specs::Words::improve_in))]
 fn improve_in<'a>(given: &ArgMatches<'a>, words: &'a [String]) -> Option<Command<'a>>
     ensures { option_map asked_by result ≡ improve_in (sets_of words.now) (rows_of (found_of given.now)) }
 {
@@ -131,6 +138,7 @@ fn improve_in<'a>(given: &ArgMatches<'a>, words: &'a [String]) -> Option<Command
 }
 
 /// `check FEED SVG CERT`
+#[tactic(auto, unfolding(crate::specs::Words::check_in))]
 fn check_in<'a>(given: &ArgMatches<'a>, words: &'a [String]) -> Option<Command<'a>>
     ensures { option_map asked_by result ≡ check_in (sets_of words.now) (rows_of (found_of given.now)) }
 {
@@ -145,6 +153,7 @@ fn check_in<'a>(given: &ArgMatches<'a>, words: &'a [String]) -> Option<Command<'
 }
 
 /// `labels FEED CERT OUT`, and `geo FEED CERT OUT`
+#[tactic(auto, unfolding(crate::specs::Words::picture_in))]
 fn picture_in<'a>(given: &ArgMatches<'a>, kind: Picture, words: &'a [String]) -> Option<Command<'a>>
     ensures { option_map asked_by result ≡ picture_in kind (sets_of words.now) (rows_of (found_of given.now)) }
 {
@@ -162,6 +171,7 @@ fn picture_in<'a>(given: &ArgMatches<'a>, kind: Picture, words: &'a [String]) ->
 }
 
 /// `session FEED SCRIPT OUT`
+#[tactic(auto, unfolding(crate::specs::Words::session_in))]
 fn session_in<'a>(given: &ArgMatches<'a>, words: &'a [String]) -> Option<Command<'a>>
     ensures { option_map asked_by result ≡ session_in (sets_of words.now) (rows_of (found_of given.now)) }
 {
@@ -178,6 +188,7 @@ fn session_in<'a>(given: &ArgMatches<'a>, words: &'a [String]) -> Option<Command
 }
 
 /// `trial N`
+#[tactic(auto, unfolding(crate::specs::Words::trial_in))]
 fn trial_in<'a>(given: &ArgMatches<'a>) -> Option<Command<'a>>
     ensures { option_map asked_by result ≡ trial_in (rows_of (found_of given.now)) }
 {
@@ -186,6 +197,7 @@ fn trial_in<'a>(given: &ArgMatches<'a>) -> Option<Command<'a>>
 }
 
 /// `page SVG HTML`, of two files.
+#[tactic(auto, unfolding(crate::specs::Words::page_in))]
 fn page_in<'a>(given: &ArgMatches<'a>) -> Option<Command<'a>>
     ensures { option_map asked_by result ≡ page_in (rows_of (found_of given.now)) }
 {
@@ -198,6 +210,7 @@ fn page_in<'a>(given: &ArgMatches<'a>) -> Option<Command<'a>>
 }
 
 /// Where a new map, its certificate and its page are to lie, at paths of their own.
+#[tactic(auto, unfolding(crate::specs::Words::new_paths_in))]
 fn new_files_in<'a>(given: &ArgMatches<'a>) -> Option<NewFiles<'a>>
     ensures { option_map new_paths_by result ≡ new_paths_in (rows_of (found_of given.now)) }
 {
@@ -218,6 +231,7 @@ fn page_apart<'a>(page: Option<&'a str>, map: MapFiles<'a>) -> Option<NewFiles<'
 }
 
 /// Where the map and its certificate are to lie, at two paths.
+#[tactic(auto, unfolding(crate::specs::Words::two_paths_in))]
 fn two_files_in<'a>(given: &ArgMatches<'a>) -> Option<MapFiles<'a>>
     ensures { option_map paths_by result ≡ two_paths_in (rows_of (found_of given.now)) }
 {
@@ -229,6 +243,7 @@ fn two_files_in<'a>(given: &ArgMatches<'a>) -> Option<MapFiles<'a>>
 }
 
 /// Where the map and its certificate lie.
+#[tactic(auto, unfolding(crate::specs::Words::paths_in))]
 fn files_in<'a>(given: &ArgMatches<'a>) -> Option<MapFiles<'a>>
     ensures { option_map paths_by result ≡ paths_in (rows_of (found_of given.now)) }
 {
@@ -241,6 +256,7 @@ fn files_in<'a>(given: &ArgMatches<'a>) -> Option<MapFiles<'a>>
 }
 
 /// What the user chose.
+#[tactic(auto, unfolding(crate::specs::Words::options_in))]
 fn options_in<'a>(given: &ArgMatches<'a>, defaults: Defaults, words: &'a [String]) -> Options<'a>
     ensures { options_by result ≡ options_in defaults (sets_of words.now) (rows_of (found_of given.now)) }
 {
@@ -252,6 +268,7 @@ fn options_in<'a>(given: &ArgMatches<'a>, defaults: Defaults, words: &'a [String
 }
 
 /// What the user chose where edits stand elsewhere.
+#[tactic(auto, unfolding(crate::specs::Words::settings_in))]
 fn settings_in<'a>(given: &ArgMatches<'a>, defaults: Defaults, words: &'a [String]) -> Options<'a>
     ensures { options_by result ≡ settings_in defaults (sets_of words.now) (rows_of (found_of given.now)) }
 {

@@ -56,6 +56,7 @@ fn over_maps<'a>(alloc: Global) -> Result<Command<'a>, AllocError>
 }
 
 /// The program before its commands.
+#[tactic(auto, unfolding(crate::specs::Program::octimap_alone))]
 fn alone<'a>(alloc: Global) -> Result<Command<'a>, AllocError>
     ensures { IfOk result (λ program. app_of program ≡ octimap_alone) }
 {
@@ -80,6 +81,7 @@ fn stations<'a>(alloc: Global) -> Result<Command<'a>, AllocError>
 }
 
 /// `graph FEED`
+#[tactic(auto, unfolding(crate::specs::Program::graph_app))]
 fn graph<'a>(alloc: Global) -> Result<Command<'a>, AllocError>
     ensures app { IfOk result (λ command. app_of command ≡ graph_app) }
     ensures local { IfOk result IsLocal }
@@ -89,22 +91,28 @@ fn graph<'a>(alloc: Global) -> Result<Command<'a>, AllocError>
 }
 
 /// `export FEED OUT`
+#[tactic(auto, unfolding(crate::specs::Program::export_app))]
 fn export<'a>(alloc: Global) -> Result<Command<'a>, AllocError>
     ensures app { IfOk result (λ command. app_of command ≡ export_app) }
     ensures local { IfOk result IsLocal }
 {
-    let command = over_feed(alloc, "export", help::EXPORT, help::AFTER_EXPORT)?
-        .arg(named_operand(alloc, "OUT", help::GRAPH_FILE))?;
+    let command = over_feed(alloc, "export", help::EXPORT, help::AFTER_EXPORT)?.arg(named_operand(
+        alloc,
+        "OUT",
+        help::GRAPH_FILE,
+    ))?;
     with_options(alloc, command)
 }
 
 /// `import JSON SVG CERT`
+#[tactic(auto, unfolding(crate::specs::Program::import_app))]
 fn import<'a>(alloc: Global) -> Result<Command<'a>, AllocError>
     ensures app { IfOk result (λ command. app_of command ≡ import_app) }
     ensures local { IfOk result IsLocal }
 {
-    let command = named_command(alloc, "import", help::IMPORT, help::AFTER_IMPORT)?
-        .arg(named_operand(alloc, "JSON", help::READ_GRAPH))?;
+    let command = named_command(alloc, "import", help::IMPORT, help::AFTER_IMPORT)?.arg(
+        named_operand(alloc, "JSON", help::READ_GRAPH),
+    )?;
     let command = with_files(alloc, command, help::NEW_SVG, help::NEW_CERT)?;
     with_settings(alloc, command)
 }
@@ -126,6 +134,7 @@ fn make<'a>(alloc: Global) -> Result<Command<'a>, AllocError>
 }
 
 /// A command that makes a map and its certificate, and with `--page HTML` its page.
+#[tactic(auto, unfolding(crate::specs::Program::new_map_app, crate::specs::Program::map_app))]
 fn new_map<'a>(
     alloc: Global,
     name: &'a str,
@@ -141,6 +150,7 @@ fn new_map<'a>(
 }
 
 /// `improve FEED SVG CERT MOVES`
+#[tactic(auto, unfolding(crate::specs::Program::improve_app))]
 fn improve<'a>(alloc: Global) -> Result<Command<'a>, AllocError>
     ensures app { IfOk result (λ command. app_of command ≡ improve_app) }
     ensures local { IfOk result IsLocal }
@@ -159,6 +169,7 @@ fn moves<'a>(alloc: Global) -> Arg<'a>
 }
 
 /// `check FEED SVG CERT`
+#[tactic(auto, unfolding(crate::specs::Program::map_app))]
 fn check<'a>(alloc: Global) -> Result<Command<'a>, AllocError>
     ensures app { IfOk result (λ command. app_of command ≡ map_app (codes "check")) }
     ensures local { IfOk result IsLocal }
@@ -168,6 +179,7 @@ fn check<'a>(alloc: Global) -> Result<Command<'a>, AllocError>
 }
 
 /// `labels FEED CERT OUT`, and `geo FEED CERT OUT`
+#[tactic(auto, unfolding(crate::specs::Program::picture_app))]
 fn picture<'a>(
     alloc: Global,
     name: &'a str,
@@ -185,6 +197,7 @@ fn picture<'a>(
 }
 
 /// `session FEED SCRIPT OUT`
+#[tactic(auto, unfolding(crate::specs::Program::session_app))]
 fn session<'a>(alloc: Global) -> Result<Command<'a>, AllocError>
     ensures app { IfOk result (λ command. app_of command ≡ session_app) }
     ensures local { IfOk result IsLocal }
@@ -196,6 +209,7 @@ fn session<'a>(alloc: Global) -> Result<Command<'a>, AllocError>
 }
 
 /// `page SVG HTML`
+#[tactic(auto, unfolding(crate::specs::Program::page_app))]
 fn page<'a>(alloc: Global) -> Result<Command<'a>, AllocError>
     ensures app { IfOk result (λ command. app_of command ≡ page_app) }
     ensures local { IfOk result IsLocal }
@@ -206,6 +220,7 @@ fn page<'a>(alloc: Global) -> Result<Command<'a>, AllocError>
 }
 
 /// `trial N`
+#[tactic(auto, unfolding(crate::specs::Program::trial_app))]
 fn trial<'a>(alloc: Global) -> Result<Command<'a>, AllocError>
     ensures app { IfOk result (λ command. app_of command ≡ trial_app) }
     ensures local { IfOk result IsLocal }
@@ -215,6 +230,7 @@ fn trial<'a>(alloc: Global) -> Result<Command<'a>, AllocError>
 }
 
 /// A command that works on a feed.
+#[tactic(auto, unfolding(crate::specs::Program::feed_app))]
 fn over_feed<'a>(
     alloc: Global,
     name: &'a str,
@@ -228,6 +244,7 @@ fn over_feed<'a>(
 }
 
 /// The command with a map and its certificate, settings and edits.
+#[tactic(auto, unfolding(crate::specs::Program::with_map))]
 fn over_map<'a>(
     alloc: Global,
     command: Command<'a>,
@@ -242,6 +259,7 @@ fn over_map<'a>(
 }
 
 /// The command with a map and its certificate alone.
+#[tactic(auto, unfolding(crate::specs::Program::with_files))]
 fn with_files<'a>(
     alloc: Global,
     command: Command<'a>,
@@ -257,6 +275,7 @@ fn with_files<'a>(
 }
 
 /// The command with `--settings FILE` and `--set KEY=VALUE`.
+#[tactic(auto, unfolding(crate::specs::Program::with_settings))]
 fn with_settings<'a>(alloc: Global, command: Command<'a>) -> Result<Command<'a>, AllocError>
     ensures app { IsLocal command.entry → IfOk result (λ r. app_of r ≡ with_settings (app_of command.entry)) }
     ensures local { IsLocal command.entry → IfOk result IsLocal }
@@ -279,6 +298,7 @@ fn set_option<'a>(alloc: Global) -> Arg<'a>
 }
 
 /// The command with `--settings FILE`, `--set KEY=VALUE` and `--edits FILE`.
+#[tactic(auto, unfolding(crate::specs::Program::with_options))]
 fn with_options<'a>(alloc: Global, command: Command<'a>) -> Result<Command<'a>, AllocError>
     ensures app { IsLocal command.entry → IfOk result (λ r. app_of r ≡ with_options (app_of command.entry)) }
     ensures local { IsLocal command.entry → IfOk result IsLocal }
@@ -287,6 +307,7 @@ fn with_options<'a>(alloc: Global, command: Command<'a>) -> Result<Command<'a>, 
 }
 
 /// A command that takes nothing but `--quiet`.
+#[tactic(auto, unfolding(crate::specs::Program::plain_app))]
 fn named_command<'a>(
     alloc: Global,
     name: &'a str,

@@ -1,10 +1,11 @@
 use Rattle.std.proofs.lemmas.Result.{IfOk-weaker}
 use Rattle.std.proofs.Common.{codes}
-use Rattle.command_words.specs.Program.{octimap_alone, improve_app, map_app, new_map_app, picture_app, session_app}
+use Rattle.command_words.specs.Program.{octimap_alone, octimap_maps, improve_app, map_app, new_map_app, picture_app, session_app}
 use Rattle.command_words.proofs.Building.{added}
 use Rattle.command_words.proofs.program.over_maps.Goals as goal
 
 pub returns : goal.returns
+unfolding octimap_maps
 returns c =
     let one = added _ _ _ octimap_alone (new_map_app (codes "map")) c.in_ok-subcommand.ensures c.in_ok-map.ensures.local c.in_ok-alone.ensures c.in_ok-map.ensures.app in
     let two = added _ _ _ _ (new_map_app (codes "make")) c.in_ok-subcommand-2.ensures c.in_ok-make.ensures.local one c.in_ok-make.ensures.app in
