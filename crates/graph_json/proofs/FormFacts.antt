@@ -25,9 +25,9 @@ any : {A : Type 0} (o : Option A) → Each (λ _. Unit {0}) o
 any None = tt
 any (Some x) = tt
 
-then : {A B : Type 0} (P : B → Type 0) (Q : A → Type 0) (f : A → Option B) (o : Option A) → Each Q o → ((x : A) → Q x → Each P (f x)) → Each P (option_and_then f o)
-then P Q f None h each = tt
-then P Q f (Some x) h each = each x h
+chained : {A B : Type 0} (P : B → Type 0) (Q : A → Type 0) (f : A → Option B) (o : Option A) → Each Q o → ((x : A) → Q x → Each P (f x)) → Each P (option_and_then f o)
+chained P Q f None h each = tt
+chained P Q f (Some x) h each = each x h
 
 mapped : {A B : Type 0} (P : B → Type 0) (Q : A → Type 0) (f : A → B) (o : Option A) → Each Q o → ((x : A) → Q x → P (f x)) → Each P (option_map f o)
 mapped P Q f None h each = tt
@@ -51,10 +51,10 @@ importance n = by (nat_le 1 n && nat_le n 16) refl
 
 pub important : (value : Data) → Each IsImportant (forms.line_of value)
 important value =
-    then IsImportant (λ _. Unit {0}) _ _ (any _) (λ name _.
-    then IsImportant (λ _. Unit {0}) _ _ (any _) (λ colour _.
+    chained IsImportant (λ _. Unit {0}) _ _ (any _) (λ name _.
+    chained IsImportant (λ _. Unit {0}) _ _ (any _) (λ colour _.
     mapped IsImportant IsInRange (forms.line_with name colour) _
-    (then IsInRange (λ _. Unit {0}) forms.importance_of _ (any _) (λ v _. then IsInRange (λ _. Unit {0}) forms.importance _ (any _) (λ n _. importance n)))
+    (chained IsInRange (λ _. Unit {0}) forms.importance_of _ (any _) (λ v _. chained IsInRange (λ _. Unit {0}) forms.importance _ (any _) (λ n _. importance n)))
     (λ n h. h)))
 
 -- ---- features
@@ -73,48 +73,52 @@ near_enough z = by (int_le (negsuc 299999999) z && int_le z (pos 300000000)) ref
     by false t = tt
 
 coordinate : (value : Data) → Each IsCoordinate (forms.coordinate_of value)
-coordinate value = then IsCoordinate (λ _. Unit {0}) forms.near_enough _ (any _) (λ z _. near_enough z)
+coordinate value = chained IsCoordinate (λ _. Unit {0}) forms.near_enough _ (any _) (λ z _. near_enough z)
 
 two : (values : List Data) → Each IsNear (forms.of_two forms.coordinate_of forms.point_with values)
 two [] = tt
 two (a ∷ []) = tt
 two (a ∷ b ∷ []) =
-    then IsNear IsCoordinate _ _ (coordinate a) (λ x near_x. mapped IsNear IsCoordinate (forms.point_with x) _ (coordinate b) (λ y near_y. (near_x.0, near_x.1, near_y.0, near_y.1)))
+    chained IsNear IsCoordinate _ _ (coordinate a) (λ x near_x. mapped IsNear IsCoordinate (forms.point_with x) _ (coordinate b) (λ y near_y. (near_x.0, near_x.1, near_y.0, near_y.1)))
 two (a ∷ b ∷ c ∷ rest) = tt
 
 place : (value : Data) → Each IsNear (forms.place_of value)
-place value = then IsNear (λ _. Unit {0}) (forms.of_two forms.coordinate_of forms.point_with) _ (any _) (λ values _. two values)
+place value = chained IsNear (λ _. Unit {0}) (forms.of_two forms.coordinate_of forms.point_with) _ (any _) (λ values _. two values)
 
-node : (geometry properties : Data) → Each (λ (n : NodeForm). IsNear n.place) (forms.node_of geometry properties)
+abbrev HasNearPlace : NodeForm → Type 0
+HasNearPlace n = IsNear n.place
+
+node : (geometry properties : Data) → Each HasNearPlace (forms.node_of geometry properties)
 node geometry properties =
-    then _ IsNear _ _ (then IsNear (λ _. Unit {0}) forms.place_of _ (any _) (λ v _. place v)) (λ p near.
-    then _ (λ _. Unit {0}) _ _ (any _) (λ name _. then _ (λ _. Unit {0}) _ _ (any _) (λ round _.
-    mapped _ (λ _. Unit {0}) (forms.node_with p name round) _ (any _) (λ joins _. near))))
+    chained HasNearPlace IsNear _ _ (chained IsNear (λ _. Unit {0}) forms.place_of _ (any _) (λ v _. place v)) (λ p near.
+    chained HasNearPlace (λ _. Unit {0}) _ _ (any _) (λ name _. chained HasNearPlace (λ _. Unit {0}) _ _ (any _) (λ round _.
+    mapped HasNearPlace (λ _. Unit {0}) (forms.node_with p name round) _ (any _) (λ joins _. near))))
 
 shaped : (geometry properties : Data) → Each LiesNear (forms.shaped geometry properties)
 shaped geometry properties =
     by (forms.is_text (codes "Point") (forms.text_at (codes "type") geometry)) (forms.is_text (codes "LineString") (forms.text_at (codes "type") geometry))
   where
     by : (b c : Bool) → Each LiesNear (if b then option_map Node (forms.node_of geometry properties) else if c then option_map Segment (forms.segment_of geometry properties) else None)
-    by true c = mapped LiesNear (λ (n : NodeForm). IsNear n.place) Node _ (node geometry properties) (λ n h. h)
+    by true c = mapped LiesNear HasNearPlace Node _ (node geometry properties) (λ n h. h)
     by false true = mapped LiesNear (λ _. Unit {0}) Segment _ (any _) (λ s _. tt)
     by false false = tt
 
 pub near : (value : Data) → Each LiesNear (forms.feature_of value)
 near value =
-    tested LiesNear _ _ (then LiesNear (λ _. Unit {0}) _ _ (any _) (λ geometry _.
-    then LiesNear (λ _. Unit {0}) (forms.shaped geometry) _ (any _) (λ properties _. shaped geometry properties)))
+    tested LiesNear _ _ (chained LiesNear (λ _. Unit {0}) _ _ (any _) (λ geometry _.
+    chained LiesNear (λ _. Unit {0}) (forms.shaped geometry) _ (any _) (λ properties _. shaped geometry properties)))
 
 -- ---- entries in order
 
 each_of : {A B : Type 0} (P : B → Type 0) (f : A → Option B) (each : (x : A) → Each P (f x)) (i : ℕ) (xs : List A) (ys : List B) → each_or_first f i xs ≡ Ok ys → ByRecursion P ys
 each_of {A} {B} P f each i [] ys e = subst (ByRecursion P) (cc) tt
-each_of {A} {B} P f each i (x ∷ xs) ys e = by (f x) (each x) (each_or_first f (i + 1) xs) refl e
+each_of {A} {B} P f each i (x ∷ xs) ys e =
+    by (f x) (each x) (each_or_first f (i + 1) xs) (λ zs r. each_of P f each (i + 1) xs zs r) e
   where
-    by : (o : Option B) → Each P o → (rest : Result (List B) ℕ) → each_or_first f (i + 1) xs ≡ rest → in_order o i rest ≡ Ok ys → ByRecursion P ys
-    by None h rest r e = absurd (cc)
-    by (Some y) h (Err j) r e = absurd (cc)
-    by (Some y) h (Ok zs) r e = let same : y ∷ zs ≡ ys = cc in subst (ByRecursion P) same (h, each_of P f each (i + 1) xs zs r)
+    by : (o : Option B) → Each P o → (rest : Result (List B) ℕ) → ((zs : List B) → rest ≡ Ok zs → ByRecursion P zs) → in_order o i rest ≡ Ok ys → ByRecursion P ys
+    by None h rest later e = absurd (cc)
+    by (Some y) h (Err j) later e = absurd (cc)
+    by (Some y) h (Ok zs) later e = let same : y ∷ zs ≡ ys = cc in subst (ByRecursion P) same (h, later zs refl)
 
 pub each_holds : {A B : Type 0} (P : B → Type 0) (f : A → Option B) → ((x : A) → Each P (f x)) → (xs : List A) (ys : List B) → each_or_first f 0 xs ≡ Ok ys → All P ys
 each_holds P f each xs ys e = All-from_recursion P ys (each_of P f each 0 xs ys e)

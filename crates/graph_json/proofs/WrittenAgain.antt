@@ -23,7 +23,7 @@ use Rattle.graph_core.specs.declared.parts.GraphParts.{GraphParts}
 use Rattle.graph_core.specs.declared.parts.Join.{Join}
 use Rattle.graph_core.specs.declared.parts.NodeKind.{NodeKind}
 use Rattle.graph_core.specs.declared.parts.NodeKind.TheVariants.{Station, Junction}
-use Rattle.graph_core.specs.Consistent.{IsConsistent, IsNear, IsJoin, lines_at}
+use Rattle.graph_core.specs.Consistent.{IsConsistent, IsNear, AreEnds, IsJoin, lines_at}
 use Rattle.graph_core.specs.Round.{ends_at, segments_from, segments_at}
 use Rattle.svg_writer.specs.declared.names.Names.{Names}
 use Rattle.svg_writer.specs.Picture as p
@@ -116,45 +116,40 @@ module _ (g : GraphParts) (listed : ℕ) where
 -- the segments at a node are segments of the graph
 below_from : (i n : ℕ) (es : List (NodeId × NodeId)) (all : ℕ) → i + length es ≤ all → ByRecursion (λ (s : SegId). s.0 < all) (segments_from i n es)
 below_from i n [] all h = tt
-below_from i n (e ∷ es) all h = by (ends_at n e)
+below_from i n (e ∷ es) all h = by (ends_at n e) (below_from (i + 1) n es all (omega arith))
   where
-    here : i < all
-    here = omega arith
-
-    rest : ByRecursion (λ (s : SegId). s.0 < all) (segments_from (i + 1) n es)
-    rest = below_from (i + 1) n es all (omega arith)
-
-    by : (b : Bool) → ByRecursion (λ (s : SegId). s.0 < all) (if b then record { 0 = i } ∷ segments_from (i + 1) n es else segments_from (i + 1) n es)
-    by true = (here, rest)
-    by false = rest
+    by : (b : Bool) → ByRecursion (λ (s : SegId). s.0 < all) (segments_from (i + 1) n es)
+        → ByRecursion (λ (s : SegId). s.0 < all) (if b then record { 0 = i } ∷ segments_from (i + 1) n es else segments_from (i + 1) n es)
+    by true rest = (omega arith, rest)
+    by false rest = rest
 
 -- ---- the whole
 
 module _ (g : GraphParts) (names : Names) (importance : List ℕ) (fit : IsConsistent g) (can : CanBeRead g names importance) where
-  lines : List ℕ
+  abbrev lines : List ℕ
   lines = range_with_len 0 (w.lines_listed g.lines)
 
-  nodes : List ℕ
+  abbrev nodes : List ℕ
   nodes = range_with_len 0 (length g.kinds)
 
-  segments : List ℕ
+  abbrev segments : List ℕ
   segments = range_with_len 0 (length g.ends)
 
-  line_form : ℕ → LineForm
+  abbrev line_form : ℕ → LineForm
   line_form l = forms.line_with (name_and_colour names l).0 (name_and_colour names l).1 (w.importance_at importance l)
 
   lines_back : each_or_first forms.line_of 0 (w.lines_data g names importance) ≡ Ok (map line_form lines)
   lines_back = all_entries forms.line_of 0 (w.lines_data g names importance) (map line_form lines)
-      (of_each_mapped forms.line_of (w.line_data names importance) line_form lines (below_range (w.lines_listed g.lines) _ (λ l h.
+      (of_each_mapped forms.line_of (w.line_data names importance) line_form lines (below_range (w.lines_listed g.lines) (λ l. forms.line_of (w.line_data names importance l) ≡ Some (line_form l)) (λ l h.
       line_back _ _ _ (can.colours l h).0 (can.colours l h).1 (can.importances l h).0 (can.importances l h).1)))
 
-  node_form : ℕ → NodeForm
+  abbrev node_form : ℕ → NodeForm
   node_form n = forms.node_with (w.point_at g.places n) (node_name names (p.kind_at g.kinds n)) (p.round_at g.rounds n) (p.joins_at g.joins n)
 
-  segment_form : ℕ → SegmentForm
+  abbrev segment_form : ℕ → SegmentForm
   segment_form s = forms.segment_with (p.ends_at g.ends s) (p.lines_at g.lines s)
 
-  features : List Feature
+  abbrev features : List Feature
   features = map (λ n. Node (node_form n)) nodes ++ map (λ s. Segment (segment_form s)) segments
 
   near : (n : ℕ) → n < length g.kinds → IsNear (w.point_at g.places n)
@@ -183,19 +178,22 @@ module _ (g : GraphParts) (names : Names) (importance : List ℕ) (fit : IsConsi
   at xs n P h = subst (ByRecursion P) (sym (unwrap_or-slice_get xs n [])) (recursion_from_All P (get_or xs n []) h)
 
   nodes_back : forms.of_each forms.feature_of (map (w.node_data g names) nodes) ≡ Some (map (λ n. Node (node_form n)) nodes)
-  nodes_back = of_each_mapped forms.feature_of (w.node_data g names) (λ n. Node (node_form n)) nodes (below_range (length g.kinds) _ (λ n h.
+  nodes_back = of_each_mapped forms.feature_of (w.node_data g names) (λ n. Node (node_form n)) nodes (below_range (length g.kinds) (λ n. forms.feature_of (w.node_data g names n) ≡ Some (Node (node_form n))) (λ n h.
       node_back names (p.joins_at g.joins n) (p.round_at g.rounds n) (p.kind_at g.kinds n) (w.point_at g.places n) (near n h)
-      (at g.joins n IsSmall (small n h)) (at g.rounds n _ (λ k d i. let low = round_below n h k d i in omega (arith, low, fit.few_segments)))))
+      (at g.joins n IsSmall (small n h)) (at g.rounds n (λ (s : SegId). s.0 < 2 ^ 32) (λ k d i. let low = round_below n h k d i in omega (arith, low, fit.few_segments)))))
+
+  abbrev no_ends : NodeId × NodeId
+  no_ends = (record { 0 = 0 }, record { 0 = 0 })
 
   end_below : (s : ℕ) → s < length g.ends → ((p.ends_at g.ends s).0.0 < 2 ^ 32) × ((p.ends_at g.ends s).1.0 < 2 ^ 32)
   end_below s h =
-      let is = subst (λ (e : NodeId × NodeId). (e.0.0 < e.1.0) × (e.1.0 < length g.kinds)) (sym (unwrap_or-slice_get g.ends s _)) (All-get_or _ g.ends s _ h fit.ends) in
+      let is = subst (λ (e : NodeId × NodeId). (e.0.0 < e.1.0) × (e.1.0 < length g.kinds)) (sym (unwrap_or-slice_get g.ends s no_ends)) (All-get_or (AreEnds (length g.kinds)) g.ends s no_ends h fit.ends) in
       (omega (arith, is.0, is.1, fit.few_nodes), omega (arith, is.1, fit.few_nodes))
 
   segments_back : forms.of_each forms.feature_of (map (w.segment_data g) segments) ≡ Some (map (λ s. Segment (segment_form s)) segments)
-  segments_back = of_each_mapped forms.feature_of (w.segment_data g) (λ s. Segment (segment_form s)) segments (below_range (length g.ends) _ (λ s h.
+  segments_back = of_each_mapped forms.feature_of (w.segment_data g) (λ s. Segment (segment_form s)) segments (below_range (length g.ends) (λ s. forms.feature_of (w.segment_data g s) ≡ Some (Segment (segment_form s))) (λ s h.
       segment_back _ _ (p.ends_at g.ends s) (p.lines_at g.lines s) (end_below s h).0 (end_below s h).1
-      (at g.lines s _ (λ k d i. let low = line_below s h k d i in omega (arith, low, can.few)))))
+      (at g.lines s (λ (l : LineId). l.0 < 2 ^ 32) (λ k d i. let low = line_below s h k d i in omega (arith, low, can.few)))))
 
   features_back : each_or_first forms.feature_of 0 (w.features_data g names) ≡ Ok features
   features_back = all_entries forms.feature_of 0 (w.features_data g names) features
@@ -211,10 +209,10 @@ module _ (g : GraphParts) (names : Names) (importance : List ℕ) (fit : IsConsi
       filter_map-append segment_in (map (λ n. Node (node_form n)) nodes) (map (λ s. Segment (segment_form s)) segments)
       ∙ ap₂ (λ a b. a ++ b) (no_segments node_form nodes) (segments_there segment_form segments)
 
-  again : GraphParts
+  abbrev again : GraphParts
   again = (read_again g names importance).graph
 
-  parts : List NodeKind → List Point → List (NodeId × NodeId) → List (List LineId) → List (List SegId) → List (List Join) → GraphParts
+  abbrev parts : List NodeKind → List Point → List (NodeId × NodeId) → List (List LineId) → List (List SegId) → List (List Join) → GraphParts
   parts kinds places ends lines rounds joins = record { kinds = kinds; places = places; ends = ends; lines = lines; rounds = rounds; joins = joins }
 
   -- a column of nodes, and of segments
@@ -257,10 +255,10 @@ module _ (g : GraphParts) (names : Names) (importance : List ℕ) (fit : IsConsi
   limits =
       ap₂ limit_met lines_made names_made
       ∙ ap₂ (λ a b. option_or a (option_or b (option_or (above kind.Nodes (length (map (node_name names) g.kinds))) (above kind.Segments (length g.lines)))))
-      (within kind.Lines _ (few_lines 1000 g.lines fit.few_lines.0 fit.few_lines.1 fit.few_lines.2))
-      (within kind.Stations _ (omega (arith, named_most (map (node_name names) g.kinds), length-map g.kinds (node_name names), fit.few_nodes)))
-      ∙ ap₂ (λ a b. option_or a b) (within kind.Nodes _ (omega (arith, length-map g.kinds (node_name names), fit.few_nodes)))
-      (within kind.Segments _ (omega (arith, fit.lines_each, fit.few_segments)))
+      (within kind.Lines (length (lines_on g.lines)) (few_lines 1000 g.lines fit.few_lines.0 fit.few_lines.1 fit.few_lines.2))
+      (within kind.Stations (length (names_in (map (node_name names) g.kinds))) (omega (arith, named_most (map (node_name names) g.kinds), length-map g.kinds (node_name names), fit.few_nodes)))
+      ∙ ap₂ (λ a b. option_or a b) (within kind.Nodes (length (map (node_name names) g.kinds)) (omega (arith, length-map g.kinds (node_name names), fit.few_nodes)))
+      (within kind.Segments (length g.lines) (omega (arith, fit.lines_each, fit.few_segments)))
 
   count_nodes : length (nodes_in features) ≡ length g.kinds
   count_nodes = ap length found_nodes ∙ length-map nodes node_form ∙ length-range_with_len 0 (length g.kinds)
@@ -275,8 +273,8 @@ module _ (g : GraphParts) (names : Names) (importance : List ℕ) (fit : IsConsi
   holds =
       ap₂ (λ g n. broken_from g n 0 0 0 (map is_node features)) graph_again listed
       ∙ none_broken again (w.lines_listed g.lines) 0 0 0 features
-      (λ k h. nodes_pass g fit k (omega (arith, h, count_nodes)))
-      (λ k h. segment k (omega (arith, h, count_segments)))
+      (λ k h. let here : 0 + k ≡ k = omega arith in ap (node_holds again) here ∙ nodes_pass g fit k (omega (arith, h, count_nodes)))
+      (λ k h. let here : 0 + k ≡ k = omega arith in ap (segment_holds again (w.lines_listed g.lines)) here ∙ segment k (omega (arith, h, count_segments)))
     where
       segment : (s : ℕ) → s < length g.ends → segment_holds again (w.lines_listed g.lines) s ≡ true
       segment s h = ap (λ (n : ℕ). is_sound_segment n (w.lines_listed g.lines) (get_or g.ends s (record { 0 = 0 }, record { 0 = 0 })) (get_or g.lines s [])) length_again ∙ segments_pass g fit s h

@@ -99,6 +99,9 @@ fn graph_with(
     ensures reads { Reads result (with_features lines.items (Ok features.items)) }
     ensures complete { IfOk result IsComplete }
 {
+    if 4_294_967_296 <= lines.len() {
+        return Err(JsonFault::NoMemory);
+    }
     let columns = columns_of(alloc, features)?;
     if let Some(limit) = limit_met(alloc, &columns.lines, &columns.names)? {
         return Err(JsonFault::Limit(limit));
