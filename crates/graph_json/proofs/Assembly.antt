@@ -154,18 +154,21 @@ module _ (lines : List LineForm) (fs : List Feature) (limits : limit_of_features
 
   pub shaped : IsShaped g
   shaped =
-      let first = none_first (above kind.Lines (length (lines_on g.lines))) _ limits in
-      let second = none_first (above kind.Stations _) _ first.1 in
-      let third = none_first (above kind.Nodes _) _ second.1 in
+      let first = none_first (above kind.Lines (length (lines_on g.lines)))
+          (option_or (above kind.Stations (length (names_in (names_of_nodes (nodes_in fs)))))
+          (option_or (above kind.Nodes (length (names_of_nodes (nodes_in fs)))) (above kind.Segments (length g.lines)))) limits in
+      let names = names_of_nodes (nodes_in fs) in
+      let second = none_first (above kind.Stations (length (names_in names))) (option_or (above kind.Nodes (length names)) (above kind.Segments (length g.lines))) first.1 in
+      let third = none_first (above kind.Nodes (length names)) (above kind.Segments (length g.lines)) second.1 in
       let kinds = kinds_each fs in
       record {
         place_each = length-map (nodes_in fs) (λ (n : NodeForm). n.place) ∙ sym kinds;
         round_each = length-map (nodes_in fs) (λ (n : NodeForm). n.round) ∙ sym kinds;
         joins_each = length-map (nodes_in fs) (λ (n : NodeForm). n.joins) ∙ sym kinds;
         lines_each = length-map (segments_in fs) (λ (s : SegmentForm). s.lines) ∙ sym (length-map (segments_in fs) (λ (s : SegmentForm). s.ends));
-        few_nodes = omega (arith, within kind.Nodes _ third.0, kinds, length-map (nodes_in fs) (λ (n : NodeForm). n.name));
-        few_segments = omega (arith, within kind.Segments _ third.1, length-map (segments_in fs) (λ (s : SegmentForm). s.lines), length-map (segments_in fs) (λ (s : SegmentForm). s.ends));
-        few_lines = few_lines g.lines (within kind.Lines _ first.0);
+        few_nodes = omega (arith, within kind.Nodes (length (names_of_nodes (nodes_in fs))) third.0, kinds, length-map (nodes_in fs) (λ (n : NodeForm). n.name));
+        few_segments = omega (arith, within kind.Segments (length g.lines) third.1, length-map (segments_in fs) (λ (s : SegmentForm). s.lines), length-map (segments_in fs) (λ (s : SegmentForm). s.ends));
+        few_lines = few_lines g.lines (within kind.Lines (length (lines_on g.lines)) first.0);
       }
 
   node : (n : ℕ) → n < length g.kinds → node_holds g n ≡ true

@@ -1,7 +1,6 @@
 -- What was written of a consistent graph is read as this graph.
 use Rattle.std.proofs.Common.{◌≡◌, refl, sym, ap, ap₂, subst, ◌∙◌, ℕ, zero, suc, ◌+◌, ◌-◌, ◌<◌, ◌≤◌, ◌^◌, ◌==◌, Bool, true, false, List, [], ◌∷◌, ◌++◌, length, map, take, get_or, arith, length-append, append-nil}
 use Rattle.std.specs.Prelude.{All, Contains, Option, Some, None, option_map, option_and_then, unwrap_or, slice_get, nat_lt, pos, IsUtf8, Result, Ok, Err, if◌then◌else◌}
-use Rattle.std.specs.Str.{is_utf8}
 use Rattle.std.specs.List.{AllByRecursion as ByRecursion, range_with_len, filter_map}
 use Rattle.std.proofs.lemmas.Bool.{ltb-true, eq-eqb}
 use Rattle.std.proofs.lemmas.List.{length-map}
@@ -9,7 +8,6 @@ use Rattle.std.proofs.lemmas.List.Elements.{All-get_or, recursion_from_All, All-
 use Rattle.std.proofs.lemmas.List.FromFn.{length-range_with_len}
 use Rattle.std.proofs.lemmas.List.Sorted.{All-permutation}
 use Rattle.std.proofs.lemmas.Option.{unwrap_or-slice_get}
-use Rattle.std.proofs.lemmas.Str.{is_utf8-from_IsUtf8}
 use Rattle.std.specs.Option.{option_or}
 use Rattle.map_base.specs.declared.ids.LineId.{LineId}
 use Rattle.map_base.specs.declared.ids.NodeId.{NodeId}
@@ -41,6 +39,7 @@ use Rattle.graph_json.specs.Again.{node_name, name_and_colour, read_again, CanBe
 use Rattle.graph_json.specs.Limits.{lines_on, names_in, above, limit_met}
 use Rattle.graph_json.specs.References.{node_in, segment_in, nodes_in, segments_in, names_of_nodes, kinds_from, graph_of, is_node, is_sound_segment, node_holds, segment_holds, broken_from}
 use Rattle.graph_json.specs.Outcome.{without_feed, text_value, value_of, of_value, of_arrays, with_lines, with_features, within_limits, unless_broken, limit_of_features, broken_in, graph_made, imported_of, each_or_first, graph_outcome}
+use Rattle.graph_json.proofs.Texts.{of_text}
 use Rattle.graph_json.proofs.Assembly.{length-kinds_from}
 use Rattle.graph_json.proofs.ListBack.{of_each_mapped, of_each_append, all_entries, below_range, by_number, map_same, map_map}
 use Rattle.graph_json.proofs.ReadBack.{array_back, line_back, node_back, segment_back, IsSmall}
@@ -65,7 +64,7 @@ feed_away text =
 
 -- a text with a line feed behind it has the text's value
 pub text_read : (text : List ℕ) (d : Data) → IsUtf8 text → read text ≡ Some d → value_of (text ++ 10 ∷ []) ≡ Some d
-text_read text d utf8 is = ap text_value (feed_away text) ∙ ap (λ (b : Bool). if b then read text else None) (is_utf8-from_IsUtf8 text utf8) ∙ is
+text_read text d utf8 is = ap text_value (feed_away text) ∙ of_text text d utf8 is
 
 -- ---- features apart
 
@@ -192,7 +191,7 @@ module _ (g : GraphParts) (names : Names) (importance : List ℕ) (fit : IsConsi
 
   segments_back : forms.of_each forms.feature_of (map (w.segment_data g) segments) ≡ Some (map (λ s. Segment (segment_form s)) segments)
   segments_back = of_each_mapped forms.feature_of (w.segment_data g) (λ s. Segment (segment_form s)) segments (below_range (length g.ends) (λ s. forms.feature_of (w.segment_data g s) ≡ Some (Segment (segment_form s))) (λ s h.
-      segment_back _ _ (p.ends_at g.ends s) (p.lines_at g.lines s) (end_below s h).0 (end_below s h).1
+      segment_back (w.point_at g.places (p.ends_at g.ends s).0.0) (w.point_at g.places (p.ends_at g.ends s).1.0) (p.ends_at g.ends s) (p.lines_at g.lines s) (end_below s h).0 (end_below s h).1
       (at g.lines s (λ (l : LineId). l.0 < 2 ^ 32) (λ k d i. let low = line_below s h k d i in omega (arith, low, can.few)))))
 
   features_back : each_or_first forms.feature_of 0 (w.features_data g names) ≡ Ok features

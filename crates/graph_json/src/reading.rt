@@ -48,6 +48,7 @@ fn without_feed(bytes: &[u8]) -> &[u8]
 }
 
 /// The value that a text is (RFC 8259).
+#[tactic(auto, using(crate::proofs::Texts::of_text, crate::proofs::Texts::of_no_text))]
 fn text_value(alloc: Global, text: &[u8]) -> Result<Value, JsonFault>
     ensures { ReadsValue result (text_value text.now) }
 {
