@@ -1,5 +1,5 @@
 -- What features of a graph file make: a consistent graph, where limits and references hold.
-use Rattle.std.proofs.Common.{◌≡◌, refl, sym, ap, subst, ◌∙◌, ℕ, zero, suc, ◌+◌, ◌^◌, ◌<◌, ◌≤◌, Bool, true, false, ◌||◌, ◌&&◌, ◌==◌, List, [], ◌∷◌, ◌++◌, length, map, get_or, fold, arith, inl, inr, nat_lt, append-nil, append_assoc}
+use Rattle.std.proofs.Common.{◌≡◌, refl, sym, ap, subst, ◌∙◌, ap₂, ℕ, zero, suc, ◌+◌, ◌^◌, ◌<◌, ◌≤◌, Bool, true, false, ◌||◌, ◌&&◌, ◌==◌, List, [], ◌∷◌, ◌++◌, length, map, get_or, fold, arith, inl, inr, nat_lt, append-nil, append_assoc}
 use Rattle.std.specs.Prelude.{All, Contains, Option, Some, None, if◌then◌else◌}
 use Rattle.std.specs.List.{list_any, filter_map}
 use Rattle.std.proofs.lemmas.Bool.{eqb-true, eq-eqb, ltb-false}
@@ -22,9 +22,11 @@ use Rattle.graph_json.specs.declared.forms.NodeForm.{NodeForm}
 use Rattle.graph_json.specs.declared.forms.SegmentForm.{SegmentForm}
 use Rattle.graph_json.specs.declared.forms.Feature.{Feature}
 use Rattle.graph_json.specs.declared.forms.Feature.TheVariants.{Node, Segment}
+use Rattle.graph_json.specs.declared.columns.Columns.{Columns}
+use Rattle.graph_json.specs.Columns.{AreColumns}
 use Rattle.graph_json.specs.Limits.{is_line, with_line, with_lines, lines_on, names_in, above, limit_met}
 use Rattle.graph_json.specs.References.{nodes_in, segments_in, names_of_nodes, kinds_from, graph_of, is_node, node_holds, segment_holds, broken_from}
-use Rattle.graph_json.specs.Outcome.{graph_made, imported_of, broken_in, limit_of_features, IsNamed, IsImportant, LiesNear, IsComplete}
+use Rattle.graph_json.specs.Outcome.{graph_made, imported_with, imported_of, broken_in, limit_of_features, IsNamed, IsImportant, LiesNear, IsComplete}
 use Rattle.graph_json.proofs.Consistency.{IsShaped, consistent, lines_listed}
 
 -- ---- references
@@ -148,18 +150,20 @@ near_places [] h = tt
 near_places (Node n ∷ fs) h = (h.0, near_places fs h.1)
 near_places (Segment s ∷ fs) h = near_places fs h.1
 
-module _ (lines : List LineForm) (fs : List Feature) (limits : limit_of_features fs ≡ None) (whole : broken_in fs (length lines) ≡ None) (near : All LiesNear fs) where
-  abbrev g : GraphParts
-  g = graph_made fs
+-- what columns meet, the features meet
+pub limits_of_columns : (columns : Columns) (fs : List Feature) → AreColumns columns fs → limit_met columns.lines.items columns.names.items ≡ None
+    → limit_of_features fs ≡ None
+limits_of_columns columns fs are none = ap₂ limit_met (sym are.lines) (sym are.names) ∙ none
 
-  pub shaped : IsShaped g
+module _ (fs : List Feature) (limits : limit_of_features fs ≡ None) where
+  pub shaped : IsShaped (graph_made fs)
   shaped =
-      let first = none_first (above kind.Lines (length (lines_on g.lines)))
+      let first = none_first (above kind.Lines (length (lines_on (graph_made fs).lines)))
           (option_or (above kind.Stations (length (names_in (names_of_nodes (nodes_in fs)))))
-          (option_or (above kind.Nodes (length (names_of_nodes (nodes_in fs)))) (above kind.Segments (length g.lines)))) limits in
+          (option_or (above kind.Nodes (length (names_of_nodes (nodes_in fs)))) (above kind.Segments (length (graph_made fs).lines)))) limits in
       let names = names_of_nodes (nodes_in fs) in
-      let second = none_first (above kind.Stations (length (names_in names))) (option_or (above kind.Nodes (length names)) (above kind.Segments (length g.lines))) first.1 in
-      let third = none_first (above kind.Nodes (length names)) (above kind.Segments (length g.lines)) second.1 in
+      let second = none_first (above kind.Stations (length (names_in names))) (option_or (above kind.Nodes (length names)) (above kind.Segments (length (graph_made fs).lines))) first.1 in
+      let third = none_first (above kind.Nodes (length names)) (above kind.Segments (length (graph_made fs).lines)) second.1 in
       let kinds = kinds_each fs in
       record {
         place_each = length-map (nodes_in fs) (λ (n : NodeForm). n.place) ∙ sym kinds;
@@ -167,9 +171,13 @@ module _ (lines : List LineForm) (fs : List Feature) (limits : limit_of_features
         joins_each = length-map (nodes_in fs) (λ (n : NodeForm). n.joins) ∙ sym kinds;
         lines_each = length-map (segments_in fs) (λ (s : SegmentForm). s.lines) ∙ sym (length-map (segments_in fs) (λ (s : SegmentForm). s.ends));
         few_nodes = omega (arith, within kind.Nodes (length (names_of_nodes (nodes_in fs))) third.0, kinds, length-map (nodes_in fs) (λ (n : NodeForm). n.name));
-        few_segments = omega (arith, within kind.Segments (length g.lines) third.1, length-map (segments_in fs) (λ (s : SegmentForm). s.lines), length-map (segments_in fs) (λ (s : SegmentForm). s.ends));
-        few_lines = few_lines g.lines (within kind.Lines (length (lines_on g.lines)) first.0);
+        few_segments = omega (arith, within kind.Segments (length (graph_made fs).lines) third.1, length-map (segments_in fs) (λ (s : SegmentForm). s.lines), length-map (segments_in fs) (λ (s : SegmentForm). s.ends));
+        few_lines = few_lines (graph_made fs).lines (within kind.Lines (length (lines_on (graph_made fs).lines)) first.0);
       }
+
+module _ (lines : List LineForm) (fs : List Feature) (limits : limit_of_features fs ≡ None) (whole : broken_in fs (length lines) ≡ None) (near : All LiesNear fs) where
+  abbrev g : GraphParts
+  g = graph_made fs
 
   node : (n : ℕ) → n < length g.kinds → node_holds g n ≡ true
   node n h =
@@ -185,7 +193,7 @@ module _ (lines : List LineForm) (fs : List Feature) (limits : limit_of_features
   places = All-map IsNear (λ (n : NodeForm). n.place) (nodes_in fs) (All-from_recursion _ (nodes_in fs) (near_places fs (recursion_from_All _ fs near)))
 
   pub made_consistent : IsConsistent g
-  made_consistent = consistent g (length lines) shaped node segment places
+  made_consistent = consistent g (length lines) (shaped fs limits) node segment places
 
   pub complete : length lines < 2 ^ 32 → All IsImportant lines → IsComplete (imported_of lines fs)
   complete few important =
@@ -194,8 +202,31 @@ module _ (lines : List LineForm) (fs : List Feature) (limits : limit_of_features
       let numbers : length (map (λ (l : LineForm). l.importance) lines) ≡ length lines = length-map lines (λ (l : LineForm). l.importance) in
       record {
         stations = All-from_recursion (IsNamed (length stations)) g.kinds (named 0 (names_of_nodes (nodes_in fs)) (length stations) (omega arith));
-        lines = subst (λ (n : ℕ). All (All (λ (l : LineId). l.0 < n)) g.lines) (sym listed) (lines_listed g (length lines) shaped node segment);
+        lines = subst (λ (n : ℕ). All (All (λ (l : LineId). l.0 < n)) g.lines) (sym listed) (lines_listed g (length lines) (shaped fs limits) node segment);
         importance_each = numbers ∙ sym listed;
         few = subst (λ (n : ℕ). n < 2 ^ 32) (sym numbers) few;
         importance = All-map IsImportance (λ (l : LineForm). l.importance) lines important;
       }
+
+-- ---- by columns
+
+module _ (columns : Columns) (lines : List LineForm) (fs : List Feature) (are : AreColumns columns fs) (limits : limit_met columns.lines.items columns.names.items ≡ None)
+    (parts : GraphParts) (is : parts ≡ graph_made fs) where
+  pub few_ends : length parts.ends ≤ 20000
+  few_ends = subst (λ (g : GraphParts). length g.ends ≤ 20000) (sym is) (shaped fs (limits_of_columns columns fs are limits)).few_segments
+
+module _ (columns : Columns) (lines : List LineForm) (fs : List Feature) (are : AreColumns columns fs) (limits : limit_met columns.lines.items columns.names.items ≡ None)
+    (parts : GraphParts) (is : parts ≡ graph_made fs) (nodes : List Bool) (all : nodes ≡ columns.are_nodes.items)
+    (sound : broken_from parts (length lines) 0 0 0 nodes ≡ None) (near : All LiesNear fs) where
+  whole : broken_in fs (length lines) ≡ None
+  whole = ap₂ (λ g b. broken_from g (length lines) 0 0 0 b) (sym is) (sym (all ∙ are.are_nodes)) ∙ sound
+
+  pub parts_consistent : IsConsistent parts
+  parts_consistent = subst IsConsistent (sym is) (made_consistent lines fs (limits_of_columns columns fs are limits) whole near)
+
+  pub read_complete : (stations : List (List ℕ)) → stations ≡ names_in columns.names.items → length lines < 2 ^ 32 → All IsImportant lines
+      → IsComplete (imported_with lines parts stations)
+  read_complete stations called few important =
+      let by_features = complete lines fs (limits_of_columns columns fs are limits) whole near few important in
+      subst (λ (g : GraphParts). IsComplete (imported_with lines g stations)) (sym is)
+      (subst (λ (s : List (List ℕ)). IsComplete (imported_with lines (graph_made fs) s)) (sym (called ∙ ap names_in are.names)) by_features)

@@ -25,8 +25,9 @@ use Rattle.graph_core.specs.Consistent.{IsConsistent, IsNear, AreEnds, IsJoin, l
 use Rattle.graph_core.specs.Round.{ends_at, segments_from, segments_at}
 use Rattle.svg_writer.specs.declared.names.Names.{Names}
 use Rattle.svg_writer.specs.Picture as p
-use Rattle.serde_json.specs.Data.{Data}
-use Rattle.serde_json.specs.Read.{read}
+use Rattle.serde_json.specs.Data.{Data, depth}
+use Rattle.serde_json.specs.Read.{max_depth, read}
+use Rattle.serde_json.specs.Written.{has_float, compact_text}
 use Rattle.graph_json.specs.declared.forms.LineForm.{LineForm}
 use Rattle.graph_json.specs.declared.forms.NodeForm.{NodeForm}
 use Rattle.graph_json.specs.declared.forms.SegmentForm.{SegmentForm}
@@ -40,6 +41,7 @@ use Rattle.graph_json.specs.Limits.{lines_on, names_in, above, limit_met}
 use Rattle.graph_json.specs.References.{node_in, segment_in, nodes_in, segments_in, names_of_nodes, kinds_from, graph_of, is_node, is_sound_segment, node_holds, segment_holds, broken_from}
 use Rattle.graph_json.specs.Outcome.{without_feed, text_value, value_of, of_value, of_arrays, with_lines, with_features, within_limits, unless_broken, limit_of_features, broken_in, graph_made, imported_of, each_or_first, graph_outcome}
 use Rattle.graph_json.proofs.Texts.{of_text}
+use Rattle.graph_json.proofs.PlainValues.{graph_plain}
 use Rattle.graph_json.proofs.Assembly.{length-kinds_from}
 use Rattle.graph_json.proofs.ListBack.{of_each_mapped, of_each_append, all_entries, below_range, by_number, map_same, map_map}
 use Rattle.graph_json.proofs.ReadBack.{array_back, line_back, node_back, segment_back, IsSmall}
@@ -297,3 +299,16 @@ module _ (g : GraphParts) (names : Names) (importance : List ℕ) (fit : IsConsi
   -- of a text with the graph's value and a line feed behind it
   pub outcome_again : (text : List ℕ) → IsUtf8 text → read text ≡ Some (w.graph_data g names importance) → graph_outcome (text ++ 10 ∷ []) ≡ Ok (read_again g names importance)
   outcome_again text utf8 is = ap of_value (text_read text (w.graph_data g names importance) utf8 is) ∙ value_again
+
+-- ---- what is written
+
+pub text_written : (g : GraphParts) (names : Names) (importance : List ℕ) (d : Data) (text : List ℕ) → d ≡ w.graph_data g names importance
+    → (has_float d ≡ false → text ≡ compact_text d) → text ++ 10 ∷ [] ≡ w.graph_text g names importance
+text_written g names importance d text is means =
+    ap (λ l. l ++ 10 ∷ []) (means (subst (λ x. has_float x ≡ false) (sym is) (graph_plain g names importance).whole) ∙ ap compact_text is)
+
+pub text_again : (g : GraphParts) (names : Names) (importance : List ℕ) (d : Data) (text : List ℕ) → d ≡ w.graph_data g names importance → IsConsistent g
+    → IsUtf8 text → (depth d ≤ max_depth → read text ≡ Some d) → CanBeRead g names importance → graph_outcome (text ++ 10 ∷ []) ≡ Ok (read_again g names importance)
+text_again g names importance d text is fit utf8 back can =
+    let shallow : depth d ≤ max_depth = subst (λ x. depth x ≤ max_depth) (sym is) (omega (arith, (graph_plain g names importance).shallow)) in
+    outcome_again g names importance fit can text utf8 (back shallow ∙ ap Some is)

@@ -19,6 +19,7 @@ use svg_writer::Names;
 /// names of stations and the names and colours of lines by their numbers (an empty text where it has none), `importance`
 /// a number from 1 to 16 for each line (1 where it has none). What is written is read as the same graph, up to the numbers
 /// of its stations, with the same names, colours and importances.
+#[tactic(auto, using(crate::proofs::WrittenAgain::text_written, crate::proofs::WrittenAgain::text_again))]
 pub fn write_graph(
     alloc: Global,
     graph: &LineGraph,
@@ -42,7 +43,8 @@ fn whole(
     names: &Names,
     importance: &[u32],
 ) -> Result<Value, AllocError>
-    ensures { IfOk result (λ v. view v ≡ graph_data graph.now names.now importance.now) }
+    ensures value { IfOk result (λ v. view v ≡ graph_data graph.now names.now importance.now) }
+    ensures fits { IfOk result (λ _. IsConsistent graph.now) }
 {
     let mut features = Vec::with_capacity(alloc, graph.nodes() as usize + graph.segs() as usize)?;
     push_nodes(alloc, &mut features, graph, names)?;
