@@ -23,12 +23,7 @@ use Rattle.graph_json.specs.Written.{after_lines, lines_listed}
 
 found : {X : Type 0} (same : X → X → Bool) → ((a : X) → same a a ≡ true) → (xs : List X) (x : X) → Contains xs x → list_any (λ y. same y x) xs ≡ true
 found same itself xs x (k, within, is) =
-    list_any-from_Any (λ y. same y x) xs (k, within, λ d. ap (λ y. same y x) (any_default xs k x d within ∙ is) ∙ itself x)
-  where
-    any_default : {X : Type 0} (xs : List X) (k : ℕ) (c d : X) → k < length xs → get_or xs k d ≡ get_or xs k c
-    any_default [] k c d h = absurd (omega arith)
-    any_default (x ∷ xs) zero c d h = refl
-    any_default (x ∷ xs) (suc k) c d h = any_default xs k c d (omega arith)
+    list_any-from_Any (λ y. same y x) xs (k, x, within, is, itself x)
 
 seg_found : (round : List SegId) (s : SegId) → Contains round s → has_seg round s ≡ true
 seg_found = found (λ (a b : SegId). a.0 == b.0) (λ a. eq-eqb a.0 a.0 refl)
@@ -64,6 +59,9 @@ sorted_back (a ∷ rest) h = sorted_back_from a rest h
 
 five : (a b c d e : Bool) → a ≡ true → b ≡ true → c ≡ true → d ≡ true → e ≡ true → (a && (b && (c && (d && e)))) ≡ true
 five a b c d e p q r s t = cc
+
+two_and_three : (a b c d e : Bool) → a ≡ true → b ≡ true → c ≡ true → d ≡ true → e ≡ true → ((a && b) && (c && (d && e))) ≡ true
+two_and_three a b c d e p q r s t = cc
 
 join_passes : (lines : List (List LineId)) (round : List SegId) (j : Join) → IsJoin lines round j → is_sound_join lines round j ≡ true
 join_passes lines round j is =
@@ -124,7 +122,7 @@ module _ (g : GraphParts) (fit : IsConsistent g) where
       let lines = fit.lines s [] in_lines in
       let listed : ByRecursion (λ (l : LineId). l.0 < lines_listed g.lines) (get_or g.lines s []) = All-from_recursion _ g.lines (each_listed g.lines) s [] in_lines in
       let all : list_all (λ (l : LineId). nat_lt l.0 (lines_listed g.lines)) (get_or g.lines s []) ≡ true = list_all-from_AllPass _ (get_or g.lines s []) (λ k d i. lt-ltb _ (lines_listed g.lines) (All-from_recursion _ (get_or g.lines s []) listed k d i)) in
-      five _ _ _ _ _ (lt-ltb _ _ ends.0) (lt-ltb _ _ ends.1) (lt-ltb 0 _ lines.0) (rises_back _ lines.1) all
+      two_and_three _ _ _ _ _ (lt-ltb _ _ ends.0) (lt-ltb _ _ ends.1) (lt-ltb 0 _ lines.0) (rises_back _ lines.1) all
 
 -- ---- limits
 
@@ -193,21 +191,21 @@ Parted all l = (before : List LineId) × (after : List LineId) × (all ≡ befor
 
 parted : (all : List LineId) (l : LineId) → list_any (is_line l) all ≡ true → Parted all l
 parted [] l t = absurd (false≢true t)
-parted (a ∷ all) l t = by (is_line l a) refl t
+parted (a ∷ all) l t = by (is_line l a) refl t (λ t. parted all l t)
   where
-    by : (b : Bool) → is_line l a ≡ b → (b || list_any (is_line l) all) ≡ true → Parted (a ∷ all) l
-    by true e t = ([], all, ap (λ (x : LineId). x ∷ all) (sym (same_line l a e)))
-    by false e t = let rest = parted all l t in (a ∷ rest.0, rest.1, ap (λ (xs : List LineId). a ∷ xs) rest.2)
+    by : (b : Bool) → is_line l a ≡ b → (b || list_any (is_line l) all) ≡ true → (list_any (is_line l) all ≡ true → Parted all l) → Parted (a ∷ all) l
+    by true e t later = ([], all, ap (λ (x : LineId). x ∷ all) (sym (same_line l a e)))
+    by false e t later = let rest = later t in (a ∷ rest.0, rest.1, ap (λ (xs : List LineId). a ∷ xs) rest.2)
 
 left_there : (before after : List LineId) (l : LineId) (ls : List LineId) → list_any (is_line l) ls ≡ false → Within (before ++ l ∷ after) ls → Within (before ++ after) ls
 left_there before after l [] once within = tt
-left_there before after l (k ∷ ls) once within = by (is_line l k) refl once
+left_there before after l (k ∷ ls) once within = by (is_line l k) refl once (λ once. left_there before after l ls once within.1)
   where
-    by : (b : Bool) → is_line l k ≡ b → (b || list_any (is_line l) ls) ≡ false → Within (before ++ after) (k ∷ ls)
-    by true e once = absurd (false≢true (sym once))
-    by false e once = (
+    by : (b : Bool) → is_line l k ≡ b → (b || list_any (is_line l) ls) ≡ false → (list_any (is_line l) ls ≡ false → Within (before ++ after) ls) → Within (before ++ after) (k ∷ ls)
+    by true e once later = absurd (false≢true (sym once))
+    by false e once later = (
       list_any-append (is_line k) before after ∙ ap (λ (b : Bool). list_any (is_line k) before || (b || list_any (is_line k) after)) (sym (turned l k e)) ∙ sym (list_any-append (is_line k) before (l ∷ after)) ∙ within.0,
-      left_there before after l ls once within.1,
+      later once,
     )
 
 few_once : (ls all : List LineId) → Once ls → Within all ls → length ls ≤ length all
