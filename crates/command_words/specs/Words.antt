@@ -146,7 +146,19 @@ page_in rows = do
   html ← first_of (codes "HTML") rows
   page_at map html
 
--- what the matches of the command of this name ask for, with what is set
+-- what the matches of the command of this name ask for, with what is set: the commands that neither make nor check the
+-- map of a feed
+unfoldable pub asked_else : List Text → Text → List Row → Option Asked
+asked_else sets name rows =
+    if bytes_eq name (codes "graph") then graph_in sets rows
+    else if bytes_eq name (codes "export") then export_in sets rows
+    else if bytes_eq name (codes "import") then import_in sets rows
+    else if bytes_eq name (codes "stations") then stations_in rows
+    else if bytes_eq name (codes "page") then page_in rows
+    else if bytes_eq name (codes "trial") then trial_in rows
+    else None
+
+-- the same, of all commands
 unfoldable pub asked_as : List Text → Text → List Row → Option Asked
 asked_as sets name rows =
     if bytes_eq name (codes "map") then make_in Map sets rows
@@ -156,13 +168,7 @@ asked_as sets name rows =
     else if bytes_eq name (codes "labels") then picture_in Labelled sets rows
     else if bytes_eq name (codes "geo") then picture_in Geographic sets rows
     else if bytes_eq name (codes "session") then session_in sets rows
-    else if bytes_eq name (codes "graph") then graph_in sets rows
-    else if bytes_eq name (codes "export") then export_in sets rows
-    else if bytes_eq name (codes "import") then import_in sets rows
-    else if bytes_eq name (codes "stations") then stations_in rows
-    else if bytes_eq name (codes "page") then page_in rows
-    else if bytes_eq name (codes "trial") then trial_in rows
-    else None
+    else asked_else sets name rows
 
 -- what a command that was met asks for
 abbrev pub named_in : List Text → Option (Text × List Row) → Option Asked

@@ -3,7 +3,7 @@
 use command_paths::{MapFiles, NewFiles, Options, Picture};
 
 /// A command with what it works on.
-#[derive(Clone, Copy, Debug)]
+#[derive(Clone, Copy)]
 pub enum Command<'a> {
     /// The stations of the feed in this folder.
     Stations {

@@ -5,7 +5,7 @@ ghost use Rattle.clap.specs.Words.{first_of, found_of, rows_of, subcommand_rows_
 ghost use Rattle.command_paths.specs.Sets.{sets_of};
 ghost use Rattle.command_paths.specs.Paths.{new_paths_by, options_by, paths_by};
 ghost use Rattle.command_words.specs.Asked.{asked_by};
-ghost use Rattle.command_words.specs.Words.{asked_as, check_in, graph_in, improve_in, make_in, named_in, new_paths_in, number_in, options_in, page_apart, page_in, paths_in, picture_in, session_in, settings_in, stations_in, trial_in, two_paths_in, export_in, import_in};
+ghost use Rattle.command_words.specs.Words.{asked_as, asked_else, check_in, graph_in, improve_in, make_in, named_in, new_paths_in, number_in, options_in, page_apart, page_in, paths_in, picture_in, session_in, settings_in, stations_in, trial_in, two_paths_in, export_in, import_in};
 
 use crate::command::Command;
 use clap::ArgMatches;
@@ -39,7 +39,17 @@ fn command_named<'a>(name: &str, given: &ArgMatches<'a>, words: &'a [String]) ->
         picture_in(given, Picture::Geographic, words)
     } else if name == "session" {
         session_in(given, words)
-    } else if name == "graph" {
+    } else {
+        other_named(name, given, words)
+    }
+}
+
+/// The command of this name that neither makes nor checks the map of a feed.
+#[tactic(auto, unfolding(crate::specs::Words::asked_else))]
+fn other_named<'a>(name: &str, given: &ArgMatches<'a>, words: &'a [String]) -> Option<Command<'a>>
+    ensures { option_map asked_by result ≡ asked_else (sets_of words.now) name.now (rows_of (found_of given.now)) }
+{
+    if name == "graph" {
         graph_in(given, words)
     } else if name == "export" {
         export_in(given, words)
