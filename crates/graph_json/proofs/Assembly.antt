@@ -159,8 +159,8 @@ module _ (fs : List Feature) (limits : limit_of_features fs ≡ None) where
   pub shaped : IsShaped (graph_made fs)
   shaped =
       let first = none_first (above kind.Lines (length (lines_on (graph_made fs).lines)))
-          (option_or (above kind.Stations (length (names_in (names_of_nodes (nodes_in fs)))))
-          (option_or (above kind.Nodes (length (names_of_nodes (nodes_in fs)))) (above kind.Segments (length (graph_made fs).lines)))) limits in
+      (option_or (above kind.Stations (length (names_in (names_of_nodes (nodes_in fs)))))
+      (option_or (above kind.Nodes (length (names_of_nodes (nodes_in fs)))) (above kind.Segments (length (graph_made fs).lines)))) limits in
       let names = names_of_nodes (nodes_in fs) in
       let second = none_first (above kind.Stations (length (names_in names))) (option_or (above kind.Nodes (length names)) (above kind.Segments (length (graph_made fs).lines))) first.1 in
       let third = none_first (above kind.Nodes (length names)) (above kind.Segments (length (graph_made fs).lines)) second.1 in
@@ -198,10 +198,11 @@ module _ (lines : List LineForm) (fs : List Feature) (limits : limit_of_features
   pub complete : length lines < 2 ^ 32 → All IsImportant lines → IsComplete (imported_of lines fs)
   complete few important =
       let stations = names_in (names_of_nodes (nodes_in fs)) in
+      let within : 0 + length stations ≤ length stations = omega arith in
       let listed : length (map (λ (l : LineForm). (l.name, l.colour)) lines) ≡ length lines = length-map lines (λ (l : LineForm). (l.name, l.colour)) in
       let numbers : length (map (λ (l : LineForm). l.importance) lines) ≡ length lines = length-map lines (λ (l : LineForm). l.importance) in
       record {
-        stations = All-from_recursion (IsNamed (length stations)) g.kinds (named 0 (names_of_nodes (nodes_in fs)) (length stations) (omega arith));
+        stations = All-from_recursion (IsNamed (length stations)) g.kinds (named 0 (names_of_nodes (nodes_in fs)) (length stations) within);
         lines = subst (λ (n : ℕ). All (All (λ (l : LineId). l.0 < n)) g.lines) (sym listed) (lines_listed g (length lines) (shaped fs limits) node segment);
         importance_each = numbers ∙ sym listed;
         few = subst (λ (n : ℕ). n < 2 ^ 32) (sym numbers) few;
