@@ -1,7 +1,7 @@
 -- What features of a graph file make: a consistent graph, where limits and references hold.
-use Rattle.std.proofs.Common.{◌≡◌, refl, sym, ap, subst, ◌∙◌, ap₂, ℕ, zero, suc, ◌+◌, ◌^◌, ◌<◌, ◌≤◌, Bool, true, false, ◌||◌, ◌&&◌, ◌==◌, List, [], ◌∷◌, ◌++◌, length, map, get_or, fold, arith, inl, inr, nat_lt, append-nil, append_assoc}
+use Rattle.std.proofs.Common.{◌≡◌, refl, sym, ap, subst, ◌∙◌, ap₂, ℕ, zero, suc, ◌+◌, ◌^◌, ◌<◌, ◌≤◌, Bool, true, false, ◌||◌, List, [], ◌∷◌, ◌++◌, length, map, fold, arith, nat_lt}
 use Rattle.std.specs.Prelude.{All, Contains, Option, Some, None, if◌then◌else◌}
-use Rattle.std.specs.List.{list_any, filter_map}
+use Rattle.std.specs.List.{list_any}
 use Rattle.std.proofs.lemmas.Bool.{eqb-true, eq-eqb, ltb-false}
 use Rattle.std.proofs.lemmas.List.{length-map}
 use Rattle.std.specs.List.{AllByRecursion as ByRecursion}
@@ -15,7 +15,6 @@ use Rattle.map_base.specs.declared.limit.LimitKind.TheVariants as kind
 use Rattle.map_base.specs.Limits.{limit_of, limit_most}
 use Rattle.map_base.specs.Settings.{IsImportance}
 use Rattle.graph_core.specs.declared.parts.GraphParts.{GraphParts}
-use Rattle.graph_core.specs.declared.parts.NodeKind.{NodeKind}
 use Rattle.graph_core.specs.Consistent.{IsConsistent, IsNear, AreFewLines}
 use Rattle.graph_json.specs.declared.forms.LineForm.{LineForm}
 use Rattle.graph_json.specs.declared.forms.NodeForm.{NodeForm}
@@ -25,7 +24,7 @@ use Rattle.graph_json.specs.declared.forms.Feature.TheVariants.{Node, Segment}
 use Rattle.graph_json.specs.declared.columns.Columns.{Columns}
 use Rattle.graph_json.specs.Columns.{AreColumns}
 use Rattle.graph_json.specs.Limits.{is_line, with_line, with_lines, lines_on, names_in, above, limit_met}
-use Rattle.graph_json.specs.References.{nodes_in, segments_in, names_of_nodes, kinds_from, graph_of, is_node, node_holds, segment_holds, broken_from}
+use Rattle.graph_json.specs.References.{nodes_in, segments_in, names_of_nodes, kinds_from, is_node, node_holds, segment_holds, broken_from}
 use Rattle.graph_json.specs.Outcome.{graph_made, imported_with, imported_of, broken_in, limit_of_features, IsNamed, IsImportant, LiesNear, IsComplete}
 use Rattle.graph_json.proofs.Consistency.{IsShaped, consistent, lines_listed}
 

@@ -1,5 +1,5 @@
 -- What is known of the entries that a file is read as: importances from 1 to 16, and places within reach.
-use Rattle.std.proofs.Common.{◌≡◌, refl, sym, ap, subst, ◌∙◌, ℕ, ◌+◌, ◌≤◌, arith, Bool, true, false, ◌&&◌, List, [], ◌∷◌, Vec, Global}
+use Rattle.std.proofs.Common.{◌≡◌, refl, subst, ℕ, ◌+◌, ◌≤◌, arith, Bool, true, false, ◌&&◌, List, [], ◌∷◌, Vec, Global}
 use Rattle.std.specs.Prelude.{◌≤ℤ◌, ℤ, pos, negsuc, int_le, nat_le, codes, All, Option, Some, None, option_map, option_and_then, Result, Ok, Err, MatchResult, if◌then◌else◌}
 use Rattle.std.specs.List.{AllByRecursion as ByRecursion}
 use Rattle.std.proofs.lemmas.Bool.{and_parts, leb-true}
@@ -11,10 +11,8 @@ use Rattle.map_base.specs.declared.ids.SegId.{SegId}
 use Rattle.map_base.specs.declared.point.Point.{Point}
 use Rattle.serde_json.specs.Data.{Data}
 use Rattle.serde_json.specs.Find.{get, as_number, as_i64}
-use Rattle.graph_json.specs.declared.forms.LineForm.{LineForm}
 use Rattle.graph_json.specs.declared.forms.NodeForm.{NodeForm}
 use Rattle.graph_json.specs.declared.forms.SegmentForm.{SegmentForm}
-use Rattle.graph_json.specs.declared.forms.Feature.{Feature}
 use Rattle.graph_json.specs.declared.forms.Feature.TheVariants.{Node, Segment}
 use Rattle.graph_json.specs.Forms as forms
 use Rattle.graph_json.specs.Outcome.{in_order, each_or_first, IsImportant, LiesNear}

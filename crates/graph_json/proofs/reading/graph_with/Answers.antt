@@ -1,5 +1,5 @@
-use Rattle.std.proofs.Common.{◌≡◌, sym, ap₂, subst, ◌∙◌, ℕ, ◌<◌, ◌^◌, List, length, arith}
-use Rattle.std.specs.Prelude.{Option, None}
+use Rattle.std.proofs.Common.{◌≡◌, sym, ap₂, subst, ◌∙◌, ◌<◌, ◌^◌, length, arith}
+use Rattle.std.specs.Prelude.{None}
 use Rattle.graph_json.specs.Limits.{limit_met}
 use Rattle.graph_json.specs.References.{broken_from}
 use Rattle.graph_json.specs.Outcome.{IsComplete}

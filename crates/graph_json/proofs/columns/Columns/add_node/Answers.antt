@@ -1,4 +1,4 @@
-use Rattle.std.proofs.Common.{◌≡◌, refl, Bool, true, List, [], ◌∷◌, ◌++◌}
+use Rattle.std.proofs.Common.{◌≡◌, refl, true, [], ◌∷◌, ◌++◌}
 use Rattle.graph_json.proofs.ColumnLemmas.{with_node}
 use Rattle.graph_json.proofs.columns.Columns.add_node.Goals as goal
 

@@ -1,4 +1,4 @@
-use Rattle.std.proofs.Common.{◌≡◌, refl, Bool, false, List, [], ◌∷◌, ◌++◌}
+use Rattle.std.proofs.Common.{◌≡◌, refl, false, [], ◌∷◌, ◌++◌}
 use Rattle.graph_json.proofs.ColumnLemmas.{with_segment}
 use Rattle.graph_json.proofs.columns.Columns.add_segment.Goals as goal
 
