@@ -1,7 +1,7 @@
 -- What features of a graph file make: a consistent graph, where limits and references hold.
-use Rattle.std.proofs.Common.{◌≡◌, refl, sym, ap, subst, ◌∙◌, ap₂, ℕ, zero, suc, ◌+◌, ◌^◌, ◌<◌, ◌≤◌, Bool, true, false, ◌||◌, ◌&&◌, ◌==◌, List, [], ◌∷◌, ◌++◌, length, map, get_or, fold, arith, inl, inr, nat_lt, append-nil, append_assoc}
+use Rattle.std.proofs.Common.{◌≡◌, refl, sym, ap, subst, ◌∙◌, ap₂, ℕ, zero, suc, ◌+◌, ◌^◌, ◌<◌, ◌≤◌, Bool, true, false, ◌||◌, List, [], ◌∷◌, ◌++◌, length, map, fold, arith, nat_lt}
 use Rattle.std.specs.Prelude.{All, Contains, Option, Some, None, if◌then◌else◌}
-use Rattle.std.specs.List.{list_any, filter_map}
+use Rattle.std.specs.List.{list_any}
 use Rattle.std.proofs.lemmas.Bool.{eqb-true, eq-eqb, ltb-false}
 use Rattle.std.proofs.lemmas.List.{length-map}
 use Rattle.std.specs.List.{AllByRecursion as ByRecursion}
@@ -15,7 +15,6 @@ use Rattle.map_base.specs.declared.limit.LimitKind.TheVariants as kind
 use Rattle.map_base.specs.Limits.{limit_of, limit_most}
 use Rattle.map_base.specs.Settings.{IsImportance}
 use Rattle.graph_core.specs.declared.parts.GraphParts.{GraphParts}
-use Rattle.graph_core.specs.declared.parts.NodeKind.{NodeKind}
 use Rattle.graph_core.specs.Consistent.{IsConsistent, IsNear, AreFewLines}
 use Rattle.graph_json.specs.declared.forms.LineForm.{LineForm}
 use Rattle.graph_json.specs.declared.forms.NodeForm.{NodeForm}
@@ -25,7 +24,7 @@ use Rattle.graph_json.specs.declared.forms.Feature.TheVariants.{Node, Segment}
 use Rattle.graph_json.specs.declared.columns.Columns.{Columns}
 use Rattle.graph_json.specs.Columns.{AreColumns}
 use Rattle.graph_json.specs.Limits.{is_line, with_line, with_lines, lines_on, names_in, above, limit_met}
-use Rattle.graph_json.specs.References.{nodes_in, segments_in, names_of_nodes, kinds_from, graph_of, is_node, node_holds, segment_holds, broken_from}
+use Rattle.graph_json.specs.References.{nodes_in, segments_in, names_of_nodes, kinds_from, is_node, node_holds, segment_holds, broken_from}
 use Rattle.graph_json.specs.Outcome.{graph_made, imported_with, imported_of, broken_in, limit_of_features, IsNamed, IsImportant, LiesNear, IsComplete}
 use Rattle.graph_json.proofs.Consistency.{IsShaped, consistent, lines_listed}
 
@@ -159,8 +158,8 @@ module _ (fs : List Feature) (limits : limit_of_features fs ≡ None) where
   pub shaped : IsShaped (graph_made fs)
   shaped =
       let first = none_first (above kind.Lines (length (lines_on (graph_made fs).lines)))
-          (option_or (above kind.Stations (length (names_in (names_of_nodes (nodes_in fs)))))
-          (option_or (above kind.Nodes (length (names_of_nodes (nodes_in fs)))) (above kind.Segments (length (graph_made fs).lines)))) limits in
+      (option_or (above kind.Stations (length (names_in (names_of_nodes (nodes_in fs)))))
+      (option_or (above kind.Nodes (length (names_of_nodes (nodes_in fs)))) (above kind.Segments (length (graph_made fs).lines)))) limits in
       let names = names_of_nodes (nodes_in fs) in
       let second = none_first (above kind.Stations (length (names_in names))) (option_or (above kind.Nodes (length names)) (above kind.Segments (length (graph_made fs).lines))) first.1 in
       let third = none_first (above kind.Nodes (length names)) (above kind.Segments (length (graph_made fs).lines)) second.1 in
@@ -198,10 +197,11 @@ module _ (lines : List LineForm) (fs : List Feature) (limits : limit_of_features
   pub complete : length lines < 2 ^ 32 → All IsImportant lines → IsComplete (imported_of lines fs)
   complete few important =
       let stations = names_in (names_of_nodes (nodes_in fs)) in
+      let within : 0 + length stations ≤ length stations = omega arith in
       let listed : length (map (λ (l : LineForm). (l.name, l.colour)) lines) ≡ length lines = length-map lines (λ (l : LineForm). (l.name, l.colour)) in
       let numbers : length (map (λ (l : LineForm). l.importance) lines) ≡ length lines = length-map lines (λ (l : LineForm). l.importance) in
       record {
-        stations = All-from_recursion (IsNamed (length stations)) g.kinds (named 0 (names_of_nodes (nodes_in fs)) (length stations) (omega arith));
+        stations = All-from_recursion (IsNamed (length stations)) g.kinds (named 0 (names_of_nodes (nodes_in fs)) (length stations) within);
         lines = subst (λ (n : ℕ). All (All (λ (l : LineId). l.0 < n)) g.lines) (sym listed) (lines_listed g (length lines) (shaped fs limits) node segment);
         importance_each = numbers ∙ sym listed;
         few = subst (λ (n : ℕ). n < 2 ^ 32) (sym numbers) few;

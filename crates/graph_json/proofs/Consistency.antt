@@ -1,9 +1,8 @@
 -- A graph within limits whose references hold is consistent.
-use Rattle.std.proofs.Common.{◌≡◌, refl, sym, ap, subst, ◌∙◌, ℕ, zero, suc, ◌+◌, ◌<◌, ◌≤◌, Bool, true, false, ◌&&◌, ◌==◌, List, [], ◌∷◌, ◌++◌, length, map, get_or, fold, arith, inl, inr, nat_lt}
-use Rattle.std.specs.Prelude.{All, Contains, Option, Some, None, if◌then◌else◌}
+use Rattle.std.proofs.Common.{◌≡◌, refl, ap, subst, ℕ, ◌<◌, ◌≤◌, Bool, true, false, ◌==◌, List, [], ◌∷◌, length, get_or, arith, inl, inr, nat_lt}
+use Rattle.std.specs.Prelude.{All, Contains, if◌then◌else◌}
 use Rattle.std.specs.List.{list_any, list_all}
-use Rattle.std.proofs.lemmas.Bool.{and_parts, eqb-true, ltb-true, leb-true, false≢true}
-use Rattle.std.proofs.lemmas.List.{length-map}
+use Rattle.std.proofs.lemmas.Bool.{and_parts, eqb-true, ltb-true}
 use Rattle.std.proofs.lemmas.List.Elements.{All-from_get_or}
 use Rattle.std.proofs.lemmas.List.Folds.{Any-from_list_any}
 use Rattle.std.proofs.lemmas.List.Sums.{AllPass-from_list_all}
@@ -14,7 +13,7 @@ use Rattle.graph_core.specs.declared.parts.GraphParts.{GraphParts}
 use Rattle.graph_core.specs.declared.parts.Join.{Join}
 use Rattle.graph_core.specs.Round.{segments_at}
 use Rattle.graph_core.specs.Consistent.{IsConsistent, IsNear, AreEnds, AreRising, IsBefore, AreSorted, IsJoin, IsRound, AreFewLines, lines_at}
-use Rattle.graph_json.specs.References.{has_seg, has_line, rises_from, rises, is_below, is_before, is_sound_segment, is_sound_round, is_sound_join, node_holds, segment_holds}
+use Rattle.graph_json.specs.References.{has_seg, has_line, rises_from, rises, is_below, is_before, is_sound_round, is_sound_join, node_holds, segment_holds}
 use Rattle.graph_json.proofs.Rounds.{round_permuted}
 
 -- ---- tests and what they say

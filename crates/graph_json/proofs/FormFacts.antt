@@ -1,6 +1,6 @@
 -- What is known of the entries that a file is read as: importances from 1 to 16, and places within reach.
-use Rattle.std.proofs.Common.{◌≡◌, refl, sym, ap, subst, ◌∙◌, ℕ, ◌+◌, ◌≤◌, arith, Bool, true, false, ◌&&◌, List, [], ◌∷◌}
-use Rattle.std.specs.Prelude.{◌≤ℤ◌, ℤ, pos, negsuc, int_le, nat_le, codes, All, Option, Some, None, option_map, option_and_then, Result, Ok, Err, if◌then◌else◌}
+use Rattle.std.proofs.Common.{◌≡◌, refl, subst, ℕ, ◌+◌, ◌≤◌, arith, Bool, true, false, ◌&&◌, List, [], ◌∷◌, Vec, Global}
+use Rattle.std.specs.Prelude.{◌≤ℤ◌, ℤ, pos, negsuc, int_le, nat_le, codes, All, Option, Some, None, option_map, option_and_then, Result, Ok, Err, MatchResult, if◌then◌else◌}
 use Rattle.std.specs.List.{AllByRecursion as ByRecursion}
 use Rattle.std.proofs.lemmas.Bool.{and_parts, leb-true}
 use Rattle.std.proofs.lemmas.Int.{ints}
@@ -11,10 +11,8 @@ use Rattle.map_base.specs.declared.ids.SegId.{SegId}
 use Rattle.map_base.specs.declared.point.Point.{Point}
 use Rattle.serde_json.specs.Data.{Data}
 use Rattle.serde_json.specs.Find.{get, as_number, as_i64}
-use Rattle.graph_json.specs.declared.forms.LineForm.{LineForm}
 use Rattle.graph_json.specs.declared.forms.NodeForm.{NodeForm}
 use Rattle.graph_json.specs.declared.forms.SegmentForm.{SegmentForm}
-use Rattle.graph_json.specs.declared.forms.Feature.{Feature}
 use Rattle.graph_json.specs.declared.forms.Feature.TheVariants.{Node, Segment}
 use Rattle.graph_json.specs.Forms as forms
 use Rattle.graph_json.specs.Outcome.{in_order, each_or_first, IsImportant, LiesNear}
@@ -143,3 +141,8 @@ each_of {A} {B} P f each i (x ∷ xs) ys e =
 
 pub each_holds : {A B : Type 0} (P : B → Type 0) (f : A → Option B) → ((x : A) → Each P (f x)) → (xs : List A) (ys : List B) → each_or_first f 0 xs ≡ Ok ys → All P ys
 each_holds P f each xs ys e = All-from_recursion P ys (each_of P f each 0 xs ys e)
+
+pub each_read : {A B : Type 0} (P : B → Type 0) (f : A → Option B) → ((x : A) → Each P (f x)) → (xs : List A) (read : Result (Vec B Global) ℕ) (v : Vec B Global)
+    → MatchResult read (λ (v : Vec B Global). each_or_first f 0 xs ≡ Ok v.items) (λ i. each_or_first f 0 xs ≡ Err i) → read ≡ Ok v → All P v.items
+each_read {A} {B} P f each xs read v is ok =
+    each_holds P f each xs v.items (subst (λ (r : Result (Vec B Global) ℕ). MatchResult r (λ (v : Vec B Global). each_or_first f 0 xs ≡ Ok v.items) (λ i. each_or_first f 0 xs ≡ Err i)) ok is)

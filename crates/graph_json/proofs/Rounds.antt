@@ -1,7 +1,7 @@
 -- Segments that stand in a round, as many as it has, are its segments in another order.
-use Rattle.std.proofs.Common.{◌≡◌, ◌≢◌, refl, sym, ap, subst, ◌∙◌, ℕ, suc, ◌+◌, ◌<◌, ◌≤◌, Bool, true, false, ◌||◌, ◌&&◌, ◌==◌, List, [], ◌∷◌, ◌++◌, length, arith, length-append}
+use Rattle.std.proofs.Common.{◌≡◌, refl, sym, ap, subst, ◌∙◌, ℕ, ◌+◌, ◌<◌, Bool, true, false, ◌||◌, ◌&&◌, ◌==◌, List, [], ◌∷◌, ◌++◌, length, arith, length-append}
 use Rattle.std.specs.Prelude.{if◌then◌else◌}
-use Rattle.std.specs.List.{list_any, list_all}
+use Rattle.std.specs.List.{list_all}
 use Rattle.std.specs.List.Sorted.{IsPermutation}
 use Rattle.std.proofs.lemmas.Bool.{and_parts, eqb-true, false≢true}
 use Rattle.std.proofs.lemmas.List.Folds.{list_any-append}
@@ -63,7 +63,7 @@ permuted i n (e ∷ es) round same t = by (ends_at n e) same t (λ left same t. 
     by : (b : Bool) → length round ≡ length (if b then record { 0 = i } ∷ segments_from (i + 1) n es else segments_from (i + 1) n es)
         → list_all (has_seg round) (if b then record { 0 = i } ∷ segments_from (i + 1) n es else segments_from (i + 1) n es) ≡ true
         → ((left : List SegId) → length left ≡ length (segments_from (i + 1) n es) → list_all (has_seg left) (segments_from (i + 1) n es) ≡ true
-            → IsPermutation (segments_from (i + 1) n es) left)
+        → IsPermutation (segments_from (i + 1) n es) left)
         → IsPermutation (if b then record { 0 = i } ∷ segments_from (i + 1) n es else segments_from (i + 1) n es) round
     by false same t later = later round same t
     by true same t later =

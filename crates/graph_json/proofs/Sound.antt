@@ -1,11 +1,10 @@
 -- A consistent graph passes the tests of a file's references, and is within its limits.
-use Rattle.std.proofs.Common.{◌≡◌, refl, sym, ap, ap₂, subst, ◌∙◌, ℕ, zero, suc, ◌+◌, ◌<◌, ◌≤◌, max, Bool, true, false, ◌&&◌, ◌||◌, ◌==◌, List, [], ◌∷◌, ◌++◌, length, map, get_or, fold, arith, length-append, append_assoc, inl, inr, nat_lt}
-use Rattle.std.specs.Prelude.{All, Contains, Option, Some, None, if◌then◌else◌}
-use Rattle.std.specs.List.{list_any, list_all, filter_map, AllByRecursion as ByRecursion}
-use Rattle.std.specs.List.Sorted.{IsPermutation}
+use Rattle.std.proofs.Common.{◌≡◌, refl, sym, ap, ap₂, subst, ◌∙◌, ℕ, zero, suc, ◌+◌, ◌<◌, ◌≤◌, max, Bool, true, false, ◌&&◌, ◌||◌, ◌==◌, List, [], ◌∷◌, ◌++◌, length, get_or, fold, arith, length-append, inl, inr, nat_lt}
+use Rattle.std.specs.Prelude.{All, Contains, if◌then◌else◌}
+use Rattle.std.specs.List.{list_any, list_all, AllByRecursion as ByRecursion}
 use Rattle.std.proofs.lemmas.Bool.{lt-ltb, eq-eqb, eqb-true, false≢true}
-use Rattle.std.proofs.lemmas.List.Elements.{All-get_or, recursion_from_All, All-from_recursion, Contains-get_or}
-use Rattle.std.proofs.lemmas.List.Folds.{list_any-from_Any, list_any-append, list_all-append}
+use Rattle.std.proofs.lemmas.List.Elements.{recursion_from_All, All-from_recursion, Contains-get_or}
+use Rattle.std.proofs.lemmas.List.Folds.{list_any-from_Any, list_any-append}
 use Rattle.std.proofs.lemmas.List.Sums.{list_all-from_AllPass}
 use Rattle.std.proofs.lemmas.List.Sorted.{length_permutation, Contains-permutation}
 use Rattle.map_base.specs.declared.ids.NodeId.{NodeId}
@@ -14,9 +13,9 @@ use Rattle.map_base.specs.declared.ids.LineId.{LineId}
 use Rattle.graph_core.specs.declared.parts.GraphParts.{GraphParts}
 use Rattle.graph_core.specs.declared.parts.Join.{Join}
 use Rattle.graph_core.specs.Round.{segments_at}
-use Rattle.graph_core.specs.Consistent.{IsConsistent, AreEnds, AreRising, IsBefore, AreSorted, IsJoin, IsRound, lines_at}
+use Rattle.graph_core.specs.Consistent.{IsConsistent, AreRising, IsBefore, AreSorted, IsJoin, IsRound, lines_at}
 use Rattle.graph_json.specs.Limits.{is_line, with_line, with_lines, lines_on}
-use Rattle.graph_json.specs.References.{has_seg, has_line, rises_from, rises, is_below, is_before, is_sound_segment, is_sound_round, is_sound_join, node_holds, segment_holds}
+use Rattle.graph_json.specs.References.{has_seg, has_line, rises_from, rises, is_below, is_before, is_sound_round, is_sound_join, node_holds, segment_holds}
 use Rattle.graph_json.specs.Written.{after_lines, lines_listed}
 
 -- ---- tests

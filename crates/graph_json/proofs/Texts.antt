@@ -1,6 +1,6 @@
 -- Texts in UTF-8, and others.
 use Rattle.std.proofs.Common.{◌≡◌, refl, ap, ◌∙◌, ℕ, Bool, true, false, List}
-use Rattle.std.specs.Prelude.{Option, Some, None, IsUtf8, if◌then◌else◌}
+use Rattle.std.specs.Prelude.{Some, None, IsUtf8, if◌then◌else◌}
 use Rattle.std.specs.Str.{is_utf8}
 use Rattle.std.proofs.lemmas.Str.{IsUtf8-from_is_utf8, is_utf8-from_IsUtf8}
 use Rattle.serde_json.specs.Data.{Data}

@@ -1,8 +1,8 @@
 -- What was written of a consistent graph is read as this graph.
-use Rattle.std.proofs.Common.{◌≡◌, refl, sym, ap, ap₂, subst, ◌∙◌, ℕ, zero, suc, ◌+◌, ◌-◌, ◌<◌, ◌≤◌, ◌^◌, ◌==◌, Bool, true, false, List, [], ◌∷◌, ◌++◌, length, map, take, get_or, arith, length-append, append-nil}
-use Rattle.std.specs.Prelude.{All, Contains, Option, Some, None, option_map, option_and_then, unwrap_or, slice_get, nat_lt, pos, IsUtf8, Result, Ok, Err, if◌then◌else◌}
-use Rattle.std.specs.List.{AllByRecursion as ByRecursion, range_with_len, filter_map}
-use Rattle.std.proofs.lemmas.Bool.{ltb-true, eq-eqb}
+use Rattle.std.proofs.Common.{◌≡◌, refl, sym, ap, ap₂, subst, ◌∙◌, ℕ, suc, ◌+◌, ◌-◌, ◌<◌, ◌≤◌, ◌^◌, ◌==◌, Bool, true, false, List, [], ◌∷◌, ◌++◌, length, map, take, get_or, arith, length-append, append-nil}
+use Rattle.std.specs.Prelude.{All, Contains, Option, Some, None, option_map, option_and_then, unwrap_or, slice_get, nat_lt, pos, IsUtf8, Ok, if◌then◌else◌}
+use Rattle.std.specs.List.{AllByRecursion as ByRecursion, range_with_len}
+use Rattle.std.proofs.lemmas.Bool.{ltb-true}
 use Rattle.std.proofs.lemmas.List.{length-map}
 use Rattle.std.proofs.lemmas.List.Elements.{All-get_or, recursion_from_All, All-from_recursion, filter_map-append}
 use Rattle.std.proofs.lemmas.List.FromFn.{length-range_with_len}
@@ -12,7 +12,6 @@ use Rattle.std.specs.Option.{option_or}
 use Rattle.map_base.specs.declared.ids.LineId.{LineId}
 use Rattle.map_base.specs.declared.ids.NodeId.{NodeId}
 use Rattle.map_base.specs.declared.ids.SegId.{SegId}
-use Rattle.map_base.specs.declared.limit.Limit.{Limit}
 use Rattle.map_base.specs.declared.limit.LimitKind.{LimitKind}
 use Rattle.map_base.specs.declared.limit.LimitKind.TheVariants as kind
 use Rattle.map_base.specs.declared.point.Point.{Point}
@@ -20,8 +19,8 @@ use Rattle.map_base.specs.Limits.{limit_of, limit_most}
 use Rattle.graph_core.specs.declared.parts.GraphParts.{GraphParts}
 use Rattle.graph_core.specs.declared.parts.Join.{Join}
 use Rattle.graph_core.specs.declared.parts.NodeKind.{NodeKind}
-use Rattle.graph_core.specs.declared.parts.NodeKind.TheVariants.{Station, Junction}
-use Rattle.graph_core.specs.Consistent.{IsConsistent, IsNear, AreEnds, IsJoin, lines_at}
+use Rattle.graph_core.specs.declared.parts.NodeKind.TheVariants.{Junction}
+use Rattle.graph_core.specs.Consistent.{IsConsistent, IsNear, AreEnds}
 use Rattle.graph_core.specs.Round.{ends_at, segments_from, segments_at}
 use Rattle.svg_writer.specs.declared.names.Names.{Names}
 use Rattle.svg_writer.specs.Picture as p
@@ -33,12 +32,11 @@ use Rattle.graph_json.specs.declared.forms.NodeForm.{NodeForm}
 use Rattle.graph_json.specs.declared.forms.SegmentForm.{SegmentForm}
 use Rattle.graph_json.specs.declared.forms.Feature.{Feature}
 use Rattle.graph_json.specs.declared.forms.Feature.TheVariants.{Node, Segment}
-use Rattle.graph_json.specs.declared.imported.Imported.{Imported}
 use Rattle.graph_json.specs.Forms as forms
 use Rattle.graph_json.specs.Written as w
 use Rattle.graph_json.specs.Again.{node_name, name_and_colour, read_again, CanBeRead}
 use Rattle.graph_json.specs.Limits.{lines_on, names_in, above, limit_met}
-use Rattle.graph_json.specs.References.{node_in, segment_in, nodes_in, segments_in, names_of_nodes, kinds_from, graph_of, is_node, is_sound_segment, node_holds, segment_holds, broken_from}
+use Rattle.graph_json.specs.References.{node_in, segment_in, nodes_in, segments_in, names_of_nodes, kinds_from, is_node, is_sound_segment, node_holds, segment_holds, broken_from}
 use Rattle.graph_json.specs.Outcome.{without_feed, text_value, value_of, of_value, of_arrays, with_lines, with_features, within_limits, unless_broken, limit_of_features, broken_in, graph_made, imported_of, each_or_first, graph_outcome}
 use Rattle.graph_json.proofs.Texts.{of_text}
 use Rattle.graph_json.proofs.PlainValues.{graph_plain}

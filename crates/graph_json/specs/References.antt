@@ -1,10 +1,9 @@
 -- The graph that the features of a file make, and the first feature whose references don't hold.
-use Rattle.std.specs.Prelude.{ℕ, ◌+◌, ◌==◌, ◌&&◌, ◌||◌, Bool, true, false, not, nat_lt, List, [], ◌∷◌, ◌++◌, length, map, filter_map, if◌then◌else◌, slice_index_or, Option, Some, None}
+use Rattle.std.specs.Prelude.{ℕ, ◌+◌, ◌==◌, ◌&&◌, Bool, true, false, nat_lt, List, [], ◌∷◌, length, map, filter_map, if◌then◌else◌, slice_index_or, Option, Some, None}
 use Rattle.std.specs.List.{list_any, list_all}
 use Rattle.map_base.specs.declared.ids.NodeId.{NodeId}
 use Rattle.map_base.specs.declared.ids.SegId.{SegId}
 use Rattle.map_base.specs.declared.ids.LineId.{LineId}
-use Rattle.map_base.specs.declared.point.Point.{Point}
 use Rattle.graph_core.specs.declared.parts.GraphParts.{GraphParts}
 use Rattle.graph_core.specs.declared.parts.Join.{Join}
 use Rattle.graph_core.specs.declared.parts.NodeKind.{NodeKind}

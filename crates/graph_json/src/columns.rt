@@ -59,7 +59,6 @@ impl Columns {
         }
     }
 
-    #[tactic(auto, using(crate::proofs::ColumnLemmas::with_node))]
     fn add_node(&mut self, node: NodeForm) -> Result<(), NoMemory>
         ensures { OnOk result ((done : List Feature) → AreColumns self.old done → AreColumns self.new (done ++ Node node ∷ [])) }
     {
@@ -77,7 +76,6 @@ impl Columns {
         Ok(())
     }
 
-    #[tactic(auto, using(crate::proofs::ColumnLemmas::with_segment))]
     fn add_segment(&mut self, segment: SegmentForm) -> Result<(), NoMemory>
         ensures { OnOk result ((done : List Feature) → AreColumns self.old done → AreColumns self.new (done ++ Segment segment ∷ [])) }
     {

@@ -1,6 +1,8 @@
 //! Whether what the features of a graph file refer to is there.
 
-ghost use Rattle.std.specs.Prelude.{◌≡◌, ◌≤◌, length, slice_index_or, []};
+ghost use Rattle.std.specs.Prelude.{◌≡◌, ◌≤◌, nat_lt, length, slice_index_or, []};
+ghost use Rattle.std.specs.List.{list_all};
+ghost use Rattle.map_base.specs.declared.ids.LineId.{LineId};
 ghost use Rattle.graph_json.specs.References.{broken_from, node_holds, segment_holds, is_sound_segment, is_sound_join, is_sound_round, rises, is_below, is_before, has_seg, has_line, leads_up, are_sound_lines, joins_hold};
 
 use graph_core::{GraphParts, Join};
@@ -83,6 +85,13 @@ fn are_sound_lines(listed: usize, lines: &[LineId]) -> bool
     if !rise(lines) {
         return false;
     }
+    are_listed(listed, lines)
+}
+
+/// Whether the number of each line is below how many are listed.
+fn are_listed(listed: usize, lines: &[LineId]) -> bool
+    ensures { result ≡ list_all (λ (l : LineId). nat_lt l.0 listed) lines.now }
+{
     lines.iter().all(|line| (line.0 as usize) < listed)
 }
 
@@ -106,6 +115,13 @@ fn joins_hold(lines: &[Sequence<LineId>], round: &[SegId], joins: &[Join]) -> bo
     if !joins_rise(joins) {
         return false;
     }
+    are_sound_joins(lines, round, joins)
+}
+
+/// Whether the references of each connection hold.
+fn are_sound_joins(lines: &[Sequence<LineId>], round: &[SegId], joins: &[Join]) -> bool
+    ensures { result ≡ list_all (is_sound_join lines.now round.now) joins.now }
+{
     joins.iter().all(|join| is_sound_join(lines, round, *join))
 }
 

@@ -1,14 +1,14 @@
-use Rattle.std.proofs.Common.{rules, ◌≡◌, All, Ok, Some, map, IfOk, ℕ, ◌+◌, ◌-◌, ◌*◌, ◌<◌, ◌≤◌, length, ◌/◌, ◌%◌, Bool, true, false, nat_eq, nat_lt, List, [], ◌∷◌, ◌++◌, slice_index_or, slice_set, bit_and, bit_or, Fits, w8, w32, w64, Bor, MutBor}
+use Rattle.std.proofs.Common.{map}
 use Rattle.serde_json.specs.View.{view}
-use Rattle.graph_core.specs.Consistent.{IsConsistent}
-use Rattle.graph_json.specs.declared.forms.LineForm.{LineForm}
-use Rattle.graph_json.specs.Outcome.{Reads, ReadsValue, IsComplete, IsImportant, LiesNear, graph_outcome, without_feed, text_value, of_value, with_features, imported_with}
+use Rattle.graph_json.specs.Forms.{line_of, feature_of}
+use Rattle.graph_json.specs.Outcome.{IsImportant, LiesNear}
+use Rattle.graph_json.proofs.FormFacts.{important, near, each_read}
 use Rattle.graph_json.proofs.reading.graph_of_value.Goals as goal
 
--- src/reading.rt:88:5
 pub graph_with-requires-clause-lines : goal.graph_with-requires-clause-lines
-graph_with-requires-clause-lines c = ?
+graph_with-requires-clause-lines c =
+    each_read IsImportant line_of important (map view c.in-Some.lines.now) c.in_ok-lines.field-0 c.in-Ok.lines c.in_ok-lines.ensures c.in-Ok.is
 
--- src/reading.rt:88:5
 pub graph_with-requires-clause-features : goal.graph_with-requires-clause-features
-graph_with-requires-clause-features c = ?
+graph_with-requires-clause-features c =
+    each_read LiesNear feature_of near (map view c.in-Some-and_then.features.now) c.in_ok-features.field-0 c.in-Ok-2.features c.in_ok-features.ensures c.in-Ok-2.is
