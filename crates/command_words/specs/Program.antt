@@ -110,13 +110,19 @@ octimap_alone = record {
 abbrev pub with_command : App → App → App
 with_command program command = with_subcommand program command.top
 
--- the commands that make maps and check them: `map`, `make`, `improve`, `check`, `labels`, `geo` and `session`
+-- the program with `map`, `make` and `improve`
+unfoldable pub octimap_made : App
+octimap_made = with_command (with_command (with_command octimap_alone (new_map_app (codes "map"))) (new_map_app (codes "make"))) improve_app
+
+-- these, `check`, `labels`, `geo` and `session`
 unfoldable pub octimap_maps : App
 octimap_maps =
-    with_command (with_command (with_command (with_command (with_command (with_command (with_command octimap_alone
-    (new_map_app (codes "map"))) (new_map_app (codes "make"))) improve_app) (map_app (codes "check"))) (picture_app (codes "labels")))
-    (picture_app (codes "geo"))) session_app
+    with_command (with_command (with_command (with_command octimap_made (map_app (codes "check"))) (picture_app (codes "labels"))) (picture_app (codes "geo"))) session_app
 
--- the program: these, `graph`, `export`, `import`, `stations`, `page` and `trial`
+-- these, `graph`, `export` and `import`
+unfoldable pub octimap_graphs : App
+octimap_graphs = with_command (with_command (with_command octimap_maps graph_app) export_app) import_app
+
+-- the program: these, `stations`, `page` and `trial`
 unfoldable pub octimap_app : App
-octimap_app = with_command (with_command (with_command (with_command (with_command (with_command octimap_maps graph_app) export_app) import_app) (feed_app (codes "stations"))) page_app) trial_app
+octimap_app = with_command (with_command (with_command octimap_graphs (feed_app (codes "stations"))) page_app) trial_app

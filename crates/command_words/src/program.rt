@@ -2,7 +2,7 @@
 
 ghost use Rattle.std.specs.Prelude.{◌≡◌, IfOk, codes, false};
 ghost use Rattle.clap.specs.Words.{app_of, new_app, rule_of};
-ghost use Rattle.command_words.specs.Program.{IsLocal, feed_app, file_option, graph_app, improve_app, map_app, moves_operand, new_map_app, octimap_alone, octimap_app, octimap_maps, operand, page_app, picture_app, plain_app, quiet_flag, session_app, set_option, trial_app, with_files, with_map, with_options, with_settings, export_app, import_app};
+ghost use Rattle.command_words.specs.Program.{IsLocal, feed_app, file_option, graph_app, improve_app, map_app, moves_operand, new_map_app, octimap_alone, octimap_app, octimap_graphs, octimap_made, octimap_maps, operand, page_app, picture_app, plain_app, quiet_flag, session_app, set_option, trial_app, with_files, with_map, with_options, with_settings, export_app, import_app};
 
 use crate::help;
 use clap::builder::ValueParser;
@@ -13,46 +13,54 @@ use std::alloc::{AllocError, Global};
 pub(crate) fn program<'a>(alloc: Global) -> Result<Command<'a>, AllocError>
     ensures { IfOk result (λ program. app_of program ≡ octimap_app) }
 {
-    let graph = graph(alloc)?;
-    let export = export(alloc)?;
-    let import = import(alloc)?;
+    let program = over_graphs(alloc)?;
     let stations = stations(alloc)?;
+    let program = program.subcommand(stations)?;
     let page = page(alloc)?;
+    let program = program.subcommand(page)?;
     let trial = trial(alloc)?;
-    over_maps(alloc)?
-        .subcommand(graph)?
-        .subcommand(export)?
-        .subcommand(import)?
-        .subcommand(stations)?
-        .subcommand(page)?
-        .subcommand(trial)
+    program.subcommand(trial)
 }
 
-/// The program with the commands that make maps and check them.
+/// The program with the commands that work on feeds with settings, and on graph files.
+fn over_graphs<'a>(alloc: Global) -> Result<Command<'a>, AllocError>
+    ensures { IfOk result (λ program. app_of program ≡ octimap_graphs) }
+{
+    let program = over_maps(alloc)?;
+    let graph = graph(alloc)?;
+    let program = program.subcommand(graph)?;
+    let export = export(alloc)?;
+    let program = program.subcommand(export)?;
+    let import = import(alloc)?;
+    program.subcommand(import)
+}
+
+/// The program with the commands that make maps, check them and draw them.
 fn over_maps<'a>(alloc: Global) -> Result<Command<'a>, AllocError>
     ensures { IfOk result (λ program. app_of program ≡ octimap_maps) }
 {
-    let map = map(alloc)?;
-    let make = make(alloc)?;
-    let improve = improve(alloc)?;
+    let program = made(alloc)?;
     let check = check(alloc)?;
-    let labels = picture(
-        alloc,
-        "labels",
-        help::LABELS,
-        help::AFTER_LABELS,
-        help::LABELLED,
-    )?;
-    let geo = picture(alloc, "geo", help::GEO, help::AFTER_GEO, help::GEOGRAPHIC)?;
+    let program = program.subcommand(check)?;
+    let labels = labels(alloc)?;
+    let program = program.subcommand(labels)?;
+    let geo = geo(alloc)?;
+    let program = program.subcommand(geo)?;
     let session = session(alloc)?;
-    alone(alloc)?
-        .subcommand(map)?
-        .subcommand(make)?
-        .subcommand(improve)?
-        .subcommand(check)?
-        .subcommand(labels)?
-        .subcommand(geo)?
-        .subcommand(session)
+    program.subcommand(session)
+}
+
+/// The program with the commands that make maps of feeds.
+fn made<'a>(alloc: Global) -> Result<Command<'a>, AllocError>
+    ensures { IfOk result (λ program. app_of program ≡ octimap_made) }
+{
+    let program = alone(alloc)?;
+    let map = map(alloc)?;
+    let program = program.subcommand(map)?;
+    let make = make(alloc)?;
+    let program = program.subcommand(make)?;
+    let improve = improve(alloc)?;
+    program.subcommand(improve)
 }
 
 /// The program before its commands.
@@ -178,7 +186,29 @@ fn check<'a>(alloc: Global) -> Result<Command<'a>, AllocError>
     over_map(alloc, command, help::SVG, help::CERT)
 }
 
-/// `labels FEED CERT OUT`, and `geo FEED CERT OUT`
+/// `labels FEED CERT OUT`
+fn labels<'a>(alloc: Global) -> Result<Command<'a>, AllocError>
+    ensures app { IfOk result (λ command. app_of command ≡ picture_app (codes "labels")) }
+    ensures local { IfOk result IsLocal }
+{
+    picture(
+        alloc,
+        "labels",
+        help::LABELS,
+        help::AFTER_LABELS,
+        help::LABELLED,
+    )
+}
+
+/// `geo FEED CERT OUT`
+fn geo<'a>(alloc: Global) -> Result<Command<'a>, AllocError>
+    ensures app { IfOk result (λ command. app_of command ≡ picture_app (codes "geo")) }
+    ensures local { IfOk result IsLocal }
+{
+    picture(alloc, "geo", help::GEO, help::AFTER_GEO, help::GEOGRAPHIC)
+}
+
+/// A command that draws the map of a certificate.
 #[tactic(auto, unfolding(crate::specs::Program::picture_app))]
 fn picture<'a>(
     alloc: Global,
