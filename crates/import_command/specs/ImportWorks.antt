@@ -35,7 +35,7 @@ graph_work = do
 -- the settings, and the graph of a file
 abbrev pub read_work : Chosen → Work Input Refusal (MapSettings × Imported)
 read_work chosen = do
-  all ← settings_by chosen.defaults chosen.settings
+  all ← settings_by chosen.defaults chosen.sets chosen.settings
   read ← graph_work
   ends (Ok (all, read))
 
