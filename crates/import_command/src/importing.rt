@@ -1,6 +1,6 @@
 //! The command `import`.
 
-ghost use Rattle.std.specs.Prelude.{◌≡◌, ◌≤◌, ◌+◌, ◌×◌, [], Ok, IfOk, option_map};
+ghost use Rattle.std.specs.Prelude.{◌≡◌, ◌≤◌, ◌+◌, [], Ok, IfOk, option_map};
 ghost use Rattle.files_door.specs.Fault.{Rose};
 ghost use Rattle.command_inputs.specs.Inputs.{input_at, inputs_by};
 ghost use Rattle.command_paths.specs.Paths.{paths_by};
