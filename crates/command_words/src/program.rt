@@ -58,8 +58,10 @@ fn with_command<'a>(
     ensures { (before added : App) → app_of program.entry ≡ before → IfOk command.entry (λ c. app_of c ≡ added) → IfOk command.entry IsLocal
         → IfOk result (λ r. app_of r ≡ with_command before added) }
 {
-    let command = command?;
-    program.subcommand(command)
+    match command {
+        Ok(command) => program.subcommand(command),
+        Err(error) => Err(error),
+    }
 }
 
 /// The program before its commands.
