@@ -1,5 +1,5 @@
 -- One more feature in the columns.
-use Rattle.std.proofs.Common.{◌≡◌, refl, sym, ap, ◌∙◌, Bool, true, false, List, [], ◌∷◌, ◌++◌, map}
+use Rattle.std.proofs.Common.{◌≡◌, refl, sym, ap, ◌∙◌, true, false, List, [], ◌∷◌, ◌++◌, map}
 use Rattle.std.proofs.lemmas.List.{map-append, append-nil}
 use Rattle.std.proofs.lemmas.List.Elements.{filter_map-append}
 use Rattle.graph_json.specs.declared.columns.Columns.{Columns}
@@ -11,7 +11,7 @@ use Rattle.graph_json.specs.References.{node_in, segment_in, nodes_in, segments_
 use Rattle.graph_json.specs.Columns.{AreColumns}
 
 more : {X A : Type 0} (f : X → A) (column : List A) (done all : List X) (x : X) → column ≡ map f done → all ≡ done ++ x ∷ [] → column ++ f x ∷ [] ≡ map f all
-more f column done all x is more = ap (λ l. l ++ f x ∷ []) is ∙ sym (map-append f done (x ∷ [])) ∙ ap (map f) (sym more)
+more f column done all x is grown = ap (λ l. l ++ f x ∷ []) is ∙ sym (map-append f done (x ∷ [])) ∙ ap (map f) (sym grown)
 
 same : {X A : Type 0} (f : X → A) (column : List A) (done all : List X) → column ≡ map f done → all ≡ done → column ≡ map f all
 same f column done all is no_more = is ∙ ap (map f) (sym no_more)

@@ -1,10 +1,9 @@
 -- A graph within limits whose references hold is consistent.
-use Rattle.std.proofs.Common.{◌≡◌, refl, sym, ap, subst, ◌∙◌, ℕ, zero, suc, ◌+◌, ◌<◌, ◌≤◌, Bool, true, false, ◌&&◌, ◌==◌, List, [], ◌∷◌, ◌++◌, length, map, get_or, fold, arith, inl, inr, nat_lt}
-use Rattle.std.specs.Prelude.{All, Contains, Option, Some, None, if◌then◌else◌}
+use Rattle.std.proofs.Common.{◌≡◌, refl, ap, subst, ℕ, ◌<◌, ◌≤◌, Bool, true, false, ◌==◌, List, [], ◌∷◌, length, get_or, arith, inl, inr, nat_lt}
+use Rattle.std.specs.Prelude.{All, Contains, if◌then◌else◌}
 use Rattle.std.specs.List.{list_any, list_all}
-use Rattle.std.proofs.lemmas.Bool.{and_parts, eqb-true, ltb-true, leb-true, false≢true}
-use Rattle.std.proofs.lemmas.List.{length-map}
-use Rattle.std.proofs.lemmas.List.Elements.{All-from_get_or, Contains-from_at}
+use Rattle.std.proofs.lemmas.Bool.{and_parts, eqb-true, ltb-true}
+use Rattle.std.proofs.lemmas.List.Elements.{All-from_get_or}
 use Rattle.std.proofs.lemmas.List.Folds.{Any-from_list_any}
 use Rattle.std.proofs.lemmas.List.Sums.{AllPass-from_list_all}
 use Rattle.map_base.specs.declared.ids.NodeId.{NodeId}
@@ -14,7 +13,7 @@ use Rattle.graph_core.specs.declared.parts.GraphParts.{GraphParts}
 use Rattle.graph_core.specs.declared.parts.Join.{Join}
 use Rattle.graph_core.specs.Round.{segments_at}
 use Rattle.graph_core.specs.Consistent.{IsConsistent, IsNear, AreEnds, AreRising, IsBefore, AreSorted, IsJoin, IsRound, AreFewLines, lines_at}
-use Rattle.graph_json.specs.References.{has_seg, has_line, rises_from, rises, is_below, is_before, is_sound_segment, is_sound_round, is_sound_join, node_holds, segment_holds}
+use Rattle.graph_json.specs.References.{has_seg, has_line, rises_from, rises, is_below, is_before, is_sound_round, is_sound_join, node_holds, segment_holds}
 use Rattle.graph_json.proofs.Rounds.{round_permuted}
 
 -- ---- tests and what they say
@@ -22,7 +21,7 @@ use Rattle.graph_json.proofs.Rounds.{round_permuted}
 contains : {X : Type 0} (same : X → X → Bool) → ((a b : X) → same a b ≡ true → a ≡ b) → (xs : List X) (x : X) → list_any (λ y. same y x) xs ≡ true → Contains xs x
 contains same means xs x t =
     let there = Any-from_list_any (λ y. same y x) xs t in
-    Contains-from_at xs x (there.0, there.1, λ d. means _ x (there.2 d))
+    subst (Contains xs) (means there.1 x there.4) (there.0, there.2, there.3)
 
 contains_seg : (round : List SegId) (s : SegId) → has_seg round s ≡ true → Contains round s
 contains_seg = contains (λ (a b : SegId). a.0 == b.0) (λ a b t. ap (λ (n : ℕ). record { 0 = n }) (eqb-true a.0 b.0 t))
@@ -87,11 +86,11 @@ pub record IsShaped (g : GraphParts) : Type 0 where
   pub few_lines : AreFewLines 1000 g.lines
 
 module _ (g : GraphParts) (listed : ℕ) (shaped : IsShaped g) (nodes : (n : ℕ) → n < length g.kinds → node_holds g n ≡ true) (segments : (s : ℕ) → s < length g.ends → segment_holds g listed s ≡ true) where
-  no_ends : NodeId × NodeId
+  abbrev no_ends : NodeId × NodeId
   no_ends = (record { 0 = 0 }, record { 0 = 0 })
 
   pub ends_there : All (AreEnds (length g.kinds)) g.ends
-  ends_there = All-from_get_or _ g.ends no_ends (λ s h.
+  ends_there = All-from_get_or (AreEnds (length g.kinds)) g.ends no_ends (λ s h.
       let both = and_parts _ _ (and_parts _ _ (segments s h)).0 in
       (ltb-true _ _ both.0, ltb-true _ _ both.1))
 
@@ -104,7 +103,7 @@ module _ (g : GraphParts) (listed : ℕ) (shaped : IsShaped g) (nodes : (n : ℕ
 
   -- each line on a segment is listed
   pub lines_listed : All (All (λ (l : LineId). l.0 < listed)) g.lines
-  lines_listed = All-from_get_or _ g.lines [] (λ s h k d i. ltb-true _ listed (AllPass-from_list_all (λ (l : LineId). nat_lt l.0 listed) (get_or g.lines s []) (lines_of s h).2 k d i))
+  lines_listed = All-from_get_or (All (λ (l : LineId). l.0 < listed)) g.lines [] (λ s h k d i. ltb-true _ listed (AllPass-from_list_all (λ (l : LineId). nat_lt l.0 listed) (get_or g.lines s []) (lines_of s h).2 k d i))
 
   round_of : (n : ℕ) → n < length g.kinds → is_sound_round g.ends n (get_or g.rounds n []) ≡ true
   round_of n h = (and_parts _ _ (nodes n h)).0
@@ -123,8 +122,8 @@ module _ (g : GraphParts) (listed : ℕ) (shaped : IsShaped g) (nodes : (n : ℕ
     few_lines = shaped.few_lines;
     places = near;
     ends = ends_there;
-    lines = All-from_get_or _ g.lines [] (λ s h. (ltb-true 0 _ (lines_of s h).0, rising _ (lines_of s h).1));
+    lines = All-from_get_or (λ ls. (0 < length ls) × AreRising ls) g.lines [] (λ s h. (ltb-true 0 _ (lines_of s h).0, rising _ (lines_of s h).1));
     rounds = λ n h. is_round g.ends n _ (round_of n (omega (arith, shaped.round_each)));
-    sorted = All-from_get_or _ g.joins [] (λ n h. sorted _ (joins_of n (omega (arith, shaped.joins_each))).0);
+    sorted = All-from_get_or AreSorted g.joins [] (λ n h. sorted _ (joins_of n (omega (arith, shaped.joins_each))).0);
     joins = λ n h. λ k d i. is_join g.lines _ _ (AllPass-from_list_all (is_sound_join g.lines (get_or g.rounds n [])) (get_or g.joins n []) (joins_of n (omega (arith, shaped.joins_each))).1 k d i);
   }

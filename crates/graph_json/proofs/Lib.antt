@@ -1,4 +1,5 @@
 mod Lists
+mod Texts
 mod ColumnLemmas
 mod Rounds
 mod Consistency

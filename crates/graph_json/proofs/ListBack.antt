@@ -1,6 +1,6 @@
 -- Lists that are made of numbers, and read again.
-use Rattle.std.proofs.Common.{◌≡◌, refl, sym, ap, ap₂, subst, ◌∙◌, ℕ, zero, suc, ◌+◌, ◌<◌, ◌≤◌, List, [], ◌∷◌, ◌++◌, length, map, arith, append_assoc, length-append}
-use Rattle.std.specs.Prelude.{Option, Some, None, option_map, option_and_then, unwrap_or, slice_get, Result, Ok, Err}
+use Rattle.std.proofs.Common.{◌≡◌, refl, sym, ap, ap₂, ◌∙◌, ℕ, zero, suc, ◌+◌, ◌<◌, ◌≤◌, List, [], ◌∷◌, ◌++◌, length, map, arith, append_assoc, length-append}
+use Rattle.std.specs.Prelude.{Option, Some, None, unwrap_or, slice_get, Ok}
 use Rattle.std.specs.List.{AllByRecursion as ByRecursion, range_with_len}
 use Rattle.graph_json.specs.Forms.{in_front, of_each}
 use Rattle.graph_json.specs.Outcome.{in_order, each_or_first}
@@ -16,26 +16,28 @@ module _ {A B C : Type 0} (f : A → Option B) (h : C → A) (k : C → B) where
 module _ {A B : Type 0} (f : A → Option B) where
   pub of_each_append : (xs ys : List A) (cs ds : List B) → of_each f xs ≡ Some cs → of_each f ys ≡ Some ds → of_each f (xs ++ ys) ≡ Some (cs ++ ds)
   of_each_append [] ys cs ds e d = let none : [] ≡ cs = cc in d ∙ ap (λ l. Some (l ++ ds)) none
-  of_each_append (x ∷ xs) ys cs ds e d = by (f x) refl (of_each f xs) refl e
+  of_each_append (x ∷ xs) ys cs ds e d = by (f x) refl (of_each f xs) (λ zs rests. of_each_append xs ys zs ds rests d) e
     where
-      by : (o : Option B) → f x ≡ o → (rest : Option (List B)) → of_each f xs ≡ rest → in_front o rest ≡ Some cs → in_front (f x) (of_each f (xs ++ ys)) ≡ Some (cs ++ ds)
-      by None is rest rests e = absurd (cc)
-      by (Some y) is None rests e = absurd (cc)
-      by (Some y) is (Some zs) rests e =
+      by : (o : Option B) → f x ≡ o → (rest : Option (List B)) → ((zs : List B) → rest ≡ Some zs → of_each f (xs ++ ys) ≡ Some (zs ++ ds)) → in_front o rest ≡ Some cs
+          → in_front (f x) (of_each f (xs ++ ys)) ≡ Some (cs ++ ds)
+      by None is rest later e = absurd (cc)
+      by (Some y) is None later e = absurd (cc)
+      by (Some y) is (Some zs) later e =
           let same : y ∷ zs ≡ cs = cc in
-          ap₂ in_front is (of_each_append xs ys zs ds rests d) ∙ ap (λ l. Some (l ++ ds)) same
+          ap₂ in_front is (later zs refl) ∙ ap (λ l. Some (l ++ ds)) same
 
   -- where something comes of each, no entry is the first of which nothing does
   pub all_entries : (i : ℕ) (xs : List A) (ys : List B) → of_each f xs ≡ Some ys → each_or_first f i xs ≡ Ok ys
   all_entries i [] ys e = let none : [] ≡ ys = cc in ap Ok none
-  all_entries i (x ∷ xs) ys e = by (f x) refl (of_each f xs) refl e
+  all_entries i (x ∷ xs) ys e = by (f x) refl (of_each f xs) (λ zs rests. all_entries (i + 1) xs zs rests) e
     where
-      by : (o : Option B) → f x ≡ o → (rest : Option (List B)) → of_each f xs ≡ rest → in_front o rest ≡ Some ys → in_order (f x) i (each_or_first f (i + 1) xs) ≡ Ok ys
-      by None is rest rests e = absurd (cc)
-      by (Some y) is None rests e = absurd (cc)
-      by (Some y) is (Some zs) rests e =
+      by : (o : Option B) → f x ≡ o → (rest : Option (List B)) → ((zs : List B) → rest ≡ Some zs → each_or_first f (i + 1) xs ≡ Ok zs) → in_front o rest ≡ Some ys
+          → in_order (f x) i (each_or_first f (i + 1) xs) ≡ Ok ys
+      by None is rest later e = absurd (cc)
+      by (Some y) is None later e = absurd (cc)
+      by (Some y) is (Some zs) later e =
           let same : y ∷ zs ≡ ys = cc in
-          ap₂ (λ o r. in_order o i r) is (all_entries (i + 1) xs zs rests) ∙ ap Ok same
+          ap₂ (λ o r. in_order o i r) is (later zs refl) ∙ ap Ok same
 
 -- ---- numbers
 

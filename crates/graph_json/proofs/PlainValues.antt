@@ -1,5 +1,5 @@
 -- The values that are written have no floats, and nest at most six deep.
-use Rattle.std.proofs.Common.{◌≡◌, refl, ap, ap₂, ℕ, suc, ◌+◌, ◌≤◌, max, Bool, true, false, ◌||◌, List, [], ◌∷◌, ◌++◌, map, arith}
+use Rattle.std.proofs.Common.{◌≡◌, refl, ap₂, ℕ, ◌+◌, ◌≤◌, false, ◌||◌, List, [], ◌∷◌, ◌++◌, map, arith}
 use Rattle.std.specs.Prelude.{ℤ, pos, negsuc, codes}
 use Rattle.std.specs.List.{AllByRecursion as ByRecursion, range_with_len}
 use Rattle.map_base.specs.declared.ids.LineId.{LineId}
@@ -57,10 +57,10 @@ count : (n : ℕ) → IsPlain 0 (w.count_data n)
 count n = record { whole = refl; shallow = omega arith }
 
 point : (p : Point) → IsPlain 1 (w.point_data p)
-point p = list 0 (w.whole_data p.x ∷ w.whole_data p.y ∷ []) (whole p.x, whole p.y, tt)
+point p = list 0 (w.whole_data p.x ∷ w.whole_data p.y ∷ []) (whole p.x, (whole p.y, tt))
 
 join : (j : Join) → IsPlain 1 (w.join_data j)
-join j = list 0 (w.count_data j.e.0 ∷ w.count_data j.f.0 ∷ w.count_data j.line.0 ∷ []) (count j.e.0, count j.f.0, count j.line.0, tt)
+join j = list 0 (w.count_data j.e.0 ∷ w.count_data j.f.0 ∷ w.count_data j.line.0 ∷ []) (count j.e.0, (count j.f.0, (count j.line.0, tt)))
 
 line : (names : Names) (importance : List ℕ) (l : ℕ) → IsPlain 1 (w.line_data names importance l)
 line names importance l = record { whole = refl; shallow = omega arith }
@@ -87,8 +87,8 @@ node g names n =
 segment : (g : GraphParts) (s : ℕ) → IsPlain 4 (w.segment_data g s)
 segment g s =
     let ends = ends_at g.ends s in
-    let places = list 1 (w.point_data (w.point_at g.places ends.0.0) ∷ w.point_data (w.point_at g.places ends.1.0) ∷ []) (point (w.point_at g.places ends.0.0), point (w.point_at g.places ends.1.0), tt) in
-    let numbers = list 0 (w.count_data ends.0.0 ∷ w.count_data ends.1.0 ∷ []) (count ends.0.0, count ends.1.0, tt) in
+    let places = list 1 (w.point_data (w.point_at g.places ends.0.0) ∷ w.point_data (w.point_at g.places ends.1.0) ∷ []) (point (w.point_at g.places ends.0.0), (point (w.point_at g.places ends.1.0), tt)) in
+    let numbers = list 0 (w.count_data ends.0.0 ∷ w.count_data ends.1.0 ∷ []) (count ends.0.0, (count ends.1.0, tt)) in
     let lines = list 0 (map w.line_number (lines_at g.lines s)) (mapped 0 w.line_number (λ (l : LineId). count l.0) (lines_at g.lines s)) in
     feature (codes "LineString") _ (object (w.segment_properties ends (lines_at g.lines s))) places
     (record { whole = ap₂ (λ a b. a || (b || false)) numbers.whole lines.whole; shallow = omega (arith, numbers.shallow, lines.shallow) })

@@ -1,6 +1,6 @@
 -- Each form that was written is read as what it was written of.
-use Rattle.std.proofs.Common.{◌≡◌, refl, sym, ap, ap₂, ◌∙◌, ℕ, ◌+◌, ◌<◌, ◌≤◌, ◌^◌, Bool, true, false, ◌&&◌, List, [], ◌∷◌, length, map, arith}
-use Rattle.std.specs.Prelude.{ℤ, pos, negsuc, ◌≤ℤ◌, int_le, nat_le, nat_lt, codes, Option, Some, None, option_map, option_and_then, if◌then◌else◌, Ok}
+use Rattle.std.proofs.Common.{◌≡◌, refl, ap, ap₂, ◌∙◌, ℕ, ◌<◌, ◌≤◌, ◌^◌, true, ◌&&◌, List, [], ◌∷◌, length, map, arith}
+use Rattle.std.specs.Prelude.{ℤ, pos, negsuc, ◌≤ℤ◌, int_le, codes, Option, Some, None, option_map, option_and_then, if◌then◌else◌}
 use Rattle.std.specs.List.{AllByRecursion as ByRecursion}
 use Rattle.std.specs.Result.{result_ok}
 use Rattle.std.proofs.lemmas.Bool.{lt-ltb, le-leb}
@@ -14,15 +14,10 @@ use Rattle.graph_core.specs.declared.parts.NodeKind.{NodeKind}
 use Rattle.graph_core.specs.declared.parts.NodeKind.TheVariants.{Station, Junction}
 use Rattle.graph_core.specs.Consistent.{IsNear}
 use Rattle.svg_writer.specs.declared.names.Names.{Names}
-use Rattle.hex.specs.Hex.{IsBytes, decode_sized, encode_lower}
+use Rattle.hex.specs.Hex.{IsBytes}
 use Rattle.hex.proofs.HexLemmas.{decode_sized-encode_lower}
-use Rattle.serde_json.specs.Data.{Data, number, array, object}
-use Rattle.serde_json.specs.Find.{as_array, as_number, as_u64, as_i64, get, of_integer}
-use Rattle.serde_json.specs.View.{items_of}
-use Rattle.graph_json.specs.declared.forms.LineForm.{LineForm}
-use Rattle.graph_json.specs.declared.forms.NodeForm.{NodeForm}
-use Rattle.graph_json.specs.declared.forms.SegmentForm.{SegmentForm}
-use Rattle.graph_json.specs.declared.forms.Feature.{Feature}
+use Rattle.serde_json.specs.Data.{Data, object}
+use Rattle.serde_json.specs.Find.{as_i64, get, of_integer}
 use Rattle.graph_json.specs.declared.forms.Feature.TheVariants.{Node, Segment}
 use Rattle.graph_json.specs.Forms as forms
 use Rattle.graph_json.specs.Written as w

@@ -1,11 +1,10 @@
 -- A consistent graph passes the tests of a file's references, and is within its limits.
-use Rattle.std.proofs.Common.{◌≡◌, refl, sym, ap, ap₂, subst, ◌∙◌, ℕ, zero, suc, ◌+◌, ◌<◌, ◌≤◌, max, Bool, true, false, ◌&&◌, ◌||◌, ◌==◌, List, [], ◌∷◌, ◌++◌, length, map, get_or, fold, arith, length-append, append_assoc, inl, inr, nat_lt}
-use Rattle.std.specs.Prelude.{All, Contains, Option, Some, None, if◌then◌else◌}
-use Rattle.std.specs.List.{list_any, list_all, filter_map, AllByRecursion as ByRecursion}
-use Rattle.std.specs.List.Sorted.{IsPermutation}
+use Rattle.std.proofs.Common.{◌≡◌, refl, sym, ap, ap₂, subst, ◌∙◌, ℕ, zero, suc, ◌+◌, ◌<◌, ◌≤◌, max, Bool, true, false, ◌&&◌, ◌||◌, ◌==◌, List, [], ◌∷◌, ◌++◌, length, get_or, fold, arith, length-append, inl, inr, nat_lt}
+use Rattle.std.specs.Prelude.{All, Contains, if◌then◌else◌}
+use Rattle.std.specs.List.{list_any, list_all, AllByRecursion as ByRecursion}
 use Rattle.std.proofs.lemmas.Bool.{lt-ltb, eq-eqb, eqb-true, false≢true}
-use Rattle.std.proofs.lemmas.List.Elements.{All-get_or, recursion_from_All, All-from_recursion, Contains-get_or}
-use Rattle.std.proofs.lemmas.List.Folds.{list_any-from_Any, list_any-append, list_all-append}
+use Rattle.std.proofs.lemmas.List.Elements.{recursion_from_All, All-from_recursion, Contains-get_or}
+use Rattle.std.proofs.lemmas.List.Folds.{list_any-from_Any, list_any-append}
 use Rattle.std.proofs.lemmas.List.Sums.{list_all-from_AllPass}
 use Rattle.std.proofs.lemmas.List.Sorted.{length_permutation, Contains-permutation}
 use Rattle.map_base.specs.declared.ids.NodeId.{NodeId}
@@ -14,21 +13,16 @@ use Rattle.map_base.specs.declared.ids.LineId.{LineId}
 use Rattle.graph_core.specs.declared.parts.GraphParts.{GraphParts}
 use Rattle.graph_core.specs.declared.parts.Join.{Join}
 use Rattle.graph_core.specs.Round.{segments_at}
-use Rattle.graph_core.specs.Consistent.{IsConsistent, AreEnds, AreRising, IsBefore, AreSorted, IsJoin, IsRound, lines_at}
+use Rattle.graph_core.specs.Consistent.{IsConsistent, AreRising, IsBefore, AreSorted, IsJoin, IsRound, lines_at}
 use Rattle.graph_json.specs.Limits.{is_line, with_line, with_lines, lines_on}
-use Rattle.graph_json.specs.References.{has_seg, has_line, rises_from, rises, is_below, is_before, is_sound_segment, is_sound_round, is_sound_join, node_holds, segment_holds}
+use Rattle.graph_json.specs.References.{has_seg, has_line, rises_from, rises, is_below, is_before, is_sound_round, is_sound_join, node_holds, segment_holds}
 use Rattle.graph_json.specs.Written.{after_lines, lines_listed}
 
 -- ---- tests
 
 found : {X : Type 0} (same : X → X → Bool) → ((a : X) → same a a ≡ true) → (xs : List X) (x : X) → Contains xs x → list_any (λ y. same y x) xs ≡ true
 found same itself xs x (k, within, is) =
-    list_any-from_Any (λ y. same y x) xs (k, within, λ d. ap (λ y. same y x) (any_default xs k x d within ∙ is) ∙ itself x)
-  where
-    any_default : {X : Type 0} (xs : List X) (k : ℕ) (c d : X) → k < length xs → get_or xs k d ≡ get_or xs k c
-    any_default [] k c d h = absurd (omega arith)
-    any_default (x ∷ xs) zero c d h = refl
-    any_default (x ∷ xs) (suc k) c d h = any_default xs k c d (omega arith)
+    list_any-from_Any (λ y. same y x) xs (k, x, within, is, itself x)
 
 seg_found : (round : List SegId) (s : SegId) → Contains round s → has_seg round s ≡ true
 seg_found = found (λ (a b : SegId). a.0 == b.0) (λ a. eq-eqb a.0 a.0 refl)
@@ -64,6 +58,9 @@ sorted_back (a ∷ rest) h = sorted_back_from a rest h
 
 five : (a b c d e : Bool) → a ≡ true → b ≡ true → c ≡ true → d ≡ true → e ≡ true → (a && (b && (c && (d && e)))) ≡ true
 five a b c d e p q r s t = cc
+
+two_and_three : (a b c d e : Bool) → a ≡ true → b ≡ true → c ≡ true → d ≡ true → e ≡ true → ((a && b) && (c && (d && e))) ≡ true
+two_and_three a b c d e p q r s t = cc
 
 join_passes : (lines : List (List LineId)) (round : List SegId) (j : Join) → IsJoin lines round j → is_sound_join lines round j ≡ true
 join_passes lines round j is =
@@ -124,7 +121,7 @@ module _ (g : GraphParts) (fit : IsConsistent g) where
       let lines = fit.lines s [] in_lines in
       let listed : ByRecursion (λ (l : LineId). l.0 < lines_listed g.lines) (get_or g.lines s []) = All-from_recursion _ g.lines (each_listed g.lines) s [] in_lines in
       let all : list_all (λ (l : LineId). nat_lt l.0 (lines_listed g.lines)) (get_or g.lines s []) ≡ true = list_all-from_AllPass _ (get_or g.lines s []) (λ k d i. lt-ltb _ (lines_listed g.lines) (All-from_recursion _ (get_or g.lines s []) listed k d i)) in
-      five _ _ _ _ _ (lt-ltb _ _ ends.0) (lt-ltb _ _ ends.1) (lt-ltb 0 _ lines.0) (rises_back _ lines.1) all
+      two_and_three _ _ _ _ _ (lt-ltb _ _ ends.0) (lt-ltb _ _ ends.1) (lt-ltb 0 _ lines.0) (rises_back _ lines.1) all
 
 -- ---- limits
 
@@ -193,21 +190,21 @@ Parted all l = (before : List LineId) × (after : List LineId) × (all ≡ befor
 
 parted : (all : List LineId) (l : LineId) → list_any (is_line l) all ≡ true → Parted all l
 parted [] l t = absurd (false≢true t)
-parted (a ∷ all) l t = by (is_line l a) refl t
+parted (a ∷ all) l t = by (is_line l a) refl t (λ t. parted all l t)
   where
-    by : (b : Bool) → is_line l a ≡ b → (b || list_any (is_line l) all) ≡ true → Parted (a ∷ all) l
-    by true e t = ([], all, ap (λ (x : LineId). x ∷ all) (sym (same_line l a e)))
-    by false e t = let rest = parted all l t in (a ∷ rest.0, rest.1, ap (λ (xs : List LineId). a ∷ xs) rest.2)
+    by : (b : Bool) → is_line l a ≡ b → (b || list_any (is_line l) all) ≡ true → (list_any (is_line l) all ≡ true → Parted all l) → Parted (a ∷ all) l
+    by true e t later = ([], all, ap (λ (x : LineId). x ∷ all) (sym (same_line l a e)))
+    by false e t later = let rest = later t in (a ∷ rest.0, rest.1, ap (λ (xs : List LineId). a ∷ xs) rest.2)
 
 left_there : (before after : List LineId) (l : LineId) (ls : List LineId) → list_any (is_line l) ls ≡ false → Within (before ++ l ∷ after) ls → Within (before ++ after) ls
 left_there before after l [] once within = tt
-left_there before after l (k ∷ ls) once within = by (is_line l k) refl once
+left_there before after l (k ∷ ls) once within = by (is_line l k) refl once (λ once. left_there before after l ls once within.1)
   where
-    by : (b : Bool) → is_line l k ≡ b → (b || list_any (is_line l) ls) ≡ false → Within (before ++ after) (k ∷ ls)
-    by true e once = absurd (false≢true (sym once))
-    by false e once = (
+    by : (b : Bool) → is_line l k ≡ b → (b || list_any (is_line l) ls) ≡ false → (list_any (is_line l) ls ≡ false → Within (before ++ after) ls) → Within (before ++ after) (k ∷ ls)
+    by true e once later = absurd (false≢true (sym once))
+    by false e once later = (
       list_any-append (is_line k) before after ∙ ap (λ (b : Bool). list_any (is_line k) before || (b || list_any (is_line k) after)) (sym (turned l k e)) ∙ sym (list_any-append (is_line k) before (l ∷ after)) ∙ within.0,
-      left_there before after l ls once within.1,
+      later once,
     )
 
 few_once : (ls all : List LineId) → Once ls → Within all ls → length ls ≤ length all

@@ -1,20 +1,17 @@
 -- What was written of a consistent graph is read as this graph.
-use Rattle.std.proofs.Common.{◌≡◌, refl, sym, ap, ap₂, subst, ◌∙◌, ℕ, zero, suc, ◌+◌, ◌-◌, ◌<◌, ◌≤◌, ◌^◌, ◌==◌, Bool, true, false, List, [], ◌∷◌, ◌++◌, length, map, take, get_or, arith, length-append, append-nil}
-use Rattle.std.specs.Prelude.{All, Contains, Option, Some, None, option_map, option_and_then, unwrap_or, slice_get, nat_lt, pos, IsUtf8, Result, Ok, Err, if◌then◌else◌}
-use Rattle.std.specs.Str.{is_utf8}
-use Rattle.std.specs.List.{AllByRecursion as ByRecursion, range_with_len, filter_map}
-use Rattle.std.proofs.lemmas.Bool.{ltb-true, eq-eqb}
+use Rattle.std.proofs.Common.{◌≡◌, refl, sym, ap, ap₂, subst, ◌∙◌, ℕ, suc, ◌+◌, ◌-◌, ◌<◌, ◌≤◌, ◌^◌, ◌==◌, Bool, true, false, List, [], ◌∷◌, ◌++◌, length, map, take, get_or, arith, length-append, append-nil}
+use Rattle.std.specs.Prelude.{All, Contains, Option, Some, None, option_map, option_and_then, unwrap_or, slice_get, nat_lt, pos, IsUtf8, Ok, if◌then◌else◌}
+use Rattle.std.specs.List.{AllByRecursion as ByRecursion, range_with_len}
+use Rattle.std.proofs.lemmas.Bool.{ltb-true}
 use Rattle.std.proofs.lemmas.List.{length-map}
 use Rattle.std.proofs.lemmas.List.Elements.{All-get_or, recursion_from_All, All-from_recursion, filter_map-append}
 use Rattle.std.proofs.lemmas.List.FromFn.{length-range_with_len}
 use Rattle.std.proofs.lemmas.List.Sorted.{All-permutation}
 use Rattle.std.proofs.lemmas.Option.{unwrap_or-slice_get}
-use Rattle.std.proofs.lemmas.Str.{is_utf8-from_IsUtf8}
 use Rattle.std.specs.Option.{option_or}
 use Rattle.map_base.specs.declared.ids.LineId.{LineId}
 use Rattle.map_base.specs.declared.ids.NodeId.{NodeId}
 use Rattle.map_base.specs.declared.ids.SegId.{SegId}
-use Rattle.map_base.specs.declared.limit.Limit.{Limit}
 use Rattle.map_base.specs.declared.limit.LimitKind.{LimitKind}
 use Rattle.map_base.specs.declared.limit.LimitKind.TheVariants as kind
 use Rattle.map_base.specs.declared.point.Point.{Point}
@@ -22,25 +19,27 @@ use Rattle.map_base.specs.Limits.{limit_of, limit_most}
 use Rattle.graph_core.specs.declared.parts.GraphParts.{GraphParts}
 use Rattle.graph_core.specs.declared.parts.Join.{Join}
 use Rattle.graph_core.specs.declared.parts.NodeKind.{NodeKind}
-use Rattle.graph_core.specs.declared.parts.NodeKind.TheVariants.{Station, Junction}
-use Rattle.graph_core.specs.Consistent.{IsConsistent, IsNear, IsJoin, lines_at}
+use Rattle.graph_core.specs.declared.parts.NodeKind.TheVariants.{Junction}
+use Rattle.graph_core.specs.Consistent.{IsConsistent, IsNear, AreEnds}
 use Rattle.graph_core.specs.Round.{ends_at, segments_from, segments_at}
 use Rattle.svg_writer.specs.declared.names.Names.{Names}
 use Rattle.svg_writer.specs.Picture as p
-use Rattle.serde_json.specs.Data.{Data}
-use Rattle.serde_json.specs.Read.{read}
+use Rattle.serde_json.specs.Data.{Data, depth}
+use Rattle.serde_json.specs.Read.{max_depth, read}
+use Rattle.serde_json.specs.Written.{has_float, compact_text}
 use Rattle.graph_json.specs.declared.forms.LineForm.{LineForm}
 use Rattle.graph_json.specs.declared.forms.NodeForm.{NodeForm}
 use Rattle.graph_json.specs.declared.forms.SegmentForm.{SegmentForm}
 use Rattle.graph_json.specs.declared.forms.Feature.{Feature}
 use Rattle.graph_json.specs.declared.forms.Feature.TheVariants.{Node, Segment}
-use Rattle.graph_json.specs.declared.imported.Imported.{Imported}
 use Rattle.graph_json.specs.Forms as forms
 use Rattle.graph_json.specs.Written as w
 use Rattle.graph_json.specs.Again.{node_name, name_and_colour, read_again, CanBeRead}
 use Rattle.graph_json.specs.Limits.{lines_on, names_in, above, limit_met}
-use Rattle.graph_json.specs.References.{node_in, segment_in, nodes_in, segments_in, names_of_nodes, kinds_from, graph_of, is_node, is_sound_segment, node_holds, segment_holds, broken_from}
+use Rattle.graph_json.specs.References.{node_in, segment_in, nodes_in, segments_in, names_of_nodes, kinds_from, is_node, is_sound_segment, node_holds, segment_holds, broken_from}
 use Rattle.graph_json.specs.Outcome.{without_feed, text_value, value_of, of_value, of_arrays, with_lines, with_features, within_limits, unless_broken, limit_of_features, broken_in, graph_made, imported_of, each_or_first, graph_outcome}
+use Rattle.graph_json.proofs.Texts.{of_text}
+use Rattle.graph_json.proofs.PlainValues.{graph_plain}
 use Rattle.graph_json.proofs.Assembly.{length-kinds_from}
 use Rattle.graph_json.proofs.ListBack.{of_each_mapped, of_each_append, all_entries, below_range, by_number, map_same, map_map}
 use Rattle.graph_json.proofs.ReadBack.{array_back, line_back, node_back, segment_back, IsSmall}
@@ -65,7 +64,7 @@ feed_away text =
 
 -- a text with a line feed behind it has the text's value
 pub text_read : (text : List ℕ) (d : Data) → IsUtf8 text → read text ≡ Some d → value_of (text ++ 10 ∷ []) ≡ Some d
-text_read text d utf8 is = ap text_value (feed_away text) ∙ ap (λ (b : Bool). if b then read text else None) (is_utf8-from_IsUtf8 text utf8) ∙ is
+text_read text d utf8 is = ap text_value (feed_away text) ∙ of_text text d utf8 is
 
 -- ---- features apart
 
@@ -116,45 +115,40 @@ module _ (g : GraphParts) (listed : ℕ) where
 -- the segments at a node are segments of the graph
 below_from : (i n : ℕ) (es : List (NodeId × NodeId)) (all : ℕ) → i + length es ≤ all → ByRecursion (λ (s : SegId). s.0 < all) (segments_from i n es)
 below_from i n [] all h = tt
-below_from i n (e ∷ es) all h = by (ends_at n e)
+below_from i n (e ∷ es) all h = by (ends_at n e) (below_from (i + 1) n es all (omega arith))
   where
-    here : i < all
-    here = omega arith
-
-    rest : ByRecursion (λ (s : SegId). s.0 < all) (segments_from (i + 1) n es)
-    rest = below_from (i + 1) n es all (omega arith)
-
-    by : (b : Bool) → ByRecursion (λ (s : SegId). s.0 < all) (if b then record { 0 = i } ∷ segments_from (i + 1) n es else segments_from (i + 1) n es)
-    by true = (here, rest)
-    by false = rest
+    by : (b : Bool) → ByRecursion (λ (s : SegId). s.0 < all) (segments_from (i + 1) n es)
+        → ByRecursion (λ (s : SegId). s.0 < all) (if b then record { 0 = i } ∷ segments_from (i + 1) n es else segments_from (i + 1) n es)
+    by true rest = (omega arith, rest)
+    by false rest = rest
 
 -- ---- the whole
 
 module _ (g : GraphParts) (names : Names) (importance : List ℕ) (fit : IsConsistent g) (can : CanBeRead g names importance) where
-  lines : List ℕ
+  abbrev lines : List ℕ
   lines = range_with_len 0 (w.lines_listed g.lines)
 
-  nodes : List ℕ
+  abbrev nodes : List ℕ
   nodes = range_with_len 0 (length g.kinds)
 
-  segments : List ℕ
+  abbrev segments : List ℕ
   segments = range_with_len 0 (length g.ends)
 
-  line_form : ℕ → LineForm
+  abbrev line_form : ℕ → LineForm
   line_form l = forms.line_with (name_and_colour names l).0 (name_and_colour names l).1 (w.importance_at importance l)
 
   lines_back : each_or_first forms.line_of 0 (w.lines_data g names importance) ≡ Ok (map line_form lines)
   lines_back = all_entries forms.line_of 0 (w.lines_data g names importance) (map line_form lines)
-      (of_each_mapped forms.line_of (w.line_data names importance) line_form lines (below_range (w.lines_listed g.lines) _ (λ l h.
+      (of_each_mapped forms.line_of (w.line_data names importance) line_form lines (below_range (w.lines_listed g.lines) (λ l. forms.line_of (w.line_data names importance l) ≡ Some (line_form l)) (λ l h.
       line_back _ _ _ (can.colours l h).0 (can.colours l h).1 (can.importances l h).0 (can.importances l h).1)))
 
-  node_form : ℕ → NodeForm
+  abbrev node_form : ℕ → NodeForm
   node_form n = forms.node_with (w.point_at g.places n) (node_name names (p.kind_at g.kinds n)) (p.round_at g.rounds n) (p.joins_at g.joins n)
 
-  segment_form : ℕ → SegmentForm
+  abbrev segment_form : ℕ → SegmentForm
   segment_form s = forms.segment_with (p.ends_at g.ends s) (p.lines_at g.lines s)
 
-  features : List Feature
+  abbrev features : List Feature
   features = map (λ n. Node (node_form n)) nodes ++ map (λ s. Segment (segment_form s)) segments
 
   near : (n : ℕ) → n < length g.kinds → IsNear (w.point_at g.places n)
@@ -183,19 +177,22 @@ module _ (g : GraphParts) (names : Names) (importance : List ℕ) (fit : IsConsi
   at xs n P h = subst (ByRecursion P) (sym (unwrap_or-slice_get xs n [])) (recursion_from_All P (get_or xs n []) h)
 
   nodes_back : forms.of_each forms.feature_of (map (w.node_data g names) nodes) ≡ Some (map (λ n. Node (node_form n)) nodes)
-  nodes_back = of_each_mapped forms.feature_of (w.node_data g names) (λ n. Node (node_form n)) nodes (below_range (length g.kinds) _ (λ n h.
+  nodes_back = of_each_mapped forms.feature_of (w.node_data g names) (λ n. Node (node_form n)) nodes (below_range (length g.kinds) (λ n. forms.feature_of (w.node_data g names n) ≡ Some (Node (node_form n))) (λ n h.
       node_back names (p.joins_at g.joins n) (p.round_at g.rounds n) (p.kind_at g.kinds n) (w.point_at g.places n) (near n h)
-      (at g.joins n IsSmall (small n h)) (at g.rounds n _ (λ k d i. let low = round_below n h k d i in omega (arith, low, fit.few_segments)))))
+      (at g.joins n IsSmall (small n h)) (at g.rounds n (λ (s : SegId). s.0 < 2 ^ 32) (λ k d i. let low = round_below n h k d i in omega (arith, low, fit.few_segments)))))
+
+  abbrev no_ends : NodeId × NodeId
+  no_ends = (record { 0 = 0 }, record { 0 = 0 })
 
   end_below : (s : ℕ) → s < length g.ends → ((p.ends_at g.ends s).0.0 < 2 ^ 32) × ((p.ends_at g.ends s).1.0 < 2 ^ 32)
   end_below s h =
-      let is = subst (λ (e : NodeId × NodeId). (e.0.0 < e.1.0) × (e.1.0 < length g.kinds)) (sym (unwrap_or-slice_get g.ends s _)) (All-get_or _ g.ends s _ h fit.ends) in
+      let is = subst (λ (e : NodeId × NodeId). (e.0.0 < e.1.0) × (e.1.0 < length g.kinds)) (sym (unwrap_or-slice_get g.ends s no_ends)) (All-get_or (AreEnds (length g.kinds)) g.ends s no_ends h fit.ends) in
       (omega (arith, is.0, is.1, fit.few_nodes), omega (arith, is.1, fit.few_nodes))
 
   segments_back : forms.of_each forms.feature_of (map (w.segment_data g) segments) ≡ Some (map (λ s. Segment (segment_form s)) segments)
-  segments_back = of_each_mapped forms.feature_of (w.segment_data g) (λ s. Segment (segment_form s)) segments (below_range (length g.ends) _ (λ s h.
-      segment_back _ _ (p.ends_at g.ends s) (p.lines_at g.lines s) (end_below s h).0 (end_below s h).1
-      (at g.lines s _ (λ k d i. let low = line_below s h k d i in omega (arith, low, can.few)))))
+  segments_back = of_each_mapped forms.feature_of (w.segment_data g) (λ s. Segment (segment_form s)) segments (below_range (length g.ends) (λ s. forms.feature_of (w.segment_data g s) ≡ Some (Segment (segment_form s))) (λ s h.
+      segment_back (w.point_at g.places (p.ends_at g.ends s).0.0) (w.point_at g.places (p.ends_at g.ends s).1.0) (p.ends_at g.ends s) (p.lines_at g.lines s) (end_below s h).0 (end_below s h).1
+      (at g.lines s (λ (l : LineId). l.0 < 2 ^ 32) (λ k d i. let low = line_below s h k d i in omega (arith, low, can.few)))))
 
   features_back : each_or_first forms.feature_of 0 (w.features_data g names) ≡ Ok features
   features_back = all_entries forms.feature_of 0 (w.features_data g names) features
@@ -211,10 +208,10 @@ module _ (g : GraphParts) (names : Names) (importance : List ℕ) (fit : IsConsi
       filter_map-append segment_in (map (λ n. Node (node_form n)) nodes) (map (λ s. Segment (segment_form s)) segments)
       ∙ ap₂ (λ a b. a ++ b) (no_segments node_form nodes) (segments_there segment_form segments)
 
-  again : GraphParts
+  abbrev again : GraphParts
   again = (read_again g names importance).graph
 
-  parts : List NodeKind → List Point → List (NodeId × NodeId) → List (List LineId) → List (List SegId) → List (List Join) → GraphParts
+  abbrev parts : List NodeKind → List Point → List (NodeId × NodeId) → List (List LineId) → List (List SegId) → List (List Join) → GraphParts
   parts kinds places ends lines rounds joins = record { kinds = kinds; places = places; ends = ends; lines = lines; rounds = rounds; joins = joins }
 
   -- a column of nodes, and of segments
@@ -257,10 +254,10 @@ module _ (g : GraphParts) (names : Names) (importance : List ℕ) (fit : IsConsi
   limits =
       ap₂ limit_met lines_made names_made
       ∙ ap₂ (λ a b. option_or a (option_or b (option_or (above kind.Nodes (length (map (node_name names) g.kinds))) (above kind.Segments (length g.lines)))))
-      (within kind.Lines _ (few_lines 1000 g.lines fit.few_lines.0 fit.few_lines.1 fit.few_lines.2))
-      (within kind.Stations _ (omega (arith, named_most (map (node_name names) g.kinds), length-map g.kinds (node_name names), fit.few_nodes)))
-      ∙ ap₂ (λ a b. option_or a b) (within kind.Nodes _ (omega (arith, length-map g.kinds (node_name names), fit.few_nodes)))
-      (within kind.Segments _ (omega (arith, fit.lines_each, fit.few_segments)))
+      (within kind.Lines (length (lines_on g.lines)) (few_lines 1000 g.lines fit.few_lines.0 fit.few_lines.1 fit.few_lines.2))
+      (within kind.Stations (length (names_in (map (node_name names) g.kinds))) (omega (arith, named_most (map (node_name names) g.kinds), length-map g.kinds (node_name names), fit.few_nodes)))
+      ∙ ap₂ (λ a b. option_or a b) (within kind.Nodes (length (map (node_name names) g.kinds)) (omega (arith, length-map g.kinds (node_name names), fit.few_nodes)))
+      (within kind.Segments (length g.lines) (omega (arith, fit.lines_each, fit.few_segments)))
 
   count_nodes : length (nodes_in features) ≡ length g.kinds
   count_nodes = ap length found_nodes ∙ length-map nodes node_form ∙ length-range_with_len 0 (length g.kinds)
@@ -275,8 +272,8 @@ module _ (g : GraphParts) (names : Names) (importance : List ℕ) (fit : IsConsi
   holds =
       ap₂ (λ g n. broken_from g n 0 0 0 (map is_node features)) graph_again listed
       ∙ none_broken again (w.lines_listed g.lines) 0 0 0 features
-      (λ k h. nodes_pass g fit k (omega (arith, h, count_nodes)))
-      (λ k h. segment k (omega (arith, h, count_segments)))
+      (λ k h. let here : 0 + k ≡ k = omega arith in ap (node_holds again) here ∙ nodes_pass g fit k (omega (arith, h, count_nodes)))
+      (λ k h. let here : 0 + k ≡ k = omega arith in ap (segment_holds again (w.lines_listed g.lines)) here ∙ segment k (omega (arith, h, count_segments)))
     where
       segment : (s : ℕ) → s < length g.ends → segment_holds again (w.lines_listed g.lines) s ≡ true
       segment s h = ap (λ (n : ℕ). is_sound_segment n (w.lines_listed g.lines) (get_or g.ends s (record { 0 = 0 }, record { 0 = 0 })) (get_or g.lines s [])) length_again ∙ segments_pass g fit s h
@@ -300,3 +297,16 @@ module _ (g : GraphParts) (names : Names) (importance : List ℕ) (fit : IsConsi
   -- of a text with the graph's value and a line feed behind it
   pub outcome_again : (text : List ℕ) → IsUtf8 text → read text ≡ Some (w.graph_data g names importance) → graph_outcome (text ++ 10 ∷ []) ≡ Ok (read_again g names importance)
   outcome_again text utf8 is = ap of_value (text_read text (w.graph_data g names importance) utf8 is) ∙ value_again
+
+-- ---- what is written
+
+pub text_written : (g : GraphParts) (names : Names) (importance : List ℕ) (d : Data) (text : List ℕ) → d ≡ w.graph_data g names importance
+    → (has_float d ≡ false → text ≡ compact_text d) → text ++ 10 ∷ [] ≡ w.graph_text g names importance
+text_written g names importance d text is means =
+    ap (λ l. l ++ 10 ∷ []) (means (subst (λ x. has_float x ≡ false) (sym is) (graph_plain g names importance).whole) ∙ ap compact_text is)
+
+pub text_again : (g : GraphParts) (names : Names) (importance : List ℕ) (d : Data) (text : List ℕ) → d ≡ w.graph_data g names importance → IsConsistent g
+    → IsUtf8 text → (depth d ≤ max_depth → read text ≡ Some d) → CanBeRead g names importance → graph_outcome (text ++ 10 ∷ []) ≡ Ok (read_again g names importance)
+text_again g names importance d text is fit utf8 back can =
+    let shallow : depth d ≤ max_depth = subst (λ x. depth x ≤ max_depth) (sym is) (omega (arith, (graph_plain g names importance).shallow)) in
+    outcome_again g names importance fit can text utf8 (back shallow ∙ ap Some is)

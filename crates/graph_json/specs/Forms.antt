@@ -1,5 +1,5 @@
 -- What the entries of a graph file are read as. Members that no form names are passed over.
-use Rattle.std.specs.Prelude.{ℕ, ◌^◌, ◌&&◌, Bool, true, false, ℤ, pos, negsuc, List, [], ◌∷◌, codes, nat_lt, nat_le, int_le, if◌then◌else◌, Option, Some, None, option_map, option_and_then}
+use Rattle.std.specs.Prelude.{ℕ, ◌^◌, ◌&&◌, Bool, false, ℤ, pos, negsuc, List, [], ◌∷◌, codes, nat_lt, nat_le, int_le, if◌then◌else◌, Option, Some, None, option_map, option_and_then}
 use Rattle.std.specs.Str.{bytes_eq}
 use Rattle.std.specs.Result.{result_ok}
 use Rattle.map_base.specs.declared.ids.LineId.{LineId}

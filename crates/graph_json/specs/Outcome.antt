@@ -1,8 +1,9 @@
 -- What a graph file is read as, from its bytes.
-use Rattle.std.specs.Prelude.{◌≡◌, ◌≢◌, ◌<◌, ◌≤◌, ◌⊎◌, ℕ, ◌+◌, ◌-◌, ◌==◌, List, [], ◌∷◌, All, length, map, take, slice_index, Option, Some, None, option_and_then, Result, Ok, Err, if◌then◌else◌}
+use Rattle.std.specs.Prelude.{◌≡◌, ◌≢◌, ◌<◌, ◌⊎◌, ◌^◌, ℕ, ◌+◌, ◌-◌, ◌==◌, List, [], ◌∷◌, All, length, map, take, slice_index, Option, Some, None, Result, Ok, Err, if◌then◌else◌}
 use Rattle.std.specs.Str.{is_utf8}
 use Rattle.map_base.specs.declared.ids.LineId.{LineId}
 use Rattle.map_base.specs.declared.limit.Limit.{Limit}
+use Rattle.map_base.specs.Settings.{IsImportance}
 use Rattle.graph_core.specs.declared.parts.GraphParts.{GraphParts}
 use Rattle.graph_core.specs.declared.parts.NodeKind.{NodeKind}
 use Rattle.graph_core.specs.declared.parts.NodeKind.TheVariants.{Station, Junction}
@@ -111,16 +112,17 @@ IsNamed names (Station s) = s.0 < names
 IsNamed names Junction = Unit {0}
 
 abbrev pub IsImportant : LineForm → Type 0
-IsImportant l = (1 ≤ l.importance) × (l.importance ≤ 16)
+IsImportant l = IsImportance l.importance
 
 abbrev pub LiesNear : Feature → Type 0
 LiesNear (Node n) = IsNear n.place
 LiesNear (Segment s) = Unit {0}
 
 -- What else is known of a graph that was read: there is a name for each of its stations and lines, and an importance from 1
--- to 16 for each line of the file.
+-- to 16 for each line of the file, of which there are as many as numbers for them at most.
 pub record IsComplete (read : Imported) : Type 0 where
   pub stations : All (IsNamed (length read.names.stations)) read.graph.kinds
   pub lines : All (All (λ (l : LineId). l.0 < length read.names.lines)) read.graph.lines
   pub importance_each : length read.importance ≡ length read.names.lines
-  pub importance : All (λ n. (1 ≤ n) × (n ≤ 16)) read.importance
+  pub few : length read.importance < 2 ^ 32
+  pub importance : All IsImportance read.importance

@@ -1,10 +1,9 @@
 -- The graph that the features of a file make, and the first feature whose references don't hold.
-use Rattle.std.specs.Prelude.{ℕ, ◌+◌, ◌==◌, ◌&&◌, ◌||◌, Bool, true, false, not, nat_lt, List, [], ◌∷◌, ◌++◌, length, map, filter_map, if◌then◌else◌, slice_index_or, Option, Some, None}
+use Rattle.std.specs.Prelude.{ℕ, ◌+◌, ◌==◌, ◌&&◌, Bool, true, false, nat_lt, List, [], ◌∷◌, length, map, filter_map, if◌then◌else◌, slice_index_or, Option, Some, None}
 use Rattle.std.specs.List.{list_any, list_all}
 use Rattle.map_base.specs.declared.ids.NodeId.{NodeId}
 use Rattle.map_base.specs.declared.ids.SegId.{SegId}
 use Rattle.map_base.specs.declared.ids.LineId.{LineId}
-use Rattle.map_base.specs.declared.point.Point.{Point}
 use Rattle.graph_core.specs.declared.parts.GraphParts.{GraphParts}
 use Rattle.graph_core.specs.declared.parts.Join.{Join}
 use Rattle.graph_core.specs.declared.parts.NodeKind.{NodeKind}
@@ -73,11 +72,18 @@ rises before (a ∷ rest) = rises_from before a rest
 abbrev pub is_below : LineId → LineId → Bool
 is_below a b = nat_lt a.0 b.0
 
+-- a segment leads from a lower to an upper node
+abbrev pub leads_up : ℕ → NodeId × NodeId → Bool
+leads_up nodes ends = nat_lt ends.0.0 ends.1.0 && nat_lt ends.1.0 nodes
+
+-- there are lines, which rise and are listed
+abbrev pub are_sound_lines : ℕ → List LineId → Bool
+are_sound_lines listed lines =
+    nat_lt 0 (length lines) && (rises is_below lines && list_all (λ (l : LineId). nat_lt l.0 listed) lines)
+
 -- a segment leads from a lower to an upper node, and has lines, which rise and are listed
 abbrev pub is_sound_segment : ℕ → ℕ → NodeId × NodeId → List LineId → Bool
-is_sound_segment nodes listed ends lines =
-    (nat_lt ends.0.0 ends.1.0 && nat_lt ends.1.0 nodes)
-    && (nat_lt 0 (length lines) && (rises is_below lines && list_all (λ (l : LineId). nat_lt l.0 listed) lines))
+is_sound_segment nodes listed ends lines = leads_up nodes ends && are_sound_lines listed lines
 
 -- a round is not empty, and holds exactly the segments that end at the node, each once
 abbrev pub is_sound_round : List (NodeId × NodeId) → ℕ → List SegId → Bool
@@ -96,11 +102,15 @@ is_sound_join lines round j =
     nat_lt j.e.0 j.f.0 && (has_seg round j.e && (has_seg round j.f
     && (has_line (lines_at lines j.e) j.line && has_line (lines_at lines j.f) j.line)))
 
+-- connections rise, and the references of each hold
+abbrev pub joins_hold : List (List LineId) → List SegId → List Join → Bool
+joins_hold lines round joins = rises is_before joins && list_all (is_sound_join lines round) joins
+
 -- the references of node n hold
 abbrev pub node_holds : GraphParts → ℕ → Bool
 node_holds g n =
     is_sound_round g.ends n (slice_index_or g.rounds n [])
-    && (rises is_before (slice_index_or g.joins n []) && list_all (is_sound_join g.lines (slice_index_or g.rounds n [])) (slice_index_or g.joins n []))
+    && joins_hold g.lines (slice_index_or g.rounds n []) (slice_index_or g.joins n [])
 
 -- the references of segment s hold, where so many lines are listed
 abbrev pub segment_holds : GraphParts → ℕ → ℕ → Bool

@@ -12,7 +12,7 @@ use Rattle.graph_core.specs.declared.parts.NodeKind.TheVariants.{Station, Juncti
 use Rattle.svg_writer.specs.declared.names.Names.{Names}
 use Rattle.hex.specs.Hex.{encode_lower}
 use Rattle.svg_writer.specs.Picture.{name_of, colour_of, station_name, ends_at, kind_at, round_at, joins_at, lines_at}
-use Rattle.serde_json.specs.Data.{Data, number, unsigned, string, array, object, Items, Members, member, no_members}
+use Rattle.serde_json.specs.Data.{Data, number, unsigned, string, array, object, Members, member, no_members}
 use Rattle.serde_json.specs.Find.{of_integer}
 use Rattle.serde_json.specs.View.{items_of}
 use Rattle.serde_json.specs.Written.{compact_text}

@@ -25,7 +25,7 @@ pub enum JsonFault {
     },
     /// The graph has more of something than is worked on.
     Limit(Limit),
-    /// The allocator had no room.
+    /// The allocator had no room, or there are 2^32 lines or more, which is more than the numbers for them.
     NoMemory,
 }
 

@@ -70,6 +70,7 @@ fn kinds_of(alloc: Global, names: &[Option<Text>]) -> Result<Vec<NodeKind>, NoMe
 }
 
 /// The names that are there.
+#[tactic(auto, using(crate::proofs::Lists::name_more, crate::proofs::Lists::name_less))]
 fn stations_of(alloc: Global, names: Vec<Option<Text>>) -> Result<Vec<Text>, NoMemory>
     ensures { IfOk result (λ stations. stations.items ≡ names_in names.items) }
 {

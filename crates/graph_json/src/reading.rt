@@ -48,6 +48,7 @@ fn without_feed(bytes: &[u8]) -> &[u8]
 }
 
 /// The value that a text is (RFC 8259).
+#[tactic(auto, using(crate::proofs::Texts::of_text, crate::proofs::Texts::of_no_text))]
 fn text_value(alloc: Global, text: &[u8]) -> Result<Value, JsonFault>
     ensures { ReadsValue result (text_value text.now) }
 {
@@ -99,6 +100,9 @@ fn graph_with(
     ensures reads { Reads result (with_features lines.items (Ok features.items)) }
     ensures complete { IfOk result IsComplete }
 {
+    if 4_294_967_296 <= lines.len() {
+        return Err(JsonFault::NoMemory);
+    }
     let columns = columns_of(alloc, features)?;
     if let Some(limit) = limit_met(alloc, &columns.lines, &columns.names)? {
         return Err(JsonFault::Limit(limit));

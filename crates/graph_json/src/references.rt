@@ -1,7 +1,9 @@
 //! Whether what the features of a graph file refer to is there.
 
-ghost use Rattle.std.specs.Prelude.{◌≡◌, ◌≤◌, length, slice_index_or, []};
-ghost use Rattle.graph_json.specs.References.{broken_from, node_holds, segment_holds, is_sound_segment, is_sound_join, is_sound_round, rises, is_below, is_before, has_seg, has_line};
+ghost use Rattle.std.specs.Prelude.{◌≡◌, ◌≤◌, nat_lt, length, slice_index_or, []};
+ghost use Rattle.std.specs.List.{list_all};
+ghost use Rattle.map_base.specs.declared.ids.LineId.{LineId};
+ghost use Rattle.graph_json.specs.References.{broken_from, node_holds, segment_holds, is_sound_segment, is_sound_join, is_sound_round, rises, is_below, is_before, has_seg, has_line, leads_up, are_sound_lines, joins_hold};
 
 use graph_core::{GraphParts, Join};
 use map_base::{LineId, NodeId, SegId, Sequence};
@@ -56,16 +58,40 @@ fn segment_holds(parts: &GraphParts, listed: usize, s: usize) -> bool
 fn is_sound_segment(nodes: usize, listed: usize, ends: (NodeId, NodeId), lines: &[LineId]) -> bool
     ensures { result ≡ is_sound_segment nodes listed ends lines.now }
 {
-    let (lower, upper) = ends;
-    if upper.0 <= lower.0 || nodes <= upper.0 as usize {
+    if !leads_up(nodes, ends) {
         return false;
     }
+    are_sound_lines(listed, lines)
+}
+
+/// Whether a segment leads from a lower to an upper node.
+fn leads_up(nodes: usize, ends: (NodeId, NodeId)) -> bool
+    ensures { result ≡ leads_up nodes ends }
+{
+    let (lower, upper) = ends;
+    if upper.0 <= lower.0 {
+        return false;
+    }
+    (upper.0 as usize) < nodes
+}
+
+/// Whether there are lines, which rise and are listed.
+fn are_sound_lines(listed: usize, lines: &[LineId]) -> bool
+    ensures { result ≡ are_sound_lines listed lines.now }
+{
     if lines.is_empty() {
         return false;
     }
     if !rise(lines) {
         return false;
     }
+    are_listed(listed, lines)
+}
+
+/// Whether the number of each line is below how many are listed.
+fn are_listed(listed: usize, lines: &[LineId]) -> bool
+    ensures { result ≡ list_all (λ (l : LineId). nat_lt l.0 listed) lines.now }
+{
     lines.iter().all(|line| (line.0 as usize) < listed)
 }
 
@@ -79,12 +105,24 @@ fn node_holds(parts: &GraphParts, n: usize) -> bool
     if !is_sound_round(parts.ends.as_slice(), n, round) {
         return false;
     }
+    joins_hold(parts.lines.as_slice(), round, joins)
+}
+
+/// Whether connections rise, and the references of each hold.
+fn joins_hold(lines: &[Sequence<LineId>], round: &[SegId], joins: &[Join]) -> bool
+    ensures { result ≡ joins_hold lines.now round.now joins.now }
+{
     if !joins_rise(joins) {
         return false;
     }
-    joins
-        .iter()
-        .all(|join| is_sound_join(parts.lines.as_slice(), round, *join))
+    are_sound_joins(lines, round, joins)
+}
+
+/// Whether the references of each connection hold.
+fn are_sound_joins(lines: &[Sequence<LineId>], round: &[SegId], joins: &[Join]) -> bool
+    ensures { result ≡ list_all (is_sound_join lines.now round.now) joins.now }
+{
+    joins.iter().all(|join| is_sound_join(lines, round, *join))
 }
 
 /// Whether a round is not empty, and holds exactly the segments that end at node `n`, each once.

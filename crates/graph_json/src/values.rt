@@ -67,6 +67,7 @@ pub(crate) fn importance_of(value: &Value) -> Option<u32>
 }
 
 /// The elements of an array.
+#[tactic(auto, using(crate::proofs::Lists::array_elements))]
 pub(crate) fn array_of(value: &Value) -> Option<&[Value]>
     ensures { option_map (λ items. map view items.now) result ≡ array_of (view value.now) }
 {

@@ -3,6 +3,7 @@
 ghost use Rattle.std.specs.Prelude.{◌≡◌, ◌++◌, Ok, length, map, IfOk, OnOk};
 ghost use Rattle.std.specs.List.{range_with_len};
 ghost use Rattle.serde_json.specs.View.{view};
+ghost use Rattle.graph_core.specs.Consistent.{IsConsistent};
 ghost use Rattle.graph_json.specs.Written.{after_lines, graph_data, graph_text, line_data, lines_data, lines_listed, list_data, node_data, segment_data};
 ghost use Rattle.graph_json.specs.Again.{CanBeRead, read_again};
 ghost use Rattle.graph_json.specs.Outcome.{graph_outcome};
@@ -18,6 +19,7 @@ use svg_writer::Names;
 /// names of stations and the names and colours of lines by their numbers (an empty text where it has none), `importance`
 /// a number from 1 to 16 for each line (1 where it has none). What is written is read as the same graph, up to the numbers
 /// of its stations, with the same names, colours and importances.
+#[tactic(auto, using(crate::proofs::WrittenAgain::text_written, crate::proofs::WrittenAgain::text_again))]
 pub fn write_graph(
     alloc: Global,
     graph: &LineGraph,
@@ -41,9 +43,10 @@ fn whole(
     names: &Names,
     importance: &[u32],
 ) -> Result<Value, AllocError>
-    ensures { IfOk result (λ v. view v ≡ graph_data graph.now names.now importance.now) }
+    ensures value { IfOk result (λ v. view v ≡ graph_data graph.now names.now importance.now) }
+    ensures fits { IfOk result (λ _. IsConsistent graph.now) }
 {
-    let mut features = Vec::new(alloc);
+    let mut features = Vec::with_capacity(alloc, graph.nodes() as usize + graph.segs() as usize)?;
     push_nodes(alloc, &mut features, graph, names)?;
     push_segments(alloc, &mut features, graph)?;
     let features = Value::Array(features);
@@ -52,6 +55,7 @@ fn whole(
 }
 
 /// Adds the nodes.
+#[tactic(auto, using(crate::proofs::Lists::one_more))]
 fn push_nodes(
     alloc: Global,
     features: &mut Vec<Value>,
@@ -67,6 +71,7 @@ fn push_nodes(
 }
 
 /// Adds the segments.
+#[tactic(auto, using(crate::proofs::Lists::one_more))]
 fn push_segments(
     alloc: Global,
     features: &mut Vec<Value>,
@@ -81,12 +86,14 @@ fn push_segments(
 }
 
 /// The lines from number 0 to the greatest on a segment.
+#[tactic(auto, using(crate::proofs::Lists::one_counted))]
 fn lines(
     alloc: Global,
     graph: &LineGraph,
     names: &Names,
     importance: &[u32],
 ) -> Result<Value, AllocError>
+    requires { IsConsistent graph.now }
     ensures { IfOk result (λ v. view v ≡ list_data (lines_data graph.now names.now importance.now)) }
 {
     let mut lines = Vec::new(alloc);
@@ -119,8 +126,10 @@ fn line_of_number(
 }
 
 /// How many lines are listed: as many as the greatest number of a line on a segment, and one.
+#[tactic(auto, using(crate::proofs::Lists::lines_more, crate::proofs::Lists::lines_done))]
 fn lines_listed(graph: &LineGraph) -> u64
-    ensures value { result ≡ lines_listed graph.now.lines }
+    requires { IsConsistent graph.now }
+    ensures { result ≡ lines_listed graph.now.lines }
 {
     let mut listed = 0;
     for s in 0..graph.segs() {

@@ -4,7 +4,7 @@ ghost use Rattle.std.specs.Prelude.{◌≡◌, ◌<◌, length, map, IfOk};
 ghost use Rattle.serde_json.specs.Data.{Data, object};
 ghost use Rattle.serde_json.specs.View.{view};
 ghost use Rattle.hex.specs.Hex.{encode_lower};
-ghost use Rattle.graph_json.specs.Written.{feature_data, point_data, node_data, node_properties, segment_data, segment_properties, line_object, list_data};
+ghost use Rattle.graph_json.specs.Written.{feature_data, point_data, node_data, node_properties, segment_data, segment_properties, line_object, list_data, point_at};
 
 use graph_core::{Join, LineGraph, NodeKind};
 use map_base::{LineId, NodeId, Point, SegId};
@@ -127,6 +127,17 @@ pub(crate) fn node(
     feature(alloc, "Point", place, properties)
 }
 
+/// Where a node lies, the origin where there is no such node.
+fn place_of(graph: &LineGraph, n: NodeId) -> Point
+    ensures { result ≡ point_at graph.now.places n.0 }
+{
+    if n.0 < graph.nodes() {
+        graph.place(n)
+    } else {
+        Point { x: 0, y: 0 }
+    }
+}
+
 /// The properties of a segment.
 fn properties_of_segment(
     alloc: Global,
@@ -146,8 +157,8 @@ pub(crate) fn segment(alloc: Global, graph: &LineGraph, s: SegId) -> Result<Valu
     ensures { IfOk result (λ v. view v ≡ segment_data graph.now s.0) }
 {
     let (lower, upper) = graph.ends(s);
-    let start = coordinates(alloc, graph.place(lower))?;
-    let end = coordinates(alloc, graph.place(upper))?;
+    let start = coordinates(alloc, place_of(graph, lower))?;
+    let end = coordinates(alloc, place_of(graph, upper))?;
     let places = json!(in alloc; [start, end])?;
     let properties = properties_of_segment(alloc, (lower, upper), graph.lines(s))?;
     feature(alloc, "LineString", places, properties)

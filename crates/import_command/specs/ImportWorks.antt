@@ -7,7 +7,8 @@ use Rattle.graph_maps.specs.Making.{MapBytes, made_on}
 use Rattle.graph_maps.specs.Keeping.{left_on}
 use Rattle.graph_maps.specs.Promises.{IsMadeOn}
 use Rattle.graph_maps.specs.Subjects.{told_by}
-use Rattle.map_commands.specs.MapWorks.{made_at, map_outputs}
+use Rattle.map_commands.specs.MapWorks.{map_outputs}
+use Rattle.map_faults.specs.declared.fault.MakeFault.{MakeFault}
 use Rattle.command_run.specs.declared.output.Output.{Output}
 use Rattle.command_run.specs.Told.{IsRun}
 use Rattle.command_run.specs.Work.{Work, ends, ◌>>=◌}
@@ -19,7 +20,7 @@ use Rattle.run_status.specs.declared.input.Input.TheVariants as input
 use Rattle.run_status.specs.declared.graph_why.GraphWhy.TheVariants as why
 use Rattle.run_status.specs.declared.refusal.Refusal.{Refusal}
 use Rattle.run_status.specs.declared.refusal.Refusal.TheVariants as refused
-use Rattle.run_status.specs.Refusals.{graph_given}
+use Rattle.run_status.specs.Refusals.{graph_given, of_make}
 
 -- the graph that a graph file gives, or why it gives none; it has to be there
 abbrev pub graph_in : Option (List ℕ) → Result Imported Refusal
@@ -32,16 +33,27 @@ graph_work = do
   file ← file_work input.Graph
   ends (graph_in file)
 
--- the settings, and the graph of a file
-abbrev pub read_work : Chosen → Work Input Refusal (MapSettings × Imported)
-read_work chosen = do
-  all ← settings_by chosen.defaults chosen.settings
+-- these settings, and the graph of a file
+abbrev pub with_graph : MapSettings → Work Input Refusal (MapSettings × Imported)
+with_graph all = do
   read ← graph_work
   ends (Ok (all, read))
 
+-- the settings, and the graph of a file
+abbrev pub read_work : Chosen → Work Input Refusal (MapSettings × Imported)
+read_work chosen = do
+  all ← settings_by chosen.defaults chosen.sets chosen.settings
+  with_graph all
+
+-- the files of a map that is made, or why there is none
+abbrev pub map_at : MapPaths → Result MapBytes MakeFault → Result (List Output) Refusal
+map_at paths (Ok made) = Ok (map_outputs paths made)
+map_at paths (Err fault) = Err (of_make fault)
+
 -- the map of a graph that was read, by these settings
 abbrev pub imported_at : MapPaths → MapSettings × Imported → Result (List Output) Refusal
-imported_at paths both = made_at paths (made_on (told_by both.1.names both.1.importance) both.0.settings both.0.method both.1.graph)
+imported_at paths both =
+    map_at paths (made_on (told_by both.1.names both.1.importance) both.0.settings both.0.method both.1.graph)
 
 -- `import`: the settings come first, then the graph file, and the map of it is made, and its certificate
 abbrev pub import_work : Chosen → MapPaths → Work Input Refusal (List Output)

@@ -94,6 +94,7 @@ answer_caused (Some asked) told files_rose sinks_rose answer (result, comes, kee
     by_result (Err (refused.Limit limit)) comes = read
     by_result (Err (refused.Refuted item)) comes = read
     by_result (Err (refused.BadSettings why)) comes = read
+    by_result (Err (refused.BadGraph why)) comes = read
     by_result (Err (refused.BadEdit line)) comes = read
     by_result (Err (refused.Missing input)) comes = read
     by_result (Err (refused.ReadFault input)) comes = (comes.0, (asked, input, refl, refl, (comes.1.seen, comes.1.runs)))
