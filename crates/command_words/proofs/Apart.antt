@@ -45,7 +45,7 @@ two_apart None = tt
 two_apart (Some paths) = apart_at paths
 
 -- a page that is taken beside them has a path of its own
-page_apart_at : (page : Option (List ℕ)) (paths : MapPaths) → bytes_eq paths.picture paths.certificate ≡ false → IfSome (page_apart page paths) AreNewApart
+page_apart_at : (html : Option (List ℕ)) (paths : MapPaths) → bytes_eq paths.picture paths.certificate ≡ false → IfSome (page_apart html paths) AreNewApart
 page_apart_at None paths two = (two, tt)
 page_apart_at (Some path) paths two = by_tests (bytes_eq path paths.picture) (bytes_eq path paths.certificate) refl refl
   where
@@ -55,9 +55,9 @@ page_apart_at (Some path) paths two = by_tests (bytes_eq path paths.picture) (by
     by_tests false true a b = tt
     by_tests false false a b = (two, (a, b))
 
-new_apart : (page : Option (List ℕ)) (paths : Option MapPaths) → IfSome paths (λ two. bytes_eq two.picture two.certificate ≡ false) → IfSome (paths >>= page_apart page) AreNewApart
-new_apart page None two = tt
-new_apart page (Some paths) two = page_apart_at page paths two
+new_apart : (html : Option (List ℕ)) (paths : Option MapPaths) → IfSome paths (λ two. bytes_eq two.picture two.certificate ≡ false) → IfSome (paths >>= page_apart html) AreNewApart
+new_apart html None two = tt
+new_apart html (Some paths) two = page_apart_at html paths two
 
 made_apart : (chosen : Chosen) (feed : Option (List ℕ)) (paths : Option NewPaths) → IfSome paths AreNewApart
     → AreApart (feed >>= (λ f. paths >>= (λ p. Some (make f p chosen))))

@@ -1,8 +1,8 @@
 //! The commands as `clap` reads them.
 
 ghost use Rattle.std.specs.Prelude.{◌≡◌, IfOk, codes, false};
-ghost use Rattle.clap.specs.Words.{app_of, new_app, rule_of};
-ghost use Rattle.command_words.specs.Program.{IsLocal, feed_app, file_option, graph_app, improve_app, map_app, moves_operand, new_map_app, octimap_alone, octimap_app, octimap_graphs, octimap_made, octimap_maps, operand, page_app, picture_app, plain_app, quiet_flag, session_app, set_option, trial_app, with_files, with_map, with_options, with_settings, export_app, import_app};
+ghost use Rattle.clap.specs.Words.{App, app_of, new_app, rule_of};
+ghost use Rattle.command_words.specs.Program.{IsLocal, feed_app, file_option, graph_app, improve_app, map_app, moves_operand, new_map_app, octimap_alone, octimap_app, octimap_graphs, octimap_made, octimap_maps, operand, page_app, picture_app, plain_app, quiet_flag, session_app, set_option, trial_app, with_command, with_files, with_map, with_options, with_settings, export_app, import_app};
 
 use crate::help;
 use clap::builder::ValueParser;
@@ -14,12 +14,9 @@ pub(crate) fn program<'a>(alloc: Global) -> Result<Command<'a>, AllocError>
     ensures { IfOk result (λ program. app_of program ≡ octimap_app) }
 {
     let program = over_graphs(alloc)?;
-    let stations = stations(alloc)?;
-    let program = program.subcommand(stations)?;
-    let page = page(alloc)?;
-    let program = program.subcommand(page)?;
-    let trial = trial(alloc)?;
-    program.subcommand(trial)
+    let program = with_command(program, stations(alloc))?;
+    let program = with_command(program, page(alloc))?;
+    with_command(program, trial(alloc))
 }
 
 /// The program with the commands that work on feeds with settings, and on graph files.
@@ -27,12 +24,9 @@ fn over_graphs<'a>(alloc: Global) -> Result<Command<'a>, AllocError>
     ensures { IfOk result (λ program. app_of program ≡ octimap_graphs) }
 {
     let program = over_maps(alloc)?;
-    let graph = graph(alloc)?;
-    let program = program.subcommand(graph)?;
-    let export = export(alloc)?;
-    let program = program.subcommand(export)?;
-    let import = import(alloc)?;
-    program.subcommand(import)
+    let program = with_command(program, graph(alloc))?;
+    let program = with_command(program, export(alloc))?;
+    with_command(program, import(alloc))
 }
 
 /// The program with the commands that make maps, check them and draw them.
@@ -40,14 +34,10 @@ fn over_maps<'a>(alloc: Global) -> Result<Command<'a>, AllocError>
     ensures { IfOk result (λ program. app_of program ≡ octimap_maps) }
 {
     let program = made(alloc)?;
-    let check = check(alloc)?;
-    let program = program.subcommand(check)?;
-    let labels = labels(alloc)?;
-    let program = program.subcommand(labels)?;
-    let geo = geo(alloc)?;
-    let program = program.subcommand(geo)?;
-    let session = session(alloc)?;
-    program.subcommand(session)
+    let program = with_command(program, check(alloc))?;
+    let program = with_command(program, labels(alloc))?;
+    let program = with_command(program, geo(alloc))?;
+    with_command(program, session(alloc))
 }
 
 /// The program with the commands that make maps of feeds.
@@ -55,12 +45,23 @@ fn made<'a>(alloc: Global) -> Result<Command<'a>, AllocError>
     ensures { IfOk result (λ program. app_of program ≡ octimap_made) }
 {
     let program = alone(alloc)?;
-    let map = map(alloc)?;
-    let program = program.subcommand(map)?;
-    let make = make(alloc)?;
-    let program = program.subcommand(make)?;
-    let improve = improve(alloc)?;
-    program.subcommand(improve)
+    let program = with_command(program, map(alloc))?;
+    let program = with_command(program, make(alloc))?;
+    with_command(program, improve(alloc))
+}
+
+/// The program with a command more, where there is memory for that.
+fn with_command<'a>(
+    program: Command<'a>,
+    command: Result<Command<'a>, AllocError>,
+) -> Result<Command<'a>, AllocError>
+    ensures { (before added : App) → app_of program.entry ≡ before → IfOk command.entry (λ c. app_of c ≡ added) → IfOk command.entry IsLocal
+        → IfOk result (λ r. app_of r ≡ with_command before added) }
+{
+    match command {
+        Ok(command) => program.subcommand(command),
+        Err(error) => Err(error),
+    }
 }
 
 /// The program before its commands.

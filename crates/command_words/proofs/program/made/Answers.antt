@@ -1,12 +1,10 @@
-use Rattle.std.proofs.lemmas.Result.{IfOk-weaker}
 use Rattle.std.proofs.Common.{codes}
-use Rattle.command_words.specs.Program.{improve_app, new_map_app, octimap_alone, octimap_made}
-use Rattle.command_words.proofs.Building.{added}
+use Rattle.command_words.specs.Program.{improve_app, new_map_app, octimap_alone, octimap_made, with_command}
 use Rattle.command_words.proofs.program.made.Goals as goal
 
 pub returns : goal.returns
 unfolding octimap_made
 returns c =
-    let one = added _ _ _ octimap_alone (new_map_app (codes "map")) c.in_ok-subcommand.ensures c.in_ok-map.ensures.local c.in_ok-alone.ensures c.in_ok-map.ensures.app in
-    let two = added _ _ _ _ (new_map_app (codes "make")) c.in_ok-subcommand-2.ensures c.in_ok-make.ensures.local one c.in_ok-make.ensures.app in
-    IfOk-weaker c.subcommand-3.result _ _ (λ program adds. added _ _ program _ improve_app adds c.in_ok-improve.ensures.local two c.in_ok-improve.ensures.app) c.subcommand-3.ensures
+    let one = c.in_ok-program-2.ensures octimap_alone (new_map_app (codes "map")) c.in_ok-program.ensures c.map.ensures.app c.map.ensures.local in
+    let two = c.in_ok-program-3.ensures (with_command octimap_alone (new_map_app (codes "map"))) (new_map_app (codes "make")) one c.make.ensures.app c.make.ensures.local in
+    c.with_command-3.ensures (with_command (with_command octimap_alone (new_map_app (codes "map"))) (new_map_app (codes "make"))) improve_app two c.improve.ensures.app c.improve.ensures.local
