@@ -96,8 +96,8 @@ pub certificate_given : (loaded : Loaded) (graph : GraphParts) (claim : Claim) (
     → claim ≡ loaded.method.claim → file ≡ Some bytes
     → HasCause (checked_text loaded.tables loaded.settings claim graph (certificate_in bytes)) fault → result ≡ Err (of_check fault)
     → Gives checked_bytes result (certificate_checked loaded graph file)
-certificate_given loaded graph claim bytes file fault result same is refuses ends =
-    subst (λ (r : Result Checked Refusal). Gives checked_bytes r (certificate_checked loaded graph file)) (sym ends)
+certificate_given loaded graph claim bytes file fault result same is refuses came =
+    subst (λ (r : Result Checked Refusal). Gives checked_bytes r (certificate_checked loaded graph file)) (sym came)
     (subst (λ (f : Option (List ℕ)). Gives {A = Checked} checked_bytes (Err (of_check fault)) (certificate_checked loaded graph f)) (sym is)
     (by_fault fault (subst (λ (c : Claim). HasCause (checked_text loaded.tables loaded.settings c graph (certificate_in bytes)) fault) same refuses)))
   where

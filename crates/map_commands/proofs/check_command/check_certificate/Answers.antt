@@ -9,7 +9,7 @@ use Rattle.map_commands.proofs.check_command.check_certificate.Goals as goal
 
 pub returns-in_err-check_on_graph-clause-given : goal.returns-in_err-check_on_graph-clause-given
 returns-in_err-check_on_graph-clause-given c =
-    let refused = err_from_is_err_and c.from_residual.result c.from_residual.ensures in
+    let refused = err_from_is_err_and c.from_residual.result c.from_residual.ensures.1 in
     let loaded = c.args.loaded.now in
     certificate_given loaded c.args.graph.now c.claim-claim.result c.in-Some.bytes.items (option_map (λ (v : Vec ℕ Global). v.items) c.args.bytes)
     c.in_err-check_on_graph.field-0.0 c.from_residual.result c.claim-claim.ensures (ap (option_map (λ (v : Vec ℕ Global). v.items)) c.in-Some.is)
