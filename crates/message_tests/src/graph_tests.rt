@@ -9,7 +9,7 @@ fn a_bad_graph_file_is_told_with_its_entry(rt: HostRuntime) -> Result<(), Fail> 
     let cases = [
         (
             "{",
-            "octimap: \"bad.json\" is no JSON: EOF while parsing an object at line 1 column 1\n",
+            "octimap: \"bad.json\" is no JSON: EOF while parsing at line 1 column 1\n",
         ),
         (
             "{}",
