@@ -119,7 +119,7 @@ pub(crate) fn clear(costs: &mut [SlotCost])
     }
 }
 
-/// Adds a charge to its slot, if there is such a slot. Answers the sum over the slots after it.
+/// Adds a charge to its slot, if there is such a slot and the charge is not 0. Answers the sum over the slots after it.
 fn add(costs: &mut [SlotCost], charge: Charge, least: i128) -> i128
     requires few { length costs.old ≤ 8000000 }
     requires small { (k : ℕ) (x : Bool) → k < length costs.old → unsigned_abs (cost_at costs.old k x) ≤ 2 ^ 61 }
@@ -128,6 +128,9 @@ fn add(costs: &mut [SlotCost], charge: Charge, least: i128) -> i128
     ensures slots { (k : ℕ) → k < length costs.old → (x : Bool) → cost_at costs.new k x ≡ cost_at costs.old k x +ℤ charge_on charge k x }
     ensures least { result ≡ least_sum costs.new }
 {
+    if charge.amount == 0 {
+        return least;
+    }
     let k = charge.slot as usize;
     if k >= costs.len() {
         return least;
