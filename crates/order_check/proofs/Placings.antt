@@ -143,11 +143,16 @@ last_later z w rest a =
     let here : length (w ∷ rest) - 1 ≡ length rest = omega arith in
     ap (λ i. get_or (z ∷ w ∷ rest) i a) more ∙ ap (λ i. get_or (w ∷ rest) i a) (sym here)
 
+last_single : (z a : LineId) → last_or (z ∷ []) a ≡ z
+last_single z a =
+    let first : length (z ∷ []) - 1 ≡ 0 = omega arith in
+    ap (λ i. get_or (z ∷ []) i a) first
+
 never_beside : (xs zs : List LineId) (a x y : LineId) → is_placed zs x ≡ false → is_placed xs y ≡ false → x.0 ≢ (last_or xs a).0 → are_neighbours (xs ++ zs) x y ≡ false
 never_beside [] zs a x y none none_too differ = no_neighbour zs x y none
 never_beside (z ∷ []) [] a x y none none_too differ = refl
 never_beside (z ∷ []) (w ∷ zs) a x y none none_too differ =
-    let one : (z.0 == x.0) ≡ false = ne_eqb z.0 x.0 (λ e. differ (sym e)) in
+    let one : (z.0 == x.0) ≡ false = ne_eqb z.0 x.0 (λ e. differ (sym e ∙ ap (λ (l : LineId). l.0) (sym (last_single z a)))) in
     let two = or_parts (z.0 == y.0) false none_too in
     ap (λ b. ((b && (w.0 == y.0)) || ((z.0 == y.0) && (w.0 == x.0))) || are_neighbours (w ∷ zs) x y) one
     ∙ ap (λ b. (b && (w.0 == x.0)) || are_neighbours (w ∷ zs) x y) two.0
@@ -315,7 +320,7 @@ other_is lines xs a y few on free = elim (found_one (is_unplaced (xs ++ a ∷ []
 -- the line that is placed last is placed, where any is
 last_placed_on : (xs : List LineId) (a y : LineId) → is_placed xs y ≡ true → is_placed xs (last_or xs a) ≡ true
 last_placed_on [] a y on = absurd (true≢false (sym on))
-last_placed_on (z ∷ []) a y on = ap (λ b. b || false) (eq-eqb z.0 z.0 refl)
+last_placed_on (z ∷ []) a y on = ap (is_placed (z ∷ [])) (last_single z a) ∙ ap (λ b. b || false) (eq-eqb z.0 z.0 refl)
 last_placed_on (z ∷ w ∷ rest) a y on =
     ap (is_placed (z ∷ w ∷ rest)) (last_later z w rest a)
     ∙ ap (λ b. (z.0 == (last_or (w ∷ rest) a).0) || b) (last_placed_on (w ∷ rest) a w (ap (λ b. b || is_placed rest w) (eq-eqb w.0 w.0 refl)))
@@ -331,7 +336,7 @@ pub record IsOrderKept (before now : List LineId) (x y : LineId) : Type 0 where
 
 module _ (lines xs zs : List LineId) (a x y : LineId) (next : IsPlacedBehind lines xs a zs) (ok : ArePlacedLines lines xs) (on : Contains lines a) (free : is_placed xs a ≡ false)
     (first_on : Contains lines x) (second_on : Contains lines y) (differ : x.0 ≢ y.0) where
-  with_a : List LineId
+  abbrev with_a : List LineId
   with_a = xs ++ a ∷ []
 
   apart_a : AreApart with_a
@@ -377,10 +382,10 @@ module _ (lines xs zs : List LineId) (a x y : LineId) (next : IsPlacedBehind lin
 
   module _ (lasts : (is_either x y (last_or xs a) && (is_left lines xs (other_than x y (last_or xs a)) && true)) ≡ false)
       (lefts : (is_either x y (left_or lines xs a) && (is_left lines xs (other_than x y (left_or lines xs a)) && not (is_either x y (last_or xs a)))) ≡ false) where
-    now : List LineId
+    abbrev now : List LineId
     now = xs ++ zs
 
-    few : List LineId → Option Bool
+    abbrev few : List LineId → Option Bool
     few l = cond (length l + 2 == length lines) (Some true) None
 
     -- where both are left, none is the last that is placed, and so none is the other one that is left

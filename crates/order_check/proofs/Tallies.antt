@@ -28,7 +28,7 @@ use Rattle.order_check.specs.Counting.{added_by, decided_of, shifted, least_sum,
 use Rattle.order_check.proofs.SignedSums.{sums_by_place}
 use Rattle.order_check.proofs.Charging.{decided_is}
 use Rattle.order_check.proofs.Closing.{table_fits, table_few}
-use Rattle.order_check.proofs.Counting.{beside_by, decided_by, decided_beside, terms_small, sums_parted, decided_parts, decided_table, small_decided, changed_are, picked_of_spot}
+use Rattle.order_check.proofs.Counting.{counted_by, beside_by, decided_by, decided_beside, terms_small, sums_parted, decided_parts, decided_table, small_decided, changed_are, picked_of_spot}
 use Rattle.order_check.proofs.Leasts.{same_least}
 use Rattle.order_check.proofs.SpotLists.{listed_at, listed_none}
 use Rattle.order_check.proofs.Placings.{same_charges}
@@ -41,7 +41,7 @@ those_decided picks asked some placed those =
     let table : List PartTerm = asked.table.now.terms.items in
     let whole = those.sums (λ t. pos (decided_of segs placed t)) in
     let same = int_sum_equal (λ (t : PartTerm). cond (picks t.term) (pos (decided_of segs placed t)) (pos 0)) (λ (t : PartTerm). pos (decided_by picks segs placed t)) table (λ t. by_test t (picks t.term)) in
-    omega (arith, ints, whole, same, int_sum_pos (decided_of segs placed) some, int_sum_pos (decided_by picks segs placed) table)
+    omega (arith, ints, whole ∙ same, int_sum_pos (decided_of segs placed) some, int_sum_pos (decided_by picks segs placed) table)
   where
     by_test : (t : PartTerm) (b : Bool) → cond b (pos (decided_of asked.problem.now.segs placed t)) (pos 0) ≡ pos (cond b (decided_of asked.problem.now.segs placed t) 0)
     by_test t true = refl
@@ -216,7 +216,9 @@ module _ (s : SegId) (a : LineId) (asked : Asked) (placed after : List (List Lin
     slots = λ k under x.
         (let parts = sums_parted changed segs placed table k x in
         let parts_after = sums_parted changed segs after table k x in
-        omega (arith, ints, tally.slots k under x, sums_same k x, parts, parts_after, those.sums (added_by segs placed k x), those.sums (added_by segs after k x)));
+        let picked : int_sum (added_by segs placed k x) some ≡ int_sum (counted_by changed segs placed k x) table = those.sums (added_by segs placed k x) in
+        let picked_after : int_sum (added_by segs after k x) some ≡ int_sum (counted_by changed segs after k x) table = those.sums (added_by segs after k x) in
+        omega (arith, ints, tally.slots k under x, sums_same k x, parts, parts_after, picked, picked_after));
     least = tally.least;
   }
 
@@ -227,7 +229,9 @@ module _ (s : SegId) (a : LineId) (asked : Asked) (placed after : List (List Lin
     slots = λ k under x.
         (let parts = sums_parted changed segs placed table k x in
         let parts_after = sums_parted changed segs after table k x in
-        omega (arith, ints, tally.slots k under x, sums_same k x, parts, parts_after, those.sums (added_by segs placed k x), those.sums (added_by segs after k x)));
+        let picked : int_sum (added_by segs placed k x) some ≡ int_sum (counted_by changed segs placed k x) table = those.sums (added_by segs placed k x) in
+        let picked_after : int_sum (added_by segs after k x) some ≡ int_sum (counted_by changed segs after k x) table = those.sums (added_by segs after k x) in
+        omega (arith, ints, tally.slots k under x, sums_same k x, parts, parts_after, picked, picked_after));
     least = tally.least;
   }
 
