@@ -16,7 +16,7 @@ use Rattle.order_model.specs.Prefixes.{is_left}
 use Rattle.order_model.proofs.PlaceLemmas.{line_is}
 use Rattle.order_bound.specs.Decided.{decided_cost, decided_sum}
 use Rattle.whole_sums.specs.Sums.{int_sum}
-use Rattle.whole_sums.proofs.Sums.{int_sum_equal, int_sum_both, int_sum_pos}
+use Rattle.whole_sums.proofs.Sums.{int_sum-append, int_sum_equal, int_sum_both, int_sum_pos}
 use Rattle.order_check.specs.declared.slot.PartTerm.{PartTerm}
 use Rattle.order_check.specs.declared.slot.Charge.{Charge}
 use Rattle.order_check.specs.declared.placing.Placing.{Placing}
@@ -178,9 +178,11 @@ in_picks g none p lines placed t =
     let last : Bool = is_picked_at (last_pick p) lines placed t in
     let left : Bool = is_picked_at (left_pick p) lines placed t in
     let e : Bool = is_on p.seg.0 t in
-    let first = of_either g none own (last || left) (none_twice e (is_of_line p.line t) (is_of_line p.last t) (is_of_line p.left t) (is_apart t)
+    let first : g (changes p lines placed t) ≡ g (is_picked_at (own_pick p) lines placed t) +ℤ g (is_picked_at (last_pick p) lines placed t || is_picked_at (left_pick p) lines placed t) =
+    of_either g none own (last || left) (none_twice e (is_of_line p.line t) (is_of_line p.last t) (is_of_line p.left t) (is_apart t)
     (is_left lines placed (beside_line p.line t) && true) (is_left lines placed (beside_line p.last t) && true) (is_left lines placed (beside_line p.left t))) in
-    let second = of_either g none last left (last_or_left e (is_of_line p.last t) (is_of_line p.left t) (is_apart t)
+    let second : g (is_picked_at (last_pick p) lines placed t || is_picked_at (left_pick p) lines placed t) ≡ g (is_picked_at (last_pick p) lines placed t) +ℤ g (is_picked_at (left_pick p) lines placed t) =
+    of_either g none last left (last_or_left e (is_of_line p.last t) (is_of_line p.left t) (is_apart t)
     (is_left lines placed (beside_line p.last t) && true) (is_left lines placed (beside_line p.left t))) in
     omega (arith, ints, first, second)
 
@@ -192,16 +194,12 @@ filtered_sum f p (x ∷ xs) = by_test (p x) (int_sum f (filter p xs)) (int_sum (
     by_test true u v rest is = ap (λ w. f x +ℤ w) (is ∙ rest)
     by_test false u v rest is = omega (arith, ints, rest, is)
 
-sum_append : (f : PartTerm → ℤ) (xs ys : List PartTerm) → int_sum f (xs ++ ys) ≡ int_sum f xs +ℤ int_sum f ys
-sum_append f [] ys = omega (arith, ints)
-sum_append f (x ∷ xs) ys = omega (arith, ints, sum_append f xs ys)
-
 pub changed_sum : (f : PartTerm → ℤ) (p : Placing) (lines placed : List LineId) (table : List PartTerm)
     → int_sum f (changed_terms p lines placed table) ≡ int_sum (λ (t : PartTerm). cond (changes p lines placed t.term) (f t) (pos 0)) table
 changed_sum f p lines placed table =
     let part : Pick → PartTerm → ℤ = λ c t. cond (is_picked_at c lines placed t.term) (f t) (pos 0) in
-    sum_append f (picked_terms (own_pick p) lines placed table ++ picked_terms (last_pick p) lines placed table) (picked_terms (left_pick p) lines placed table)
-    ∙ ap (λ v. v +ℤ int_sum f (picked_terms (left_pick p) lines placed table)) (sum_append f (picked_terms (own_pick p) lines placed table) (picked_terms (last_pick p) lines placed table))
+    int_sum-append f (picked_terms (own_pick p) lines placed table ++ picked_terms (last_pick p) lines placed table) (picked_terms (left_pick p) lines placed table)
+    ∙ ap (λ v. v +ℤ int_sum f (picked_terms (left_pick p) lines placed table)) (int_sum-append f (picked_terms (own_pick p) lines placed table) (picked_terms (last_pick p) lines placed table))
     ∙ ap (λ v. (v +ℤ int_sum f (picked_terms (last_pick p) lines placed table)) +ℤ int_sum f (picked_terms (left_pick p) lines placed table))
     (filtered_sum f (λ (t : PartTerm). is_picked_at (own_pick p) lines placed t.term) table)
     ∙ ap (λ v. (int_sum (part (own_pick p)) table +ℤ v) +ℤ int_sum f (picked_terms (left_pick p) lines placed table))

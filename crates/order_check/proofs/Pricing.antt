@@ -22,7 +22,7 @@ use Rattle.order_check.specs.Counting.{added_by}
 use Rattle.order_check.specs.Prices.{may_have, AreNumbersOf, IsPlaceOf}
 use Rattle.order_check.specs.Pricing.{priced_by, term_of, priced_if, price_on, ArePriced, AreSmallPrices}
 use Rattle.order_check.proofs.SignedSums.{sum_more}
-use Rattle.order_check.proofs.Charging.{small_charges, small_charged}
+use Rattle.order_check.proofs.Charging.{small_charged}
 use Rattle.order_check.proofs.Counting.{terms_small}
 use Rattle.order_check.proofs.PriceLemmas.{count_read, number_read, rising_all, spread_none, spread_more}
 

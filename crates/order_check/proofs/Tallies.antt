@@ -58,7 +58,7 @@ less_small : (a b c : ℤ) (m n : ℕ) → a +ℤ b ≡ c → unsigned_abs b ≤
 less_small a b c m n e p q = omega (arith, ints, e, p, q)
 
 pub without_small : (some : List PartTerm) (asked : Asked) (placed : List (List LineId)) (sums : Sums) (costs : List SlotCost) → IsAsked asked → ArePicked asked some
-    → IsTallyWithout some asked placed sums costs → AreSmallCosts costs
+    → IsTallyWithout some asked placed sums costs → (k : ℕ) (x : Bool) → k < length costs → unsigned_abs (cost_at costs k x) ≤ 8192000000000
 without_small some asked placed sums costs ok picked tally k x below =
     let segs : List (List LineId) = asked.problem.now.segs in
     let table : List PartTerm = asked.table.now.terms.items in
