@@ -14,8 +14,8 @@ returns-in-None c =
     picked_nowhere c.args.asked.now c.args.pick (lines_on c.args.asked.now.problem.now.segs c.args.pick.spot.seg) (lines_on c.args.prefix.now.placed c.args.pick.spot.seg) c.args.list.now.items
     c.requires.asked (sym c.place_of.ensures.place ∙ c.in-None.is)
 
-pub returns-in-Some : goal.returns-in-Some
-returns-in-Some c =
+pub returns-in_ok-add_picked-in-Some : goal.returns-in_ok-add_picked-in-Some
+returns-in_ok-add_picked-in-Some c =
     let asked : Asked = c.args.asked.now in
     let within : c.in-Some.k < length asked.table.now.spots.spots.keys =
     subst (λ (o : Option ℕ). IfSome o (λ n. n < length asked.table.now.spots.spots.keys)) c.in-Some.is c.place_of.ensures.within in
@@ -24,4 +24,4 @@ returns-in-Some c =
     spot_list asked c.requires.asked c.args.pick.spot c.in-Some.k c.as_slice-terms.result.now (sym c.place_of.ensures.place ∙ c.in-Some.is)
     (c.as_slice-terms.ensures.value ∙ ap (λ v. v.items) c.index.ensures ∙ sym (get_or-map (λ v. v.items) asked.table.now.spots.lists.items c.in-Some.k c.index.result.now [] below)) in
     picked_at_spot asked c.args.pick (lines_on asked.problem.now.segs c.args.pick.spot.seg) (lines_on c.args.prefix.now.placed c.args.pick.spot.seg) c.args.list.now.items c.add_picked.new.list.items
-    c.as_slice-terms.result.now list c.in_ok-add_picked.ensures
+    c.as_slice-terms.result.now list c.in_ok-add_picked-in-Some.ensures
