@@ -17,12 +17,13 @@ ghost use Rattle.map_engine.specs.Making.{make_outcome};
 ghost use Rattle.exchange_laws.specs.Exchanged.{feed_again, made_of, AreAlike, AreColoured};
 
 /// Of what the file of a line graph is read as the map is made that is made of the graph, with the same certificate, or
-/// none for the same cause. Its stations have other numbers, and lines above the last that stands on a segment are gone;
-/// no map depends on either.
+/// none for the same cause, under all settings that agree in weights, cell and budget. Its stations have other numbers,
+/// and lines above the last that stands on a segment are gone; no map depends on either.
 pub fn a_graph_that_is_read_again_makes_the_same_map()
-    ensures { (graph : GraphParts) (names : Names) (importance : List ℕ) (choices : Choices) (method : MethodChoices)
-        → IsConsistent graph → HaveImportance importance graph.lines → All AreLight choices.weights
-        → made_of choices method (read_again graph names importance)
+    ensures { (graph : GraphParts) (names : Names) (importance : List ℕ) (choices other : Choices)
+        (method : MethodChoices) → IsConsistent graph → HaveImportance importance graph.lines
+        → All AreLight choices.weights → AreAlike choices other
+        → made_of other method (read_again graph names importance)
         ≡ made_on (told_by names importance) choices method graph }
 {}
 
