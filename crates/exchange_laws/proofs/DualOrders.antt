@@ -138,7 +138,7 @@ module _ (p : ProblemParts) (budget : ℕ) where
       after None tt settled (ascended q settled most prices now.incumbent now.branches)
       (ascent settled most prices now.incumbent now.branches h)
   walk (suc room) most settled prices now h =
-      after (Some (walked q room 200)) (walk room 200) settled
+      after (Some (walked q room 200)) (λ pairs begun progress k. walk room 200 pairs begun progress k) settled
       (ascended q settled most prices now.incumbent now.branches)
       (ascent settled most prices now.incumbent now.branches h)
 

@@ -1,5 +1,5 @@
 -- Of a graph that is read again the map is made that is made of the graph.
-use Rattle.std.proofs.Common.{◌≡◌, ◌∙◌, ap, refl, sym, subst, ℕ, ◌<◌, ◌≤◌, nat_le, Bool, true, false, cond, List, [], length, map, get_or, arith, absurd, inl, inr}
+use Rattle.std.proofs.Common.{◌≡◌, ◌∙◌, ap, refl, sym, subst, ℕ, ◌<◌, ◌≤◌, nat_le, Bool, true, false, cond, List, [], length, map, get_or, arith, inl, inr}
 use Rattle.std.specs.Prelude.{All, Result, Ok, Err}
 use Rattle.std.specs.List.{AllByRecursion as ByRecursion, range_with_len}
 use Rattle.std.proofs.lemmas.Bool.{cases_lt, leb-true}

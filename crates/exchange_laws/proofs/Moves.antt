@@ -68,7 +68,7 @@ module _ (g : GraphParts) (kinds : List NodeKind) (count : length kinds ≡ leng
       → first_of_node h first walks n ds ≡ first_of_node g first walks n ds
   same_of_node first walks n [] = refl
   same_of_node first walks n (d ∷ ds) =
-      ap₂ or_next
+      ap₂ (λ (a b : Option (List PlainWalk)). or_next a b)
       (ap (if_lighter h first walks) (same_attempt (board_bounds first) walks n d)
       ∙ same_lighter first walks (attempt g (board_bounds first) walks n d))
       (same_of_node first walks n ds)
@@ -77,7 +77,8 @@ module _ (g : GraphParts) (kinds : List NodeKind) (count : length kinds ≡ leng
       → first_of_nodes h first walks ns ≡ first_of_nodes g first walks ns
   same_of_nodes first walks [] = refl
   same_of_nodes first walks (n ∷ ns) =
-      ap₂ or_next (same_of_node first walks n directions) (same_of_nodes first walks ns)
+      ap₂ (λ (a b : Option (List PlainWalk)). or_next a b)
+      (same_of_node first walks n directions) (same_of_nodes first walks ns)
 
   same_next : (first walks : List PlainWalk) → next_of h first walks ≡ next_of g first walks
   same_next first walks =
@@ -89,12 +90,13 @@ module _ (g : GraphParts) (kinds : List NodeKind) (count : length kinds ≡ leng
   same_moves first zero walks = refl
   same_moves first (suc most) walks =
       ap (after_move walks (λ new. moved_by h first most new)) (same_next first walks)
-      ∙ by (next_of g first walks)
+      ∙ by (next_of g first walks) (λ new. same_moves first most new)
     where
-      by : (o : Option (List PlainWalk)) → after_move walks (λ new. moved_by h first most new) o
-          ≡ after_move walks (λ new. moved_by g first most new) o
-      by None = refl
-      by (Some new) = ap one_more (same_moves first most new)
+      by : (o : Option (List PlainWalk))
+          → ((new : List PlainWalk) → moved_by h first most new ≡ moved_by g first most new)
+          → after_move walks (λ new. moved_by h first most new) o ≡ after_move walks (λ new. moved_by g first most new) o
+      by None later = refl
+      by (Some new) later = ap one_more (later new)
 
   -- the walks after moves
   pub same_walks : (moves : ℕ) (walks : List PlainWalk) → (improved h walks moves).walks ≡ (improved g walks moves).walks

@@ -1,5 +1,5 @@
 -- The line orders that a map has are orders of the lines of its segments.
-use Rattle.std.proofs.Common.{◌≡◌, ◌∙◌, ap, refl, sym, subst, ℕ, ◌+◌, ◌<◌, ◌≤◌, nat_le, Bool, true, false, cond, List, [], ◌∷◌, length, map, arith, absurd}
+use Rattle.std.proofs.Common.{◌≡◌, ◌∙◌, ap, refl, sym, subst, ℕ, ◌+◌, ◌<◌, ◌≤◌, nat_le, Bool, true, false, cond, List, [], ◌∷◌, length, map, arith}
 use Rattle.std.specs.Prelude.{All, Contains, Result, Ok, Err, sum_by}
 use Rattle.std.specs.List.{AllByRecursion as ByRecursion}
 use Rattle.std.proofs.lemmas.List.Elements.{All-from_recursion, All-weaker, recursion_from_All}
@@ -49,6 +49,9 @@ put segs (s ∷ part) (order ∷ lists) orders are all =
 
 module _ (p : ProblemParts) (fit : IsProblem p) (part : List SegId)
     (known : All (λ (s : SegId). s.0 < length p.segs) part) (rising : IsRisingPart part) where
+  same_result : (x y : PartResult) → ◌≡◌ {A = Result PartResult SearchFault} (Ok x) (Ok y) → x ≡ y
+  same_result x y e = cc
+
   -- the lists of a part, over any orders, are orders
   abbrev ArePut : PartResult → Type 0
   ArePut r = (orders : List (List LineId)) → AreOrders p.segs orders → AreOrders p.segs (with_lists part r.lists orders)
@@ -82,17 +85,12 @@ module _ (p : ProblemParts) (fit : IsProblem p) (part : List SegId)
       by : (b : Bool) → cond b (Ok own) (Err (search.Spent (budget + 1))) ≡ Ok r → ArePut r
       by true e = let same : own ≡ r = cc in subst ArePut same put
       by false e = absurd cc
-  of_dual Bound budget own r put is = by own.complete is
+  of_dual Bound budget own r put is =
+      subst ArePut (same_result (cond own.complete own (record own { branches = budget })) r is) (by own.complete)
     where
-      ok_of : PartResult → Result PartResult SearchFault
-      ok_of x = Ok x
-
-      by : (b : Bool) → ok_of (cond b own (record own { branches = budget })) ≡ Ok r → ArePut r
-      by true e = let same : own ≡ r = cc in subst ArePut same put
-      by false e =
-          let mine : PartResult = record own { branches = budget } in
-          let same : mine ≡ r = cc in
-          subst ArePut same put
+      by : (b : Bool) → ArePut (cond b own (record own { branches = budget }))
+      by true = put
+      by false = put
 
   of_outcome : (plan : SearchPlan) (r : PartResult) → part_outcome plan p part ≡ Ok r → ArePut r
   of_outcome plan r is = by (is_dual plan.search p part) is

@@ -1,5 +1,5 @@
 -- The picture of a graph that is read again is the one that it had.
-use Rattle.std.proofs.Common.{◌≡◌, ◌∙◌, ap, ap₂, refl, sym, subst, ℕ, zero, suc, ◌+◌, ◌<◌, List, [], ◌∷◌, ◌++◌, length, get_or, absurd}
+use Rattle.std.proofs.Common.{◌≡◌, ◌∙◌, ap, ap₂, refl, sym, subst, ℕ, zero, suc, ◌+◌, ◌<◌, List, [], ◌∷◌, ◌++◌, length, get_or}
 use Rattle.std.specs.List.{flat_map, range_with_len, AllByRecursion as ByRecursion}
 use Rattle.std.proofs.lemmas.Option.{unwrap_or-slice_get}
 use Rattle.map_base.specs.declared.ids.LineId.{LineId}
