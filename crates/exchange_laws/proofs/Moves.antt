@@ -1,8 +1,9 @@
 -- A graph whose nodes have other kinds, but as many of them, is drawn by the same walks.
-use Rattle.std.proofs.Common.{◌≡◌, ◌∙◌, ap, ap₂, refl, ℕ, zero, suc, Bool, List, [], ◌∷◌, length, map, Option, Some, None}
+use Rattle.std.proofs.Common.{◌≡◌, ◌∙◌, ap, ap₂, refl, ℕ, zero, suc, Bool, List, [], ◌∷◌, length, map, Option, Some, None, Result}
 use Rattle.std.specs.Prelude.{◌+◌, ◌&&◌, nat_lt, not, slice_set, if◌then◌else◌}
 use Rattle.std.specs.List.{list_any, range_with_len, sum_by}
 use Rattle.map_method.specs.declared.spread.Spread.{Spread}
+use Rattle.map_base.specs.declared.ids.SegId.{SegId}
 use Rattle.graph_core.specs.declared.parts.GraphParts.{GraphParts}
 use Rattle.graph_core.specs.declared.parts.NodeKind.{NodeKind}
 use Rattle.graph_core.specs.Round.{segments_at}
@@ -12,19 +13,60 @@ use Rattle.octi_grid.specs.Walks.{PlainWalk}
 use Rattle.octi_grid.specs.Legal.{legs_of}
 use Rattle.grid_board.specs.declared.bounds.Bounds.{Bounds}
 use Rattle.grid_board.specs.Boards.{contains}
+use Rattle.node_homes.specs.declared.placing.Placing.{Placing}
+use Rattle.node_homes.specs.Cells.{limit_of}
+use Rattle.node_homes.specs.Homes.{placing_at}
+use Rattle.node_homes.specs.Spreads.{spread_offsets}
 use Rattle.walk_search.specs.Routes.{directions}
-use Rattle.segment_router.specs.Routing.{route_outcome}
-use Rattle.segment_router.specs.Standing.{routed_again, standing}
+use Rattle.segment_router.specs.declared.attempts.Attempt.{Attempt}
+use Rattle.segment_router.specs.Orders.{routing_order}
+use Rattle.segment_router.specs.Routes.{after_route, begun, route_each, route_of, walks_of, with_route, Routed}
+use Rattle.segment_router.specs.Routing.{attempts_of, first_drawn, nothing_drawn, or_else, outcome_under, routes_at, route_outcome}
+use Rattle.segment_router.specs.Standing.{if_routed, routed_again, standing}
 use Rattle.drawing_weights.specs.Weights.{apart_weight, point_of, walks_weight, weight_of}
-use Rattle.octi_moves.specs.Moves.{after_move, attempt, board_bounds, first_of_node, first_of_nodes, if_lighter, improved, is_in_the_way, is_other_node, kept_walks, may_stand, moved, moved_by, moved_to, next_of, one_more, or_next, points_with, Moved}
+use Rattle.octi_moves.specs.Moves.{after_move, attempt, board_bounds, first_of_node, first_of_nodes, if_lighter, improved, is_in_the_way, is_other_node, kept_walks, may_stand, moved, moved_by, moved_to, next_of, one_more, or_next, points_with, taken_away, Moved}
 
 -- the graph, with these kinds of nodes
 abbrev pub with_kinds : List NodeKind → GraphParts → GraphParts
 with_kinds kinds g = record g { kinds = kinds }
 
-pub same_routes : (g : GraphParts) (kinds : List NodeKind) (cell : ℕ) (spread : Spread) (finest : ℕ)
-    → route_outcome (with_kinds kinds g) cell spread finest ≡ route_outcome g cell spread finest
-same_routes g kinds cell spread finest = refl
+module _ (g : GraphParts) (kinds : List NodeKind) where
+  abbrev other : GraphParts
+  other = with_kinds kinds g
+
+  -- segment after segment
+  same_each : (segs : List SegId) (r : Routed) → route_each other segs r ≡ route_each g segs r
+  same_each [] r = refl
+  same_each (s ∷ segs) r = by (route_of g r s) (λ w. same_each segs (with_route g r s w))
+    where
+      by : (o : Option PlainWalk)
+          → ((w : PlainWalk) → route_each other segs (with_route g r s w) ≡ route_each g segs (with_route g r s w))
+          → after_route s (λ w. route_each other segs (with_route other r s w)) o
+          ≡ after_route s (λ w. route_each g segs (with_route g r s w)) o
+      by None later = refl
+      by (Some w) later = later w
+
+  same_again : (segs : List SegId) (r : Routed) → routed_again other segs r ≡ routed_again g segs r
+  same_again segs r = ap (λ (o : Result Routed SegId). if_routed (walks_of o)) (same_each segs r)
+
+  module _ (cell : ℕ) where
+    same_attempted : (a : Attempt) → routes_at other cell a ≡ routes_at g cell a
+    same_attempted a =
+        let placing : Placing = placing_at g cell a.fineness (spread_offsets g.places a.percent) in
+        ap walks_of (same_each (routing_order g.lines) (begun g placing))
+
+    same_drawn : (before : Result (List PlainWalk) SegId) (attempts : List Attempt)
+        → first_drawn other cell before attempts ≡ first_drawn g cell before attempts
+    same_drawn before [] = refl
+    same_drawn before (a ∷ attempts) =
+        ap (or_else before)
+        (ap (λ (r : Result (List PlainWalk) SegId). first_drawn other cell r attempts) (same_attempted a)
+        ∙ same_drawn (routes_at g cell a) attempts)
+
+    pub same_routes : (spread : Spread) (finest : ℕ)
+        → route_outcome other cell spread finest ≡ route_outcome g cell spread finest
+    same_routes spread finest =
+        ap (outcome_under (limit_of g.places cell)) (same_drawn nothing_drawn (attempts_of spread finest))
 
 module _ (g : GraphParts) (kinds : List NodeKind) (count : length kinds ≡ length g.kinds) where
   abbrev h : GraphParts
@@ -48,7 +90,8 @@ module _ (g : GraphParts) (kinds : List NodeKind) (count : length kinds ≡ leng
   same_moved : (bounds : Bounds) (walks : List PlainWalk) (n : ℕ) (p : GridPoint)
       → moved_to h bounds walks n p ≡ moved_to g bounds walks n p
   same_moved bounds walks n p =
-      ap (λ (points : List GridPoint). routed_again g (segments_at n g.ends)
+      same_again g kinds (segments_at n g.ends) (taken_away h bounds walks n p)
+      ∙ ap (λ (points : List GridPoint). routed_again g (segments_at n g.ends)
       (standing bounds points (kept_walks g walks n))) (same_points walks n p)
 
   same_attempt : (bounds : Bounds) (walks : List PlainWalk) (n : ℕ) (d : Dir)

@@ -14,11 +14,7 @@ use transit_feed::Tables;
 
 /// The text that `export` writes of tables and settings: what is read of it makes the map that is made of the tables.
 /// The program has no call of it; it states the law of what real tables, settings and line graphs are.
-pub fn exported(
-    alloc: Global,
-    tables: &Tables,
-    settings: &Settings,
-) -> Result<Vec<u8>, LimitFault>
+pub fn exported(alloc: Global, tables: &Tables, settings: &Settings) -> Result<Vec<u8>, LimitFault>
     ensures exported { IfOk result (λ text. IsExported tables.now settings.now text.items) }
     ensures cause { IfErr result (λ fault. HasCause (graph_outcome settings.now.near tables.now) fault) }
 {
