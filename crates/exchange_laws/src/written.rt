@@ -18,8 +18,13 @@ pub fn exported(alloc: Global, tables: &Tables, settings: &Settings) -> Result<V
     ensures exported { IfOk result (λ text. IsExported tables.now settings.now text.items) }
     ensures cause { IfErr result (λ fault. HasCause (graph_outcome settings.now.near tables.now) fault) }
 {
+    // What is read of tables and settings tells their laws.
+    let _lines = tables.lines.len();
+    let _near = settings.near;
     let graph = build(alloc, tables, settings)?;
+    let _nodes = graph.nodes();
     let names = names_of(alloc, tables)?;
     let importance = importance_of(alloc, tables, settings)?;
-    Ok(write_graph(alloc, &graph, &names, &importance)?)
+    let text = write_graph(alloc, &graph, &names, &importance)?;
+    Ok(text)
 }
