@@ -1,6 +1,6 @@
 mod DualOrders
 mod Numbers
-mod Kinds
+mod NodeKinds
 mod Moves
 mod Terms
 mod Orders

@@ -47,7 +47,7 @@ use Rattle.graph_maps.specs.Solving.{solve_outcome, SolvedPart}
 use Rattle.graph_maps.specs.Subjects.{told_by, Subject}
 use Rattle.exchange_laws.specs.Exchanged.{made_of, AreAlike}
 use Rattle.exchange_laws.proofs.Certificates.{same_count, same_weighty}
-use Rattle.exchange_laws.proofs.Kinds.{count_again, same_kind, IsSameKind}
+use Rattle.exchange_laws.proofs.NodeKinds.{count_again, same_kind, IsSameKind}
 use Rattle.exchange_laws.proofs.Moves.{same_routes, same_walks, with_kinds}
 use Rattle.exchange_laws.proofs.Numbers.{AreBelow, each_listed, few_listed, importance_up_to, length_up_to, names_up_to, same_colour, same_importance, same_name}
 use Rattle.exchange_laws.proofs.Orders.{lifted_orders, orders_below}

@@ -18,7 +18,6 @@ use Rattle.node_homes.specs.Cells.{limit_of}
 use Rattle.node_homes.specs.Homes.{placing_at}
 use Rattle.node_homes.specs.Spreads.{spread_offsets}
 use Rattle.walk_search.specs.Routes.{directions}
-use Rattle.segment_router.specs.declared.attempts.Attempt.{Attempt}
 use Rattle.segment_router.specs.Orders.{routing_order}
 use Rattle.segment_router.specs.Routes.{after_route, begun, route_each, route_of, walks_of, with_route, Routed}
 use Rattle.segment_router.specs.Routing.{attempts_of, first_drawn, nothing_drawn, or_else, outcome_under, routes_at, route_outcome}
@@ -29,6 +28,11 @@ use Rattle.octi_moves.specs.Moves.{after_move, attempt, board_bounds, first_of_n
 -- the graph, with these kinds of nodes
 abbrev pub with_kinds : List NodeKind → GraphParts → GraphParts
 with_kinds kinds g = record g { kinds = kinds }
+
+-- what holds of no elements, and of one more wherever it holds, holds of all lists
+by_list : {A : Type 0} (P : List A → Type 0) → P [] → ((x : A) (xs : List A) → P xs → P (x ∷ xs)) → (xs : List A) → P xs
+by_list P none more [] = none
+by_list P none more (x ∷ xs) = more x xs (by_list P none more xs)
 
 module _ (g : GraphParts) (kinds : List NodeKind) where
   abbrev other : GraphParts
@@ -49,24 +53,20 @@ module _ (g : GraphParts) (kinds : List NodeKind) where
   same_again : (segs : List SegId) (r : Routed) → routed_again other segs r ≡ routed_again g segs r
   same_again segs r = ap (λ (o : Result Routed SegId). if_routed (walks_of o)) (same_each segs r)
 
-  module _ (cell : ℕ) where
-    same_attempted : (a : Attempt) → routes_at other cell a ≡ routes_at g cell a
-    same_attempted a =
-        let placing : Placing = placing_at g cell a.fineness (spread_offsets g.places a.percent) in
-        ap walks_of (same_each (routing_order g.lines) (begun g placing))
-
-    same_drawn : (before : Result (List PlainWalk) SegId) (attempts : List Attempt)
-        → first_drawn other cell before attempts ≡ first_drawn g cell before attempts
-    same_drawn before [] = refl
-    same_drawn before (a ∷ attempts) =
-        ap (or_else before)
-        (ap (λ (r : Result (List PlainWalk) SegId). first_drawn other cell r attempts) (same_attempted a)
-        ∙ same_drawn (routes_at g cell a) attempts)
-
-    pub same_routes : (spread : Spread) (finest : ℕ)
-        → route_outcome other cell spread finest ≡ route_outcome g cell spread finest
-    same_routes spread finest =
-        ap (outcome_under (limit_of g.places cell)) (same_drawn nothing_drawn (attempts_of spread finest))
+  pub same_routes : (cell : ℕ) (spread : Spread) (finest : ℕ)
+      → route_outcome other cell spread finest ≡ route_outcome g cell spread finest
+  same_routes cell spread finest =
+      ap (outcome_under (limit_of g.places cell))
+      (by_list (λ attempts. (before : Result (List PlainWalk) SegId)
+      → first_drawn other cell before attempts ≡ first_drawn g cell before attempts)
+      (λ before. refl)
+      (λ a attempts later before.
+      let placing : Placing = placing_at g cell a.fineness (spread_offsets g.places a.percent) in
+      ap (or_else before)
+      (ap (λ (r : Result (List PlainWalk) SegId). first_drawn other cell r attempts)
+      (ap walks_of (same_each (routing_order g.lines) (begun g placing)))
+      ∙ later (routes_at g cell a)))
+      (attempts_of spread finest) nothing_drawn)
 
 module _ (g : GraphParts) (kinds : List NodeKind) (count : length kinds ≡ length g.kinds) where
   abbrev h : GraphParts
