@@ -1,0 +1,10 @@
+mod DualOrders
+mod Numbers
+mod NodeKinds
+mod Moves
+mod Terms
+mod Orders
+mod Pictures
+mod Certificates
+mod MadeAgain
+mod FeedAgain
