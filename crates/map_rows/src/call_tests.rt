@@ -39,6 +39,7 @@ const TAIL: &str = "\
 ";
 
 /// What a map shows.
+#[derive(Drop)]
 struct Shown {
     graph: LineGraph,
     names: Names,
@@ -68,7 +69,7 @@ fn shown_by(alloc: Global, tables: &Tables, settings: &Settings) -> Result<Shown
 }
 
 /// What the map of the smallest feed shows by the certificate.
-fn shown(alloc: Global) -> Result<Shown, Fail> {
+fn smallest_shown(alloc: Global) -> Result<Shown, Fail> {
     let settings = settings_of(alloc, "")?.settings;
     let tables = tables_of(alloc, feeds::SMALLEST, &settings)?;
     shown_by(alloc, &tables, &settings)
@@ -158,7 +159,7 @@ fn a_line_that_runs_straight_is_not_improved(rt: HostRuntime) -> Result<(), Fail
 #[test]
 fn a_map_is_drawn_by_its_certificate(rt: HostRuntime) -> Result<(), Fail> {
     let alloc = rt.alloc();
-    let shown = shown(alloc)?;
+    let shown = smallest_shown(alloc)?;
     let map = drawn(alloc, &shown)?;
     let wanted = wanted(alloc, "-200 -200 5400 400")?;
     assert_eq!(rt; map.as_slice(), wanted.as_str().as_bytes());
@@ -168,7 +169,7 @@ fn a_map_is_drawn_by_its_certificate(rt: HostRuntime) -> Result<(), Fail> {
 #[test]
 fn a_map_is_drawn_with_names_by_its_certificate(rt: HostRuntime) -> Result<(), Fail> {
     let alloc = rt.alloc();
-    let shown = shown(alloc)?;
+    let shown = smallest_shown(alloc)?;
     let map = named(alloc, &shown)?;
     let wanted = wanted(alloc, "-200 -234 5426 434")?;
     assert_eq!(rt; map.as_slice(), wanted.as_str().as_bytes());
