@@ -1,6 +1,7 @@
 -- The definitions at worked lines.
-use Rattle.std.proofs.Common.{◌≡◌, ℕ, Bool, List, ◌∷◌, [], ◌++◌, Option, Some, None, Result, Ok, Err, result_err, map, pos, neg_ℤ, true, false, refl}
+use Rattle.std.proofs.Common.{◌≡◌, ℕ, Bool, List, ◌∷◌, [], ◌++◌, Option, Some, None, Result, Ok, Err, map, pos, neg_ℤ, true, false, refl}
 use Rattle.std.specs.Prelude.{codes}
+use Rattle.std.specs.Result.{result_err}
 use Rattle.std.specs.Str.{is_utf8, chars}
 use Rattle.std.specs.Str.Lines.{lines}
 use lib.Utf8.{encode}
