@@ -65,7 +65,8 @@ two_stations = graph_of (ends 0 1 ∷ []) ((seg 0 ∷ []) ∷ (seg 0 ∷ []) ∷
 even_ends : first_illegal two_stations (walk (at (pos 0) (pos 0)) (dir.NE ∷ dir.NE ∷ dir.E ∷ dir.E ∷ []) ∷ []) ≡ None
 even_ends = refl
 
-odd_end : first_illegal two_stations (walk (at (pos 0) (pos 0)) (dir.NE ∷ dir.NE ∷ dir.NE ∷ []) ∷ []) ≡ Some (seg 0, why.Ends)
+odd_end : first_illegal two_stations (walk (at (pos 0) (pos 0)) (dir.NE ∷ dir.NE ∷ dir.NE ∷ []) ∷ [])
+    ≡ Some (seg 0, why.Ends)
 odd_end = refl
 
 -- two trunks of one segment, each with two branches

@@ -50,6 +50,7 @@ names = record { stations = replicate 9 (codes "X"); lines = (codes "A", 0xe6 �
 -- Walks leave the first station in all eight directions, so its name has no place. The others have theirs above them on the
 -- right, but for the one in the south-west, which its walk reaches from there: its name stands below.
 between_eight_walks : places_of names star rays
-    ≡ None ∷ Some place.NE ∷ Some place.NE ∷ Some place.NE ∷ Some place.NE ∷ Some place.NE ∷ Some place.SE ∷ Some place.NE ∷ Some place.NE ∷ []
+    ≡ None ∷ Some place.NE ∷ Some place.NE ∷ Some place.NE ∷ Some place.NE ∷ Some place.NE ∷ Some place.SE
+    ∷ Some place.NE ∷ Some place.NE ∷ []
 unfolding chars encode
 between_eight_walks = refl

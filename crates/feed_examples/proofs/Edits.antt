@@ -239,13 +239,15 @@ sample = record {
 abbrev first_bad : List (List ℕ) → List (Option ℕ)
 first_bad = map (λ script. result_err (edits_in sample script))
 
-by_line_ends : first_bad ([] ∷ codes "\n" ∷ codes "hide\tA\nshow\tA\r\n" ∷ codes "hide\tA\nshow\tA\r" ∷ codes "hide\tA\r\r\n" ∷ codes "hide\tA\n\nhide\tC" ∷ [])
+by_line_ends : first_bad ([] ∷ codes "\n" ∷ codes "hide\tA\nshow\tA\r\n" ∷ codes "hide\tA\nshow\tA\r"
+    ∷ codes "hide\tA\r\r\n" ∷ codes "hide\tA\n\nhide\tC" ∷ [])
     ≡ None ∷ Some 1 ∷ None ∷ Some 2 ∷ Some 1 ∷ Some 2 ∷ []
 unfolding is_utf8 chars encode
 by_line_ends = refl
 
 by_what_they_say : first_bad (
-    codes "hide\tA\nundo\nundo\nundo" ∷ codes "rename\tA\tB" ∷ codes "hide\tX" ∷ codes "draw" ∷ (0xEF ∷ 0xBB ∷ 0xBF ∷ codes "hide\tA") ∷ []
+    codes "hide\tA\nundo\nundo\nundo" ∷ codes "rename\tA\tB" ∷ codes "hide\tX" ∷ codes "draw" ∷ (0xEF ∷ 0xBB ∷ 0xBF
+    ∷ codes "hide\tA") ∷ []
     ) ≡ Some 3 ∷ Some 1 ∷ Some 1 ∷ Some 1 ∷ Some 1 ∷ []
 unfolding is_utf8 chars encode
 by_what_they_say = refl
@@ -255,12 +257,14 @@ all_edits = codes "importance\tA\t3\r\nnear\t0020\nrename\tX\t\nmove\tX\t1.5\t-2
 
 -- the last one is undone
 edits_stand : edits_in sample all_edits
-    ≡ Ok (Importance (codes "A") 3 ∷ Near 20 ∷ Rename (codes "X") [] ∷ Move (codes "X") (pos 1500000) (neg_ℤ (pos 2000000)) ∷ Colour (codes "A") (255 ∷ 0 ∷ 16 ∷ []) ∷ [])
+    ≡ Ok (Importance (codes "A") 3 ∷ Near 20 ∷ Rename (codes "X") []
+    ∷ Move (codes "X") (pos 1500000) (neg_ℤ (pos 2000000)) ∷ Colour (codes "A") (255 ∷ 0 ∷ 16 ∷ []) ∷ [])
 unfolding number_of degrees_of colour_of is_utf8 chars encode
 edits_stand = refl
 
 all_are_made : edited sample standard_choices
-    (Importance (codes "A") 3 ∷ Near 20 ∷ Rename (codes "X") [] ∷ Move (codes "X") (pos 1500000) (neg_ℤ (pos 2000000)) ∷ Colour (codes "A") (255 ∷ 0 ∷ 16 ∷ []) ∷ [])
+    (Importance (codes "A") 3 ∷ Near 20 ∷ Rename (codes "X") [] ∷ Move (codes "X") (pos 1500000) (neg_ℤ (pos 2000000))
+    ∷ Colour (codes "A") (255 ∷ 0 ∷ 16 ∷ []) ∷ [])
     ≡ (
       record sample {
         stations = record { id = codes "X"; name = []; lat = pos 1500000; lon = neg_ℤ (pos 2000000) } ∷ [];

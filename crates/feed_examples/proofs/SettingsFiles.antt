@@ -130,62 +130,75 @@ every_method = refl
 abbrev are_read : List (List ℕ) → List Bool
 are_read = map (λ file. is_ok (told file))
 
-nears : are_read (codes "near = 19\n" ∷ codes "near = 20\n" ∷ codes "near = 20000\n" ∷ codes "near = 20001\n" ∷ []) ≡ false ∷ true ∷ true ∷ false ∷ []
+nears : are_read (codes "near = 19\n" ∷ codes "near = 20\n" ∷ codes "near = 20000\n" ∷ codes "near = 20001\n" ∷ [])
+    ≡ false ∷ true ∷ true ∷ false ∷ []
 unfolding toml_on_literals
 nears = refl
 
-cells : are_read (codes "cell = -1\n" ∷ codes "cell = 1\n" ∷ codes "cell = 10\n" ∷ codes "cell = 1000000\n" ∷ codes "cell = 1000001\n" ∷ [])
+cells : are_read (codes "cell = -1\n" ∷ codes "cell = 1\n" ∷ codes "cell = 10\n" ∷ codes "cell = 1000000\n"
+    ∷ codes "cell = 1000001\n" ∷ [])
     ≡ false ∷ false ∷ true ∷ true ∷ false ∷ []
 unfolding toml_on_literals
 cells = refl
 
-budgets : are_read (codes "budget = 0\n" ∷ codes "budget = 1\n" ∷ codes "budget = 100000\n" ∷ codes "budget = 100001\n" ∷ []) ≡ false ∷ true ∷ true ∷ false ∷ []
+budgets : are_read (codes "budget = 0\n" ∷ codes "budget = 1\n" ∷ codes "budget = 100000\n"
+    ∷ codes "budget = 100001\n" ∷ []) ≡ false ∷ true ∷ true ∷ false ∷ []
 unfolding toml_on_literals
 budgets = refl
 
-types : are_read (codes "types = []\n" ∷ codes "types = [0, 4294967295]\n" ∷ codes "types = [4294967296]\n" ∷ []) ≡ true ∷ true ∷ false ∷ []
+types : are_read (codes "types = []\n" ∷ codes "types = [0, 4294967295]\n" ∷ codes "types = [4294967296]\n" ∷ [])
+    ≡ true ∷ true ∷ false ∷ []
 unfolding toml_on_literals
 types = refl
 
 abbrev zeros : ℕ → List ℕ
-zeros count = codes "types = [" ++ flat_map (λ (zero_and_comma : List ℕ). zero_and_comma) (replicate count (codes "0, ")) ++ codes "]\n"
+zeros count = codes "types = ["
+    ++ flat_map (λ (zero_and_comma : List ℕ). zero_and_comma) (replicate count (codes "0, ")) ++ codes "]\n"
 
 a_hundred_types : are_read (zeros 100 ∷ zeros 101 ∷ []) ≡ true ∷ false ∷ []
 unfolding toml_on_literals
 a_hundred_types = refl
 
-junctions : are_read (codes "junction = [1000, 1000, 1000]\n" ∷ codes "junction = [1001, 0, 0]\n" ∷ codes "junction = [0, 1001, 0]\n" ∷ []) ≡ true ∷ false ∷ false ∷ []
+junctions : are_read (codes "junction = [1000, 1000, 1000]\n" ∷ codes "junction = [1001, 0, 0]\n"
+    ∷ codes "junction = [0, 1001, 0]\n" ∷ []) ≡ true ∷ false ∷ false ∷ []
 unfolding toml_on_literals
 junctions = refl
 
-stations : are_read (codes "station = [0, 0, 0]\n" ∷ codes "station = [0, 0, 1001]\n" ∷ codes "station = [0, 0]\n" ∷ codes "station = [0, 0, 0, 0]\n" ∷ [])
+stations : are_read (codes "station = [0, 0, 0]\n" ∷ codes "station = [0, 0, 1001]\n" ∷ codes "station = [0, 0]\n"
+    ∷ codes "station = [0, 0, 0, 0]\n" ∷ [])
     ≡ true ∷ false ∷ false ∷ false ∷ []
 unfolding toml_on_literals
 stations = refl
 
-searches : are_read (codes "search = \"live\"\n" ∷ codes "search = \"dual\"\n" ∷ codes "search = \"Dual\"\n" ∷ codes "search = 1\n" ∷ []) ≡ true ∷ true ∷ false ∷ false ∷ []
+searches : are_read (codes "search = \"live\"\n" ∷ codes "search = \"dual\"\n" ∷ codes "search = \"Dual\"\n"
+    ∷ codes "search = 1\n" ∷ []) ≡ true ∷ true ∷ false ∷ false ∷ []
 unfolding toml_on_literals
 searches = refl
 
-claims : are_read (codes "proof = \"best\"\n" ∷ codes "proof = \"bound\"\n" ∷ codes "proof = \"Best\"\n" ∷ codes "proof = true\n" ∷ []) ≡ true ∷ true ∷ false ∷ false ∷ []
+claims : are_read (codes "proof = \"best\"\n" ∷ codes "proof = \"bound\"\n" ∷ codes "proof = \"Best\"\n"
+    ∷ codes "proof = true\n" ∷ []) ≡ true ∷ true ∷ false ∷ false ∷ []
 unfolding toml_on_literals
 claims = refl
 
-spreads : are_read (codes "spread = -1\n" ∷ codes "spread = 0\n" ∷ codes "spread = 100\n" ∷ codes "spread = \"auto\"\n" ∷ codes "spread = \"all\"\n" ∷ codes "spread = [0]\n" ∷ [])
+spreads : are_read (codes "spread = -1\n" ∷ codes "spread = 0\n" ∷ codes "spread = 100\n"
+    ∷ codes "spread = \"auto\"\n" ∷ codes "spread = \"all\"\n" ∷ codes "spread = [0]\n" ∷ [])
     ≡ false ∷ true ∷ true ∷ true ∷ false ∷ false ∷ []
 unfolding toml_on_literals
 spreads = refl
 
-finest_grids : are_read (codes "finest = 2\n" ∷ codes "finest = 4\n" ∷ codes "finest = 5\n" ∷ codes "finest = 8\n" ∷ codes "finest = 16\n" ∷ codes "finest = 32\n" ∷ [])
+finest_grids : are_read (codes "finest = 2\n" ∷ codes "finest = 4\n" ∷ codes "finest = 5\n" ∷ codes "finest = 8\n"
+    ∷ codes "finest = 16\n" ∷ codes "finest = 32\n" ∷ [])
     ≡ false ∷ true ∷ false ∷ true ∷ true ∷ false ∷ []
 unfolding toml_on_literals
 finest_grids = refl
 
-moves : are_read (codes "moves = -1\n" ∷ codes "moves = 0\n" ∷ codes "moves = 10000\n" ∷ codes "moves = \"auto\"\n" ∷ []) ≡ false ∷ true ∷ true ∷ false ∷ []
+moves : are_read (codes "moves = -1\n" ∷ codes "moves = 0\n" ∷ codes "moves = 10000\n" ∷ codes "moves = \"auto\"\n"
+    ∷ []) ≡ false ∷ true ∷ true ∷ false ∷ []
 unfolding toml_on_literals
 moves = refl
 
-importances : are_read (codes "importance = { A = 0 }\n" ∷ codes "importance = { A = 1 }\n" ∷ codes "importance = { A = 16 }\n" ∷ codes "importance = { A = 17 }\n" ∷ [])
+importances : are_read (codes "importance = { A = 0 }\n" ∷ codes "importance = { A = 1 }\n"
+    ∷ codes "importance = { A = 16 }\n" ∷ codes "importance = { A = 17 }\n" ∷ [])
     ≡ false ∷ true ∷ true ∷ false ∷ []
 unfolding toml_on_literals
 importances = refl

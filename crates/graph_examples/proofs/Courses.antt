@@ -53,7 +53,12 @@ bent_courses : courses_outcome 20000 bent_feed ≡ Ok (record {
   stations = station 0 ∷ station 1 ∷ station 2 ∷ [];
   points = at 0 0 ∷ at 1 0 ∷ at 0 5000 ∷ [];
   courses =
-      record { line = record { 0 = 0 }; stops = 0 ∷ 2 ∷ []; hops = (at 0 0 ∷ at 5566 0 ∷ at 11132 0 ∷ at 5566 2500 ∷ at 0 5000 ∷ []) ∷ [] }
+      record {
+        line = record { 0 = 0 };
+        stops = 0 ∷ 2 ∷ [];
+        hops = (at 0 0 ∷ at 5566 0 ∷ at 11132 0 ∷ at 5566 2500
+            ∷ at 0 5000 ∷ []) ∷ [];
+      }
       ∷ record { line = record { 0 = 0 }; stops = 2 ∷ 1 ∷ []; hops = (at 0 5000 ∷ at 1 0 ∷ []) ∷ [] } ∷ [];
 })
 unfolding courses_outcome course_of sample_count hops_along

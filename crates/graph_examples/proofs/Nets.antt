@@ -51,6 +51,7 @@ edges_stand = refl
 abbrev are_near : List Point → List Bool
 are_near = map (has_near 500 (at 500 0 ∷ record { x = negsuc 0; y = negsuc 0 } ∷ []))
 
-near_and_not : are_near (at 999 0 ∷ at 1000 0 ∷ record { x = negsuc 499; y = negsuc 0 } ∷ record { x = negsuc 500; y = negsuc 0 } ∷ [])
+near_and_not : are_near (at 999 0 ∷ at 1000 0 ∷ record { x = negsuc 499; y = negsuc 0 }
+    ∷ record { x = negsuc 500; y = negsuc 0 } ∷ [])
     ≡ true ∷ false ∷ true ∷ false ∷ []
 near_and_not = refl

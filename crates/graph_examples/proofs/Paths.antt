@@ -39,13 +39,15 @@ abbrev at : ℕ → ℕ → Point
 at x y = record { x = pos x; y = pos y }
 
 -- by the point that parts two stations
-parted : stretch_path_of 500 (at 0 0 ∷ at 1000 0 ∷ []) (net_of_samples 500 (at 0 0 ∷ at 1000 0 ∷ at 500 500 ∷ []) []) 0 1 ≡ 0 ∷ 2 ∷ 1 ∷ []
+parted : stretch_path_of 500 (at 0 0 ∷ at 1000 0 ∷ []) (net_of_samples 500 (at 0 0 ∷ at 1000 0 ∷ at 500 500
+    ∷ []) []) 0 1 ≡ 0 ∷ 2 ∷ 1 ∷ []
 parted = refl
 
 -- round a square both ways are as long: the corridor decides, and without it the lesser numbers; a sample at exactly four
 -- times `near` from a point leaves that point outside
 abbrev round_a_square : List Point → List ℕ
-round_a_square corridor = stretch_path_of 334 corridor (net_of_samples 334 (at 0 0 ∷ at 1000 1000 ∷ at 1000 0 ∷ at 0 1000 ∷ []) []) 0 1
+round_a_square corridor = stretch_path_of 334 corridor (net_of_samples 334 (at 0 0 ∷ at 1000 1000 ∷ at 1000 0
+    ∷ at 0 1000 ∷ []) []) 0 1
 
 tied : round_a_square [] ≡ 0 ∷ 2 ∷ 1 ∷ []
 tied = refl

@@ -54,7 +54,8 @@ left = refl
 right : side_of (record { x = pos 0; y = pos 0 }) (record { x = pos 2; y = pos 0 }) (record { x = pos 1; y = negsuc 2 }) ≡ negsuc 5
 right = refl
 
-on_the_way : side_of (record { x = pos 0; y = pos 0 }) (record { x = pos 40; y = pos 0 }) (record { x = negsuc 6; y = pos 0 }) ≡ pos 0
+on_the_way : side_of (record { x = pos 0; y = pos 0 }) (record { x = pos 40; y = pos 0 }) (record { x = negsuc 6; y = pos 0 })
+    ≡ pos 0
 on_the_way = refl
 
 -- clockwise from north come east, south and west, and what lies just left of north is last

@@ -86,7 +86,8 @@ one_hop = refl
 
 -- two hops share the sample of the station between them, and the last one ends at its station
 abbrev two_hops : List (List Point)
-two_hops = hops_of 500 (map at (0 ∷ 100 ∷ 200 ∷ 300 ∷ [])) (map at (0 ∷ 200 ∷ 310 ∷ [])) (places (0 ∷ 100 ∷ 200 ∷ 300 ∷ []) (0 ∷ 200 ∷ 310 ∷ []))
+two_hops = hops_of 500 (map at (0 ∷ 100 ∷ 200 ∷ 300 ∷ [])) (map at (0 ∷ 200 ∷ 310 ∷ [])) (places (0 ∷ 100 ∷ 200 ∷ 300
+    ∷ []) (0 ∷ 200 ∷ 310 ∷ []))
 
 both_hops : two_hops ≡ map at (0 ∷ 100 ∷ 200 ∷ []) ∷ map at (200 ∷ 300 ∷ 310 ∷ []) ∷ []
 both_hops = refl

@@ -82,7 +82,8 @@ dear_orders = refl
 abbrev crossing : ProblemParts
 crossing = record {
   segs = segs;
-  terms = Side (seg 1) (line 0) (line 1) 5 ∷ Link (seg 1) (seg 3) false (line 0) (line 1) 1 ∷ Side (seg 3) (line 1) (line 0) 5 ∷ [];
+  terms = Side (seg 1) (line 0) (line 1) 5 ∷ Link (seg 1) (seg 3) false (line 0) (line 1) 1
+      ∷ Side (seg 3) (line 1) (line 0) 5 ∷ [];
 }
 
 -- what is refused of a proof by rules and parts of the orders that cross between the two
@@ -104,23 +105,27 @@ abbrev either : ℕ → PlainTree → PlainTree → PlainTree
 either s first second = split (seg s) (case_of (line 0) first (case_of (line 1) second no_case))
 
 -- all orders without prices, a price of 1 on the Link, and the Link half decided
-accepted_trees : map refused (either 1 (either 3 (close []) (close [])) (either 3 (close []) (close [])) ∷ close ((1, pos 1) ∷ []) ∷ either 1 (close []) (close []) ∷ [])
+accepted_trees : map refused (either 1 (either 3 (close []) (close [])) (either 3 (close []) (close []))
+    ∷ close ((1, pos 1) ∷ []) ∷ either 1 (close []) (close []) ∷ [])
     ≡ replicate 3 None
 accepted_trees = refl
 
 -- the target without the price; a price above the weight, on a Side, and on no term; the wrong way
-dear_prices : map (λ prices. refused (close prices)) ([] ∷ ((1, pos 2) ∷ []) ∷ ((0, pos 1) ∷ []) ∷ ((3, pos 1) ∷ []) ∷ ((1, negsuc 0) ∷ []) ∷ [])
+dear_prices : map (λ prices. refused (close prices)) ([] ∷ ((1, pos 2) ∷ []) ∷ ((0, pos 1) ∷ []) ∷ ((3, pos 1) ∷ [])
+    ∷ ((1, negsuc 0) ∷ []) ∷ [])
     ≡ replicate 5 (Some (item.Part 0 []))
 dear_prices = refl
 
 -- a price on a term of the greatest number; splits on a segment of another part, on one that is not there, and by lines that
 -- are not all that are left
-foreign_nodes : map refused (close ((4294967295, pos 1) ∷ []) ∷ only 0 0 (close []) ∷ only 4294967295 0 (close []) ∷ only 1 0 (close []) ∷ [])
+foreign_nodes : map refused (close ((4294967295, pos 1) ∷ []) ∷ only 0 0 (close []) ∷ only 4294967295 0 (close [])
+    ∷ only 1 0 (close []) ∷ [])
     ≡ replicate 4 (Some (item.Part 0 []))
 foreign_nodes = refl
 
 -- below line 0: a split on a segment that is full, and a price on the Link where it is decided on one segment
-below_a_line : map refused (either 1 (only 1 1 (close [])) (close []) ∷ either 1 (close ((1, pos 1) ∷ [])) (close []) ∷ [])
+below_a_line : map refused (either 1 (only 1 1 (close [])) (close []) ∷ either 1 (close ((1, pos 1) ∷ [])) (close [])
+    ∷ [])
     ≡ replicate 2 (Some (item.Part 0 (line 0 ∷ [])))
 below_a_line = refl
 
@@ -131,7 +136,8 @@ no_merge = refl
 no_part : refused_of [] [] ≡ Some (item.Part 0 [])
 no_part = refl
 
-half_a_part : refused_of [] (record { segs = seg 1 ∷ []; target = 1; tree = by_cases (close []) } ∷ []) ≡ Some (item.Part 0 [])
+half_a_part : refused_of [] (record { segs = seg 1 ∷ []; target = 1; tree = by_cases (close []) } ∷ [])
+    ≡ Some (item.Part 0 [])
 half_a_part = refl
 
 low_target : refused_of [] (part 0 (by_cases (close [])) ∷ []) ≡ Some item.Total
