@@ -6,8 +6,8 @@ use Rattle.transit_feed.specs.declared.pattern.Pattern.{Pattern}
 use Rattle.transit_feed.specs.declared.station.Station.{Station}
 use Rattle.transit_feed.specs.Feeds.{Feed}
 use Rattle.feed_courses.specs.Outcome.{course_of, courses_outcome, hops_along, sample_count}
-use Rattle.feed_courses.specs.Places.{moved_apart}
-use Rattle.feed_courses.specs.Shown.{lines_with, stations_in}
+use Rattle.feed_courses.specs.Places.{moved_apart, used_points}
+use Rattle.feed_courses.specs.Shown.{lines_with, shown_patterns, stations_in, used_stations}
 
 abbrev at : ℕ → ℕ → Point
 at x y = record { x = pos x; y = pos y }
@@ -61,5 +61,5 @@ bent_courses : courses_outcome 20000 bent_feed ≡ Ok (record {
       }
       ∷ record { line = record { 0 = 0 }; stops = 2 ∷ 1 ∷ []; hops = (at 0 5000 ∷ at 1 0 ∷ []) ∷ [] } ∷ [];
 })
-unfolding courses_outcome course_of sample_count hops_along
+unfolding courses_outcome course_of sample_count hops_along shown_patterns used_stations used_points
 bent_courses = refl
