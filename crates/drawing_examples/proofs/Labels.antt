@@ -14,6 +14,7 @@ use Rattle.octi_grid.specs.Walks.{PlainWalk}
 use Rattle.svg_writer.specs.declared.names.Names.{Names}
 use Rattle.label_place.specs.declared.place.Place.TheVariants as place
 use Rattle.label_place.specs.Places.{places_of}
+use Rattle.label_place.specs.Strokes.{units}
 
 abbrev station : ℕ → NodeKind
 station n = Station (record { 0 = n })
@@ -52,5 +53,5 @@ names = record { stations = replicate 9 (codes "X"); lines = (codes "A", 0xe6 �
 between_eight_walks : places_of names star rays
     ≡ None ∷ Some place.NE ∷ Some place.NE ∷ Some place.NE ∷ Some place.NE ∷ Some place.NE ∷ Some place.SE
     ∷ Some place.NE ∷ Some place.NE ∷ []
-unfolding chars encode
+unfolding chars encode units
 between_eight_walks = refl
