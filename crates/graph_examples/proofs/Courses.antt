@@ -1,5 +1,5 @@
 -- The definitions at small values.
-use Rattle.std.proofs.Common.{◌≡◌, refl, ℕ, ℤ, false, List, [], ◌∷◌, replicate, Option, None, Some, Ok, pos}
+use Rattle.std.proofs.Common.{◌≡◌, refl, ℕ, false, List, [], ◌∷◌, replicate, Option, None, Some, Ok, pos}
 use Rattle.map_base.specs.declared.ids.StationId.{StationId}
 use Rattle.map_base.specs.declared.point.Point.{Point}
 use Rattle.transit_feed.specs.declared.pattern.Pattern.{Pattern}
