@@ -11,7 +11,8 @@ bench/planted/CRATE.txt lists the bugs, three lines each, parted by an empty lin
     - the old text, which stands once in the body of that function of src/FILE.rt
     + the new text
 
-A text may have several lines, each with its mark; without a line of its own the new text is empty. The bugs of a crate are planted together, one in each function, and the
+A text may have several lines, each with its mark; without a line of its own the new text is empty. Where functions of a
+file have one name, `FUNCTION#2` is the second of them. The bugs of a crate are planted together, one in each function, and the
 crate is checked over the built libraries below it. Each function is proved by itself against the contracts of what it calls,
 so a bug is refused where its function, or an impl or a closure in it, is not proved. Where it is proved, the bug is tried
 once more alone: it is refused where any function of the crate is not proved. What came of each stands in
@@ -52,16 +53,18 @@ class Bug:
     def __init__(self, crate, text):
         lines = text.strip("\n").split("\n")
         place, self.words = lines[0].split(": ", 1)
-        name, self.function = place.split(" ")
+        name, function = place.split(" ")
+        self.function, _, which = function.partition("#")
+        self.which = int(which or 0)
         self.crate, self.path = crate, f"src/{name}.rt"
         part = lambda mark: "\n".join(it[2:] for it in lines[1:] if it[:2].rstrip() == mark)
         self.old, self.new = part("-"), part("+")
         self.whole = text_of(f"{TOP}/crates/{crate}/{self.path}")
         self.starts = [it.end() for it in re.finditer(rf"{HEAD}{self.function}\b", self.whole, re.M)]
-        begin, end = self.body(self.starts[0]) if self.starts else (0, 0)
+        begin, end = self.body(self.starts[self.which - 1 if self.which else 0]) if self.starts else (0, 0)
         self.count = self.whole[begin:end].count(self.old) if self.old else 0
         self.at = self.whole.find(self.old, begin)
-        told = f"{crate}\0{self.path}\0{self.whole}\0{self.function}\0{self.old}\0{self.new}"
+        told = f"{crate}\0{self.path}\0{self.whole}\0{self.function}{self.which or ''}\0{self.old}\0{self.new}"
         self.key = hashlib.sha256(told.encode()).hexdigest()[:16]
 
     def body(self, start):
@@ -72,7 +75,7 @@ class Bug:
         return (own.end() if own else start), end
 
     def fault(self):
-        if len(self.starts) != 1:
+        if len(self.starts) != 1 and not self.which:
             return f"there are {len(self.starts)} functions of this name in {self.path}"
         if self.count != 1:
             return f"the old text stands {self.count} times in it"
@@ -109,13 +112,13 @@ def note(bug, verdict, how):
 
 
 def batches(bugs):
-    """The bugs in parts in which no function has two."""
+    """The bugs in parts in which no two functions have one name."""
     left, parts = list(bugs), []
     while left:
         seen, now = set(), []
         for bug in left:
-            if (bug.path, bug.function) not in seen:
-                seen.add((bug.path, bug.function))
+            if bug.function not in seen:
+                seen.add(bug.function)
                 now.append(bug)
         parts.append(now)
         left = [it for it in left if it not in now]
