@@ -4,6 +4,7 @@
     bench/planted.py [CRATE ..]     tries what has no verdict yet: of these crates, or of all
     bench/planted.py --table        prints the table of the verdicts so far
     bench/planted.py --test         tells only which bugs of the tables can't be planted
+    bench/planted.py --ready CRATE  ends with 0 where all libraries below the crate are built
 
 bench/planted/CRATE.txt lists the bugs, three lines each, parted by an empty line:
 
@@ -211,12 +212,15 @@ def main(words):
     rt, known = rt_module(), verdicts()
     os.chdir(TOP)
     ways = {it.name: it for it in rt.crates_of(TOP)}
+    has_libraries = lambda crate: all(it.is_built() or rt.take_rlib(it) for it in crate.below())
+    if "--ready" in flags:
+        return 0 if has_libraries(ways[chosen[0]]) else 1
     for name in chosen:
         crate = ways[name]
         bugs = [it for it in bugs_of(name) if it.key not in known and not it.fault()]
         if not bugs:
             continue
-        if not all(it.is_built() or rt.take_rlib(it) for it in crate.below()):
+        if not has_libraries(crate):
             print(f"{name}: a library below it is not built", flush=True)
             continue
         for part in batches(bugs):

@@ -12,11 +12,12 @@ use Rattle.gtfs_tables.specs.Feed.{feed_of, routes_outcome, stops_table_outcome,
 use Rattle.map_edits.specs.declared.edit.Edit.{Edit}
 use Rattle.map_edits.specs.Effects.{choices_after, feed_after}
 use Rattle.map_edits.specs.Standing.{edits_in}
-use Rattle.map_engine.specs.declared.fault.MakeFault.{MakeFault}
-use Rattle.map_engine.specs.Making.{MapBytes, make_outcome}
+use Rattle.map_faults.specs.declared.fault.MakeFault.{MakeFault}
+use Rattle.graph_maps.specs.Making.{MapBytes}
+use Rattle.map_engine.specs.Making.{make_outcome}
 use Rattle.edit_session.specs.Scripts.{draws_in}
 use Rattle.command_run.specs.Work.{Work, ends, reads, outcome, ◌>>=◌}
-use Rattle.command_paths.specs.Paths.{Chosen, MapPaths}
+use Rattle.command_paths.specs.Paths.{Chosen, NewPaths}
 use Rattle.run_status.specs.declared.input.Input.{Input}
 use Rattle.run_status.specs.declared.input.Input.TheVariants as input
 use Rattle.run_status.specs.declared.refusal.Refusal.{Refusal}
@@ -73,16 +74,16 @@ avoids_tables types =
 
 avoids_feed : (chosen : Chosen) → Avoids (feed_work chosen)
 avoids_feed chosen =
-    avoids_then (settings_by chosen.defaults chosen.settings) (λ all. tables_work all.settings.types >>= after_all all) (by chosen.settings)
+    avoids_then (settings_by chosen.defaults chosen.sets chosen.settings) (λ all. tables_work all.settings.types >>= after_all all) (by chosen.settings)
     (λ all. avoids_then (tables_work all.settings.types) (after_all all) (avoids_tables all.settings.types) (λ feed. tt))
   where
     after_all : MapSettings → Feed → Work Input Refusal Loaded
     after_all all feed = ends (Ok (record { settings = all.settings; method = all.method; tables = feed }))
 
-    by : (settings : Option (List ℕ)) → Avoids (settings_by chosen.defaults settings)
+    by : (settings : Option (List ℕ)) → Avoids (settings_by chosen.defaults chosen.sets settings)
     by None = tt
     by (Some path) =
-        avoids_then (file_work input.Settings) (λ file. ends (settings_in chosen.defaults file)) ((λ e. cc), λ file. tt) (λ file. tt)
+        avoids_then (file_work input.Settings) (λ file. ends (settings_in chosen.defaults chosen.sets file)) ((λ e. cc), λ file. tt) (λ file. tt)
 
 -- such work comes to the same whatever the file of edits holds
 same_outcome : {A : Type 0} (given : Input → Option (List ℕ)) (file : List ℕ) (work : Work Input Refusal A) → Avoids work → outcome work (edits_given given file) ≡ outcome work given
@@ -113,7 +114,7 @@ loaded_alone chosen given loaded none e = by (outcome (feed_work chosen) given) 
         refused_first (ends (Err other)) why is e = cc
         refused_first (reads i rest) why is e = refused_first (rest (given i)) why is e
 
-pub comes_to : (chosen : Chosen) (paths : MapPaths) (given : Input → Option (List ℕ)) (loaded : Loaded) (path text file : List ℕ) (k : ℕ) (made : Result MapBytes MakeFault) → chosen.edits ≡ None
+pub comes_to : (chosen : Chosen) (paths : NewPaths) (given : Input → Option (List ℕ)) (loaded : Loaded) (path text file : List ℕ) (k : ℕ) (made : Result MapBytes MakeFault) → chosen.edits ≡ None
     → outcome (load_work chosen) given ≡ Ok loaded → slice_get (draws_in loaded.tables loaded.settings loaded.method text) k ≡ Some made → lines file ≡ edits_before k (lines text)
     → is_within File (length file) ≡ true → outcome (make_work (with_edits chosen path) paths) (edits_given given file) ≡ made_at paths made
 comes_to chosen paths given loaded path text file k made none loads draw same short =

@@ -10,8 +10,9 @@ use Rattle.map_edits.specs.declared.reading.ScriptLine.TheVariants as script
 use Rattle.map_edits.specs.Effects.{choices_after, feed_after}
 use Rattle.map_edits.specs.Grammar.{edit_in, script_line_in}
 use Rattle.map_edits.specs.Standing.{after_edit, after_line, edits_from, edits_in, is_due, named_in, unless_bad, Named}
-use Rattle.map_engine.specs.declared.fault.MakeFault.{MakeFault}
-use Rattle.map_engine.specs.Making.{MapBytes, make_outcome}
+use Rattle.map_faults.specs.declared.fault.MakeFault.{MakeFault}
+use Rattle.graph_maps.specs.Making.{MapBytes}
+use Rattle.map_engine.specs.Making.{make_outcome}
 use Rattle.edit_session.specs.Scripts.{draw_with, draws_in, followed_by, followed_from, followed_in}
 use Rattle.session_laws.specs.Before.{after_draw, draws, edits_before}
 

@@ -10,11 +10,12 @@ ghost use Rattle.transit_feed.specs.Feeds.{Feed};
 ghost use Rattle.map_edits.specs.declared.edit.Edit.{Edit};
 ghost use Rattle.map_edits.specs.Effects.{choices_after, feed_after};
 ghost use Rattle.map_edits.specs.Standing.{edits_in};
-ghost use Rattle.map_engine.specs.declared.fault.MakeFault.{MakeFault};
-ghost use Rattle.map_engine.specs.Making.{MapBytes, make_outcome};
+ghost use Rattle.map_faults.specs.declared.fault.MakeFault.{MakeFault};
+ghost use Rattle.graph_maps.specs.Making.{MapBytes};
+ghost use Rattle.map_engine.specs.Making.{make_outcome};
 ghost use Rattle.edit_session.specs.Scripts.{draws_in, followed_in};
 ghost use Rattle.command_run.specs.Work.{outcome};
-ghost use Rattle.command_paths.specs.Paths.{Chosen, MapPaths};
+ghost use Rattle.command_paths.specs.Paths.{Chosen, NewPaths};
 ghost use Rattle.run_status.specs.declared.input.Input.{Input};
 ghost use Rattle.command_inputs.specs.declared.loaded.Loaded.{Loaded};
 ghost use Rattle.command_inputs.specs.Loading.{load_work};
@@ -39,7 +40,7 @@ pub fn each_draw_is_a_make_with_its_edits()
 /// Where a session over inputs has no file of edits, draw k of its script gives what the work of `make` comes to over the same
 /// inputs, with such a file of edits: the same map and certificate, or the same refusal.
 pub fn each_draw_is_what_make_comes_to()
-    ensures { (chosen : Chosen) (paths : MapPaths) (given : Input → Option (List ℕ)) (loaded : Loaded) (path script file : List ℕ)
+    ensures { (chosen : Chosen) (paths : NewPaths) (given : Input → Option (List ℕ)) (loaded : Loaded) (path script file : List ℕ)
         (k : ℕ) (made : Result MapBytes MakeFault) → chosen.edits ≡ None → outcome (load_work chosen) given ≡ Ok loaded
         → slice_get (draws_in loaded.tables loaded.settings loaded.method script) k ≡ Some made
         → lines file ≡ edits_before k (lines script) → is_within File (length file) ≡ true
