@@ -44,6 +44,15 @@ def rt_module():
     module = importlib.util.module_from_spec(importlib.util.spec_from_loader("rt", loader))
     sys.modules["rt"] = module
     loader.exec_module(module)
+    # the sum of a crate's sources, taken once
+    take, sums = module.rtlib.Crate.stamp, {}
+
+    def stamp(crate):
+        if crate.folder not in sums:
+            sums[crate.folder] = take(crate)
+        return sums[crate.folder]
+
+    module.rtlib.Crate.stamp = stamp
     return module
 
 
@@ -163,16 +172,25 @@ def stops(ran):
     return next(iter(re.findall(r"^.*\berror\[.*$", ran.stdout, re.M)), f"ended with status {ran.returncode}")
 
 
+def bug_at(bugs, stopped):
+    """The bug in whose function the compiler stopped."""
+    at = re.match(r"(?:\./)?(src/\S+?):(\d+):", stopped)
+    near = [it for it in bugs if at and it.path == at[1]]
+    line = lambda it: abs(it.whole.count("\n", 0, it.at) + 1 - int(at[2]))
+    return min(near, key=line, default=None)
+
+
 def try_bugs(rt, crate, bugs):
     ran = check(rt, crate, bugs)
     stopped = stops(ran)
-    if stopped and len(bugs) > 1:
-        half = len(bugs) // 2
-        try_bugs(rt, crate, bugs[:half])
-        try_bugs(rt, crate, bugs[half:])
-        return
     if stopped:
-        note(bugs[0], UNREAD, stopped)
+        bad = bugs[0] if len(bugs) == 1 else bug_at(bugs, stopped)
+        if bad:
+            note(bad, UNREAD, stopped)
+        half = len(bugs) // 2
+        for part in [[it for it in bugs if it is not bad]] if bad else [bugs[:half], bugs[half:]]:
+            if part:
+                try_bugs(rt, crate, part)
         return
     faulty = not_proved(ran.stdout)
     for bug in bugs:
@@ -197,6 +215,8 @@ def table(crates):
 
 
 def main(words):
+    if not os.environ.get("SLOT") and words == ["state_search"]:
+        os.execvp("bash", ["bash", "/tmp/slot.sh"])
     names = [it.split(":")[0].strip() for it in text_of(f"{TOP}/crates.txt").splitlines() if it[:1] not in ("#", "")]
     crates = [it for it in names if os.path.exists(f"{TABLES}/{it}.txt")]
     flags = [it for it in words if it.startswith("--")]
@@ -215,6 +235,8 @@ def main(words):
     has_libraries = lambda crate: all(it.is_built() or rt.take_rlib(it) for it in crate.below())
     if "--ready" in flags:
         return 0 if has_libraries(ways[chosen[0]]) else 1
+    if "--left" in flags:
+        return 1 if any(it.key not in known and not it.fault() for it in bugs_of(chosen[0])) else 0
     for name in chosen:
         crate = ways[name]
         bugs = [it for it in bugs_of(name) if it.key not in known and not it.fault()]

@@ -1,5 +1,5 @@
 -- Prefixes of two lines, computed.
-use Rattle.std.proofs.Common.{◌≡◌, refl, true, false, List, [], ◌∷◌}
+use Rattle.std.proofs.Common.{◌≡◌, refl, false, [], ◌∷◌}
 use Rattle.map_base.specs.declared.ids.LineId.{LineId}
 use Rattle.map_base.specs.declared.ids.SegId.{SegId}
 use Rattle.order_search.specs.Finding.{incomplete_in}
