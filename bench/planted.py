@@ -5,6 +5,7 @@
     bench/planted.py --table        prints the table of the verdicts so far
     bench/planted.py --test         tells only which bugs of the tables can't be planted
     bench/planted.py --ready CRATE  ends with 0 where all libraries below the crate are built
+    bench/planted.py --left CRATE   ends with 0 where each bug of the crate has a verdict
 
 bench/planted/CRATE.txt lists the bugs, three lines each, parted by an empty line:
 
@@ -15,9 +16,9 @@ bench/planted/CRATE.txt lists the bugs, three lines each, parted by an empty lin
 A text may have several lines, each with its mark; without a line of its own the new text is empty. Where functions of a
 file have one name, `FUNCTION#2` is the second of them. The bugs of a crate are planted together, one in each function, and the
 crate is checked over the built libraries below it. Each function is proved by itself against the contracts of what it calls,
-so a bug is refused where its function, or an impl or a closure in it, is not proved. Where it is proved, the bug is tried
-once more alone: it is refused where any function of the crate is not proved. What came of each stands in
-bench/planted/verdicts.txt, by the sum of the bug and of the function's file.
+so a bug is refused where its function is not proved. Where it is proved, the bug is tried once more alone: it is refused
+where any function of the crate is not proved. What came of each stands in bench/planted/verdicts.txt, by the sum of the bug
+and of the function's file.
 """
 import contextlib
 import hashlib
@@ -33,7 +34,9 @@ import tempfile
 TOP = os.path.dirname(os.path.dirname(os.path.abspath(__file__)))
 TABLES = f"{TOP}/bench/planted"
 VERDICTS = f"{TABLES}/verdicts.txt"
-REFUSED, PROVED, UNREAD = "refused", "proved", "unread"
+# The prover refuses it; it does so only since a proof names what the bug took away, which says little of the contract; the
+# crate is still proved; or the compiler stops at it.
+REFUSED, NAMED, PROVED, UNREAD = "refused", "named", "proved", "unread"
 
 
 def rt_module():
@@ -165,6 +168,21 @@ def not_proved(said):
     return {it.split("::")[-1] for it in re.findall(r"^fn (\S+): (?:not proved|no proof|could not tell)", said, re.M)}
 
 
+def by_name_only(said, bug):
+    """Whether all that the check says of the bug's function is that its proof names what is gone."""
+    begin, end = (bug.whole.count("\n", 0, it) + 1 for it in bug.body(bug.starts[bug.which - 1 if bug.which else 0]))
+
+    def is_of(line):
+        at = re.match(r"(?:note: )?(?:\./)?(\S+?):(\d+):\d+:", line)
+        if not at or not (": error" in line or line.startswith("note: ")):
+            return False
+        return f"/{bug.function}/" in at[1] or at[1] == bug.path and begin - 1 <= int(at[2]) <= end + 1
+
+    told = [it for it in said.splitlines() if is_of(it)]
+    names = r"(note: )?(\./)?proofs/.*(has no field|is not in scope|has no `|was not admitted)"
+    return bool(told) and all(re.match(names, it) for it in told)
+
+
 def stops(ran):
     """Why the check came to no verdict: the compiler's first error, or how it ended."""
     if re.search(r"^(logic=|rattle: no verdict)", ran.stdout, re.M):
@@ -195,7 +213,7 @@ def try_bugs(rt, crate, bugs):
     faulty = not_proved(ran.stdout)
     for bug in bugs:
         if bug.function in faulty:
-            note(bug, REFUSED, "")
+            note(bug, NAMED if by_name_only(ran.stdout, bug) else REFUSED, "")
         elif len(bugs) > 1:
             try_bugs(rt, crate, [bug])
         else:
@@ -203,15 +221,15 @@ def try_bugs(rt, crate, bugs):
 
 
 def table(crates):
-    known, sums = verdicts(), [0, 0]
-    print("| crate | planted | refused |\n|---|---|---|")
+    known, sums = verdicts(), [0, 0, 0]
+    print("| crate | planted | refused | by name only |\n|---|---|---|---|")
     for crate in crates:
         told = [known[it.key][0] for it in bugs_of(crate) if it.key in known]
-        row = [sum(it != UNREAD for it in told), sum(it == REFUSED for it in told)]
+        row = [sum(it != UNREAD for it in told), told.count(REFUSED), told.count(NAMED)]
         sums = [a + b for a, b in zip(sums, row)]
         if row[0]:
-            print(f"| {crate} | {row[0]} | {row[1]} |")
-    print(f"| all | {sums[0]} | {sums[1]} |")
+            print(f"| {crate} | {row[0]} | {row[1]} | {row[2]} |")
+    print(f"| all | {sums[0]} | {sums[1]} | {sums[2]} |")
 
 
 def main(words):
@@ -229,14 +247,15 @@ def main(words):
             if bug.fault():
                 print(f"{bug}: {bug.fault()}")
         return print(f"{len(bugs)} bugs in {len(chosen)} crates")
-    rt, known = rt_module(), verdicts()
+    known = verdicts()
+    if "--left" in flags:
+        return 1 if any(it.key not in known and not it.fault() for it in bugs_of(chosen[0])) else 0
+    rt = rt_module()
     os.chdir(TOP)
     ways = {it.name: it for it in rt.crates_of(TOP)}
     has_libraries = lambda crate: all(it.is_built() or rt.take_rlib(it) for it in crate.below())
     if "--ready" in flags:
         return 0 if has_libraries(ways[chosen[0]]) else 1
-    if "--left" in flags:
-        return 1 if any(it.key not in known and not it.fault() for it in bugs_of(chosen[0])) else 0
     for name in chosen:
         crate = ways[name]
         bugs = [it for it in bugs_of(name) if it.key not in known and not it.fault()]
