@@ -101,7 +101,10 @@ fn with_sets(
     let mut settings = base;
     let mut rest = words;
     'sets: while let Some((set, behind)) = next_set(rest) {
-        settings = set_settings(alloc, set.as_bytes(), settings)?;
+        match set_settings(alloc, set.as_bytes(), settings) {
+            Ok(next) => settings = next,
+            Err(why) => return Err(why),
+        }
         rest = behind;
     }
     Ok(settings)

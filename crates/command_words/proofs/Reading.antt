@@ -15,15 +15,16 @@ use Rattle.command_words.specs.declared.fault.WordsFault.TheVariants as fault
 use Rattle.command_paths.specs.Sets.{sets_in}
 use Rattle.command_words.specs.Asked.{Asked}
 use Rattle.command_words.specs.Program.{octimap_app}
+use Rattle.command_words.proofs.OnLiterals.{octimap_written_out}
 use Rattle.command_words.specs.Words.{Matches, Reads, asked, faults, met, named_in, unless}
 
 -- `clap` says exactly what such a command takes, and which faults it finds
 program_is_simple : is_simple octimap_app ≡ true
-unfolding octimap_app
+unfolding octimap_written_out
 program_is_simple = refl
 
 program_is_free : is_simple_and_free octimap_app ≡ true
-unfolding octimap_app
+unfolding octimap_written_out
 program_is_free = refl
 
 -- words without a fault ask for what is met in them

@@ -9,6 +9,8 @@ use Rattle.command_words.specs.declared.command.Command.TheVariants as command
 pub data Asked : Type 0 where
   stations : List ℕ → Asked
   graph : List ℕ → Chosen → Asked
+  export : List ℕ → List ℕ → Chosen → Asked
+  imported : List ℕ → MapPaths → Chosen → Asked
   make : List ℕ → NewPaths → Chosen → Asked
   improve : List ℕ → MapPaths → ℕ → Chosen → Asked
   check : List ℕ → MapPaths → Chosen → Asked
@@ -21,6 +23,8 @@ pub data Asked : Type 0 where
 abbrev pub asked_by : Command → Asked
 asked_by (command.Stations feed) = stations feed.now
 asked_by (command.Graph feed options) = graph feed.now (options_by options)
+asked_by (command.Export feed out options) = export feed.now out.now (options_by options)
+asked_by (command.Import json files options) = imported json.now (paths_by files) (options_by options)
 asked_by (command.Make feed files options) = make feed.now (new_paths_by files) (options_by options)
 asked_by (command.Improve feed files moves options) = improve feed.now (paths_by files) moves (options_by options)
 asked_by (command.Check feed files options) = check feed.now (paths_by files) (options_by options)

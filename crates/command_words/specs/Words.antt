@@ -19,7 +19,7 @@ use Rattle.command_paths.specs.Paths.{Chosen, MapPaths, NewPaths}
 use Rattle.command_paths.specs.Sets.{sets_in}
 use Rattle.command_paths.specs.declared.picture.Picture.{Picture}
 use Rattle.command_paths.specs.declared.picture.Picture.TheVariants.{Labelled, Geographic}
-use Rattle.command_words.specs.Asked.{Asked, asked_by, stations, graph, make, improve, check, depict, session, trial, page}
+use Rattle.command_words.specs.Asked.{Asked, asked_by, stations, graph, export, imported, make, improve, check, depict, session, trial, page}
 use Rattle.command_words.specs.Program.{octimap_app}
 
 -- one choice after another: none where the first is none
@@ -28,15 +28,15 @@ abbrev pub ◌>>=◌ : {A B : Type 0} → Option A → (A → Option B) → Opti
 first >>= next = option_and_then next first
 
 -- the file of settings, if it is named, over these settings, and what is set in place of it; and no file of edits
-abbrev pub settings_in : Defaults → List Text → List Row → Chosen
+unfoldable pub settings_in : Defaults → List Text → List Row → Chosen
 settings_in defaults sets rows = record { defaults = defaults; settings = first_of (codes "settings") rows; edits = None; sets = sets }
 
 -- the file of edits too, if it is named
-abbrev pub options_in : Defaults → List Text → List Row → Chosen
+unfoldable pub options_in : Defaults → List Text → List Row → Chosen
 options_in defaults sets rows = record (settings_in defaults sets rows) { edits = first_of (codes "edits") rows }
 
 -- where the map and its certificate lie
-abbrev pub paths_in : List Row → Option MapPaths
+unfoldable pub paths_in : List Row → Option MapPaths
 paths_in rows = do
   picture ← first_of (codes "SVG") rows
   certificate ← first_of (codes "CERT") rows
@@ -52,25 +52,38 @@ number_spelt text =
 abbrev pub number_in : Text → List Row → Option ℕ
 number_in name rows = option_and_then number_spelt (one_of name rows)
 
-abbrev pub stations_in : List Row → Option Asked
+unfoldable pub stations_in : List Row → Option Asked
 stations_in rows = do
   feed ← first_of (codes "FEED") rows
   Some (stations feed)
 
-abbrev pub graph_in : List Text → List Row → Option Asked
+unfoldable pub graph_in : List Text → List Row → Option Asked
 graph_in sets rows = do
   feed ← first_of (codes "FEED") rows
   Some (graph feed (options_in Make sets rows))
+
+unfoldable pub export_in : List Text → List Row → Option Asked
+export_in sets rows = do
+  feed ← first_of (codes "FEED") rows
+  out ← first_of (codes "OUT") rows
+  Some (export feed out (options_in Make sets rows))
 
 -- two paths, and not one
 abbrev pub apart : MapPaths → Option MapPaths
 apart paths = if bytes_eq paths.picture paths.certificate then None else Some paths
 
 -- where a map and its certificate are to lie
-abbrev pub two_paths_in : List Row → Option MapPaths
+unfoldable pub two_paths_in : List Row → Option MapPaths
 two_paths_in rows = do
   paths ← paths_in rows
   apart paths
+
+-- the settings of a graph file's map are those of `make`
+unfoldable pub import_in : List Text → List Row → Option Asked
+import_in sets rows = do
+  json ← first_of (codes "JSON") rows
+  paths ← two_paths_in rows
+  Some (imported json paths (settings_in Make sets rows))
 
 -- a page at a path of its own
 abbrev pub page_apart : Option (List ℕ) → MapPaths → Option NewPaths
@@ -79,46 +92,46 @@ page_apart (Some path) paths =
     if bytes_eq path paths.picture || bytes_eq path paths.certificate then None else Some (record { map = paths; page = Some path })
 
 -- where a new map, its certificate and, if it is named, its page are to lie
-abbrev pub new_paths_in : List Row → Option NewPaths
+unfoldable pub new_paths_in : List Row → Option NewPaths
 new_paths_in rows = do
   paths ← two_paths_in rows
   page_apart (first_of (codes "page") rows) paths
 
 -- by these settings where the user sets none
-abbrev pub make_in : Defaults → List Text → List Row → Option Asked
+unfoldable pub make_in : Defaults → List Text → List Row → Option Asked
 make_in defaults sets rows = do
   feed ← first_of (codes "FEED") rows
   paths ← new_paths_in rows
   Some (make feed paths (options_in defaults sets rows))
 
-abbrev pub improve_in : List Text → List Row → Option Asked
+unfoldable pub improve_in : List Text → List Row → Option Asked
 improve_in sets rows = do
   feed ← first_of (codes "FEED") rows
   paths ← two_paths_in rows
   moves ← number_in (codes "MOVES") rows
   Some (improve feed paths moves (options_in Make sets rows))
 
-abbrev pub check_in : List Text → List Row → Option Asked
+unfoldable pub check_in : List Text → List Row → Option Asked
 check_in sets rows = do
   feed ← first_of (codes "FEED") rows
   paths ← paths_in rows
   Some (check feed paths (options_in Make sets rows))
 
-abbrev pub picture_in : Picture → List Text → List Row → Option Asked
+unfoldable pub picture_in : Picture → List Text → List Row → Option Asked
 picture_in kind sets rows = do
   feed ← first_of (codes "FEED") rows
   certificate ← first_of (codes "CERT") rows
   out ← first_of (codes "OUT") rows
   Some (depict kind feed certificate out (options_in Make sets rows))
 
-abbrev pub session_in : List Text → List Row → Option Asked
+unfoldable pub session_in : List Text → List Row → Option Asked
 session_in sets rows = do
   feed ← first_of (codes "FEED") rows
   script ← first_of (codes "SCRIPT") rows
   out ← first_of (codes "OUT") rows
   Some (session feed script out (settings_in Make sets rows))
 
-abbrev pub trial_in : List Row → Option Asked
+unfoldable pub trial_in : List Row → Option Asked
 trial_in rows = do
   number ← number_in (codes "N") rows
   Some (trial number)
@@ -127,14 +140,26 @@ trial_in rows = do
 abbrev pub page_at : List ℕ → List ℕ → Option Asked
 page_at map html = if bytes_eq map html then None else Some (page map html)
 
-abbrev pub page_in : List Row → Option Asked
+unfoldable pub page_in : List Row → Option Asked
 page_in rows = do
   map ← first_of (codes "SVG") rows
   html ← first_of (codes "HTML") rows
   page_at map html
 
--- what the matches of the command of this name ask for, with what is set
-abbrev pub asked_as : List Text → Text → List Row → Option Asked
+-- what the matches of the command of this name ask for, with what is set: the commands that neither make nor check the
+-- map of a feed
+unfoldable pub asked_else : List Text → Text → List Row → Option Asked
+asked_else sets name rows =
+    if bytes_eq name (codes "graph") then graph_in sets rows
+    else if bytes_eq name (codes "export") then export_in sets rows
+    else if bytes_eq name (codes "import") then import_in sets rows
+    else if bytes_eq name (codes "stations") then stations_in rows
+    else if bytes_eq name (codes "page") then page_in rows
+    else if bytes_eq name (codes "trial") then trial_in rows
+    else None
+
+-- the same, of all commands
+unfoldable pub asked_as : List Text → Text → List Row → Option Asked
 asked_as sets name rows =
     if bytes_eq name (codes "map") then make_in Map sets rows
     else if bytes_eq name (codes "make") then make_in Make sets rows
@@ -143,11 +168,7 @@ asked_as sets name rows =
     else if bytes_eq name (codes "labels") then picture_in Labelled sets rows
     else if bytes_eq name (codes "geo") then picture_in Geographic sets rows
     else if bytes_eq name (codes "session") then session_in sets rows
-    else if bytes_eq name (codes "graph") then graph_in sets rows
-    else if bytes_eq name (codes "stations") then stations_in rows
-    else if bytes_eq name (codes "page") then page_in rows
-    else if bytes_eq name (codes "trial") then trial_in rows
-    else None
+    else asked_else sets name rows
 
 -- what a command that was met asks for
 abbrev pub named_in : List Text → Option (Text × List Row) → Option Asked

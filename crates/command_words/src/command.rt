@@ -3,7 +3,7 @@
 use command_paths::{MapFiles, NewFiles, Options, Picture};
 
 /// A command with what it works on.
-#[derive(Clone, Copy, Debug)]
+#[derive(Clone, Copy)]
 pub enum Command<'a> {
     /// The stations of the feed in this folder.
     Stations {
@@ -12,6 +12,18 @@ pub enum Command<'a> {
     /// The line graph of the feed in this folder.
     Graph {
         feed: &'a str,
+        options: Options<'a>,
+    },
+    /// The line graph of the feed in this folder, as a file.
+    Export {
+        feed: &'a str,
+        out: &'a str,
+        options: Options<'a>,
+    },
+    /// The map of a graph file, and its certificate.
+    Import {
+        graph: &'a str,
+        files: MapFiles<'a>,
         options: Options<'a>,
     },
     /// The map of the feed in this folder, its certificate, and its page where one is asked for; `map` and `make` differ

@@ -5,7 +5,7 @@ ghost use Rattle.clap.specs.Words.{first_of, found_of, rows_of, subcommand_rows_
 ghost use Rattle.command_paths.specs.Sets.{sets_of};
 ghost use Rattle.command_paths.specs.Paths.{new_paths_by, options_by, paths_by};
 ghost use Rattle.command_words.specs.Asked.{asked_by};
-ghost use Rattle.command_words.specs.Words.{asked_as, check_in, graph_in, improve_in, make_in, named_in, new_paths_in, number_in, options_in, page_apart, page_in, paths_in, picture_in, session_in, settings_in, stations_in, trial_in, two_paths_in};
+ghost use Rattle.command_words.specs.Words.{asked_as, asked_else, check_in, graph_in, improve_in, make_in, named_in, new_paths_in, number_in, options_in, page_apart, page_in, paths_in, picture_in, session_in, settings_in, stations_in, trial_in, two_paths_in, export_in, import_in};
 
 use crate::command::Command;
 use clap::ArgMatches;
@@ -21,6 +21,7 @@ pub(crate) fn command_in<'a>(matches: &ArgMatches<'a>, words: &'a [String]) -> O
 }
 
 /// The command of this name.
+#[tactic(auto, unfolding(crate::specs::Words::asked_as))]
 fn command_named<'a>(name: &str, given: &ArgMatches<'a>, words: &'a [String]) -> Option<Command<'a>>
     ensures { option_map asked_by result ≡ asked_as (sets_of words.now) name.now (rows_of (found_of given.now)) }
 {
@@ -38,8 +39,22 @@ fn command_named<'a>(name: &str, given: &ArgMatches<'a>, words: &'a [String]) ->
         picture_in(given, Picture::Geographic, words)
     } else if name == "session" {
         session_in(given, words)
-    } else if name == "graph" {
+    } else {
+        other_named(name, given, words)
+    }
+}
+
+/// The command of this name that neither makes nor checks the map of a feed.
+#[tactic(auto, unfolding(crate::specs::Words::asked_else))]
+fn other_named<'a>(name: &str, given: &ArgMatches<'a>, words: &'a [String]) -> Option<Command<'a>>
+    ensures { option_map asked_by result ≡ asked_else (sets_of words.now) name.now (rows_of (found_of given.now)) }
+{
+    if name == "graph" {
         graph_in(given, words)
+    } else if name == "export" {
+        export_in(given, words)
+    } else if name == "import" {
+        import_in(given, words)
     } else if name == "stations" {
         stations_in(given)
     } else if name == "page" {
@@ -52,6 +67,7 @@ fn command_named<'a>(name: &str, given: &ArgMatches<'a>, words: &'a [String]) ->
 }
 
 /// `stations FEED`
+#[tactic(auto, unfolding(crate::specs::Words::stations_in))]
 fn stations_in<'a>(given: &ArgMatches<'a>) -> Option<Command<'a>>
     ensures { option_map asked_by result ≡ stations_in (rows_of (found_of given.now)) }
 {
@@ -60,6 +76,7 @@ fn stations_in<'a>(given: &ArgMatches<'a>) -> Option<Command<'a>>
 }
 
 /// `graph FEED`
+#[tactic(auto, unfolding(crate::specs::Words::graph_in))]
 fn graph_in<'a>(given: &ArgMatches<'a>, words: &'a [String]) -> Option<Command<'a>>
     ensures { option_map asked_by result ≡ graph_in (sets_of words.now) (rows_of (found_of given.now)) }
 {
@@ -68,7 +85,34 @@ fn graph_in<'a>(given: &ArgMatches<'a>, words: &'a [String]) -> Option<Command<'
     Some(Command::Graph { feed, options })
 }
 
+/// `export FEED OUT`
+#[tactic(auto, unfolding(crate::specs::Words::export_in))]
+fn export_in<'a>(given: &ArgMatches<'a>, words: &'a [String]) -> Option<Command<'a>>
+    ensures { option_map asked_by result ≡ export_in (sets_of words.now) (rows_of (found_of given.now)) }
+{
+    let feed = value_of(given, "FEED")?;
+    let out = value_of(given, "OUT")?;
+    let options = options_in(given, Defaults::Make, words);
+    Some(Command::Export { feed, out, options })
+}
+
+/// `import JSON SVG CERT`, of two files.
+#[tactic(auto, unfolding(crate::specs::Words::import_in))]
+fn import_in<'a>(given: &ArgMatches<'a>, words: &'a [String]) -> Option<Command<'a>>
+    ensures { option_map asked_by result ≡ import_in (sets_of words.now) (rows_of (found_of given.now)) }
+{
+    let graph = value_of(given, "JSON")?;
+    let files = two_files_in(given)?;
+    let options = settings_in(given, Defaults::Make, words);
+    Some(Command::Import {
+        graph,
+        files,
+        options,
+    })
+}
+
 /// `make FEED SVG CERT` or `map FEED SVG CERT`, of two files, or three with a page.
+#[tactic(auto, unfolding(crate::specs::Words::make_in))]
 fn make_in<'a>(
     given: &ArgMatches<'a>,
     defaults: Defaults,
@@ -87,6 +131,7 @@ fn make_in<'a>(
 }
 
 /// `improve FEED SVG CERT MOVES`, of two files.
+#[tactic(auto, unfolding(crate::specs::Words::improve_in))]
 fn improve_in<'a>(given: &ArgMatches<'a>, words: &'a [String]) -> Option<Command<'a>>
     ensures { option_map asked_by result ≡ improve_in (sets_of words.now) (rows_of (found_of given.now)) }
 {
@@ -103,6 +148,7 @@ fn improve_in<'a>(given: &ArgMatches<'a>, words: &'a [String]) -> Option<Command
 }
 
 /// `check FEED SVG CERT`
+#[tactic(auto, unfolding(crate::specs::Words::check_in))]
 fn check_in<'a>(given: &ArgMatches<'a>, words: &'a [String]) -> Option<Command<'a>>
     ensures { option_map asked_by result ≡ check_in (sets_of words.now) (rows_of (found_of given.now)) }
 {
@@ -117,6 +163,7 @@ fn check_in<'a>(given: &ArgMatches<'a>, words: &'a [String]) -> Option<Command<'
 }
 
 /// `labels FEED CERT OUT`, and `geo FEED CERT OUT`
+#[tactic(auto, unfolding(crate::specs::Words::picture_in))]
 fn picture_in<'a>(given: &ArgMatches<'a>, kind: Picture, words: &'a [String]) -> Option<Command<'a>>
     ensures { option_map asked_by result ≡ picture_in kind (sets_of words.now) (rows_of (found_of given.now)) }
 {
@@ -134,6 +181,7 @@ fn picture_in<'a>(given: &ArgMatches<'a>, kind: Picture, words: &'a [String]) ->
 }
 
 /// `session FEED SCRIPT OUT`
+#[tactic(auto, unfolding(crate::specs::Words::session_in))]
 fn session_in<'a>(given: &ArgMatches<'a>, words: &'a [String]) -> Option<Command<'a>>
     ensures { option_map asked_by result ≡ session_in (sets_of words.now) (rows_of (found_of given.now)) }
 {
@@ -150,6 +198,7 @@ fn session_in<'a>(given: &ArgMatches<'a>, words: &'a [String]) -> Option<Command
 }
 
 /// `trial N`
+#[tactic(auto, unfolding(crate::specs::Words::trial_in))]
 fn trial_in<'a>(given: &ArgMatches<'a>) -> Option<Command<'a>>
     ensures { option_map asked_by result ≡ trial_in (rows_of (found_of given.now)) }
 {
@@ -158,6 +207,7 @@ fn trial_in<'a>(given: &ArgMatches<'a>) -> Option<Command<'a>>
 }
 
 /// `page SVG HTML`, of two files.
+#[tactic(auto, unfolding(crate::specs::Words::page_in))]
 fn page_in<'a>(given: &ArgMatches<'a>) -> Option<Command<'a>>
     ensures { option_map asked_by result ≡ page_in (rows_of (found_of given.now)) }
 {
@@ -170,6 +220,7 @@ fn page_in<'a>(given: &ArgMatches<'a>) -> Option<Command<'a>>
 }
 
 /// Where a new map, its certificate and its page are to lie, at paths of their own.
+#[tactic(auto, unfolding(crate::specs::Words::new_paths_in))]
 fn new_files_in<'a>(given: &ArgMatches<'a>) -> Option<NewFiles<'a>>
     ensures { option_map new_paths_by result ≡ new_paths_in (rows_of (found_of given.now)) }
 {
@@ -190,6 +241,7 @@ fn page_apart<'a>(page: Option<&'a str>, map: MapFiles<'a>) -> Option<NewFiles<'
 }
 
 /// Where the map and its certificate are to lie, at two paths.
+#[tactic(auto, unfolding(crate::specs::Words::two_paths_in))]
 fn two_files_in<'a>(given: &ArgMatches<'a>) -> Option<MapFiles<'a>>
     ensures { option_map paths_by result ≡ two_paths_in (rows_of (found_of given.now)) }
 {
@@ -201,6 +253,7 @@ fn two_files_in<'a>(given: &ArgMatches<'a>) -> Option<MapFiles<'a>>
 }
 
 /// Where the map and its certificate lie.
+#[tactic(auto, unfolding(crate::specs::Words::paths_in))]
 fn files_in<'a>(given: &ArgMatches<'a>) -> Option<MapFiles<'a>>
     ensures { option_map paths_by result ≡ paths_in (rows_of (found_of given.now)) }
 {
@@ -213,6 +266,7 @@ fn files_in<'a>(given: &ArgMatches<'a>) -> Option<MapFiles<'a>>
 }
 
 /// What the user chose.
+#[tactic(auto, unfolding(crate::specs::Words::options_in))]
 fn options_in<'a>(given: &ArgMatches<'a>, defaults: Defaults, words: &'a [String]) -> Options<'a>
     ensures { options_by result ≡ options_in defaults (sets_of words.now) (rows_of (found_of given.now)) }
 {
@@ -224,6 +278,7 @@ fn options_in<'a>(given: &ArgMatches<'a>, defaults: Defaults, words: &'a [String
 }
 
 /// What the user chose where edits stand elsewhere.
+#[tactic(auto, unfolding(crate::specs::Words::settings_in))]
 fn settings_in<'a>(given: &ArgMatches<'a>, defaults: Defaults, words: &'a [String]) -> Options<'a>
     ensures { options_by result ≡ settings_in defaults (sets_of words.now) (rows_of (found_of given.now)) }
 {

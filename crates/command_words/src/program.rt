@@ -1,8 +1,8 @@
 //! The commands as `clap` reads them.
 
 ghost use Rattle.std.specs.Prelude.{◌≡◌, IfOk, codes, false};
-ghost use Rattle.clap.specs.Words.{app_of, new_app, rule_of};
-ghost use Rattle.command_words.specs.Program.{IsLocal, feed_app, file_option, graph_app, improve_app, map_app, moves_operand, new_map_app, octimap_alone, octimap_app, octimap_maps, operand, page_app, picture_app, plain_app, quiet_flag, session_app, set_option, trial_app, with_files, with_map, with_options, with_settings};
+ghost use Rattle.clap.specs.Words.{App, app_of, new_app, rule_of};
+ghost use Rattle.command_words.specs.Program.{IsLocal, feed_app, file_option, graph_app, improve_app, map_app, moves_operand, new_map_app, octimap_alone, octimap_app, octimap_graphs, octimap_made, octimap_maps, operand, page_app, picture_app, plain_app, quiet_flag, session_app, set_option, trial_app, with_command, with_files, with_map, with_options, with_settings, export_app, import_app};
 
 use crate::help;
 use clap::builder::ValueParser;
@@ -13,45 +13,59 @@ use std::alloc::{AllocError, Global};
 pub(crate) fn program<'a>(alloc: Global) -> Result<Command<'a>, AllocError>
     ensures { IfOk result (λ program. app_of program ≡ octimap_app) }
 {
-    let graph = graph(alloc)?;
-    let stations = stations(alloc)?;
-    let page = page(alloc)?;
-    let trial = trial(alloc)?;
-    over_maps(alloc)?
-        .subcommand(graph)?
-        .subcommand(stations)?
-        .subcommand(page)?
-        .subcommand(trial)
+    let program = over_graphs(alloc)?;
+    let program = with_command(program, stations(alloc))?;
+    let program = with_command(program, page(alloc))?;
+    with_command(program, trial(alloc))
 }
 
-/// The program with the commands that make maps and check them.
+/// The program with the commands that work on feeds with settings, and on graph files.
+fn over_graphs<'a>(alloc: Global) -> Result<Command<'a>, AllocError>
+    ensures { IfOk result (λ program. app_of program ≡ octimap_graphs) }
+{
+    let program = over_maps(alloc)?;
+    let program = with_command(program, graph(alloc))?;
+    let program = with_command(program, export(alloc))?;
+    with_command(program, import(alloc))
+}
+
+/// The program with the commands that make maps, check them and draw them.
 fn over_maps<'a>(alloc: Global) -> Result<Command<'a>, AllocError>
     ensures { IfOk result (λ program. app_of program ≡ octimap_maps) }
 {
-    let map = map(alloc)?;
-    let make = make(alloc)?;
-    let improve = improve(alloc)?;
-    let check = check(alloc)?;
-    let labels = picture(
-        alloc,
-        "labels",
-        help::LABELS,
-        help::AFTER_LABELS,
-        help::LABELLED,
-    )?;
-    let geo = picture(alloc, "geo", help::GEO, help::AFTER_GEO, help::GEOGRAPHIC)?;
-    let session = session(alloc)?;
-    alone(alloc)?
-        .subcommand(map)?
-        .subcommand(make)?
-        .subcommand(improve)?
-        .subcommand(check)?
-        .subcommand(labels)?
-        .subcommand(geo)?
-        .subcommand(session)
+    let program = made(alloc)?;
+    let program = with_command(program, check(alloc))?;
+    let program = with_command(program, labels(alloc))?;
+    let program = with_command(program, geo(alloc))?;
+    with_command(program, session(alloc))
+}
+
+/// The program with the commands that make maps of feeds.
+fn made<'a>(alloc: Global) -> Result<Command<'a>, AllocError>
+    ensures { IfOk result (λ program. app_of program ≡ octimap_made) }
+{
+    let program = alone(alloc)?;
+    let program = with_command(program, map(alloc))?;
+    let program = with_command(program, make(alloc))?;
+    with_command(program, improve(alloc))
+}
+
+/// The program with a command more, where there is memory for that.
+fn with_command<'a>(
+    program: Command<'a>,
+    command: Result<Command<'a>, AllocError>,
+) -> Result<Command<'a>, AllocError>
+    ensures { (before added : App) → app_of program.entry ≡ before → IfOk command.entry (λ c. app_of c ≡ added) → IfOk command.entry IsLocal
+        → IfOk result (λ r. app_of r ≡ with_command before added) }
+{
+    match command {
+        Ok(command) => program.subcommand(command),
+        Err(error) => Err(error),
+    }
 }
 
 /// The program before its commands.
+#[tactic(auto, unfolding(crate::specs::Program::octimap_alone))]
 fn alone<'a>(alloc: Global) -> Result<Command<'a>, AllocError>
     ensures { IfOk result (λ program. app_of program ≡ octimap_alone) }
 {
@@ -76,12 +90,40 @@ fn stations<'a>(alloc: Global) -> Result<Command<'a>, AllocError>
 }
 
 /// `graph FEED`
+#[tactic(auto, unfolding(crate::specs::Program::graph_app))]
 fn graph<'a>(alloc: Global) -> Result<Command<'a>, AllocError>
     ensures app { IfOk result (λ command. app_of command ≡ graph_app) }
     ensures local { IfOk result IsLocal }
 {
     let command = over_feed(alloc, "graph", help::GRAPH, help::AFTER_GRAPH)?;
     with_options(alloc, command)
+}
+
+/// `export FEED OUT`
+#[tactic(auto, unfolding(crate::specs::Program::export_app))]
+fn export<'a>(alloc: Global) -> Result<Command<'a>, AllocError>
+    ensures app { IfOk result (λ command. app_of command ≡ export_app) }
+    ensures local { IfOk result IsLocal }
+{
+    let command = over_feed(alloc, "export", help::EXPORT, help::AFTER_EXPORT)?.arg(named_operand(
+        alloc,
+        "OUT",
+        help::GRAPH_FILE,
+    ))?;
+    with_options(alloc, command)
+}
+
+/// `import JSON SVG CERT`
+#[tactic(auto, unfolding(crate::specs::Program::import_app))]
+fn import<'a>(alloc: Global) -> Result<Command<'a>, AllocError>
+    ensures app { IfOk result (λ command. app_of command ≡ import_app) }
+    ensures local { IfOk result IsLocal }
+{
+    let command = named_command(alloc, "import", help::IMPORT, help::AFTER_IMPORT)?.arg(
+        named_operand(alloc, "JSON", help::READ_GRAPH),
+    )?;
+    let command = with_files(alloc, command, help::NEW_SVG, help::NEW_CERT)?;
+    with_settings(alloc, command)
 }
 
 /// `map FEED SVG CERT`
@@ -101,6 +143,7 @@ fn make<'a>(alloc: Global) -> Result<Command<'a>, AllocError>
 }
 
 /// A command that makes a map and its certificate, and with `--page HTML` its page.
+#[tactic(auto, unfolding(crate::specs::Program::new_map_app, crate::specs::Program::map_app))]
 fn new_map<'a>(
     alloc: Global,
     name: &'a str,
@@ -116,6 +159,7 @@ fn new_map<'a>(
 }
 
 /// `improve FEED SVG CERT MOVES`
+#[tactic(auto, unfolding(crate::specs::Program::improve_app))]
 fn improve<'a>(alloc: Global) -> Result<Command<'a>, AllocError>
     ensures app { IfOk result (λ command. app_of command ≡ improve_app) }
     ensures local { IfOk result IsLocal }
@@ -134,6 +178,7 @@ fn moves<'a>(alloc: Global) -> Arg<'a>
 }
 
 /// `check FEED SVG CERT`
+#[tactic(auto, unfolding(crate::specs::Program::map_app))]
 fn check<'a>(alloc: Global) -> Result<Command<'a>, AllocError>
     ensures app { IfOk result (λ command. app_of command ≡ map_app (codes "check")) }
     ensures local { IfOk result IsLocal }
@@ -142,7 +187,30 @@ fn check<'a>(alloc: Global) -> Result<Command<'a>, AllocError>
     over_map(alloc, command, help::SVG, help::CERT)
 }
 
-/// `labels FEED CERT OUT`, and `geo FEED CERT OUT`
+/// `labels FEED CERT OUT`
+fn labels<'a>(alloc: Global) -> Result<Command<'a>, AllocError>
+    ensures app { IfOk result (λ command. app_of command ≡ picture_app (codes "labels")) }
+    ensures local { IfOk result IsLocal }
+{
+    picture(
+        alloc,
+        "labels",
+        help::LABELS,
+        help::AFTER_LABELS,
+        help::LABELLED,
+    )
+}
+
+/// `geo FEED CERT OUT`
+fn geo<'a>(alloc: Global) -> Result<Command<'a>, AllocError>
+    ensures app { IfOk result (λ command. app_of command ≡ picture_app (codes "geo")) }
+    ensures local { IfOk result IsLocal }
+{
+    picture(alloc, "geo", help::GEO, help::AFTER_GEO, help::GEOGRAPHIC)
+}
+
+/// A command that draws the map of a certificate.
+#[tactic(auto, unfolding(crate::specs::Program::picture_app))]
 fn picture<'a>(
     alloc: Global,
     name: &'a str,
@@ -160,6 +228,7 @@ fn picture<'a>(
 }
 
 /// `session FEED SCRIPT OUT`
+#[tactic(auto, unfolding(crate::specs::Program::session_app))]
 fn session<'a>(alloc: Global) -> Result<Command<'a>, AllocError>
     ensures app { IfOk result (λ command. app_of command ≡ session_app) }
     ensures local { IfOk result IsLocal }
@@ -171,6 +240,7 @@ fn session<'a>(alloc: Global) -> Result<Command<'a>, AllocError>
 }
 
 /// `page SVG HTML`
+#[tactic(auto, unfolding(crate::specs::Program::page_app))]
 fn page<'a>(alloc: Global) -> Result<Command<'a>, AllocError>
     ensures app { IfOk result (λ command. app_of command ≡ page_app) }
     ensures local { IfOk result IsLocal }
@@ -181,6 +251,7 @@ fn page<'a>(alloc: Global) -> Result<Command<'a>, AllocError>
 }
 
 /// `trial N`
+#[tactic(auto, unfolding(crate::specs::Program::trial_app))]
 fn trial<'a>(alloc: Global) -> Result<Command<'a>, AllocError>
     ensures app { IfOk result (λ command. app_of command ≡ trial_app) }
     ensures local { IfOk result IsLocal }
@@ -190,6 +261,7 @@ fn trial<'a>(alloc: Global) -> Result<Command<'a>, AllocError>
 }
 
 /// A command that works on a feed.
+#[tactic(auto, unfolding(crate::specs::Program::feed_app))]
 fn over_feed<'a>(
     alloc: Global,
     name: &'a str,
@@ -203,6 +275,7 @@ fn over_feed<'a>(
 }
 
 /// The command with a map and its certificate, settings and edits.
+#[tactic(auto, unfolding(crate::specs::Program::with_map))]
 fn over_map<'a>(
     alloc: Global,
     command: Command<'a>,
@@ -217,6 +290,7 @@ fn over_map<'a>(
 }
 
 /// The command with a map and its certificate alone.
+#[tactic(auto, unfolding(crate::specs::Program::with_files))]
 fn with_files<'a>(
     alloc: Global,
     command: Command<'a>,
@@ -232,6 +306,7 @@ fn with_files<'a>(
 }
 
 /// The command with `--settings FILE` and `--set KEY=VALUE`.
+#[tactic(auto, unfolding(crate::specs::Program::with_settings))]
 fn with_settings<'a>(alloc: Global, command: Command<'a>) -> Result<Command<'a>, AllocError>
     ensures app { IsLocal command.entry → IfOk result (λ r. app_of r ≡ with_settings (app_of command.entry)) }
     ensures local { IsLocal command.entry → IfOk result IsLocal }
@@ -254,6 +329,7 @@ fn set_option<'a>(alloc: Global) -> Arg<'a>
 }
 
 /// The command with `--settings FILE`, `--set KEY=VALUE` and `--edits FILE`.
+#[tactic(auto, unfolding(crate::specs::Program::with_options))]
 fn with_options<'a>(alloc: Global, command: Command<'a>) -> Result<Command<'a>, AllocError>
     ensures app { IsLocal command.entry → IfOk result (λ r. app_of r ≡ with_options (app_of command.entry)) }
     ensures local { IsLocal command.entry → IfOk result IsLocal }
@@ -262,6 +338,7 @@ fn with_options<'a>(alloc: Global, command: Command<'a>) -> Result<Command<'a>, 
 }
 
 /// A command that takes nothing but `--quiet`.
+#[tactic(auto, unfolding(crate::specs::Program::plain_app))]
 fn named_command<'a>(
     alloc: Global,
     name: &'a str,

@@ -47,6 +47,7 @@ fn one_file(matches: &ArgMatches<'_>) -> &'static str {
         Some(name) if name == "page" => help::ONE_PAGE,
         Some(name) if name == "map" => help::ONE_MAP,
         Some(name) if name == "improve" => help::ONE_IMPROVED,
+        Some(name) if name == "import" => help::ONE_IMPORTED,
         _ => help::ONE_FILE,
     }
 }

@@ -1,5 +1,5 @@
 -- The orders of solved parts: on each part those that were found, so that all together cost the sum of the least costs.
-use Rattle.std.proofs.Common.{◌≡◌, ◌≢◌, ◌∙◌, ap, sym, subst, refl, ℕ, suc, ◌+◌, ◌<◌, ◌≤◌, ◌==◌, ◌||◌, Bool, true, false, true≢false, List, [], ◌∷◌, length, map, get_or, set, get_or-set_same, get_or-set_other, sum_by, arith, eqb-true, eq-eqb, Result, Ok, Err, cond, IsTrue}
+use Rattle.std.proofs.Common.{◌≡◌, ◌≢◌, ◌∙◌, ap, sym, subst, refl, ℕ, suc, ◌+◌, ◌<◌, ◌≤◌, ◌==◌, ◌||◌, Bool, true, false, true≢false, List, [], ◌∷◌, length, map, get_or, set, get_or-set_same, get_or-set_other, sum_by, arith, eqb-true, eq-eqb, Result, Ok, Err, IsTrue}
 use Rattle.std.specs.List.{All, AllByRecursion, Contains}
 use Rattle.std.proofs.lemmas.List.Sums.{sum_by-cons}
 use Rattle.std.proofs.lemmas.List.Elements.{All-contains}

@@ -1,5 +1,5 @@
 -- Parts that are solved one after the other.
-use Rattle.std.proofs.Common.{◌≡◌, ◌∙◌, ap, sym, subst, refl, ℕ, ◌+◌, ◌-◌, ◌<◌, ◌≤◌, nat_le, Bool, true, false, cond, List, [], ◌∷◌, ◌++◌, length, map, take, drop, get_or, sum_by, arith, Option, Some, None, Result, Ok, Err, set}
+use Rattle.std.proofs.Common.{◌≡◌, ◌∙◌, ap, sym, subst, refl, ℕ, ◌+◌, ◌-◌, ◌<◌, ◌≤◌, nat_le, Bool, true, false, cond, List, [], ◌∷◌, ◌++◌, length, map, take, drop, get_or, sum_by, arith, Some, None, Result, Ok, Err, set}
 use Rattle.std.specs.Prelude.{Vec}
 use Rattle.std.specs.List.{AllByRecursion}
 use Rattle.std.specs.Global.{Global}
@@ -35,7 +35,7 @@ use Rattle.graph_maps.specs.Solving.{of_search}
 use Rattle.graph_maps.specs.Solving.{SolvedPart, solved, solved_first, with_solved, with_parts, solve_from, solve_outcome, parts_in}
 use Rattle.graph_maps.specs.Certificates.{proof_part}
 use Rattle.graph_maps.specs.Making.{HasCause}
-use Rattle.graph_maps.specs.Stages.{prepended, plain_parts, CostClaimed, IsShown, IsSolution, IsMore, IsUnsolved, AreSolved, HaveProofTrees}
+use Rattle.graph_maps.specs.Stages.{prepended, CostClaimed, IsShown, IsSolution, IsMore, IsUnsolved, AreSolved, HaveProofTrees}
 
 prepended-more : (done : List SolvedPart) (s : SolvedPart) (outcome : Result (List SolvedPart) MakeFault) → prepended (done ++ s ∷ []) outcome ≡ prepended done (with_solved s outcome)
 prepended-more [] s outcome = refl

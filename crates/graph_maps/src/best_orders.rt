@@ -1,6 +1,6 @@
 //! Line orders of a problem, with their proof.
 
-ghost use Rattle.std.specs.Prelude.{◌≡◌, ◌≤◌, ◌+◌, map, sum_by, All, Contains, IfOk};
+ghost use Rattle.std.specs.Prelude.{◌≡◌, ◌≤◌, ◌+◌, sum_by, All, Contains, IfOk};
 ghost use Rattle.order_model.specs.Problems.{IsProblem};
 ghost use Rattle.order_model.specs.Costs.{cost_of, AreOrders};
 ghost use Rattle.order_proof.specs.Plain.{plain_proof};

@@ -1,6 +1,6 @@
 //! The map of a line graph with its names, by a certificate.
 
-ghost use Rattle.std.specs.Prelude.{◌≡◌, ◌<◌, ◌^◌, length, All, IfOk};
+ghost use Rattle.std.specs.Prelude.{◌<◌, ◌^◌, length, All, IfOk};
 ghost use Rattle.map_base.specs.Settings.{IsImportance};
 ghost use Rattle.graph_maps.specs.Subjects.{told_by, AreListed};
 ghost use Rattle.graph_maps.specs.Readings.{certificate_in};

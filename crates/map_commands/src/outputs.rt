@@ -43,7 +43,7 @@ fn with_page(outputs: Vec<Output>, page: Option<Output>) -> Result<Sequence<Outp
 
 /// The output of the page of a map, if one is named.
 fn page_at(alloc: Global, page: Option<&str>, svg: &[u8]) -> Result<Option<Output>, NoMemory>
-    ensures { IfOk result (λ output. option_to_list output ≡ page_output (option_map (λ path. path.now) page) svg.now) }
+    ensures { IfOk result (λ output. option_to_list output ≡ page_output (option_map (λ path. path.now) page.entry) svg.now) }
 {
     match page {
         None => Ok(None),

@@ -1,6 +1,6 @@
 //! The map of a feed and its certificate.
 
-ghost use Rattle.std.specs.Prelude.{◌≡◌, ◌≤◌, ◌+◌, All, Contains, IfOk};
+ghost use Rattle.std.specs.Prelude.{◌≤◌, ◌+◌, All, Contains, IfOk};
 ghost use Rattle.graph_maps.specs.Making.{bytes_of, Gives};
 ghost use Rattle.graph_maps.specs.Improving.{improved_bytes};
 ghost use Rattle.graph_maps.specs.Keeping.{HoldsFinished};

@@ -16,7 +16,7 @@ use Rattle.run_status.specs.declared.refusal.Refusal.{Refusal}
 use Rattle.run_status.specs.declared.refusal.Refusal.TheVariants as refused
 use Rattle.run_status.specs.declared.status.Status.{Status}
 use Rattle.run_status.specs.declared.status.Status.TheVariants as status
-use Rattle.command_words.specs.Asked.{Asked, stations, graph, make, improve, check, depict, session, trial, page}
+use Rattle.command_words.specs.Asked.{Asked, stations, graph, export, imported, make, improve, check, depict, session, trial, page}
 use Rattle.command_paths.specs.Paths.{MapPaths}
 use Rattle.command_words.specs.Words.{asked, asked_in}
 use Rattle.command_words.proofs.Apart.{AreApart, AreNewApart, asked_apart}
@@ -114,6 +114,7 @@ refusal_not_done paths (refused.Limit limit) same = cc
 refusal_not_done paths (refused.Refuted item) same = cc
 refusal_not_done paths (refused.BadSettings why) same = cc
 refusal_not_done paths (refused.BadEdit line) same = cc
+refusal_not_done paths (refused.BadGraph why) same = cc
 refusal_not_done paths (refused.Missing input) same = cc
 refusal_not_done paths (refused.ReadFault input) same = cc
 refusal_not_done paths refused.NoMemory same = cc
@@ -125,8 +126,19 @@ Holds outputs old new = (target : Target) → held_by target new ≡ held_after 
 means : (told : Told) (command : Asked) (finished : Finished) (old new : Written) → AreApart (Some command) → Promised told command finished → finished.bad_line ≡ None → Holds finished.outputs old new → MeansDone told command old new
 means told (stations feed) finished old new apart promised none holds = tt
 means told (graph feed chosen) finished old new apart promised none holds = tt
+means told (export feed out chosen) finished old new apart promised none holds = tt
 means told (trial number) finished old new apart promised none holds = tt
 means told (page shown html) finished old new apart promised none holds = tt
+means told (imported json paths chosen) finished old new apart promised none holds =
+    let has = subst (λ (o : List Output). Holds o old new) promised.are holds in
+    record {
+      both = promised.both;
+      reads = promised.reads;
+      made = promised.made;
+      promised = promised.promised;
+      map = has (Path paths.picture) ∙ map_held paths promised.made (held_by (Path paths.picture) old) apart;
+      certificate = has (Path paths.certificate) ∙ certificate_held paths promised.made (held_by (Path paths.certificate) old);
+    }
 means told (make feed paths chosen) finished old new apart promised none holds =
     let has = subst (λ (o : List Output). Holds o old new) promised.are holds in
     record {

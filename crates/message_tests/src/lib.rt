@@ -6,6 +6,8 @@ mod edit_tests;
 #[cfg(test)]
 mod feed_tests;
 #[cfg(test)]
+mod graph_tests;
+#[cfg(test)]
 mod map_tests;
 #[cfg(test)]
 mod row_tests;

@@ -4,7 +4,7 @@ ghost use Rattle.std.specs.Prelude.{◌≡◌, [], ◌∷◌, IfOk, IfSome, OnOk
 ghost use Rattle.std.specs.List.{find};
 ghost use Rattle.command_paths.specs.Paths.{new_paths_by};
 ghost use Rattle.command_words.specs.Asked.{asked_by};
-ghost use Rattle.output_guard.specs.Guarded.{clash_with, files_of, first_clash, has_feed, has_certificate, has_picture, has_script, is_read, outputs_of, page_file, paths_read, with_read, with_tables};
+ghost use Rattle.output_guard.specs.Guarded.{clash_with, files_of, first_clash, has_feed, has_certificate, has_picture, has_script, is_read, outputs_of, page_file, paths_read, with_read, with_tables, has_graph};
 
 use crate::outputs::{Outputs, outputs_of};
 use command_paths::NewFiles;
@@ -129,6 +129,7 @@ fn input_paths(alloc: Global, command: &Command<'_>) -> Result<Vec<Text>, NoMemo
     push_read(alloc, command, Input::Settings, &mut paths)?;
     push_read(alloc, command, Input::Edits, &mut paths)?;
     push_tables(alloc, command, &mut paths)?;
+    push_read(alloc, command, Input::Graph, &mut paths)?;
     push_read(alloc, command, Input::Script, &mut paths)?;
     push_read(alloc, command, Input::Certificate, &mut paths)?;
     push_read(alloc, command, Input::Picture, &mut paths)?;
@@ -170,6 +171,7 @@ fn is_read(command: &Command<'_>, input: Input) -> bool
         Input::Settings => inputs_of(command).options.settings.is_some(),
         Input::Edits => inputs_of(command).options.edits.is_some(),
         Input::Table(_) => has_feed(command),
+        Input::Graph => has_graph(command),
         Input::Script => has_script(command),
         Input::Certificate => has_certificate(command),
         Input::Picture => has_picture(command),
@@ -181,9 +183,20 @@ fn has_feed(command: &Command<'_>) -> bool
     ensures { result ≡ has_feed (asked_by command.now) }
 {
     match command {
+        Command::Import { .. } => false,
         Command::Trial { .. } => false,
         Command::Page { .. } => false,
         _ => true,
+    }
+}
+
+/// Whether a command reads a graph file.
+fn has_graph(command: &Command<'_>) -> bool
+    ensures { result ≡ has_graph (asked_by command.now) }
+{
+    match command {
+        Command::Import { .. } => true,
+        _ => false,
     }
 }
 

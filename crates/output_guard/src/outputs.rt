@@ -28,7 +28,12 @@ pub fn outputs_of<'a>(command: &Command<'a>) -> Outputs<'a>
             map: *files,
             page: None,
         }),
+        Command::Import { files, .. } => Outputs::Map(NewFiles {
+            map: *files,
+            page: None,
+        }),
         Command::Depict { out, .. } => Outputs::File(out),
+        Command::Export { out, .. } => Outputs::File(out),
         Command::Session { out, .. } => Outputs::File(out),
         Command::Page { page, .. } => Outputs::File(page),
         Command::Stations { .. } => Outputs::Nothing,

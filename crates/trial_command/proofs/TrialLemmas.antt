@@ -50,6 +50,7 @@ unloaded trial (refused.Spent component branches) gives = ap (tried_on trial) gi
 unloaded trial (refused.Limit limit) gives = ap (tried_on trial) gives
 unloaded trial (refused.Refuted item) gives = ap (tried_on trial) gives
 unloaded trial (refused.BadSettings bad) gives = ap (tried_on trial) gives
+unloaded trial (refused.BadGraph bad) gives = ap (tried_on trial) gives
 unloaded trial (refused.BadEdit line) gives = ap (tried_on trial) gives
 unloaded trial (refused.Missing input) gives = ap (tried_on trial) gives
 

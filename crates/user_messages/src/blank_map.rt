@@ -8,7 +8,7 @@ use command_words::Command;
 use disk_door::DiskFiles;
 use gtfs_fields::whole;
 use map_base::{NoMemory, Point, Text};
-use message_texts::far_stations;
+use message_texts::{far_stations, quoted};
 use std::alloc::Global;
 use std::fmt::Write;
 use std::rt::Files;
@@ -28,8 +28,9 @@ pub(crate) fn blank_map<R: Files + AllocGlobal>(
     inputs: &Inputs<'_>,
 ) -> Result<String, NoMemory> {
     match command {
-        Command::Make { files, .. } => of_certificate(rt, files.map.certificate, inputs),
-        Command::Improve { files, .. } => of_certificate(rt, files.certificate, inputs),
+        Command::Make { files, .. } => of_certificate(rt, command, files.map.certificate, inputs),
+        Command::Improve { files, .. } => of_certificate(rt, command, files.certificate, inputs),
+        Command::Import { graph, files, .. } => of_graph_file(rt, graph, files.certificate),
         _ => Ok(String::new(rt.alloc())),
     }
 }
@@ -37,24 +38,43 @@ pub(crate) fn blank_map<R: Files + AllocGlobal>(
 /// The lines, by the certificate that was written.
 fn of_certificate<R: Files + AllocGlobal>(
     rt: &R,
+    command: &Command<'_>,
     certificate: &str,
     inputs: &Inputs<'_>,
 ) -> Result<String, NoMemory> {
     if begins_with(rt, certificate, OF_NOTHING) {
         routes_line(rt, inputs)
     } else {
-        far_line(rt, inputs)
+        far_line(rt, command, inputs)
     }
+}
+
+/// The line for the map of a graph file, by the certificate that was written.
+fn of_graph_file<R: Files + AllocGlobal>(
+    rt: &R,
+    graph: &str,
+    certificate: &str,
+) -> Result<String, NoMemory> {
+    let alloc = rt.alloc();
+    if !begins_with(rt, certificate, OF_NOTHING) {
+        return Ok(String::new(alloc));
+    }
+    let shown = quoted(alloc, graph.as_bytes())?;
+    Ok(format!(in alloc; "octimap: the map shows nothing: {shown} has no nodes\n")?)
 }
 
 /// A line for stations of the map that lie far from all others. The network is looked at only where the feed has such
 /// stations.
-fn far_line<R: Files + AllocGlobal>(rt: &R, inputs: &Inputs<'_>) -> Result<String, NoMemory> {
+fn far_line<R: Files + AllocGlobal>(
+    rt: &R,
+    command: &Command<'_>,
+    inputs: &Inputs<'_>,
+) -> Result<String, NoMemory> {
     let alloc = rt.alloc();
     if !has_far_stations(rt, inputs.feed)? {
         return Ok(String::new(alloc));
     }
-    match network_of(rt, inputs)? {
+    match network_of(rt, command, inputs)? {
         Some(network) => network.far_line(alloc),
         None => Ok(String::new(alloc)),
     }

@@ -4,6 +4,7 @@
 #![tactic(auto)]
 
 mod bad_edit;
+mod bad_graph;
 mod bad_row;
 mod bad_settings;
 mod blank_map;

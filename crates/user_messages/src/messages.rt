@@ -1,6 +1,7 @@
 //! The lines for a user, by how a run ended.
 
 use crate::bad_edit::bad_edit;
+use crate::bad_graph::bad_graph;
 use crate::bad_row::{BadRow, bad_row};
 use crate::bad_settings::bad_settings;
 use crate::blank_map::blank_map;
@@ -42,6 +43,7 @@ fn of_command<R: Files + AllocGlobal + Clone + Drop>(
         Status::Done => blank_map(rt, command, &inputs),
         Status::WriteFault => unwritten(rt.alloc(), fault),
         Status::BadEdit { line } => bad_edit(rt, &inputs, *line),
+        Status::NoRoute { seg } => no_route(rt, command, &inputs, *seg),
         _ => of_inputs(rt, &inputs, status),
     }
 }
@@ -58,16 +60,18 @@ fn of_inputs<R: Files + AllocGlobal + Clone + Drop>(
             let (table, row, why) = (*table, *row, *why);
             bad_row(rt, inputs.feed, BadRow { table, row, why })
         }
-        Status::NoRoute { seg } => no_route(rt, inputs, *seg),
         Status::Refuted(item) => refuted(alloc, item),
         Status::Spent { branches, .. } => spent(alloc, *branches),
         Status::Limit(limit) => above(alloc, *limit),
         Status::Missing { path } => missing(rt, path.as_str()),
         Status::ReadFault { path } => unread(rt, path.as_str()),
         Status::BadSettings(why) => bad_settings(rt, &inputs.options, why),
+        Status::BadGraph(why) => bad_graph(rt, inputs.script, *why),
         Status::NoMemory => no_memory(alloc),
-        Status::Done | Status::Usage | Status::WriteFault | Status::BadEdit { .. } => {
-            Ok(String::new(alloc))
-        }
+        Status::Done
+        | Status::Usage
+        | Status::WriteFault
+        | Status::NoRoute { .. }
+        | Status::BadEdit { .. } => Ok(String::new(alloc)),
     }
 }

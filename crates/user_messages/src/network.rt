@@ -1,26 +1,63 @@
 //! The network of a feed, looked at again.
 
-use crate::lookup::is_plain;
-use command_inputs::{Inputs, Loaded, load, path_of};
+use crate::lookup::{bytes_at, is_plain};
+use command_inputs::{Inputs, load, path_of};
+use command_words::Command;
 use disk_door::DiskFiles;
 use graph_core::{LineGraph, NodeKind};
+use graph_json::{Imported, JsonFault, read_graph};
 use line_graph::build;
-use map_base::{NoMemory, NodeId, Point};
+use map_base::{NoMemory, NodeId, Point, Sequence, Text};
 use message_texts::{far_stations, quoted};
 use run_status::{Input, Refusal};
 use std::alloc::Global;
 use std::rt::Files;
 use table_rows::Table;
+use transit_feed::Tables;
 
-/// What a command works on, and its line graph.
+/// The line graph that a command works on.
 #[derive(Drop)]
 pub(crate) struct Network {
-    pub(crate) loaded: Loaded,
     pub(crate) graph: LineGraph,
+    /// What its stations are called.
+    names: Sequence<Text>,
+    /// What says where stations lie.
+    places: &'static str,
 }
 
 /// The network of a command's inputs; none where they can't be read again, or are no plain files.
 pub(crate) fn network_of<R: Files + AllocGlobal>(
+    rt: &R,
+    command: &Command<'_>,
+    inputs: &Inputs<'_>,
+) -> Result<Option<Network>, NoMemory> {
+    match command {
+        Command::Import { graph, .. } => of_graph_file(rt, graph),
+        _ => of_feed(rt, inputs),
+    }
+}
+
+/// The network of a graph file.
+fn of_graph_file<R: Files + AllocGlobal>(rt: &R, path: &str) -> Result<Option<Network>, NoMemory> {
+    let Some(bytes) = bytes_at(rt, path)? else {
+        return Ok(None);
+    };
+    match read_graph(rt.alloc(), bytes.as_slice()) {
+        Ok(read) => {
+            let Imported { graph, names, .. } = read;
+            Ok(Some(Network {
+                graph,
+                names: names.stations,
+                places: "coordinates",
+            }))
+        }
+        Err(JsonFault::NoMemory) => Err(NoMemory),
+        Err(_) => Ok(None),
+    }
+}
+
+/// The network of a feed.
+fn of_feed<R: Files + AllocGlobal>(
     rt: &R,
     inputs: &Inputs<'_>,
 ) -> Result<Option<Network>, NoMemory> {
@@ -35,9 +72,27 @@ pub(crate) fn network_of<R: Files + AllocGlobal>(
         Err(_) => return Ok(None),
     };
     match build(alloc, &loaded.tables, &loaded.settings) {
-        Ok(graph) => Ok(Some(Network { loaded, graph })),
+        Ok(graph) => Ok(Some(Network {
+            graph,
+            names: names_of(alloc, &loaded.tables)?,
+            places: "stop_lat and stop_lon",
+        })),
         Err(_) => Ok(None),
     }
+}
+
+/// What the stations of a feed are called: by their names, else by their ids.
+fn names_of(alloc: Global, tables: &Tables) -> Result<Sequence<Text>, NoMemory> {
+    let mut names = Vec::new(alloc);
+    for station in tables.stations.iter() {
+        let name = if station.name.as_str().is_empty() {
+            station.id.as_str()
+        } else {
+            station.name.as_str()
+        };
+        names.push(Text::of(alloc, name)?)?;
+    }
+    Ok(Sequence::of(names))
 }
 
 /// Whether all files that a command loads are plain ones, the shapes where they are there.
@@ -73,7 +128,7 @@ fn is_plain_at<R: Files + AllocGlobal>(
 }
 
 impl Network {
-    /// What a node is called: the name of its station, else its id; a junction has none.
+    /// What a node is called; a junction has no name.
     pub(crate) fn name(&self, alloc: Global, node: NodeId) -> Result<String, NoMemory> {
         if node.0 >= self.graph.nodes() {
             return Ok(String::new(alloc));
@@ -81,19 +136,16 @@ impl Network {
         let NodeKind::Station(id) = self.graph.kind(node) else {
             return Ok(String::from_str(alloc, "a junction")?);
         };
-        match self.loaded.tables.stations.as_slice().get(id.0 as usize) {
-            Some(station) if station.name.as_str().is_empty() => {
-                quoted(alloc, station.id.as_str().as_bytes())
-            }
-            Some(station) => quoted(alloc, station.name.as_str().as_bytes()),
+        match self.names.as_slice().get(id.0 as usize) {
+            Some(name) => quoted(alloc, name.as_str().as_bytes()),
             None => Ok(String::new(alloc)),
         }
     }
 
     /// A line for stations that lie far from all others; empty where there are none.
     pub(crate) fn far_line(&self, alloc: Global) -> Result<String, NoMemory> {
-        let (nodes, places) = self.stations(alloc)?;
-        let far = far_stations(alloc, places.as_slice())?;
+        let (nodes, points) = self.stations(alloc)?;
+        let far = far_stations(alloc, points.as_slice())?;
         let Some(first) = far.first() else {
             return Ok(String::new(alloc));
         };
@@ -102,8 +154,9 @@ impl Network {
         };
         let name = self.name(alloc, *node)?;
         let count = far.len();
+        let places = self.places;
         Ok(format!(in alloc;
-            "octimap: stations far from all others: {count}, the first is {name}; are their stop_lat and stop_lon right?\n"
+            "octimap: stations far from all others: {count}, the first is {name}; are their {places} right?\n"
         )?)
     }
 

@@ -2,6 +2,7 @@
 
 use crate::network::{Network, network_of};
 use command_inputs::Inputs;
+use command_words::Command;
 use map_base::{NoMemory, NodeId, SegId};
 use map_method::Defaults;
 use std::alloc::Global;
@@ -10,18 +11,19 @@ use std::rt::Files;
 /// The lines for the first segment without a way: between which stations it lies, and what may do.
 pub(crate) fn no_route<R: Files + AllocGlobal>(
     rt: &R,
+    command: &Command<'_>,
     inputs: &Inputs<'_>,
     seg: SegId,
 ) -> Result<String, NoMemory> {
     let alloc = rt.alloc();
     let mut text = String::new(alloc);
-    if let Some(network) = network_of(rt, inputs)? {
+    if let Some(network) = network_of(rt, command, inputs)? {
         let line = between(alloc, &network, seg)?;
         text.push_str(line.as_str())?;
         let line = network.far_line(alloc)?;
         text.push_str(line.as_str())?;
     }
-    text.push_str(hint(inputs.options.defaults))?;
+    text.push_str(hint(command, inputs.options.defaults))?;
     Ok(text)
 }
 
@@ -60,7 +62,18 @@ fn meeting(network: &Network, node: NodeId) -> usize {
 }
 
 /// What may do.
-fn hint(defaults: Defaults) -> &'static str {
+fn hint(command: &Command<'_>, defaults: Defaults) -> &'static str {
+    match command {
+        Command::Import { .. } => {
+            "octimap: finer grids and room for a dense centre may do, as by --set finest=16 and \
+             --set 'spread=\"auto\"'; or place stations farther apart\n"
+        }
+        _ => hint_of(defaults),
+    }
+}
+
+/// What may do for the map of a feed.
+fn hint_of(defaults: Defaults) -> &'static str {
     match defaults {
         Defaults::Make => {
             "octimap: `octimap map` tries finer grids and gives a dense centre room, as do --set finest=16 and \
