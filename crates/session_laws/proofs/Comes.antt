@@ -98,6 +98,7 @@ same_outcome given file (reads i rest) h =
     unchanged input.Script other = refl
     unchanged input.Certificate other = refl
     unchanged input.Picture other = refl
+    unchanged input.Graph other = refl
 
 -- what is loaded where there is no file of edits
 loaded_alone : (chosen : Chosen) (given : Input → Option (List ℕ)) (loaded : Loaded) → chosen.edits ≡ None → outcome (load_work chosen) given ≡ Ok loaded → outcome (feed_work chosen) given ≡ Ok loaded

@@ -14,7 +14,7 @@ use Rattle.map_faults.specs.declared.fault.MakeFault.{MakeFault}
 use Rattle.graph_maps.specs.Making.{MapBytes}
 use Rattle.map_engine.specs.Making.{make_outcome}
 use Rattle.edit_session.specs.Scripts.{draw_with, draws_in, followed_by, followed_from, followed_in}
-use Rattle.session_laws.specs.Before.{after_draw, draws, edits_before}
+use Rattle.session_laws.specs.Before.{behind_draw, draws, edits_before}
 
 -- a line of a script that says an edit is one of a file of edits
 edit_same : (line : List ℕ) (e : Edit) → script_line_in line ≡ Some (script.Edit e) → edit_in line ≡ Some e
@@ -39,7 +39,7 @@ standing_at named done other before (line ∷ rest) k standing e =
     by (script_line_in line) refl e (λ i next f. standing_at named (suc done) other next rest i standing f) (λ next f. standing_at named (suc done) (suc other) next rest k standing f)
   where
     of_draw : (i : ℕ) → ((i : ℕ) → slice_get (followed_from named (suc done) before rest).draws i ≡ Some standing → edits_from named other before (edits_before i rest) ≡ Ok standing)
-        → slice_get (before ∷ (followed_from named (suc done) before rest).draws) i ≡ Some standing → edits_from named other before (after_draw i rest) ≡ Ok standing
+        → slice_get (before ∷ (followed_from named (suc done) before rest).draws) i ≡ Some standing → edits_from named other before (behind_draw i (λ j. edits_before j rest)) ≡ Ok standing
     of_draw zero behind f = let same : before ≡ standing = cc in ap (λ (s : List Edit). Ok s) same
     of_draw (suc i) behind f = behind i f
 
@@ -60,9 +60,9 @@ standing_at named done other before (line ∷ rest) k standing e =
         → edits_from named other before (edits_before k (line ∷ rest)) ≡ Ok standing
     by None is f drawn edited = absurd (nothing_there k standing f)
     by (Some script.Draw) is f drawn edited =
-        ap (λ (o : Option ScriptLine). edits_from named other before (cond (draws o) (after_draw k rest) (line ∷ edits_before k rest))) is ∙ of_draw k (λ i g. drawn i before g) f
+        ap (λ (o : Option ScriptLine). edits_from named other before (cond (draws o) (behind_draw k (λ j. edits_before j rest)) (line ∷ edits_before k rest))) is ∙ of_draw k (λ i g. drawn i before g) f
     by (Some (script.Edit edit)) is f drawn edited =
-        ap (λ (o : Option ScriptLine). edits_from named other before (cond (draws o) (after_draw k rest) (line ∷ edits_before k rest))) is
+        ap (λ (o : Option ScriptLine). edits_from named other before (cond (draws o) (behind_draw k (λ j. edits_before j rest)) (line ∷ edits_before k rest))) is
         ∙ of_edit edit (edit_same line edit is) (is_due named before edit) refl (λ g. edited (after_edit before edit) g) f
 
 pub edits_at : (feed : Feed) (text file : List ℕ) (k : ℕ) (standing : List Edit) → slice_get (followed_in feed text).draws k ≡ Some standing → lines file ≡ edits_before k (lines text)

@@ -9,13 +9,12 @@ abbrev pub draws : Option ScriptLine → Bool
 draws (Some script.Draw) = true
 draws line = false
 
-abbrev mutual
-  -- the lines before draw k of a script, from 0, but for the draws themselves
-  pub edits_before : ℕ → List (List ℕ) → List (List ℕ)
-  edits_before k [] = []
-  edits_before k (line ∷ rest) = if draws (script_line_in line) then after_draw k rest else line ∷ edits_before k rest
+-- what stands behind a draw counts where that is not yet the draw that is looked for: by what counts there before draw k
+abbrev pub behind_draw : ℕ → (ℕ → List (List ℕ)) → List (List ℕ)
+behind_draw zero before = []
+behind_draw (suc k) before = before k
 
-  -- the same behind a draw: nothing more, where it is the last that counts
-  pub after_draw : ℕ → List (List ℕ) → List (List ℕ)
-  after_draw zero rest = []
-  after_draw (suc k) rest = edits_before k rest
+-- the lines before draw k of a script, from 0, but for the draws themselves
+abbrev pub edits_before : ℕ → List (List ℕ) → List (List ℕ)
+edits_before k [] = []
+edits_before k (line ∷ rest) = if draws (script_line_in line) then behind_draw k (λ i. edits_before i rest) else line ∷ edits_before k rest

@@ -2,7 +2,7 @@
 use Rattle.std.specs.Prelude.{ℕ, List, Option, Some}
 use Rattle.command_paths.specs.Paths.{Chosen}
 use Rattle.run_status.specs.declared.input.Input.{Input}
-use Rattle.run_status.specs.declared.input.Input.TheVariants.{Settings, Edits, Table, Script, Certificate, Picture}
+use Rattle.run_status.specs.declared.input.Input.TheVariants.{Settings, Edits, Table, Script, Certificate, Picture, Graph}
 
 -- what a user chose, with a file of edits at this path
 abbrev pub with_edits : Chosen → List ℕ → Chosen
@@ -16,3 +16,4 @@ edits_given given file (Table table) = given (Table table)
 edits_given given file Script = given Script
 edits_given given file Certificate = given Certificate
 edits_given given file Picture = given Picture
+edits_given given file Graph = given Graph
