@@ -4,11 +4,16 @@ use Rattle.std.specs.Option.{option_map}
 use Rattle.graph_core.specs.declared.parts.GraphParts.{GraphParts}
 use Rattle.line_graph.specs.Outcome.{graph_outcome}
 use Rattle.files_door.specs.Files.{file_at}
+use Rattle.map_method.specs.declared.claim.Claim.{Claim}
+use Rattle.map_faults.specs.declared.fault.CheckFault.{CheckFault}
+use Rattle.map_faults.specs.declared.fault.CheckFault.TheVariants as check
 use Rattle.map_faults.specs.declared.fault.CheckItem.{CheckItem}
 use Rattle.map_faults.specs.declared.fault.CheckItem.TheVariants as found
 use Rattle.graph_maps.specs.declared.checked.Checked.{Checked}
 use Rattle.graph_maps.specs.declared.checked.Proved.{Proved}
-use Rattle.graph_maps.specs.Checking.{PlainChecked, checked_bytes, first_difference, unless_refused}
+use Rattle.graph_maps.specs.Checking.{HasCause, PlainChecked, checked_bytes, first_difference, unless_refused}
+use Rattle.graph_maps.specs.Readings.{certificate_in}
+use Rattle.map_engine.specs.Checking.{checked_text}
 use Rattle.map_engine.specs.Promises.{IsCertified}
 use Rattle.command_run.specs.declared.output.Output.{Output}
 use Rattle.command_run.specs.Work.{Work, ends, ◌>>=◌}
@@ -20,8 +25,9 @@ use Rattle.run_status.specs.declared.refusal.Refusal.{Refusal}
 use Rattle.run_status.specs.declared.refusal.Refusal.TheVariants as refused
 use Rattle.command_paths.specs.Paths.{Chosen}
 use Rattle.command_inputs.specs.Inputs.{InputPaths, input_at}
-use Rattle.map_commands.specs.MapWorks.{proved_line, built, certificate_work, picture_work, check_work, picture_checked, checked_as}
+use Rattle.map_commands.specs.MapWorks.{proved_line, built, certificate_checked, certificate_work, picture_work, check_work, picture_checked, checked_as}
 use Rattle.run_status.specs.Outputs.{said}
+use Rattle.run_status.specs.Refusals.{of_check}
 use Rattle.command_inputs.specs.Loading.{load_work}
 use Rattle.run_status.specs.Following.{Follows, Gives}
 use Rattle.map_commands.specs.Promises.{AreOfYes, IsAccepted}
@@ -84,6 +90,22 @@ module _ (told : Told) (paths : Input → List ℕ) (chosen : Chosen) (rose : Ty
         → Follows told paths later same_outputs (picture_work (checked_bytes checked)) result → Follows told paths rose same_outputs (check_work chosen) result
     picture_follows first_rose checked first second =
         past_graph (follows_then told paths first_rose later later checked_bytes same_outputs (certificate_work loaded graph) picture_work checked result (λ r. r) first second)
+
+-- a certificate that is refused, or a limit that is met
+pub certificate_given : (loaded : Loaded) (graph : GraphParts) (claim : Claim) (bytes : List ℕ) (file : Option (List ℕ)) (fault : CheckFault) (result : Result Checked Refusal)
+    → claim ≡ loaded.method.claim → file ≡ Some bytes
+    → HasCause (checked_text loaded.tables loaded.settings claim graph (certificate_in bytes)) fault → result ≡ Err (of_check fault)
+    → Gives checked_bytes result (certificate_checked loaded graph file)
+certificate_given loaded graph claim bytes file fault result same is refuses came =
+    subst (λ (r : Result Checked Refusal). Gives checked_bytes r (certificate_checked loaded graph file)) (sym came)
+    (subst (λ (f : Option (List ℕ)). Gives {A = Checked} checked_bytes (Err (of_check fault)) (certificate_checked loaded graph f)) (sym is)
+    (by_fault fault (subst (λ (c : Claim). HasCause (checked_text loaded.tables loaded.settings c graph (certificate_in bytes)) fault) same refuses)))
+  where
+    by_fault : (f : CheckFault) → HasCause (checked_text loaded.tables loaded.settings loaded.method.claim graph (certificate_in bytes)) f
+        → Gives {A = Checked} checked_bytes (Err (of_check f)) (certificate_checked loaded graph (Some bytes))
+    by_fault check.NoMemory refuses = tt
+    by_fault (check.Refuted found) refuses = ap (checked_as {A = PlainChecked}) refuses
+    by_fault (check.Limit limit) refuses = ap (checked_as {A = PlainChecked}) refuses
 
 -- texts without a first difference are the same
 pub same_text : (picture svg : List ℕ) → first_difference picture svg ≡ None → svg ≡ picture

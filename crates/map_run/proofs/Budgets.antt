@@ -23,6 +23,7 @@ use Rattle.command_paths.specs.Paths.{Chosen}
 use Rattle.run_status.specs.declared.input.Input.{Input}
 use Rattle.run_status.specs.declared.input.Input.TheVariants as input
 use Rattle.run_status.specs.declared.refusal.Refusal.{Refusal}
+use Rattle.run_status.specs.declared.refusal.Refusal.TheVariants as refused
 use Rattle.command_inputs.specs.declared.loaded.Loaded.{Loaded}
 use Rattle.command_inputs.specs.Loading.{changed_by, changed_in, edited_by, edits_of, feed_work, file_outcome, load_work, settings_by, settings_given, settings_in, tables_work}
 
