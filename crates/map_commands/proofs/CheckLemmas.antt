@@ -4,16 +4,13 @@ use Rattle.std.specs.Option.{option_map}
 use Rattle.graph_core.specs.declared.parts.GraphParts.{GraphParts}
 use Rattle.line_graph.specs.Outcome.{graph_outcome}
 use Rattle.files_door.specs.Files.{file_at}
-use Rattle.map_method.specs.declared.claim.Claim.{Claim}
 use Rattle.map_faults.specs.declared.fault.CheckFault.{CheckFault}
-use Rattle.map_faults.specs.declared.fault.CheckFault.TheVariants as check
+use Rattle.map_faults.specs.declared.fault.CheckFault.TheVariants as refuted
 use Rattle.map_faults.specs.declared.fault.CheckItem.{CheckItem}
 use Rattle.map_faults.specs.declared.fault.CheckItem.TheVariants as found
 use Rattle.graph_maps.specs.declared.checked.Checked.{Checked}
 use Rattle.graph_maps.specs.declared.checked.Proved.{Proved}
-use Rattle.graph_maps.specs.Checking.{HasCause, PlainChecked, checked_bytes, first_difference, unless_refused}
-use Rattle.graph_maps.specs.Readings.{certificate_in}
-use Rattle.map_engine.specs.Checking.{checked_text}
+use Rattle.graph_maps.specs.Checking.{PlainChecked, checked_bytes, first_difference, unless_refused, HasCause}
 use Rattle.map_engine.specs.Promises.{IsCertified}
 use Rattle.command_run.specs.declared.output.Output.{Output}
 use Rattle.command_run.specs.Work.{Work, ends, ◌>>=◌}
@@ -25,13 +22,13 @@ use Rattle.run_status.specs.declared.refusal.Refusal.{Refusal}
 use Rattle.run_status.specs.declared.refusal.Refusal.TheVariants as refused
 use Rattle.command_paths.specs.Paths.{Chosen}
 use Rattle.command_inputs.specs.Inputs.{InputPaths, input_at}
-use Rattle.map_commands.specs.MapWorks.{proved_line, built, certificate_checked, certificate_work, picture_work, check_work, picture_checked, checked_as}
+use Rattle.map_commands.specs.MapWorks.{proved_line, built, certificate_work, picture_work, check_work, picture_checked, checked_as}
 use Rattle.run_status.specs.Outputs.{said}
 use Rattle.run_status.specs.Refusals.{of_check}
 use Rattle.command_inputs.specs.Loading.{load_work}
 use Rattle.run_status.specs.Following.{Follows, Gives}
 use Rattle.map_commands.specs.Promises.{AreOfYes, IsAccepted}
-use Rattle.run_status.proofs.FollowLemmas.{IsRefusedAs, follows_refused, follows_then, gives_follows}
+use Rattle.run_status.proofs.FollowLemmas.{IsRefusedAs, follows_refused, follows_then, gives_follows, refused_as}
 
 abbrev pub Told : Type 0
 Told = Option (List (List ℕ × List ℕ))
@@ -91,22 +88,6 @@ module _ (told : Told) (paths : Input → List ℕ) (chosen : Chosen) (rose : Ty
     picture_follows first_rose checked first second =
         past_graph (follows_then told paths first_rose later later checked_bytes same_outputs (certificate_work loaded graph) picture_work checked result (λ r. r) first second)
 
--- a certificate that is refused, or a limit that is met
-pub certificate_given : (loaded : Loaded) (graph : GraphParts) (claim : Claim) (bytes : List ℕ) (file : Option (List ℕ)) (fault : CheckFault) (result : Result Checked Refusal)
-    → claim ≡ loaded.method.claim → file ≡ Some bytes
-    → HasCause (checked_text loaded.tables loaded.settings claim graph (certificate_in bytes)) fault → result ≡ Err (of_check fault)
-    → Gives checked_bytes result (certificate_checked loaded graph file)
-certificate_given loaded graph claim bytes file fault result same is refuses came =
-    subst (λ (r : Result Checked Refusal). Gives checked_bytes r (certificate_checked loaded graph file)) (sym came)
-    (subst (λ (f : Option (List ℕ)). Gives {A = Checked} checked_bytes (Err (of_check fault)) (certificate_checked loaded graph f)) (sym is)
-    (by_fault fault (subst (λ (c : Claim). HasCause (checked_text loaded.tables loaded.settings c graph (certificate_in bytes)) fault) same refuses)))
-  where
-    by_fault : (f : CheckFault) → HasCause (checked_text loaded.tables loaded.settings loaded.method.claim graph (certificate_in bytes)) f
-        → Gives {A = Checked} checked_bytes (Err (of_check f)) (certificate_checked loaded graph (Some bytes))
-    by_fault check.NoMemory refuses = tt
-    by_fault (check.Refuted found) refuses = ap (checked_as {A = PlainChecked}) refuses
-    by_fault (check.Limit limit) refuses = ap (checked_as {A = PlainChecked}) refuses
-
 -- texts without a first difference are the same
 pub same_text : (picture svg : List ℕ) → first_difference picture svg ≡ None → svg ≡ picture
 same_text [] [] is = refl
@@ -156,3 +137,15 @@ pub accepted_by : (told : Told) (inputs : InputPaths) (loaded : Loaded) (picture
     → IsAccepted told inputs loaded picture proved
 accepted_by None inputs loaded picture proved bytes lies found = (found.0, tt, found.2)
 accepted_by (Some all) inputs loaded picture proved bytes lies found = (found.0, lies ∙ found.1, found.2)
+
+-- a certificate that is refused gives its refusal
+refused_given : (fault : CheckFault) (outcome : Result PlainChecked CheckFault) → HasCause outcome fault
+    → Gives checked_bytes (Err (of_check fault)) (checked_as outcome)
+refused_given refuted.NoMemory outcome cause = tt
+refused_given (refuted.Refuted found) outcome cause = ap checked_as cause
+refused_given (refuted.Limit limit) outcome cause = ap checked_as cause
+
+pub given_refused : (fault : CheckFault) (outcome : Result PlainChecked CheckFault) (result : Result Checked Refusal)
+    → IsRefusedAs (of_check fault) result → HasCause outcome fault → Gives checked_bytes result (checked_as outcome)
+given_refused fault outcome result is cause = subst (λ r. Gives checked_bytes r (checked_as outcome))
+    (sym (refused_as (of_check fault) result is)) (refused_given fault outcome cause)
