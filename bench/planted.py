@@ -35,7 +35,7 @@ TOP = os.path.dirname(os.path.dirname(os.path.abspath(__file__)))
 TABLES = f"{TOP}/bench/planted"
 VERDICTS = f"{TABLES}/verdicts.txt"
 # The prover refuses it; it does so only since a proof names what the bug took away, which says little of the contract; the
-# crate is still proved; or the compiler stops at it.
+# crate is still proved; or the compiler stops.
 REFUSED, NAMED, PROVED, UNREAD = "refused", "named", "proved", "unread"
 
 
@@ -233,8 +233,8 @@ def table(crates):
 
 
 def main(words):
-    if not os.environ.get("SLOT") and words == ["state_search"]:
-        os.execvp("bash", ["bash", "/tmp/slot.sh"])
+    if "--help" in words:
+        return print(__doc__)
     names = [it.split(":")[0].strip() for it in text_of(f"{TOP}/crates.txt").splitlines() if it[:1] not in ("#", "")]
     crates = [it for it in names if os.path.exists(f"{TABLES}/{it}.txt")]
     flags = [it for it in words if it.startswith("--")]
