@@ -1,5 +1,5 @@
 -- What `make` comes to with the edits before a draw.
-use Rattle.std.proofs.Common.{◌≡◌, ◌≢◌, refl, sym, ◌∙◌, ap, subst, ℕ, Bool, true, cond, List, length, slice_get, Option, Some, None, Result, Ok, Err}
+use Rattle.std.proofs.Common.{◌≡◌, ◌≢◌, refl, sym, ◌∙◌, ap, ℕ, Bool, true, cond, List, length, slice_get, Option, Some, None, Result, Ok, Err}
 use Rattle.std.specs.Str.Lines.{lines}
 use Rattle.map_base.specs.declared.limit.LimitKind.TheVariants.{File}
 use Rattle.map_base.specs.Limits.{is_within, limit_of}

@@ -1,5 +1,5 @@
 -- The edits that stand at a draw are those of the lines before it.
-use Rattle.std.proofs.Common.{◌≡◌, refl, sym, ◌∙◌, ap, subst, ℕ, zero, suc, Bool, true, false, cond, List, [], ◌∷◌, map, slice_get, codes, bytes_eq, option_map, Option, Some, None, Result, Ok, Err}
+use Rattle.std.proofs.Common.{◌≡◌, refl, ◌∙◌, ap, ℕ, zero, suc, Bool, true, false, cond, List, [], ◌∷◌, map, slice_get, codes, bytes_eq, option_map, Option, Some, None, Result, Ok}
 use Rattle.std.specs.Str.Lines.{lines}
 use Rattle.map_base.specs.Settings.{Choices}
 use Rattle.map_method.specs.Methods.{MethodChoices}

@@ -1,5 +1,5 @@
 -- The edits of a script before one of its draws.
-use Rattle.std.specs.Prelude.{ℕ, zero, suc, Bool, true, false, List, [], ◌∷◌, Option, Some, None, if◌then◌else◌}
+use Rattle.std.specs.Prelude.{ℕ, zero, suc, Bool, true, false, List, [], ◌∷◌, Option, Some, if◌then◌else◌}
 use Rattle.map_edits.specs.declared.reading.ScriptLine.{ScriptLine}
 use Rattle.map_edits.specs.declared.reading.ScriptLine.TheVariants as script
 use Rattle.map_edits.specs.Grammar.{script_line_in}
