@@ -13,12 +13,12 @@ bench/planted/CRATE.txt lists the bugs, three lines each, parted by an empty lin
     - the old text, which stands once in the body of that function of src/FILE.rt
     + the new text
 
-A text may have several lines, each with its mark; without a line of its own the new text is empty. Where functions of a
-file have one name, `FUNCTION#2` is the second of them. The bugs of a crate are planted together, one in each function, and the
-crate is checked over the built libraries below it. Each function is proved by itself against the contracts of what it calls,
-so a bug is refused where its function is not proved. Where it is proved, the bug is tried once more alone: it is refused
-where any function of the crate is not proved. What came of each stands in bench/planted/verdicts.txt, by the sum of the bug
-and of the function's file.
+A text may have several lines, each with its mark; without a line of its own the new text is empty. Where functions of
+a file have one name, `FUNCTION#2` is the second of them. The bugs of a crate are planted together, no two in functions of
+one name, and the crate is checked over the built libraries below it. Each function is proved by itself against the contracts of what it
+calls, so a bug is refused where something of its function is not proved, beside that what it calls is not. Where all of it
+is, the bug is tried once more alone: it is refused where any function of the crate is not proved. What came of each stands
+in bench/planted/verdicts.txt, by the sum of the bug and of the function's file.
 """
 import contextlib
 import hashlib
@@ -34,8 +34,8 @@ import tempfile
 TOP = os.path.dirname(os.path.dirname(os.path.abspath(__file__)))
 TABLES = f"{TOP}/bench/planted"
 VERDICTS = f"{TABLES}/verdicts.txt"
-# The prover refuses it; it does so only since a proof names what the bug took away, which says little of the contract; the
-# crate is still proved; or the compiler stops.
+# The prover refuses it; it does so only since a proof names what the bug took away, which says little of the contract;
+# the crate is still proved; or the compiler stops.
 REFUSED, NAMED, PROVED, UNREAD = "refused", "named", "proved", "unread"
 
 
@@ -165,7 +165,11 @@ def check(rt, crate, bugs):
 
 
 def not_proved(said):
-    return {it.split("::")[-1] for it in re.findall(r"^fn (\S+): (?:not proved|no proof|could not tell)", said, re.M)}
+    """The functions that are refused by themselves, and not only since what they call is not proved."""
+    rows = re.findall(r"^fn (\S+): (?:not proved|no proof|could not tell)(.*)$", said, re.M)
+    has_error = lambda name: re.search(rf"^\./proofs/\S*/{name}/\S+:\d+:\d+: error", said, re.M)
+    named = [(it.split("::")[-1], why) for it, why in rows]
+    return {it for it, why in named if "it calls" not in why or "`search` did not prove" in why or has_error(it)}
 
 
 def by_name_only(said, bug):
