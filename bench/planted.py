@@ -14,11 +14,12 @@ bench/planted/CRATE.txt lists the bugs, three lines each, parted by an empty lin
     + the new text
 
 A text may have several lines, each with its mark; without a line of its own the new text is empty. Where functions of
-a file have one name, `FUNCTION#2` is the second of them. The bugs of a crate are planted together, no two in functions of
-one name, and the crate is checked over the built libraries below it. Each function is proved by itself against the contracts of what it
-calls, so a bug is refused where something of its function is not proved, beside that what it calls is not. Where all of it
-is, the bug is tried once more alone: it is refused where any function of the crate is not proved. What came of each stands
-in bench/planted/verdicts.txt, by the sum of the bug and of the function's file.
+a file have one name, `FUNCTION#2` is the second of them. The bugs of a crate are planted together, no two in
+functions of one name, and the crate is checked over the built libraries below it. Each function is proved by itself
+against the contracts of what it calls, so a bug is refused where something of its function is not proved, beside that
+what it calls is not. Where all of it is, the bug is tried once more alone: it is refused where any function of the
+crate is not proved. What came of each stands in bench/planted/verdicts.txt, by the sum of the bug and of the
+function's file.
 """
 import contextlib
 import hashlib
