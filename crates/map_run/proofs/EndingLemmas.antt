@@ -17,7 +17,7 @@ use Rattle.run_status.specs.declared.status.Status.TheVariants as status
 use Rattle.command_words.specs.declared.fault.WordsFault.{WordsFault}
 use Rattle.command_words.specs.declared.fault.WordsFault.TheVariants as fault
 use Rattle.command_words.specs.Words.{Reads as ReadsWords}
-use Rattle.command_words.specs.Asked.{Asked, stations, graph, export, make, improve, check, depict, session, trial, page}
+use Rattle.command_words.specs.Asked.{Asked, stations, graph, export, imported, make, improve, check, depict, session, trial, page}
 use Rattle.map_run.specs.Inputs.{input_path}
 use Rattle.map_run.specs.Answers.{Finished, alone, done, answer_by, status_at}
 use Rattle.run_status.specs.Statuses.{status_of}
@@ -65,6 +65,7 @@ no_steps told None steps = refl
 no_steps told (Some (stations feed)) steps = refl
 no_steps told (Some (graph feed chosen)) steps = refl
 no_steps told (Some (export feed out chosen)) steps = refl
+no_steps told (Some (imported json paths chosen)) steps = inl refl
 no_steps told (Some (make feed paths chosen)) steps = inl refl
 no_steps told (Some (improve feed paths moves chosen)) steps = inl refl
 no_steps told (Some (check feed paths chosen)) steps = refl

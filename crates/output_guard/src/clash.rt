@@ -56,7 +56,7 @@ fn clash_of_map<D: Leads>(
     read: Vec<Text>,
 ) -> Result<Option<Clash>, NoMemory>
     ensures { IfOk result (λ found. IfSome (D.same disk.now) (λ same.
-        found ≡ first_clash same (files_of (new_paths_by files.now)) read.items)) }
+        found ≡ first_clash same (files_of (new_paths_by files.entry)) read.items)) }
 {
     let mut others = read;
     if let Some(clash) = clash_among(alloc, disk, files.map.picture, &others)? {
@@ -78,7 +78,7 @@ fn clash_of_page<D: Leads>(
     others: &[Text],
 ) -> Result<Option<Clash>, NoMemory>
     ensures { IfOk result (λ found. IfSome (D.same disk.now) (λ same.
-        found ≡ first_clash same (page_file (option_map (λ path. path.now) page)) others.now)) }
+        found ≡ first_clash same (page_file (option_map (λ path. path.now) page.entry)) others.now)) }
 {
     match page {
         None => Ok(None),

@@ -163,7 +163,7 @@ bad_settings_number : status_number (status.BadSettings why.NotToml) ≡ 10
 bad_settings_number = refl
 
 -- a file of edits lies at its path, and a bad line is named
-edits_path : input_path (graph (codes "feed") (record { defaults = Make; settings = None; edits = Some (codes "my.edits") })) input.Edits ≡ codes "my.edits"
+edits_path : input_path (graph (codes "feed") (record { defaults = Make; settings = None; edits = Some (codes "my.edits"); sets = [] })) input.Edits ≡ codes "my.edits"
 edits_path = refl
 
 bad_edit_text : status_line (status.BadEdit 2) ≡ Some (codes "bad edit: 2\n")
