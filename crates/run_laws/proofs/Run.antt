@@ -3,7 +3,7 @@ use Rattle.std.proofs.Common.{◌≡◌, ℕ, ◌⊎◌, inl, inr, List, [], ◌
 use Rattle.std.proofs.lemmas.List.{append-nil}
 use Rattle.files_door.specs.Targets.{Written}
 use Rattle.command_run.specs.declared.delivery.Ending.{Ending}
-use Rattle.command_run.specs.declared.delivery.Ending.TheVariants.{Whole, CutShort, OutOfMemory}
+use Rattle.command_run.specs.declared.delivery.Ending.TheVariants.{CutShort, OutOfMemory}
 use Rattle.command_run.specs.declared.output.Output.{Output}
 use Rattle.command_run.specs.Delivered.{IsDelivered}
 use Rattle.command_run.specs.Held.{line_outputs, IsBeginning}
@@ -18,10 +18,10 @@ use Rattle.run_status.specs.declared.refusal.Refusal.{Refusal}
 use Rattle.run_status.specs.declared.refusal.Refusal.TheVariants as refused
 use Rattle.run_status.specs.declared.status.Status.{Status}
 use Rattle.run_status.specs.declared.status.Status.TheVariants as status
-use Rattle.run_status.specs.Following.{ComesTo, HasCause}
+use Rattle.run_status.specs.Following.{HasCause}
 use Rattle.run_status.specs.Lines.{status_line}
 use Rattle.map_run.specs.declared.answer.Answer.{Answer}
-use Rattle.map_run.specs.Answers.{Finished, alone, answer_by, done}
+use Rattle.map_run.specs.Answers.{Finished, answer_by, done}
 use Rattle.map_run.specs.Commands.{work}
 use Rattle.map_run.specs.Ending.{IsDue, IsLeft, IsLineOf, Ends, status_after}
 use Rattle.map_run.specs.Inputs.{input_path}
