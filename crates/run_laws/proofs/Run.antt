@@ -17,7 +17,6 @@ use Rattle.run_status.specs.declared.input.Input.{Input}
 use Rattle.run_status.specs.declared.refusal.Refusal.{Refusal}
 use Rattle.run_status.specs.declared.refusal.Refusal.TheVariants as refused
 use Rattle.run_status.specs.declared.status.Status.{Status}
-use Rattle.run_status.specs.declared.status.Status.TheVariants as status
 use Rattle.run_status.specs.Following.{HasCause}
 use Rattle.run_status.specs.Lines.{status_line}
 use Rattle.map_run.specs.declared.answer.Answer.{Answer}
