@@ -183,7 +183,8 @@ def by_name_only(said, bug):
             return False
         return f"/{bug.function}/" in at[1] or at[1] == bug.path and begin - 1 <= int(at[2]) <= end + 1
 
-    told = [it for it in said.splitlines() if is_of(it)]
+    whole_lines = re.sub(r"\n +(?=has no |is not in |was not )", " ", said)
+    told = [it for it in whole_lines.splitlines() if is_of(it)]
     names = r"(note: )?(\./)?proofs/.*(has no field|is not in scope|has no `|was not admitted)"
     return bool(told) and all(re.match(names, it) for it in told)
 
