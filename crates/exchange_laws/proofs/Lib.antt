@@ -8,4 +8,4 @@ mod Pictures
 mod Certificates
 mod MadeAgain
 mod FeedAgain
-mod Comes
+mod AfterExport

@@ -1,4 +1,4 @@
-use Rattle.exchange_laws.proofs.Comes.{exports, imports, refused_alike}
+use Rattle.exchange_laws.proofs.AfterExport.{exports, imports, refused_alike}
 use Rattle.exchange_laws.proofs.comes.import_comes_to_what_make_comes_to.Goals as goal
 
 pub returns : goal.returns
