@@ -1,5 +1,5 @@
 -- The line graph of a feed can be read again, and the map that is made of it is that of the feed.
-use Rattle.std.proofs.Common.{◌≡◌, ◌∙◌, ap, sym, subst, ℕ, ◌<◌, ◌≤◌, ◌^◌, Bool, true, false, cond, List, [], ◌∷◌, length, map, get_or, arith}
+use Rattle.std.proofs.Common.{◌≡◌, ◌∙◌, ap, ap₂, sym, subst, subst₂, ℕ, ◌<◌, ◌≤◌, ◌^◌, Bool, true, false, cond, List, [], ◌∷◌, length, map, get_or, arith}
 use Rattle.std.specs.Prelude.{bytes_eq, All, Result, Ok}
 use Rattle.std.specs.List.{AllByRecursion as ByRecursion}
 use Rattle.std.proofs.lemmas.List.{get_or-map, length-map}
@@ -17,13 +17,17 @@ use Rattle.graph_core.specs.Consistent.{IsConsistent}
 use Rattle.line_graph.specs.Outcome.{graph_outcome}
 use Rattle.line_graph.proofs.FeedLines.{lines_of_feed}
 use Rattle.order_terms.specs.Terms.{HaveImportance}
-use Rattle.graph_json.specs.Again.{CanBeRead}
-use Rattle.graph_json.specs.Written.{lines_listed}
+use Rattle.svg_writer.specs.declared.names.Names.{Names}
+use Rattle.graph_json.specs.declared.fault.JsonFault.{JsonFault}
+use Rattle.graph_json.specs.declared.imported.Imported.{Imported}
+use Rattle.graph_json.specs.Again.{read_again, CanBeRead}
+use Rattle.graph_json.specs.Outcome as file
+use Rattle.graph_json.specs.Written.{graph_text, lines_listed}
 use Rattle.graph_maps.specs.Making.{if_solved, made_on, solved_map, solved_of}
 use Rattle.graph_maps.specs.Problems.{drawn_on}
 use Rattle.map_engine.specs.Making.{make_outcome, over_graph}
 use Rattle.map_engine.specs.Tables.{importance_among, importance_by, names_by, subject_of}
-use Rattle.exchange_laws.specs.Exchanged.{feed_again, made_of, AreAlike, AreColoured}
+use Rattle.exchange_laws.specs.Exchanged.{feed_again, made_of, AreAlike, AreColoured, IsExported}
 use Rattle.exchange_laws.proofs.MadeAgain.{made_again}
 use Rattle.exchange_laws.proofs.Numbers.{each_listed, few_listed, AreBelow}
 
@@ -102,3 +106,20 @@ module _ (feed : Feed) (choices : Choices) (graph : GraphParts) (range : AreInRa
           subst IsImportance (sym (unwrap_or-slice_get numbers l 1))
           (All-get_or IsImportance numbers l 1 (omega (arith, h, few, each)) in_range);
     }
+
+    -- a text that was written of the graph, with the names and importances of the feed
+    pub exported_is : IsConsistent graph → (names : Names) (given : List ℕ) → names ≡ names_by feed → given ≡ numbers
+        → (text : List ℕ) → text ≡ graph_text graph names given
+        → (CanBeRead graph names given → file.graph_outcome text ≡ Ok (read_again graph names given))
+        → IsExported feed choices text
+    exported_is fit names given named told_is text written again = record {
+      graph = graph;
+      of_feed = of_feed;
+      written = written ∙ ap₂ (graph_text graph) named told_is;
+      read = again (subst₂ (CanBeRead graph) (sym named) (sym told_is) can_be_read)
+          ∙ ap₂ (λ (ns : Names) is. read_as ns is) named told_is;
+      made = λ other method alike. feed_made_again other method fit alike;
+    }
+      where
+        read_as : Names → List ℕ → Result Imported JsonFault
+        read_as ns is = Ok (read_again graph ns is)

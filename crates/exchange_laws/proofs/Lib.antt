@@ -8,3 +8,4 @@ mod Pictures
 mod Certificates
 mod MadeAgain
 mod FeedAgain
+mod AfterExport
