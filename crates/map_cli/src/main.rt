@@ -9,65 +9,47 @@ ghost use Rattle.std.specs.Prelude.{◌≡◌, ◌<◌, ◌⊎◌, false, IsErrO
 use command_words::{VERSION, asks_version, command_of, is_quiet};
 use disk_door::{DiskFiles, DiskLeads, DiskSinks, WriteError};
 use files_door::Stop;
-use map_base::{NoMemory, Progress, Steps};
+use map_base::{NoMemory, Steps};
 use map_run::run;
 use output_guard::{Clash, clash_of};
 use run_status::Status;
-use std::alloc::Global;
 use std::marker::Brand;
 use std::process::ExitCode;
-use std::sync::Arc;
 use std::sync::ledger::{Blank, Ledger};
 use std::thread::Builder;
-use std::{env, io, rt, thread};
+use std::{env, io, rt};
 use user_messages::message;
-use watch::{again, end_watch, tell_until_end, watched};
+use watch::{again, end_watch, watched};
 
 /// Bytes of stack: the deepest proof that is read, checked or found fits in them, whatever a shell leaves its programs.
 const STACK: usize = 2 << 20;
 
-/// Runs in a thread with a stack of its own size; where the system gives none, in this one. Another thread tells on a
-/// terminal how far the run is.
+/// Runs in a thread with a stack of its own size; where the system gives none, in this one.
 fn main(rt: HostRuntime) -> ExitCode {
-    let watched = watched(&rt);
-    if let Some(progress) = again(&watched) {
-        let _where_there_is_a_thread = thread::spawn(&rt, move || tell_until_end(rt, &progress));
-    }
-    let told = again(&watched);
     let status = match Builder::new()
         .stack_size(STACK)
-        .spawn(&rt, move || program(rt, &told))
+        .spawn(&rt, move || program(rt))
     {
         Ok(thread) => thread.join(&rt),
-        Err(_) => program(rt, &watched),
+        Err(_) => program(rt),
     };
     ExitCode::from(status.number())
 }
 
 /// Does what the words of the command line ask for.
-fn program(rt: HostRuntime, watched: &Option<Arc<Progress, Global>>) -> Status {
-    let status = match words_of(&rt) {
-        Ok(words) => run_words(&rt, &words, watched),
+fn program(rt: HostRuntime) -> Status {
+    match words_of(&rt) {
+        Ok(words) => run_words(&rt, &words),
         Err(error) => unread_words(&rt, &error),
-    };
-    end_watch(&rt, watched);
-    status
+    }
 }
 
-/// Tells the version where the words ask for it, and else runs. With `--quiet` nobody watches.
-fn run_words(
-    rt: &HostRuntime,
-    words: &[String],
-    watched: &Option<Arc<Progress, Global>>,
-) -> Status {
+/// Tells the version where the words ask for it, and else runs.
+fn run_words(rt: &HostRuntime, words: &[String]) -> Status {
     if asks_version(words) {
         return tell_version(rt);
     }
-    if is_quiet(words) {
-        end_watch(rt, watched);
-        return run_counted::<Brand>(rt, words, Blank::new(1), &None);
-    }
-    run_counted::<Brand>(rt, words, Blank::new(1), watched)
+    run_counted::<Brand>(rt, words, Blank::new(1))
 }
 
 /// Prints the version of the program.
@@ -88,18 +70,13 @@ fn words_of(rt: &HostRuntime) -> io::Result<Vec<String>> {
 }
 
 /// Runs over the disk and standard output, with a counter of steps at 0, unless the run would write over what it reads.
-fn run_counted<L: Ledger>(
-    rt: &HostRuntime,
-    words: &[String],
-    blank: Blank,
-    watched: &Option<Arc<Progress, Global>>,
-) -> Status
+fn run_counted<L: Ledger>(rt: &HostRuntime, words: &[String], blank: Blank) -> Status
     requires name { blank.name ≡ L.name }
     requires parts { blank.parts ≡ L.parts }
     requires some_part { 0 < blank.parts }
 {
     match clash_in(rt, words) {
-        Ok(None) => run_on_disk::<L>(rt, words, blank, watched),
+        Ok(None) => run_on_disk::<L>(rt, words, blank),
         Ok(Some(clash)) => refuse_clash(rt, &clash),
         Err(NoMemory) => {
             let _not_shown = println!(rt; "no memory");
@@ -109,22 +86,18 @@ fn run_counted<L: Ledger>(
 }
 
 /// Runs over the disk and standard output, with a counter of steps at 0, and puts what it wrote in its place.
-fn run_on_disk<L: Ledger>(
-    rt: &HostRuntime,
-    words: &[String],
-    blank: Blank,
-    watched: &Option<Arc<Progress, Global>>,
-) -> Status
+fn run_on_disk<L: Ledger>(rt: &HostRuntime, words: &[String], blank: Blank) -> Status
     requires name { blank.name ≡ L.name }
     requires parts { blank.parts ≡ L.parts }
     requires some_part { 0 < blank.parts }
 {
     let mut files = DiskFiles::new(rt);
-    let mut sinks = DiskSinks::watched(rt, rt.alloc(), again(watched));
-    let mut steps = Steps::<L>::watched(blank, again(watched));
+    let watched = if is_quiet(words) { None } else { watched(rt) };
+    let mut sinks = DiskSinks::watched(rt, rt.alloc(), again(&watched));
+    let mut steps = Steps::<L>::watched(blank, again(&watched));
     let status = run(rt.alloc(), words, &mut files, &mut sinks, &mut steps);
     let ended = end(status, words, &mut sinks);
-    end_watch(rt, watched);
+    end_watch(rt, &watched);
     if !is_quiet(words) {
         say_more(rt, words, &ended, sinks.last_error());
     }

@@ -1,14 +1,14 @@
 //! The line on a terminal that tells how far a run is: it comes after a second, renews itself, and goes at the end.
 
-use map_base::{Progress, Stage};
+use map_base::{NoMemory, Progress, Stage};
 use std::alloc::Global;
 use std::io::IsTerminal;
 use std::sync::Arc;
 use std::time::Duration;
 use std::{io, thread};
 
-/// How long a line stands, in thousandths of a second.
-const PAUSE: u64 = 200;
+/// How long a line stands.
+const PAUSE: Duration = Duration::from_millis(200);
 
 /// How many pauses there are before the first line.
 const QUIET_PAUSES: u32 = 5;
@@ -16,12 +16,16 @@ const QUIET_PAUSES: u32 = 5;
 /// How many pauses the watch lasts at most: three months of them.
 const PAUSES: u32 = 40_000_000;
 
-/// What a run tells of itself, where standard error is a terminal and there is memory for it.
+/// What a run tells of itself, and a thread that watches it, where standard error is a terminal and there is memory and a
+/// thread for it.
 pub(crate) fn watched(rt: &HostRuntime) -> Option<Arc<Progress, Global>> {
     if !rt.stderr().is_terminal() {
         return None;
     }
-    Arc::new(rt.alloc(), Progress::new()).ok()
+    match watch(rt) {
+        Ok(progress) => Some(progress),
+        Err(NoMemory) => None,
+    }
 }
 
 /// The same, for another that tells of the run.
@@ -41,10 +45,19 @@ pub(crate) fn end_watch(rt: &HostRuntime, watched: &Option<Arc<Progress, Global>
     }
 }
 
+/// Starts a thread that watches a run.
+fn watch(rt: &HostRuntime) -> Result<Arc<Progress, Global>, NoMemory> {
+    let progress = Arc::new(rt.alloc(), Progress::new())?;
+    let told = Arc::try_clone(&progress)?;
+    let handle = *rt;
+    let _where_there_is_a_thread = thread::spawn(rt, move || tell_until_end(handle, &told));
+    Ok(progress)
+}
+
 /// Writes line after line until the run ends.
-pub(crate) fn tell_until_end(rt: HostRuntime, progress: &Progress) {
+fn tell_until_end(rt: HostRuntime, progress: &Progress) {
     for pause in 0..PAUSES {
-        thread::sleep(&rt, Duration::from_millis(PAUSE));
+        thread::sleep(&rt, PAUSE);
         if progress.stage() == Stage::Ended {
             return;
         }
