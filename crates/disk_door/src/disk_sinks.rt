@@ -39,7 +39,7 @@ enum Place<F: Drop> {
 /// that fails, and after `discard`, the target is what it was. Each draft is synced and closed before the next target
 /// is begun. Where that fails the draft is lost: no target is begun any more, and nothing is put in place.
 #[derive(Drop)]
-pub struct DiskSinks<R: rt::Files + Print + Eprint> {
+pub struct DiskSinks<R: rt::Files + Print> {
     rt: R,
     alloc: Global,
     place: Place<R::File>,
@@ -61,7 +61,7 @@ pub struct WriteError<'a> {
     pub path: Option<&'a str>,
 }
 
-impl<R: rt::Files + Print + Eprint> DiskSinks<R> {
+impl<R: rt::Files + Print> DiskSinks<R> {
     /// The targets that `rt` reaches; none is current, and the count is 0.
     pub fn new(rt: R, alloc: Global) -> DiskSinks<R>
         ensures nowhere { ⟦<DiskSinks<R> as Sinks>⟧.current result ≡ None }
@@ -293,7 +293,7 @@ fn write_straight<F: Write + OpenFile>(file: &mut F, piece: &[u8], most: u64) ->
     write_once(file, piece)
 }
 
-impl<R: rt::Files + Print + Eprint> Sinks for DiskSinks<R> {
+impl<R: rt::Files + Print> Sinks for DiskSinks<R> {
     ghost written = { λ sinks. None };
 
     ghost current = { λ sinks. target_of sinks.place };

@@ -105,11 +105,7 @@ fn run_on_disk<L: Ledger>(rt: &HostRuntime, words: &[String], blank: Blank) -> S
 }
 
 /// Puts what a run wrote in its place, or forgets it; the status that the program ends with.
-fn end<R: rt::Files + Print + Eprint>(
-    status: Status,
-    words: &[String],
-    sinks: &mut DiskSinks<R>,
-) -> Status {
+fn end<R: rt::Files + Print>(status: Status, words: &[String], sinks: &mut DiskSinks<R>) -> Status {
     if is_put_in_place(&status, words, sinks) {
         return status_after(status, sinks.put_in_place());
     }
@@ -119,7 +115,7 @@ fn end<R: rt::Files + Print + Eprint>(
 
 /// Whether what a run wrote is put in its place. Where writing failed or memory ran out, a map and its certificate are
 /// not whole, and what stood there stays. A session keeps each map that it drew, however it ends, where it drew any.
-fn is_put_in_place<R: rt::Files + Print + Eprint>(
+fn is_put_in_place<R: rt::Files + Print>(
     status: &Status,
     words: &[String],
     sinks: &DiskSinks<R>,
