@@ -12,11 +12,10 @@ use crate::outputs::{Output, output_at};
 use crate::placing::{place_all, remove_all};
 use crate::retries::write_once;
 use files_door::{Sinks, Stop, Target};
-use map_base::{NoMemory, Progress, Text};
+use map_base::{NoMemory, Text};
 use std::alloc::Global;
 use std::fs::OpenFile;
 use std::io::{ErrorKind, Write};
-use std::sync::Arc;
 use std::{io, mem, rt};
 
 /// Where the next bytes go.
@@ -49,7 +48,6 @@ pub struct DiskSinks<R: rt::Files + Print> {
     is_lost: bool,
     last_error: Option<io::Error>,
     last_path: Option<Text>,
-    watched: Option<Arc<Progress, Global>>,
 }
 
 /// An error of the system in writing.
@@ -67,15 +65,6 @@ impl<R: rt::Files + Print> DiskSinks<R> {
         ensures nowhere { ⟦<DiskSinks<R> as Sinks>⟧.current result ≡ None }
         ensures count { ⟦<DiskSinks<R> as Sinks>⟧.faults result ≡ 0 }
     {
-        DiskSinks::watched(rt, alloc, None)
-    }
-
-    /// The same; where somebody watches the run, the line that tells how far it is goes from the terminal before standard
-    /// output is written.
-    pub fn watched(rt: R, alloc: Global, watched: Option<Arc<Progress, Global>>) -> DiskSinks<R>
-        ensures nowhere { ⟦<DiskSinks<R> as Sinks>⟧.current result ≡ None }
-        ensures count { ⟦<DiskSinks<R> as Sinks>⟧.faults result ≡ 0 }
-    {
         let most = most_bytes(&rt);
         DiskSinks {
             rt,
@@ -87,16 +76,6 @@ impl<R: rt::Files + Print> DiskSinks<R> {
             is_lost: false,
             last_error: None,
             last_path: None,
-            watched,
-        }
-    }
-
-    /// Takes the line that tells how far the run is from the terminal.
-    fn hide_line(&self) {
-        if let Some(progress) = &self.watched {
-            if progress.hide() {
-                let _not_hidden = eprint!(self.rt; "\r\x1b[K");
-            }
         }
     }
 
@@ -224,9 +203,6 @@ impl<R: rt::Files + Print> DiskSinks<R> {
     {
         self.leave()?;
         self.last_path = None;
-        if let Target::Said = to {
-            self.hide_line();
-        }
         self.place = match to {
             Target::Said => Place::Said,
             Target::Path(path) => self.open(path)?,

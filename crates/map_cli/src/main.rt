@@ -2,8 +2,6 @@
 //! does all that the program does, over any files and sinks; `main` hands it the disk and standard output.
 #![tactic(auto)]
 
-mod watch;
-
 ghost use Rattle.std.specs.Prelude.{◌≡◌, ◌<◌, ◌⊎◌, false, IsErrOf, OnOk};
 
 use command_words::{VERSION, asks_version, command_of, is_quiet};
@@ -19,17 +17,13 @@ use std::sync::ledger::{Blank, Ledger};
 use std::thread::Builder;
 use std::{env, io, rt};
 use user_messages::message;
-use watch::{again, end_watch, watched};
 
 /// Bytes of stack: the deepest proof that is read, checked or found fits in them, whatever a shell leaves its programs.
 const STACK: usize = 2 << 20;
 
 /// Runs in a thread with a stack of its own size; where the system gives none, in this one.
 fn main(rt: HostRuntime) -> ExitCode {
-    let status = match Builder::new()
-        .stack_size(STACK)
-        .spawn(&rt, move || program(rt))
-    {
+    let status = match Builder::new().stack_size(STACK).spawn(&rt, move || program(rt)) {
         Ok(thread) => thread.join(&rt),
         Err(_) => program(rt),
     };
@@ -92,12 +86,10 @@ fn run_on_disk<L: Ledger>(rt: &HostRuntime, words: &[String], blank: Blank) -> S
     requires some_part { 0 < blank.parts }
 {
     let mut files = DiskFiles::new(rt);
-    let watched = if is_quiet(words) { None } else { watched(rt) };
-    let mut sinks = DiskSinks::watched(rt, rt.alloc(), again(&watched));
-    let mut steps = Steps::<L>::watched(blank, again(&watched));
+    let mut sinks = DiskSinks::new(rt, rt.alloc());
+    let mut steps = Steps::<L>::open(blank);
     let status = run(rt.alloc(), words, &mut files, &mut sinks, &mut steps);
     let ended = end(status, words, &mut sinks);
-    end_watch(rt, &watched);
     if !is_quiet(words) {
         say_more(rt, words, &ended, sinks.last_error());
     }
