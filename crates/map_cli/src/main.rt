@@ -14,28 +14,15 @@ use run_status::Status;
 use std::marker::Brand;
 use std::process::ExitCode;
 use std::sync::ledger::{Blank, Ledger};
-use std::thread::Builder;
 use std::{env, io, rt};
 use user_messages::message;
 
-/// Bytes of stack: the deepest proof that is read, checked or found fits in them, whatever a shell leaves its programs.
-const STACK: usize = 2 << 20;
-
-/// Runs in a thread with a stack of its own size; where the system gives none, in this one.
 fn main(rt: HostRuntime) -> ExitCode {
-    let status = match Builder::new().stack_size(STACK).spawn(&rt, move || program(rt)) {
-        Ok(thread) => thread.join(&rt),
-        Err(_) => program(rt),
-    };
-    ExitCode::from(status.number())
-}
-
-/// Does what the words of the command line ask for.
-fn program(rt: HostRuntime) -> Status {
-    match words_of(&rt) {
+    let status = match words_of(&rt) {
         Ok(words) => run_words(&rt, &words),
         Err(error) => unread_words(&rt, &error),
-    }
+    };
+    ExitCode::from(status.number())
 }
 
 /// Tells the version where the words ask for it, and else runs.
