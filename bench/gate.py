@@ -4,7 +4,7 @@
     bench/gate.py run LOG [COMMAND ..]    runs COMMAND (.ci/run where none is named) in the current folder, and writes LOG
     bench/gate.py table LOG               prints what LOG tells
 
-LOG has each line that COMMAND prints, behind the seconds since its start, and at its end a line `# CRATE KIND SECONDS MIB`
+`run` prints what COMMAND prints. LOG has each line of it, behind the seconds since its start, and at its end a line `# CRATE KIND SECONDS MIB`
 for the work on each crate, where KIND is proof, tests, edits or other, SECONDS the processor time of its processes and MIB the
 greatest memory of one of them. Processes are looked at once a second, so the last second of each is lost. `# clock` and
 `# processors` tell the time by the clock, and how much of all processors was used, idle, and taken away by other machines
@@ -103,6 +103,7 @@ def run(log, command):
         for line in child.stdout:
             out.write(f"{time.monotonic() - started:.0f} {line}")
             out.flush()
+            print(line, end="", flush=True)
         status = child.wait()
         clock = time.monotonic() - started
         watcher.join()
