@@ -21,7 +21,6 @@ what it calls is not. Where all of it is, the bug is tried once more alone: it i
 crate is not proved. What came of each stands in bench/planted/verdicts.txt, by the sum of the bug and of the
 function's file.
 """
-import contextlib
 import hashlib
 import importlib.machinery
 import importlib.util
@@ -41,23 +40,28 @@ REFUSED, NAMED, PROVED, UNREAD = "refused", "named", "proved", "unread"
 
 
 def rt_module():
-    """The command `rt` of the kit as a module: how it calls the checker, and what it keeps."""
+    """The command `rt` of the kit as a module: how it calls the checker."""
     folder = os.path.dirname(os.path.realpath(shutil.which("rt")))
     sys.path.insert(0, folder)
     loader = importlib.machinery.SourceFileLoader("rt", f"{folder}/rt")
     module = importlib.util.module_from_spec(importlib.util.spec_from_loader("rt", loader))
     sys.modules["rt"] = module
     loader.exec_module(module)
-    # the sum of a crate's sources, taken once
-    take, sums = module.rtlib.Crate.stamp, {}
-
-    def stamp(crate):
-        if crate.folder not in sums:
-            sums[crate.folder] = take(crate)
-        return sums[crate.folder]
-
-    module.rtlib.Crate.stamp = stamp
+    crate = module.rtlib.Crate
+    crate.stamp, crate.below = once(crate.stamp), once(crate.below)
     return module
+
+
+def once(take):
+    """A method of crates, asked once of each."""
+    known = {}
+
+    def given(crate):
+        if crate.folder not in known:
+            known[crate.folder] = take(crate)
+        return known[crate.folder]
+
+    return given
 
 
 HEAD = r"^ *(?:pub(?:\([a-z]+\))? )?(?:const )?fn "
@@ -139,8 +143,8 @@ def batches(bugs):
     return parts
 
 
-def check(rt, crate, bugs):
-    """What a check of the crate with these bugs prints."""
+def check(rt, crate, bugs, kept):
+    """The check of the crate with these bugs, over a copy of the work that is kept; without bugs that work is made."""
     with tempfile.TemporaryDirectory(prefix="planted-") as room:
         for part in rt.rtlib.PARTS:
             if os.path.isdir(f"{crate.folder}/{part}"):
@@ -152,11 +156,11 @@ def check(rt, crate, bugs):
         for path, text in texts.items():
             with open(f"{room}/{path}", "w", encoding="utf-8") as file:
                 file.write(text)
-        kept = rt.work_for(crate)
-        if kept:
-            with contextlib.suppress(OSError, shutil.Error):
-                rt.linked(kept, f"{room}/kept")
-        words = [rt.rtlib.RATTLE, "check", *crate.words(["--jobs", "1"], keeps=False), "--incremental", f"{room}/kept"]
+        own = kept
+        if bugs:
+            own = f"{room}/kept"
+            shutil.copytree(kept, own)
+        words = [rt.rtlib.RATTLE, "check", *crate.words(["--jobs", "1"], keeps=False), "--incremental", own]
         ran = subprocess.run([*rt.rtlib.guarded(), *words], cwd=room, stdin=subprocess.DEVNULL, stdout=subprocess.PIPE,
                              stderr=subprocess.STDOUT, errors="replace")
     if os.environ.get("PLANTED_LOG"):
@@ -204,8 +208,8 @@ def bug_at(bugs, stopped):
     return min(near, key=line, default=None)
 
 
-def try_bugs(rt, crate, bugs):
-    ran = check(rt, crate, bugs)
+def try_bugs(rt, crate, bugs, kept):
+    ran = check(rt, crate, bugs, kept)
     stopped = stops(ran)
     if stopped:
         bad = bugs[0] if len(bugs) == 1 else bug_at(bugs, stopped)
@@ -214,14 +218,14 @@ def try_bugs(rt, crate, bugs):
         half = len(bugs) // 2
         for part in [[it for it in bugs if it is not bad]] if bad else [bugs[:half], bugs[half:]]:
             if part:
-                try_bugs(rt, crate, part)
+                try_bugs(rt, crate, part, kept)
         return
     faulty = not_proved(ran.stdout)
     for bug in bugs:
         if bug.function in faulty:
             note(bug, NAMED if by_name_only(ran.stdout, bug) else REFUSED, "")
         elif len(bugs) > 1:
-            try_bugs(rt, crate, [bug])
+            try_bugs(rt, crate, [bug], kept)
         else:
             note(bug, REFUSED if faulty else PROVED, f"not proved: {' '.join(sorted(faulty))}" if faulty else "")
 
@@ -258,8 +262,8 @@ def main(words):
         return 1 if any(it.key not in known and not it.fault() for it in bugs_of(chosen[0])) else 0
     rt = rt_module()
     os.chdir(TOP)
-    ways = {it.name: it for it in rt.crates_of(TOP)}
-    has_libraries = lambda crate: all(it.is_built() or rt.take_rlib(it) for it in crate.below())
+    ways = {it.name: it for it in rt.rtlib.crates_below(TOP)}
+    has_libraries = lambda crate: all(it.is_built() for it in crate.below())
     if "--ready" in flags:
         return 0 if has_libraries(ways[chosen[0]]) else 1
     for name in chosen:
@@ -270,8 +274,12 @@ def main(words):
         if not has_libraries(crate):
             print(f"{name}: a library below it is not built", flush=True)
             continue
-        for part in batches(bugs):
-            try_bugs(rt, crate, part)
+        with tempfile.TemporaryDirectory(prefix="planted-kept-") as kept:
+            if check(rt, crate, [], kept).returncode:
+                print(f"{name}: it is not proved without a bug", flush=True)
+                continue
+            for part in batches(bugs):
+                try_bugs(rt, crate, part, kept)
 
 
 if __name__ == "__main__":
