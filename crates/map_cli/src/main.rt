@@ -7,12 +7,14 @@ ghost use Rattle.std.specs.Prelude.{◌≡◌, ◌<◌, ◌⊎◌, false, IsErrO
 use command_words::{VERSION, asks_version, command_of, is_quiet};
 use disk_door::{DiskFiles, DiskLeads, DiskSinks, WriteError};
 use files_door::Stop;
-use map_base::{NoMemory, Steps};
+use map_base::{NoMemory, Progress, Stage, Steps};
 use map_run::run;
 use output_guard::{Clash, clash_of};
 use run_status::Status;
+use std::alloc::Global;
 use std::marker::Brand;
 use std::process::ExitCode;
+use std::sync::Arc;
 use std::sync::ledger::{Blank, Ledger};
 use std::{env, io, rt};
 use user_messages::message;
@@ -72,19 +74,33 @@ fn run_on_disk<L: Ledger>(rt: &HostRuntime, words: &[String], blank: Blank) -> S
     requires parts { blank.parts ≡ L.parts }
     requires some_part { 0 < blank.parts }
 {
+    let progress = Arc::new(rt.alloc(), Progress::new()).ok();
     let mut files = DiskFiles::new(rt);
     let mut sinks = DiskSinks::new(rt, rt.alloc());
-    let mut steps = Steps::<L>::open(blank);
+    let mut steps = Steps::<L>::watched(blank, again(&progress));
     let status = run(rt.alloc(), words, &mut files, &mut sinks, &mut steps);
     let ended = end(status, words, &mut sinks);
     if !is_quiet(words) {
         say_more(rt, words, &ended, sinks.last_error());
+        say_stage(rt, &ended, &progress);
     }
     ended
 }
 
+/// What tells how far a run is, for the run itself.
+fn again(progress: &Option<Arc<Progress, Global>>) -> Option<Arc<Progress, Global>> {
+    match progress {
+        Some(progress) => Arc::try_clone(progress).ok(),
+        None => None,
+    }
+}
+
 /// Puts what a run wrote in its place, or forgets it; the status that the program ends with.
-fn end<R: rt::Files + Print>(status: Status, words: &[String], sinks: &mut DiskSinks<R>) -> Status {
+fn end<R: rt::Files + Print + Eprint>(
+    status: Status,
+    words: &[String],
+    sinks: &mut DiskSinks<R>,
+) -> Status {
     if is_put_in_place(&status, words, sinks) {
         return status_after(status, sinks.put_in_place());
     }
@@ -94,7 +110,7 @@ fn end<R: rt::Files + Print>(status: Status, words: &[String], sinks: &mut DiskS
 
 /// Whether what a run wrote is put in its place. Where writing failed or memory ran out, a map and its certificate are
 /// not whole, and what stood there stays. A session keeps each map that it drew, however it ends, where it drew any.
-fn is_put_in_place<R: rt::Files + Print>(
+fn is_put_in_place<R: rt::Files + Print + Eprint>(
     status: &Status,
     words: &[String],
     sinks: &DiskSinks<R>,
@@ -154,6 +170,37 @@ fn say_more(rt: &HostRuntime, words: &[String], status: &Status, fault: Option<W
     if let Ok(lines) = message(rt, words, status, fault) {
         let _not_shown = eprint!(rt; "{lines}");
     }
+}
+
+/// Says on standard error what a run was at when memory ended.
+fn say_stage(rt: &HostRuntime, status: &Status, progress: &Option<Arc<Progress, Global>>) {
+    if let Status::NoMemory = status {
+        if let Some(progress) = progress {
+            let _not_shown = tell_stage(rt, progress);
+        }
+    }
+}
+
+/// Says what a run is at, if it tells.
+fn tell_stage(rt: &HostRuntime, progress: &Progress) -> io::Result<()> {
+    let stage = match progress.stage() {
+        Stage::Reading => "files were read",
+        Stage::LineGraph => "the line graph was made",
+        Stage::Drawing => "the line graph was drawn",
+        Stage::Orders => return tell_part(rt, progress),
+        Stage::Working | Stage::Ended => return Ok(()),
+    };
+    eprint!(rt; "octimap: memory ended while {stage}\n")
+}
+
+/// Says which part of the line orders is searched.
+fn tell_part(rt: &HostRuntime, progress: &Progress) -> io::Result<()> {
+    let (part, parts) = progress.part();
+    let shown = part.saturating_add(1);
+    let branches = progress.branches();
+    eprint!(rt;
+        "octimap: memory ended while line orders were searched, in part {shown} of {parts}, after {branches} branch nodes\n"
+    )
 }
 
 /// The words are no text, or there is no memory for them.
