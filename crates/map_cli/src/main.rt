@@ -199,7 +199,7 @@ fn tell_part(rt: &HostRuntime, progress: &Progress) -> io::Result<()> {
     let shown = part.saturating_add(1);
     let branches = progress.branches();
     eprint!(rt;
-        "octimap: memory ended while line orders were searched, in part {shown} of {parts}, after {branches} branch nodes\n"
+        "octimap: memory ended in part {shown} of {parts} of the line orders, at branch node {branches}\n"
     )
 }
 
