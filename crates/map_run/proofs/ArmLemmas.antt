@@ -38,7 +38,7 @@ use Rattle.map_run.specs.Answers.{status_at}
 use Rattle.map_run.specs.Commands.{is_script, to_a_stop, to_the_end, work}
 use Rattle.map_run.specs.Ending.{Ends, IsEndWritten, IsLeft, IsOutOfMemory, IsScriptEnded, IsStatusSaid}
 use Rattle.map_run.proofs.EndingLemmas.{command_ends}
-use Rattle.map_run.specs.Inputs.{inputs_of, input_path}
+use Rattle.asked_inputs.specs.Inputs.{inputs_of, input_path}
 use Rattle.map_run.specs.Promises.{Keeps, TakesSteps}
 
 abbrev Told : Type 0

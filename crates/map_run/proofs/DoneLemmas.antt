@@ -15,7 +15,7 @@ use Rattle.map_run.specs.declared.answer.Answer.{Answer}
 use Rattle.run_status.specs.declared.status.Status.{Status}
 use Rattle.run_status.specs.declared.status.Status.TheVariants as status
 use Rattle.command_words.specs.Asked.{Asked}
-use Rattle.map_run.specs.Inputs.{input_path}
+use Rattle.asked_inputs.specs.Inputs.{input_path}
 use Rattle.map_run.specs.Answers.{Finished, done, answer_by, status_at, whole}
 use Rattle.map_run.specs.Commands.{work}
 use Rattle.map_run.specs.Ending.{IsLineOf, Ends, status_after}

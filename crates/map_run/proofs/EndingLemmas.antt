@@ -18,7 +18,7 @@ use Rattle.command_words.specs.declared.fault.WordsFault.{WordsFault}
 use Rattle.command_words.specs.declared.fault.WordsFault.TheVariants as fault
 use Rattle.command_words.specs.Words.{Reads as ReadsWords}
 use Rattle.command_words.specs.Asked.{Asked, stations, graph, export, imported, make, improve, check, depict, session, trial, page}
-use Rattle.map_run.specs.Inputs.{input_path}
+use Rattle.asked_inputs.specs.Inputs.{input_path}
 use Rattle.map_run.specs.Answers.{Finished, alone, done, answer_by, status_at}
 use Rattle.run_status.specs.Statuses.{status_of}
 use Rattle.map_run.specs.Commands.{work}

@@ -20,7 +20,7 @@ use Rattle.command_words.specs.Asked.{Asked, stations, graph, export, imported, 
 use Rattle.command_paths.specs.Paths.{MapPaths}
 use Rattle.command_words.specs.Words.{asked, asked_in}
 use Rattle.command_words.proofs.Apart.{AreApart, AreNewApart, asked_apart}
-use Rattle.map_run.specs.Inputs.{input_path}
+use Rattle.asked_inputs.specs.Inputs.{input_path}
 use Rattle.map_page.specs.Pages.{page_bytes}
 use Rattle.map_commands.specs.MapWorks.{map_outputs, page_output}
 use Rattle.session_command.specs.SessionWorks.{Played, session_text}

@@ -18,7 +18,7 @@ use Rattle.command_words.specs.Asked.{Asked}
 use Rattle.run_status.specs.Following.{ComesTo}
 use Rattle.run_status.specs.Lines.{status_line}
 use Rattle.map_run.specs.Commands.{work}
-use Rattle.map_run.specs.Inputs.{input_path}
+use Rattle.asked_inputs.specs.Inputs.{input_path}
 use Rattle.map_run.specs.Answers.{Finished, answer_by, done, status_at}
 use Rattle.map_run.specs.Ending.{IsAnswerTo, IsDue, IsLeft, IsLineOf, IsToBeWritten, Ends, status_after}
 use Rattle.map_run.proofs.EndingLemmas.{due_of}

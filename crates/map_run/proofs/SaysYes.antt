@@ -39,7 +39,7 @@ use Rattle.run_status.specs.declared.status.Status.{Status}
 use Rattle.run_status.specs.declared.status.Status.TheVariants as status
 use Rattle.command_words.specs.Asked.{Asked, make, improve, check}
 use Rattle.command_paths.specs.Paths.{Chosen, MapPaths, NewPaths}
-use Rattle.map_run.specs.Inputs.{inputs_of, input_path}
+use Rattle.asked_inputs.specs.Inputs.{inputs_of, input_path}
 use Rattle.map_commands.specs.MapWorks.{proved_line, printed, built, certificate_checked, certificate_work, check_work, checked_as, picture_checked, picture_work}
 use Rattle.run_status.specs.Outputs.{said}
 use Rattle.map_run.proofs.Budgets.{AreLoadedAlike, loads_over}

@@ -33,7 +33,7 @@ use Rattle.graph_maps.specs.Subjects.{told_by}
 use Rattle.command_run.specs.Told.{IsRun}
 use Rattle.run_status.specs.declared.refusal.Refusal.TheVariants as refused
 use Rattle.import_command.specs.ImportWorks.{read_work}
-use Rattle.map_run.specs.Inputs.{inputs_of, input_path}
+use Rattle.asked_inputs.specs.Inputs.{inputs_of, input_path}
 use Rattle.map_commands.specs.Promises.{IsAccepted}
 
 -- The map of a feed is written, and its certificate: those that are defined for the feed's tables. The map shows exactly

@@ -1,4 +1,3 @@
-pub mod Inputs
 pub mod Answers
 pub mod Commands
 pub mod Promises

@@ -10,7 +10,7 @@ use Rattle.session_command.specs.SessionWorks.{Played}
 use Rattle.session_command.specs.Promises.{AreOfSession, TakesSessionSteps}
 use Rattle.trial_command.specs.Trials.{TakesTrialSteps}
 use Rattle.map_run.specs.Answers.{Finished}
-use Rattle.map_run.specs.Inputs.{inputs_of}
+use Rattle.asked_inputs.specs.Inputs.{inputs_of}
 
 -- a script that came so far
 abbrev pub played_of : Finished → Played

@@ -15,7 +15,7 @@ ghost use Rattle.run_status.specs.declared.status.Status.{Status};
 ghost use Rattle.run_status.specs.declared.status.Status.TheVariants as status;
 ghost use Rattle.command_words.specs.Asked.{Asked, check, improve, make};
 ghost use Rattle.command_paths.specs.Paths.{Chosen, MapPaths, NewPaths};
-ghost use Rattle.map_run.specs.Inputs.{input_path};
+ghost use Rattle.asked_inputs.specs.Inputs.{input_path};
 ghost use Rattle.map_commands.specs.MapWorks.{proved_line};
 ghost use Rattle.map_run.specs.Answers.{Finished, alone, answer_by, status_at, whole};
 ghost use Rattle.run_status.specs.Outputs.{said};

@@ -4,12 +4,10 @@
 #![tactic(auto)]
 
 mod answer;
-mod inputs;
 mod laws;
 mod running;
 
 pub use answer::{Answer, Reply};
-pub use inputs::{inputs_of, path_for};
 pub use laws::{
     a_fault_of_writing_leaves_a_beginning, check_says_yes_to_what_improve_wrote,
     check_says_yes_to_what_make_wrote, other_statuses_leave_whole_outputs,

@@ -4,7 +4,7 @@ ghost use Rattle.std.specs.Prelude.{◌≡◌, ◌≢◌, ◌≤◌, ◌⊎◌, 
 ghost use Rattle.files_door.specs.Fault.{Rose};
 ghost use Rattle.command_words.specs.Asked.{asked_by};
 ghost use Rattle.command_words.specs.Words.{asked_in};
-ghost use Rattle.map_run.specs.Inputs.{input_path};
+ghost use Rattle.asked_inputs.specs.Inputs.{input_path};
 ghost use Rattle.map_run.specs.Answers.{alone, answer_by, whole_by};
 ghost use Rattle.run_status.specs.Statuses.{status_of};
 ghost use Rattle.map_run.specs.Promises.{TakesSteps};
@@ -12,7 +12,7 @@ ghost use Rattle.map_run.specs.Ending.{Ends, IsCaused, IsEndWritten, IsLineOf, I
 ghost use Rattle.map_run.specs.Headline.{MeansDone};
 
 use crate::answer::{Answer, Reply, end_with, status_at};
-use crate::inputs::{inputs_of, path_for};
+use asked_inputs::{inputs_of, path_for};
 use command_run::{Ending, Output, deliver, out_of_memory};
 use command_words::{Command, WordsFault, command_of};
 use export_command::export_graph;

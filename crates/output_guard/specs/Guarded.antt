@@ -7,7 +7,7 @@ use Rattle.command_paths.specs.Paths.{NewPaths, new_paths_by}
 use Rattle.command_words.specs.Asked.{Asked, stations, graph, make, improve, check, depict, session, trial, page, export, imported}
 use Rattle.run_status.specs.declared.input.Input.{Input}
 use Rattle.run_status.specs.declared.input.Input.TheVariants as input
-use Rattle.map_run.specs.Inputs.{input_path, inputs_of}
+use Rattle.asked_inputs.specs.Inputs.{input_path, inputs_of}
 use Rattle.output_guard.specs.declared.clash.Clash.{Clash}
 use Rattle.output_guard.specs.declared.outputs.Outputs.{Outputs}
 use Rattle.output_guard.specs.declared.outputs.Outputs.TheVariants as output

@@ -7,11 +7,11 @@ ghost use Rattle.command_words.specs.Asked.{asked_by};
 ghost use Rattle.output_guard.specs.Guarded.{clash_with, files_of, first_clash, has_feed, has_certificate, has_picture, has_script, is_read, outputs_of, page_file, paths_read, with_read, with_tables, has_graph};
 
 use crate::outputs::{Outputs, outputs_of};
+use asked_inputs::{inputs_of, path_for};
 use command_paths::NewFiles;
 use command_words::Command;
 use disk_door::Leads;
 use map_base::{NoMemory, Text};
-use map_run::{inputs_of, path_for};
 use run_status::Input;
 use std::alloc::Global;
 use table_rows::Table;

@@ -18,7 +18,7 @@ use Rattle.command_words.specs.Asked.{graph, make, check, page}
 use Rattle.map_page.specs.Pages.{page_bytes}
 use Rattle.command_paths.specs.Paths.{Chosen, MapPaths, NewPaths}
 use Rattle.page_command.specs.PageWorks.{page_work}
-use Rattle.map_run.specs.Inputs.{input_path}
+use Rattle.asked_inputs.specs.Inputs.{input_path}
 use Rattle.map_run.specs.Answers.{alone, answer_by, whole_by}
 use Rattle.run_status.specs.Outputs.{said}
 use Rattle.table_commands.specs.TableWorks.{graph_work}

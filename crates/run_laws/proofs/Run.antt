@@ -23,7 +23,7 @@ use Rattle.map_run.specs.declared.answer.Answer.{Answer}
 use Rattle.map_run.specs.Answers.{Finished, answer_by, done}
 use Rattle.map_run.specs.Commands.{work}
 use Rattle.map_run.specs.Ending.{IsDue, IsLeft, IsLineOf, Ends, status_after}
-use Rattle.map_run.specs.Inputs.{input_path}
+use Rattle.asked_inputs.specs.Inputs.{input_path}
 use Rattle.map_run.proofs.EndingLemmas.{due_of}
 use Rattle.run_laws.specs.Runs.{defined_answer, IsAnswerOver, IsRunOf}
 

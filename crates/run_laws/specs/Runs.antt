@@ -15,7 +15,7 @@ use Rattle.map_run.specs.declared.answer.Answer.{Answer}
 use Rattle.map_run.specs.Answers.{alone, answer_by}
 use Rattle.map_run.specs.Commands.{work}
 use Rattle.map_run.specs.Ending.{IsLineOf, Reads, status_after}
-use Rattle.map_run.specs.Inputs.{input_path}
+use Rattle.asked_inputs.specs.Inputs.{input_path}
 
 -- the answer of a command over files, by definition: a status, and outputs in the order in which their targets are begun
 abbrev pub defined_answer : Asked → List (List ℕ × List ℕ) → Answer

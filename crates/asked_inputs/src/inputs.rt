@@ -4,7 +4,7 @@ ghost use Rattle.std.specs.Prelude.{◌≡◌, [], IfOk};
 ghost use Rattle.command_paths.specs.Paths.{options_by, paths_by};
 ghost use Rattle.command_words.specs.Asked.{asked_by};
 ghost use Rattle.command_inputs.specs.Inputs.{inputs_by};
-ghost use Rattle.map_run.specs.Inputs.{input_path, inputs_of, no_choice, no_map};
+ghost use Rattle.asked_inputs.specs.Inputs.{input_path, inputs_of, no_choice, no_map};
 
 use command_inputs::{Inputs, path_of};
 use command_paths::{MapFiles, Options};
