@@ -17,24 +17,26 @@ _octimap_offer()
 _octimap()
 {
     local current=${COMP_WORDS[COMP_CWORD]} before=${COMP_WORDS[COMP_CWORD - 1]}
-    local commands='map make improve check labels geo session graph stations page trial help' alone='--help --version' options='' kinds=() place=0 at
+    local commands='map make improve check labels geo session graph export import stations page trial help' alone='--help --version' options='' kinds=() place=0 at
     COMPREPLY=()
     if ((COMP_CWORD == 1)); then
         mapfile -t COMPREPLY < <(compgen -W "$commands $alone" -- "$current")
         return
     fi
     case ${COMP_WORDS[1]} in
-        map) options='--settings --edits --help' kinds=(folder svg file) ;;
-        make) options='--settings --edits --help' kinds=(folder svg file) ;;
-        improve) options='--settings --edits --help' kinds=(folder svg file none) ;;
-        check) options='--settings --edits --help' kinds=(folder svg file) ;;
-        labels) options='--settings --edits --help' kinds=(folder file file) ;;
-        geo) options='--settings --edits --help' kinds=(folder file file) ;;
-        session) options='--settings --help' kinds=(folder file file) ;;
-        graph) options='--settings --edits --help' kinds=(folder) ;;
-        stations) options='--help' kinds=(folder) ;;
-        page) options='--help' kinds=(svg html) ;;
-        trial) options='--help' kinds=(none) ;;
+        map) options='--quiet --settings --set --edits --page --help' kinds=(folder svg file) ;;
+        make) options='--quiet --settings --set --edits --page --help' kinds=(folder svg file) ;;
+        improve) options='--quiet --settings --set --edits --help' kinds=(folder svg file none) ;;
+        check) options='--quiet --settings --set --edits --help' kinds=(folder svg file) ;;
+        labels) options='--quiet --settings --set --edits --help' kinds=(folder file file) ;;
+        geo) options='--quiet --settings --set --edits --help' kinds=(folder file file) ;;
+        session) options='--quiet --settings --set --help' kinds=(folder file file) ;;
+        graph) options='--quiet --settings --set --edits --help' kinds=(folder) ;;
+        export) options='--quiet --settings --set --edits --help' kinds=(folder file) ;;
+        import) options='--quiet --settings --set --help' kinds=(none svg file) ;;
+        stations) options='--quiet --help' kinds=(folder) ;;
+        page) options='--quiet --help' kinds=(svg html) ;;
+        trial) options='--quiet --help' kinds=(none) ;;
         help)
             ((COMP_CWORD > 2)) || mapfile -t COMPREPLY < <(compgen -W "$commands" -- "$current")
             return
@@ -48,7 +50,7 @@ _octimap()
         before=${COMP_WORDS[COMP_CWORD - 2]}
     fi
     case $before in
-        --edits | --settings)
+        --edits | --page | --settings)
             compopt -o default
             return
             ;;
@@ -60,7 +62,7 @@ _octimap()
     # which operand it is: those before it, without options and their values
     for ((at = 2; at < COMP_CWORD; at++)); do
         case ${COMP_WORDS[at]} in
-            --edits | --settings) [[ ${COMP_WORDS[at + 1]} == = ]] || ((at++)) ;;
+            --edits | --page | --set | --settings) [[ ${COMP_WORDS[at + 1]} == = ]] || ((at++)) ;;
             =) ((at++)) ;;
             -*) ;;
             *) ((place++)) ;;

@@ -19,7 +19,6 @@ use Rattle.map_page.specs.Pages.{page_bytes}
 use Rattle.command_paths.specs.Paths.{Chosen, MapPaths, NewPaths}
 use Rattle.page_command.specs.PageWorks.{page_work}
 use Rattle.asked_inputs.specs.Inputs.{input_path}
-use Rattle.map_run.specs.Answers.{alone, answer_by, whole_by}
 use Rattle.run_status.specs.Outputs.{said}
 use Rattle.table_commands.specs.TableWorks.{graph_work}
 use Rattle.map_commands.specs.MapWorks.{check_work, picture_work, made_at, best_line, bound_line, proved_line}
@@ -35,10 +34,6 @@ by_mine = record { defaults = Make; settings = Some (codes "my.toml"); edits = N
 -- where a table lies
 table_path : input_path (graph (codes "feed") standard) (input.Table StopTimes) ≡ codes "feed/stop_times.txt"
 table_path = refl
-
--- an unread table is named by its path
-unread_trips : answer_by (input_path (graph (codes "feed") standard)) (Err (refused.ReadFault (input.Table Trips))) ≡ alone (status.ReadFault (codes "feed/trips.txt"))
-unread_trips = refl
 
 read_fault_line : status_line (status.ReadFault (codes "feed/trips.txt")) ≡ Some (codes "read fault: feed/trips.txt\n")
 read_fault_line = refl
@@ -84,9 +79,9 @@ unfolding places
 page_too = refl
 
 -- a part over the budget is named, with its branch nodes
-spent_line : answer_by (input_path (make (codes "feed") new_places standard)) (whole_by (made_at new_places (Err (fault.Spent 0 2)))) ≡ alone (status.Spent 0 2)
+spent_part : made_at new_places (Err (fault.Spent 0 2)) ≡ Err (refused.Spent 0 2)
 unfolding places new_places
-spent_line = refl
+spent_part = refl
 
 spent_text : status_line (status.Spent 0 2) ≡ Some (codes "spent: 0 2\n")
 unfolding digits
@@ -172,10 +167,6 @@ bad_edit_text = refl
 
 bad_edit_number : status_number (status.BadEdit 2) ≡ 11
 bad_edit_number = refl
-
--- a script that stops at a bad line leaves what it drew
-stopped_at_6 : answer_by (λ _. []) (Ok (record { outputs = said (codes "drawn"); bad_line = Some 6 })) ≡ record { status = status.BadEdit 6; outputs = said (codes "drawn") }
-stopped_at_6 = refl
 
 -- a map that is to be shown has to be there
 no_map_to_show : outcome (page_work (codes "m.html")) (λ _. None) ≡ Err (refused.Missing input.Picture)
