@@ -56,9 +56,11 @@ def write_inputs(feed, folder):
 
 FEEDS = ["one line", "shared", "crossed", "vienna"]
 
-# Each command with its words and its outputs. `in.svg`, `in.cert` are a map that was made before, by the same settings.
+# Each command with its words and its outputs. `in.svg`, `in.cert` are a map that was made before, by the same settings, and
+# `in.json` is the line graph of the feed.
 COMMANDS = {
     "map": ("map feed out.svg out.cert", ["out.svg", "out.cert"]),
+    "map, page": ("map feed out.svg out.cert --page out.html --set near=400", ["out.svg", "out.cert", "out.html"]),
     "make": ("make feed out.svg out.cert", ["out.svg", "out.cert"]),
     "make, settings, edits": ("make feed out.svg out.cert --settings settings.toml --edits edits.txt", ["out.svg", "out.cert"]),
     "improve": ("improve feed out.svg out.cert 5", ["out.svg", "out.cert"]),
@@ -66,6 +68,8 @@ COMMANDS = {
     "labels": ("labels feed in.cert out.svg", ["out.svg"]),
     "session": ("session feed script out --settings settings.toml", ["out"]),
     "graph": ("graph feed", []),
+    "export": ("export feed out.json", ["out.json"]),
+    "import": ("import in.json out.svg out.cert", ["out.svg", "out.cert"]),
     "stations": ("stations feed", []),
     "page": ("page in.svg out.html", ["out.html"]),
     "trial": ("trial 3", []),
@@ -97,7 +101,7 @@ class Program:
         os.makedirs(self.folder)
         write_inputs(feed, self.folder)
         os.chdir(self.folder)
-        if self.run("make feed in.svg in.cert")[0] != 0:
+        if self.run("make feed in.svg in.cert")[0] != 0 or self.run("export feed in.json")[0] != 0:
             sys.exit(f"there is no map of the feed {feed}")
         self.inputs = set(os.listdir("."))
 
