@@ -41,7 +41,8 @@ ABSENT = (errno.ENOENT, errno.ENOTDIR)
 
 
 class Call:
-    """A call of a run, and the file that it is about: an input, a draft of an output (or standard output), or another one."""
+    """A call of a run, and the file that it is about: an input, a draft of an output (or standard output), or another one.
+    Its role is "message" where the run has ended, and it only looks up what standard error is to say."""
 
     def __init__(self, kind, number, path, role):
         self.kind, self.number, self.path, self.role = kind, number, path, role
@@ -53,15 +54,21 @@ def role_of(program, path, flags):
     return "draft" if flags & os.O_CREAT else "other"
 
 
-def calls_of(program, words):
+def calls_of(program, judge, stand):
     """The calls of a run, each with its file."""
+    program.set_outputs(judge.names, stand)
+    program.run(f"{judge.words} --quiet")
+    quiet = program.counts()
+    program.set_outputs(judge.names, stand)
     opened, calls = {1: ("standard output", "draft")}, []
-    for kind, number, about, result, path in program.calls(words):
+    for kind, number, about, result, path in program.calls(judge.words):
         if kind == "open":
             named = path, role_of(program, path, about)
             opened[result] = named
         else:
             named = (path, "other") if path else opened.get(about, ("", "other"))
+        if number > quiet[kind]:
+            named = named[0], "message"
         calls.append(Call(kind, number, *named))
     return calls
 
@@ -86,7 +93,7 @@ def statuses(program, judge, call, code, lasts):
     """The statuses that a run may have, and what it has to print where that is known."""
     ordinary = judge.status
     is_input = call.role == "input"
-    if code == SHORT or code == errno.EINTR:
+    if code == SHORT or code == errno.EINTR or call.role == "message":
         return (ordinary,), None
     # All was synced before it is closed; and where no limits are told, there are none. What is refused from the limits on
     # is refused at the inputs too.
@@ -163,8 +170,7 @@ def main():
             ended, faults = {}, []
             # The calls differ a little between outputs that stand and outputs that are new.
             for stand in [True, False]:
-                program.set_outputs(judge.names, stand)
-                for call, code, how in trials_of(calls_of(program, judge.words)):
+                for call, code, how in trials_of(calls_of(program, judge, stand)):
                     if given.kind not in call.kind:
                         continue
                     status, fault = fault_of(program, judge, call, code, how, stand)
