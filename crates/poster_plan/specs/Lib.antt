@@ -1,0 +1,6 @@
+pub mod Signs
+pub mod Places
+pub mod Placing
+pub mod Pitches
+pub mod Legends
+pub mod Laws

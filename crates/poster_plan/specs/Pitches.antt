@@ -1,0 +1,125 @@
+-- The pitch of a poster: how many units one grid step is.
+use Rattle.std.specs.Prelude.{ℕ, ◌+◌, ◌*◌, ◌==◌, ◌&&◌, ◌||◌, not, Bool, true, nat_le, nat_lt, pos, ◌-ℤ◌, int_le, List, [], ◌∷◌, ◌++◌, length, map, filter, fold, unwrap_or, if◌then◌else◌}
+use Rattle.std.specs.List.{find, flat_map, list_any, range_with_len}
+use Rattle.line_offsets.specs.declared.corner.Corner.{Corner}
+use Rattle.eight_sides.specs.declared.shape.Shape.{Shape}
+use Rattle.eight_sides.specs.Shapes.{meet}
+use Rattle.svg_writer.specs.declared.bounds.Bounds.{Bounds}
+use Rattle.svg_writer.specs.Picture.{bounds_at, origin, widened}
+use Rattle.poster_plan.specs.declared.plan.Mark.{Mark}
+use Rattle.poster_plan.specs.declared.plan.Piece.{Piece}
+use Rattle.poster_plan.specs.declared.plan.Plan.{Plan}
+use Rattle.poster_plan.specs.declared.layout.Printed.{Printed}
+use Rattle.poster_plan.specs.Signs.{dot, mark_at, piece_at}
+use Rattle.poster_plan.specs.Placing.{in_full, in_small, named, printed_names, printed_shape}
+
+-- the pitches: 20, 24, 28 and so on to 200
+abbrev pub pitches : List ℕ
+pitches = map (λ (i : ℕ). 20 + 4 * i) (range_with_len 0 46)
+
+-- ---- room
+
+-- what a station or a straight piece takes up, and the nodes that it belongs to, one of them twice where there is but one
+pub record Thing : Type 0 where
+  pub shape : Shape
+  pub first : ℕ
+  pub second : ℕ
+
+-- two things have a node in common
+abbrev pub share_node : Thing → Thing → Bool
+share_node a b = (a.first == b.first) || (a.first == b.second) || (a.second == b.first) || (a.second == b.second)
+
+-- two things that have no node in common meet
+abbrev pub clash : Thing → Thing → Bool
+clash a b = not (share_node a b) && meet a.shape b.shape
+
+abbrev pub mark_thing : ℕ → Mark → Thing
+mark_thing u m = record { shape = mark_at u m; first = m.node.0; second = m.node.0 }
+
+abbrev pub piece_thing : ℕ → Piece → Thing
+piece_thing u p = record { shape = piece_at u p; first = p.ends.0.0; second = p.ends.1.0 }
+
+-- all stations and straight pieces
+abbrev pub things_at : ℕ → Plan → List Thing
+things_at u plan = map (mark_thing u) plan.marks ++ map (piece_thing u) plan.pieces
+
+-- no two things clash
+abbrev pub none_clash : List Thing → Bool
+none_clash [] = true
+none_clash (t ∷ ts) = not (list_any (clash t) ts) && none_clash ts
+
+-- a pitch is roomy: stations and pieces that have no node in common keep apart
+abbrev pub is_roomy : ℕ → Plan → Bool
+is_roomy u plan = none_clash (things_at u plan)
+
+-- ---- what is left out
+
+-- how many names found no place in full size, and how many found none small either, beside lines
+abbrev pub full_left : ℕ → Plan → ℕ
+full_left u plan = length (in_full u plan).left
+
+abbrev pub small_left : ℕ → Plan → ℕ
+small_left u plan = length (in_small u plan).left
+
+-- a pitch is roomy, and of the names at most a tenth is not in full size, and at most a thirtieth not beside lines
+abbrev pub suits : Plan → ℕ → Bool
+suits plan u = is_roomy u plan && nat_le (10 * full_left u plan) (length (named plan.marks)) && nat_le (30 * small_left u plan) (length (named plan.marks))
+
+-- the first pitch that suits, or the greatest
+abbrev pub first_pitch : Plan → ℕ
+first_pitch plan = unwrap_or (find (suits plan) pitches) 200
+
+-- ---- the size of the whole
+
+-- the least bounds that hold points, those of the origin where there is none
+abbrev pub bounds_of : List Corner → Bounds
+bounds_of [] = bounds_at origin
+bounds_of (c ∷ cs) = fold widened (bounds_at c) cs
+
+-- the ends of straight pieces, as far as bounds go all grid points of walks; the origin where there is none
+abbrev pub walked_corners : ℕ → List Piece → List Corner
+walked_corners u [] = origin ∷ []
+walked_corners u (p ∷ ps) = flat_map (λ (q : Piece). dot u q.start ∷ dot u q.end ∷ []) (p ∷ ps)
+
+-- the least and the greatest x and y of a shape
+abbrev pub shape_corners : Shape → List Corner
+shape_corners s = record { x = s.across.least; y = s.down.least } ∷ record { x = s.across.greatest; y = s.down.greatest } ∷ []
+
+-- the least bounds of all grid points of walks and of these names
+abbrev pub bounds_with : ℕ → Plan → List Printed → Bounds
+bounds_with u plan printed = bounds_of (walked_corners u plan.pieces ++ flat_map (λ (p : Printed). shape_corners (printed_shape u plan p)) printed)
+
+-- the same of the names that are printed at a pitch
+abbrev pub extent : ℕ → Plan → Bounds
+extent u plan = bounds_with u plan (printed_names u plan)
+
+-- 4200 units are enough for the longer side
+abbrev pub is_small : Bounds → Bool
+is_small b = int_le (b.right -ℤ b.left) (pos 4200) && int_le (b.bottom -ℤ b.top) (pos 4200)
+
+abbrev pub fits : Plan → ℕ → Bool
+fits plan u = is_small (extent u plan)
+
+-- ---- the choice
+
+-- these pitches as long as all fits, and no further than the first at which each name is in full size
+abbrev pub tried : Plan → List ℕ → List ℕ
+tried plan [] = []
+tried plan (u ∷ us) = if fits plan u then u ∷ (if full_left u plan == 0 then [] else tried plan us) else []
+
+-- fewer names are over lines or left out at one pitch than at another, or as many, and fewer are not in full size
+abbrev pub is_better : Plan → ℕ → ℕ → Bool
+is_better plan u v =
+    nat_lt (small_left u plan) (small_left v plan)
+    || (small_left u plan == small_left v plan) && nat_lt (full_left u plan) (full_left v plan)
+
+-- the first of the best
+abbrev pub better_of : Plan → ℕ → ℕ → ℕ
+better_of plan best u = if is_better plan u best then u else best
+
+-- The pitch: the first that suits, where the whole is larger than 4200 units there. Else the least of the best of those
+-- from it on that fit.
+abbrev pub pitch_of : Plan → ℕ
+pitch_of plan =
+    let v = first_pitch plan in
+    if fits plan v then fold (better_of plan) v (tried plan (filter (nat_le v) pitches)) else v
