@@ -2,6 +2,7 @@
 use Rattle.std.specs.Prelude.{ℕ, ◌+◌, ◌*◌, ◌==◌, ◌&&◌, ◌||◌, not, Bool, true, nat_le, nat_lt, pos, ◌-ℤ◌, int_le, List, [], ◌∷◌, ◌++◌, length, map, filter, fold, unwrap_or, if◌then◌else◌}
 use Rattle.std.specs.List.{find, flat_map, list_any, range_with_len}
 use Rattle.line_offsets.specs.declared.corner.Corner.{Corner}
+use Rattle.line_offsets.specs.Shifts.{drawn_at}
 use Rattle.eight_sides.specs.declared.shape.Shape.{Shape}
 use Rattle.eight_sides.specs.Shapes.{meet}
 use Rattle.svg_writer.specs.declared.bounds.Bounds.{Bounds}
@@ -10,7 +11,7 @@ use Rattle.poster_plan.specs.declared.plan.Mark.{Mark}
 use Rattle.poster_plan.specs.declared.plan.Piece.{Piece}
 use Rattle.poster_plan.specs.declared.plan.Plan.{Plan}
 use Rattle.poster_plan.specs.declared.layout.Printed.{Printed}
-use Rattle.poster_plan.specs.Signs.{dot, mark_at, piece_at}
+use Rattle.poster_plan.specs.Signs.{mark_at, piece_at}
 use Rattle.poster_plan.specs.Placing.{in_full, in_small, named, printed_names, printed_shape}
 
 -- the pitches: 20, 24, 28 and so on to 200
@@ -79,7 +80,7 @@ bounds_of (c ∷ cs) = fold widened (bounds_at c) cs
 -- the ends of straight pieces, as far as bounds go all grid points of walks; the origin where there is none
 abbrev pub walked_corners : ℕ → List Piece → List Corner
 walked_corners u [] = origin ∷ []
-walked_corners u (p ∷ ps) = flat_map (λ (q : Piece). dot u q.start ∷ dot u q.end ∷ []) (p ∷ ps)
+walked_corners u (p ∷ ps) = flat_map (λ (q : Piece). drawn_at u q.start ∷ drawn_at u q.end ∷ []) (p ∷ ps)
 
 -- the least and the greatest x and y of a shape
 abbrev pub shape_corners : Shape → List Corner

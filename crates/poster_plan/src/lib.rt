@@ -14,4 +14,4 @@ pub use laws::{names_keep_apart, names_keep_to_their_stations, names_lie_over_li
 pub use layout::{Legend, Printed, Step};
 pub use place::{Anchor, Place, Spot, Turn, place_shape, places_of, text_spot};
 pub use plan::{Mark, Piece, Plan};
-pub use sign::{Sign, dot, sign_of};
+pub use sign::{Sign, sign_of};

@@ -6,4 +6,4 @@ pub returns : goal.returns
 returns c =
     let value : c.times.result ≡ c.args.k *ℤ c.args.by =
     c.times.ensures.value ∙ ap (λ (u : ℤ). u *ℤ to_z w64 (of_z w64 c.args.by)) (to_z-of_z w32 c.args.k c.ranges.k) ∙ ap (λ (u : ℤ). c.args.k *ℤ u) (to_z-of_z w64 c.args.by c.ranges.by) in
-    omega (arith, ints, value, c.from.ensures, c.times.ensures.small)
+    omega (arith, ints, value, c.scaled.ensures.value, c.scaled.ensures.small, c.times.ensures.small)
