@@ -1,6 +1,6 @@
 //! The path of a line beside a walk.
 
-ghost use Rattle.std.specs.Prelude.{◌≡◌, ◌≤◌, ◌<◌, ◌*ℤ◌, ◌+ℤ◌, ◌-ℤ◌, pos, length, drop, unsigned_abs, IfOk, OnOk};
+ghost use Rattle.std.specs.Prelude.{◌≡◌, ◌≤◌, ◌<◌, ◌*◌, ◌*ℤ◌, ◌+ℤ◌, ◌-ℤ◌, pos, length, drop, unsigned_abs, IfOk, OnOk};
 ghost use Rattle.line_offsets.specs.Shifts.{drawn_at, moved_at};
 ghost use Rattle.line_offsets.specs.Paths.{line_path, line_path_at, path_start, path_start_at, path_end, path_end_at, corner_behind};
 
@@ -121,8 +121,8 @@ fn down(pitch: u32, y: i32, k: i32, by: i64) -> i64
 pub fn drawn_at(pitch: u32, p: GridPoint) -> Corner
     requires { pitch ≤ 1000 }
     ensures value { result ≡ drawn_at pitch p }
-    ensures x { unsigned_abs result.x ≤ 2147483648000 }
-    ensures y { unsigned_abs result.y ≤ 2147483648000 }
+    ensures x { unsigned_abs result.x ≤ pitch * 2147483648 }
+    ensures y { unsigned_abs result.y ≤ pitch * 2147483648 }
 {
     Corner {
         x: scaled(pitch, p.x),
@@ -134,7 +134,7 @@ pub fn drawn_at(pitch: u32, p: GridPoint) -> Corner
 fn scaled(pitch: u32, z: i32) -> i64
     requires { pitch ≤ 1000 }
     ensures value { result ≡ pos pitch *ℤ z }
-    ensures small { unsigned_abs result ≤ 2147483648000 }
+    ensures small { unsigned_abs result ≤ pitch * 2147483648 }
 {
     i64::from(pitch) * i64::from(z)
 }

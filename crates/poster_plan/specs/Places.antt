@@ -11,6 +11,7 @@ use Rattle.poster_plan.specs.declared.layout.Step.TheVariants.{Full, Small, Over
 use Rattle.poster_plan.specs.declared.place.Place.{Place}
 use Rattle.poster_plan.specs.declared.place.Place.TheVariants as place
 use Rattle.poster_plan.specs.declared.place.Spot.{Spot}
+use Rattle.poster_plan.specs.declared.place.Turn.{Turn}
 use Rattle.poster_plan.specs.declared.place.Turn.TheVariants.{Level, Rising, Falling}
 use Rattle.poster_plan.specs.declared.place.Anchor.{Anchor}
 use Rattle.poster_plan.specs.declared.place.Anchor.TheVariants.{Start, Middle, End}
@@ -69,6 +70,10 @@ slant z = (17 * size z + 47) / 48
 abbrev pub long : Sign → Step → ℕ
 long s z = slanted_length (width s z)
 
+-- how far the middle of a slanted text's end lies from the centre, both ways
+abbrev pub lean : Sign → Step → ℕ
+lean s z = gap s + slant z
+
 -- half of a width, rounded up
 abbrev pub half_width : Sign → Step → ℕ
 half_width s z = (width s z + 1) / 2
@@ -91,13 +96,13 @@ place_shape s z place.SW = upright (backwards s.centre.x (corner_gap s) (width s
 place_shape s z place.N = upright (around s.centre.x (half_width s z)) (backwards s.centre.y (gap s) (size z))
 place_shape s z place.S = upright (around s.centre.x (half_width s z)) (onwards s.centre.y (gap s) (size z))
 place_shape s z place.UpEast =
-    slanted (onwards (s.centre.x -ℤ s.centre.y) (2 * gap s + 2 * slant z) (long s z)) (around (s.centre.x +ℤ s.centre.y) (2 * slant z))
+    slanted (onwards (s.centre.x -ℤ s.centre.y) (2 * lean s z) (long s z)) (around (s.centre.x +ℤ s.centre.y) (2 * slant z))
 place_shape s z place.DownWest =
-    slanted (backwards (s.centre.x -ℤ s.centre.y) (2 * gap s + 2 * slant z) (long s z)) (around (s.centre.x +ℤ s.centre.y) (2 * slant z))
+    slanted (backwards (s.centre.x -ℤ s.centre.y) (2 * lean s z) (long s z)) (around (s.centre.x +ℤ s.centre.y) (2 * slant z))
 place_shape s z place.DownEast =
-    slanted (around (s.centre.x -ℤ s.centre.y) (2 * slant z)) (onwards (s.centre.x +ℤ s.centre.y) (2 * gap s + 2 * slant z) (long s z))
+    slanted (around (s.centre.x -ℤ s.centre.y) (2 * slant z)) (onwards (s.centre.x +ℤ s.centre.y) (2 * lean s z) (long s z))
 place_shape s z place.UpWest =
-    slanted (around (s.centre.x -ℤ s.centre.y) (2 * slant z)) (backwards (s.centre.x +ℤ s.centre.y) (2 * gap s + 2 * slant z) (long s z))
+    slanted (around (s.centre.x -ℤ s.centre.y) (2 * slant z)) (backwards (s.centre.x +ℤ s.centre.y) (2 * lean s z) (long s z))
 
 -- so far to the right of a point and so far below it
 abbrev pub beside : Corner → ℤ → ℤ → Corner
@@ -107,25 +112,52 @@ beside c x y = record { x = c.x +ℤ x; y = c.y +ℤ y }
 abbrev pub minus : ℕ → ℤ
 minus n = pos 0 -ℤ pos n
 
--- a level text whose base line begins, ends or has its middle at a point beside the centre
-abbrev pub level_text : Sign → ℤ → ℤ → Anchor → Spot
-level_text s x y anchor = record { at = beside s.centre x y; turn = Level; anchor = anchor }
+-- how far the point of a text is to the right of the centre of its station, and how far below it. The base line of a text is
+-- 2 tenths of its size above its lower rim.
+abbrev pub offset : Sign → Step → Place → ℤ × ℤ
+offset s z place.E = (pos (gap s), pos (3 * tenth z))
+offset s z place.W = (minus (gap s), pos (3 * tenth z))
+offset s z place.SE = (pos (corner_gap s), pos (corner_gap s + 8 * tenth z))
+offset s z place.NE = (pos (corner_gap s), minus (corner_gap s + 2 * tenth z))
+offset s z place.NW = (minus (corner_gap s), minus (corner_gap s + 2 * tenth z))
+offset s z place.SW = (minus (corner_gap s), pos (corner_gap s + 8 * tenth z))
+offset s z place.N = (pos 0, minus (gap s + 2 * tenth z))
+offset s z place.S = (pos 0, pos (gap s + 8 * tenth z))
+offset s z place.UpEast = (pos (lean s z), minus (lean s z))
+offset s z place.DownWest = (minus (lean s z), pos (lean s z))
+offset s z place.DownEast = (pos (lean s z), pos (lean s z))
+offset s z place.UpWest = (minus (lean s z), minus (lean s z))
 
--- how far the middle of a slanted text's end lies from the centre, both ways
-abbrev pub lean : Sign → Step → ℕ
-lean s z = gap s + slant z
+-- which way a text runs
+abbrev pub turn_at : Place → Turn
+turn_at place.E = Level
+turn_at place.W = Level
+turn_at place.SE = Level
+turn_at place.NE = Level
+turn_at place.NW = Level
+turn_at place.SW = Level
+turn_at place.N = Level
+turn_at place.S = Level
+turn_at place.UpEast = Rising
+turn_at place.DownWest = Rising
+turn_at place.DownEast = Falling
+turn_at place.UpWest = Falling
 
--- where the text of a name stands at a place: its base line is 2 tenths of its size above its lower rim
+-- which part of it stands at its point
+abbrev pub anchor_at : Place → Anchor
+anchor_at place.E = Start
+anchor_at place.W = End
+anchor_at place.SE = Start
+anchor_at place.NE = Start
+anchor_at place.NW = End
+anchor_at place.SW = End
+anchor_at place.N = Middle
+anchor_at place.S = Middle
+anchor_at place.UpEast = Start
+anchor_at place.DownWest = End
+anchor_at place.DownEast = Start
+anchor_at place.UpWest = End
+
+-- where the text of a name stands at a place
 abbrev pub text_spot : Sign → Step → Place → Spot
-text_spot s z place.E = level_text s (pos (gap s)) (pos (3 * tenth z)) Start
-text_spot s z place.W = level_text s (minus (gap s)) (pos (3 * tenth z)) End
-text_spot s z place.SE = level_text s (pos (corner_gap s)) (pos (corner_gap s + 8 * tenth z)) Start
-text_spot s z place.NE = level_text s (pos (corner_gap s)) (minus (corner_gap s + 2 * tenth z)) Start
-text_spot s z place.NW = level_text s (minus (corner_gap s)) (minus (corner_gap s + 2 * tenth z)) End
-text_spot s z place.SW = level_text s (minus (corner_gap s)) (pos (corner_gap s + 8 * tenth z)) End
-text_spot s z place.N = level_text s (pos 0) (minus (gap s + 2 * tenth z)) Middle
-text_spot s z place.S = level_text s (pos 0) (pos (gap s + 8 * tenth z)) Middle
-text_spot s z place.UpEast = record { at = beside s.centre (pos (lean s z)) (minus (lean s z)); turn = Rising; anchor = Start }
-text_spot s z place.DownWest = record { at = beside s.centre (minus (lean s z)) (pos (lean s z)); turn = Rising; anchor = End }
-text_spot s z place.DownEast = record { at = beside s.centre (pos (lean s z)) (pos (lean s z)); turn = Falling; anchor = Start }
-text_spot s z place.UpWest = record { at = beside s.centre (minus (lean s z)) (minus (lean s z)); turn = Falling; anchor = End }
+text_spot s z p = record { at = beside s.centre (offset s z p).0 (offset s z p).1; turn = turn_at p; anchor = anchor_at p }

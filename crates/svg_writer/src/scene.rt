@@ -32,7 +32,7 @@ pub(crate) fn small_count(count: usize) -> Result<i32, NoMemory>
 }
 
 /// The order of a segment.
-pub(crate) fn order_of<'a>(orders: &'a Orders, s: u32) -> &'a [LineId]
+pub fn order_of<'a>(orders: &'a Orders, s: u32) -> &'a [LineId]
     ensures { result.now ≡ order_at orders.now.lists s }
 {
     match orders.lists.as_slice().get(s as usize) {
@@ -42,7 +42,7 @@ pub(crate) fn order_of<'a>(orders: &'a Orders, s: u32) -> &'a [LineId]
 }
 
 /// The lines of a segment.
-pub(crate) fn lines_of<'a>(graph: &'a LineGraph, s: u32) -> &'a [LineId]
+pub fn lines_of<'a>(graph: &'a LineGraph, s: u32) -> &'a [LineId]
     requires { length graph.now.lines ≡ length graph.now.ends }
     ensures { result.now ≡ lines_at graph.now.lines s }
 {
@@ -54,7 +54,7 @@ pub(crate) fn lines_of<'a>(graph: &'a LineGraph, s: u32) -> &'a [LineId]
 }
 
 /// The ends of a segment.
-pub(crate) fn ends_of(graph: &LineGraph, s: u32) -> (NodeId, NodeId)
+pub fn ends_of(graph: &LineGraph, s: u32) -> (NodeId, NodeId)
     ensures { result ≡ ends_at graph.now.ends s }
 {
     if s < graph.segs() {
@@ -65,7 +65,7 @@ pub(crate) fn ends_of(graph: &LineGraph, s: u32) -> (NodeId, NodeId)
 }
 
 /// The name of a line.
-pub(crate) fn name_of<'a>(names: &'a Names, line: LineId) -> &'a str
+pub fn name_of<'a>(names: &'a Names, line: LineId) -> &'a str
     ensures { result.now ≡ name_of names.now line }
 {
     match names.lines.as_slice().get(line.0 as usize) {
@@ -75,7 +75,7 @@ pub(crate) fn name_of<'a>(names: &'a Names, line: LineId) -> &'a str
 }
 
 /// The colour of a line.
-pub(crate) fn colour_of<'a>(names: &'a Names, line: LineId) -> &'a [u8]
+pub fn colour_of<'a>(names: &'a Names, line: LineId) -> &'a [u8]
     ensures { result.now ≡ colour_of names.now line }
 {
     match names.lines.as_slice().get(line.0 as usize) {

@@ -163,7 +163,7 @@ pub fn radius_of(graph: &LineGraph, n: NodeId) -> Result<u32, NoMemory>
 }
 
 /// How many lines the segment with the most has, of a round.
-fn most_lines(graph: &LineGraph, round: &[SegId]) -> usize
+pub fn most_lines(graph: &LineGraph, round: &[SegId]) -> usize
     requires { length graph.now.lines ≡ length graph.now.ends }
     ensures { result ≡ most_lines graph.now.lines round.now }
 {

@@ -1,0 +1,3 @@
+pub mod Things
+pub mod Cells
+pub mod Tables

@@ -1,0 +1,79 @@
+//! How far what is drawn reaches.
+
+ghost use Rattle.std.specs.Prelude.{◌≡◌, ◌≤◌};
+ghost use Rattle.svg_writer.specs.Elements.{AreBounds};
+ghost use Rattle.poster_plan.specs.Pitches.{bounds_with, is_small};
+
+use eight_sides::Shape;
+use line_offsets::{Corner, drawn_at};
+use poster_plan::{Piece, Plan, Printed, printed_shape};
+use svg_writer::Bounds;
+
+/// The least bounds of all grid points of walks, those of the origin where there is none, and of these names.
+pub fn bounds_with(pitch: u32, plan: &Plan, printed: &[Printed]) -> Bounds
+    requires { pitch ≤ 200 }
+    ensures value { result ≡ bounds_with pitch plan.now printed.now }
+    ensures small { AreBounds result }
+{
+    let mut bounds = walked_bounds(pitch, plan.pieces.as_slice());
+    for name in printed {
+        bounds = with_shape(bounds, printed_shape(pitch, plan, *name));
+    }
+    bounds
+}
+
+/// The least bounds of all grid points of walks, those of the origin where there is none.
+fn walked_bounds(pitch: u32, pieces: &[Piece]) -> Bounds
+    requires { pitch ≤ 200 }
+{
+    let mut bounds = match pieces {
+        [] => bounds_at(Corner { x: 0, y: 0 }),
+        [first, ..] => bounds_at(drawn_at(pitch, first.start)),
+    };
+    for piece in pieces {
+        bounds = with_corner(bounds, drawn_at(pitch, piece.start));
+        bounds = with_corner(bounds, drawn_at(pitch, piece.end));
+    }
+    bounds
+}
+
+/// The bounds of a point alone.
+fn bounds_at(c: Corner) -> Bounds {
+    Bounds {
+        left: c.x,
+        right: c.x,
+        top: c.y,
+        bottom: c.y,
+    }
+}
+
+/// Bounds, widened to hold a point.
+pub(crate) fn with_corner(b: Bounds, c: Corner) -> Bounds {
+    Bounds {
+        left: b.left.min(c.x),
+        right: b.right.max(c.x),
+        top: b.top.min(c.y),
+        bottom: b.bottom.max(c.y),
+    }
+}
+
+/// Bounds, widened to hold a shape.
+fn with_shape(b: Bounds, s: Shape) -> Bounds {
+    let least = Corner {
+        x: s.across.least,
+        y: s.down.least,
+    };
+    let greatest = Corner {
+        x: s.across.greatest,
+        y: s.down.greatest,
+    };
+    with_corner(with_corner(b, least), greatest)
+}
+
+/// Whether 4200 units are enough for the longer side.
+pub(crate) fn is_small(b: Bounds) -> bool
+    requires { AreBounds b }
+    ensures { result ≡ is_small b }
+{
+    b.right - b.left <= 4200 && b.bottom - b.top <= 4200
+}

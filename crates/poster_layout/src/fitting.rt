@@ -1,0 +1,97 @@
+//! The pitch, and the names at it.
+
+ghost use Rattle.std.specs.Prelude.{◌≡◌, ◌≤◌, IfOk};
+ghost use Rattle.poster_plan.specs.Placing.{printed_names};
+ghost use Rattle.poster_plan.specs.Pitches.{pitch_of};
+
+use crate::extent::{bounds_with, is_small};
+use crate::laying::{Laid, lay_out, named};
+use crate::roomy::is_roomy;
+use map_base::{NoMemory, Sequence};
+use poster_plan::{Plan, Printed};
+use std::alloc::Global;
+
+/// The pitch of a poster, and the names that are printed at it, in the order in which they were placed.
+#[derive(Debug, Drop)]
+pub struct Fitted {
+    pub pitch: u32,
+    pub printed: Sequence<Printed>,
+}
+
+/// The pitch of a plan, and the names at it.
+pub fn fitted(alloc: Global, plan: &Plan) -> Result<Fitted, NoMemory>
+    ensures pitch { IfOk result (λ fitted. fitted.pitch ≡ pitch_of plan.now) }
+    ensures printed { IfOk result (λ fitted. fitted.printed ≡ printed_names (pitch_of plan.now) plan.now) }
+{
+    let first = first_suiting(alloc, plan)?;
+    let best = if fits(plan, &first) {
+        best_from(alloc, plan, first)?
+    } else {
+        first
+    };
+    Ok(Fitted {
+        pitch: best.pitch,
+        printed: Sequence::of(best.printed),
+    })
+}
+
+/// The names at the first pitch that suits, or at the greatest.
+fn first_suiting(alloc: Global, plan: &Plan) -> Result<Laid, NoMemory> {
+    let names = named(alloc, plan.marks.as_slice())?.len();
+    for i in 0..45 {
+        let pitch = 20 + 4 * i;
+        if let Some(laid) = laid_where_roomy(alloc, pitch, plan)? {
+            if suits(&laid, names) {
+                return Ok(laid);
+            }
+        }
+    }
+    lay_out(alloc, 200, plan)
+}
+
+/// The names at a pitch, where it is roomy.
+fn laid_where_roomy(alloc: Global, pitch: u32, plan: &Plan) -> Result<Option<Laid>, NoMemory> {
+    if !is_roomy(alloc, pitch, plan)? {
+        return Ok(None);
+    }
+    Ok(Some(lay_out(alloc, pitch, plan)?))
+}
+
+/// Whether of so many names at most a tenth is not in full size, and at most a thirtieth not beside lines.
+fn suits(laid: &Laid, names: usize) -> bool {
+    laid.full_left <= names / 10 && laid.small_left <= names / 30
+}
+
+/// Whether the names at a pitch and all grid points of walks fit into 4200 units.
+fn fits(plan: &Plan, laid: &Laid) -> bool {
+    is_small(bounds_with(laid.pitch, plan, laid.printed.as_slice()))
+}
+
+/// Whether fewer names are over lines or left out than at another pitch, or as many, and fewer are not in full size.
+fn is_better(laid: &Laid, best: &Laid) -> bool {
+    if laid.small_left == best.small_left {
+        laid.full_left < best.full_left
+    } else {
+        laid.small_left < best.small_left
+    }
+}
+
+/// The best of the pitches from one that fits on, as long as all fits, and no further than the first at which each name is
+/// in full size.
+fn best_from(alloc: Global, plan: &Plan, first: Laid) -> Result<Laid, NoMemory> {
+    let mut best = first;
+    let mut left = best.full_left;
+    let mut pitch = best.pitch;
+    while left > 0 && pitch < 200 {
+        pitch += 4;
+        let laid = lay_out(alloc, pitch, plan)?;
+        if !fits(plan, &laid) {
+            return Ok(best);
+        }
+        left = laid.full_left;
+        if is_better(&laid, &best) {
+            best = laid;
+        }
+    }
+    Ok(best)
+}

@@ -1,0 +1,171 @@
+//! Where the legend stands.
+
+ghost use Rattle.std.specs.Prelude.{◌≡◌, ◌≤◌, ◌<◌};
+ghost use Rattle.svg_writer.specs.Elements.{AreBounds};
+ghost use Rattle.poster_plan.specs.Legends.{bounds_beside, column_for, corners_for, is_clear_of_all, legend_height, legend_of, legend_shape, legend_start, legend_width, outside, row_at, rows_for, widely};
+
+use crate::extent::{bounds_with, with_corner};
+use crate::room::{mark_at, piece_at};
+use eight_sides::{Interval, Shape, meet, upright};
+use line_offsets::Corner;
+use poster_plan::{Legend, Plan, Printed, printed_shape};
+use svg_writer::Bounds;
+
+/// How many rows a column has where there are so many lines: at least 12, and at least twice the root of their number.
+fn rows_for(lines: u32) -> u32
+    requires { lines ≤ 1000000 }
+    ensures value { result ≡ rows_for lines }
+    ensures some { 0 < result }
+{
+    let mut rows = 12;
+    while rows * rows < 4 * lines {
+        rows += 1;
+    }
+    rows
+}
+
+/// How wide the legend is.
+fn legend_width(lines: u32, widest: u32) -> u64 {
+    let rows = u64::from(rows_for(lines));
+    let columns = (u64::from(lines) + rows - 1) / rows;
+    (column_for(widest) * columns).saturating_sub(60)
+}
+
+/// How high it is.
+fn legend_height(lines: u32) -> u64 {
+    (45 * u64::from(lines.min(rows_for(lines)))).saturating_sub(15)
+}
+
+/// How far its columns stand apart.
+fn column_for(widest: u32) -> u64 {
+    u64::from(widest) + 150
+}
+
+/// The legend of so many lines, whose widest name is so wide, at a pitch with these names; none of no lines.
+pub fn legend_of(
+    pitch: u32,
+    plan: &Plan,
+    printed: &[Printed],
+    lines: u32,
+    widest: u32,
+) -> Option<Legend>
+    requires pitch { pitch ≤ 200 }
+    requires lines { lines ≤ 1000000 }
+    ensures { result ≡ legend_of pitch plan.now printed.now lines widest }
+{
+    if lines == 0 {
+        return None;
+    }
+    let (width, height) = (legend_width(lines, widest), legend_height(lines));
+    Some(Legend {
+        start: legend_start(pitch, plan, printed, width, height),
+        column: column_for(widest),
+        rows: rows_for(lines),
+    })
+}
+
+/// Its upper left point: in the first corner of the map that is clear, else beside the map.
+fn legend_start(pitch: u32, plan: &Plan, printed: &[Printed], width: u64, height: u64) -> Corner {
+    let bounds = bounds_with(pitch, plan, printed);
+    for corner in &corners_for(bounds, width, height) {
+        if is_clear_of_all(pitch, plan, printed, legend_shape(width, height, *corner)) {
+            return *corner;
+        }
+    }
+    outside(bounds)
+}
+
+/// Its upper left point in each corner of bounds.
+fn corners_for(b: Bounds, width: u64, height: u64) -> [Corner; 4] {
+    let (right, low) = (b.right - width as i64, b.bottom - height as i64);
+    [
+        Corner { x: right, y: b.top },
+        Corner {
+            x: b.left,
+            y: b.top,
+        },
+        Corner { x: right, y: low },
+        Corner { x: b.left, y: low },
+    ]
+}
+
+/// From a number so far on, and 30 further on each side.
+fn widely(z: i64, long: u64) -> Interval {
+    Interval {
+        least: z - 30,
+        greatest: z + (long as i64 + 30),
+    }
+}
+
+/// What it takes up, widened by 30 on each side.
+fn legend_shape(width: u64, height: u64, start: Corner) -> Shape {
+    upright(widely(start.x, width), widely(start.y, height))
+}
+
+/// Whether it keeps clear of all stations, straight pieces and printed names.
+fn is_clear_of_all(pitch: u32, plan: &Plan, printed: &[Printed], shape: Shape) -> bool {
+    !meets_mark(pitch, plan, shape)
+        && !meets_piece(pitch, plan, shape)
+        && !meets_printed(pitch, plan, printed, shape)
+}
+
+/// Whether a shape meets a station.
+fn meets_mark(pitch: u32, plan: &Plan, shape: Shape) -> bool {
+    plan.marks
+        .as_slice()
+        .iter()
+        .any(|mark| meet(shape, mark_at(pitch, *mark)))
+}
+
+/// Whether a shape meets a straight piece.
+fn meets_piece(pitch: u32, plan: &Plan, shape: Shape) -> bool {
+    plan.pieces
+        .as_slice()
+        .iter()
+        .any(|piece| meet(shape, piece_at(pitch, *piece)))
+}
+
+/// Whether a shape meets a printed name.
+fn meets_printed(pitch: u32, plan: &Plan, printed: &[Printed], shape: Shape) -> bool {
+    printed
+        .iter()
+        .any(|name| meet(shape, printed_shape(pitch, plan, *name)))
+}
+
+/// Beside the map: to the right of one that is no wider than it is high, and else below it.
+fn outside(b: Bounds) -> Corner {
+    if b.right - b.left <= b.bottom - b.top {
+        Corner {
+            x: b.right + 30,
+            y: b.top,
+        }
+    } else {
+        Corner {
+            x: b.left,
+            y: b.bottom + 30,
+        }
+    }
+}
+
+/// Where row `i` of a legend is.
+pub fn row_at(legend: Legend, i: u32) -> Corner {
+    let (column, row) = (i / legend.rows, i % legend.rows);
+    Corner {
+        x: legend.start.x + (legend.column * u64::from(column)) as i64,
+        y: legend.start.y + 15 + 45 * i64::from(row),
+    }
+}
+
+/// Bounds that hold the legend of so many lines too.
+pub fn bounds_beside(b: Bounds, lines: u32, widest: u32, legend: Option<Legend>) -> Bounds {
+    match legend {
+        None => b,
+        Some(legend) => {
+            let end = Corner {
+                x: legend.start.x + legend_width(lines, widest) as i64,
+                y: legend.start.y + legend_height(lines) as i64,
+            };
+            with_corner(with_corner(b, legend.start), end)
+        }
+    }
+}
