@@ -30,9 +30,9 @@ pub data Group : Type 0 where
 
 -- The head and the white ground, which both show a frame; the start of a group, and its end; a line on a segment, with its
 -- name, and one from segment to segment at a node, and what is drawn behind each where it is pale; a station with the lines
--- that call there and its name, and the stroke through the feet of these lines, of a colour and a width; a name at its
--- spot, with the lines that end there, and the same with a white rim; a line of the legend, what is drawn behind it where
--- it is pale, and its name; and the end. A colour is three bytes: red, green and blue.
+-- that call there and its name; a stroke of a colour and a width, through the feet of lines at a station or in the legend; a
+-- name at its spot, with the lines that end there, and the same with a white rim; the name of a line in the legend; and the
+-- end. A colour is three bytes: red, green and blue.
 pub data Element : Type 0 where
   Head : (frame : Bounds) → Element
   Ground : (frame : Bounds) → Element
@@ -43,11 +43,9 @@ pub data Element : Type 0 where
   AtNode : (node line : ℕ) (path : List Corner) (colour : List ℕ) → Element
   BehindAtNode : (node line : ℕ) (path : List Corner) → Element
   Station : (node : ℕ) (lines : List LineId) (name : List ℕ) → Element
-  Feet : (path : List Corner) (colour : List ℕ) (width : ℕ) → Element
+  Stroke : (path : List Corner) (colour : List ℕ) (width : ℕ) → Element
   Name : (spot : Spot) (step : Step) (name : List ℕ) (endings : List Ending) → Element
   RimOfName : (spot : Spot) (step : Step) (name : List ℕ) (endings : List Ending) → Element
-  Row : (path : List Corner) (colour : List ℕ) → Element
-  BehindRow : (path : List Corner) → Element
   RowName : (place : Corner) (name : List ℕ) → Element
   Tail : Element
 
@@ -141,12 +139,10 @@ element_text (BehindAtNode node line path) =
     codes "<path class=\"n" ++ (ids_text node line ++ (path_text path ++ (stroke_text dark ++ width_text 14)))
 element_text (Station node lines name) =
     codes "<g class=\"n" ++ (decimal node ++ (classes_text lines ++ (codes "\"><title>" ++ (escaped name ++ codes "</title>\n"))))
-element_text (Feet path colour width) = codes "<path d=\"" ++ (path_text path ++ (stroke_text colour ++ width_text width))
+element_text (Stroke path colour width) = codes "<path d=\"" ++ (path_text path ++ (stroke_text colour ++ width_text width))
 element_text (Name spot z name endings) = spot_text spot z ++ name_text z name endings
 element_text (RimOfName spot z name endings) =
     spot_text spot z ++ (codes " stroke=\"#ffffff\" stroke-width=\"6\" stroke-linejoin=\"round\"" ++ name_text z name endings)
-element_text (Row path colour) = codes "<path d=\"" ++ (path_text path ++ (stroke_text colour ++ width_text 12))
-element_text (BehindRow path) = codes "<path d=\"" ++ (path_text path ++ (stroke_text dark ++ width_text 14))
 element_text (RowName place name) = codes "<text x=\"" ++ (place_text place ++ (codes "\">" ++ (escaped name ++ codes "</text>\n")))
 element_text Tail = codes "</svg>\n"
 

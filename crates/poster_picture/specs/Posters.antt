@@ -28,7 +28,7 @@ use Rattle.poster_plan.specs.Legends.{bounds_beside, legend_of, row_at}
 use Rattle.poster_graph.specs.Stations.{callers_at, ending, has_line, is_interchange}
 use Rattle.poster_graph.specs.Texts.{all_rests, printed_at}
 use Rattle.poster_graph.specs.Plans.{lines_shown, plan_of, widest}
-use Rattle.poster_picture.specs.Elements.{Element, Ending, Head, Ground, Opens, Closes, OnSegment, BehindOnSegment, AtNode, BehindAtNode, Station, Feet, Name, RimOfName, Row, BehindRow, RowName, Tail, LinesGroup, StationsGroup, NamesGroup, LegendGroup, black, dark, texts, white}
+use Rattle.poster_picture.specs.Elements.{Element, Ending, Head, Ground, Opens, Closes, OnSegment, BehindOnSegment, AtNode, BehindAtNode, Station, Stroke, Name, RimOfName, RowName, Tail, LinesGroup, StationsGroup, NamesGroup, LegendGroup, black, dark, texts, white}
 
 -- what is drawn, and how: a line graph with the names and colours of its stations and lines, the walks of its segments, the
 -- orders of their lines, the lines that call at its nodes, and how many units one grid step is
@@ -138,7 +138,7 @@ stroke_through (c ∷ d ∷ cs) = c ∷ d ∷ cs
 
 -- the black stroke through feet and the white one over it, broader at an interchange
 abbrev pub strokes_over : Bool → List Corner → List Element
-strokes_over change path = Feet path black (if change then 28 else 20) ∷ Feet path white (if change then 18 else 12) ∷ []
+strokes_over change path = Stroke path black (if change then 28 else 20) ∷ Stroke path white (if change then 18 else 12) ∷ []
 
 -- the strokes of node n, where some line calls
 abbrev pub strokes_at : Sheet → ℕ → List LineId → List Element
@@ -195,7 +195,7 @@ apart_from c x y = record { x = c.x +ℤ pos x; y = c.y +ℤ pos y }
 -- a row at a point: a piece of the line, and its name
 abbrev pub row_elements : Names → Corner → LineId → List Element
 row_elements names c l =
-    with_behind (colour_of names l) (BehindRow (c ∷ apart_from c 60 0 ∷ [])) (Row (c ∷ apart_from c 60 0 ∷ []) (colour_of names l))
+    with_behind (colour_of names l) (Stroke (c ∷ apart_from c 60 0 ∷ []) dark 14) (Stroke (c ∷ apart_from c 60 0 ∷ []) (colour_of names l) 12)
     ++ RowName (apart_from c 90 9) (name_of names l) ∷ []
 
 -- the rows of lines from number i on

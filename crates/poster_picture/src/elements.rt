@@ -2,7 +2,7 @@
 
 ghost use Rattle.std.specs.Prelude.{◌≡◌, ◌++◌, ◌∷◌, [], OnOk, string_bytes};
 ghost use Rattle.svg_writer.specs.Elements.{AreBounds};
-ghost use Rattle.poster_picture.specs.Elements.{element_text, group_text, view_place, view_size, texts, Head, Ground, Opens, Closes, OnSegment, BehindOnSegment, AtNode, BehindAtNode, Station, Feet, Row, BehindRow, RowName, Tail};
+ghost use Rattle.poster_picture.specs.Elements.{element_text, group_text, view_place, view_size, texts, Head, Ground, Opens, Closes, OnSegment, BehindOnSegment, AtNode, BehindAtNode, Station, Stroke, RowName, Tail};
 
 use crate::pieces::{push_classes, push_stroke, push_width};
 use line_offsets::Corner;
@@ -192,14 +192,14 @@ pub(crate) fn push_station(
     Ok(())
 }
 
-/// Appends a stroke through the feet of lines.
-pub(crate) fn push_feet(
+/// Appends a stroke along a path.
+pub(crate) fn push_along(
     text: &mut String,
     path: &[Corner],
     colour: &[u8],
     width: u32,
 ) -> Result<(), NoMemory>
-    ensures { OnOk result (string_bytes text.new ≡ string_bytes text.old ++ element_text (Feet path.now colour.now width)) }
+    ensures { OnOk result (string_bytes text.new ≡ string_bytes text.old ++ element_text (Stroke path.now colour.now width)) }
 {
     text.push_str("<path d=\"")?;
     push_path(text, path)?;

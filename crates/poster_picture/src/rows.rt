@@ -1,6 +1,6 @@
 //! The rows of the legend.
 
-use crate::elements::{DARK, push_feet, push_row_name};
+use crate::elements::{DARK, push_along, push_row_name};
 use line_offsets::Corner;
 use map_base::{LineId, NoMemory};
 use name_widths::is_pale;
@@ -32,9 +32,9 @@ fn push_row(text: &mut String, names: &Names, at: Corner, line: LineId) -> Resul
         },
     ];
     if is_pale(colour) {
-        push_feet(text, &path, &DARK, 14)?;
+        push_along(text, &path, &DARK, 14)?;
     }
-    push_feet(text, &path, colour, 12)?;
+    push_along(text, &path, colour, 12)?;
     let place = Corner {
         x: at.x + 90,
         y: at.y + 9,

@@ -1,6 +1,6 @@
 //! The marks of stations, at the lines that call there.
 
-use crate::elements::{BLACK, WHITE, close_group, push_feet, push_station};
+use crate::elements::{BLACK, WHITE, close_group, push_along, push_station};
 use crate::sheet::Sheet;
 use graph_core::NodeKind;
 use line_offsets::Corner;
@@ -51,8 +51,8 @@ fn push_station_at(
         } else {
             (20, 12)
         };
-        push_feet(text, path.as_slice(), &BLACK, black)?;
-        push_feet(text, path.as_slice(), &WHITE, white)?;
+        push_along(text, path.as_slice(), &BLACK, black)?;
+        push_along(text, path.as_slice(), &WHITE, white)?;
     }
     close_group(text)
 }
