@@ -1,6 +1,6 @@
 //! The path of a line beside a walk.
 
-ghost use Rattle.std.specs.Prelude.{◌≡◌, ◌≤◌, ◌<◌, ◌*◌, ◌*ℤ◌, ◌+ℤ◌, ◌-ℤ◌, pos, length, drop, unsigned_abs, IfOk, OnOk};
+ghost use Rattle.std.specs.Prelude.{◌≡◌, ◌≤◌, ◌<◌, ◌*ℤ◌, ◌+ℤ◌, ◌-ℤ◌, pos, length, drop, unsigned_abs, IfOk, OnOk};
 ghost use Rattle.line_offsets.specs.Shifts.{drawn_at, moved_at};
 ghost use Rattle.line_offsets.specs.Paths.{line_path, line_path_at, path_start, path_start_at, path_end, path_end_at, corner_behind};
 
@@ -29,7 +29,7 @@ pub fn put_path(path: &mut Vec<Corner>, walk: &Walk, k: i32) -> Result<(), NoMem
 
 /// The same where one grid step is `pitch` units.
 pub fn put_path_at(path: &mut Vec<Corner>, pitch: u32, walk: &Walk, k: i32) -> Result<(), NoMemory>
-    requires { pitch ≤ 1000 }
+    requires { pitch ≤ 200 }
     ensures { OnOk result (path.new.items ≡ line_path_at pitch walk.now k) }
 {
     path.clear();
@@ -52,7 +52,7 @@ pub fn path_start(walk: &Walk, k: i32) -> Corner
 
 /// The same where one grid step is `pitch` units.
 pub fn path_start_at(pitch: u32, walk: &Walk, k: i32) -> Corner
-    requires { pitch ≤ 1000 }
+    requires { pitch ≤ 200 }
     ensures { result ≡ path_start_at pitch walk.now k }
 {
     moved_at(pitch, walk.start(), k, foot_of(walk.start_port()))
@@ -67,7 +67,7 @@ pub fn path_end(walk: &Walk, k: i32) -> Corner
 
 /// The same where one grid step is `pitch` units.
 pub fn path_end_at(pitch: u32, walk: &Walk, k: i32) -> Corner
-    requires { pitch ≤ 1000 }
+    requires { pitch ≤ 200 }
     ensures { result ≡ path_end_at pitch walk.now k }
 {
     moved_at(pitch, end_of(walk), k, foot_of(walk.end_port().reverse()))
@@ -75,7 +75,7 @@ pub fn path_end_at(pitch: u32, walk: &Walk, k: i32) -> Corner
 
 /// The corner to which run `i` leads, which ends at `at`.
 fn corner_behind(pitch: u32, at: GridPoint, runs: &[Run], i: usize, k: i32) -> Corner
-    requires pitch { pitch ≤ 1000 }
+    requires pitch { pitch ≤ 200 }
     requires run { i < length runs.now }
     ensures { result ≡ corner_behind pitch k at (drop i runs.now) }
 {
@@ -88,7 +88,7 @@ fn corner_behind(pitch: u32, at: GridPoint, runs: &[Run], i: usize, k: i32) -> C
 
 /// A grid point as it is drawn, moved k times by a way across and a way down.
 fn moved_at(pitch: u32, p: GridPoint, k: i32, by: (i64, i64)) -> Corner
-    requires pitch { pitch ≤ 1000 }
+    requires pitch { pitch ≤ 200 }
     requires across { unsigned_abs by.0 ≤ 20 }
     requires down { unsigned_abs by.1 ≤ 20 }
     ensures { result ≡ moved_at pitch p k by }
@@ -101,7 +101,7 @@ fn moved_at(pitch: u32, p: GridPoint, k: i32, by: (i64, i64)) -> Corner
 
 /// How far to the right a point lies whose grid point has this x, moved k times.
 fn across(pitch: u32, x: i32, k: i32, by: i64) -> i64
-    requires pitch { pitch ≤ 1000 }
+    requires pitch { pitch ≤ 200 }
     requires by { unsigned_abs by ≤ 20 }
     ensures { result ≡ (pos pitch *ℤ x) +ℤ (k *ℤ by) }
 {
@@ -110,7 +110,7 @@ fn across(pitch: u32, x: i32, k: i32, by: i64) -> i64
 
 /// How far down a point lies whose grid point has this y, moved k times.
 fn down(pitch: u32, y: i32, k: i32, by: i64) -> i64
-    requires pitch { pitch ≤ 1000 }
+    requires pitch { pitch ≤ 200 }
     requires by { unsigned_abs by ≤ 20 }
     ensures { result ≡ (k *ℤ by) -ℤ (pos pitch *ℤ y) }
 {
@@ -119,10 +119,10 @@ fn down(pitch: u32, y: i32, k: i32, by: i64) -> i64
 
 /// A grid point as it is drawn where one grid step is `pitch` units.
 pub fn drawn_at(pitch: u32, p: GridPoint) -> Corner
-    requires { pitch ≤ 1000 }
+    requires { pitch ≤ 200 }
     ensures value { result ≡ drawn_at pitch p }
-    ensures x { unsigned_abs result.x ≤ pitch * 2147483648 }
-    ensures y { unsigned_abs result.y ≤ pitch * 2147483648 }
+    ensures x { unsigned_abs result.x ≤ 429496729600 }
+    ensures y { unsigned_abs result.y ≤ 429496729600 }
 {
     Corner {
         x: scaled(pitch, p.x),
@@ -132,9 +132,9 @@ pub fn drawn_at(pitch: u32, p: GridPoint) -> Corner
 
 /// A coordinate as it is drawn.
 fn scaled(pitch: u32, z: i32) -> i64
-    requires { pitch ≤ 1000 }
+    requires { pitch ≤ 200 }
     ensures value { result ≡ pos pitch *ℤ z }
-    ensures small { unsigned_abs result ≤ pitch * 2147483648 }
+    ensures small { unsigned_abs result ≤ 429496729600 }
 {
     i64::from(pitch) * i64::from(z)
 }

@@ -1,7 +1,7 @@
 //! The plan of a line graph's poster.
 
 ghost use Rattle.std.specs.Prelude.{◌≡◌, ◌≤◌, ◌<◌, ◌*◌, length, IfOk, OnOk};
-ghost use Rattle.poster_graph.specs.Plans.{lines_shown, plan_of, point_of, widest};
+ghost use Rattle.poster_rules.specs.Plans.{lines_shown, plan_of, point_of, widest};
 
 use crate::served::Served;
 use crate::stations::{ending, leaves_level, radius_at};

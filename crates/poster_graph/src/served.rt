@@ -1,7 +1,7 @@
 //! A drawn line graph, and what is known of it.
 
 ghost use Rattle.std.specs.Prelude.{◌≡◌};
-ghost use Rattle.poster_graph.specs.Stations.{callers_at, has_line};
+ghost use Rattle.poster_rules.specs.Stations.{callers_at, has_line};
 
 use graph_core::LineGraph;
 use map_base::{LineId, Sequence};

@@ -1,7 +1,7 @@
 //! What a poster shows of a station node.
 
 ghost use Rattle.std.specs.Prelude.{◌≡◌, ◌≤◌, ◌<◌, length, IfOk};
-ghost use Rattle.poster_graph.specs.Stations.{ending, is_end, is_interchange, is_level, is_short, leaves_level, port_at, radius_at, segments_with};
+ghost use Rattle.poster_rules.specs.Stations.{ending, is_end, is_interchange, is_level, is_short, leaves_level, port_at, radius_at, segments_with};
 ghost use Rattle.svg_writer.specs.Picture.{walk_at};
 
 use crate::served::{Served, callers_at, has_line};

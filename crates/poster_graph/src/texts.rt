@@ -1,7 +1,7 @@
 //! Which names a poster prints, and how wide they are.
 
 ghost use Rattle.std.specs.Prelude.{◌≡◌, ◌≤◌, ◌<◌, length, IfOk};
-ghost use Rattle.poster_graph.specs.Texts.{all_rests, printed_at, width_with};
+ghost use Rattle.poster_rules.specs.Texts.{all_rests, printed_at, width_with};
 
 use graph_core::{LineGraph, NodeKind};
 use map_base::{LineId, NoMemory, NodeId, SegId};

@@ -4,9 +4,10 @@ ghost use Rattle.std.specs.Prelude.{◌≡◌, ◌≤◌};
 ghost use Rattle.svg_writer.specs.Elements.{AreBounds};
 ghost use Rattle.poster_plan.specs.Pitches.{bounds_with, is_small};
 
+use crate::signs::printed_shape;
 use eight_sides::Shape;
 use line_offsets::{Corner, drawn_at};
-use poster_plan::{Piece, Plan, Printed, printed_shape};
+use poster_plan::{Piece, Plan, Printed};
 use svg_writer::Bounds;
 
 /// The least bounds of all grid points of walks, those of the origin where there is none, and of these names.

@@ -5,10 +5,10 @@ ghost use Rattle.svg_writer.specs.Elements.{AreBounds};
 ghost use Rattle.poster_plan.specs.Legends.{bounds_beside, column_for, corners_for, is_clear_of_all, legend_height, legend_of, legend_shape, legend_start, legend_width, outside, row_at, rows_for, widely};
 
 use crate::extent::{bounds_with, with_corner};
-use crate::room::{mark_at, piece_at};
+use crate::signs::{mark_at, piece_at, printed_shape};
 use eight_sides::{Interval, Shape, meet, upright};
 use line_offsets::Corner;
-use poster_plan::{Legend, Plan, Printed, printed_shape};
+use poster_plan::{Legend, Plan, Printed};
 use svg_writer::Bounds;
 
 /// How many rows a column has where there are so many lines: at least 12, and at least twice the root of their number.

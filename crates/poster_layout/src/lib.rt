@@ -7,11 +7,15 @@ mod extent;
 mod fitting;
 mod laying;
 mod legend;
+mod places;
 mod room;
 mod roomy;
+mod signs;
 mod table;
 mod things;
 
 pub use extent::bounds_with;
 pub use fitting::{Fitted, fitted};
 pub use legend::{bounds_beside, legend_of, row_at};
+pub use places::{tenth, text_spot};
+pub use signs::{mark_numbered, sign_of};

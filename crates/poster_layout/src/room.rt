@@ -3,9 +3,11 @@
 ghost use Rattle.std.specs.Prelude.{◌≡◌, ◌≤◌, ◌<◌, length};
 ghost use Rattle.poster_plan.specs.Placing.{is_free, mark_numbered};
 
+use crate::places::{place_shape, places_in};
+use crate::signs::{mark_numbered, piece_at, sign_of};
 use crate::table::Table;
 use crate::things::{Kin, Thing};
-use eight_sides::{Shape, mark_shape, piece_shape};
+use eight_sides::mark_shape;
 use line_offsets::drawn_at;
 use map_base::NoMemory;
 use poster_plan::{
@@ -140,18 +142,4 @@ fn piece_table(alloc: Global, pitch: u32, pieces: &[Piece]) -> Result<Table, NoM
         })?;
     }
     Ok(table)
-}
-
-/// What a straight piece takes up.
-pub(crate) fn piece_at(pitch: u32, piece: Piece) -> Shape {
-    piece_shape(
-        drawn_at(pitch, piece.start),
-        drawn_at(pitch, piece.end),
-        7 * u64::from(piece.lines),
-    )
-}
-
-/// What a station takes up.
-pub(crate) fn mark_at(pitch: u32, mark: Mark) -> Shape {
-    mark_shape(drawn_at(pitch, mark.at), u64::from(mark.radius))
 }

@@ -3,7 +3,7 @@
 ghost use Rattle.std.specs.Prelude.{◌≡◌, ◌≤◌, IfOk};
 ghost use Rattle.poster_plan.specs.Pitches.{is_roomy};
 
-use crate::room::{mark_at, piece_at};
+use crate::signs::{mark_at, piece_at};
 use crate::table::Table;
 use crate::things::{Kin, Thing};
 use map_base::NoMemory;

@@ -2,7 +2,7 @@
 
 ghost use Rattle.std.specs.Prelude.{◌≡◌, ◌++◌, ◌∷◌, [], OnOk, string_bytes};
 ghost use Rattle.svg_writer.specs.Elements.{AreBounds};
-ghost use Rattle.poster_picture.specs.Elements.{element_text, group_text, view_place, view_size, texts, Head, Ground, Opens, Closes, OnSegment, BehindOnSegment, AtNode, BehindAtNode, Station, Stroke, RowName, Tail};
+ghost use Rattle.poster_rules.specs.Elements.{element_text, group_text, view_place, view_size, texts, Head, Ground, Opens, Closes, OnSegment, BehindOnSegment, AtNode, BehindAtNode, Station, Stroke, RowName, Tail};
 
 use crate::pieces::{push_classes, push_stroke, push_width};
 use line_offsets::Corner;

@@ -6,7 +6,8 @@ use crate::sheet::Sheet;
 use map_base::{LineId, NoMemory, NodeId};
 use name_widths::is_faint;
 use poster_graph::{Texts, ending};
-use poster_plan::{Plan, Printed, Step, mark_numbered, sign_of, text_spot};
+use poster_layout::{mark_numbered, sign_of, text_spot};
+use poster_plan::{Plan, Printed, Step};
 use std::alloc::Global;
 use svg_writer::{Names, colour_of, name_of};
 

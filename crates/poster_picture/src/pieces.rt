@@ -2,12 +2,13 @@
 
 ghost use Rattle.std.specs.Prelude.{◌≡◌, ◌++◌, OnOk, string_bytes};
 ghost use Rattle.std.specs.List.{flat_map};
-ghost use Rattle.poster_picture.specs.Elements.{anchor_text, classes_text, ending_text, name_text, size_text, spot_text, stroke_text, turn_text, turned_text, width_text};
+ghost use Rattle.poster_rules.specs.Elements.{anchor_text, classes_text, ending_text, name_text, size_text, spot_text, stroke_text, turn_text, turned_text, width_text};
 
 use crate::names::Ending;
 use line_offsets::Corner;
 use map_base::{LineId, NoMemory};
-use poster_plan::{Anchor, Spot, Step, Turn, tenth};
+use poster_layout::tenth;
+use poster_plan::{Anchor, Spot, Step, Turn};
 use svg_writer::{push_colour, push_corner, push_escaped, push_natural, push_place};
 
 /// Appends a stroke's colour, to the end of its attribute.

@@ -1,7 +1,7 @@
 //! The poster as a whole.
 
 ghost use Rattle.std.specs.Prelude.{◌≡◌, IfOk};
-ghost use Rattle.poster_picture.specs.Posters.{poster_text};
+ghost use Rattle.poster_rules.specs.Posters.{poster_text};
 
 use crate::elements::{Group, close_group, open_group, push_ground, push_head, push_tail};
 use crate::lines::{push_all_joins, push_all_lines};

@@ -11,7 +11,7 @@ mod plan;
 mod sign;
 
 pub use laws::{names_keep_apart, names_keep_to_their_stations, names_lie_over_lines_last};
-pub use layout::{Legend, Printed, Step, mark_numbered, printed_shape};
-pub use place::{Anchor, Place, Spot, Turn, place_shape, places_in, tenth, text_spot};
+pub use layout::{Legend, Printed, Step};
+pub use place::{Anchor, Place, Spot, Turn};
 pub use plan::{Mark, Piece, Plan};
-pub use sign::{Sign, sign_of};
+pub use sign::Sign;

@@ -10,7 +10,7 @@ use Rattle.svg_writer.specs.declared.names.Names.{Names}
 use Rattle.svg_writer.specs.Picture.{name_of, station_name}
 use Rattle.name_widths.specs.Widths.{text_width}
 use Rattle.name_widths.specs.Words.{rest_of}
-use Rattle.poster_graph.specs.Stations.{ending}
+use Rattle.poster_rules.specs.Stations.{ending}
 
 -- the name of a node, where it is a station
 abbrev pub node_names : Names → NodeKind → List (List ℕ)

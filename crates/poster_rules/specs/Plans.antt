@@ -16,8 +16,8 @@ use Rattle.name_widths.specs.Widths.{text_width}
 use Rattle.poster_plan.specs.declared.plan.Mark.{Mark}
 use Rattle.poster_plan.specs.declared.plan.Piece.{Piece}
 use Rattle.poster_plan.specs.declared.plan.Plan.{Plan}
-use Rattle.poster_graph.specs.Stations.{has_line, leaves_level, radius_at}
-use Rattle.poster_graph.specs.Texts.{all_rests, name_width, printed_at}
+use Rattle.poster_rules.specs.Stations.{has_line, leaves_level, radius_at}
+use Rattle.poster_rules.specs.Texts.{all_rests, name_width, printed_at}
 
 -- the grid point of node n: where the walk of the first segment of its round puts it
 abbrev pub point_of : GraphParts → List PlainWalk → ℕ → GridPoint

@@ -25,10 +25,10 @@ use Rattle.poster_plan.specs.Places.{text_spot}
 use Rattle.poster_plan.specs.Placing.{mark_numbered, printed_names}
 use Rattle.poster_plan.specs.Pitches.{bounds_with, pitch_of}
 use Rattle.poster_plan.specs.Legends.{bounds_beside, legend_of, row_at}
-use Rattle.poster_graph.specs.Stations.{callers_at, ending, has_line, is_interchange}
-use Rattle.poster_graph.specs.Texts.{all_rests, printed_at}
-use Rattle.poster_graph.specs.Plans.{lines_shown, plan_of, widest}
-use Rattle.poster_picture.specs.Elements.{Element, Ending, Head, Ground, Opens, Closes, OnSegment, BehindOnSegment, AtNode, BehindAtNode, Station, Stroke, Name, RimOfName, RowName, Tail, LinesGroup, StationsGroup, NamesGroup, LegendGroup, black, dark, texts, white}
+use Rattle.poster_rules.specs.Stations.{callers_at, ending, has_line, is_interchange}
+use Rattle.poster_rules.specs.Texts.{all_rests, printed_at}
+use Rattle.poster_rules.specs.Plans.{lines_shown, plan_of, widest}
+use Rattle.poster_rules.specs.Elements.{Element, Ending, Head, Ground, Opens, Closes, OnSegment, BehindOnSegment, AtNode, BehindAtNode, Station, Stroke, Name, RimOfName, RowName, Tail, LinesGroup, StationsGroup, NamesGroup, LegendGroup, black, dark, texts, white}
 
 -- what is drawn, and how: a line graph with the names and colours of its stations and lines, the walks of its segments, the
 -- orders of their lines, the lines that call at its nodes, and how many units one grid step is

@@ -1,0 +1,15 @@
+-- Intervals and shapes as they are computed.
+use Rattle.std.proofs.Common.{◌≡◌, ℤ, ap, ◌∙◌}
+use Rattle.eight_sides.specs.declared.interval.Interval.{Interval}
+use Rattle.eight_sides.specs.declared.shape.Shape.{Shape}
+
+pub same_interval : (a b c d : ℤ) → a ≡ c → b ≡ d → (let i : Interval = record { least = a; greatest = b } in i) ≡ record { least = c; greatest = d }
+same_interval a b c d e f = ap (λ (z : ℤ). let i : Interval = record { least = z; greatest = b } in i) e ∙ ap (λ (z : ℤ). let i : Interval = record { least = c; greatest = z } in i) f
+
+pub same_shape : (a b c d e f g h : Interval) → a ≡ e → b ≡ f → c ≡ g → d ≡ h
+    → (let s : Shape = record { across = a; down = b; difference = c; sum = d } in s) ≡ record { across = e; down = f; difference = g; sum = h }
+same_shape a b c d e f g h p q r t =
+    ap (λ (i : Interval). let s : Shape = record { across = i; down = b; difference = c; sum = d } in s) p
+    ∙ ap (λ (i : Interval). let s : Shape = record { across = e; down = i; difference = c; sum = d } in s) q
+    ∙ ap (λ (i : Interval). let s : Shape = record { across = e; down = f; difference = i; sum = d } in s) r
+    ∙ ap (λ (i : Interval). let s : Shape = record { across = e; down = f; difference = g; sum = i } in s) t

@@ -1,0 +1,10 @@
+use Rattle.std.proofs.Common.{pos, ◌+ℤ◌, ◌-ℤ◌, arith}
+use Rattle.std.specs.Int.{int_min, int_max}
+use Rattle.std.proofs.lemmas.Int.{ints, clamps}
+use Rattle.eight_sides.proofs.Making.{same_interval}
+use Rattle.eight_sides.proofs.making.between.Goals as goal
+
+pub returns : goal.returns
+returns c =
+    same_interval _ _ (int_min c.args.a c.args.b -ℤ pos c.args.by) (int_max c.args.a c.args.b +ℤ pos c.args.by)
+    (omega (arith, ints, clamps, c.min.ensures.value)) (omega (arith, ints, clamps, c.max.ensures.value))
