@@ -1,0 +1,4 @@
+mod Members
+mod Cells
+mod Searching
+mod Putting

@@ -1,3 +1,2 @@
-pub mod Things
 pub mod Cells
 pub mod Tables

@@ -4,11 +4,11 @@ use Rattle.std.specs.List.{list_any}
 use Rattle.std.specs.Global.{Global}
 use Rattle.eight_sides.specs.Shapes.{IsShort}
 use Rattle.poster_layout.specs.declared.cells.Cells.{Cells}
-use Rattle.poster_layout.specs.declared.things.Kin.TheVariants.{Nobody}
-use Rattle.poster_layout.specs.declared.things.Thing.{Thing}
+use Rattle.poster_plan.specs.declared.things.Kin.TheVariants.{Nobody}
+use Rattle.poster_plan.specs.declared.things.Thing.{Thing}
 use Rattle.poster_layout.specs.declared.table.Table.{Table}
 use Rattle.poster_layout.specs.Cells.{buckets_of, cells_of}
-use Rattle.poster_layout.specs.Things.{clash}
+use Rattle.poster_plan.specs.Things.{clash}
 
 -- a thing of numbers that can be reckoned with
 pub record IsShortThing (t : Thing) : Type 0 where

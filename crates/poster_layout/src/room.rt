@@ -6,7 +6,6 @@ ghost use Rattle.poster_plan.specs.Placing.{is_free, mark_numbered};
 use crate::places::{place_shape, places_in};
 use crate::signs::{mark_numbered, piece_at, sign_of};
 use crate::table::Table;
-use crate::things::{Kin, Thing};
 use eight_sides::mark_shape;
 use line_offsets::drawn_at;
 use map_base::NoMemory;
@@ -20,7 +19,7 @@ use std::alloc::Global;
 pub(crate) struct Room<'a> {
     pub pitch: u32,
     pub plan: &'a Plan,
-    /// The grounds of stations, and printed names.
+    /// The grounds of stations, which keep the names of others away, and printed names, which keep all away.
     pub taken: Table,
     /// The straight pieces of walks.
     pub pieces: Table,
@@ -45,17 +44,12 @@ impl<'a> Room<'a> {
         })
     }
 
-    /// What the name of a mark takes up at a place in a step.
-    fn name_at(&self, mark: Mark, step: Step, place: Place) -> Thing {
-        Thing {
-            shape: place_shape(sign_of(self.pitch, mark), step, place),
-            kin: Kin::Node(mark.node.0),
-        }
-    }
-
     /// Whether a place of the name of a mark is free in a step.
     fn is_free(&self, mark: Mark, step: Step, place: Place) -> bool {
-        let name = self.name_at(mark, step, place);
+        let name = Thing {
+            shape: place_shape(sign_of(self.pitch, mark), step, place),
+            kin: Kin::Node(mark.node.0),
+        };
         if self.taken.clashes(name) {
             return false;
         }
@@ -93,8 +87,10 @@ impl<'a> Room<'a> {
         let Some(place) = self.first_free(mark, step) else {
             return Ok(false);
         };
-        let name = self.name_at(mark, step, place);
-        self.taken.put(name)?;
+        self.taken.put(Thing {
+            shape: place_shape(sign_of(self.pitch, mark), step, place),
+            kin: Kin::Nobody,
+        })?;
         self.printed.push(Printed {
             mark: i,
             step,

@@ -5,9 +5,8 @@ ghost use Rattle.poster_plan.specs.Pitches.{is_roomy};
 
 use crate::signs::{mark_at, piece_at};
 use crate::table::Table;
-use crate::things::{Kin, Thing};
 use map_base::NoMemory;
-use poster_plan::Plan;
+use poster_plan::{Kin, Plan, Thing};
 use std::alloc::Global;
 
 /// Whether stations and straight pieces that have no node in common keep apart at a pitch.

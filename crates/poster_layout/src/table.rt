@@ -3,12 +3,13 @@
 ghost use Rattle.std.specs.Prelude.{◌≡◌, ◌<◌, ◌++◌, ◌∷◌, [], ℕ, length, OnOk, IfOk};
 ghost use Rattle.std.specs.List.{list_any};
 ghost use Rattle.poster_layout.specs.Cells.{buckets_of, row_buckets};
-ghost use Rattle.poster_layout.specs.Things.{clash};
+ghost use Rattle.poster_plan.specs.Things.{clash};
 ghost use Rattle.poster_layout.specs.Tables.{bucket_at, hits_by_cells, hits_in, hits_some, AreBelow, IsShortThing, IsTable, PutsIn};
 
 use crate::cells::{Cells, bucket_of, cells_of, count_of};
-use crate::things::{Thing, clash};
+use crate::things::clash;
 use map_base::NoMemory;
+use poster_plan::Thing;
 use std::alloc::Global;
 
 /// In how many cells a thing may be put. One that reaches into more of them is looked at by each search.

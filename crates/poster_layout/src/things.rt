@@ -1,24 +1,10 @@
-//! What keeps names away.
+//! Whether things clash.
 
 ghost use Rattle.std.specs.Prelude.{◌≡◌};
-ghost use Rattle.poster_layout.specs.Things.{are_kin, clash, has_node};
+ghost use Rattle.poster_plan.specs.Things.{are_kin, clash, has_node};
 
-use eight_sides::{Shape, meet};
-
-/// The nodes that a thing belongs to.
-#[derive(Clone, Copy, Debug, PartialEq, Eq)]
-pub(crate) enum Kin {
-    Nobody,
-    Node(u32),
-    Ends(u32, u32),
-}
-
-/// What a station, a straight piece of a walk or a name takes up.
-#[derive(Clone, Copy, Debug)]
-pub(crate) struct Thing {
-    pub shape: Shape,
-    pub kin: Kin,
-}
+use eight_sides::meet;
+use poster_plan::{Kin, Thing};
 
 /// Whether a node is one of a thing's.
 fn has_node(node: u32, kin: Kin) -> bool

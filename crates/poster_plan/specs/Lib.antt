@@ -1,4 +1,5 @@
 pub mod Signs
+pub mod Things
 pub mod Places
 pub mod Placing
 pub mod Pitches

@@ -4,14 +4,16 @@ use Rattle.std.specs.List.{find, flat_map, list_any, range_with_len}
 use Rattle.line_offsets.specs.declared.corner.Corner.{Corner}
 use Rattle.line_offsets.specs.Shifts.{drawn_at}
 use Rattle.eight_sides.specs.declared.shape.Shape.{Shape}
-use Rattle.eight_sides.specs.Shapes.{meet}
 use Rattle.svg_writer.specs.declared.bounds.Bounds.{Bounds}
 use Rattle.svg_writer.specs.Picture.{bounds_at, origin, widened}
 use Rattle.poster_plan.specs.declared.plan.Mark.{Mark}
 use Rattle.poster_plan.specs.declared.plan.Piece.{Piece}
 use Rattle.poster_plan.specs.declared.plan.Plan.{Plan}
 use Rattle.poster_plan.specs.declared.layout.Printed.{Printed}
+use Rattle.poster_plan.specs.declared.things.Kin.TheVariants.{Node, Ends}
+use Rattle.poster_plan.specs.declared.things.Thing.{Thing}
 use Rattle.poster_plan.specs.Signs.{mark_at, piece_at}
+use Rattle.poster_plan.specs.Things.{clash}
 use Rattle.poster_plan.specs.Placing.{in_full, in_small, named, printed_names, printed_shape}
 
 -- the pitches: 20, 24, 28 and so on to 200
@@ -20,38 +22,24 @@ pitches = map (λ (i : ℕ). 20 + 4 * i) (range_with_len 0 46)
 
 -- ---- room
 
--- what a station or a straight piece takes up, and the nodes that it belongs to, one of them twice where there is but one
-pub record Thing : Type 0 where
-  pub shape : Shape
-  pub first : ℕ
-  pub second : ℕ
-
--- two things have a node in common
-abbrev pub share_node : Thing → Thing → Bool
-share_node a b = (a.first == b.first) || (a.first == b.second) || (a.second == b.first) || (a.second == b.second)
-
--- two things that have no node in common meet
-abbrev pub clash : Thing → Thing → Bool
-clash a b = not (share_node a b) && meet a.shape b.shape
-
 abbrev pub mark_thing : ℕ → Mark → Thing
-mark_thing u m = record { shape = mark_at u m; first = m.node.0; second = m.node.0 }
+mark_thing u m = record { shape = mark_at u m; kin = Node m.node.0 }
 
 abbrev pub piece_thing : ℕ → Piece → Thing
-piece_thing u p = record { shape = piece_at u p; first = p.ends.0.0; second = p.ends.1.0 }
+piece_thing u p = record { shape = piece_at u p; kin = Ends p.ends.0.0 p.ends.1.0 }
 
 -- all stations and straight pieces
 abbrev pub things_at : ℕ → Plan → List Thing
 things_at u plan = map (mark_thing u) plan.marks ++ map (piece_thing u) plan.pieces
 
--- no two things clash
-abbrev pub none_clash : List Thing → Bool
-none_clash [] = true
-none_clash (t ∷ ts) = not (list_any (clash t) ts) && none_clash ts
+-- none of these things clashes with one before it
+abbrev pub none_clash : List Thing → List Thing → Bool
+none_clash before [] = true
+none_clash before (t ∷ ts) = not (list_any (clash t) before) && none_clash (before ++ t ∷ []) ts
 
--- a pitch is roomy: stations and pieces that have no node in common keep apart
+-- a pitch is roomy: no two stations and straight pieces meet that have no node in common
 abbrev pub is_roomy : ℕ → Plan → Bool
-is_roomy u plan = none_clash (things_at u plan)
+is_roomy u plan = none_clash [] (things_at u plan)
 
 -- ---- what is left out
 

@@ -9,9 +9,11 @@ mod layout;
 mod place;
 mod plan;
 mod sign;
+mod things;
 
 pub use laws::{names_keep_apart, names_keep_to_their_stations, names_lie_over_lines_last};
 pub use layout::{Legend, Printed, Step};
 pub use place::{Anchor, Place, Spot, Turn};
 pub use plan::{Mark, Piece, Plan};
 pub use sign::Sign;
+pub use things::{Kin, Thing};

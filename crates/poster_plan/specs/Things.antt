@@ -1,9 +1,9 @@
--- What keeps names away.
+-- What stations, straight pieces and names take up, and whose they are.
 use Rattle.std.specs.Prelude.{ℕ, ◌==◌, ◌&&◌, ◌||◌, not, Bool, false}
 use Rattle.eight_sides.specs.Shapes.{meet}
-use Rattle.poster_layout.specs.declared.things.Kin.{Kin}
-use Rattle.poster_layout.specs.declared.things.Kin.TheVariants.{Nobody, Node, Ends}
-use Rattle.poster_layout.specs.declared.things.Thing.{Thing}
+use Rattle.poster_plan.specs.declared.things.Kin.{Kin}
+use Rattle.poster_plan.specs.declared.things.Kin.TheVariants.{Nobody, Node, Ends}
+use Rattle.poster_plan.specs.declared.things.Thing.{Thing}
 
 -- a node is one of a thing's
 abbrev pub has_node : ℕ → Kin → Bool
