@@ -87,3 +87,7 @@ pub record IsNear (c : Corner) : Type 0 where
 pub record IsShort (i : Interval) : Type 0 where
   pub least : unsigned_abs i.least ≤ 4398046511104
   pub greatest : unsigned_abs i.greatest ≤ 4398046511104
+
+pub record IsShortShape (s : Shape) : Type 0 where
+  pub across : IsShort s.across
+  pub down : IsShort s.down

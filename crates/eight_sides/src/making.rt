@@ -1,7 +1,7 @@
 //! What stations, straight pieces and names take up.
 
 ghost use Rattle.std.specs.Prelude.{◌≡◌, ◌≤◌, ◌+ℤ◌, ◌-ℤ◌, pos, unsigned_abs};
-ghost use Rattle.eight_sides.specs.Shapes.{around, between, half_above, half_below, is_upright, mark_shape, piece_reach, piece_shape, slanted, slanted_length, upright, IsNear, IsShort};
+ghost use Rattle.eight_sides.specs.Shapes.{around, between, half_above, half_below, is_upright, mark_shape, piece_reach, piece_shape, slanted, slanted_length, upright, IsNear, IsShort, IsShortShape};
 
 use crate::interval::Interval;
 use crate::shape::Shape;
@@ -38,7 +38,8 @@ pub fn between(a: i64, b: i64, by: u64) -> Interval
 pub fn upright(x: Interval, y: Interval) -> Shape
     requires x { IsShort x }
     requires y { IsShort y }
-    ensures { result ≡ upright x y }
+    ensures value { result ≡ upright x y }
+    ensures short { IsShortShape result }
 {
     Shape {
         across: x,
@@ -58,7 +59,8 @@ pub fn upright(x: Interval, y: Interval) -> Shape
 pub fn slanted(difference: Interval, sum: Interval) -> Shape
     requires difference { IsShort difference }
     requires sum { IsShort sum }
-    ensures { result ≡ slanted difference sum }
+    ensures value { result ≡ slanted difference sum }
+    ensures short { IsShortShape result }
 {
     Shape {
         across: Interval {
@@ -102,7 +104,8 @@ pub fn slanted_length(n: u64) -> u64
 pub fn mark_shape(centre: Corner, radius: u64) -> Shape
     requires centre { IsNear centre }
     requires radius { radius ≤ 68719476736 }
-    ensures { result ≡ mark_shape centre radius }
+    ensures value { result ≡ mark_shape centre radius }
+    ensures short { IsShortShape result }
 {
     let reach = slanted_length(radius);
     Shape {
@@ -138,7 +141,8 @@ pub fn piece_shape(a: Corner, b: Corner, half: u64) -> Shape
     requires a { IsNear a }
     requires b { IsNear b }
     requires half { half ≤ 68719476736 }
-    ensures { result ≡ piece_shape a b half }
+    ensures value { result ≡ piece_shape a b half }
+    ensures short { IsShortShape result }
 {
     let reach = piece_reach(a, b, half);
     Shape {

@@ -2,7 +2,7 @@
 use Rattle.std.specs.Prelude.{◌≡◌, ℕ, zero, suc, ◌<◌, ◌⊎◌, ◌||◌, Bool, List, [], ◌∷◌, ◌++◌, length, All, Contains, slice_index_or, pos, Vec}
 use Rattle.std.specs.List.{list_any}
 use Rattle.std.specs.Global.{Global}
-use Rattle.eight_sides.specs.Shapes.{IsShort}
+use Rattle.eight_sides.specs.Shapes.{IsShortShape}
 use Rattle.poster_layout.specs.declared.cells.Cells.{Cells}
 use Rattle.poster_plan.specs.declared.things.Kin.TheVariants.{Nobody}
 use Rattle.poster_plan.specs.declared.things.Thing.{Thing}
@@ -11,9 +11,8 @@ use Rattle.poster_layout.specs.Cells.{buckets_of, cells_of}
 use Rattle.poster_plan.specs.Things.{clash}
 
 -- a thing of numbers that can be reckoned with
-pub record IsShortThing (t : Thing) : Type 0 where
-  pub across : IsShort t.shape.across
-  pub down : IsShort t.shape.down
+abbrev pub IsShortThing : Thing → Type 0
+IsShortThing t = IsShortShape t.shape
 
 -- what reads past the things fall back on
 abbrev pub no_thing : Thing

@@ -1,7 +1,7 @@
 //! The cells of a coarse grid over the plane, and how many of them a shape reaches into.
 
 ghost use Rattle.std.specs.Prelude.{◌≡◌, ◌≤◌, ◌<◌, ◌+◌, ◌-◌, ◌*◌, unsigned_abs};
-ghost use Rattle.eight_sides.specs.Shapes.{IsShort};
+ghost use Rattle.eight_sides.specs.Shapes.{IsShortShape};
 ghost use Rattle.poster_layout.specs.Cells.{bucket_of, cells_of, count_of, line_of};
 
 use eight_sides::Shape;
@@ -20,8 +20,7 @@ pub(crate) struct Cells {
 
 /// The cells into which a shape's box reaches.
 pub(crate) fn cells_of(shape: Shape) -> Cells
-    requires across { IsShort shape.across }
-    requires down { IsShort shape.down }
+    requires { IsShortShape shape }
     ensures value { result ≡ cells_of shape }
     ensures right { result.right < 1099511627776 }
     ensures bottom { result.bottom < 1099511627776 }

@@ -1,7 +1,7 @@
 //! What names take up at their places, and where their texts stand.
 
 ghost use Rattle.std.specs.Prelude.{◌≡◌, ◌≤◌, ◌+ℤ◌, ◌-ℤ◌, pos, unsigned_abs};
-ghost use Rattle.eight_sides.specs.Shapes.{IsNear};
+ghost use Rattle.eight_sides.specs.Shapes.{IsNear, IsShort, IsShortShape};
 ghost use Rattle.poster_plan.specs.Places.{anchor_at, backwards, beside, corner_gap, gap, half_width, lean, long, offset, onwards, place_shape, places_in, size, slant, tenth, text_spot, turn_at, width};
 
 use eight_sides::{Interval, Shape, around, slanted, slanted_length, upright};
@@ -190,7 +190,8 @@ fn level_sides(sign: Sign, step: Step, place: Place) -> (Interval, Interval) {
 /// What a name takes up at a place.
 pub fn place_shape(sign: Sign, step: Step, place: Place) -> Shape
     requires { IsNear sign.centre }
-    ensures { result ≡ place_shape sign step place }
+    ensures value { result ≡ place_shape sign step place }
+    ensures short { IsShortShape result }
 {
     let difference = sign.centre.x - sign.centre.y;
     let sum = sign.centre.x + sign.centre.y;

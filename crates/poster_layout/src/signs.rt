@@ -1,8 +1,8 @@
 //! Stations and printed names as they are drawn.
 
 ghost use Rattle.std.specs.Prelude.{◌≡◌, ◌≤◌};
-ghost use Rattle.eight_sides.specs.Shapes.{IsNear};
-ghost use Rattle.poster_plan.specs.Signs.{mark_at, piece_at, sign_of};
+ghost use Rattle.eight_sides.specs.Shapes.{IsNear, IsShortShape};
+ghost use Rattle.poster_plan.specs.Signs.{ground_at, mark_at, piece_at, sign_of};
 ghost use Rattle.poster_plan.specs.Placing.{mark_numbered, printed_shape};
 
 use crate::places::place_shape;
@@ -44,7 +44,8 @@ pub fn mark_numbered(plan: &Plan, i: u32) -> Mark
 /// What a printed name takes up at a pitch.
 pub fn printed_shape(pitch: u32, plan: &Plan, name: Printed) -> Shape
     requires { pitch ≤ 200 }
-    ensures { result ≡ printed_shape pitch plan.now name }
+    ensures value { result ≡ printed_shape pitch plan.now name }
+    ensures short { IsShortShape result }
 {
     let sign = sign_of(pitch, mark_numbered(plan, name.mark));
     place_shape(sign, name.step, name.place)
@@ -53,15 +54,26 @@ pub fn printed_shape(pitch: u32, plan: &Plan, name: Printed) -> Shape
 /// What a station takes up.
 pub(crate) fn mark_at(pitch: u32, mark: Mark) -> Shape
     requires { pitch ≤ 200 }
-    ensures { result ≡ mark_at pitch mark }
+    ensures value { result ≡ mark_at pitch mark }
+    ensures short { IsShortShape result }
 {
     mark_shape(drawn_at(pitch, mark.at), u64::from(mark.radius))
+}
+
+/// What names of other stations keep away from: 12 units more than a station takes up.
+pub(crate) fn ground_at(pitch: u32, mark: Mark) -> Shape
+    requires { pitch ≤ 200 }
+    ensures value { result ≡ ground_at pitch mark }
+    ensures short { IsShortShape result }
+{
+    mark_shape(drawn_at(pitch, mark.at), u64::from(mark.radius) + 12)
 }
 
 /// What a straight piece takes up.
 pub(crate) fn piece_at(pitch: u32, piece: Piece) -> Shape
     requires { pitch ≤ 200 }
-    ensures { result ≡ piece_at pitch piece }
+    ensures value { result ≡ piece_at pitch piece }
+    ensures short { IsShortShape result }
 {
     piece_shape(
         drawn_at(pitch, piece.start),
