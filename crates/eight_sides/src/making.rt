@@ -11,7 +11,8 @@ use line_offsets::Corner;
 pub fn around(z: i64, by: u64) -> Interval
     requires z { unsigned_abs z ≤ 2199023255552 }
     requires by { by ≤ 1099511627776 }
-    ensures { result ≡ around z by }
+    ensures value { result ≡ around z by }
+    ensures short { IsShort result }
 {
     let by = by as i64;
     Interval {
@@ -25,7 +26,8 @@ pub fn between(a: i64, b: i64, by: u64) -> Interval
     requires a { unsigned_abs a ≤ 2199023255552 }
     requires b { unsigned_abs b ≤ 2199023255552 }
     requires by { by ≤ 1099511627776 }
-    ensures { result ≡ between a b by }
+    ensures value { result ≡ between a b by }
+    ensures short { IsShort result }
 {
     let by = by as i64;
     Interval {

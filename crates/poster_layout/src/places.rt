@@ -1,8 +1,8 @@
 //! What names take up at their places, and where their texts stand.
 
-ghost use Rattle.std.specs.Prelude.{◌≡◌, ◌≤◌, ◌+ℤ◌, ◌-ℤ◌, pos, unsigned_abs};
+ghost use Rattle.std.specs.Prelude.{◌≡◌, ◌≤◌, ◌*◌, unsigned_abs};
 ghost use Rattle.eight_sides.specs.Shapes.{IsNear, IsShort, IsShortShape};
-ghost use Rattle.poster_plan.specs.Places.{anchor_at, backwards, beside, corner_gap, gap, half_width, lean, long, offset, onwards, place_shape, places_in, size, slant, tenth, text_spot, turn_at, width};
+ghost use Rattle.poster_plan.specs.Places.{anchor_at, backwards, beside, corner_gap, gap, half_width, lean, long, offset, onwards, place_shape, places_in, sides, size, slant, tenth, text_spot, turn_at, width};
 
 use eight_sides::{Interval, Shape, around, slanted, slanted_length, upright};
 use line_offsets::Corner;
@@ -79,11 +79,19 @@ pub fn tenth(step: Step) -> u32
 }
 
 /// The size of type.
-fn size(step: Step) -> u32
+fn size(step: Step) -> u64
     ensures value { result ≡ size step }
     ensures small { result ≤ 30 }
 {
-    10 * tenth(step)
+    10 * u64::from(tenth(step))
+}
+
+/// Half of it.
+fn half_size(step: Step) -> u64
+    ensures value { result ≡ 5 * tenth step }
+    ensures small { result ≤ 15 }
+{
+    5 * u64::from(tenth(step))
 }
 
 /// How wide a name is.
@@ -115,7 +123,7 @@ fn slant(step: Step) -> u64
     ensures value { result ≡ slant step }
     ensures small { result ≤ 11 }
 {
-    (17 * u64::from(size(step)) + 47) / 48
+    (17 * size(step) + 47) / 48
 }
 
 /// How long a slanted name is in x - y or x + y.
@@ -147,7 +155,8 @@ fn onwards(z: i64, from: u64, long: u64) -> Interval
     requires z { unsigned_abs z ≤ 2199023255552 }
     requires from { from ≤ 1099511627776 }
     requires long { long ≤ 1099511627776 }
-    ensures { result ≡ onwards z from long }
+    ensures value { result ≡ onwards z from long }
+    ensures short { IsShort result }
 {
     let first = z + from as i64;
     Interval {
@@ -161,7 +170,8 @@ fn backwards(z: i64, from: u64, long: u64) -> Interval
     requires z { unsigned_abs z ≤ 2199023255552 }
     requires from { from ≤ 1099511627776 }
     requires long { long ≤ 1099511627776 }
-    ensures { result ≡ backwards z from long }
+    ensures value { result ≡ backwards z from long }
+    ensures short { IsShort result }
 {
     let last = z - from as i64;
     Interval {
@@ -170,20 +180,30 @@ fn backwards(z: i64, from: u64, long: u64) -> Interval
     }
 }
 
-/// The sides of a level name: what it takes up across, and what down.
-fn level_sides(sign: Sign, step: Step, place: Place) -> (Interval, Interval) {
+/// The two intervals that tell what a name takes up at a place: x and y of a level one, x - y and x + y of a slanted one.
+fn sides(sign: Sign, step: Step, place: Place) -> (Interval, Interval)
+    requires { IsNear sign.centre }
+    ensures value { result ≡ sides sign step place }
+    ensures first { IsShort result.0 }
+    ensures second { IsShort result.1 }
+{
     let (x, y) = (sign.centre.x, sign.centre.y);
-    let (gap, corner) = (gap(sign), corner_gap(sign));
-    let (width, height) = (width(sign, step), u64::from(size(step)));
+    let (gap, corner, from) = (gap(sign), corner_gap(sign), 2 * lean(sign, step));
+    let (width, height, long) = (width(sign, step), size(step), long(sign, step));
+    let broad = 2 * slant(step);
     match place {
-        Place::E => (onwards(x, gap, width), around(y, height / 2)),
-        Place::W => (backwards(x, gap, width), around(y, height / 2)),
+        Place::E => (onwards(x, gap, width), around(y, half_size(step))),
+        Place::W => (backwards(x, gap, width), around(y, half_size(step))),
         Place::SE => (onwards(x, corner, width), onwards(y, corner, height)),
         Place::NE => (onwards(x, corner, width), backwards(y, corner, height)),
         Place::NW => (backwards(x, corner, width), backwards(y, corner, height)),
         Place::SW => (backwards(x, corner, width), onwards(y, corner, height)),
         Place::N => (around(x, half_width(sign, step)), backwards(y, gap, height)),
-        _ => (around(x, half_width(sign, step)), onwards(y, gap, height)),
+        Place::S => (around(x, half_width(sign, step)), onwards(y, gap, height)),
+        Place::UpEast => (onwards(x - y, from, long), around(x + y, broad)),
+        Place::DownWest => (backwards(x - y, from, long), around(x + y, broad)),
+        Place::DownEast => (around(x - y, broad), onwards(x + y, from, long)),
+        Place::UpWest => (around(x - y, broad), backwards(x + y, from, long)),
     }
 }
 
@@ -193,20 +213,10 @@ pub fn place_shape(sign: Sign, step: Step, place: Place) -> Shape
     ensures value { result ≡ place_shape sign step place }
     ensures short { IsShortShape result }
 {
-    let difference = sign.centre.x - sign.centre.y;
-    let sum = sign.centre.x + sign.centre.y;
-    let from = 2 * lean(sign, step);
-    let long = long(sign, step);
-    let broad = 2 * slant(step);
-    match place {
-        Place::UpEast => slanted(onwards(difference, from, long), around(sum, broad)),
-        Place::DownWest => slanted(backwards(difference, from, long), around(sum, broad)),
-        Place::DownEast => slanted(around(difference, broad), onwards(sum, from, long)),
-        Place::UpWest => slanted(around(difference, broad), backwards(sum, from, long)),
-        _ => {
-            let (across, down) = level_sides(sign, step, place);
-            upright(across, down)
-        }
+    let (first, second) = sides(sign, step, place);
+    match turn_at(place) {
+        Turn::Level => upright(first, second),
+        Turn::Rising | Turn::Falling => slanted(first, second),
     }
 }
 

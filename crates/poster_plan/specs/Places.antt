@@ -85,24 +85,45 @@ onwards z from long = record { least = z +ℤ pos from; greatest = z +ℤ pos (f
 abbrev pub backwards : ℤ → ℕ → ℕ → Interval
 backwards z from long = record { least = z -ℤ pos (from + long); greatest = z -ℤ pos from }
 
+-- The two intervals that tell what a name takes up at a place: x and y of a level one, x - y and x + y of a slanted one.
+abbrev pub sides : Sign → Step → Place → Interval × Interval
+sides s z place.E = (onwards s.centre.x (gap s) (width s z), around s.centre.y (5 * tenth z))
+sides s z place.W = (backwards s.centre.x (gap s) (width s z), around s.centre.y (5 * tenth z))
+sides s z place.SE = (onwards s.centre.x (corner_gap s) (width s z), onwards s.centre.y (corner_gap s) (size z))
+sides s z place.NE = (onwards s.centre.x (corner_gap s) (width s z), backwards s.centre.y (corner_gap s) (size z))
+sides s z place.NW = (backwards s.centre.x (corner_gap s) (width s z), backwards s.centre.y (corner_gap s) (size z))
+sides s z place.SW = (backwards s.centre.x (corner_gap s) (width s z), onwards s.centre.y (corner_gap s) (size z))
+sides s z place.N = (around s.centre.x (half_width s z), backwards s.centre.y (gap s) (size z))
+sides s z place.S = (around s.centre.x (half_width s z), onwards s.centre.y (gap s) (size z))
+sides s z place.UpEast = (onwards (s.centre.x -ℤ s.centre.y) (2 * lean s z) (long s z), around (s.centre.x +ℤ s.centre.y) (2 * slant z))
+sides s z place.DownWest = (backwards (s.centre.x -ℤ s.centre.y) (2 * lean s z) (long s z), around (s.centre.x +ℤ s.centre.y) (2 * slant z))
+sides s z place.DownEast = (around (s.centre.x -ℤ s.centre.y) (2 * slant z), onwards (s.centre.x +ℤ s.centre.y) (2 * lean s z) (long s z))
+sides s z place.UpWest = (around (s.centre.x -ℤ s.centre.y) (2 * slant z), backwards (s.centre.x +ℤ s.centre.y) (2 * lean s z) (long s z))
+
+-- which way the text of a name runs at a place
+abbrev pub turn_at : Place → Turn
+turn_at place.E = Level
+turn_at place.W = Level
+turn_at place.SE = Level
+turn_at place.NE = Level
+turn_at place.NW = Level
+turn_at place.SW = Level
+turn_at place.N = Level
+turn_at place.S = Level
+turn_at place.UpEast = Rising
+turn_at place.DownWest = Rising
+turn_at place.DownEast = Falling
+turn_at place.UpWest = Falling
+
+-- what two intervals tell of a text that runs this way
+abbrev pub shape_of : Turn → Interval → Interval → Shape
+shape_of Level x y = upright x y
+shape_of Rising difference sum = slanted difference sum
+shape_of Falling difference sum = slanted difference sum
+
 -- what a name takes up at a place
 abbrev pub place_shape : Sign → Step → Place → Shape
-place_shape s z place.E = upright (onwards s.centre.x (gap s) (width s z)) (around s.centre.y (5 * tenth z))
-place_shape s z place.W = upright (backwards s.centre.x (gap s) (width s z)) (around s.centre.y (5 * tenth z))
-place_shape s z place.SE = upright (onwards s.centre.x (corner_gap s) (width s z)) (onwards s.centre.y (corner_gap s) (size z))
-place_shape s z place.NE = upright (onwards s.centre.x (corner_gap s) (width s z)) (backwards s.centre.y (corner_gap s) (size z))
-place_shape s z place.NW = upright (backwards s.centre.x (corner_gap s) (width s z)) (backwards s.centre.y (corner_gap s) (size z))
-place_shape s z place.SW = upright (backwards s.centre.x (corner_gap s) (width s z)) (onwards s.centre.y (corner_gap s) (size z))
-place_shape s z place.N = upright (around s.centre.x (half_width s z)) (backwards s.centre.y (gap s) (size z))
-place_shape s z place.S = upright (around s.centre.x (half_width s z)) (onwards s.centre.y (gap s) (size z))
-place_shape s z place.UpEast =
-    slanted (onwards (s.centre.x -ℤ s.centre.y) (2 * lean s z) (long s z)) (around (s.centre.x +ℤ s.centre.y) (2 * slant z))
-place_shape s z place.DownWest =
-    slanted (backwards (s.centre.x -ℤ s.centre.y) (2 * lean s z) (long s z)) (around (s.centre.x +ℤ s.centre.y) (2 * slant z))
-place_shape s z place.DownEast =
-    slanted (around (s.centre.x -ℤ s.centre.y) (2 * slant z)) (onwards (s.centre.x +ℤ s.centre.y) (2 * lean s z) (long s z))
-place_shape s z place.UpWest =
-    slanted (around (s.centre.x -ℤ s.centre.y) (2 * slant z)) (backwards (s.centre.x +ℤ s.centre.y) (2 * lean s z) (long s z))
+place_shape s z p = shape_of (turn_at p) (sides s z p).0 (sides s z p).1
 
 -- so far to the right of a point and so far below it
 abbrev pub beside : Corner → ℤ → ℤ → Corner
@@ -128,22 +149,7 @@ offset s z place.DownWest = (minus (lean s z), pos (lean s z))
 offset s z place.DownEast = (pos (lean s z), pos (lean s z))
 offset s z place.UpWest = (minus (lean s z), minus (lean s z))
 
--- which way a text runs
-abbrev pub turn_at : Place → Turn
-turn_at place.E = Level
-turn_at place.W = Level
-turn_at place.SE = Level
-turn_at place.NE = Level
-turn_at place.NW = Level
-turn_at place.SW = Level
-turn_at place.N = Level
-turn_at place.S = Level
-turn_at place.UpEast = Rising
-turn_at place.DownWest = Rising
-turn_at place.DownEast = Falling
-turn_at place.UpWest = Falling
-
--- which part of it stands at its point
+-- which part of a text stands at its point
 abbrev pub anchor_at : Place → Anchor
 anchor_at place.E = Start
 anchor_at place.W = End

@@ -4,7 +4,7 @@ use Rattle.std.proofs.lemmas.Int.{ints, clamps}
 use Rattle.eight_sides.proofs.Making.{same_interval}
 use Rattle.eight_sides.proofs.making.between.Goals as goal
 
-pub returns : goal.returns
-returns c =
+pub returns-clause-value : goal.returns-clause-value
+returns-clause-value c =
     same_interval _ _ (int_min c.args.a c.args.b -ℤ pos c.args.by) (int_max c.args.a c.args.b +ℤ pos c.args.by)
     (omega (arith, ints, clamps, c.min.ensures.value)) (omega (arith, ints, clamps, c.max.ensures.value))
