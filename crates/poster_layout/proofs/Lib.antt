@@ -2,3 +2,4 @@ mod Members
 mod Cells
 mod Searching
 mod Putting
+mod Rooming
