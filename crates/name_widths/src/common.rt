@@ -24,7 +24,7 @@ fn count_with(names: &[&str], word: &str) -> usize
 {
     let mut count = 0;
     for name in names {
-        if begins_with(name, word) {
+        if begins_with(*name, word) {
             count += 1;
         }
     }
@@ -54,7 +54,7 @@ fn leading_word<'a>(names: &[&'a str]) -> &'a str
 {
     let mut vote = Vote { word: "", lead: 0 };
     for name in names {
-        vote = with_vote(vote, name);
+        vote = with_vote(vote, *name);
     }
     vote.word
 }

@@ -27,7 +27,7 @@ pub(crate) fn push_all_names(
     texts: &Texts<'_>,
     printed: &[Printed],
 ) -> Result<(), NoMemory> {
-    let mut places = vec![in alloc; None; plan.marks.as_slice().len()]?;
+    let mut places: Vec<Option<Printed>> = vec![in alloc; None; plan.marks.as_slice().len()]?;
     for name in printed {
         places[name.mark as usize] = Some(*name);
     }
@@ -74,7 +74,7 @@ fn endings_at<'a>(alloc: Global, sheet: Sheet<'a>, n: NodeId) -> Result<Vec<Endi
 fn ending_of<'a>(names: &'a Names, line: LineId) -> Ending<'a> {
     let colour = colour_of(names, line);
     Ending {
-        colour: if is_faint(colour) { &DARK } else { colour },
+        colour: if is_faint(colour) { &DARK[..] } else { colour },
         name: name_of(names, line),
     }
 }

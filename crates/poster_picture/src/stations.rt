@@ -1,13 +1,16 @@
 //! The marks of stations, at the lines that call there.
 
+ghost use Rattle.std.specs.Prelude.{◌≡◌, ◌<◌, ◌≤◌, length, IfOk};
+ghost use Rattle.std.specs.List.{position_or_len};
+ghost use Rattle.poster_rules.specs.Posters.{by_size, goes_before};
+
 use crate::elements::{BLACK, WHITE, close_group, push_along, push_station};
 use crate::sheet::Sheet;
-use graph_core::NodeKind;
+use graph_core::{LineGraph, NodeKind};
 use line_offsets::Corner;
 use map_base::{LineId, NoMemory, NodeId, SegId};
 use poster_graph::{callers_at, is_interchange};
 use std::alloc::Global;
-use std::cmp::Reverse;
 use svg_writer::{are_one, lines_of, order_of, station_name};
 
 /// Appends each station.
@@ -57,11 +60,42 @@ fn push_station_at(
     close_group(text)
 }
 
-/// The segments of a node, those of more lines first, and those of as many by their numbers.
-fn by_size(alloc: Global, sheet: Sheet<'_>, n: NodeId) -> Result<Vec<SegId>, NoMemory> {
-    let mut segments = Vec::from_slice(alloc, sheet.graph.round(n))?;
-    segments.sort_by_key(|s| (Reverse(lines_of(sheet.graph, s.0).len()), s.0))?;
-    Ok(segments)
+/// The segments of a node, those of more lines first, and those of as many by their numbers. A node has few.
+fn by_size(alloc: Global, graph: &LineGraph, n: NodeId) -> Result<Vec<SegId>, NoMemory>
+    requires { n.0 < length graph.now.kinds }
+    ensures { IfOk result (λ segments. segments.items ≡ by_size graph.now n.0) }
+{
+    let mut sorted = Vec::new(alloc);
+    for s in graph.round(n) {
+        let place = place_for(graph, sorted.as_slice(), *s);
+        sorted.insert(place, *s)?;
+    }
+    Ok(sorted)
+}
+
+/// The place of the first of these segments that a segment goes before, or their number.
+fn place_for(graph: &LineGraph, sorted: &[SegId], s: SegId) -> usize
+    ensures value { result ≡ position_or_len (goes_before graph.now.lines s) sorted.now }
+    ensures within { result ≤ length sorted.now }
+{
+    for (place, other) in sorted.iter().enumerate() {
+        if goes_before(graph, s, *other) {
+            return place;
+        }
+    }
+    sorted.len()
+}
+
+/// Whether a segment goes before another: it has more lines, or as many and a lesser number.
+fn goes_before(graph: &LineGraph, a: SegId, b: SegId) -> bool
+    ensures { result ≡ goes_before graph.now.lines a b }
+{
+    let (first, second) = (lines_of(graph, a.0).len(), lines_of(graph, b.0).len());
+    if first == second {
+        a.0 < b.0
+    } else {
+        second < first
+    }
 }
 
 /// The feet of the lines that call at a node, each once: that of a line is on the first segment on which it stands.
@@ -69,7 +103,7 @@ fn feet_at(alloc: Global, sheet: Sheet<'_>, n: NodeId) -> Result<Vec<Corner>, No
     let callers = callers_at(sheet.callers, n.0);
     let mut seen = Vec::new(alloc);
     let mut path = Vec::new(alloc);
-    for s in &by_size(alloc, sheet, n)? {
+    for s in &by_size(alloc, sheet.graph, n)? {
         put_feet(&mut path, &mut seen, sheet, n, *s, callers)?;
     }
     Ok(path)

@@ -1,7 +1,7 @@
 -- The poster of a drawn line graph: its elements in order. The lines that call at nodes are told by lists, one for each
 -- node, each rising.
 use Rattle.std.specs.Prelude.{ℕ, ◌+◌, ◌==◌, ◌&&◌, not, Bool, true, false, nat_lt, ℤ, pos, ◌+ℤ◌, List, [], ◌∷◌, ◌++◌, length, map, filter, fold, if◌then◌else◌, Option, Some, None, unwrap_or}
-use Rattle.std.specs.List.{find, flat_map, list_any, position_or_len, range_with_len}
+use Rattle.std.specs.List.{find, flat_map, insert, list_any, position_or_len, range_with_len}
 use Rattle.map_base.specs.declared.ids.LineId.{LineId}
 use Rattle.map_base.specs.declared.ids.SegId.{SegId}
 use Rattle.graph_core.specs.declared.parts.NodeKind.{NodeKind}
@@ -89,13 +89,12 @@ node_joins sheet n = flat_map (join_elements sheet n) (joins_at sheet.graph.join
 -- a segment goes before another at a node: it has more lines, or as many and a lesser number
 abbrev pub goes_before : List (List LineId) → SegId → SegId → Bool
 goes_before lines a b =
-    if nat_lt (length (lines_at lines b.0)) (length (lines_at lines a.0)) then true
-    else (length (lines_at lines a.0) == length (lines_at lines b.0)) && nat_lt a.0 b.0
+    if length (lines_at lines a.0) == length (lines_at lines b.0) then nat_lt a.0 b.0
+    else nat_lt (length (lines_at lines b.0)) (length (lines_at lines a.0))
 
 -- a segment, put before the first of these that it goes before
 abbrev pub put_in : List (List LineId) → SegId → List SegId → List SegId
-put_in lines a [] = a ∷ []
-put_in lines a (b ∷ rest) = if goes_before lines a b then a ∷ b ∷ rest else b ∷ put_in lines a rest
+put_in lines a sorted = insert sorted (position_or_len (goes_before lines a) sorted) a
 
 -- the segments of node n, those of more lines first, and those of as many by their numbers
 abbrev pub by_size : GraphParts → ℕ → List SegId
