@@ -81,12 +81,12 @@ piece_shape a b h = record {
 
 -- numbers that can be reckoned with
 pub record IsNear (c : Corner) : Type 0 where
-  pub across : unsigned_abs c.x ≤ 1099511627776
-  pub down : unsigned_abs c.y ≤ 1099511627776
+  pub across : unsigned_abs c.x ≤ 429496729600
+  pub down : unsigned_abs c.y ≤ 429496729600
 
 pub record IsShort (i : Interval) : Type 0 where
-  pub least : unsigned_abs i.least ≤ 4398046511104
-  pub greatest : unsigned_abs i.greatest ≤ 4398046511104
+  pub least : unsigned_abs i.least ≤ 1099511627776
+  pub greatest : unsigned_abs i.greatest ≤ 1099511627776
 
 pub record IsShortShape (s : Shape) : Type 0 where
   pub across : IsShort s.across

@@ -1,6 +1,6 @@
 //! What stations, straight pieces and names take up.
 
-ghost use Rattle.std.specs.Prelude.{◌≡◌, ◌≤◌, ◌+ℤ◌, ◌-ℤ◌, pos, unsigned_abs};
+ghost use Rattle.std.specs.Prelude.{◌≡◌, ◌≤◌, ◌+◌, ◌*◌, unsigned_abs};
 ghost use Rattle.eight_sides.specs.Shapes.{around, between, half_above, half_below, is_upright, mark_shape, piece_reach, piece_shape, slanted, slanted_length, upright, IsNear, IsShort, IsShortShape};
 
 use crate::interval::Interval;
@@ -9,8 +9,7 @@ use line_offsets::Corner;
 
 /// The numbers as far as `by` from one.
 pub fn around(z: i64, by: u64) -> Interval
-    requires z { unsigned_abs z ≤ 2199023255552 }
-    requires by { by ≤ 1099511627776 }
+    requires { unsigned_abs z + by ≤ 1099511627776 }
     ensures value { result ≡ around z by }
     ensures short { IsShort result }
 {
@@ -23,9 +22,8 @@ pub fn around(z: i64, by: u64) -> Interval
 
 /// From the lesser of two numbers to the greater, and `by` further on each side.
 pub fn between(a: i64, b: i64, by: u64) -> Interval
-    requires a { unsigned_abs a ≤ 2199023255552 }
-    requires b { unsigned_abs b ≤ 2199023255552 }
-    requires by { by ≤ 1099511627776 }
+    requires a { unsigned_abs a + by ≤ 1099511627776 }
+    requires b { unsigned_abs b + by ≤ 1099511627776 }
     ensures value { result ≡ between a b by }
     ensures short { IsShort result }
 {
@@ -87,7 +85,7 @@ fn half_below(z: i64) -> i64
 
 /// Half of a number, rounded up.
 fn half_above(z: i64) -> i64
-    requires { unsigned_abs z ≤ 8796093022208 }
+    requires { unsigned_abs z ≤ 4398046511104 }
     ensures { result ≡ half_above z }
 {
     (z + 1).div_euclid(2)
@@ -95,9 +93,9 @@ fn half_above(z: i64) -> i64
 
 /// How much x - y or x + y changes over a length on a slant, at most.
 pub fn slanted_length(n: u64) -> u64
-    requires { n ≤ 68719476736 }
+    requires { n ≤ 34359738368 }
     ensures value { result ≡ slanted_length n }
-    ensures small { result ≤ 137438953472 }
+    ensures small { result ≤ 2 * n }
 {
     (17 * n + 11) / 12
 }
@@ -105,7 +103,7 @@ pub fn slanted_length(n: u64) -> u64
 /// A station as far as `radius` from its centre.
 pub fn mark_shape(centre: Corner, radius: u64) -> Shape
     requires centre { IsNear centre }
-    requires radius { radius ≤ 68719476736 }
+    requires radius { radius ≤ 34359738368 }
     ensures value { result ≡ mark_shape centre radius }
     ensures short { IsShortShape result }
 {
@@ -127,9 +125,9 @@ fn is_upright(a: Corner, b: Corner) -> bool
 
 /// How far x - y and x + y reach on each side of a straight piece with `half` on each side of it.
 fn piece_reach(a: Corner, b: Corner, half: u64) -> u64
-    requires { half ≤ 68719476736 }
+    requires { half ≤ 34359738368 }
     ensures value { result ≡ piece_reach a b half }
-    ensures small { result ≤ 137438953472 }
+    ensures small { result ≤ 2 * half }
 {
     if is_upright(a, b) {
         2 * half
@@ -142,7 +140,7 @@ fn piece_reach(a: Corner, b: Corner, half: u64) -> u64
 pub fn piece_shape(a: Corner, b: Corner, half: u64) -> Shape
     requires a { IsNear a }
     requires b { IsNear b }
-    requires half { half ≤ 68719476736 }
+    requires half { half ≤ 34359738368 }
     ensures value { result ≡ piece_shape a b half }
     ensures short { IsShortShape result }
 {

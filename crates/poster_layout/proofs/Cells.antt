@@ -15,7 +15,7 @@ use Rattle.poster_layout.proofs.Members.{in_flat, in_map, in_range}
 le_from : (a b : ℤ) → int_le a b ≡ true → a ≤ℤ b
 le_from a b e = grind (arith, ints)
 
-above_le : (a b : ℤ) → a ≤ℤ b → unsigned_abs (int_max (a +ℤ pos 4398046511104) (pos 0)) ≤ unsigned_abs (int_max (b +ℤ pos 4398046511104) (pos 0))
+above_le : (a b : ℤ) → a ≤ℤ b → unsigned_abs (int_max (a +ℤ pos 1099511627776) (pos 0)) ≤ unsigned_abs (int_max (b +ℤ pos 1099511627776) (pos 0))
 above_le a b h = omega (arith, ints, clamps)
 
 div_le : (x y : ℕ) → x ≤ y → x / 160 ≤ y / 160

@@ -7,7 +7,7 @@ use Rattle.poster_layout.specs.declared.cells.Cells.{Cells}
 
 -- the column or the row of a coordinate
 abbrev pub line_of : ℤ → ℕ
-line_of z = unsigned_abs (int_max (z +ℤ pos 4398046511104) (pos 0)) / 160
+line_of z = unsigned_abs (int_max (z +ℤ pos 1099511627776) (pos 0)) / 160
 
 -- the first and the last column and row of a shape
 abbrev pub cells_of : Shape → Cells

@@ -35,11 +35,11 @@ pub(crate) fn cells_of(shape: Shape) -> Cells
 
 /// The column or the row of a coordinate.
 fn line_of(z: i64) -> u64
-    requires { unsigned_abs z ≤ 4398046511104 }
+    requires { unsigned_abs z ≤ 1099511627776 }
     ensures value { result ≡ line_of z }
     ensures small { result < 1099511627776 }
 {
-    (z + 4_398_046_511_104) as u64 / SIDE
+    (z + 1_099_511_627_776) as u64 / SIDE
 }
 
 /// How many cells these are, or a greatest number where they are too many to reckon with.

@@ -13,15 +13,15 @@ use std::alloc::Global;
 
 /// The pitch of a poster, and the names that are printed at it, in the order in which they were placed.
 #[derive(Debug, Drop)]
-pub struct Fitted {
+pub struct Layout {
     pub pitch: u32,
     pub printed: Sequence<Printed>,
 }
 
 /// The pitch of a plan, and the names at it.
-pub fn fitted(alloc: Global, plan: &Plan) -> Result<Fitted, NoMemory>
-    ensures pitch { IfOk result (λ fitted. fitted.pitch ≡ pitch_of plan.now) }
-    ensures printed { IfOk result (λ fitted. fitted.printed ≡ printed_names (pitch_of plan.now) plan.now) }
+pub fn layout_of(alloc: Global, plan: &Plan) -> Result<Layout, NoMemory>
+    ensures pitch { IfOk result (λ layout. layout.pitch ≡ pitch_of plan.now) }
+    ensures printed { IfOk result (λ layout. layout.printed ≡ printed_names (pitch_of plan.now) plan.now) }
 {
     let first = first_suiting(alloc, plan)?;
     let best = if fits(plan, &first) {
@@ -29,7 +29,7 @@ pub fn fitted(alloc: Global, plan: &Plan) -> Result<Fitted, NoMemory>
     } else {
         first
     };
-    Ok(Fitted {
+    Ok(Layout {
         pitch: best.pitch,
         printed: Sequence::of(best.printed),
     })

@@ -1,6 +1,6 @@
 //! What names take up at their places, and where their texts stand.
 
-ghost use Rattle.std.specs.Prelude.{◌≡◌, ◌≤◌, ◌*◌, unsigned_abs};
+ghost use Rattle.std.specs.Prelude.{◌≡◌, ◌≤◌, ◌+◌, ◌*◌, unsigned_abs};
 ghost use Rattle.eight_sides.specs.Shapes.{IsNear, IsShort, IsShortShape};
 ghost use Rattle.poster_plan.specs.Places.{anchor_at, backwards, beside, corner_gap, gap, half_width, lean, long, offset, onwards, place_shape, places_in, sides, size, slant, tenth, text_spot, turn_at, width};
 
@@ -152,9 +152,7 @@ fn lean(sign: Sign, step: Step) -> u64
 
 /// The numbers from so far up from one, so many of them.
 fn onwards(z: i64, from: u64, long: u64) -> Interval
-    requires z { unsigned_abs z ≤ 2199023255552 }
-    requires from { from ≤ 1099511627776 }
-    requires long { long ≤ 1099511627776 }
+    requires { unsigned_abs z + (from + long) ≤ 1099511627776 }
     ensures value { result ≡ onwards z from long }
     ensures short { IsShort result }
 {
@@ -167,9 +165,7 @@ fn onwards(z: i64, from: u64, long: u64) -> Interval
 
 /// The same down from it.
 fn backwards(z: i64, from: u64, long: u64) -> Interval
-    requires z { unsigned_abs z ≤ 2199023255552 }
-    requires from { from ≤ 1099511627776 }
-    requires long { long ≤ 1099511627776 }
+    requires { unsigned_abs z + (from + long) ≤ 1099511627776 }
     ensures value { result ≡ backwards z from long }
     ensures short { IsShort result }
 {

@@ -14,7 +14,7 @@ use map_base::{LineId, NoMemory, Sequence};
 use octi_grid::Drawing;
 use order_model::Orders;
 use poster_graph::{Served, Texts, lines_shown, plan_of, texts_of, widest};
-use poster_layout::{bounds_beside, bounds_with, fitted, legend_of};
+use poster_layout::{bounds_beside, bounds_with, layout_of, legend_of};
 use poster_plan::{Legend, Plan, Printed};
 use std::alloc::Global;
 use svg_writer::{Bounds, Names};
@@ -38,16 +38,16 @@ pub fn poster(
     };
     let texts = texts_of(alloc, graph, names)?;
     let plan = plan_of(alloc, served, &texts)?;
-    let fitted = fitted(alloc, &plan)?;
+    let layout = layout_of(alloc, &plan)?;
     let sheet = Sheet {
         graph,
         names,
         drawing,
         orders,
         callers,
-        pitch: fitted.pitch,
+        pitch: layout.pitch,
     };
-    write_sheet(alloc, sheet, &plan, &texts, fitted.printed.as_slice())
+    write_sheet(alloc, sheet, &plan, &texts, layout.printed.as_slice())
 }
 
 /// The text of a sheet, with these names.
