@@ -1,8 +1,11 @@
 //! How far what is drawn reaches.
 
-ghost use Rattle.std.specs.Prelude.{◌≡◌, ◌≤◌};
+ghost use Rattle.std.specs.Prelude.{◌≡◌, ◌≤◌, ◌∷◌, [], fold, unsigned_abs};
 ghost use Rattle.svg_writer.specs.Elements.{AreBounds};
-ghost use Rattle.poster_plan.specs.Pitches.{bounds_with, is_small};
+ghost use Rattle.svg_writer.specs.Picture.{bounds_at, widened};
+ghost use Rattle.eight_sides.specs.Shapes.{IsShortShape};
+ghost use Rattle.poster_plan.specs.Pitches.{bounds_of, bounds_with, is_small, shape_corners, walked_corners};
+ghost use Rattle.poster_layout.specs.Extents.{IsInReach};
 
 use crate::signs::printed_shape;
 use eight_sides::Shape;
@@ -26,6 +29,8 @@ pub fn bounds_with(pitch: u32, plan: &Plan, printed: &[Printed]) -> Bounds
 /// The least bounds of all grid points of walks, those of the origin where there is none.
 fn walked_bounds(pitch: u32, pieces: &[Piece]) -> Bounds
     requires { pitch ≤ 200 }
+    ensures value { result ≡ bounds_of (walked_corners pitch pieces.now) }
+    ensures small { AreBounds result }
 {
     let mut bounds = match pieces {
         [] => bounds_at(Corner { x: 0, y: 0 }),
@@ -39,7 +44,11 @@ fn walked_bounds(pitch: u32, pieces: &[Piece]) -> Bounds
 }
 
 /// The bounds of a point alone.
-fn bounds_at(c: Corner) -> Bounds {
+fn bounds_at(c: Corner) -> Bounds
+    requires { IsInReach c }
+    ensures value { result ≡ bounds_at c }
+    ensures small { AreBounds result }
+{
     Bounds {
         left: c.x,
         right: c.x,
@@ -49,7 +58,12 @@ fn bounds_at(c: Corner) -> Bounds {
 }
 
 /// Bounds, widened to hold a point.
-pub(crate) fn with_corner(b: Bounds, c: Corner) -> Bounds {
+pub(crate) fn with_corner(b: Bounds, c: Corner) -> Bounds
+    requires bounds { AreBounds b }
+    requires corner { IsInReach c }
+    ensures value { result ≡ widened b c }
+    ensures small { AreBounds result }
+{
     Bounds {
         left: b.left.min(c.x),
         right: b.right.max(c.x),
@@ -59,7 +73,12 @@ pub(crate) fn with_corner(b: Bounds, c: Corner) -> Bounds {
 }
 
 /// Bounds, widened to hold a shape.
-fn with_shape(b: Bounds, s: Shape) -> Bounds {
+fn with_shape(b: Bounds, s: Shape) -> Bounds
+    requires bounds { AreBounds b }
+    requires shape { IsShortShape s }
+    ensures value { result ≡ fold widened b (shape_corners s) }
+    ensures small { AreBounds result }
+{
     let least = Corner {
         x: s.across.least,
         y: s.down.least,

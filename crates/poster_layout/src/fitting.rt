@@ -1,8 +1,9 @@
 //! The pitch, and the names at it.
 
-ghost use Rattle.std.specs.Prelude.{◌≡◌, ◌≤◌, IfOk};
-ghost use Rattle.poster_plan.specs.Placing.{printed_names};
-ghost use Rattle.poster_plan.specs.Pitches.{pitch_of};
+ghost use Rattle.std.specs.Prelude.{◌≡◌, ◌≤◌, ◌*◌, ◌&&◌, nat_le, IfOk, MatchOption, IsTrue, IfSome, false, length};
+ghost use Rattle.poster_plan.specs.Placing.{named, printed_names};
+ghost use Rattle.poster_plan.specs.Pitches.{first_pitch, fits, is_better, is_roomy, pitch_of};
+ghost use Rattle.poster_layout.specs.Fits.{best_of, IsLaid};
 
 use crate::extent::{bounds_with, is_small};
 use crate::laying::{Laid, lay_out, named};
@@ -36,7 +37,10 @@ pub fn layout_of(alloc: Global, plan: &Plan) -> Result<Layout, NoMemory>
 }
 
 /// The names at the first pitch that suits, or at the greatest.
-fn first_suiting(alloc: Global, plan: &Plan) -> Result<Laid, NoMemory> {
+fn first_suiting(alloc: Global, plan: &Plan) -> Result<Laid, NoMemory>
+    ensures laid { IfOk result (IsLaid plan.now) }
+    ensures pitch { IfOk result (λ laid. laid.pitch ≡ first_pitch plan.now) }
+{
     let names = named(alloc, plan.marks.as_slice())?.len();
     for i in 0..45 {
         let pitch = 20 + 4 * i;
@@ -50,7 +54,10 @@ fn first_suiting(alloc: Global, plan: &Plan) -> Result<Laid, NoMemory> {
 }
 
 /// The names at a pitch, where it is roomy.
-fn laid_where_roomy(alloc: Global, pitch: u32, plan: &Plan) -> Result<Option<Laid>, NoMemory> {
+fn laid_where_roomy(alloc: Global, pitch: u32, plan: &Plan) -> Result<Option<Laid>, NoMemory>
+    requires { pitch ≤ 200 }
+    ensures { IfOk result (λ found. MatchOption found (is_roomy pitch plan.now ≡ false) (λ laid. IsLaid plan.now laid × (laid.pitch ≡ pitch) × IsTrue (is_roomy pitch plan.now))) }
+{
     if !is_roomy(alloc, pitch, plan)? {
         return Ok(None);
     }
@@ -58,17 +65,25 @@ fn laid_where_roomy(alloc: Global, pitch: u32, plan: &Plan) -> Result<Option<Lai
 }
 
 /// Whether of so many names at most a tenth is not in full size, and at most a thirtieth not beside lines.
-fn suits(laid: &Laid, names: usize) -> bool {
+fn suits(laid: &Laid, names: usize) -> bool
+    ensures { result ≡ (nat_le (10 * laid.now.full_left) names && nat_le (30 * laid.now.small_left) names) }
+{
     laid.full_left <= names / 10 && laid.small_left <= names / 30
 }
 
 /// Whether the names at a pitch and all grid points of walks fit into 4200 units.
-fn fits(plan: &Plan, laid: &Laid) -> bool {
+fn fits(plan: &Plan, laid: &Laid) -> bool
+    requires laid { IsLaid plan.now laid.now }
+    requires pitch { laid.now.pitch ≤ 200 }
+    ensures { result ≡ fits plan.now laid.now.pitch }
+{
     is_small(bounds_with(laid.pitch, plan, laid.printed.as_slice()))
 }
 
 /// Whether fewer names are over lines or left out than at another pitch, or as many, and fewer are not in full size.
-fn is_better(laid: &Laid, best: &Laid) -> bool {
+fn is_better(laid: &Laid, best: &Laid) -> bool
+    ensures { (plan : Plan) → IsLaid plan laid.now → IsLaid plan best.now → result ≡ is_better plan laid.now.pitch best.now.pitch }
+{
     if laid.small_left == best.small_left {
         laid.full_left < best.full_left
     } else {
@@ -78,7 +93,12 @@ fn is_better(laid: &Laid, best: &Laid) -> bool {
 
 /// The best of the pitches from one that fits on, as long as all fits, and no further than the first at which each name is
 /// in full size.
-fn best_from(alloc: Global, plan: &Plan, first: Laid) -> Result<Laid, NoMemory> {
+fn best_from(alloc: Global, plan: &Plan, first: Laid) -> Result<Laid, NoMemory>
+    requires laid { IsLaid plan.now first }
+    requires pitch { first.pitch ≤ 200 }
+    ensures laid { IfOk result (IsLaid plan.now) }
+    ensures pitch { IfOk result (λ laid. laid.pitch ≡ best_of plan.now first.pitch first.full_left first.pitch) }
+{
     let mut best = first;
     let mut left = best.full_left;
     let mut pitch = best.pitch;

@@ -25,19 +25,30 @@ fn rows_for(lines: u32) -> u32
 }
 
 /// How wide the legend is.
-fn legend_width(lines: u32, widest: u32) -> u64 {
+fn legend_width(lines: u32, widest: u32) -> u64
+    requires { lines ≤ 1000000 }
+    ensures value { result ≡ legend_width lines widest }
+    ensures small { result ≤ 500000000000 }
+{
     let rows = u64::from(rows_for(lines));
     let columns = (u64::from(lines) + rows - 1) / rows;
     (column_for(widest) * columns).saturating_sub(60)
 }
 
 /// How high it is.
-fn legend_height(lines: u32) -> u64 {
+fn legend_height(lines: u32) -> u64
+    requires { lines ≤ 1000000 }
+    ensures value { result ≡ legend_height lines }
+    ensures small { result ≤ 45000000 }
+{
     (45 * u64::from(lines.min(rows_for(lines)))).saturating_sub(15)
 }
 
 /// How far its columns stand apart.
-fn column_for(widest: u32) -> u64 {
+fn column_for(widest: u32) -> u64
+    ensures value { result ≡ column_for widest }
+    ensures small { result ≤ 4294967445 }
+{
     u64::from(widest) + 150
 }
 
@@ -65,7 +76,12 @@ pub fn legend_of(
 }
 
 /// Its upper left point: in the first corner of the map that is clear, else beside the map.
-fn legend_start(pitch: u32, plan: &Plan, printed: &[Printed], width: u64, height: u64) -> Corner {
+fn legend_start(pitch: u32, plan: &Plan, printed: &[Printed], width: u64, height: u64) -> Corner
+    requires pitch { pitch ≤ 200 }
+    requires width { width ≤ 500000000000 }
+    requires height { height ≤ 45000000 }
+    ensures { result ≡ legend_start pitch plan.now printed.now width height }
+{
     let bounds = bounds_with(pitch, plan, printed);
     for corner in &corners_for(bounds, width, height) {
         if is_clear_of_all(pitch, plan, printed, legend_shape(width, height, *corner)) {
@@ -76,7 +92,12 @@ fn legend_start(pitch: u32, plan: &Plan, printed: &[Printed], width: u64, height
 }
 
 /// Its upper left point in each corner of bounds.
-fn corners_for(b: Bounds, width: u64, height: u64) -> [Corner; 4] {
+fn corners_for(b: Bounds, width: u64, height: u64) -> [Corner; 4]
+    requires bounds { AreBounds b }
+    requires width { width ≤ 500000000000 }
+    requires height { height ≤ 45000000 }
+    ensures { result ≡ corners_for b width height }
+{
     let (right, low) = (b.right - width as i64, b.bottom - height as i64);
     [
         Corner { x: right, y: b.top },
@@ -90,7 +111,11 @@ fn corners_for(b: Bounds, width: u64, height: u64) -> [Corner; 4] {
 }
 
 /// From a number so far on, and 30 further on each side.
-fn widely(z: i64, long: u64) -> Interval {
+fn widely(z: i64, long: u64) -> Interval
+    requires z { unsigned_abs z ≤ 2199023255552 }
+    requires long { long ≤ 500000000000 }
+    ensures { result ≡ widely z long }
+{
     Interval {
         least: z - 30,
         greatest: z + (long as i64 + 30),
@@ -103,7 +128,10 @@ fn legend_shape(width: u64, height: u64, start: Corner) -> Shape {
 }
 
 /// Whether it keeps clear of all stations, straight pieces and printed names.
-fn is_clear_of_all(pitch: u32, plan: &Plan, printed: &[Printed], shape: Shape) -> bool {
+fn is_clear_of_all(pitch: u32, plan: &Plan, printed: &[Printed], shape: Shape) -> bool
+    requires { pitch ≤ 200 }
+    ensures { result ≡ is_clear_of_all pitch plan.now printed.now shape }
+{
     !meets_mark(pitch, plan, shape)
         && !meets_piece(pitch, plan, shape)
         && !meets_printed(pitch, plan, printed, shape)
@@ -133,7 +161,10 @@ fn meets_printed(pitch: u32, plan: &Plan, printed: &[Printed], shape: Shape) -> 
 }
 
 /// Beside the map: to the right of one that is no wider than it is high, and else below it.
-fn outside(b: Bounds) -> Corner {
+fn outside(b: Bounds) -> Corner
+    requires { AreBounds b }
+    ensures { result ≡ outside b }
+{
     if b.right - b.left <= b.bottom - b.top {
         Corner {
             x: b.right + 30,
