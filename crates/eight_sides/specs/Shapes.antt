@@ -79,15 +79,21 @@ piece_shape a b h = record {
   sum = between (a.x +ℤ a.y) (b.x +ℤ b.y) (piece_reach a b h);
 }
 
--- numbers that can be reckoned with
+-- a point as it is drawn: its numbers can be reckoned with
 pub record IsNear (c : Corner) : Type 0 where
   pub across : unsigned_abs c.x ≤ 429496729600
   pub down : unsigned_abs c.y ≤ 429496729600
 
+-- intervals of numbers that can be reckoned with
 pub record IsShort (i : Interval) : Type 0 where
   pub least : unsigned_abs i.least ≤ 1099511627776
   pub greatest : unsigned_abs i.greatest ≤ 1099511627776
 
+pub record IsFar (i : Interval) : Type 0 where
+  pub least : unsigned_abs i.least ≤ 4398046511104
+  pub greatest : unsigned_abs i.greatest ≤ 4398046511104
+
+-- a shape of such points
 pub record IsShortShape (s : Shape) : Type 0 where
   pub across : IsShort s.across
   pub down : IsShort s.down

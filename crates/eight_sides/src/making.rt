@@ -1,7 +1,7 @@
 //! What stations, straight pieces and names take up.
 
 ghost use Rattle.std.specs.Prelude.{◌≡◌, ◌≤◌, ◌+◌, ◌*◌, unsigned_abs};
-ghost use Rattle.eight_sides.specs.Shapes.{around, between, half_above, half_below, is_upright, mark_shape, piece_reach, piece_shape, slanted, slanted_length, upright, IsNear, IsShort, IsShortShape};
+ghost use Rattle.eight_sides.specs.Shapes.{around, between, half_above, half_below, is_upright, mark_shape, piece_reach, piece_shape, slanted, slanted_length, upright, IsFar, IsNear, IsShort, IsShortShape};
 
 use crate::interval::Interval;
 use crate::shape::Shape;
@@ -36,10 +36,9 @@ pub fn between(a: i64, b: i64, by: u64) -> Interval
 
 /// An upright box, by its x and y.
 pub fn upright(x: Interval, y: Interval) -> Shape
-    requires x { IsShort x }
-    requires y { IsShort y }
-    ensures value { result ≡ upright x y }
-    ensures short { IsShortShape result }
+    requires x { IsFar x }
+    requires y { IsFar y }
+    ensures { result ≡ upright x y }
 {
     Shape {
         across: x,

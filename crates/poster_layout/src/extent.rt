@@ -1,11 +1,10 @@
 //! How far what is drawn reaches.
 
 ghost use Rattle.std.specs.Prelude.{◌≡◌, ◌≤◌, ◌∷◌, [], fold, unsigned_abs};
-ghost use Rattle.svg_writer.specs.Elements.{AreBounds};
 ghost use Rattle.svg_writer.specs.Picture.{bounds_at, widened};
-ghost use Rattle.eight_sides.specs.Shapes.{IsShortShape};
+ghost use Rattle.eight_sides.specs.Shapes.{IsNear};
 ghost use Rattle.poster_plan.specs.Pitches.{bounds_of, bounds_with, is_small, shape_corners, walked_corners};
-ghost use Rattle.poster_layout.specs.Extents.{IsInReach};
+ghost use Rattle.poster_layout.specs.Extents.{AreNear, IsNearShape};
 
 use crate::signs::printed_shape;
 use eight_sides::Shape;
@@ -17,7 +16,7 @@ use svg_writer::Bounds;
 pub fn bounds_with(pitch: u32, plan: &Plan, printed: &[Printed]) -> Bounds
     requires { pitch ≤ 200 }
     ensures value { result ≡ bounds_with pitch plan.now printed.now }
-    ensures small { AreBounds result }
+    ensures near { AreNear result }
 {
     let mut bounds = walked_bounds(pitch, plan.pieces.as_slice());
     for name in printed {
@@ -30,7 +29,7 @@ pub fn bounds_with(pitch: u32, plan: &Plan, printed: &[Printed]) -> Bounds
 fn walked_bounds(pitch: u32, pieces: &[Piece]) -> Bounds
     requires { pitch ≤ 200 }
     ensures value { result ≡ bounds_of (walked_corners pitch pieces.now) }
-    ensures small { AreBounds result }
+    ensures near { AreNear result }
 {
     let mut bounds = match pieces {
         [] => bounds_at(Corner { x: 0, y: 0 }),
@@ -45,9 +44,7 @@ fn walked_bounds(pitch: u32, pieces: &[Piece]) -> Bounds
 
 /// The bounds of a point alone.
 fn bounds_at(c: Corner) -> Bounds
-    requires { IsInReach c }
-    ensures value { result ≡ bounds_at c }
-    ensures small { AreBounds result }
+    ensures { result ≡ bounds_at c }
 {
     Bounds {
         left: c.x,
@@ -59,10 +56,7 @@ fn bounds_at(c: Corner) -> Bounds
 
 /// Bounds, widened to hold a point.
 pub(crate) fn with_corner(b: Bounds, c: Corner) -> Bounds
-    requires bounds { AreBounds b }
-    requires corner { IsInReach c }
-    ensures value { result ≡ widened b c }
-    ensures small { AreBounds result }
+    ensures { result ≡ widened b c }
 {
     Bounds {
         left: b.left.min(c.x),
@@ -74,10 +68,10 @@ pub(crate) fn with_corner(b: Bounds, c: Corner) -> Bounds
 
 /// Bounds, widened to hold a shape.
 fn with_shape(b: Bounds, s: Shape) -> Bounds
-    requires bounds { AreBounds b }
-    requires shape { IsShortShape s }
+    requires bounds { AreNear b }
+    requires shape { IsNearShape s }
     ensures value { result ≡ fold widened b (shape_corners s) }
-    ensures small { AreBounds result }
+    ensures near { AreNear result }
 {
     let least = Corner {
         x: s.across.least,
@@ -92,7 +86,7 @@ fn with_shape(b: Bounds, s: Shape) -> Bounds
 
 /// Whether 4200 units are enough for the longer side.
 pub(crate) fn is_small(b: Bounds) -> bool
-    requires { AreBounds b }
+    requires { AreNear b }
     ensures { result ≡ is_small b }
 {
     b.right - b.left <= 4200 && b.bottom - b.top <= 4200

@@ -1,7 +1,8 @@
 //! Where the legend stands.
 
-ghost use Rattle.std.specs.Prelude.{◌≡◌, ◌≤◌, ◌<◌};
+ghost use Rattle.std.specs.Prelude.{◌≡◌, ◌≤◌, ◌<◌, unsigned_abs, IfSome};
 ghost use Rattle.svg_writer.specs.Elements.{AreBounds};
+ghost use Rattle.poster_layout.specs.Extents.{AreNear};
 ghost use Rattle.poster_plan.specs.Legends.{bounds_beside, column_for, corners_for, is_clear_of_all, legend_height, legend_of, legend_shape, legend_start, legend_width, outside, row_at, rows_for, widely};
 
 use crate::extent::{bounds_with, with_corner};
@@ -13,7 +14,7 @@ use svg_writer::Bounds;
 
 /// How many rows a column has where there are so many lines: at least 12, and at least twice the root of their number.
 fn rows_for(lines: u32) -> u32
-    requires { lines ≤ 1000000 }
+    requires { lines ≤ 1000 }
     ensures value { result ≡ rows_for lines }
     ensures some { 0 < result }
 {
@@ -26,9 +27,9 @@ fn rows_for(lines: u32) -> u32
 
 /// How wide the legend is.
 fn legend_width(lines: u32, widest: u32) -> u64
-    requires { lines ≤ 1000000 }
+    requires { lines ≤ 1000 }
     ensures value { result ≡ legend_width lines widest }
-    ensures small { result ≤ 500000000000 }
+    ensures small { result ≤ 370000000000 }
 {
     let rows = u64::from(rows_for(lines));
     let columns = (u64::from(lines) + rows - 1) / rows;
@@ -37,9 +38,9 @@ fn legend_width(lines: u32, widest: u32) -> u64
 
 /// How high it is.
 fn legend_height(lines: u32) -> u64
-    requires { lines ≤ 1000000 }
+    requires { lines ≤ 1000 }
     ensures value { result ≡ legend_height lines }
-    ensures small { result ≤ 45000000 }
+    ensures small { result ≤ 45000 }
 {
     (45 * u64::from(lines.min(rows_for(lines)))).saturating_sub(15)
 }
@@ -61,8 +62,12 @@ pub fn legend_of(
     widest: u32,
 ) -> Option<Legend>
     requires pitch { pitch ≤ 200 }
-    requires lines { lines ≤ 1000000 }
-    ensures { result ≡ legend_of pitch plan.now printed.now lines widest }
+    requires lines { lines ≤ 1000 }
+    ensures value { result ≡ legend_of pitch plan.now printed.now lines widest }
+    ensures x { IfSome result (λ legend. unsigned_abs legend.start.x ≤ 919755813888) }
+    ensures y { IfSome result (λ legend. unsigned_abs legend.start.y ≤ 549755858888) }
+    ensures rows { IfSome result (λ legend. 0 < legend.rows) }
+    ensures column { IfSome result (λ legend. legend.column ≤ 4294967445) }
 {
     if lines == 0 {
         return None;
@@ -78,9 +83,11 @@ pub fn legend_of(
 /// Its upper left point: in the first corner of the map that is clear, else beside the map.
 fn legend_start(pitch: u32, plan: &Plan, printed: &[Printed], width: u64, height: u64) -> Corner
     requires pitch { pitch ≤ 200 }
-    requires width { width ≤ 500000000000 }
-    requires height { height ≤ 45000000 }
-    ensures { result ≡ legend_start pitch plan.now printed.now width height }
+    requires width { width ≤ 370000000000 }
+    requires height { height ≤ 45000 }
+    ensures value { result ≡ legend_start pitch plan.now printed.now width height }
+    ensures x { unsigned_abs result.x ≤ 919755813888 }
+    ensures y { unsigned_abs result.y ≤ 549755858888 }
 {
     let bounds = bounds_with(pitch, plan, printed);
     for corner in &corners_for(bounds, width, height) {
@@ -93,9 +100,9 @@ fn legend_start(pitch: u32, plan: &Plan, printed: &[Printed], width: u64, height
 
 /// Its upper left point in each corner of bounds.
 fn corners_for(b: Bounds, width: u64, height: u64) -> [Corner; 4]
-    requires bounds { AreBounds b }
-    requires width { width ≤ 500000000000 }
-    requires height { height ≤ 45000000 }
+    requires bounds { AreNear b }
+    requires width { width ≤ 370000000000 }
+    requires height { height ≤ 45000 }
     ensures { result ≡ corners_for b width height }
 {
     let (right, low) = (b.right - width as i64, b.bottom - height as i64);
@@ -112,8 +119,8 @@ fn corners_for(b: Bounds, width: u64, height: u64) -> [Corner; 4]
 
 /// From a number so far on, and 30 further on each side.
 fn widely(z: i64, long: u64) -> Interval
-    requires z { unsigned_abs z ≤ 2199023255552 }
-    requires long { long ≤ 500000000000 }
+    requires z { unsigned_abs z ≤ 1099511627776 }
+    requires long { long ≤ 370000000000 }
     ensures { result ≡ widely z long }
 {
     Interval {
@@ -162,7 +169,7 @@ fn meets_printed(pitch: u32, plan: &Plan, printed: &[Printed], shape: Shape) -> 
 
 /// Beside the map: to the right of one that is no wider than it is high, and else below it.
 fn outside(b: Bounds) -> Corner
-    requires { AreBounds b }
+    requires { AreNear b }
     ensures { result ≡ outside b }
 {
     if b.right - b.left <= b.bottom - b.top {
@@ -179,7 +186,13 @@ fn outside(b: Bounds) -> Corner
 }
 
 /// Where row `i` of a legend is.
-pub fn row_at(legend: Legend, i: u32) -> Corner {
+pub fn row_at(legend: Legend, i: u32) -> Corner
+    requires x { unsigned_abs legend.start.x ≤ 919755813888 }
+    requires y { unsigned_abs legend.start.y ≤ 549755858888 }
+    requires rows { 0 < legend.rows }
+    requires column { legend.column ≤ 4294967445 }
+    ensures { result ≡ row_at legend i }
+{
     let (column, row) = (i / legend.rows, i % legend.rows);
     Corner {
         x: legend.start.x + (legend.column * u64::from(column)) as i64,
@@ -188,7 +201,13 @@ pub fn row_at(legend: Legend, i: u32) -> Corner {
 }
 
 /// Bounds that hold the legend of so many lines too.
-pub fn bounds_beside(b: Bounds, lines: u32, widest: u32, legend: Option<Legend>) -> Bounds {
+pub fn bounds_beside(b: Bounds, lines: u32, widest: u32, legend: Option<Legend>) -> Bounds
+    requires bounds { AreNear b }
+    requires lines { lines ≤ 1000 }
+    requires x { IfSome legend (λ l. unsigned_abs l.start.x ≤ 919755813888) }
+    requires y { IfSome legend (λ l. unsigned_abs l.start.y ≤ 549755858888) }
+    ensures { result ≡ bounds_beside b lines widest legend }
+{
     match legend {
         None => b,
         Some(legend) => {

@@ -1,7 +1,8 @@
 //! What names take up at their places, and where their texts stand.
 
 ghost use Rattle.std.specs.Prelude.{◌≡◌, ◌≤◌, ◌+◌, ◌*◌, unsigned_abs};
-ghost use Rattle.eight_sides.specs.Shapes.{IsNear, IsShort, IsShortShape};
+ghost use Rattle.eight_sides.specs.Shapes.{IsNear, IsShort};
+ghost use Rattle.poster_layout.specs.Extents.{IsNearShape};
 ghost use Rattle.poster_plan.specs.Places.{anchor_at, backwards, beside, corner_gap, gap, half_width, lean, long, offset, onwards, place_shape, places_in, sides, size, slant, tenth, text_spot, turn_at, width};
 
 use eight_sides::{Interval, Shape, around, slanted, slanted_length, upright};
@@ -207,7 +208,7 @@ fn sides(sign: Sign, step: Step, place: Place) -> (Interval, Interval)
 pub fn place_shape(sign: Sign, step: Step, place: Place) -> Shape
     requires { IsNear sign.centre }
     ensures value { result ≡ place_shape sign step place }
-    ensures short { IsShortShape result }
+    ensures near { IsNearShape result }
 {
     let (first, second) = sides(sign, step, place);
     match turn_at(place) {

@@ -2,6 +2,7 @@
 
 ghost use Rattle.std.specs.Prelude.{◌≡◌, ◌≤◌};
 ghost use Rattle.eight_sides.specs.Shapes.{IsNear, IsShortShape};
+ghost use Rattle.poster_layout.specs.Extents.{IsNearShape};
 ghost use Rattle.poster_plan.specs.Signs.{ground_at, mark_at, piece_at, sign_of};
 ghost use Rattle.poster_plan.specs.Placing.{mark_numbered, printed_shape};
 
@@ -45,7 +46,7 @@ pub fn mark_numbered(plan: &Plan, i: u32) -> Mark
 pub fn printed_shape(pitch: u32, plan: &Plan, name: Printed) -> Shape
     requires { pitch ≤ 200 }
     ensures value { result ≡ printed_shape pitch plan.now name }
-    ensures short { IsShortShape result }
+    ensures near { IsNearShape result }
 {
     let sign = sign_of(pitch, mark_numbered(plan, name.mark));
     place_shape(sign, name.step, name.place)

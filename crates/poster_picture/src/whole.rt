@@ -50,7 +50,7 @@ pub fn poster(
     write_sheet(alloc, sheet, &plan, &texts, layout.printed.as_slice())
 }
 
-/// The text of a sheet, with these names.
+/// The text of a sheet, with these names. A line graph has no more than 1,000 lines: for more there is no room.
 fn write_sheet(
     alloc: Global,
     sheet: Sheet<'_>,
@@ -59,6 +59,9 @@ fn write_sheet(
     printed: &[Printed],
 ) -> Result<Vec<u8>, NoMemory> {
     let lines = lines_shown(alloc, sheet.names.lines.as_slice().len(), sheet.graph)?;
+    if lines.len() > 1000 {
+        return Err(NoMemory);
+    }
     let widest = widest(sheet.names, lines.as_slice())?;
     let count = lines.len() as u32;
     let legend = legend_of(sheet.pitch, plan, printed, count, widest);
