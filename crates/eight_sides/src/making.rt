@@ -1,6 +1,6 @@
 //! What stations, straight pieces and names take up.
 
-ghost use Rattle.std.specs.Prelude.{◌≡◌, ◌≤◌, ◌+◌, ◌*◌, unsigned_abs};
+ghost use Rattle.std.specs.Prelude.{◌≡◌, ◌≤◌, ◌≤ℤ◌, ◌+◌, ◌*◌, ◌+ℤ◌, ◌*ℤ◌, pos, unsigned_abs};
 ghost use Rattle.eight_sides.specs.Shapes.{around, between, half_above, half_below, is_upright, mark_shape, piece_reach, piece_shape, slanted, slanted_length, upright, IsFar, IsNear, IsShort, IsShortShape};
 
 use crate::interval::Interval;
@@ -77,7 +77,10 @@ pub fn slanted(difference: Interval, sum: Interval) -> Shape
 
 /// Half of a number, rounded down.
 fn half_below(z: i64) -> i64
-    ensures { result ≡ half_below z }
+    requires { unsigned_abs z ≤ 8796093022208 }
+    ensures value { result ≡ half_below z }
+    ensures low { (pos 2 *ℤ result) ≤ℤ z }
+    ensures high { z ≤ℤ (pos 2 *ℤ result +ℤ pos 1) }
 {
     z.div_euclid(2)
 }
@@ -85,9 +88,11 @@ fn half_below(z: i64) -> i64
 /// Half of a number, rounded up.
 fn half_above(z: i64) -> i64
     requires { unsigned_abs z ≤ 4398046511104 }
-    ensures { result ≡ half_above z }
+    ensures value { result ≡ half_above z }
+    ensures low { (pos 2 *ℤ result) ≤ℤ (z +ℤ pos 1) }
+    ensures high { z ≤ℤ (pos 2 *ℤ result) }
 {
-    (z + 1).div_euclid(2)
+    half_below(z + 1)
 }
 
 /// How much x - y or x + y changes over a length on a slant, at most.

@@ -1,10 +1,13 @@
 -- A vote over names, one name after another.
-use Rattle.std.proofs.Common.{◌≡◌, ℕ, ◌+◌, ◌-◌, ◌*◌, ◌<◌, ◌≤◌, Bool, true, false, cond, List, [], ◌∷◌, ◌++◌, length, Option, Some, None, refl, ap, subst, sym, ◌∙◌, arith, length-append, filter}
-use Rattle.std.specs.Prelude.{bytes_eq}
+use Rattle.std.proofs.Common.{◌≡◌, ℕ, ◌+◌, ◌-◌, ◌*◌, ◌/◌, ◌<◌, ◌≤◌, Bool, true, false, cond, List, [], ◌∷◌, ◌++◌, length, Option, Some, None, refl, ap, subst, sym, ◌∙◌, arith, length-append, filter, get_or, take}
+use Rattle.std.specs.Prelude.{bytes_eq, nat_lt}
 use Rattle.std.proofs.lemmas.List.Elements.{filter-append}
 use Rattle.std.proofs.lemmas.Slice.Eq.{bytes_eq-Decides}
-use Rattle.name_widths.specs.Words.{begins_with, count_with, has_word, parts}
-use Rattle.name_widths.specs.Votes.{IsVote}
+use Rattle.name_widths.specs.Words.{begins_with, count_with, has_word, is_common, parts}
+use Rattle.std.specs.Borrow.{Bor}
+use Rattle.std.proofs.lemmas.Bool.Decides.{nat_tests}
+use Rattle.std.proofs.lemmas.List.{length-map, map-append, take_more}
+use Rattle.name_widths.specs.Votes.{texts_of, IsVote}
 
 -- one name more
 pub count_more : (names : List (List ℕ)) (name word : List ℕ) → count_with (names ++ name ∷ []) word ≡ count_with names word + cond (begins_with word name) 1 0
@@ -49,7 +52,7 @@ vote_of_none names name word lead e vote = record {
   behind = λ other differs. omega (arith, vote.behind other differs, same other, one_more names name);
 }
   where
-    same : (w : List ℕ) → count_with (names ++ name ∷ []) w ≡ count_with names w
+    same : (w : List ℕ) → count_with (names ++ name ∷ []) w ≡ count_with names w + 0
     same w = count_more names name w ∙ ap (λ (b : Bool). count_with names w + cond b 1 0) (begins_not name w e)
 
 -- a name with the word that leads
@@ -100,3 +103,47 @@ vote_against names name word lead p e differs some vote = record {
     by_test : (other : List ℕ) → bytes_eq word other ≡ false → (b : Bool) → count_with (names ++ name ∷ []) other ≡ count_with names other + cond b 1 0 → 2 * count_with (names ++ name ∷ []) other + (lead - 1) ≤ length (names ++ name ∷ [])
     by_test other differ true f = omega (arith, vote.behind other differ, f, one_more names name)
     by_test other differ false f = omega (arith, vote.behind other differ, f, one_more names name)
+
+-- the texts of one lent name more
+pub texts_more : (names : List (Bor (List ℕ))) (i : ℕ) (d name : Bor (List ℕ)) → i < length names → get_or names i d ≡ name → texts_of (take (i + 1) names) ≡ texts_of (take i names) ++ name.now ∷ []
+texts_more names i d name low is =
+    ap texts_of (take_more names i d low) ∙ map-append (λ (n : Bor (List ℕ)). n.now) (take i names) (get_or names i d ∷ []) ∙ ap (λ (n : Bor (List ℕ)). texts_of (take i names) ++ n.now ∷ []) is
+
+-- no name
+pub no_vote : (word : List ℕ) → IsVote [] word 0
+no_vote word = record { ahead = omega arith; behind = λ other differs. omega arith }
+
+-- ---- what a vote decides
+
+lt_true : (m n : ℕ) → m < n → nat_lt m n ≡ true
+lt_true m n h = grind (arith, nat_tests)
+
+lt_false : (m n : ℕ) → n ≤ m → nat_lt m n ≡ false
+lt_false m n h = grind (arith, nat_tests)
+
+-- no other word is that of more than half
+abbrev pub Leads : List (Bor (List ℕ)) → List ℕ → Type 0
+Leads names word = (other : List ℕ) → bytes_eq word other ≡ false → 2 * count_with (texts_of names) other ≤ length names
+
+texts_count : (names : List (Bor (List ℕ))) → length (texts_of names) ≡ length names
+texts_count names = length-map (λ (n : Bor (List ℕ)). n.now) names
+
+pub common_is : (names : List (Bor (List ℕ))) (word other : List ℕ) → Leads names word → length names / 2 < count_with (texts_of names) word → is_common (texts_of names) other ≡ bytes_eq word other
+common_is names word other leads many = by_test (bytes_eq word other) refl
+  where
+    by_test : (b : Bool) → bytes_eq word other ≡ b → is_common (texts_of names) other ≡ b
+    by_test true e =
+        let same : word ≡ other = (bytes_eq-Decides word other).0 e in
+        let count : count_with (texts_of names) word ≡ count_with (texts_of names) other = ap (count_with (texts_of names)) same in
+        lt_true (length (texts_of names)) (2 * count_with (texts_of names) other) (omega (arith, texts_count names))
+    by_test false e = lt_false (length (texts_of names)) (2 * count_with (texts_of names) other) (omega (arith, texts_count names, leads other e))
+
+pub none_is_common : (names : List (Bor (List ℕ))) (word other : List ℕ) → Leads names word → count_with (texts_of names) word ≤ length names / 2 → is_common (texts_of names) other ≡ false
+none_is_common names word other leads few = by_test (bytes_eq word other) refl
+  where
+    by_test : (b : Bool) → bytes_eq word other ≡ b → is_common (texts_of names) other ≡ false
+    by_test true e =
+        let same : word ≡ other = (bytes_eq-Decides word other).0 e in
+        let count : count_with (texts_of names) word ≡ count_with (texts_of names) other = ap (count_with (texts_of names)) same in
+        lt_false (length (texts_of names)) (2 * count_with (texts_of names) other) (omega (arith, texts_count names))
+    by_test false e = lt_false (length (texts_of names)) (2 * count_with (texts_of names) other) (omega (arith, texts_count names, leads other e))

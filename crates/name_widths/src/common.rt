@@ -61,7 +61,7 @@ fn leading_word<'a>(names: &[&'a str]) -> &'a str
 
 /// A vote after one name more.
 fn with_vote<'a>(vote: Vote<'a>, name: &'a str) -> Vote<'a>
-    requires { vote.entry.lead < usize.MAX }
+    requires { vote.lead < usize.MAX }
     ensures vote { (names : List (List ℕ)) → IsVote names vote.entry.word.now vote.entry.lead → IsVote (names ++ name.now ∷ []) result.word.now result.lead }
     ensures lead { result.lead ≤ vote.entry.lead + 1 }
 {

@@ -14,7 +14,7 @@ use svg_writer::{ends_of, lines_of, most_lines, name_of};
 /// The lines that end at a node, rising: those that call there, are on exactly one of its segments, and have a name of one
 /// to five characters.
 pub fn ending(alloc: Global, served: Served<'_>, n: NodeId) -> Result<Vec<LineId>, NoMemory>
-    requires { n.0 < length served.entry.graph.now.kinds }
+    requires { n.0 < length served.graph.now.kinds }
     ensures { IfOk result (λ lines. lines.items ≡ ending served.entry.names.now served.entry.graph.now served.entry.callers.now n.0) }
 {
     let mut lines = Vec::new(alloc);
@@ -28,7 +28,7 @@ pub fn ending(alloc: Global, served: Served<'_>, n: NodeId) -> Result<Vec<LineId
 
 /// Whether a line that calls at a node ends there.
 fn is_end(served: Served<'_>, n: NodeId, line: LineId) -> bool
-    requires { n.0 < length served.entry.graph.now.kinds }
+    requires { n.0 < length served.graph.now.kinds }
     ensures { result ≡ is_end served.entry.names.now served.entry.graph.now n.0 line }
 {
     segments_with(served.graph, n, line) == 1 && is_short(name_of(served.names, line))
@@ -66,7 +66,7 @@ pub fn is_interchange(graph: &LineGraph, callers: &Sequence<Sequence<LineId>>, n
 
 /// How far a station reaches from its centre. For more lines than can be reckoned with there is no room.
 pub(crate) fn radius_at(served: Served<'_>, n: NodeId) -> Result<u32, NoMemory>
-    requires { n.0 < length served.entry.graph.now.kinds }
+    requires { n.0 < length served.graph.now.kinds }
     ensures { IfOk result (λ r. r ≡ radius_at served.entry.graph.now served.entry.callers.now n.0) }
 {
     let most = most_lines(served.graph, served.graph.round(n));
@@ -83,7 +83,7 @@ pub(crate) fn radius_at(served: Served<'_>, n: NodeId) -> Result<u32, NoMemory>
 
 /// Whether all segments of a node leave it to the east or to the west.
 pub(crate) fn leaves_level(served: Served<'_>, n: NodeId) -> bool
-    requires { n.0 < length served.entry.graph.now.kinds }
+    requires { n.0 < length served.graph.now.kinds }
     ensures { result ≡ leaves_level served.entry.graph.now served.entry.drawing.now.walks n.0 }
 {
     for s in served.graph.round(n) {

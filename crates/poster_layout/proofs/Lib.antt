@@ -1,5 +1,5 @@
 mod Members
-mod Cells
+mod Reaching
 mod Searching
 mod Putting
 mod Rooming

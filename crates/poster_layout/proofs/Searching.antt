@@ -13,7 +13,7 @@ use Rattle.poster_layout.specs.Cells.{buckets_of, cells_of}
 use Rattle.poster_plan.specs.Things.{clash}
 use Rattle.poster_layout.specs.Tables.{bucket_at, hits_by_cells, hits_in, hits_some, no_thing, thing_at, IsFound, IsTable}
 use Rattle.poster_layout.proofs.Members.{any_from, any_some}
-use Rattle.poster_layout.proofs.Cells.{shapes_share}
+use Rattle.poster_layout.proofs.Reaching.{shapes_share}
 
 or_left : (a b : Bool) → a ≡ true → (a || b) ≡ true
 or_left true b e = refl

@@ -1,6 +1,6 @@
 use Rattle.std.proofs.Common.{pos, ◌+ℤ◌, ◌-ℤ◌, arith}
 use Rattle.std.proofs.lemmas.Int.{ints}
-use Rattle.eight_sides.proofs.Making.{same_interval}
+use Rattle.eight_sides.proofs.Computed.{same_interval}
 use Rattle.eight_sides.proofs.making.around.Goals as goal
 
 pub returns-clause-value : goal.returns-clause-value

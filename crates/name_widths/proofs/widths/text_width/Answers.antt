@@ -12,9 +12,9 @@ loop-c-preserved c =
     let t = YieldsList-turn (YieldsList-from_chars c.args.text.now c.utf8.text cc) c.loop-c.yielded _ c.loop-c.yielded_by _ _ c.in-Some.c c.in-Some.is c.next.ensures.steps in
     record {
       value =
-          sum_more char_width (chars c.args.text.now) (length c.loop-c.yielded) c.in-Some.c c.in-Some.c c.loop-c.width (c.loop-c.width + c.char_width.result) t.0 t.1 (ap (λ (n : ℕ). c.loop-c.width + n) c.char_width.ensures.value) c.loop-c.invariant.value
+          sum_more char_width (chars c.args.text.now) (length c.loop-c.yielded) c.in-Some.c c.in-Some.c c.loop-c.width (c.loop-c.width + c.char_width-width.result) t.0 t.1 (ap (λ (n : ℕ). c.loop-c.width + n) c.char_width-width.ensures.value) c.loop-c.invariant.value
           ∙ ap (λ (n : ℕ). sum_by char_width (take n (chars c.args.text.now))) (sym (length_push c.loop-c.yielded c.in-Some.c));
-      small = omega (arith, c.char_width.ensures.small);
+      small = omega (arith, c.char_width-width.ensures.small);
     }
 
 pub returns-clause-value : goal.returns-clause-value

@@ -1,7 +1,8 @@
 -- Intervals and shapes as they are computed.
-use Rattle.std.proofs.Common.{◌≡◌, ℤ, ap, ◌∙◌}
+use Rattle.std.proofs.Common.{◌≡◌, ℕ, ℤ, ap, ◌∙◌}
 use Rattle.eight_sides.specs.declared.interval.Interval.{Interval}
 use Rattle.eight_sides.specs.declared.shape.Shape.{Shape}
+use Rattle.eight_sides.specs.Shapes.{around, between}
 
 pub same_interval : (a b c d : ℤ) → a ≡ c → b ≡ d → (let i : Interval = record { least = a; greatest = b } in i) ≡ record { least = c; greatest = d }
 same_interval a b c d e f = ap (λ (z : ℤ). let i : Interval = record { least = z; greatest = b } in i) e ∙ ap (λ (z : ℤ). let i : Interval = record { least = c; greatest = z } in i) f
@@ -13,3 +14,9 @@ same_shape a b c d e f g h p q r t =
     ∙ ap (λ (i : Interval). let s : Shape = record { across = e; down = i; difference = c; sum = d } in s) q
     ∙ ap (λ (i : Interval). let s : Shape = record { across = e; down = f; difference = i; sum = d } in s) r
     ∙ ap (λ (i : Interval). let s : Shape = record { across = e; down = f; difference = g; sum = i } in s) t
+
+pub around_same : (x y : ℤ) (m n : ℕ) → x ≡ y → m ≡ n → around x m ≡ around y n
+around_same x y m n e f = ap (λ (z : ℤ). around z m) e ∙ ap (around y) f
+
+pub between_same : (a b x y : ℤ) (m n : ℕ) → a ≡ x → b ≡ y → m ≡ n → between a b m ≡ between x y n
+between_same a b x y m n e f g = ap (λ (z : ℤ). between z b m) e ∙ ap (λ (z : ℤ). between x z m) f ∙ ap (between x y) g
