@@ -126,7 +126,7 @@ abbrev pub Leads : List (Bor (List ℕ)) → List ℕ → Type 0
 Leads names word = (other : List ℕ) → bytes_eq word other ≡ false → 2 * count_with (texts_of names) other ≤ length names
 
 texts_count : (names : List (Bor (List ℕ))) → length (texts_of names) ≡ length names
-texts_count names = length-map (λ (n : Bor (List ℕ)). n.now) names
+texts_count names = length-map names (λ (n : Bor (List ℕ)). n.now)
 
 pub common_is : (names : List (Bor (List ℕ))) (word other : List ℕ) → Leads names word → length names / 2 < count_with (texts_of names) word → is_common (texts_of names) other ≡ bytes_eq word other
 common_is names word other leads many = by_test (bytes_eq word other) refl

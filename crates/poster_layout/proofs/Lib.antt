@@ -1,5 +1,7 @@
 mod Members
 mod Reaching
+mod Rows
 mod Searching
 mod Putting
 mod Rooming
+mod Finding

@@ -21,9 +21,13 @@ count_of c = min (c.right + 1 - c.left) 1048576 * min (c.bottom + 1 - c.top) 104
 abbrev pub bucket_of : ℕ → ℕ → ℕ → ℕ
 bucket_of column row buckets = (column + 8191 * row) % buckets
 
--- the buckets of the cells of a row, and those of all rows
+-- the buckets of so many cells of a row
+abbrev pub buckets_along : ℕ → ℕ → ℕ → ℕ → List ℕ
+buckets_along buckets row from count = map (λ (column : ℕ). bucket_of column row buckets) (range_with_len from count)
+
+-- those of the cells of a row, and of all rows
 abbrev pub row_buckets : ℕ → Cells → ℕ → List ℕ
-row_buckets buckets c row = map (λ (column : ℕ). bucket_of column row buckets) (range_with_len c.left (c.right + 1 - c.left))
+row_buckets buckets c row = buckets_along buckets row c.left (c.right + 1 - c.left)
 
 abbrev pub buckets_of : ℕ → Cells → List ℕ
 buckets_of buckets c = flat_map (row_buckets buckets c) (range_with_len c.top (c.bottom + 1 - c.top))
