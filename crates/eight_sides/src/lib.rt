@@ -3,11 +3,13 @@
 //! are told as closely as upright ones. Two shapes that share a point of the plane meet.
 #![tactic(auto)]
 
+mod frame;
 mod interval;
 mod laws;
 mod making;
 mod shape;
 
+pub use frame::{Frame, frame_at, widened};
 pub use interval::Interval;
 pub use laws::{a_disc_lies_in_its_mark, shapes_that_share_a_point_meet};
 pub use making::{around, between, mark_shape, piece_shape, slanted, slanted_length, upright};

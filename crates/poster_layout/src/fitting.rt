@@ -5,7 +5,7 @@ ghost use Rattle.poster_plan.specs.Placing.{named, printed_names};
 ghost use Rattle.poster_plan.specs.Pitches.{first_pitch, fits, is_better, is_roomy, pitch_of};
 ghost use Rattle.poster_layout.specs.Fits.{best_of, IsLaid};
 
-use crate::extent::{bounds_with, is_small};
+use crate::extent::{frame_with, is_small};
 use crate::laying::{Laid, lay_out, named};
 use crate::roomy::is_roomy;
 use map_base::{NoMemory, Sequence};
@@ -77,7 +77,7 @@ fn fits(plan: &Plan, laid: &Laid) -> bool
     requires pitch { laid.now.pitch ≤ 200 }
     ensures { result ≡ fits plan.now laid.now.pitch }
 {
-    is_small(bounds_with(laid.pitch, plan, laid.printed.as_slice()))
+    is_small(frame_with(laid.pitch, plan, laid.printed.as_slice()))
 }
 
 /// Whether fewer names are over lines or left out than at another pitch, or as many, and fewer are not in full size.

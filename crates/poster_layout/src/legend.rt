@@ -1,16 +1,14 @@
 //! Where the legend stands.
 
 ghost use Rattle.std.specs.Prelude.{◌≡◌, ◌≤◌, ◌<◌, unsigned_abs, IfSome};
-ghost use Rattle.svg_writer.specs.Elements.{AreBounds};
-ghost use Rattle.poster_layout.specs.Extents.{AreNear};
-ghost use Rattle.poster_plan.specs.Legends.{bounds_beside, column_for, corners_for, is_clear_of_all, legend_height, legend_of, legend_shape, legend_start, legend_width, outside, row_at, rows_for, widely};
+ghost use Rattle.poster_layout.specs.Extents.{IsDrawnFrame, IsNearFrame};
+ghost use Rattle.poster_plan.specs.Legends.{frame_beside, column_for, corners_for, is_clear_of_all, legend_height, legend_of, legend_shape, legend_start, legend_width, outside, row_at, rows_for, widely};
 
-use crate::extent::{bounds_with, with_corner};
+use crate::extent::frame_with;
 use crate::signs::{mark_at, piece_at, printed_shape};
-use eight_sides::{Interval, Shape, meet, upright};
+use eight_sides::{Frame, Interval, Shape, meet, upright, widened};
 use line_offsets::Corner;
 use poster_plan::{Legend, Plan, Printed};
-use svg_writer::Bounds;
 
 /// How many rows a column has where there are so many lines: at least 12, and at least twice the root of their number.
 fn rows_for(lines: u32) -> u32
@@ -89,31 +87,40 @@ fn legend_start(pitch: u32, plan: &Plan, printed: &[Printed], width: u64, height
     ensures x { unsigned_abs result.x ≤ 919755813888 }
     ensures y { unsigned_abs result.y ≤ 549755858888 }
 {
-    let bounds = bounds_with(pitch, plan, printed);
-    for corner in &corners_for(bounds, width, height) {
+    let frame = frame_with(pitch, plan, printed);
+    for corner in &corners_for(frame, width, height) {
         if is_clear_of_all(pitch, plan, printed, legend_shape(width, height, *corner)) {
             return *corner;
         }
     }
-    outside(bounds)
+    outside(frame)
 }
 
-/// Its upper left point in each corner of bounds.
-fn corners_for(b: Bounds, width: u64, height: u64) -> [Corner; 4]
-    requires bounds { AreNear b }
+/// Its upper left point in each corner of a frame.
+fn corners_for(f: Frame, width: u64, height: u64) -> [Corner; 4]
+    requires frame { IsNearFrame f }
     requires width { width ≤ 370000000000 }
     requires height { height ≤ 45000 }
-    ensures { result ≡ corners_for b width height }
+    ensures { result ≡ corners_for f width height }
 {
-    let (right, low) = (b.right - width as i64, b.bottom - height as i64);
+    let (right, low) = (
+        f.across.greatest - width as i64,
+        f.down.greatest - height as i64,
+    );
     [
-        Corner { x: right, y: b.top },
         Corner {
-            x: b.left,
-            y: b.top,
+            x: right,
+            y: f.down.least,
+        },
+        Corner {
+            x: f.across.least,
+            y: f.down.least,
         },
         Corner { x: right, y: low },
-        Corner { x: b.left, y: low },
+        Corner {
+            x: f.across.least,
+            y: low,
+        },
     ]
 }
 
@@ -168,19 +175,19 @@ fn meets_printed(pitch: u32, plan: &Plan, printed: &[Printed], shape: Shape) -> 
 }
 
 /// Beside the map: to the right of one that is no wider than it is high, and else below it.
-fn outside(b: Bounds) -> Corner
-    requires { AreNear b }
-    ensures { result ≡ outside b }
+fn outside(f: Frame) -> Corner
+    requires { IsNearFrame f }
+    ensures { result ≡ outside f }
 {
-    if b.right - b.left <= b.bottom - b.top {
+    if f.across.greatest - f.across.least <= f.down.greatest - f.down.least {
         Corner {
-            x: b.right + 30,
-            y: b.top,
+            x: f.across.greatest + 30,
+            y: f.down.least,
         }
     } else {
         Corner {
-            x: b.left,
-            y: b.bottom + 30,
+            x: f.across.least,
+            y: f.down.greatest + 30,
         }
     }
 }
@@ -200,22 +207,23 @@ pub fn row_at(legend: Legend, i: u32) -> Corner
     }
 }
 
-/// Bounds that hold the legend of so many lines too.
-pub fn bounds_beside(b: Bounds, lines: u32, widest: u32, legend: Option<Legend>) -> Bounds
-    requires bounds { AreNear b }
+/// A frame that holds the legend of so many lines too.
+pub fn frame_beside(f: Frame, lines: u32, widest: u32, legend: Option<Legend>) -> Frame
+    requires frame { IsNearFrame f }
     requires lines { lines ≤ 1000 }
     requires x { IfSome legend (λ l. unsigned_abs l.start.x ≤ 919755813888) }
     requires y { IfSome legend (λ l. unsigned_abs l.start.y ≤ 549755858888) }
-    ensures { result ≡ bounds_beside b lines widest legend }
+    ensures value { result ≡ frame_beside f lines widest legend }
+    ensures drawn { IsDrawnFrame result }
 {
     match legend {
-        None => b,
+        None => f,
         Some(legend) => {
             let end = Corner {
                 x: legend.start.x + legend_width(lines, widest) as i64,
                 y: legend.start.y + legend_height(lines) as i64,
             };
-            with_corner(with_corner(b, legend.start), end)
+            widened(widened(f, legend.start), end)
         }
     }
 }

@@ -14,8 +14,8 @@ mod signs;
 mod table;
 mod things;
 
-pub use extent::bounds_with;
+pub use extent::frame_with;
 pub use fitting::{Layout, layout_of};
-pub use legend::{bounds_beside, legend_of, row_at};
+pub use legend::{frame_beside, legend_of, row_at};
 pub use places::{tenth, text_spot};
 pub use signs::{mark_numbered, sign_of};

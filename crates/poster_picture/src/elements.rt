@@ -1,14 +1,15 @@
 //! The elements of a poster, each a line (SVG 1.1).
 
 ghost use Rattle.std.specs.Prelude.{◌≡◌, ◌++◌, ◌∷◌, [], OnOk, string_bytes};
-ghost use Rattle.svg_writer.specs.Elements.{AreBounds};
+ghost use Rattle.poster_layout.specs.Extents.{IsDrawnFrame};
 ghost use Rattle.poster_rules.specs.Elements.{element_text, group_text, view_place, view_size, texts, Head, Ground, Opens, Closes, OnSegment, BehindOnSegment, AtNode, BehindAtNode, Station, Stroke, RowName, Tail};
 
 use crate::pieces::{push_classes, push_stroke, push_width};
+use eight_sides::Frame;
 use line_offsets::Corner;
 use map_base::{LineId, NoMemory};
 use svg_writer::{
-    Bounds, push_corner, push_escaped, push_ids, push_integer, push_natural, push_path, push_place,
+    push_corner, push_escaped, push_ids, push_integer, push_natural, push_path, push_place,
     push_title,
 };
 
@@ -29,30 +30,30 @@ pub(crate) enum Group {
 }
 
 /// Where the view of a frame begins, which is 60 units wider on each side.
-fn view_place(b: Bounds) -> Corner
-    requires { AreBounds b }
-    ensures { result ≡ view_place b }
+fn view_place(f: Frame) -> Corner
+    requires { IsDrawnFrame f }
+    ensures { result ≡ view_place f }
 {
     Corner {
-        x: b.left - 60,
-        y: b.top - 60,
+        x: f.across.least - 60,
+        y: f.down.least - 60,
     }
 }
 
 /// How wide and high it is.
-fn view_size(b: Bounds) -> Corner
-    requires { AreBounds b }
-    ensures { result ≡ view_size b }
+fn view_size(f: Frame) -> Corner
+    requires { IsDrawnFrame f }
+    ensures { result ≡ view_size f }
 {
     Corner {
-        x: (b.right - b.left) + 120,
-        y: (b.bottom - b.top) + 120,
+        x: (f.across.greatest - f.across.least) + 120,
+        y: (f.down.greatest - f.down.least) + 120,
     }
 }
 
 /// Appends the head.
-pub(crate) fn push_head(text: &mut String, frame: Bounds) -> Result<(), NoMemory>
-    requires { AreBounds frame }
+pub(crate) fn push_head(text: &mut String, frame: Frame) -> Result<(), NoMemory>
+    requires { IsDrawnFrame frame }
     ensures { OnOk result (string_bytes text.new ≡ string_bytes text.old ++ element_text (Head frame)) }
 {
     text.push_str("<svg xmlns=\"http://www.w3.org/2000/svg\" version=\"1.1\" viewBox=\"")?;
@@ -64,8 +65,8 @@ pub(crate) fn push_head(text: &mut String, frame: Bounds) -> Result<(), NoMemory
 }
 
 /// Appends the white ground.
-pub(crate) fn push_ground(text: &mut String, frame: Bounds) -> Result<(), NoMemory>
-    requires { AreBounds frame }
+pub(crate) fn push_ground(text: &mut String, frame: Frame) -> Result<(), NoMemory>
+    requires { IsDrawnFrame frame }
     ensures { OnOk result (string_bytes text.new ≡ string_bytes text.old ++ element_text (Ground frame)) }
 {
     let size = view_size(frame);

@@ -9,15 +9,16 @@ use crate::names::push_all_names;
 use crate::rows::push_rows;
 use crate::sheet::Sheet;
 use crate::stations::push_all_stations;
+use eight_sides::Frame;
 use graph_core::LineGraph;
 use map_base::{LineId, NoMemory, Sequence};
 use octi_grid::Drawing;
 use order_model::Orders;
 use poster_graph::{Served, Texts, lines_shown, plan_of, texts_of, widest};
-use poster_layout::{bounds_beside, bounds_with, layout_of, legend_of};
+use poster_layout::{frame_beside, frame_with, layout_of, legend_of};
 use poster_plan::{Legend, Plan, Printed};
 use std::alloc::Global;
-use svg_writer::{Bounds, Names};
+use svg_writer::Names;
 
 /// The poster of a line graph (SVG 1.1), with the lines that call at each of its nodes, rising.
 pub fn poster(
@@ -65,8 +66,8 @@ fn write_sheet(
     let widest = widest(sheet.names, lines.as_slice())?;
     let count = lines.len() as u32;
     let legend = legend_of(sheet.pitch, plan, printed, count, widest);
-    let bounds = bounds_with(sheet.pitch, plan, printed);
-    let frame = bounds_beside(bounds, count, widest, legend);
+    let map = frame_with(sheet.pitch, plan, printed);
+    let frame = frame_beside(map, count, widest, legend);
     let mut text = String::new(alloc);
     push_map(alloc, &mut text, sheet, frame)?;
     open_group(&mut text, Group::Names)?;
@@ -82,7 +83,7 @@ fn push_map(
     alloc: Global,
     text: &mut String,
     sheet: Sheet<'_>,
-    frame: Bounds,
+    frame: Frame,
 ) -> Result<(), NoMemory> {
     push_head(text, frame)?;
     push_ground(text, frame)?;

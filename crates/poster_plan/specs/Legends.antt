@@ -2,18 +2,18 @@
 use Rattle.std.specs.Prelude.{ℕ, ◌+◌, ◌-◌, ◌*◌, ◌/◌, ◌%◌, ◌&&◌, not, Bool, nat_le, min, ℤ, pos, ◌+ℤ◌, ◌-ℤ◌, int_le, List, [], ◌∷◌, unwrap_or, Option, Some, None, if◌then◌else◌}
 use Rattle.std.specs.List.{find, list_any, range_with_len}
 use Rattle.line_offsets.specs.declared.corner.Corner.{Corner}
+use Rattle.eight_sides.specs.declared.frame.Frame.{Frame}
 use Rattle.eight_sides.specs.declared.interval.Interval.{Interval}
 use Rattle.eight_sides.specs.declared.shape.Shape.{Shape}
+use Rattle.eight_sides.specs.Frames.{widened}
 use Rattle.eight_sides.specs.Shapes.{meet, upright}
-use Rattle.svg_writer.specs.declared.bounds.Bounds.{Bounds}
-use Rattle.svg_writer.specs.Picture.{widened}
 use Rattle.poster_plan.specs.declared.plan.Mark.{Mark}
 use Rattle.poster_plan.specs.declared.plan.Plan.{Plan}
 use Rattle.poster_plan.specs.declared.layout.Legend.{Legend}
 use Rattle.poster_plan.specs.declared.layout.Printed.{Printed}
 use Rattle.poster_plan.specs.Signs.{mark_at}
 use Rattle.poster_plan.specs.Placing.{meets_piece, meets_printed}
-use Rattle.poster_plan.specs.Pitches.{bounds_with}
+use Rattle.poster_plan.specs.Pitches.{frame_with}
 
 -- how many rows a column has where there are so many lines: at least 12, and at least twice the root of their number
 abbrev pub rows_for : ℕ → ℕ
@@ -30,11 +30,11 @@ legend_width lines widest = column_for widest * ((lines + rows_for lines - 1) / 
 abbrev pub legend_height : ℕ → ℕ
 legend_height lines = 45 * min lines (rows_for lines) - 15
 
--- its upper left point in each corner of bounds: at the upper right, the upper left, the lower right and the lower left
-abbrev pub corners_for : Bounds → ℕ → ℕ → List Corner
-corners_for b w h =
-    record { x = b.right -ℤ pos w; y = b.top } ∷ record { x = b.left; y = b.top }
-    ∷ record { x = b.right -ℤ pos w; y = b.bottom -ℤ pos h } ∷ record { x = b.left; y = b.bottom -ℤ pos h } ∷ []
+-- its upper left point in each corner of a frame: at the upper right, the upper left, the lower right and the lower left
+abbrev pub corners_for : Frame → ℕ → ℕ → List Corner
+corners_for f w h =
+    record { x = f.across.greatest -ℤ pos w; y = f.down.least } ∷ record { x = f.across.least; y = f.down.least }
+    ∷ record { x = f.across.greatest -ℤ pos w; y = f.down.greatest -ℤ pos h } ∷ record { x = f.across.least; y = f.down.greatest -ℤ pos h } ∷ []
 
 -- from a number as far as so much, and 30 further on each side
 abbrev pub widely : ℤ → ℕ → Interval
@@ -50,16 +50,16 @@ is_clear_of_all u plan printed shape =
     not (list_any (λ (m : Mark). meet shape (mark_at u m)) plan.marks) && not (meets_piece u plan shape) && not (meets_printed u plan printed shape)
 
 -- beside the map: to the right of one that is no wider than it is high, and else below it
-abbrev pub outside : Bounds → Corner
-outside b =
-    if int_le (b.right -ℤ b.left) (b.bottom -ℤ b.top) then record { x = b.right +ℤ pos 30; y = b.top }
-    else record { x = b.left; y = b.bottom +ℤ pos 30 }
+abbrev pub outside : Frame → Corner
+outside f =
+    if int_le (f.across.greatest -ℤ f.across.least) (f.down.greatest -ℤ f.down.least) then record { x = f.across.greatest +ℤ pos 30; y = f.down.least }
+    else record { x = f.across.least; y = f.down.greatest +ℤ pos 30 }
 
 -- the first corner that is clear, else beside the map
 abbrev pub legend_start : ℕ → Plan → List Printed → ℕ → ℕ → Corner
 legend_start u plan printed w h =
-    let b = bounds_with u plan printed in
-    unwrap_or (find (λ (c : Corner). is_clear_of_all u plan printed (legend_shape w h c)) (corners_for b w h)) (outside b)
+    let f = frame_with u plan printed in
+    unwrap_or (find (λ (c : Corner). is_clear_of_all u plan printed (legend_shape w h c)) (corners_for f w h)) (outside f)
 
 -- the legend of so many lines, whose widest name is so wide; none of no lines
 abbrev pub legend_of : ℕ → Plan → List Printed → ℕ → ℕ → Option Legend
@@ -72,8 +72,8 @@ legend_of u plan printed lines widest =
 abbrev pub row_at : Legend → ℕ → Corner
 row_at legend i = record { x = legend.start.x +ℤ pos (legend.column * (i / legend.rows)); y = legend.start.y +ℤ pos (15 + 45 * (i % legend.rows)) }
 
--- bounds that hold the legend of so many lines too
-abbrev pub bounds_beside : Bounds → ℕ → ℕ → Option Legend → Bounds
-bounds_beside b lines widest None = b
-bounds_beside b lines widest (Some legend) =
-    widened (widened b legend.start) (record { x = legend.start.x +ℤ pos (legend_width lines widest); y = legend.start.y +ℤ pos (legend_height lines) })
+-- a frame that holds the legend of so many lines too
+abbrev pub frame_beside : Frame → ℕ → ℕ → Option Legend → Frame
+frame_beside f lines widest None = f
+frame_beside f lines widest (Some legend) =
+    widened (widened f legend.start) (record { x = legend.start.x +ℤ pos (legend_width lines widest); y = legend.start.y +ℤ pos (legend_height lines) })

@@ -3,9 +3,8 @@ use Rattle.std.specs.Prelude.{ℕ, ◌+◌, ◌*◌, ◌==◌, ◌&&◌, ◌||�
 use Rattle.std.specs.List.{find, flat_map, list_any, range_with_len}
 use Rattle.line_offsets.specs.declared.corner.Corner.{Corner}
 use Rattle.line_offsets.specs.Shifts.{drawn_at}
-use Rattle.eight_sides.specs.declared.shape.Shape.{Shape}
-use Rattle.svg_writer.specs.declared.bounds.Bounds.{Bounds}
-use Rattle.svg_writer.specs.Picture.{bounds_at, origin, widened}
+use Rattle.eight_sides.specs.declared.frame.Frame.{Frame}
+use Rattle.eight_sides.specs.Frames.{frame_of, origin, shape_corners}
 use Rattle.poster_plan.specs.declared.plan.Mark.{Mark}
 use Rattle.poster_plan.specs.declared.plan.Piece.{Piece}
 use Rattle.poster_plan.specs.declared.plan.Plan.{Plan}
@@ -60,31 +59,22 @@ first_pitch plan = unwrap_or (find (suits plan) pitches) 200
 
 -- ---- the size of the whole
 
--- the least bounds that hold points, those of the origin where there is none
-abbrev pub bounds_of : List Corner → Bounds
-bounds_of [] = bounds_at origin
-bounds_of (c ∷ cs) = fold widened (bounds_at c) cs
-
--- the ends of straight pieces, as far as bounds go all grid points of walks; the origin where there is none
+-- the ends of straight pieces, as far as frames go all grid points of walks; the origin where there is none
 abbrev pub walked_corners : ℕ → List Piece → List Corner
 walked_corners u [] = origin ∷ []
 walked_corners u (p ∷ ps) = flat_map (λ (q : Piece). drawn_at u q.start ∷ drawn_at u q.end ∷ []) (p ∷ ps)
 
--- the least and the greatest x and y of a shape
-abbrev pub shape_corners : Shape → List Corner
-shape_corners s = record { x = s.across.least; y = s.down.least } ∷ record { x = s.across.greatest; y = s.down.greatest } ∷ []
-
--- the least bounds of all grid points of walks and of these names
-abbrev pub bounds_with : ℕ → Plan → List Printed → Bounds
-bounds_with u plan printed = bounds_of (walked_corners u plan.pieces ++ flat_map (λ (p : Printed). shape_corners (printed_shape u plan p)) printed)
+-- the least frame of all grid points of walks and of these names
+abbrev pub frame_with : ℕ → Plan → List Printed → Frame
+frame_with u plan printed = frame_of (walked_corners u plan.pieces ++ flat_map (λ (p : Printed). shape_corners (printed_shape u plan p)) printed)
 
 -- the same of the names that are printed at a pitch
-abbrev pub extent : ℕ → Plan → Bounds
-extent u plan = bounds_with u plan (printed_names u plan)
+abbrev pub extent : ℕ → Plan → Frame
+extent u plan = frame_with u plan (printed_names u plan)
 
 -- 4200 units are enough for the longer side
-abbrev pub is_small : Bounds → Bool
-is_small b = int_le (b.right -ℤ b.left) (pos 4200) && int_le (b.bottom -ℤ b.top) (pos 4200)
+abbrev pub is_small : Frame → Bool
+is_small f = int_le (f.across.greatest -ℤ f.across.least) (pos 4200) && int_le (f.down.greatest -ℤ f.down.least) (pos 4200)
 
 abbrev pub fits : Plan → ℕ → Bool
 fits plan u = is_small (extent u plan)

@@ -4,7 +4,7 @@ use Rattle.std.specs.List.{flat_map}
 use Rattle.std.specs.Fmt.{decimal, signed_decimal}
 use Rattle.map_base.specs.declared.ids.LineId.{LineId}
 use Rattle.line_offsets.specs.declared.corner.Corner.{Corner}
-use Rattle.svg_writer.specs.declared.bounds.Bounds.{Bounds}
+use Rattle.eight_sides.specs.declared.frame.Frame.{Frame}
 use Rattle.svg_writer.specs.Elements.{colour_text, corner_text, ids_text, path_text, place_text, title_text}
 use Rattle.svg_writer.specs.Escaping.{escaped}
 use Rattle.poster_plan.specs.declared.layout.Step.{Step}
@@ -34,8 +34,8 @@ pub data Group : Type 0 where
 -- name at its spot, with the lines that end there, and the same with a white rim; the name of a line in the legend; and the
 -- end. A colour is three bytes: red, green and blue.
 pub data Element : Type 0 where
-  Head : (frame : Bounds) → Element
-  Ground : (frame : Bounds) → Element
+  Head : (frame : Frame) → Element
+  Ground : (frame : Frame) → Element
   Opens : (group : Group) → Element
   Closes : Element
   OnSegment : (seg line : ℕ) (path : List Corner) (colour name : List ℕ) → Element
@@ -60,11 +60,11 @@ abbrev pub white : List ℕ
 white = 255 ∷ 255 ∷ 255 ∷ []
 
 -- what a poster shows, 60 units wider on each side than its frame: left, top, width and height
-abbrev pub view_place : Bounds → Corner
-view_place b = record { x = b.left -ℤ pos 60; y = b.top -ℤ pos 60 }
+abbrev pub view_place : Frame → Corner
+view_place f = record { x = f.across.least -ℤ pos 60; y = f.down.least -ℤ pos 60 }
 
-abbrev pub view_size : Bounds → Corner
-view_size b = record { x = (b.right -ℤ b.left) +ℤ pos 120; y = (b.bottom -ℤ b.top) +ℤ pos 120 }
+abbrev pub view_size : Frame → Corner
+view_size f = record { x = (f.across.greatest -ℤ f.across.least) +ℤ pos 120; y = (f.down.greatest -ℤ f.down.least) +ℤ pos 120 }
 
 -- `" stroke="#..`, and the end of an attribute
 abbrev pub stroke_text : List ℕ → List ℕ

@@ -23,8 +23,8 @@ use Rattle.poster_plan.specs.declared.plan.Plan.{Plan}
 use Rattle.poster_plan.specs.Signs.{sign_of}
 use Rattle.poster_plan.specs.Places.{text_spot}
 use Rattle.poster_plan.specs.Placing.{mark_numbered, printed_names}
-use Rattle.poster_plan.specs.Pitches.{bounds_with, pitch_of}
-use Rattle.poster_plan.specs.Legends.{bounds_beside, legend_of, row_at}
+use Rattle.poster_plan.specs.Pitches.{frame_with, pitch_of}
+use Rattle.poster_plan.specs.Legends.{frame_beside, legend_of, row_at}
 use Rattle.poster_rules.specs.Stations.{callers_at, ending, has_line, is_interchange}
 use Rattle.poster_rules.specs.Texts.{all_rests, printed_at}
 use Rattle.poster_rules.specs.Plans.{lines_shown, plan_of, widest}
@@ -211,7 +211,7 @@ legend_elements names (Some legend) lines = rows_from names legend 0 lines
 -- the elements of a sheet, where these names are printed, and these lines in a legend
 abbrev pub elements_with : Sheet → Plan → List Printed → List LineId → Option Legend → List Element
 elements_with sheet plan printed lines legend =
-    let frame = bounds_beside (bounds_with sheet.pitch plan printed) (length lines) (widest sheet.names lines) legend in
+    let frame = frame_beside (frame_with sheet.pitch plan printed) (length lines) (widest sheet.names lines) legend in
     Head frame ∷ Ground frame ∷ (Opens LinesGroup ∷ [])
     ++ (flat_map (segment_elements sheet) (range_with_len 0 (length sheet.graph.ends))
     ++ (flat_map (node_joins sheet) (range_with_len 0 (length sheet.graph.kinds))
