@@ -5,3 +5,4 @@ mod Searching
 mod Putting
 mod Rooming
 mod Finding
+mod Counted

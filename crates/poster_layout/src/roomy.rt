@@ -1,6 +1,9 @@
 //! Whether a pitch is roomy.
 
-ghost use Rattle.std.specs.Prelude.{◌≡◌, ◌≤◌, IfOk};
+ghost use Rattle.std.specs.Prelude.{◌≡◌, ◌≤◌, ◌++◌, ◌∷◌, [], not, true, IfOk};
+ghost use Rattle.std.specs.List.{list_any};
+ghost use Rattle.poster_plan.specs.Things.{clash};
+ghost use Rattle.poster_layout.specs.Tables.{IsShortThing, IsTable};
 ghost use Rattle.poster_plan.specs.Pitches.{is_roomy};
 
 use crate::signs::{mark_at, piece_at};
@@ -38,7 +41,12 @@ pub(crate) fn is_roomy(alloc: Global, pitch: u32, plan: &Plan) -> Result<bool, N
 }
 
 /// Puts a thing where it clashes with none of the table, and says whether that is so.
-fn put_apart(table: &mut Table, thing: Thing) -> Result<bool, NoMemory> {
+fn put_apart(table: &mut Table, thing: Thing) -> Result<bool, NoMemory>
+    requires table { IsTable table.old }
+    requires thing { IsShortThing thing }
+    ensures apart { IfOk result (λ apart. apart ≡ not (list_any (clash thing) table.old.things.items)) }
+    ensures table { IfOk result (λ apart. apart ≡ true → IsTable table.new × (table.new.things.items ≡ table.old.things.items ++ thing ∷ [])) }
+{
     if table.clashes(thing) {
         return Ok(false);
     }
