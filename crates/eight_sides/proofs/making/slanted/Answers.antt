@@ -8,10 +8,10 @@ pub returns-clause-value : goal.returns-clause-value
 returns-clause-value c =
     let d = c.args.difference in
     let s = c.args.sum in
-    let x : to_z w64 (of_z w64 (to_z w64 (of_z w64 s.least) +ℤ to_z w64 (of_z w64 d.least))) ≡ s.least +ℤ d.least = omega (arith, ints) in
-    let y : to_z w64 (of_z w64 (to_z w64 (of_z w64 s.greatest) +ℤ to_z w64 (of_z w64 d.greatest))) ≡ s.greatest +ℤ d.greatest = omega (arith, ints) in
-    let z : to_z w64 (of_z w64 (to_z w64 (of_z w64 s.least) -ℤ to_z w64 (of_z w64 d.greatest))) ≡ s.least -ℤ d.greatest = omega (arith, ints) in
-    let w : to_z w64 (of_z w64 (to_z w64 (of_z w64 s.greatest) -ℤ to_z w64 (of_z w64 d.least))) ≡ s.greatest -ℤ d.least = omega (arith, ints) in
+    let x : to_z w64 (of_z w64 (to_z w64 (of_z w64 s.least) +ℤ to_z w64 (of_z w64 d.least))) ≡ s.least +ℤ d.least = omega (arith, ints, c.requires.difference.least, c.requires.difference.greatest, c.requires.sum.least, c.requires.sum.greatest) in
+    let y : to_z w64 (of_z w64 (to_z w64 (of_z w64 s.greatest) +ℤ to_z w64 (of_z w64 d.greatest))) ≡ s.greatest +ℤ d.greatest = omega (arith, ints, c.requires.difference.least, c.requires.difference.greatest, c.requires.sum.least, c.requires.sum.greatest) in
+    let z : to_z w64 (of_z w64 (to_z w64 (of_z w64 s.least) -ℤ to_z w64 (of_z w64 d.greatest))) ≡ s.least -ℤ d.greatest = omega (arith, ints, c.requires.difference.least, c.requires.difference.greatest, c.requires.sum.least, c.requires.sum.greatest) in
+    let w : to_z w64 (of_z w64 (to_z w64 (of_z w64 s.greatest) -ℤ to_z w64 (of_z w64 d.least))) ≡ s.greatest -ℤ d.least = omega (arith, ints, c.requires.difference.least, c.requires.difference.greatest, c.requires.sum.least, c.requires.sum.greatest) in
     let a : to_z w64 (of_z w64 c.half_below.result) ≡ c.half_below.result = omega (arith, ints) in
     let b : to_z w64 (of_z w64 c.half_above.result) ≡ c.half_above.result = omega (arith, ints) in
     let e : to_z w64 (of_z w64 c.half_below-2.result) ≡ c.half_below-2.result = omega (arith, ints) in
