@@ -1,0 +1,4 @@
+mod Names
+mod Shapes
+mod Places
+mod Whole

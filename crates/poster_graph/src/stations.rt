@@ -1,0 +1,120 @@
+//! What a poster shows of a station node.
+
+ghost use Rattle.std.specs.Prelude.{◌≡◌, ◌≤◌, ◌<◌, length, IfOk};
+ghost use Rattle.poster_rules.specs.Stations.{ending, is_end, is_interchange, is_level, is_short, leaves_level, port_at, radius_at, segments_with};
+ghost use Rattle.svg_writer.specs.Picture.{walk_at};
+
+use crate::served::{Served, callers_at, has_line};
+use graph_core::LineGraph;
+use map_base::{LineId, NoMemory, NodeId, SegId, Sequence};
+use octi_grid::{Dir, Walk};
+use std::alloc::Global;
+use svg_writer::{ends_of, lines_of, most_lines, name_of};
+
+/// The lines that end at a node, rising: those that call there, are on exactly one of its segments, and have a name of one
+/// to five characters.
+pub fn ending(alloc: Global, served: Served<'_>, n: NodeId) -> Result<Vec<LineId>, NoMemory>
+    requires { n.0 < length served.graph.now.kinds }
+    ensures { IfOk result (λ lines. lines.items ≡ ending served.entry.names.now served.entry.graph.now served.entry.callers.now n.0) }
+{
+    let mut lines = Vec::new(alloc);
+    for line in callers_at(served.callers, n.0) {
+        if is_end(served, n, *line) {
+            lines.push(*line)?;
+        }
+    }
+    Ok(lines)
+}
+
+/// Whether a line that calls at a node ends there.
+fn is_end(served: Served<'_>, n: NodeId, line: LineId) -> bool
+    requires { n.0 < length served.graph.now.kinds }
+    ensures { result ≡ is_end served.entry.names.now served.entry.graph.now n.0 line }
+{
+    segments_with(served.graph, n, line) == 1 && is_short(name_of(served.names, line))
+}
+
+/// How many segments of a node a line is on.
+fn segments_with(graph: &LineGraph, n: NodeId, line: LineId) -> usize
+    requires { n.0 < length graph.now.kinds }
+    ensures { result ≡ segments_with graph.now n.0 line }
+{
+    let mut count = 0;
+    for s in graph.round(n) {
+        if has_line(line, lines_of(graph, s.0)) {
+            count += 1;
+        }
+    }
+    count
+}
+
+/// Whether a name has one to five characters.
+fn is_short(name: &str) -> bool
+    ensures { result ≡ is_short name.now }
+{
+    let count = name.chars().count();
+    1 <= count && count <= 5
+}
+
+/// Whether a node is an interchange: it has at least three segments, and at least two lines call there.
+pub fn is_interchange(graph: &LineGraph, callers: &Sequence<Sequence<LineId>>, n: NodeId) -> bool
+    requires { n.0 < length graph.now.kinds }
+    ensures { result ≡ is_interchange graph.now callers.now n.0 }
+{
+    graph.round(n).len() >= 3 && callers_at(callers, n.0).len() >= 2
+}
+
+/// How far a station reaches from its centre. For more lines than can be reckoned with there is no room.
+pub(crate) fn radius_at(served: Served<'_>, n: NodeId) -> Result<u32, NoMemory>
+    requires { n.0 < length served.graph.now.kinds }
+    ensures { IfOk result (λ r. r ≡ radius_at served.entry.graph.now served.entry.callers.now n.0) }
+{
+    let most = most_lines(served.graph, served.graph.round(n));
+    if most > 100_000_000 {
+        return Err(NoMemory);
+    }
+    let more = if is_interchange(served.graph, served.callers, n) {
+        7
+    } else {
+        3
+    };
+    Ok(7 * most as u32 + more)
+}
+
+/// Whether all segments of a node leave it to the east or to the west.
+pub(crate) fn leaves_level(served: Served<'_>, n: NodeId) -> bool
+    requires { n.0 < length served.graph.now.kinds }
+    ensures { result ≡ leaves_level served.entry.graph.now served.entry.drawing.now.walks n.0 }
+{
+    for s in served.graph.round(n) {
+        if !is_level(port_at(served, n, *s)) {
+            return false;
+        }
+    }
+    true
+}
+
+/// The direction in which a segment leaves a node, an end of it.
+fn port_at(served: Served<'_>, n: NodeId, s: SegId) -> Option<Dir> {
+    let walk = served.drawing.walks.as_slice().get(s.0 as usize)?;
+    Some(port_of(walk, ends_of(served.graph, s.0), n))
+}
+
+/// The direction in which a walk between these ends leaves a node, one of them.
+fn port_of(walk: &Walk, ends: (NodeId, NodeId), n: NodeId) -> Dir {
+    if ends.0.0 == n.0 {
+        walk.start_port()
+    } else {
+        walk.end_port()
+    }
+}
+
+/// Whether a direction is to the east or to the west.
+fn is_level(port: Option<Dir>) -> bool
+    ensures { result ≡ is_level port }
+{
+    match port {
+        Some(Dir::E) | Some(Dir::W) => true,
+        _ => false,
+    }
+}

@@ -1,0 +1,117 @@
+//! The pitch, and the names at it.
+
+ghost use Rattle.std.specs.Prelude.{◌≡◌, ◌≤◌, ◌*◌, ◌&&◌, nat_le, IfOk, MatchOption, IsTrue, IfSome, false, length};
+ghost use Rattle.poster_plan.specs.Placing.{named, printed_names};
+ghost use Rattle.poster_plan.specs.Pitches.{first_pitch, fits, is_better, is_roomy, pitch_of};
+ghost use Rattle.poster_layout.specs.Fits.{best_of, IsLaid};
+
+use crate::extent::{frame_with, is_small};
+use crate::laying::{Laid, lay_out, named};
+use crate::roomy::is_roomy;
+use map_base::{NoMemory, Sequence};
+use poster_plan::{Plan, Printed};
+use std::alloc::Global;
+
+/// The pitch of a poster, and the names that are printed at it, in the order in which they were placed.
+#[derive(Debug, Drop)]
+pub struct Layout {
+    pub pitch: u32,
+    pub printed: Sequence<Printed>,
+}
+
+/// The pitch of a plan, and the names at it.
+pub fn layout_of(alloc: Global, plan: &Plan) -> Result<Layout, NoMemory>
+    ensures pitch { IfOk result (λ layout. layout.pitch ≡ pitch_of plan.now) }
+    ensures printed { IfOk result (λ layout. layout.printed ≡ printed_names (pitch_of plan.now) plan.now) }
+{
+    let first = first_suiting(alloc, plan)?;
+    let best = if fits(plan, &first) {
+        best_from(alloc, plan, first)?
+    } else {
+        first
+    };
+    Ok(Layout {
+        pitch: best.pitch,
+        printed: Sequence::of(best.printed),
+    })
+}
+
+/// The names at the first pitch that suits, or at the greatest.
+fn first_suiting(alloc: Global, plan: &Plan) -> Result<Laid, NoMemory>
+    ensures laid { IfOk result (IsLaid plan.now) }
+    ensures pitch { IfOk result (λ laid. laid.pitch ≡ first_pitch plan.now) }
+{
+    let names = named(alloc, plan.marks.as_slice())?.len();
+    for i in 0..45 {
+        let pitch = 20 + 4 * i;
+        if let Some(laid) = laid_where_roomy(alloc, pitch, plan)? {
+            if suits(&laid, names) {
+                return Ok(laid);
+            }
+        }
+    }
+    lay_out(alloc, 200, plan)
+}
+
+/// The names at a pitch, where it is roomy.
+fn laid_where_roomy(alloc: Global, pitch: u32, plan: &Plan) -> Result<Option<Laid>, NoMemory>
+    requires { pitch ≤ 200 }
+    ensures { IfOk result (λ found. MatchOption found (is_roomy pitch plan.now ≡ false) (λ laid. IsLaid plan.now laid × (laid.pitch ≡ pitch) × IsTrue (is_roomy pitch plan.now))) }
+{
+    if !is_roomy(alloc, pitch, plan)? {
+        return Ok(None);
+    }
+    Ok(Some(lay_out(alloc, pitch, plan)?))
+}
+
+/// Whether of so many names at most a tenth is not in full size, and at most a thirtieth not beside lines.
+fn suits(laid: &Laid, names: usize) -> bool
+    ensures { result ≡ (nat_le (10 * laid.now.full_left) names && nat_le (30 * laid.now.small_left) names) }
+{
+    laid.full_left <= names / 10 && laid.small_left <= names / 30
+}
+
+/// Whether the names at a pitch and all grid points of walks fit into 4200 units.
+fn fits(plan: &Plan, laid: &Laid) -> bool
+    requires laid { IsLaid plan.now laid.now }
+    requires pitch { laid.now.pitch ≤ 200 }
+    ensures { result ≡ fits plan.now laid.now.pitch }
+{
+    is_small(frame_with(laid.pitch, plan, laid.printed.as_slice()))
+}
+
+/// Whether fewer names are over lines or left out than at another pitch, or as many, and fewer are not in full size.
+fn is_better(laid: &Laid, best: &Laid) -> bool
+    ensures { (plan : Plan) → IsLaid plan laid.now → IsLaid plan best.now → result ≡ is_better plan laid.now.pitch best.now.pitch }
+{
+    if laid.small_left == best.small_left {
+        laid.full_left < best.full_left
+    } else {
+        laid.small_left < best.small_left
+    }
+}
+
+/// The best of the pitches from one that fits on, as long as all fits, and no further than the first at which each name is
+/// in full size.
+fn best_from(alloc: Global, plan: &Plan, first: Laid) -> Result<Laid, NoMemory>
+    requires laid { IsLaid plan.now first }
+    requires pitch { first.pitch ≤ 200 }
+    ensures laid { IfOk result (IsLaid plan.now) }
+    ensures pitch { IfOk result (λ laid. laid.pitch ≡ best_of plan.now first.pitch first.full_left first.pitch) }
+{
+    let mut best = first;
+    let mut left = best.full_left;
+    let mut pitch = best.pitch;
+    while left > 0 && pitch < 200 {
+        pitch += 4;
+        let laid = lay_out(alloc, pitch, plan)?;
+        if !fits(plan, &laid) {
+            return Ok(best);
+        }
+        left = laid.full_left;
+        if is_better(&laid, &best) {
+            best = laid;
+        }
+    }
+    Ok(best)
+}

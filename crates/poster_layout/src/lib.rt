@@ -1,0 +1,21 @@
+//! How a poster is laid out: its pitch, the names that are printed at it, and where the legend stands, exactly as the plan's
+//! rules say. Names look for their places in a table of cells, in a time that grows with their number and not its square.
+#![tactic(auto)]
+
+mod cells;
+mod extent;
+mod fitting;
+mod laying;
+mod legend;
+mod places;
+mod room;
+mod roomy;
+mod signs;
+mod table;
+mod things;
+
+pub use extent::frame_with;
+pub use fitting::{Layout, layout_of};
+pub use legend::{frame_beside, legend_of, row_at};
+pub use places::{tenth, text_spot};
+pub use signs::{mark_numbered, sign_of};
