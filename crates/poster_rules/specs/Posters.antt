@@ -12,7 +12,8 @@ use Rattle.octi_grid.specs.Walks.{PlainWalk}
 use Rattle.line_offsets.specs.declared.corner.Corner.{Corner}
 use Rattle.line_offsets.specs.Paths.{line_path_at, path_end_at, path_start_at}
 use Rattle.svg_writer.specs.declared.names.Names.{Names}
-use Rattle.svg_writer.specs.Picture.{are_one, colour_of, ends_at, gauge, joins_at, kind_at, lines_at, name_of, order_at, place_in, round_at, station_name, walk_at}
+use Rattle.svg_writer.specs.Courses.{gauge, order_at}
+use Rattle.svg_writer.specs.Picture.{are_one, colour_of, ends_at, joins_at, kind_at, lines_at, name_of, place_in, round_at, station_name, walk_at}
 use Rattle.name_widths.specs.Colours.{is_faint, is_pale}
 use Rattle.poster_plan.specs.declared.layout.Legend.{Legend}
 use Rattle.poster_plan.specs.declared.layout.Printed.{Printed}
