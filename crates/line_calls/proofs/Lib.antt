@@ -1,0 +1,4 @@
+mod Lists
+mod ByLine
+mod Noting
+mod Calling

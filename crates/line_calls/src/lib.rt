@@ -2,8 +2,9 @@
 //! shown. A line may pass a station on the way of its trips without a call.
 #![tactic(auto)]
 
+mod by_line;
 mod calls;
-mod patterns;
+mod lists;
 mod table;
 
 pub use calls::node_callers;
