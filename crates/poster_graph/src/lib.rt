@@ -4,10 +4,12 @@
 
 mod plans;
 mod served;
+mod shown;
 mod stations;
 mod texts;
 
-pub use plans::{lines_shown, plan_of, widest};
+pub use plans::plan_of;
 pub use served::{Served, callers_at};
+pub use shown::{lines_shown, widest};
 pub use stations::{ending, is_interchange};
-pub use texts::{Texts, texts_of};
+pub use texts::{Texts, printed_at, texts_of};

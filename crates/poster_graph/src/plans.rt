@@ -1,35 +1,70 @@
 //! The plan of a line graph's poster.
 
-ghost use Rattle.std.specs.Prelude.{◌≡◌, ◌≤◌, ◌<◌, ◌*◌, length, IfOk, OnOk};
-ghost use Rattle.poster_rules.specs.Plans.{lines_shown, plan_of, point_of, widest};
+ghost use Rattle.std.specs.Prelude.{◌≡◌, ◌<◌, ◌++◌, ◌∷◌, [], length, IfOk, OnOk};
+ghost use Rattle.graph_core.specs.Consistent.{IsConsistent};
+ghost use Rattle.graph_core.specs.declared.parts.NodeKind.TheVariants.{Station};
+ghost use Rattle.map_base.specs.declared.ids.StationId.{StationId};
+ghost use Rattle.svg_writer.specs.Picture.{kind_at, put_at, walk_at};
+ghost use Rattle.poster_rules.specs.Texts.{all_rests, name_width, printed_at};
+ghost use Rattle.poster_rules.specs.Plans.{marks_of, node_mark, pieces_from, pieces_of, plan_of, point_of, segment_pieces};
+ghost use Rattle.poster_graph.specs.Words.{AreTextsOf};
 
 use crate::served::Served;
 use crate::stations::{ending, leaves_level, radius_at};
-use crate::texts::{Texts, width_with};
+use crate::texts::{Texts, printed_at, width_with};
 use graph_core::{LineGraph, NodeKind};
-use map_base::{LineId, NoMemory, NodeId, SegId, Sequence};
-use name_widths::text_width;
+use map_base::{NoMemory, NodeId, SegId, Sequence};
 use octi_grid::{Drawing, GridPoint, Walk, end_of, run_end};
 use poster_plan::{Mark, Piece, Plan};
 use std::alloc::Global;
-use svg_writer::{Names, ends_of, name_of};
+use svg_writer::ends_of;
 
 /// The plan of a line graph's poster, where these texts are printed.
-pub fn plan_of(alloc: Global, served: Served<'_>, texts: &Texts<'_>) -> Result<Plan, NoMemory> {
-    let mut marks = Vec::new(alloc);
-    for n in 0..served.graph.nodes() {
-        if let NodeKind::Station(_) = served.graph.kind(NodeId(n)) {
-            marks.push(mark_of(alloc, served, texts, NodeId(n))?)?;
-        }
-    }
-    let mut pieces = Vec::new(alloc);
-    for s in 0..served.graph.segs() {
-        put_segment(&mut pieces, served, s)?;
-    }
+pub fn plan_of(alloc: Global, served: Served<'_>, texts: &Texts<'_>) -> Result<Plan, NoMemory>
+    requires { AreTextsOf served.names.now served.graph.now texts.now }
+    ensures { IfOk result (λ plan. plan ≡ plan_of served.entry.names.now served.entry.graph.now served.entry.drawing.now.walks served.entry.callers.now) }
+{
+    let marks = marks_of(alloc, served, texts)?;
+    let pieces = pieces_of(alloc, served)?;
     Ok(Plan {
         marks: Sequence::of(marks),
         pieces: Sequence::of(pieces),
     })
+}
+
+/// The station nodes as a poster has them, in node order.
+fn marks_of(alloc: Global, served: Served<'_>, texts: &Texts<'_>) -> Result<Vec<Mark>, NoMemory>
+    requires { AreTextsOf served.names.now served.graph.now texts.now }
+    ensures { IfOk result (λ marks. marks.items ≡ marks_of served.entry.names.now served.entry.graph.now served.entry.drawing.now.walks served.entry.callers.now) }
+{
+    let mut marks = Vec::new(alloc);
+    for n in 0..served.graph.nodes() {
+        put_node(alloc, &mut marks, served, texts, NodeId(n))?;
+    }
+    Ok(marks)
+}
+
+/// Appends a node, where it is a station.
+fn put_node(
+    alloc: Global,
+    marks: &mut Vec<Mark>,
+    served: Served<'_>,
+    texts: &Texts<'_>,
+    n: NodeId,
+) -> Result<(), NoMemory>
+    requires graph { IsConsistent served.graph.now }
+    requires node { n.0 < length served.graph.now.kinds }
+    requires texts { AreTextsOf served.names.now served.graph.now texts.now }
+    ensures { OnOk result (marks.new.items ≡ marks.old.items ++ node_mark served.entry.names.now served.entry.graph.now served.entry.drawing.now.walks served.entry.callers.now n.0 (kind_at served.entry.graph.now.kinds n.0)) }
+{
+    match served.graph.kind(n) {
+        NodeKind::Station(_) => {
+            let mark = mark_of(alloc, served, texts, n)?;
+            marks.push(mark)?;
+            Ok(())
+        }
+        NodeKind::Junction => Ok(()),
+    }
 }
 
 /// A station node as a poster has it.
@@ -38,7 +73,12 @@ fn mark_of(
     served: Served<'_>,
     texts: &Texts<'_>,
     n: NodeId,
-) -> Result<Mark, NoMemory> {
+) -> Result<Mark, NoMemory>
+    requires graph { IsConsistent served.graph.now }
+    requires node { n.0 < length served.graph.now.kinds }
+    requires texts { AreTextsOf served.names.now served.graph.now texts.now }
+    ensures { IfOk result (λ mark. (s : StationId) → mark ∷ [] ≡ node_mark served.entry.names.now served.entry.graph.now served.entry.drawing.now.walks served.entry.callers.now n.0 (Station s)) }
+{
     Ok(Mark {
         node: n,
         at: point_of(served.graph, served.drawing, n),
@@ -54,12 +94,19 @@ fn name_width(
     served: Served<'_>,
     texts: &Texts<'_>,
     n: NodeId,
-) -> Result<Option<u32>, NoMemory> {
-    let Some(text) = texts.printed_at(n) else {
-        return Ok(None);
-    };
-    let lines = ending(alloc, served, n)?;
-    Ok(Some(width_with(served.names, lines.as_slice(), text)?))
+) -> Result<Option<u32>, NoMemory>
+    requires graph { IsConsistent served.graph.now }
+    requires node { n.0 < length served.graph.now.kinds }
+    requires texts { AreTextsOf served.names.now served.graph.now texts.now }
+    ensures { IfOk result (λ width. width ≡ name_width served.entry.names.now served.entry.graph.now served.entry.callers.now n.0 (printed_at served.entry.graph.now (all_rests served.entry.names.now served.entry.graph.now) n.0)) }
+{
+    match printed_at(texts, served.graph, served.names, n) {
+        None => Ok(None),
+        Some(text) => {
+            let lines = ending(alloc, served, n)?;
+            Ok(Some(width_with(served.names, lines.as_slice(), text)?))
+        }
+    }
 }
 
 /// The grid point of a node: where the walk of the first segment of its round puts it.
@@ -74,7 +121,9 @@ fn point_of(graph: &LineGraph, drawing: &Drawing, n: NodeId) -> GridPoint
 }
 
 /// Where the walk of a segment puts a node, an end of the segment.
-fn point_on(drawing: &Drawing, ends: (NodeId, NodeId), n: NodeId, s: u32) -> GridPoint {
+fn point_on(drawing: &Drawing, ends: (NodeId, NodeId), n: NodeId, s: u32) -> GridPoint
+    ensures { result ≡ put_at n.0 ends (walk_at drawing.now.walks s) }
+{
     match drawing.walks.as_slice().get(s as usize) {
         Some(walk) => {
             if ends.0.0 == n.0 {
@@ -87,8 +136,22 @@ fn point_on(drawing: &Drawing, ends: (NodeId, NodeId), n: NodeId, s: u32) -> Gri
     }
 }
 
+/// The straight pieces of all walks, in the order of their segments.
+fn pieces_of(alloc: Global, served: Served<'_>) -> Result<Vec<Piece>, NoMemory>
+    ensures { IfOk result (λ pieces. pieces.items ≡ pieces_of served.entry.graph.now served.entry.drawing.now.walks) }
+{
+    let mut pieces = Vec::new(alloc);
+    for s in 0..served.graph.segs() {
+        put_segment(&mut pieces, served, s)?;
+    }
+    Ok(pieces)
+}
+
 /// Appends the straight pieces of a segment.
-fn put_segment(pieces: &mut Vec<Piece>, served: Served<'_>, s: u32) -> Result<(), NoMemory> {
+fn put_segment(pieces: &mut Vec<Piece>, served: Served<'_>, s: u32) -> Result<(), NoMemory>
+    requires { s < length served.graph.now.ends }
+    ensures { OnOk result (pieces.new.items ≡ pieces.old.items ++ segment_pieces served.entry.graph.now served.entry.drawing.now.walks s) }
+{
     let lines = served.graph.lines(SegId(s)).len();
     if lines > 100_000_000 {
         return Err(NoMemory);
@@ -100,16 +163,19 @@ fn put_segment(pieces: &mut Vec<Piece>, served: Served<'_>, s: u32) -> Result<()
     }
 }
 
-/// Appends the straight pieces of a walk.
+/// Appends the straight pieces of a walk of so many lines between these nodes.
 fn put_pieces(
     pieces: &mut Vec<Piece>,
     walk: &Walk,
     lines: u32,
     ends: (NodeId, NodeId),
-) -> Result<(), NoMemory> {
+) -> Result<(), NoMemory>
+    ensures { OnOk result (pieces.new.items ≡ pieces.old.items ++ pieces_from lines ends walk.now.start walk.now.start walk.now.steps) }
+{
+    let runs = walk.runs();
     let mut start = walk.start();
-    for run in walk.runs() {
-        let end = run_end(start, *run);
+    for i in 0..runs.len() {
+        let end = run_end(start, runs[i]);
         pieces.push(Piece {
             start,
             end,
@@ -119,41 +185,4 @@ fn put_pieces(
         start = end;
     }
     Ok(())
-}
-
-/// The lines that are on a segment, rising, of so many.
-pub fn lines_shown(
-    alloc: Global,
-    count: usize,
-    graph: &LineGraph,
-) -> Result<Vec<LineId>, NoMemory> {
-    let mut shown = vec![in alloc; false; count]?;
-    for s in 0..graph.segs() {
-        show_lines(&mut shown, graph.lines(SegId(s)));
-    }
-    let mut lines = Vec::new(alloc);
-    for (number, is_shown) in shown.iter().enumerate() {
-        if *is_shown {
-            lines.push(LineId(number as u32))?;
-        }
-    }
-    Ok(lines)
-}
-
-/// Notes these lines.
-fn show_lines(shown: &mut [bool], lines: &[LineId]) {
-    for line in lines {
-        if (line.0 as usize) < shown.len() {
-            shown[line.0 as usize] = true;
-        }
-    }
-}
-
-/// How wide the widest of the names of these lines is, at a size of 30 units.
-pub fn widest(names: &Names, lines: &[LineId]) -> Result<u32, NoMemory> {
-    let mut most = 0;
-    for line in lines {
-        most = most.max(text_width(name_of(names, *line))?);
-    }
-    Ok(3 * most)
 }

@@ -1,7 +1,10 @@
 //! Which names a poster prints, and how wide they are.
 
-ghost use Rattle.std.specs.Prelude.{◌≡◌, ◌≤◌, ◌<◌, length, IfOk};
-ghost use Rattle.poster_rules.specs.Texts.{all_rests, printed_at, width_with};
+ghost use Rattle.std.specs.Prelude.{◌≡◌, ◌<◌, ◌==◌, ◌&&◌, ◌||◌, ℕ, false, List, length, slice_index_or, IfOk, Some};
+ghost use Rattle.name_widths.specs.Words.{is_common};
+ghost use Rattle.name_widths.specs.Votes.{is_that, texts_of};
+ghost use Rattle.poster_rules.specs.Texts.{all_names, all_rests, are_same, node_rest, printed_at, rest_at, unless_second, width_with};
+ghost use Rattle.poster_graph.specs.Words.{text_in, AreSeconds, AreTextsOf, IsCommonWord};
 
 use graph_core::{LineGraph, NodeKind};
 use map_base::{LineId, NoMemory, NodeId, SegId};
@@ -9,31 +12,12 @@ use name_widths::{common_word, rest_of, text_width};
 use std::alloc::Global;
 use svg_writer::{Names, name_of, station_name};
 
-/// What is left of the name of each node without the word with which more than half of them begin, and which nodes are
-/// second platforms of a stop.
+/// The word with which more than half of a line graph's station nodes begin, if there is one, and which nodes are second
+/// platforms of a stop.
 #[derive(Drop)]
 pub struct Texts<'a> {
-    pub(crate) rests: Vec<Option<&'a str>>,
+    pub(crate) common: Option<&'a str>,
     pub(crate) seconds: Vec<bool>,
-}
-
-impl<'a> Texts<'a> {
-    /// What is printed of a node, where it has a name to print.
-    pub fn printed_at(&self, n: NodeId) -> Option<&'a str> {
-        let rest = self.rests.as_slice().get(n.0 as usize).copied()??;
-        if rest.is_empty() || self.is_second(n) {
-            return None;
-        }
-        Some(rest)
-    }
-
-    /// Whether a node is a second platform of a stop.
-    fn is_second(&self, n: NodeId) -> bool {
-        match self.seconds.as_slice().get(n.0 as usize) {
-            Some(second) => *second,
-            None => false,
-        }
-    }
 }
 
 /// The texts of a line graph's nodes.
@@ -41,15 +25,41 @@ pub fn texts_of<'a>(
     alloc: Global,
     graph: &LineGraph,
     names: &'a Names,
-) -> Result<Texts<'a>, NoMemory> {
+) -> Result<Texts<'a>, NoMemory>
+    ensures { IfOk result (AreTextsOf names.now graph.now) }
+{
     let all = all_names(alloc, graph, names)?;
     let common = common_word(all.as_slice());
-    let mut rests = Vec::new(alloc);
-    for n in 0..graph.nodes() {
-        rests.push(node_rest(common, names, graph.kind(NodeId(n))))?;
+    let seconds = second_platforms(alloc, graph, names, common)?;
+    Ok(Texts { common, seconds })
+}
+
+/// What is printed of a node, where it has a name to print.
+pub fn printed_at<'a>(
+    texts: &Texts<'_>,
+    graph: &LineGraph,
+    names: &'a Names,
+    n: NodeId,
+) -> Option<&'a str>
+    requires node { n.0 < length graph.now.kinds }
+    requires texts { AreTextsOf names.now graph.now texts.now }
+    ensures { text_in result ≡ printed_at graph.now (all_rests names.now graph.now) n.0 }
+{
+    unless_second(
+        texts.seconds[n.0 as usize],
+        rest_at(graph, names, texts.common, n),
+    )
+}
+
+/// What is left of a name, where that is not empty and its node is no second platform.
+fn unless_second<'a>(second: bool, rest: Option<&'a str>) -> Option<&'a str>
+    ensures { text_in result ≡ unless_second second (text_in rest.entry) }
+{
+    let rest = rest?;
+    if rest.is_empty() || second {
+        return None;
     }
-    let seconds = second_platforms(alloc, graph, rests.as_slice())?;
-    Ok(Texts { rests, seconds })
+    Some(rest)
 }
 
 /// The names of all station nodes.
@@ -57,7 +67,9 @@ fn all_names<'a>(
     alloc: Global,
     graph: &LineGraph,
     names: &'a Names,
-) -> Result<Vec<&'a str>, NoMemory> {
+) -> Result<Vec<&'a str>, NoMemory>
+    ensures { IfOk result (λ all. texts_of all.items ≡ all_names names.now graph.now) }
+{
     let mut all = Vec::new(alloc);
     for n in 0..graph.nodes() {
         if let NodeKind::Station(station) = graph.kind(NodeId(n)) {
@@ -68,7 +80,23 @@ fn all_names<'a>(
 }
 
 /// The name of a node without the common word, where it is a station.
-fn node_rest<'a>(common: Option<&str>, names: &'a Names, kind: NodeKind) -> Option<&'a str> {
+fn rest_at<'a>(
+    graph: &LineGraph,
+    names: &'a Names,
+    common: Option<&str>,
+    n: NodeId,
+) -> Option<&'a str>
+    requires node { n.0 < length graph.now.kinds }
+    requires common { IsCommonWord names.now graph.now common }
+    ensures { text_in result ≡ rest_at (all_rests names.now graph.now) n.0 }
+{
+    node_rest(common, names, graph.kind(n))
+}
+
+/// The same of a node of this kind, where the word is common to some names.
+fn node_rest<'a>(common: Option<&str>, names: &'a Names, kind: NodeKind) -> Option<&'a str>
+    ensures { (all : List (List ℕ)) → ((word : List ℕ) → is_common all word ≡ is_that word common.entry) → text_in result ≡ node_rest all names.now kind }
+{
     match kind {
         NodeKind::Station(station) => Some(rest_of(common, station_name(names, station.0))),
         NodeKind::Junction => None,
@@ -79,23 +107,52 @@ fn node_rest<'a>(common: Option<&str>, names: &'a Names, kind: NodeKind) -> Opti
 fn second_platforms(
     alloc: Global,
     graph: &LineGraph,
-    rests: &[Option<&str>],
-) -> Result<Vec<bool>, NoMemory> {
-    let mut seconds = vec![in alloc; false; rests.len()]?;
+    names: &Names,
+    common: Option<&str>,
+) -> Result<Vec<bool>, NoMemory>
+    requires { IsCommonWord names.now graph.now common }
+    ensures { IfOk result (λ flags. AreSeconds names.now graph.now flags.items) }
+{
+    let mut seconds = vec![in alloc; false; graph.nodes() as usize]?;
     for s in 0..graph.segs() {
         let (lower, upper) = graph.ends(SegId(s));
-        if are_same(rests, lower, upper) {
-            seconds[upper.0 as usize] = true;
-        }
+        let same = are_same(
+            rest_at(graph, names, common, lower),
+            rest_at(graph, names, common, upper),
+        );
+        note_second(&mut seconds, upper, same);
     }
     Ok(seconds)
 }
 
-/// Whether two nodes are stations with the same rest.
-fn are_same(rests: &[Option<&str>], a: NodeId, b: NodeId) -> bool {
-    match (rests[a.0 as usize], rests[b.0 as usize]) {
-        (Some(a), Some(b)) => a == b,
-        _ => false,
+/// Flags a node, where it has the same rest as a lower one.
+fn note_second(seconds: &mut [bool], n: NodeId, same: bool)
+    requires { n.0 < length seconds.old }
+    ensures each { length seconds.new ≡ length seconds.old }
+    ensures flagged { (k : ℕ) → slice_index_or seconds.new k false ≡ (slice_index_or seconds.old k false || (n.0 == k && same)) }
+{
+    if same {
+        seconds[n.0 as usize] = true;
+    }
+}
+
+/// Whether two nodes are stations of which the same is left.
+fn are_same(a: Option<&str>, b: Option<&str>) -> bool
+    ensures { result ≡ are_same (text_in a.entry) (text_in b.entry) }
+{
+    match a {
+        None => false,
+        Some(first) => is_text(first, b),
+    }
+}
+
+/// Whether a text is this one, if there is one.
+fn is_text(text: &str, other: Option<&str>) -> bool
+    ensures { result ≡ are_same (Some text.now) (text_in other.entry) }
+{
+    match other {
+        None => false,
+        Some(other) => text == other,
     }
 }
 
