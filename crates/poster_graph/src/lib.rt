@@ -9,7 +9,7 @@ mod stations;
 mod texts;
 
 pub use plans::plan_of;
-pub use served::{Served, callers_at};
+pub use served::{Served, callers_at, has_line};
 pub use shown::{lines_shown, widest};
 pub use stations::{ending, is_interchange};
 pub use texts::{Texts, printed_at, texts_of};

@@ -4,7 +4,7 @@ ghost use Rattle.std.specs.Prelude.{◌≡◌, ◌<◌, ◌++◌, ◌∷◌, [],
 ghost use Rattle.graph_core.specs.Consistent.{IsConsistent};
 ghost use Rattle.graph_core.specs.declared.parts.NodeKind.TheVariants.{Station};
 ghost use Rattle.map_base.specs.declared.ids.StationId.{StationId};
-ghost use Rattle.svg_writer.specs.Picture.{kind_at, put_at, walk_at};
+ghost use Rattle.svg_writer.specs.Picture.{kind_at};
 ghost use Rattle.poster_rules.specs.Texts.{all_rests, name_width, printed_at};
 ghost use Rattle.poster_rules.specs.Plans.{marks_of, node_mark, pieces_from, pieces_of, plan_of, point_of, segment_pieces};
 ghost use Rattle.poster_graph.specs.Words.{AreTextsOf};
@@ -14,10 +14,10 @@ use crate::stations::{ending, leaves_level, radius_at};
 use crate::texts::{Texts, printed_at, width_with};
 use graph_core::{LineGraph, NodeKind};
 use map_base::{NoMemory, NodeId, SegId, Sequence};
-use octi_grid::{Drawing, GridPoint, Walk, end_of, run_end};
+use octi_grid::{Drawing, GridPoint, Walk, run_end};
 use poster_plan::{Mark, Piece, Plan};
 use std::alloc::Global;
-use svg_writer::ends_of;
+use svg_writer::{ends_of, first_of, put_at, round_of};
 
 /// The plan of a line graph's poster, where these texts are printed.
 pub fn plan_of(alloc: Global, served: Served<'_>, texts: &Texts<'_>) -> Result<Plan, NoMemory>
@@ -75,7 +75,6 @@ fn mark_of(
     n: NodeId,
 ) -> Result<Mark, NoMemory>
     requires graph { IsConsistent served.graph.now }
-    requires node { n.0 < length served.graph.now.kinds }
     requires texts { AreTextsOf served.names.now served.graph.now texts.now }
     ensures { IfOk result (λ mark. (s : StationId) → mark ∷ [] ≡ node_mark served.entry.names.now served.entry.graph.now served.entry.drawing.now.walks served.entry.callers.now n.0 (Station s)) }
 {
@@ -96,7 +95,6 @@ fn name_width(
     n: NodeId,
 ) -> Result<Option<u32>, NoMemory>
     requires graph { IsConsistent served.graph.now }
-    requires node { n.0 < length served.graph.now.kinds }
     requires texts { AreTextsOf served.names.now served.graph.now texts.now }
     ensures { IfOk result (λ width. width ≡ name_width served.entry.names.now served.entry.graph.now served.entry.callers.now n.0 (printed_at served.entry.graph.now (all_rests served.entry.names.now served.entry.graph.now) n.0)) }
 {
@@ -111,29 +109,10 @@ fn name_width(
 
 /// The grid point of a node: where the walk of the first segment of its round puts it.
 fn point_of(graph: &LineGraph, drawing: &Drawing, n: NodeId) -> GridPoint
-    requires { n.0 < length graph.now.kinds }
     ensures { result ≡ point_of graph.now drawing.now.walks n.0 }
 {
-    match graph.round(n) {
-        [] => point_on(drawing, ends_of(graph, 0), n, 0),
-        [first, ..] => point_on(drawing, ends_of(graph, first.0), n, first.0),
-    }
-}
-
-/// Where the walk of a segment puts a node, an end of the segment.
-fn point_on(drawing: &Drawing, ends: (NodeId, NodeId), n: NodeId, s: u32) -> GridPoint
-    ensures { result ≡ put_at n.0 ends (walk_at drawing.now.walks s) }
-{
-    match drawing.walks.as_slice().get(s as usize) {
-        Some(walk) => {
-            if ends.0.0 == n.0 {
-                walk.start()
-            } else {
-                end_of(walk)
-            }
-        }
-        None => GridPoint { x: 0, y: 0 },
-    }
+    let first = first_of(round_of(graph, n));
+    put_at(&drawing.walks, ends_of(graph, first), n.0, first)
 }
 
 /// The straight pieces of all walks, in the order of their segments.

@@ -28,7 +28,7 @@ pub fn callers_at<'a>(callers: &'a Sequence<Sequence<LineId>>, n: u32) -> &'a [L
 }
 
 /// Whether a line is one of these.
-pub(crate) fn has_line(line: LineId, lines: &[LineId]) -> bool
+pub fn has_line(line: LineId, lines: &[LineId]) -> bool
     ensures { result ≡ has_line line lines.now }
 {
     for other in lines {

@@ -1,6 +1,6 @@
 //! What a poster shows of a station node.
 
-ghost use Rattle.std.specs.Prelude.{◌≡◌, ◌≤◌, ◌<◌, length, if◌then◌else◌, IfOk, Some};
+ghost use Rattle.std.specs.Prelude.{◌≡◌, ◌≤◌, if◌then◌else◌, IfOk, Some};
 ghost use Rattle.graph_core.specs.Consistent.{IsConsistent};
 ghost use Rattle.poster_rules.specs.Stations.{ending, is_end, is_interchange, is_level, is_short, leaves_level, port_at, radius_at, segments_with};
 ghost use Rattle.svg_writer.specs.Picture.{ends_at, walk_at};
@@ -10,13 +10,12 @@ use graph_core::LineGraph;
 use map_base::{LineId, NoMemory, NodeId, SegId, Sequence};
 use octi_grid::{Dir, Walk};
 use std::alloc::Global;
-use svg_writer::{ends_of, lines_of, most_lines, name_of};
+use svg_writer::{ends_of, lines_of, most_lines, name_of, round_of};
 
 /// The lines that end at a node, rising: those that call there, are on exactly one of its segments, and have a name of one
 /// to five characters.
 pub fn ending(alloc: Global, served: Served<'_>, n: NodeId) -> Result<Vec<LineId>, NoMemory>
-    requires graph { IsConsistent served.graph.now }
-    requires node { n.0 < length served.graph.now.kinds }
+    requires { IsConsistent served.graph.now }
     ensures { IfOk result (λ lines. lines.items ≡ ending served.entry.names.now served.entry.graph.now served.entry.callers.now n.0) }
 {
     let mut lines = Vec::new(alloc);
@@ -30,8 +29,7 @@ pub fn ending(alloc: Global, served: Served<'_>, n: NodeId) -> Result<Vec<LineId
 
 /// Whether a line that calls at a node ends there.
 fn is_end(served: Served<'_>, n: NodeId, line: LineId) -> bool
-    requires graph { IsConsistent served.graph.now }
-    requires node { n.0 < length served.graph.now.kinds }
+    requires { IsConsistent served.graph.now }
     ensures { result ≡ is_end served.entry.names.now served.entry.graph.now n.0 line }
 {
     segments_with(served.graph, n, line) == 1 && is_short(name_of(served.names, line))
@@ -39,11 +37,10 @@ fn is_end(served: Served<'_>, n: NodeId, line: LineId) -> bool
 
 /// How many segments of a node a line is on.
 fn segments_with(graph: &LineGraph, n: NodeId, line: LineId) -> usize
-    requires graph { IsConsistent graph.now }
-    requires node { n.0 < length graph.now.kinds }
+    requires { IsConsistent graph.now }
     ensures { result ≡ segments_with graph.now n.0 line }
 {
-    let round = graph.round(n);
+    let round = round_of(graph, n);
     let mut count = 0;
     for s in round {
         if has_line(line, lines_of(graph, s.0)) {
@@ -63,19 +60,20 @@ fn is_short(name: &str) -> bool
 
 /// Whether a node is an interchange: it has at least three segments, and at least two lines call there.
 pub fn is_interchange(graph: &LineGraph, callers: &Sequence<Sequence<LineId>>, n: NodeId) -> bool
-    requires { n.0 < length graph.now.kinds }
     ensures { result ≡ is_interchange graph.now callers.now n.0 }
 {
-    graph.round(n).len() >= 3 && callers_at(callers, n.0).len() >= 2
+    let round = round_of(graph, n);
+    let lines = callers_at(callers, n.0);
+    round.len() >= 3 && lines.len() >= 2
 }
 
 /// How far a station reaches from its centre. For more lines than can be reckoned with there is no room.
 pub(crate) fn radius_at(served: Served<'_>, n: NodeId) -> Result<u32, NoMemory>
-    requires graph { IsConsistent served.graph.now }
-    requires node { n.0 < length served.graph.now.kinds }
+    requires { IsConsistent served.graph.now }
     ensures { IfOk result (λ r. r ≡ radius_at served.entry.graph.now served.entry.callers.now n.0) }
 {
-    let most = most_lines(served.graph, served.graph.round(n));
+    let round = round_of(served.graph, n);
+    let most = most_lines(served.graph, round);
     if most > 100_000_000 {
         return Err(NoMemory);
     }
@@ -84,7 +82,6 @@ pub(crate) fn radius_at(served: Served<'_>, n: NodeId) -> Result<u32, NoMemory>
 
 /// How far it reaches beyond its lines.
 fn rim_at(graph: &LineGraph, callers: &Sequence<Sequence<LineId>>, n: NodeId) -> u32
-    requires { n.0 < length graph.now.kinds }
     ensures value { result ≡ (if is_interchange graph.now callers.now n.0 then 7 else 3) }
     ensures small { result ≤ 7 }
 {
@@ -97,10 +94,9 @@ fn rim_at(graph: &LineGraph, callers: &Sequence<Sequence<LineId>>, n: NodeId) ->
 
 /// Whether all segments of a node leave it to the east or to the west.
 pub(crate) fn leaves_level(served: Served<'_>, n: NodeId) -> bool
-    requires { n.0 < length served.graph.now.kinds }
     ensures { result ≡ leaves_level served.entry.graph.now served.entry.drawing.now.walks n.0 }
 {
-    let round = served.graph.round(n);
+    let round = round_of(served.graph, n);
     for s in round {
         if !is_level(port_at(served, n, *s)) {
             return false;

@@ -1,6 +1,7 @@
 //! Which names a poster prints, and how wide they are.
 
 ghost use Rattle.std.specs.Prelude.{◌≡◌, ◌<◌, ◌==◌, ◌&&◌, ◌||◌, ℕ, false, List, length, slice_index_or, IfOk, Some};
+ghost use Rattle.graph_core.specs.Consistent.{IsConsistent};
 ghost use Rattle.name_widths.specs.Words.{is_common};
 ghost use Rattle.name_widths.specs.Votes.{is_that, texts_of};
 ghost use Rattle.poster_rules.specs.Texts.{all_names, all_rests, are_same, node_rest, printed_at, rest_at, unless_second, width_with};
@@ -26,7 +27,8 @@ pub fn texts_of<'a>(
     graph: &LineGraph,
     names: &'a Names,
 ) -> Result<Texts<'a>, NoMemory>
-    ensures { IfOk result (AreTextsOf names.now graph.now) }
+    ensures texts { IfOk result (AreTextsOf names.now graph.now) }
+    ensures graph { IfOk result (λ texts. IsConsistent graph.now) }
 {
     let all = all_names(alloc, graph, names)?;
     let common = common_word(all.as_slice());
@@ -41,14 +43,14 @@ pub fn printed_at<'a>(
     names: &'a Names,
     n: NodeId,
 ) -> Option<&'a str>
-    requires node { n.0 < length graph.now.kinds }
-    requires texts { AreTextsOf names.now graph.now texts.now }
+    requires { AreTextsOf names.now graph.now texts.now }
     ensures { text_in result ≡ printed_at graph.now (all_rests names.now graph.now) n.0 }
 {
-    unless_second(
-        texts.seconds[n.0 as usize],
-        rest_at(graph, names, texts.common, n),
-    )
+    if n.0 >= graph.nodes() {
+        return None;
+    }
+    let rest = rest_at(graph, names, texts.common, n);
+    unless_second(texts.seconds[n.0 as usize], rest)
 }
 
 /// What is left of a name, where that is not empty and its node is no second platform.
@@ -68,7 +70,8 @@ fn all_names<'a>(
     graph: &LineGraph,
     names: &'a Names,
 ) -> Result<Vec<&'a str>, NoMemory>
-    ensures { IfOk result (λ all. texts_of all.items ≡ all_names names.now graph.now) }
+    ensures names { IfOk result (λ all. texts_of all.items ≡ all_names names.now graph.now) }
+    ensures graph { IfOk result (λ all. IsConsistent graph.now) }
 {
     let mut all = Vec::new(alloc);
     for n in 0..graph.nodes() {

@@ -1,8 +1,10 @@
 -- Frames and shapes that are near enough to be reckoned with.
-use Rattle.std.specs.Prelude.{ℕ, ◌≤◌, unsigned_abs}
+use Rattle.std.specs.Prelude.{◌<◌, ◌≤◌, unsigned_abs}
+use Rattle.line_offsets.specs.declared.corner.Corner.{Corner}
 use Rattle.eight_sides.specs.declared.frame.Frame.{Frame}
 use Rattle.eight_sides.specs.declared.interval.Interval.{Interval}
 use Rattle.eight_sides.specs.declared.shape.Shape.{Shape}
+use Rattle.poster_plan.specs.declared.layout.Legend.{Legend}
 
 -- an interval of what is drawn
 pub record IsNearBy (i : Interval) : Type 0 where
@@ -25,3 +27,15 @@ pub record IsDrawnFrame (f : Frame) : Type 0 where
   pub right : unsigned_abs f.across.greatest ≤ 1099511627776
   pub top : unsigned_abs f.down.least ≤ 1099511627776
   pub bottom : unsigned_abs f.down.greatest ≤ 1099511627776
+
+-- a legend that can be reckoned with
+pub record IsLegend (l : Legend) : Type 0 where
+  pub across : unsigned_abs l.start.x ≤ 919755813888
+  pub down : unsigned_abs l.start.y ≤ 549755858888
+  pub column : l.column ≤ 4294967445
+  pub rows : 0 < l.rows
+
+-- a point of a poster, its legend included
+pub record IsDrawnPoint (c : Corner) : Type 0 where
+  pub across : unsigned_abs c.x ≤ 8796093022208
+  pub down : unsigned_abs c.y ≤ 8796093022208

@@ -1,5 +1,5 @@
 -- Names at a pitch as they are kept, and the search for a pitch.
-use Rattle.std.specs.Prelude.{ℕ, ◌≡◌, ◌+◌, ◌==◌, ◌&&◌, ◌||◌, Bool, nat_le, nat_lt, List, [], ◌∷◌, length, filter, fold, if◌then◌else◌, unwrap_or}
+use Rattle.std.specs.Prelude.{ℕ, ◌≡◌, ◌≤◌, ◌==◌, ◌&&◌, ◌||◌, Bool, nat_le, nat_lt, List, [], ◌∷◌, length, filter, fold, if◌then◌else◌, unwrap_or}
 use Rattle.std.specs.List.{find}
 use Rattle.poster_plan.specs.declared.plan.Plan.{Plan}
 use Rattle.poster_plan.specs.Placing.{named, printed_names}
@@ -17,6 +17,7 @@ pub record IsLaid (plan : Plan) (laid : Laid) : Type 0 where
   pub printed : laid.printed.items ≡ printed_names laid.pitch plan
   pub full : laid.full_left ≡ full_left laid.pitch plan
   pub small : laid.small_left ≡ small_left laid.pitch plan
+  pub pitch : laid.pitch ≤ 200
 
 -- the first of these pitches that suits, or the greatest of all
 abbrev pub first_of : Plan → List ℕ → ℕ

@@ -22,6 +22,7 @@ pub struct Layout {
 /// The pitch of a plan, and the names at it.
 pub fn layout_of(alloc: Global, plan: &Plan) -> Result<Layout, NoMemory>
     ensures pitch { IfOk result (λ layout. layout.pitch ≡ pitch_of plan.now) }
+    ensures small { IfOk result (λ layout. layout.pitch ≤ 200) }
     ensures printed { IfOk result (λ layout. layout.printed ≡ printed_names (pitch_of plan.now) plan.now) }
 {
     let first = first_suiting(alloc, plan)?;
@@ -73,8 +74,7 @@ fn suits(laid: &Laid, names: usize) -> bool
 
 /// Whether the names at a pitch and all grid points of walks fit into 4200 units.
 fn fits(plan: &Plan, laid: &Laid) -> bool
-    requires laid { IsLaid plan.now laid.now }
-    requires pitch { laid.now.pitch ≤ 200 }
+    requires { IsLaid plan.now laid.now }
     ensures { result ≡ fits plan.now laid.now.pitch }
 {
     is_small(frame_with(laid.pitch, plan, laid.printed.as_slice()))
@@ -94,8 +94,7 @@ fn is_better(laid: &Laid, best: &Laid) -> bool
 /// The best of the pitches from one that fits on, as long as all fits, and no further than the first at which each name is
 /// in full size.
 fn best_from(alloc: Global, plan: &Plan, first: Laid) -> Result<Laid, NoMemory>
-    requires laid { IsLaid plan.now first }
-    requires pitch { first.pitch ≤ 200 }
+    requires { IsLaid plan.now first }
     ensures laid { IfOk result (IsLaid plan.now) }
     ensures pitch { IfOk result (λ laid. laid.pitch ≡ best_of plan.now first.pitch first.full_left first.pitch) }
 {

@@ -1,14 +1,20 @@
 //! Where the legend stands.
 
 ghost use Rattle.std.specs.Prelude.{◌≡◌, ◌≤◌, ◌<◌, unsigned_abs, IfSome};
-ghost use Rattle.poster_layout.specs.Extents.{IsDrawnFrame, IsNearFrame};
+ghost use Rattle.poster_layout.specs.Extents.{IsDrawnFrame, IsDrawnPoint, IsLegend, IsNearFrame};
 ghost use Rattle.poster_plan.specs.Legends.{frame_beside, column_for, corners_for, is_clear_of_all, legend_height, legend_of, legend_shape, legend_start, legend_width, outside, row_at, rows_for, widely};
+ghost use Rattle.std.specs.List.{list_any};
+ghost use Rattle.eight_sides.specs.Shapes.{meet};
+ghost use Rattle.poster_plan.specs.declared.plan.Mark.{Mark};
+ghost use Rattle.poster_plan.specs.declared.plan.Piece.{Piece};
+ghost use Rattle.poster_plan.specs.Placing.{meets_printed};
+ghost use Rattle.poster_plan.specs.Signs.{mark_at, piece_at};
 
 use crate::extent::frame_with;
 use crate::signs::{mark_at, piece_at, printed_shape};
 use eight_sides::{Frame, Interval, Shape, meet, upright, widened};
 use line_offsets::Corner;
-use poster_plan::{Legend, Plan, Printed};
+use poster_plan::{Legend, Mark, Piece, Plan, Printed};
 
 /// How many rows a column has where there are so many lines: at least 12, and at least twice the root of their number.
 fn rows_for(lines: u32) -> u32
@@ -62,10 +68,7 @@ pub fn legend_of(
     requires pitch { pitch ≤ 200 }
     requires lines { lines ≤ 1000 }
     ensures value { result ≡ legend_of pitch plan.now printed.now lines widest }
-    ensures x { IfSome result (λ legend. unsigned_abs legend.start.x ≤ 919755813888) }
-    ensures y { IfSome result (λ legend. unsigned_abs legend.start.y ≤ 549755858888) }
-    ensures rows { IfSome result (λ legend. 0 < legend.rows) }
-    ensures column { IfSome result (λ legend. legend.column ≤ 4294967445) }
+    ensures near { IfSome result IsLegend }
 {
     if lines == 0 {
         return None;
@@ -137,7 +140,13 @@ fn widely(z: i64, long: u64) -> Interval
 }
 
 /// What it takes up, widened by 30 on each side.
-fn legend_shape(width: u64, height: u64, start: Corner) -> Shape {
+fn legend_shape(width: u64, height: u64, start: Corner) -> Shape
+    requires x { unsigned_abs start.x ≤ 1099511627776 }
+    requires y { unsigned_abs start.y ≤ 1099511627776 }
+    requires width { width ≤ 370000000000 }
+    requires height { height ≤ 45000 }
+    ensures { result ≡ legend_shape width height start }
+{
     upright(widely(start.x, width), widely(start.y, height))
 }
 
@@ -146,32 +155,48 @@ fn is_clear_of_all(pitch: u32, plan: &Plan, printed: &[Printed], shape: Shape) -
     requires { pitch ≤ 200 }
     ensures { result ≡ is_clear_of_all pitch plan.now printed.now shape }
 {
-    !meets_mark(pitch, plan, shape)
-        && !meets_piece(pitch, plan, shape)
+    !meets_mark(pitch, plan.marks.as_slice(), shape)
+        && !meets_piece(pitch, plan.pieces.as_slice(), shape)
         && !meets_printed(pitch, plan, printed, shape)
 }
 
 /// Whether a shape meets a station.
-fn meets_mark(pitch: u32, plan: &Plan, shape: Shape) -> bool {
-    plan.marks
-        .as_slice()
-        .iter()
-        .any(|mark| meet(shape, mark_at(pitch, *mark)))
+fn meets_mark(pitch: u32, marks: &[Mark], shape: Shape) -> bool
+    requires { pitch ≤ 200 }
+    ensures { result ≡ list_any (λ (m : Mark). meet shape (mark_at pitch m)) marks.now }
+{
+    for mark in marks {
+        if meet(shape, mark_at(pitch, *mark)) {
+            return true;
+        }
+    }
+    false
 }
 
 /// Whether a shape meets a straight piece.
-fn meets_piece(pitch: u32, plan: &Plan, shape: Shape) -> bool {
-    plan.pieces
-        .as_slice()
-        .iter()
-        .any(|piece| meet(shape, piece_at(pitch, *piece)))
+fn meets_piece(pitch: u32, pieces: &[Piece], shape: Shape) -> bool
+    requires { pitch ≤ 200 }
+    ensures { result ≡ list_any (λ (p : Piece). meet shape (piece_at pitch p)) pieces.now }
+{
+    for piece in pieces {
+        if meet(shape, piece_at(pitch, *piece)) {
+            return true;
+        }
+    }
+    false
 }
 
 /// Whether a shape meets a printed name.
-fn meets_printed(pitch: u32, plan: &Plan, printed: &[Printed], shape: Shape) -> bool {
-    printed
-        .iter()
-        .any(|name| meet(shape, printed_shape(pitch, plan, *name)))
+fn meets_printed(pitch: u32, plan: &Plan, printed: &[Printed], shape: Shape) -> bool
+    requires { pitch ≤ 200 }
+    ensures { result ≡ meets_printed pitch plan.now printed.now shape }
+{
+    for name in printed {
+        if meet(shape, printed_shape(pitch, plan, *name)) {
+            return true;
+        }
+    }
+    false
 }
 
 /// Beside the map: to the right of one that is no wider than it is high, and else below it.
@@ -194,11 +219,10 @@ fn outside(f: Frame) -> Corner
 
 /// Where row `i` of a legend is.
 pub fn row_at(legend: Legend, i: u32) -> Corner
-    requires x { unsigned_abs legend.start.x ≤ 919755813888 }
-    requires y { unsigned_abs legend.start.y ≤ 549755858888 }
-    requires rows { 0 < legend.rows }
-    requires column { legend.column ≤ 4294967445 }
-    ensures { result ≡ row_at legend i }
+    requires legend { IsLegend legend }
+    requires row { i ≤ 1000 }
+    ensures value { result ≡ row_at legend i }
+    ensures near { IsDrawnPoint result }
 {
     let (column, row) = (i / legend.rows, i % legend.rows);
     Corner {
@@ -211,8 +235,7 @@ pub fn row_at(legend: Legend, i: u32) -> Corner
 pub fn frame_beside(f: Frame, lines: u32, widest: u32, legend: Option<Legend>) -> Frame
     requires frame { IsNearFrame f }
     requires lines { lines ≤ 1000 }
-    requires x { IfSome legend (λ l. unsigned_abs l.start.x ≤ 919755813888) }
-    requires y { IfSome legend (λ l. unsigned_abs l.start.y ≤ 549755858888) }
+    requires legend { IfSome legend IsLegend }
     ensures value { result ≡ frame_beside f lines widest legend }
     ensures drawn { IsDrawnFrame result }
 {

@@ -1,8 +1,8 @@
 //! The elements of a poster, each a line (SVG 1.1).
 
-ghost use Rattle.std.specs.Prelude.{◌≡◌, ◌++◌, ◌∷◌, [], OnOk, string_bytes};
+ghost use Rattle.std.specs.Prelude.{◌≡◌, ◌++◌, OnOk, string_bytes};
 ghost use Rattle.poster_layout.specs.Extents.{IsDrawnFrame};
-ghost use Rattle.poster_rules.specs.Elements.{element_text, group_text, view_place, view_size, texts, Head, Ground, Opens, Closes, OnSegment, BehindOnSegment, AtNode, BehindAtNode, Station, Stroke, RowName, Tail};
+ghost use Rattle.poster_rules.specs.Elements.{element_text, view_place, view_size, Head, Ground, Opens, Closes, OnSegment, BehindOnSegment, AtNode, BehindAtNode, Station, Stroke, RowName, Tail, LinesGroup, StationsGroup, NamesGroup, LegendGroup};
 
 use crate::pieces::{push_classes, push_stroke, push_width};
 use eight_sides::Frame;
@@ -19,15 +19,6 @@ pub(crate) const DARK: [u8; 3] = [68, 68, 68];
 pub(crate) const BLACK: [u8; 3] = [0, 0, 0];
 
 pub(crate) const WHITE: [u8; 3] = [255, 255, 255];
-
-/// What a group holds.
-#[derive(Clone, Copy)]
-pub(crate) enum Group {
-    Lines,
-    Stations,
-    Names,
-    Legend,
-}
 
 /// Where the view of a frame begins, which is 60 units wider on each side.
 fn view_place(f: Frame) -> Corner
@@ -80,19 +71,39 @@ pub(crate) fn push_ground(text: &mut String, frame: Frame) -> Result<(), NoMemor
     Ok(())
 }
 
-/// Appends the start of a group.
-pub(crate) fn open_group(text: &mut String, group: Group) -> Result<(), NoMemory> {
-    let start = match group {
-        Group::Lines => {
-            "<g id=\"lines\" fill=\"none\" stroke-linejoin=\"round\" stroke-linecap=\"round\" stroke-width=\"12\">\n"
-        }
-        Group::Stations => {
-            "<g id=\"stations\" fill=\"none\" stroke-linejoin=\"round\" stroke-linecap=\"round\">\n"
-        }
-        Group::Names => "<g id=\"names\" font-size=\"30\" fill=\"#000000\">\n",
-        Group::Legend => "<g id=\"legend\" font-size=\"30\" fill=\"#000000\">\n",
-    };
-    text.push_str(start)?;
+/// Appends the start of the group of lines.
+pub(crate) fn open_lines(text: &mut String) -> Result<(), NoMemory>
+    ensures { OnOk result (string_bytes text.new ≡ string_bytes text.old ++ element_text (Opens LinesGroup)) }
+{
+    text.push_str(
+        "<g id=\"lines\" fill=\"none\" stroke-linejoin=\"round\" stroke-linecap=\"round\" stroke-width=\"12\">\n",
+    )?;
+    Ok(())
+}
+
+/// Appends the start of the group of stations.
+pub(crate) fn open_stations(text: &mut String) -> Result<(), NoMemory>
+    ensures { OnOk result (string_bytes text.new ≡ string_bytes text.old ++ element_text (Opens StationsGroup)) }
+{
+    text.push_str(
+        "<g id=\"stations\" fill=\"none\" stroke-linejoin=\"round\" stroke-linecap=\"round\">\n",
+    )?;
+    Ok(())
+}
+
+/// Appends the start of the group of names.
+pub(crate) fn open_names(text: &mut String) -> Result<(), NoMemory>
+    ensures { OnOk result (string_bytes text.new ≡ string_bytes text.old ++ element_text (Opens NamesGroup)) }
+{
+    text.push_str("<g id=\"names\" font-size=\"30\" fill=\"#000000\">\n")?;
+    Ok(())
+}
+
+/// Appends the start of the legend.
+pub(crate) fn open_legend(text: &mut String) -> Result<(), NoMemory>
+    ensures { OnOk result (string_bytes text.new ≡ string_bytes text.old ++ element_text (Opens LegendGroup)) }
+{
+    text.push_str("<g id=\"legend\" font-size=\"30\" fill=\"#000000\">\n")?;
     Ok(())
 }
 

@@ -1,7 +1,16 @@
 //! The lines on segments, and those from segment to segment.
 
+ghost use Rattle.std.specs.Prelude.{◌≡◌, ◌≤◌, ◌<◌, ◌++◌, ◌∷◌, [], length, slice_index_or, OnOk, string_bytes};
+ghost use Rattle.line_offsets.specs.Paths.{line_path_at};
+ghost use Rattle.svg_writer.specs.Courses.{order_at};
+ghost use Rattle.svg_writer.specs.Picture.{colour_of, joins_at, name_of, walk_at};
+ghost use Rattle.poster_rules.specs.Elements.{texts, AtNode, BehindAtNode, BehindOnSegment, OnSegment};
+ghost use Rattle.poster_rules.specs.Posters.{join_elements, node_joins, path_on, segment_elements, with_behind};
+ghost use Rattle.poster_picture.specs.Sheets.{plain};
+ghost use Rattle.poster_picture.specs.Parts.{all_joins, all_lines};
+
 use crate::elements::{push_at_node, push_behind_at_node, push_behind_on_segment, push_on_segment};
-use crate::sheet::Sheet;
+use crate::sheet::{Sheet, foot_on, walk_of};
 use graph_core::Join;
 use line_offsets::{Corner, put_path_at};
 use map_base::{LineId, NoMemory, NodeId};
@@ -14,7 +23,10 @@ pub(crate) fn push_all_lines(
     alloc: Global,
     text: &mut String,
     sheet: Sheet<'_>,
-) -> Result<(), NoMemory> {
+) -> Result<(), NoMemory>
+    requires { sheet.pitch ≤ 200 }
+    ensures { OnOk result (string_bytes text.new ≡ string_bytes text.old ++ texts (all_lines (plain sheet.entry))) }
+{
     let mut path = Vec::new(alloc);
     for s in 0..sheet.graph.segs() {
         push_segment(text, &mut path, sheet, s)?;
@@ -28,7 +40,10 @@ fn push_segment(
     path: &mut Vec<Corner>,
     sheet: Sheet<'_>,
     s: u32,
-) -> Result<(), NoMemory> {
+) -> Result<(), NoMemory>
+    requires { sheet.pitch ≤ 200 }
+    ensures { OnOk result (string_bytes text.new ≡ string_bytes text.old ++ texts (segment_elements (plain sheet.entry) s)) }
+{
     let order = order_of(sheet.orders, s);
     for i in 0..order.len() {
         let k = gauge(order.len(), i)?;
@@ -39,8 +54,11 @@ fn push_segment(
 }
 
 /// Puts the path of a line that is shifted k places beside the walk of a segment into `path`, in place of what it held.
-fn put_line(path: &mut Vec<Corner>, sheet: Sheet<'_>, s: u32, k: i32) -> Result<(), NoMemory> {
-    match sheet.walk_of(s) {
+fn put_line(path: &mut Vec<Corner>, sheet: Sheet<'_>, s: u32, k: i32) -> Result<(), NoMemory>
+    requires { sheet.pitch ≤ 200 }
+    ensures { OnOk result (path.new.items ≡ line_path_at sheet.entry.pitch (walk_at sheet.entry.drawing.now.walks s) k) }
+{
+    match walk_of(sheet, s) {
         Some(walk) => put_path_at(path, sheet.pitch, walk, k),
         None => {
             path.clear();
@@ -56,7 +74,9 @@ fn push_line(
     s: u32,
     line: LineId,
     path: &[Corner],
-) -> Result<(), NoMemory> {
+) -> Result<(), NoMemory>
+    ensures { OnOk result (string_bytes text.new ≡ string_bytes text.old ++ texts (with_behind (colour_of sheet.entry.names.now line) (BehindOnSegment s line.0 path.now) (OnSegment s line.0 path.now (colour_of sheet.entry.names.now line) (name_of sheet.entry.names.now line)))) }
+{
     let colour = colour_of(sheet.names, line);
     if is_pale(colour) {
         push_behind_on_segment(text, s, line, path)?;
@@ -65,7 +85,10 @@ fn push_line(
 }
 
 /// Appends each line from segment to segment at each node.
-pub(crate) fn push_all_joins(text: &mut String, sheet: Sheet<'_>) -> Result<(), NoMemory> {
+pub(crate) fn push_all_joins(text: &mut String, sheet: Sheet<'_>) -> Result<(), NoMemory>
+    requires { sheet.pitch ≤ 200 }
+    ensures { OnOk result (string_bytes text.new ≡ string_bytes text.old ++ texts (all_joins (plain sheet.entry))) }
+{
     for n in 0..sheet.graph.nodes() {
         push_node_joins(text, sheet, NodeId(n))?;
     }
@@ -73,7 +96,11 @@ pub(crate) fn push_all_joins(text: &mut String, sheet: Sheet<'_>) -> Result<(), 
 }
 
 /// Appends the lines from segment to segment at a node.
-fn push_node_joins(text: &mut String, sheet: Sheet<'_>, n: NodeId) -> Result<(), NoMemory> {
+fn push_node_joins(text: &mut String, sheet: Sheet<'_>, n: NodeId) -> Result<(), NoMemory>
+    requires pitch { sheet.pitch ≤ 200 }
+    requires node { n.0 < length sheet.graph.now.kinds }
+    ensures { OnOk result (string_bytes text.new ≡ string_bytes text.old ++ texts (node_joins (plain sheet.entry) n.0)) }
+{
     for join in sheet.graph.joins(n) {
         push_join(text, sheet, n, *join)?;
     }
@@ -81,19 +108,17 @@ fn push_node_joins(text: &mut String, sheet: Sheet<'_>, n: NodeId) -> Result<(),
 }
 
 /// Appends a line from segment to segment at a node, where its two ends differ.
-fn push_join(text: &mut String, sheet: Sheet<'_>, n: NodeId, join: Join) -> Result<(), NoMemory> {
-    let start = sheet.foot_on(n, join.e.0, join.line)?;
-    let end = sheet.foot_on(n, join.f.0, join.line)?;
+fn push_join(text: &mut String, sheet: Sheet<'_>, n: NodeId, join: Join) -> Result<(), NoMemory>
+    requires { sheet.pitch ≤ 200 }
+    ensures { OnOk result (string_bytes text.new ≡ string_bytes text.old ++ texts (join_elements (plain sheet.entry) n.0 join)) }
+{
+    let start = foot_on(sheet, n, join.e.0, join.line)?;
+    let end = foot_on(sheet, n, join.f.0, join.line)?;
     if are_one(start, end) {
         return Ok(());
     }
-    push_between(
-        text,
-        n,
-        join.line,
-        &[start, end],
-        colour_of(sheet.names, join.line),
-    )
+    let colour = colour_of(sheet.names, join.line);
+    push_between(text, n, join.line, &[start, end], colour)
 }
 
 /// Appends a line between its two ends at a node, and what stands behind it where it is pale.
@@ -103,7 +128,9 @@ fn push_between(
     line: LineId,
     path: &[Corner],
     colour: &[u8],
-) -> Result<(), NoMemory> {
+) -> Result<(), NoMemory>
+    ensures { OnOk result (string_bytes text.new ≡ string_bytes text.old ++ texts (with_behind colour.now (BehindAtNode n.0 line.0 path.now) (AtNode n.0 line.0 path.now colour.now))) }
+{
     if is_pale(colour) {
         push_behind_at_node(text, n.0, line, path)?;
     }

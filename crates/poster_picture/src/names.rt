@@ -1,22 +1,21 @@
 //! The names of stations at their places.
 
-use crate::elements::DARK;
-use crate::pieces::{push_name_text, push_spot};
-use crate::sheet::Sheet;
-use map_base::{LineId, NoMemory, NodeId};
-use name_widths::is_faint;
-use poster_graph::{Texts, ending};
-use poster_layout::{mark_numbered, sign_of, text_spot};
-use poster_plan::{Plan, Printed, Step};
-use std::alloc::Global;
-use svg_writer::{Names, colour_of, name_of};
+ghost use Rattle.std.specs.Prelude.{◌≡◌, ◌≤◌, ◌<◌, ◌++◌, ◌∷◌, [], ℕ, None, length, map, slice_index_or, IfOk, OnOk, string_bytes};
+ghost use Rattle.graph_core.specs.Consistent.{IsConsistent};
+ghost use Rattle.poster_graph.specs.Words.{AreTextsOf};
+ghost use Rattle.poster_rules.specs.Elements.{texts, Name, RimOfName};
+ghost use Rattle.poster_rules.specs.Posters.{all_names, ending_of, name_where, printed_of, rim_of};
+ghost use Rattle.poster_picture.specs.Sheets.{plain};
+ghost use Rattle.poster_picture.specs.Noted.{first_of};
 
-/// The name of a line that ends at a station, in its colour.
-#[derive(Clone, Copy)]
-pub(crate) struct Ending<'a> {
-    pub colour: &'a [u8],
-    pub name: &'a str,
-}
+use crate::pieces::{push_name_text, push_spot};
+use crate::sheet::{Sheet, served};
+use map_base::{LineId, NoMemory};
+use poster_graph::{Texts, ending, printed_at};
+use poster_layout::{mark_numbered, sign_of, text_spot};
+use poster_plan::{Mark, Plan, Printed, Spot, Step};
+use std::alloc::Global;
+use svg_writer::Names;
 
 /// Appends the names that are printed, in node order.
 pub(crate) fn push_all_names(
@@ -24,57 +23,99 @@ pub(crate) fn push_all_names(
     text: &mut String,
     sheet: Sheet<'_>,
     plan: &Plan,
-    texts: &Texts<'_>,
+    words: &Texts<'_>,
     printed: &[Printed],
-) -> Result<(), NoMemory> {
-    let mut places: Vec<Option<Printed>> = vec![in alloc; None; plan.marks.as_slice().len()]?;
-    for name in printed {
-        places[name.mark as usize] = Some(*name);
+) -> Result<(), NoMemory>
+    requires pitch { sheet.pitch ≤ 200 }
+    requires graph { IsConsistent sheet.graph.now }
+    requires words { AreTextsOf sheet.names.now sheet.graph.now words.now }
+    ensures { OnOk result (string_bytes text.new ≡ string_bytes text.old ++ texts (all_names (plain sheet.entry) plan.now.marks printed.now)) }
+{
+    let count = plan.marks.as_slice().len();
+    if count > 1 << 31 {
+        return Err(NoMemory);
     }
-    for place in &places {
-        if let Some(name) = place {
-            push_name(alloc, text, sheet, plan, texts, *name)?;
-        }
+    let places = places_of(alloc, count, printed)?;
+    for i in 0..count {
+        let mark = mark_numbered(plan, i as u32);
+        push_where(alloc, text, sheet, words, mark, places[i])?;
     }
     Ok(())
 }
 
-/// Appends a printed name, with its rim behind it where it lies over lines.
-fn push_name(
+/// For each of so many marks where its name is printed, if it is.
+fn places_of(
+    alloc: Global,
+    count: usize,
+    printed: &[Printed],
+) -> Result<Vec<Option<Printed>>, NoMemory>
+    ensures each { IfOk result (λ places. length places.items ≡ count) }
+    ensures places { IfOk result (λ places. (i : ℕ) → i < count → slice_index_or places.items i None ≡ printed_of printed.now i) }
+{
+    let mut places: Vec<Option<Printed>> = vec![in alloc; None; count]?;
+    for name in printed {
+        note_place(&mut places, *name);
+    }
+    Ok(places)
+}
+
+/// Notes where a name is printed, where its mark is one of those and is not noted yet.
+fn note_place(places: &mut [Option<Printed>], name: Printed)
+    ensures each { length places.new ≡ length places.old }
+    ensures places { (i : ℕ) → i < length places.old → slice_index_or places.new i None ≡ first_of (slice_index_or places.old i None) (printed_of (name ∷ []) i) }
+{
+    let i = name.mark as usize;
+    if i < places.len() && places[i].is_none() {
+        places[i] = Some(name);
+    }
+}
+
+/// Appends the name of a mark, where it is printed.
+fn push_where(
     alloc: Global,
     text: &mut String,
     sheet: Sheet<'_>,
-    plan: &Plan,
-    texts: &Texts<'_>,
-    printed: Printed,
-) -> Result<(), NoMemory> {
-    let mark = mark_numbered(plan, printed.mark);
+    words: &Texts<'_>,
+    mark: Mark,
+    printed: Option<Printed>,
+) -> Result<(), NoMemory>
+    requires pitch { sheet.pitch ≤ 200 }
+    requires graph { IsConsistent sheet.graph.now }
+    requires words { AreTextsOf sheet.names.now sheet.graph.now words.now }
+    ensures { OnOk result (string_bytes text.new ≡ string_bytes text.old ++ texts (name_where (plain sheet.entry) mark printed)) }
+{
+    let Some(printed) = printed else {
+        return Ok(());
+    };
+    let name = printed_at(words, sheet.graph, sheet.names, mark.node).unwrap_or("");
+    let lines = ending(alloc, served(sheet), mark.node)?;
     let spot = text_spot(sign_of(sheet.pitch, mark), printed.step, printed.place);
-    let name = texts.printed_at(mark.node).unwrap_or("");
-    let endings = endings_at(alloc, sheet, mark.node)?;
-    if printed.step == Step::Over {
-        push_spot(text, spot, printed.step)?;
+    push_name(
+        text,
+        sheet.names,
+        spot,
+        printed.step,
+        name,
+        lines.as_slice(),
+    )
+}
+
+/// Appends a name at its spot with the lines that end there, and its rim behind it where it lies over lines.
+fn push_name(
+    text: &mut String,
+    names: &Names,
+    spot: Spot,
+    step: Step,
+    name: &str,
+    lines: &[LineId],
+) -> Result<(), NoMemory>
+    ensures { OnOk result (string_bytes text.new ≡ string_bytes text.old ++ texts (rim_of step (RimOfName spot step name.now (map (ending_of names.now) lines.now)) ++ Name spot step name.now (map (ending_of names.now) lines.now) ∷ [])) }
+{
+    if step == Step::Over {
+        push_spot(text, spot, step)?;
         text.push_str(" stroke=\"#ffffff\" stroke-width=\"6\" stroke-linejoin=\"round\"")?;
-        push_name_text(text, printed.step, name, endings.as_slice())?;
+        push_name_text(text, names, step, name, lines)?;
     }
-    push_spot(text, spot, printed.step)?;
-    push_name_text(text, printed.step, name, endings.as_slice())
-}
-
-/// The lines that end at a node.
-fn endings_at<'a>(alloc: Global, sheet: Sheet<'a>, n: NodeId) -> Result<Vec<Ending<'a>>, NoMemory> {
-    let mut endings = Vec::new(alloc);
-    for line in &ending(alloc, sheet.served(), n)? {
-        endings.push(ending_of(sheet.names, *line))?;
-    }
-    Ok(endings)
-}
-
-/// A line that ends at a station, its colour dark where it is faint.
-fn ending_of<'a>(names: &'a Names, line: LineId) -> Ending<'a> {
-    let colour = colour_of(names, line);
-    Ending {
-        colour: if is_faint(colour) { &DARK[..] } else { colour },
-        name: name_of(names, line),
-    }
+    push_spot(text, spot, step)?;
+    push_name_text(text, names, step, name, lines)
 }

@@ -1,15 +1,22 @@
 //! What elements are made of.
 
-ghost use Rattle.std.specs.Prelude.{◌≡◌, ◌++◌, OnOk, string_bytes};
+ghost use Rattle.std.specs.Prelude.{◌≡◌, ◌++◌, ◌∷◌, OnOk, codes, if◌then◌else◌, map, string_bytes};
 ghost use Rattle.std.specs.List.{flat_map};
-ghost use Rattle.poster_rules.specs.Elements.{anchor_text, classes_text, ending_text, name_text, size_text, spot_text, stroke_text, turn_text, turned_text, width_text};
+ghost use Rattle.std.specs.Fmt.{decimal};
+ghost use Rattle.name_widths.specs.Colours.{is_faint};
+ghost use Rattle.svg_writer.specs.Elements.{colour_text, place_text};
+ghost use Rattle.poster_rules.specs.Elements.{anchor_text, classes_text, dark, ending_text, name_text, size_text, spot_text, stroke_text, turn_text, turned_text, width_text};
+ghost use Rattle.poster_rules.specs.Posters.{ending_of};
 
-use crate::names::Ending;
+use crate::elements::DARK;
 use line_offsets::Corner;
 use map_base::{LineId, NoMemory};
+use name_widths::is_faint;
 use poster_layout::tenth;
 use poster_plan::{Anchor, Spot, Step, Turn};
-use svg_writer::{push_colour, push_corner, push_escaped, push_natural, push_place};
+use svg_writer::{
+    Names, colour_of, name_of, push_colour, push_corner, push_escaped, push_natural, push_place,
+};
 
 /// Appends a stroke's colour, to the end of its attribute.
 pub(crate) fn push_stroke(text: &mut String, colour: &[u8]) -> Result<(), NoMemory>
@@ -42,7 +49,9 @@ pub(crate) fn push_classes(text: &mut String, lines: &[LineId]) -> Result<(), No
 }
 
 /// Appends the class of a line.
-fn push_class(text: &mut String, line: LineId) -> Result<(), NoMemory> {
+fn push_class(text: &mut String, line: LineId) -> Result<(), NoMemory>
+    ensures { OnOk result (string_bytes text.new ≡ string_bytes text.old ++ (codes " l" ++ decimal line.0)) }
+{
     text.push_str(" l")?;
     push_natural(text, u64::from(line.0))?;
     Ok(())
@@ -70,7 +79,9 @@ fn push_turn(text: &mut String, turn: Turn, at: Corner, step: Step) -> Result<()
 }
 
 /// Appends the point of a level text.
-fn push_level(text: &mut String, at: Corner) -> Result<(), NoMemory> {
+fn push_level(text: &mut String, at: Corner) -> Result<(), NoMemory>
+    ensures { OnOk result (string_bytes text.new ≡ string_bytes text.old ++ (codes "<text x=\"" ++ (place_text at ++ codes "\""))) }
+{
     text.push_str("<text x=\"")?;
     push_place(text, at)?;
     text.push_str("\"")?;
@@ -115,27 +126,56 @@ fn push_size(text: &mut String, step: Step) -> Result<(), NoMemory>
 /// Appends a name with the lines that end there, to the end of its line.
 pub(crate) fn push_name_text(
     text: &mut String,
+    names: &Names,
     step: Step,
     name: &str,
-    endings: &[Ending<'_>],
-) -> Result<(), NoMemory> {
+    lines: &[LineId],
+) -> Result<(), NoMemory>
+    ensures { OnOk result (string_bytes text.new ≡ string_bytes text.old ++ name_text step name.now (map (ending_of names.now) lines.now)) }
+{
     text.push_str(">")?;
     push_escaped(text, name)?;
-    for ending in endings {
-        push_ending(text, step, *ending)?;
-    }
+    push_endings(text, names, step, lines)?;
     text.push_str("</text>\n")?;
     Ok(())
 }
 
+/// Appends the names of lines that end at a station.
+fn push_endings(
+    text: &mut String,
+    names: &Names,
+    step: Step,
+    lines: &[LineId],
+) -> Result<(), NoMemory>
+    ensures { OnOk result (string_bytes text.new ≡ string_bytes text.old ++ flat_map (ending_text step) (map (ending_of names.now) lines.now)) }
+{
+    for line in lines {
+        push_ending(text, names, step, *line)?;
+    }
+    Ok(())
+}
+
 /// Appends the name of a line that ends at a station.
-fn push_ending(text: &mut String, step: Step, ending: Ending<'_>) -> Result<(), NoMemory> {
+fn push_ending(text: &mut String, names: &Names, step: Step, line: LineId) -> Result<(), NoMemory>
+    ensures { OnOk result (string_bytes text.new ≡ string_bytes text.old ++ ending_text step (ending_of names.now line)) }
+{
     text.push_str("<tspan dx=\"")?;
     push_natural(text, u64::from(3 * tenth(step)))?;
     text.push_str("\" fill=\"")?;
-    push_colour(text, ending.colour)?;
+    push_shade(text, colour_of(names, line))?;
     text.push_str("\" font-weight=\"bold\">")?;
-    push_escaped(text, ending.name)?;
+    push_escaped(text, name_of(names, line))?;
     text.push_str("</tspan>")?;
     Ok(())
+}
+
+/// Appends a colour of type: dark grey in place of a faint one.
+fn push_shade(text: &mut String, colour: &[u8]) -> Result<(), NoMemory>
+    ensures { OnOk result (string_bytes text.new ≡ string_bytes text.old ++ colour_text (if is_faint colour.now then dark else colour.now)) }
+{
+    if is_faint(colour) {
+        push_colour(text, &DARK)
+    } else {
+        push_colour(text, colour)
+    }
 }

@@ -1,72 +1,121 @@
 //! The marks of stations, at the lines that call there.
 
-ghost use Rattle.std.specs.Prelude.{◌≡◌, ◌<◌, ◌≤◌, length, IfOk};
-ghost use Rattle.std.specs.List.{position_or_len};
-ghost use Rattle.poster_rules.specs.Posters.{by_size, goes_before};
+ghost use Rattle.std.specs.Prelude.{◌≡◌, ◌<◌, ◌≤◌, ◌++◌, length, IfOk, OnOk, string_bytes};
+ghost use Rattle.std.specs.List.{list_any, position_or_len};
+ghost use Rattle.graph_core.specs.Consistent.{IsConsistent};
+ghost use Rattle.svg_writer.specs.Picture.{are_one};
+ghost use Rattle.poster_rules.specs.Elements.{texts};
+ghost use Rattle.poster_rules.specs.Posters.{by_size, feet_at, goes_before, stands_on, station_elements, stroke_through, strokes_at, strokes_over, with_corner};
+ghost use Rattle.poster_rules.specs.Stations.{callers_at};
+ghost use Rattle.poster_picture.specs.Feet.{with_stand, with_stands};
+ghost use Rattle.poster_picture.specs.Parts.{all_stations, station_at};
+ghost use Rattle.poster_picture.specs.Sheets.{plain};
 
 use crate::elements::{BLACK, WHITE, close_group, push_along, push_station};
-use crate::sheet::Sheet;
+use crate::sheet::{Sheet, foot_on};
 use graph_core::{LineGraph, NodeKind};
 use line_offsets::Corner;
 use map_base::{LineId, NoMemory, NodeId, SegId};
-use poster_graph::{callers_at, is_interchange};
+use poster_graph::{callers_at, has_line, is_interchange};
 use std::alloc::Global;
-use svg_writer::{are_one, lines_of, order_of, station_name};
+use svg_writer::{are_one, lines_of, order_of, round_of, station_name};
 
 /// Appends each station.
 pub(crate) fn push_all_stations(
     alloc: Global,
     text: &mut String,
     sheet: Sheet<'_>,
-) -> Result<(), NoMemory> {
+) -> Result<(), NoMemory>
+    requires { sheet.pitch ≤ 200 }
+    ensures { OnOk result (string_bytes text.new ≡ string_bytes text.old ++ texts (all_stations (plain sheet.entry))) }
+{
     for n in 0..sheet.graph.nodes() {
-        if let NodeKind::Station(station) = sheet.graph.kind(NodeId(n)) {
-            push_station_at(
-                alloc,
-                text,
-                sheet,
-                NodeId(n),
-                station_name(sheet.names, station.0),
-            )?;
-        }
+        push_node(alloc, text, sheet, NodeId(n))?;
     }
     Ok(())
 }
 
-/// Appends a station of this name.
-fn push_station_at(
+/// Appends a node, where it is a station.
+fn push_node(alloc: Global, text: &mut String, sheet: Sheet<'_>, n: NodeId) -> Result<(), NoMemory>
+    requires pitch { sheet.pitch ≤ 200 }
+    requires graph { IsConsistent sheet.graph.now }
+    requires node { n.0 < length sheet.graph.now.kinds }
+    ensures { OnOk result (string_bytes text.new ≡ string_bytes text.old ++ texts (station_at (plain sheet.entry) n.0)) }
+{
+    push_kind(alloc, text, sheet, n, sheet.graph.kind(n))
+}
+
+/// Appends a node of this kind, where that is a station.
+fn push_kind(
     alloc: Global,
     text: &mut String,
     sheet: Sheet<'_>,
     n: NodeId,
-    name: &str,
-) -> Result<(), NoMemory> {
-    let callers = callers_at(sheet.callers, n.0);
-    push_station(text, n.0, callers, name)?;
-    if !callers.is_empty() {
-        let mut path = feet_at(alloc, sheet, n)?;
-        if path.len() == 1 {
-            let only = path[0];
-            path.push(only)?;
+    kind: NodeKind,
+) -> Result<(), NoMemory>
+    requires pitch { sheet.pitch ≤ 200 }
+    requires graph { IsConsistent sheet.graph.now }
+    ensures { OnOk result (string_bytes text.new ≡ string_bytes text.old ++ texts (station_elements (plain sheet.entry) n.0 kind)) }
+{
+    match kind {
+        NodeKind::Junction => Ok(()),
+        NodeKind::Station(station) => {
+            let callers = callers_at(sheet.callers, n.0);
+            push_station(text, n.0, callers, station_name(sheet.names, station.0))?;
+            push_strokes(alloc, text, sheet, n, callers)?;
+            close_group(text)
         }
-        let (black, white) = if is_interchange(sheet.graph, sheet.callers, n) {
-            (28, 18)
-        } else {
-            (20, 12)
-        };
-        push_along(text, path.as_slice(), &BLACK, black)?;
-        push_along(text, path.as_slice(), &WHITE, white)?;
     }
-    close_group(text)
+}
+
+/// Appends the strokes of a node, where some line calls.
+fn push_strokes(
+    alloc: Global,
+    text: &mut String,
+    sheet: Sheet<'_>,
+    n: NodeId,
+    callers: &[LineId],
+) -> Result<(), NoMemory>
+    requires pitch { sheet.pitch ≤ 200 }
+    requires graph { IsConsistent sheet.graph.now }
+    ensures { callers.now ≡ callers_at sheet.entry.callers.now n.0 → OnOk result (string_bytes text.new ≡ string_bytes text.old ++ texts (strokes_at (plain sheet.entry) n.0 callers.now)) }
+{
+    if callers.is_empty() {
+        return Ok(());
+    }
+    let mut path = feet_at(alloc, sheet, n, callers)?;
+    close_path(&mut path)?;
+    let change = is_interchange(sheet.graph, sheet.callers, n);
+    push_strokes_over(text, change, path.as_slice())
+}
+
+/// Appends the black stroke through feet and the white one over it, broader at an interchange.
+fn push_strokes_over(text: &mut String, change: bool, path: &[Corner]) -> Result<(), NoMemory>
+    ensures { OnOk result (string_bytes text.new ≡ string_bytes text.old ++ texts (strokes_over change path.now)) }
+{
+    push_along(text, path, &BLACK, if change { 28 } else { 20 })?;
+    push_along(text, path, &WHITE, if change { 18 } else { 12 })
+}
+
+/// Puts the only corner of a path a second time, so that its round end is drawn.
+fn close_path(path: &mut Vec<Corner>) -> Result<(), NoMemory>
+    ensures { OnOk result (path.new.items ≡ stroke_through path.old.items) }
+{
+    if path.len() == 1 {
+        let only = path[0];
+        path.push(only)?;
+    }
+    Ok(())
 }
 
 /// The segments of a node, those of more lines first, and those of as many by their numbers. A node has few.
 fn by_size(alloc: Global, graph: &LineGraph, n: NodeId) -> Result<Vec<SegId>, NoMemory>
-    requires { n.0 < length graph.now.kinds }
+    requires { IsConsistent graph.now }
     ensures { IfOk result (λ segments. segments.items ≡ by_size graph.now n.0) }
 {
+    let round = round_of(graph, n);
     let mut sorted = Vec::new(alloc);
-    for s in graph.round(n) {
+    for s in round {
         let place = place_for(graph, sorted.as_slice(), *s);
         sorted.insert(place, *s)?;
     }
@@ -75,6 +124,7 @@ fn by_size(alloc: Global, graph: &LineGraph, n: NodeId) -> Result<Vec<SegId>, No
 
 /// The place of the first of these segments that a segment goes before, or their number.
 fn place_for(graph: &LineGraph, sorted: &[SegId], s: SegId) -> usize
+    requires { IsConsistent graph.now }
     ensures value { result ≡ position_or_len (goes_before graph.now.lines s) sorted.now }
     ensures within { result ≤ length sorted.now }
 {
@@ -88,9 +138,11 @@ fn place_for(graph: &LineGraph, sorted: &[SegId], s: SegId) -> usize
 
 /// Whether a segment goes before another: it has more lines, or as many and a lesser number.
 fn goes_before(graph: &LineGraph, a: SegId, b: SegId) -> bool
+    requires { IsConsistent graph.now }
     ensures { result ≡ goes_before graph.now.lines a b }
 {
-    let (first, second) = (lines_of(graph, a.0).len(), lines_of(graph, b.0).len());
+    let first = lines_of(graph, a.0).len();
+    let second = lines_of(graph, b.0).len();
     if first == second {
         a.0 < b.0
     } else {
@@ -99,12 +151,21 @@ fn goes_before(graph: &LineGraph, a: SegId, b: SegId) -> bool
 }
 
 /// The feet of the lines that call at a node, each once: that of a line is on the first segment on which it stands.
-fn feet_at(alloc: Global, sheet: Sheet<'_>, n: NodeId) -> Result<Vec<Corner>, NoMemory> {
-    let callers = callers_at(sheet.callers, n.0);
+fn feet_at(
+    alloc: Global,
+    sheet: Sheet<'_>,
+    n: NodeId,
+    callers: &[LineId],
+) -> Result<Vec<Corner>, NoMemory>
+    requires pitch { sheet.pitch ≤ 200 }
+    requires graph { IsConsistent sheet.graph.now }
+    ensures { callers.now ≡ callers_at sheet.entry.callers.now n.0 → IfOk result (λ path. path.items ≡ feet_at (plain sheet.entry) n.0) }
+{
+    let segments = by_size(alloc, sheet.graph, n)?;
     let mut seen = Vec::new(alloc);
     let mut path = Vec::new(alloc);
-    for s in &by_size(alloc, sheet.graph, n)? {
-        put_feet(&mut path, &mut seen, sheet, n, *s, callers)?;
+    for i in 0..segments.len() {
+        put_feet(&mut path, &mut seen, sheet, n, segments[i], callers)?;
     }
     Ok(path)
 }
@@ -117,31 +178,53 @@ fn put_feet(
     n: NodeId,
     s: SegId,
     callers: &[LineId],
-) -> Result<(), NoMemory> {
+) -> Result<(), NoMemory>
+    requires { sheet.pitch ≤ 200 }
+    ensures { OnOk result (record { seen = seen.new.items; path = path.new.items } ≡ with_stands (plain sheet.entry) n.0 callers.now (record { seen = seen.old.items; path = path.old.items }) (stands_on (plain sheet.entry) s)) }
+{
     for line in order_of(sheet.orders, s.0) {
-        if has_line(*line, callers) && !has_line(*line, seen.as_slice()) {
-            seen.push(*line)?;
-            put_foot(path, sheet.foot_on(n, s.0, *line)?)?;
-        }
+        put_line(path, seen, sheet, n, s, *line, callers)?;
+    }
+    Ok(())
+}
+
+/// Appends the foot of a line on a segment, where it calls and is not seen yet.
+fn put_line(
+    path: &mut Vec<Corner>,
+    seen: &mut Vec<LineId>,
+    sheet: Sheet<'_>,
+    n: NodeId,
+    s: SegId,
+    line: LineId,
+    callers: &[LineId],
+) -> Result<(), NoMemory>
+    requires { sheet.pitch ≤ 200 }
+    ensures { OnOk result (record { seen = seen.new.items; path = path.new.items } ≡ with_stand (plain sheet.entry) n.0 callers.now (record { seen = seen.old.items; path = path.old.items }) (record { seg = s.0; line = line })) }
+{
+    if has_line(line, callers) && !has_line(line, seen.as_slice()) {
+        seen.push(line)?;
+        put_foot(path, foot_on(sheet, n, s.0, line)?)?;
     }
     Ok(())
 }
 
 /// Appends a corner where the path has it not yet.
-fn put_foot(path: &mut Vec<Corner>, foot: Corner) -> Result<(), NoMemory> {
-    for corner in path.as_slice() {
-        if are_one(foot, *corner) {
-            return Ok(());
-        }
+fn put_foot(path: &mut Vec<Corner>, foot: Corner) -> Result<(), NoMemory>
+    ensures { OnOk result (path.new.items ≡ with_corner path.old.items foot) }
+{
+    if has_corner(path.as_slice(), foot) {
+        return Ok(());
     }
     path.push(foot)?;
     Ok(())
 }
 
-/// Whether a line is one of these.
-fn has_line(line: LineId, lines: &[LineId]) -> bool {
-    for other in lines {
-        if other.0 == line.0 {
+/// Whether a corner is one of a path's.
+fn has_corner(path: &[Corner], corner: Corner) -> bool
+    ensures { result ≡ list_any (are_one corner) path.now }
+{
+    for known in path {
+        if are_one(corner, *known) {
             return true;
         }
     }

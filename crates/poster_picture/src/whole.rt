@@ -1,12 +1,23 @@
 //! The poster as a whole.
 
-ghost use Rattle.std.specs.Prelude.{◌≡◌, IfOk};
-ghost use Rattle.poster_rules.specs.Posters.{poster_text};
+ghost use Rattle.std.specs.Prelude.{◌≡◌, ◌≤◌, ◌++◌, length, IfOk, IfSome, OnOk, string_bytes};
+ghost use Rattle.graph_core.specs.Consistent.{IsConsistent};
+ghost use Rattle.poster_graph.specs.Words.{AreTextsOf};
+ghost use Rattle.poster_layout.specs.Extents.{IsDrawnFrame, IsLegend};
+ghost use Rattle.poster_plan.specs.Legends.{legend_of};
+ghost use Rattle.poster_rules.specs.Elements.{texts};
+ghost use Rattle.poster_rules.specs.Plans.{lines_shown, widest};
+ghost use Rattle.poster_rules.specs.Posters.{elements_with, poster_text};
+ghost use Rattle.poster_picture.specs.Parts.{legend_part, map_part, names_part};
+ghost use Rattle.poster_picture.specs.Sheets.{plain};
 
-use crate::elements::{Group, close_group, open_group, push_ground, push_head, push_tail};
+use crate::elements::{
+    close_group, open_legend, open_lines, open_names, open_stations, push_ground, push_head,
+    push_tail,
+};
 use crate::lines::{push_all_joins, push_all_lines};
 use crate::names::push_all_names;
-use crate::rows::push_rows;
+use crate::rows::push_legend;
 use crate::sheet::Sheet;
 use crate::stations::push_all_stations;
 use eight_sides::Frame;
@@ -31,14 +42,14 @@ pub fn poster(
 ) -> Result<Vec<u8>, NoMemory>
     ensures { IfOk result (λ text. text.items ≡ poster_text names.now graph.now drawing.now.walks orders.now.lists callers.now) }
 {
+    let words = texts_of(alloc, graph, names)?;
     let served = Served {
         graph,
         names,
         drawing,
         callers,
     };
-    let texts = texts_of(alloc, graph, names)?;
-    let plan = plan_of(alloc, served, &texts)?;
+    let plan = plan_of(alloc, served, &words)?;
     let layout = layout_of(alloc, &plan)?;
     let sheet = Sheet {
         graph,
@@ -48,7 +59,7 @@ pub fn poster(
         callers,
         pitch: layout.pitch,
     };
-    write_sheet(alloc, sheet, &plan, &texts, layout.printed.as_slice())
+    write_sheet(alloc, sheet, &plan, &words, layout.printed.as_slice())
 }
 
 /// The text of a sheet, with these names. A line graph has no more than 1,000 lines: for more there is no room.
@@ -56,9 +67,14 @@ fn write_sheet(
     alloc: Global,
     sheet: Sheet<'_>,
     plan: &Plan,
-    texts: &Texts<'_>,
+    words: &Texts<'_>,
     printed: &[Printed],
-) -> Result<Vec<u8>, NoMemory> {
+) -> Result<Vec<u8>, NoMemory>
+    requires pitch { sheet.pitch ≤ 200 }
+    requires graph { IsConsistent sheet.graph.now }
+    requires words { AreTextsOf sheet.names.now sheet.graph.now words.now }
+    ensures { IfOk result (λ text. text.items ≡ texts (elements_with (plain sheet.entry) plan.now printed.now (lines_shown (length sheet.entry.names.now.lines) sheet.entry.graph.now) (legend_of sheet.entry.pitch plan.now printed.now (length (lines_shown (length sheet.entry.names.now.lines) sheet.entry.graph.now)) (widest sheet.entry.names.now (lines_shown (length sheet.entry.names.now.lines) sheet.entry.graph.now))))) }
+{
     let lines = lines_shown(alloc, sheet.names.lines.as_slice().len(), sheet.graph)?;
     if lines.len() > 1000 {
         return Err(NoMemory);
@@ -70,11 +86,8 @@ fn write_sheet(
     let frame = frame_beside(map, count, widest, legend);
     let mut text = String::new(alloc);
     push_map(alloc, &mut text, sheet, frame)?;
-    open_group(&mut text, Group::Names)?;
-    push_all_names(alloc, &mut text, sheet, plan, texts, printed)?;
-    close_group(&mut text)?;
-    push_legend(&mut text, sheet, legend, lines.as_slice())?;
-    push_tail(&mut text)?;
+    push_names(alloc, &mut text, sheet, plan, words, printed)?;
+    push_end(&mut text, sheet.names, legend, lines.as_slice())?;
     Ok(text.into_bytes())
 }
 
@@ -84,28 +97,54 @@ fn push_map(
     text: &mut String,
     sheet: Sheet<'_>,
     frame: Frame,
-) -> Result<(), NoMemory> {
+) -> Result<(), NoMemory>
+    requires pitch { sheet.pitch ≤ 200 }
+    requires frame { IsDrawnFrame frame }
+    ensures { OnOk result (string_bytes text.new ≡ string_bytes text.old ++ texts (map_part (plain sheet.entry) frame)) }
+{
     push_head(text, frame)?;
     push_ground(text, frame)?;
-    open_group(text, Group::Lines)?;
+    open_lines(text)?;
     push_all_lines(alloc, text, sheet)?;
     push_all_joins(text, sheet)?;
     close_group(text)?;
-    open_group(text, Group::Stations)?;
+    open_stations(text)?;
     push_all_stations(alloc, text, sheet)?;
     close_group(text)
 }
 
-/// Appends the legend.
-fn push_legend(
+/// Appends the names.
+fn push_names(
+    alloc: Global,
     text: &mut String,
     sheet: Sheet<'_>,
+    plan: &Plan,
+    words: &Texts<'_>,
+    printed: &[Printed],
+) -> Result<(), NoMemory>
+    requires pitch { sheet.pitch ≤ 200 }
+    requires graph { IsConsistent sheet.graph.now }
+    requires words { AreTextsOf sheet.names.now sheet.graph.now words.now }
+    ensures { OnOk result (string_bytes text.new ≡ string_bytes text.old ++ texts (names_part (plain sheet.entry) plan.now printed.now)) }
+{
+    open_names(text)?;
+    push_all_names(alloc, text, sheet, plan, words, printed)?;
+    close_group(text)
+}
+
+/// Appends the legend and the end.
+fn push_end(
+    text: &mut String,
+    names: &Names,
     legend: Option<Legend>,
     lines: &[LineId],
-) -> Result<(), NoMemory> {
-    open_group(text, Group::Legend)?;
-    if let Some(legend) = legend {
-        push_rows(text, sheet.names, legend, lines)?;
-    }
-    close_group(text)
+) -> Result<(), NoMemory>
+    requires few { length lines.now ≤ 1000 }
+    requires legend { IfSome legend IsLegend }
+    ensures { OnOk result (string_bytes text.new ≡ string_bytes text.old ++ texts (legend_part names.now legend lines.now)) }
+{
+    open_legend(text)?;
+    push_legend(text, names, legend, lines)?;
+    close_group(text)?;
+    push_tail(text)
 }

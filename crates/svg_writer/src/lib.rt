@@ -21,7 +21,7 @@ mod whole;
 pub use bounds::Bounds;
 pub use drawable::Drawn;
 pub use escaping::{escape, push_escaped};
-pub use grid::{GridDrawing, centre_of, drawn};
+pub use grid::{GridDrawing, centre_of, drawn, first_of, put_at};
 pub use lines::{are_one, gauge, place_in};
 pub use names::Names;
 pub use pieces::{

@@ -1,0 +1,4 @@
+pub mod Sheets
+pub mod Feet
+pub mod Parts
+pub mod Noted
