@@ -4,12 +4,17 @@ use Rattle.std.specs.List.{flat_map, range_with_len}
 use Rattle.map_base.specs.declared.ids.LineId.{LineId}
 use Rattle.eight_sides.specs.declared.frame.Frame.{Frame}
 use Rattle.svg_writer.specs.declared.names.Names.{Names}
-use Rattle.svg_writer.specs.Picture.{kind_at}
+use Rattle.svg_writer.specs.Picture.{colour_of, kind_at, name_of}
 use Rattle.poster_plan.specs.declared.layout.Legend.{Legend}
 use Rattle.poster_plan.specs.declared.layout.Printed.{Printed}
 use Rattle.poster_plan.specs.declared.plan.Plan.{Plan}
-use Rattle.poster_rules.specs.Elements.{Element, Head, Ground, Opens, Closes, Tail, LinesGroup, StationsGroup, NamesGroup, LegendGroup}
-use Rattle.poster_rules.specs.Posters.{all_names, legend_elements, node_joins, segment_elements, station_elements, Sheet}
+use Rattle.poster_rules.specs.Elements.{Element, Head, Ground, Opens, Closes, OnSegment, BehindOnSegment, Tail, LinesGroup, StationsGroup, NamesGroup, LegendGroup}
+use Rattle.poster_rules.specs.Posters.{all_names, legend_elements, node_joins, path_on, segment_elements, station_elements, with_behind, Sheet}
+
+-- line i of n of segment s
+abbrev pub line_at : Sheet → ℕ → ℕ → ℕ → LineId → List Element
+line_at sheet s n i l =
+    with_behind (colour_of sheet.names l) (BehindOnSegment s l.0 (path_on sheet s n i)) (OnSegment s l.0 (path_on sheet s n i) (colour_of sheet.names l) (name_of sheet.names l))
 
 -- all lines, all joins and all stations
 abbrev pub all_lines : Sheet → List Element

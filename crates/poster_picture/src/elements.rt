@@ -2,9 +2,10 @@
 
 ghost use Rattle.std.specs.Prelude.{◌≡◌, ◌++◌, OnOk, string_bytes};
 ghost use Rattle.poster_layout.specs.Extents.{IsDrawnFrame};
+ghost use Rattle.poster_picture.specs.Inks.{ink_colour};
 ghost use Rattle.poster_rules.specs.Elements.{element_text, view_place, view_size, Head, Ground, Opens, Closes, OnSegment, BehindOnSegment, AtNode, BehindAtNode, Station, Stroke, RowName, Tail, LinesGroup, StationsGroup, NamesGroup, LegendGroup};
 
-use crate::pieces::{push_classes, push_stroke, push_width};
+use crate::pieces::{Ink, push_classes, push_ink, push_stroke, push_width};
 use eight_sides::Frame;
 use line_offsets::Corner;
 use map_base::{LineId, NoMemory};
@@ -12,13 +13,6 @@ use svg_writer::{
     push_corner, push_escaped, push_ids, push_integer, push_natural, push_path, push_place,
     push_title,
 };
-
-/// Dark grey, which stands behind pale lines, and in place of faint colours of type.
-pub(crate) const DARK: [u8; 3] = [68, 68, 68];
-
-pub(crate) const BLACK: [u8; 3] = [0, 0, 0];
-
-pub(crate) const WHITE: [u8; 3] = [255, 255, 255];
 
 /// Where the view of a frame begins, which is 60 units wider on each side.
 fn view_place(f: Frame) -> Corner
@@ -146,7 +140,7 @@ pub(crate) fn push_behind_on_segment(
     text.push_str("<path class=\"s")?;
     push_ids(text, s, line.0)?;
     push_path(text, path)?;
-    push_stroke(text, &DARK)?;
+    push_ink(text, Ink::Dark)?;
     push_width(text, 14)?;
     Ok(())
 }
@@ -181,7 +175,7 @@ pub(crate) fn push_behind_at_node(
     text.push_str("<path class=\"n")?;
     push_ids(text, n, line.0)?;
     push_path(text, path)?;
-    push_stroke(text, &DARK)?;
+    push_ink(text, Ink::Dark)?;
     push_width(text, 14)?;
     Ok(())
 }
@@ -216,6 +210,22 @@ pub(crate) fn push_along(
     text.push_str("<path d=\"")?;
     push_path(text, path)?;
     push_stroke(text, colour)?;
+    push_width(text, width)?;
+    Ok(())
+}
+
+/// The same in an ink.
+pub(crate) fn push_inked(
+    text: &mut String,
+    path: &[Corner],
+    ink: Ink,
+    width: u32,
+) -> Result<(), NoMemory>
+    ensures { OnOk result (string_bytes text.new ≡ string_bytes text.old ++ element_text (Stroke path.now (ink_colour ink) width)) }
+{
+    text.push_str("<path d=\"")?;
+    push_path(text, path)?;
+    push_ink(text, ink)?;
     push_width(text, width)?;
     Ok(())
 }

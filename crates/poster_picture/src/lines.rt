@@ -1,13 +1,12 @@
 //! The lines on segments, and those from segment to segment.
 
-ghost use Rattle.std.specs.Prelude.{◌≡◌, ◌≤◌, ◌<◌, ◌++◌, ◌∷◌, [], length, slice_index_or, OnOk, string_bytes};
+ghost use Rattle.std.specs.Prelude.{◌≡◌, ◌≤◌, ◌<◌, ◌++◌, length, slice_index_or, OnOk, string_bytes};
 ghost use Rattle.line_offsets.specs.Paths.{line_path_at};
-ghost use Rattle.svg_writer.specs.Courses.{order_at};
-ghost use Rattle.svg_writer.specs.Picture.{colour_of, joins_at, name_of, walk_at};
+ghost use Rattle.svg_writer.specs.Picture.{no_line, walk_at};
 ghost use Rattle.poster_rules.specs.Elements.{texts, AtNode, BehindAtNode, BehindOnSegment, OnSegment};
-ghost use Rattle.poster_rules.specs.Posters.{join_elements, node_joins, path_on, segment_elements, with_behind};
+ghost use Rattle.poster_rules.specs.Posters.{join_elements, node_joins, segment_elements, with_behind};
 ghost use Rattle.poster_picture.specs.Sheets.{plain};
-ghost use Rattle.poster_picture.specs.Parts.{all_joins, all_lines};
+ghost use Rattle.poster_picture.specs.Parts.{all_joins, all_lines, line_at};
 
 use crate::elements::{push_at_node, push_behind_at_node, push_behind_on_segment, push_on_segment};
 use crate::sheet::{Sheet, foot_on, walk_of};
@@ -46,11 +45,35 @@ fn push_segment(
 {
     let order = order_of(sheet.orders, s);
     for i in 0..order.len() {
-        let k = gauge(order.len(), i)?;
-        put_line(path, sheet, s, k)?;
-        push_line(text, sheet, s, order[i], path.as_slice())?;
+        push_line(text, path, sheet, s, order, i)?;
     }
     Ok(())
+}
+
+/// Appends line i of the order of a segment.
+fn push_line(
+    text: &mut String,
+    path: &mut Vec<Corner>,
+    sheet: Sheet<'_>,
+    s: u32,
+    order: &[LineId],
+    i: usize,
+) -> Result<(), NoMemory>
+    requires pitch { sheet.pitch ≤ 200 }
+    requires place { i < length order.now }
+    ensures { OnOk result (string_bytes text.new ≡ string_bytes text.old ++ texts (line_at (plain sheet.entry) s (length order.now) i (slice_index_or order.now i no_line))) }
+{
+    let line = order[i];
+    let k = gauge(order.len(), i)?;
+    put_line(path, sheet, s, k)?;
+    push_on(
+        text,
+        s,
+        line,
+        path.as_slice(),
+        colour_of(sheet.names, line),
+        name_of(sheet.names, line),
+    )
 }
 
 /// Puts the path of a line that is shifted k places beside the walk of a segment into `path`, in place of what it held.
@@ -68,20 +91,21 @@ fn put_line(path: &mut Vec<Corner>, sheet: Sheet<'_>, s: u32, k: i32) -> Result<
 }
 
 /// Appends a line on a segment, and what stands behind it where it is pale.
-fn push_line(
+fn push_on(
     text: &mut String,
-    sheet: Sheet<'_>,
     s: u32,
     line: LineId,
     path: &[Corner],
+    colour: &[u8],
+    name: &str,
 ) -> Result<(), NoMemory>
-    ensures { OnOk result (string_bytes text.new ≡ string_bytes text.old ++ texts (with_behind (colour_of sheet.entry.names.now line) (BehindOnSegment s line.0 path.now) (OnSegment s line.0 path.now (colour_of sheet.entry.names.now line) (name_of sheet.entry.names.now line)))) }
+    ensures { OnOk result (string_bytes text.new ≡ string_bytes text.old ++ texts (with_behind colour.now (BehindOnSegment s line.0 path.now) (OnSegment s line.0 path.now colour.now name.now))) }
 {
-    let colour = colour_of(sheet.names, line);
     if is_pale(colour) {
         push_behind_on_segment(text, s, line, path)?;
     }
-    push_on_segment(text, s, line, path, colour, name_of(sheet.names, line))
+    push_on_segment(text, s, line, path, colour, name)?;
+    Ok(())
 }
 
 /// Appends each line from segment to segment at each node.
@@ -134,5 +158,6 @@ fn push_between(
     if is_pale(colour) {
         push_behind_at_node(text, n.0, line, path)?;
     }
-    push_at_node(text, n.0, line, path, colour)
+    push_at_node(text, n.0, line, path, colour)?;
+    Ok(())
 }

@@ -117,5 +117,6 @@ fn push_name(
         push_name_text(text, names, step, name, lines)?;
     }
     push_spot(text, spot, step)?;
-    push_name_text(text, names, step, name, lines)
+    push_name_text(text, names, step, name, lines)?;
+    Ok(())
 }

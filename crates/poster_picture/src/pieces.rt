@@ -7,8 +7,8 @@ ghost use Rattle.name_widths.specs.Colours.{is_faint};
 ghost use Rattle.svg_writer.specs.Elements.{colour_text, place_text};
 ghost use Rattle.poster_rules.specs.Elements.{anchor_text, classes_text, dark, ending_text, name_text, size_text, spot_text, stroke_text, turn_text, turned_text, width_text};
 ghost use Rattle.poster_rules.specs.Posters.{ending_of};
+ghost use Rattle.poster_picture.specs.Inks.{ink_colour};
 
-use crate::elements::DARK;
 use line_offsets::Corner;
 use map_base::{LineId, NoMemory};
 use name_widths::is_faint;
@@ -25,6 +25,27 @@ pub(crate) fn push_stroke(text: &mut String, colour: &[u8]) -> Result<(), NoMemo
     text.push_str("\" stroke=\"")?;
     push_colour(text, colour)?;
     text.push_str("\"")?;
+    Ok(())
+}
+
+/// A colour that is the same on each poster.
+#[derive(Clone, Copy)]
+pub(crate) enum Ink {
+    Black,
+    White,
+    /// Dark grey, which stands behind pale lines.
+    Dark,
+}
+
+/// Appends a stroke's ink, to the end of its attribute.
+pub(crate) fn push_ink(text: &mut String, ink: Ink) -> Result<(), NoMemory>
+    ensures { OnOk result (string_bytes text.new ≡ string_bytes text.old ++ stroke_text (ink_colour ink)) }
+{
+    match ink {
+        Ink::Black => text.push_str("\" stroke=\"#000000\"")?,
+        Ink::White => text.push_str("\" stroke=\"#ffffff\"")?,
+        Ink::Dark => text.push_str("\" stroke=\"#444444\"")?,
+    }
     Ok(())
 }
 
@@ -174,8 +195,9 @@ fn push_shade(text: &mut String, colour: &[u8]) -> Result<(), NoMemory>
     ensures { OnOk result (string_bytes text.new ≡ string_bytes text.old ++ colour_text (if is_faint colour.now then dark else colour.now)) }
 {
     if is_faint(colour) {
-        push_colour(text, &DARK)
-    } else {
-        push_colour(text, colour)
+        text.push_str("#444444")?;
+        return Ok(());
     }
+    push_colour(text, colour)?;
+    Ok(())
 }

@@ -5,7 +5,8 @@ ghost use Rattle.poster_rules.specs.Elements.{texts, Stroke, dark};
 ghost use Rattle.poster_rules.specs.Posters.{apart_from, legend_elements, row_elements, rows_from, with_behind};
 ghost use Rattle.poster_layout.specs.Extents.{IsDrawnPoint, IsLegend};
 
-use crate::elements::{DARK, push_along, push_row_name};
+use crate::elements::{push_along, push_inked, push_row_name};
+use crate::pieces::Ink;
 use line_offsets::Corner;
 use map_base::{LineId, NoMemory};
 use name_widths::is_pale;
@@ -53,7 +54,8 @@ fn push_row(text: &mut String, names: &Names, at: Corner, line: LineId) -> Resul
     ensures { OnOk result (string_bytes text.new ≡ string_bytes text.old ++ texts (row_elements names.now at line)) }
 {
     push_stretch(text, &[at, apart_from(at, 60, 0)], colour_of(names, line))?;
-    push_row_name(text, apart_from(at, 90, 9), name_of(names, line))
+    push_row_name(text, apart_from(at, 90, 9), name_of(names, line))?;
+    Ok(())
 }
 
 /// Appends a piece of a line of a colour, and what stands behind it where it is pale.
@@ -61,9 +63,10 @@ fn push_stretch(text: &mut String, path: &[Corner], colour: &[u8]) -> Result<(),
     ensures { OnOk result (string_bytes text.new ≡ string_bytes text.old ++ texts (with_behind colour.now (Stroke path.now dark 14) (Stroke path.now colour.now 12))) }
 {
     if is_pale(colour) {
-        push_along(text, path, &DARK, 14)?;
+        push_inked(text, path, Ink::Dark, 14)?;
     }
-    push_along(text, path, colour, 12)
+    push_along(text, path, colour, 12)?;
+    Ok(())
 }
 
 /// So far to the right of a point, and so far below it.

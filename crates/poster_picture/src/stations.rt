@@ -11,7 +11,8 @@ ghost use Rattle.poster_picture.specs.Feet.{with_stand, with_stands};
 ghost use Rattle.poster_picture.specs.Parts.{all_stations, station_at};
 ghost use Rattle.poster_picture.specs.Sheets.{plain};
 
-use crate::elements::{BLACK, WHITE, close_group, push_along, push_station};
+use crate::elements::{close_group, push_inked, push_station};
+use crate::pieces::Ink;
 use crate::sheet::{Sheet, foot_on};
 use graph_core::{LineGraph, NodeKind};
 use line_offsets::Corner;
@@ -63,7 +64,8 @@ fn push_kind(
             let callers = callers_at(sheet.callers, n.0);
             push_station(text, n.0, callers, station_name(sheet.names, station.0))?;
             push_strokes(alloc, text, sheet, n, callers)?;
-            close_group(text)
+            close_group(text)?;
+            Ok(())
         }
     }
 }
@@ -86,15 +88,17 @@ fn push_strokes(
     let mut path = feet_at(alloc, sheet, n, callers)?;
     close_path(&mut path)?;
     let change = is_interchange(sheet.graph, sheet.callers, n);
-    push_strokes_over(text, change, path.as_slice())
+    push_strokes_over(text, change, path.as_slice())?;
+    Ok(())
 }
 
 /// Appends the black stroke through feet and the white one over it, broader at an interchange.
 fn push_strokes_over(text: &mut String, change: bool, path: &[Corner]) -> Result<(), NoMemory>
     ensures { OnOk result (string_bytes text.new ≡ string_bytes text.old ++ texts (strokes_over change path.now)) }
 {
-    push_along(text, path, &BLACK, if change { 28 } else { 20 })?;
-    push_along(text, path, &WHITE, if change { 18 } else { 12 })
+    push_inked(text, path, Ink::Black, if change { 28 } else { 20 })?;
+    push_inked(text, path, Ink::White, if change { 18 } else { 12 })?;
+    Ok(())
 }
 
 /// Puts the only corner of a path a second time, so that its round end is drawn.

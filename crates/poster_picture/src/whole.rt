@@ -110,7 +110,8 @@ fn push_map(
     close_group(text)?;
     open_stations(text)?;
     push_all_stations(alloc, text, sheet)?;
-    close_group(text)
+    close_group(text)?;
+    Ok(())
 }
 
 /// Appends the names.
@@ -129,7 +130,8 @@ fn push_names(
 {
     open_names(text)?;
     push_all_names(alloc, text, sheet, plan, words, printed)?;
-    close_group(text)
+    close_group(text)?;
+    Ok(())
 }
 
 /// Appends the legend and the end.
@@ -146,5 +148,6 @@ fn push_end(
     open_legend(text)?;
     push_legend(text, names, legend, lines)?;
     close_group(text)?;
-    push_tail(text)
+    push_tail(text)?;
+    Ok(())
 }
