@@ -1,0 +1,6 @@
+mod Writing
+mod Behind
+mod Gathering
+mod Noting
+mod Sorting
+mod Lining
