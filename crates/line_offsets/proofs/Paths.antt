@@ -15,7 +15,7 @@ use Rattle.line_offsets.specs.Shifts.{moved_at, foot_of, turn_of}
 use Rattle.line_offsets.specs.Paths.{corners_from, path_from, start_from, end_from, corner_behind}
 
 -- one step more at the end of a run
-step_last : (p : GridPoint) (n : ℕ) (d : Dir) → step_from (after p (replicate n d)) d ≡ after p (replicate (suc n) d)
+pub step_last : (p : GridPoint) (n : ℕ) (d : Dir) → step_from (after p (replicate n d)) d ≡ after p (replicate (suc n) d)
 step_last p zero d = refl
 step_last p (suc n) d = step_last (step_from p d) n d
 
@@ -39,7 +39,7 @@ and_right true b e = e
 and_right false b e = absurd cc
 
 -- the next run turns
-turned : (r s : Run) (rs : List Run) → are_runs (r ∷ s ∷ rs) ≡ true → eqb (number_of r.dir) (number_of s.dir) ≡ false
+pub turned : (r s : Run) (rs : List Run) → are_runs (r ∷ s ∷ rs) ≡ true → eqb (number_of r.dir) (number_of s.dir) ≡ false
 turned r s rs e = not_true _ (and_right _ _ (and_left _ _ e))
 
 -- behind a run that has steps

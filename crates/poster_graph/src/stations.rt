@@ -18,8 +18,9 @@ pub fn ending(alloc: Global, served: Served<'_>, n: NodeId) -> Result<Vec<LineId
     requires { IsConsistent served.graph.now }
     ensures { IfOk result (λ lines. lines.items ≡ ending served.entry.names.now served.entry.graph.now served.entry.callers.now n.0) }
 {
+    let callers = callers_at(served.callers, n.0);
     let mut lines = Vec::new(alloc);
-    for line in callers_at(served.callers, n.0) {
+    for line in callers {
         if is_end(served, n, *line) {
             lines.push(*line)?;
         }
