@@ -2,3 +2,4 @@ mod Names
 mod Shapes
 mod Places
 mod Whole
+mod Calls
