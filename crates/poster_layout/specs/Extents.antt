@@ -1,5 +1,8 @@
 -- Frames and shapes that are near enough to be reckoned with.
-use Rattle.std.specs.Prelude.{◌<◌, ◌≤◌, unsigned_abs}
+use Rattle.std.specs.Prelude.{ℕ, ◌<◌, ◌≤◌, List, [], ◌∷◌, unsigned_abs}
+use Rattle.line_offsets.specs.Shifts.{drawn_at}
+use Rattle.eight_sides.specs.Frames.{frame_at, origin}
+use Rattle.poster_plan.specs.declared.plan.Piece.{Piece}
 use Rattle.line_offsets.specs.declared.corner.Corner.{Corner}
 use Rattle.eight_sides.specs.declared.frame.Frame.{Frame}
 use Rattle.eight_sides.specs.declared.interval.Interval.{Interval}
@@ -15,6 +18,11 @@ pub record IsNearBy (i : Interval) : Type 0 where
 pub record IsNearFrame (f : Frame) : Type 0 where
   pub across : IsNearBy f.across
   pub down : IsNearBy f.down
+
+-- the frame of the start of the first of these pieces, that of the origin where there is none
+abbrev pub first_frame : ℕ → List Piece → Frame
+first_frame u [] = frame_at origin
+first_frame u (p ∷ ps) = frame_at (drawn_at u p.start)
 
 -- what is drawn
 pub record IsNearShape (s : Shape) : Type 0 where

@@ -1,6 +1,7 @@
 //! The cells of a coarse grid over the plane, and how many of them a shape reaches into.
 
-ghost use Rattle.std.specs.Prelude.{◌≡◌, ◌≤◌, ◌<◌, ◌+◌, ◌-◌, ◌*◌, unsigned_abs};
+ghost use Rattle.std.specs.Prelude.{◌≡◌, ◌≤◌, ◌<◌, ◌+ℤ◌, pos, unsigned_abs};
+ghost use Rattle.std.specs.Int.{int_max};
 ghost use Rattle.eight_sides.specs.Shapes.{IsShortShape};
 ghost use Rattle.poster_layout.specs.Cells.{bucket_of, cells_of, count_of, line_of};
 
@@ -39,7 +40,16 @@ fn line_of(z: i64) -> u64
     ensures value { result ≡ line_of z }
     ensures small { result < 1099511627776 }
 {
-    (z + 1_099_511_627_776) as u64 / SIDE
+    from_edge(z) / SIDE
+}
+
+/// How far a coordinate lies from the least of all.
+fn from_edge(z: i64) -> u64
+    requires { unsigned_abs z ≤ 1099511627776 }
+    ensures value { result ≡ unsigned_abs (int_max (z +ℤ pos 1099511627776) (pos 0)) }
+    ensures small { result ≤ 2199023255552 }
+{
+    (z + 1_099_511_627_776) as u64
 }
 
 /// How many cells these are, or a greatest number where they are too many to reckon with.

@@ -3,7 +3,7 @@
 ghost use Rattle.std.specs.Prelude.{◌≡◌, ◌≤◌, fold};
 ghost use Rattle.eight_sides.specs.Frames.{frame_of, shape_corners, widened};
 ghost use Rattle.poster_plan.specs.Pitches.{frame_with, is_small, walked_corners};
-ghost use Rattle.poster_layout.specs.Extents.{IsNearFrame, IsNearShape};
+ghost use Rattle.poster_layout.specs.Extents.{first_frame, IsNearFrame, IsNearShape};
 
 use crate::signs::printed_shape;
 use eight_sides::{Frame, Shape, frame_at, widened};
@@ -29,15 +29,24 @@ fn walked_frame(pitch: u32, pieces: &[Piece]) -> Frame
     ensures value { result ≡ frame_of (walked_corners pitch pieces.now) }
     ensures near { IsNearFrame result }
 {
-    let mut frame = match pieces {
-        [] => frame_at(Corner { x: 0, y: 0 }),
-        [first, ..] => frame_at(drawn_at(pitch, first.start)),
-    };
+    let mut frame = first_frame(pitch, pieces);
     for piece in pieces {
         frame = widened(frame, drawn_at(pitch, piece.start));
         frame = widened(frame, drawn_at(pitch, piece.end));
     }
     frame
+}
+
+/// The frame of the start of the first of these pieces, that of the origin where there is none.
+fn first_frame(pitch: u32, pieces: &[Piece]) -> Frame
+    requires { pitch ≤ 200 }
+    ensures value { result ≡ first_frame pitch pieces.now }
+    ensures near { IsNearFrame result }
+{
+    match pieces {
+        [] => frame_at(Corner { x: 0, y: 0 }),
+        [first, ..] => frame_at(drawn_at(pitch, first.start)),
+    }
 }
 
 /// A frame, widened to hold a shape.

@@ -2,7 +2,7 @@
 
 ghost use Rattle.std.specs.Prelude.{◌≡◌, ◌≤◌, ◌*◌, ◌&&◌, nat_le, IfOk, MatchOption, IsTrue, IfSome, false, length};
 ghost use Rattle.poster_plan.specs.Placing.{named, printed_names};
-ghost use Rattle.poster_plan.specs.Pitches.{first_pitch, fits, is_better, is_roomy, pitch_of};
+ghost use Rattle.poster_plan.specs.Pitches.{better_of, first_pitch, fits, is_better, is_roomy, pitch_of};
 ghost use Rattle.poster_layout.specs.Fits.{best_of, IsLaid};
 
 use crate::extent::{frame_with, is_small};
@@ -26,15 +26,24 @@ pub fn layout_of(alloc: Global, plan: &Plan) -> Result<Layout, NoMemory>
     ensures printed { IfOk result (λ layout. layout.printed ≡ printed_names (pitch_of plan.now) plan.now) }
 {
     let first = first_suiting(alloc, plan)?;
-    let best = if fits(plan, &first) {
-        best_from(alloc, plan, first)?
-    } else {
-        first
-    };
+    let best = best_or_first(alloc, plan, first)?;
     Ok(Layout {
         pitch: best.pitch,
         printed: Sequence::of(best.printed),
     })
+}
+
+/// The names at the first pitch that suits, where the whole is large there, else at the best from it on.
+fn best_or_first(alloc: Global, plan: &Plan, first: Laid) -> Result<Laid, NoMemory>
+    requires laid { IsLaid plan.now first }
+    requires first { first.pitch ≡ first_pitch plan.now }
+    ensures laid { IfOk result (IsLaid plan.now) }
+    ensures pitch { IfOk result (λ laid. laid.pitch ≡ pitch_of plan.now) }
+{
+    if !fits(plan, &first) {
+        return Ok(first);
+    }
+    best_from(alloc, plan, first)
 }
 
 /// The names at the first pitch that suits, or at the greatest.
@@ -108,9 +117,17 @@ fn best_from(alloc: Global, plan: &Plan, first: Laid) -> Result<Laid, NoMemory>
             return Ok(best);
         }
         left = laid.full_left;
-        if is_better(&laid, &best) {
-            best = laid;
-        }
+        best = better_of(plan, best, laid);
     }
     Ok(best)
+}
+
+/// The better of two, the first where neither is.
+fn better_of(plan: &Plan, best: Laid, laid: Laid) -> Laid
+    requires best { IsLaid plan.now best }
+    requires laid { IsLaid plan.now laid }
+    ensures laid { IsLaid plan.now result }
+    ensures pitch { result.pitch ≡ better_of plan.now best.entry.pitch laid.entry.pitch }
+{
+    if is_better(&laid, &best) { laid } else { best }
 }

@@ -11,6 +11,7 @@ ghost use Rattle.poster_plan.specs.Placing.{meets_printed};
 ghost use Rattle.poster_plan.specs.Signs.{mark_at, piece_at};
 
 use crate::extent::frame_with;
+use crate::numbers::{down, up};
 use crate::signs::{mark_at, piece_at, printed_shape};
 use eight_sides::{Frame, Interval, Shape, meet, upright, widened};
 use line_offsets::Corner;
@@ -106,10 +107,8 @@ fn corners_for(f: Frame, width: u64, height: u64) -> [Corner; 4]
     requires height { height ≤ 45000 }
     ensures { result ≡ corners_for f width height }
 {
-    let (right, low) = (
-        f.across.greatest - width as i64,
-        f.down.greatest - height as i64,
-    );
+    let right = down(f.across.greatest, width);
+    let low = down(f.down.greatest, height);
     [
         Corner {
             x: right,
@@ -134,8 +133,8 @@ fn widely(z: i64, long: u64) -> Interval
     ensures { result ≡ widely z long }
 {
     Interval {
-        least: z - 30,
-        greatest: z + (long as i64 + 30),
+        least: down(z, 30),
+        greatest: up(z, long + 30),
     }
 }
 
@@ -206,13 +205,13 @@ fn outside(f: Frame) -> Corner
 {
     if f.across.greatest - f.across.least <= f.down.greatest - f.down.least {
         Corner {
-            x: f.across.greatest + 30,
+            x: up(f.across.greatest, 30),
             y: f.down.least,
         }
     } else {
         Corner {
             x: f.across.least,
-            y: f.down.greatest + 30,
+            y: up(f.down.greatest, 30),
         }
     }
 }
@@ -224,10 +223,11 @@ pub fn row_at(legend: Legend, i: u32) -> Corner
     ensures value { result ≡ row_at legend i }
     ensures near { IsDrawnPoint result }
 {
-    let (column, row) = (i / legend.rows, i % legend.rows);
+    let column = legend.column * u64::from(i / legend.rows);
+    let row = 15 + 45 * u64::from(i % legend.rows);
     Corner {
-        x: legend.start.x + (legend.column * u64::from(column)) as i64,
-        y: legend.start.y + 15 + 45 * i64::from(row),
+        x: up(legend.start.x, column),
+        y: up(legend.start.y, row),
     }
 }
 
@@ -243,8 +243,8 @@ pub fn frame_beside(f: Frame, lines: u32, widest: u32, legend: Option<Legend>) -
         None => f,
         Some(legend) => {
             let end = Corner {
-                x: legend.start.x + legend_width(lines, widest) as i64,
-                y: legend.start.y + legend_height(lines) as i64,
+                x: up(legend.start.x, legend_width(lines, widest)),
+                y: up(legend.start.y, legend_height(lines)),
             };
             widened(widened(f, legend.start), end)
         }

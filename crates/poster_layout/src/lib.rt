@@ -7,6 +7,7 @@ mod extent;
 mod fitting;
 mod laying;
 mod legend;
+mod numbers;
 mod places;
 mod room;
 mod roomy;

@@ -5,6 +5,7 @@ ghost use Rattle.eight_sides.specs.Shapes.{IsNear, IsShort};
 ghost use Rattle.poster_layout.specs.Extents.{IsNearShape};
 ghost use Rattle.poster_plan.specs.Places.{anchor_at, backwards, beside, corner_gap, gap, half_width, lean, long, offset, onwards, place_shape, places_in, sides, size, slant, tenth, text_spot, turn_at, width};
 
+use crate::numbers::{difference_of, down, minus, natural, plus, sum_of, up};
 use eight_sides::{Interval, Shape, around, slanted, slanted_length, upright};
 use line_offsets::Corner;
 use poster_plan::{Anchor, Place, Sign, Spot, Step, Turn};
@@ -157,10 +158,9 @@ fn onwards(z: i64, from: u64, long: u64) -> Interval
     ensures value { result ≡ onwards z from long }
     ensures short { IsShort result }
 {
-    let first = z + from as i64;
     Interval {
-        least: first,
-        greatest: first + long as i64,
+        least: up(z, from),
+        greatest: up(z, from + long),
     }
 }
 
@@ -170,10 +170,9 @@ fn backwards(z: i64, from: u64, long: u64) -> Interval
     ensures value { result ≡ backwards z from long }
     ensures short { IsShort result }
 {
-    let last = z - from as i64;
     Interval {
-        least: last - long as i64,
-        greatest: last,
+        least: down(z, from + long),
+        greatest: down(z, from),
     }
 }
 
@@ -185,6 +184,7 @@ fn sides(sign: Sign, step: Step, place: Place) -> (Interval, Interval)
     ensures second { IsShort result.1 }
 {
     let (x, y) = (sign.centre.x, sign.centre.y);
+    let (difference, sum) = (difference_of(sign.centre), sum_of(sign.centre));
     let (gap, corner, from) = (gap(sign), corner_gap(sign), 2 * lean(sign, step));
     let (width, height, long) = (width(sign, step), size(step), long(sign, step));
     let broad = 2 * slant(step);
@@ -197,10 +197,10 @@ fn sides(sign: Sign, step: Step, place: Place) -> (Interval, Interval)
         Place::SW => (backwards(x, corner, width), onwards(y, corner, height)),
         Place::N => (around(x, half_width(sign, step)), backwards(y, gap, height)),
         Place::S => (around(x, half_width(sign, step)), onwards(y, gap, height)),
-        Place::UpEast => (onwards(x - y, from, long), around(x + y, broad)),
-        Place::DownWest => (backwards(x - y, from, long), around(x + y, broad)),
-        Place::DownEast => (around(x - y, broad), onwards(x + y, from, long)),
-        Place::UpWest => (around(x - y, broad), backwards(x + y, from, long)),
+        Place::UpEast => (onwards(difference, from, long), around(sum, broad)),
+        Place::DownWest => (backwards(difference, from, long), around(sum, broad)),
+        Place::DownEast => (around(difference, broad), onwards(sum, from, long)),
+        Place::UpWest => (around(difference, broad), backwards(sum, from, long)),
     }
 }
 
@@ -225,8 +225,8 @@ fn beside(c: Corner, x: i64, y: i64) -> Corner
     ensures { result ≡ beside c x y }
 {
     Corner {
-        x: c.x + x,
-        y: c.y + y,
+        x: plus(c.x, x),
+        y: plus(c.y, y),
     }
 }
 
@@ -249,22 +249,21 @@ fn offset(sign: Sign, step: Step, place: Place) -> (i64, i64)
     ensures x { unsigned_abs result.0 ≤ 8589934592 }
     ensures y { unsigned_abs result.1 ≤ 8589934592 }
 {
-    let (gap, corner) = (gap(sign) as i64, corner_gap(sign) as i64);
-    let lean = lean(sign, step) as i64;
-    let tenth = i64::from(tenth(step));
+    let (gap, corner, lean) = (gap(sign), corner_gap(sign), lean(sign, step));
+    let tenth = u64::from(tenth(step));
     match place {
-        Place::E => (gap, 3 * tenth),
-        Place::W => (-gap, 3 * tenth),
-        Place::SE => (corner, corner + 8 * tenth),
-        Place::NE => (corner, -(corner + 2 * tenth)),
-        Place::NW => (-corner, -(corner + 2 * tenth)),
-        Place::SW => (-corner, corner + 8 * tenth),
-        Place::N => (0, -(gap + 2 * tenth)),
-        Place::S => (0, gap + 8 * tenth),
-        Place::UpEast => (lean, -lean),
-        Place::DownWest => (-lean, lean),
-        Place::DownEast => (lean, lean),
-        Place::UpWest => (-lean, -lean),
+        Place::E => (natural(gap), natural(3 * tenth)),
+        Place::W => (minus(gap), natural(3 * tenth)),
+        Place::SE => (natural(corner), natural(corner + 8 * tenth)),
+        Place::NE => (natural(corner), minus(corner + 2 * tenth)),
+        Place::NW => (minus(corner), minus(corner + 2 * tenth)),
+        Place::SW => (minus(corner), natural(corner + 8 * tenth)),
+        Place::N => (0, minus(gap + 2 * tenth)),
+        Place::S => (0, natural(gap + 8 * tenth)),
+        Place::UpEast => (natural(lean), minus(lean)),
+        Place::DownWest => (minus(lean), natural(lean)),
+        Place::DownEast => (natural(lean), natural(lean)),
+        Place::UpWest => (minus(lean), minus(lean)),
     }
 }
 

@@ -2,7 +2,7 @@
 
 ghost use Rattle.std.specs.Prelude.{◌≡◌, ◌<◌, ◌++◌, ◌∷◌, [], ℕ, length, OnOk, IfOk};
 ghost use Rattle.std.specs.List.{list_any};
-ghost use Rattle.poster_layout.specs.Cells.{buckets_of, row_buckets};
+ghost use Rattle.poster_layout.specs.Cells.{buckets_of, cells_of, row_buckets};
 ghost use Rattle.poster_plan.specs.Things.{clash};
 ghost use Rattle.poster_layout.specs.Tables.{bucket_at, hits_by_cells, hits_in, hits_some, AreBelow, IsShortThing, IsTable, PutsIn};
 
@@ -52,10 +52,36 @@ impl Table {
         let number = self.things.len() as u32;
         let cells = cells_of(thing.shape);
         if count_of(cells) > MOST_CELLS {
-            self.wide.push(number)?;
-        } else {
-            put_cells(&mut self.buckets, number, cells)?;
+            return self.put_wide(thing, number);
         }
+        self.put_in(thing, number, cells)
+    }
+
+    /// Puts a thing that each search looks at.
+    fn put_wide(&mut self, thing: Thing, number: u32) -> Result<(), NoMemory>
+        requires table { IsTable self.old }
+        requires thing { IsShortThing thing }
+        requires number { number ≡ length self.old.things.items }
+        ensures table { OnOk result (IsTable self.new) }
+        ensures things { OnOk result (self.new.things.items ≡ self.old.things.items ++ thing ∷ []) }
+    {
+        self.wide.push(number)?;
+        self.things.push(thing)?;
+        Ok(())
+    }
+
+    /// Puts a thing into its cells.
+    fn put_in(&mut self, thing: Thing, number: u32, cells: Cells) -> Result<(), NoMemory>
+        requires table { IsTable self.old }
+        requires thing { IsShortThing thing }
+        requires number { number ≡ length self.old.things.items }
+        requires cells { cells ≡ cells_of thing.shape }
+        requires right { cells.right < 1099511627776 }
+        requires bottom { cells.bottom < 1099511627776 }
+        ensures table { OnOk result (IsTable self.new) }
+        ensures things { OnOk result (self.new.things.items ≡ self.old.things.items ++ thing ∷ []) }
+    {
+        put_cells(&mut self.buckets, number, cells)?;
         self.things.push(thing)?;
         Ok(())
     }
