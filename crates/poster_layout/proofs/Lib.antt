@@ -6,3 +6,4 @@ mod Putting
 mod Rooming
 mod Finding
 mod Counted
+mod Tabling

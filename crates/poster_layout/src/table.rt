@@ -87,6 +87,7 @@ impl Table {
     }
 
     /// Whether a thing clashes with one of the table.
+    #[tactic(auto, using(crate::proofs::Searching::search_is))]
     pub(crate) fn clashes(&self, thing: Thing) -> bool
         requires table { IsTable self.now }
         requires thing { IsShortThing thing }
