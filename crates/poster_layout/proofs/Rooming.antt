@@ -13,11 +13,7 @@ use Rattle.poster_plan.specs.declared.layout.Printed.{Printed}
 use Rattle.poster_plan.specs.Signs.{piece_at}
 use Rattle.poster_plan.specs.Things.{clash}
 use Rattle.poster_plan.specs.Placing.{is_near_other, meets_other, meets_piece, meets_printed, printed_shape}
-use Rattle.poster_layout.specs.Rooms.{free_piece, ground_thing, name_thing, taken_things}
-
--- the name of a node at a shape
-abbrev pub own : ℕ → Shape → Thing
-own n shape = record { shape = shape; kin = Node n }
+use Rattle.poster_layout.specs.Rooms.{free_piece, ground_thing, name_thing, own, taken_things}
 
 any_map : {A B : Type 0} (p : B → Bool) (f : A → B) (xs : List A) → list_any p (map f xs) ≡ list_any (λ x. p (f x)) xs
 any_map p f [] = refl

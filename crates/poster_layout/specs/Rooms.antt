@@ -1,6 +1,7 @@
 -- The room of names at a pitch, as tables hold it.
 use Rattle.std.specs.Prelude.{ℕ, ◌≡◌, ◌≤◌, ◌<◌, Bool, true, false, List, [], ◌∷◌, ◌++◌, length, map, filter, if◌then◌else◌, Option, Some, None}
 use Rattle.std.specs.List.{find}
+use Rattle.eight_sides.specs.declared.shape.Shape.{Shape}
 use Rattle.poster_plan.specs.declared.things.Kin.TheVariants.{Nobody, Node}
 use Rattle.poster_plan.specs.declared.things.Thing.{Thing}
 use Rattle.poster_plan.specs.declared.plan.Mark.{Mark}
@@ -25,6 +26,10 @@ name_thing u plan p = record { shape = printed_shape u plan p; kin = Nobody }
 -- a straight piece, which keeps all names away
 abbrev pub free_piece : ℕ → Piece → Thing
 free_piece u p = record { shape = piece_at u p; kin = Nobody }
+
+-- the name of a node at a shape
+abbrev pub own : ℕ → Shape → Thing
+own n shape = record { shape = shape; kin = Node n }
 
 -- what names keep clear of beside lines, where these are printed
 abbrev pub taken_things : ℕ → Plan → List Printed → List Thing

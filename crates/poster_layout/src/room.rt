@@ -1,16 +1,19 @@
 //! The room of names at a pitch: what they keep clear of, and those that are printed so far.
 
-ghost use Rattle.std.specs.Prelude.{◌≡◌, ◌≤◌, ◌++◌, ◌∷◌, [], map, IfOk, OnOk};
+ghost use Rattle.std.specs.Prelude.{◌≡◌, ◌≤◌, ◌++◌, ◌∷◌, [], ℕ, map, IfOk, OnOk};
+ghost use Rattle.eight_sides.specs.declared.shape.Shape.{Shape};
 ghost use Rattle.std.specs.List.{find};
 ghost use Rattle.poster_plan.specs.Signs.{sign_of};
 ghost use Rattle.poster_plan.specs.Places.{place_shape, places_in};
-ghost use Rattle.poster_plan.specs.Placing.{freedom, is_clear, is_free, mark_numbered, place_names, place_next};
-ghost use Rattle.poster_layout.specs.Tables.{IsTable};
-ghost use Rattle.poster_layout.specs.Rooms.{free_piece, ground_thing, placing_of, IsRoom, IsRoomWith};
+ghost use Rattle.poster_plan.specs.Placing.{freedom, is_beside, is_clear, is_free, mark_numbered, place_names, place_next};
+ghost use Rattle.poster_layout.specs.Extents.{IsNearShape};
+ghost use Rattle.poster_layout.specs.Tables.{IsShortThing, IsTable};
+ghost use Rattle.poster_layout.specs.Rooms.{free_piece, ground_thing, own, placing_of, IsRoom, IsRoomWith};
 
 use crate::places::{place_shape, places_in};
 use crate::signs::{ground_at, mark_numbered, piece_at, sign_of};
 use crate::table::Table;
+use eight_sides::Shape;
 use map_base::NoMemory;
 use poster_plan::{Kin, Mark, Piece, Place, Plan, Printed, Step, Thing};
 use std::alloc::Global;
@@ -53,16 +56,36 @@ impl<'a> Room<'a> {
         requires { IsRoom self.now }
         ensures { result ≡ is_clear self.now.pitch self.now.plan.now self.now.printed.items step mark.node.0 (place_shape (sign_of self.now.pitch mark) step place) }
     {
+        let shape = place_shape(sign_of(self.pitch, mark), step, place);
+        self.is_clear(mark.node.0, shape, step)
+    }
+
+    /// Whether a shape of the name of a node meets nothing that it has to keep clear of in a step.
+    fn is_clear(&self, node: u32, shape: Shape, step: Step) -> bool
+        requires room { IsRoom self.now }
+        requires shape { IsNearShape shape }
+        ensures { result ≡ is_clear self.now.pitch self.now.plan.now self.now.printed.items step node shape }
+    {
         let name = Thing {
-            shape: place_shape(sign_of(self.pitch, mark), step, place),
-            kin: Kin::Node(mark.node.0),
+            shape,
+            kin: Kin::Node(node),
         };
         if self.taken.clashes(name) {
             return false;
         }
+        self.is_beside(name, step)
+    }
+
+    /// Whether the name of a node keeps clear of lines, as far as a step asks for it.
+    fn is_beside(&self, name: Thing, step: Step) -> bool
+        requires room { IsRoom self.now }
+        requires name { IsShortThing name }
+        ensures { (n : ℕ) (shape : Shape) → name ≡ own n shape → result ≡ is_beside self.now.pitch self.now.plan.now step shape }
+    {
         match step {
             Step::Over => true,
-            Step::Full | Step::Small => !self.pieces.clashes(name),
+            Step::Full => !self.pieces.clashes(name),
+            Step::Small => !self.pieces.clashes(name),
         }
     }
 

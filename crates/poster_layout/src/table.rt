@@ -2,7 +2,7 @@
 
 ghost use Rattle.std.specs.Prelude.{◌≡◌, ◌<◌, ◌++◌, ◌∷◌, [], ℕ, length, OnOk, IfOk};
 ghost use Rattle.std.specs.List.{list_any};
-ghost use Rattle.poster_layout.specs.Cells.{buckets_of, cells_of, row_buckets};
+ghost use Rattle.poster_layout.specs.Cells.{bucket_of, buckets_of, cells_of, row_buckets};
 ghost use Rattle.poster_plan.specs.Things.{clash};
 ghost use Rattle.poster_layout.specs.Tables.{bucket_at, hits_by_cells, hits_in, hits_some, AreBelow, IsShortThing, IsTable, PutsIn};
 
@@ -127,12 +127,30 @@ impl Table {
         ensures { result ≡ list_any (hits_in self.now thing) (row_buckets (length self.now.buckets.items) cells row) }
     {
         for column in cells.left..cells.right + 1 {
-            let bucket = bucket_of(column, row, self.buckets.len());
-            if self.clashes_in(thing, self.buckets[bucket].as_slice()) {
+            if self.clashes_at(thing, column, row) {
                 return true;
             }
         }
         false
+    }
+
+    /// Whether it clashes with one that reaches into a cell.
+    fn clashes_at(&self, thing: Thing, column: u64, row: u64) -> bool
+        requires table { IsTable self.now }
+        requires column { column < 1099511627776 }
+        requires row { row < 1099511627776 }
+        ensures { result ≡ hits_in self.now thing (bucket_of column row (length self.now.buckets.items)) }
+    {
+        let bucket = bucket_of(column, row, self.buckets.len());
+        self.clashes_in(thing, self.numbers_in(bucket))
+    }
+
+    /// The numbers in a bucket.
+    fn numbers_in(&self, bucket: usize) -> &[u32]
+        requires { bucket < length self.now.buckets.items }
+        ensures { result.now ≡ bucket_at self.now.buckets.items bucket }
+    {
+        self.buckets[bucket].as_slice()
     }
 
     /// Whether it clashes with one of these numbers.
@@ -182,10 +200,20 @@ fn put_row(buckets: &mut Vec<Vec<u32>>, number: u32, cells: Cells, row: u64) -> 
     ensures { OnOk result (PutsIn buckets.old.items buckets.new.items (row_buckets (length buckets.old.items) cells row) number) }
 {
     for column in cells.left..cells.right + 1 {
-        let bucket = bucket_of(column, row, buckets.len());
-        put_number(buckets, number, bucket)?;
+        put_at(buckets, number, column, row)?;
     }
     Ok(())
+}
+
+/// Puts it into a cell.
+fn put_at(buckets: &mut Vec<Vec<u32>>, number: u32, column: u64, row: u64) -> Result<(), NoMemory>
+    requires some { 0 < length buckets.old.items }
+    requires column { column < 1099511627776 }
+    requires row { row < 1099511627776 }
+    ensures { OnOk result (PutsIn buckets.old.items buckets.new.items (bucket_of column row (length buckets.old.items) ∷ []) number) }
+{
+    let bucket = bucket_of(column, row, buckets.len());
+    put_number(buckets, number, bucket)
 }
 
 /// Puts it into a bucket.
@@ -193,7 +221,8 @@ fn put_number(buckets: &mut Vec<Vec<u32>>, number: u32, bucket: usize) -> Result
     requires { bucket < length buckets.old.items }
     ensures { OnOk result (PutsIn buckets.old.items buckets.new.items (bucket ∷ []) number) }
 {
-    buckets[bucket].push(number)?;
+    let numbers = &mut buckets[bucket];
+    numbers.push(number)?;
     Ok(())
 }
 
