@@ -7,3 +7,4 @@ mod Rooming
 mod Finding
 mod Counted
 mod Tabling
+mod Placed

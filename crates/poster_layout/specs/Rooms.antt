@@ -1,6 +1,5 @@
 -- The room of names at a pitch, as tables hold it.
-use Rattle.std.specs.Prelude.{ℕ, ◌≡◌, ◌≤◌, ◌<◌, Bool, true, false, List, [], ◌∷◌, ◌++◌, length, map, filter, if◌then◌else◌, Option, Some, None}
-use Rattle.std.specs.List.{find}
+use Rattle.std.specs.Prelude.{ℕ, ◌≡◌, ◌≤◌, Bool, List, ◌++◌, map}
 use Rattle.eight_sides.specs.declared.shape.Shape.{Shape}
 use Rattle.poster_plan.specs.declared.things.Kin.TheVariants.{Nobody, Node}
 use Rattle.poster_plan.specs.declared.things.Thing.{Thing}
@@ -10,8 +9,9 @@ use Rattle.poster_plan.specs.declared.plan.Plan.{Plan}
 use Rattle.poster_plan.specs.declared.place.Place.{Place}
 use Rattle.poster_plan.specs.declared.layout.Step.{Step}
 use Rattle.poster_plan.specs.declared.layout.Printed.{Printed}
-use Rattle.poster_plan.specs.Signs.{ground_at, piece_at}
-use Rattle.poster_plan.specs.Placing.{printed_shape, with_place, Placing}
+use Rattle.poster_plan.specs.Signs.{ground_at, piece_at, sign_of}
+use Rattle.poster_plan.specs.Places.{place_shape}
+use Rattle.poster_plan.specs.Placing.{is_clear, printed_shape, Placing}
 use Rattle.poster_layout.specs.declared.room.Room.{Room}
 use Rattle.poster_layout.specs.Tables.{IsTable}
 
@@ -34,6 +34,10 @@ own n shape = record { shape = shape; kin = Node n }
 -- what names keep clear of beside lines, where these are printed
 abbrev pub taken_things : ℕ → Plan → List Printed → List Thing
 taken_things u plan printed = map (ground_thing u) plan.marks ++ map (name_thing u plan) printed
+
+-- a place of the name of a mark is free in a step, where these are printed
+abbrev pub is_free_at : ℕ → Plan → List Printed → Step → Mark → Place → Bool
+is_free_at u plan printed z m p = is_clear u plan printed z m.node.0 (place_shape (sign_of u m) z p)
 
 -- the tables of a room have what they should
 pub record IsRoom (room : Room) : Type 0 where

@@ -3,70 +3,77 @@
 ghost use Rattle.std.specs.Prelude.{◌≡◌, ◌≤◌, ◌+◌, ◌*◌, unsigned_abs};
 ghost use Rattle.eight_sides.specs.Shapes.{IsNear, IsShort};
 ghost use Rattle.poster_layout.specs.Extents.{IsNearShape};
-ghost use Rattle.poster_plan.specs.Places.{anchor_at, backwards, beside, corner_gap, gap, half_width, lean, long, offset, onwards, place_shape, places_in, sides, size, slant, tenth, text_spot, turn_at, width};
+ghost use Rattle.poster_plan.specs.Places.{anchor_at, backwards, beside, beside_lines, corner_gap, gap, half_width, lean, long, offset, onwards, over_lines, place_shape, sides, size, slant, slanted_first, tenth, text_spot, turn_at, upright_first, width};
 
 use crate::numbers::{difference_of, down, minus, natural, plus, sum_of, up};
 use eight_sides::{Interval, Shape, around, slanted, slanted_length, upright};
 use line_offsets::Corner;
 use poster_plan::{Anchor, Place, Sign, Spot, Step, Turn};
 
-/// The places beside lines, in the order in which they are tried.
-const UPRIGHT_FIRST: [Place; 12] = [
-    Place::E,
-    Place::W,
-    Place::SE,
-    Place::NE,
-    Place::NW,
-    Place::SW,
-    Place::N,
-    Place::S,
-    Place::UpEast,
-    Place::DownWest,
-    Place::DownEast,
-    Place::UpWest,
-];
+/// The places beside lines, in the order in which they are tried. `level` says whether all segments of the station leave it
+/// to the east or to the west.
+pub(crate) fn beside_lines(level: bool) -> [Place; 12]
+    ensures { result ≡ beside_lines level }
+{
+    if level {
+        slanted_first()
+    } else {
+        upright_first()
+    }
+}
 
-/// The same where all segments of the station leave it to the east or to the west.
-const SLANTED_FIRST: [Place; 12] = [
-    Place::E,
-    Place::W,
-    Place::UpEast,
-    Place::DownWest,
-    Place::DownEast,
-    Place::UpWest,
-    Place::N,
-    Place::S,
-    Place::SE,
-    Place::NE,
-    Place::NW,
-    Place::SW,
-];
+/// The level ones first, all of them.
+fn upright_first() -> [Place; 12]
+    ensures { result ≡ upright_first }
+{
+    [
+        Place::E,
+        Place::W,
+        Place::SE,
+        Place::NE,
+        Place::NW,
+        Place::SW,
+        Place::N,
+        Place::S,
+        Place::UpEast,
+        Place::DownWest,
+        Place::DownEast,
+        Place::UpWest,
+    ]
+}
+
+/// The slanted ones early.
+fn slanted_first() -> [Place; 12]
+    ensures { result ≡ slanted_first }
+{
+    [
+        Place::E,
+        Place::W,
+        Place::UpEast,
+        Place::DownWest,
+        Place::DownEast,
+        Place::UpWest,
+        Place::N,
+        Place::S,
+        Place::SE,
+        Place::NE,
+        Place::NW,
+        Place::SW,
+    ]
+}
 
 /// The places over lines, in the order in which they are tried.
-const OVER_LINES: [Place; 6] = [
-    Place::SE,
-    Place::NE,
-    Place::NW,
-    Place::SW,
-    Place::N,
-    Place::S,
-];
-
-/// The places that are tried in a step, in order. `level` says whether all segments of the station leave it to the east
-/// or to the west.
-pub fn places_in(step: Step, level: bool) -> &'static [Place]
-    ensures { result.now ≡ places_in step level }
+pub(crate) fn over_lines() -> [Place; 6]
+    ensures { result ≡ over_lines }
 {
-    match step {
-        Step::Over => &OVER_LINES,
-        Step::Full | Step::Small => {
-            if level {
-                &SLANTED_FIRST
-            } else {
-                &UPRIGHT_FIRST
-            }
-        }
-    }
+    [
+        Place::SE,
+        Place::NE,
+        Place::NW,
+        Place::SW,
+        Place::N,
+        Place::S,
+    ]
 }
 
 /// A tenth of the size of type in a step.

@@ -1,16 +1,16 @@
 //! The room of names at a pitch: what they keep clear of, and those that are printed so far.
 
-ghost use Rattle.std.specs.Prelude.{◌≡◌, ◌≤◌, ◌++◌, ◌∷◌, [], ℕ, map, IfOk, OnOk};
+ghost use Rattle.std.specs.Prelude.{◌≡◌, ◌≤◌, ◌++◌, ◌∷◌, [], ℕ, filter, length, map, IfOk, OnOk};
 ghost use Rattle.eight_sides.specs.declared.shape.Shape.{Shape};
 ghost use Rattle.std.specs.List.{find};
-ghost use Rattle.poster_plan.specs.Signs.{sign_of};
-ghost use Rattle.poster_plan.specs.Places.{place_shape, places_in};
+ghost use Rattle.poster_plan.specs.declared.layout.Step.TheVariants.{Full};
+ghost use Rattle.poster_plan.specs.Places.{places_in};
 ghost use Rattle.poster_plan.specs.Placing.{freedom, is_beside, is_clear, is_free, mark_numbered, place_names, place_next};
 ghost use Rattle.poster_layout.specs.Extents.{IsNearShape};
 ghost use Rattle.poster_layout.specs.Tables.{IsShortThing, IsTable};
-ghost use Rattle.poster_layout.specs.Rooms.{free_piece, ground_thing, own, placing_of, IsRoom, IsRoomWith};
+ghost use Rattle.poster_layout.specs.Rooms.{free_piece, ground_thing, is_free_at, own, placing_of, IsRoom, IsRoomWith};
 
-use crate::places::{place_shape, places_in};
+use crate::places::{beside_lines, over_lines, place_shape};
 use crate::signs::{ground_at, mark_numbered, piece_at, sign_of};
 use crate::table::Table;
 use eight_sides::Shape;
@@ -54,7 +54,7 @@ impl<'a> Room<'a> {
     /// Whether a place of the name of a mark is free in a step.
     fn is_free(&self, mark: Mark, step: Step, place: Place) -> bool
         requires { IsRoom self.now }
-        ensures { result ≡ is_clear self.now.pitch self.now.plan.now self.now.printed.items step mark.node.0 (place_shape (sign_of self.now.pitch mark) step place) }
+        ensures { result ≡ is_free_at self.now.pitch self.now.plan.now self.now.printed.items step mark place }
     {
         let shape = place_shape(sign_of(self.pitch, mark), step, place);
         self.is_clear(mark.node.0, shape, step)
@@ -96,8 +96,16 @@ impl<'a> Room<'a> {
         ensures { result ≡ freedom self.now.pitch self.now.plan.now i }
     {
         let mark = mark_numbered(self.plan, i);
+        self.count_free(mark, &beside_lines(mark.level))
+    }
+
+    /// How many of these places of the name of a mark are free in full size.
+    fn count_free(&self, mark: Mark, places: &[Place]) -> usize
+        requires { IsRoom self.now }
+        ensures { result ≡ length (filter (is_free_at self.now.pitch self.now.plan.now self.now.printed.items Full mark) places.now) }
+    {
         let mut count = 0;
-        for place in places_in(Step::Full, mark.level) {
+        for place in places {
             if self.is_free(mark, Step::Full, *place) {
                 count += 1;
             }
@@ -110,8 +118,27 @@ impl<'a> Room<'a> {
         requires { IsRoom self.now }
         ensures { result ≡ find (is_free self.now.pitch self.now.plan.now self.now.printed.items step i) (places_in step (mark_numbered self.now.plan.now.marks i).level) }
     {
-        let mark = mark_numbered(self.plan, i);
-        for place in places_in(step, mark.level) {
+        self.first_of_mark(mark_numbered(self.plan, i), step)
+    }
+
+    /// The first place of the name of a mark that is free in a step.
+    fn first_of_mark(&self, mark: Mark, step: Step) -> Option<Place>
+        requires { IsRoom self.now }
+        ensures { result ≡ find (is_free_at self.now.pitch self.now.plan.now self.now.printed.items step mark) (places_in step mark.level) }
+    {
+        match step {
+            Step::Full => self.first_of(mark, step, &beside_lines(mark.level)),
+            Step::Small => self.first_of(mark, step, &beside_lines(mark.level)),
+            Step::Over => self.first_of(mark, step, &over_lines()),
+        }
+    }
+
+    /// The first of these places of the name of a mark that is free in a step.
+    fn first_of(&self, mark: Mark, step: Step, places: &[Place]) -> Option<Place>
+        requires { IsRoom self.now }
+        ensures { result ≡ find (is_free_at self.now.pitch self.now.plan.now self.now.printed.items step mark) places.now }
+    {
+        for place in places {
             if self.is_free(mark, step, *place) {
                 return Some(*place);
             }

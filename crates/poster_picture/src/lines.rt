@@ -141,8 +141,9 @@ fn push_join(text: &mut String, sheet: Sheet<'_>, n: NodeId, join: Join) -> Resu
     if are_one(start, end) {
         return Ok(());
     }
+    let path = [start, end];
     let colour = colour_of(sheet.names, join.line);
-    push_between(text, n, join.line, &[start, end], colour)
+    push_between(text, n, join.line, &path, colour)
 }
 
 /// Appends a line between its two ends at a node, and what stands behind it where it is pale.
