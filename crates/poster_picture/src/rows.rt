@@ -53,7 +53,8 @@ fn push_row(text: &mut String, names: &Names, at: Corner, line: LineId) -> Resul
     requires { IsDrawnPoint at }
     ensures { OnOk result (string_bytes text.new ≡ string_bytes text.old ++ texts (row_elements names.now at line)) }
 {
-    push_stretch(text, &[at, apart_from(at, 60, 0)], colour_of(names, line))?;
+    let path = [at, apart_from(at, 60, 0)];
+    push_stretch(text, &path, colour_of(names, line))?;
     push_row_name(text, apart_from(at, 90, 9), name_of(names, line))?;
     Ok(())
 }
