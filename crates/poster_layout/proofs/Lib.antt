@@ -8,3 +8,5 @@ mod Finding
 mod Counted
 mod Tabling
 mod Placed
+mod Laying
+mod Choosing

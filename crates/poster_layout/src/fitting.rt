@@ -1,9 +1,9 @@
 //! The pitch, and the names at it.
 
-ghost use Rattle.std.specs.Prelude.{◌≡◌, ◌≤◌, ◌*◌, ◌&&◌, nat_le, IfOk, MatchOption, IsTrue, IfSome, false, length};
+ghost use Rattle.std.specs.Prelude.{◌≡◌, ◌≤◌, ◌*◌, ◌&&◌, nat_le, IfOk, MatchOption, IsTrue, false, length};
 ghost use Rattle.poster_plan.specs.Placing.{named, printed_names};
-ghost use Rattle.poster_plan.specs.Pitches.{better_of, first_pitch, fits, is_better, is_roomy, pitch_of};
-ghost use Rattle.poster_layout.specs.Fits.{best_of, IsLaid};
+ghost use Rattle.poster_plan.specs.Pitches.{better_of, first_pitch, fits, is_better, pitch_of, suits};
+ghost use Rattle.poster_layout.specs.Fits.{best_of, IsLaid, IsPitch};
 
 use crate::extent::{frame_with, is_small};
 use crate::laying::{Laid, lay_out, named};
@@ -53,25 +53,32 @@ fn first_suiting(alloc: Global, plan: &Plan) -> Result<Laid, NoMemory>
 {
     let names = named(alloc, plan.marks.as_slice())?.len();
     for i in 0..45 {
-        let pitch = 20 + 4 * i;
-        if let Some(laid) = laid_where_roomy(alloc, pitch, plan)? {
-            if suits(&laid, names) {
-                return Ok(laid);
-            }
+        if let Some(laid) = suiting_at(alloc, 20 + 4 * i, plan, names)? {
+            return Ok(laid);
         }
     }
     lay_out(alloc, 200, plan)
 }
 
-/// The names at a pitch, where it is roomy.
-fn laid_where_roomy(alloc: Global, pitch: u32, plan: &Plan) -> Result<Option<Laid>, NoMemory>
-    requires { pitch ≤ 200 }
-    ensures { IfOk result (λ found. MatchOption found (is_roomy pitch plan.now ≡ false) (λ laid. IsLaid plan.now laid × (laid.pitch ≡ pitch) × IsTrue (is_roomy pitch plan.now))) }
+/// The names at a pitch, where it suits so many names.
+fn suiting_at(
+    alloc: Global,
+    pitch: u32,
+    plan: &Plan,
+    names: usize,
+) -> Result<Option<Laid>, NoMemory>
+    requires pitch { pitch ≤ 200 }
+    requires names { names ≡ length (named plan.now.marks) }
+    ensures { IfOk result (λ found. MatchOption found (suits plan.now pitch ≡ false) (λ laid. IsLaid plan.now laid × (laid.pitch ≡ pitch) × IsTrue (suits plan.now pitch))) }
 {
     if !is_roomy(alloc, pitch, plan)? {
         return Ok(None);
     }
-    Ok(Some(lay_out(alloc, pitch, plan)?))
+    let laid = lay_out(alloc, pitch, plan)?;
+    if !suits(&laid, names) {
+        return Ok(None);
+    }
+    Ok(Some(laid))
 }
 
 /// Whether of so many names at most a tenth is not in full size, and at most a thirtieth not beside lines.
@@ -103,7 +110,8 @@ fn is_better(laid: &Laid, best: &Laid) -> bool
 /// The best of the pitches from one that fits on, as long as all fits, and no further than the first at which each name is
 /// in full size.
 fn best_from(alloc: Global, plan: &Plan, first: Laid) -> Result<Laid, NoMemory>
-    requires { IsLaid plan.now first }
+    requires laid { IsLaid plan.now first }
+    requires pitch { IsPitch first.pitch }
     ensures laid { IfOk result (IsLaid plan.now) }
     ensures pitch { IfOk result (λ laid. laid.pitch ≡ best_of plan.now first.pitch first.full_left first.pitch) }
 {
