@@ -164,3 +164,18 @@ first_last plan = by_test (suits plan 200)
     by_test : (b : Bool) → unwrap_or (cond b (Some 200) None) 200 ≡ 200
     by_test true = refl
     by_test false = refl
+
+found_numbered : (test : ℕ → Bool) (a n u : ℕ) → find test (map pitch_numbered (range_with_len a n)) ≡ Some u → (i : ℕ) × (i < a + n) × (u ≡ pitch_numbered i)
+found_numbered test a zero u e = absurd cc
+found_numbered test a (suc n) u e = by_test (test (pitch_numbered a)) refl e
+  where
+    by_test : (b : Bool) → test (pitch_numbered a) ≡ b → cond b (Some (pitch_numbered a)) (find test (map pitch_numbered (range_with_len (a + 1) n))) ≡ Some u → (i : ℕ) × (i < a + suc n) × (u ≡ pitch_numbered i)
+    by_test true is f = let same : pitch_numbered a ≡ u = cc in (a, omega arith, sym same)
+    by_test false is f = let rest = found_numbered test (a + 1) n u f in (rest.0, omega (arith, rest.1), rest.2)
+
+pub first_is_pitch : (plan : Plan) → IsPitch (first_pitch plan)
+first_is_pitch plan = by_found (find (suits plan) pitches) refl
+  where
+    by_found : (o : Option ℕ) → find (suits plan) pitches ≡ o → IsPitch (unwrap_or o 200)
+    by_found None e = (45, omega arith, refl)
+    by_found (Some u) e = let at = found_numbered (suits plan) 0 46 u e in (at.0, omega (arith, at.1), at.2)

@@ -10,3 +10,5 @@ mod Tabling
 mod Placed
 mod Laying
 mod Choosing
+mod Framing
+mod Clashing

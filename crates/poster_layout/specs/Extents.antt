@@ -24,6 +24,10 @@ abbrev pub first_frame : ℕ → List Piece → Frame
 first_frame u [] = frame_at origin
 first_frame u (p ∷ ps) = frame_at (drawn_at u p.start)
 
+-- the ends of a piece
+abbrev pub piece_ends : ℕ → Piece → List Corner
+piece_ends u p = drawn_at u p.start ∷ drawn_at u p.end ∷ []
+
 -- what is drawn
 pub record IsNearShape (s : Shape) : Type 0 where
   pub across : IsNearBy s.across

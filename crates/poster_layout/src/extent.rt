@@ -3,7 +3,7 @@
 ghost use Rattle.std.specs.Prelude.{◌≡◌, ◌≤◌, fold};
 ghost use Rattle.eight_sides.specs.Frames.{frame_of, shape_corners, widened};
 ghost use Rattle.poster_plan.specs.Pitches.{frame_with, is_small, walked_corners};
-ghost use Rattle.poster_layout.specs.Extents.{first_frame, IsNearFrame, IsNearShape};
+ghost use Rattle.poster_layout.specs.Extents.{first_frame, piece_ends, IsNearFrame, IsNearShape};
 
 use crate::signs::printed_shape;
 use eight_sides::{Frame, Shape, frame_at, widened};
@@ -31,10 +31,21 @@ fn walked_frame(pitch: u32, pieces: &[Piece]) -> Frame
 {
     let mut frame = first_frame(pitch, pieces);
     for piece in pieces {
-        frame = widened(frame, drawn_at(pitch, piece.start));
-        frame = widened(frame, drawn_at(pitch, piece.end));
+        frame = with_piece(frame, pitch, *piece);
     }
     frame
+}
+
+/// A frame, widened to hold the ends of a piece.
+fn with_piece(frame: Frame, pitch: u32, piece: Piece) -> Frame
+    requires pitch { pitch ≤ 200 }
+    requires frame { IsNearFrame frame }
+    ensures value { result ≡ fold widened frame (piece_ends pitch piece) }
+    ensures near { IsNearFrame result }
+{
+    let start = drawn_at(pitch, piece.start);
+    let end = drawn_at(pitch, piece.end);
+    widened(widened(frame, start), end)
 }
 
 /// The frame of the start of the first of these pieces, that of the origin where there is none.
