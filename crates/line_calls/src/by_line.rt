@@ -44,7 +44,8 @@ fn put_pattern(
     if !is_shown(lines, pattern) {
         return Ok(());
     }
-    push_at(lists, pattern.line.0 as usize, k as u32)
+    push_at(lists, pattern.line.0 as usize, k as u32)?;
+    Ok(())
 }
 
 /// Whether the line of a pattern is not hidden.

@@ -65,7 +65,8 @@ fn note_call(table: &mut Vec<Vec<u32>>, station: StationId, line: u32) -> Result
     if is_last(table[station.0 as usize].as_slice(), line) {
         return Ok(());
     }
-    push_at(table, station.0 as usize, line)
+    push_at(table, station.0 as usize, line)?;
+    Ok(())
 }
 
 /// Whether a number is the last of these.

@@ -1,0 +1,9 @@
+use Rattle.std.proofs.Common.{sym, ◌∙◌, arith}
+use Rattle.line_calls.proofs.Noting.{last_at, last_none}
+use Rattle.line_calls.proofs.table.is_last.Goals as goal
+
+pub returns-then-is_empty : goal.returns-then-is_empty
+returns-then-is_empty c = sym (last_none c.args.number c.args.numbers.now (omega (arith, c.if-is_empty.true)))
+
+pub returns : goal.returns
+returns c = sym (last_at c.args.number 0 c.args.numbers.now (omega (arith, c.if-is_empty.false)))
