@@ -4,3 +4,4 @@ mod Gathering
 mod Noting
 mod Sorting
 mod Lining
+mod Wholes

@@ -103,6 +103,8 @@ fn push_on(
 {
     if is_pale(colour) {
         push_behind_on_segment(text, s, line, path)?;
+        push_on_segment(text, s, line, path, colour, name)?;
+        return Ok(());
     }
     push_on_segment(text, s, line, path, colour, name)?;
     Ok(())
@@ -158,6 +160,8 @@ fn push_between(
 {
     if is_pale(colour) {
         push_behind_at_node(text, n.0, line, path)?;
+        push_at_node(text, n.0, line, path, colour)?;
+        return Ok(());
     }
     push_at_node(text, n.0, line, path, colour)?;
     Ok(())

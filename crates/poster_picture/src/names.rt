@@ -1,9 +1,9 @@
 //! The names of stations at their places.
 
-ghost use Rattle.std.specs.Prelude.{◌≡◌, ◌≤◌, ◌<◌, ◌++◌, ◌∷◌, [], ℕ, None, length, map, slice_index_or, IfOk, OnOk, string_bytes};
+ghost use Rattle.std.specs.Prelude.{◌≡◌, ◌≤◌, ◌<◌, ◌++◌, ◌∷◌, [], ℕ, None, length, map, slice_index_or, unwrap_or, IfOk, OnOk, string_bytes};
 ghost use Rattle.graph_core.specs.Consistent.{IsConsistent};
-ghost use Rattle.poster_graph.specs.Words.{AreTextsOf};
-ghost use Rattle.poster_rules.specs.Elements.{texts, Name, RimOfName};
+ghost use Rattle.poster_graph.specs.Words.{text_in, AreTextsOf};
+ghost use Rattle.poster_rules.specs.Elements.{element_text, texts, Name, RimOfName};
 ghost use Rattle.poster_rules.specs.Posters.{all_names, ending_of, name_where, printed_of, rim_of};
 ghost use Rattle.poster_picture.specs.Sheets.{plain};
 ghost use Rattle.poster_picture.specs.Noted.{first_of};
@@ -87,7 +87,7 @@ fn push_where(
     let Some(printed) = printed else {
         return Ok(());
     };
-    let name = printed_at(words, sheet.graph, sheet.names, mark.node).unwrap_or("");
+    let name = text_or_none(printed_at(words, sheet.graph, sheet.names, mark.node));
     let lines = ending(alloc, served(sheet), mark.node)?;
     let spot = text_spot(sign_of(sheet.pitch, mark), printed.step, printed.place);
     push_name(
@@ -98,6 +98,16 @@ fn push_where(
         name,
         lines.as_slice(),
     )
+}
+
+/// A text, an empty one where there is none.
+fn text_or_none<'a>(text: Option<&'a str>) -> &'a str
+    ensures { result.now ≡ unwrap_or (text_in text.entry) [] }
+{
+    match text {
+        Some(text) => text,
+        None => "",
+    }
 }
 
 /// Appends a name at its spot with the lines that end there, and its rim behind it where it lies over lines.
@@ -111,11 +121,45 @@ fn push_name(
 ) -> Result<(), NoMemory>
     ensures { OnOk result (string_bytes text.new ≡ string_bytes text.old ++ texts (rim_of step (RimOfName spot step name.now (map (ending_of names.now) lines.now)) ++ Name spot step name.now (map (ending_of names.now) lines.now) ∷ [])) }
 {
-    if step == Step::Over {
-        push_spot(text, spot, step)?;
-        text.push_str(" stroke=\"#ffffff\" stroke-width=\"6\" stroke-linejoin=\"round\"")?;
-        push_name_text(text, names, step, name, lines)?;
+    match step {
+        Step::Over => {
+            push_rim(text, names, spot, step, name, lines)?;
+            push_alone(text, names, spot, step, name, lines)?;
+            Ok(())
+        }
+        Step::Full => push_alone(text, names, spot, step, name, lines),
+        Step::Small => push_alone(text, names, spot, step, name, lines),
     }
+}
+
+/// Appends the white rim of a name.
+fn push_rim(
+    text: &mut String,
+    names: &Names,
+    spot: Spot,
+    step: Step,
+    name: &str,
+    lines: &[LineId],
+) -> Result<(), NoMemory>
+    ensures { OnOk result (string_bytes text.new ≡ string_bytes text.old ++ element_text (RimOfName spot step name.now (map (ending_of names.now) lines.now))) }
+{
+    push_spot(text, spot, step)?;
+    text.push_str(" stroke=\"#ffffff\" stroke-width=\"6\" stroke-linejoin=\"round\"")?;
+    push_name_text(text, names, step, name, lines)?;
+    Ok(())
+}
+
+/// Appends a name alone.
+fn push_alone(
+    text: &mut String,
+    names: &Names,
+    spot: Spot,
+    step: Step,
+    name: &str,
+    lines: &[LineId],
+) -> Result<(), NoMemory>
+    ensures { OnOk result (string_bytes text.new ≡ string_bytes text.old ++ element_text (Name spot step name.now (map (ending_of names.now) lines.now))) }
+{
     push_spot(text, spot, step)?;
     push_name_text(text, names, step, name, lines)?;
     Ok(())

@@ -65,6 +65,8 @@ fn push_stretch(text: &mut String, path: &[Corner], colour: &[u8]) -> Result<(),
 {
     if is_pale(colour) {
         push_inked(text, path, Ink::Dark, 14)?;
+        push_along(text, path, colour, 12)?;
+        return Ok(());
     }
     push_along(text, path, colour, 12)?;
     Ok(())

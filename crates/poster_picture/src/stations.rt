@@ -96,8 +96,13 @@ fn push_strokes(
 fn push_strokes_over(text: &mut String, change: bool, path: &[Corner]) -> Result<(), NoMemory>
     ensures { OnOk result (string_bytes text.new ≡ string_bytes text.old ++ texts (strokes_over change path.now)) }
 {
-    push_inked(text, path, Ink::Black, if change { 28 } else { 20 })?;
-    push_inked(text, path, Ink::White, if change { 18 } else { 12 })?;
+    if change {
+        push_inked(text, path, Ink::Black, 28)?;
+        push_inked(text, path, Ink::White, 18)?;
+        return Ok(());
+    }
+    push_inked(text, path, Ink::Black, 20)?;
+    push_inked(text, path, Ink::White, 12)?;
     Ok(())
 }
 
@@ -105,10 +110,11 @@ fn push_strokes_over(text: &mut String, change: bool, path: &[Corner]) -> Result
 fn close_path(path: &mut Vec<Corner>) -> Result<(), NoMemory>
     ensures { OnOk result (path.new.items ≡ stroke_through path.old.items) }
 {
-    if path.len() == 1 {
-        let only = path[0];
-        path.push(only)?;
+    if path.len() != 1 {
+        return Ok(());
     }
+    let only = path[0];
+    path.push(only)?;
     Ok(())
 }
 
@@ -205,10 +211,12 @@ fn put_line(
     requires { sheet.pitch ≤ 200 }
     ensures { OnOk result (record { seen = seen.new.items; path = path.new.items } ≡ with_stand (plain sheet.entry) n.0 callers.now (record { seen = seen.old.items; path = path.old.items }) (record { seg = s.0; line = line })) }
 {
-    if has_line(line, callers) && !has_line(line, seen.as_slice()) {
-        seen.push(line)?;
-        put_foot(path, foot_on(sheet, n, s.0, line)?)?;
+    if !has_line(line, callers) || has_line(line, seen.as_slice()) {
+        return Ok(());
     }
+    let foot = foot_on(sheet, n, s.0, line)?;
+    seen.push(line)?;
+    put_foot(path, foot)?;
     Ok(())
 }
 
