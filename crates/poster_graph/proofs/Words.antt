@@ -1,9 +1,9 @@
 -- What is left of names, and second platforms.
-use Rattle.std.proofs.Common.{◌≡◌, ℕ, ◌+◌, ◌<◌, ◌==◌, Bool, true, false, ◌&&◌, ◌||◌, List, [], ◌∷◌, ◌++◌, length, map, get_or, take, Option, Some, None, unwrap_or, refl, ap, sym, ◌∙◌, arith}
+use Rattle.std.proofs.Common.{◌≡◌, ℕ, ◌+◌, ◌<◌, ◌≤◌, ◌==◌, Bool, true, false, cond, ◌&&◌, ◌||◌, List, [], ◌∷◌, ◌++◌, length, map, get_or, take, Option, Some, None, unwrap_or, refl, ap, sym, ◌∙◌, arith}
 use Rattle.std.specs.Prelude.{slice_get}
 use Rattle.std.specs.List.{flat_map, list_any}
 use Rattle.std.proofs.lemmas.Bool.{eqb-true}
-use Rattle.std.proofs.lemmas.List.{get_or-map, take_more}
+use Rattle.std.proofs.lemmas.List.{get_or-map, get_or_past, length-map, take_more}
 use Rattle.std.proofs.lemmas.Grind.{flat_map-append}
 use Rattle.std.proofs.lemmas.List.Folds.{list_any-append}
 use Rattle.std.proofs.lemmas.Option.{get_or_from_slice_get, unwrap_or-slice_get}
@@ -12,7 +12,7 @@ use Rattle.graph_core.specs.declared.parts.NodeKind.{NodeKind}
 use Rattle.graph_core.specs.declared.parts.NodeKind.TheVariants.{Junction}
 use Rattle.graph_core.specs.declared.parts.GraphParts.{GraphParts}
 use Rattle.svg_writer.specs.declared.names.Names.{Names}
-use Rattle.poster_rules.specs.Texts.{all_names, all_rests, are_same, node_names, node_rest, rest_at}
+use Rattle.poster_rules.specs.Texts.{all_names, all_rests, are_same, is_second, node_names, node_rest, printed_at, rest_at, unless_second}
 use Rattle.poster_graph.specs.Words.{is_second_by}
 
 -- what is left of the name of a node, by its kind
@@ -54,3 +54,24 @@ second_more rests ends s n e same was is low at told before now =
     by_test : (b : Bool) → (e.1.0 == n) ≡ b → (b && same) ≡ (b && are_same (rest_at rests e.0.0) (rest_at rests n))
     by_test true one = told ∙ ap (λ (m : ℕ). are_same (rest_at rests e.0.0) (rest_at rests m)) (eqb-true e.1.0 n one)
     by_test false other = refl
+
+-- ---- what is printed
+
+-- nothing of a node that is not there
+pub none_past : (names : Names) (g : GraphParts) (n : ℕ) → length g.kinds ≤ n → None ≡ printed_at g (all_rests names g) n
+none_past names g n high = sym (ap (unless_second (is_second g (all_rests names g) n)) past)
+  where
+    past : rest_at (all_rests names g) n ≡ None
+    past = unwrap_or-slice_get (all_rests names g) n None ∙ get_or_past (all_rests names g) n None (omega (arith, high, length-map g.kinds (node_rest (all_names names g) names)))
+
+pub none_empty : (second : Bool) (text : List ℕ) → length text ≡ 0 → None ≡ unless_second second (Some text)
+none_empty second [] e = refl
+none_empty second (c ∷ cs) e = absurd (omega (arith, e))
+
+pub none_second : (second : Bool) (text : List ℕ) → second ≡ true → None ≡ unless_second second (Some text)
+none_second second [] e = refl
+none_second second (c ∷ cs) e = sym (ap (λ (b : Bool). cond b None (Some (c ∷ cs))) e)
+
+pub some_left : (second : Bool) (text : List ℕ) → 0 < length text → second ≡ false → Some text ≡ unless_second second (Some text)
+some_left second [] some e = absurd (omega arith)
+some_left second (c ∷ cs) some e = sym (ap (λ (b : Bool). cond b None (Some (c ∷ cs))) e)

@@ -57,11 +57,23 @@ pub fn printed_at<'a>(
 fn unless_second<'a>(second: bool, rest: Option<&'a str>) -> Option<&'a str>
     ensures { text_in result ≡ unless_second second (text_in rest.entry) }
 {
-    let rest = rest?;
-    if rest.is_empty() || second {
+    match rest {
+        None => None,
+        Some(text) => unless_empty(second, text),
+    }
+}
+
+/// The same of what is left.
+fn unless_empty<'a>(second: bool, text: &'a str) -> Option<&'a str>
+    ensures { text_in result ≡ unless_second second (Some text.now) }
+{
+    if text.is_empty() {
         return None;
     }
-    Some(rest)
+    if second {
+        return None;
+    }
+    Some(text)
 }
 
 /// The names of all station nodes.

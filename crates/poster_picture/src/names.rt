@@ -1,6 +1,6 @@
 //! The names of stations at their places.
 
-ghost use Rattle.std.specs.Prelude.{◌≡◌, ◌≤◌, ◌<◌, ◌++◌, ◌∷◌, [], ℕ, None, length, map, slice_index_or, unwrap_or, IfOk, OnOk, string_bytes};
+ghost use Rattle.std.specs.Prelude.{◌≡◌, ◌≤◌, ◌<◌, ◌++◌, ◌∷◌, [], ℕ, None, Some, length, map, slice_index_or, unwrap_or, IfOk, OnOk, string_bytes};
 ghost use Rattle.graph_core.specs.Consistent.{IsConsistent};
 ghost use Rattle.poster_graph.specs.Words.{text_in, AreTextsOf};
 ghost use Rattle.poster_rules.specs.Elements.{element_text, texts, Name, RimOfName};
@@ -84,9 +84,26 @@ fn push_where(
     requires words { AreTextsOf sheet.names.now sheet.graph.now words.now }
     ensures { OnOk result (string_bytes text.new ≡ string_bytes text.old ++ texts (name_where (plain sheet.entry) mark printed)) }
 {
-    let Some(printed) = printed else {
-        return Ok(());
-    };
+    match printed {
+        None => Ok(()),
+        Some(printed) => push_printed(alloc, text, sheet, words, mark, printed),
+    }
+}
+
+/// Appends the name of a mark where it is printed.
+fn push_printed(
+    alloc: Global,
+    text: &mut String,
+    sheet: Sheet<'_>,
+    words: &Texts<'_>,
+    mark: Mark,
+    printed: Printed,
+) -> Result<(), NoMemory>
+    requires pitch { sheet.pitch ≤ 200 }
+    requires graph { IsConsistent sheet.graph.now }
+    requires words { AreTextsOf sheet.names.now sheet.graph.now words.now }
+    ensures { OnOk result (string_bytes text.new ≡ string_bytes text.old ++ texts (name_where (plain sheet.entry) mark (Some printed))) }
+{
     let name = text_or_none(printed_at(words, sheet.graph, sheet.names, mark.node));
     let lines = ending(alloc, served(sheet), mark.node)?;
     let spot = text_spot(sign_of(sheet.pitch, mark), printed.step, printed.place);
@@ -97,7 +114,8 @@ fn push_where(
         printed.step,
         name,
         lines.as_slice(),
-    )
+    )?;
+    Ok(())
 }
 
 /// A text, an empty one where there is none.
