@@ -19,7 +19,8 @@ pub fn lines_shown(alloc: Global, count: usize, graph: &LineGraph) -> Result<Vec
         return Err(NoMemory);
     }
     let flags = flags_of(alloc, count, graph)?;
-    flagged(alloc, flags.as_slice())
+    let lines = flagged(alloc, flags.as_slice())?;
+    Ok(lines)
 }
 
 /// Which of so many lines are on a segment.
