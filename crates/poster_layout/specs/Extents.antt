@@ -1,18 +1,12 @@
--- Frames and shapes that are near enough to be reckoned with.
+-- Frames and points that are near enough to be reckoned with.
 use Rattle.std.specs.Prelude.{ℕ, ◌<◌, ◌≤◌, List, [], ◌∷◌, unsigned_abs}
 use Rattle.line_offsets.specs.Shifts.{drawn_at}
 use Rattle.eight_sides.specs.Frames.{frame_at, origin}
 use Rattle.poster_plan.specs.declared.plan.Piece.{Piece}
 use Rattle.line_offsets.specs.declared.corner.Corner.{Corner}
 use Rattle.eight_sides.specs.declared.frame.Frame.{Frame}
-use Rattle.eight_sides.specs.declared.interval.Interval.{Interval}
-use Rattle.eight_sides.specs.declared.shape.Shape.{Shape}
+use Rattle.name_places.specs.Near.{IsNearBy}
 use Rattle.poster_plan.specs.declared.layout.Legend.{Legend}
-
--- an interval of what is drawn
-pub record IsNearBy (i : Interval) : Type 0 where
-  pub least : unsigned_abs i.least ≤ 549755813888
-  pub greatest : unsigned_abs i.greatest ≤ 549755813888
 
 -- a frame of what is drawn
 pub record IsNearFrame (f : Frame) : Type 0 where
@@ -27,11 +21,6 @@ first_frame u (p ∷ ps) = frame_at (drawn_at u p.start)
 -- the ends of a piece
 abbrev pub piece_ends : ℕ → Piece → List Corner
 piece_ends u p = drawn_at u p.start ∷ drawn_at u p.end ∷ []
-
--- what is drawn
-pub record IsNearShape (s : Shape) : Type 0 where
-  pub across : IsNearBy s.across
-  pub down : IsNearBy s.down
 
 -- a frame of a whole poster, its legend included
 pub record IsDrawnFrame (f : Frame) : Type 0 where

@@ -3,11 +3,12 @@
 ghost use Rattle.std.specs.Prelude.{◌≡◌, ◌≤◌, fold};
 ghost use Rattle.eight_sides.specs.Frames.{frame_of, shape_corners, widened};
 ghost use Rattle.poster_plan.specs.Pitches.{frame_with, is_small, walked_corners};
-ghost use Rattle.poster_layout.specs.Extents.{first_frame, piece_ends, IsNearFrame, IsNearShape};
+ghost use Rattle.poster_layout.specs.Extents.{first_frame, piece_ends, IsNearFrame};
+ghost use Rattle.name_places.specs.Near.{IsNearShape};
 
-use crate::signs::printed_shape;
 use eight_sides::{Frame, Shape, frame_at, widened};
 use line_offsets::{Corner, drawn_at};
+use name_places::printed_shape;
 use poster_plan::{Piece, Plan, Printed};
 
 /// The least frame of all grid points of walks, that of the origin where there is none, and of these names.

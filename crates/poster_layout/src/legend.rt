@@ -11,10 +11,9 @@ ghost use Rattle.poster_plan.specs.Placing.{meets_printed};
 ghost use Rattle.poster_plan.specs.Signs.{mark_at, piece_at};
 
 use crate::extent::frame_with;
-use crate::numbers::{down, up};
-use crate::signs::{mark_at, piece_at, printed_shape};
 use eight_sides::{Frame, Interval, Shape, meet, upright, widened};
 use line_offsets::Corner;
+use name_places::{down, mark_at, piece_at, printed_shape, up};
 use poster_plan::{Legend, Mark, Piece, Plan, Printed};
 
 /// How many rows a column has where there are so many lines: at least 12, and at least twice the root of their number.

@@ -7,16 +7,11 @@ mod extent;
 mod fitting;
 mod laying;
 mod legend;
-mod numbers;
-mod places;
 mod room;
 mod roomy;
-mod signs;
 mod table;
 mod things;
 
 pub use extent::frame_with;
 pub use fitting::{Layout, layout_of};
 pub use legend::{frame_beside, legend_of, row_at};
-pub use places::{tenth, text_spot};
-pub use signs::{mark_numbered, sign_of};

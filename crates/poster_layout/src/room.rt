@@ -6,15 +6,16 @@ ghost use Rattle.std.specs.List.{find};
 ghost use Rattle.poster_plan.specs.declared.layout.Step.TheVariants.{Full};
 ghost use Rattle.poster_plan.specs.Places.{places_in};
 ghost use Rattle.poster_plan.specs.Placing.{freedom, is_beside, is_clear, is_free, mark_numbered, place_names, place_next};
-ghost use Rattle.poster_layout.specs.Extents.{IsNearShape};
+ghost use Rattle.name_places.specs.Near.{IsNearShape};
 ghost use Rattle.poster_layout.specs.Tables.{IsShortThing, IsTable};
 ghost use Rattle.poster_layout.specs.Rooms.{free_piece, ground_thing, is_free_at, own, placing_of, IsRoom, IsRoomWith};
 
-use crate::places::{beside_lines, over_lines, place_shape};
-use crate::signs::{ground_at, mark_numbered, piece_at, sign_of};
 use crate::table::Table;
 use eight_sides::Shape;
 use map_base::NoMemory;
+use name_places::{
+    beside_lines, ground_at, mark_numbered, over_lines, piece_at, place_shape, sign_of,
+};
 use poster_plan::{Kin, Mark, Piece, Place, Plan, Printed, Step, Thing};
 use std::alloc::Global;
 

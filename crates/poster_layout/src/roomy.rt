@@ -6,9 +6,9 @@ ghost use Rattle.poster_plan.specs.Things.{clash};
 ghost use Rattle.poster_layout.specs.Tables.{IsShortThing, IsTable};
 ghost use Rattle.poster_plan.specs.Pitches.{is_roomy};
 
-use crate::signs::{mark_at, piece_at};
 use crate::table::Table;
 use map_base::NoMemory;
+use name_places::{mark_at, piece_at};
 use poster_plan::{Kin, Plan, Thing};
 use std::alloc::Global;
 

@@ -11,8 +11,8 @@ ghost use Rattle.poster_picture.specs.Inks.{ink_colour};
 
 use line_offsets::Corner;
 use map_base::{LineId, NoMemory};
+use name_places::tenth;
 use name_widths::is_faint;
-use poster_layout::tenth;
 use poster_plan::{Anchor, Spot, Step, Turn};
 use svg_writer::{
     Names, colour_of, name_of, push_colour, push_corner, push_escaped, push_natural, push_place,

@@ -2,7 +2,7 @@
 
 ghost use Rattle.std.specs.Prelude.{◌≡◌, ◌≤◌};
 ghost use Rattle.eight_sides.specs.Shapes.{IsNear, IsShortShape};
-ghost use Rattle.poster_layout.specs.Extents.{IsNearShape};
+ghost use Rattle.name_places.specs.Near.{IsNearShape};
 ghost use Rattle.poster_plan.specs.Signs.{ground_at, mark_at, piece_at, sign_of};
 ghost use Rattle.poster_plan.specs.Placing.{mark_numbered, printed_shape};
 
@@ -53,7 +53,7 @@ pub fn printed_shape(pitch: u32, plan: &Plan, name: Printed) -> Shape
 }
 
 /// What a station takes up.
-pub(crate) fn mark_at(pitch: u32, mark: Mark) -> Shape
+pub fn mark_at(pitch: u32, mark: Mark) -> Shape
     requires { pitch ≤ 200 }
     ensures value { result ≡ mark_at pitch mark }
     ensures short { IsShortShape result }
@@ -62,7 +62,7 @@ pub(crate) fn mark_at(pitch: u32, mark: Mark) -> Shape
 }
 
 /// What names of other stations keep away from: 12 units more than a station takes up.
-pub(crate) fn ground_at(pitch: u32, mark: Mark) -> Shape
+pub fn ground_at(pitch: u32, mark: Mark) -> Shape
     requires { pitch ≤ 200 }
     ensures value { result ≡ ground_at pitch mark }
     ensures short { IsShortShape result }
@@ -71,7 +71,7 @@ pub(crate) fn ground_at(pitch: u32, mark: Mark) -> Shape
 }
 
 /// What a straight piece takes up.
-pub(crate) fn piece_at(pitch: u32, piece: Piece) -> Shape
+pub fn piece_at(pitch: u32, piece: Piece) -> Shape
     requires { pitch ≤ 200 }
     ensures value { result ≡ piece_at pitch piece }
     ensures short { IsShortShape result }

@@ -7,7 +7,7 @@ ghost use Rattle.poster_plan.specs.Places.{minus};
 use line_offsets::Corner;
 
 /// A number that is so much greater.
-pub(crate) fn up(z: i64, by: u64) -> i64
+pub fn up(z: i64, by: u64) -> i64
     requires { unsigned_abs z + by ≤ 8796093022208 }
     ensures value { result ≡ z +ℤ pos by }
     ensures small { unsigned_abs result ≤ unsigned_abs z + by }
@@ -16,7 +16,7 @@ pub(crate) fn up(z: i64, by: u64) -> i64
 }
 
 /// A number that is so much less.
-pub(crate) fn down(z: i64, by: u64) -> i64
+pub fn down(z: i64, by: u64) -> i64
     requires { unsigned_abs z + by ≤ 8796093022208 }
     ensures value { result ≡ z -ℤ pos by }
     ensures small { unsigned_abs result ≤ unsigned_abs z + by }

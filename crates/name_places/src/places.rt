@@ -2,7 +2,7 @@
 
 ghost use Rattle.std.specs.Prelude.{◌≡◌, ◌≤◌, ◌+◌, ◌*◌, unsigned_abs};
 ghost use Rattle.eight_sides.specs.Shapes.{IsNear, IsShort};
-ghost use Rattle.poster_layout.specs.Extents.{IsNearShape};
+ghost use Rattle.name_places.specs.Near.{IsNearShape};
 ghost use Rattle.poster_plan.specs.Places.{anchor_at, backwards, beside, beside_lines, corner_gap, gap, half_width, lean, long, offset, onwards, over_lines, place_shape, sides, size, slant, slanted_first, tenth, text_spot, turn_at, upright_first, width};
 
 use crate::numbers::{difference_of, down, minus, natural, plus, sum_of, up};
@@ -12,7 +12,7 @@ use poster_plan::{Anchor, Place, Sign, Spot, Step, Turn};
 
 /// The places beside lines, in the order in which they are tried. `level` says whether all segments of the station leave it
 /// to the east or to the west.
-pub(crate) fn beside_lines(level: bool) -> [Place; 12]
+pub fn beside_lines(level: bool) -> [Place; 12]
     ensures { result ≡ beside_lines level }
 {
     if level {
@@ -63,7 +63,7 @@ fn slanted_first() -> [Place; 12]
 }
 
 /// The places over lines, in the order in which they are tried.
-pub(crate) fn over_lines() -> [Place; 6]
+pub fn over_lines() -> [Place; 6]
     ensures { result ≡ over_lines }
 {
     [
