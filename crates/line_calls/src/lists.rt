@@ -1,6 +1,6 @@
 //! Lists of numbers.
 
-ghost use Rattle.std.specs.Prelude.{◌≡◌, ◌<◌, ◌++◌, ◌∷◌, [], ℕ, length, slice_index_or, slice_set, IfOk, OnOk};
+ghost use Rattle.std.specs.Prelude.{◌≡◌, ◌<◌, ◌++◌, ◌∷◌, [], length, slice_index_or, slice_set, IfOk, OnOk};
 ghost use Rattle.line_calls.specs.Tables.{lists_in, AreEmpty};
 
 use map_base::NoMemory;

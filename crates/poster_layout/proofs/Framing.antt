@@ -9,7 +9,6 @@ use Rattle.std.proofs.lemmas.List.Sums.{fold-append}
 use Rattle.line_offsets.specs.declared.corner.Corner.{Corner}
 use Rattle.line_offsets.specs.Shifts.{drawn_at}
 use Rattle.eight_sides.specs.declared.frame.Frame.{Frame}
-use Rattle.eight_sides.specs.declared.interval.Interval.{Interval}
 use Rattle.eight_sides.specs.Frames.{frame_at, frame_of, shape_corners, widened}
 use Rattle.poster_plan.specs.declared.plan.Piece.{Piece}
 use Rattle.poster_plan.specs.declared.plan.Plan.{Plan}

@@ -1,18 +1,12 @@
 -- What the tables of a room say of a place.
-use Rattle.std.proofs.Common.{◌≡◌, ℕ, Bool, true, false, ◌&&◌, ◌||◌, not, List, [], ◌∷◌, ◌++◌, map, refl, ap, sym, ◌∙◌}
+use Rattle.std.proofs.Common.{◌≡◌, ℕ, Bool, true, false, ◌&&◌, ◌||◌, not, List, [], ◌∷◌, map, refl, ap, ◌∙◌}
 use Rattle.std.specs.List.{list_any}
 use Rattle.std.proofs.lemmas.List.Folds.{list_any-append}
 use Rattle.eight_sides.specs.declared.shape.Shape.{Shape}
-use Rattle.eight_sides.specs.Shapes.{meet}
-use Rattle.poster_plan.specs.declared.things.Kin.TheVariants.{Node}
-use Rattle.poster_plan.specs.declared.things.Thing.{Thing}
-use Rattle.poster_plan.specs.declared.plan.Mark.{Mark}
-use Rattle.poster_plan.specs.declared.plan.Piece.{Piece}
 use Rattle.poster_plan.specs.declared.plan.Plan.{Plan}
 use Rattle.poster_plan.specs.declared.layout.Printed.{Printed}
-use Rattle.poster_plan.specs.Signs.{piece_at}
 use Rattle.poster_plan.specs.Things.{clash}
-use Rattle.poster_plan.specs.Placing.{is_near_other, meets_other, meets_piece, meets_printed, printed_shape}
+use Rattle.poster_plan.specs.Placing.{meets_other, meets_piece, meets_printed}
 use Rattle.poster_layout.specs.Rooms.{free_piece, ground_thing, name_thing, own, taken_things}
 
 any_map : {A B : Type 0} (p : B → Bool) (f : A → B) (xs : List A) → list_any p (map f xs) ≡ list_any (λ x. p (f x)) xs

@@ -1,5 +1,5 @@
 -- A table of things by the cells that they reach into.
-use Rattle.std.specs.Prelude.{◌≡◌, ℕ, zero, suc, ◌<◌, ◌⊎◌, ◌||◌, Bool, List, [], ◌∷◌, ◌++◌, length, All, Contains, slice_index_or, pos, Vec}
+use Rattle.std.specs.Prelude.{◌≡◌, ℕ, zero, suc, ◌<◌, ◌⊎◌, ◌||◌, Bool, List, [], ◌∷◌, length, All, Contains, slice_index_or, pos, Vec}
 use Rattle.std.specs.List.{list_any}
 use Rattle.std.specs.Global.{Global}
 use Rattle.eight_sides.specs.Shapes.{IsShortShape}

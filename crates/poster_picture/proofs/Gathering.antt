@@ -1,10 +1,10 @@
 -- The feet of the lines that call at a node, line by line.
-use Rattle.std.proofs.Common.{◌≡◌, ℕ, Bool, true, false, cond, ◌&&◌, not, List, [], ◌∷◌, ◌++◌, fold, map, refl, ap, sym, ◌∙◌}
+use Rattle.std.proofs.Common.{◌≡◌, ℕ, Bool, true, false, cond, ◌&&◌, not, List, [], ◌∷◌, ◌++◌, fold, map, refl}
 use Rattle.map_base.specs.declared.ids.LineId.{LineId}
 use Rattle.line_offsets.specs.declared.corner.Corner.{Corner}
 use Rattle.poster_rules.specs.Stations.{has_line}
 use Rattle.poster_rules.specs.Posters.{first_stands, foot_on, with_corner, Sheet, Stand}
-use Rattle.poster_picture.specs.Feet.{with_stand, with_stands, Gathered}
+use Rattle.poster_picture.specs.Feet.{with_stands}
 
 -- the feet that are gathered are those of the first stands of each line
 pub gathered : (sheet : Sheet) (n : ℕ) (callers seen : List LineId) (path : List Corner) (ts : List Stand)

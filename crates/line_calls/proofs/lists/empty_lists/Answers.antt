@@ -1,4 +1,3 @@
-use Rattle.std.proofs.Common.{refl}
 use Rattle.line_calls.proofs.Lists.{one_more_empty}
 use Rattle.line_calls.proofs.lists.empty_lists.Goals as goal
 

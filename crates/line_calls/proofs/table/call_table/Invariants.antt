@@ -1,4 +1,3 @@
-use Rattle.std.proofs.Common.{length}
 use Rattle.line_calls.specs.Tables.{callers_in, lists_in, IsTable}
 use Rattle.line_calls.proofs.table.call_table.Given as goal
 

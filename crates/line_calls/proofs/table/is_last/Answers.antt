@@ -1,4 +1,4 @@
-use Rattle.std.proofs.Common.{sym, ◌∙◌, arith}
+use Rattle.std.proofs.Common.{sym, arith}
 use Rattle.line_calls.proofs.Noting.{last_at, last_none}
 use Rattle.line_calls.proofs.table.is_last.Goals as goal
 

@@ -1,4 +1,4 @@
-use Rattle.std.proofs.Common.{◌≡◌, List, ℕ, false, true, [], get_or, ap, sym, ◌∙◌, arith}
+use Rattle.std.proofs.Common.{ap, sym, ◌∙◌, arith}
 use Rattle.line_calls.specs.Tables.{is_last, lists_in}
 use Rattle.line_calls.proofs.Lists.{list_is, lists_count}
 use Rattle.line_calls.proofs.Noting.{notes_already, notes_here}

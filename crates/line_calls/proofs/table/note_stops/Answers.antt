@@ -1,4 +1,4 @@
-use Rattle.std.proofs.Common.{ℕ, List, ◌<◌, ◌+◌, ◌==◌, get_or, length, refl, sym, subst, ◌∙◌, ap, take, arith}
+use Rattle.std.proofs.Common.{ℕ, List, ◌<◌, ◌+◌, ◌==◌, get_or, refl, sym, subst, ◌∙◌, take, arith}
 use Rattle.std.proofs.lemmas.List.{take_all}
 use Rattle.std.proofs.lemmas.List.Folds.{list_any_more}
 use Rattle.map_base.specs.declared.ids.StationId.{StationId}

@@ -1,4 +1,4 @@
-use Rattle.std.proofs.Common.{◌≡◌, ◌≤◌, take}
+use Rattle.std.proofs.Common.{◌≡◌, take}
 use Rattle.poster_rules.specs.Plans.{widest}
 use Rattle.poster_graph.proofs.shown.widest.Given as goal
 

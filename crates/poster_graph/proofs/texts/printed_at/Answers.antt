@@ -1,4 +1,4 @@
-use Rattle.std.proofs.Common.{Bool, List, ℕ, Option, ap, ◌∙◌, arith}
+use Rattle.std.proofs.Common.{Bool, ap, ◌∙◌, arith}
 use Rattle.poster_rules.specs.Texts.{all_rests, is_second, unless_second}
 use Rattle.poster_graph.specs.Words.{text_in}
 use Rattle.poster_graph.proofs.Words.{none_past}

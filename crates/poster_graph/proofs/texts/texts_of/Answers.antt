@@ -1,5 +1,4 @@
-use Rattle.std.proofs.Common.{◌≡◌, List, ℕ, ap, sym, ◌∙◌}
-use Rattle.std.specs.Borrow.{Bor}
+use Rattle.std.proofs.Common.{List, ℕ, ap, sym, ◌∙◌}
 use Rattle.name_widths.specs.Words.{is_common}
 use Rattle.name_widths.specs.Votes.{texts_of}
 use Rattle.poster_graph.proofs.texts.texts_of.Goals as goal

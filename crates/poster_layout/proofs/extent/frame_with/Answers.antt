@@ -4,7 +4,6 @@ use Rattle.std.proofs.lemmas.List.{take_all}
 use Rattle.eight_sides.specs.declared.shape.Shape.{Shape}
 use Rattle.eight_sides.specs.Frames.{frame_of, shape_corners, widened}
 use Rattle.poster_plan.specs.declared.layout.Printed.{Printed}
-use Rattle.poster_plan.specs.declared.plan.Piece.{Piece}
 use Rattle.poster_plan.specs.Placing.{printed_shape}
 use Rattle.poster_plan.specs.Pitches.{walked_corners}
 use Rattle.poster_layout.proofs.Framing.{frame_more, framed}

@@ -1,5 +1,5 @@
-use Rattle.std.proofs.Common.{◌≡◌, ◌++◌, drop, map, length}
-use Rattle.poster_plan.specs.Pitches.{is_roomy, mark_thing, none_clash, piece_thing, things_at}
+use Rattle.std.proofs.Common.{◌≡◌, ◌++◌, drop, map}
+use Rattle.poster_plan.specs.Pitches.{is_roomy, mark_thing, none_clash, piece_thing}
 use Rattle.poster_layout.specs.Tables.{IsTable}
 use Rattle.poster_layout.proofs.roomy.is_roomy.Given as goal
 

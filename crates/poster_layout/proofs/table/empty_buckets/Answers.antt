@@ -1,4 +1,4 @@
-use Rattle.std.proofs.Common.{◌≡◌, ◌+◌, ◌++◌, ◌∷◌, [], List, ℕ, Vec, length, refl, ap, ◌∙◌, arith, length-append}
+use Rattle.std.proofs.Common.{◌∷◌, [], List, ℕ, Vec, length, ap, ◌∙◌, arith, length-append}
 use Rattle.std.specs.Global.{Global}
 use Rattle.poster_layout.specs.Tables.{bucket_at}
 use Rattle.poster_layout.proofs.Putting.{none_more}

@@ -1,6 +1,5 @@
-use Rattle.std.proofs.Common.{◌++◌, ◌∷◌, List, ℕ, codes, string_bytes, ap, ◌∙◌}
+use Rattle.std.proofs.Common.{◌++◌, string_bytes, ap, ◌∙◌}
 use Rattle.line_offsets.specs.declared.corner.Corner.{Corner}
-use Rattle.svg_writer.specs.Elements.{corner_text}
 use Rattle.svg_writer.proofs.Appends.{grew5}
 use Rattle.poster_rules.specs.Elements.{view_place}
 use Rattle.poster_picture.proofs.Writing.{head_text}

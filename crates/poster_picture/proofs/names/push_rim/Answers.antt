@@ -1,4 +1,3 @@
-use Rattle.std.proofs.Common.{◌++◌, append_assoc, codes, string_bytes, ap, sym, ◌∙◌, map}
 use Rattle.svg_writer.proofs.Appends.{grew3}
 use Rattle.poster_picture.proofs.names.push_rim.Goals as goal
 

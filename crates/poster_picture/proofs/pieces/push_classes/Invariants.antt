@@ -1,4 +1,4 @@
-use Rattle.std.proofs.Common.{◌≡◌, ◌++◌, codes, drop, string_bytes}
+use Rattle.std.proofs.Common.{◌≡◌, ◌++◌, drop, string_bytes}
 use Rattle.poster_rules.specs.Elements.{classes_text}
 use Rattle.poster_picture.proofs.pieces.push_classes.Given as goal
 

@@ -1,5 +1,4 @@
 use Rattle.std.proofs.Common.{◌≡◌, ℕ, ◌<◌, get_or, false}
-use Rattle.map_base.specs.declared.ids.SegId.{SegId}
 use Rattle.poster_rules.specs.Posters.{goes_before}
 use Rattle.poster_picture.proofs.Sorting.{no_segment}
 use Rattle.poster_picture.proofs.stations.place_for.Given as goal

@@ -1,6 +1,5 @@
-use Rattle.std.proofs.Common.{◌≡◌, ◌||◌, true, false, ap, sym, ◌∙◌, refl, List}
+use Rattle.std.proofs.Common.{◌≡◌, ◌||◌, true, false, ap, sym, ◌∙◌, refl}
 use Rattle.std.specs.List.{list_any}
-use Rattle.poster_plan.specs.declared.things.Thing.{Thing}
 use Rattle.poster_plan.specs.Things.{clash}
 use Rattle.poster_plan.specs.Placing.{is_beside, meets_other, meets_printed}
 use Rattle.poster_layout.specs.Rooms.{own}

@@ -1,7 +1,6 @@
-use Rattle.std.proofs.Common.{◌≡◌, ◌+◌, ℕ, List, [], take, fold, refl, ap, sym, ◌∙◌, arith}
+use Rattle.std.proofs.Common.{ℕ, List, refl, ap, ◌∙◌, arith}
 use Rattle.std.proofs.lemmas.List.{take_all}
-use Rattle.poster_plan.specs.Placing.{place_names, place_next, Placing}
-use Rattle.poster_layout.specs.Rooms.{placing_of}
+use Rattle.poster_plan.specs.Placing.{place_names, Placing}
 use Rattle.poster_layout.proofs.Placed.{next_placed, room_as, room_then}
 use Rattle.poster_layout.proofs.room.Room.place_names.Goals as goal
 

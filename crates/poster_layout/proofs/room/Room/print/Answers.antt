@@ -1,4 +1,4 @@
-use Rattle.std.proofs.Common.{◌≡◌, ◌++◌, ◌∷◌, [], ap, refl, ◌∙◌}
+use Rattle.std.proofs.Common.{◌++◌, ◌∷◌, [], ap, refl, ◌∙◌}
 use Rattle.eight_sides.specs.declared.shape.Shape.{Shape}
 use Rattle.poster_plan.specs.declared.things.Kin.TheVariants.{Nobody}
 use Rattle.poster_plan.specs.declared.things.Thing.{Thing}

@@ -1,4 +1,4 @@
-use Rattle.std.proofs.Common.{length, ℕ, List, subst, sym, ap, ◌∙◌}
+use Rattle.std.proofs.Common.{length, ℕ, subst, sym, ap, ◌∙◌}
 use Rattle.poster_layout.specs.Tables.{bucket_at, hits_some, AreBelow}
 use Rattle.poster_layout.proofs.table.Table.clashes_at.Goals as goal
 

@@ -1,4 +1,4 @@
-use Rattle.std.proofs.Common.{refl, arith}
+use Rattle.std.proofs.Common.{arith}
 use Rattle.poster_layout.proofs.Tabling.{table_none}
 use Rattle.poster_layout.proofs.table.Table.none.Goals as goal
 
