@@ -29,20 +29,20 @@ table_none table some things wide none = record {
   found = λ i low. absurd (omega (arith, low, ap length things));
 }
 
-module _ (old new : Table) (t : Thing) (h : IsTable old) (short : IsShortThing t) (things : new.things.items ≡ old.things.items ++ t ∷ []) where
+module _ (old new : Table) (t : Thing) (h : IsTable old) (reckoned : IsShortThing t) (grew : new.things.items ≡ old.things.items ++ t ∷ []) where
   count : length new.things.items ≡ length old.things.items + 1
-  count = ap length things ∙ one_more old.things.items t
+  count = ap length grew ∙ one_more old.things.items t
 
   all_short : All IsShortThing new.things.items
-  all_short = subst (All IsShortThing) (sym things) (All-push IsShortThing old.things.items t h.short short)
+  all_short = subst (All IsShortThing) (sym grew) (All-push IsShortThing old.things.items t h.short reckoned)
 
   -- a thing that was there
   still : (i : ℕ) → i < length old.things.items → thing_at new.things.items i ≡ thing_at old.things.items i
-  still i low = ap (λ (ts : List Thing). thing_at ts i) things ∙ get_or_append_left old.things.items (t ∷ []) no_thing i low
+  still i low = ap (λ (ts : List Thing). thing_at ts i) grew ∙ get_or_append_left old.things.items (t ∷ []) no_thing i low
 
   -- and the new one
   newest : thing_at new.things.items (length old.things.items) ≡ t
-  newest = ap (λ (ts : List Thing). thing_at ts (length old.things.items)) things ∙ get_or-append_seam old.things.items t [] no_thing
+  newest = ap (λ (ts : List Thing). thing_at ts (length old.things.items)) grew ∙ get_or-append_seam old.things.items t [] no_thing
 
   pub wide_put : new.buckets.items ≡ old.buckets.items → new.wide.items ≡ old.wide.items ++ length old.things.items ∷ [] → IsTable new
   wide_put buckets wide = record {
