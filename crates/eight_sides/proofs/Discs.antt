@@ -1,13 +1,13 @@
 -- The points of a disc lie in the shape of its mark.
-use Rattle.std.proofs.Common.{◌≡◌, ℕ, ◌+◌, ◌*◌, ◌/◌, ◌<◌, ◌≤◌, ℤ, pos, neg_ℤ, ◌+ℤ◌, ◌-ℤ◌, ◌*ℤ◌, ◌≤ℤ◌, List, [], ◌∷◌, refl, arith}
+use Rattle.std.proofs.Common.{◌≡◌, ℕ, ◌+◌, ◌*◌, ◌≤◌, ℤ, pos, neg_ℤ, ◌+ℤ◌, ◌-ℤ◌, ◌*ℤ◌, ◌≤ℤ◌, [], ◌∷◌, refl, arith}
 use Rattle.std.proofs.lemmas.Int.{ints}
 use Rattle.line_offsets.specs.declared.corner.Corner.{Corner}
 use Rattle.whole_algebra.proofs.Products.{*ℤ-minus, *ℤ-+ℤ}
 use Rattle.whole_algebra.proofs.Signs.{*ℤ-not_negative, square-not_negative}
-use Rattle.whole_algebra.proofs.Identities.{Term, var, num, minus, ◌⊕◌, ◌⊖◌, ◌⊛◌, identity}
+use Rattle.whole_algebra.proofs.Identities.{var, num, minus, ◌⊕◌, ◌⊖◌, ◌⊛◌, identity}
 use Rattle.eight_sides.specs.Shapes.{around, mark_shape, slanted_length}
-use Rattle.eight_sides.specs.Points.{squared, IsIn, IsInDisc, LiesIn}
-use Rattle.eight_sides.proofs.Orders.{le_by_scale, le_by_squares}
+use Rattle.eight_sides.specs.Points.{IsIn, IsInDisc, LiesIn}
+use Rattle.eight_sides.proofs.Orders.{le_by_squares}
 
 -- ---- squares
 

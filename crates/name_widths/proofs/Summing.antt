@@ -1,5 +1,5 @@
 -- Sums of a list, one element after another.
-use Rattle.std.proofs.Common.{◌≡◌, ℕ, ◌+◌, ◌<◌, List, get_or, length, take, drop, sum_by, ap, sym, ◌∙◌, arith}
+use Rattle.std.proofs.Common.{◌≡◌, ℕ, ◌+◌, ◌<◌, List, get_or, length, take, sum_by, ap, sym, ◌∙◌}
 use Rattle.std.proofs.lemmas.List.Sums.{sum_by_more}
 
 pub sum_more : {A : Type 0} (f : A → ℕ) (xs : List A) (i : ℕ) (d x : A) (before after : ℕ) → i < length xs → x ≡ get_or xs i d → after ≡ before + f x

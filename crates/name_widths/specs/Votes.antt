@@ -1,6 +1,6 @@
 -- How the word is found with which more than half of names begin: a vote of which one word comes out ahead.
-use Rattle.std.specs.Prelude.{ℕ, ◌≡◌, ◌+◌, ◌*◌, ◌≤◌, Bool, false, true, List, length, map, bytes_eq, Option, Some, None, IfSome}
-use Rattle.name_widths.specs.Words.{count_with, is_common}
+use Rattle.std.specs.Prelude.{ℕ, ◌≡◌, ◌+◌, ◌*◌, ◌≤◌, Bool, false, List, length, map, bytes_eq, Option, Some, None}
+use Rattle.name_widths.specs.Words.{count_with}
 use Rattle.std.specs.Borrow.{Bor}
 
 -- the texts of lent names

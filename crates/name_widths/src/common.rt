@@ -1,6 +1,6 @@
 //! The word with which more than half of many names begin.
 
-ghost use Rattle.std.specs.Prelude.{◌≡◌, ◌≤◌, ◌<◌, ◌+◌, ◌*◌, ◌++◌, ◌∷◌, [], List, ℕ, length, false, bytes_eq, option_map, None};
+ghost use Rattle.std.specs.Prelude.{◌≡◌, ◌≤◌, ◌<◌, ◌+◌, ◌*◌, ◌++◌, ◌∷◌, [], List, ℕ, length, false, bytes_eq, None};
 ghost use Rattle.name_widths.specs.Words.{begins_with, count_with, is_common, parts, rest_of};
 ghost use Rattle.name_widths.specs.Votes.{is_that, texts_of, IsVote};
 

@@ -1,7 +1,6 @@
 //! How wide texts are.
 
-ghost use Rattle.std.specs.Prelude.{◌≡◌, ◌≤◌, ◌*◌, IfOk, length};
-ghost use Rattle.std.specs.Str.{chars};
+ghost use Rattle.std.specs.Prelude.{◌≡◌, ◌≤◌, ◌*◌, IfOk};
 ghost use Rattle.name_widths.specs.Widths.{char_width, is_capital, is_one_of, narrow, text_width, wide};
 
 use map_base::NoMemory;

@@ -1,8 +1,8 @@
 -- Widths of texts, first words and pale colours.
-use Rattle.std.proofs.Common.{◌≡◌, ℕ, true, false, List, [], ◌∷◌, ◌++◌, Some, None, refl}
+use Rattle.std.proofs.Common.{◌≡◌, true, false, [], ◌∷◌, Some, None, refl}
 use Rattle.std.specs.Prelude.{codes}
 use Rattle.name_widths.specs.Widths.{text_width}
-use Rattle.name_widths.specs.Words.{is_common, parts, rest_of}
+use Rattle.name_widths.specs.Words.{parts, rest_of}
 use Rattle.name_widths.specs.Colours.{is_faint, is_pale, light}
 
 -- a narrow letter, a capital, a figure, a wide sign and a space

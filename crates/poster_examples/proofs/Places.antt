@@ -5,7 +5,7 @@ use Rattle.poster_plan.specs.declared.sign.Sign.{Sign}
 use Rattle.poster_plan.specs.declared.layout.Step.TheVariants.{Full, Small}
 use Rattle.poster_plan.specs.declared.place.Place.TheVariants as place
 use Rattle.poster_plan.specs.declared.place.Turn.TheVariants.{Level, Rising}
-use Rattle.poster_plan.specs.declared.place.Anchor.TheVariants.{Start, Middle, End}
+use Rattle.poster_plan.specs.declared.place.Anchor.TheVariants.{Middle, End}
 use Rattle.poster_plan.specs.Places.{place_shape, text_spot}
 
 -- a station of one line with a name of 47 tenths: 141 units wide in full size, 94 small

@@ -2,7 +2,6 @@
 use Rattle.std.proofs.Common.{◌≡◌, ℤ, pos, negsuc, true, false, refl}
 use Rattle.line_offsets.specs.declared.corner.Corner.{Corner}
 use Rattle.eight_sides.specs.declared.interval.Interval.{Interval}
-use Rattle.eight_sides.specs.declared.shape.Shape.{Shape}
 use Rattle.eight_sides.specs.Shapes.{mark_shape, meet, piece_shape, slanted, upright}
 
 abbrev from : ℤ → ℤ → Interval

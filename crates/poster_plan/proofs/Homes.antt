@@ -1,5 +1,5 @@
 -- Printed names keep apart, to their stations, and off lines.
-use Rattle.std.proofs.Common.{◌≡◌, ℕ, Bool, true, false, ◌&&◌, not, List, [], ◌∷◌, Some, refl}
+use Rattle.std.proofs.Common.{◌≡◌, ℕ, Bool, true, false, not, List, [], Some, refl}
 use Rattle.std.specs.Prelude.{All}
 use Rattle.std.proofs.lemmas.Bool.{and_parts}
 use Rattle.std.proofs.lemmas.List.Elements.{All-nil, All-push}
@@ -8,7 +8,7 @@ use Rattle.poster_plan.specs.declared.place.Place.{Place}
 use Rattle.poster_plan.specs.declared.layout.Step.{Step}
 use Rattle.poster_plan.specs.declared.layout.Step.TheVariants.{Full, Small, Over}
 use Rattle.poster_plan.specs.declared.layout.Printed.{Printed}
-use Rattle.poster_plan.specs.Placing.{in_full, in_order, in_small, is_beside, is_free, mark_numbered, meets_other, meets_printed, name_shape, over_all, place_names, printed_names, with_place, Placing}
+use Rattle.poster_plan.specs.Placing.{in_full, in_order, in_small, is_beside, is_free, mark_numbered, meets_other, meets_printed, name_shape, place_names, printed_names, with_place, Placing}
 use Rattle.poster_plan.specs.Laws.{are_apart, IsAtHome}
 use Rattle.poster_plan.proofs.Meetings.{apart_more}
 use Rattle.poster_plan.proofs.Folds.{AnyMark, any_marks, placings_keep}

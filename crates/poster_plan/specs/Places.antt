@@ -4,7 +4,6 @@ use Rattle.line_offsets.specs.declared.corner.Corner.{Corner}
 use Rattle.eight_sides.specs.declared.interval.Interval.{Interval}
 use Rattle.eight_sides.specs.declared.shape.Shape.{Shape}
 use Rattle.eight_sides.specs.Shapes.{around, slanted, slanted_length, upright}
-use Rattle.poster_plan.specs.declared.plan.Mark.{Mark}
 use Rattle.poster_plan.specs.declared.sign.Sign.{Sign}
 use Rattle.poster_plan.specs.declared.layout.Step.{Step}
 use Rattle.poster_plan.specs.declared.layout.Step.TheVariants.{Full, Small, Over}

@@ -1,5 +1,5 @@
 -- How names find their places: three steps, in each of which names take their first free place one after another.
-use Rattle.std.specs.Prelude.{ℕ, ◌+◌, ◌==◌, ◌&&◌, ◌||◌, not, Bool, true, false, List, [], ◌∷◌, ◌++◌, length, filter, fold, Option, Some, None, slice_get, unwrap_or, pos}
+use Rattle.std.specs.Prelude.{ℕ, ◌+◌, ◌==◌, ◌&&◌, not, Bool, true, false, List, [], ◌∷◌, ◌++◌, length, filter, fold, Option, Some, None, slice_get, unwrap_or, pos}
 use Rattle.std.specs.List.{find, flat_map, list_any, range_with_len}
 use Rattle.std.specs.Option.{is_some}
 use Rattle.eight_sides.specs.declared.shape.Shape.{Shape}

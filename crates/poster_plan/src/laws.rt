@@ -1,7 +1,6 @@
 //! Laws of places.
 
-ghost use Rattle.std.specs.Prelude.{◌≡◌, ℕ, true, false, All, Contains};
-ghost use Rattle.std.specs.List.{list_all};
+ghost use Rattle.std.specs.Prelude.{◌≡◌, ℕ, true, All};
 ghost use Rattle.poster_plan.specs.declared.layout.Step.TheVariants.{Full, Small, Over};
 ghost use Rattle.poster_plan.specs.declared.plan.Plan.{Plan};
 ghost use Rattle.poster_plan.specs.Placing.{in_full, in_small, over_all, printed_names};

@@ -1,6 +1,6 @@
 -- What a poster shows of station nodes: which lines end there, where one changes, and how large stations are. The lines
 -- that call at nodes are told by lists, one for each node, each rising.
-use Rattle.std.specs.Prelude.{ℕ, ◌+◌, ◌*◌, ◌==◌, ◌&&◌, Bool, true, false, nat_le, List, [], ◌∷◌, length, filter, if◌then◌else◌, Option, Some, None, slice_get, unwrap_or}
+use Rattle.std.specs.Prelude.{ℕ, ◌+◌, ◌*◌, ◌==◌, ◌&&◌, Bool, true, false, nat_le, List, [], length, filter, if◌then◌else◌, Option, Some, None, slice_get, unwrap_or}
 use Rattle.std.specs.List.{list_all, list_any}
 use Rattle.std.specs.Str.{chars}
 use Rattle.map_base.specs.declared.ids.NodeId.{NodeId}

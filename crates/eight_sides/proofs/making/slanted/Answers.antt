@@ -1,4 +1,4 @@
-use Rattle.std.proofs.Common.{◌≡◌, ℤ, w64, to_z, of_z, pos, ◌+ℤ◌, ◌-ℤ◌, refl, ap, ◌∙◌, arith}
+use Rattle.std.proofs.Common.{◌≡◌, ℤ, w64, to_z, of_z, ◌+ℤ◌, ◌-ℤ◌, refl, ap, ◌∙◌, arith}
 use Rattle.std.proofs.lemmas.Int.{ints}
 use Rattle.eight_sides.specs.Shapes.{half_above, half_below}
 use Rattle.eight_sides.proofs.Computed.{same_interval, same_shape}

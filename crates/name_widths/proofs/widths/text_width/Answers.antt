@@ -1,9 +1,9 @@
-use Rattle.std.proofs.Common.{◌≡◌, ℕ, ◌+◌, ◌≤◌, length, take, sum_by, ap, sym, ◌∙◌, arith}
+use Rattle.std.proofs.Common.{ℕ, ◌+◌, length, take, sum_by, ap, sym, ◌∙◌, arith}
 use Rattle.std.specs.Str.{chars}
 use Rattle.std.proofs.lemmas.Iterator.{YieldsList-from_chars}
 use Rattle.std.proofs.lemmas.Iterator.Consumers.{YieldsList-turn, YieldsList-end}
 use Rattle.std.proofs.lemmas.List.{length_push, take_all}
-use Rattle.name_widths.specs.Widths.{char_width, text_width}
+use Rattle.name_widths.specs.Widths.{char_width}
 use Rattle.name_widths.proofs.Summing.{sum_more}
 use Rattle.name_widths.proofs.widths.text_width.Goals as goal
 
