@@ -10,7 +10,7 @@ use Rattle.transit_feed.specs.declared.line.Line.{Line}
 use Rattle.transit_feed.specs.declared.pattern.Pattern.{Pattern}
 use Rattle.feed_courses.specs.Shown.{is_shown}
 use Rattle.line_calls.specs.Tables.{is_of, numbers_of, pattern_at, AreByLine, AreEmpty, AreInRange}
-use Rattle.line_calls.proofs.Lists.{filter_more, range_below}
+use Rattle.line_calls.proofs.ListLemmas.{filter_more, range_below}
 
 -- no pattern yet
 pub by_line_none : (lines : List Line) (patterns : List Pattern) (count : ℕ) (lists : List (List ℕ)) → count ≡ length lines → AreEmpty count lists → AreByLine lines patterns 0 lists

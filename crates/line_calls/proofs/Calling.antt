@@ -15,7 +15,7 @@ use Rattle.transit_feed.specs.Feeds.{Feed, IsFeed, IsPattern}
 use Rattle.feed_courses.specs.Shown.{is_shown, serves}
 use Rattle.line_calls.specs.Calls.{callers_at, calls, is_call, line_numbered, node_callers}
 use Rattle.line_calls.specs.Tables.{callers_in, is_caller, is_of, no_pattern, numbers_at, pattern_at, AreByLine, IsTable}
-use Rattle.line_calls.proofs.Lists.{any_filter, any_none, any_numbered, filter_none, filter_same}
+use Rattle.line_calls.proofs.ListLemmas.{any_filter, any_none, any_numbered, filter_none, filter_same}
 
 -- ---- what patterns name
 

@@ -1,4 +1,4 @@
-mod Lists
+mod ListLemmas
 mod ByLine
 mod Noting
 mod Calling

@@ -8,7 +8,7 @@ use Rattle.std.proofs.lemmas.List.{get_or-set_other}
 use Rattle.std.proofs.lemmas.Grind.{get_or-set_at}
 use Rattle.transit_feed.specs.declared.pattern.Pattern.{Pattern}
 use Rattle.line_calls.specs.Tables.{callers_in, is_caller, is_last, lists_in, noted, AreEmpty, IsTable, Notes}
-use Rattle.line_calls.proofs.Lists.{filter_more, lists_count}
+use Rattle.line_calls.proofs.ListLemmas.{filter_more, lists_count}
 
 -- ---- the last of numbers
 

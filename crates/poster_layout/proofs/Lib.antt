@@ -8,7 +8,7 @@ mod Finding
 mod Counted
 mod Tabling
 mod Placed
-mod Laying
+mod Ordering
 mod Choosing
 mod Framing
 mod Clashing

@@ -1,4 +1,4 @@
-use Rattle.line_calls.proofs.Lists.{one_more_empty}
+use Rattle.line_calls.proofs.ListLemmas.{one_more_empty}
 use Rattle.line_calls.proofs.lists.empty_lists.Goals as goal
 
 pub loop-preserved : goal.loop-preserved

@@ -1,4 +1,4 @@
-use Rattle.line_calls.proofs.Lists.{list_grown}
+use Rattle.line_calls.proofs.ListLemmas.{list_grown}
 use Rattle.line_calls.proofs.lists.push_at.Goals as goal
 
 pub returns : goal.returns

@@ -1,6 +1,6 @@
 use Rattle.std.proofs.Common.{ℕ, List, sym, ◌∙◌, ap}
 use Rattle.line_calls.specs.Tables.{lists_in, served_by}
-use Rattle.line_calls.proofs.Lists.{list_is}
+use Rattle.line_calls.proofs.ListLemmas.{list_is}
 use Rattle.line_calls.proofs.Noting.{table_more, table_none}
 use Rattle.line_calls.proofs.table.call_table.Goals as goal
 

@@ -1,6 +1,6 @@
 use Rattle.std.proofs.Common.{ap, sym, ◌∙◌, arith}
 use Rattle.line_calls.specs.Tables.{is_last, lists_in}
-use Rattle.line_calls.proofs.Lists.{list_is, lists_count}
+use Rattle.line_calls.proofs.ListLemmas.{list_is, lists_count}
 use Rattle.line_calls.proofs.Noting.{notes_already, notes_here}
 use Rattle.line_calls.proofs.table.note_call.Goals as goal
 
