@@ -12,3 +12,4 @@ mod Ordering
 mod Choosing
 mod Framing
 mod Clashing
+mod Squares

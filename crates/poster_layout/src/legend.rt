@@ -1,6 +1,6 @@
 //! Where the legend stands.
 
-ghost use Rattle.std.specs.Prelude.{◌≡◌, ◌≤◌, ◌<◌, unsigned_abs, IfSome};
+ghost use Rattle.std.specs.Prelude.{◌≡◌, ◌≤◌, ◌<◌, ◌*◌, unsigned_abs, IfSome};
 ghost use Rattle.poster_layout.specs.Extents.{IsDrawnFrame, IsDrawnPoint, IsLegend, IsNearFrame};
 ghost use Rattle.poster_plan.specs.Legends.{frame_beside, column_for, corners_for, is_clear_of_all, legend_height, legend_of, legend_shape, legend_start, legend_width, outside, row_at, rows_for, widely};
 ghost use Rattle.std.specs.List.{list_any};
@@ -22,11 +22,20 @@ fn rows_for(lines: u32) -> u32
     ensures value { result ≡ rows_for lines }
     ensures some { 0 < result }
 {
-    let mut rows = 12;
-    while rows * rows < 4 * lines {
-        rows += 1;
+    for rows in 12..64 {
+        if square(rows) >= 4 * lines {
+            return rows;
+        }
     }
-    rows
+    64
+}
+
+/// The square of a number.
+fn square(n: u32) -> u32
+    requires { n ≤ 64 }
+    ensures { result ≡ n * n }
+{
+    n * n
 }
 
 /// How wide the legend is.
