@@ -1,5 +1,6 @@
 -- Intervals and shapes as they are computed.
-use Rattle.std.proofs.Common.{◌≡◌, ℕ, ℤ, pos, ◌+ℤ◌, ◌*ℤ◌, ◌≤ℤ◌, ap, ◌∙◌, arith}
+use Rattle.std.proofs.Common.{◌≡◌, ◌≤◌, ℕ, ℤ, pos, w64, to_z, of_z, ◌+ℤ◌, ◌-ℤ◌, ◌*ℤ◌, ◌≤ℤ◌, ap, ◌∙◌, arith}
+use Rattle.std.specs.Prelude.{unsigned_abs}
 use Rattle.std.proofs.Math.IntN.{*ℤ_comm}
 use Rattle.std.proofs.lemmas.Int.{ints}
 use Rattle.whole_algebra.specs.Rounding.{floor_quotient}
@@ -33,3 +34,10 @@ half_parts z r e =
     let swapped : floor_quotient z 2 *ℤ pos 2 ≡ pos 2 *ℤ floor_quotient z 2 = *ℤ_comm (floor_quotient z 2) (pos 2) in
     let same : pos 2 *ℤ r ≡ pos 2 *ℤ floor_quotient z 2 = ap (λ (v : ℤ). pos 2 *ℤ v) e in
     (omega (arith, ints, low, swapped, same), omega (arith, ints, high, swapped, same))
+
+-- sums and differences of numbers that can be reckoned with, as they are computed
+pub sum_kept : (a b : ℤ) → unsigned_abs a ≤ 1099511627776 → unsigned_abs b ≤ 1099511627776 → to_z w64 (of_z w64 (to_z w64 (of_z w64 a) +ℤ to_z w64 (of_z w64 b))) ≡ a +ℤ b
+sum_kept a b p q = omega (arith, ints, p, q)
+
+pub difference_kept : (a b : ℤ) → unsigned_abs a ≤ 1099511627776 → unsigned_abs b ≤ 1099511627776 → to_z w64 (of_z w64 (to_z w64 (of_z w64 a) -ℤ to_z w64 (of_z w64 b))) ≡ a -ℤ b
+difference_kept a b p q = omega (arith, ints, p, q)

@@ -1,11 +1,11 @@
 -- Lines that are found by a table are those that call.
-use Rattle.std.proofs.Common.{◌≡◌, ℕ, ◌+◌, ◌<◌, ◌≤◌, ◌⊎◌, inl, inr, Bool, true, false, ◌&&◌, ◌==◌, List, [], ◌∷◌, ◌++◌, length, map, filter, get_or, take, refl, ap, sym, ◌∙◌, arith, Some}
-use Rattle.std.specs.Prelude.{All, slice_get}
+use Rattle.std.proofs.Common.{◌≡◌, ℕ, ◌+◌, ◌<◌, ◌≤◌, ◌⊎◌, inl, inr, Bool, true, false, ◌&&◌, ◌==◌, List, [], ◌∷◌, ◌++◌, length, map, filter, get_or, take, refl, ap, sym, subst, ◌∙◌, arith, Some}
+use Rattle.std.specs.Prelude.{All, slice_get, Vec}
 use Rattle.std.specs.List.{list_any, range_with_len}
 use Rattle.std.proofs.lemmas.Bool.{cases_lt, ne_eqb}
 use Rattle.std.proofs.lemmas.List.{get_or_past, map-append, take_more}
 use Rattle.std.proofs.lemmas.List.Elements.{All-weaker}
-use Rattle.std.proofs.lemmas.Option.{get_or_from_slice_get}
+use Rattle.std.proofs.lemmas.Option.{get_or_from_slice_get, Vec}
 use Rattle.map_base.specs.declared.ids.LineId.{LineId}
 use Rattle.map_base.specs.declared.ids.StationId.{StationId}
 use Rattle.graph_core.specs.declared.parts.NodeKind.{NodeKind}
@@ -14,8 +14,9 @@ use Rattle.transit_feed.specs.declared.pattern.Pattern.{Pattern}
 use Rattle.transit_feed.specs.Feeds.{Feed, IsFeed, IsPattern}
 use Rattle.feed_courses.specs.Shown.{is_shown, serves}
 use Rattle.line_calls.specs.Calls.{callers_at, calls, is_call, line_numbered, node_callers}
-use Rattle.line_calls.specs.Tables.{callers_in, is_caller, is_of, no_pattern, numbers_at, pattern_at, AreByLine, IsTable}
-use Rattle.line_calls.proofs.ListLemmas.{any_filter, any_none, any_numbered, filter_none, filter_same}
+use Rattle.std.specs.Global.{Global}
+use Rattle.line_calls.specs.Tables.{lists_in, callers_in, is_caller, is_of, no_pattern, numbers_at, pattern_at, AreByLine, IsTable}
+use Rattle.line_calls.proofs.ListLemmas.{lists_count, any_filter, any_none, any_numbered, filter_none, filter_same}
 
 -- ---- what patterns name
 
@@ -37,7 +38,9 @@ caller_is feed lists s line h low =
     ap (λ (ns : List ℕ). list_any (λ (k : ℕ). serves s (pattern_at ps k)) ns) (h.of line low)
     ∙ any_filter (λ (k : ℕ). serves s (pattern_at ps k)) (is_of feed.lines ps line) (range_with_len 0 (length ps))
     ∙ any_numbered (λ (p : Pattern). is_shown feed.lines p && is_call s line p) (λ (k : ℕ). is_of feed.lines ps line k && serves s (pattern_at ps k)) no_pattern ps 0
-    (λ i within. and_assoc (is_shown feed.lines (pattern_at ps i)) ((pattern_at ps i).line.0 == line) (serves s (pattern_at ps i)))
+    (λ i within.
+    let from : 0 + i ≡ i = omega arith in
+    ap (λ (k : ℕ). is_of feed.lines ps line k && serves s (pattern_at ps k)) from ∙ and_assoc (is_shown feed.lines (pattern_at ps i)) ((pattern_at ps i).line.0 == line) (serves s (pattern_at ps i)))
 
 -- ---- a station
 
@@ -88,3 +91,18 @@ pub one_kind_more : (table : List (List ℕ)) (kinds : List NodeKind) (n : ℕ) 
 one_kind_more table kinds n kind low e =
     ap (map (numbers_at table)) (take_more kinds n Junction low ∙ ap (λ (k : NodeKind). take n kinds ++ k ∷ []) (get_or_from_slice_get kinds n kind Junction e))
     ∙ map-append (numbers_at table) (take n kinds) (kind ∷ [])
+
+-- what is found by the tables that are built is what is said
+pub found_are : (feed : Feed) → IsFeed feed → (lines : List Line) (patterns again : List Pattern) (stations : ℕ) (by_line slice table table_slice : List (Vec ℕ Global)) (kinds : List NodeKind) (lists : List (List LineId))
+    → lines ≡ feed.lines → patterns ≡ feed.patterns → again ≡ feed.patterns → stations ≡ length feed.stations → slice ≡ by_line → AreByLine lines patterns (length patterns) (lists_in by_line)
+    → IsTable stations (callers_in again (lists_in slice) (length slice)) (lists_in table) → table_slice ≡ table → lists ≡ map (numbers_at (lists_in table_slice)) kinds → lists ≡ node_callers feed kinds
+found_are feed fits lines patterns again stations by_line slice table table_slice kinds lists e1 e2 e3 e4 e5 given said e6 is =
+    let h : AreByLine feed.lines feed.patterns (length feed.patterns) (lists_in by_line) =
+    subst (λ (ls : List Line). AreByLine ls feed.patterns (length feed.patterns) (lists_in by_line)) e1 (subst (λ (ps : List Pattern). AreByLine lines ps (length ps) (lists_in by_line)) e2 given) in
+    let count : length slice ≡ length feed.lines = ap length e5 ∙ sym (lists_count by_line) ∙ h.each in
+    let k : IsTable (length feed.stations) (callers_in feed.patterns (lists_in by_line) (length feed.lines)) (lists_in table) =
+    subst (λ (n : ℕ). IsTable n (callers_in feed.patterns (lists_in by_line) (length feed.lines)) (lists_in table)) e4
+    (subst (λ (n : ℕ). IsTable stations (callers_in feed.patterns (lists_in by_line) n) (lists_in table)) count
+    (subst (λ (ls : List (Vec ℕ Global)). IsTable stations (callers_in feed.patterns (lists_in ls) (length slice)) (lists_in table)) e5
+    (subst (λ (ps : List Pattern). IsTable stations (callers_in ps (lists_in slice) (length slice)) (lists_in table)) e3 said))) in
+    is ∙ ap (λ (t : List (Vec ℕ Global)). map (numbers_at (lists_in t)) kinds) e6 ∙ nodes_are feed fits (lists_in by_line) (lists_in table) kinds h k

@@ -79,11 +79,11 @@ any_none p d (x ∷ xs) none = ap (λ (b : Bool). b || list_any p xs) (none 0 (o
 -- of those that pass another test
 pub any_filter : {A : Type 0} (p f : A → Bool) (xs : List A) → list_any p (filter f xs) ≡ list_any (λ x. f x && p x) xs
 any_filter p f [] = refl
-any_filter p f (x ∷ xs) = by_test (f x)
+any_filter {A} p f (x ∷ xs) = by_test (f x) (any_filter p f xs)
   where
-    by_test : (b : Bool) → list_any p (cond b (x ∷ filter f xs) (filter f xs)) ≡ ((b && p x) || list_any (λ y. f y && p y) xs)
-    by_test true = ap (λ (b : Bool). p x || b) (any_filter p f xs)
-    by_test false = any_filter p f xs
+    by_test : (b : Bool) → list_any p (filter f xs) ≡ list_any (λ y. f y && p y) xs → list_any p (cond b (x ∷ filter f xs) (filter f xs)) ≡ ((b && p x) || list_any (λ y. f y && p y) xs)
+    by_test true e = ap (λ (t : Bool). p x || t) e
+    by_test false e = e
 
 -- by the places of a list
 pub any_numbered : {A : Type 0} (p : A → Bool) (q : ℕ → Bool) (d : A) (xs : List A) (a : ℕ) → ((i : ℕ) → i < length xs → q (a + i) ≡ p (get_or xs i d)) → list_any q (range_with_len a (length xs)) ≡ list_any p xs

@@ -73,7 +73,7 @@ fn note_call(table: &mut Vec<Vec<u32>>, station: StationId, line: u32) -> Result
 fn is_last(numbers: &[u32], number: u32) -> bool
     ensures { result ≡ is_last number numbers.now }
 {
-    if numbers.is_empty() {
+    if numbers.len() == 0 {
         return false;
     }
     numbers[numbers.len() - 1] == number

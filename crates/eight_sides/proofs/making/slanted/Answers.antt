@@ -1,17 +1,17 @@
 use Rattle.std.proofs.Common.{◌≡◌, ℤ, w64, to_z, of_z, ◌+ℤ◌, ◌-ℤ◌, refl, ap, ◌∙◌, arith}
 use Rattle.std.proofs.lemmas.Int.{ints}
 use Rattle.eight_sides.specs.Shapes.{half_above, half_below}
-use Rattle.eight_sides.proofs.Computed.{same_interval, same_shape}
+use Rattle.eight_sides.proofs.Computed.{difference_kept, same_interval, same_shape, sum_kept}
 use Rattle.eight_sides.proofs.making.slanted.Goals as goal
 
 pub returns-clause-value : goal.returns-clause-value
 returns-clause-value c =
     let d = c.args.difference in
     let s = c.args.sum in
-    let x : to_z w64 (of_z w64 (to_z w64 (of_z w64 s.least) +ℤ to_z w64 (of_z w64 d.least))) ≡ s.least +ℤ d.least = omega (arith, ints, c.requires.difference.least, c.requires.difference.greatest, c.requires.sum.least, c.requires.sum.greatest) in
-    let y : to_z w64 (of_z w64 (to_z w64 (of_z w64 s.greatest) +ℤ to_z w64 (of_z w64 d.greatest))) ≡ s.greatest +ℤ d.greatest = omega (arith, ints, c.requires.difference.least, c.requires.difference.greatest, c.requires.sum.least, c.requires.sum.greatest) in
-    let z : to_z w64 (of_z w64 (to_z w64 (of_z w64 s.least) -ℤ to_z w64 (of_z w64 d.greatest))) ≡ s.least -ℤ d.greatest = omega (arith, ints, c.requires.difference.least, c.requires.difference.greatest, c.requires.sum.least, c.requires.sum.greatest) in
-    let w : to_z w64 (of_z w64 (to_z w64 (of_z w64 s.greatest) -ℤ to_z w64 (of_z w64 d.least))) ≡ s.greatest -ℤ d.least = omega (arith, ints, c.requires.difference.least, c.requires.difference.greatest, c.requires.sum.least, c.requires.sum.greatest) in
+    let x = sum_kept s.least d.least c.requires.sum.least c.requires.difference.least in
+    let y = sum_kept s.greatest d.greatest c.requires.sum.greatest c.requires.difference.greatest in
+    let z = difference_kept s.least d.greatest c.requires.sum.least c.requires.difference.greatest in
+    let w = difference_kept s.greatest d.least c.requires.sum.greatest c.requires.difference.least in
     let a : to_z w64 (of_z w64 c.half_below.result) ≡ c.half_below.result = omega (arith, ints) in
     let b : to_z w64 (of_z w64 c.half_above.result) ≡ c.half_above.result = omega (arith, ints) in
     let e : to_z w64 (of_z w64 c.half_below-2.result) ≡ c.half_below-2.result = omega (arith, ints) in
