@@ -1,5 +1,5 @@
 -- What is left of names, and second platforms.
-use Rattle.std.proofs.Common.{◌≡◌, ℕ, ◌+◌, ◌<◌, ◌≤◌, ◌==◌, Bool, true, false, cond, ◌&&◌, ◌||◌, List, [], ◌∷◌, ◌++◌, length, map, take, Option, Some, None, refl, ap, sym, ◌∙◌, arith}
+use Rattle.std.proofs.Common.{◌≡◌, ℕ, ◌+◌, ◌<◌, ◌≤◌, ◌==◌, Bool, true, false, cond, ◌&&◌, ◌||◌, List, [], ◌∷◌, ◌++◌, length, map, take, Option, Some, None, refl, ap, sym, ◌∙◌, append-nil, arith}
 use Rattle.std.specs.Prelude.{slice_get}
 use Rattle.std.specs.List.{flat_map, list_any}
 use Rattle.std.proofs.lemmas.Bool.{eqb-true}
@@ -27,11 +27,7 @@ pub names_more : (names : Names) (kinds : List NodeKind) (n : ℕ) (kind : NodeK
 names_more names kinds n kind low e =
     ap (flat_map (node_names names)) (take_more kinds n Junction low ∙ ap (λ (k : NodeKind). take n kinds ++ k ∷ []) (get_or_from_slice_get kinds n kind Junction e))
     ∙ flat_map-append (node_names names) (take n kinds) (kind ∷ [])
-    ∙ ap (λ (ns : List (List ℕ)). flat_map (node_names names) (take n kinds) ++ ns) (nil_behind (node_names names kind))
-  where
-    nil_behind : (xs : List (List ℕ)) → xs ++ [] ≡ xs
-    nil_behind [] = refl
-    nil_behind (x ∷ xs) = ap (λ (ys : List (List ℕ)). x ∷ ys) (nil_behind xs)
+    ∙ ap (λ (ns : List (List ℕ)). flat_map (node_names names) (take n kinds) ++ ns) (append-nil (node_names names kind))
 
 -- a node is flagged by one segment more
 pub second_more : (rests : List (Option (List ℕ))) (ends : List (NodeId × NodeId)) (s n : ℕ) (e : NodeId × NodeId) (same was is : Bool) → s < length ends → slice_get ends s ≡ Some e

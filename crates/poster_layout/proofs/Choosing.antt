@@ -167,11 +167,11 @@ first_last plan = by_test (suits plan 200)
 
 found_numbered : (test : ℕ → Bool) (a n u : ℕ) → find test (map pitch_numbered (range_with_len a n)) ≡ Some u → (i : ℕ) × (i < a + n) × (u ≡ pitch_numbered i)
 found_numbered test a zero u e = absurd cc
-found_numbered test a (suc n) u e = by_test (test (pitch_numbered a)) refl e
+found_numbered test a (suc n) u e = by_test (found_numbered test (a + 1) n u) (test (pitch_numbered a)) refl e
   where
-    by_test : (b : Bool) → test (pitch_numbered a) ≡ b → cond b (Some (pitch_numbered a)) (find test (map pitch_numbered (range_with_len (a + 1) n))) ≡ Some u → (i : ℕ) × (i < a + suc n) × (u ≡ pitch_numbered i)
-    by_test true is f = let same : pitch_numbered a ≡ u = cc in (a, omega arith, sym same)
-    by_test false is f = let rest = found_numbered test (a + 1) n u f in (rest.0, omega (arith, rest.1), rest.2)
+    by_test : (find test (map pitch_numbered (range_with_len (a + 1) n)) ≡ Some u → (i : ℕ) × (i < (a + 1) + n) × (u ≡ pitch_numbered i)) → (b : Bool) → test (pitch_numbered a) ≡ b → cond b (Some (pitch_numbered a)) (find test (map pitch_numbered (range_with_len (a + 1) n))) ≡ Some u → (i : ℕ) × (i < a + suc n) × (u ≡ pitch_numbered i)
+    by_test later true is f = let same : pitch_numbered a ≡ u = cc in (a, omega arith, sym same)
+    by_test later false is f = let rest = later f in (rest.0, omega (arith, rest.1), rest.2)
 
 pub first_is_pitch : (plan : Plan) → IsPitch (first_pitch plan)
 first_is_pitch plan = by_found (find (suits plan) pitches) refl

@@ -15,20 +15,20 @@ use Rattle.poster_plan.specs.Laws.{HasNoPlace}
 -- what is found passes the test
 pub found_passes : {A : Type 0} (test : A → Bool) (xs : List A) (x : A) → find test xs ≡ Some x → test x ≡ true
 found_passes test [] x e = absurd cc
-found_passes test (y ∷ ys) x e = by_test (test y) refl e
+found_passes test (y ∷ ys) x e = by_test (found_passes test ys x) (test y) refl e
   where
-    by_test : (b : Bool) → test y ≡ b → cond b (Some y) (find test ys) ≡ Some x → test x ≡ true
-    by_test true is f = let same : y ≡ x = cc in ap test (sym same) ∙ is
-    by_test false is f = found_passes test ys x f
+    by_test : (find test ys ≡ Some x → test x ≡ true) → (b : Bool) → test y ≡ b → cond b (Some y) (find test ys) ≡ Some x → test x ≡ true
+    by_test later true is f = let same : y ≡ x = cc in ap test (sym same) ∙ is
+    by_test later false is f = later f
 
 -- where nothing is found, nothing passes
 pub none_passes : {A : Type 0} (test : A → Bool) (xs : List A) → find test xs ≡ None → list_all (λ x. not (test x)) xs ≡ true
 none_passes test [] e = refl
-none_passes test (y ∷ ys) e = by_test (test y) refl e
+none_passes test (y ∷ ys) e = by_test (none_passes test ys) (test y) refl e
   where
-    by_test : (b : Bool) → test y ≡ b → cond b (Some y) (find test ys) ≡ None → (not (test y) && list_all (λ x. not (test x)) ys) ≡ true
-    by_test true is f = absurd cc
-    by_test false is f = and_from _ _ (ap not is) (none_passes test ys f)
+    by_test : (find test ys ≡ None → list_all (λ x. not (test x)) ys ≡ true) → (b : Bool) → test y ≡ b → cond b (Some y) (find test ys) ≡ None → (not (test y) && list_all (λ x. not (test x)) ys) ≡ true
+    by_test later true is f = absurd cc
+    by_test later false is f = and_from _ _ (ap not is) (later f)
 
 -- A fact of placings that the name of each of these marks keeps, whether it finds a place that is free or none, holds after
 -- all.
