@@ -67,7 +67,7 @@ fn unless_second<'a>(second: bool, rest: Option<&'a str>) -> Option<&'a str>
 fn unless_empty<'a>(second: bool, text: &'a str) -> Option<&'a str>
     ensures { text_in result ≡ unless_second second (Some text.now) }
 {
-    if text.is_empty() {
+    if text.len() == 0 {
         return None;
     }
     if second {

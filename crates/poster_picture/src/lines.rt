@@ -73,7 +73,8 @@ fn push_line(
         path.as_slice(),
         colour_of(sheet.names, line),
         name_of(sheet.names, line),
-    )
+    )?;
+    Ok(())
 }
 
 /// Puts the path of a line that is shifted k places beside the walk of a segment into `path`, in place of what it held.
