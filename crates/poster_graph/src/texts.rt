@@ -46,11 +46,11 @@ pub fn printed_at<'a>(
     requires { AreTextsOf names.now graph.now texts.now }
     ensures { text_in result ≡ printed_at graph.now (all_rests names.now graph.now) n.0 }
 {
-    if n.0 >= graph.nodes() {
-        return None;
+    if n.0 < graph.nodes() {
+        let rest = rest_at(graph, names, texts.common, n);
+        return unless_second(texts.seconds[n.0 as usize], rest);
     }
-    let rest = rest_at(graph, names, texts.common, n);
-    unless_second(texts.seconds[n.0 as usize], rest)
+    None
 }
 
 /// What is left of a name, where that is not empty and its node is no second platform.
