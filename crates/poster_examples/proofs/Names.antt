@@ -1,5 +1,5 @@
 -- Widths of texts, first words and pale colours.
-use Rattle.std.proofs.Common.{◌≡◌, true, false, [], ◌∷◌, Some, None, refl}
+use Rattle.std.proofs.Common.{◌≡◌, ◌+◌, true, false, [], ◌∷◌, Some, None, refl}
 use Rattle.std.specs.Prelude.{codes}
 use Rattle.name_widths.specs.Widths.{text_width}
 use Rattle.name_widths.specs.Words.{parts, rest_of}

@@ -1,3 +1,4 @@
+use Rattle.std.proofs.Common.{[]}
 use Rattle.poster_plan.specs.declared.layout.Step.TheVariants.{Full, Small, Over}
 use Rattle.poster_plan.specs.Placing.{in_full, in_order, in_small}
 use Rattle.poster_plan.proofs.Taken.{over_last, step_taken}
