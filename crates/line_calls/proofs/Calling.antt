@@ -1,20 +1,21 @@
 -- Lines that are found by a table are those that call.
 use Rattle.std.proofs.Common.{◌≡◌, ℕ, ◌+◌, ◌<◌, ◌≤◌, ◌⊎◌, inl, inr, Bool, true, false, ◌&&◌, ◌==◌, List, [], ◌∷◌, ◌++◌, length, map, filter, get_or, take, refl, ap, sym, subst, ◌∙◌, arith, Some}
-use Rattle.std.specs.Prelude.{All, slice_get, Vec}
+use Rattle.std.specs.Prelude.{All, slice_get}
 use Rattle.std.specs.List.{list_any, range_with_len}
 use Rattle.std.proofs.lemmas.Bool.{cases_lt, ne_eqb}
 use Rattle.std.proofs.lemmas.List.{get_or_past, map-append, take_more}
 use Rattle.std.proofs.lemmas.List.Elements.{All-weaker}
-use Rattle.std.proofs.lemmas.Option.{get_or_from_slice_get, Vec}
+use Rattle.std.proofs.lemmas.Option.{get_or_from_slice_get}
 use Rattle.map_base.specs.declared.ids.LineId.{LineId}
 use Rattle.map_base.specs.declared.ids.StationId.{StationId}
 use Rattle.graph_core.specs.declared.parts.NodeKind.{NodeKind}
 use Rattle.graph_core.specs.declared.parts.NodeKind.TheVariants.{Station, Junction}
+use Rattle.transit_feed.specs.declared.line.Line.{Line}
 use Rattle.transit_feed.specs.declared.pattern.Pattern.{Pattern}
 use Rattle.transit_feed.specs.Feeds.{Feed, IsFeed, IsPattern}
 use Rattle.feed_courses.specs.Shown.{is_shown, serves}
 use Rattle.line_calls.specs.Calls.{callers_at, calls, is_call, line_numbered, node_callers}
-use Rattle.std.specs.Global.{Global}
+use Rattle.std.specs.Global.{Global, Vec}
 use Rattle.line_calls.specs.Tables.{lists_in, callers_in, is_caller, is_of, no_pattern, numbers_at, pattern_at, AreByLine, IsTable}
 use Rattle.line_calls.proofs.ListLemmas.{lists_count, any_filter, any_none, any_numbered, filter_none, filter_same}
 

@@ -13,7 +13,7 @@ note_line-requires-clause-known c =
     let by_line = c.args.by_line.now in
     let line = c.loop-line.line in
     let read : c.as_slice.result.now ≡ get_or (lists_in by_line) line [] =
-    c.as_slice.ensures.value ∙ ap (λ (v : Vec ℕ Global). v.items) c.index-by_line-line.ensures ∙ sym (list_is by_line line c.index-by_line-line.result c.loop-line-test.true) in
+    c.as_slice.ensures.value ∙ ap (λ (v : Vec ℕ Global). v.items) c.index-by_line-line.is ∙ sym (list_is by_line line c.index-by_line-line.result c.loop-line-test.true) in
     subst (AreInRange (length c.args.patterns.now)) (sym read) (c.requires.known line [] (subst (λ (n : ℕ). line < n) (sym (lists_count by_line)) c.loop-line-test.true))
 
 pub loop-line-preserved : goal.loop-line-preserved
@@ -22,6 +22,6 @@ loop-line-preserved c =
     let by_line = c.args.by_line.now in
     let line = c.loop-line.line in
     let read : c.as_slice.result.now ≡ get_or (lists_in by_line) line [] =
-    c.as_slice.ensures.value ∙ ap (λ (v : Vec ℕ Global). v.items) c.index-by_line-line.ensures ∙ sym (list_is by_line line c.index-by_line-line.result c.loop-line-test.true) in
+    c.as_slice.ensures.value ∙ ap (λ (v : Vec ℕ Global). v.items) c.index-by_line-line.is ∙ sym (list_is by_line line c.index-by_line-line.result c.loop-line-test.true) in
     table_more patterns (lists_in by_line) c.args.stations line (served_by patterns c.as_slice.result.now) (lists_in c.loop-line.table.items) (lists_in c.note_line.new.table.items)
     (λ s. ap (λ (ns : List ℕ). served_by patterns ns s) read) c.loop-line.invariant c.in_ok-note_line.ensures
