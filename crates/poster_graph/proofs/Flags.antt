@@ -1,0 +1,51 @@
+-- Lines that are flagged.
+use Rattle.std.proofs.Common.{◌≡◌, ℕ, zero, suc, ◌+◌, ◌<◌, ◌==◌, Bool, true, false, cond, ◌||◌, List, [], ◌∷◌, ◌++◌, length, map, filter, get_or, take, Some, refl, ap, sym, ◌∙◌, arith}
+use Rattle.std.specs.Prelude.{slice_get}
+use Rattle.std.specs.List.{list_any, range_with_len}
+use Rattle.std.proofs.lemmas.List.{take_more}
+use Rattle.std.proofs.lemmas.List.Folds.{list_any-append}
+use Rattle.std.proofs.lemmas.Option.{get_or_from_slice_get}
+use Rattle.map_base.specs.declared.ids.LineId.{LineId}
+use Rattle.graph_core.specs.declared.parts.GraphParts.{GraphParts}
+use Rattle.poster_rules.specs.Stations.{has_line}
+use Rattle.poster_rules.specs.Plans.{is_on_some, line_numbered, lines_shown}
+use Rattle.poster_graph.specs.Flags.{flagged, is_on, AreFlags}
+
+or_false : (b : Bool) → (b || false) ≡ b
+or_false true = refl
+or_false false = refl
+
+or_assoc : (a b c : Bool) → ((a || b) || c) ≡ (a || (b || c))
+or_assoc true b c = refl
+or_assoc false b c = refl
+
+-- one line more
+pub line_flagged : (lines : List LineId) (i n : ℕ) (d : LineId) (old was is : Bool) → i < length lines → was ≡ (old || has_line (line_numbered n) (take i lines)) → is ≡ (was || ((get_or lines i d).0 == n))
+    → is ≡ (old || has_line (line_numbered n) (take (i + 1) lines))
+line_flagged lines i n d old was is low before now =
+    let test : LineId → Bool = λ a. a.0 == n in
+    now ∙ ap (λ (b : Bool). b || test (get_or lines i d)) before ∙ or_assoc old (list_any test (take i lines)) (test (get_or lines i d))
+    ∙ ap (λ (b : Bool). old || (list_any test (take i lines) || b)) (sym (or_false (test (get_or lines i d))))
+    ∙ ap (λ (b : Bool). old || b) (sym (list_any-append test (take i lines) (get_or lines i d ∷ [])) ∙ sym (ap (list_any test) (take_more lines i d low)))
+
+-- one segment more
+pub segment_flagged : (lists : List (List LineId)) (s n : ℕ) (lines : List LineId) (was is : Bool) → s < length lists → slice_get lists s ≡ Some lines → was ≡ is_on (take s lists) n → is ≡ (was || has_line (line_numbered n) lines)
+    → is ≡ is_on (take (s + 1) lists) n
+segment_flagged lists s n lines was is low at before now =
+    now
+    ∙ ap (λ (b : Bool). b || has_line (line_numbered n) lines) before
+    ∙ ap (λ (b : Bool). is_on (take s lists) n || b) (sym (or_false (has_line (line_numbered n) lines)))
+    ∙ sym (list_any-append (has_line (line_numbered n)) (take s lists) (lines ∷ []))
+    ∙ sym (ap (list_any (has_line (line_numbered n))) (take_more lists s [] low ∙ ap (λ (ls : List LineId). take s lists ++ ls ∷ []) (get_or_from_slice_get lists s lines [] at)))
+
+filter_same : (f g : ℕ → Bool) (a n : ℕ) → ((k : ℕ) → k < a + n → f k ≡ g k) → filter f (range_with_len a n) ≡ filter g (range_with_len a n)
+filter_same f g a zero same = refl
+filter_same f g a (suc n) same =
+    ap (λ (b : Bool). cond b (a ∷ filter f (range_with_len (a + 1) n)) (filter f (range_with_len (a + 1) n))) (same a (omega arith))
+    ∙ ap (λ (ks : List ℕ). cond (g a) (a ∷ ks) ks) (filter_same f g (a + 1) n (λ k high. same k (omega (arith, high))))
+
+-- the lines that are flagged are those that are shown
+pub flagged_are : (count : ℕ) (g : GraphParts) (flags : List Bool) → AreFlags count (is_on g.lines) flags → flagged flags ≡ lines_shown count g
+flagged_are count g flags h =
+    ap (λ (n : ℕ). map line_numbered (filter (λ (k : ℕ). get_or flags k false) (range_with_len 0 n))) h.each
+    ∙ ap (map line_numbered) (filter_same (λ (k : ℕ). get_or flags k false) (is_on_some g) 0 count (λ k low. h.of k (omega (arith, low))))

@@ -1,0 +1,4 @@
+mod Pieces
+mod Words
+mod Flags
+mod Nodes

@@ -1,0 +1,15 @@
+mod Members
+mod Reaching
+mod Rows
+mod Searching
+mod Putting
+mod Rooming
+mod Finding
+mod Counted
+mod Tabling
+mod Placed
+mod Ordering
+mod Choosing
+mod Framing
+mod Clashing
+mod Squares

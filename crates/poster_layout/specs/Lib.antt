@@ -1,0 +1,5 @@
+pub mod Cells
+pub mod Tables
+pub mod Rooms
+pub mod Extents
+pub mod Fits

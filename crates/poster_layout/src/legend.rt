@@ -1,0 +1,260 @@
+//! Where the legend stands.
+
+ghost use Rattle.std.specs.Prelude.{◌≡◌, ◌≤◌, ◌<◌, ◌*◌, unsigned_abs, IfSome};
+ghost use Rattle.poster_layout.specs.Extents.{IsDrawnFrame, IsDrawnPoint, IsLegend, IsNearFrame};
+ghost use Rattle.poster_plan.specs.Legends.{frame_beside, column_for, corners_for, is_clear_of_all, legend_height, legend_of, legend_shape, legend_start, legend_width, outside, row_at, rows_for, widely};
+ghost use Rattle.std.specs.List.{list_any};
+ghost use Rattle.eight_sides.specs.Shapes.{meet};
+ghost use Rattle.poster_plan.specs.declared.plan.Mark.{Mark};
+ghost use Rattle.poster_plan.specs.declared.plan.Piece.{Piece};
+ghost use Rattle.poster_plan.specs.Placing.{meets_printed};
+ghost use Rattle.poster_plan.specs.Signs.{mark_at, piece_at};
+
+use crate::extent::frame_with;
+use eight_sides::{Frame, Interval, Shape, meet, upright, widened};
+use line_offsets::Corner;
+use name_places::{down, mark_at, piece_at, printed_shape, up};
+use poster_plan::{Legend, Mark, Piece, Plan, Printed};
+
+/// How many rows a column has where there are so many lines: at least 12, and at least twice the root of their number.
+fn rows_for(lines: u32) -> u32
+    requires { lines ≤ 1000 }
+    ensures value { result ≡ rows_for lines }
+    ensures some { 0 < result }
+{
+    for rows in 12..64 {
+        if square(rows) >= 4 * lines {
+            return rows;
+        }
+    }
+    64
+}
+
+/// The square of a number.
+fn square(n: u32) -> u32
+    requires { n ≤ 64 }
+    ensures { result ≡ n * n }
+{
+    n * n
+}
+
+/// How wide the legend is.
+fn legend_width(lines: u32, widest: u32) -> u64
+    requires { lines ≤ 1000 }
+    ensures value { result ≡ legend_width lines widest }
+    ensures small { result ≤ 370000000000 }
+{
+    let rows = u64::from(rows_for(lines));
+    let columns = (u64::from(lines) + rows - 1) / rows;
+    (column_for(widest) * columns).saturating_sub(60)
+}
+
+/// How high it is.
+fn legend_height(lines: u32) -> u64
+    requires { lines ≤ 1000 }
+    ensures value { result ≡ legend_height lines }
+    ensures small { result ≤ 45000 }
+{
+    (45 * u64::from(lines.min(rows_for(lines)))).saturating_sub(15)
+}
+
+/// How far its columns stand apart.
+fn column_for(widest: u32) -> u64
+    ensures value { result ≡ column_for widest }
+    ensures small { result ≤ 4294967445 }
+{
+    u64::from(widest) + 150
+}
+
+/// The legend of so many lines, whose widest name is so wide, at a pitch with these names; none of no lines.
+pub fn legend_of(
+    pitch: u32,
+    plan: &Plan,
+    printed: &[Printed],
+    lines: u32,
+    widest: u32,
+) -> Option<Legend>
+    requires pitch { pitch ≤ 200 }
+    requires lines { lines ≤ 1000 }
+    ensures value { result ≡ legend_of pitch plan.now printed.now lines widest }
+    ensures near { IfSome result IsLegend }
+{
+    if lines == 0 {
+        return None;
+    }
+    let (width, height) = (legend_width(lines, widest), legend_height(lines));
+    Some(Legend {
+        start: legend_start(pitch, plan, printed, width, height),
+        column: column_for(widest),
+        rows: rows_for(lines),
+    })
+}
+
+/// Its upper left point: in the first corner of the map that is clear, else beside the map.
+fn legend_start(pitch: u32, plan: &Plan, printed: &[Printed], width: u64, height: u64) -> Corner
+    requires pitch { pitch ≤ 200 }
+    requires width { width ≤ 370000000000 }
+    requires height { height ≤ 45000 }
+    ensures value { result ≡ legend_start pitch plan.now printed.now width height }
+    ensures x { unsigned_abs result.x ≤ 919755813888 }
+    ensures y { unsigned_abs result.y ≤ 549755858888 }
+{
+    let frame = frame_with(pitch, plan, printed);
+    for corner in &corners_for(frame, width, height) {
+        if is_clear_of_all(pitch, plan, printed, legend_shape(width, height, *corner)) {
+            return *corner;
+        }
+    }
+    outside(frame)
+}
+
+/// Its upper left point in each corner of a frame.
+fn corners_for(f: Frame, width: u64, height: u64) -> [Corner; 4]
+    requires frame { IsNearFrame f }
+    requires width { width ≤ 370000000000 }
+    requires height { height ≤ 45000 }
+    ensures { result ≡ corners_for f width height }
+{
+    let right = down(f.across.greatest, width);
+    let low = down(f.down.greatest, height);
+    [
+        Corner {
+            x: right,
+            y: f.down.least,
+        },
+        Corner {
+            x: f.across.least,
+            y: f.down.least,
+        },
+        Corner { x: right, y: low },
+        Corner {
+            x: f.across.least,
+            y: low,
+        },
+    ]
+}
+
+/// From a number so far on, and 30 further on each side.
+fn widely(z: i64, long: u64) -> Interval
+    requires z { unsigned_abs z ≤ 1099511627776 }
+    requires long { long ≤ 370000000000 }
+    ensures { result ≡ widely z long }
+{
+    Interval {
+        least: down(z, 30),
+        greatest: up(z, long + 30),
+    }
+}
+
+/// What it takes up, widened by 30 on each side.
+fn legend_shape(width: u64, height: u64, start: Corner) -> Shape
+    requires x { unsigned_abs start.x ≤ 1099511627776 }
+    requires y { unsigned_abs start.y ≤ 1099511627776 }
+    requires width { width ≤ 370000000000 }
+    requires height { height ≤ 45000 }
+    ensures { result ≡ legend_shape width height start }
+{
+    upright(widely(start.x, width), widely(start.y, height))
+}
+
+/// Whether it keeps clear of all stations, straight pieces and printed names.
+fn is_clear_of_all(pitch: u32, plan: &Plan, printed: &[Printed], shape: Shape) -> bool
+    requires { pitch ≤ 200 }
+    ensures { result ≡ is_clear_of_all pitch plan.now printed.now shape }
+{
+    !meets_mark(pitch, plan.marks.as_slice(), shape)
+        && !meets_piece(pitch, plan.pieces.as_slice(), shape)
+        && !meets_printed(pitch, plan, printed, shape)
+}
+
+/// Whether a shape meets a station.
+fn meets_mark(pitch: u32, marks: &[Mark], shape: Shape) -> bool
+    requires { pitch ≤ 200 }
+    ensures { result ≡ list_any (λ (m : Mark). meet shape (mark_at pitch m)) marks.now }
+{
+    for mark in marks {
+        if meet(shape, mark_at(pitch, *mark)) {
+            return true;
+        }
+    }
+    false
+}
+
+/// Whether a shape meets a straight piece.
+fn meets_piece(pitch: u32, pieces: &[Piece], shape: Shape) -> bool
+    requires { pitch ≤ 200 }
+    ensures { result ≡ list_any (λ (p : Piece). meet shape (piece_at pitch p)) pieces.now }
+{
+    for piece in pieces {
+        if meet(shape, piece_at(pitch, *piece)) {
+            return true;
+        }
+    }
+    false
+}
+
+/// Whether a shape meets a printed name.
+fn meets_printed(pitch: u32, plan: &Plan, printed: &[Printed], shape: Shape) -> bool
+    requires { pitch ≤ 200 }
+    ensures { result ≡ meets_printed pitch plan.now printed.now shape }
+{
+    for name in printed {
+        if meet(shape, printed_shape(pitch, plan, *name)) {
+            return true;
+        }
+    }
+    false
+}
+
+/// Beside the map: to the right of one that is no wider than it is high, and else below it.
+fn outside(f: Frame) -> Corner
+    requires { IsNearFrame f }
+    ensures { result ≡ outside f }
+{
+    if f.across.greatest - f.across.least <= f.down.greatest - f.down.least {
+        Corner {
+            x: up(f.across.greatest, 30),
+            y: f.down.least,
+        }
+    } else {
+        Corner {
+            x: f.across.least,
+            y: up(f.down.greatest, 30),
+        }
+    }
+}
+
+/// Where row `i` of a legend is.
+pub fn row_at(legend: Legend, i: u32) -> Corner
+    requires legend { IsLegend legend }
+    requires row { i ≤ 1000 }
+    ensures value { result ≡ row_at legend i }
+    ensures near { IsDrawnPoint result }
+{
+    let column = legend.column * u64::from(i / legend.rows);
+    let row = 15 + 45 * u64::from(i % legend.rows);
+    Corner {
+        x: up(legend.start.x, column),
+        y: up(legend.start.y, row),
+    }
+}
+
+/// A frame that holds the legend of so many lines too.
+pub fn frame_beside(f: Frame, lines: u32, widest: u32, legend: Option<Legend>) -> Frame
+    requires frame { IsNearFrame f }
+    requires lines { lines ≤ 1000 }
+    requires legend { IfSome legend IsLegend }
+    ensures value { result ≡ frame_beside f lines widest legend }
+    ensures drawn { IsDrawnFrame result }
+{
+    match legend {
+        None => f,
+        Some(legend) => {
+            let end = Corner {
+                x: up(legend.start.x, legend_width(lines, widest)),
+                y: up(legend.start.y, legend_height(lines)),
+            };
+            widened(widened(f, legend.start), end)
+        }
+    }
+}

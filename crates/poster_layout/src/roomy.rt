@@ -1,0 +1,55 @@
+//! Whether a pitch is roomy.
+
+ghost use Rattle.std.specs.Prelude.{◌≡◌, ◌≤◌, ◌++◌, ◌∷◌, [], not, true, IfOk};
+ghost use Rattle.std.specs.List.{list_any};
+ghost use Rattle.poster_plan.specs.Things.{clash};
+ghost use Rattle.poster_layout.specs.Tables.{IsShortThing, IsTable};
+ghost use Rattle.poster_plan.specs.Pitches.{is_roomy};
+
+use crate::table::Table;
+use map_base::NoMemory;
+use name_places::{mark_at, piece_at};
+use poster_plan::{Kin, Plan, Thing};
+use std::alloc::Global;
+
+/// Whether stations and straight pieces that have no node in common keep apart at a pitch.
+pub(crate) fn is_roomy(alloc: Global, pitch: u32, plan: &Plan) -> Result<bool, NoMemory>
+    requires { pitch ≤ 200 }
+    ensures { IfOk result (λ roomy. roomy ≡ is_roomy pitch plan.now) }
+{
+    let (marks, pieces) = (plan.marks.as_slice(), plan.pieces.as_slice());
+    let mut table = Table::none(alloc, marks.len() + pieces.len())?;
+    for mark in marks {
+        let thing = Thing {
+            shape: mark_at(pitch, *mark),
+            kin: Kin::Node(mark.node.0),
+        };
+        if !put_apart(&mut table, thing)? {
+            return Ok(false);
+        }
+    }
+    for piece in pieces {
+        let thing = Thing {
+            shape: piece_at(pitch, *piece),
+            kin: Kin::Ends(piece.ends.0.0, piece.ends.1.0),
+        };
+        if !put_apart(&mut table, thing)? {
+            return Ok(false);
+        }
+    }
+    Ok(true)
+}
+
+/// Puts a thing where it clashes with none of the table, and says whether that is so.
+fn put_apart(table: &mut Table, thing: Thing) -> Result<bool, NoMemory>
+    requires table { IsTable table.old }
+    requires thing { IsShortThing thing }
+    ensures apart { IfOk result (λ apart. apart ≡ not (list_any (clash thing) table.old.things.items)) }
+    ensures table { IfOk result (λ apart. apart ≡ true → IsTable table.new × (table.new.things.items ≡ table.old.things.items ++ thing ∷ [])) }
+{
+    if table.clashes(thing) {
+        return Ok(false);
+    }
+    table.put(thing)?;
+    Ok(true)
+}

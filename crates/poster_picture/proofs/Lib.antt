@@ -1,0 +1,7 @@
+mod Writing
+mod Behind
+mod Gathering
+mod Noting
+mod Sorting
+mod Lining
+mod Wholes

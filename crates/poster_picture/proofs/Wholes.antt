@@ -1,0 +1,95 @@
+-- The parts of a poster, one after the other.
+use Rattle.std.proofs.Common.{◌≡◌, ℕ, List, [], ◌∷◌, ◌++◌, ap, sym, ◌∙◌, append_assoc, length, Option}
+use Rattle.map_base.specs.declared.ids.LineId.{LineId}
+use Rattle.eight_sides.specs.declared.frame.Frame.{Frame}
+use Rattle.svg_writer.specs.declared.names.Names.{Names}
+use Rattle.svg_writer.proofs.Appends.{grew2}
+use Rattle.poster_plan.specs.declared.layout.Legend.{Legend}
+use Rattle.poster_plan.specs.declared.layout.Printed.{Printed}
+use Rattle.poster_plan.specs.declared.plan.Plan.{Plan}
+use Rattle.poster_plan.specs.Legends.{frame_beside}
+use Rattle.poster_plan.specs.Pitches.{frame_with}
+use Rattle.poster_rules.specs.Elements.{Element, element_text, texts, Head, Ground, Opens, Closes, Tail, LinesGroup, StationsGroup, NamesGroup, LegendGroup}
+use Rattle.poster_rules.specs.Plans.{widest}
+use Rattle.poster_rules.specs.Posters.{all_names, elements_with, legend_elements, Sheet}
+use Rattle.poster_picture.specs.Parts.{all_joins, all_lines, all_stations, legend_part, map_part, names_part}
+use Rattle.poster_picture.proofs.Writing.{one_text, texts-append}
+
+-- elements behind elements
+behind : (o s t : List ℕ) (a b : List Element) → s ≡ o ++ texts a → t ≡ s ++ texts b → t ≡ o ++ texts (a ++ b)
+behind o s t a b e f = grew2 o s t (texts a) (texts b) e f ∙ ap (λ (bytes : List ℕ). o ++ bytes) (sym (texts-append a b))
+
+-- one element behind elements
+one_behind : (o s t : List ℕ) (a : List Element) (e : Element) → s ≡ o ++ texts a → t ≡ s ++ element_text e → t ≡ o ++ texts (a ++ e ∷ [])
+one_behind o s t a e was now = behind o s t a (e ∷ []) was (now ∙ ap (λ (bytes : List ℕ). s ++ bytes) (sym (one_text e)))
+
+-- one element first
+one_first : (o s : List ℕ) (e : Element) → s ≡ o ++ element_text e → s ≡ o ++ texts (e ∷ [])
+one_first o s e now = now ∙ ap (λ (bytes : List ℕ). o ++ bytes) (sym (one_text e))
+
+pub map_written : (sheet : Sheet) (frame : Frame) (o a b c d e f g h i : List ℕ) → a ≡ o ++ element_text (Head frame) → b ≡ a ++ element_text (Ground frame) → c ≡ b ++ element_text (Opens LinesGroup)
+    → d ≡ c ++ texts (all_lines sheet) → e ≡ d ++ texts (all_joins sheet) → f ≡ e ++ element_text Closes → g ≡ f ++ element_text (Opens StationsGroup) → h ≡ g ++ texts (all_stations sheet) → i ≡ h ++ element_text Closes
+    → i ≡ o ++ texts (map_part sheet frame)
+map_written sheet frame o a b c d e f g h i p q r s t u v w x =
+    let lines = all_lines sheet in
+    let joins = all_joins sheet in
+    let stations = all_stations sheet in
+    let last : i ≡ g ++ texts (stations ++ Closes ∷ []) = one_behind g h i stations Closes w x in
+    let from_opens : i ≡ f ++ texts (Opens StationsGroup ∷ (stations ++ Closes ∷ [])) = behind f g i (Opens StationsGroup ∷ []) (stations ++ Closes ∷ []) (one_first f g (Opens StationsGroup) v) last in
+    let from_closes : i ≡ e ++ texts (Closes ∷ Opens StationsGroup ∷ (stations ++ Closes ∷ [])) = behind e f i (Closes ∷ []) (Opens StationsGroup ∷ (stations ++ Closes ∷ [])) (one_first e f Closes u) from_opens in
+    let from_joins = behind d e i joins (Closes ∷ Opens StationsGroup ∷ (stations ++ Closes ∷ [])) t from_closes in
+    let from_lines = behind c d i lines (joins ++ (Closes ∷ Opens StationsGroup ∷ (stations ++ Closes ∷ []))) s from_joins in
+    let from_group = behind b c i (Opens LinesGroup ∷ []) (lines ++ (joins ++ (Closes ∷ Opens StationsGroup ∷ (stations ++ Closes ∷ [])))) (one_first b c (Opens LinesGroup) r) from_lines in
+    let from_ground = behind a b i (Ground frame ∷ []) (Opens LinesGroup ∷ (lines ++ (joins ++ (Closes ∷ Opens StationsGroup ∷ (stations ++ Closes ∷ []))))) (one_first a b (Ground frame) q) from_group in
+    behind o a i (Head frame ∷ []) (Ground frame ∷ Opens LinesGroup ∷ (lines ++ (joins ++ (Closes ∷ Opens StationsGroup ∷ (stations ++ Closes ∷ []))))) (one_first o a (Head frame) p) from_ground
+
+pub names_written : (sheet : Sheet) (plan : Plan) (printed : List Printed) (o a b c : List ℕ) → a ≡ o ++ element_text (Opens NamesGroup) → b ≡ a ++ texts (all_names sheet plan.marks printed) → c ≡ b ++ element_text Closes → c ≡ o ++ texts (names_part sheet plan printed)
+names_written sheet plan printed o a b c p q r =
+    let names = all_names sheet plan.marks printed in
+    behind o a c (Opens NamesGroup ∷ []) (names ++ Closes ∷ []) (one_first o a (Opens NamesGroup) p) (one_behind a b c names Closes q r)
+
+pub legend_written : (names : Names) (legend : Option Legend) (lines : List LineId) (o a b c d : List ℕ) → a ≡ o ++ element_text (Opens LegendGroup) → b ≡ a ++ texts (legend_elements names legend lines) → c ≡ b ++ element_text Closes → d ≡ c ++ element_text Tail
+    → d ≡ o ++ texts (legend_part names legend lines)
+legend_written names legend lines o a b c d p q r s =
+    let rows = legend_elements names legend lines in
+    let ends : d ≡ b ++ texts (Closes ∷ Tail ∷ []) = behind b c d (Closes ∷ []) (Tail ∷ []) (one_first b c Closes r) (one_first c d Tail s) in
+    behind o a d (Opens LegendGroup ∷ []) (rows ++ Closes ∷ Tail ∷ []) (one_first o a (Opens LegendGroup) p) (behind a b d rows (Closes ∷ Tail ∷ []) q ends)
+
+-- all parts are the poster
+pub parts_are : (sheet : Sheet) (plan : Plan) (printed : List Printed) (lines : List LineId) (legend : Option Legend) (frame : Frame) (o a b c : List ℕ)
+    → frame ≡ frame_beside (frame_with sheet.pitch plan printed) (length lines) (widest sheet.names lines) legend → o ≡ []
+    → a ≡ o ++ texts (map_part sheet frame) → b ≡ a ++ texts (names_part sheet plan printed) → c ≡ b ++ texts (legend_part sheet.names legend lines) → c ≡ texts (elements_with sheet plan printed lines legend)
+parts_are sheet plan printed lines legend frame o a b c framed none p q r =
+    let all = behind o a c (map_part sheet frame) (names_part sheet plan printed ++ legend_part sheet.names legend lines) p (behind a b c (names_part sheet plan printed) (legend_part sheet.names legend lines) q r) in
+    all ∙ ap (λ (bytes : List ℕ). bytes ++ texts (map_part sheet frame ++ (names_part sheet plan printed ++ legend_part sheet.names legend lines))) none
+    ∙ ap texts (regrouped frame)
+    ∙ ap (λ (f : Frame). texts (whole f)) framed
+  where
+    -- the elements behind a frame
+    whole : Frame → List Element
+    whole f =
+        Head f ∷ Ground f ∷ (Opens LinesGroup ∷ [])
+        ++ (all_lines sheet
+        ++ (all_joins sheet
+        ++ (Closes ∷ Opens StationsGroup ∷ []
+        ++ (all_stations sheet
+        ++ (Closes ∷ Opens NamesGroup ∷ []
+        ++ (all_names sheet plan.marks printed
+        ++ (Closes ∷ Opens LegendGroup ∷ []
+        ++ (legend_elements sheet.names legend lines ++ Closes ∷ Tail ∷ []))))))))
+
+    regrouped : (f : Frame) → map_part sheet f ++ (names_part sheet plan printed ++ legend_part sheet.names legend lines) ≡ whole f
+    regrouped f =
+        let lines_of = all_lines sheet in
+        let joins = all_joins sheet in
+        let stations = all_stations sheet in
+        let names = all_names sheet plan.marks printed in
+        let legend_of = legend_part sheet.names legend lines in
+        let tail = names_part sheet plan printed ++ legend_of in
+        ap (λ (es : List Element). Head f ∷ Ground f ∷ Opens LinesGroup ∷ es)
+        (append_assoc lines_of (joins ++ (Closes ∷ Opens StationsGroup ∷ (stations ++ Closes ∷ []))) tail
+        ∙ ap (λ (es : List Element). lines_of ++ es)
+        (append_assoc joins (Closes ∷ Opens StationsGroup ∷ (stations ++ Closes ∷ [])) tail
+        ∙ ap (λ (es : List Element). joins ++ (Closes ∷ Opens StationsGroup ∷ es))
+        (append_assoc stations (Closes ∷ []) tail
+        ∙ ap (λ (es : List Element). stations ++ (Closes ∷ Opens NamesGroup ∷ es)) (append_assoc names (Closes ∷ []) legend_of))))
