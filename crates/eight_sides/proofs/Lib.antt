@@ -1,4 +1,4 @@
 mod Orders
 mod Sharing
 mod Discs
-mod Computed
+pub mod Computed

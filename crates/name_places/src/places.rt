@@ -3,7 +3,7 @@
 ghost use Rattle.std.specs.Prelude.{◌≡◌, ◌≤◌, ◌+◌, ◌*◌, unsigned_abs};
 ghost use Rattle.eight_sides.specs.Shapes.{IsNear, IsShort};
 ghost use Rattle.name_places.specs.Near.{IsNearShape};
-ghost use Rattle.poster_plan.specs.Places.{anchor_at, backwards, beside, beside_lines, corner_gap, gap, half_width, lean, long, offset, onwards, over_lines, place_shape, sides, size, slant, slanted_first, tenth, text_spot, turn_at, upright_first, width};
+ghost use Rattle.poster_plan.specs.Places.{anchor_at, backwards, beside, beside_lines, corner_gap, gap, half_width, lean, long, offset, onwards, over_lines, place_shape, shape_of, sides, size, slant, slanted_first, tenth, text_spot, turn_at, upright_first, width};
 
 use crate::numbers::{difference_of, down, minus, natural, plus, sum_of, up};
 use eight_sides::{Interval, Shape, around, slanted, slanted_length, upright};
@@ -218,7 +218,16 @@ pub fn place_shape(sign: Sign, step: Step, place: Place) -> Shape
     ensures near { IsNearShape result }
 {
     let (first, second) = sides(sign, step, place);
-    match turn_at(place) {
+    shape_of(turn_at(place), first, second)
+}
+
+/// What two intervals tell of a text that runs this way.
+fn shape_of(turn: Turn, first: Interval, second: Interval) -> Shape
+    requires first { IsShort first }
+    requires second { IsShort second }
+    ensures { result ≡ shape_of turn first second }
+{
+    match turn {
         Turn::Level => upright(first, second),
         Turn::Rising | Turn::Falling => slanted(first, second),
     }
@@ -279,9 +288,11 @@ fn turn_at(place: Place) -> Turn
     ensures { result ≡ turn_at place }
 {
     match place {
+        Place::E | Place::W | Place::SE | Place::NE | Place::NW | Place::SW | Place::N | Place::S => {
+            Turn::Level
+        }
         Place::UpEast | Place::DownWest => Turn::Rising,
         Place::DownEast | Place::UpWest => Turn::Falling,
-        _ => Turn::Level,
     }
 }
 

@@ -24,10 +24,10 @@ piece_ends u p = drawn_at u p.start ∷ drawn_at u p.end ∷ []
 
 -- a frame of a whole poster, its legend included
 pub record IsDrawnFrame (f : Frame) : Type 0 where
-  pub left : unsigned_abs f.across.least ≤ 1099511627776
-  pub right : unsigned_abs f.across.greatest ≤ 1099511627776
-  pub top : unsigned_abs f.down.least ≤ 1099511627776
-  pub bottom : unsigned_abs f.down.greatest ≤ 1099511627776
+  pub left : unsigned_abs f.across.least ≤ 2199023255552
+  pub right : unsigned_abs f.across.greatest ≤ 2199023255552
+  pub top : unsigned_abs f.down.least ≤ 2199023255552
+  pub bottom : unsigned_abs f.down.greatest ≤ 2199023255552
 
 -- a legend that can be reckoned with
 pub record IsLegend (l : Legend) : Type 0 where

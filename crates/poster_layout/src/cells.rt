@@ -54,6 +54,8 @@ fn from_edge(z: i64) -> u64
 
 /// How many cells these are, or a greatest number where they are too many to reckon with.
 pub(crate) fn count_of(cells: Cells) -> u64
+    requires right { cells.right < 1099511627776 }
+    requires bottom { cells.bottom < 1099511627776 }
     ensures { result ≡ count_of cells }
 {
     let columns = (cells.right + 1).saturating_sub(cells.left).min(1 << 20);

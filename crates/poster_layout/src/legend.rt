@@ -20,7 +20,7 @@ use poster_plan::{Legend, Mark, Piece, Plan, Printed};
 fn rows_for(lines: u32) -> u32
     requires { lines ≤ 1000 }
     ensures value { result ≡ rows_for lines }
-    ensures some { 0 < result }
+    ensures some { 12 ≤ result }
 {
     for rows in 12..64 {
         if square(rows) >= 4 * lines {
