@@ -13,3 +13,4 @@ mod Choosing
 mod Framing
 mod Clashing
 mod Squares
+mod Cornering

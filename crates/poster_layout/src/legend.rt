@@ -1,9 +1,9 @@
 //! Where the legend stands.
 
-ghost use Rattle.std.specs.Prelude.{◌≡◌, ◌≤◌, ◌<◌, ◌*◌, unsigned_abs, IfSome};
-ghost use Rattle.poster_layout.specs.Extents.{IsDrawnFrame, IsDrawnPoint, IsLegend, IsNearFrame};
+ghost use Rattle.std.specs.Prelude.{◌≡◌, ◌≤◌, ◌*◌, unsigned_abs, All, IfSome};
+ghost use Rattle.poster_layout.specs.Extents.{is_clear_at, IsDrawnFrame, IsDrawnPoint, IsLegend, IsLegendPoint, IsNearFrame};
 ghost use Rattle.poster_plan.specs.Legends.{frame_beside, column_for, corners_for, is_clear_of_all, legend_height, legend_of, legend_shape, legend_start, legend_width, outside, row_at, rows_for, widely};
-ghost use Rattle.std.specs.List.{list_any};
+ghost use Rattle.std.specs.List.{find, list_any};
 ghost use Rattle.eight_sides.specs.Shapes.{meet};
 ghost use Rattle.poster_plan.specs.declared.plan.Mark.{Mark};
 ghost use Rattle.poster_plan.specs.declared.plan.Piece.{Piece};
@@ -96,16 +96,35 @@ fn legend_start(pitch: u32, plan: &Plan, printed: &[Printed], width: u64, height
     requires width { width ≤ 370000000000 }
     requires height { height ≤ 45000 }
     ensures value { result ≡ legend_start pitch plan.now printed.now width height }
-    ensures x { unsigned_abs result.x ≤ 919755813888 }
-    ensures y { unsigned_abs result.y ≤ 549755858888 }
+    ensures near { IsLegendPoint result }
 {
     let frame = frame_with(pitch, plan, printed);
-    for corner in &corners_for(frame, width, height) {
+    let corners = corners_for(frame, width, height);
+    first_clear(pitch, plan, printed, width, height, &corners).unwrap_or(outside(frame))
+}
+
+/// The first of these points at which it is clear.
+fn first_clear(
+    pitch: u32,
+    plan: &Plan,
+    printed: &[Printed],
+    width: u64,
+    height: u64,
+    corners: &[Corner],
+) -> Option<Corner>
+    requires pitch { pitch ≤ 200 }
+    requires width { width ≤ 370000000000 }
+    requires height { height ≤ 45000 }
+    requires corners { All IsLegendPoint corners.now }
+    ensures value { result ≡ find (is_clear_at pitch plan.now printed.now width height) corners.now }
+    ensures near { IfSome result IsLegendPoint }
+{
+    for corner in corners {
         if is_clear_of_all(pitch, plan, printed, legend_shape(width, height, *corner)) {
-            return *corner;
+            return Some(*corner);
         }
     }
-    outside(frame)
+    None
 }
 
 /// Its upper left point in each corner of a frame.
@@ -148,8 +167,7 @@ fn widely(z: i64, long: u64) -> Interval
 
 /// What it takes up, widened by 30 on each side.
 fn legend_shape(width: u64, height: u64, start: Corner) -> Shape
-    requires x { unsigned_abs start.x ≤ 1099511627776 }
-    requires y { unsigned_abs start.y ≤ 1099511627776 }
+    requires start { IsLegendPoint start }
     requires width { width ≤ 370000000000 }
     requires height { height ≤ 45000 }
     ensures { result ≡ legend_shape width height start }

@@ -1,6 +1,6 @@
 //! The room of names at a pitch: what they keep clear of, and those that are printed so far.
 
-ghost use Rattle.std.specs.Prelude.{◌≡◌, ◌≤◌, ◌++◌, ◌∷◌, [], ℕ, filter, length, map, IfOk, OnOk};
+ghost use Rattle.std.specs.Prelude.{◌≡◌, ◌≤◌, ◌<◌, ◌+◌, ◌++◌, ◌∷◌, [], if◌then◌else◌, ℕ, filter, length, map, IfOk, OnOk};
 ghost use Rattle.eight_sides.specs.declared.shape.Shape.{Shape};
 ghost use Rattle.std.specs.List.{find};
 ghost use Rattle.poster_plan.specs.declared.layout.Step.TheVariants.{Full};
@@ -107,9 +107,7 @@ impl<'a> Room<'a> {
     {
         let mut count = 0;
         for place in places {
-            if self.is_free(mark, Step::Full, *place) {
-                count += 1;
-            }
+            count = counted(count, self.is_free(mark, Step::Full, *place));
         }
         count
     }
@@ -198,6 +196,15 @@ impl<'a> Room<'a> {
             None => Ok(left.push(i)?),
         }
     }
+}
+
+/// A count, and one more where something is so.
+fn counted(count: usize, is_so: bool) -> usize
+    requires { count < 9223372036854775807 }
+    ensures value { result ≡ count + (if is_so then 1 else 0) }
+    ensures small { result ≤ count + 1 }
+{
+    if is_so { count + 1 } else { count }
 }
 
 /// The table of the grounds of stations.
