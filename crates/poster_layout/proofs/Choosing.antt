@@ -1,5 +1,5 @@
 -- The choice of a pitch, one pitch after another.
-use Rattle.std.proofs.Common.{◌≡◌, ℕ, zero, suc, ◌+◌, ◌-◌, ◌*◌, ◌<◌, ◌≤◌, ◌==◌, ◌⊎◌, inl, inr, Bool, true, false, cond, ◌&&◌, ◌||◌, List, [], ◌∷◌, ◌++◌, map, filter, fold, get_or, Option, Some, None, unwrap_or, refl, ap, sym, ◌∙◌, arith}
+use Rattle.std.proofs.Common.{◌≡◌, ℕ, zero, suc, ◌+◌, ◌-◌, ◌*◌, ◌<◌, ◌≤◌, ◌==◌, ◌⊎◌, inl, inr, Bool, true, false, cond, ◌&&◌, ◌||◌, List, [], ◌∷◌, ◌++◌, drop, map, filter, fold, get_or, Option, Some, None, unwrap_or, refl, ap, sym, ◌∙◌, arith}
 use Rattle.std.specs.Prelude.{nat_le, nat_lt}
 use Rattle.std.specs.List.{find, range_with_len}
 use Rattle.std.proofs.lemmas.Bool.{ne_eqb}
@@ -10,6 +10,7 @@ use Rattle.std.proofs.lemmas.List.FromFn.{get_or-map-range_with_len}
 use Rattle.poster_plan.specs.declared.plan.Plan.{Plan}
 use Rattle.poster_plan.specs.Pitches.{better_of, first_pitch, fits, full_left, is_better, pitch_of, pitches, small_left, suits, tried}
 use Rattle.poster_layout.specs.Fits.{above, best_of, IsPitch}
+use Rattle.poster_layout.proofs.Finding.{find_here, find_past}
 
 -- the pitch of a number
 abbrev pub pitch_numbered : ℕ → ℕ
@@ -164,6 +165,20 @@ first_last plan = by_test (suits plan 200)
     by_test : (b : Bool) → unwrap_or (cond b (Some 200) None) 200 ≡ 200
     by_test true = refl
     by_test false = refl
+
+-- none of the first pitches suits
+abbrev pub NoneBefore : Plan → ℕ → Type 0
+NoneBefore plan i = find (suits plan) (drop i pitches) ≡ find (suits plan) pitches
+
+pub first_past : (plan : Plan) (i : ℕ) → i < 46 → suits plan (pitch_numbered i) ≡ false → NoneBefore plan i → NoneBefore plan (i + 1)
+first_past plan i low no before = find_past (suits plan) pitches i 0 low (ap (suits plan) (number_of i 0 low) ∙ no) ∙ before
+
+pub first_here : (plan : Plan) (i : ℕ) → i < 46 → suits plan (pitch_numbered i) ≡ true → NoneBefore plan i → pitch_numbered i ≡ first_pitch plan
+first_here plan i low yes before =
+    sym (ap (λ (o : Option ℕ). unwrap_or o 200) (sym before ∙ find_here (suits plan) pitches i 0 low (ap (suits plan) (number_of i 0 low) ∙ yes)) ∙ number_of i 0 low)
+
+pub first_end : (plan : Plan) (i : ℕ) → i ≡ 45 → NoneBefore plan i → 200 ≡ first_pitch plan
+first_end plan i last before = sym (ap (λ (o : Option ℕ). unwrap_or o 200) (sym before ∙ ap (λ (n : ℕ). find (suits plan) (drop n pitches)) last) ∙ first_last plan)
 
 found_numbered : (test : ℕ → Bool) (a n u : ℕ) → find test (map pitch_numbered (range_with_len a n)) ≡ Some u → (i : ℕ) × (i < a + n) × (u ≡ pitch_numbered i)
 found_numbered test a zero u e = absurd cc

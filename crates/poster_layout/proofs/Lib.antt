@@ -14,3 +14,4 @@ mod Framing
 mod Clashing
 mod Squares
 mod Cornering
+mod Sharing

@@ -1,6 +1,6 @@
 //! The pitch, and the names at it.
 
-ghost use Rattle.std.specs.Prelude.{◌≡◌, ◌≤◌, ◌*◌, ◌&&◌, nat_le, IfOk, MatchOption, IsTrue, false, length};
+ghost use Rattle.std.specs.Prelude.{◌≡◌, ◌<◌, ◌≤◌, ◌*◌, ◌==◌, ◌&&◌, ◌||◌, nat_le, nat_lt, IfOk, MatchOption, IsTrue, false, length};
 ghost use Rattle.poster_plan.specs.Placing.{named, printed_names};
 ghost use Rattle.poster_plan.specs.Pitches.{better_of, first_pitch, fits, is_better, pitch_of, suits};
 ghost use Rattle.poster_layout.specs.Fits.{best_of, IsLaid, IsPitch};
@@ -43,7 +43,8 @@ fn best_or_first(alloc: Global, plan: &Plan, first: Laid) -> Result<Laid, NoMemo
     if !fits(plan, &first) {
         return Ok(first);
     }
-    best_from(alloc, plan, first)
+    let best = best_from(alloc, plan, first)?;
+    Ok(best)
 }
 
 /// The names at the first pitch that suits, or at the greatest.
@@ -51,13 +52,16 @@ fn first_suiting(alloc: Global, plan: &Plan) -> Result<Laid, NoMemory>
     ensures laid { IfOk result (IsLaid plan.now) }
     ensures pitch { IfOk result (λ laid. laid.pitch ≡ first_pitch plan.now) }
 {
-    let names = named(alloc, plan.marks.as_slice())?.len();
+    let numbers = named(alloc, plan.marks.as_slice())?;
+    let names = numbers.len();
     for i in 0..45 {
-        if let Some(laid) = suiting_at(alloc, 20 + 4 * i, plan, names)? {
+        let found = suiting_at(alloc, 20 + 4 * i, plan, names)?;
+        if let Some(laid) = found {
             return Ok(laid);
         }
     }
-    lay_out(alloc, 200, plan)
+    let laid = lay_out(alloc, 200, plan)?;
+    Ok(laid)
 }
 
 /// The names at a pitch, where it suits so many names.
@@ -71,7 +75,8 @@ fn suiting_at(
     requires names { names ≡ length (named plan.now.marks) }
     ensures { IfOk result (λ found. MatchOption found (suits plan.now pitch ≡ false) (λ laid. IsLaid plan.now laid × (laid.pitch ≡ pitch) × IsTrue (suits plan.now pitch))) }
 {
-    if !is_roomy(alloc, pitch, plan)? {
+    let roomy = is_roomy(alloc, pitch, plan)?;
+    if !roomy {
         return Ok(None);
     }
     let laid = lay_out(alloc, pitch, plan)?;
@@ -85,7 +90,15 @@ fn suiting_at(
 fn suits(laid: &Laid, names: usize) -> bool
     ensures { result ≡ (nat_le (10 * laid.now.full_left) names && nat_le (30 * laid.now.small_left) names) }
 {
-    laid.full_left <= names / 10 && laid.small_left <= names / 30
+    is_share(laid.full_left, names, 10) && is_share(laid.small_left, names, 30)
+}
+
+/// Whether so many are at most one of so many equal parts of all.
+fn is_share(few: usize, all: usize, parts: usize) -> bool
+    requires { 0 < parts }
+    ensures { result ≡ nat_le (parts * few) all }
+{
+    few <= all / parts
 }
 
 /// Whether the names at a pitch and all grid points of walks fit into 4200 units.
@@ -100,11 +113,17 @@ fn fits(plan: &Plan, laid: &Laid) -> bool
 fn is_better(laid: &Laid, best: &Laid) -> bool
     ensures { (plan : Plan) → IsLaid plan laid.now → IsLaid plan best.now → result ≡ is_better plan laid.now.pitch best.now.pitch }
 {
-    if laid.small_left == best.small_left {
-        laid.full_left < best.full_left
-    } else {
-        laid.small_left < best.small_left
-    }
+    is_before(
+        (laid.small_left, laid.full_left),
+        (best.small_left, best.full_left),
+    )
+}
+
+/// Whether the first number of a pair is less, or as great and the second one is less.
+fn is_before(a: (usize, usize), b: (usize, usize)) -> bool
+    ensures { result ≡ (nat_lt a.0 b.0 || (a.0 == b.0) && nat_lt a.1 b.1) }
+{
+    if a.0 == b.0 { a.1 < b.1 } else { a.0 < b.0 }
 }
 
 /// The best of the pitches from one that fits on, as long as all fits, and no further than the first at which each name is

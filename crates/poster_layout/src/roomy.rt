@@ -17,14 +17,16 @@ pub(crate) fn is_roomy(alloc: Global, pitch: u32, plan: &Plan) -> Result<bool, N
     requires { pitch ≤ 200 }
     ensures { IfOk result (λ roomy. roomy ≡ is_roomy pitch plan.now) }
 {
-    let (marks, pieces) = (plan.marks.as_slice(), plan.pieces.as_slice());
+    let marks = plan.marks.as_slice();
+    let pieces = plan.pieces.as_slice();
     let mut table = Table::none(alloc, marks.len() + pieces.len())?;
     for mark in marks {
         let thing = Thing {
             shape: mark_at(pitch, *mark),
             kin: Kin::Node(mark.node.0),
         };
-        if !put_apart(&mut table, thing)? {
+        let apart = put_apart(&mut table, thing)?;
+        if !apart {
             return Ok(false);
         }
     }
@@ -33,7 +35,8 @@ pub(crate) fn is_roomy(alloc: Global, pitch: u32, plan: &Plan) -> Result<bool, N
             shape: piece_at(pitch, *piece),
             kin: Kin::Ends(piece.ends.0.0, piece.ends.1.0),
         };
-        if !put_apart(&mut table, thing)? {
+        let apart = put_apart(&mut table, thing)?;
+        if !apart {
             return Ok(false);
         }
     }
