@@ -153,6 +153,10 @@ best_last plan best left u is (inr high) =
     same true = refl
     same false = refl
 
+-- the pitch after one
+pub next_pitch : (u : ℕ) → IsPitch u → u < 200 → IsPitch (u + 4)
+next_pitch u is low = (is.0 + 1, omega (arith, is.2, low), omega (arith, is.2))
+
 -- ---- the first that suits
 
 pub number_of : (i d : ℕ) → i < 46 → get_or pitches i d ≡ pitch_numbered i

@@ -1,6 +1,6 @@
 //! The pitch, and the names at it.
 
-ghost use Rattle.std.specs.Prelude.{◌≡◌, ◌<◌, ◌≤◌, ◌*◌, ◌==◌, ◌&&◌, ◌||◌, nat_le, nat_lt, IfOk, MatchOption, IsTrue, false, length};
+ghost use Rattle.std.specs.Prelude.{◌≡◌, ◌<◌, ◌≤◌, ◌*◌, ◌==◌, ◌&&◌, ◌||◌, nat_le, nat_lt, IfOk, MatchOption, IsTrue, ◌⊎◌, true, false, length};
 ghost use Rattle.poster_plan.specs.Placing.{named, printed_names};
 ghost use Rattle.poster_plan.specs.Pitches.{better_of, first_pitch, fits, is_better, pitch_of, suits};
 ghost use Rattle.poster_layout.specs.Fits.{best_of, IsLaid, IsPitch};
@@ -137,7 +137,7 @@ fn best_from(alloc: Global, plan: &Plan, first: Laid) -> Result<Laid, NoMemory>
     let mut best = first;
     let mut left = best.full_left;
     let mut pitch = best.pitch;
-    while left > 0 && pitch < 200 {
+    while goes_on(left, pitch) {
         pitch += 4;
         let laid = lay_out(alloc, pitch, plan)?;
         if !fits(plan, &laid) {
@@ -147,6 +147,17 @@ fn best_from(alloc: Global, plan: &Plan, first: Laid) -> Result<Laid, NoMemory>
         best = better_of(plan, best, laid);
     }
     Ok(best)
+}
+
+/// Whether a greater pitch is tried: some names are not in full size, and there is one.
+fn goes_on(left: usize, pitch: u32) -> bool
+    ensures on { result ≡ true → (0 < left) × (pitch < 200) }
+    ensures off { result ≡ false → (left ≡ 0) ⊎ (200 ≤ pitch) }
+{
+    if left == 0 {
+        return false;
+    }
+    pitch < 200
 }
 
 /// The better of two, the first where neither is.

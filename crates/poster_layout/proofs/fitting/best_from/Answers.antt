@@ -1,0 +1,41 @@
+use Rattle.std.proofs.Common.{◌≡◌, ℕ, ◌+◌, ◌*◌, ◌<◌, true, false, ap, sym, ◌∙◌, arith}
+use Rattle.poster_plan.specs.Pitches.{better_of, fits, full_left}
+use Rattle.poster_layout.specs.Fits.{best_of, IsPitch}
+use Rattle.poster_layout.proofs.Choosing.{best_large, best_last, best_more, next_pitch}
+use Rattle.poster_layout.proofs.fitting.best_from.Goals as goal
+
+pub loop-left-preserved : goal.loop-left-preserved
+loop-left-preserved c =
+    let plan = c.args.plan.now in
+    let u = c.loop-left.pitch in
+    let best = c.loop-left.best.pitch in
+    let is = c.loop-left.invariant.pitch in
+    let on = c.goes_on.ensures.on c.loop-left-test.true in
+    let next : c.in_ok-laid.laid.pitch ≡ u + 4 = c.in_ok-laid.ensures.pitch in
+    let fit : fits plan (u + 4) ≡ true = ap (fits plan) (sym next) ∙ sym c.fits.ensures ∙ c.if-not-fits.false in
+    let count : c.in_ok-laid.laid.full_left ≡ full_left (u + 4) plan = c.in_ok-laid.ensures.laid.full ∙ ap (λ (v : ℕ). full_left v plan) next in
+    let better : c.better_of.result.pitch ≡ better_of plan best (u + 4) = c.better_of.ensures.pitch ∙ ap (better_of plan best) next in
+    record {
+      laid = c.better_of.ensures.laid;
+      pitch = next_pitch u is on.1;
+      left = count;
+      whole =
+          ap (λ (v : ℕ). best_of plan v c.in_ok-laid.laid.full_left (u + 4)) better
+          ∙ ap (λ (n : ℕ). best_of plan (better_of plan best (u + 4)) n (u + 4)) count
+          ∙ best_more plan best c.loop-left.left u is.0 is.2 (omega (arith, is.2, on.1)) on.0 fit
+          ∙ c.loop-left.invariant.whole;
+    }
+
+pub returns-then-not-fits-clause-pitch : goal.returns-then-not-fits-clause-pitch
+returns-then-not-fits-clause-pitch c =
+    let plan = c.args.plan.now in
+    let u = c.loop-left.pitch in
+    let is = c.loop-left.invariant.pitch in
+    let on = c.goes_on.ensures.on c.loop-left-test.true in
+    best_large plan c.loop-left.best.pitch c.loop-left.left u is.0 is.2 (omega (arith, is.2, on.1)) on.0 (ap (fits plan) (sym c.in_ok-laid.ensures.pitch) ∙ sym c.fits.ensures ∙ c.if-not-fits.true)
+    ∙ c.loop-left.invariant.whole
+
+pub returns-clause-pitch : goal.returns-clause-pitch
+returns-clause-pitch c =
+    best_last c.args.plan.now c.loop-left.best.pitch c.loop-left.left c.loop-left.pitch c.loop-left.invariant.pitch (c.goes_on.ensures.off c.loop-left-test.false)
+    ∙ c.loop-left.invariant.whole
