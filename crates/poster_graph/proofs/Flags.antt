@@ -1,8 +1,8 @@
 -- Lines that are flagged.
-use Rattle.std.proofs.Common.{◌≡◌, ℕ, zero, suc, ◌+◌, ◌<◌, ◌==◌, Bool, true, false, cond, ◌||◌, List, [], ◌∷◌, ◌++◌, length, map, filter, get_or, take, Some, refl, ap, sym, ◌∙◌, arith}
+use Rattle.std.proofs.Common.{◌≡◌, ℕ, zero, suc, ◌+◌, ◌<◌, ◌==◌, Bool, true, false, cond, ◌||◌, List, [], ◌∷◌, ◌++◌, length, map, filter, get_or, take, replicate, Some, refl, ap, sym, ◌∙◌, arith}
 use Rattle.std.specs.Prelude.{slice_get}
 use Rattle.std.specs.List.{list_any, range_with_len}
-use Rattle.std.proofs.lemmas.List.{take_more}
+use Rattle.std.proofs.lemmas.List.{get_or-replicate, length-replicate, take_more}
 use Rattle.std.proofs.lemmas.List.Folds.{list_any-append}
 use Rattle.std.proofs.lemmas.Option.{get_or_from_slice_get}
 use Rattle.map_base.specs.declared.ids.LineId.{LineId}
@@ -11,13 +11,17 @@ use Rattle.poster_rules.specs.Stations.{has_line}
 use Rattle.poster_rules.specs.Plans.{is_on_some, line_numbered, lines_shown}
 use Rattle.poster_graph.specs.Flags.{flagged, is_on, AreFlags}
 
-or_false : (b : Bool) → (b || false) ≡ b
+pub or_false : (b : Bool) → (b || false) ≡ b
 or_false true = refl
 or_false false = refl
 
 or_assoc : (a b c : Bool) → ((a || b) || c) ≡ (a || (b || c))
 or_assoc true b c = refl
 or_assoc false b c = refl
+
+-- no segment yet
+pub none_flagged : (count : ℕ) (lists : List (List LineId)) (flags : List Bool) → flags ≡ replicate count false → AreFlags count (is_on (take 0 lists)) flags
+none_flagged count lists flags e = record { each = ap length e ∙ length-replicate count false; of = λ n low. ap (λ (fs : List Bool). get_or fs n false) e ∙ get_or-replicate count n false false low }
 
 -- one line more
 pub line_flagged : (lines : List LineId) (i n : ℕ) (d : LineId) (old was is : Bool) → i < length lines → was ≡ (old || has_line (line_numbered n) (take i lines)) → is ≡ (was || ((get_or lines i d).0 == n))

@@ -2,3 +2,4 @@ mod Pieces
 mod Words
 mod Flags
 mod Nodes
+mod Marks

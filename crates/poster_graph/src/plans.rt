@@ -57,7 +57,23 @@ fn put_node(
     requires texts { AreTextsOf served.names.now served.graph.now texts.now }
     ensures { OnOk result (marks.new.items ≡ marks.old.items ++ node_mark served.entry.names.now served.entry.graph.now served.entry.drawing.now.walks served.entry.callers.now n.0 (kind_at served.entry.graph.now.kinds n.0)) }
 {
-    match served.graph.kind(n) {
+    put_kind(alloc, marks, served, texts, n, served.graph.kind(n))
+}
+
+/// Appends a node of this kind, where that is a station.
+fn put_kind(
+    alloc: Global,
+    marks: &mut Vec<Mark>,
+    served: Served<'_>,
+    texts: &Texts<'_>,
+    n: NodeId,
+    kind: NodeKind,
+) -> Result<(), NoMemory>
+    requires graph { IsConsistent served.graph.now }
+    requires texts { AreTextsOf served.names.now served.graph.now texts.now }
+    ensures { OnOk result (marks.new.items ≡ marks.old.items ++ node_mark served.entry.names.now served.entry.graph.now served.entry.drawing.now.walks served.entry.callers.now n.0 kind) }
+{
+    match kind {
         NodeKind::Station(_) => {
             let mark = mark_of(alloc, served, texts, n)?;
             marks.push(mark)?;
@@ -78,12 +94,16 @@ fn mark_of(
     requires texts { AreTextsOf served.names.now served.graph.now texts.now }
     ensures { IfOk result (λ mark. (s : StationId) → mark ∷ [] ≡ node_mark served.entry.names.now served.entry.graph.now served.entry.drawing.now.walks served.entry.callers.now n.0 (Station s)) }
 {
+    let at = point_of(served.graph, served.drawing, n);
+    let radius = radius_at(served, n)?;
+    let name = name_width(alloc, served, texts, n)?;
+    let level = leaves_level(served, n);
     Ok(Mark {
         node: n,
-        at: point_of(served.graph, served.drawing, n),
-        radius: radius_at(served, n)?,
-        name: name_width(alloc, served, texts, n)?,
-        level: leaves_level(served, n),
+        at,
+        radius,
+        name,
+        level,
     })
 }
 

@@ -1,10 +1,10 @@
 //! Which names a poster prints, and how wide they are.
 
-ghost use Rattle.std.specs.Prelude.{◌≡◌, ◌<◌, ◌==◌, ◌&&◌, ◌||◌, ℕ, false, List, length, slice_index_or, IfOk, Some};
+ghost use Rattle.std.specs.Prelude.{◌≡◌, ◌<◌, ◌==◌, ◌&&◌, ◌||◌, ◌++◌, ℕ, false, List, length, slice_index_or, IfOk, OnOk, Some};
 ghost use Rattle.graph_core.specs.Consistent.{IsConsistent};
 ghost use Rattle.name_widths.specs.Words.{is_common};
 ghost use Rattle.name_widths.specs.Votes.{is_that, texts_of};
-ghost use Rattle.poster_rules.specs.Texts.{all_names, all_rests, are_same, node_rest, printed_at, rest_at, unless_second, width_with};
+ghost use Rattle.poster_rules.specs.Texts.{all_names, all_rests, are_same, node_names, node_rest, printed_at, rest_at, unless_second, width_with};
 ghost use Rattle.poster_graph.specs.Words.{text_in, AreSeconds, AreTextsOf, IsCommonWord};
 
 use graph_core::{LineGraph, NodeKind};
@@ -87,11 +87,26 @@ fn all_names<'a>(
 {
     let mut all = Vec::new(alloc);
     for n in 0..graph.nodes() {
-        if let NodeKind::Station(station) = graph.kind(NodeId(n)) {
-            all.push(station_name(names, station.0))?;
-        }
+        put_name(&mut all, names, graph.kind(NodeId(n)))?;
     }
     Ok(all)
+}
+
+/// Appends the name of a node of this kind, where that is a station.
+fn put_name<'a>(
+    all: &mut Vec<&'a str>,
+    names: &'a Names,
+    kind: NodeKind,
+) -> Result<(), NoMemory>
+    ensures { OnOk result (texts_of all.new.items ≡ texts_of all.old.items ++ node_names names.now kind) }
+{
+    match kind {
+        NodeKind::Station(station) => {
+            all.push(station_name(names, station.0))?;
+            Ok(())
+        }
+        NodeKind::Junction => Ok(()),
+    }
 }
 
 /// The name of a node without the common word, where it is a station.
