@@ -1,10 +1,15 @@
 -- The feet of the lines that call at a node, line by line.
-use Rattle.std.proofs.Common.{◌≡◌, ℕ, Bool, true, false, cond, ◌&&◌, not, List, [], ◌∷◌, ◌++◌, fold, map, refl}
+use Rattle.std.proofs.Common.{◌≡◌, ℕ, ◌+◌, ◌<◌, Bool, true, false, cond, ◌&&◌, not, List, [], ◌∷◌, ◌++◌, length, fold, map, get_or, take, refl, ap, sym, ◌∙◌, append-nil}
+use Rattle.std.specs.List.{flat_map}
+use Rattle.std.proofs.lemmas.Grind.{flat_map-append}
+use Rattle.std.proofs.lemmas.List.{map-append, take_more}
+use Rattle.std.proofs.lemmas.List.Sums.{fold-append}
+use Rattle.map_base.specs.declared.ids.SegId.{SegId}
 use Rattle.map_base.specs.declared.ids.LineId.{LineId}
 use Rattle.line_offsets.specs.declared.corner.Corner.{Corner}
 use Rattle.poster_rules.specs.Stations.{has_line}
-use Rattle.poster_rules.specs.Posters.{first_stands, foot_on, with_corner, Sheet, Stand}
-use Rattle.poster_picture.specs.Feet.{with_stands}
+use Rattle.poster_rules.specs.Posters.{first_stands, foot_on, stands_on, with_corner, Sheet, Stand}
+use Rattle.poster_picture.specs.Feet.{with_stand, with_stands, Gathered}
 
 -- the feet that are gathered are those of the first stands of each line
 pub gathered : (sheet : Sheet) (n : ℕ) (callers seen : List LineId) (path : List Corner) (ts : List Stand)
@@ -26,3 +31,28 @@ gathered sheet n callers seen path (t ∷ ts) =
         ≡ fold with_corner path (feet (cond b (t ∷ first_stands callers (seen ++ t.line ∷ []) ts) (first_stands callers seen ts)))
     by_test true e f = e
     by_test false e f = f
+
+-- the lines of a segment, one after another
+pub stand_more : (sheet : Sheet) (n : ℕ) (callers : List LineId) (s : ℕ) (start mid new : Gathered) (order : List LineId) (i : ℕ) (d : LineId) → i < length order
+    → mid ≡ with_stands sheet n callers start (map (λ (a : LineId). let t : Stand = record { seg = s; line = a } in t) (take i order))
+    → new ≡ with_stand sheet n callers mid (record { seg = s; line = get_or order i d })
+    → new ≡ with_stands sheet n callers start (map (λ (a : LineId). let t : Stand = record { seg = s; line = a } in t) (take (i + 1) order))
+stand_more sheet n callers s start mid new order i d low was now =
+    let stand : LineId → Stand = λ a. record { seg = s; line = a } in
+    now
+    ∙ ap (λ (g : Gathered). with_stand sheet n callers g (stand (get_or order i d))) was
+    ∙ sym (fold-append (with_stand sheet n callers) start (map stand (take i order)) (stand (get_or order i d) ∷ []))
+    ∙ ap (with_stands sheet n callers start) (sym (map-append stand (take i order) (get_or order i d ∷ [])) ∙ sym (ap (map stand) (take_more order i d low)))
+
+-- the segments of a node, one after another
+pub stands_more : (sheet : Sheet) (n : ℕ) (callers : List LineId) (start mid new : Gathered) (segments : List SegId) (i : ℕ) (d : SegId) → i < length segments
+    → mid ≡ with_stands sheet n callers start (flat_map (stands_on sheet) (take i segments)) → new ≡ with_stands sheet n callers mid (stands_on sheet (get_or segments i d))
+    → new ≡ with_stands sheet n callers start (flat_map (stands_on sheet) (take (i + 1) segments))
+stands_more sheet n callers start mid new segments i d low was now =
+    let next = stands_on sheet (get_or segments i d) in
+    now
+    ∙ ap (λ (g : Gathered). with_stands sheet n callers g next) was
+    ∙ sym (fold-append (with_stand sheet n callers) start (flat_map (stands_on sheet) (take i segments)) next)
+    ∙ ap (λ (ts : List Stand). with_stands sheet n callers start (flat_map (stands_on sheet) (take i segments) ++ ts)) (sym (append-nil next))
+    ∙ ap (with_stands sheet n callers start) (sym (flat_map-append (stands_on sheet) (take i segments) (get_or segments i d ∷ [])))
+    ∙ ap (λ (ss : List SegId). with_stands sheet n callers start (flat_map (stands_on sheet) ss)) (sym (take_more segments i d low))

@@ -1,12 +1,12 @@
 //! The marks of stations, at the lines that call there.
 
-ghost use Rattle.std.specs.Prelude.{◌≡◌, ◌<◌, ◌≤◌, ◌++◌, length, IfOk, OnOk, string_bytes};
+ghost use Rattle.std.specs.Prelude.{◌≡◌, ◌<◌, ◌≤◌, ◌++◌, ◌&&◌, not, length, IfOk, OnOk, string_bytes};
 ghost use Rattle.std.specs.List.{list_any, position_or_len};
 ghost use Rattle.graph_core.specs.Consistent.{IsConsistent};
 ghost use Rattle.svg_writer.specs.Picture.{are_one};
 ghost use Rattle.poster_rules.specs.Elements.{texts};
 ghost use Rattle.poster_rules.specs.Posters.{by_size, feet_at, goes_before, stands_on, station_elements, stroke_through, strokes_at, strokes_over, with_corner};
-ghost use Rattle.poster_rules.specs.Stations.{callers_at};
+ghost use Rattle.poster_rules.specs.Stations.{callers_at, has_line};
 ghost use Rattle.poster_picture.specs.Feet.{with_stand, with_stands};
 ghost use Rattle.poster_picture.specs.Parts.{all_stations, station_at};
 ghost use Rattle.poster_picture.specs.Sheets.{plain};
@@ -211,13 +211,20 @@ fn put_line(
     requires { sheet.pitch ≤ 200 }
     ensures { OnOk result (record { seen = seen.new.items; path = path.new.items } ≡ with_stand (plain sheet.entry) n.0 callers.now (record { seen = seen.old.items; path = path.old.items }) (record { seg = s.0; line = line })) }
 {
-    if !has_line(line, callers) || has_line(line, seen.as_slice()) {
+    if !is_new(line, callers, seen.as_slice()) {
         return Ok(());
     }
     let foot = foot_on(sheet, n, s.0, line)?;
     seen.push(line)?;
     put_foot(path, foot)?;
     Ok(())
+}
+
+/// Whether a line calls and is not seen yet.
+fn is_new(line: LineId, callers: &[LineId], seen: &[LineId]) -> bool
+    ensures { result ≡ (has_line line callers.now && not (has_line line seen.now)) }
+{
+    has_line(line, callers) && !has_line(line, seen)
 }
 
 /// Appends a corner where the path has it not yet.
