@@ -1,5 +1,6 @@
 -- The parts of a poster, one after the other.
-use Rattle.std.proofs.Common.{◌≡◌, ℕ, List, [], ◌∷◌, ◌++◌, ap, sym, ◌∙◌, append_assoc, length, Option}
+use Rattle.std.proofs.Common.{◌≡◌, ℕ, ◌<◌, Bool, List, [], ◌∷◌, ◌++◌, ap, sym, ◌∙◌, append-nil, append_assoc, length, Option, arith}
+use Rattle.line_offsets.specs.declared.corner.Corner.{Corner}
 use Rattle.map_base.specs.declared.ids.LineId.{LineId}
 use Rattle.eight_sides.specs.declared.frame.Frame.{Frame}
 use Rattle.svg_writer.specs.declared.names.Names.{Names}
@@ -7,11 +8,12 @@ use Rattle.svg_writer.proofs.Appends.{grew2}
 use Rattle.poster_plan.specs.declared.layout.Legend.{Legend}
 use Rattle.poster_plan.specs.declared.layout.Printed.{Printed}
 use Rattle.poster_plan.specs.declared.plan.Plan.{Plan}
-use Rattle.poster_plan.specs.Legends.{frame_beside}
+use Rattle.poster_plan.specs.Legends.{frame_beside, legend_of}
 use Rattle.poster_plan.specs.Pitches.{frame_with}
-use Rattle.poster_rules.specs.Elements.{Element, element_text, texts, Head, Ground, Opens, Closes, Tail, LinesGroup, StationsGroup, NamesGroup, LegendGroup}
+use Rattle.poster_rules.specs.Elements.{Element, element_text, texts, Head, Ground, Station, Opens, Closes, Tail, LinesGroup, StationsGroup, NamesGroup, LegendGroup}
 use Rattle.poster_rules.specs.Plans.{widest}
-use Rattle.poster_rules.specs.Posters.{all_names, elements_with, legend_elements, Sheet}
+use Rattle.poster_rules.specs.Posters.{all_names, elements_with, feet_at, legend_elements, stroke_through, strokes_at, strokes_over, Sheet}
+use Rattle.poster_rules.specs.Stations.{is_interchange}
 use Rattle.poster_picture.specs.Parts.{all_joins, all_lines, all_stations, legend_part, map_part, names_part}
 use Rattle.poster_picture.proofs.Writing.{one_text, texts-append}
 
@@ -93,3 +95,30 @@ parts_are sheet plan printed lines legend frame o a b c framed none p q r =
         ∙ ap (λ (es : List Element). joins ++ (Closes ∷ Opens StationsGroup ∷ es))
         (append_assoc stations (Closes ∷ []) tail
         ∙ ap (λ (es : List Element). stations ++ (Closes ∷ Opens NamesGroup ∷ es)) (append_assoc names (Closes ∷ []) legend_of))))
+
+-- the same at the legend of the lines that are shown
+pub sheet_written : (sheet : Sheet) (plan : Plan) (printed : List Printed) (lines shown : List LineId) (count most : ℕ) (legend : Option Legend) (frame map : Frame) (o a b c : List ℕ)
+    → lines ≡ shown → count ≡ length lines → most ≡ widest sheet.names lines → legend ≡ legend_of sheet.pitch plan printed count most → map ≡ frame_with sheet.pitch plan printed → frame ≡ frame_beside map count most legend → o ≡ []
+    → a ≡ o ++ texts (map_part sheet frame) → b ≡ a ++ texts (names_part sheet plan printed) → c ≡ b ++ texts (legend_part sheet.names legend lines)
+    → c ≡ texts (elements_with sheet plan printed shown (legend_of sheet.pitch plan printed (length shown) (widest sheet.names shown)))
+sheet_written sheet plan printed lines shown count most legend frame map o a b c are counted widest_is placed framed beside none p q r =
+    let framed_all : frame ≡ frame_beside (frame_with sheet.pitch plan printed) (length lines) (widest sheet.names lines) legend =
+    beside ∙ ap (λ (f : Frame). frame_beside f count most legend) framed ∙ ap (λ (n : ℕ). frame_beside (frame_with sheet.pitch plan printed) n most legend) counted ∙ ap (λ (n : ℕ). frame_beside (frame_with sheet.pitch plan printed) (length lines) n legend) widest_is in
+    parts_are sheet plan printed lines legend frame o a b c framed_all none p q r
+    ∙ ap (λ (l : Option Legend). texts (elements_with sheet plan printed lines l)) (placed ∙ ap (λ (n : ℕ). legend_of sheet.pitch plan printed n most) counted ∙ ap (legend_of sheet.pitch plan printed (length lines)) widest_is)
+    ∙ ap (λ (ls : List LineId). texts (elements_with sheet plan printed ls (legend_of sheet.pitch plan printed (length ls) (widest sheet.names ls)))) are
+
+-- ---- a station
+
+pub station_written : (n : ℕ) (callers : List LineId) (name : List ℕ) (strokes : List Element) (o a b c : List ℕ) → a ≡ o ++ element_text (Station n callers name) → b ≡ a ++ texts strokes → c ≡ b ++ element_text Closes
+    → c ≡ o ++ texts (Station n callers name ∷ (strokes ++ Closes ∷ []))
+station_written n callers name strokes o a b c p q r = behind o a c (Station n callers name ∷ []) (strokes ++ Closes ∷ []) (one_first o a (Station n callers name) p) (one_behind a b c strokes Closes q r)
+
+pub no_strokes : (sheet : Sheet) (n : ℕ) (callers : List LineId) (o : List ℕ) → length callers ≡ 0 → o ≡ o ++ texts (strokes_at sheet n callers)
+no_strokes sheet n [] o none = sym (append-nil o)
+no_strokes sheet n (l ∷ ls) o none = absurd (omega (arith, none))
+
+pub strokes_are : (sheet : Sheet) (n : ℕ) (callers : List LineId) (change : Bool) (path : List Corner) → 0 < length callers → change ≡ is_interchange sheet.graph sheet.callers n → path ≡ stroke_through (feet_at sheet n)
+    → strokes_over change path ≡ strokes_at sheet n callers
+strokes_are sheet n [] change path some e f = absurd (omega arith)
+strokes_are sheet n (l ∷ ls) change path some e f = ap (λ (b : Bool). strokes_over b path) e ∙ ap (strokes_over (is_interchange sheet.graph sheet.callers n)) f

@@ -59,7 +59,8 @@ pub fn poster(
         callers,
         pitch: layout.pitch,
     };
-    write_sheet(alloc, sheet, &plan, &words, layout.printed.as_slice())
+    let text = write_sheet(alloc, sheet, &plan, &words, layout.printed.as_slice())?;
+    Ok(text)
 }
 
 /// The text of a sheet, with these names. A line graph has no more than 1,000 lines: for more there is no room.
