@@ -3,7 +3,7 @@ use Rattle.std.proofs.Common.{◌≡◌, ℕ, zero, suc, ◌+◌, ◌-◌, ◌*�
 use Rattle.std.specs.Prelude.{All, IfSome, int_le, unsigned_abs}
 use Rattle.std.proofs.lemmas.Int.{ints}
 use Rattle.std.proofs.lemmas.List.Elements.{All-cons, All-nil}
-use Rattle.std.proofs.Math.Nat.{div-le_of_le-mul, div-le_self, mul-le-mul}
+use Rattle.std.proofs.Math.Nat.{div-le_of_le-mul}
 use Rattle.line_offsets.specs.declared.corner.Corner.{Corner}
 use Rattle.eight_sides.specs.declared.frame.Frame.{Frame}
 use Rattle.poster_plan.specs.Legends.{corners_for, outside}
@@ -41,15 +41,6 @@ pub point_near : (o : Option Corner) (c : Corner) → IfSome o IsLegendPoint →
 point_near None c h k = k
 point_near (Some p) c h k = h
 
--- ---- how wide a legend is
-
 -- how many columns it has
 pub columns_small : (lines rows : ℕ) → lines ≤ 1000 → 12 ≤ rows → (lines + rows - 1) / rows ≤ 85
 columns_small lines rows few some = div-le_of_le-mul rows (omega arith)
-
-pub columns_wide : (column columns : ℕ) → column ≤ 4294967445 → columns ≤ 85 → column * columns ≤ 365072232825
-columns_wide column columns h k = mul-le-mul h k
-
--- how far a row stands to the right
-pub row_right : (column i rows : ℕ) → column ≤ 4294967445 → i ≤ 1000 → column * (i / rows) ≤ 4294967445000
-row_right column i rows h k = mul-le-mul h (omega (arith, div-le_self i rows))

@@ -1,6 +1,6 @@
 //! Where the legend stands.
 
-ghost use Rattle.std.specs.Prelude.{◌≡◌, ◌≤◌, ◌*◌, unsigned_abs, All, IfSome};
+ghost use Rattle.std.specs.Prelude.{◌≡◌, ◌<◌, ◌≤◌, ◌+◌, ◌-◌, ◌*◌, ◌/◌, ◌%◌, unsigned_abs, All, IfSome};
 ghost use Rattle.poster_layout.specs.Extents.{is_clear_at, IsDrawnFrame, IsDrawnPoint, IsLegend, IsLegendPoint, IsNearFrame};
 ghost use Rattle.poster_plan.specs.Legends.{frame_beside, column_for, corners_for, is_clear_of_all, legend_height, legend_of, legend_shape, legend_start, legend_width, outside, row_at, rows_for, widely};
 ghost use Rattle.std.specs.List.{find, list_any};
@@ -44,9 +44,28 @@ fn legend_width(lines: u32, widest: u32) -> u64
     ensures value { result ≡ legend_width lines widest }
     ensures small { result ≤ 370000000000 }
 {
-    let rows = u64::from(rows_for(lines));
-    let columns = (u64::from(lines) + rows - 1) / rows;
-    (column_for(widest) * columns).saturating_sub(60)
+    let columns = columns_for(lines, rows_for(lines));
+    times(column_for(widest), columns).saturating_sub(60)
+}
+
+/// How many columns so many lines fill.
+fn columns_for(lines: u32, rows: u32) -> u64
+    requires lines { lines ≤ 1000 }
+    requires rows { 12 ≤ rows }
+    ensures value { result ≡ (lines + rows - 1) / rows }
+    ensures small { result ≤ 85 }
+{
+    (u64::from(lines) + u64::from(rows) - 1) / u64::from(rows)
+}
+
+/// How far so many columns reach.
+fn times(column: u64, columns: u64) -> u64
+    requires column { column ≤ 4294967445 }
+    requires columns { columns ≤ 1000 }
+    ensures value { result ≡ column * columns }
+    ensures small { result ≤ 4294967445 * columns }
+{
+    column * columns
 }
 
 /// How high it is.
@@ -249,12 +268,30 @@ pub fn row_at(legend: Legend, i: u32) -> Corner
     ensures value { result ≡ row_at legend i }
     ensures near { IsDrawnPoint result }
 {
-    let column = legend.column * u64::from(i / legend.rows);
-    let row = 15 + 45 * u64::from(i % legend.rows);
+    let right = times(legend.column, u64::from(column_of(i, legend.rows)));
+    let low = 15 + 45 * u64::from(place_of(i, legend.rows));
     Corner {
-        x: up(legend.start.x, column),
-        y: up(legend.start.y, row),
+        x: up(legend.start.x, right),
+        y: up(legend.start.y, low),
     }
+}
+
+/// The column of row `i`.
+fn column_of(i: u32, rows: u32) -> u32
+    requires { 0 < rows }
+    ensures value { result ≡ i / rows }
+    ensures small { result ≤ i }
+{
+    i / rows
+}
+
+/// Its place in its column.
+fn place_of(i: u32, rows: u32) -> u32
+    requires { 0 < rows }
+    ensures value { result ≡ i % rows }
+    ensures small { result ≤ i }
+{
+    i % rows
 }
 
 /// A frame that holds the legend of so many lines too.
