@@ -15,6 +15,12 @@ le_true m n h = grind (arith, nat_tests)
 le_false : (m n : ℕ) → n < m → nat_le m n ≡ false
 le_false m n h = grind (arith, nat_tests)
 
+pub le_from : (m n : ℕ) → nat_le m n ≡ true → m ≤ n
+le_from m n e = grind (arith, nat_tests)
+
+pub lt_from : (m n : ℕ) → nat_le m n ≡ false → n < m
+lt_from m n e = grind (arith, nat_tests)
+
 -- so many rows are enough for so many lines
 abbrev pub enough : ℕ → ℕ → Bool
 enough lines r = nat_le (4 * lines) (r * r)

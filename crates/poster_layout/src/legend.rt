@@ -1,6 +1,6 @@
 //! Where the legend stands.
 
-ghost use Rattle.std.specs.Prelude.{◌≡◌, ◌<◌, ◌≤◌, ◌+◌, ◌-◌, ◌*◌, ◌/◌, ◌%◌, unsigned_abs, All, IfSome};
+ghost use Rattle.std.specs.Prelude.{◌≡◌, ◌<◌, ◌≤◌, ◌+◌, ◌-◌, ◌*◌, ◌/◌, ◌%◌, nat_le, unsigned_abs, All, IfSome};
 ghost use Rattle.poster_layout.specs.Extents.{is_clear_at, IsDrawnFrame, IsDrawnPoint, IsLegend, IsLegendPoint, IsNearFrame};
 ghost use Rattle.poster_plan.specs.Legends.{frame_beside, column_for, corners_for, is_clear_of_all, legend_height, legend_of, legend_shape, legend_start, legend_width, outside, row_at, rows_for, widely};
 ghost use Rattle.std.specs.List.{find, list_any};
@@ -23,11 +23,20 @@ fn rows_for(lines: u32) -> u32
     ensures some { 12 ≤ result }
 {
     for rows in 12..64 {
-        if square(rows) >= 4 * lines {
+        if are_enough(lines, rows) {
             return rows;
         }
     }
     64
+}
+
+/// Whether so many rows are at least twice the root of so many lines.
+fn are_enough(lines: u32, rows: u32) -> bool
+    requires lines { lines ≤ 1000 }
+    requires rows { rows ≤ 64 }
+    ensures { result ≡ nat_le (4 * lines) (rows * rows) }
+{
+    4 * lines <= square(rows)
 }
 
 /// The square of a number.
