@@ -288,9 +288,8 @@ fn turn_at(place: Place) -> Turn
     ensures { result ≡ turn_at place }
 {
     match place {
-        Place::E | Place::W | Place::SE | Place::NE | Place::NW | Place::SW | Place::N | Place::S => {
-            Turn::Level
-        }
+        Place::E | Place::W | Place::SE | Place::NE | Place::NW | Place::SW | Place::N | Place::S =>
+            { Turn::Level }
         Place::UpEast | Place::DownWest => Turn::Rising,
         Place::DownEast | Place::UpWest => Turn::Falling,
     }

@@ -93,11 +93,7 @@ fn all_names<'a>(
 }
 
 /// Appends the name of a node of this kind, where that is a station.
-fn put_name<'a>(
-    all: &mut Vec<&'a str>,
-    names: &'a Names,
-    kind: NodeKind,
-) -> Result<(), NoMemory>
+fn put_name<'a>(all: &mut Vec<&'a str>, names: &'a Names, kind: NodeKind) -> Result<(), NoMemory>
     ensures { OnOk result (texts_of all.new.items ≡ texts_of all.old.items ++ node_names names.now kind) }
 {
     match kind {

@@ -1,5 +1,5 @@
 -- Shapes that meet reach into one cell.
-use Rattle.std.proofs.Common.{◌≡◌, ℕ, ◌+◌, ◌-◌, ◌≤◌, true, ℤ, pos, ◌+ℤ◌, ◌≤ℤ◌, max, arith}
+use Rattle.std.proofs.Common.{◌≡◌, ℕ, ◌+◌, ◌-◌, ◌/◌, ◌≤◌, true, ℤ, pos, ◌+ℤ◌, ◌≤ℤ◌, max, arith}
 use Rattle.std.specs.Prelude.{int_le, Contains, unsigned_abs}
 use Rattle.std.specs.Int.{int_min, int_max}
 use Rattle.std.specs.List.{range_with_len}

@@ -1,6 +1,5 @@
-use Rattle.std.proofs.Common.{◌∙◌, ap, sym, subst, arith}
-use Rattle.poster_graph.specs.Flags.{is_on, AreFlags}
-use Rattle.poster_graph.proofs.Flags.{none_flagged, segment_flagged}
+use Rattle.std.proofs.Common.{◌∙◌, ap, arith}
+use Rattle.poster_graph.proofs.Flags.{segment_flagged}
 use Rattle.poster_graph.proofs.shown.flags_of.Goals as goal
 
 pub loop-s-preserved : goal.loop-s-preserved

@@ -1,6 +1,5 @@
 use Rattle.std.proofs.Common.{◌||◌, false, get_or, refl, ◌∙◌, sym, ap, arith}
 use Rattle.std.proofs.lemmas.List.{take_all}
-use Rattle.map_base.specs.declared.ids.LineId.{LineId}
 use Rattle.poster_rules.specs.Stations.{has_line}
 use Rattle.poster_rules.specs.Plans.{line_numbered}
 use Rattle.poster_graph.proofs.Flags.{line_flagged, or_false}

@@ -1,5 +1,4 @@
 use Rattle.std.proofs.Common.{List, ℕ, Option, Some, ap, sym, ◌∙◌}
-use Rattle.graph_core.specs.declared.parts.NodeKind.{NodeKind}
 use Rattle.name_widths.specs.Words.{rest_of}
 use Rattle.poster_rules.specs.Texts.{node_rest}
 use Rattle.poster_graph.proofs.texts.node_rest.Goals as goal

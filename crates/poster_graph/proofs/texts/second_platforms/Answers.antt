@@ -1,4 +1,4 @@
-use Rattle.std.proofs.Common.{ℕ, Bool, false, ◌∙◌, ap, sym, arith}
+use Rattle.std.proofs.Common.{◌∙◌, ap, arith}
 use Rattle.poster_rules.specs.Texts.{all_rests, are_same}
 use Rattle.poster_graph.proofs.Words.{second_more}
 use Rattle.poster_graph.proofs.texts.second_platforms.Goals as goal

@@ -1,6 +1,6 @@
-use Rattle.std.proofs.Common.{◌≡◌, ℕ, ◌+◌, ◌*◌, ◌<◌, true, false, ap, sym, ◌∙◌, arith}
+use Rattle.std.proofs.Common.{◌≡◌, ℕ, ◌+◌, true, false, ap, sym, ◌∙◌, arith}
 use Rattle.poster_plan.specs.Pitches.{better_of, fits, full_left}
-use Rattle.poster_layout.specs.Fits.{best_of, IsPitch}
+use Rattle.poster_layout.specs.Fits.{best_of}
 use Rattle.poster_layout.proofs.Choosing.{best_large, best_last, best_more, next_pitch}
 use Rattle.poster_layout.proofs.fitting.best_from.Goals as goal
 

@@ -1,4 +1,4 @@
-use Rattle.std.proofs.Common.{refl, sym, ◌∙◌, arith}
+use Rattle.std.proofs.Common.{refl, ◌∙◌, arith}
 use Rattle.poster_layout.proofs.Choosing.{first_end, first_here, first_past}
 use Rattle.poster_layout.proofs.fitting.first_suiting.Goals as goal
 

@@ -1,5 +1,4 @@
 use Rattle.std.proofs.Common.{List, ap, ◌∙◌}
-use Rattle.eight_sides.specs.declared.frame.Frame.{Frame}
 use Rattle.poster_plan.specs.declared.layout.Printed.{Printed}
 use Rattle.poster_plan.specs.Pitches.{frame_with, is_small}
 use Rattle.poster_layout.proofs.fitting.fits.Goals as goal

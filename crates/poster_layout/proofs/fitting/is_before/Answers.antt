@@ -1,4 +1,3 @@
-use Rattle.std.proofs.Common.{arith}
 use Rattle.std.specs.Prelude.{nat_lt}
 use Rattle.poster_layout.proofs.Sharing.{before_other, before_same}
 use Rattle.poster_layout.proofs.fitting.is_before.Goals as goal

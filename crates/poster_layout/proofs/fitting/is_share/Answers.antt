@@ -1,4 +1,3 @@
-use Rattle.std.proofs.Common.{arith}
 use Rattle.poster_layout.proofs.Sharing.{share_is}
 use Rattle.poster_layout.proofs.fitting.is_share.Goals as goal
 

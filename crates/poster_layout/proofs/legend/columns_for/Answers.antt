@@ -1,4 +1,3 @@
-use Rattle.std.proofs.Common.{arith}
 use Rattle.poster_layout.proofs.Cornering.{columns_small}
 use Rattle.poster_layout.proofs.legend.columns_for.Goals as goal
 

@@ -1,4 +1,3 @@
-use Rattle.std.proofs.Common.{arith}
 use Rattle.std.proofs.Math.Nat.{mod-le}
 use Rattle.poster_layout.proofs.legend.place_of.Goals as goal
 

@@ -1,7 +1,6 @@
-use Rattle.std.proofs.Common.{ℕ, List, ◌++◌, string_bytes, ap, sym, ◌∙◌}
+use Rattle.std.proofs.Common.{◌++◌, string_bytes, ap, sym, ◌∙◌}
 use Rattle.graph_core.specs.declared.parts.NodeKind.{NodeKind}
-use Rattle.map_base.specs.declared.ids.LineId.{LineId}
-use Rattle.poster_rules.specs.Elements.{element_text, texts, Station}
+use Rattle.poster_rules.specs.Elements.{texts, Station}
 use Rattle.poster_rules.specs.Posters.{station_elements, strokes_at}
 use Rattle.poster_picture.specs.Sheets.{plain}
 use Rattle.poster_picture.proofs.Wholes.{station_written}

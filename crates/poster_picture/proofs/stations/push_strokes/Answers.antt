@@ -1,4 +1,4 @@
-use Rattle.std.proofs.Common.{List, ℕ, ◌++◌, string_bytes, ap, ◌∙◌, arith}
+use Rattle.std.proofs.Common.{List, ◌++◌, string_bytes, ap, ◌∙◌, arith}
 use Rattle.poster_rules.specs.Elements.{Element, texts}
 use Rattle.poster_rules.specs.Posters.{stroke_through}
 use Rattle.poster_picture.specs.Sheets.{plain}

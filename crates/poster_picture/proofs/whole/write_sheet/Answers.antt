@@ -1,8 +1,5 @@
-use Rattle.std.proofs.Common.{ℕ, List, length, string_bytes, ◌≡◌, ap, sym, ◌∙◌, arith}
-use Rattle.map_base.specs.declared.ids.LineId.{LineId}
-use Rattle.poster_rules.specs.Elements.{texts}
+use Rattle.std.proofs.Common.{ℕ, length, string_bytes, ◌≡◌, ap, ◌∙◌, arith}
 use Rattle.poster_rules.specs.Plans.{lines_shown, widest}
-use Rattle.poster_picture.specs.Parts.{legend_part}
 use Rattle.poster_picture.specs.Sheets.{plain}
 use Rattle.poster_picture.proofs.Wholes.{sheet_written}
 use Rattle.poster_picture.proofs.whole.write_sheet.Goals as goal
