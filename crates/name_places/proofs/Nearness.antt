@@ -94,16 +94,16 @@ place_near s z p near radius tenths = by_place p
     h = size_small z
 
     g : gap s ≤ 4294967301
-    g = omega arith
+    g = omega (arith, radius)
 
     k : corner_gap s ≤ 4294967301
-    k = omega arith
+    k = omega (arith, radius)
 
     half : half_width s z ≤ 6442450943
     half = omega (arith, w)
 
     far : 2 * lean s z + (long s z + 2 * slant z) ≤ 100000000000
-    far = omega (arith, w, slant_small z)
+    far = omega (arith, w, radius, slant_small z)
 
     level : IsNearBy (around s.centre.y (5 * tenth z))
     level = around_near s.centre.y (5 * tenth z) near.down (omega (arith, half_small z))

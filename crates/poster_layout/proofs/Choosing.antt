@@ -1,5 +1,5 @@
 -- The choice of a pitch, one pitch after another.
-use Rattle.std.proofs.Common.{◌≡◌, ℕ, zero, suc, ◌+◌, ◌-◌, ◌*◌, ◌<◌, ◌≤◌, ◌==◌, ◌⊎◌, inl, inr, Bool, true, false, cond, ◌&&◌, ◌||◌, List, [], ◌∷◌, ◌++◌, drop, map, filter, fold, get_or, Option, Some, None, unwrap_or, refl, ap, sym, ◌∙◌, arith}
+use Rattle.std.proofs.Common.{◌≡◌, ℕ, zero, suc, ◌+◌, ◌-◌, ◌*◌, ◌<◌, ◌≤◌, ◌==◌, ◌⊎◌, inl, inr, Bool, true, false, cond, ◌&&◌, ◌||◌, List, [], ◌∷◌, ◌++◌, length, drop, map, filter, fold, get_or, Option, Some, None, unwrap_or, refl, ap, sym, ◌∙◌, arith}
 use Rattle.std.specs.Prelude.{nat_le, nat_lt}
 use Rattle.std.specs.List.{find, range_with_len}
 use Rattle.std.proofs.lemmas.Bool.{ne_eqb}
@@ -8,7 +8,8 @@ use Rattle.std.proofs.lemmas.List.{map-append}
 use Rattle.std.proofs.lemmas.List.Elements.{filter-append}
 use Rattle.std.proofs.lemmas.List.FromFn.{get_or-map-range_with_len}
 use Rattle.poster_plan.specs.declared.plan.Plan.{Plan}
-use Rattle.poster_plan.specs.Pitches.{better_of, first_pitch, fits, full_left, is_better, pitch_of, pitches, small_left, suits, tried}
+use Rattle.poster_plan.specs.Placing.{named}
+use Rattle.poster_plan.specs.Pitches.{better_of, first_pitch, fits, full_left, is_better, is_roomy, pitch_of, pitches, small_left, suits, tried}
 use Rattle.poster_layout.specs.Fits.{above, best_of, IsPitch}
 use Rattle.poster_layout.proofs.Finding.{find_here, find_past}
 
@@ -158,6 +159,15 @@ pub next_pitch : (u : ℕ) → IsPitch u → u < 200 → IsPitch (u + 4)
 next_pitch u is low = (is.0 + 1, omega (arith, is.2, low), omega (arith, is.2))
 
 -- ---- the first that suits
+
+-- what is said of the names at a pitch that is roomy says whether it suits
+pub suits_is : (plan : Plan) (u full small names : ℕ) → is_roomy u plan ≡ true → full ≡ full_left u plan → small ≡ small_left u plan → names ≡ length (named plan.marks)
+    → (nat_le (10 * full) names && nat_le (30 * small) names) ≡ suits plan u
+suits_is plan u full small names roomy e f g =
+    ap (λ (n : ℕ). nat_le (10 * n) names && nat_le (30 * small) names) e
+    ∙ ap (λ (n : ℕ). nat_le (10 * full_left u plan) names && nat_le (30 * n) names) f
+    ∙ ap (λ (n : ℕ). nat_le (10 * full_left u plan) n && nat_le (30 * small_left u plan) n) g
+    ∙ sym (ap (λ (b : Bool). b && nat_le (10 * full_left u plan) (length (named plan.marks)) && nat_le (30 * small_left u plan) (length (named plan.marks))) roomy)
 
 pub number_of : (i d : ℕ) → i < 46 → get_or pitches i d ≡ pitch_numbered i
 number_of i d low = get_or-map-range_with_len pitch_numbered 0 46 i i d low (omega arith)

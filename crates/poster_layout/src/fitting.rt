@@ -167,5 +167,8 @@ fn better_of(plan: &Plan, best: Laid, laid: Laid) -> Laid
     ensures laid { IsLaid plan.now result }
     ensures pitch { result.pitch ≡ better_of plan.now best.entry.pitch laid.entry.pitch }
 {
-    if is_better(&laid, &best) { laid } else { best }
+    if is_better(&laid, &best) {
+        return laid;
+    }
+    best
 }

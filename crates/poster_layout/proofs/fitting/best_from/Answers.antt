@@ -1,8 +1,14 @@
-use Rattle.std.proofs.Common.{◌≡◌, ℕ, ◌+◌, true, false, ap, sym, ◌∙◌, arith}
+use Rattle.std.proofs.Common.{◌≡◌, ℕ, ◌+◌, true, false, refl, ap, sym, ◌∙◌, arith}
 use Rattle.poster_plan.specs.Pitches.{better_of, fits, full_left}
 use Rattle.poster_layout.specs.Fits.{best_of}
 use Rattle.poster_layout.proofs.Choosing.{best_large, best_last, best_more, next_pitch}
 use Rattle.poster_layout.proofs.fitting.best_from.Goals as goal
+
+pub loop-left-init : goal.loop-left-init
+loop-left-init c = record { laid = c.requires.laid; pitch = c.requires.pitch; left = c.requires.laid.full; whole = refl }
+
+pub lay_out-laid-requires : goal.lay_out-laid-requires
+lay_out-laid-requires c = let on = c.goes_on.ensures.on c.loop-left-test.true in omega (arith, c.loop-left.invariant.pitch.2, on.1)
 
 pub loop-left-preserved : goal.loop-left-preserved
 loop-left-preserved c =

@@ -9,7 +9,7 @@ pub loop-i-preserved : goal.loop-i-preserved
 loop-i-preserved c = first_past c.args.plan.now c.loop-i.i (omega arith) c.in-None.ensures c.loop-i.invariant
 
 pub returns-in-Some-clause-pitch : goal.returns-in-Some-clause-pitch
-returns-in-Some-clause-pitch c = c.in-Some.ensures.1.0 ∙ first_here c.args.plan.now c.loop-i.i (omega arith) c.in-Some.ensures.1.1 c.loop-i.invariant
+returns-in-Some-clause-pitch c = c.in-Some.ensures.1 ∙ first_here c.args.plan.now c.loop-i.i (omega arith) c.in-Some.ensures.2 c.loop-i.invariant
 
 pub returns-clause-pitch : goal.returns-clause-pitch
 returns-clause-pitch c = c.in_ok-laid.ensures.pitch ∙ first_end c.args.plan.now c.loop-i.i (omega arith) c.loop-i.invariant
