@@ -1,6 +1,7 @@
 //! The pitch, and the names at it.
 
 ghost use Rattle.std.specs.Prelude.{◌≡◌, ◌<◌, ◌≤◌, ◌*◌, ◌==◌, ◌&&◌, ◌||◌, nat_le, nat_lt, IfOk, MatchOption, IsTrue, ◌⊎◌, true, false, length};
+ghost use Rattle.poster_plan.specs.declared.plan.Plan.{Plan};
 ghost use Rattle.poster_plan.specs.Placing.{named, printed_names};
 ghost use Rattle.poster_plan.specs.Pitches.{better_of, first_pitch, fits, is_better, pitch_of, suits};
 ghost use Rattle.poster_layout.specs.Fits.{best_of, IsLaid, IsPitch};
