@@ -1,12 +1,13 @@
 -- Names that are placed in a room, one after another.
-use Rattle.std.proofs.Common.{◌≡◌, ℕ, ◌+◌, ◌<◌, ◌≤◌, List, [], ◌∷◌, ◌++◌, length, map, fold, get_or, take, ap, sym, subst, ◌∙◌, append_assoc}
+use Rattle.std.proofs.Common.{◌≡◌, ℕ, ◌+◌, ◌<◌, ◌≤◌, List, [], ◌∷◌, ◌++◌, length, map, fold, get_or, take, Option, Some, None, refl, ap, sym, subst, ◌∙◌, append_assoc}
 use Rattle.std.proofs.lemmas.List.{map-append, take_more}
 use Rattle.std.proofs.lemmas.List.Sums.{fold-append}
 use Rattle.poster_plan.specs.declared.things.Thing.{Thing}
 use Rattle.poster_plan.specs.declared.plan.Plan.{Plan}
 use Rattle.poster_plan.specs.declared.layout.Step.{Step}
 use Rattle.poster_plan.specs.declared.layout.Printed.{Printed}
-use Rattle.poster_plan.specs.Placing.{place_names, place_next, Placing}
+use Rattle.poster_plan.specs.declared.place.Place.{Place}
+use Rattle.poster_plan.specs.Placing.{place_names, place_next, with_place, Placing}
 use Rattle.poster_layout.specs.declared.room.Room.{Room}
 use Rattle.poster_layout.specs.Rooms.{free_piece, ground_thing, name_thing, placing_of, taken_things, IsRoom, IsRoomWith}
 use Rattle.poster_layout.specs.Tables.{IsTable}
@@ -63,3 +64,17 @@ next_placed old mid new z marks k d left more low is h before next =
     ∙ ap (λ (p : Placing). place_next u plan z p d) before
     ∙ ap (place_next u plan z (place_names u plan z (take k marks) old.printed.items)) (sym is)
     ∙ sym (ap (fold (place_next u plan z) start) (take_more marks k d low) ∙ fold-append (place_next u plan z) start (take k marks) (get_or marks k d ∷ []))
+
+-- the name of a mark at the place that is found, and where none is
+pub placed_some : (old new : Room) (z : Step) (i : ℕ) (p : Place) (o : Option Place) (left : List ℕ) → o ≡ Some p → new.printed.items ≡ old.printed.items ++ record { mark = i; step = z; place = p } ∷ []
+    → placing_of new left ≡ with_place z i o (placing_of old left)
+placed_some old new z i p o left is names =
+    ap (λ (ps : List Printed). let so_far : Placing = record { printed = ps; left = left } in so_far) names ∙ ap (λ (q : Option Place). with_place z i q (placing_of old left)) (sym is)
+
+pub placed_none : (room : Room) (z : Step) (i : ℕ) (o : Option Place) (left more : List ℕ) → o ≡ None → more ≡ left ++ i ∷ [] → placing_of room more ≡ with_place z i o (placing_of room left)
+placed_none room z i o left more is grew =
+    ap (λ (ks : List ℕ). let so_far : Placing = record { printed = room.printed.items; left = ks } in so_far) grew ∙ ap (λ (q : Option Place). with_place z i q (placing_of room left)) (sym is)
+
+-- nothing is placed
+pub room_kept : (room : Room) → IsRoom room → IsRoomWith room room room.printed.items
+room_kept room h = record { room = h; pitch = refl; plan = refl; names = refl }

@@ -192,8 +192,14 @@ impl<'a> Room<'a> {
         ensures placed { OnOk result (placing_of self.new left.new.items ≡ place_next self.old.pitch self.old.plan.now step (placing_of self.old left.old.items) i) }
     {
         match self.first_free(i, step) {
-            Some(place) => self.print(i, step, place),
-            None => Ok(left.push(i)?),
+            Some(place) => {
+                self.print(i, step, place)?;
+                Ok(())
+            }
+            None => {
+                left.push(i)?;
+                Ok(())
+            }
         }
     }
 }
