@@ -1,6 +1,6 @@
 -- Lines that are found by a table are those that call.
 use Rattle.std.proofs.Common.{◌≡◌, ℕ, ◌+◌, ◌<◌, ◌≤◌, ◌⊎◌, inl, inr, Bool, true, false, ◌&&◌, ◌==◌, List, [], ◌∷◌, ◌++◌, length, map, filter, get_or, take, refl, ap, sym, subst, ◌∙◌, arith, Some}
-use Rattle.std.specs.Prelude.{All, slice_get}
+use Rattle.std.specs.Prelude.{All, slice_get, Vec}
 use Rattle.std.specs.List.{list_any, range_with_len}
 use Rattle.std.proofs.lemmas.Bool.{cases_lt, ne_eqb}
 use Rattle.std.proofs.lemmas.List.{get_or_past, map-append, take_more}
@@ -15,7 +15,7 @@ use Rattle.transit_feed.specs.declared.pattern.Pattern.{Pattern}
 use Rattle.transit_feed.specs.Feeds.{Feed, IsFeed, IsPattern}
 use Rattle.feed_courses.specs.Shown.{is_shown, serves}
 use Rattle.line_calls.specs.Calls.{callers_at, calls, is_call, line_numbered, node_callers}
-use Rattle.std.specs.Global.{Global, Vec}
+use Rattle.std.specs.Global.{Global}
 use Rattle.line_calls.specs.Tables.{lists_in, callers_in, is_caller, is_of, no_pattern, numbers_at, pattern_at, AreByLine, IsTable}
 use Rattle.line_calls.proofs.ListLemmas.{lists_count, any_filter, any_none, any_numbered, filter_none, filter_same}
 
