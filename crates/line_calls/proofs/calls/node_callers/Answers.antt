@@ -1,8 +1,8 @@
-use Rattle.std.proofs.Common.{ℕ, List, Vec, length, sym, subst, ap, ◌∙◌}
+use Rattle.std.proofs.Common.{ℕ, List, Vec, length, sym, subst, ap, ◌∙◌, arith}
 use Rattle.std.specs.Prelude.{All}
 use Rattle.std.specs.Global.{Global}
 use Rattle.transit_feed.specs.declared.pattern.Pattern.{Pattern}
-use Rattle.transit_feed.specs.Feeds.{Feed}
+use Rattle.transit_feed.specs.Feeds.{Feed, IsFeed}
 use Rattle.line_calls.specs.Tables.{lists_in, AreInRange}
 use Rattle.line_calls.proofs.ByLine.{by_line_known}
 use Rattle.line_calls.proofs.Calling.{found_are}
@@ -16,8 +16,9 @@ call_table-requires-clause-known c =
 
 pub returns : goal.returns
 returns c =
+    let count : c.len.result ≡ length c.tables.inside.stations.items = omega (arith, c.len.ensures, c.tables.inside.stations.ok.0) in
     c.of.ensures
-    ∙ found_are c.args.tables.now c.tables.invariant c.deref.result.now c.deref-2.result.now c.deref-3.result.now c.len.result c.in_ok-by_line.by_line.items c.as_slice.result.now c.in_ok-table.table.items c.as_slice-2.result.now
+    ∙ found_are c.args.tables.now (subst IsFeed c.tables.view_is c.tables.invariant) c.deref.result.now c.deref-2.result.now c.deref-3.result.now c.len.result c.in_ok-by_line.by_line.items c.as_slice.result.now c.in_ok-table.table.items c.as_slice-2.result.now
     c.args.graph.now.kinds c.in_ok-lists.lists.items
     (c.deref.ensures.value ∙ ap (λ (f : Feed). f.lines) c.tables.view_is) (c.deref-2.ensures.value ∙ ap (λ (f : Feed). f.patterns) c.tables.view_is) (c.deref-3.ensures.value ∙ ap (λ (f : Feed). f.patterns) c.tables.view_is)
-    (c.len.ensures ∙ ap (λ (f : Feed). length f.stations) c.tables.view_is) c.as_slice.ensures.value c.in_ok-by_line.ensures c.in_ok-table.ensures c.as_slice-2.ensures.value c.in_ok-lists.ensures
+    (count ∙ ap (λ (f : Feed). length f.stations) c.tables.view_is) c.as_slice.ensures.value c.in_ok-by_line.ensures c.in_ok-table.ensures c.as_slice-2.ensures.value c.in_ok-lists.ensures
