@@ -41,12 +41,19 @@ pub(crate) enum Ink {
 pub(crate) fn push_ink(text: &mut String, ink: Ink) -> Result<(), NoMemory>
     ensures { OnOk result (string_bytes text.new ≡ string_bytes text.old ++ stroke_text (ink_colour ink)) }
 {
-    match ink {
-        Ink::Black => text.push_str("\" stroke=\"#000000\"")?,
-        Ink::White => text.push_str("\" stroke=\"#ffffff\"")?,
-        Ink::Dark => text.push_str("\" stroke=\"#444444\"")?,
-    }
+    text.push_str(ink_text(ink))?;
     Ok(())
+}
+
+/// A stroke's ink, to the end of its attribute.
+fn ink_text(ink: Ink) -> &'static str
+    ensures { result.now ≡ stroke_text (ink_colour ink) }
+{
+    match ink {
+        Ink::Black => "\" stroke=\"#000000\"",
+        Ink::White => "\" stroke=\"#ffffff\"",
+        Ink::Dark => "\" stroke=\"#444444\"",
+    }
 }
 
 /// Appends a stroke's width, to the end of its line.
@@ -83,8 +90,8 @@ pub(crate) fn push_spot(text: &mut String, spot: Spot, step: Step) -> Result<(),
     ensures { OnOk result (string_bytes text.new ≡ string_bytes text.old ++ spot_text spot step) }
 {
     push_turn(text, spot.turn, spot.at, step)?;
-    push_anchor(text, spot.anchor)?;
-    push_size(text, step)?;
+    text.push_str(anchor_text(spot.anchor))?;
+    text.push_str(size_text(step))?;
     Ok(())
 }
 
@@ -123,24 +130,25 @@ fn push_turned(text: &mut String, at: Corner, degrees: &str, step: Step) -> Resu
     Ok(())
 }
 
-/// Appends which part of a text stands at its point.
-fn push_anchor(text: &mut String, anchor: Anchor) -> Result<(), NoMemory>
-    ensures { OnOk result (string_bytes text.new ≡ string_bytes text.old ++ anchor_text anchor) }
+/// Which part of a text stands at its point.
+fn anchor_text(anchor: Anchor) -> &'static str
+    ensures { result.now ≡ anchor_text anchor }
 {
     match anchor {
-        Anchor::Start => Ok(()),
-        Anchor::Middle => Ok(text.push_str(" text-anchor=\"middle\"")?),
-        Anchor::End => Ok(text.push_str(" text-anchor=\"end\"")?),
+        Anchor::Start => "",
+        Anchor::Middle => " text-anchor=\"middle\"",
+        Anchor::End => " text-anchor=\"end\"",
     }
 }
 
-/// Appends the size of small type.
-fn push_size(text: &mut String, step: Step) -> Result<(), NoMemory>
-    ensures { OnOk result (string_bytes text.new ≡ string_bytes text.old ++ size_text step) }
+/// The size of small type.
+fn size_text(step: Step) -> &'static str
+    ensures { result.now ≡ size_text step }
 {
     match step {
-        Step::Full => Ok(()),
-        Step::Small | Step::Over => Ok(text.push_str(" font-size=\"20\"")?),
+        Step::Full => "",
+        Step::Small => " font-size=\"20\"",
+        Step::Over => " font-size=\"20\"",
     }
 }
 
