@@ -1,10 +1,11 @@
 //! What elements are made of.
 
-ghost use Rattle.std.specs.Prelude.{◌≡◌, ◌++◌, OnOk, codes, if◌then◌else◌, map, string_bytes};
+ghost use Rattle.std.specs.Prelude.{◌≡◌, ◌*◌, ◌++◌, OnOk, codes, if◌then◌else◌, map, string_bytes};
 ghost use Rattle.std.specs.List.{flat_map};
 ghost use Rattle.std.specs.Fmt.{decimal};
 ghost use Rattle.name_widths.specs.Colours.{is_faint};
 ghost use Rattle.svg_writer.specs.Elements.{colour_text, place_text};
+ghost use Rattle.poster_plan.specs.Places.{tenth};
 ghost use Rattle.poster_rules.specs.Elements.{anchor_text, classes_text, dark, ending_text, name_text, size_text, spot_text, stroke_text, turn_text, turned_text, width_text};
 ghost use Rattle.poster_rules.specs.Posters.{ending_of};
 ghost use Rattle.poster_picture.specs.Inks.{ink_colour};
@@ -125,9 +126,16 @@ fn push_turned(text: &mut String, at: Corner, degrees: &str, step: Step) -> Resu
     text.push_str(") rotate(")?;
     text.push_str(degrees)?;
     text.push_str(")\" y=\"")?;
-    push_natural(text, u64::from(3 * tenth(step)))?;
+    push_natural(text, three_tenths(step))?;
     text.push_str("\"")?;
     Ok(())
+}
+
+/// Three tenths of the size of type.
+fn three_tenths(step: Step) -> u64
+    ensures { result ≡ 3 * tenth step }
+{
+    3 * u64::from(tenth(step))
 }
 
 /// Which part of a text stands at its point.
@@ -189,7 +197,7 @@ fn push_ending(text: &mut String, names: &Names, step: Step, line: LineId) -> Re
     ensures { OnOk result (string_bytes text.new ≡ string_bytes text.old ++ ending_text step (ending_of names.now line)) }
 {
     text.push_str("<tspan dx=\"")?;
-    push_natural(text, u64::from(3 * tenth(step)))?;
+    push_natural(text, three_tenths(step))?;
     text.push_str("\" fill=\"")?;
     push_shade(text, colour_of(names, line))?;
     text.push_str("\" font-weight=\"bold\">")?;

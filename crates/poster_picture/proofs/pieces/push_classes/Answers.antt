@@ -1,4 +1,4 @@
-use Rattle.std.proofs.Common.{string_bytes, get_or, codes, ◌++◌, append_assoc, refl, arith}
+use Rattle.std.proofs.Common.{string_bytes, get_or, codes, ◌++◌, refl, arith}
 use Rattle.std.specs.Fmt.{decimal}
 use Rattle.svg_writer.specs.Picture.{no_line}
 use Rattle.poster_rules.specs.Elements.{classes_text}

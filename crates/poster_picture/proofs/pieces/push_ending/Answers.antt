@@ -1,4 +1,4 @@
-use Rattle.std.proofs.Common.{List, ℕ, ◌*◌, ◌++◌, codes, string_bytes, if◌then◌else◌, ap, ◌∙◌, arith}
+use Rattle.std.proofs.Common.{List, ℕ, ◌*◌, ◌++◌, codes, string_bytes, if◌then◌else◌, ap, ◌∙◌}
 use Rattle.std.specs.Fmt.{decimal}
 use Rattle.name_widths.specs.Colours.{is_faint}
 use Rattle.svg_writer.specs.Elements.{colour_text}
@@ -11,10 +11,7 @@ use Rattle.poster_picture.proofs.pieces.push_ending.Goals as goal
 
 abbrev ending : ℕ → List ℕ → List ℕ → List ℕ
 ending n colour name =
-    codes "<tspan dx=\"" ++ (decimal (3 * n) ++ (codes "\" fill=\"" ++ (colour_text (if is_faint colour then dark else colour) ++ (codes "\" font-weight=\"bold\">" ++ (escaped name ++ codes "</tspan>")))))
-
-pub overflow_mul : goal.overflow_mul
-overflow_mul c = omega (arith, c.tenth.ensures.small)
+    codes "<tspan dx=\"" ++ (decimal n ++ (codes "\" fill=\"" ++ (colour_text (if is_faint colour then dark else colour) ++ (codes "\" font-weight=\"bold\">" ++ (escaped name ++ codes "</tspan>")))))
 
 pub returns : goal.returns
 returns c =
@@ -22,6 +19,6 @@ returns c =
     let names = c.args.names.now in
     let line = c.args.line in
     grew7 _ _ _ _ _ _ _ _ _ _ _ _ _ _ _ c.in_ok-push_str.ensures.bytes c.in_ok-push_natural.ensures c.in_ok-push_str-2.ensures.bytes c.in_ok-push_shade.ensures c.in_ok-push_str-3.ensures.bytes c.in_ok-push_escaped.ensures c.in_ok-push_str-4.ensures.bytes
-    ∙ ap (λ n. old ++ ending n c.colour_of.result.now c.name_of.result.now) c.tenth.ensures.value
-    ∙ ap (λ (colour : List ℕ). old ++ ending (tenth c.args.step) colour c.name_of.result.now) c.colour_of.ensures
-    ∙ ap (λ (name : List ℕ). old ++ ending (tenth c.args.step) (colour_of names line) name) c.name_of.ensures
+    ∙ ap (λ n. old ++ ending n c.colour_of.result.now c.name_of.result.now) c.three_tenths.ensures
+    ∙ ap (λ (colour : List ℕ). old ++ ending (3 * tenth c.args.step) colour c.name_of.result.now) c.colour_of.ensures
+    ∙ ap (λ (name : List ℕ). old ++ ending (3 * tenth c.args.step) (colour_of names line) name) c.name_of.ensures
