@@ -64,15 +64,17 @@ pub stand_passed : (sheet : Sheet) (n : ℕ) (callers seen : List LineId) (path 
     → (let g : Gathered = record { seen = seen; path = path } in g) ≡ with_stand sheet n callers (record { seen = seen; path = path }) t
 stand_passed sheet n callers seen path t e =
     let here : Gathered = record { seen = seen; path = path } in
-    sym (ap (λ (b : Bool). cond b (record { seen = seen ++ t.line ∷ []; path = with_corner path (foot_on sheet n t.seg t.line) }) here) e)
+    let met : Gathered = record { seen = seen ++ t.line ∷ []; path = with_corner path (foot_on sheet n t.seg t.line) } in
+    sym (ap (λ (b : Bool). cond b met here) e)
 
 pub stand_met : (sheet : Sheet) (n : ℕ) (callers seen more : List LineId) (path new : List Corner) (foot : Corner) (t : Stand) → (has_line t.line callers && not (has_line t.line seen)) ≡ true
     → more ≡ seen ++ t.line ∷ [] → new ≡ with_corner path foot → foot ≡ foot_on sheet n t.seg t.line → (let g : Gathered = record { seen = more; path = new } in g) ≡ with_stand sheet n callers (record { seen = seen; path = path }) t
 stand_met sheet n callers seen more path new foot t e f g h =
     let here : Gathered = record { seen = seen; path = path } in
+    let met : Gathered = record { seen = seen ++ t.line ∷ []; path = with_corner path (foot_on sheet n t.seg t.line) } in
     ap (λ (ls : List LineId). let g : Gathered = record { seen = ls; path = new } in g) f
     ∙ ap (λ (cs : List Corner). let g : Gathered = record { seen = seen ++ t.line ∷ []; path = cs } in g) (g ∙ ap (with_corner path) h)
-    ∙ sym (ap (λ (b : Bool). cond b (record { seen = seen ++ t.line ∷ []; path = with_corner path (foot_on sheet n t.seg t.line) }) here) e)
+    ∙ sym (ap (λ (b : Bool). cond b met here) e)
 
 -- a corner that a path has, and one that it has not
 pub corner_known : (path : List Corner) (c : Corner) → list_any (are_one c) path ≡ true → path ≡ with_corner path c
@@ -100,7 +102,7 @@ closed_already [] many = refl
 closed_already (c ∷ []) many = absurd (many refl)
 closed_already (c ∷ d ∷ cs) many = refl
 
-pub closed_once : (path new : List Corner) (only : Corner) → length path ≡ 1 → new ≡ path ++ only ∷ [] → only ≡ get_or path 0 only → new ≡ stroke_through path
-closed_once [] new only one is first = absurd (omega (arith, one))
-closed_once (c ∷ []) new only one is first = is ∙ ap (λ (d : Corner). c ∷ d ∷ []) first
-closed_once (c ∷ d ∷ cs) new only one is first = absurd (omega (arith, one))
+pub closed_once : (path new : List Corner) (d : Corner) → length path ≡ 1 → new ≡ path ++ get_or path 0 d ∷ [] → new ≡ stroke_through path
+closed_once [] new d one is = absurd (omega (arith, one))
+closed_once (c ∷ []) new d one is = is
+closed_once (c ∷ e ∷ cs) new d one is = absurd (omega (arith, one))
