@@ -1,6 +1,4 @@
-use Rattle.std.proofs.Common.{List, ℕ, [], ◌∷◌, ◌++◌, string_bytes, ap, sym, ◌∙◌}
-use Rattle.poster_rules.specs.Elements.{AtNode, BehindAtNode, texts}
-use Rattle.poster_rules.specs.Posters.{with_behind}
+use Rattle.std.proofs.Common.{string_bytes, sym, ◌∙◌}
 use Rattle.poster_picture.specs.Sheets.{plain}
 use Rattle.poster_picture.proofs.Joining.{ends_differ, ends_meet}
 use Rattle.poster_picture.proofs.lines.push_join.Goals as goal

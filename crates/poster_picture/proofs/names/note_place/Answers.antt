@@ -1,4 +1,4 @@
-use Rattle.std.proofs.Common.{◌≡◌, ◌<◌, ℕ, length, get_or, None, arith}
+use Rattle.std.proofs.Common.{get_or, None, arith}
 use Rattle.poster_picture.proofs.Noting.{noted_at, noted_elsewhere}
 use Rattle.poster_picture.proofs.names.note_place.Goals as goal
 

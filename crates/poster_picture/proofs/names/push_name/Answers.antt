@@ -1,5 +1,5 @@
-use Rattle.std.proofs.Common.{◌≡◌, ℕ, List, [], ◌∷◌, ◌++◌, OnOk, inl, inr, map, string_bytes, subst}
-use Rattle.poster_rules.specs.Elements.{Element, Name, RimOfName}
+use Rattle.std.proofs.Common.{◌≡◌, ℕ, List, ◌++◌, OnOk, inl, inr, map, string_bytes, subst}
+use Rattle.poster_rules.specs.Elements.{Name, RimOfName}
 use Rattle.poster_rules.specs.Posters.{ending_of}
 use Rattle.poster_picture.proofs.Wholes.{name_alone, name_over}
 use Rattle.poster_picture.proofs.names.push_name.Goals as goal

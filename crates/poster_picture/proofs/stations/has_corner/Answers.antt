@@ -1,7 +1,6 @@
-use Rattle.std.proofs.Common.{◌||◌, true, ◌∙◌, ap, sym, get_or, pos, arith}
+use Rattle.std.proofs.Common.{◌∙◌, ap, sym, pos, arith}
 use Rattle.std.specs.List.{list_any}
 use Rattle.std.proofs.lemmas.List.{take_all}
-use Rattle.std.proofs.lemmas.List.Folds.{list_any_more}
 use Rattle.line_offsets.specs.declared.corner.Corner.{Corner}
 use Rattle.svg_writer.specs.Picture.{are_one}
 use Rattle.poster_picture.proofs.Gathering.{any_here, none_more}

@@ -1,4 +1,4 @@
-use Rattle.std.proofs.Common.{Bool, List, ap, sym, ◌∙◌}
+use Rattle.std.proofs.Common.{ap, sym, ◌∙◌}
 use Rattle.std.specs.List.{list_any}
 use Rattle.svg_writer.specs.Picture.{are_one}
 use Rattle.poster_picture.proofs.Gathering.{corner_known, corner_new}

@@ -1,4 +1,4 @@
-use Rattle.std.proofs.Common.{◌≡◌, ◌&&◌, not, Bool, List, ap, sym, ◌∙◌}
+use Rattle.std.proofs.Common.{◌&&◌, not, Bool, List, ap, sym, ◌∙◌}
 use Rattle.map_base.specs.declared.ids.LineId.{LineId}
 use Rattle.poster_rules.specs.Stations.{has_line}
 use Rattle.poster_picture.specs.Sheets.{plain}
