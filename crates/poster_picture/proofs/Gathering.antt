@@ -1,14 +1,16 @@
 -- The feet of the lines that call at a node, line by line.
-use Rattle.std.proofs.Common.{◌≡◌, ℕ, ◌+◌, ◌<◌, Bool, true, false, cond, ◌&&◌, not, List, [], ◌∷◌, ◌++◌, length, fold, map, get_or, take, refl, ap, sym, ◌∙◌, append-nil}
-use Rattle.std.specs.List.{flat_map}
+use Rattle.std.proofs.Common.{◌≡◌, ℕ, zero, suc, ◌+◌, ◌<◌, Bool, true, false, cond, ◌&&◌, ◌||◌, not, List, [], ◌∷◌, ◌++◌, length, fold, map, get_or, take, refl, ap, sym, ◌∙◌, append-nil, arith}
+use Rattle.std.specs.List.{flat_map, list_any}
 use Rattle.std.proofs.lemmas.Grind.{flat_map-append}
 use Rattle.std.proofs.lemmas.List.{map-append, take_more}
 use Rattle.std.proofs.lemmas.List.Sums.{fold-append}
+use Rattle.std.proofs.lemmas.List.Folds.{list_any_more}
+use Rattle.svg_writer.specs.Picture.{are_one}
 use Rattle.map_base.specs.declared.ids.SegId.{SegId}
 use Rattle.map_base.specs.declared.ids.LineId.{LineId}
 use Rattle.line_offsets.specs.declared.corner.Corner.{Corner}
 use Rattle.poster_rules.specs.Stations.{has_line}
-use Rattle.poster_rules.specs.Posters.{first_stands, foot_on, stands_on, with_corner, Sheet, Stand}
+use Rattle.poster_rules.specs.Posters.{first_stands, foot_on, stands_on, stroke_through, with_corner, Sheet, Stand}
 use Rattle.poster_picture.specs.Feet.{with_stand, with_stands, Gathered}
 
 -- the feet that are gathered are those of the first stands of each line
@@ -56,3 +58,49 @@ stands_more sheet n callers start mid new segments i d low was now =
     ∙ ap (λ (ts : List Stand). with_stands sheet n callers start (flat_map (stands_on sheet) (take i segments) ++ ts)) (sym (append-nil next))
     ∙ ap (with_stands sheet n callers start) (sym (flat_map-append (stands_on sheet) (take i segments) (get_or segments i d ∷ [])))
     ∙ ap (λ (ss : List SegId). with_stands sheet n callers start (flat_map (stands_on sheet) ss)) (sym (take_more segments i d low))
+
+-- a line that does not call, or is seen already, changes nothing; any other is seen, with its foot
+pub stand_passed : (sheet : Sheet) (n : ℕ) (callers seen : List LineId) (path : List Corner) (t : Stand) → (has_line t.line callers && not (has_line t.line seen)) ≡ false
+    → (let g : Gathered = record { seen = seen; path = path } in g) ≡ with_stand sheet n callers (record { seen = seen; path = path }) t
+stand_passed sheet n callers seen path t e =
+    let here : Gathered = record { seen = seen; path = path } in
+    sym (ap (λ (b : Bool). cond b (record { seen = seen ++ t.line ∷ []; path = with_corner path (foot_on sheet n t.seg t.line) }) here) e)
+
+pub stand_met : (sheet : Sheet) (n : ℕ) (callers seen more : List LineId) (path new : List Corner) (foot : Corner) (t : Stand) → (has_line t.line callers && not (has_line t.line seen)) ≡ true
+    → more ≡ seen ++ t.line ∷ [] → new ≡ with_corner path foot → foot ≡ foot_on sheet n t.seg t.line → (let g : Gathered = record { seen = more; path = new } in g) ≡ with_stand sheet n callers (record { seen = seen; path = path }) t
+stand_met sheet n callers seen more path new foot t e f g h =
+    let here : Gathered = record { seen = seen; path = path } in
+    ap (λ (ls : List LineId). let g : Gathered = record { seen = ls; path = new } in g) f
+    ∙ ap (λ (cs : List Corner). let g : Gathered = record { seen = seen ++ t.line ∷ []; path = cs } in g) (g ∙ ap (with_corner path) h)
+    ∙ sym (ap (λ (b : Bool). cond b (record { seen = seen ++ t.line ∷ []; path = with_corner path (foot_on sheet n t.seg t.line) }) here) e)
+
+-- a corner that a path has, and one that it has not
+pub corner_known : (path : List Corner) (c : Corner) → list_any (are_one c) path ≡ true → path ≡ with_corner path c
+corner_known path c e = sym (ap (λ (b : Bool). cond b path (path ++ c ∷ [])) e)
+
+pub corner_new : (path new : List Corner) (c : Corner) → list_any (are_one c) path ≡ false → new ≡ path ++ c ∷ [] → new ≡ with_corner path c
+corner_new path new c e is = is ∙ sym (ap (λ (b : Bool). cond b path (path ++ c ∷ [])) e)
+
+-- of a list one element more that fails a test, and one that passes it
+pub none_more : {A : Type 0} (p : A → Bool) (xs : List A) (i : ℕ) (d : A) → i < length xs → list_any p (take i xs) ≡ false → p (get_or xs i d) ≡ false → list_any p (take (i + 1) xs) ≡ false
+none_more p xs i d low none fails = list_any_more p xs i d low ∙ ap (λ (b : Bool). b || p (get_or xs i d)) none ∙ fails
+
+pub any_here : {A : Type 0} (p : A → Bool) (xs : List A) (i : ℕ) (d : A) → i < length xs → p (get_or xs i d) ≡ true → list_any p xs ≡ true
+any_here p [] i d low passes = absurd (omega (arith, low))
+any_here p (x ∷ xs) zero d low passes = ap (λ (b : Bool). b || list_any p xs) passes
+any_here p (x ∷ xs) (suc i) d low passes = by_test (p x) (any_here p xs i d (omega (arith, low)) passes)
+  where
+    by_test : (b : Bool) → list_any p xs ≡ true → (b || list_any p xs) ≡ true
+    by_test true e = refl
+    by_test false e = e
+
+-- a path that has not one corner alone, and one that has
+pub closed_already : (path : List Corner) → (length path ≡ 1 → ⊥) → path ≡ stroke_through path
+closed_already [] many = refl
+closed_already (c ∷ []) many = absurd (many refl)
+closed_already (c ∷ d ∷ cs) many = refl
+
+pub closed_once : (path new : List Corner) (only : Corner) → length path ≡ 1 → new ≡ path ++ only ∷ [] → only ≡ get_or path 0 only → new ≡ stroke_through path
+closed_once [] new only one is first = absurd (omega (arith, one))
+closed_once (c ∷ []) new only one is first = is ∙ ap (λ (d : Corner). c ∷ d ∷ []) first
+closed_once (c ∷ d ∷ cs) new only one is first = absurd (omega (arith, one))

@@ -3,5 +3,6 @@ mod Behind
 mod Gathering
 mod Noting
 mod Sorting
+mod Joining
 mod Lining
 mod Wholes

@@ -1,18 +1,21 @@
 -- The parts of a poster, one after the other.
-use Rattle.std.proofs.Common.{◌≡◌, ℕ, ◌<◌, Bool, List, [], ◌∷◌, ◌++◌, ap, sym, ◌∙◌, append-nil, append_assoc, length, Option, arith}
+use Rattle.std.proofs.Common.{◌≡◌, ◌⊎◌, inl, inr, ℕ, ◌<◌, Bool, cond, List, [], ◌∷◌, ◌++◌, ap, sym, ◌∙◌, append-nil, append_assoc, length, Option, arith}
 use Rattle.line_offsets.specs.declared.corner.Corner.{Corner}
 use Rattle.map_base.specs.declared.ids.LineId.{LineId}
 use Rattle.eight_sides.specs.declared.frame.Frame.{Frame}
 use Rattle.svg_writer.specs.declared.names.Names.{Names}
+use Rattle.svg_writer.specs.Picture.{colour_of, name_of}
 use Rattle.svg_writer.proofs.Appends.{grew2}
 use Rattle.poster_plan.specs.declared.layout.Legend.{Legend}
 use Rattle.poster_plan.specs.declared.layout.Printed.{Printed}
+use Rattle.poster_plan.specs.declared.layout.Step.{Step}
+use Rattle.poster_plan.specs.declared.layout.Step.TheVariants.{Full, Small, Over}
 use Rattle.poster_plan.specs.declared.plan.Plan.{Plan}
 use Rattle.poster_plan.specs.Legends.{frame_beside, legend_of}
 use Rattle.poster_plan.specs.Pitches.{frame_with}
-use Rattle.poster_rules.specs.Elements.{Element, element_text, texts, Head, Ground, Station, Opens, Closes, Tail, LinesGroup, StationsGroup, NamesGroup, LegendGroup}
+use Rattle.poster_rules.specs.Elements.{Element, element_text, texts, black, dark, white, RowName, Stroke, Head, Ground, Station, Opens, Closes, Tail, LinesGroup, StationsGroup, NamesGroup, LegendGroup}
 use Rattle.poster_rules.specs.Plans.{widest}
-use Rattle.poster_rules.specs.Posters.{all_names, elements_with, feet_at, legend_elements, stroke_through, strokes_at, strokes_over, Sheet}
+use Rattle.poster_rules.specs.Posters.{all_names, apart_from, elements_with, feet_at, legend_elements, rim_of, row_elements, stroke_through, strokes_at, strokes_over, with_behind, Sheet}
 use Rattle.poster_rules.specs.Stations.{is_interchange}
 use Rattle.poster_picture.specs.Parts.{all_joins, all_lines, all_stations, legend_part, map_part, names_part}
 use Rattle.poster_picture.proofs.Writing.{one_text, texts-append}
@@ -122,3 +125,32 @@ pub strokes_are : (sheet : Sheet) (n : ℕ) (callers : List LineId) (change : Bo
     → strokes_over change path ≡ strokes_at sheet n callers
 strokes_are sheet n [] change path some e f = absurd (omega arith)
 strokes_are sheet n (l ∷ ls) change path some e f = ap (λ (b : Bool). strokes_over b path) e ∙ ap (strokes_over (is_interchange sheet.graph sheet.callers n)) f
+
+pub strokes_written : (change : Bool) (path : List Corner) (m n : ℕ) (o a b : List ℕ) → m ≡ cond change 28 20 → n ≡ cond change 18 12 → a ≡ o ++ element_text (Stroke path black m) → b ≡ a ++ element_text (Stroke path white n)
+    → b ≡ o ++ texts (strokes_over change path)
+strokes_written change path m n o a b e f p q =
+    one_behind o a b (Stroke path black m ∷ []) (Stroke path white n) (one_first o a (Stroke path black m) p) q
+    ∙ ap (λ w. o ++ texts (Stroke path black w ∷ Stroke path white n ∷ [])) e
+    ∙ ap (λ w. o ++ texts (Stroke path black (cond change 28 20) ∷ Stroke path white w ∷ [])) f
+
+-- ---- a name
+
+-- a name over lines stands behind its rim, and another alone
+pub name_over : (z : Step) (rim name : Element) (o a b : List ℕ) → z ≡ Over → a ≡ o ++ element_text rim → b ≡ a ++ element_text name → b ≡ o ++ texts (rim_of z rim ++ name ∷ [])
+name_over z rim name o a b e p q = one_behind o a b (rim ∷ []) name (one_first o a rim p) q ∙ sym (ap (λ (y : Step). o ++ texts (rim_of y rim ++ name ∷ [])) e)
+
+pub name_alone : (z : Step) (rim name : Element) → (z ≡ Full) ⊎ (z ≡ Small) → element_text name ≡ texts (rim_of z rim ++ name ∷ [])
+name_alone z rim name (inl e) = sym (one_text name) ∙ sym (ap (λ (y : Step). texts (rim_of y rim ++ name ∷ [])) e)
+name_alone z rim name (inr e) = sym (one_text name) ∙ sym (ap (λ (y : Step). texts (rim_of y rim ++ name ∷ [])) e)
+
+-- ---- a row of the legend
+
+pub row_written : (names : Names) (c : Corner) (l : LineId) (end below : Corner) (colour name : List ℕ) (o a b : List ℕ) → a ≡ o ++ texts (with_behind colour (Stroke (c ∷ end ∷ []) dark 14) (Stroke (c ∷ end ∷ []) colour 12))
+    → b ≡ a ++ element_text (RowName below name) → end ≡ apart_from c 60 0 → below ≡ apart_from c 90 9 → colour ≡ colour_of names l → name ≡ name_of names l → b ≡ o ++ texts (row_elements names c l)
+row_written names c l end below colour name o a b p q e f g h =
+    let row : Corner → Corner → List ℕ → List ℕ → List ℕ = λ x y k n. o ++ texts (with_behind k (Stroke (c ∷ x ∷ []) dark 14) (Stroke (c ∷ x ∷ []) k 12) ++ RowName y n ∷ []) in
+    one_behind o a b (with_behind colour (Stroke (c ∷ end ∷ []) dark 14) (Stroke (c ∷ end ∷ []) colour 12)) (RowName below name) p q
+    ∙ ap (λ (x : Corner). row x below colour name) e
+    ∙ ap (λ (y : Corner). row (apart_from c 60 0) y colour name) f
+    ∙ ap (λ (k : List ℕ). row (apart_from c 60 0) (apart_from c 90 9) k name) g
+    ∙ ap (λ (n : List ℕ). row (apart_from c 60 0) (apart_from c 90 9) (colour_of names l) n) h

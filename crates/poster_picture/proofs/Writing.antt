@@ -1,5 +1,5 @@
 -- Texts of elements that grow.
-use Rattle.std.proofs.Common.{◌≡◌, ℕ, ◌+◌, ◌<◌, List, [], ◌∷◌, ◌++◌, length, get_or, drop, ap, sym, ◌∙◌, arith, append_assoc, append-nil, codes}
+use Rattle.std.proofs.Common.{◌≡◌, ℕ, ◌+◌, ◌<◌, ◌≤◌, List, [], ◌∷◌, ◌++◌, length, get_or, drop, ap, sym, ◌∙◌, arith, append_assoc, append-nil, codes}
 use Rattle.std.specs.Fmt.{signed_decimal}
 use Rattle.std.specs.List.{flat_map, range_with_len}
 use Rattle.std.proofs.lemmas.Grind.{flat_map-append}
@@ -54,3 +54,17 @@ listed_more f xs i d x before after whole low is grew all =
 
 pub listed_all : {A : Type 0} (f : A → List Element) (xs : List A) (i : ℕ) (before whole : List ℕ) → length xs ≡ i → before ++ texts (flat_map f (drop i xs)) ≡ whole → before ≡ whole
 listed_all f xs i before whole end all = sym (append-nil before) ∙ sym (at_drop_all (λ ys. before ++ texts (flat_map f ys)) xs i (omega arith)) ∙ all
+
+-- what is written of a list with one part more, and with all parts, where a text of the list is made of its parts
+pub part_more : {A : Type 0} (F : List A → List ℕ) (xs : List A) (i : ℕ) (d : A) (part before after whole : List ℕ) → i < length xs
+    → F (get_or xs i d ∷ drop (i + 1) xs) ≡ part ++ F (drop (i + 1) xs) → after ≡ before ++ part → before ++ F (drop i xs) ≡ whole → after ++ F (drop (i + 1) xs) ≡ whole
+part_more F xs i d part before after whole low made grew all =
+    ap (λ (bytes : List ℕ). bytes ++ F (drop (i + 1) xs)) grew
+    ∙ append_assoc before part (F (drop (i + 1) xs))
+    ∙ ap (λ (bytes : List ℕ). before ++ bytes) (sym made)
+    ∙ sym (ap (λ ys. before ++ F ys) (drop_more xs i d low))
+    ∙ all
+
+pub parts_all : {A : Type 0} (F : List A → List ℕ) (xs : List A) (i : ℕ) (before whole : List ℕ) → length xs ≤ i → F [] ≡ [] → before ++ F (drop i xs) ≡ whole → before ≡ whole
+parts_all F xs i before whole end none all =
+    sym (append-nil before) ∙ ap (λ (bytes : List ℕ). before ++ bytes) (sym none) ∙ sym (at_drop_all (λ ys. before ++ F ys) xs i end) ∙ all

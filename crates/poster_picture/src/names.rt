@@ -65,8 +65,19 @@ fn note_place(places: &mut [Option<Printed>], name: Printed)
     ensures places { (i : ℕ) → i < length places.old → slice_index_or places.new i None ≡ first_of (slice_index_or places.old i None) (printed_of (name ∷ []) i) }
 {
     let i = name.mark as usize;
-    if i < places.len() && places[i].is_none() {
-        places[i] = Some(name);
+    if i >= places.len() {
+        return;
+    }
+    places[i] = first_of(places[i], name);
+}
+
+/// What is noted already, or else this.
+fn first_of(noted: Option<Printed>, name: Printed) -> Option<Printed>
+    ensures { result ≡ first_of noted (Some name) }
+{
+    match noted {
+        Some(first) => Some(first),
+        None => Some(name),
     }
 }
 

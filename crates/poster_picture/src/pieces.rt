@@ -1,10 +1,11 @@
 //! What elements are made of.
 
-ghost use Rattle.std.specs.Prelude.{◌≡◌, ◌++◌, OnOk, codes, if◌then◌else◌, map, string_bytes};
+ghost use Rattle.std.specs.Prelude.{◌≡◌, ◌*◌, ◌++◌, OnOk, codes, if◌then◌else◌, map, string_bytes};
 ghost use Rattle.std.specs.List.{flat_map};
 ghost use Rattle.std.specs.Fmt.{decimal};
 ghost use Rattle.name_widths.specs.Colours.{is_faint};
 ghost use Rattle.svg_writer.specs.Elements.{colour_text, place_text};
+ghost use Rattle.poster_plan.specs.Places.{tenth};
 ghost use Rattle.poster_rules.specs.Elements.{anchor_text, classes_text, dark, ending_text, name_text, size_text, spot_text, stroke_text, turn_text, turned_text, width_text};
 ghost use Rattle.poster_rules.specs.Posters.{ending_of};
 ghost use Rattle.poster_picture.specs.Inks.{ink_colour};
@@ -41,12 +42,19 @@ pub(crate) enum Ink {
 pub(crate) fn push_ink(text: &mut String, ink: Ink) -> Result<(), NoMemory>
     ensures { OnOk result (string_bytes text.new ≡ string_bytes text.old ++ stroke_text (ink_colour ink)) }
 {
-    match ink {
-        Ink::Black => text.push_str("\" stroke=\"#000000\"")?,
-        Ink::White => text.push_str("\" stroke=\"#ffffff\"")?,
-        Ink::Dark => text.push_str("\" stroke=\"#444444\"")?,
-    }
+    text.push_str(ink_text(ink))?;
     Ok(())
+}
+
+/// A stroke's ink, to the end of its attribute.
+fn ink_text(ink: Ink) -> &'static str
+    ensures { result.now ≡ stroke_text (ink_colour ink) }
+{
+    match ink {
+        Ink::Black => "\" stroke=\"#000000\"",
+        Ink::White => "\" stroke=\"#ffffff\"",
+        Ink::Dark => "\" stroke=\"#444444\"",
+    }
 }
 
 /// Appends a stroke's width, to the end of its line.
@@ -83,8 +91,8 @@ pub(crate) fn push_spot(text: &mut String, spot: Spot, step: Step) -> Result<(),
     ensures { OnOk result (string_bytes text.new ≡ string_bytes text.old ++ spot_text spot step) }
 {
     push_turn(text, spot.turn, spot.at, step)?;
-    push_anchor(text, spot.anchor)?;
-    push_size(text, step)?;
+    text.push_str(anchor_text(spot.anchor))?;
+    text.push_str(size_text(step))?;
     Ok(())
 }
 
@@ -118,29 +126,37 @@ fn push_turned(text: &mut String, at: Corner, degrees: &str, step: Step) -> Resu
     text.push_str(") rotate(")?;
     text.push_str(degrees)?;
     text.push_str(")\" y=\"")?;
-    push_natural(text, u64::from(3 * tenth(step)))?;
+    push_natural(text, three_tenths(step))?;
     text.push_str("\"")?;
     Ok(())
 }
 
-/// Appends which part of a text stands at its point.
-fn push_anchor(text: &mut String, anchor: Anchor) -> Result<(), NoMemory>
-    ensures { OnOk result (string_bytes text.new ≡ string_bytes text.old ++ anchor_text anchor) }
+/// Three tenths of the size of type.
+fn three_tenths(step: Step) -> u64
+    ensures { result ≡ 3 * tenth step }
+{
+    3 * u64::from(tenth(step))
+}
+
+/// Which part of a text stands at its point.
+fn anchor_text(anchor: Anchor) -> &'static str
+    ensures { result.now ≡ anchor_text anchor }
 {
     match anchor {
-        Anchor::Start => Ok(()),
-        Anchor::Middle => Ok(text.push_str(" text-anchor=\"middle\"")?),
-        Anchor::End => Ok(text.push_str(" text-anchor=\"end\"")?),
+        Anchor::Start => "",
+        Anchor::Middle => " text-anchor=\"middle\"",
+        Anchor::End => " text-anchor=\"end\"",
     }
 }
 
-/// Appends the size of small type.
-fn push_size(text: &mut String, step: Step) -> Result<(), NoMemory>
-    ensures { OnOk result (string_bytes text.new ≡ string_bytes text.old ++ size_text step) }
+/// The size of small type.
+fn size_text(step: Step) -> &'static str
+    ensures { result.now ≡ size_text step }
 {
     match step {
-        Step::Full => Ok(()),
-        Step::Small | Step::Over => Ok(text.push_str(" font-size=\"20\"")?),
+        Step::Full => "",
+        Step::Small => " font-size=\"20\"",
+        Step::Over => " font-size=\"20\"",
     }
 }
 
@@ -181,7 +197,7 @@ fn push_ending(text: &mut String, names: &Names, step: Step, line: LineId) -> Re
     ensures { OnOk result (string_bytes text.new ≡ string_bytes text.old ++ ending_text step (ending_of names.now line)) }
 {
     text.push_str("<tspan dx=\"")?;
-    push_natural(text, u64::from(3 * tenth(step)))?;
+    push_natural(text, three_tenths(step))?;
     text.push_str("\" fill=\"")?;
     push_shade(text, colour_of(names, line))?;
     text.push_str("\" font-weight=\"bold\">")?;

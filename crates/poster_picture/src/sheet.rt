@@ -4,7 +4,7 @@ ghost use Rattle.std.specs.Prelude.{◌≡◌, ◌≤◌, option_map, slice_get,
 ghost use Rattle.line_offsets.specs.Paths.{path_end_at, path_start_at};
 ghost use Rattle.svg_writer.specs.Picture.{walk_at};
 ghost use Rattle.poster_rules.specs.Posters.{foot_on};
-ghost use Rattle.poster_picture.specs.Sheets.{plain};
+ghost use Rattle.poster_picture.specs.Sheets.{foot_at, plain};
 
 use graph_core::LineGraph;
 use line_offsets::{Corner, drawn_at, path_end_at, path_start_at};
@@ -53,10 +53,19 @@ pub(crate) fn foot_on(sheet: Sheet<'_>, n: NodeId, s: u32, line: LineId) -> Resu
 {
     let order = order_of(sheet.orders, s);
     let k = gauge(order.len(), place_in(order, line))?;
-    if ends_of(sheet.graph, s).0.0 == n.0 {
-        Ok(start_on(sheet, s, k))
+    Ok(foot_at(sheet, ends_of(sheet.graph, s).0, n, s, k))
+}
+
+/// Where a line that stands k places beside the walk of a segment ends at node n, an end of the segment, which starts at
+/// this node.
+fn foot_at(sheet: Sheet<'_>, first: NodeId, n: NodeId, s: u32, k: i32) -> Corner
+    requires { sheet.pitch ≤ 200 }
+    ensures { result ≡ foot_at (plain sheet.entry) first.0 n.0 s k }
+{
+    if first.0 == n.0 {
+        start_on(sheet, s, k)
     } else {
-        Ok(end_on(sheet, s, k))
+        end_on(sheet, s, k)
     }
 }
 

@@ -224,7 +224,10 @@ fn put_line(
 fn is_new(line: LineId, callers: &[LineId], seen: &[LineId]) -> bool
     ensures { result ≡ (has_line line callers.now && not (has_line line seen.now)) }
 {
-    has_line(line, callers) && !has_line(line, seen)
+    if !has_line(line, callers) {
+        return false;
+    }
+    !has_line(line, seen)
 }
 
 /// Appends a corner where the path has it not yet.
