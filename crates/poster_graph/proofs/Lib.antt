@@ -3,3 +3,4 @@ mod Words
 mod Flags
 mod Nodes
 mod Marks
+mod Steps

@@ -1,5 +1,5 @@
 -- What is left of names, and second platforms.
-use Rattle.std.proofs.Common.{◌≡◌, ℕ, ◌+◌, ◌<◌, ◌≤◌, ◌==◌, Bool, true, false, cond, ◌&&◌, ◌||◌, List, [], ◌∷◌, ◌++◌, length, map, take, Option, Some, None, refl, ap, sym, ◌∙◌, append-nil, arith}
+use Rattle.std.proofs.Common.{◌≡◌, ℕ, ◌+◌, ◌<◌, ◌≤◌, ◌==◌, Bool, true, false, cond, ◌&&◌, ◌||◌, List, [], ◌∷◌, ◌++◌, length, map, take, Option, Some, None, refl, ap, sym, subst, ◌∙◌, append-nil, arith}
 use Rattle.std.specs.Prelude.{slice_get}
 use Rattle.std.specs.List.{flat_map, list_any}
 use Rattle.std.proofs.lemmas.Bool.{eqb-true}
@@ -11,9 +11,17 @@ use Rattle.map_base.specs.declared.ids.NodeId.{NodeId}
 use Rattle.graph_core.specs.declared.parts.NodeKind.{NodeKind}
 use Rattle.graph_core.specs.declared.parts.NodeKind.TheVariants.{Junction}
 use Rattle.graph_core.specs.declared.parts.GraphParts.{GraphParts}
+use Rattle.graph_core.specs.Consistent.{AreEnds, IsConsistent}
 use Rattle.svg_writer.specs.declared.names.Names.{Names}
 use Rattle.poster_rules.specs.Texts.{all_names, all_rests, are_same, is_second, node_names, node_rest, printed_at, rest_at, unless_second}
 use Rattle.poster_graph.specs.Words.{is_second_by}
+
+no_ends : NodeId × NodeId
+no_ends = (record { 0 = 0 }, record { 0 = 0 })
+
+-- the ends of a segment
+pub ends_are : (g : GraphParts) → IsConsistent g → (s : ℕ) (e : NodeId × NodeId) → s < length g.ends → slice_get g.ends s ≡ Some e → AreEnds (length g.kinds) e
+ends_are g fit s e low at = subst (AreEnds (length g.kinds)) (get_or_from_slice_get g.ends s e no_ends at) (fit.ends s no_ends low)
 
 -- what is left of the name of a node, by its kind
 pub rest_is : (names : Names) (g : GraphParts) (n : ℕ) (kind : NodeKind) → n < length g.kinds → slice_get g.kinds n ≡ Some kind → node_rest (all_names names g) names kind ≡ rest_at (all_rests names g) n
@@ -38,11 +46,8 @@ second_more rests ends s n e same was is low at told before now =
     ∙ ap (λ (b : Bool). b || ((e.1.0 == n) && same)) before
     ∙ ap (λ (b : Bool). list_any (is_second_by rests n) (take s ends) || b) (by_test (e.1.0 == n) refl ∙ sym (or_false (is_second_by rests n e)))
     ∙ sym (list_any-append (is_second_by rests n) (take s ends) (e ∷ []))
-    ∙ sym (ap (list_any (is_second_by rests n)) (take_more ends s none low ∙ ap (λ (x : NodeId × NodeId). take s ends ++ x ∷ []) (get_or_from_slice_get ends s e none at)))
+    ∙ sym (ap (list_any (is_second_by rests n)) (take_more ends s no_ends low ∙ ap (λ (x : NodeId × NodeId). take s ends ++ x ∷ []) (get_or_from_slice_get ends s e no_ends at)))
   where
-    none : NodeId × NodeId
-    none = (record { 0 = 0 }, record { 0 = 0 })
-
     or_false : (b : Bool) → (b || false) ≡ b
     or_false true = refl
     or_false false = refl

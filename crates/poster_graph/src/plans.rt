@@ -9,7 +9,7 @@ ghost use Rattle.poster_rules.specs.Texts.{all_rests, name_width, printed_at};
 ghost use Rattle.poster_rules.specs.Plans.{marks_of, node_mark, pieces_from, pieces_of, plan_of, point_of, segment_pieces};
 ghost use Rattle.poster_graph.specs.Words.{AreTextsOf};
 
-use crate::served::Served;
+use crate::served::{Served, walk_of};
 use crate::stations::{ending, leaves_level, radius_at};
 use crate::texts::{Texts, printed_at, width_with};
 use graph_core::{LineGraph, NodeKind};
@@ -122,7 +122,8 @@ fn name_width(
         None => Ok(None),
         Some(text) => {
             let lines = ending(alloc, served, n)?;
-            Ok(Some(width_with(served.names, lines.as_slice(), text)?))
+            let width = width_with(served.names, lines.as_slice(), text)?;
+            Ok(Some(width))
         }
     }
 }
@@ -156,8 +157,11 @@ fn put_segment(pieces: &mut Vec<Piece>, served: Served<'_>, s: u32) -> Result<()
         return Err(NoMemory);
     }
     let ends = ends_of(served.graph, s);
-    match served.drawing.walks.as_slice().get(s as usize) {
-        Some(walk) => put_pieces(pieces, walk, lines as u32, ends),
+    match walk_of(&served.drawing.walks, s) {
+        Some(walk) => {
+            put_pieces(pieces, walk, lines as u32, ends)?;
+            Ok(())
+        }
         None => Ok(()),
     }
 }

@@ -1,11 +1,11 @@
 //! A drawn line graph, and what is known of it.
 
-ghost use Rattle.std.specs.Prelude.{◌≡◌};
+ghost use Rattle.std.specs.Prelude.{◌≡◌, option_map, slice_get};
 ghost use Rattle.poster_rules.specs.Stations.{callers_at, has_line};
 
 use graph_core::LineGraph;
 use map_base::{LineId, Sequence};
-use octi_grid::Drawing;
+use octi_grid::{Drawing, Walk};
 use svg_writer::Names;
 
 /// A drawn line graph with the names of its stations and lines, and the lines that call at each of its nodes, rising.
@@ -25,6 +25,13 @@ pub fn callers_at<'a>(callers: &'a Sequence<Sequence<LineId>>, n: u32) -> &'a [L
         Some(lines) => lines.as_slice(),
         None => &[],
     }
+}
+
+/// The walk of segment s, if there is one.
+pub(crate) fn walk_of(walks: &Sequence<Walk>, s: u32) -> Option<&Walk>
+    ensures { slice_get walks.now s ≡ option_map (λ w. w.now) result }
+{
+    walks.as_slice().get(s as usize)
 }
 
 /// Whether a line is one of these.

@@ -1,6 +1,6 @@
 //! The lines that are on segments, for the legend.
 
-ghost use Rattle.std.specs.Prelude.{◌≡◌, ◌<◌, ◌^◌, ◌||◌, ◌==◌, ℕ, false, length, slice_index_or, IfOk};
+ghost use Rattle.std.specs.Prelude.{◌≡◌, ◌<◌, ◌^◌, ◌||◌, ◌==◌, ◌++◌, ◌∷◌, [], if◌then◌else◌, ℕ, false, length, slice_index_or, IfOk, OnOk};
 ghost use Rattle.poster_rules.specs.Stations.{has_line};
 ghost use Rattle.poster_rules.specs.Plans.{line_numbered, lines_shown, widest};
 ghost use Rattle.poster_graph.specs.Flags.{flagged, is_on, AreFlags};
@@ -15,7 +15,7 @@ use svg_writer::{Names, name_of};
 pub fn lines_shown(alloc: Global, count: usize, graph: &LineGraph) -> Result<Vec<LineId>, NoMemory>
     ensures { IfOk result (λ lines. lines.items ≡ lines_shown count graph.now) }
 {
-    if count > 1 << 31 {
+    if count > 2_000_000_000 {
         return Err(NoMemory);
     }
     let flags = flags_of(alloc, count, graph)?;
@@ -27,6 +27,8 @@ pub fn lines_shown(alloc: Global, count: usize, graph: &LineGraph) -> Result<Vec
 fn flags_of(alloc: Global, count: usize, graph: &LineGraph) -> Result<Vec<bool>, NoMemory>
     ensures { IfOk result (λ flags. AreFlags count (is_on graph.now.lines) flags.items) }
 {
+    // it tells that each segment has a list of lines
+    let _nodes = graph.nodes();
     let mut flags = vec![in alloc; false; count]?;
     for s in 0..graph.segs() {
         show_lines(&mut flags, graph.lines(SegId(s)));
@@ -49,9 +51,10 @@ fn show_line(flags: &mut [bool], line: u32)
     ensures each { length flags.new ≡ length flags.old }
     ensures flagged { (n : ℕ) → n < length flags.old → slice_index_or flags.new n false ≡ (slice_index_or flags.old n false || line == n) }
 {
-    if (line as usize) < flags.len() {
-        flags[line as usize] = true;
+    if line as usize >= flags.len() {
+        return;
     }
+    flags[line as usize] = true;
 }
 
 /// The lines that are flagged, rising.
@@ -61,11 +64,20 @@ fn flagged(alloc: Global, flags: &[bool]) -> Result<Vec<LineId>, NoMemory>
 {
     let mut lines = Vec::new(alloc);
     for number in 0..flags.len() {
-        if flags[number] {
-            lines.push(LineId(number as u32))?;
-        }
+        put_flagged(&mut lines, number as u32, flags[number])?;
     }
     Ok(lines)
+}
+
+/// Appends the line of a number, where it is flagged.
+fn put_flagged(lines: &mut Vec<LineId>, number: u32, flag: bool) -> Result<(), NoMemory>
+    ensures { OnOk result (lines.new.items ≡ lines.old.items ++ (if flag then line_numbered number ∷ [] else [])) }
+{
+    if !flag {
+        return Ok(());
+    }
+    lines.push(LineId(number))?;
+    Ok(())
 }
 
 /// How wide the widest of the names of these lines is, at a size of 30 units.
@@ -74,7 +86,8 @@ pub fn widest(names: &Names, lines: &[LineId]) -> Result<u32, NoMemory>
 {
     let mut most = 0;
     for line in lines {
-        most = most.max(3 * text_width(name_of(names, *line))?);
+        let width = text_width(name_of(names, *line))?;
+        most = most.max(3 * width);
     }
     Ok(most)
 }

@@ -1,11 +1,11 @@
 //! What a poster shows of a station node.
 
-ghost use Rattle.std.specs.Prelude.{◌≡◌, ◌≤◌, if◌then◌else◌, IfOk, Some};
+ghost use Rattle.std.specs.Prelude.{◌≡◌, ◌≤◌, ◌&&◌, nat_le, if◌then◌else◌, IfOk, Some};
 ghost use Rattle.graph_core.specs.Consistent.{IsConsistent};
 ghost use Rattle.poster_rules.specs.Stations.{ending, is_end, is_interchange, is_level, is_short, leaves_level, port_at, radius_at, segments_with};
 ghost use Rattle.svg_writer.specs.Picture.{ends_at, walk_at};
 
-use crate::served::{Served, callers_at, has_line};
+use crate::served::{Served, callers_at, has_line, walk_of};
 use graph_core::LineGraph;
 use map_base::{LineId, NoMemory, NodeId, SegId, Sequence};
 use octi_grid::{Dir, Walk};
@@ -56,6 +56,13 @@ fn is_short(name: &str) -> bool
     ensures { result ≡ is_short name.now }
 {
     let count = name.chars().count();
+    is_few(count)
+}
+
+/// Whether so many are one to five.
+fn is_few(count: usize) -> bool
+    ensures { result ≡ (nat_le 1 count && nat_le count 5) }
+{
     1 <= count && count <= 5
 }
 
@@ -63,9 +70,16 @@ fn is_short(name: &str) -> bool
 pub fn is_interchange(graph: &LineGraph, callers: &Sequence<Sequence<LineId>>, n: NodeId) -> bool
     ensures { result ≡ is_interchange graph.now callers.now n.0 }
 {
-    let round = round_of(graph, n);
-    let lines = callers_at(callers, n.0);
-    round.len() >= 3 && lines.len() >= 2
+    let segments = round_of(graph, n).len();
+    let lines = callers_at(callers, n.0).len();
+    has_changes(segments, lines)
+}
+
+/// Whether one changes at a node of so many segments, where so many lines call.
+fn has_changes(segments: usize, lines: usize) -> bool
+    ensures { result ≡ (nat_le 3 segments && nat_le 2 lines) }
+{
+    3 <= segments && 2 <= lines
 }
 
 /// How far a station reaches from its centre. For more lines than can be reckoned with there is no room.
@@ -110,7 +124,7 @@ pub(crate) fn leaves_level(served: Served<'_>, n: NodeId) -> bool
 fn port_at(served: Served<'_>, n: NodeId, s: SegId) -> Option<Dir>
     ensures { result ≡ port_at n.0 (ends_at served.entry.graph.now.ends s.0) (walk_at served.entry.drawing.now.walks s.0) }
 {
-    match served.drawing.walks.as_slice().get(s.0 as usize) {
+    match walk_of(&served.drawing.walks, s.0) {
         Some(walk) => Some(port_of(walk, ends_of(served.graph, s.0), n)),
         None => None,
     }
@@ -127,12 +141,22 @@ fn port_of(walk: &Walk, ends: (NodeId, NodeId), n: NodeId) -> Dir
     }
 }
 
-/// Whether a direction is to the east or to the west.
+/// Whether there is a direction, to the east or to the west.
 fn is_level(port: Option<Dir>) -> bool
     ensures { result ≡ is_level port }
 {
     match port {
-        Some(Dir::E) | Some(Dir::W) => true,
-        _ => false,
+        None => false,
+        Some(dir) => runs_level(dir),
+    }
+}
+
+/// Whether a direction is to the east or to the west.
+fn runs_level(dir: Dir) -> bool
+    ensures { result ≡ is_level (Some dir) }
+{
+    match dir {
+        Dir::E | Dir::W => true,
+        Dir::N | Dir::NE | Dir::SE | Dir::S | Dir::SW | Dir::NW => false,
     }
 }

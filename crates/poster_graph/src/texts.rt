@@ -157,9 +157,10 @@ fn note_second(seconds: &mut [bool], n: NodeId, same: bool)
     ensures each { length seconds.new ≡ length seconds.old }
     ensures flagged { (k : ℕ) → slice_index_or seconds.new k false ≡ (slice_index_or seconds.old k false || (n.0 == k && same)) }
 {
-    if same {
-        seconds[n.0 as usize] = true;
+    if !same {
+        return;
     }
+    seconds[n.0 as usize] = true;
 }
 
 /// Whether two nodes are stations of which the same is left.
@@ -192,7 +193,8 @@ pub(crate) fn width_with(names: &Names, lines: &[LineId], text: &str) -> Result<
         if width > 2_000_000_000 {
             return Err(NoMemory);
         }
-        width += 4 + text_width(name_of(names, *line))?;
+        let more = text_width(name_of(names, *line))?;
+        width += 4 + more;
     }
     Ok(width)
 }

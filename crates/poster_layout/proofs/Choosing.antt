@@ -1,6 +1,6 @@
 -- The choice of a pitch, one pitch after another.
-use Rattle.std.proofs.Common.{◌≡◌, ℕ, zero, suc, ◌+◌, ◌-◌, ◌*◌, ◌<◌, ◌≤◌, ◌==◌, ◌⊎◌, inl, inr, Bool, true, false, cond, ◌&&◌, ◌||◌, List, [], ◌∷◌, ◌++◌, length, drop, map, filter, fold, get_or, Option, Some, None, unwrap_or, refl, ap, sym, ◌∙◌, arith}
-use Rattle.std.specs.Prelude.{nat_le, nat_lt}
+use Rattle.std.proofs.Common.{◌≡◌, ℕ, zero, suc, ◌+◌, ◌-◌, ◌*◌, ◌<◌, ◌≤◌, ◌==◌, ◌⊎◌, inl, inr, Bool, true, false, cond, ◌&&◌, ◌||◌, List, [], ◌∷◌, ◌++◌, length, drop, map, filter, fold, get_or, Option, Some, None, unwrap_or, refl, ap, sym, ◌∙◌, subst, arith}
+use Rattle.std.specs.Prelude.{nat_le, nat_lt, IsTrue, MatchOption}
 use Rattle.std.specs.List.{find, range_with_len}
 use Rattle.std.proofs.lemmas.Bool.{ne_eqb}
 use Rattle.std.proofs.lemmas.Bool.Decides.{nat_tests}
@@ -10,8 +10,9 @@ use Rattle.std.proofs.lemmas.List.FromFn.{get_or-map-range_with_len}
 use Rattle.poster_plan.specs.declared.plan.Plan.{Plan}
 use Rattle.poster_plan.specs.Placing.{named}
 use Rattle.poster_plan.specs.Pitches.{better_of, first_pitch, fits, full_left, is_better, is_roomy, pitch_of, pitches, small_left, suits, tried}
-use Rattle.poster_layout.specs.Fits.{above, best_of, IsPitch}
-use Rattle.poster_layout.proofs.Finding.{find_here, find_past}
+use Rattle.poster_layout.specs.declared.laying.Laid.{Laid}
+use Rattle.poster_layout.specs.Fits.{above, best_of, IsLaid, IsPitch}
+use Rattle.poster_table.proofs.Finding.{find_here, find_past}
 
 -- the pitch of a number
 abbrev pub pitch_numbered : ℕ → ℕ
@@ -168,6 +169,16 @@ suits_is plan u full small names roomy e f g =
     ∙ ap (λ (n : ℕ). nat_le (10 * full_left u plan) names && nat_le (30 * n) names) f
     ∙ ap (λ (n : ℕ). nat_le (10 * full_left u plan) n && nat_le (30 * small_left u plan) n) g
     ∙ sym (ap (λ (b : Bool). b && nat_le (10 * full_left u plan) (length (named plan.marks)) && nat_le (30 * small_left u plan) (length (named plan.marks))) roomy)
+
+-- the names at a pitch, where it suits
+abbrev pub Found : Plan → ℕ → Option Laid → Type 0
+Found plan u found = MatchOption found (suits plan u ≡ false) (λ laid. IsLaid plan laid × (laid.pitch ≡ u) × IsTrue (suits plan u))
+
+pub found_none : (plan : Plan) (u : ℕ) (found : Option Laid) → found ≡ None → Found plan u found → suits plan u ≡ false
+found_none plan u found is h = subst (Found plan u) is h
+
+pub found_some : (plan : Plan) (u : ℕ) (found : Option Laid) (laid : Laid) → found ≡ Some laid → Found plan u found → IsLaid plan laid × (laid.pitch ≡ u) × IsTrue (suits plan u)
+found_some plan u found laid is h = subst (Found plan u) is h
 
 pub number_of : (i d : ℕ) → i < 46 → get_or pitches i d ≡ pitch_numbered i
 number_of i d low = get_or-map-range_with_len pitch_numbered 0 46 i i d low (omega arith)

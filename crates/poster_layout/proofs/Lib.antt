@@ -1,12 +1,6 @@
-mod Members
-mod Reaching
-mod Rows
-mod Searching
-mod Putting
+mod Corners
 mod Rooming
-mod Finding
 mod Counted
-mod Tabling
 mod Placed
 mod Ordering
 mod Choosing

@@ -10,7 +10,7 @@ use Rattle.poster_plan.specs.declared.place.Place.{Place}
 use Rattle.poster_plan.specs.Placing.{place_names, place_next, with_place, Placing}
 use Rattle.poster_layout.specs.declared.room.Room.{Room}
 use Rattle.poster_layout.specs.Rooms.{free_piece, ground_thing, name_thing, placing_of, taken_things, IsRoom, IsRoomWith}
-use Rattle.poster_layout.specs.Tables.{IsTable}
+use Rattle.poster_table.specs.Tables.{IsTable}
 
 -- a room that follows another
 pub room_then : (a b c : Room) (first second : List Printed) → IsRoomWith a b first → IsRoomWith b c second → IsRoomWith a c second

@@ -12,6 +12,12 @@ le_true m n h = grind (arith, nat_tests)
 le_from : (m n : ℕ) → nat_le m n ≡ true → m ≤ n
 le_from m n e = grind (arith, nat_tests)
 
+pub lt_from : (m n : ℕ) → nat_lt m n ≡ true → m < n
+lt_from m n e = grind (arith, nat_tests)
+
+pub not_lt_from : (m n : ℕ) → nat_lt m n ≡ false → n ≤ m
+not_lt_from m n e = grind (arith, nat_tests)
+
 lt_false : (m n : ℕ) → n ≤ m → nat_lt m n ≡ false
 lt_false m n h = grind (arith, nat_tests)
 

@@ -1,5 +1,5 @@
 -- Frames and points that are near enough to be reckoned with.
-use Rattle.std.specs.Prelude.{ℕ, ◌≤◌, Bool, List, [], ◌∷◌, unsigned_abs}
+use Rattle.std.specs.Prelude.{ℕ, ◌≤◌, Bool, ℤ, pos, ◌+ℤ◌, ◌-ℤ◌, int_le, List, [], ◌∷◌, unsigned_abs}
 use Rattle.line_offsets.specs.Shifts.{drawn_at}
 use Rattle.eight_sides.specs.Frames.{frame_at, origin}
 use Rattle.poster_plan.specs.declared.plan.Piece.{Piece}
@@ -16,10 +16,18 @@ pub record IsNearFrame (f : Frame) : Type 0 where
   pub across : IsNearBy f.across
   pub down : IsNearBy f.down
 
--- the frame of the start of the first of these pieces, that of the origin where there is none
+-- a point of what is drawn
+pub record IsNearCorner (c : Corner) : Type 0 where
+  pub across : unsigned_abs c.x ≤ 549755813888
+  pub down : unsigned_abs c.y ≤ 549755813888
+
+-- the start of the first of these pieces, the origin where there is none
+abbrev pub first_corner : ℕ → List Piece → Corner
+first_corner u [] = origin
+first_corner u (p ∷ ps) = drawn_at u p.start
+
 abbrev pub first_frame : ℕ → List Piece → Frame
-first_frame u [] = frame_at origin
-first_frame u (p ∷ ps) = frame_at (drawn_at u p.start)
+first_frame u ps = frame_at (first_corner u ps)
 
 -- the ends of a piece
 abbrev pub piece_ends : ℕ → Piece → List Corner
@@ -36,6 +44,20 @@ pub record IsDrawnFrame (f : Frame) : Type 0 where
 pub record IsLegendPoint (c : Corner) : Type 0 where
   pub across : unsigned_abs c.x ≤ 919755813888
   pub down : unsigned_abs c.y ≤ 549755858888
+
+-- a frame is no wider than it is high; the points to the right of it and below it
+abbrev pub is_no_wider : Frame → Bool
+is_no_wider f = int_le (f.across.greatest -ℤ f.across.least) (f.down.greatest -ℤ f.down.least)
+
+abbrev pub right_of : Frame → Corner
+right_of f = record { x = f.across.greatest +ℤ pos 30; y = f.down.least }
+
+abbrev pub below : Frame → Corner
+below f = record { x = f.across.least; y = f.down.greatest +ℤ pos 30 }
+
+-- so far to the right of a point, and so far below it
+abbrev pub beyond : Corner → ℕ → ℕ → Corner
+beyond c across low = record { x = c.x +ℤ pos across; y = c.y +ℤ pos low }
 
 -- it is clear there
 abbrev pub is_clear_at : ℕ → Plan → List Printed → ℕ → ℕ → Corner → Bool

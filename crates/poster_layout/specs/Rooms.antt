@@ -13,7 +13,7 @@ use Rattle.poster_plan.specs.Signs.{ground_at, piece_at, sign_of}
 use Rattle.poster_plan.specs.Places.{place_shape}
 use Rattle.poster_plan.specs.Placing.{is_clear, printed_shape, Placing}
 use Rattle.poster_layout.specs.declared.room.Room.{Room}
-use Rattle.poster_layout.specs.Tables.{IsTable}
+use Rattle.poster_table.specs.Tables.{IsTable}
 
 -- the ground of a station, which keeps the names of others away
 abbrev pub ground_thing : ℕ → Mark → Thing

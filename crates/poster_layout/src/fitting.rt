@@ -57,8 +57,9 @@ fn first_suiting(alloc: Global, plan: &Plan) -> Result<Laid, NoMemory>
     let names = numbers.len();
     for i in 0..45 {
         let found = suiting_at(alloc, 20 + 4 * i, plan, names)?;
-        if let Some(laid) = found {
-            return Ok(laid);
+        match found {
+            Some(laid) => return Ok(laid),
+            None => {}
         }
     }
     let laid = lay_out(alloc, 200, plan)?;
@@ -166,7 +167,7 @@ fn better_of(plan: &Plan, best: Laid, laid: Laid) -> Laid
     requires best { IsLaid plan.now best }
     requires laid { IsLaid plan.now laid }
     ensures laid { IsLaid plan.now result }
-    ensures pitch { result.pitch ≡ better_of plan.now best.entry.pitch laid.entry.pitch }
+    ensures pitch { result.pitch ≡ better_of plan.now best.pitch laid.pitch }
 {
     if is_better(&laid, &best) {
         return laid;

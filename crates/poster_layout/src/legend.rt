@@ -1,16 +1,16 @@
 //! Where the legend stands.
 
-ghost use Rattle.std.specs.Prelude.{◌≡◌, ◌<◌, ◌≤◌, ◌+◌, ◌-◌, ◌*◌, ◌/◌, ◌%◌, nat_le, unsigned_abs, All, IfSome};
-ghost use Rattle.poster_layout.specs.Extents.{is_clear_at, IsDrawnFrame, IsDrawnPoint, IsLegend, IsLegendPoint, IsNearFrame};
+ghost use Rattle.std.specs.Prelude.{◌≡◌, ◌<◌, ◌≤◌, ◌+◌, ◌-◌, ◌*◌, ◌/◌, ◌%◌, nat_le, unsigned_abs, All, IfSome, Some};
+ghost use Rattle.poster_layout.specs.Extents.{below, beyond, is_clear_at, is_no_wider, right_of, IsDrawnFrame, IsDrawnPoint, IsLegend, IsLegendPoint, IsNearFrame};
 ghost use Rattle.poster_plan.specs.Legends.{frame_beside, column_for, corners_for, is_clear_of_all, legend_height, legend_of, legend_shape, legend_start, legend_width, outside, row_at, rows_for, widely};
 ghost use Rattle.std.specs.List.{find, list_any};
-ghost use Rattle.eight_sides.specs.Shapes.{meet};
+ghost use Rattle.eight_sides.specs.Shapes.{meet, IsFar};
 ghost use Rattle.poster_plan.specs.declared.plan.Mark.{Mark};
 ghost use Rattle.poster_plan.specs.declared.plan.Piece.{Piece};
 ghost use Rattle.poster_plan.specs.Placing.{meets_printed};
 ghost use Rattle.poster_plan.specs.Signs.{mark_at, piece_at};
 
-use crate::extent::frame_with;
+use crate::extent::{frame_with, length_of};
 use eight_sides::{Frame, Interval, Shape, meet, upright, widened};
 use line_offsets::Corner;
 use name_places::{down, mark_at, piece_at, printed_shape, up};
@@ -110,9 +110,11 @@ pub fn legend_of(
     if lines == 0 {
         return None;
     }
-    let (width, height) = (legend_width(lines, widest), legend_height(lines));
+    let width = legend_width(lines, widest);
+    let height = legend_height(lines);
+    let start = legend_start(pitch, plan, printed, width, height);
     Some(Legend {
-        start: legend_start(pitch, plan, printed, width, height),
+        start,
         column: column_for(widest),
         rows: rows_for(lines),
     })
@@ -185,7 +187,8 @@ fn corners_for(f: Frame, width: u64, height: u64) -> [Corner; 4]
 fn widely(z: i64, long: u64) -> Interval
     requires z { unsigned_abs z ≤ 1099511627776 }
     requires long { long ≤ 370000000000 }
-    ensures { result ≡ widely z long }
+    ensures value { result ≡ widely z long }
+    ensures far { IsFar result }
 {
     Interval {
         least: down(z, 30),
@@ -200,7 +203,9 @@ fn legend_shape(width: u64, height: u64, start: Corner) -> Shape
     requires height { height ≤ 45000 }
     ensures { result ≡ legend_shape width height start }
 {
-    upright(widely(start.x, width), widely(start.y, height))
+    let across = widely(start.x, width);
+    let low = widely(start.y, height);
+    upright(across, low)
 }
 
 /// Whether it keeps clear of all stations, straight pieces and printed names.
@@ -208,9 +213,13 @@ fn is_clear_of_all(pitch: u32, plan: &Plan, printed: &[Printed], shape: Shape) -
     requires { pitch ≤ 200 }
     ensures { result ≡ is_clear_of_all pitch plan.now printed.now shape }
 {
-    !meets_mark(pitch, plan.marks.as_slice(), shape)
-        && !meets_piece(pitch, plan.pieces.as_slice(), shape)
-        && !meets_printed(pitch, plan, printed, shape)
+    if meets_mark(pitch, plan.marks.as_slice(), shape) {
+        return false;
+    }
+    if meets_piece(pitch, plan.pieces.as_slice(), shape) {
+        return false;
+    }
+    !meets_printed(pitch, plan, printed, shape)
 }
 
 /// Whether a shape meets a station.
@@ -255,18 +264,44 @@ fn meets_printed(pitch: u32, plan: &Plan, printed: &[Printed], shape: Shape) -> 
 /// Beside the map: to the right of one that is no wider than it is high, and else below it.
 fn outside(f: Frame) -> Corner
     requires { IsNearFrame f }
-    ensures { result ≡ outside f }
+    ensures value { result ≡ outside f }
+    ensures near { IsLegendPoint result }
 {
-    if f.across.greatest - f.across.least <= f.down.greatest - f.down.least {
-        Corner {
-            x: up(f.across.greatest, 30),
-            y: f.down.least,
-        }
-    } else {
-        Corner {
-            x: f.across.least,
-            y: up(f.down.greatest, 30),
-        }
+    if is_no_wider(f) {
+        return right_of(f);
+    }
+    below(f)
+}
+
+/// Whether a frame is no wider than it is high.
+fn is_no_wider(f: Frame) -> bool
+    requires { IsNearFrame f }
+    ensures { result ≡ is_no_wider f }
+{
+    length_of(f.across) <= length_of(f.down)
+}
+
+/// To the right of a frame.
+fn right_of(f: Frame) -> Corner
+    requires { IsNearFrame f }
+    ensures value { result ≡ right_of f }
+    ensures near { IsLegendPoint result }
+{
+    Corner {
+        x: up(f.across.greatest, 30),
+        y: f.down.least,
+    }
+}
+
+/// Below a frame.
+fn below(f: Frame) -> Corner
+    requires { IsNearFrame f }
+    ensures value { result ≡ below f }
+    ensures near { IsLegendPoint result }
+{
+    Corner {
+        x: f.across.least,
+        y: up(f.down.greatest, 30),
     }
 }
 
@@ -277,30 +312,43 @@ pub fn row_at(legend: Legend, i: u32) -> Corner
     ensures value { result ≡ row_at legend i }
     ensures near { IsDrawnPoint result }
 {
-    let right = times(legend.column, u64::from(column_of(i, legend.rows)));
-    let low = 15 + 45 * u64::from(place_of(i, legend.rows));
-    Corner {
-        x: up(legend.start.x, right),
-        y: up(legend.start.y, low),
-    }
+    let right = times(legend.column, column_of(i, legend.rows));
+    let low = low_of(i, legend.rows);
+    beyond(legend.start, right, low)
 }
 
 /// The column of row `i`.
-fn column_of(i: u32, rows: u32) -> u32
+fn column_of(i: u32, rows: u32) -> u64
     requires { 0 < rows }
     ensures value { result ≡ i / rows }
     ensures small { result ≤ i }
 {
-    i / rows
+    u64::from(i / rows)
 }
 
-/// Its place in its column.
-fn place_of(i: u32, rows: u32) -> u32
-    requires { 0 < rows }
-    ensures value { result ≡ i % rows }
-    ensures small { result ≤ i }
+/// How far down row `i` is.
+fn low_of(i: u32, rows: u32) -> u64
+    requires rows { 0 < rows }
+    requires row { i ≤ 1000 }
+    ensures value { result ≡ 15 + 45 * (i % rows) }
+    ensures small { result ≤ 45015 }
 {
-    i % rows
+    15 + 45 * u64::from(i % rows)
+}
+
+/// So far to the right of where a legend starts, and so far below it.
+fn beyond(start: Corner, across: u64, low: u64) -> Corner
+    requires start { IsLegendPoint start }
+    requires across { across ≤ 4294967445000 }
+    requires low { low ≤ 45015 }
+    ensures value { result ≡ beyond start across low }
+    ensures x { unsigned_abs result.x ≤ unsigned_abs start.x + across }
+    ensures y { unsigned_abs result.y ≤ unsigned_abs start.y + low }
+{
+    Corner {
+        x: up(start.x, across),
+        y: up(start.y, low),
+    }
 }
 
 /// A frame that holds the legend of so many lines too.
@@ -313,12 +361,21 @@ pub fn frame_beside(f: Frame, lines: u32, widest: u32, legend: Option<Legend>) -
 {
     match legend {
         None => f,
-        Some(legend) => {
-            let end = Corner {
-                x: up(legend.start.x, legend_width(lines, widest)),
-                y: up(legend.start.y, legend_height(lines)),
-            };
-            widened(widened(f, legend.start), end)
-        }
+        Some(placed) => frame_around(f, lines, widest, placed),
     }
+}
+
+/// A frame that holds this legend of so many lines too.
+fn frame_around(f: Frame, lines: u32, widest: u32, legend: Legend) -> Frame
+    requires frame { IsNearFrame f }
+    requires lines { lines ≤ 1000 }
+    requires legend { IsLegend legend }
+    ensures value { result ≡ frame_beside f lines widest (Some legend) }
+    ensures drawn { IsDrawnFrame result }
+{
+    let width = legend_width(lines, widest);
+    let height = legend_height(lines);
+    let end = beyond(legend.start, width, height);
+    let begun = widened(f, legend.start);
+    widened(begun, end)
 }

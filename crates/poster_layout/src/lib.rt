@@ -2,15 +2,12 @@
 //! rules say. Names look for their places in a table of cells, in a time that grows with their number and not its square.
 #![tactic(auto)]
 
-mod cells;
 mod extent;
 mod fitting;
 mod laying;
 mod legend;
 mod room;
 mod roomy;
-mod table;
-mod things;
 
 pub use extent::frame_with;
 pub use fitting::{Layout, layout_of};

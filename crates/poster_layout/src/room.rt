@@ -1,22 +1,22 @@
 //! The room of names at a pitch: what they keep clear of, and those that are printed so far.
 
-ghost use Rattle.std.specs.Prelude.{◌≡◌, ◌≤◌, ◌<◌, ◌+◌, ◌++◌, ◌∷◌, [], if◌then◌else◌, ℕ, filter, length, map, IfOk, OnOk};
+ghost use Rattle.std.specs.Prelude.{◌≡◌, ◌≤◌, ◌<◌, ◌+◌, ◌^◌, ◌++◌, ◌∷◌, [], if◌then◌else◌, ℕ, filter, length, map, IfOk, OnOk};
 ghost use Rattle.eight_sides.specs.declared.shape.Shape.{Shape};
 ghost use Rattle.std.specs.List.{find};
 ghost use Rattle.poster_plan.specs.declared.layout.Step.TheVariants.{Full};
 ghost use Rattle.poster_plan.specs.Places.{places_in};
 ghost use Rattle.poster_plan.specs.Placing.{freedom, is_beside, is_clear, is_free, mark_numbered, place_names, place_next};
 ghost use Rattle.name_places.specs.Near.{IsNearShape};
-ghost use Rattle.poster_layout.specs.Tables.{IsShortThing, IsTable};
+ghost use Rattle.poster_table.specs.Tables.{IsShortThing, IsTable};
 ghost use Rattle.poster_layout.specs.Rooms.{free_piece, ground_thing, is_free_at, own, placing_of, IsRoom, IsRoomWith};
 
-use crate::table::Table;
 use eight_sides::Shape;
 use map_base::NoMemory;
 use name_places::{
     beside_lines, ground_at, mark_numbered, over_lines, piece_at, place_shape, sign_of,
 };
 use poster_plan::{Kin, Mark, Piece, Place, Plan, Printed, Step, Thing};
+use poster_table::Table;
 use std::alloc::Global;
 
 /// The room of names at a pitch.
@@ -155,12 +155,10 @@ impl<'a> Room<'a> {
             step,
             place,
         };
+        let sign = sign_of(self.pitch, mark_numbered(self.plan, i));
+        let shape = place_shape(sign, step, place);
         self.taken.put(Thing {
-            shape: place_shape(
-                sign_of(self.pitch, mark_numbered(self.plan, i)),
-                step,
-                place,
-            ),
+            shape,
             kin: Kin::Nobody,
         })?;
         self.printed.push(name)?;
@@ -206,11 +204,38 @@ impl<'a> Room<'a> {
 
 /// A count, and one more where something is so.
 fn counted(count: usize, is_so: bool) -> usize
-    requires { count < 9223372036854775807 }
+    requires { count + 1 < 2 ^ 64 }
     ensures value { result ≡ count + (if is_so then 1 else 0) }
     ensures small { result ≤ count + 1 }
 {
-    if is_so { count + 1 } else { count }
+    if is_so {
+        return count + 1;
+    }
+    count
+}
+
+/// The ground of a station, which keeps the names of others away.
+fn ground_thing(pitch: u32, mark: Mark) -> Thing
+    requires { pitch ≤ 200 }
+    ensures value { result ≡ ground_thing pitch mark }
+    ensures short { IsShortThing result }
+{
+    Thing {
+        shape: ground_at(pitch, mark),
+        kin: Kin::Node(mark.node.0),
+    }
+}
+
+/// A straight piece, which keeps all names away.
+fn free_piece(pitch: u32, piece: Piece) -> Thing
+    requires { pitch ≤ 200 }
+    ensures value { result ≡ free_piece pitch piece }
+    ensures short { IsShortThing result }
+{
+    Thing {
+        shape: piece_at(pitch, piece),
+        kin: Kin::Nobody,
+    }
 }
 
 /// The table of the grounds of stations.
@@ -221,10 +246,7 @@ fn ground_table(alloc: Global, pitch: u32, marks: &[Mark]) -> Result<Table, NoMe
 {
     let mut table = Table::none(alloc, marks.len())?;
     for mark in marks {
-        table.put(Thing {
-            shape: ground_at(pitch, *mark),
-            kin: Kin::Node(mark.node.0),
-        })?;
+        table.put(ground_thing(pitch, *mark))?;
     }
     Ok(table)
 }
@@ -237,10 +259,7 @@ fn piece_table(alloc: Global, pitch: u32, pieces: &[Piece]) -> Result<Table, NoM
 {
     let mut table = Table::none(alloc, pieces.len())?;
     for piece in pieces {
-        table.put(Thing {
-            shape: piece_at(pitch, *piece),
-            kin: Kin::Nobody,
-        })?;
+        table.put(free_piece(pitch, *piece))?;
     }
     Ok(table)
 }

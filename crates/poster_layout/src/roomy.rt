@@ -3,13 +3,13 @@
 ghost use Rattle.std.specs.Prelude.{◌≡◌, ◌≤◌, ◌++◌, ◌∷◌, [], not, true, IfOk};
 ghost use Rattle.std.specs.List.{list_any};
 ghost use Rattle.poster_plan.specs.Things.{clash};
-ghost use Rattle.poster_layout.specs.Tables.{IsShortThing, IsTable};
+ghost use Rattle.poster_table.specs.Tables.{IsShortThing, IsTable};
 ghost use Rattle.poster_plan.specs.Pitches.{is_roomy, mark_thing, piece_thing};
 
-use crate::table::Table;
 use map_base::NoMemory;
 use name_places::{mark_at, piece_at};
 use poster_plan::{Kin, Mark, Piece, Plan, Thing};
+use poster_table::Table;
 use std::alloc::Global;
 
 /// Whether stations and straight pieces that have no node in common keep apart at a pitch.
@@ -19,7 +19,7 @@ pub(crate) fn is_roomy(alloc: Global, pitch: u32, plan: &Plan) -> Result<bool, N
 {
     let marks = plan.marks.as_slice();
     let pieces = plan.pieces.as_slice();
-    let mut table = Table::none(alloc, marks.len() + pieces.len())?;
+    let mut table = Table::none(alloc, marks.len().saturating_add(pieces.len()))?;
     for mark in marks {
         let apart = put_apart(&mut table, mark_thing(pitch, *mark))?;
         if !apart {
@@ -27,8 +27,8 @@ pub(crate) fn is_roomy(alloc: Global, pitch: u32, plan: &Plan) -> Result<bool, N
         }
     }
     for piece in pieces {
-        let apart = put_apart(&mut table, piece_thing(pitch, *piece))?;
-        if !apart {
+        let free = put_apart(&mut table, piece_thing(pitch, *piece))?;
+        if !free {
             return Ok(false);
         }
     }

@@ -27,3 +27,6 @@ returns-clause-value c =
     c.loop-name.invariant.value
     ∙ ap (λ (ps : List Printed). fold widened start (flat_map (λ (p : Printed). shape_corners (printed_shape u plan p)) ps)) (take_all c.loop-name.name-index c.args.printed.now (omega arith))
     ∙ framed u plan c.args.printed.now
+
+pub loop-name-init : goal.loop-name-init
+loop-name-init c = record { value = c.walked_frame-frame.ensures.value; near = c.walked_frame-frame.ensures.near }

@@ -18,3 +18,6 @@ returns-clause-value c =
     c.loop-piece.invariant.value
     ∙ ap (λ (ps : List Piece). fold widened (first_frame c.args.pitch c.args.pieces.now) (flat_map (piece_ends c.args.pitch) ps)) (take_all c.loop-piece.piece-index c.args.pieces.now (omega arith))
     ∙ walked c.args.pitch c.args.pieces.now
+
+pub loop-piece-init : goal.loop-piece-init
+loop-piece-init c = record { value = c.first_frame-frame.ensures.value; near = c.first_frame-frame.ensures.near }

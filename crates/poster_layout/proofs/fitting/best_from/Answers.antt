@@ -45,3 +45,9 @@ pub returns-clause-pitch : goal.returns-clause-pitch
 returns-clause-pitch c =
     best_last c.args.plan.now c.loop-left.best.pitch c.loop-left.left c.loop-left.pitch c.loop-left.invariant.pitch (c.goes_on.ensures.off c.loop-left-test.false)
     ∙ c.loop-left.invariant.whole
+
+pub overflow_add-pitch : goal.overflow_add-pitch
+overflow_add-pitch c = let on = c.goes_on.ensures.on c.loop-left-test.true in omega (arith, on.1)
+
+pub loop-left-smaller : goal.loop-left-smaller
+loop-left-smaller c = let on = c.goes_on.ensures.on c.loop-left-test.true in omega (arith, on.1)

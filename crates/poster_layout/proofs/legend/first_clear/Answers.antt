@@ -4,7 +4,7 @@ use Rattle.std.proofs.lemmas.List.{at_drop_all}
 use Rattle.eight_sides.specs.Frames.{origin}
 use Rattle.poster_plan.specs.Legends.{is_clear_of_all}
 use Rattle.poster_layout.specs.Extents.{is_clear_at}
-use Rattle.poster_layout.proofs.Finding.{find_here, find_past}
+use Rattle.poster_table.proofs.Finding.{find_here, find_past}
 use Rattle.poster_layout.proofs.legend.first_clear.Goals as goal
 
 pub legend_shape-requires-clause-start : goal.legend_shape-requires-clause-start

@@ -1,5 +1,5 @@
 use Rattle.std.proofs.Common.{◌≡◌, map, take}
-use Rattle.poster_layout.specs.Tables.{IsTable}
+use Rattle.poster_table.specs.Tables.{IsTable}
 use Rattle.poster_layout.specs.Rooms.{free_piece}
 use Rattle.poster_layout.proofs.room.piece_table.Given as goal
 

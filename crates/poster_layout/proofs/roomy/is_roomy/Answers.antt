@@ -41,17 +41,17 @@ loop-piece-init c = record {
 
 pub loop-piece-preserved : goal.loop-piece-preserved
 loop-piece-preserved c =
-    let after = c.in_ok-apart-2.ensures.table c.if-not-apart-2.false in
+    let after = c.in_ok-free.ensures.table c.if-not-free.false in
     record {
       table = after.0;
-      left = piece_apart c.args.pitch c.as_slice-pieces.result.now c.loop-piece.piece-index no_piece c.loop-piece.table.things.items c.put_apart-apart-2.new.table.things.items c.piece_thing.result (is_roomy c.args.pitch c.args.plan.now) c.loop-piece-test.true
-          c.piece_thing.ensures.value (sym c.in_ok-apart-2.ensures.apart ∙ c.if-not-apart-2.false) after.1 c.loop-piece.invariant.left;
+      left = piece_apart c.args.pitch c.as_slice-pieces.result.now c.loop-piece.piece-index no_piece c.loop-piece.table.things.items c.put_apart-free.new.table.things.items c.piece_thing.result (is_roomy c.args.pitch c.args.plan.now) c.loop-piece-test.true
+          c.piece_thing.ensures.value (sym c.in_ok-free.ensures.apart ∙ c.if-not-free.false) after.1 c.loop-piece.invariant.left;
     }
 
-pub returns-then-not-apart-2 : goal.returns-then-not-apart-2
-returns-then-not-apart-2 c =
+pub returns-then-not-free : goal.returns-then-not-free
+returns-then-not-free c =
     piece_met c.args.pitch c.as_slice-pieces.result.now c.loop-piece.piece-index no_piece c.loop-piece.table.things.items c.piece_thing.result (is_roomy c.args.pitch c.args.plan.now) c.loop-piece-test.true
-    c.piece_thing.ensures.value (sym c.in_ok-apart-2.ensures.apart ∙ c.if-not-apart-2.true) c.loop-piece.invariant.left
+    c.piece_thing.ensures.value (sym c.in_ok-free.ensures.apart ∙ c.if-not-free.true) c.loop-piece.invariant.left
 
 pub returns : goal.returns
 returns c =

@@ -1,6 +1,6 @@
 use Rattle.std.proofs.Common.{◌≡◌, ◌++◌, drop, map}
 use Rattle.poster_plan.specs.Pitches.{is_roomy, mark_thing, none_clash, piece_thing}
-use Rattle.poster_layout.specs.Tables.{IsTable}
+use Rattle.poster_table.specs.Tables.{IsTable}
 use Rattle.poster_layout.proofs.roomy.is_roomy.Given as goal
 
 -- nothing clashes in the table, and what is left decides

@@ -3,7 +3,7 @@ use Rattle.std.specs.List.{find}
 use Rattle.std.proofs.lemmas.List.{at_drop_all}
 use Rattle.poster_plan.specs.declared.place.Place.TheVariants as place
 use Rattle.poster_layout.specs.Rooms.{is_free_at}
-use Rattle.poster_layout.proofs.Finding.{find_past, find_here}
+use Rattle.poster_table.proofs.Finding.{find_past, find_here}
 use Rattle.poster_layout.proofs.room.Room.first_of.Goals as goal
 
 pub loop-place-preserved : goal.loop-place-preserved

@@ -4,6 +4,7 @@ use Rattle.poster_plan.specs.Things.{clash}
 use Rattle.poster_plan.specs.Placing.{is_beside, meets_other, meets_printed}
 use Rattle.poster_layout.specs.Rooms.{own}
 use Rattle.poster_layout.proofs.Rooming.{clear_as, not_clear, taken_is}
+use Rattle.poster_layout.proofs.Corners.{near_short}
 use Rattle.poster_layout.proofs.room.Room.is_clear.Goals as goal
 
 pub returns-then-clashes : goal.returns-then-clashes
@@ -25,3 +26,9 @@ returns c =
     let free : (meets_other u plan c.args.node c.args.shape || meets_printed u plan printed c.args.shape) ≡ false =
     sym (taken_is u plan printed c.args.node c.args.shape) ∙ ap (list_any (clash (own c.args.node c.args.shape))) (sym c.requires.room.takes) ∙ sym c.clashes.ensures ∙ c.if-clashes.false in
     c.is_beside.ensures c.args.node c.args.shape refl ∙ clear_as (meets_other u plan c.args.node c.args.shape) (meets_printed u plan printed c.args.shape) (is_beside u plan c.args.step c.args.shape) free
+
+pub clashes-requires-clause-thing : goal.clashes-requires-clause-thing
+clashes-requires-clause-thing c = near_short c.args.shape c.requires.shape
+
+pub is_beside-requires-clause-name : goal.is_beside-requires-clause-name
+is_beside-requires-clause-name c = near_short c.args.shape c.requires.shape

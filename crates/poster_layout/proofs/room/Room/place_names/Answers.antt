@@ -1,7 +1,8 @@
 use Rattle.std.proofs.Common.{ℕ, List, refl, ap, ◌∙◌, arith}
 use Rattle.std.proofs.lemmas.List.{take_all}
 use Rattle.poster_plan.specs.Placing.{place_names, Placing}
-use Rattle.poster_layout.proofs.Placed.{next_placed, room_as, room_then}
+use Rattle.poster_layout.proofs.Placed.{next_placed, room_as, room_kept, room_then}
+use Rattle.poster_layout.specs.Rooms.{placing_of}
 use Rattle.poster_layout.proofs.room.Room.place_names.Goals as goal
 
 pub loop-i-preserved : goal.loop-i-preserved
@@ -23,3 +24,9 @@ pub returns-clause-left : goal.returns-clause-left
 returns-clause-left c =
     let old = c.args.self.now in
     ap (λ (p : Placing). p.left) (c.loop-i.invariant.placed ∙ ap (λ (ms : List ℕ). place_names old.pitch old.plan.now c.args.step ms old.printed.items) (take_all c.loop-i.i-index c.args.marks.now (omega arith)))
+
+pub loop-i-init : goal.loop-i-init
+loop-i-init c = record { room = room_kept c.args.self.now c.requires; placed = ap (λ (ks : List ℕ). placing_of c.args.self.now ks) c.new-left.ensures.items }
+
+pub place_next-requires : goal.place_next-requires
+place_next-requires c = c.loop-i.invariant.room.room

@@ -8,11 +8,11 @@ use Rattle.poster_layout.proofs.room.Room.place_next.Goals as goal
 pub returns-in_ok-print-in-Some-clause-room : goal.returns-in_ok-print-in-Some-clause-room
 returns-in_ok-print-in-Some-clause-room c =
     let h = c.in_ok-print-in-Some.ensures in
-    room_as c.args.self.now c.print-in-Some.new.self _ c.print-in-Some.new.self.printed.items (sym h.names) h
+    room_as c.args.self.now c.print.new.self _ c.print.new.self.printed.items (sym h.names) h
 
 pub returns-in_ok-print-in-Some-clause-placed : goal.returns-in_ok-print-in-Some-clause-placed
 returns-in_ok-print-in-Some-clause-placed c =
-    placed_some c.args.self.now c.print-in-Some.new.self c.args.step c.args.i c.in-Some.place c.first_free.result c.args.left.now.items c.in-Some.is c.in_ok-print-in-Some.ensures.names
+    placed_some c.args.self.now c.print.new.self c.args.step c.args.i c.in-Some.place c.first_free.result c.args.left.now.items c.in-Some.is c.in_ok-print-in-Some.ensures.names
     ∙ ap (λ (o : Option Place). with_place c.args.step c.args.i o (placing_of c.args.self.now c.args.left.now.items)) c.first_free.ensures
 
 pub returns-in_ok-push-in-None-clause-room : goal.returns-in_ok-push-in-None-clause-room
@@ -20,5 +20,5 @@ returns-in_ok-push-in-None-clause-room c = room_kept c.args.self.now c.requires
 
 pub returns-in_ok-push-in-None-clause-placed : goal.returns-in_ok-push-in-None-clause-placed
 returns-in_ok-push-in-None-clause-placed c =
-    placed_none c.args.self.now c.args.step c.args.i c.first_free.result c.args.left.now.items c.push-in-None.new.self.items c.in-None.is c.in_ok-push-in-None.ensures.items
+    placed_none c.args.self.now c.args.step c.args.i c.first_free.result c.args.left.now.items c.push.new.self.items c.in-None.is c.in_ok-push-in-None.ensures.items
     ∙ ap (λ (o : Option Place). with_place c.args.step c.args.i o (placing_of c.args.self.now c.args.left.now.items)) c.first_free.ensures
