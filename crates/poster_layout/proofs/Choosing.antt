@@ -1,5 +1,5 @@
 -- The choice of a pitch, one pitch after another.
-use Rattle.std.proofs.Common.{◌≡◌, ℕ, zero, suc, ◌+◌, ◌-◌, ◌*◌, ◌<◌, ◌≤◌, ◌==◌, ◌⊎◌, inl, inr, Bool, true, false, cond, ◌&&◌, ◌||◌, List, [], ◌∷◌, ◌++◌, length, drop, map, filter, fold, get_or, Option, Some, None, unwrap_or, refl, ap, sym, ◌∙◌, subst, arith}
+use Rattle.std.proofs.Common.{◌≡◌, ℕ, zero, suc, ◌+◌, ◌-◌, ◌*◌, ◌<◌, ◌≤◌, ◌==◌, ◌⊎◌, inl, inr, Bool, true, false, cond, ◌&&◌, ◌||◌, List, [], ◌∷◌, ◌++◌, length, drop, map, filter, fold, get_or, Option, Some, None, unwrap_or, refl, ap, sym, ◌∙◌, subst, w32, Fits, arith}
 use Rattle.std.specs.Prelude.{nat_le, nat_lt, IsTrue, MatchOption}
 use Rattle.std.specs.List.{find, range_with_len}
 use Rattle.std.proofs.lemmas.Bool.{ne_eqb}
@@ -33,20 +33,30 @@ all_kept test a (suc n) yes =
     ap (λ (b : Bool). cond b (pitch_numbered a ∷ rest) rest) (yes a (omega arith)) ∙ ap (λ (us : List ℕ). pitch_numbered a ∷ us) (all_kept test (a + 1) n (λ i low. yes i (omega (arith, low))))
 
 split : (a m n : ℕ) → range_with_len a (m + n) ≡ range_with_len a m ++ range_with_len (a + m) n
-split a zero n = let same : a ≡ a + 0 = omega arith in ap (λ (b : ℕ). range_with_len b n) same
+split a zero n =
+    let none : 0 + n ≡ n = omega arith in
+    let same : a ≡ a + 0 = omega arith in
+    ap (range_with_len a) none ∙ ap (λ (b : ℕ). range_with_len b n) same
 split a (suc m) n =
+    let more : suc m + n ≡ suc (m + n) = omega arith in
     let same : (a + 1) + m ≡ a + suc m = omega arith in
-    ap (λ (ks : List ℕ). a ∷ ks) (split (a + 1) m n ∙ ap (λ (b : ℕ). range_with_len (a + 1) m ++ range_with_len b n) same)
+    ap (range_with_len a) more ∙ ap (λ (ks : List ℕ). a ∷ ks) (split (a + 1) m n ∙ ap (λ (b : ℕ). range_with_len (a + 1) m ++ range_with_len b n) same)
 
 -- those from number m on, where a test passes these and no earlier one
-kept_from : (test : ℕ → Bool) (m n : ℕ) → m + n ≡ 46 → ((i : ℕ) → i < m → test (pitch_numbered i) ≡ false) → ((i : ℕ) → m ≤ i → test (pitch_numbered i) ≡ true) → filter test pitches ≡ map pitch_numbered (range_with_len m n)
-kept_from test m n all no yes =
-    ap (λ (k : ℕ). filter test (map pitch_numbered (range_with_len 0 k))) (sym all)
+kept_in : (test : ℕ → Bool) (m n : ℕ) (us : List ℕ) → us ≡ map pitch_numbered (range_with_len 0 (m + n)) → ((i : ℕ) → i < m → test (pitch_numbered i) ≡ false) → ((i : ℕ) → m ≤ i → test (pitch_numbered i) ≡ true)
+    → filter test us ≡ map pitch_numbered (range_with_len m n)
+kept_in test m n us are no yes =
+    let front : 0 + m ≡ m = omega arith in
+    ap (filter test) are
     ∙ ap (λ (ks : List ℕ). filter test (map pitch_numbered ks)) (split 0 m n)
+    ∙ ap (λ (k : ℕ). filter test (map pitch_numbered (range_with_len 0 m ++ range_with_len k n))) front
     ∙ ap (filter test) (map-append pitch_numbered (range_with_len 0 m) (range_with_len m n))
     ∙ filter-append test (map pitch_numbered (range_with_len 0 m)) (map pitch_numbered (range_with_len m n))
-    ∙ ap (λ (us : List ℕ). us ++ filter test (map pitch_numbered (range_with_len m n))) (none_kept test 0 m (λ i low. no i (omega (arith, low))))
+    ∙ ap (λ (ks : List ℕ). ks ++ filter test (map pitch_numbered (range_with_len m n))) (none_kept test 0 m (λ i low. no i (omega (arith, low))))
     ∙ all_kept test m n yes
+
+counted : (k : ℕ) → k ≡ 46 → pitches ≡ map pitch_numbered (range_with_len 0 k)
+counted k all = ap (λ (n : ℕ). map pitch_numbered (range_with_len 0 n)) (sym all)
 
 lt_true : (m n : ℕ) → m < n → nat_lt m n ≡ true
 lt_true m n h = grind (arith, nat_tests)
@@ -61,8 +71,9 @@ le_false : (m n : ℕ) → n < m → nat_le m n ≡ false
 le_false m n h = grind (arith, nat_tests)
 
 above_are : (j : ℕ) → j ≤ 45 → above (pitch_numbered j) ≡ map pitch_numbered (range_with_len (j + 1) (45 - j))
+unfolding above
 above_are j low =
-    kept_from (nat_lt (pitch_numbered j)) (j + 1) (45 - j) (omega (arith, low)) (λ i small. lt_false (pitch_numbered j) (pitch_numbered i) (omega (arith, small))) (λ i large. lt_true (pitch_numbered j) (pitch_numbered i) (omega (arith, large)))
+    kept_in (nat_lt (pitch_numbered j)) (j + 1) (45 - j) pitches (counted ((j + 1) + (45 - j)) (omega (arith, low))) (λ i small. lt_false (pitch_numbered j) (pitch_numbered i) (omega (arith, small))) (λ i large. lt_true (pitch_numbered j) (pitch_numbered i) (omega (arith, large)))
 
 -- the next of them
 pub above_next : (j : ℕ) → j < 45 → above (pitch_numbered j) ≡ pitch_numbered (j + 1) ∷ above (pitch_numbered (j + 1))
@@ -76,24 +87,29 @@ above_next j low =
 pub above_last : (j : ℕ) → j ≡ 45 → above (pitch_numbered j) ≡ []
 above_last j last = let none : 45 - j ≡ 0 = omega (arith, last) in above_are j (omega (arith, last)) ∙ ap (λ (n : ℕ). map pitch_numbered (range_with_len (j + 1) n)) none
 
-from_are : (j : ℕ) → j ≤ 45 → filter (nat_le (pitch_numbered j)) pitches ≡ pitch_numbered j ∷ above (pitch_numbered j)
+-- the pitches from one on
+unfoldable from_on : ℕ → List ℕ
+from_on u = filter (nat_le u) pitches
+
+from_are : (j : ℕ) → j ≤ 45 → from_on (pitch_numbered j) ≡ pitch_numbered j ∷ above (pitch_numbered j)
+unfolding from_on
 from_are j low =
     let more : 46 - j ≡ suc (45 - j) = omega (arith, low) in
-    kept_from (nat_le (pitch_numbered j)) j (46 - j) (omega (arith, low)) (λ i small. le_false (pitch_numbered j) (pitch_numbered i) (omega (arith, small))) (λ i large. le_true (pitch_numbered j) (pitch_numbered i) (omega (arith, large)))
+    kept_in (nat_le (pitch_numbered j)) j (46 - j) pitches (counted (j + (46 - j)) (omega (arith, low))) (λ i small. le_false (pitch_numbered j) (pitch_numbered i) (omega (arith, small))) (λ i large. le_true (pitch_numbered j) (pitch_numbered i) (omega (arith, large)))
     ∙ ap (λ (n : ℕ). map pitch_numbered (range_with_len j n)) more
     ∙ ap (λ (us : List ℕ). pitch_numbered j ∷ us) (sym (above_are j low))
 
 -- ---- the best
 
-not_better : (plan : Plan) (u : ℕ) → is_better plan u u ≡ false
-not_better plan u =
-    ap (λ (b : Bool). b || ((small_left u plan == small_left u plan) && nat_lt (full_left u plan) (full_left u plan))) (lt_false (small_left u plan) (small_left u plan) (omega arith))
-    ∙ ap (λ (b : Bool). (small_left u plan == small_left u plan) && b) (lt_false (full_left u plan) (full_left u plan) (omega arith))
-    ∙ and_false (small_left u plan == small_left u plan)
+never_before : (s f : ℕ) → (nat_lt s s || (s == s) && nat_lt f f) ≡ false
+never_before s f = ap (λ (b : Bool). b || (s == s) && nat_lt f f) (lt_false s s (omega arith)) ∙ ap (λ (b : Bool). (s == s) && b) (lt_false f f (omega arith)) ∙ and_false (s == s)
   where
     and_false : (b : Bool) → (b && false) ≡ false
     and_false true = refl
     and_false false = refl
+
+not_better : (plan : Plan) (u : ℕ) → is_better plan u u ≡ false
+not_better plan u = never_before (small_left u plan) (full_left u plan)
 
 -- the first of pitches that is tried
 first_tried : (plan : Plan) (best u : ℕ) (us : List ℕ) → fits plan u ≡ true → fold (better_of plan) best (tried plan (u ∷ us)) ≡ cond (full_left u plan == 0) (better_of plan best u) (fold (better_of plan) (better_of plan best u) (tried plan us))
@@ -104,29 +120,37 @@ first_tried plan best u us fit =
     by_test true = refl
     by_test false = refl
 
+-- the pitch by the first that suits
+pitch_by : (plan : Plan) → cond (fits plan (first_pitch plan)) (fold (better_of plan) (first_pitch plan) (tried plan (from_on (first_pitch plan)))) (first_pitch plan) ≡ pitch_of plan
+unfolding from_on
+pitch_by plan = refl
+
 -- where the first pitch fits, the best of those from it on is the pitch
 pub pitch_is : (plan : Plan) (u left : ℕ) → u ≡ first_pitch plan → IsPitch u → fits plan u ≡ true → left ≡ full_left u plan → best_of plan u left u ≡ pitch_of plan
+unfolding best_of
 pitch_is plan u left first is fit count =
-    let v = first_pitch plan in
     let j = is.0 in
     let numbered : u ≡ pitch_numbered j = is.2 in
-    let from : filter (nat_le u) pitches ≡ u ∷ above u = ap (λ (w : ℕ). filter (nat_le w) pitches) numbered ∙ from_are j is.1 ∙ ap (λ (w : ℕ). w ∷ above w) (sym numbered) in
+    let from : from_on u ≡ u ∷ above u = ap from_on numbered ∙ from_are j is.1 ∙ ap (λ (w : ℕ). w ∷ above w) (sym numbered) in
     let own : better_of plan u u ≡ u = ap (λ (b : Bool). cond b u u) (not_better plan u) in
     ap (λ (k : ℕ). best_of plan u k u) count
     ∙ ap (λ (w : ℕ). cond (full_left u plan == 0) w (fold (better_of plan) w (tried plan (above u)))) (sym own)
     ∙ sym (first_tried plan u u (above u) fit)
     ∙ sym (ap (λ (us : List ℕ). fold (better_of plan) u (tried plan us)) from)
-    ∙ sym (ap (λ (b : Bool). cond b (fold (better_of plan) u (tried plan (filter (nat_le u) pitches))) u) fit)
-    ∙ ap (λ (w : ℕ). cond (fits plan w) (fold (better_of plan) w (tried plan (filter (nat_le w) pitches))) w) first
+    ∙ sym (ap (λ (b : Bool). cond b (fold (better_of plan) u (tried plan (from_on u))) u) fit)
+    ∙ ap (λ (w : ℕ). cond (fits plan w) (fold (better_of plan) w (tried plan (from_on w))) w) first
+    ∙ pitch_by plan
 
 -- where it does not fit, it is the pitch
 pub pitch_large : (plan : Plan) (u : ℕ) → u ≡ first_pitch plan → fits plan u ≡ false → u ≡ pitch_of plan
 pitch_large plan u first large =
-    sym (ap (λ (b : Bool). cond b (fold (better_of plan) u (tried plan (filter (nat_le u) pitches))) u) large)
-    ∙ ap (λ (w : ℕ). cond (fits plan w) (fold (better_of plan) w (tried plan (filter (nat_le w) pitches))) w) first
+    sym (ap (λ (b : Bool). cond b (fold (better_of plan) u (tried plan (from_on u))) u) large)
+    ∙ ap (λ (w : ℕ). cond (fits plan w) (fold (better_of plan) w (tried plan (from_on w))) w) first
+    ∙ pitch_by plan
 
 -- one pitch more that fits
 pub best_more : (plan : Plan) (best left u : ℕ) (j : ℕ) → u ≡ pitch_numbered j → j < 45 → 0 < left → fits plan (u + 4) ≡ true → best_of plan (better_of plan best (u + 4)) (full_left (u + 4) plan) (u + 4) ≡ best_of plan best left u
+unfolding best_of
 best_more plan best left u j numbered low some fit =
     let next : u + 4 ≡ pitch_numbered (j + 1) = omega (arith, numbered) in
     let over : above u ≡ (u + 4) ∷ above (u + 4) = ap above numbered ∙ above_next j low ∙ ap (λ (w : ℕ). w ∷ above w) (sym next) in
@@ -136,6 +160,7 @@ best_more plan best left u j numbered low some fit =
 
 -- one that does not fit
 pub best_large : (plan : Plan) (best left u : ℕ) (j : ℕ) → u ≡ pitch_numbered j → j < 45 → 0 < left → fits plan (u + 4) ≡ false → best ≡ best_of plan best left u
+unfolding best_of
 best_large plan best left u j numbered low some large =
     let next : u + 4 ≡ pitch_numbered (j + 1) = omega (arith, numbered) in
     let over : above u ≡ (u + 4) ∷ above (u + 4) = ap above numbered ∙ above_next j low ∙ ap (λ (w : ℕ). w ∷ above w) (sym next) in
@@ -145,6 +170,7 @@ best_large plan best left u j numbered low some large =
 
 -- none is left
 pub best_last : (plan : Plan) (best left u : ℕ) → IsPitch u → (left ≡ 0) ⊎ (200 ≤ u) → best ≡ best_of plan best left u
+unfolding best_of
 best_last plan best left u is (inl none) = sym (ap (λ (b : Bool). cond b best (fold (better_of plan) best (tried plan (above u)))) (ap (λ (k : ℕ). k == 0) none))
 best_last plan best left u is (inr high) =
     let last : is.0 ≡ 45 = omega (arith, high, is.1, is.2) in
@@ -158,6 +184,19 @@ best_last plan best left u is (inr high) =
 -- the pitch after one
 pub next_pitch : (u : ℕ) → IsPitch u → u < 200 → IsPitch (u + 4)
 next_pitch u is low = (is.0 + 1, omega (arith, is.2, low), omega (arith, is.2))
+
+-- which number it has, how great it is, and that fewer are left
+pub number_low : (u : ℕ) (is : IsPitch u) → u < 200 → is.0 < 45
+number_low u is low = omega (arith, is.2, low)
+
+pub next_small : (u : ℕ) → IsPitch u → u < 200 → u + 4 ≤ 200
+next_small u is low = omega (arith, is.1, is.2, low)
+
+pub next_fits : (u : ℕ) → u < 200 → Fits w32 (u + 4)
+next_fits u low = omega (arith, low)
+
+pub next_nearer : (u : ℕ) → u < 200 → 200 - (u + 4) < 200 - u
+next_nearer u low = omega (arith, low)
 
 -- ---- the first that suits
 
@@ -192,17 +231,24 @@ first_last plan = by_test (suits plan 200)
     by_test false = refl
 
 -- none of the first pitches suits
-abbrev pub NoneBefore : Plan → ℕ → Type 0
+unfoldable pub NoneBefore : Plan → ℕ → Type 0
 NoneBefore plan i = find (suits plan) (drop i pitches) ≡ find (suits plan) pitches
 
+pub first_none : (plan : Plan) → NoneBefore plan 0
+unfolding NoneBefore
+first_none plan = refl
+
 pub first_past : (plan : Plan) (i : ℕ) → i < 46 → suits plan (pitch_numbered i) ≡ false → NoneBefore plan i → NoneBefore plan (i + 1)
+unfolding NoneBefore
 first_past plan i low no before = find_past (suits plan) pitches i 0 low (ap (suits plan) (number_of i 0 low) ∙ no) ∙ before
 
 pub first_here : (plan : Plan) (i : ℕ) → i < 46 → suits plan (pitch_numbered i) ≡ true → NoneBefore plan i → pitch_numbered i ≡ first_pitch plan
+unfolding NoneBefore
 first_here plan i low yes before =
     sym (ap (λ (o : Option ℕ). unwrap_or o 200) (sym before ∙ find_here (suits plan) pitches i 0 low (ap (suits plan) (number_of i 0 low) ∙ yes)) ∙ number_of i 0 low)
 
 pub first_end : (plan : Plan) (i : ℕ) → i ≡ 45 → NoneBefore plan i → 200 ≡ first_pitch plan
+unfolding NoneBefore
 first_end plan i last before = sym (ap (λ (o : Option ℕ). unwrap_or o 200) (sym before ∙ ap (λ (n : ℕ). find (suits plan) (drop n pitches)) last) ∙ first_last plan)
 
 found_numbered : (test : ℕ → Bool) (a n u : ℕ) → find test (map pitch_numbered (range_with_len a n)) ≡ Some u → (i : ℕ) × (i < a + n) × (u ≡ pitch_numbered i)

@@ -21,10 +21,6 @@ pub clash_stop : (before ts rest : List Thing) (t : Thing) (whole : Bool) → no
 clash_stop before ts rest t whole met cut is =
     sym (ap (λ (b : Bool). b && none_clash (before ++ t ∷ []) rest) met) ∙ sym (ap (none_clash before) cut) ∙ is
 
--- what reads past straight pieces falls back on
-abbrev pub no_piece : Piece
-no_piece = record { start = record { x = pos 0; y = pos 0 }; end = record { x = pos 0; y = pos 0 }; lines = 0; ends = (record { 0 = 0 }, record { 0 = 0 }) }
-
 -- a mark more, and a straight piece more
 pub mark_apart : (u : ℕ) (marks : List Mark) (pieces : List Piece) (i : ℕ) (d : Mark) (before after : List Thing) (t : Thing) (whole : Bool) → i < length marks → t ≡ mark_thing u (get_or marks i d) → not (list_any (clash t) before) ≡ true → after ≡ before ++ t ∷ []
     → none_clash before (map (mark_thing u) (drop i marks) ++ map (piece_thing u) pieces) ≡ whole → none_clash after (map (mark_thing u) (drop (i + 1) marks) ++ map (piece_thing u) pieces) ≡ whole

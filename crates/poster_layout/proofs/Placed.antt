@@ -50,18 +50,18 @@ room_printed old new p h pitch plan pieces table things printed = record {
 }
 
 -- the name of one mark more
-pub next_placed : (old mid new : Room) (z : Step) (marks : List ℕ) (k d : ℕ) (left more : List ℕ) → k < length marks → get_or marks k d ≡ d → IsRoomWith old mid mid.printed.items
+pub next_placed : (old mid new : Room) (z : Step) (marks : List ℕ) (k d i : ℕ) (left more : List ℕ) → k < length marks → get_or marks k d ≡ i → IsRoomWith old mid mid.printed.items
     → placing_of mid left ≡ place_names old.pitch old.plan.now z (take k marks) old.printed.items
-    → placing_of new more ≡ place_next mid.pitch mid.plan.now z (placing_of mid left) d
+    → placing_of new more ≡ place_next mid.pitch mid.plan.now z (placing_of mid left) i
     → placing_of new more ≡ place_names old.pitch old.plan.now z (take (k + 1) marks) old.printed.items
-next_placed old mid new z marks k d left more low is h before next =
+next_placed old mid new z marks k d i left more low is h before next =
     let u = old.pitch in
     let plan = old.plan.now in
     let start : Placing = record { printed = old.printed.items; left = [] } in
     next
-    ∙ ap (λ (v : ℕ). place_next v mid.plan.now z (placing_of mid left) d) h.pitch
-    ∙ ap (λ (q : Plan). place_next u q z (placing_of mid left) d) h.plan
-    ∙ ap (λ (p : Placing). place_next u plan z p d) before
+    ∙ ap (λ (v : ℕ). place_next v mid.plan.now z (placing_of mid left) i) h.pitch
+    ∙ ap (λ (q : Plan). place_next u q z (placing_of mid left) i) h.plan
+    ∙ ap (λ (p : Placing). place_next u plan z p i) before
     ∙ ap (place_next u plan z (place_names u plan z (take k marks) old.printed.items)) (sym is)
     ∙ sym (ap (fold (place_next u plan z) start) (take_more marks k d low) ∙ fold-append (place_next u plan z) start (take k marks) (get_or marks k d ∷ []))
 

@@ -23,9 +23,9 @@ pub record IsLaid (plan : Plan) (laid : Laid) : Type 0 where
   pub pitch : laid.pitch ≤ 200
 
 -- the pitches above one
-abbrev pub above : ℕ → List ℕ
+unfoldable pub above : ℕ → List ℕ
 above u = filter (nat_lt u) pitches
 
 -- the best of one pitch and of those above another that are tried, none where that one has all names in full size
-abbrev pub best_of : Plan → ℕ → ℕ → ℕ → ℕ
+unfoldable pub best_of : Plan → ℕ → ℕ → ℕ → ℕ
 best_of plan best left u = if left == 0 then best else fold (better_of plan) best (tried plan (above u))

@@ -123,7 +123,10 @@ pub(crate) fn is_small(f: Frame) -> bool
     requires { IsNearFrame f }
     ensures { result ≡ is_small f }
 {
-    is_short(f.across) && is_short(f.down)
+    if !is_short(f.across) {
+        return false;
+    }
+    is_short(f.down)
 }
 
 /// Whether an interval is no longer than 4200 units.

@@ -92,7 +92,10 @@ fn suiting_at(
 fn suits(laid: &Laid, names: usize) -> bool
     ensures { result ≡ (nat_le (10 * laid.now.full_left) names && nat_le (30 * laid.now.small_left) names) }
 {
-    is_share(laid.full_left, names, 10) && is_share(laid.small_left, names, 30)
+    if !is_share(laid.full_left, names, 10) {
+        return false;
+    }
+    is_share(laid.small_left, names, 30)
 }
 
 /// Whether so many are at most one of so many equal parts of all.
@@ -125,7 +128,10 @@ fn is_better(laid: &Laid, best: &Laid) -> bool
 fn is_before(a: (usize, usize), b: (usize, usize)) -> bool
     ensures { result ≡ (nat_lt a.0 b.0 || (a.0 == b.0) && nat_lt a.1 b.1) }
 {
-    if a.0 == b.0 { a.1 < b.1 } else { a.0 < b.0 }
+    if a.0 == b.0 {
+        return a.1 < b.1;
+    }
+    a.0 < b.0
 }
 
 /// The best of the pitches from one that fits on, as long as all fits, and no further than the first at which each name is

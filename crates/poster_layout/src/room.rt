@@ -189,7 +189,8 @@ impl<'a> Room<'a> {
         ensures room { OnOk result (IsRoomWith self.old self.new self.new.printed.items) }
         ensures placed { OnOk result (placing_of self.new left.new.items ≡ place_next self.old.pitch self.old.plan.now step (placing_of self.old left.old.items) i) }
     {
-        match self.first_free(i, step) {
+        let found = self.first_free(i, step);
+        match found {
             Some(place) => {
                 self.print(i, step, place)?;
                 Ok(())

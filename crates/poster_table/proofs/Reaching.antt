@@ -1,5 +1,5 @@
 -- Shapes that meet reach into one cell.
-use Rattle.std.proofs.Common.{◌≡◌, ℕ, ◌+◌, ◌-◌, ◌/◌, ◌≤◌, true, ℤ, pos, ◌+ℤ◌, ◌≤ℤ◌, max, arith}
+use Rattle.std.proofs.Common.{◌≡◌, ℕ, ◌+◌, ◌-◌, ◌/◌, ◌≤◌, true, ◌&&◌, ℤ, pos, ◌+ℤ◌, ◌≤ℤ◌, max, arith}
 use Rattle.std.specs.Prelude.{int_le, Contains, unsigned_abs}
 use Rattle.std.specs.Int.{int_min, int_max}
 use Rattle.std.specs.List.{range_with_len}
@@ -23,7 +23,7 @@ div_le x y h = omega arith
 
 -- columns and rows rise with coordinates
 pub line_le : (a b : ℤ) → a ≤ℤ b → line_of a ≤ line_of b
-line_le a b h = div_le _ _ (above_le a b h)
+line_le a b h = div_le (unsigned_abs (int_max (a +ℤ pos 1099511627776) (pos 0))) (unsigned_abs (int_max (b +ℤ pos 1099511627776) (pos 0))) (above_le a b h)
 
 -- intervals that share a number are in order, least to greatest, crosswise
 pub record AreCrossed (a b : Interval) : Type 0 where
@@ -34,7 +34,7 @@ pub record AreCrossed (a b : Interval) : Type 0 where
 
 pub crossed : (a b : Interval) → overlap a b ≡ true → AreCrossed a b
 crossed a b e =
-    let h : int_max a.least b.least ≤ℤ int_min a.greatest b.greatest = le_from _ _ e in
+    let h : int_max a.least b.least ≤ℤ int_min a.greatest b.greatest = le_from (int_max a.least b.least) (int_min a.greatest b.greatest) e in
     record { first = omega (arith, ints, clamps); there = omega (arith, ints, clamps); back = omega (arith, ints, clamps); second = omega (arith, ints, clamps) }
 
 -- the bucket of a cell of some columns and rows is one of theirs
@@ -50,27 +50,23 @@ pub record ShareBucket (n : ℕ) (a b : Cells) : Type 0 where
   pub first : Contains (buckets_of n a) bucket
   pub second : Contains (buckets_of n b) bucket
 
+-- columns and rows that are in order crosswise
+cells_share : (n : ℕ) (p q : Cells) → p.left ≤ p.right → p.left ≤ q.right → q.left ≤ p.right → q.left ≤ q.right → p.top ≤ p.bottom → p.top ≤ q.bottom → q.top ≤ p.bottom → q.top ≤ q.bottom → ShareBucket n p q
+cells_share n p q l1 l2 l3 l4 t1 t2 t3 t4 = record {
+  bucket = bucket_of (max p.left q.left) (max p.top q.top) n;
+  first = cell_in n p (max p.left q.left) (max p.top q.top) (omega arith) (omega arith) (omega arith) (omega arith);
+  second = cell_in n q (max p.left q.left) (max p.top q.top) (omega arith) (omega arith) (omega arith) (omega arith);
+}
+
 pub shapes_share : (n : ℕ) (a b : Shape) → meet a b ≡ true → ShareBucket n (cells_of a) (cells_of b)
 shapes_share n a b e =
-    let three = and_parts _ _ e in
-    let two = and_parts _ _ three.0 in
-    let one = and_parts _ _ two.0 in
+    let three = and_parts (overlap a.across b.across && overlap a.down b.down && overlap a.difference b.difference) (overlap a.sum b.sum) e in
+    let two = and_parts (overlap a.across b.across && overlap a.down b.down) (overlap a.difference b.difference) three.0 in
+    let one = and_parts (overlap a.across b.across) (overlap a.down b.down) two.0 in
     let across = crossed a.across b.across one.0 in
     let down = crossed a.down b.down one.1 in
-    let p = cells_of a in
-    let q = cells_of b in
-    let column = max p.left q.left in
-    let row = max p.top q.top in
-    let l1 : p.left ≤ p.right = line_le _ _ across.first in
-    let l2 : p.left ≤ q.right = line_le _ _ across.there in
-    let l3 : q.left ≤ p.right = line_le _ _ across.back in
-    let l4 : q.left ≤ q.right = line_le _ _ across.second in
-    let t1 : p.top ≤ p.bottom = line_le _ _ down.first in
-    let t2 : p.top ≤ q.bottom = line_le _ _ down.there in
-    let t3 : q.top ≤ p.bottom = line_le _ _ down.back in
-    let t4 : q.top ≤ q.bottom = line_le _ _ down.second in
-    record {
-      bucket = bucket_of column row n;
-      first = cell_in n p column row (omega arith) (omega arith) (omega arith) (omega arith);
-      second = cell_in n q column row (omega arith) (omega arith) (omega arith) (omega arith);
-    }
+    cells_share n (cells_of a) (cells_of b)
+    (line_le a.across.least a.across.greatest across.first) (line_le a.across.least b.across.greatest across.there)
+    (line_le b.across.least a.across.greatest across.back) (line_le b.across.least b.across.greatest across.second)
+    (line_le a.down.least a.down.greatest down.first) (line_le a.down.least b.down.greatest down.there)
+    (line_le b.down.least a.down.greatest down.back) (line_le b.down.least b.down.greatest down.second)

@@ -7,7 +7,7 @@ use Rattle.poster_table.specs.declared.cells.Cells.{Cells}
 use Rattle.poster_table.specs.Cells.{bucket_of, buckets_along, buckets_of, row_buckets}
 use Rattle.poster_table.proofs.Members.{any_from, any_some, in_flat, in_map, in_range}
 
-range_more : (a n j : ℕ) → a + n ≡ j → range_with_len a (n + 1) ≡ range_with_len a n ++ j ∷ []
+pub range_more : (a n j : ℕ) → a + n ≡ j → range_with_len a (n + 1) ≡ range_with_len a n ++ j ∷ []
 range_more a zero j e = let is : a ≡ j = omega (arith, e) in ap (λ (k : ℕ). k ∷ []) is
 range_more a (suc n) j e =
     let more : suc n + 1 ≡ suc (n + 1) = omega arith in

@@ -1,8 +1,8 @@
 -- What a search by cells says is what one through all things says.
-use Rattle.std.proofs.Common.{◌≡◌, ℕ, ◌<◌, Bool, true, false, ◌||◌, List, length, refl, ap, ◌∙◌, inl, inr}
+use Rattle.std.proofs.Common.{◌≡◌, ℕ, ◌<◌, Bool, true, false, not, ◌||◌, List, length, refl, ap, ◌∙◌, inl, inr}
 use Rattle.std.specs.Prelude.{All, Contains}
 use Rattle.std.specs.List.{list_any}
-use Rattle.std.proofs.lemmas.Bool.{and_parts, both_ways, or_right}
+use Rattle.std.proofs.lemmas.Bool.{and_parts, or_right}
 use Rattle.std.proofs.lemmas.List.{get_or_default}
 use Rattle.std.proofs.lemmas.List.Elements.{All-contains}
 use Rattle.std.proofs.lemmas.List.Folds.{list_any_at}
@@ -10,8 +10,9 @@ use Rattle.eight_sides.specs.Shapes.{meet}
 use Rattle.poster_plan.specs.declared.things.Thing.{Thing}
 use Rattle.poster_table.specs.declared.table.Table.{Table}
 use Rattle.poster_table.specs.Cells.{buckets_of, cells_of}
-use Rattle.poster_plan.specs.Things.{clash}
+use Rattle.poster_plan.specs.Things.{are_kin, clash}
 use Rattle.poster_table.specs.Tables.{bucket_at, hits_by_cells, hits_in, hits_some, no_thing, thing_at, IsFound, IsTable}
+use Rattle.poster_table.proofs.Finding.{same_tests}
 use Rattle.poster_table.proofs.Members.{any_from, any_some}
 use Rattle.poster_table.proofs.Reaching.{shapes_share}
 
@@ -52,11 +53,11 @@ complete table t h e =
     by_place i clashes (inl wide) = or_left _ _ (any_from (λ (k : ℕ). clash t (thing_at table.things.items k)) table.wide.items i wide clashes)
     by_place i clashes (inr all) =
         let n = length table.buckets.items in
-        let met : meet t.shape (thing_at table.things.items i).shape ≡ true = (and_parts _ _ clashes).1 in
+        let met : meet t.shape (thing_at table.things.items i).shape ≡ true = (and_parts (not (are_kin t.kin (thing_at table.things.items i).kin)) (meet t.shape (thing_at table.things.items i).shape) clashes).1 in
         let both = shapes_share n t.shape (thing_at table.things.items i).shape met in
         let has : Contains (bucket_at table.buckets.items both.bucket) i =
         All-contains (λ (b : ℕ). Contains (bucket_at table.buckets.items b) i) (buckets_of n (cells_of (thing_at table.things.items i).shape)) both.bucket all both.second in
         or_right _ _ (any_from (hits_in table t) (buckets_of n (cells_of t.shape)) both.bucket both.first (any_from (λ (k : ℕ). clash t (thing_at table.things.items k)) (bucket_at table.buckets.items both.bucket) i has clashes))
 
 pub search_is : (table : Table) (t : Thing) → IsTable table → hits_by_cells table t (cells_of t.shape) ≡ list_any (clash t) table.things.items
-search_is table t h = both_ways _ _ (sound table t h) (complete table t h)
+search_is table t h = same_tests (hits_by_cells table t (cells_of t.shape)) (list_any (clash t) table.things.items) (sound table t h) (complete table t h)

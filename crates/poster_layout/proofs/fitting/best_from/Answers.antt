@@ -1,14 +1,14 @@
-use Rattle.std.proofs.Common.{◌≡◌, ℕ, ◌+◌, true, false, refl, ap, sym, ◌∙◌, arith}
+use Rattle.std.proofs.Common.{◌≡◌, ℕ, ◌+◌, true, false, refl, ap, sym, ◌∙◌}
 use Rattle.poster_plan.specs.Pitches.{better_of, fits, full_left}
 use Rattle.poster_layout.specs.Fits.{best_of}
-use Rattle.poster_layout.proofs.Choosing.{best_large, best_last, best_more, next_pitch}
+use Rattle.poster_layout.proofs.Choosing.{best_large, best_last, best_more, next_fits, next_nearer, next_pitch, next_small, number_low}
 use Rattle.poster_layout.proofs.fitting.best_from.Goals as goal
 
 pub loop-left-init : goal.loop-left-init
 loop-left-init c = record { laid = c.requires.laid; pitch = c.requires.pitch; left = c.requires.laid.full; whole = refl }
 
 pub lay_out-laid-requires : goal.lay_out-laid-requires
-lay_out-laid-requires c = let on = c.goes_on.ensures.on c.loop-left-test.true in omega (arith, c.loop-left.invariant.pitch.2, on.1)
+lay_out-laid-requires c = next_small c.loop-left.pitch c.loop-left.invariant.pitch (c.goes_on.ensures.on c.loop-left-test.true).1
 
 pub loop-left-preserved : goal.loop-left-preserved
 loop-left-preserved c =
@@ -28,7 +28,7 @@ loop-left-preserved c =
       whole =
           ap (λ (v : ℕ). best_of plan v c.in_ok-laid.laid.full_left (u + 4)) better
           ∙ ap (λ (n : ℕ). best_of plan (better_of plan best (u + 4)) n (u + 4)) count
-          ∙ best_more plan best c.loop-left.left u is.0 is.2 (omega (arith, is.2, on.1)) on.0 fit
+          ∙ best_more plan best c.loop-left.left u is.0 is.2 (number_low u is on.1) on.0 fit
           ∙ c.loop-left.invariant.whole;
     }
 
@@ -38,7 +38,7 @@ returns-then-not-fits-clause-pitch c =
     let u = c.loop-left.pitch in
     let is = c.loop-left.invariant.pitch in
     let on = c.goes_on.ensures.on c.loop-left-test.true in
-    best_large plan c.loop-left.best.pitch c.loop-left.left u is.0 is.2 (omega (arith, is.2, on.1)) on.0 (ap (fits plan) (sym c.in_ok-laid.ensures.pitch) ∙ sym c.fits.ensures ∙ c.if-not-fits.true)
+    best_large plan c.loop-left.best.pitch c.loop-left.left u is.0 is.2 (number_low u is on.1) on.0 (ap (fits plan) (sym c.in_ok-laid.ensures.pitch) ∙ sym c.fits.ensures ∙ c.if-not-fits.true)
     ∙ c.loop-left.invariant.whole
 
 pub returns-clause-pitch : goal.returns-clause-pitch
@@ -47,7 +47,22 @@ returns-clause-pitch c =
     ∙ c.loop-left.invariant.whole
 
 pub overflow_add-pitch : goal.overflow_add-pitch
-overflow_add-pitch c = let on = c.goes_on.ensures.on c.loop-left-test.true in omega (arith, on.1)
+overflow_add-pitch c = next_fits c.loop-left.pitch (c.goes_on.ensures.on c.loop-left-test.true).1
 
 pub loop-left-smaller : goal.loop-left-smaller
-loop-left-smaller c = let on = c.goes_on.ensures.on c.loop-left-test.true in omega (arith, on.1)
+loop-left-smaller c = next_nearer c.loop-left.pitch (c.goes_on.ensures.on c.loop-left-test.true).1
+
+pub fits-requires : goal.fits-requires
+fits-requires c = c.in_ok-laid.ensures.laid
+
+pub better_of-requires-clause-best : goal.better_of-requires-clause-best
+better_of-requires-clause-best c = c.loop-left.invariant.laid
+
+pub better_of-requires-clause-laid : goal.better_of-requires-clause-laid
+better_of-requires-clause-laid c = c.in_ok-laid.ensures.laid
+
+pub returns-then-not-fits-clause-laid : goal.returns-then-not-fits-clause-laid
+returns-then-not-fits-clause-laid c = c.loop-left.invariant.laid
+
+pub returns-clause-laid : goal.returns-clause-laid
+returns-clause-laid c = c.loop-left.invariant.laid

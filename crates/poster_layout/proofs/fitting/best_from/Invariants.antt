@@ -12,5 +12,5 @@ invariant-loop-left l = record {
   whole : best_of l.plan l.best.pitch l.left l.pitch ≡ best_of l.plan l.fn.first.pitch l.fn.first.full_left l.fn.first.pitch;
 }
 
-abbrev pub measure-loop-left : goal.measure-loop-left
-measure-loop-left l = 200 - l.pitch
+abbrev pub decreases-loop-left : goal.decreases-loop-left
+decreases-loop-left l = 200 - l.pitch

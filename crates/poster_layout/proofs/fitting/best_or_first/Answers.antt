@@ -13,3 +13,15 @@ pub returns-clause-pitch : goal.returns-clause-pitch
 returns-clause-pitch c =
     c.in_ok-best.ensures.pitch
     ∙ pitch_is c.args.plan.now c.args.first.pitch c.args.first.full_left c.requires.first (subst IsPitch (sym c.requires.first) (first_is_pitch c.args.plan.now)) (sym c.fits.ensures ∙ c.if-not-fits.false) c.requires.laid.full
+
+pub fits-requires : goal.fits-requires
+fits-requires c = c.requires.laid
+
+pub best_from-best-requires-clause-laid : goal.best_from-best-requires-clause-laid
+best_from-best-requires-clause-laid c = c.requires.laid
+
+pub returns-then-not-fits-clause-laid : goal.returns-then-not-fits-clause-laid
+returns-then-not-fits-clause-laid c = c.requires.laid
+
+pub returns-clause-laid : goal.returns-clause-laid
+returns-clause-laid c = c.in_ok-best.ensures.laid

@@ -1,10 +1,10 @@
-use Rattle.std.proofs.Common.{◌+◌, ◌*◌, length, refl, ap, ◌∙◌, arith}
+use Rattle.std.proofs.Common.{◌+◌, ◌*◌, length, ap, ◌∙◌, arith}
 use Rattle.poster_plan.specs.Placing.{named}
-use Rattle.poster_layout.proofs.Choosing.{first_end, first_here, first_past, found_none, found_some}
+use Rattle.poster_layout.proofs.Choosing.{first_end, first_here, first_none, first_past, found_none, found_some}
 use Rattle.poster_layout.proofs.fitting.first_suiting.Goals as goal
 
 pub loop-i-init : goal.loop-i-init
-loop-i-init c = refl
+loop-i-init c = first_none c.args.plan.now
 
 pub loop-i-preserved : goal.loop-i-preserved
 loop-i-preserved c = first_past c.args.plan.now c.loop-i.i (omega arith) (found_none c.args.plan.now (20 + 4 * c.loop-i.i) c.in_ok-found.found c.in-None.is c.in_ok-found.ensures) c.loop-i.invariant
@@ -22,3 +22,6 @@ suiting_at-found-requires-clause-names c = c.len-names.ensures ∙ ap length (c.
 
 pub returns-clause-pitch : goal.returns-clause-pitch
 returns-clause-pitch c = c.in_ok-laid.ensures.pitch ∙ first_end c.args.plan.now c.loop-i.i (omega arith) c.loop-i.invariant
+
+pub returns-clause-laid : goal.returns-clause-laid
+returns-clause-laid c = c.in_ok-laid.ensures.laid

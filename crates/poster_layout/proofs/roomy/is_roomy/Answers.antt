@@ -3,9 +3,8 @@ use Rattle.std.specs.Prelude.{List}
 use Rattle.std.proofs.lemmas.List.{at_drop_all}
 use Rattle.poster_plan.specs.declared.plan.Mark.{Mark}
 use Rattle.poster_plan.specs.declared.plan.Piece.{Piece}
-use Rattle.poster_plan.specs.Placing.{no_mark}
 use Rattle.poster_plan.specs.Pitches.{is_roomy, mark_thing, none_clash, piece_thing}
-use Rattle.poster_layout.proofs.Clashing.{mark_apart, mark_met, no_piece, piece_apart, piece_met}
+use Rattle.poster_layout.proofs.Clashing.{mark_apart, mark_met, piece_apart, piece_met}
 use Rattle.poster_layout.proofs.roomy.is_roomy.Goals as goal
 
 pub loop-mark-init : goal.loop-mark-init
@@ -23,13 +22,13 @@ loop-mark-preserved c =
     let after = c.in_ok-apart.ensures.table c.if-not-apart.false in
     record {
       table = after.0;
-      left = mark_apart c.args.pitch c.as_slice-marks.result.now c.as_slice-pieces.result.now c.loop-mark.mark-index no_mark c.loop-mark.table.things.items c.put_apart-apart.new.table.things.items c.mark_thing.result (is_roomy c.args.pitch c.args.plan.now) c.loop-mark-test.true
+      left = mark_apart c.args.pitch c.as_slice-marks.result.now c.as_slice-pieces.result.now c.loop-mark.mark-index _ c.loop-mark.table.things.items c.put_apart-apart.new.table.things.items c.mark_thing.result (is_roomy c.args.pitch c.args.plan.now) c.loop-mark-test.true
           c.mark_thing.ensures.value (sym c.in_ok-apart.ensures.apart ∙ c.if-not-apart.false) after.1 c.loop-mark.invariant.left;
     }
 
 pub returns-then-not-apart : goal.returns-then-not-apart
 returns-then-not-apart c =
-    mark_met c.args.pitch c.as_slice-marks.result.now c.as_slice-pieces.result.now c.loop-mark.mark-index no_mark c.loop-mark.table.things.items c.mark_thing.result (is_roomy c.args.pitch c.args.plan.now) c.loop-mark-test.true
+    mark_met c.args.pitch c.as_slice-marks.result.now c.as_slice-pieces.result.now c.loop-mark.mark-index _ c.loop-mark.table.things.items c.mark_thing.result (is_roomy c.args.pitch c.args.plan.now) c.loop-mark-test.true
     c.mark_thing.ensures.value (sym c.in_ok-apart.ensures.apart ∙ c.if-not-apart.true) c.loop-mark.invariant.left
 
 pub loop-piece-init : goal.loop-piece-init
@@ -44,13 +43,13 @@ loop-piece-preserved c =
     let after = c.in_ok-free.ensures.table c.if-not-free.false in
     record {
       table = after.0;
-      left = piece_apart c.args.pitch c.as_slice-pieces.result.now c.loop-piece.piece-index no_piece c.loop-piece.table.things.items c.put_apart-free.new.table.things.items c.piece_thing.result (is_roomy c.args.pitch c.args.plan.now) c.loop-piece-test.true
+      left = piece_apart c.args.pitch c.as_slice-pieces.result.now c.loop-piece.piece-index _ c.loop-piece.table.things.items c.put_apart-free.new.table.things.items c.piece_thing.result (is_roomy c.args.pitch c.args.plan.now) c.loop-piece-test.true
           c.piece_thing.ensures.value (sym c.in_ok-free.ensures.apart ∙ c.if-not-free.false) after.1 c.loop-piece.invariant.left;
     }
 
 pub returns-then-not-free : goal.returns-then-not-free
 returns-then-not-free c =
-    piece_met c.args.pitch c.as_slice-pieces.result.now c.loop-piece.piece-index no_piece c.loop-piece.table.things.items c.piece_thing.result (is_roomy c.args.pitch c.args.plan.now) c.loop-piece-test.true
+    piece_met c.args.pitch c.as_slice-pieces.result.now c.loop-piece.piece-index _ c.loop-piece.table.things.items c.piece_thing.result (is_roomy c.args.pitch c.args.plan.now) c.loop-piece-test.true
     c.piece_thing.ensures.value (sym c.in_ok-free.ensures.apart ∙ c.if-not-free.true) c.loop-piece.invariant.left
 
 pub returns : goal.returns

@@ -12,7 +12,7 @@ loop-i-preserved c =
     let new = c.place_next.new.self in
     record {
       room = room_then old mid new mid.printed.items new.printed.items c.loop-i.invariant.room c.in_ok-place_next.ensures.room;
-      placed = next_placed old mid new c.args.step c.args.marks.now c.loop-i.i-index _ c.loop-i.left.items c.place_next.new.left.items c.loop-i-test.true refl c.loop-i.invariant.room c.loop-i.invariant.placed c.in_ok-place_next.ensures.placed;
+      placed = next_placed old mid new c.args.step c.args.marks.now c.loop-i.i-index 0 _ c.loop-i.left.items c.place_next.new.left.items c.loop-i-test.true refl c.loop-i.invariant.room c.loop-i.invariant.placed c.in_ok-place_next.ensures.placed;
     }
 
 pub returns-clause-room : goal.returns-clause-room

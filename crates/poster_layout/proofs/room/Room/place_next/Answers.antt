@@ -12,13 +12,13 @@ returns-in_ok-print-in-Some-clause-room c =
 
 pub returns-in_ok-print-in-Some-clause-placed : goal.returns-in_ok-print-in-Some-clause-placed
 returns-in_ok-print-in-Some-clause-placed c =
-    placed_some c.args.self.now c.print.new.self c.args.step c.args.i c.in-Some.place c.first_free.result c.args.left.now.items c.in-Some.is c.in_ok-print-in-Some.ensures.names
-    ∙ ap (λ (o : Option Place). with_place c.args.step c.args.i o (placing_of c.args.self.now c.args.left.now.items)) c.first_free.ensures
+    placed_some c.args.self.now c.print.new.self c.args.step c.args.i c.in-Some.place c.first_free-found.result c.args.left.now.items c.in-Some.is c.in_ok-print-in-Some.ensures.names
+    ∙ ap (λ (o : Option Place). with_place c.args.step c.args.i o (placing_of c.args.self.now c.args.left.now.items)) c.first_free-found.ensures
 
 pub returns-in_ok-push-in-None-clause-room : goal.returns-in_ok-push-in-None-clause-room
 returns-in_ok-push-in-None-clause-room c = room_kept c.args.self.now c.requires
 
 pub returns-in_ok-push-in-None-clause-placed : goal.returns-in_ok-push-in-None-clause-placed
 returns-in_ok-push-in-None-clause-placed c =
-    placed_none c.args.self.now c.args.step c.args.i c.first_free.result c.args.left.now.items c.push.new.self.items c.in-None.is c.in_ok-push-in-None.ensures.items
-    ∙ ap (λ (o : Option Place). with_place c.args.step c.args.i o (placing_of c.args.self.now c.args.left.now.items)) c.first_free.ensures
+    placed_none c.args.self.now c.args.step c.args.i c.first_free-found.result c.args.left.now.items c.push.new.self.items c.in-None.is c.in_ok-push-in-None.ensures.items
+    ∙ ap (λ (o : Option Place). with_place c.args.step c.args.i o (placing_of c.args.self.now c.args.left.now.items)) c.first_free-found.ensures
