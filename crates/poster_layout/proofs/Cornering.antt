@@ -32,8 +32,8 @@ point_near None c h k = k
 point_near (Some p) c h k = h
 
 -- how many columns it has
-pub columns_small : (lines rows : ℕ) → lines ≤ 1000 → 12 ≤ rows → (lines + rows - 1) / rows ≤ 85
-columns_small lines rows few some = div-le_of_le-mul rows (omega arith)
+pub columns_small : (lines last rows : ℕ) → lines ≤ 1000 → 12 ≤ rows → last ≡ rows → (lines + last - 1) / rows ≤ 85
+columns_small lines last rows few some same = div-le_of_le-mul rows (omega arith)
 
 -- ---- the whole legend
 

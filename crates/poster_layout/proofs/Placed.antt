@@ -10,6 +10,7 @@ use Rattle.poster_plan.specs.declared.place.Place.{Place}
 use Rattle.poster_plan.specs.Placing.{place_names, place_next, with_place, Placing}
 use Rattle.poster_layout.specs.declared.room.Room.{Room}
 use Rattle.poster_layout.specs.Rooms.{free_piece, ground_thing, name_thing, placing_of, taken_things, IsRoom, IsRoomWith}
+use Rattle.poster_table.specs.declared.table.Table.{Table}
 use Rattle.poster_table.specs.Tables.{IsTable}
 
 -- a room that follows another
@@ -41,7 +42,7 @@ room_printed old new p h pitch plan pieces table things printed = record {
         ∙ ap (λ (q : Plan). taken_things new.pitch q new.printed.items) (sym plan);
     pieces = subst IsTable (sym pieces) h.pieces;
     lines =
-        ap (λ t. t.things.items) pieces ∙ h.lines
+        ap (λ (t : Table). t.things.items) pieces ∙ h.lines
         ∙ ap (λ (u : ℕ). map (free_piece u) old.plan.now.pieces) (sym pitch) ∙ ap (λ (q : Plan). map (free_piece new.pitch) q.pieces) (sym plan);
   };
   pitch = pitch;
