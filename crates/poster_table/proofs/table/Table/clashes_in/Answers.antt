@@ -6,7 +6,7 @@ use Rattle.poster_table.proofs.Finding.{any_here, any_none, any_past}
 use Rattle.poster_table.proofs.table.Table.clashes_in.Goals as goal
 
 pub index-requires : goal.index-requires
-index-requires c = c.requires c.loop-number.number-index 0 c.loop-number-test.true
+index-requires c = omega (arith, c.requires c.loop-number.number-index 0 c.loop-number-test.true, c.args.self.now.things.ok.0)
 
 pub loop-number-preserved : goal.loop-number-preserved
 loop-number-preserved c =

@@ -7,6 +7,6 @@ use Rattle.poster_table.proofs.table.Table.clashes_in_row.Given as goal
 -- it clashes with nothing in the cells so far
 abbrev pub invariant-loop-column : goal.invariant-loop-column
 invariant-loop-column l = record {
-  far : l.column ≤ l.cells.left + (l.cells.right + 1 - l.cells.left);
-  missed : list_any (hits_in l.self l.thing) (buckets_along (length l.self.buckets.items) l.row l.cells.left (l.column - l.cells.left)) ≡ false;
+  far : l.column ≤ l.fn.cells.left + (l.fn.cells.right + 1 - l.fn.cells.left);
+  missed : list_any (hits_in l.self l.thing) (buckets_along (length l.self.buckets.items) l.row l.fn.cells.left (l.column - l.fn.cells.left)) ≡ false;
 }
