@@ -1,4 +1,4 @@
-use Rattle.std.proofs.Common.{◌+◌, ◌*◌, length, ap, ◌∙◌, arith}
+use Rattle.std.proofs.Common.{◌≡◌, ◌+◌, ◌*◌, length, ap, ◌∙◌, arith}
 use Rattle.poster_plan.specs.Placing.{named}
 use Rattle.poster_layout.proofs.Choosing.{first_end, first_here, first_none, first_past, found_none, found_some}
 use Rattle.poster_layout.proofs.fitting.first_suiting.Goals as goal
@@ -18,7 +18,9 @@ pub returns-in-Some-clause-laid : goal.returns-in-Some-clause-laid
 returns-in-Some-clause-laid c = (found_some c.args.plan.now (20 + 4 * c.loop-i.i) c.in_ok-found.found c.in-Some.laid c.in-Some.is c.in_ok-found.ensures).0
 
 pub suiting_at-found-requires-clause-names : goal.suiting_at-found-requires-clause-names
-suiting_at-found-requires-clause-names c = c.len-names.ensures ∙ ap length (c.in_ok-numbers.ensures ∙ ap named c.as_slice.ensures)
+suiting_at-found-requires-clause-names c =
+    let count : c.len-names.result ≡ length c.in_ok-numbers.numbers.items = omega (arith, c.len-names.ensures, c.in_ok-numbers.numbers.ok.0) in
+    count ∙ ap length (c.in_ok-numbers.ensures ∙ ap named c.as_slice.ensures)
 
 pub returns-clause-pitch : goal.returns-clause-pitch
 returns-clause-pitch c = c.in_ok-laid.ensures.pitch ∙ first_end c.args.plan.now c.loop-i.i (omega arith) c.loop-i.invariant
