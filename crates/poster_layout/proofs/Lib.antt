@@ -1,6 +1,6 @@
 mod Corners
 mod Rooming
-mod Counted
+mod Counting
 mod Placed
 mod Ordering
 mod Choosing

@@ -1,7 +1,7 @@
 use Rattle.std.proofs.Common.{ℕ, ◌+◌, Bool, cond, ap, ◌∙◌, arith}
 use Rattle.poster_plan.specs.declared.layout.Step.TheVariants.{Full}
 use Rattle.poster_layout.specs.Rooms.{is_free_at}
-use Rattle.poster_layout.proofs.Counted.{free_more}
+use Rattle.poster_layout.proofs.Counting.{free_more}
 use Rattle.poster_layout.proofs.room.Room.count_free.Goals as goal
 
 pub loop-place-preserved : goal.loop-place-preserved
