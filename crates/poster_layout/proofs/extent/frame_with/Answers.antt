@@ -3,6 +3,7 @@ use Rattle.std.specs.List.{flat_map}
 use Rattle.std.proofs.lemmas.List.{take_all}
 use Rattle.eight_sides.specs.declared.shape.Shape.{Shape}
 use Rattle.eight_sides.specs.Frames.{frame_of, shape_corners, widened}
+use Rattle.poster_plan.specs.declared.plan.Piece.{Piece}
 use Rattle.poster_plan.specs.declared.layout.Printed.{Printed}
 use Rattle.poster_plan.specs.Placing.{printed_shape}
 use Rattle.poster_plan.specs.Pitches.{walked_corners}
@@ -14,9 +15,9 @@ loop-name-preserved c =
     let u = c.args.pitch in
     let plan = c.args.plan.now in
     record {
-      value = frame_more (frame_of (walked_corners u plan.pieces)) (λ (p : Printed). shape_corners (printed_shape u plan p)) c.args.printed.now c.loop-name.name-index _ c.loop-name.frame c.with_shape.result c.loop-name-test.true c.loop-name.invariant.value
-          (c.with_shape.ensures.value ∙ ap (λ (s : Shape). fold widened c.loop-name.frame (shape_corners s)) c.printed_shape.ensures.value);
-      near = c.with_shape.ensures.near;
+      value = frame_more (frame_of (walked_corners u plan.pieces)) (λ (p : Printed). shape_corners (printed_shape u plan p)) c.args.printed.now c.loop-name.name-index _ c.loop-name.frame c.with_shape-frame.result c.loop-name-test.true c.loop-name.invariant.value
+          (c.with_shape-frame.ensures.value ∙ ap (λ (s : Shape). fold widened c.loop-name.frame (shape_corners s)) c.printed_shape.ensures.value);
+      near = c.with_shape-frame.ensures.near;
     }
 
 pub returns-clause-value : goal.returns-clause-value
@@ -29,4 +30,4 @@ returns-clause-value c =
     ∙ framed u plan c.args.printed.now
 
 pub loop-name-init : goal.loop-name-init
-loop-name-init c = record { value = c.walked_frame-frame.ensures.value; near = c.walked_frame-frame.ensures.near }
+loop-name-init c = record { value = c.walked_frame-frame.ensures.value ∙ ap (λ (ps : List Piece). frame_of (walked_corners c.args.pitch ps)) c.as_slice.ensures; near = c.walked_frame-frame.ensures.near }

@@ -9,8 +9,8 @@ use Rattle.poster_layout.proofs.extent.walked_frame.Goals as goal
 
 pub loop-piece-preserved : goal.loop-piece-preserved
 loop-piece-preserved c = record {
-  value = frame_more (first_frame c.args.pitch c.args.pieces.now) (piece_ends c.args.pitch) c.args.pieces.now c.loop-piece.piece-index _ c.loop-piece.frame c.with_piece.result c.loop-piece-test.true c.loop-piece.invariant.value c.with_piece.ensures.value;
-  near = c.with_piece.ensures.near;
+  value = frame_more (first_frame c.args.pitch c.args.pieces.now) (piece_ends c.args.pitch) c.args.pieces.now c.loop-piece.piece-index _ c.loop-piece.frame c.with_piece-frame.result c.loop-piece-test.true c.loop-piece.invariant.value c.with_piece-frame.ensures.value;
+  near = c.with_piece-frame.ensures.near;
 }
 
 pub returns-clause-value : goal.returns-clause-value

@@ -20,9 +20,9 @@ loop-left-preserved c =
     let next : c.in_ok-laid.laid.pitch ≡ u + 4 = c.in_ok-laid.ensures.pitch in
     let fit : fits plan (u + 4) ≡ true = ap (fits plan) (sym next) ∙ sym c.fits.ensures ∙ c.if-not-fits.false in
     let count : c.in_ok-laid.laid.full_left ≡ full_left (u + 4) plan = c.in_ok-laid.ensures.laid.full ∙ ap (λ (v : ℕ). full_left v plan) next in
-    let better : c.better_of.result.pitch ≡ better_of plan best (u + 4) = c.better_of.ensures.pitch ∙ ap (better_of plan best) next in
+    let better : c.better_of-best.result.pitch ≡ better_of plan best (u + 4) = c.better_of-best.ensures.pitch ∙ ap (better_of plan best) next in
     record {
-      laid = c.better_of.ensures.laid;
+      laid = c.better_of-best.ensures.laid;
       pitch = next_pitch u is on.1;
       left = count;
       whole =
@@ -55,11 +55,11 @@ loop-left-smaller c = next_nearer c.loop-left.pitch (c.goes_on.ensures.on c.loop
 pub fits-requires : goal.fits-requires
 fits-requires c = c.in_ok-laid.ensures.laid
 
-pub better_of-requires-clause-best : goal.better_of-requires-clause-best
-better_of-requires-clause-best c = c.loop-left.invariant.laid
+pub better_of-best-requires-clause-best : goal.better_of-best-requires-clause-best
+better_of-best-requires-clause-best c = c.loop-left.invariant.laid
 
-pub better_of-requires-clause-laid : goal.better_of-requires-clause-laid
-better_of-requires-clause-laid c = c.in_ok-laid.ensures.laid
+pub better_of-best-requires-clause-laid : goal.better_of-best-requires-clause-laid
+better_of-best-requires-clause-laid c = c.in_ok-laid.ensures.laid
 
 pub returns-then-not-fits-clause-laid : goal.returns-then-not-fits-clause-laid
 returns-then-not-fits-clause-laid c = c.loop-left.invariant.laid
