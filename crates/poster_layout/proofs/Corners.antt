@@ -1,5 +1,5 @@
 -- Points and orders as they are computed.
-use Rattle.std.proofs.Common.{◌≡◌, ℕ, ◌≤◌, List, [], ◌∷◌, ℤ, ap, ◌∙◌, arith}
+use Rattle.std.proofs.Common.{◌≡◌, ℕ, ◌≤◌, [], ◌∷◌, ℤ, ap, ◌∙◌, arith}
 use Rattle.std.specs.Prelude.{int_le, unsigned_abs}
 use Rattle.std.specs.Int.{int_min, int_max}
 use Rattle.std.proofs.lemmas.Int.{ints, clamps}
@@ -9,7 +9,7 @@ use Rattle.eight_sides.specs.declared.shape.Shape.{Shape}
 use Rattle.eight_sides.specs.Frames.{frame_at, widened}
 use Rattle.eight_sides.specs.Shapes.{IsShortShape}
 use Rattle.name_places.specs.Near.{IsNearShape}
-use Rattle.poster_layout.specs.Extents.{IsDrawnFrame, IsLegendPoint, IsNearCorner, IsNearFrame}
+use Rattle.poster_layout.specs.Extents.{IsDrawnFrame, IsNearCorner, IsNearFrame}
 
 pub same_corner : (a b x y : ℤ) → a ≡ x → b ≡ y → (let p : Corner = record { x = a; y = b } in p) ≡ record { x = x; y = y }
 same_corner a b x y e f = ap (λ (z : ℤ). let p : Corner = record { x = z; y = b } in p) e ∙ ap (λ (z : ℤ). let p : Corner = record { x = x; y = z } in p) f

@@ -1,8 +1,7 @@
 use Rattle.std.proofs.Common.{ℕ, ap, sym, subst, ◌∙◌, arith}
-use Rattle.line_offsets.specs.declared.corner.Corner.{Corner}
 use Rattle.eight_sides.specs.declared.frame.Frame.{Frame}
 use Rattle.eight_sides.specs.Frames.{widened}
-use Rattle.poster_plan.specs.Legends.{legend_height, legend_width}
+use Rattle.poster_plan.specs.Legends.{legend_width}
 use Rattle.poster_layout.specs.Extents.{beyond, IsDrawnFrame}
 use Rattle.poster_layout.proofs.Corners.{drawn_near, drawn_widened}
 use Rattle.poster_layout.proofs.legend.frame_around.Goals as goal

@@ -1,4 +1,4 @@
-use Rattle.std.proofs.Common.{◌≡◌, ℕ, ◌+◌, Bool, cond, ap, sym, ◌∙◌, arith}
+use Rattle.std.proofs.Common.{◌≡◌, ◌+◌, Bool, cond, ap, sym, ◌∙◌, arith}
 use Rattle.poster_layout.proofs.room.counted.Goals as goal
 
 pub returns-then-is_so-clause-value : goal.returns-then-is_so-clause-value

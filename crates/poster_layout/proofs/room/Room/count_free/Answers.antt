@@ -1,4 +1,4 @@
-use Rattle.std.proofs.Common.{ℕ, ◌+◌, Bool, cond, ap, ◌∙◌, arith}
+use Rattle.std.proofs.Common.{◌+◌, Bool, cond, ap, ◌∙◌, arith}
 use Rattle.poster_plan.specs.declared.layout.Step.TheVariants.{Full}
 use Rattle.poster_layout.specs.Rooms.{is_free_at}
 use Rattle.poster_layout.proofs.Counting.{free_more}

@@ -1,4 +1,4 @@
-use Rattle.std.proofs.Common.{true, not, ap, sym, ◌∙◌}
+use Rattle.std.proofs.Common.{not, ap, sym, ◌∙◌}
 use Rattle.std.specs.List.{list_any}
 use Rattle.poster_plan.specs.declared.layout.Step.{Step}
 use Rattle.poster_plan.specs.declared.things.Thing.{Thing}
