@@ -7,8 +7,8 @@ use Rattle.poster_layout.proofs.fitting.best_from.Goals as goal
 pub loop-left-init : goal.loop-left-init
 loop-left-init c = record { laid = c.requires.laid; pitch = c.requires.pitch; left = c.requires.laid.full; whole = refl }
 
-pub lay_out-laid-requires : goal.lay_out-laid-requires
-lay_out-laid-requires c = next_small c.loop-left.pitch c.loop-left.invariant.pitch (c.goes_on.ensures.on c.loop-left-test.true).1
+pub lay_out-requires : goal.lay_out-requires
+lay_out-requires c = next_small c.loop-left.pitch c.loop-left.invariant.pitch (c.goes_on.ensures.on c.loop-left-test.true).1
 
 pub loop-left-preserved : goal.loop-left-preserved
 loop-left-preserved c =

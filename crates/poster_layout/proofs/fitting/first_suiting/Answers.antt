@@ -17,8 +17,8 @@ returns-in-Some-clause-pitch c =
 pub returns-in-Some-clause-laid : goal.returns-in-Some-clause-laid
 returns-in-Some-clause-laid c = (found_some c.args.plan.now (20 + 4 * c.loop-i.i) c.in_ok-found.found c.in-Some.laid c.in-Some.is c.in_ok-found.ensures).0
 
-pub suiting_at-found-requires-clause-names : goal.suiting_at-found-requires-clause-names
-suiting_at-found-requires-clause-names c =
+pub suiting_at-requires-clause-names : goal.suiting_at-requires-clause-names
+suiting_at-requires-clause-names c =
     let count : c.len-names.result ≡ length c.in_ok-numbers.numbers.items = omega (arith, c.len-names.ensures, c.in_ok-numbers.numbers.ok.0) in
     count ∙ ap length (c.in_ok-numbers.ensures ∙ ap named c.as_slice.ensures)
 

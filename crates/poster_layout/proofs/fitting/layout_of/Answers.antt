@@ -11,8 +11,8 @@ returns-clause-pitch c = c.in_ok-best.ensures.pitch
 pub returns-clause-small : goal.returns-clause-small
 returns-clause-small c = c.in_ok-best.ensures.laid.pitch
 
-pub best_or_first-best-requires-clause-laid : goal.best_or_first-best-requires-clause-laid
-best_or_first-best-requires-clause-laid c = c.in_ok-first.ensures.laid
+pub best_or_first-requires-clause-laid : goal.best_or_first-requires-clause-laid
+best_or_first-requires-clause-laid c = c.in_ok-first.ensures.laid
 
-pub best_or_first-best-requires-clause-first : goal.best_or_first-best-requires-clause-first
-best_or_first-best-requires-clause-first c = c.in_ok-first.ensures.pitch
+pub best_or_first-requires-clause-first : goal.best_or_first-requires-clause-first
+best_or_first-requires-clause-first c = c.in_ok-first.ensures.pitch

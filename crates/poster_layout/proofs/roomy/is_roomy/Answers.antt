@@ -22,7 +22,7 @@ loop-mark-preserved c =
     let after = c.in_ok-apart.ensures.table c.if-not-apart.false in
     record {
       table = after.0;
-      left = mark_apart c.args.pitch c.as_slice-marks.result.now c.as_slice-pieces.result.now c.loop-mark.mark-index _ c.loop-mark.table.things.items c.put_apart-apart.new.table.things.items c.mark_thing.result (is_roomy c.args.pitch c.args.plan.now) c.loop-mark-test.true
+      left = mark_apart c.args.pitch c.as_slice-marks.result.now c.as_slice-pieces.result.now c.loop-mark.mark-index _ c.loop-mark.table.things.items c.put_apart.new.table.things.items c.mark_thing.result (is_roomy c.args.pitch c.args.plan.now) c.loop-mark-test.true
           c.mark_thing.ensures.value (sym c.in_ok-apart.ensures.apart ∙ c.if-not-apart.false) after.1 c.loop-mark.invariant.left;
     }
 
@@ -43,7 +43,7 @@ loop-piece-preserved c =
     let after = c.in_ok-free.ensures.table c.if-not-free.false in
     record {
       table = after.0;
-      left = piece_apart c.args.pitch c.as_slice-pieces.result.now c.loop-piece.piece-index _ c.loop-piece.table.things.items c.put_apart-free.new.table.things.items c.piece_thing.result (is_roomy c.args.pitch c.args.plan.now) c.loop-piece-test.true
+      left = piece_apart c.args.pitch c.as_slice-pieces.result.now c.loop-piece.piece-index _ c.loop-piece.table.things.items c.put_apart-in-loop-piece.new.table.things.items c.piece_thing.result (is_roomy c.args.pitch c.args.plan.now) c.loop-piece-test.true
           c.piece_thing.ensures.value (sym c.in_ok-free.ensures.apart ∙ c.if-not-free.false) after.1 c.loop-piece.invariant.left;
     }
 
