@@ -21,16 +21,16 @@ pitch_numbered i = 20 + 4 * i
 -- ---- which pitches pass a test
 
 none_kept : (test : ℕ → Bool) (a n : ℕ) → ((i : ℕ) → i < a + n → test (pitch_numbered i) ≡ false) → filter test (map pitch_numbered (range_with_len a n)) ≡ []
-none_kept test a zero no = refl
-none_kept test a (suc n) no =
+none_kept test a zero misses = refl
+none_kept test a (suc n) misses =
     let rest = filter test (map pitch_numbered (range_with_len (a + 1) n)) in
-    ap (λ (b : Bool). cond b (pitch_numbered a ∷ rest) rest) (no a (omega arith)) ∙ none_kept test (a + 1) n (λ i low. no i (omega (arith, low)))
+    ap (λ (b : Bool). cond b (pitch_numbered a ∷ rest) rest) (misses a (omega arith)) ∙ none_kept test (a + 1) n (λ i low. misses i (omega (arith, low)))
 
 all_kept : (test : ℕ → Bool) (a n : ℕ) → ((i : ℕ) → a ≤ i → test (pitch_numbered i) ≡ true) → filter test (map pitch_numbered (range_with_len a n)) ≡ map pitch_numbered (range_with_len a n)
-all_kept test a zero yes = refl
-all_kept test a (suc n) yes =
+all_kept test a zero passes = refl
+all_kept test a (suc n) passes =
     let rest = filter test (map pitch_numbered (range_with_len (a + 1) n)) in
-    ap (λ (b : Bool). cond b (pitch_numbered a ∷ rest) rest) (yes a (omega arith)) ∙ ap (λ (us : List ℕ). pitch_numbered a ∷ us) (all_kept test (a + 1) n (λ i low. yes i (omega (arith, low))))
+    ap (λ (b : Bool). cond b (pitch_numbered a ∷ rest) rest) (passes a (omega arith)) ∙ ap (λ (us : List ℕ). pitch_numbered a ∷ us) (all_kept test (a + 1) n (λ i low. passes i (omega (arith, low))))
 
 split : (a m n : ℕ) → range_with_len a (m + n) ≡ range_with_len a m ++ range_with_len (a + m) n
 split a zero n =
@@ -45,15 +45,15 @@ split a (suc m) n =
 -- those from number m on, where a test passes these and no earlier one
 kept_in : (test : ℕ → Bool) (m n : ℕ) (us : List ℕ) → us ≡ map pitch_numbered (range_with_len 0 (m + n)) → ((i : ℕ) → i < m → test (pitch_numbered i) ≡ false) → ((i : ℕ) → m ≤ i → test (pitch_numbered i) ≡ true)
     → filter test us ≡ map pitch_numbered (range_with_len m n)
-kept_in test m n us are no yes =
+kept_in test m n us are misses passes =
     let front : 0 + m ≡ m = omega arith in
     ap (filter test) are
     ∙ ap (λ (ks : List ℕ). filter test (map pitch_numbered ks)) (split 0 m n)
     ∙ ap (λ (k : ℕ). filter test (map pitch_numbered (range_with_len 0 m ++ range_with_len k n))) front
     ∙ ap (filter test) (map-append pitch_numbered (range_with_len 0 m) (range_with_len m n))
     ∙ filter-append test (map pitch_numbered (range_with_len 0 m)) (map pitch_numbered (range_with_len m n))
-    ∙ ap (λ (ks : List ℕ). ks ++ filter test (map pitch_numbered (range_with_len m n))) (none_kept test 0 m (λ i low. no i (omega (arith, low))))
-    ∙ all_kept test m n yes
+    ∙ ap (λ (ks : List ℕ). ks ++ filter test (map pitch_numbered (range_with_len m n))) (none_kept test 0 m (λ i low. misses i (omega (arith, low))))
+    ∙ all_kept test m n passes
 
 counted : (k : ℕ) → k ≡ 46 → pitches ≡ map pitch_numbered (range_with_len 0 k)
 counted k all = ap (λ (n : ℕ). map pitch_numbered (range_with_len 0 n)) (sym all)
@@ -223,10 +223,10 @@ pub number_of : (i d : ℕ) → i < 46 → get_or pitches i d ≡ pitch_numbered
 number_of i d low = get_or-map-range_with_len pitch_numbered 0 46 i i d low (omega arith)
 
 -- the greatest is tried last
-pub first_last : (plan : Plan) → unwrap_or (find (suits plan) (200 ∷ [])) 200 ≡ 200
-first_last plan = by_test (suits plan 200)
+pub first_last : (plan : Plan) (u : ℕ) → unwrap_or (find (suits plan) (u ∷ [])) u ≡ u
+first_last plan u = by_test (suits plan u)
   where
-    by_test : (b : Bool) → unwrap_or (cond b (Some 200) None) 200 ≡ 200
+    by_test : (b : Bool) → unwrap_or (cond b (Some u) None) u ≡ u
     by_test true = refl
     by_test false = refl
 
@@ -240,16 +240,16 @@ first_none plan = refl
 
 pub first_past : (plan : Plan) (i : ℕ) → i < 46 → suits plan (pitch_numbered i) ≡ false → NoneBefore plan i → NoneBefore plan (i + 1)
 unfolding NoneBefore
-first_past plan i low no before = find_past (suits plan) pitches i 0 low (ap (suits plan) (number_of i 0 low) ∙ no) ∙ before
+first_past plan i low misses before = find_past (suits plan) pitches i 0 low (ap (suits plan) (number_of i 0 low) ∙ misses) ∙ before
 
 pub first_here : (plan : Plan) (i : ℕ) → i < 46 → suits plan (pitch_numbered i) ≡ true → NoneBefore plan i → pitch_numbered i ≡ first_pitch plan
 unfolding NoneBefore
-first_here plan i low yes before =
-    sym (ap (λ (o : Option ℕ). unwrap_or o 200) (sym before ∙ find_here (suits plan) pitches i 0 low (ap (suits plan) (number_of i 0 low) ∙ yes)) ∙ number_of i 0 low)
+first_here plan i low passes before =
+    sym (ap (λ (o : Option ℕ). unwrap_or o 200) (sym before ∙ find_here (suits plan) pitches i 0 low (ap (suits plan) (number_of i 0 low) ∙ passes)) ∙ number_of i 0 low)
 
 pub first_end : (plan : Plan) (i : ℕ) → i ≡ 45 → NoneBefore plan i → 200 ≡ first_pitch plan
 unfolding NoneBefore
-first_end plan i last before = sym (ap (λ (o : Option ℕ). unwrap_or o 200) (sym before ∙ ap (λ (n : ℕ). find (suits plan) (drop n pitches)) last) ∙ first_last plan)
+first_end plan i last before = sym (ap (λ (o : Option ℕ). unwrap_or o 200) (sym before ∙ ap (λ (n : ℕ). find (suits plan) (drop n pitches)) last) ∙ first_last plan 200)
 
 found_numbered : (test : ℕ → Bool) (a n u : ℕ) → find test (map pitch_numbered (range_with_len a n)) ≡ Some u → (i : ℕ) × (i < a + n) × (u ≡ pitch_numbered i)
 found_numbered test a zero u e = absurd cc
