@@ -1,10 +1,10 @@
 #!/usr/bin/env python3
-"""Compares `make`, `map`, `labels`, `geo`, `improve` and `check` with another program on small random feeds under random settings.
+"""Compares `make`, `map`, `labels`, `geo`, `poster`, `improve` and `check` with another program on small random feeds under random settings.
 
     bench/agree_settings.py [--feeds N] [--seed S] [--theirs KEY=VALUE ..] [--work FOLDER] [--ours PROGRAM] PROGRAM
 
 Makes N feeds as bench/agree.py does, and for each a settings file with some of the keys, now and then with a value
-that no key takes. The other program's file also has the lines given by --theirs. `labels` and `geo` also get a certificate of which one word is changed. Runs the commands of both
+that no key takes. The other program's file also has the lines given by --theirs. `labels`, `geo` and `poster` also get a certificate of which one word is changed. Runs the commands of both
 programs on each and compares status, standard output and the bytes of the files (of words that are not read, status
 2, the status alone: each program has its own help); `check` without any settings file must say yes to each map under
 the default cell, near distance and weights, where best orders are claimed. A feed on which something differs is kept, and named. Ends with 1 where
@@ -102,7 +102,7 @@ def main():
             with open(os.path.join(folder, "changed"), "wb") as out:
                 out.write(changed(files["cert"], chance))
             for certificate in ["cert", "changed"]:
-                for picture in ["labels", "geo"]:
+                for picture in ["labels", "geo", "poster"]:
                     compare([picture, "feed", certificate, picture, "--settings", "settings.toml"], [picture])
             compare(["check", "feed", "svg", "cert", "--settings", "settings.toml"], [])
             if not {"cell", "near"} & set(chosen) and chosen.get("proof") != '"bound"':

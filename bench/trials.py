@@ -66,6 +66,7 @@ COMMANDS = {
     "improve": ("improve feed out.svg out.cert 5", ["out.svg", "out.cert"]),
     "check": ("check feed in.svg in.cert", []),
     "labels": ("labels feed in.cert out.svg", ["out.svg"]),
+    "poster": ("poster feed in.cert out.svg", ["out.svg"]),
     "session": ("session feed script out --settings settings.toml", ["out"]),
     "graph": ("graph feed", []),
     "export": ("export feed out.json", ["out.json"]),

@@ -7,4 +7,6 @@ pub enum Picture {
     Labelled,
     /// Its line orders along the ways that lines take on the ground.
     Geographic,
+    /// The map to print.
+    Poster,
 }

@@ -7,7 +7,7 @@ use Rattle.map_method.specs.declared.defaults.Defaults.TheVariants.{Make, Map}
 use Rattle.command_paths.specs.Paths.{Chosen, MapPaths, NewPaths}
 use Rattle.command_paths.specs.Sets.{sets_in}
 use Rattle.command_paths.specs.declared.picture.Picture.{Picture}
-use Rattle.command_paths.specs.declared.picture.Picture.TheVariants.{Labelled, Geographic}
+use Rattle.command_paths.specs.declared.picture.Picture.TheVariants.{Labelled, Geographic, Poster}
 use Rattle.command_words.specs.Asked.{Asked, stations, graph, make, improve, check, depict, session, trial, page, export, imported}
 use Rattle.command_words.proofs.OnLiterals.{rows_written_out}
 use Rattle.command_words.specs.Words.{◌>>=◌, apart, asked, asked_as, asked_else, check_in, faults, graph_in, improve_in, make_in, met, named_in, new_paths_in, number_in, options_in, page_apart, page_at, page_in, paths_in, picture_in, session_in, settings_in, stations_in, trial_in, two_paths_in, unless, export_in, import_in}
@@ -146,18 +146,19 @@ else_apart sets name rows =
 as_apart : (sets : List Text) (name : Text) (rows : List Row) → AreApart (asked_as sets name rows)
 unfolding rows_written_out
 as_apart sets name rows =
-    by_tests (bytes_eq name (codes "map")) (bytes_eq name (codes "make")) (bytes_eq name (codes "improve")) (bytes_eq name (codes "check")) (bytes_eq name (codes "labels")) (bytes_eq name (codes "geo")) (bytes_eq name (codes "session"))
+    by_tests (bytes_eq name (codes "map")) (bytes_eq name (codes "make")) (bytes_eq name (codes "improve")) (bytes_eq name (codes "check")) (bytes_eq name (codes "labels")) (bytes_eq name (codes "geo")) (bytes_eq name (codes "poster")) (bytes_eq name (codes "session"))
   where
-    by_tests : (mapped made improved checked labelled grounded edited : Bool)
-        → AreApart (if mapped then make_in Map sets rows else if made then make_in Make sets rows else if improved then improve_in sets rows else if checked then check_in sets rows else if labelled then picture_in Labelled sets rows else if grounded then picture_in Geographic sets rows else if edited then session_in sets rows else asked_else sets name rows)
-    by_tests true made improved checked labelled grounded edited = made_apart (options_in Map sets rows) (first_of (codes "FEED") rows) (new_paths_in rows) (new_of rows)
-    by_tests false true improved checked labelled grounded edited = made_apart (options_in Make sets rows) (first_of (codes "FEED") rows) (new_paths_in rows) (new_of rows)
-    by_tests false false true checked labelled grounded edited = improved_apart (options_in Make sets rows) (first_of (codes "FEED") rows) (two_paths_in rows) (number_in (codes "MOVES") rows) (two_apart (paths_in rows))
-    by_tests false false false true labelled grounded edited = checked_apart (options_in Make sets rows) (first_of (codes "FEED") rows) (paths_in rows)
-    by_tests false false false false true grounded edited = depicted_apart Labelled (options_in Make sets rows) (first_of (codes "FEED") rows) (first_of (codes "CERT") rows) (first_of (codes "OUT") rows)
-    by_tests false false false false false true edited = depicted_apart Geographic (options_in Make sets rows) (first_of (codes "FEED") rows) (first_of (codes "CERT") rows) (first_of (codes "OUT") rows)
-    by_tests false false false false false false true = edited_apart (settings_in Make sets rows) (first_of (codes "FEED") rows) (first_of (codes "SCRIPT") rows) (first_of (codes "OUT") rows)
-    by_tests false false false false false false false = else_apart sets name rows
+    by_tests : (mapped made improved checked labelled grounded printed edited : Bool)
+        → AreApart (if mapped then make_in Map sets rows else if made then make_in Make sets rows else if improved then improve_in sets rows else if checked then check_in sets rows else if labelled then picture_in Labelled sets rows else if grounded then picture_in Geographic sets rows else if printed then picture_in Poster sets rows else if edited then session_in sets rows else asked_else sets name rows)
+    by_tests true made improved checked labelled grounded printed edited = made_apart (options_in Map sets rows) (first_of (codes "FEED") rows) (new_paths_in rows) (new_of rows)
+    by_tests false true improved checked labelled grounded printed edited = made_apart (options_in Make sets rows) (first_of (codes "FEED") rows) (new_paths_in rows) (new_of rows)
+    by_tests false false true checked labelled grounded printed edited = improved_apart (options_in Make sets rows) (first_of (codes "FEED") rows) (two_paths_in rows) (number_in (codes "MOVES") rows) (two_apart (paths_in rows))
+    by_tests false false false true labelled grounded printed edited = checked_apart (options_in Make sets rows) (first_of (codes "FEED") rows) (paths_in rows)
+    by_tests false false false false true grounded printed edited = depicted_apart Labelled (options_in Make sets rows) (first_of (codes "FEED") rows) (first_of (codes "CERT") rows) (first_of (codes "OUT") rows)
+    by_tests false false false false false true printed edited = depicted_apart Geographic (options_in Make sets rows) (first_of (codes "FEED") rows) (first_of (codes "CERT") rows) (first_of (codes "OUT") rows)
+    by_tests false false false false false false true edited = depicted_apart Poster (options_in Make sets rows) (first_of (codes "FEED") rows) (first_of (codes "CERT") rows) (first_of (codes "OUT") rows)
+    by_tests false false false false false false false true = edited_apart (settings_in Make sets rows) (first_of (codes "FEED") rows) (first_of (codes "SCRIPT") rows) (first_of (codes "OUT") rows)
+    by_tests false false false false false false false false = else_apart sets name rows
 
 named_apart : (sets : List Text) (command : Option (Text × List Row)) → AreApart (named_in sets command)
 named_apart sets None = tt

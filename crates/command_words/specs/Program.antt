@@ -114,10 +114,11 @@ with_command program command = with_subcommand program command.top
 unfoldable pub octimap_made : App
 octimap_made = with_command (with_command (with_command octimap_alone (new_map_app (codes "map"))) (new_map_app (codes "make"))) improve_app
 
--- these, `check`, `labels`, `geo` and `session`
+-- these, `check`, `labels`, `geo`, `poster` and `session`
 unfoldable pub octimap_maps : App
 octimap_maps =
-    with_command (with_command (with_command (with_command octimap_made (map_app (codes "check"))) (picture_app (codes "labels"))) (picture_app (codes "geo"))) session_app
+    with_command (with_command (with_command (with_command (with_command octimap_made (map_app (codes "check")))
+    (picture_app (codes "labels"))) (picture_app (codes "geo"))) (picture_app (codes "poster"))) session_app
 
 -- these, `graph`, `export` and `import`
 unfoldable pub octimap_graphs : App

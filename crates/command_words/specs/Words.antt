@@ -18,7 +18,7 @@ use Rattle.command_words.specs.declared.fault.WordsFault.TheVariants as fault
 use Rattle.command_paths.specs.Paths.{Chosen, MapPaths, NewPaths}
 use Rattle.command_paths.specs.Sets.{sets_in}
 use Rattle.command_paths.specs.declared.picture.Picture.{Picture}
-use Rattle.command_paths.specs.declared.picture.Picture.TheVariants.{Labelled, Geographic}
+use Rattle.command_paths.specs.declared.picture.Picture.TheVariants.{Labelled, Geographic, Poster}
 use Rattle.command_words.specs.Asked.{Asked, asked_by, stations, graph, export, imported, make, improve, check, depict, session, trial, page}
 use Rattle.command_words.specs.Program.{octimap_app}
 
@@ -167,6 +167,7 @@ asked_as sets name rows =
     else if bytes_eq name (codes "check") then check_in sets rows
     else if bytes_eq name (codes "labels") then picture_in Labelled sets rows
     else if bytes_eq name (codes "geo") then picture_in Geographic sets rows
+    else if bytes_eq name (codes "poster") then picture_in Poster sets rows
     else if bytes_eq name (codes "session") then session_in sets rows
     else asked_else sets name rows
 

@@ -143,6 +143,17 @@ Example:
   octimap make examples/vienna-ubahn map.svg map.cert
   octimap geo examples/vienna-ubahn map.cert ground.svg";
 
+pub(crate) const POSTER: &str = "Write the map of a certificate as a poster, to print";
+
+pub(crate) const AFTER_POSTER: &str = "\
+The certificate is checked first, all of it but the map that was written with it. The poster has a white ground and a
+legend, marks stations at the lines that call there, and names them in one size, to which the grid gives way. Nothing is
+printed. What OUT held before is lost. Give it the settings and edits that the map was made with.
+
+Example:
+  octimap make examples/vienna-ubahn map.svg map.cert
+  octimap poster examples/vienna-ubahn map.cert poster.svg";
+
 pub(crate) const SESSION: &str = "Run a script of edits and draws";
 
 pub(crate) const AFTER_SESSION: &str = "\
@@ -196,6 +207,8 @@ pub(crate) const READ_GRAPH: &str = "The graph file";
 pub(crate) const GRAPH_FILE: &str = "The file that the line graph is written to";
 
 pub(crate) const GEOGRAPHIC: &str = "The file that the geographic map is written to";
+
+pub(crate) const POSTERED: &str = "The file that the poster is written to";
 
 pub(crate) const SCRIPT: &str =
     "A file of edits and draws, one a line, such as examples/session.txt";

@@ -37,6 +37,8 @@ fn command_named<'a>(name: &str, given: &ArgMatches<'a>, words: &'a [String]) ->
         picture_in(given, Picture::Labelled, words)
     } else if name == "geo" {
         picture_in(given, Picture::Geographic, words)
+    } else if name == "poster" {
+        picture_in(given, Picture::Poster, words)
     } else if name == "session" {
         session_in(given, words)
     } else {
@@ -162,7 +164,7 @@ fn check_in<'a>(given: &ArgMatches<'a>, words: &'a [String]) -> Option<Command<'
     })
 }
 
-/// `labels FEED CERT OUT`, and `geo FEED CERT OUT`
+/// `labels FEED CERT OUT`, and `geo` and `poster` with the same operands
 #[tactic(auto, unfolding(crate::specs::Words::picture_in))]
 fn picture_in<'a>(given: &ArgMatches<'a>, kind: Picture, words: &'a [String]) -> Option<Command<'a>>
     ensures { option_map asked_by result ≡ picture_in kind (sets_of words.now) (rows_of (found_of given.now)) }

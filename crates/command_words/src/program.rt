@@ -37,6 +37,7 @@ fn over_maps<'a>(alloc: Global) -> Result<Command<'a>, AllocError>
     let program = with_command(program, check(alloc))?;
     let program = with_command(program, labels(alloc))?;
     let program = with_command(program, geo(alloc))?;
+    let program = with_command(program, poster(alloc))?;
     with_command(program, session(alloc))
 }
 
@@ -207,6 +208,20 @@ fn geo<'a>(alloc: Global) -> Result<Command<'a>, AllocError>
     ensures local { IfOk result IsLocal }
 {
     picture(alloc, "geo", help::GEO, help::AFTER_GEO, help::GEOGRAPHIC)
+}
+
+/// `poster FEED CERT OUT`
+fn poster<'a>(alloc: Global) -> Result<Command<'a>, AllocError>
+    ensures app { IfOk result (λ command. app_of command ≡ picture_app (codes "poster")) }
+    ensures local { IfOk result IsLocal }
+{
+    picture(
+        alloc,
+        "poster",
+        help::POSTER,
+        help::AFTER_POSTER,
+        help::POSTERED,
+    )
 }
 
 /// A command that draws the map of a certificate.

@@ -1,5 +1,6 @@
--- Lines beside a walk, as it is drawn: x grows to the right, y downwards, and one grid step is 100 units.
-use Rattle.std.specs.Prelude.{◌≡◌, Bool, true, false, ℤ, pos, negsuc, ◌+ℤ◌, ◌-ℤ◌, ◌*ℤ◌, int_div}
+-- Lines beside a walk, as it is drawn: x grows to the right, y downwards. One grid step is 100 units where nothing else is
+-- said.
+use Rattle.std.specs.Prelude.{◌≡◌, ℕ, Bool, true, false, ℤ, pos, negsuc, ◌+ℤ◌, ◌-ℤ◌, ◌*ℤ◌, int_div}
 use Rattle.octi_grid.specs.declared.dir.Dir.{Dir}
 use Rattle.octi_grid.specs.declared.dir.Dir.TheVariants as dir
 use Rattle.octi_grid.specs.declared.point.GridPoint.{GridPoint}
@@ -7,13 +8,20 @@ use Rattle.line_offsets.specs.declared.corner.Corner.{Corner}
 use Rattle.line_offsets.specs.declared.corner.Kept.{Kept}
 use Rattle.line_offsets.specs.declared.corner.Kept.TheVariants.{X, Y, Sum, Difference}
 
--- a grid point as it is drawn
-abbrev pub drawn : GridPoint → Corner
-drawn p = record { x = pos 100 *ℤ p.x; y = pos 0 -ℤ (pos 100 *ℤ p.y) }
+-- a grid point as it is drawn where a grid step is so many units
+abbrev pub drawn_at : ℕ → GridPoint → Corner
+drawn_at pitch p = record { x = pos pitch *ℤ p.x; y = pos 0 -ℤ (pos pitch *ℤ p.y) }
 
--- a grid point as it is drawn, moved k times by a way across and a way down
+-- the same, moved k times by a way across and a way down
+abbrev pub moved_at : ℕ → GridPoint → ℤ → ℤ × ℤ → Corner
+moved_at pitch p k by = record { x = (pos pitch *ℤ p.x) +ℤ (k *ℤ by.0); y = (k *ℤ by.1) -ℤ (pos pitch *ℤ p.y) }
+
+-- both where a grid step is 100 units
+abbrev pub drawn : GridPoint → Corner
+drawn p = drawn_at 100 p
+
 abbrev pub moved : GridPoint → ℤ → ℤ × ℤ → Corner
-moved p k by = record { x = (pos 100 *ℤ p.x) +ℤ (k *ℤ by.0); y = (k *ℤ by.1) -ℤ (pos 100 *ℤ p.y) }
+moved p k by = moved_at 100 p k by
 
 -- what is the same at all points of a line of a direction
 abbrev pub kept_by : Dir → Kept

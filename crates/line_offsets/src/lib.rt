@@ -9,4 +9,6 @@ mod shift;
 
 pub use corner::Corner;
 pub use laws::{a_corner_is_where_both_lines_meet, an_end_is_on_its_line};
-pub use path::{line_path, path_end, path_start, put_path};
+pub use path::{
+    drawn_at, line_path, path_end, path_end_at, path_start, path_start_at, put_path, put_path_at,
+};

@@ -6,3 +6,4 @@ pub mod Promises
 pub mod Improving
 pub mod Labelling
 pub mod Geographic
+pub mod Postering

@@ -14,6 +14,7 @@ mod labelled;
 mod laws;
 mod making;
 mod names;
+mod postered;
 
 pub use checking::{check, check_certificate, check_on_graph};
 pub use geographic::{geo, geo_on_graph};
@@ -29,3 +30,4 @@ pub use laws::{
 pub use making::{make, make_again, make_improved};
 pub use map_faults::{CheckFault, CheckItem, MakeFault};
 pub use names::names_of;
+pub use postered::{poster, poster_on_graph};

@@ -92,7 +92,8 @@ pub record IsMapAccepted (told : Option (List (List ℕ × List ℕ))) (asked : 
 
 -- A picture is written, by the certificate that lies at its path, whoever made that: it shows exactly the line graph of the
 -- feed's tables, with what the certificate proves of its line orders. A map with its names shows a legal drawing, with names
--- at free places; a geographic map shows the orders along the ways that lines take on the ground.
+-- at free places; a geographic map shows the orders along the ways that lines take on the ground; a poster shows a legal
+-- drawing to be printed, its stations marked at the lines that call there.
 pub record IsPictureWritten (kind : Picture) (told : Option (List (List ℕ × List ℕ))) (asked : Asked) (path out : List ℕ) (new : Written) : Type 0 where
   pub loaded : Loaded
   pub loads : Loads told (inputs_of asked) loaded

@@ -1,4 +1,4 @@
--- What `labels` and `geo` do, and what they promise.
+-- What `labels`, `geo` and `poster` do, and what they promise.
 use Rattle.std.specs.Prelude.{◌≡◌, ℕ, false, List, [], ◌∷◌, Option, None, Some, Result, Ok, Err, IfSome, All}
 use Rattle.map_base.specs.declared.limit.Limit.{Limit}
 use Rattle.map_base.specs.declared.point.Point.{Point}
@@ -12,12 +12,13 @@ use Rattle.map_faults.specs.declared.fault.CheckFault.{CheckFault}
 use Rattle.graph_maps.specs.Readings.{certificate_in}
 use Rattle.map_engine.specs.Labelling.{labelled_by, pictured_items, IsLabelledMap}
 use Rattle.map_engine.specs.Geographic.{geographic_by, lines_by, IsGeographicMap}
+use Rattle.map_engine.specs.Postering.{postered_by, IsPoster}
 use Rattle.cert_file.specs.Plain.{PlainCertificate}
 use Rattle.map_base.specs.Settings.{Choices}
 use Rattle.map_method.specs.declared.claim.Claim.{Claim}
 use Rattle.transit_feed.specs.Feeds.{Feed}
 use Rattle.command_paths.specs.declared.picture.Picture.{Picture}
-use Rattle.command_paths.specs.declared.picture.Picture.TheVariants.{Labelled, Geographic}
+use Rattle.command_paths.specs.declared.picture.Picture.TheVariants.{Labelled, Geographic, Poster}
 use Rattle.command_run.specs.declared.output.Output.{Output}
 use Rattle.command_run.specs.Work.{Work, ends, ◌>>=◌}
 use Rattle.command_paths.specs.Paths.{Chosen}
@@ -35,10 +36,12 @@ use Rattle.command_inputs.specs.Loading.{file_work, load_work, Loads}
 abbrev pub picture_by : Picture → Feed → Choices → GraphParts → PlainCertificate → List ℕ
 picture_by Labelled feed choices graph = labelled_by feed graph
 picture_by Geographic feed choices graph = geographic_by feed graph (lines_by choices feed)
+picture_by Poster feed choices graph = postered_by feed graph
 
 -- the courses of segments, where the picture asks for them
 abbrev pub HasLines : Picture → Loaded → List (List Point) → Type 0
 HasLines Labelled loaded lines = Unit {0}
+HasLines Poster loaded lines = Unit {0}
 HasLines Geographic loaded lines = (lines_outcome loaded.settings.near loaded.tables ≡ Ok lines) × All IsCourse lines
 
 -- a picture goes to its file
@@ -67,18 +70,19 @@ certificate_work kind path loaded parts = do
   file ← file_work input.Certificate
   ends (picture_at kind path loaded parts file)
 
--- `labels` and `geo`: the line graph of the feed comes first, and then the certificate
+-- `labels`, `geo` and `poster`: the line graph of the feed comes first, and then the certificate
 abbrev pub picture_work : Picture → Chosen → List ℕ → Work Input Refusal (List Output)
 picture_work kind chosen path = do
   loaded ← load_work chosen
   parts ← ends (built (graph_outcome loaded.settings.near loaded.tables))
   certificate_work kind path loaded parts
 
--- what a picture of each kind shows: the certificate's walks and orders with names at free places, or its orders along the
--- courses of segments
+-- what a picture of each kind shows: the certificate's walks and orders with names at free places, its orders along the
+-- courses of segments, or its walks and orders as a poster
 abbrev pub IsPicture : Picture → Feed → Choices → Claim → List ℕ → List ℕ → Type 0
 IsPicture Labelled feed choices claim picture certificate = IsLabelledMap feed choices claim picture certificate
 IsPicture Geographic feed choices claim picture certificate = IsGeographicMap feed choices claim picture certificate
+IsPicture Poster feed choices claim picture certificate = IsPoster feed choices claim picture certificate
 
 -- The output is the picture by the certificate that lies at its path. That certificate shows exactly the line graph of the
 -- feed, and proves of its line orders what is claimed.
@@ -87,7 +91,7 @@ IsPictureAt kind told inputs path loaded outputs =
     (certificate : List ℕ) × (picture : List ℕ) × IfSome told (λ files. file_at files inputs.files.certificate ≡ Some certificate)
     × IsPicture kind loaded.tables loaded.settings loaded.method.claim picture certificate × (outputs ≡ picture_outputs path picture)
 
--- What `labels` and `geo` promise of their output, in the words of the feed.
+-- What `labels`, `geo` and `poster` promise of their output, in the words of the feed.
 pub record AreOfPicture (kind : Picture) (told : Option (List (List ℕ × List ℕ))) (inputs : InputPaths) (path : List ℕ) (outputs : List Output) : Type 0 where
   pub loaded : Loaded
   pub loads : Loads told inputs loaded

@@ -1,5 +1,6 @@
-//! The commands `labels` and `geo`: pictures of a feed by a certificate that is checked. The one shows the certificate's
-//! map with the names of stations at free places, the other its line orders along the ways that lines take on the ground.
+//! The commands `labels`, `geo` and `poster`: pictures of a feed by a certificate that is checked. The first shows the
+//! certificate's map with the names of stations at free places, the second its line orders along the ways that lines take
+//! on the ground, the third a map to print.
 #![tactic(auto)]
 
 mod pictures;

@@ -1,4 +1,4 @@
-//! The commands `labels` and `geo`.
+//! The commands `labels`, `geo` and `poster`.
 
 ghost use Rattle.std.specs.Prelude.{◌≡◌, ◌≤◌, ℕ, List, All, option_map, IfOk, Ok, Some};
 ghost use Rattle.files_door.specs.Fault.{Rose};
@@ -15,10 +15,11 @@ use command_paths::Picture;
 use command_run::Output;
 use files_door::{Files, Target};
 use line_graph::{GraphWithLines, build, build_with_lines};
-use map_base::{NoMemory, Sequence, Text};
-use map_engine::{CheckFault, geo_on_graph, labels_on_graph};
+use map_base::{NoMemory, Sequence, Settings, Text};
+use map_engine::{CheckFault, geo_on_graph, labels_on_graph, poster_on_graph};
 use run_status::{Input, Item, Refusal};
 use std::alloc::Global;
+use transit_feed::Tables;
 
 /// Makes a picture of a command's feed, at this path, by the command's certificate. The line graph is built first, and then
 /// the certificate is read and checked.
@@ -47,12 +48,25 @@ fn build_graph(alloc: Global, loaded: &Loaded, kind: Picture) -> Result<GraphWit
 {
     let (tables, settings) = (&loaded.tables, &loaded.settings);
     match kind {
-        Picture::Labelled => Ok(GraphWithLines {
-            graph: build(alloc, tables, settings)?,
-            lines: Sequence::of(Vec::new(alloc)),
-        }),
+        Picture::Labelled => without_lines(alloc, tables, settings),
+        Picture::Poster => without_lines(alloc, tables, settings),
         Picture::Geographic => Ok(build_with_lines(alloc, tables, settings)?),
     }
+}
+
+/// The line graph without courses.
+fn without_lines(
+    alloc: Global,
+    tables: &Tables,
+    settings: &Settings,
+) -> Result<GraphWithLines, Refusal>
+    ensures given { Gives (λ made. made.graph) result (built (graph_outcome settings.now.near tables.now)) }
+    ensures graph { IfOk result (λ made. graph_outcome settings.now.near tables.now ≡ Ok made.graph) }
+{
+    Ok(GraphWithLines {
+        graph: build(alloc, tables, settings)?,
+        lines: Sequence::of(Vec::new(alloc)),
+    })
 }
 
 /// Reads the certificate, and makes the picture by it and the line graph.
@@ -116,6 +130,9 @@ fn picture_by(
     match kind {
         Picture::Labelled => {
             labels_on_graph(alloc, tables, settings, claim, &graph.graph, certificate)
+        }
+        Picture::Poster => {
+            poster_on_graph(alloc, tables, settings, claim, &graph.graph, certificate)
         }
         Picture::Geographic => geo_on_graph(
             alloc,

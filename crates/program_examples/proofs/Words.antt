@@ -3,7 +3,7 @@ use Rattle.std.proofs.Common.{◌≡◌, [], ◌∷◌, None, Some, codes, refl}
 use Rattle.map_method.specs.declared.defaults.Defaults.TheVariants.{Make, Map}
 use Rattle.command_paths.specs.Paths.{MapPaths, NewPaths, Chosen}
 use Rattle.command_words.specs.Asked.{stations, graph, make, improve, check, depict, session, trial, page, export, imported}
-use Rattle.command_paths.specs.declared.picture.Picture.TheVariants.{Labelled, Geographic}
+use Rattle.command_paths.specs.declared.picture.Picture.TheVariants.{Labelled, Geographic, Poster}
 use Rattle.command_words.specs.Words.{asked}
 use Rattle.command_words.proofs.OnLiterals.{words_written_out}
 
@@ -126,6 +126,12 @@ a_geographic_map_is_asked : asked (codes "geo" ∷ codes "feed" ∷ codes "m.cer
     ≡ Some (depict Geographic (codes "feed") (codes "m.cert") (codes "n.svg") by_mine)
 unfolding words_written_out
 a_geographic_map_is_asked = refl
+
+-- and so does the poster
+a_poster_is_asked : asked (codes "poster" ∷ codes "feed" ∷ codes "m.cert" ∷ codes "n.svg" ∷ codes "--settings" ∷ codes "my.toml" ∷ [])
+    ≡ Some (depict Poster (codes "feed") (codes "m.cert") (codes "n.svg") by_mine)
+unfolding words_written_out
+a_poster_is_asked = refl
 
 -- a graph file is written with settings and with edits
 an_export_is_asked : asked (codes "export" ∷ codes "feed" ∷ codes "g.json" ∷ codes "--settings" ∷ codes "my.toml" ∷ []) ≡ Some (export (codes "feed") (codes "g.json") by_mine)

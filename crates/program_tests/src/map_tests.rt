@@ -113,6 +113,49 @@ fn the_smallest_map_is_drawn_over_the_ground(rt: HostRuntime) -> Result<(), Fail
     Ok(())
 }
 
+/// The poster of the smallest feed: its line ends at both stations, and the legend stands below.
+const SMALLEST_POSTER: &str = "\
+<svg xmlns=\"http://www.w3.org/2000/svg\" version=\"1.1\" viewBox=\"-136 -75 1272 210\" font-family=\"Helvetica, Arial, sans-serif\">
+<rect x=\"-136\" y=\"-75\" width=\"1272\" height=\"210\" fill=\"#ffffff\"/>
+<g id=\"lines\" fill=\"none\" stroke-linejoin=\"round\" stroke-linecap=\"round\" stroke-width=\"12\">
+<path class=\"s0 l0\" d=\"M 0 0 L 1000 0\" stroke=\"#e6194b\"><title>A</title></path>
+</g>
+<g id=\"stations\" fill=\"none\" stroke-linejoin=\"round\" stroke-linecap=\"round\">
+<g class=\"n0 l0\"><title>X</title>
+<path d=\"M 0 0 L 0 0\" stroke=\"#000000\" stroke-width=\"20\"/>
+<path d=\"M 0 0 L 0 0\" stroke=\"#ffffff\" stroke-width=\"12\"/>
+</g>
+<g class=\"n1 l0\"><title>Y</title>
+<path d=\"M 1000 0 L 1000 0\" stroke=\"#000000\" stroke-width=\"20\"/>
+<path d=\"M 1000 0 L 1000 0\" stroke=\"#ffffff\" stroke-width=\"12\"/>
+</g>
+</g>
+<g id=\"names\" font-size=\"30\" fill=\"#000000\">
+<text x=\"-16\" y=\"9\" text-anchor=\"end\">X<tspan dx=\"9\" fill=\"#e6194b\" font-weight=\"bold\">A</tspan></text>
+<text x=\"1016\" y=\"9\">Y<tspan dx=\"9\" fill=\"#e6194b\" font-weight=\"bold\">A</tspan></text>
+</g>
+<g id=\"legend\" font-size=\"30\" fill=\"#000000\">
+<path d=\"M -76 60 L -16 60\" stroke=\"#e6194b\" stroke-width=\"12\"/>
+<text x=\"14\" y=\"69\">A</text>
+</g>
+</svg>
+";
+
+#[test]
+fn the_smallest_poster_is_drawn(rt: HostRuntime) -> Result<(), Fail> {
+    let alloc = rt.alloc();
+    let words = words_of(alloc, "poster feed map.cert poster.svg")?;
+    let mut files = smallest_feed(alloc)?;
+    put_file(alloc, &mut files, "map.cert", SMALLEST_CERTIFICATE)?;
+    let mut files = SteadyFiles::with(files);
+    let mut sinks = SteadySinks::none(alloc);
+    assert_eq!(rt; run_on(alloc, &words, &mut files, &mut sinks), 0);
+    let poster = sinks.written(&at(alloc, "poster.svg")?).unwrap_or(b"");
+    assert_eq!(rt; poster, SMALLEST_POSTER.as_bytes());
+    assert_eq!(rt; sinks.written(&Target::Said), None);
+    Ok(())
+}
+
 #[test]
 fn a_map_that_is_cut_short_leaves_no_certificate(rt: HostRuntime) -> Result<(), Fail> {
     let alloc = rt.alloc();

@@ -16,7 +16,7 @@ pub fn escape(alloc: Global, text: &Text) -> Result<Text, NoMemory>
 }
 
 /// Appends a name as it is written.
-pub(crate) fn push_escaped(text: &mut String, name: &str) -> Result<(), NoMemory>
+pub fn push_escaped(text: &mut String, name: &str) -> Result<(), NoMemory>
     ensures { OnOk result (string_bytes text.new ≡ string_bytes text.old ++ escaped name.now) }
 {
     for c in name.chars() {

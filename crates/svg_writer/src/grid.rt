@@ -95,7 +95,7 @@ pub fn centre_of(graph: &LineGraph, drawing: &Drawing, n: NodeId) -> Corner
 }
 
 /// Where the walk of a segment puts node n, an end of the segment.
-fn put_at(walks: &Sequence<Walk>, ends: (NodeId, NodeId), n: u32, s: u32) -> GridPoint
+pub fn put_at(walks: &Sequence<Walk>, ends: (NodeId, NodeId), n: u32, s: u32) -> GridPoint
     ensures { result ≡ put_at n ends (walk_at walks.now s) }
 {
     match walks.as_slice().get(s as usize) {
@@ -111,7 +111,7 @@ fn put_at(walks: &Sequence<Walk>, ends: (NodeId, NodeId), n: u32, s: u32) -> Gri
 }
 
 /// The number of the first segment of a round.
-fn first_of(round: &[SegId]) -> u32
+pub fn first_of(round: &[SegId]) -> u32
     ensures { result ≡ first_of round.now }
 {
     match round {

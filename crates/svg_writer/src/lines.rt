@@ -15,7 +15,7 @@ use map_base::{LineId, NoMemory, NodeId, SegId};
 use std::alloc::Global;
 
 /// How many places line i of n stands to the right of the middle, doubled.
-fn gauge(n: usize, i: usize) -> Result<i32, NoMemory>
+pub fn gauge(n: usize, i: usize) -> Result<i32, NoMemory>
     requires { i ≤ n }
     ensures value { IfOk result (λ k. k ≡ gauge n i) }
     ensures small { IfOk result (λ k. unsigned_abs k ≤ 200000001) }
@@ -160,7 +160,7 @@ fn push_between(
 }
 
 /// Whether two points are one.
-fn are_one(a: Corner, b: Corner) -> bool
+pub fn are_one(a: Corner, b: Corner) -> bool
     ensures { result ≡ are_one a b }
 {
     a.x == b.x && a.y == b.y
@@ -194,7 +194,7 @@ fn end_at<D: Drawn>(drawn: &D, ends: (NodeId, NodeId), n: u32, s: u32, k: i32) -
 }
 
 /// The number of a line in an order, or how many there are where it is none of them.
-fn place_in(order: &[LineId], line: LineId) -> usize
+pub fn place_in(order: &[LineId], line: LineId) -> usize
     ensures place { result ≡ place_in order.now line }
     ensures within { result ≤ length order.now }
 {

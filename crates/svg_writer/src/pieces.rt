@@ -14,7 +14,7 @@ use line_offsets::Corner;
 use map_base::NoMemory;
 
 /// Appends a number that is not negative.
-pub(crate) fn push_natural(text: &mut String, number: u64) -> Result<(), NoMemory>
+pub fn push_natural(text: &mut String, number: u64) -> Result<(), NoMemory>
     ensures { OnOk result (string_bytes text.new ≡ string_bytes text.old ++ decimal number) }
 {
     let mut digits = Buffer::new();
@@ -23,7 +23,7 @@ pub(crate) fn push_natural(text: &mut String, number: u64) -> Result<(), NoMemor
 }
 
 /// Appends a number.
-pub(crate) fn push_integer(text: &mut String, number: i64) -> Result<(), NoMemory>
+pub fn push_integer(text: &mut String, number: i64) -> Result<(), NoMemory>
     ensures { OnOk result (string_bytes text.new ≡ string_bytes text.old ++ signed_decimal number) }
 {
     let mut digits = Buffer::new();
@@ -32,7 +32,7 @@ pub(crate) fn push_integer(text: &mut String, number: i64) -> Result<(), NoMemor
 }
 
 /// Appends `x y`.
-fn push_corner(text: &mut String, corner: Corner) -> Result<(), NoMemory>
+pub fn push_corner(text: &mut String, corner: Corner) -> Result<(), NoMemory>
     ensures { OnOk result (string_bytes text.new ≡ string_bytes text.old ++ corner_text corner) }
 {
     push_integer(text, corner.x)?;
@@ -59,7 +59,7 @@ fn push_later(text: &mut String, corners: &[Corner]) -> Result<(), NoMemory>
 }
 
 /// Appends `M x y L x y ..`.
-pub(crate) fn push_path(text: &mut String, path: &[Corner]) -> Result<(), NoMemory>
+pub fn push_path(text: &mut String, path: &[Corner]) -> Result<(), NoMemory>
     ensures { OnOk result (string_bytes text.new ≡ string_bytes text.old ++ path_text path.now) }
 {
     match path {
@@ -94,7 +94,7 @@ fn push_byte(text: &mut String, byte: u8) -> Result<(), NoMemory>
 }
 
 /// Appends `#` and six digits.
-fn push_colour(text: &mut String, colour: &[u8]) -> Result<(), NoMemory>
+pub fn push_colour(text: &mut String, colour: &[u8]) -> Result<(), NoMemory>
     ensures { OnOk result (string_bytes text.new ≡ string_bytes text.old ++ colour_text colour.now) }
 {
     text.push_str("#")?;
@@ -125,7 +125,7 @@ pub(crate) fn push_stroke(text: &mut String, style: Style, colour: &[u8]) -> Res
 }
 
 /// Appends two numbers in the class of a path, to the beginning of its corners.
-pub(crate) fn push_ids(text: &mut String, number: u32, line: u32) -> Result<(), NoMemory>
+pub fn push_ids(text: &mut String, number: u32, line: u32) -> Result<(), NoMemory>
     ensures { OnOk result (string_bytes text.new ≡ string_bytes text.old ++ ids_text number line) }
 {
     push_natural(text, u64::from(number))?;
@@ -136,7 +136,7 @@ pub(crate) fn push_ids(text: &mut String, number: u32, line: u32) -> Result<(), 
 }
 
 /// Appends the name of a line, to the end of its path.
-pub(crate) fn push_title(text: &mut String, name: &str) -> Result<(), NoMemory>
+pub fn push_title(text: &mut String, name: &str) -> Result<(), NoMemory>
     ensures { OnOk result (string_bytes text.new ≡ string_bytes text.old ++ title_text name.now) }
 {
     text.push_str("><title>")?;
@@ -205,7 +205,7 @@ pub(crate) fn push_centre(text: &mut String, centre: Corner) -> Result<(), NoMem
 }
 
 /// Appends where a name begins.
-pub(crate) fn push_place(text: &mut String, place: Corner) -> Result<(), NoMemory>
+pub fn push_place(text: &mut String, place: Corner) -> Result<(), NoMemory>
     ensures { OnOk result (string_bytes text.new ≡ string_bytes text.old ++ place_text place) }
 {
     push_integer(text, place.x)?;

@@ -31,7 +31,7 @@ pub(crate) fn small_count(count: usize) -> Result<i32, NoMemory>
 }
 
 /// The order of a segment.
-pub(crate) fn order_of<'a>(orders: &'a Orders, s: u32) -> &'a [LineId]
+pub fn order_of<'a>(orders: &'a Orders, s: u32) -> &'a [LineId]
     ensures { result.now ≡ order_at orders.now.lists s }
 {
     match orders.lists.as_slice().get(s as usize) {
@@ -41,7 +41,7 @@ pub(crate) fn order_of<'a>(orders: &'a Orders, s: u32) -> &'a [LineId]
 }
 
 /// The lines of a segment.
-pub(crate) fn lines_of<'a>(graph: &'a LineGraph, s: u32) -> &'a [LineId]
+pub fn lines_of<'a>(graph: &'a LineGraph, s: u32) -> &'a [LineId]
     requires { length graph.now.lines ≡ length graph.now.ends }
     ensures { result.now ≡ lines_at graph.now.lines s }
 {
@@ -53,7 +53,7 @@ pub(crate) fn lines_of<'a>(graph: &'a LineGraph, s: u32) -> &'a [LineId]
 }
 
 /// The segments round a node.
-pub(crate) fn round_of<'a>(graph: &'a LineGraph, n: NodeId) -> &'a [SegId]
+pub fn round_of<'a>(graph: &'a LineGraph, n: NodeId) -> &'a [SegId]
     ensures { result.now ≡ round_at graph.now.rounds n.0 }
 {
     if n.0 < graph.nodes() {
@@ -75,7 +75,7 @@ pub fn ends_of(graph: &LineGraph, s: u32) -> (NodeId, NodeId)
 }
 
 /// The name of a line.
-pub(crate) fn name_of<'a>(names: &'a Names, line: LineId) -> &'a str
+pub fn name_of<'a>(names: &'a Names, line: LineId) -> &'a str
     ensures { result.now ≡ name_of names.now line }
 {
     match names.lines.as_slice().get(line.0 as usize) {
@@ -85,7 +85,7 @@ pub(crate) fn name_of<'a>(names: &'a Names, line: LineId) -> &'a str
 }
 
 /// The colour of a line.
-pub(crate) fn colour_of<'a>(names: &'a Names, line: LineId) -> &'a [u8]
+pub fn colour_of<'a>(names: &'a Names, line: LineId) -> &'a [u8]
     ensures { result.now ≡ colour_of names.now line }
 {
     match names.lines.as_slice().get(line.0 as usize) {

@@ -197,7 +197,7 @@ fn radius_with(each: u16, more: u16, most: u64) -> u64
 }
 
 /// How many lines the segment with the most has, of a round.
-fn most_lines(graph: &LineGraph, round: &[SegId]) -> usize
+pub fn most_lines(graph: &LineGraph, round: &[SegId]) -> usize
     requires { length graph.now.lines ≡ length graph.now.ends }
     ensures { result ≡ most_lines graph.now.lines round.now }
 {

@@ -1,4 +1,4 @@
-use Rattle.std.proofs.Common.{◌≡◌, ℤ, ◌*ℤ◌, w32, w64, to_z, of_z, ap, ◌∙◌, arith}
+use Rattle.std.proofs.Common.{◌≡◌, ℤ, ◌*ℤ◌, pos, w32, w64, to_z, of_z, ap, ◌∙◌, arith}
 use Rattle.std.proofs.lemmas.Int.{ints, to_z-of_z}
 use Rattle.line_offsets.proofs.path.down.Goals as goal
 
@@ -6,4 +6,5 @@ pub returns : goal.returns
 returns c =
     let value : c.times.result ≡ c.args.k *ℤ c.args.by =
     c.times.ensures.value ∙ ap (λ (u : ℤ). u *ℤ to_z w64 (of_z w64 c.args.by)) (to_z-of_z w32 c.args.k c.ranges.k) ∙ ap (λ (u : ℤ). c.args.k *ℤ u) (to_z-of_z w64 c.args.by c.ranges.by) in
-    omega (arith, ints, value, c.from.ensures, c.times.ensures.small)
+    let drawn : c.scaled.result ≡ pos c.args.pitch *ℤ c.args.y = c.scaled.ensures.value ∙ ap (λ (u : ℤ). pos c.args.pitch *ℤ u) (to_z-of_z w32 c.args.y c.ranges.y) in
+    omega (arith, ints, value, drawn, c.scaled.ensures.small, c.times.ensures.small)

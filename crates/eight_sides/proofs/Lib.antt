@@ -1,0 +1,4 @@
+mod Orders
+mod Sharing
+mod Discs
+pub mod Computed

@@ -1,0 +1,4 @@
+mod ListLemmas
+mod ByLine
+mod Noting
+mod Calling

@@ -1,0 +1,2 @@
+mod Voting
+mod Summing

@@ -1,0 +1,4 @@
+pub mod Widths
+pub mod Words
+pub mod Votes
+pub mod Colours

@@ -1,0 +1,5 @@
+mod Names
+mod Shapes
+mod Places
+mod Whole
+mod Calls

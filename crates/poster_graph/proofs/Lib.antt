@@ -1,0 +1,6 @@
+mod Pieces
+mod Words
+mod Flags
+mod Nodes
+mod Marks
+mod Steps

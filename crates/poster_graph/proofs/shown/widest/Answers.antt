@@ -1,0 +1,20 @@
+use Rattle.std.proofs.Common.{◌≡◌, ℕ, ◌*◌, max, get_or, ap, sym, ◌∙◌, arith}
+use Rattle.std.proofs.lemmas.List.Sums.{fold_more}
+use Rattle.map_base.specs.declared.ids.LineId.{LineId}
+use Rattle.svg_writer.specs.Picture.{name_of}
+use Rattle.name_widths.specs.Widths.{text_width}
+use Rattle.poster_graph.proofs.shown.widest.Goals as goal
+
+abbrev none : LineId
+none = record { 0 = 0 }
+
+pub loop-line-preserved : goal.loop-line-preserved
+loop-line-preserved c =
+    let lines = c.args.lines.now in
+    let i = c.loop-line.line-index in
+    let wider : ℕ → LineId → ℕ = λ most l. max most (3 * text_width (name_of c.args.names.now l)) in
+    let width : c.in_ok-width.width ≡ text_width (name_of c.args.names.now (get_or lines i none)) = c.in_ok-width.ensures.value ∙ ap text_width c.name_of.ensures in
+    let most : c.max-most.result ≡ max c.loop-line.most (3 * c.in_ok-width.width) = omega (arith, c.max-most.ensures) in
+    most ∙ ap (λ (w : ℕ). max c.loop-line.most (3 * w)) width
+    ∙ ap (λ (most : ℕ). wider most (get_or lines i none)) c.loop-line.invariant
+    ∙ sym (fold_more wider 0 lines i none c.loop-line-test.true)

@@ -1,0 +1,11 @@
+mod Corners
+mod Rooming
+mod Counting
+mod Placed
+mod Ordering
+mod Choosing
+mod Framing
+mod Clashing
+mod Squares
+mod Cornering
+mod Sharing

@@ -1,0 +1,10 @@
+use Rattle.std.proofs.Common.{arith}
+use Rattle.std.proofs.lemmas.Int.{ints}
+use Rattle.poster_layout.proofs.Corners.{same_corner}
+use Rattle.poster_layout.proofs.extent.greatest_of.Goals as goal
+
+pub returns-clause-value : goal.returns-clause-value
+returns-clause-value c = let s = c.args.s in same_corner _ _ s.across.greatest s.down.greatest (omega (arith, ints)) (omega (arith, ints))
+
+pub returns-clause-near : goal.returns-clause-near
+returns-clause-near c = record { across = omega (arith, ints, c.requires.across.greatest); down = omega (arith, ints, c.requires.down.greatest) }

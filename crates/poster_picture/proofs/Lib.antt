@@ -1,0 +1,8 @@
+mod Writing
+mod Behind
+mod Gathering
+mod Noting
+mod Sorting
+mod Joining
+mod Lining
+mod Wholes

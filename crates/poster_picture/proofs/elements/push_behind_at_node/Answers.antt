@@ -1,0 +1,5 @@
+use Rattle.svg_writer.proofs.Appends.{grew5}
+use Rattle.poster_picture.proofs.elements.push_behind_at_node.Goals as goal
+
+pub returns : goal.returns
+returns c = grew5 _ _ _ _ _ _ _ _ _ _ _ c.in_ok-push_str.ensures.bytes c.in_ok-push_ids.ensures c.in_ok-push_path.ensures c.in_ok-push_ink.ensures c.in_ok-push_width.ensures

@@ -1,0 +1,5 @@
+use Rattle.svg_writer.proofs.Appends.{grew3}
+use Rattle.poster_picture.proofs.pieces.push_stroke.Goals as goal
+
+pub returns : goal.returns
+returns c = grew3 _ _ _ _ _ _ _ c.in_ok-push_str.ensures.bytes c.in_ok-push_colour.ensures c.in_ok-push_str-2.ensures.bytes

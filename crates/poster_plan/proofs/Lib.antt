@@ -1,0 +1,4 @@
+mod Meetings
+mod Folds
+mod Homes
+mod Taken

@@ -1,0 +1,5 @@
+use Rattle.poster_plan.proofs.Homes.{all_well}
+use Rattle.poster_plan.proofs.laws.names_keep_apart.Goals as goal
+
+pub returns : goal.returns
+returns c = λ u plan. (all_well u plan).apart

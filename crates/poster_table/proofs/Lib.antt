@@ -1,0 +1,7 @@
+mod Members
+mod Reaching
+mod Searching
+mod Putting
+mod Tabling
+pub mod Finding
+pub mod Rows
