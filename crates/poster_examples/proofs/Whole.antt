@@ -30,7 +30,8 @@ walk = record { start = record { x = pos 2; y = pos 2 }; steps = replicate 46 di
 abbrev line : LineId
 line = record { 0 = 0 }
 
--- It stands by its definition: its names are beside the line, where it is free, and its legend in the upper left corner.
+-- It stands by its definition: its names are beside the line, where it is free, and its legend in the upper left
+-- corner.
 whole :
     poster_text names graph (walk ∷ []) ((line ∷ []) ∷ []) ((line ∷ []) ∷ (line ∷ []) ∷ [])
     ≡ (codes "<svg xmlns=\"http://www.w3.org/2000/svg\" version=\"1.1\" viewBox=\"-180 -1035 1276 1070\" font-family=\"Helvetica, Arial, sans-serif\">\n")
