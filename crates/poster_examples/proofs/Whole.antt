@@ -2,6 +2,7 @@
 use Rattle.std.proofs.Common.{◌≡◌, ℕ, pos, List, [], ◌∷◌, ◌++◌, Some, false, length, replicate, refl, ap, ◌∙◌}
 use Rattle.std.specs.Prelude.{codes}
 use Rattle.std.specs.Str.{chars}
+use lib.Utf8.{encode}
 use Rattle.std.specs.Fmt.{digits}
 use Rattle.map_base.specs.declared.ids.LineId.{LineId}
 use Rattle.graph_core.specs.declared.parts.NodeKind.TheVariants.{Station}
@@ -102,7 +103,7 @@ written u ps =
 -- It stands by its definition: its names are beside the line, where it is free, and its legend in the upper left
 -- corner.
 whole : poster_text names graph (walk ∷ []) ((line ∷ []) ∷ []) ((line ∷ []) ∷ (line ∷ []) ∷ []) ≡ text
-unfolding chars digits
+unfolding chars encode digits
 whole =
     ap (λ (p : Plan). texts (elements_at names graph (walk ∷ []) ((line ∷ []) ∷ []) ((line ∷ []) ∷ (line ∷ []) ∷ []) p (pitch_of p))) planned
     ∙ ap (λ (u : ℕ). written u (printed_names u plan)) least_pitch
