@@ -1,19 +1,23 @@
 -- Widths of texts, first words and pale colours.
 use Rattle.std.proofs.Common.{◌≡◌, ◌+◌, true, false, [], ◌∷◌, Some, None, refl}
 use Rattle.std.specs.Prelude.{codes}
+use Rattle.std.specs.Str.{chars}
 use Rattle.name_widths.specs.Widths.{text_width}
 use Rattle.name_widths.specs.Words.{parts, rest_of}
 use Rattle.name_widths.specs.Colours.{is_faint, is_pale, light}
 
 -- a narrow letter, a capital, a figure, a wide sign and a space
 widths : text_width (codes "iI WU1m& z") ≡ 3 + 3 + 3 + 8 + 8 + 6 + 8 + 8 + 3 + 6
+unfolding chars
 widths = refl
 
 no_width : text_width [] ≡ 0
+unfolding chars
 no_width = refl
 
 -- U+2E7F and U+2E80
 edge : text_width (0xe2 ∷ 0xb9 ∷ 0xbf ∷ 0xe2 ∷ 0xba ∷ 0x80 ∷ []) ≡ 16
+unfolding chars
 edge = refl
 
 one_word : parts (codes "Zoo ") ≡ None

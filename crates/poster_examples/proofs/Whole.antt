@@ -1,13 +1,25 @@
 -- A whole poster.
-use Rattle.std.proofs.Common.{◌≡◌, pos, [], ◌∷◌, ◌++◌, replicate, refl}
+use Rattle.std.proofs.Common.{◌≡◌, ℕ, pos, List, [], ◌∷◌, ◌++◌, Some, false, length, replicate, refl, ap, ◌∙◌}
 use Rattle.std.specs.Prelude.{codes}
+use Rattle.std.specs.Str.{chars}
+use lib.Utf8.{encode}
+use Rattle.std.specs.Fmt.{digits}
 use Rattle.map_base.specs.declared.ids.LineId.{LineId}
 use Rattle.graph_core.specs.declared.parts.NodeKind.TheVariants.{Station}
 use Rattle.graph_core.specs.declared.parts.GraphParts.{GraphParts}
 use Rattle.octi_grid.specs.declared.dir.Dir.TheVariants as dir
 use Rattle.octi_grid.specs.Walks.{PlainWalk}
 use Rattle.svg_writer.specs.declared.names.Names.{Names}
-use Rattle.poster_rules.specs.Posters.{poster_text}
+use Rattle.poster_plan.specs.declared.layout.Printed.{Printed}
+use Rattle.poster_plan.specs.declared.layout.Step.TheVariants.{Full}
+use Rattle.poster_plan.specs.declared.place.Place.TheVariants as place
+use Rattle.poster_plan.specs.declared.plan.Plan.{Plan}
+use Rattle.poster_plan.specs.Legends.{legend_of}
+use Rattle.poster_plan.specs.Pitches.{pitch_of}
+use Rattle.poster_plan.specs.Placing.{printed_names}
+use Rattle.poster_rules.specs.Elements.{texts}
+use Rattle.poster_rules.specs.Plans.{lines_shown, plan_of, widest}
+use Rattle.poster_rules.specs.Posters.{elements_at, elements_with, poster_text}
 
 -- two stations that a pale line joins
 abbrev graph : GraphParts
@@ -30,10 +42,32 @@ walk = record { start = record { x = pos 2; y = pos 2 }; steps = replicate 46 di
 abbrev line : LineId
 line = record { 0 = 0 }
 
--- It stands by its definition: its names are beside the line, where it is free, and its legend in the upper left corner.
-whole :
-    poster_text names graph (walk ∷ []) ((line ∷ []) ∷ []) ((line ∷ []) ∷ (line ∷ []) ∷ [])
-    ≡ (codes "<svg xmlns=\"http://www.w3.org/2000/svg\" version=\"1.1\" viewBox=\"-180 -1035 1276 1070\" font-family=\"Helvetica, Arial, sans-serif\">\n")
+-- its stations and its one straight piece
+abbrev plan : Plan
+plan = record {
+  marks =
+      record { node = record { 0 = 0 }; at = record { x = pos 2; y = pos 2 }; radius = 10; name = Some 48; level = false }
+      ∷ record { node = record { 0 = 1 }; at = record { x = pos 48; y = pos 48 }; radius = 10; name = Some 20; level = false } ∷ [];
+  pieces = record { start = record { x = pos 2; y = pos 2 }; end = record { x = pos 48; y = pos 48 }; lines = 1; ends = (record { 0 = 0 }, record { 0 = 1 }) } ∷ [];
+}
+
+planned : plan_of names graph (walk ∷ []) ((line ∷ []) ∷ (line ∷ []) ∷ []) ≡ plan
+unfolding chars
+planned = refl
+
+least_pitch : pitch_of plan ≡ 20
+least_pitch = refl
+
+-- both names in full size, to the west and to the east
+abbrev printed : List Printed
+printed = record { mark = 0; step = Full; place = place.W } ∷ record { mark = 1; step = Full; place = place.E } ∷ []
+
+placed : printed_names 20 plan ≡ printed
+placed = refl
+
+abbrev text : List ℕ
+text =
+    (codes "<svg xmlns=\"http://www.w3.org/2000/svg\" version=\"1.1\" viewBox=\"-180 -1035 1276 1070\" font-family=\"Helvetica, Arial, sans-serif\">\n")
     ++ (codes "<rect x=\"-180\" y=\"-1035\" width=\"1276\" height=\"1070\" fill=\"#ffffff\"/>\n")
     ++ (codes "<g id=\"lines\" fill=\"none\" stroke-linejoin=\"round\" stroke-linecap=\"round\" stroke-width=\"12\">\n")
     ++ (codes "<path class=\"s0 l0\" d=\"M 40 -40 L 960 -960\" stroke=\"#444444\" stroke-width=\"14\"/>\n")
@@ -59,4 +93,19 @@ whole :
     ++ (codes "<text x=\"-30\" y=\"-951\">A</text>\n")
     ++ (codes "</g>\n")
     ++ (codes "</svg>\n")
-whole = refl
+
+-- what is written at a pitch, with these names
+abbrev written : ℕ → List Printed → List ℕ
+written u ps =
+    texts (elements_with (record { names = names; graph = graph; walks = walk ∷ []; orders = (line ∷ []) ∷ []; callers = (line ∷ []) ∷ (line ∷ []) ∷ []; pitch = u })
+    plan ps (lines_shown 1 graph) (legend_of u plan ps (length (lines_shown 1 graph)) (widest names (lines_shown 1 graph))))
+
+-- It stands by its definition: its names are beside the line, where it is free, and its legend in the upper left
+-- corner.
+whole : poster_text names graph (walk ∷ []) ((line ∷ []) ∷ []) ((line ∷ []) ∷ (line ∷ []) ∷ []) ≡ text
+unfolding chars encode digits
+whole =
+    ap (λ (p : Plan). texts (elements_at names graph (walk ∷ []) ((line ∷ []) ∷ []) ((line ∷ []) ∷ (line ∷ []) ∷ []) p (pitch_of p))) planned
+    ∙ ap (λ (u : ℕ). written u (printed_names u plan)) least_pitch
+    ∙ ap (written 20) placed
+    ∙ refl

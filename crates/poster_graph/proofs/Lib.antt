@@ -4,3 +4,4 @@ mod Flags
 mod Nodes
 mod Marks
 mod Steps
+pub mod Written

@@ -1,5 +1,5 @@
-//! What a poster shows of a line graph: the plan of its stations and straight pieces, the names that are printed, and which
-//! lines end where. All of it is told by the drawing and by the lines that call at each node.
+//! What a poster shows of a line graph: the plan of its stations and straight pieces, the names that are printed, and
+//! which lines end where. All of it is told by the drawing and by the lines that call at each node.
 #![tactic(auto)]
 
 mod plans;

@@ -84,7 +84,7 @@ fn put_flagged(lines: &mut Vec<LineId>, number: u32, flag: bool) -> Result<(), N
 pub fn widest(names: &Names, lines: &[LineId]) -> Result<u32, NoMemory>
     ensures { IfOk result (λ most. most ≡ widest names.now lines.now) }
 {
-    let mut most = 0;
+    let mut most: u32 = 0;
     for line in lines {
         let width = text_width(name_of(names, *line))?;
         most = most.max(3 * width);

@@ -12,8 +12,8 @@ use octi_grid::{Dir, Walk};
 use std::alloc::Global;
 use svg_writer::{ends_of, lines_of, most_lines, name_of, round_of};
 
-/// The lines that end at a node, rising: those that call there, are on exactly one of its segments, and have a name of one
-/// to five characters.
+/// The lines that end at a node, rising: those that call there, are on exactly one of its segments, and have a name of
+/// one to five characters.
 pub fn ending(alloc: Global, served: Served<'_>, n: NodeId) -> Result<Vec<LineId>, NoMemory>
     requires { IsConsistent served.graph.now }
     ensures { IfOk result (λ lines. lines.items ≡ ending served.entry.names.now served.entry.graph.now served.entry.callers.now n.0) }

@@ -13,8 +13,8 @@ use name_widths::{common_word, rest_of, text_width};
 use std::alloc::Global;
 use svg_writer::{Names, name_of, station_name};
 
-/// The word with which more than half of a line graph's station nodes begin, if there is one, and which nodes are second
-/// platforms of a stop.
+/// The word with which more than half of a line graph's station nodes begin, if there is one, and which nodes are
+/// second platforms of a stop.
 #[derive(Drop)]
 pub struct Texts<'a> {
     pub(crate) common: Option<&'a str>,
@@ -183,8 +183,8 @@ fn is_text(text: &str, other: Option<&str>) -> bool
     }
 }
 
-/// How wide a text is with the names of these lines behind it, each four tenths apart. For more than can be reckoned with
-/// there is no room.
+/// How wide a text is with the names of these lines behind it, each four tenths apart. For more than can be reckoned
+/// with there is no room.
 pub(crate) fn width_with(names: &Names, lines: &[LineId], text: &str) -> Result<u32, NoMemory>
     ensures { IfOk result (λ width. width ≡ width_with names.now lines.now text.now) }
 {

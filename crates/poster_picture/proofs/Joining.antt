@@ -19,7 +19,7 @@ module _ (sheet : Sheet) (n : ℕ) (j : Join) (a b : Corner) where
   ends_meet old p q one =
       sym (append-nil old) ∙ sym (ap (λ (t : Bool). old ++ texts (cond t [] (drawn (colour_of sheet.names j.line)))) one) ∙ ap (λ (es : List Element). old ++ texts es) (between_feet p q)
 
-  pub ends_differ : (colour old new : List ℕ) → a ≡ foot_on sheet n j.e.0 j.line → b ≡ foot_on sheet n j.f.0 j.line → are_one a b ≡ false → colour ≡ colour_of sheet.names j.line
-      → new ≡ old ++ texts (drawn colour) → new ≡ old ++ texts (join_elements sheet n j)
-  ends_differ colour old new p q two is written =
-      written ∙ ap (λ (k : List ℕ). old ++ texts (drawn k)) is ∙ sym (ap (λ (t : Bool). old ++ texts (cond t [] (drawn (colour_of sheet.names j.line)))) two) ∙ ap (λ (es : List Element). old ++ texts es) (between_feet p q)
+  pub ends_differ : (colour : List ℕ) → a ≡ foot_on sheet n j.e.0 j.line → b ≡ foot_on sheet n j.f.0 j.line → are_one a b ≡ false → colour ≡ colour_of sheet.names j.line
+      → texts (drawn colour) ≡ texts (join_elements sheet n j)
+  ends_differ colour p q two is =
+      ap (λ (k : List ℕ). texts (drawn k)) is ∙ sym (ap (λ (t : Bool). texts (cond t [] (drawn (colour_of sheet.names j.line)))) two) ∙ ap texts (between_feet p q)

@@ -1,8 +1,8 @@
 -- Where names are printed, one after another.
-use Rattle.std.proofs.Common.{◌≡◌, ◌≢◌, ℕ, ◌+◌, ◌<◌, ◌==◌, Bool, true, false, cond, List, [], ◌∷◌, ◌++◌, length, get_or, set, take, Option, Some, None, refl, ap, sym, ◌∙◌}
+use Rattle.std.proofs.Common.{◌≡◌, ◌≢◌, ℕ, ◌+◌, ◌<◌, ◌==◌, Bool, true, false, cond, List, [], ◌∷◌, ◌++◌, length, get_or, set, take, replicate, Option, Some, None, refl, ap, sym, ◌∙◌}
 use Rattle.std.proofs.lemmas.Bool.{eq-eqb, eqb-true, false≢true, ne_eqb}
 use Rattle.std.proofs.lemmas.Grind.{get_or-set_at}
-use Rattle.std.proofs.lemmas.List.{get_or-set_other, take_more}
+use Rattle.std.proofs.lemmas.List.{get_or-replicate, get_or-set_other, take_more}
 use Rattle.poster_plan.specs.declared.layout.Printed.{Printed}
 use Rattle.poster_rules.specs.Posters.{printed_of}
 use Rattle.poster_picture.specs.Noted.{first_of}
@@ -16,12 +16,20 @@ printed_behind (p ∷ ps) qs i = by_test (p.mark == i) (printed_behind ps qs i)
     by_test false e = e
 
 -- one name more
-pub printed_more : (ps : List Printed) (k i : ℕ) (d : Printed) → k < length ps → printed_of (take (k + 1) ps) i ≡ first_of (printed_of (take k ps) i) (printed_of (get_or ps k d ∷ []) i)
-printed_more ps k i d low = ap (λ (qs : List Printed). printed_of qs i) (take_more ps k d low) ∙ printed_behind (take k ps) (get_or ps k d ∷ []) i
+pub printed_more : (ps : List Printed) (k i : ℕ) (d : Printed) (old was new : Option Printed) → k < length ps → new ≡ first_of was (printed_of (get_or ps k d ∷ []) i) → was ≡ old → old ≡ printed_of (take k ps) i
+    → new ≡ printed_of (take (k + 1) ps) i
+printed_more ps k i d old was new low noted same before =
+    noted
+    ∙ ap (λ (o : Option Printed). first_of o (printed_of (get_or ps k d ∷ []) i)) (same ∙ before)
+    ∙ sym (ap (λ (qs : List Printed). printed_of qs i) (take_more ps k d low) ∙ printed_behind (take k ps) (get_or ps k d ∷ []) i)
 
 first_none : (o : Option Printed) → first_of o None ≡ o
 first_none (Some p) = refl
 first_none None = refl
+
+-- no name yet
+pub none_noted : (count i : ℕ) (places : List (Option Printed)) → places ≡ replicate count None → i < count → get_or places i None ≡ None
+none_noted count i places e low = ap (λ (ps : List (Option Printed)). get_or ps i None) e ∙ get_or-replicate count i None None low
 
 -- a name is noted at its mark, where none is yet, and nowhere else
 pub noted_elsewhere : (p : Printed) (i : ℕ) (o : Option Printed) → p.mark ≢ i → o ≡ first_of o (printed_of (p ∷ []) i)

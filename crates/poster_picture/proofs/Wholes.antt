@@ -2,9 +2,11 @@
 use Rattle.std.proofs.Common.{◌≡◌, ◌⊎◌, inl, inr, ℕ, ◌<◌, Bool, cond, List, [], ◌∷◌, ◌++◌, ap, sym, ◌∙◌, append-nil, append_assoc, length, Option, arith}
 use Rattle.line_offsets.specs.declared.corner.Corner.{Corner}
 use Rattle.map_base.specs.declared.ids.LineId.{LineId}
+use Rattle.map_base.specs.declared.ids.StationId.{StationId}
+use Rattle.graph_core.specs.declared.parts.NodeKind.TheVariants as kind
 use Rattle.eight_sides.specs.declared.frame.Frame.{Frame}
 use Rattle.svg_writer.specs.declared.names.Names.{Names}
-use Rattle.svg_writer.specs.Picture.{colour_of, name_of}
+use Rattle.svg_writer.specs.Picture.{colour_of, name_of, station_name}
 use Rattle.svg_writer.proofs.Appends.{grew2}
 use Rattle.poster_plan.specs.declared.layout.Legend.{Legend}
 use Rattle.poster_plan.specs.declared.layout.Printed.{Printed}
@@ -15,8 +17,8 @@ use Rattle.poster_plan.specs.Legends.{frame_beside, legend_of}
 use Rattle.poster_plan.specs.Pitches.{frame_with}
 use Rattle.poster_rules.specs.Elements.{Element, element_text, texts, black, dark, white, RowName, Stroke, Head, Ground, Station, Opens, Closes, Tail, LinesGroup, StationsGroup, NamesGroup, LegendGroup}
 use Rattle.poster_rules.specs.Plans.{widest}
-use Rattle.poster_rules.specs.Posters.{all_names, apart_from, elements_with, feet_at, legend_elements, rim_of, row_elements, stroke_through, strokes_at, strokes_over, with_behind, Sheet}
-use Rattle.poster_rules.specs.Stations.{is_interchange}
+use Rattle.poster_rules.specs.Posters.{all_names, apart_from, elements_with, feet_at, legend_elements, rim_of, row_elements, station_elements, stroke_through, strokes_at, strokes_over, with_behind, Sheet}
+use Rattle.poster_rules.specs.Stations.{callers_at, is_interchange}
 use Rattle.poster_picture.specs.Parts.{all_joins, all_lines, all_stations, legend_part, map_part, names_part}
 use Rattle.poster_picture.proofs.Writing.{one_text, texts-append}
 
@@ -116,6 +118,12 @@ sheet_written sheet plan printed lines shown count most legend frame map o a b c
 pub station_written : (n : ℕ) (callers : List LineId) (name : List ℕ) (strokes : List Element) (o a b c : List ℕ) → a ≡ o ++ element_text (Station n callers name) → b ≡ a ++ texts strokes → c ≡ b ++ element_text Closes
     → c ≡ o ++ texts (Station n callers name ∷ (strokes ++ Closes ∷ []))
 station_written n callers name strokes o a b c p q r = behind o a c (Station n callers name ∷ []) (strokes ++ Closes ∷ []) (one_first o a (Station n callers name) p) (one_behind a b c strokes Closes q r)
+
+pub station_is : (sheet : Sheet) (n : ℕ) (s : StationId) (callers : List LineId) (name : List ℕ) → callers ≡ callers_at sheet.callers n → name ≡ station_name sheet.names s.0
+    → Station n callers name ∷ (strokes_at sheet n callers ++ Closes ∷ []) ≡ station_elements sheet n (kind.Station s)
+station_is sheet n s callers name e f =
+    ap (λ (ls : List LineId). Station n ls name ∷ (strokes_at sheet n ls ++ Closes ∷ [])) e
+    ∙ ap (λ (bytes : List ℕ). Station n (callers_at sheet.callers n) bytes ∷ (strokes_at sheet n (callers_at sheet.callers n) ++ Closes ∷ [])) f
 
 pub no_strokes : (sheet : Sheet) (n : ℕ) (callers : List LineId) (o : List ℕ) → length callers ≡ 0 → o ≡ o ++ texts (strokes_at sheet n callers)
 no_strokes sheet n [] o none = sym (append-nil o)

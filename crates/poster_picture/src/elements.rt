@@ -1,6 +1,6 @@
 //! The elements of a poster, each a line (SVG 1.1).
 
-ghost use Rattle.std.specs.Prelude.{◌≡◌, ◌++◌, OnOk, string_bytes};
+ghost use Rattle.std.specs.Prelude.{◌≡◌, ◌≤◌, ◌++◌, ◌+ℤ◌, ◌-ℤ◌, pos, unsigned_abs, OnOk, string_bytes};
 ghost use Rattle.poster_layout.specs.Extents.{IsDrawnFrame};
 ghost use Rattle.poster_picture.specs.Inks.{ink_colour};
 ghost use Rattle.poster_rules.specs.Elements.{element_text, view_place, view_size, Head, Ground, Opens, Closes, OnSegment, BehindOnSegment, AtNode, BehindAtNode, Station, Stroke, RowName, Tail, LinesGroup, StationsGroup, NamesGroup, LegendGroup};
@@ -9,6 +9,7 @@ use crate::pieces::{Ink, push_classes, push_ink, push_stroke, push_width};
 use eight_sides::Frame;
 use line_offsets::Corner;
 use map_base::{LineId, NoMemory};
+use name_places::down;
 use svg_writer::{
     push_corner, push_escaped, push_ids, push_integer, push_natural, push_path, push_place,
     push_title,
@@ -20,8 +21,8 @@ fn view_place(f: Frame) -> Corner
     ensures { result ≡ view_place f }
 {
     Corner {
-        x: f.across.least - 60,
-        y: f.down.least - 60,
+        x: down(f.across.least, 60),
+        y: down(f.down.least, 60),
     }
 }
 
@@ -31,9 +32,18 @@ fn view_size(f: Frame) -> Corner
     ensures { result ≡ view_size f }
 {
     Corner {
-        x: (f.across.greatest - f.across.least) + 120,
-        y: (f.down.greatest - f.down.least) + 120,
+        x: wide_length(f.across.least, f.across.greatest),
+        y: wide_length(f.down.least, f.down.greatest),
     }
+}
+
+/// How far it is from one coordinate to another, with 60 more on each side.
+fn wide_length(least: i64, greatest: i64) -> i64
+    requires least { unsigned_abs least ≤ 2199023255552 }
+    requires greatest { unsigned_abs greatest ≤ 2199023255552 }
+    ensures { result ≡ (greatest -ℤ least) +ℤ pos 120 }
+{
+    greatest - least + 120
 }
 
 /// Appends the head.

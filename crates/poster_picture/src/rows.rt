@@ -1,6 +1,6 @@
 //! The rows of the legend.
 
-ghost use Rattle.std.specs.Prelude.{◌≡◌, ◌≤◌, ◌++◌, length, IfSome, OnOk, string_bytes};
+ghost use Rattle.std.specs.Prelude.{◌≡◌, ◌≤◌, ◌++◌, ◌+ℤ◌, pos, length, unsigned_abs, IfSome, OnOk, string_bytes};
 ghost use Rattle.poster_rules.specs.Elements.{texts, Stroke, dark};
 ghost use Rattle.poster_rules.specs.Posters.{apart_from, legend_elements, row_elements, rows_from, with_behind};
 ghost use Rattle.poster_layout.specs.Extents.{IsDrawnPoint, IsLegend};
@@ -78,7 +78,15 @@ fn apart_from(c: Corner, x: u32, y: u32) -> Corner
     ensures { result ≡ apart_from c x y }
 {
     Corner {
-        x: c.x + i64::from(x),
-        y: c.y + i64::from(y),
+        x: further(c.x, x),
+        y: further(c.y, y),
     }
+}
+
+/// A coordinate that is so much greater.
+fn further(z: i64, by: u32) -> i64
+    requires { unsigned_abs z ≤ 8796093022208 }
+    ensures { result ≡ z +ℤ pos by }
+{
+    z + i64::from(by)
 }

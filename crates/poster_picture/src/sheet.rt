@@ -56,8 +56,8 @@ pub(crate) fn foot_on(sheet: Sheet<'_>, n: NodeId, s: u32, line: LineId) -> Resu
     Ok(foot_at(sheet, ends_of(sheet.graph, s).0, n, s, k))
 }
 
-/// Where a line that stands k places beside the walk of a segment ends at node n, an end of the segment, which starts at
-/// this node.
+/// Where a line that stands k places beside the walk of a segment ends at node n, an end of the segment, which starts
+/// at this node.
 fn foot_at(sheet: Sheet<'_>, first: NodeId, n: NodeId, s: u32, k: i32) -> Corner
     requires { sheet.pitch ≤ 200 }
     ensures { result ≡ foot_at (plain sheet.entry) first.0 n.0 s k }

@@ -1,6 +1,5 @@
-use Rattle.std.proofs.Common.{ℕ, List, ap, ◌∙◌}
+use Rattle.std.proofs.Common.{ℕ, ap, ◌∙◌}
 use Rattle.map_base.specs.declared.ids.NodeId.{NodeId}
-use Rattle.map_base.specs.declared.ids.SegId.{SegId}
 use Rattle.svg_writer.specs.Picture.{ends_at, first_of, put_at, walk_at}
 use Rattle.poster_graph.proofs.plans.point_of.Goals as goal
 

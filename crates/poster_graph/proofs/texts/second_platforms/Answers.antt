@@ -1,9 +1,10 @@
-use Rattle.std.proofs.Common.{◌≡◌, ℕ, List, Bool, Option, false, get_or, length, replicate, ◌∙◌, ap, arith}
+use Rattle.std.proofs.Common.{◌≡◌, ℕ, List, Bool, Option, false, get_or, length, replicate, ◌∙◌, ap, sym, arith}
 use Rattle.std.specs.List.{list_any}
 use Rattle.std.proofs.lemmas.List.{get_or-replicate, length-replicate, take_all}
 use Rattle.poster_rules.specs.Texts.{all_rests, are_same, rest_at}
 use Rattle.poster_graph.specs.Words.{is_second_by, text_in}
 use Rattle.poster_graph.proofs.Words.{ends_are, second_more}
+use Rattle.poster_graph.proofs.Written.{written_whole}
 use Rattle.poster_graph.proofs.texts.second_platforms.Goals as goal
 
 pub loop-s-init : goal.loop-s-init
@@ -30,10 +31,11 @@ note_second-requires c =
 pub loop-s-preserved : goal.loop-s-preserved
 loop-s-preserved c =
     let rests = all_rests c.args.names.now c.args.graph.now in
+    let written = written_whole c.note_second.new.seconds c.loop-s.seconds.items c.loop-s.seconds.len (sym (c.note_second.ensures.each ∙ c.deref_mut.ensures.len)) in
     record {
-      each = c.note_second.ensures.each ∙ ap length c.deref_mut.ensures.value ∙ c.loop-s.invariant.each;
-      of = λ n low.
-          second_more rests c.args.graph.now.ends c.loop-s.s n c.ends.result c.are_same-same.result (get_or c.deref_mut.result.now n false) (get_or c.note_second.new.seconds n false) (omega arith) c.ends.ensures
+      each = ap length written ∙ c.note_second.ensures.each ∙ ap length c.deref_mut.ensures.value ∙ c.loop-s.invariant.each;
+      of = λ n low. ap (λ (flags : List Bool). get_or flags n false) written
+          ∙ second_more rests c.args.graph.now.ends c.loop-s.s n c.ends.result c.are_same-same.result (get_or c.deref_mut.result.now n false) (get_or c.note_second.new.seconds n false) (omega arith) c.ends.ensures
           (c.are_same-same.ensures
           ∙ ap (λ (o : Option (List ℕ)). are_same o (text_in c.rest_at-in-loop-s.result)) c.rest_at.ensures
           ∙ ap (are_same (rest_at rests c.ends.result.0.0)) c.rest_at-in-loop-s.ensures)

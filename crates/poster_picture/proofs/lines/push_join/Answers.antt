@@ -1,4 +1,4 @@
-use Rattle.std.proofs.Common.{string_bytes, sym, ◌∙◌}
+use Rattle.std.proofs.Common.{◌≡◌, ℕ, List, ◌++◌, OnOk, string_bytes, sym, subst, ◌∙◌}
 use Rattle.poster_picture.specs.Sheets.{plain}
 use Rattle.poster_picture.proofs.Joining.{ends_differ, ends_meet}
 use Rattle.poster_picture.proofs.lines.push_join.Goals as goal
@@ -9,5 +9,6 @@ returns-then-are_one c =
 
 pub returns : goal.returns
 returns c =
-    ends_differ (plain c.args.sheet) c.args.n.0 c.args.join c.in_ok-start.start c.in_ok-end.end c.colour_of-colour.result.now (string_bytes c.args.text.now) (string_bytes c.push_between.new.text)
-    c.in_ok-start.ensures c.in_ok-end.ensures (sym c.are_one.ensures ∙ c.if-are_one.false) c.colour_of-colour.ensures c.in_ok-push_between.ensures
+    subst (λ (bytes : List ℕ). OnOk c.push_between.result (string_bytes c.push_between.new.text ≡ string_bytes c.args.text.now ++ bytes))
+    (ends_differ (plain c.args.sheet) c.args.n.0 c.args.join c.in_ok-start.start c.in_ok-end.end c.colour_of-colour.result.now c.in_ok-start.ensures c.in_ok-end.ensures (sym c.are_one.ensures ∙ c.if-are_one.false) c.colour_of-colour.ensures)
+    c.push_between.ensures

@@ -1,4 +1,4 @@
-use Rattle.std.proofs.Common.{ℕ, List, [], fold, get_or, take, ap, sym, ◌∙◌, arith}
+use Rattle.std.proofs.Common.{ℕ, List, [], fold, get_or, ap, sym, ◌∙◌, arith}
 use Rattle.std.specs.List.{insert, position_or_len}
 use Rattle.std.proofs.lemmas.List.{take_all}
 use Rattle.std.proofs.lemmas.List.Sums.{fold_more}

@@ -3,7 +3,7 @@ use Rattle.std.specs.List.{flat_map}
 use Rattle.std.proofs.lemmas.List.{take_all}
 use Rattle.map_base.specs.declared.ids.LineId.{LineId}
 use Rattle.map_base.specs.declared.ids.SegId.{SegId}
-use Rattle.poster_rules.specs.Posters.{first_stands, foot_on, stands_on, with_corner, Stand}
+use Rattle.poster_rules.specs.Posters.{first_stands, foot_on, stands_at, stands_on, with_corner, Stand}
 use Rattle.poster_picture.specs.Feet.{with_stands, Gathered}
 use Rattle.poster_picture.specs.Sheets.{plain}
 use Rattle.poster_picture.proofs.Gathering.{gathered, stands_more}
@@ -13,7 +13,7 @@ use Rattle.poster_picture.proofs.stations.feet_at.Goals as goal
 pub loop-i-preserved : goal.loop-i-preserved
 loop-i-preserved c =
     stands_more (plain c.args.sheet) c.args.n.0 c.args.callers.now (record { seen = []; path = [] }) (record { seen = c.loop-i.seen.items; path = c.loop-i.path.items }) (record { seen = c.put_feet.new.seen.items; path = c.put_feet.new.path.items })
-    c.in_ok-segments.segments.items c.loop-i.i no_segment c.loop-i-test.true c.loop-i.invariant c.in_ok-put_feet.ensures
+    c.in_ok-segments.segments.items c.loop-i.i no_segment (omega arith) c.loop-i.invariant c.in_ok-put_feet.ensures
 
 pub returns : goal.returns
 returns c = λ e.
@@ -22,5 +22,5 @@ returns c = λ e.
     let callers = c.args.callers.now in
     let start : Gathered = record { seen = []; path = [] } in
     ap (λ (g : Gathered). g.path) (c.loop-i.invariant ∙ ap (λ (ss : List SegId). with_stands sheet n callers start (flat_map (stands_on sheet) ss)) (take_all c.loop-i.i c.in_ok-segments.segments.items (omega arith) ∙ c.in_ok-segments.ensures))
-    ∙ gathered sheet n callers [] [] (flat_map (stands_on sheet) c.in_ok-segments.segments.items)
-    ∙ ap (λ (ls : List LineId). fold with_corner [] (map (λ (t : Stand). foot_on sheet n t.seg t.line) (first_stands ls [] (flat_map (stands_on sheet) c.in_ok-segments.segments.items)))) e
+    ∙ gathered sheet n callers [] [] (stands_at sheet n)
+    ∙ ap (λ (ls : List LineId). fold with_corner [] (map (λ (t : Stand). foot_on sheet n t.seg t.line) (first_stands ls [] (stands_at sheet n)))) e
