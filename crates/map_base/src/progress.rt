@@ -1,6 +1,7 @@
-//! How far a run is, for a thread that watches it. Nothing is promised of what stands there.
+//! How far a run is, told on a terminal while it goes on. Nothing is promised of what stands there.
 
 use std::sync::atomic::{AtomicBool, AtomicU64, Ordering};
+use std::time::Instant;
 
 /// What a run is at.
 #[derive(Clone, Copy, PartialEq, Eq)]
@@ -19,23 +20,24 @@ pub enum Stage {
     Ended,
 }
 
-/// Nobody writes the line that tells how far the run is.
-const FREE: u64 = 0;
+/// How long a run lasts until it is told within a stage how far it is: milliseconds.
+const LONG: u64 = 1000;
 
-/// It is being written.
-const TELLING: u64 = 1;
+/// How long it lasts until a stage is told as it begins: a stage that begins this late takes long as a rule.
+const SOON: u64 = 200;
 
-/// It is hidden until the run enters a stage.
-const HIDDEN: u64 = 2;
+/// How long a line stands before it is renewed within a stage: milliseconds.
+const PAUSE: u64 = 200;
 
-/// How often it is looked whether the line is free: seconds of it.
-const LOOKS: u32 = 1_000_000_000;
+/// How many branch nodes are met between two looks at the clock.
+const BRANCHES_A_LOOK: u64 = 64;
 
-/// How far a run is: its stage, which part of the line orders is searched, of how many, the branch nodes that were met,
-/// and who may write the line that tells it.
+/// How far a run is: its stage, which part of the line orders is searched, of how many, and the branch nodes that were
+/// met. A run that takes long tells it by one line on standard error, which renews itself.
 #[derive(Drop)]
 pub struct Progress {
-    line: AtomicU64,
+    terminal: Option<(HostRuntime, Instant)>,
+    due: AtomicU64,
     is_shown: AtomicBool,
     stage: AtomicU64,
     part: AtomicU64,
@@ -44,10 +46,11 @@ pub struct Progress {
 }
 
 impl Progress {
-    /// That of a run that begins.
-    pub const fn new() -> Progress {
+    /// That of a run that begins; told on standard error from now on, where that is a terminal to be written to.
+    pub fn new(terminal: Option<HostRuntime>) -> Progress {
         Progress {
-            line: AtomicU64::new(FREE),
+            terminal: clocked(terminal),
+            due: AtomicU64::new(0),
             is_shown: AtomicBool::new(false),
             stage: AtomicU64::new(0),
             part: AtomicU64::new(0),
@@ -56,7 +59,7 @@ impl Progress {
         }
     }
 
-    /// Notes that the run is at this stage. The line may be written from now on.
+    /// Notes that the run is at this stage.
     pub fn enter(&self, stage: Stage) {
         let number = match stage {
             Stage::Working => 0,
@@ -66,51 +69,68 @@ impl Progress {
             Stage::Orders => 4,
             Stage::Ended => 5,
         };
-        self.stage.store(number, Ordering::Release);
-        self.turns(HIDDEN, FREE);
+        if self.stage.swap(number, Ordering::Relaxed) != number {
+            self.due.store(0, Ordering::Relaxed);
+            self.tell_from(SOON);
+        }
     }
 
-    /// Whether the line was at the one state, and is at the other now.
-    fn turns(&self, from: u64, to: u64) -> bool {
-        self.line
-            .compare_exchange(from, to, Ordering::SeqCst, Ordering::SeqCst)
-            .is_ok()
+    /// Tells how far the run is, where it takes long and the line has stood for a while.
+    pub fn look(&self) {
+        self.tell_from(LONG);
     }
 
-    /// Takes the line to write it, if it is free.
-    pub fn begin_line(&self) -> bool {
-        self.turns(FREE, TELLING)
+    /// Tells it where the run has lasted so many milliseconds and a line is due.
+    fn tell_from(&self, least: u64) {
+        let Some((rt, began)) = &self.terminal else {
+            return;
+        };
+        let Ok(passed) = began.elapsed(rt) else {
+            return;
+        };
+        let now = u64::try_from(passed.as_millis()).unwrap_or(u64::MAX);
+        if now >= least && now >= self.due.load(Ordering::Relaxed) {
+            self.due.store(now.saturating_add(PAUSE), Ordering::Relaxed);
+            self.show(rt);
+        }
     }
 
-    /// Gives the line back: it stands on the terminal now.
-    pub fn end_line(&self) {
-        self.is_shown.store(true, Ordering::SeqCst);
-        self.turns(TELLING, FREE);
+    /// Writes the line.
+    fn show(&self, rt: &HostRuntime) {
+        let stage = match self.stage() {
+            Stage::Reading => "reading",
+            Stage::LineGraph => "making the line graph",
+            Stage::Drawing => "drawing the line graph",
+            Stage::Orders => return self.show_part(rt),
+            Stage::Working | Stage::Ended => return,
+        };
+        let _not_shown = eprint!(rt; "\r\x1b[Koctimap: {stage}");
+        self.is_shown.store(true, Ordering::Relaxed);
     }
 
-    /// Keeps the line from being written until the run enters a stage, and answers whether one stands on the terminal.
-    /// A line that is being written is waited for.
-    pub fn hide(&self) -> bool {
-        for _ in 0..LOOKS {
-            if self.turns(FREE, HIDDEN) {
-                break;
-            }
-            if self.line.load(Ordering::SeqCst) == HIDDEN {
-                break;
+    /// Writes the line of a search for line orders.
+    fn show_part(&self, rt: &HostRuntime) {
+        let (part, parts) = self.part();
+        let number = part.saturating_add(1);
+        let branches = self.branches();
+        let _not_shown = eprint!(rt;
+            "\r\x1b[Koctimap: line orders, part {number} of {parts}, {branches} branch nodes"
+        );
+        self.is_shown.store(true, Ordering::Relaxed);
+    }
+
+    /// Takes the line from the terminal, if one stands there.
+    pub fn hide(&self) {
+        if let Some((rt, _)) = &self.terminal {
+            if self.is_shown.swap(false, Ordering::Relaxed) {
+                let _not_hidden = eprint!(rt; "\r\x1b[K");
             }
         }
-        self.is_shown.swap(false, Ordering::SeqCst)
-    }
-
-    /// Notes that the run has ended: hides the line for good, and answers whether one stands on the terminal.
-    pub fn end(&self) -> bool {
-        self.enter(Stage::Ended);
-        self.hide()
     }
 
     /// The stage of the run.
     pub fn stage(&self) -> Stage {
-        match self.stage.load(Ordering::Acquire) {
+        match self.stage.load(Ordering::Relaxed) {
             0 => Stage::Working,
             1 => Stage::Reading,
             2 => Stage::LineGraph,
@@ -124,6 +144,7 @@ impl Progress {
     pub fn enter_part(&self, part: usize, parts: usize) {
         self.part.store(part as u64, Ordering::Relaxed);
         self.parts.store(parts as u64, Ordering::Relaxed);
+        self.enter(Stage::Orders);
     }
 
     /// The part that is searched, counted from 0, and how many there are.
@@ -136,11 +157,23 @@ impl Progress {
 
     /// Notes one branch node more.
     pub fn add_branch(&self) {
-        self.branches.fetch_add(1, Ordering::Relaxed);
+        let before = self.branches.fetch_add(1, Ordering::Relaxed);
+        if before % BRANCHES_A_LOOK == 0 {
+            self.look();
+        }
     }
 
     /// How many branch nodes were met.
     pub fn branches(&self) -> u64 {
         self.branches.load(Ordering::Relaxed)
+    }
+}
+
+/// A terminal with the time at which a run begins, where there is one and its clock can be read.
+fn clocked(terminal: Option<HostRuntime>) -> Option<(HostRuntime, Instant)> {
+    let rt = terminal?;
+    match Instant::now(&rt) {
+        Ok(began) => Some((rt, began)),
+        Err(_) => None,
     }
 }

@@ -8,7 +8,7 @@ use std::marker::Model;
 use std::sync::Arc;
 use std::sync::ledger::{Blank, Book, Ledger, Share};
 
-/// How many steps were taken: only `tick` changes it. Whoever watches the run is told of them, and of its stages.
+/// How many steps were taken: only `tick` changes it. How far the run is, where that is to be told, is noted with them.
 #[derive(Drop)]
 pub struct Steps<L: Ledger> {
     book: Book<L>,
@@ -72,7 +72,6 @@ impl<L: Ledger> Steps<L> {
     /// Tells that part `part` of so many, counted from 0, is searched.
     pub fn enter_part(&self, part: usize, parts: usize) {
         if let Some(progress) = &self.watched {
-            progress.enter(Stage::Orders);
             progress.enter_part(part, parts);
         }
     }
