@@ -25,6 +25,32 @@ const GRAPH: &str = concat!(
 const CERTIFICATE: &str =
     "octimap 1\ngraph 2 1 1\nwalk 0 2 2 NE46\norder 0 0\ncost 0\nrules 0\nparts 0\n";
 
+/// Its picture: each name stands above its station and right of it.
+const PICTURE: &str = "\
+<svg xmlns=\"http://www.w3.org/2000/svg\" version=\"1.1\" viewBox=\"0 -5000 5000 5000\">
+<path class=\"s0 l0\" d=\"M 200 -200 L 4800 -4800\" fill=\"none\" stroke=\"#f0f0f0\" stroke-width=\"12\"><title>A</title></path>
+<circle cx=\"200\" cy=\"-200\" r=\"10\" fill=\"#ffffff\" stroke=\"#000000\" stroke-width=\"4\"/>
+<circle cx=\"4800\" cy=\"-4800\" r=\"10\" fill=\"#ffffff\" stroke=\"#000000\" stroke-width=\"4\"/>
+<text x=\"214\" y=\"-214\" font-size=\"20\">X &amp; Co</text>
+<text x=\"4814\" y=\"-4814\" font-size=\"20\">Y</text>
+</svg>
+";
+
+/// Parts of its picture with names that have places: the line runs through the usual place of the first one, which stands below.
+const LABELLED: [&str; 3] = [
+    "viewBox=\"0 -5034 5026 5072\"",
+    "<text x=\"214\" y=\"-166\" font-size=\"20\">X &amp; Co</text>",
+    "<text x=\"4814\" y=\"-4814\" font-size=\"20\">Y</text>",
+];
+
+/// Parts of its poster: the frame, a name on each side of the line, and the legend in the upper left corner.
+const POSTER: [&str; 4] = [
+    "viewBox=\"-180 -1035 1276 1070\"",
+    "<text x=\"24\" y=\"-31\" text-anchor=\"end\">X &amp; Co<tspan",
+    "<text x=\"976\" y=\"-951\">Y<tspan",
+    "<text x=\"-30\" y=\"-951\">A</text>",
+];
+
 /// The line graph as it is drawn.
 #[derive(Drop)]
 struct Shown {
@@ -35,7 +61,7 @@ struct Shown {
 }
 
 /// The line graph as its certificate draws it.
-fn shown(alloc: Global) -> Result<Shown, Fail> {
+fn graph_shown(alloc: Global) -> Result<Shown, Fail> {
     let read = read_graph(alloc, GRAPH.as_bytes()).ok().ok_or("a graph")?;
     let by = read_certificate(alloc, CERTIFICATE.as_bytes())
         .ok()
@@ -62,27 +88,33 @@ fn callers(alloc: Global) -> Result<Sequence<Sequence<LineId>>, AllocError> {
 #[test]
 fn a_line_graph_is_drawn(rt: HostRuntime) -> Result<(), Fail> {
     let alloc = rt.alloc();
-    let s = shown(alloc)?;
+    let s = graph_shown(alloc)?;
     let text = picture(alloc, &s.graph, &s.names, &s.drawing, &s.orders)?;
-    assert_eq!(rt; str::from_utf8(text.as_slice())?, "");
+    assert_eq!(rt; text.as_slice(), PICTURE.as_bytes());
     Ok(())
 }
 
 #[test]
 fn its_names_have_places(rt: HostRuntime) -> Result<(), Fail> {
     let alloc = rt.alloc();
-    let s = shown(alloc)?;
+    let s = graph_shown(alloc)?;
     let text = labelled(alloc, &s.graph, &s.names, &s.drawing, &s.orders)?;
-    assert_eq!(rt; str::from_utf8(text.as_slice())?, "");
+    let shown = str::from_utf8(text.as_slice())?;
+    for part in LABELLED {
+        assert!(rt; shown.contains(part), "{part}");
+    }
     Ok(())
 }
 
 #[test]
 fn it_has_a_poster(rt: HostRuntime) -> Result<(), Fail> {
     let alloc = rt.alloc();
-    let s = shown(alloc)?;
+    let s = graph_shown(alloc)?;
     let callers = callers(alloc)?;
     let text = poster(alloc, &s.graph, &s.names, &s.drawing, &s.orders, &callers)?;
-    assert_eq!(rt; str::from_utf8(text.as_slice())?, "");
+    let shown = str::from_utf8(text.as_slice())?;
+    for part in POSTER {
+        assert!(rt; shown.contains(part), "{part}");
+    }
     Ok(())
 }
