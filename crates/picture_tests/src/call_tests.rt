@@ -14,9 +14,12 @@ use svg_writer::{Names, picture};
 
 /// The line graph.
 const GRAPH: &str = concat!(
-    r#"{"features":[{"geometry":{"coordinates":[0,0],"type":"Point"},"properties":{"joins":[],"name":"X & Co","round":[0]},"type":"Feature"},"#,
-    r#"{"geometry":{"coordinates":[11132,11132],"type":"Point"},"properties":{"joins":[],"name":"Y","round":[0]},"type":"Feature"},"#,
-    r#"{"geometry":{"coordinates":[[0,0],[11132,11132]],"type":"LineString"},"properties":{"ends":[0,1],"lines":[0]},"type":"Feature"}],"#,
+    r#"{"features":[{"geometry":{"coordinates":[0,0],"type":"Point"},"#,
+    r#""properties":{"joins":[],"name":"X & Co","round":[0]},"type":"Feature"},"#,
+    r#"{"geometry":{"coordinates":[11132,11132],"type":"Point"},"#,
+    r#""properties":{"joins":[],"name":"Y","round":[0]},"type":"Feature"},"#,
+    r#"{"geometry":{"coordinates":[[0,0],[11132,11132]],"type":"LineString"},"#,
+    r#""properties":{"ends":[0,1],"lines":[0]},"type":"Feature"}],"#,
     r#""lines":[{"colour":"f0f0f0","importance":1,"name":"A"}],"type":"FeatureCollection"}"#,
     "\n"
 );
@@ -36,7 +39,7 @@ const PICTURE: &str = "\
 </svg>
 ";
 
-/// Parts of its picture with names that have places: the line runs through the usual place of the first one, which stands below.
+/// Parts of its picture with names at free places: the line takes the usual place of the first one, which stands below.
 const LABELLED: [&str; 3] = [
     "viewBox=\"0 -5034 5026 5072\"",
     "<text x=\"214\" y=\"-166\" font-size=\"20\">X &amp; Co</text>",
