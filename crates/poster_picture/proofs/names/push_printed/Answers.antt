@@ -5,7 +5,6 @@ use Rattle.svg_writer.specs.declared.names.Names.{Names}
 use Rattle.poster_plan.specs.declared.place.Spot.{Spot}
 use Rattle.poster_plan.specs.declared.sign.Sign.{Sign}
 use Rattle.poster_plan.specs.Places.{text_spot}
-use Rattle.poster_plan.specs.Signs.{sign_of}
 use Rattle.poster_rules.specs.Elements.{texts, Name, RimOfName}
 use Rattle.poster_rules.specs.Posters.{ending_of, rim_of}
 use Rattle.poster_rules.specs.Stations.{ending}

@@ -1,6 +1,6 @@
-use Rattle.std.proofs.Common.{List, [], fold, map, ap, ◌∙◌, arith}
+use Rattle.std.proofs.Common.{◌≡◌, ◌<◌, List, [], fold, get_or, length, map, ap, ◌∙◌, arith}
 use Rattle.std.specs.List.{flat_map}
-use Rattle.std.proofs.lemmas.List.{take_all}
+use Rattle.std.proofs.lemmas.List.{get_or_default, take_all}
 use Rattle.map_base.specs.declared.ids.LineId.{LineId}
 use Rattle.map_base.specs.declared.ids.SegId.{SegId}
 use Rattle.poster_rules.specs.Posters.{first_stands, foot_on, stands_at, stands_on, with_corner, Stand}
@@ -12,8 +12,16 @@ use Rattle.poster_picture.proofs.stations.feet_at.Goals as goal
 
 pub loop-i-preserved : goal.loop-i-preserved
 loop-i-preserved c =
-    stands_more (plain c.args.sheet) c.args.n.0 c.args.callers.now (record { seen = []; path = [] }) (record { seen = c.loop-i.seen.items; path = c.loop-i.path.items }) (record { seen = c.put_feet.new.seen.items; path = c.put_feet.new.path.items })
-    c.in_ok-segments.segments.items c.loop-i.i no_segment (omega arith) c.loop-i.invariant c.in_ok-put_feet.ensures
+    let sheet = plain c.args.sheet in
+    let n = c.args.n.0 in
+    let callers = c.args.callers.now in
+    let segments = c.in_ok-segments.segments.items in
+    let i = c.loop-i.i in
+    let before : Gathered = record { seen = c.loop-i.seen.items; path = c.loop-i.path.items } in
+    let low : i < length segments = omega arith in
+    let read : c.index.result.now ≡ get_or segments i no_segment = c.index.ensures ∙ get_or_default segments i c.index.result.now no_segment low in
+    stands_more sheet n callers (record { seen = []; path = [] }) before (record { seen = c.put_feet.new.seen.items; path = c.put_feet.new.path.items }) segments i no_segment low c.loop-i.invariant
+    (c.in_ok-put_feet.ensures ∙ ap (λ (s : SegId). with_stands sheet n callers before (stands_on sheet s)) read)
 
 pub returns : goal.returns
 returns c = λ e.
