@@ -451,7 +451,8 @@ def main(words):
         trial(page)
     for path in [path for path in maps if path == maps[-1] or path.stem.endswith("-ground")]:
         try_phone(page, path.stem, path.read_bytes())
-    try_large(page, next((path for path in maps[::-1] if b"<circle" in path.read_bytes()), maps[-1]).read_bytes())
+    texts = (path.read_bytes() for path in [*maps[::-1], *shown[::-1]])
+    try_large(page, next(text for text in texts if b"<circle" in text))
     page.driver.quit()
     print(f"{failed} wrong; screenshots in {WORK}")
     return failed > 0

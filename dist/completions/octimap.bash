@@ -17,7 +17,7 @@ _octimap_offer()
 _octimap()
 {
     local current=${COMP_WORDS[COMP_CWORD]} before=${COMP_WORDS[COMP_CWORD - 1]}
-    local commands='map make improve check labels geo session graph export import stations page trial help' alone='--help --version' options='' kinds=() place=0 at
+    local commands='map make improve check labels geo poster session graph export import stations page trial help' alone='--help --version' options='' kinds=() place=0 at
     COMPREPLY=()
     if ((COMP_CWORD == 1)); then
         mapfile -t COMPREPLY < <(compgen -W "$commands $alone" -- "$current")
@@ -30,6 +30,7 @@ _octimap()
         check) options='--quiet --settings --set --edits --help' kinds=(folder svg file) ;;
         labels) options='--quiet --settings --set --edits --help' kinds=(folder file file) ;;
         geo) options='--quiet --settings --set --edits --help' kinds=(folder file file) ;;
+        poster) options='--quiet --settings --set --edits --help' kinds=(folder file file) ;;
         session) options='--quiet --settings --set --help' kinds=(folder file file) ;;
         graph) options='--quiet --settings --set --edits --help' kinds=(folder) ;;
         export) options='--quiet --settings --set --edits --help' kinds=(folder file) ;;

@@ -41,15 +41,16 @@ complete -c octimap -n 'test (count (commandline -opc)) -eq 1' -a improve -d 'Ma
 complete -c octimap -n 'test (count (commandline -opc)) -eq 1' -a check -d 'Check a map and its certificate against a feed'
 complete -c octimap -n 'test (count (commandline -opc)) -eq 1' -a labels -d 'Write the map of a certificate with each name where it fits'
 complete -c octimap -n 'test (count (commandline -opc)) -eq 1' -a geo -d 'Write the map of a certificate as its lines run on the ground'
+complete -c octimap -n 'test (count (commandline -opc)) -eq 1' -a poster -d 'Write the map of a certificate as a poster, to print'
 complete -c octimap -n 'test (count (commandline -opc)) -eq 1' -a session -d 'Run a script of edits and draws'
 complete -c octimap -n 'test (count (commandline -opc)) -eq 1' -a graph -d 'Print the line graph of a feed: what a map of it shows'
 complete -c octimap -n 'test (count (commandline -opc)) -eq 1' -a export -d 'Write the line graph of a feed as GeoJSON'
 complete -c octimap -n 'test (count (commandline -opc)) -eq 1' -a import -d 'Make the map of a graph file, and its certificate'
 complete -c octimap -n 'test (count (commandline -opc)) -eq 1' -a stations -d 'Print each station of a feed: its place and its id'
-complete -c octimap -n 'test (count (commandline -opc)) -eq 1' -a page -d 'Make a page of a map, for a browser'
+complete -c octimap -n 'test (count (commandline -opc)) -eq 1' -a page -d 'Make a page of a map or of a poster, for a browser'
 complete -c octimap -n 'test (count (commandline -opc)) -eq 1' -a trial -d 'Make the map of a built-in random feed, and print its numbers'
 complete -c octimap -n 'test (count (commandline -opc)) -eq 1' -a help -d 'Print the help of a command'
-complete -c octimap -n '__octimap_at help 1' -a 'map make improve check labels geo session graph export import stations page trial'
+complete -c octimap -n '__octimap_at help 1' -a 'map make improve check labels geo poster session graph export import stations page trial'
 complete -c octimap -n '__octimap_in map' -s q -l quiet -d 'Leave out the lines on standard error that say more than the status'
 complete -c octimap -n '__octimap_in map' -l settings -r -F -d 'A file of settings in TOML, such as examples/settings.toml'
 complete -c octimap -n '__octimap_in map' -l set -r -d 'A key of the settings in place of that of the file, as often as wanted, such as near=400'
@@ -94,6 +95,13 @@ complete -c octimap -n '__octimap_in geo' -l edits -r -F -d 'A file of edits, on
 complete -c octimap -n '__octimap_at geo 1' -a '(__fish_complete_directories (commandline -ct))'
 complete -c octimap -n '__octimap_at geo 2' -F
 complete -c octimap -n '__octimap_at geo 3' -F
+complete -c octimap -n '__octimap_in poster' -s q -l quiet -d 'Leave out the lines on standard error that say more than the status'
+complete -c octimap -n '__octimap_in poster' -l settings -r -F -d 'A file of settings in TOML, such as examples/settings.toml'
+complete -c octimap -n '__octimap_in poster' -l set -r -d 'A key of the settings in place of that of the file, as often as wanted, such as near=400'
+complete -c octimap -n '__octimap_in poster' -l edits -r -F -d 'A file of edits, one a line, such as examples/edits.txt; they are done to the tables and settings first'
+complete -c octimap -n '__octimap_at poster 1' -a '(__fish_complete_directories (commandline -ct))'
+complete -c octimap -n '__octimap_at poster 2' -F
+complete -c octimap -n '__octimap_at poster 3' -F
 complete -c octimap -n '__octimap_in session' -s q -l quiet -d 'Leave out the lines on standard error that say more than the status'
 complete -c octimap -n '__octimap_in session' -l settings -r -F -d 'A file of settings in TOML, such as examples/settings.toml'
 complete -c octimap -n '__octimap_in session' -l set -r -d 'A key of the settings in place of that of the file, as often as wanted, such as near=400'

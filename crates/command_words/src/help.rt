@@ -16,6 +16,7 @@ Examples:
   octimap check examples/vienna-ubahn map.svg map.cert
   octimap labels examples/vienna-ubahn map.cert labelled.svg
   octimap geo examples/vienna-ubahn map.cert ground.svg
+  octimap poster examples/vienna-ubahn map.cert poster.svg
   octimap page map.svg map.html
   octimap session examples/vienna-ubahn examples/session.txt draws.txt
   octimap graph examples/vienna-ubahn
@@ -164,11 +165,12 @@ line that is neither an edit nor a draw ends it.
 Example:
   octimap session examples/vienna-ubahn examples/session.txt draws.txt";
 
-pub(crate) const PAGE: &str = "Make a page of a map, for a browser";
+pub(crate) const PAGE: &str = "Make a page of a map or of a poster, for a browser";
 
 pub(crate) const AFTER_PAGE: &str = "\
 The page is one HTML file that works from disk, without network: it moves and zooms, has a legend, lifts lines out and
-finds stations by name. Nothing is printed. SVG is a map that `octimap make` wrote; what HTML held before is lost.
+finds stations by name. Nothing is printed. SVG is a map or a poster that octimap wrote; of a poster the page tells
+where each line calls. What HTML held before is lost.
 
 Example:
   octimap make examples/vienna-ubahn map.svg map.cert
@@ -223,7 +225,7 @@ pub(crate) const SET: &str =
 pub(crate) const EDITS: &str =
     "A file of edits, one a line, such as examples/edits.txt; they are done to the tables and settings first";
 
-pub(crate) const SHOWN_SVG: &str = "The file of the map that the page shows";
+pub(crate) const SHOWN_SVG: &str = "The file of the map or poster that the page shows";
 
 pub(crate) const HTML: &str = "The file that the page is written to";
 

@@ -5,8 +5,11 @@ ghost use Rattle.std.specs.Prelude.{◌≡◌, [], Some};
 use crate::failures::{stop_of, unopened};
 use crate::retries::read_once;
 use files_door::{Files, Stop};
+use map_base::Progress;
+use std::alloc::Global;
 use std::fs::File;
 use std::rt;
+use std::sync::Arc;
 
 /// The files of the disk. Nothing is told of what they hold. The count rises at each error of the system
 /// that is answered as a failure.
@@ -15,6 +18,7 @@ pub struct DiskFiles<R: rt::Files> {
     rt: R,
     begun: Option<R::File>,
     failures: u64,
+    watched: Option<Arc<Progress, Global>>,
 }
 
 impl<R: rt::Files> DiskFiles<R> {
@@ -23,10 +27,26 @@ impl<R: rt::Files> DiskFiles<R> {
         ensures none_begun { ⟦<DiskFiles<R> as Files>⟧.rest result ≡ Some [] }
         ensures count { ⟦<DiskFiles<R> as Files>⟧.faults result ≡ 0 }
     {
+        DiskFiles::watched(rt, None)
+    }
+
+    /// The same; where somebody watches the run, each read tells how far it is.
+    pub fn watched(rt: R, watched: Option<Arc<Progress, Global>>) -> DiskFiles<R>
+        ensures none_begun { ⟦<DiskFiles<R> as Files>⟧.rest result ≡ Some [] }
+        ensures count { ⟦<DiskFiles<R> as Files>⟧.faults result ≡ 0 }
+    {
         DiskFiles {
             rt,
             begun: None,
             failures: 0,
+            watched,
+        }
+    }
+
+    /// Tells how far the run is, if somebody watches it.
+    fn tell(&self) {
+        if let Some(progress) = &self.watched {
+            progress.look();
         }
     }
 }
@@ -52,6 +72,7 @@ impl<R: rt::Files> Files for DiskFiles<R> {
     }
 
     fn read(&mut self, into: &mut [u8]) -> Result<usize, Stop> {
+        self.tell();
         let Some(file) = &mut self.begun else {
             return Ok(0);
         };

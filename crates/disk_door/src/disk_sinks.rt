@@ -39,7 +39,7 @@ enum Place<F: Drop> {
 /// that fails, and after `discard`, the target is what it was. Each draft is synced and closed before the next target
 /// is begun. Where that fails the draft is lost: no target is begun any more, and nothing is put in place.
 #[derive(Drop)]
-pub struct DiskSinks<R: rt::Files + Print + Eprint> {
+pub struct DiskSinks<R: rt::Files + Print> {
     rt: R,
     alloc: Global,
     place: Place<R::File>,
@@ -61,7 +61,7 @@ pub struct WriteError<'a> {
     pub path: Option<&'a str>,
 }
 
-impl<R: rt::Files + Print + Eprint> DiskSinks<R> {
+impl<R: rt::Files + Print> DiskSinks<R> {
     /// The targets that `rt` reaches; none is current, and the count is 0.
     pub fn new(rt: R, alloc: Global) -> DiskSinks<R>
         ensures nowhere { ⟦<DiskSinks<R> as Sinks>⟧.current result ≡ None }
@@ -70,8 +70,8 @@ impl<R: rt::Files + Print + Eprint> DiskSinks<R> {
         DiskSinks::watched(rt, alloc, None)
     }
 
-    /// The same; where somebody watches the run, the line that tells how far it is goes from the terminal before standard
-    /// output is written.
+    /// The same; where somebody watches the run, the line that tells how far it is leaves the terminal before anything is
+    /// written that may stand there.
     pub fn watched(rt: R, alloc: Global, watched: Option<Arc<Progress, Global>>) -> DiskSinks<R>
         ensures nowhere { ⟦<DiskSinks<R> as Sinks>⟧.current result ≡ None }
         ensures count { ⟦<DiskSinks<R> as Sinks>⟧.faults result ≡ 0 }
@@ -88,15 +88,6 @@ impl<R: rt::Files + Print + Eprint> DiskSinks<R> {
             last_error: None,
             last_path: None,
             watched,
-        }
-    }
-
-    /// Takes the line that tells how far the run is from the terminal.
-    fn hide_line(&self) {
-        if let Some(progress) = &self.watched {
-            if progress.hide() {
-                let _not_hidden = eprint!(self.rt; "\r\x1b[K");
-            }
         }
     }
 
@@ -224,9 +215,6 @@ impl<R: rt::Files + Print + Eprint> DiskSinks<R> {
     {
         self.leave()?;
         self.last_path = None;
-        if let Target::Said = to {
-            self.hide_line();
-        }
         self.place = match to {
             Target::Said => Place::Said,
             Target::Path(path) => self.open(path)?,
@@ -243,9 +231,15 @@ impl<R: rt::Files + Print + Eprint> DiskSinks<R> {
     {
         match &mut self.place {
             Place::Nowhere => unreachable!(),
-            Place::Said => say(&self.rt, piece, self.most),
+            Place::Said => {
+                hide_line(&self.watched);
+                say(&self.rt, piece, self.most)
+            }
             Place::Draft(_, draft) => draft.write(piece, self.most),
-            Place::Straight(_, file) => write_straight(file, piece, self.most),
+            Place::Straight(_, file) => {
+                hide_line(&self.watched);
+                write_straight(file, piece, self.most)
+            }
         }
     }
 }
@@ -257,6 +251,13 @@ fn copied(alloc: Global, path: &Text) -> io::Result<Text>
     match Text::of(alloc, path.as_str()) {
         Ok(text) => Ok(text),
         Err(NoMemory) => Err(io::Error::from(ErrorKind::OutOfMemory)),
+    }
+}
+
+/// Takes the line that tells how far the run is from the terminal, if somebody watches the run.
+fn hide_line(watched: &Option<Arc<Progress, Global>>) {
+    if let Some(progress) = watched {
+        progress.hide();
     }
 }
 
@@ -293,7 +294,7 @@ fn write_straight<F: Write + OpenFile>(file: &mut F, piece: &[u8], most: u64) ->
     write_once(file, piece)
 }
 
-impl<R: rt::Files + Print + Eprint> Sinks for DiskSinks<R> {
+impl<R: rt::Files + Print> Sinks for DiskSinks<R> {
     ghost written = { λ sinks. None };
 
     ghost current = { λ sinks. target_of sinks.place };

@@ -20,7 +20,7 @@ pub record IsSign (s : Sign) : Type 0 where
   pub x : unsigned_abs s.centre.x ≤ 214748364800
   pub y : unsigned_abs s.centre.y ≤ 214748364800
   pub radius : s.radius ≤ 700000003
-  pub letters : s.letters ≤ 100000000
+  pub letters : s.letters ≤ 4294967295
 
 abbrev pub areas : List Bounds → List Thing
 areas boxes = map (λ b. Area b) boxes

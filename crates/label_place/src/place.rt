@@ -93,7 +93,7 @@ pub(crate) fn box_at(sign: Sign, place: Place) -> Bounds
 fn box_from(at: Corner, width: i64) -> Bounds
     requires x { unsigned_abs at.x ≤ 300000000000 }
     requires y { unsigned_abs at.y ≤ 300000000000 }
-    requires width { unsigned_abs width ≤ 1200000000 }
+    requires width { unsigned_abs width ≤ 60000000000 }
     ensures value { result ≡ record { left = at.x; right = at.x +ℤ width; top = at.y -ℤ pos 20; bottom = at.y +ℤ pos 4 } }
     ensures small { IsBox result }
 {

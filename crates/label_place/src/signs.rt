@@ -1,6 +1,6 @@
 //! Markers with their names.
 
-ghost use Rattle.std.specs.Prelude.{◌≡◌, ◌≤◌, ◌<◌, length, IfOk};
+ghost use Rattle.std.specs.Prelude.{◌≡◌, ◌≤◌, ◌<◌, length, IfOk, IfErr};
 ghost use Rattle.std.specs.Str.{chars};
 ghost use Rattle.label_place.specs.Places.{node_name, sign_of};
 ghost use Rattle.label_place.specs.Signs.{IsSign};
@@ -43,14 +43,22 @@ fn node_name<'a>(names: &'a Names, kind: NodeKind) -> &'a str
     }
 }
 
-/// How many characters a name has. A longer one has no room.
+/// How many characters a name has. One of more than 4,294,967,295, longer than any file may be, has no room.
 fn letters_of(name: &str) -> Result<u32, NoMemory>
     ensures value { IfOk result (λ n. n ≡ length (chars name.now)) }
-    ensures small { IfOk result (λ n. n ≤ 100000000) }
+    ensures small { IfOk result (λ n. n ≤ 4294967295) }
+    ensures longer { IfErr result (λ _. 4294967295 < length (chars name.now)) }
 {
-    let count = name.chars().count();
-    if count > 100_000_000 {
+    let count = count_of(name);
+    if count > 4_294_967_295 {
         return Err(NoMemory);
     }
     Ok(count as u32)
+}
+
+/// How many characters a text has.
+fn count_of(text: &str) -> usize
+    ensures { result ≡ length (chars text.now) }
+{
+    text.chars().count()
 }

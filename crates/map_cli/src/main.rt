@@ -12,6 +12,7 @@ use map_run::run;
 use output_guard::{Clash, clash_of};
 use run_status::Status;
 use std::alloc::Global;
+use std::io::IsTerminal;
 use std::marker::Brand;
 use std::process::ExitCode;
 use std::sync::Arc;
@@ -74,11 +75,14 @@ fn run_on_disk<L: Ledger>(rt: &HostRuntime, words: &[String], blank: Blank) -> S
     requires parts { blank.parts ≡ L.parts }
     requires some_part { 0 < blank.parts }
 {
-    let progress = Arc::new(rt.alloc(), Progress::new()).ok();
-    let mut files = DiskFiles::new(rt);
-    let mut sinks = DiskSinks::new(rt, rt.alloc());
+    let progress = progress_of(rt, words);
+    let mut files = DiskFiles::watched(rt, again(&progress));
+    let mut sinks = DiskSinks::watched(rt, rt.alloc(), again(&progress));
     let mut steps = Steps::<L>::watched(blank, again(&progress));
     let status = run(rt.alloc(), words, &mut files, &mut sinks, &mut steps);
+    if let Some(progress) = &progress {
+        progress.hide();
+    }
     let ended = end(status, words, &mut sinks);
     if !is_quiet(words) {
         say_more(rt, words, &ended, sinks.last_error());
@@ -87,7 +91,14 @@ fn run_on_disk<L: Ledger>(rt: &HostRuntime, words: &[String], blank: Blank) -> S
     ended
 }
 
-/// What tells how far a run is, for the run itself.
+/// What tells how far a run on these words is: on the terminal, where standard error is one and may be written to.
+fn progress_of(rt: &HostRuntime, words: &[String]) -> Option<Arc<Progress, Global>> {
+    let is_told = !is_quiet(words) && rt.stderr().is_terminal();
+    let terminal = if is_told { Some(*rt) } else { None };
+    Arc::new(rt.alloc(), Progress::new(terminal)).ok()
+}
+
+/// The same, for a part of the run.
 fn again(progress: &Option<Arc<Progress, Global>>) -> Option<Arc<Progress, Global>> {
     match progress {
         Some(progress) => Arc::try_clone(progress).ok(),
@@ -96,11 +107,7 @@ fn again(progress: &Option<Arc<Progress, Global>>) -> Option<Arc<Progress, Globa
 }
 
 /// Puts what a run wrote in its place, or forgets it; the status that the program ends with.
-fn end<R: rt::Files + Print + Eprint>(
-    status: Status,
-    words: &[String],
-    sinks: &mut DiskSinks<R>,
-) -> Status {
+fn end<R: rt::Files + Print>(status: Status, words: &[String], sinks: &mut DiskSinks<R>) -> Status {
     if is_put_in_place(&status, words, sinks) {
         return status_after(status, sinks.put_in_place());
     }
@@ -110,7 +117,7 @@ fn end<R: rt::Files + Print + Eprint>(
 
 /// Whether what a run wrote is put in its place. Where writing failed or memory ran out, a map and its certificate are
 /// not whole, and what stood there stays. A session keeps each map that it drew, however it ends, where it drew any.
-fn is_put_in_place<R: rt::Files + Print + Eprint>(
+fn is_put_in_place<R: rt::Files + Print>(
     status: &Status,
     words: &[String],
     sinks: &DiskSinks<R>,

@@ -6,7 +6,7 @@ pub const HEAD: &str = "\
 <html lang=\"en\">\n\
 <head>\n\
 <meta charset=\"utf-8\">\n\
-<meta http-equiv=\"Content-Security-Policy\" content=\"default-src 'none'; script-src 'sha256-T2cRe/SHCEsaF+ANzOqOu3gqhtY6tG2CNe/potYESCc='; style-src 'sha256-vV4q9SbETdn/y9piFa3/nbm+Ab3jIbD6vRv55mft4Ts='; base-uri 'none'; form-action 'none'\">\n\
+<meta http-equiv=\"Content-Security-Policy\" content=\"default-src 'none'; script-src 'sha256-T2cRe/SHCEsaF+ANzOqOu3gqhtY6tG2CNe/potYESCc='; style-src 'sha256-12hu7iqhTrlzEwsCmXq8wfwdShje/xRXEbY9hooZnnA='; base-uri 'none'; form-action 'none'\">\n\
 <meta name=\"viewport\" content=\"width=device-width, initial-scale=1\">\n\
 <title>Transit map</title>\n\
 <style>\n\
@@ -40,6 +40,7 @@ button, input { border: 1px solid var(--faint); border-radius: 6px; background: 
 #close { position: absolute; inset: .3rem .3rem auto auto; width: 1.8rem; height: 1.8rem; }\n\
 #parts { max-height: 38vh; overflow: auto; }\n\
 li button { display: flex; flex-wrap: wrap; gap: 0 .5rem; align-items: baseline; width: 100%; padding: .3rem .4rem; border: 0; background: none; text-align: start; }\n\
+i + bdi { max-width: calc(100% - 2.2rem); }\n\
 li button:hover, [aria-pressed=true], [aria-selected=true] { background: var(--hover); }\n\
 small i { margin-inline-end: .2rem; }\n\
 i { display: inline-block; width: .7rem; height: .7rem; border: 1px solid transparent; border-radius: 3px; background: currentColor; print-color-adjust: exact; }\n\

@@ -43,3 +43,32 @@ fn a_map_that_shows_something_is_told_nothing(rt: HostRuntime) -> Result<(), Fai
     fs::remove_file(&rt, "drawn.cert")?;
     Ok(())
 }
+
+#[test]
+fn a_poster_is_told_as_a_map_is(rt: HostRuntime) -> Result<(), Fail> {
+    write_feed(&rt, "printed", "1")?;
+    let said = told(&rt, "make printed printed.svg printed.cert")?;
+    assert_eq!(rt; said.as_str(), "");
+    let said = told(&rt, "poster printed printed.cert poster.svg")?;
+    assert_eq!(rt; said.as_str(), "");
+    let said = told(&rt, "poster printed missing.cert poster.svg")?;
+    assert_eq!(rt; said.as_str(), "octimap: there is no file CERT\n");
+    let said = told(
+        &rt,
+        "poster --set types=[401] printed printed.cert poster.svg",
+    )?;
+    assert_eq!(rt;
+        said.as_str(),
+        "octimap: the certificate is of another network; were the feed, the settings and the edits the same when it was made?\n"
+    );
+    let said = told(&rt, "poster printed printed.cert missing/poster.svg")?;
+    assert_eq!(rt;
+        said.as_str(),
+        "octimap: \"missing/poster.svg\" can't be written: No such file or directory (os error 2)\n"
+    );
+    fs::remove_dir_all(&rt, "printed")?;
+    fs::remove_file(&rt, "printed.svg")?;
+    fs::remove_file(&rt, "printed.cert")?;
+    fs::remove_file(&rt, "poster.svg")?;
+    Ok(())
+}
