@@ -3,11 +3,12 @@ use Rattle.std.specs.Global.{Global}
 use Rattle.map_base.specs.declared.point.Point.{Point}
 use Rattle.map_method.specs.declared.claim.Claim.{Claim}
 use Rattle.command_paths.specs.declared.picture.Picture.{Picture}
-use Rattle.command_paths.specs.declared.picture.Picture.TheVariants.{Geographic}
+use Rattle.command_paths.specs.declared.picture.Picture.TheVariants.{Geographic, Poster}
 use Rattle.graph_maps.specs.Readings.{certificate_in}
 use Rattle.graph_maps.specs.Checking.{Gives}
 use Rattle.map_engine.specs.Labelling.{pictured_items}
 use Rattle.map_engine.specs.Geographic.{geographic_by, lines_by, lines_or_none}
+use Rattle.map_engine.specs.Postering.{postered_by}
 use Rattle.picture_command.specs.PictureWorks.{picture_by, HasLines}
 use Rattle.picture_command.proofs.pictures.picture_by.Goals as goal
 
@@ -25,3 +26,15 @@ returns-in-Geographic-clause-given c =
     subst (λ (k : Picture). Gives (λ (v : Vec ℕ Global). v.items) c.geo_on_graph.result (pictured_items (picture_by k feed choices graph) feed choices claim graph read)) (sym c.in-Geographic.is)
     (subst (λ (ls : List (List Point)). Gives (λ (v : Vec ℕ Global). v.items) c.geo_on_graph.result (pictured_items (geographic_by feed graph ls) feed choices claim graph read)) (sym is)
     (subst (λ (ls : List (List Point)). Gives (λ (v : Vec ℕ Global). v.items) c.geo_on_graph.result (pictured_items (geographic_by feed graph ls) feed choices claim graph read)) c.as_slice.ensures asked))
+
+pub returns-in-Poster-clause-given : goal.returns-in-Poster-clause-given
+returns-in-Poster-clause-given c =
+    let feed = c.args.loaded.now.tables in
+    let choices = c.args.loaded.now.settings in
+    let claim = c.args.loaded.now.method.claim in
+    let graph = c.args.graph.now.graph in
+    let read = certificate_in c.args.certificate.now in
+    let asked = subst (λ (asked : Claim). Gives (λ (v : Vec ℕ Global). v.items) c.poster_on_graph.result
+    (pictured_items (postered_by feed graph) feed choices asked graph read)) c.claim-claim.ensures c.poster_on_graph.ensures.outcome in
+    subst (λ (k : Picture). Gives (λ (v : Vec ℕ Global). v.items) c.poster_on_graph.result
+    (pictured_items (picture_by k feed choices graph) feed choices claim graph read)) (sym c.in-Poster.is) asked
