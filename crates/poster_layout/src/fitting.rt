@@ -129,7 +129,7 @@ fn is_before(a: (usize, usize), b: (usize, usize)) -> bool
     ensures { result ≡ (nat_lt a.0 b.0 || (a.0 == b.0) && nat_lt a.1 b.1) }
 {
     if a.0 == b.0 {
-        return a.1 > b.1;
+        return a.1 < b.1;
     }
     a.0 < b.0
 }

@@ -377,5 +377,5 @@ fn frame_around(f: Frame, lines: u32, widest: u32, legend: Legend) -> Frame
     let height = legend_height(lines);
     let end = beyond(legend.start, width, height);
     let begun = widened(f, legend.start);
-    widened(begun, legend.start)
+    widened(begun, end)
 }
