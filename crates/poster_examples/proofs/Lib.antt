@@ -3,3 +3,5 @@ mod Shapes
 mod Places
 mod Whole
 mod Calls
+mod Legends
+mod Stations

@@ -1,5 +1,5 @@
 -- Widths of texts, first words and pale colours.
-use Rattle.std.proofs.Common.{◌≡◌, ◌+◌, true, false, [], ◌∷◌, Some, None, refl}
+use Rattle.std.proofs.Common.{◌≡◌, ◌+◌, true, false, [], ◌∷◌, Some, None, replicate, refl}
 use Rattle.std.specs.Prelude.{codes}
 use Rattle.std.specs.Str.{chars}
 use Rattle.name_widths.specs.Widths.{text_width}
@@ -14,6 +14,11 @@ widths = refl
 no_width : text_width [] ≡ 0
 unfolding chars
 no_width = refl
+
+-- two hundred letters
+long : text_width (replicate 200 109) ≡ 1600
+unfolding chars
+long = refl
 
 -- U+2E7F and U+2E80
 edge : text_width (0xe2 ∷ 0xb9 ∷ 0xbf ∷ 0xe2 ∷ 0xba ∷ 0x80 ∷ []) ≡ 16
