@@ -5,9 +5,9 @@
 
 Makes N feeds as bench/agree.py does, with names of stations and lines that are empty, of one letter, of two hundred, of
 common first words, of spaces, markup and characters beyond U+FFFF, and with dark, pale and missing colours; some with up
-to two hundred lines. Each gets a map by this repository's program. The posters of its certificate, and of the same with
-one word changed, are made by both programs, and status, standard output and bytes are compared. A feed on which something
-differs is kept, and named. Ends with 1 where there is one.
+to two hundred lines beside each other. Each gets a map by this repository's program. The posters of its certificate, and of
+the same with one word changed, are made by both programs, and status, standard output and bytes are compared. A feed on
+which something differs is kept, and named. Ends with 1 where there is one.
 """
 import argparse
 import collections
@@ -38,19 +38,20 @@ def name_of(chance):
 
 def write_feed(folder, chance):
     places, extent = places_of(chance)
-    count = chance.randrange(120, 200) if chance.random() < 0.02 else chance.randrange(1, 8)
+    many = chance.random() < 0.02
+    count = chance.randrange(120, 200) if many else chance.randrange(1, 8)
     routes, trips, stop_times, shapes = [], [], [], []
     for line in range(count):
         short = name_of(chance) if chance.random() < 0.4 else chance.choice(["1", "U2", "S 45", "Ring", "Expres", "中央駅線九", "é"])
         routes.append(f"L{line},{chance.choice([0, 1, 1, 2])},{short},{chance.choice(COLOURS)}")
         for _ in range(chance.randrange(1, 3)):
             trip = len(trips)
-            stops = stops_of(chance, len(places))
+            stops = list(range(chance.randrange(2), chance.randrange(2, len(places) + 1))) if many else stops_of(chance, len(places))
             if trip and chance.random() < 0.3:
                 stops = stop_times_of_last
                 stops = stops if chance.random() < 0.5 else stops[::2] or stops
             stop_times_of_last = stops
-            shape = f"H{trip}" if chance.random() < 0.3 else ""
+            shape = f"H{trip}" if chance.random() < 0.3 and not many else ""
             trips.append(f"L{line},T{trip},{shape}")
             stop_times += [f"T{trip},S{stop},{place}" for place, stop in enumerate(stops)]
             if shape:
@@ -82,7 +83,7 @@ def main():
         chance = random.Random(seed)
         write_feed(os.path.join(folder, "feed"), chance)
         with open(os.path.join(folder, "settings.toml"), "w") as out:
-            out.write('search = "dual"\nproof = "bound"\nfinest = 16\nspread = "auto"\nmoves = 1000\n' + chance.choice(["", "near = 300\n", "cell = 400\n"]))
+            out.write('search = "dual"\nproof = "bound"\nfinest = 16\nspread = "auto"\nmoves = 1000\nbudget = 1000\n' + chance.choice(["", "near = 300\n", "cell = 400\n"]))
         made = run(maker, ["make", "feed", "svg", "cert", "--settings", "settings.toml"], folder, ["svg", "cert"])
         statuses["make", made[0]] += 1
         differs = False
