@@ -8,12 +8,13 @@
 for the work on each crate, where KIND is proof, tests, edits or other, SECONDS the processor time of its processes and MIB the
 greatest memory of one of them. Processes are looked at once a second, so the last second of each is lost. `# clock` and
 `# processors` tell the time by the clock, and how much of all processors was used, idle, and taken away by other machines
-of the same host. Of a COMMAND that was stopped LOG has its lines and no table.
+of the same host. Where this program is told to end (SIGTERM), it ends COMMAND, and LOG has the table of what was done until then.
 """
 import argparse
 import collections
 import os
 import re
+import signal
 import subprocess
 import sys
 import threading
@@ -89,6 +90,7 @@ def processor_times():
 def run(log, command):
     started, (idle, taken, whole) = time.monotonic(), processor_times()
     child = subprocess.Popen(command, stdout=subprocess.PIPE, stderr=subprocess.STDOUT, text=True, errors="replace")
+    signal.signal(signal.SIGTERM, lambda *_: child.terminate())
     sampler, lock = Sampler(child.pid), threading.Lock()
 
     def sample():
