@@ -1,1 +1,3 @@
 mod Showing
+mod InShapes
+mod Pieces
