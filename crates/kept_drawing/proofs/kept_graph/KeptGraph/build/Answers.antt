@@ -18,7 +18,7 @@ defined_where : (near lines : ℕ) (all : Courses) (result : Result GraphParts L
     → IfOk result (λ graph. graph_over_net near lines all (net_of_courses near all) ≡ Ok graph)
 defined_where near lines all result is = IfOk-weaker result (IsGraphOf near lines all)
     (λ (graph : GraphParts). graph_over_net near lines all (net_of_courses near all) ≡ Ok graph)
-    (λ graph of. of.defined) is
+    (λ graph known. known.defined) is
 
 pub returns-clause-graph : goal.returns-clause-graph
 returns-clause-graph c =
@@ -56,7 +56,7 @@ returns-clause-kept c =
     let lines = c.len-lines.result in
     let count : lines ≡ length feed.lines = c.len-lines.ensures ∙ c.tables.inside.lines.ok.0 ∙ ap (λ (f : Feed). length f.lines) c.tables.view_is in
     let kept = IfOk-weaker c.graph_of.result (IsGraphOf near lines all)
-    (λ graph. AreKept near lines all (net_of_courses near all)) (λ graph of. of.kept) c.graph_of.ensures.graph in
+    (λ (graph : GraphParts). AreKept near lines all (net_of_courses near all)) (λ graph known. known.kept) c.graph_of.ensures.graph in
     subst (λ (n : ℕ). IfOk c.graph_of.result (λ graph. KeepsLines n feed graph)) (ap (λ (choices : Choices). choices.near) c.settings.view_is)
     (kept_where (λ (graph : GraphParts). graph) near lines feed all c.graph_of.result count c.in_ok-courses.ensures.courses
     (defined_where near lines all c.graph_of.result c.graph_of.ensures.graph) kept)
