@@ -4,6 +4,7 @@ ghost use Rattle.std.specs.Prelude.{◌≡◌, ◌<◌, ◌≤◌, length, All, 
 ghost use Rattle.map_base.specs.declared.ids.LineId.{LineId as Line};
 ghost use Rattle.feed_courses.specs.Fit.{AreFit, AreServed};
 ghost use Rattle.line_graph.specs.Outcome.{graph_outcome, graph_over_net, net_of_courses as net_of};
+ghost use Rattle.line_graph.specs.Rides.{KeepsLines};
 ghost use Rattle.map_base.specs.Faults.{HasCause};
 ghost use Rattle.kept_drawing.specs.Keeping.{IsGraphOf};
 
@@ -93,6 +94,7 @@ impl KeptGraph {
         ensures graph { IfOk result (λ graph. graph_outcome settings.now.near tables.now ≡ Ok graph) }
         ensures cause { IfErr result (λ fault. HasCause (graph_outcome settings.now.near tables.now) fault) }
         ensures lines { IfOk result (λ graph. All (All (λ (a : Line). a.0 < length tables.now.lines)) graph.lines) }
+        ensures kept { IfOk result (λ graph. KeepsLines settings.now.near tables.now graph) }
     {
         if !self.keeps {
             return build(alloc, tables, settings);

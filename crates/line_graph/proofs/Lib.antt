@@ -9,6 +9,6 @@ mod PathFacts
 mod NetworkFacts
 mod RideLemmas
 mod Whole
-mod Outcomes
+pub mod Outcomes
 mod SegmentCourses
 pub mod FeedLines

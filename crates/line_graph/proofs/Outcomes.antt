@@ -100,7 +100,12 @@ keeps_lines near lines feed all parts count is_all is kept =
     (subst (λ (n : ℕ). KeepsCourses near n all (net_of_courses near all) parts) count
     (subst (KeepsCourses near lines all (net_of_courses near all)) (same_parts made parts segments) kept))
 
-pub kept_where : (near lines : ℕ) (feed : Feed) (all : Courses) (result : Result GraphParts LimitFault) → lines ≡ length feed.lines → courses_outcome near feed ≡ Ok all →
-    IfOk result (λ parts. graph_over_net near lines all (net_of_courses near all) ≡ Ok parts) → IfOk result (λ parts. AreKept near lines all (net_of_courses near all)) → IfOk result (λ parts. KeepsLines near feed parts)
-kept_where near lines feed all (Ok parts) count is_all is kept = keeps_lines near lines feed all parts count is_all is kept
-kept_where near lines feed all (Err fault) count is_all is kept = tt
+-- so the graph in what is made keeps the lines
+pub kept_where : {A : Type 0} (graph_in : A → GraphParts) (near lines : ℕ) (feed : Feed) (all : Courses)
+    (result : Result A LimitFault) → lines ≡ length feed.lines → courses_outcome near feed ≡ Ok all →
+    IfOk result (λ x. graph_over_net near lines all (net_of_courses near all) ≡ Ok (graph_in x)) →
+    IfOk result (λ x. AreKept near lines all (net_of_courses near all)) →
+    IfOk result (λ x. KeepsLines near feed (graph_in x))
+kept_where graph_in near lines feed all (Ok x) count is_all is kept =
+    keeps_lines near lines feed all (graph_in x) count is_all is kept
+kept_where graph_in near lines feed all (Err fault) count is_all is kept = tt

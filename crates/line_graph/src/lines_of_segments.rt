@@ -6,6 +6,7 @@ ghost use Rattle.track_net.specs.Nearness.{point_at};
 ghost use Rattle.geo_lines.specs.Courses.{IsCourse};
 ghost use Rattle.feed_courses.specs.Fit.{AreFit, AreServed};
 ghost use Rattle.line_graph.specs.Outcome.{graph_outcome, graph_over_net, net_of_courses as net_of, network_of};
+ghost use Rattle.line_graph.specs.Rides.{AreKept, KeepsLines};
 ghost use Rattle.line_graph.specs.SegmentLines.{lines_outcome, lines_over_net};
 
 use crate::building::chained_graph;
@@ -54,6 +55,9 @@ pub fn build_with_lines(
     ensures lines { IfOk result (λ made. lines_outcome settings.now.near tables.now ≡ Ok made.lines) }
     ensures courses { IfOk result (λ made. All IsCourse made.lines) }
     ensures cause { IfErr result (λ fault. HasCause (graph_outcome settings.now.near tables.now) fault) }
+
+    // No line is lost, as `build` says it.
+    ensures kept { IfOk result (λ made. KeepsLines settings.now.near tables.now made.graph) }
 {
     let courses = courses_of(alloc, tables, settings.near)?;
     lines_of_courses(alloc, &courses, settings.near, tables.lines.len() as u32)
@@ -74,6 +78,7 @@ fn lines_of_courses(
     ensures lines { IfOk result (λ made. lines_over_net near lines courses.now (net_of near courses.now) ≡ Ok made.lines) }
     ensures courses { IfOk result (λ made. All IsCourse made.lines) }
     ensures cause { IfErr result (λ fault. HasCause (graph_over_net near lines courses.now (net_of near courses.now)) fault) }
+    ensures kept { IfOk result (λ _. AreKept near lines courses.now (net_of near courses.now)) }
 {
     let net = net_of_courses(alloc, courses, near)?;
     let made = chained_graph(alloc, courses, &net, near, lines)?;

@@ -4,6 +4,7 @@ ghost use Rattle.std.specs.Prelude.{◌≡◌, ◌≤◌, ℕ, List, option_map,
 ghost use Rattle.files_door.specs.Fault.{Rose};
 ghost use Rattle.files_door.specs.Files.{file_at};
 ghost use Rattle.line_graph.specs.Outcome.{graph_outcome};
+ghost use Rattle.line_graph.specs.Rides.{KeepsLines};
 ghost use Rattle.graph_maps.specs.Checking.{checked_bytes};
 ghost use Rattle.map_engine.specs.Promises.{IsCertified};
 ghost use Rattle.command_inputs.specs.Inputs.{input_at, inputs_by};
@@ -43,6 +44,7 @@ pub fn check_map<F: Files>(
 fn build_graph(alloc: Global, loaded: &Loaded) -> Result<LineGraph, Refusal>
     ensures given { Gives (λ graph. graph) result (built (graph_outcome loaded.now.settings.near loaded.now.tables)) }
     ensures graph { IfOk result (λ graph. graph_outcome loaded.now.settings.near loaded.now.tables ≡ Ok graph) }
+    ensures kept { IfOk result (λ graph. KeepsLines loaded.now.settings.near loaded.now.tables graph) }
 {
     Ok(build(alloc, &loaded.tables, &loaded.settings)?)
 }
@@ -55,7 +57,8 @@ fn read_certificate<F: Files>(
     graph: &LineGraph,
     files: &mut F,
 ) -> Result<Checked, Refusal>
-    requires { graph_outcome loaded.now.settings.near loaded.now.tables ≡ Ok graph.now }
+    requires graph { graph_outcome loaded.now.settings.near loaded.now.tables ≡ Ok graph.now }
+    requires kept { KeepsLines loaded.now.settings.near loaded.now.tables graph.now }
     ensures follows { Follows (F.told files.old) (input_at (inputs_by inputs.now))
         (Rose (F.faults files.old) (F.faults files.new)) checked_bytes (certificate_work loaded.now graph.now) result }
     ensures certified { IfOk result (λ checked. IsAccepted (F.told files.old) (inputs_by inputs.now) loaded.now checked.svg.items checked.proved) }
@@ -73,7 +76,8 @@ fn check_certificate(
     graph: &LineGraph,
     bytes: Option<Vec<u8>>,
 ) -> Result<Checked, Refusal>
-    requires { graph_outcome loaded.now.settings.near loaded.now.tables ≡ Ok graph.now }
+    requires graph { graph_outcome loaded.now.settings.near loaded.now.tables ≡ Ok graph.now }
+    requires kept { KeepsLines loaded.now.settings.near loaded.now.tables graph.now }
     ensures given { Gives checked_bytes result (certificate_checked loaded.now graph.now (option_map (λ v. v.items) bytes)) }
     ensures certified { IfOk result (λ checked. (certificate : List ℕ) × (option_map (λ v. v.items) bytes ≡ Some certificate)
         × IsCertified loaded.now.tables loaded.now.settings loaded.now.method.claim checked.svg.items certificate checked.proved) }

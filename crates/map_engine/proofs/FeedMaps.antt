@@ -10,6 +10,7 @@ use Rattle.map_method.specs.declared.claim.Claim.{Claim}
 use Rattle.transit_feed.specs.Feeds.{Feed}
 use Rattle.graph_core.specs.declared.parts.GraphParts.{GraphParts}
 use Rattle.line_graph.specs.Outcome.{graph_outcome}
+use Rattle.line_graph.specs.Rides.{KeepsLines}
 use Rattle.kept_trees.specs.OwnTrees.{HeldPart}
 use Rattle.map_faults.specs.declared.fault.MakeFault.{MakeFault}
 use Rattle.map_faults.specs.Faults.{of_limit}
@@ -63,50 +64,58 @@ module _ (feed : Feed) (choices : Choices) (graph : GraphParts)
       → branches_left held feed choices method ≡ left_on held (importance_by feed choices) choices method graph
   left_is held method = ap (missing_branches held (plan_of choices method)) (drawn_is method)
 
-  -- What holds of a map of the line graph holds of one of the feed.
+  -- What holds of a map of the line graph holds of one of the feed, where the graph keeps its lines.
+  module _ (kept : KeepsLines choices.near feed graph) where
+    abbrev pub certified_of : (claim : Claim) (svg bytes : List ℕ) (proved : Proved)
+        → IsCertifiedOn (subject_of feed choices) choices claim graph svg bytes proved
+        → IsCertified feed choices claim svg bytes proved
+    certified_of claim svg bytes proved is =
+        record {
+          certificate = is.certificate;
+          written = is.written;
+          graph = graph;
+          of_feed = of_feed;
+          kept = kept;
+          shows = is.shows;
+        }
 
-  abbrev pub certified_of : (claim : Claim) (svg bytes : List ℕ) (proved : Proved)
-      → IsCertifiedOn (subject_of feed choices) choices claim graph svg bytes proved
-      → IsCertified feed choices claim svg bytes proved
-  certified_of claim svg bytes proved is =
-      record { certificate = is.certificate; written = is.written; graph = graph; of_feed = of_feed; shows = is.shows }
+    pub shown_of : (claim : Claim) (svg bytes : List ℕ) (proved : Proved)
+        → IsCertifiedOn (subject_of feed choices) choices claim graph svg bytes proved
+        → ShowsLineGraph feed choices claim svg proved
+    shown_of claim svg bytes proved is = record {
+      graph = graph;
+      of_feed = of_feed;
+      kept = kept;
+      shows = certified_shows
+          (subject_of feed choices) choices claim graph svg bytes proved is;
+    }
 
-  pub shown_of : (claim : Claim) (svg bytes : List ℕ) (proved : Proved)
-      → IsCertifiedOn (subject_of feed choices) choices claim graph svg bytes proved
-      → ShowsLineGraph feed choices claim svg proved
-  shown_of claim svg bytes proved is = record {
-    graph = graph;
-    of_feed = of_feed;
-    shows = certified_shows
-        (subject_of feed choices) choices claim graph svg bytes proved is;
-  }
+    pub made_of : (claim : Claim) (made : MapBytes) → IsMadeOn (subject_of feed choices) choices claim graph made
+        → IsMade feed choices claim made
+    made_of claim made is = record {
+      proved = is.proved;
+      certified = certified_of claim made.svg made.certificate is.proved is.certified;
+      accepted = ap (λ (o : Result GraphParts Limit). pictured made.svg
+          (checked_on feed choices claim (certificate_in made.certificate) o)) of_feed ∙ is.accepted;
+    }
 
-  pub made_of : (claim : Claim) (made : MapBytes) → IsMadeOn (subject_of feed choices) choices claim graph made
-      → IsMade feed choices claim made
-  made_of claim made is = record {
-    proved = is.proved;
-    certified = certified_of claim made.svg made.certificate is.proved is.certified;
-    accepted = ap (λ (o : Result GraphParts Limit). pictured made.svg
-        (checked_on feed choices claim (certificate_in made.certificate) o)) of_feed ∙ is.accepted;
-  }
+    pub improved_of : (method : MethodChoices) (moves : ℕ) (improved : ImprovedBytes)
+        → IsImprovedOn (subject_of feed choices) choices method graph moves improved
+        → IsImprovedMap feed choices method moves improved
+    improved_of method moves improved is = record {
+      made = made_of method.claim improved.map is.made;
+      no_heavier = is.no_heavier;
+      solved = is.solved;
+      of_feed = ap (solved_of choices method) (drawn_is method) ∙ is.of_graph;
+      to_the_end = is.to_the_end;
+    }
 
-  pub improved_of : (method : MethodChoices) (moves : ℕ) (improved : ImprovedBytes)
-      → IsImprovedOn (subject_of feed choices) choices method graph moves improved
-      → IsImprovedMap feed choices method moves improved
-  improved_of method moves improved is = record {
-    made = made_of method.claim improved.map is.made;
-    no_heavier = is.no_heavier;
-    solved = is.solved;
-    of_feed = ap (solved_of choices method) (drawn_is method) ∙ is.of_graph;
-    to_the_end = is.to_the_end;
-  }
-
-  pub labelled_of : (claim : Claim) (map bytes : List ℕ)
-      → IsLabelledOn (subject_of feed choices) choices claim graph map bytes
-      → IsLabelledMap feed choices claim map bytes
-  labelled_of claim map bytes is = record {
-    picture = is.picture;
-    proved = is.proved;
-    certified = certified_of claim is.picture bytes is.proved is.certified;
-    labelled = is.labelled;
-  }
+    pub labelled_of : (claim : Claim) (map bytes : List ℕ)
+        → IsLabelledOn (subject_of feed choices) choices claim graph map bytes
+        → IsLabelledMap feed choices claim map bytes
+    labelled_of claim map bytes is = record {
+      picture = is.picture;
+      proved = is.proved;
+      certified = certified_of claim is.picture bytes is.proved is.certified;
+      labelled = is.labelled;
+    }

@@ -2,6 +2,7 @@
 
 ghost use Rattle.std.specs.Prelude.{◌≡◌, IfOk, Ok};
 ghost use Rattle.line_graph.specs.Outcome.{graph_outcome};
+ghost use Rattle.line_graph.specs.Rides.{KeepsLines};
 ghost use Rattle.graph_maps.specs.Readings.{certificate_in};
 ghost use Rattle.graph_maps.specs.Checking.{checked_bytes, Gives};
 ghost use Rattle.map_engine.specs.Checking.{certificate_outcome, check_outcome, checked_text};
@@ -73,7 +74,8 @@ pub fn check_on_graph(
     graph: &LineGraph,
     certificate: &[u8],
 ) -> Result<Checked, CheckFault>
-    requires { graph_outcome settings.now.near tables.now ≡ Ok graph.now }
+    requires graph { graph_outcome settings.now.near tables.now ≡ Ok graph.now }
+    requires kept { KeepsLines settings.now.near tables.now graph.now }
     ensures outcome { Gives checked_bytes result
         (checked_text tables.now settings.now claim graph.now (certificate_in certificate.now)) }
     ensures certified { IfOk result (λ checked. IsCertified tables.now settings.now claim checked.svg.items

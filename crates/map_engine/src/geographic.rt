@@ -2,6 +2,7 @@
 
 ghost use Rattle.std.specs.Prelude.{◌≡◌, All, IfOk, Ok};
 ghost use Rattle.line_graph.specs.Outcome.{graph_outcome};
+ghost use Rattle.line_graph.specs.Rides.{KeepsLines};
 ghost use Rattle.line_graph.specs.SegmentLines.{lines_outcome};
 ghost use Rattle.geo_lines.specs.Courses.{IsCourse};
 ghost use Rattle.graph_maps.specs.Readings.{certificate_in};
@@ -57,6 +58,7 @@ pub fn geo_on_graph(
     certificate: &[u8],
 ) -> Result<Vec<u8>, CheckFault>
     requires graph { graph_outcome settings.now.near tables.now ≡ Ok graph.now }
+    requires kept { KeepsLines settings.now.near tables.now graph.now }
     requires lines { lines_outcome settings.now.near tables.now ≡ Ok lines.now }
     requires courses { All IsCourse lines.now }
     ensures outcome { Gives (λ map. map.items) result

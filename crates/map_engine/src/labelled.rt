@@ -2,6 +2,7 @@
 
 ghost use Rattle.std.specs.Prelude.{◌≡◌, IfOk, Ok};
 ghost use Rattle.line_graph.specs.Outcome.{graph_outcome};
+ghost use Rattle.line_graph.specs.Rides.{KeepsLines};
 ghost use Rattle.graph_maps.specs.Readings.{certificate_in};
 ghost use Rattle.graph_maps.specs.Checking.{Gives};
 ghost use Rattle.map_engine.specs.Labelling.{labelled_items, labels_outcome, IsLabelledMap};
@@ -44,7 +45,8 @@ pub fn labels_on_graph(
     graph: &LineGraph,
     certificate: &[u8],
 ) -> Result<Vec<u8>, CheckFault>
-    requires { graph_outcome settings.now.near tables.now ≡ Ok graph.now }
+    requires graph { graph_outcome settings.now.near tables.now ≡ Ok graph.now }
+    requires kept { KeepsLines settings.now.near tables.now graph.now }
     ensures outcome { Gives (λ map. map.items) result
         (labelled_items tables.now settings.now claim graph.now (certificate_in certificate.now)) }
     ensures certified { IfOk result (λ map. IsLabelledMap tables.now settings.now claim map.items certificate.now) }

@@ -2,6 +2,7 @@
 
 ghost use Rattle.std.specs.Prelude.{◌≡◌, IfOk, Ok};
 ghost use Rattle.line_graph.specs.Outcome.{graph_outcome};
+ghost use Rattle.line_graph.specs.Rides.{KeepsLines};
 ghost use Rattle.graph_maps.specs.Readings.{certificate_in};
 ghost use Rattle.graph_maps.specs.Checking.{Gives};
 ghost use Rattle.map_engine.specs.Postering.{poster_outcome, postered_items, IsPoster};
@@ -46,7 +47,8 @@ pub fn poster_on_graph(
     graph: &LineGraph,
     certificate: &[u8],
 ) -> Result<Vec<u8>, CheckFault>
-    requires { graph_outcome settings.now.near tables.now ≡ Ok graph.now }
+    requires graph { graph_outcome settings.now.near tables.now ≡ Ok graph.now }
+    requires kept { KeepsLines settings.now.near tables.now graph.now }
     ensures outcome { Gives (λ map. map.items) result
         (postered_items tables.now settings.now claim graph.now (certificate_in certificate.now)) }
     ensures certified { IfOk result (λ map. IsPoster tables.now settings.now claim map.items certificate.now) }

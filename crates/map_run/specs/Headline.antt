@@ -1,4 +1,6 @@
--- What a user may rely on where a run ends with status 0, in the words of the feed.
+-- What a user may rely on where a run ends with status 0, in the words of the feed. The line graph of a feed's tables is
+-- the one that is defined for them, and no line is lost in it: `of_feed` and `kept` of `IsCertified`, on which each record
+-- but that of `import` stands.
 use Rattle.std.specs.Prelude.{◌≡◌, ℕ, None, List, [], ◌++◌, length, Option, Some, IfSome, unwrap_or, true, ⊤, Ok}
 use Rattle.map_base.specs.declared.limit.LimitKind.TheVariants.{File}
 use Rattle.map_base.specs.Limits.{is_within}

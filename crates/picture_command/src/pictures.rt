@@ -3,6 +3,7 @@
 ghost use Rattle.std.specs.Prelude.{◌≡◌, ◌≤◌, ℕ, List, All, option_map, IfOk, Ok, Some};
 ghost use Rattle.files_door.specs.Fault.{Rose};
 ghost use Rattle.line_graph.specs.Outcome.{graph_outcome};
+ghost use Rattle.line_graph.specs.Rides.{KeepsLines};
 ghost use Rattle.run_status.specs.Following.{Follows, Gives};
 ghost use Rattle.command_inputs.specs.Inputs.{input_at, inputs_by};
 ghost use Rattle.picture_command.specs.PictureWorks.{built, certificate_work, picture_at, picture_outputs, picture_by, picture_work, AreOfPicture, HasLines, IsPicture, IsPictureAt};
@@ -44,6 +45,7 @@ pub fn draw_picture<F: Files>(
 fn build_graph(alloc: Global, loaded: &Loaded, kind: Picture) -> Result<GraphWithLines, Refusal>
     ensures given { Gives (λ made. made.graph) result (built (graph_outcome loaded.now.settings.near loaded.now.tables)) }
     ensures graph { IfOk result (λ made. graph_outcome loaded.now.settings.near loaded.now.tables ≡ Ok made.graph) }
+    ensures kept { IfOk result (λ made. KeepsLines loaded.now.settings.near loaded.now.tables made.graph) }
     ensures lines { IfOk result (λ made. HasLines kind loaded.now made.lines) }
 {
     let (tables, settings) = (&loaded.tables, &loaded.settings);
@@ -62,6 +64,7 @@ fn without_lines(
 ) -> Result<GraphWithLines, Refusal>
     ensures given { Gives (λ made. made.graph) result (built (graph_outcome settings.now.near tables.now)) }
     ensures graph { IfOk result (λ made. graph_outcome settings.now.near tables.now ≡ Ok made.graph) }
+    ensures kept { IfOk result (λ made. KeepsLines settings.now.near tables.now made.graph) }
 {
     Ok(GraphWithLines {
         graph: build(alloc, tables, settings)?,
@@ -80,6 +83,7 @@ fn read_certificate<F: Files>(
     files: &mut F,
 ) -> Result<Sequence<Output>, Refusal>
     requires graph { graph_outcome loaded.now.settings.near loaded.now.tables ≡ Ok graph.now.graph }
+    requires kept { KeepsLines loaded.now.settings.near loaded.now.tables graph.now.graph }
     requires lines { HasLines kind loaded.now graph.now.lines }
     ensures follows { Follows (F.told files.old) (input_at (inputs_by inputs.now))
         (Rose (F.faults files.old) (F.faults files.new)) (λ outputs. outputs) (certificate_work kind map.now loaded.now graph.now.graph) result }
@@ -100,6 +104,7 @@ fn picture_at(
     bytes: Option<Vec<u8>>,
 ) -> Result<Sequence<Output>, Refusal>
     requires graph { graph_outcome loaded.now.settings.near loaded.now.tables ≡ Ok graph.now.graph }
+    requires kept { KeepsLines loaded.now.settings.near loaded.now.tables graph.now.graph }
     requires lines { HasLines kind loaded.now graph.now.lines }
     ensures given { Gives (λ outputs. outputs) result (picture_at kind map.now loaded.now graph.now.graph (option_map (λ v. v.items) bytes)) }
     ensures labelled { IfOk result (λ outputs. (certificate : List ℕ) × (picture : List ℕ) × (option_map (λ v. v.items) bytes ≡ Some certificate)
@@ -121,6 +126,7 @@ fn picture_by(
     certificate: &[u8],
 ) -> Result<Vec<u8>, CheckFault>
     requires graph { graph_outcome loaded.now.settings.near loaded.now.tables ≡ Ok graph.now.graph }
+    requires kept { KeepsLines loaded.now.settings.near loaded.now.tables graph.now.graph }
     requires lines { HasLines kind loaded.now graph.now.lines }
     ensures given { EngineGives (λ map. map.items) result (pictured_items (picture_by kind loaded.now.tables loaded.now.settings graph.now.graph) loaded.now.tables loaded.now.settings loaded.now.method.claim graph.now.graph (certificate_in certificate.now)) }
     ensures shown { IfOk result (λ map. IsPicture kind loaded.now.tables loaded.now.settings loaded.now.method.claim map.items certificate.now) }

@@ -47,4 +47,4 @@ returns-clause-kept c =
     let near = c.settings.inside.near in
     let count : c.len.result ≡ length feed.lines = c.len.ensures ∙ c.tables.inside.lines.ok.0 ∙ ap (λ (f : Feed). length f.lines) c.tables.view_is in
     subst (λ (n : ℕ). IfOk c.graph_of_courses.result (λ graph. KeepsLines n feed graph)) (ap (λ (choices : Choices). choices.near) c.settings.view_is)
-    (kept_where near c.len.result feed c.in_ok-courses.courses c.graph_of_courses.result count c.in_ok-courses.ensures.courses c.graph_of_courses.ensures.graph c.graph_of_courses.ensures.kept)
+    (kept_where (λ (graph : GraphParts). graph) near c.len.result feed c.in_ok-courses.courses c.graph_of_courses.result count c.in_ok-courses.ensures.courses c.graph_of_courses.ensures.graph c.graph_of_courses.ensures.kept)

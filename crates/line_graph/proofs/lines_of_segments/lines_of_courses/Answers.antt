@@ -5,8 +5,10 @@ use Rattle.map_base.specs.Faults.{HasCause}
 use Rattle.track_net.specs.Nearness.{point_at}
 use Rattle.graph_core.specs.declared.parts.GraphParts.{GraphParts}
 use Rattle.geo_lines.specs.Courses.{IsCourse}
+use Rattle.track_net.specs.Nets.{NetParts}
 use Rattle.way_network.specs.Segments.{segment_chains}
 use Rattle.line_graph.specs.Outcome.{graph_over_net, net_of_courses, network_of}
+use Rattle.line_graph.specs.Rides.{AreKept}
 use Rattle.line_graph.specs.SegmentLines.{segment_lines, lines_over_net}
 use Rattle.line_graph.proofs.Outcomes.{net_fits}
 use Rattle.line_graph.proofs.SegmentCourses.{are_courses, are_known, lines_over}
@@ -58,3 +60,7 @@ returns-clause-courses c =
     ∙ ap (λ (points : List Point). map (map (point_at points)) c.as_slice.result.now) c.points.ensures.points
     ∙ ap (map (map (point_at net.points))) (c.as_slice.ensures ∙ c.in_ok-made.ensures.chains) in
     subst (λ (lines : List (List Point)). All IsCourse lines) (sym is) (are_courses net.points g c.in_ok-made.ensures.network)
+
+pub returns-clause-kept : goal.returns-clause-kept
+returns-clause-kept c =
+    subst (λ (n : NetParts). AreKept c.args.near c.args.lines c.args.courses.now n) c.in_ok-net.ensures.net c.in_ok-made.ensures.kept

@@ -21,7 +21,7 @@ pub check_from-requires-clause-lines : goal.check_from-requires-clause-lines
 check_from-requires-clause-lines c =
     listed_in c.args.tables.now c.args.settings.now c.args.graph.now c.as_slice.result.now
     (c.as_slice.ensures.value ∙ c.in_ok-importance.ensures.value)
-    (lines_of_feed c.args.settings.now.near c.args.tables.now c.args.graph.now c.requires)
+    (lines_of_feed c.args.settings.now.near c.args.tables.now c.args.graph.now c.requires.graph)
 
 pub check_from-requires-clause-few : goal.check_from-requires-clause-few
 check_from-requires-clause-few c = subst (λ (ns : List ℕ). length ns < 2 ^ 32)
@@ -45,8 +45,8 @@ returns-clause-certified c =
     (λ (x : Checked). IsCertifiedOn (subject_of feed choices) choices c.args.claim c.args.graph.now x.svg.items
     c.args.certificate.now x.proved)
     (λ (x : Checked). IsCertified feed choices c.args.claim x.svg.items c.args.certificate.now x.proved)
-    (λ x is. certified_of feed choices c.args.graph.now c.requires c.args.claim x.svg.items c.args.certificate.now
-    x.proved is)
+    (λ x is. certified_of feed choices c.args.graph.now c.requires.graph c.requires.kept c.args.claim x.svg.items
+    c.args.certificate.now x.proved is)
     (subst (λ (s : Subject). IfOk c.check_from.result
     (λ (x : Checked). IsCertifiedOn s choices c.args.claim c.args.graph.now x.svg.items c.args.certificate.now
     x.proved)) told c.check_from.ensures.certified)
@@ -61,8 +61,8 @@ returns-clause-shown c =
     (λ (x : Checked). IsCertifiedOn (subject_of feed choices) choices c.args.claim c.args.graph.now x.svg.items
     c.args.certificate.now x.proved)
     (λ (x : Checked). ShowsLineGraph feed choices c.args.claim x.svg.items x.proved)
-    (λ x is. shown_of feed choices c.args.graph.now c.requires c.args.claim x.svg.items c.args.certificate.now x.proved
-    is)
+    (λ x is. shown_of feed choices c.args.graph.now c.requires.graph c.requires.kept c.args.claim x.svg.items
+    c.args.certificate.now x.proved is)
     (subst (λ (s : Subject). IfOk c.check_from.result
     (λ (x : Checked). IsCertifiedOn s choices c.args.claim c.args.graph.now x.svg.items c.args.certificate.now
     x.proved)) told c.check_from.ensures.certified)

@@ -81,7 +81,8 @@ returns-clause-certified c =
     record {
       picture = picture;
       proved = a.proved;
-      certified = certified_of feed choices graph c.requires.graph c.args.claim picture c.args.certificate.now a.proved
+      certified = certified_of feed choices graph c.requires.graph c.requires.kept c.args.claim picture
+          c.args.certificate.now a.proved
           (certified_by subject choices c.args.claim graph c.args.certificate.now a is picture refl);
       lines = c.args.lines.now;
       of_feed = c.requires.lines;

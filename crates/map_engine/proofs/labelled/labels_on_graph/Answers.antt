@@ -21,7 +21,7 @@ pub labels_from-requires-clause-lines : goal.labels_from-requires-clause-lines
 labels_from-requires-clause-lines c =
     listed_in c.args.tables.now c.args.settings.now c.args.graph.now c.as_slice.result.now
     (c.as_slice.ensures.value ∙ c.in_ok-importance.ensures.value)
-    (lines_of_feed c.args.settings.now.near c.args.tables.now c.args.graph.now c.requires)
+    (lines_of_feed c.args.settings.now.near c.args.tables.now c.args.graph.now c.requires.graph)
 
 pub labels_from-requires-clause-few : goal.labels_from-requires-clause-few
 labels_from-requires-clause-few c = subst (λ (ns : List ℕ). length ns < 2 ^ 32)
@@ -45,7 +45,8 @@ returns-clause-certified c =
     (λ (v : Vec ℕ Global). IsLabelledOn (subject_of feed choices) choices c.args.claim c.args.graph.now v.items
     c.args.certificate.now)
     (λ (v : Vec ℕ Global). IsLabelledMap feed choices c.args.claim v.items c.args.certificate.now)
-    (λ v is. labelled_of feed choices c.args.graph.now c.requires c.args.claim v.items c.args.certificate.now is)
+    (λ v is. labelled_of feed choices c.args.graph.now c.requires.graph c.requires.kept c.args.claim v.items
+    c.args.certificate.now is)
     (subst (λ (s : Subject). IfOk c.labels_from.result
     (λ (v : Vec ℕ Global). IsLabelledOn s choices c.args.claim c.args.graph.now v.items c.args.certificate.now))
     told c.labels_from.ensures.certified)

@@ -87,7 +87,8 @@ returns-clause-improved g c =
     IfOk-weaker c.make_improved_from.result
     (λ (x : ImprovedMap). IsImprovedOn (subject_of feed choices) choices method graph c.args.moves (improved_bytes x))
     (λ (x : ImprovedMap). IsImprovedMap feed choices method c.args.moves (improved_bytes x))
-    (λ x is. improved_of feed choices graph c.in_ok-graph.ensures.graph method c.args.moves (improved_bytes x) is)
+    (λ x is. improved_of feed choices graph c.in_ok-graph.ensures.graph c.in_ok-graph.ensures.kept method c.args.moves
+    (improved_bytes x) is)
     (subst (λ (s : Subject). IfOk c.make_improved_from.result
     (λ (x : ImprovedMap). IsImprovedOn s choices method graph c.args.moves (improved_bytes x))) told
     c.make_improved_from.ensures.improved)

@@ -26,7 +26,7 @@ pub checked_certificate-requires-clause-lines : goal.checked_certificate-require
 checked_certificate-requires-clause-lines c =
     listed_in c.args.tables.now c.args.settings.now c.args.graph.now c.as_slice.result.now
     (c.as_slice.ensures.value ∙ c.in_ok-importance.ensures.value)
-    (lines_of_feed c.args.settings.now.near c.args.tables.now c.args.graph.now c.requires)
+    (lines_of_feed c.args.settings.now.near c.args.tables.now c.args.graph.now c.requires.graph)
 
 pub checked_certificate-requires-clause-few : goal.checked_certificate-requires-clause-few
 checked_certificate-requires-clause-few c = subst (λ (ns : List ℕ). length ns < 2 ^ 32)
@@ -79,7 +79,8 @@ returns-clause-certified c =
     record {
       picture = picture;
       proved = a.proved;
-      certified = certified_of feed choices graph c.requires c.args.claim picture c.args.certificate.now a.proved
+      certified = certified_of feed choices graph c.requires.graph c.requires.kept c.args.claim picture
+          c.args.certificate.now a.proved
           (certified_by subject choices c.args.claim graph c.args.certificate.now a is picture refl);
       postered = drawn
           ∙ ap (λ (walks : List PlainWalk). poster_text (names_by feed) graph walks a.orders callers) is.shows.walks

@@ -3,7 +3,7 @@ use Rattle.std.specs.Global.{Global}
 use Rattle.map_base.specs.declared.point.Point.{Point}
 use Rattle.map_method.specs.declared.claim.Claim.{Claim}
 use Rattle.command_paths.specs.declared.picture.Picture.{Picture}
-use Rattle.command_paths.specs.declared.picture.Picture.TheVariants.{Geographic, Poster}
+use Rattle.command_paths.specs.declared.picture.Picture.TheVariants.{Geographic}
 use Rattle.graph_maps.specs.Readings.{certificate_in}
 use Rattle.graph_maps.specs.Checking.{Gives}
 use Rattle.map_engine.specs.Labelling.{pictured_items}
