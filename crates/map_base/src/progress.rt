@@ -6,7 +6,7 @@ use std::time::Instant;
 /// What a run is at.
 #[derive(Clone, Copy, PartialEq, Eq)]
 pub enum Stage {
-    /// It works, and does not tell on what.
+    /// It works, and does not tell on what: a run that has read a file, or reads none.
     Working,
     /// It reads what it works on.
     Reading,
@@ -102,7 +102,8 @@ impl Progress {
             Stage::LineGraph => "making the line graph",
             Stage::Drawing => "drawing the line graph",
             Stage::Orders => return self.show_part(rt),
-            Stage::Working | Stage::Ended => return,
+            Stage::Working => "working",
+            Stage::Ended => return,
         };
         let _not_shown = eprint!(rt; "\r\x1b[Koctimap: {stage}");
         self.is_shown.store(true, Ordering::Relaxed);
