@@ -1,5 +1,5 @@
 -- What `make` promises, and how many steps it takes.
-use Rattle.std.proofs.Common.{◌≡◌, ◌≢◌, ◌≤◌, ◌+◌, ◌∙◌, ap, refl, ℕ, inl, inr, List, [], Option, Some, Result, Ok, Err, IfOk, sym, subst}
+use Rattle.std.proofs.Common.{◌≡◌, ◌≢◌, ◌≤◌, ◌+◌, ◌++◌, ◌∙◌, ap, refl, ℕ, inl, inr, List, [], Option, Some, Result, Ok, Err, IfOk, sym, subst}
 use Rattle.map_base.specs.declared.limit.Limit.{Limit}
 use Rattle.map_base.specs.declared.limit_fault.LimitFault.{LimitFault}
 use Rattle.map_base.specs.declared.limit_fault.LimitFault.TheVariants as limit
@@ -17,13 +17,13 @@ use Rattle.map_engine.specs.Making.{make_outcome, over_graph}
 use Rattle.map_engine.specs.Keeping.{branches_left}
 use Rattle.map_engine.specs.Promises.{IsMade}
 use Rattle.map_engine.specs.Tables.{importance_by, subject_of}
-use Rattle.map_engine.specs.Postering.{poster_on, poster_outcome, IsPoster}
+use Rattle.map_engine.specs.Postering.{poster_on, IsPoster}
 use Rattle.command_inputs.specs.declared.loaded.Loaded.{Loaded}
 use Rattle.run_status.specs.declared.refusal.Refusal.{Refusal}
 use Rattle.run_status.specs.Refusals.{of_limit}
 use Rattle.command_paths.specs.Paths.{Chosen, NewPaths}
 use Rattle.command_inputs.specs.Inputs.{InputPaths, input_at}
-use Rattle.map_commands.specs.MapWorks.{made_at, new_outputs, page_output, poster_by, poster_due}
+use Rattle.map_commands.specs.MapWorks.{made_at, map_outputs, new_outputs, page_output, poster_by, poster_due}
 use Rattle.command_inputs.specs.Loading.{load_work}
 use Rattle.run_status.specs.Following.{Follows, Gives}
 use Rattle.map_commands.specs.Promises.{AreOfMap, SearchesParts}
@@ -59,10 +59,14 @@ graph_stops paths loaded (limit.Limit l) h =
     ap (λ (o : Result GraphParts Limit). made_at paths loaded (if_solved (solved_map (subject_of loaded.tables loaded.settings)) (solved_of loaded.settings loaded.method (over_graph (λ g. drawn_on (importance_by loaded.tables loaded.settings) loaded.settings loaded.method g) o)))) h
 graph_stops paths loaded limit.NoMemory h = tt
 
--- the poster of what was made, by the line graph
-pub poster_is : (loaded : Loaded) (graph : GraphParts) (certificate : List ℕ) → graph_outcome loaded.settings.near loaded.tables ≡ Ok graph
-    → poster_outcome loaded.tables loaded.settings loaded.method.claim (certificate_in certificate) ≡ poster_by loaded graph certificate
-poster_is loaded graph certificate of_feed = ap (poster_on loaded.tables loaded.settings loaded.method.claim (certificate_in certificate)) of_feed
+-- the outputs of what was made, where its poster is made by the line graph
+pub new_are : (paths : NewPaths) (loaded : Loaded) (graph : GraphParts) (made : MapBytes) (certificate : List ℕ) (both page : List Output)
+    → graph_outcome loaded.settings.near loaded.tables ≡ Ok graph → certificate ≡ made.certificate → both ≡ map_outputs paths.map made
+    → page ≡ page_output paths.page (poster_by loaded graph certificate) → both ++ page ≡ new_outputs paths (poster_due loaded made) made
+new_are paths loaded graph made certificate both page of_feed same first third =
+    let poster : poster_by loaded graph certificate ≡ poster_due loaded made =
+    ap (poster_by loaded graph) same ∙ sym (ap (poster_on loaded.tables loaded.settings loaded.method.claim (certificate_in made.certificate)) of_feed) in
+    ap (λ (all : List Output). all ++ page) first ∙ ap (λ (last : List Output). map_outputs paths.map made ++ last) (third ∙ ap (page_output paths.page) poster)
 
 -- no page where the poster is refused
 pub no_page : (path : List ℕ) (poster : Result (List ℕ) CheckFault) (stop : CheckFault) → HasCause poster stop → stop ≢ refuted.NoMemory → page_output (Some path) poster ≡ []

@@ -5,6 +5,7 @@ ghost use Rattle.std.specs.Option.{option_to_list};
 ghost use Rattle.line_graph.specs.Outcome.{graph_outcome};
 ghost use Rattle.map_faults.specs.declared.fault.CheckFault.TheVariants as fault;
 ghost use Rattle.graph_maps.specs.Making.{bytes_of};
+ghost use Rattle.graph_maps.specs.Checking.{Gives};
 ghost use Rattle.command_paths.specs.Paths.{new_paths_by, paths_by};
 ghost use Rattle.map_commands.specs.MapWorks.{map_outputs, new_outputs, page_output, poster_by, poster_due};
 
@@ -83,12 +84,25 @@ fn poster_page(
     requires { graph_outcome loaded.now.settings.near loaded.now.tables ≡ Ok graph.now }
     ensures { IfOk result (λ output. option_to_list output ≡ page_output (Some path.now) (poster_by loaded.now graph.now certificate.now)) }
 {
-    let (tables, settings) = (&loaded.tables, &loaded.settings);
-    let claim = loaded.claim();
-    match poster_on_graph(alloc, tables, settings, claim, graph, certificate) {
+    match poster_for(alloc, loaded, graph, certificate) {
         Ok(poster) => page_to(alloc, path, poster.as_slice()),
         Err(fault) => unless_no_memory(fault),
     }
+}
+
+/// The poster by a certificate and the line graph, or why that is refused.
+fn poster_for(
+    alloc: Global,
+    loaded: &Loaded,
+    graph: &LineGraph,
+    certificate: &[u8],
+) -> Result<Vec<u8>, CheckFault>
+    requires { graph_outcome loaded.now.settings.near loaded.now.tables ≡ Ok graph.now }
+    ensures { Gives (λ poster. poster.items) result (poster_by loaded.now graph.now certificate.now) }
+{
+    let (tables, settings) = (&loaded.tables, &loaded.settings);
+    let claim = loaded.claim();
+    poster_on_graph(alloc, tables, settings, claim, graph, certificate)
 }
 
 /// The output of the page of this poster.
