@@ -3,7 +3,7 @@
 ghost use Rattle.std.specs.Prelude.{◌≡◌, ◌≢◌, ◌++◌, IfOk, Ok, Some, None, option_map};
 ghost use Rattle.std.specs.Option.{option_to_list};
 ghost use Rattle.line_graph.specs.Outcome.{graph_outcome};
-ghost use Rattle.map_faults.specs.declared.fault.CheckFault.TheVariants as fault;
+ghost use Rattle.map_faults.specs.declared.fault.CheckFault.TheVariants as refuted;
 ghost use Rattle.graph_maps.specs.Making.{bytes_of};
 ghost use Rattle.graph_maps.specs.Checking.{Gives};
 ghost use Rattle.command_paths.specs.Paths.{new_paths_by, paths_by};
@@ -117,7 +117,7 @@ fn page_to(alloc: Global, path: &str, poster: &[u8]) -> Result<Option<Output>, N
 
 /// No output where a poster is refused.
 fn unless_no_memory(fault: CheckFault) -> Result<Option<Output>, NoMemory>
-    ensures { IfOk result (λ output. (output ≡ None) × (fault ≢ fault.NoMemory)) }
+    ensures { IfOk result (λ output. (output ≡ None) × (fault ≢ refuted.NoMemory)) }
 {
     match fault {
         CheckFault::NoMemory => Err(NoMemory),

@@ -46,17 +46,17 @@ module _ (feed : Feed) (choices : Choices) (claim : Claim) (graph : GraphParts) 
   poster_there : (svg : List ℕ) (c : PlainCertificate) (read : Result PlainCertificate ℕ) (proved : Proved) → read ≡ Ok c
       → pictured svg (checked_text feed choices claim graph read) ≡ Ok proved
       → postered_items feed choices claim graph read ≡ Ok (postered_by feed graph c)
-  poster_there svg c read proved is yes =
+  poster_there svg c read proved is passed =
       ap (postered_items feed choices claim graph) is ∙ posters (Ok c)
       ∙ by (accepted (Ok c)) refl
       (sym (ap (λ (r : Result PlainCertificate ℕ). pictured svg (checked_text feed choices claim graph r)) is
-      ∙ ap (pictured svg) (checks (Ok c))) ∙ yes)
+      ∙ ap (pictured svg) (checks (Ok c))) ∙ passed)
     where
       by : (r : Result PlainCertificate CheckFault) → accepted (Ok c) ≡ r
           → pictured svg (made_of due r) ≡ Ok proved
           → made_of (postered_by feed graph) r ≡ Ok (postered_by feed graph c)
-      by (Ok x) was yes = ap (made_of (postered_by feed graph)) (sym (given c (Ok x) was))
-      by (Err stop) was yes = cc
+      by (Ok x) was passed = ap (made_of (postered_by feed graph)) (sym (given c (Ok x) was))
+      by (Err stop) was passed = cc
 
 -- the poster of what is made, by what its certificate is read as
 pub made_poster : (feed : Feed) (choices : Choices) (claim : Claim) (made : MapBytes) (is : IsMade feed choices claim made)
@@ -66,10 +66,10 @@ pub made_poster : (feed : Feed) (choices : Choices) (claim : Claim) (made : MapB
 made_poster feed choices claim made is read =
     let graph = is.certified.graph in
     let text = certificate_in made.certificate in
-    let yes = sym (ap (λ (o : Result GraphParts Limit). pictured made.svg (checked_on feed choices claim text o))
+    let passed = sym (ap (λ (o : Result GraphParts Limit). pictured made.svg (checked_on feed choices claim text o))
     is.certified.of_feed) ∙ is.accepted in (
       postered_by feed graph is.certified.certificate,
       ap (poster_on feed choices claim text) is.certified.of_feed
-          ∙ poster_there feed choices claim graph made.svg is.certified.certificate text is.proved read yes,
+          ∙ poster_there feed choices claim graph made.svg is.certified.certificate text is.proved read passed,
       record { picture = made.svg; proved = is.proved; certified = is.certified; postered = refl },
     )
