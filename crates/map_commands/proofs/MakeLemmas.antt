@@ -1,5 +1,5 @@
 -- What `make` promises, and how many steps it takes.
-use Rattle.std.proofs.Common.{◌≡◌, ◌≢◌, ◌≤◌, ◌+◌, ◌++◌, ◌∙◌, ap, refl, ℕ, inl, inr, List, [], Option, Some, Result, Ok, Err, IfOk, sym, subst}
+use Rattle.std.proofs.Common.{◌≡◌, ◌≢◌, ◌≤◌, ◌+◌, ◌++◌, ◌∙◌, ap, refl, ℕ, inr, List, [], Option, Some, Result, Ok, Err, IfOk, sym}
 use Rattle.map_base.specs.declared.limit.Limit.{Limit}
 use Rattle.map_base.specs.declared.limit_fault.LimitFault.{LimitFault}
 use Rattle.map_base.specs.declared.limit_fault.LimitFault.TheVariants as limit
@@ -21,7 +21,7 @@ use Rattle.map_engine.specs.Postering.{poster_on, IsPoster}
 use Rattle.command_inputs.specs.declared.loaded.Loaded.{Loaded}
 use Rattle.run_status.specs.declared.refusal.Refusal.{Refusal}
 use Rattle.run_status.specs.Refusals.{of_limit}
-use Rattle.command_paths.specs.Paths.{Chosen, NewPaths}
+use Rattle.command_paths.specs.Paths.{NewPaths}
 use Rattle.command_inputs.specs.Inputs.{InputPaths, input_at}
 use Rattle.map_commands.specs.MapWorks.{made_at, map_outputs, new_outputs, page_output, poster_by, poster_due}
 use Rattle.command_inputs.specs.Loading.{load_work}

@@ -10,8 +10,8 @@ use Rattle.map_faults.specs.declared.fault.CheckFault.{CheckFault}
 use Rattle.graph_maps.specs.declared.checked.Proved.{Proved}
 use Rattle.graph_maps.specs.Making.{MapBytes}
 use Rattle.graph_maps.specs.Readings.{certificate_in}
-use Rattle.graph_maps.specs.Checking.{AcceptedMap, PlainChecked, accepted_text, due_of, held_by, pictured}
-use Rattle.graph_maps.proofs.Accepted.{accepted_made, made_of, text_made}
+use Rattle.graph_maps.specs.Checking.{PlainChecked, accepted_text, due_of, held_by, pictured}
+use Rattle.graph_maps.proofs.Accepted.{made_of, text_made}
 use Rattle.map_engine.specs.Tables.{importance_by, names_by}
 use Rattle.map_engine.specs.Checking.{checked_on, checked_text}
 use Rattle.map_engine.specs.Postering.{poster_on, poster_outcome, postered_by, postered_items, IsPoster}
