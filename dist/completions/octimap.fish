@@ -55,7 +55,7 @@ complete -c octimap -n '__octimap_in map' -s q -l quiet -d 'Leave out the lines 
 complete -c octimap -n '__octimap_in map' -l settings -r -F -d 'A file of settings in TOML, such as examples/settings.toml'
 complete -c octimap -n '__octimap_in map' -l set -r -d 'A key of the settings in place of that of the file, as often as wanted, such as near=400'
 complete -c octimap -n '__octimap_in map' -l edits -r -F -d 'A file of edits, one a line, such as examples/edits.txt; they are done to the tables and settings first'
-complete -c octimap -n '__octimap_in map' -l page -r -a '(__octimap_files html)' -d 'The file that a page of the map is written to, for a browser'
+complete -c octimap -n '__octimap_in map' -l page -r -a '(__octimap_files html)' -d 'The file that a page of the poster is written to, for a browser'
 complete -c octimap -n '__octimap_at map 1' -a '(__fish_complete_directories (commandline -ct))'
 complete -c octimap -n '__octimap_at map 2' -a '(__octimap_files svg)'
 complete -c octimap -n '__octimap_at map 3' -F
@@ -63,7 +63,7 @@ complete -c octimap -n '__octimap_in make' -s q -l quiet -d 'Leave out the lines
 complete -c octimap -n '__octimap_in make' -l settings -r -F -d 'A file of settings in TOML, such as examples/settings.toml'
 complete -c octimap -n '__octimap_in make' -l set -r -d 'A key of the settings in place of that of the file, as often as wanted, such as near=400'
 complete -c octimap -n '__octimap_in make' -l edits -r -F -d 'A file of edits, one a line, such as examples/edits.txt; they are done to the tables and settings first'
-complete -c octimap -n '__octimap_in make' -l page -r -a '(__octimap_files html)' -d 'The file that a page of the map is written to, for a browser'
+complete -c octimap -n '__octimap_in make' -l page -r -a '(__octimap_files html)' -d 'The file that a page of the poster is written to, for a browser'
 complete -c octimap -n '__octimap_at make 1' -a '(__fish_complete_directories (commandline -ct))'
 complete -c octimap -n '__octimap_at make 2' -a '(__octimap_files svg)'
 complete -c octimap -n '__octimap_at make 3' -F

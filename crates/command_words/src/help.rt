@@ -194,7 +194,7 @@ pub(crate) const NEW_SVG: &str = "The file that the map is written to";
 
 pub(crate) const NEW_CERT: &str = "The file that the certificate is written to";
 
-pub(crate) const NEW_PAGE: &str = "The file that a page of the map is written to, for a browser";
+pub(crate) const NEW_PAGE: &str = "The file that a page of the poster is written to, for a browser";
 
 pub(crate) const MOVES: &str = "How many moves there may be, from 0 to 10000";
 

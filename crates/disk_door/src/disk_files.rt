@@ -5,11 +5,12 @@ ghost use Rattle.std.specs.Prelude.{◌≡◌, [], Some};
 use crate::failures::{stop_of, unopened};
 use crate::retries::read_once;
 use files_door::{Files, Stop};
-use map_base::Progress;
+use map_base::{Progress, Stage};
 use std::alloc::Global;
 use std::fs::File;
 use std::rt;
 use std::sync::Arc;
+use std::sync::atomic::{AtomicBool, Ordering};
 
 /// The files of the disk. Nothing is told of what they hold. The count rises at each error of the system
 /// that is answered as a failure.
@@ -19,6 +20,7 @@ pub struct DiskFiles<R: rt::Files> {
     begun: Option<R::File>,
     failures: u64,
     watched: Option<Arc<Progress, Global>>,
+    is_telling: AtomicBool,
 }
 
 impl<R: rt::Files> DiskFiles<R> {
@@ -30,7 +32,8 @@ impl<R: rt::Files> DiskFiles<R> {
         DiskFiles::watched(rt, None)
     }
 
-    /// The same; where somebody watches the run, each read tells how far it is.
+    /// The same; where somebody watches the run, each read tells how far it is, and where a run does not tell what it is
+    /// at, that it reads, from the beginning of each file to its end.
     pub fn watched(rt: R, watched: Option<Arc<Progress, Global>>) -> DiskFiles<R>
         ensures none_begun { ⟦<DiskFiles<R> as Files>⟧.rest result ≡ Some [] }
         ensures count { ⟦<DiskFiles<R> as Files>⟧.faults result ≡ 0 }
@@ -40,6 +43,7 @@ impl<R: rt::Files> DiskFiles<R> {
             begun: None,
             failures: 0,
             watched,
+            is_telling: AtomicBool::new(false),
         }
     }
 
@@ -47,6 +51,25 @@ impl<R: rt::Files> DiskFiles<R> {
     fn tell(&self) {
         if let Some(progress) = &self.watched {
             progress.look();
+        }
+    }
+
+    /// Tells that a file is read, unless the run told what it is at.
+    fn tell_begun(&self) {
+        if let Some(progress) = &self.watched {
+            if let Stage::Working = progress.stage() {
+                self.is_telling.store(true, Ordering::Relaxed);
+                progress.enter(Stage::Reading);
+            }
+        }
+    }
+
+    /// Tells that the run works again where a read took nothing: the file is at its end.
+    fn tell_taken(&self, count: usize) {
+        if let Some(progress) = &self.watched {
+            if count == 0 && self.is_telling.swap(false, Ordering::Relaxed) {
+                progress.enter(Stage::Working);
+            }
         }
     }
 }
@@ -65,6 +88,7 @@ impl<R: rt::Files> Files for DiskFiles<R> {
         match File::open(&self.rt, path) {
             Ok(file) => {
                 self.begun = Some(file);
+                self.tell_begun();
                 Ok(true)
             }
             Err(error) => unopened(&mut self.failures, &error),
@@ -77,7 +101,10 @@ impl<R: rt::Files> Files for DiskFiles<R> {
             return Ok(0);
         };
         match read_once(file, into) {
-            Ok(count) => Ok(count),
+            Ok(count) => {
+                self.tell_taken(count);
+                Ok(count)
+            }
             Err(error) => {
                 self.begun = None;
                 Err(stop_of(&mut self.failures, &error))

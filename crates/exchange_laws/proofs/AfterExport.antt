@@ -47,7 +47,7 @@ abbrev written_as : List ℕ → Loaded → Result (List Output) Refusal
 written_as out loaded = exported loaded out (graph_outcome loaded.settings.near loaded.tables)
 
 abbrev made_as : NewPaths → Loaded → Result (List Output) Refusal
-made_as paths loaded = made_at paths (make_outcome loaded.tables loaded.settings loaded.method)
+made_as paths loaded = made_at paths loaded (make_outcome loaded.tables loaded.settings loaded.method)
 
 module _ (chosen : Chosen) (given : Input → Option (List ℕ)) where
   export_is : (out : List ℕ) → outcome (export_work chosen out) given ≡ followed (outcome (load_work chosen) given) (written_as out)
@@ -66,7 +66,7 @@ module _ (chosen : Chosen) (given : Input → Option (List ℕ)) where
           → exported loaded out o ≡ Err why → made_as paths loaded ≡ Err why
       by_graph loaded (Ok graph) found e = cc
       by_graph loaded (Err limit) found e =
-          ap (λ (o : Result GraphParts Limit). made_at paths (if_solved (solved_map (subject_of loaded.tables loaded.settings))
+          ap (λ (o : Result GraphParts Limit). made_at paths loaded (if_solved (solved_map (subject_of loaded.tables loaded.settings))
           (solved_of loaded.settings loaded.method
           (over_graph (λ g. drawn_on (importance_by loaded.tables loaded.settings) loaded.settings loaded.method g) o)))) found
           ∙ e
@@ -92,7 +92,7 @@ module _ (chosen : Chosen) (given : Input → Option (List ℕ)) where
     made_here paths = make_is paths ∙ ap (λ (r : Result Loaded Refusal). followed r (made_as paths)) loads
 
     -- the same files without a page
-    without_page : (paths : MapPaths) (r : Result MapBytes MakeFault) → map_at paths r ≡ made_at (no_page paths) r
+    without_page : (paths : MapPaths) (r : Result MapBytes MakeFault) → map_at paths r ≡ made_at (no_page paths) loaded r
     without_page paths (Ok made) = refl
     without_page paths (Err fault) = refl
 

@@ -6,7 +6,7 @@ use std::time::Instant;
 /// What a run is at.
 #[derive(Clone, Copy, PartialEq, Eq)]
 pub enum Stage {
-    /// It works, and does not tell on what.
+    /// It works, and does not tell on what: a run that has read a file, or reads none.
     Working,
     /// It reads what it works on.
     Reading,
@@ -102,7 +102,8 @@ impl Progress {
             Stage::LineGraph => "making the line graph",
             Stage::Drawing => "drawing the line graph",
             Stage::Orders => return self.show_part(rt),
-            Stage::Working | Stage::Ended => return,
+            Stage::Working => "working",
+            Stage::Ended => return,
         };
         let _not_shown = eprint!(rt; "\r\x1b[Koctimap: {stage}");
         self.is_shown.store(true, Ordering::Relaxed);
@@ -113,8 +114,9 @@ impl Progress {
         let (part, parts) = self.part();
         let number = part.saturating_add(1);
         let branches = self.branches();
+        let nodes = if branches == 1 { "node" } else { "nodes" };
         let _not_shown = eprint!(rt;
-            "\r\x1b[Koctimap: line orders, part {number} of {parts}, {branches} branch nodes"
+            "\r\x1b[Koctimap: line orders, part {number} of {parts}, {branches} branch {nodes}"
         );
         self.is_shown.store(true, Ordering::Relaxed);
     }

@@ -12,6 +12,7 @@ use Rattle.map_engine.specs.Making.{make_outcome}
 use Rattle.graph_maps.specs.Readings.{certificate_in}
 use Rattle.graph_maps.specs.Checking.{PlainChecked, pictured}
 use Rattle.map_engine.specs.Checking.{checked_text}
+use Rattle.map_engine.specs.Postering.{poster_outcome, postered_items}
 use Rattle.files_door.specs.declared.target.Target.TheVariants.{Path}
 use Rattle.command_run.specs.declared.output.Output.{Output}
 use Rattle.command_run.specs.Work.{Work, ends, ◌>>=◌}
@@ -32,14 +33,23 @@ abbrev pub map_outputs : MapPaths → MapBytes → List Output
 map_outputs paths made =
     record { to = Path paths.picture; bytes = made.svg } ∷ record { to = Path paths.certificate; bytes = made.certificate } ∷ []
 
--- the page of a map goes to its file, if one is named
-abbrev pub page_output : Option (List ℕ) → List ℕ → List Output
-page_output None svg = []
-page_output (Some path) svg = record { to = Path path; bytes = page_bytes svg } ∷ []
+-- the poster of what is made, by its certificate; what is made always has one
+abbrev pub poster_due : Loaded → MapBytes → Result (List ℕ) CheckFault
+poster_due loaded made = poster_outcome loaded.tables loaded.settings loaded.method.claim (certificate_in made.certificate)
 
--- a new map and its certificate go to their files, and then its page
-abbrev pub new_outputs : NewPaths → MapBytes → List Output
-new_outputs paths made = map_outputs paths.map made ++ page_output paths.page made.svg
+-- the same by the line graph
+abbrev pub poster_by : Loaded → GraphParts → List ℕ → Result (List ℕ) CheckFault
+poster_by loaded graph certificate = postered_items loaded.tables loaded.settings loaded.method.claim graph (certificate_in certificate)
+
+-- the page of a poster goes to its file, if one is named
+abbrev pub page_output : Option (List ℕ) → Result (List ℕ) CheckFault → List Output
+page_output None poster = []
+page_output (Some path) (Ok poster) = record { to = Path path; bytes = page_bytes poster } ∷ []
+page_output (Some path) (Err fault) = []
+
+-- a new map and its certificate go to their files, and then the page of its poster
+abbrev pub new_outputs : NewPaths → Result (List ℕ) CheckFault → MapBytes → List Output
+new_outputs paths poster made = map_outputs paths.map made ++ page_output paths.page poster
 
 -- what `check` prints of a map that is accepted: that its orders are best, where the bound is what they cost, else both
 abbrev pub best_line : ℕ → List ℕ
@@ -52,15 +62,15 @@ abbrev pub proved_line : Proved → List ℕ
 proved_line proved = if proved.bound == proved.cost then best_line proved.cost else bound_line proved.cost proved.bound
 
 -- the files of a map that is made, or why there is none
-abbrev pub made_at : NewPaths → Result MapBytes MakeFault → Result (List Output) Refusal
-made_at paths (Ok made) = Ok (new_outputs paths made)
-made_at paths (Err fault) = Err (of_make fault)
+abbrev pub made_at : NewPaths → Loaded → Result MapBytes MakeFault → Result (List Output) Refusal
+made_at paths loaded (Ok made) = Ok (new_outputs paths (poster_due loaded made) made)
+made_at paths loaded (Err fault) = Err (of_make fault)
 
--- `make`: the map of the feed is made, its certificate, and its page where one is named
+-- `make`: the map of the feed is made, its certificate, and the page of its poster where one is named
 abbrev pub make_work : Chosen → NewPaths → Work Input Refusal (List Output)
 make_work chosen paths = do
   loaded ← load_work chosen
-  ends (made_at paths (make_outcome loaded.tables loaded.settings loaded.method))
+  ends (made_at paths loaded (make_outcome loaded.tables loaded.settings loaded.method))
 
 -- what a check gives, or the item that it refuses
 abbrev pub checked_as : {A : Type 0} → Result A CheckFault → Result A Refusal

@@ -8,7 +8,7 @@ ghost use Rattle.map_engine.specs.Keeping.{branches_left};
 ghost use Rattle.map_engine.specs.Promises.{IsMade};
 ghost use Rattle.command_paths.specs.Paths.{new_paths_by};
 ghost use Rattle.command_inputs.specs.Inputs.{input_at, inputs_by};
-ghost use Rattle.map_commands.specs.MapWorks.{made_at, make_work, new_outputs};
+ghost use Rattle.map_commands.specs.MapWorks.{made_at, make_work, new_outputs, poster_due};
 ghost use Rattle.run_status.specs.Following.{Follows, Gives};
 ghost use Rattle.map_commands.specs.Promises.{AreOfMap, SearchesParts};
 
@@ -17,13 +17,14 @@ use command_inputs::{Inputs, Loaded, load};
 use command_paths::NewFiles;
 use command_run::Output;
 use files_door::Files;
+use line_graph::build;
 use map_base::{Sequence, Stage, Steps};
-use map_engine::{Kept, make};
+use map_engine::{Kept, make_on_graph, what_is_made_has_its_poster};
 use run_status::Refusal;
 use std::alloc::Global;
 use std::sync::ledger::Ledger;
 
-/// Makes the map of a command's feed, its certificate, and its page where one is named.
+/// Makes the map of a command's feed, its certificate, and the page of its poster where one is named.
 pub fn make_map<F: Files, L: Ledger>(
     alloc: Global,
     inputs: &Inputs<'_>,
@@ -36,6 +37,7 @@ pub fn make_map<F: Files, L: Ledger>(
     ensures keeps { IfOk result (AreOfMap (F.told files.old) (inputs_by inputs.now) (new_paths_by new_files.now)) }
     ensures steps { SearchesParts (F.told files.old) (inputs_by inputs.now) steps.old steps.new }
 {
+    what_is_made_has_its_poster();
     steps.enter(Stage::Reading);
     let loaded = load(alloc, inputs, files)?;
     map_of(alloc, &loaded, new_files, steps)
@@ -49,20 +51,24 @@ fn map_of<L: Ledger>(
     steps: &mut Steps<L>,
 ) -> Result<Sequence<Output>, Refusal>
     ensures given { Gives (λ outputs. outputs) result
-        (made_at (new_paths_by new_files.now) (make_outcome loaded.now.tables loaded.now.settings loaded.now.method)) }
+        (made_at (new_paths_by new_files.now) loaded.now (make_outcome loaded.now.tables loaded.now.settings loaded.now.method)) }
     ensures made { IfOk result (λ outputs. (made : MapBytes)
         × (make_outcome loaded.now.tables loaded.now.settings loaded.now.method ≡ Ok made) × IsMade loaded.now.tables loaded.now.settings loaded.now.method.claim made
-        × (outputs ≡ new_outputs (new_paths_by new_files.now) made)) }
+        × (outputs ≡ new_outputs (new_paths_by new_files.now) (poster_due loaded.now made) made)) }
     ensures steps { steps.new ≤ steps.old + branches_left [] loaded.now.tables loaded.now.settings loaded.now.method }
 {
+    steps.enter(Stage::LineGraph);
+    let (tables, settings) = (&loaded.tables, &loaded.settings);
+    let graph = build(alloc, tables, settings)?;
     let mut kept = Kept::none(alloc);
-    let made = make(
+    let made = make_on_graph(
         alloc,
-        &loaded.tables,
-        &loaded.settings,
+        tables,
+        settings,
         &loaded.method,
+        &graph,
         &mut kept,
         steps,
     )?;
-    Ok(write_new(alloc, new_files, made)?)
+    Ok(write_new(alloc, loaded, &graph, new_files, made)?)
 }

@@ -1,2 +1,3 @@
 mod ImportanceLemmas
 mod FeedMaps
+mod MadePosters

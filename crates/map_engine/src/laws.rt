@@ -1,18 +1,24 @@
-//! What definitions come to, as laws: of what is kept from map to map, of moves, and of the line graph.
+//! What definitions come to, as laws: of what is kept from map to map, of moves, of the line graph, and of posters.
 
 ghost use Rattle.std.specs.Prelude.{◌≡◌, ℕ, List, Ok, All, Contains};
 ghost use Rattle.map_base.specs.Settings.{Choices};
 ghost use Rattle.map_method.specs.Methods.{MethodChoices};
+ghost use Rattle.map_method.specs.declared.claim.Claim.{Claim};
 ghost use Rattle.transit_feed.specs.Feeds.{Feed};
 ghost use Rattle.graph_core.specs.declared.parts.GraphParts.{GraphParts};
 ghost use Rattle.line_graph.specs.Outcome.{graph_outcome};
 ghost use Rattle.kept_trees.specs.OwnTrees.{HeldPart};
 ghost use Rattle.graph_maps.specs.Making.{MapBytes, made_on};
+ghost use Rattle.graph_maps.specs.Readings.{certificate_in};
 ghost use Rattle.graph_maps.specs.Improving.{ImprovedBytes};
 ghost use Rattle.map_engine.specs.Tables.{subject_of};
 ghost use Rattle.map_engine.specs.Keeping.{finished_parts, branches_left};
 ghost use Rattle.map_engine.specs.Making.{make_outcome};
 ghost use Rattle.map_engine.specs.Improving.{improve_outcome};
+ghost use Rattle.map_engine.specs.Postering.{poster_outcome, IsPoster};
+ghost use Rattle.map_engine.specs.Promises.{IsMade};
+
+use graph_maps::each_certificate_is_read_from_its_text;
 
 /// Where the map of a feed is made, and each part that was finished is held since, no branch node is left to search. So
 /// a map that is made again with what was kept takes no step.
@@ -35,3 +41,12 @@ pub fn maps_are_made_of_the_line_graph()
         → graph_outcome choices.near feed ≡ Ok graph
         → make_outcome feed choices method ≡ made_on (subject_of feed choices) choices method graph }
 {}
+
+/// What is made has its poster: the one by its certificate is never refused, and shows the walks and the orders of that.
+pub fn what_is_made_has_its_poster()
+    ensures { (feed : Feed) (choices : Choices) (claim : Claim) (made : MapBytes) → IsMade feed choices claim made
+        → (poster : List ℕ) × (poster_outcome feed choices claim (certificate_in made.certificate) ≡ Ok poster)
+        × IsPoster feed choices claim poster made.certificate }
+{
+    each_certificate_is_read_from_its_text();
+}

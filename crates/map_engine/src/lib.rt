@@ -25,9 +25,9 @@ pub use kept_trees::Kept;
 pub use labelled::{labels, labels_on_graph};
 pub use laws::{
     maps_are_made_of_the_line_graph, moves_follow_routes_or_come_later,
-    what_was_made_is_not_searched_again,
+    what_is_made_has_its_poster, what_was_made_is_not_searched_again,
 };
-pub use making::{make, make_again, make_improved};
+pub use making::{make, make_again, make_improved, make_on_graph};
 pub use map_faults::{CheckFault, CheckItem, MakeFault};
 pub use names::names_of;
 pub use postered::{poster, poster_on_graph};

@@ -1,6 +1,8 @@
 //! The map of a feed and its certificate.
 
-ghost use Rattle.std.specs.Prelude.{◌≤◌, ◌+◌, All, Contains, IfOk};
+ghost use Rattle.std.specs.Prelude.{◌≡◌, ◌≤◌, ◌+◌, All, Contains, IfOk, Ok};
+ghost use Rattle.line_graph.specs.Outcome.{graph_outcome};
+ghost use Rattle.line_graph.specs.Rides.{KeepsLines};
 ghost use Rattle.graph_maps.specs.Making.{bytes_of, Gives};
 ghost use Rattle.graph_maps.specs.Improving.{improved_bytes};
 ghost use Rattle.graph_maps.specs.Keeping.{HoldsFinished};
@@ -11,9 +13,11 @@ ghost use Rattle.map_engine.specs.Promises.{IsMade};
 
 use crate::importance::line_numbers;
 use crate::names::names_of;
+use graph_core::LineGraph;
 use graph_maps::{ImprovedMap, Made, make_improved_from};
 use kept_drawing::LastDrawing;
 use kept_trees::Kept;
+use kept_walks::KeptWalks;
 use map_base::{Settings, Stage, Steps};
 use map_faults::MakeFault;
 use map_method::Method;
@@ -129,17 +133,76 @@ fn make_with<L: Ledger>(
 {
     steps.enter(Stage::LineGraph);
     let graph = last.graph.build(alloc, tables, settings)?;
+    improved_on_graph(
+        alloc,
+        tables,
+        settings,
+        method,
+        moves,
+        &graph,
+        &mut last.walks,
+        kept,
+        steps,
+    )
+}
+
+/// What `make` makes, by the line graph of the tables, where that is known.
+pub fn make_on_graph<L: Ledger>(
+    alloc: Global,
+    tables: &Tables,
+    settings: &Settings,
+    method: &Method,
+    graph: &LineGraph,
+    kept: &mut Kept,
+    steps: &mut Steps<L>,
+) -> Result<Made, MakeFault>
+    requires graph { graph_outcome settings.now.near tables.now ≡ Ok graph.now }
+    requires kept { KeepsLines settings.now.near tables.now graph.now }
+    ensures outcome { Gives bytes_of result (make_outcome tables.now settings.now method.now) }
+    ensures made { IfOk result (λ made. IsMade tables.now settings.now method.now.claim (bytes_of made)) }
+    ensures kept { All (Contains kept.new) kept.old }
+    ensures finished { HoldsFinished result (finished_parts tables.now settings.now method.now) kept.new }
+    ensures steps { steps.new ≤ steps.old + branches_left kept.old tables.now settings.now method.now }
+{
+    let mut walks = KeptWalks::never();
+    let improved = improved_on_graph(
+        alloc, tables, settings, method, 0, graph, &mut walks, kept, steps,
+    )?;
+    Ok(improved.map)
+}
+
+/// The improved map by the line graph of the tables, over what was drawn last.
+fn improved_on_graph<L: Ledger>(
+    alloc: Global,
+    tables: &Tables,
+    settings: &Settings,
+    method: &Method,
+    moves: u32,
+    graph: &LineGraph,
+    last: &mut KeptWalks,
+    kept: &mut Kept,
+    steps: &mut Steps<L>,
+) -> Result<ImprovedMap, MakeFault>
+    requires graph { graph_outcome settings.now.near tables.now ≡ Ok graph.now }
+    requires kept { KeepsLines settings.now.near tables.now graph.now }
+    ensures outcome { Gives improved_bytes result (improve_outcome tables.now settings.now method.now moves) }
+    ensures improved { IfOk result (λ improved. IsImprovedMap tables.now settings.now method.now moves
+        (improved_bytes improved)) }
+    ensures kept { All (Contains kept.new) kept.old }
+    ensures finished { HoldsFinished result (finished_parts tables.now settings.now method.now) kept.new }
+    ensures steps { steps.new ≤ steps.old + branches_left kept.old tables.now settings.now method.now }
+{
     let names = names_of(alloc, tables)?;
     let importance = line_numbers(alloc, tables, settings)?;
     make_improved_from(
         alloc,
-        &graph,
+        graph,
         &names,
         importance.as_slice(),
         settings,
         method,
         moves,
-        &mut last.walks,
+        last,
         kept,
         steps,
     )

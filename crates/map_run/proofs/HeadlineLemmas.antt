@@ -68,26 +68,26 @@ not_this : (same : Bool) (bytes : List ℕ) (before : Option (List ℕ)) → sam
 not_this true bytes before e = absurd (cc)
 not_this false bytes before e = refl
 
-new_map_held : (paths : MapPaths) (page : Option (List ℕ)) (made : MapBytes) (held : Option (List ℕ)) → AreNewApart (record { map = paths; page = page })
-    → held_after (Path paths.picture) (map_outputs paths made ++ page_output page made.svg) held ≡ Some made.svg
-new_map_held paths None made held apart = map_held paths made held apart.0
-new_map_held paths (Some path) made held apart =
-    not_this (bytes_eq path paths.picture) (page_bytes made.svg) (held_after (Path paths.picture) (map_outputs paths made) held) apart.1.0 ∙ map_held paths made held apart.0
+new_map_held : (paths : MapPaths) (page : Option (List ℕ)) (poster : List ℕ) (made : MapBytes) (held : Option (List ℕ)) → AreNewApart (record { map = paths; page = page })
+    → held_after (Path paths.picture) (map_outputs paths made ++ page_output page (Ok poster)) held ≡ Some made.svg
+new_map_held paths None poster made held apart = map_held paths made held apart.0
+new_map_held paths (Some path) poster made held apart =
+    not_this (bytes_eq path paths.picture) (page_bytes poster) (held_after (Path paths.picture) (map_outputs paths made) held) apart.1.0 ∙ map_held paths made held apart.0
 
-new_certificate_held : (paths : MapPaths) (page : Option (List ℕ)) (made : MapBytes) (held : Option (List ℕ)) → AreNewApart (record { map = paths; page = page })
-    → held_after (Path paths.certificate) (map_outputs paths made ++ page_output page made.svg) held ≡ Some made.certificate
-new_certificate_held paths None made held apart = certificate_held paths made held
-new_certificate_held paths (Some path) made held apart =
-    not_this (bytes_eq path paths.certificate) (page_bytes made.svg) (held_after (Path paths.certificate) (map_outputs paths made) held) apart.1.1 ∙ certificate_held paths made held
+new_certificate_held : (paths : MapPaths) (page : Option (List ℕ)) (poster : List ℕ) (made : MapBytes) (held : Option (List ℕ)) → AreNewApart (record { map = paths; page = page })
+    → held_after (Path paths.certificate) (map_outputs paths made ++ page_output page (Ok poster)) held ≡ Some made.certificate
+new_certificate_held paths None poster made held apart = certificate_held paths made held
+new_certificate_held paths (Some path) poster made held apart =
+    not_this (bytes_eq path paths.certificate) (page_bytes poster) (held_after (Path paths.certificate) (map_outputs paths made) held) apart.1.1 ∙ certificate_held paths made held
 
-new_page_held : (paths : MapPaths) (page : Option (List ℕ)) (made : MapBytes) (old new : Written)
-    → ((target : Target) → held_by target new ≡ held_after target (map_outputs paths made ++ page_output page made.svg) (held_by target old))
-    → IfSome page (λ path. held_by (Path path) new ≡ Some (page_bytes made.svg))
-new_page_held paths None made old new holds = tt
-new_page_held paths (Some path) made old new holds =
+new_page_held : (paths : MapPaths) (page : Option (List ℕ)) (poster : List ℕ) (made : MapBytes) (old new : Written)
+    → ((target : Target) → held_by target new ≡ held_after target (map_outputs paths made ++ page_output page (Ok poster)) (held_by target old))
+    → IfSome page (λ path. held_by (Path path) new ≡ Some (page_bytes poster))
+new_page_held paths None poster made old new holds = tt
+new_page_held paths (Some path) poster made old new holds =
     holds (Path path) ∙ by_test (bytes_eq path path) (held_after (Path path) (map_outputs paths made) (held_by (Path path) old)) ((bytes_eq-Decides path path).1 refl)
   where
-    by_test : (same : Bool) (before : Option (List ℕ)) → same ≡ true → (if same then Some ([] ++ page_bytes made.svg) else before) ≡ Some (page_bytes made.svg)
+    by_test : (same : Bool) (before : Option (List ℕ)) → same ≡ true → (if same then Some ([] ++ page_bytes poster) else before) ≡ Some (page_bytes poster)
     by_test true before e = refl
     by_test false before e = absurd (cc)
 
@@ -147,9 +147,12 @@ means told (make feed paths chosen) finished old new apart promised none holds =
       made = promised.made;
       defined = promised.defined;
       is_made = promised.is_made;
-      map = has (Path paths.map.picture) ∙ new_map_held paths.map paths.page promised.made (held_by (Path paths.map.picture) old) apart;
-      certificate = has (Path paths.map.certificate) ∙ new_certificate_held paths.map paths.page promised.made (held_by (Path paths.map.certificate) old) apart;
-      page = new_page_held paths.map paths.page promised.made old new has;
+      map = has (Path paths.map.picture) ∙ new_map_held paths.map paths.page promised.poster promised.made (held_by (Path paths.map.picture) old) apart;
+      certificate = has (Path paths.map.certificate) ∙ new_certificate_held paths.map paths.page promised.poster promised.made (held_by (Path paths.map.certificate) old) apart;
+      poster = promised.poster;
+      postered = promised.postered;
+      is_poster = promised.is_poster;
+      page = new_page_held paths.map paths.page promised.poster promised.made old new has;
     }
 means told (improve feed paths moves chosen) finished old new apart promised none holds =
     let has = subst (λ (o : List Output). Holds o old new) promised.are holds in

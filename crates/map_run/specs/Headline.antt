@@ -13,6 +13,7 @@ use Rattle.table_rows.specs.Folder.{path_in}
 use Rattle.graph_maps.specs.Making.{MapBytes}
 use Rattle.map_engine.specs.Making.{make_outcome}
 use Rattle.map_engine.specs.Promises.{IsMade}
+use Rattle.map_engine.specs.Postering.{IsPoster}
 use Rattle.graph_maps.specs.Improving.{ImprovedBytes}
 use Rattle.map_engine.specs.Improving.{improve_outcome, IsImprovedMap}
 use Rattle.command_paths.specs.declared.picture.Picture.{Picture}
@@ -24,7 +25,7 @@ use Rattle.command_inputs.specs.declared.loaded.Loaded.{Loaded}
 use Rattle.command_words.specs.Asked.{Asked, stations, graph, make, improve, check, depict, session, trial, page, export, imported}
 use Rattle.command_paths.specs.Paths.{Chosen, MapPaths, NewPaths}
 use Rattle.map_page.specs.Pages.{page_bytes}
-use Rattle.map_commands.specs.MapWorks.{proved_line}
+use Rattle.map_commands.specs.MapWorks.{proved_line, poster_due}
 use Rattle.graph_maps.specs.declared.checked.Proved.{Proved}
 use Rattle.improve_command.specs.ImproveWorks.{improved_line}
 use Rattle.command_inputs.specs.Loading.{Loads}
@@ -40,8 +41,8 @@ use Rattle.map_commands.specs.Promises.{IsAccepted}
 
 -- The map of a feed is written, and its certificate: those that are defined for the feed's tables. The map shows exactly
 -- the line graph of these tables, in a legal drawing; no line orders cost less than the bound that the certificate proves, which
--- is the cost where best orders are claimed: the check says yes to both. The two files hold the two, and a third one the page
--- of the map, where it is named.
+-- is the cost where best orders are claimed: the check says yes to both. The two files hold the two, and a third one, where it
+-- is named, the page of the poster by this certificate.
 pub record IsMapWritten (told : Option (List (List ℕ × List ℕ))) (asked : Asked) (paths : NewPaths) (new : Written) : Type 0 where
   pub loaded : Loaded
   pub loads : Loads told (inputs_of asked) loaded
@@ -50,7 +51,10 @@ pub record IsMapWritten (told : Option (List (List ℕ × List ℕ))) (asked : A
   pub is_made : IsMade loaded.tables loaded.settings loaded.method.claim made
   pub map : held_by (Path paths.map.picture) new ≡ Some made.svg
   pub certificate : held_by (Path paths.map.certificate) new ≡ Some made.certificate
-  pub page : IfSome paths.page (λ path. held_by (Path path) new ≡ Some (page_bytes made.svg))
+  pub poster : List ℕ
+  pub postered : poster_due loaded made ≡ Ok poster
+  pub is_poster : IsPoster loaded.tables loaded.settings loaded.method.claim poster made.certificate
+  pub page : IfSome paths.page (λ path. held_by (Path path) new ≡ Some (page_bytes poster))
 
 -- The map of a feed is written after more moves on its drawing, and its certificate: those that are defined for the feed's
 -- tables. The map shows exactly the line graph of these tables, in a legal drawing that is no heavier than that of `make`; no

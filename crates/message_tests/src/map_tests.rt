@@ -4,14 +4,19 @@ use crate::told::{told, write_feed};
 use std::fs;
 use std::test::Fail;
 
+/// The lines for a map that shows nothing of a feed with one route, of type 401.
+const BLANK: &str = "\
+octimap: the map shows nothing: each route is of a type that is not drawn, has no trip, or is hidden
+octimap: the types of the routes (1 in routes.txt): 401; to draw them, add --set 'types=[401]'
+";
+
 #[test]
 fn a_blank_map_is_told_with_the_types_of_routes(rt: HostRuntime) -> Result<(), Fail> {
     write_feed(&rt, "blank", "401")?;
     let said = told(&rt, "make blank blank.svg blank.cert")?;
-    assert_eq!(rt;
-        said.as_str(),
-        "octimap: the map shows nothing: each route is of a type that is not drawn, has no trip, or is hidden\noctimap: the types of the routes (1 in routes.txt): 401; to draw them, add --set 'types=[401]'\n"
-    );
+    assert_eq!(rt; said.as_str(), BLANK);
+    let said = told(&rt, "poster blank blank.cert blank_poster.svg")?;
+    assert_eq!(rt; said.as_str(), BLANK);
     let said = told(&rt, "check blank blank.svg blank.svg")?;
     assert_eq!(rt;
         said.as_str(),
@@ -20,6 +25,7 @@ fn a_blank_map_is_told_with_the_types_of_routes(rt: HostRuntime) -> Result<(), F
     fs::remove_dir_all(&rt, "blank")?;
     fs::remove_file(&rt, "blank.svg")?;
     fs::remove_file(&rt, "blank.cert")?;
+    fs::remove_file(&rt, "blank_poster.svg")?;
     Ok(())
 }
 
@@ -52,7 +58,10 @@ fn a_poster_is_told_as_a_map_is(rt: HostRuntime) -> Result<(), Fail> {
     let said = told(&rt, "poster printed printed.cert poster.svg")?;
     assert_eq!(rt; said.as_str(), "");
     let said = told(&rt, "poster printed missing.cert poster.svg")?;
-    assert_eq!(rt; said.as_str(), "octimap: there is no file CERT\n");
+    assert_eq!(rt;
+        said.as_str(),
+        "octimap: there is no file \"missing.cert\"\n"
+    );
     let said = told(
         &rt,
         "poster --set types=[401] printed printed.cert poster.svg",

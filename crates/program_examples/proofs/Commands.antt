@@ -21,7 +21,8 @@ use Rattle.page_command.specs.PageWorks.{page_work}
 use Rattle.asked_inputs.specs.Inputs.{input_path}
 use Rattle.run_status.specs.Outputs.{said}
 use Rattle.table_commands.specs.TableWorks.{graph_work}
-use Rattle.map_commands.specs.MapWorks.{check_work, picture_work, made_at, best_line, bound_line, proved_line}
+use Rattle.command_inputs.specs.declared.loaded.Loaded.{Loaded}
+use Rattle.map_commands.specs.MapWorks.{check_work, picture_work, made_at, new_outputs, best_line, bound_line, proved_line}
 use Rattle.run_status.specs.Items.{item_text}
 use Rattle.run_status.specs.Lines.{status_line, status_number}
 
@@ -68,20 +69,20 @@ unfolding places
 picture_path = refl
 
 -- the map goes before its certificate, each to its file
-both_files : made_at new_places (Ok (record { svg = codes "s"; certificate = codes "c" })) ≡ Ok (record { to = Path (codes "map.svg"); bytes = codes "s" } ∷ record { to = Path (codes "map.cert"); bytes = codes "c" } ∷ [])
+both_files : (loaded : Loaded) → made_at new_places loaded (Ok (record { svg = codes "s"; certificate = codes "c" })) ≡ Ok (record { to = Path (codes "map.svg"); bytes = codes "s" } ∷ record { to = Path (codes "map.cert"); bytes = codes "c" } ∷ [])
 unfolding places new_places
-both_files = refl
+both_files loaded = refl
 
--- and then its page, where one is named
-page_too : made_at (record { map = places; page = Some (codes "map.html") }) (Ok (record { svg = codes "s"; certificate = codes "c" }))
-    ≡ Ok (record { to = Path (codes "map.svg"); bytes = codes "s" } ∷ record { to = Path (codes "map.cert"); bytes = codes "c" } ∷ record { to = Path (codes "map.html"); bytes = page_bytes (codes "s") } ∷ [])
+-- and then the page of its poster, where one is named
+page_too : new_outputs (record { map = places; page = Some (codes "map.html") }) (Ok (codes "p")) (record { svg = codes "s"; certificate = codes "c" })
+    ≡ record { to = Path (codes "map.svg"); bytes = codes "s" } ∷ record { to = Path (codes "map.cert"); bytes = codes "c" } ∷ record { to = Path (codes "map.html"); bytes = page_bytes (codes "p") } ∷ []
 unfolding places
 page_too = refl
 
 -- a part over the budget is named, with its branch nodes
-spent_part : made_at new_places (Err (fault.Spent 0 2)) ≡ Err (refused.Spent 0 2)
+spent_part : (loaded : Loaded) → made_at new_places loaded (Err (fault.Spent 0 2)) ≡ Err (refused.Spent 0 2)
 unfolding places new_places
-spent_part = refl
+spent_part loaded = refl
 
 spent_text : status_line (status.Spent 0 2) ≡ Some (codes "spent: 0 2\n")
 unfolding digits

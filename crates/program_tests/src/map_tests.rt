@@ -114,7 +114,7 @@ fn the_smallest_map_is_drawn_over_the_ground(rt: HostRuntime) -> Result<(), Fail
 }
 
 /// The poster of the smallest feed: its line ends at both stations, and the legend stands below.
-const SMALLEST_POSTER: &str = "\
+pub(crate) const SMALLEST_POSTER: &str = "\
 <svg xmlns=\"http://www.w3.org/2000/svg\" version=\"1.1\" viewBox=\"-136 -75 1272 210\" font-family=\"Helvetica, Arial, sans-serif\">
 <rect x=\"-136\" y=\"-75\" width=\"1272\" height=\"210\" fill=\"#ffffff\"/>
 <g id=\"lines\" fill=\"none\" stroke-linejoin=\"round\" stroke-linecap=\"round\" stroke-width=\"12\">

@@ -2,7 +2,7 @@
 
 use crate::command_tests::{run_on, words_of};
 use crate::graph_tests::put_file;
-use crate::map_tests::{SMALLEST_MAP, at, smallest_feed};
+use crate::map_tests::{SMALLEST_MAP, SMALLEST_POSTER, at, smallest_feed};
 use files_door::{SteadyFiles, SteadySinks, Target};
 use map_base::{NoMemory, Text};
 use map_page::page_of;
@@ -35,7 +35,7 @@ fn a_page_has_the_map_in_it(rt: HostRuntime) -> Result<(), Fail> {
 }
 
 #[test]
-fn a_map_is_made_with_its_page(rt: HostRuntime) -> Result<(), Fail> {
+fn a_map_is_made_with_the_page_of_its_poster(rt: HostRuntime) -> Result<(), Fail> {
     let alloc = rt.alloc();
     let words = words_of(alloc, "make feed map.svg map.cert --page map.html")?;
     let mut files = SteadyFiles::with(smallest_feed(alloc)?);
@@ -43,7 +43,7 @@ fn a_map_is_made_with_its_page(rt: HostRuntime) -> Result<(), Fail> {
     assert_eq!(rt; run_on(alloc, &words, &mut files, &mut sinks), 0);
     let map = sinks.written(&at(alloc, "map.svg")?).unwrap_or(b"");
     assert_eq!(rt; map, SMALLEST_MAP.as_bytes());
-    let due = page_of(alloc, SMALLEST_MAP.as_bytes())?;
+    let due = page_of(alloc, SMALLEST_POSTER.as_bytes())?;
     let page = sinks.written(&page(alloc)?).unwrap_or(b"");
     assert_eq!(rt; page, due.as_slice());
     Ok(())

@@ -26,7 +26,7 @@ use Rattle.command_inputs.specs.declared.loaded.Loaded.{Loaded}
 use Rattle.command_inputs.specs.Loading.{changed_by, changed_in, edited_by, edits_given as loading_edits, feed_work, file_work, given_by, load_work, settings_by, settings_in, table_work, tables_work}
 use Rattle.map_commands.specs.MapWorks.{made_at, make_work}
 use Rattle.session_laws.specs.Before.{edits_before}
-use Rattle.session_laws.specs.Works.{edits_given, with_edits}
+use Rattle.session_laws.specs.Works.{edited, edits_given, with_edits}
 use Rattle.session_laws.proofs.Draws.{made_at as drawn_at}
 
 -- what comes of one piece of work after another
@@ -117,16 +117,20 @@ loaded_alone chosen given loaded none e = by (outcome (feed_work chosen) given) 
 
 pub comes_to : (chosen : Chosen) (paths : NewPaths) (given : Input → Option (List ℕ)) (loaded : Loaded) (path text file : List ℕ) (k : ℕ) (made : Result MapBytes MakeFault) → chosen.edits ≡ None
     → outcome (load_work chosen) given ≡ Ok loaded → slice_get (draws_in loaded.tables loaded.settings loaded.method text) k ≡ Some made → lines file ≡ edits_before k (lines text)
-    → is_within File (length file) ≡ true → outcome (make_work (with_edits chosen path) paths) (edits_given given file) ≡ made_at paths made
-comes_to chosen paths given loaded path text file k made none loads draw same short =
-    then_outcome (load_work (with_edits chosen path)) (λ all. ends (made_at paths (make_outcome all.tables all.settings all.method))) (edits_given given file) changed with_file
-    ∙ ap (made_at paths) (sym at.2)
+    → is_within File (length file) ≡ true
+    → (edits : List Edit) × (edits_in loaded.tables file ≡ Ok edits) × (outcome (make_work (with_edits chosen path) paths) (edits_given given file) ≡ made_at paths (edited loaded edits) made)
+comes_to chosen paths given loaded path text file k made none loads draw same short = (
+  at.0,
+  at.1,
+  then_outcome (load_work (with_edits chosen path)) (λ all. ends (made_at paths all (make_outcome all.tables all.settings all.method))) (edits_given given file) changed with_file
+      ∙ ap (made_at paths changed) (sym at.2),
+)
   where
     at : (edits : List Edit) × (edits_in loaded.tables file ≡ Ok edits) × (made ≡ make_outcome (feed_after edits loaded.tables) (choices_after edits loaded.settings) loaded.method)
     at = drawn_at loaded.tables loaded.settings loaded.method text file k made draw same
 
     changed : Loaded
-    changed = record { settings = choices_after at.0 loaded.settings; method = loaded.method; tables = feed_after at.0 loaded.tables }
+    changed = edited loaded at.0
 
     first : outcome (feed_work (with_edits chosen path)) (edits_given given file) ≡ Ok loaded
     first = same_outcome given file (feed_work chosen) (avoids_feed chosen) ∙ loaded_alone chosen given loaded none loads

@@ -1,12 +1,19 @@
 -- The work of `make` with a file of edits.
 use Rattle.std.specs.Prelude.{ℕ, List, Option, Some}
+use Rattle.map_edits.specs.declared.edit.Edit.{Edit}
+use Rattle.map_edits.specs.Effects.{choices_after, feed_after}
 use Rattle.command_paths.specs.Paths.{Chosen}
+use Rattle.command_inputs.specs.declared.loaded.Loaded.{Loaded}
 use Rattle.run_status.specs.declared.input.Input.{Input}
 use Rattle.run_status.specs.declared.input.Input.TheVariants.{Settings, Edits, Table, Script, Certificate, Picture, Graph}
 
 -- what a user chose, with a file of edits at this path
 abbrev pub with_edits : Chosen → List ℕ → Chosen
 with_edits chosen path = record chosen { edits = Some path }
+
+-- what is loaded, with these edits
+abbrev pub edited : Loaded → List Edit → Loaded
+edited loaded edits = record loaded { settings = choices_after edits loaded.settings; tables = feed_after edits loaded.tables }
 
 -- the same inputs, with these bytes as the file of edits
 abbrev pub edits_given : (Input → Option (List ℕ)) → List ℕ → Input → Option (List ℕ)

@@ -21,7 +21,7 @@ ghost use Rattle.command_inputs.specs.declared.loaded.Loaded.{Loaded};
 ghost use Rattle.command_inputs.specs.Loading.{load_work};
 ghost use Rattle.map_commands.specs.MapWorks.{made_at, make_work};
 ghost use Rattle.session_laws.specs.Before.{edits_before};
-ghost use Rattle.session_laws.specs.Works.{edits_given, with_edits};
+ghost use Rattle.session_laws.specs.Works.{edited, edits_given, with_edits};
 
 /// Draw k of a script gives what `make` gives with a file of edits that has the script's lines up to that draw, but for the
 /// draws: such a file, however its lines end, gives exactly the edits that stand at the draw, and the map, or the refusal,
@@ -38,11 +38,12 @@ pub fn each_draw_is_a_make_with_its_edits()
 {}
 
 /// Where a session over inputs has no file of edits, draw k of its script gives what the work of `make` comes to over the same
-/// inputs, with such a file of edits: the same map and certificate, or the same refusal.
+/// inputs, with such a file of edits: the same map and certificate, and the page of its poster, or the same refusal.
 pub fn each_draw_is_what_make_comes_to()
     ensures { (chosen : Chosen) (paths : NewPaths) (given : Input → Option (List ℕ)) (loaded : Loaded) (path script file : List ℕ)
         (k : ℕ) (made : Result MapBytes MakeFault) → chosen.edits ≡ None → outcome (load_work chosen) given ≡ Ok loaded
         → slice_get (draws_in loaded.tables loaded.settings loaded.method script) k ≡ Some made
         → lines file ≡ edits_before k (lines script) → is_within File (length file) ≡ true
-        → outcome (make_work (with_edits chosen path) paths) (edits_given given file) ≡ made_at paths made }
+        → (edits : List Edit) × (edits_in loaded.tables file ≡ Ok edits)
+        × (outcome (make_work (with_edits chosen path) paths) (edits_given given file) ≡ made_at paths (edited loaded edits) made) }
 {}

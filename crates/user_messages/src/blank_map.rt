@@ -20,8 +20,8 @@ const OF_NOTHING: &[u8] = b"octimap 1\ngraph 0 0 0\n";
 /// How many types of routes are told.
 const TOLD: usize = 12;
 
-/// The lines for a map that was made and shows nothing: which routes the feed has, and what to do. Empty for all other
-/// commands, and for all other maps.
+/// The lines for a map that was made and shows nothing, and for a picture of such a map: which routes the feed has, and what
+/// to do. Empty for all other commands, and for all other maps.
 pub(crate) fn blank_map<R: Files + AllocGlobal>(
     rt: &R,
     command: &Command<'_>,
@@ -31,6 +31,7 @@ pub(crate) fn blank_map<R: Files + AllocGlobal>(
         Command::Make { files, .. } => of_certificate(rt, command, files.map.certificate, inputs),
         Command::Improve { files, .. } => of_certificate(rt, command, files.certificate, inputs),
         Command::Import { graph, files, .. } => of_graph_file(rt, graph, files.certificate),
+        Command::Depict { certificate, .. } => of_picture(rt, certificate, inputs),
         _ => Ok(String::new(rt.alloc())),
     }
 }
@@ -46,6 +47,19 @@ fn of_certificate<R: Files + AllocGlobal>(
         routes_line(rt, inputs)
     } else {
         far_line(rt, command, inputs)
+    }
+}
+
+/// The lines for a picture by this certificate.
+fn of_picture<R: Files + AllocGlobal>(
+    rt: &R,
+    certificate: &str,
+    inputs: &Inputs<'_>,
+) -> Result<String, NoMemory> {
+    if begins_with(rt, certificate, OF_NOTHING) {
+        routes_line(rt, inputs)
+    } else {
+        Ok(String::new(rt.alloc()))
     }
 }
 

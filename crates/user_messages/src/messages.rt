@@ -64,7 +64,7 @@ fn of_inputs<R: Files + AllocGlobal + Clone + Drop>(
             let (table, row, why) = (*table, *row, *why);
             bad_row(rt, inputs.feed, BadRow { table, row, why })
         }
-        Status::Refuted(item) => refuted(alloc, item),
+        Status::Refuted(item) => refuted(rt, inputs, item),
         Status::Missing { path } => missing(rt, path.as_str()),
         Status::ReadFault { path } => unread(rt, path.as_str()),
         Status::BadSettings(why) => bad_settings(rt, &inputs.options, why),

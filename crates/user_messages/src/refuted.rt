@@ -1,24 +1,30 @@
 //! What is wrong with a map or its certificate, in a sentence.
 
+use crate::files::missing;
+use command_inputs::Inputs;
 use map_base::NoMemory;
 use map_faults::CheckItem;
 use order_check::ProofItem;
 use run_status::Item;
 use std::alloc::Global;
+use std::rt::Files;
 
-/// The line for an item that is refused.
-pub(crate) fn refuted(alloc: Global, item: &Item) -> Result<String, NoMemory> {
-    let sentence = sentence_of(item);
-    Ok(format!(in alloc; "octimap: {sentence}\n")?)
+/// The line for an item that is refused; a file that is missing is named.
+pub(crate) fn refuted<R: Files + AllocGlobal>(
+    rt: &R,
+    inputs: &Inputs<'_>,
+    item: &Item,
+) -> Result<String, NoMemory> {
+    match item {
+        Item::Missing { picture: false } => missing(rt, inputs.files.certificate),
+        Item::Missing { picture: true } => missing(rt, inputs.files.picture),
+        Item::Found(found) => told(rt.alloc(), sentence_of_check(found)),
+    }
 }
 
-/// What is wrong, in a sentence.
-fn sentence_of(item: &Item) -> &'static str {
-    match item {
-        Item::Missing { picture: false } => "there is no file CERT",
-        Item::Missing { picture: true } => "there is no file SVG",
-        Item::Found(found) => sentence_of_check(found),
-    }
+/// A sentence as a line.
+fn told(alloc: Global, sentence: &str) -> Result<String, NoMemory> {
+    Ok(format!(in alloc; "octimap: {sentence}\n")?)
 }
 
 /// What is wrong with a part of the certificate, or with the map.
