@@ -1,18 +1,18 @@
 //! The least free walk between two ends.
 
 ghost use Rattle.std.specs.Prelude.{◌≡◌, ◌≢◌, IfOk, true, false};
-ghost use Rattle.walk_search.specs.Routes.{route};
+ghost use Rattle.walk_search.specs.Routes.{if_within, route};
 ghost use Rattle.grid_board.specs.Boards.{parts_of};
 ghost use Rattle.walk_search.specs.Moves.{is_all_or_none};
 
 use crate::asked::Asked;
 use crate::ends::End;
-use crate::search::note_costs;
+use crate::search::{note_costs, note_costs_within};
 use crate::spots::spots_of;
 use crate::walk::walk;
 use grid_board::Board;
 use map_base::NoMemory;
-use octi_grid::{GridPoint, Walk};
+use octi_grid::{GridPoint, Walk, walk_cost};
 use state_search::Known;
 use std::alloc::Global;
 
@@ -66,7 +66,76 @@ pub fn least_settled_walk(
     least_between(alloc, board, from, to)
 }
 
+/// The least free walk between two nodes of a board that are both settled, if it costs at most so much.
+pub fn least_walk_within(
+    alloc: Global,
+    board: &Board,
+    from: GridPoint,
+    from_ports: u8,
+    to: GridPoint,
+    to_ports: u8,
+    most: u64,
+) -> Result<Option<Walk>, NoMemory>
+    requires from { (parts_of board.now).is_node from ≡ true }
+    requires to { (parts_of board.now).is_node to ≡ true }
+    requires apart { from ≢ to }
+    ensures { IfOk result (λ walk. walk ≡ if_within most (route (parts_of board.now) (record { at = from; is_free = false; ports = from_ports }) (record { at = to; is_free = false; ports = to_ports }))) }
+{
+    let from = End {
+        at: from,
+        is_free: false,
+        ports: from_ports,
+    };
+    let to = End {
+        at: to,
+        is_free: false,
+        ports: to_ports,
+    };
+    least_between_within(alloc, board, from, to, most)
+}
+
 /// The same for two ends.
+fn least_between_within(
+    alloc: Global,
+    board: &Board,
+    from: End,
+    to: End,
+    most: u64,
+) -> Result<Option<Walk>, NoMemory>
+    requires from { (parts_of board.now).is_node from.at ≡ true }
+    requires to { (parts_of board.now).is_node to.at ≡ true }
+    requires apart { from.at ≢ to.at }
+    requires from_mask { from.is_free ≡ true → is_all_or_none from.ports ≡ true }
+    requires to_mask { to.is_free ≡ true → is_all_or_none to.ports ≡ true }
+    ensures { IfOk result (λ walk. walk ≡ if_within most (route (parts_of board.now) from to)) }
+{
+    let states = spots_of(board.bounds()) as usize + 1;
+    let mut known = Known::none(alloc, states);
+    let asked = Asked::new(alloc, board, from, to)?;
+    if !note_costs_within(alloc, &asked, &mut known, most)? {
+        return Ok(None);
+    }
+    let found = walk(alloc, &asked, &known)?;
+    Ok(within(found, most))
+}
+
+/// A walk, if it costs at most so much.
+fn within(found: Option<Walk>, most: u64) -> Option<Walk>
+    ensures { result ≡ if_within most found }
+{
+    match found {
+        None => None,
+        Some(walk) => {
+            if walk_cost(&walk) <= most {
+                Some(walk)
+            } else {
+                None
+            }
+        }
+    }
+}
+
+/// The same for two ends that may cost anything.
 fn least_between(alloc: Global, board: &Board, from: End, to: End) -> Result<Option<Walk>, NoMemory>
     requires from { (parts_of board.now).is_node from.at ≡ true }
     requires to { (parts_of board.now).is_node to.at ≡ true }

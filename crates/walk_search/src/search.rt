@@ -55,6 +55,33 @@ fn search(
     Ok(())
 }
 
+/// Notes, where nothing is known, the least costs at which the ends can be reached, as far as they can lie on a walk no
+/// dearer than the least, and tells whether one may cost at most so much. The search ends early where none does.
+pub(crate) fn note_costs_within(
+    alloc: Global,
+    asked: &Asked,
+    known: &mut Known,
+    most: u64,
+) -> Result<bool, NoMemory> {
+    let before = asked.before();
+    let mut queue = Queue::new(alloc);
+    offer_ends(asked, known, &mut queue)?;
+    let mut rounds = 0u32;
+    while let Some((estimate, at)) = next(&mut queue, known.of(before)) {
+        if estimate > most + 1 {
+            return Ok(false);
+        }
+        if is_in_vain(alloc, asked, rounds)? {
+            return Ok(false);
+        }
+        rounds = rounds.saturating_add(1);
+        if let Some(cost) = fresh_cost(asked, known, estimate, at) {
+            offer_back(asked, at, cost, known, &mut queue)?;
+        }
+    }
+    Ok(true)
+}
+
 /// Whether, after so many rounds, the start is found to be shut in.
 fn is_in_vain(alloc: Global, asked: &Asked, rounds: u32) -> Result<bool, NoMemory>
     ensures { IfOk result (λ in_vain. in_vain ≡ true → IsShutIn (question asked.now)) }

@@ -1,0 +1,2 @@
+-- Lines that run straight through their stations.
+pub mod Straightening

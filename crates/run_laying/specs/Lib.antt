@@ -1,0 +1,5 @@
+-- Runs of segments that are laid anew, and attempts to make a drawing lighter by them.
+pub mod Pieces
+pub mod Laying
+pub mod Attempts
+pub mod Searches
