@@ -46,14 +46,14 @@ with_node_moved board from to = record board { is_node = λ p. are_one to p || (
 abbrev pub without_node : BoardParts → GridPoint → BoardParts
 without_node board at = record board { is_node = λ p. not (are_one at p) && board.is_node p }
 
--- the doubled point is that of an end of the walk which is kept
-abbrev pub is_kept_end : PlainWalk → Bool → Bool → GridPoint → Bool
-is_kept_end walk keeps_start keeps_end d = (keeps_start && are_one (doubled walk.start) d) || (keeps_end && are_one (doubled (end_point walk)) d)
+-- the doubled point of a point is taken where that is kept, and else as it was
+abbrev pub with_kept : Bool → GridPoint → (GridPoint → Bool) → GridPoint → Bool
+with_kept is_kept p is_taken d = (is_kept && are_one (doubled p) d) || is_taken d
 
--- a board without a walk, but for those of its ends that other walks keep taken
+-- a board without a walk, but for those of its ends that are kept
 abbrev pub without_walk : BoardParts → PlainWalk → Bool → Bool → BoardParts
 without_walk board walk keeps_start keeps_end =
-    record board { is_taken = λ d. is_kept_end walk keeps_start keeps_end d || (not (is_among (doubled_of walk) d) && board.is_taken d) }
+    record board { is_taken = with_kept keeps_end (end_point walk) (with_kept keeps_start walk.start (λ d. not (is_among (doubled_of walk) d) && board.is_taken d)) }
 
 -- a bound of a board lies within 2,000 either way
 pub record IsBound (z : ℤ) : Type 0 where

@@ -3,7 +3,7 @@ use Rattle.octi_grid.specs.declared.point.GridPoint.{GridPoint}
 use Rattle.grid_board.specs.declared.bounds.Bounds.{Bounds}
 use Rattle.grid_board.specs.Boards.{contains, doubled_bounds}
 use Rattle.grid_board.proofs.Ways.{can_step, doubled_inside}
-use Rattle.grid_board.proofs.taking.take_point.Goals as goal
+use Rattle.grid_board.proofs.taking.flag_point.Goals as goal
 
 pub doubled-requires : goal.doubled-requires
 doubled-requires c = can_step c.args.bounds c.args.at c.requires.bounds c.requires.inside

@@ -4,7 +4,7 @@ use Rattle.octi_grid.specs.Ways.{CanStep, step_from}
 use Rattle.grid_board.specs.declared.bounds.Bounds.{Bounds}
 use Rattle.grid_board.specs.Boards.{contains, doubled_bounds}
 use Rattle.grid_board.proofs.Ways.{can_step, doubled_can_step, middle_inside}
-use Rattle.grid_board.proofs.taking.take_step.Goals as goal
+use Rattle.grid_board.proofs.taking.flag_step.Goals as goal
 
 pub doubled-requires : goal.doubled-requires
 doubled-requires c = can_step c.args.bounds c.args.start c.requires.bounds c.requires.start
