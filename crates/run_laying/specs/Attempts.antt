@@ -81,9 +81,10 @@ point_in_attempt graph walks a n =
 abbrev pub walk_beside : List PlainWalk → List Chain → ℕ → Option PlainWalk
 walk_beside walks runs s = if is_on_runs runs s then None else Some (slice_index_or walks s (record { start = record { x = pos 0; y = pos 0 }; steps = [] }))
 
--- a drawing from which the runs of an attempt are taken away, where its nodes have moved
-abbrev pub without_runs : GraphParts → List PlainWalk → Attempt → Sketch
-without_runs graph walks a = record {
+-- a drawing on a board within bounds from which the runs of an attempt are taken away, where its nodes have moved
+abbrev pub without_runs : GraphParts → Bounds → List PlainWalk → Attempt → Sketch
+without_runs graph bounds walks a = record {
+  bounds = bounds;
   points = map (point_in_attempt graph walks a) (range_with_len 0 (length graph.kinds));
   stand = map (λ n. not (is_inner a.runs n)) (range_with_len 0 (length graph.kinds));
   walks = map (walk_beside walks a.runs) (range_with_len 0 (length graph.ends));
@@ -99,25 +100,28 @@ comes_over_point p None = false
 comes_over_point p (Some w) = is_among (points_of w) p
 
 -- a node may move to a point: it lies within bounds, no other node stands there, and no walk comes over it
-abbrev pub may_move_to : Bounds → Sketch → List NodeId → GridPoint → Bool
-may_move_to bounds k moved p =
-    contains bounds p
+abbrev pub may_move_to : Sketch → List NodeId → GridPoint → Bool
+may_move_to k moved p =
+    contains k.bounds p
     && (not (list_any (stands_at k moved p) (range_with_len 0 (length k.points)))
     && not (list_any (comes_over_point p) k.walks))
 
 -- all nodes of an attempt may move to their points
-abbrev pub may_move : Bounds → Sketch → List NodeId → Bool
-may_move bounds k moved = list_all (λ (n : NodeId). may_move_to bounds k moved (slice_index_or k.points n.0 (record { x = pos 0; y = pos 0 }))) moved
+abbrev pub may_move : Sketch → List NodeId → Bool
+may_move k moved = list_all (λ (n : NodeId). may_move_to k moved (slice_index_or k.points n.0 (record { x = pos 0; y = pos 0 }))) moved
 
 -- the walks of a sketch
 abbrev pub walks_in : Option Sketch → Option (List PlainWalk)
 walks_in None = None
 walks_in (Some k) = Some (filter_map (λ w. w) k.walks)
 
+-- nodes of a sketch have moved, and runs are laid on it, if they can be
+abbrev pub attempted_on : GraphParts → Sketch → Attempt → Option Sketch
+attempted_on graph k a = if may_move k a.nodes then all_laid graph a.runs k else None
+
 -- the walks after an attempt, if it can be made
 abbrev pub attempted : GraphParts → Bounds → List PlainWalk → Attempt → Option (List PlainWalk)
-attempted graph bounds walks a =
-    if may_move bounds (without_runs graph walks a) a.nodes then walks_in (all_laid graph bounds a.runs (without_runs graph walks a)) else None
+attempted graph bounds walks a = walks_in (attempted_on graph (without_runs graph bounds walks a) a)
 
 -- new walks, if there are any and they weigh less
 abbrev pub if_lighter : (List PlainWalk → ℕ) → List PlainWalk → Option (List PlainWalk) → Option (List PlainWalk)

@@ -16,9 +16,10 @@ use Rattle.segment_router.specs.Routes.{end_at, with_nodes, Routed}
 use Rattle.segment_router.specs.Standing.{with_standing}
 use Rattle.run_laying.specs.Pieces.{even_steps, pieces_of, reversed_walk}
 
--- A drawing in the making: the point of each node, whether it stands there yet, and the walk of each segment, where it has
--- one.
+-- A drawing in the making: the bounds of its board; the point of each node, and whether it stands there yet; and the walk
+-- of each segment, where it has one.
 pub record Sketch : Type 0 where
+  pub bounds : Bounds
   pub points : List GridPoint
   pub stand : List Bool
   pub walks : List (Option PlainWalk)
@@ -32,9 +33,9 @@ abbrev pub standing_points : Sketch → List GridPoint
 standing_points k = filter_map standing_point (zip k.stand k.points)
 
 -- a board with the nodes that stand and the walks that there are
-abbrev pub board_under : Bounds → Sketch → Routed
-board_under bounds k = record {
-  board = fold with_standing (with_nodes (empty_board bounds) (standing_points k)) k.walks;
+abbrev pub board_under : Sketch → Routed
+board_under k = record {
+  board = fold with_standing (with_nodes (empty_board k.bounds) (standing_points k)) k.walks;
   points = k.points;
   settled = replicate (length k.points) true;
   walks = k.walks;
@@ -60,6 +61,7 @@ from_low graph s n w = if (ends_of graph s).0.0 == n.0 then w else reversed_walk
 -- a segment has its walk from a node, and the node to which it leads stands at the end of it
 abbrev pub with_piece : GraphParts → NodeId → ChainStep → PlainWalk → Sketch → Sketch
 with_piece graph n t w k = record {
+  bounds = k.bounds;
   points = slice_set k.points t.to.0 (end_point w);
   stand = slice_set k.stand t.to.0 true;
   walks = slice_set k.walks t.seg.0 (Some (from_low graph t.seg n w));
@@ -77,9 +79,9 @@ laid_along graph c k None = None
 laid_along graph c k (Some w) =
     if nat_le (length c.steps) (even_steps w) then Some (with_pieces graph c.from c.steps (pieces_of w (length c.steps)) k) else None
 
--- a run is laid on a board within bounds, if it can be
-abbrev pub laid : GraphParts → Bounds → Chain → Sketch → Option Sketch
-laid graph bounds c k = laid_along graph c k (run_walk graph (board_under bounds k) c)
+-- a run is laid, if it can be
+abbrev pub laid : GraphParts → Chain → Sketch → Option Sketch
+laid graph c k = laid_along graph c k (run_walk graph (board_under k) c)
 
 -- what comes of a sketch, if there is one
 abbrev pub if_laid : (Sketch → Option Sketch) → Option Sketch → Option Sketch
@@ -87,6 +89,6 @@ if_laid next None = None
 if_laid next (Some k) = next k
 
 -- runs are laid, one after another, if each can be
-abbrev pub all_laid : GraphParts → Bounds → List Chain → Sketch → Option Sketch
-all_laid graph bounds [] k = Some k
-all_laid graph bounds (c ∷ cs) k = if_laid (all_laid graph bounds cs) (laid graph bounds c k)
+abbrev pub all_laid : GraphParts → List Chain → Sketch → Option Sketch
+all_laid graph [] k = Some k
+all_laid graph (c ∷ cs) k = if_laid (all_laid graph cs) (laid graph c k)

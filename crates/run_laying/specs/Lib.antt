@@ -3,3 +3,6 @@ pub mod Pieces
 pub mod Laying
 pub mod Attempts
 pub mod Searches
+pub mod Runs
+pub mod Sketches
+pub mod Drawings

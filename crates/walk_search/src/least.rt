@@ -1,6 +1,6 @@
 //! The least free walk between two ends.
 
-ghost use Rattle.std.specs.Prelude.{◌≡◌, ◌≢◌, ◌↔◌, IfOk, IsTrue, true, false};
+ghost use Rattle.std.specs.Prelude.{◌≡◌, ◌≢◌, ◌<◌, ◌^◌, ◌↔◌, IfOk, IsTrue, true, false};
 ghost use Rattle.state_search.specs.Searching.{IsKnownWithin};
 ghost use Rattle.walk_search.specs.Routes.{if_within, route, IsRouteUpTo};
 ghost use Rattle.grid_board.specs.Boards.{parts_of};
@@ -81,6 +81,7 @@ pub fn least_walk_within(
     requires from { (parts_of board.now).is_node from ≡ true }
     requires to { (parts_of board.now).is_node to ≡ true }
     requires apart { from ≢ to }
+    requires most { most < 2 ^ 63 }
     ensures { IfOk result (λ walk. walk ≡ if_within most (route (parts_of board.now) (record { at = from; is_free = false; ports = from_ports }) (record { at = to; is_free = false; ports = to_ports }))) }
 {
     let from = End {
@@ -93,7 +94,7 @@ pub fn least_walk_within(
         is_free: false,
         ports: to_ports,
     };
-    let found = least_between(alloc, board, from, to, Some(most.saturating_add(1)))?;
+    let found = least_between(alloc, board, from, to, Some(most + 1))?;
     Ok(within(found, most))
 }
 
