@@ -100,7 +100,7 @@ impl Sketch {
         for i in 0..steps.len() {
             self.take_walk(graph, steps[i].seg);
             if i + 1 < steps.len() {
-                self.lift(steps[i].to);
+                self.lift(graph, steps[i].to);
             }
         }
     }

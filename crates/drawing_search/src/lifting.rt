@@ -39,7 +39,7 @@ pub(crate) fn lift(
     for n in group.nodes.as_slice() {
         let at = sketch.point(*n);
         lifted.rest -= field.apart_weight(*n, at);
-        sketch.lift(*n);
+        sketch.lift(field.graph, *n);
         lifted.moved.push((*n, at))?;
     }
     Ok(lifted)
@@ -60,7 +60,7 @@ fn lift_run(
         }
         if i + 1 < steps.len() {
             lifted.inner.push((step.to, sketch.point(step.to)))?;
-            sketch.lift(step.to);
+            sketch.lift(field.graph, step.to);
         }
     }
     Ok(())

@@ -1,5 +1,11 @@
 //! Passes over groups of attempts.
 
+ghost use Rattle.std.specs.Prelude.{◌≡◌, ◌≤◌, ◌<◌, length, All, IfOk, true};
+ghost use Rattle.drawing_weights.specs.Drawn.{IsDrawn};
+ghost use Rattle.grid_board.specs.Points.{are_near};
+ghost use Rattle.run_laying.specs.Runs.{IsFitting};
+ghost use Rattle.drawing_search.specs.Searched.{attempts_of, scale_of, IsSearched};
+
 use crate::bounds::bounds_past;
 use crate::gains::Field;
 use crate::group::Group;
@@ -34,7 +40,18 @@ pub fn search(
     groups: &[Group],
     at_once: u32,
     most: u32,
-) -> Result<Searched, NoMemory> {
+) -> Result<Searched, NoMemory>
+    requires drawn { IsDrawn graph.now drawing.walks }
+    requires near { are_near 1900 drawing.walks ≡ true }
+    requires margin { margin ≤ 20 }
+    requires held { length by.held.now ≡ length graph.now.kinds }
+    requires small { by.turns ≤ 100 }
+    requires overs { by.overs ≤ 100 }
+    requires aparts { by.aparts ≤ 100 }
+    requires fitting { All (IsFitting graph.now) (attempts_of groups.now) }
+    requires some { 0 < at_once }
+    ensures { IfOk result (IsSearched graph.now (scale_of by) margin (attempts_of groups.now) at_once most drawing.walks) }
+{
     let walks = drawing.walks.into_vec();
     let first = points_of(alloc, graph, &walks)?;
     let pairs = Pairs::of(alloc, graph)?;
@@ -102,6 +119,7 @@ fn sketch_of(
     Ok(Sketch {
         board,
         points: points.to_vec(alloc)?,
+        stand: vec![in alloc; true; points.len()]?,
         walks: held,
     })
 }

@@ -77,7 +77,7 @@ impl Search {
         self.stand_moved(moved, vector);
         let found = self.lay_all(alloc, field, runs, base, ahead)?;
         if found.is_none() {
-            self.lift_moved(moved);
+            self.lift_moved(field, moved);
         }
         Ok(found)
     }
@@ -140,9 +140,9 @@ impl Search {
     }
 
     /// Takes nodes that moved off the board.
-    fn lift_moved(&mut self, moved: &[(NodeId, GridPoint)]) {
+    fn lift_moved(&mut self, field: Field<'_>, moved: &[(NodeId, GridPoint)]) {
         for known in moved {
-            self.sketch.lift(known.0);
+            self.sketch.lift(field.graph, known.0);
         }
     }
 

@@ -50,7 +50,7 @@ pub(crate) fn way_from(
     let mut steps = Vec::new(alloc);
     let mut at = n;
     let mut seg = s;
-    for _ in 0..graph.segs() {
+    for i in 0..graph.segs() {
         let to = far_end(graph, seg, at);
         steps.push(ChainStep { seg, to })?;
         if corners[to.0 as usize] {

@@ -1,5 +1,10 @@
 //! Straightening.
 
+ghost use Rattle.std.specs.Prelude.{◌≡◌, ◌<◌, IfOk, true};
+ghost use Rattle.drawing_weights.specs.Drawn.{IsDrawn};
+ghost use Rattle.grid_board.specs.Points.{are_near};
+ghost use Rattle.line_straightening.specs.Straightened.{IsStraightened};
+
 use crate::groups::groups_of;
 use drawing_search::{Searched, search};
 use drawing_weights::Weighing;
@@ -16,7 +21,12 @@ pub fn straighten(
     drawing: Drawing,
     cell: u32,
     most: u32,
-) -> Result<Searched, NoMemory> {
+) -> Result<Searched, NoMemory>
+    requires drawn { IsDrawn graph.now drawing.walks }
+    requires near { are_near 1800 drawing.walks ≡ true }
+    requires cell { 0 < cell }
+    ensures { IfOk result (IsStraightened graph.now cell most drawing.walks) }
+{
     let corners = corners_of(alloc, graph, cell)?;
     let chains = chains_of(alloc, graph, &corners)?;
     let groups = groups_of(alloc, graph, &corners, &chains)?;

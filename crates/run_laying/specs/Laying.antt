@@ -1,6 +1,6 @@
 -- Runs of segments that are laid anew, one after another, where other walks stand.
-use Rattle.std.specs.Prelude.{ℕ, ◌==◌, nat_le, Bool, true, false, List, [], ◌∷◌, length, replicate, fold, if◌then◌else◌, Option, Some, None, slice_set}
-use Rattle.std.specs.List.{filter_map, zip}
+use Rattle.std.specs.Prelude.{ℕ, ◌==◌, nat_le, Bool, true, false, List, [], ◌∷◌, length, replicate, if◌then◌else◌, Option, Some, None, slice_set}
+use Rattle.std.specs.List.{filter_map, list_any, zip}
 use Rattle.map_base.specs.declared.ids.NodeId.{NodeId}
 use Rattle.map_base.specs.declared.ids.SegId.{SegId}
 use Rattle.graph_core.specs.declared.parts.GraphParts.{GraphParts}
@@ -10,10 +10,10 @@ use Rattle.line_chains.specs.Chains.{end_of, ends_of, last_seg}
 use Rattle.octi_grid.specs.declared.point.GridPoint.{GridPoint}
 use Rattle.octi_grid.specs.Walks.{PlainWalk, end_point}
 use Rattle.grid_board.specs.declared.bounds.Bounds.{Bounds}
-use Rattle.grid_board.specs.Boards.{empty_board}
+use Rattle.grid_board.specs.Boards.{BoardParts}
 use Rattle.walk_search.specs.Routes.{route}
-use Rattle.segment_router.specs.Routes.{end_at, with_nodes, Routed}
-use Rattle.segment_router.specs.Standing.{with_standing}
+use Rattle.octi_grid.specs.Ways.{are_one}
+use Rattle.segment_router.specs.Routes.{end_at, has_doubled, Routed}
 use Rattle.run_laying.specs.Pieces.{even_steps, pieces_of, reversed_walk}
 
 -- A drawing in the making: the bounds of its board; the point of each node, and whether it stands there yet; and the walk
@@ -32,14 +32,18 @@ standing_point (true, p) = Some p
 abbrev pub standing_points : Sketch → List GridPoint
 standing_points k = filter_map standing_point (zip k.stand k.points)
 
--- a board with the nodes that stand and the walks that there are
-abbrev pub board_under : Sketch → Routed
-board_under k = record {
-  board = fold with_standing (with_nodes (empty_board k.bounds) (standing_points k)) k.walks;
-  points = k.points;
-  settled = replicate (length k.points) true;
-  walks = k.walks;
+-- the board of a sketch: the points of the nodes that stand are those of nodes, and the doubled points of its walks are
+-- taken
+abbrev pub board_of : Sketch → BoardParts
+board_of k = record {
+  bounds = k.bounds;
+  is_node = λ p. list_any (λ q. are_one q p) (standing_points k);
+  is_taken = λ d. list_any (has_doubled d) k.walks;
 }
+
+-- routing on this board, where all nodes are settled
+abbrev pub board_under : Sketch → Routed
+board_under k = record { board = board_of k; points = k.points; settled = replicate (length k.points) true; walks = k.walks }
 
 -- the first segment of a chain, and its last one
 abbrev pub first_seg_of : List ChainStep → SegId

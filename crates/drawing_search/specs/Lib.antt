@@ -1,0 +1,3 @@
+-- What a search keeps and promises.
+pub mod Shown
+pub mod Searched
