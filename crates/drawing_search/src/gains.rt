@@ -74,6 +74,20 @@ impl<'a> Field<'a> {
         total
     }
 
+    /// The same where the segment has this port there.
+    pub(crate) fn turns_by(self, sketch: &Sketch, n: NodeId, s: SegId, port: Dir) -> u64 {
+        let mut total = 0;
+        for pair in self.pairs.at(n) {
+            if pair.0 == s {
+                total += turn_over(Some(port), sketch.port(self.graph, n, pair.1));
+            }
+            if pair.1 == s {
+                total += turn_over(Some(port), sketch.port(self.graph, n, pair.0));
+            }
+        }
+        self.by.overs * total
+    }
+
     /// What the turn over a node between two segments weighs, if both have a walk.
     fn turn_weight(self, sketch: &Sketch, n: NodeId, pair: (SegId, SegId)) -> u64 {
         let first = sketch.port(self.graph, n, pair.0);

@@ -80,7 +80,7 @@ impl Sketch {
     }
 
     /// The ports that a segment may have at a node beside the walks that there are, as bits.
-    fn ports_for(
+    pub(crate) fn ports_for(
         &self,
         alloc: Global,
         graph: &LineGraph,

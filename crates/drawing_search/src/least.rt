@@ -1,22 +1,120 @@
 //! What runs add at least, and what their walks may cost.
 
 use crate::gains::Field;
+use crate::sketch::Sketch;
 use line_chains::{Chain, ChainStep};
-use octi_grid::GridPoint;
+use map_base::{NoMemory, NodeId, SegId};
+use octi_grid::{Dir, GridPoint, turn_cost};
+use std::alloc::Global;
 use walk_search::reach;
 
+/// The eight directions, clockwise from north.
+pub(crate) const DIRECTIONS: [Dir; 8] = [
+    Dir::N,
+    Dir::NE,
+    Dir::E,
+    Dir::SE,
+    Dir::S,
+    Dir::SW,
+    Dir::W,
+    Dir::NW,
+];
+
+/// More than any drawing weighs: where a segment may have no port.
+const NEVER: u64 = 1 << 50;
+
+/// What a run adds at least beside what it costs to come from one end to the other, by the number of the direction in which
+/// a straight way leads there, or by 8 where none does.
+#[derive(Clone, Copy, Debug)]
+pub(crate) struct LeastTurns {
+    pub(crate) by: [u64; 9],
+}
+
+impl LeastTurns {
+    /// What the run adds at least between two points.
+    pub(crate) fn between(self, from: GridPoint, to: GridPoint) -> u64 {
+        reach(from, to) + self.by[usize::from(straight_way(from, to))]
+    }
+
+    /// The least of these and of a walk that leaves by one direction, comes in another, makes lines turn over its ends by
+    /// so much, and whose turns weigh so much each.
+    fn with_walk(&mut self, first: Dir, last: Dir, overs: u64, per_turn: u64) {
+        for k in 0..9 {
+            let weight = overs + per_turn * turns_at_least(first, last, k);
+            self.by[usize::from(k)] = self.by[usize::from(k)].min(weight);
+        }
+    }
+}
+
 impl<'a> Field<'a> {
-    /// What a run adds at least between two points: what it costs to come over, and a turn where no straight way leads
-    /// there. A turn at a node that no line goes over weighs nothing.
-    pub(crate) fn least_gain(self, run: &Chain, from: GridPoint, to: GridPoint) -> u64 {
+    /// What a run adds at least, where others stand: by the ports that its first and its last segment may have, and the
+    /// turns that lines then make over its ends.
+    pub(crate) fn least_turns(
+        self,
+        alloc: Global,
+        sketch: &Sketch,
+        run: &Chain,
+    ) -> Result<LeastTurns, NoMemory> {
         let steps = run.steps.as_slice();
-        if is_straight(from, to) || self.free_nodes(steps) != 0 {
-            return reach(from, to);
+        let last = steps[steps.len() - 1];
+        let from = self.overs_at(alloc, sketch, run.from, steps[0].seg)?;
+        let to = self.overs_at(alloc, sketch, last.to, last.seg)?;
+        let per_turn = self.turn_price(steps);
+        let mut least = LeastTurns { by: [NEVER; 9] };
+        for d in DIRECTIONS {
+            self.with_first(&mut least, d, from[usize::from(d.index())], &to, per_turn);
         }
+        Ok(least)
+    }
+
+    /// The same of walks that leave by one port.
+    fn with_first(
+        self,
+        least: &mut LeastTurns,
+        first: Dir,
+        overs: Option<u64>,
+        to: &[Option<u64>; 8],
+        per_turn: u64,
+    ) {
+        let Some(here) = overs else {
+            return;
+        };
+        for e in DIRECTIONS {
+            if let Some(there) = to[usize::from(e.index())] {
+                least.with_walk(first, e.reverse(), here + there, per_turn);
+            }
+        }
+    }
+
+    /// For each port that a segment may have at a node, what the turns then weigh that lines make from it to segments that
+    /// have a walk.
+    fn overs_at(
+        self,
+        alloc: Global,
+        sketch: &Sketch,
+        n: NodeId,
+        s: SegId,
+    ) -> Result<[Option<u64>; 8], NoMemory> {
+        let allowed = sketch.ports_for(alloc, self.graph, n, s)?;
+        let mut overs = [None; 8];
+        for d in DIRECTIONS {
+            if (allowed >> d.index()) & 1 == 1 {
+                overs[usize::from(d.index())] = Some(self.turns_by(sketch, n, s, d));
+            }
+        }
+        Ok(overs)
+    }
+
+    /// What a turn of 45 degrees in the walk of a run weighs at least: nothing where it may lie at a node that no line goes
+    /// over.
+    fn turn_price(self, steps: &[ChainStep]) -> u64 {
         if steps.len() == 1 {
-            return reach(from, to) + 1 + self.by.turns;
+            return 1 + self.by.turns;
         }
-        reach(from, to) + self.by.overs.min(1 + self.by.turns)
+        if self.free_nodes(steps) != 0 {
+            return 0;
+        }
+        self.by.overs.min(1 + self.by.turns)
     }
 
     /// By how much the walk of a run may cost more than the run adds: the turns at nodes that no line goes over.
@@ -36,12 +134,39 @@ impl<'a> Field<'a> {
     }
 }
 
-/// Whether a straight way leads from one point to another, along an axis or a diagonal.
-fn is_straight(from: GridPoint, to: GridPoint) -> bool {
+/// How many turns of 45 degrees a walk makes at least that leaves by one direction, comes in another, and ends where a
+/// straight way in the direction of a number leads, or none.
+fn turns_at_least(first: Dir, last: Dir, straight: u8) -> u64 {
+    let between = u64::from(turn_cost(first, last));
+    if first.index() == straight && last.index() == straight {
+        between
+    } else {
+        between.max(1)
+    }
+}
+
+/// The number of the direction in which a straight way leads from one point to another; 8 where none does.
+fn straight_way(from: GridPoint, to: GridPoint) -> u8 {
     let across = to.x.abs_diff(from.x);
     let along = to.y.abs_diff(from.y);
-    if across == 0 || along == 0 {
-        return true;
+    if across == 0 {
+        return if from.y < to.y { 0 } else { 4 };
     }
-    across == along
+    if along == 0 {
+        return if from.x < to.x { 2 } else { 6 };
+    }
+    if across != along {
+        return 8;
+    }
+    diagonal(from.x < to.x, from.y < to.y)
+}
+
+/// The number of a diagonal direction.
+fn diagonal(is_east: bool, is_north: bool) -> u8 {
+    match (is_east, is_north) {
+        (true, true) => 1,
+        (true, false) => 3,
+        (false, false) => 5,
+        (false, true) => 7,
+    }
 }

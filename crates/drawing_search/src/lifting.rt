@@ -2,6 +2,7 @@
 
 use crate::gains::Field;
 use crate::group::Group;
+use crate::least::LeastTurns;
 use crate::sketch::Sketch;
 use line_chains::Chain;
 use map_base::{NoMemory, NodeId, SegId};
@@ -9,13 +10,14 @@ use octi_grid::{GridPoint, Walk};
 use std::alloc::Global;
 
 /// What was taken off the board: walks of segments, the points of nodes between ends of runs, and of nodes that move; and
-/// what the rest weighs.
+/// what the rest weighs; and what each run adds at least beside it.
 #[derive(Drop)]
 pub(crate) struct Lifted {
     pub(crate) walks: Vec<(SegId, Walk)>,
     pub(crate) inner: Vec<(NodeId, GridPoint)>,
     pub(crate) moved: Vec<(NodeId, GridPoint)>,
     pub(crate) rest: u64,
+    pub(crate) least: Vec<LeastTurns>,
 }
 
 /// Takes the runs of a group off the board, and the nodes that move, from a drawing of this weight.
@@ -31,6 +33,7 @@ pub(crate) fn lift(
         inner: Vec::new(alloc),
         moved: Vec::new(alloc),
         rest: weight,
+        least: Vec::new(alloc),
     };
     for run in group.runs.as_slice() {
         lifted.rest -= field.run_gain(sketch, run);
@@ -41,6 +44,9 @@ pub(crate) fn lift(
         lifted.rest -= field.apart_weight(*n, at);
         sketch.lift(field.graph, *n);
         lifted.moved.push((*n, at))?;
+    }
+    for run in group.runs.as_slice() {
+        lifted.least.push(field.least_turns(alloc, sketch, run)?)?;
     }
     Ok(lifted)
 }

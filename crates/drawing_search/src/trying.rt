@@ -2,12 +2,12 @@
 
 use crate::gains::Field;
 use crate::group::{Group, Vector};
+use crate::least::{DIRECTIONS, LeastTurns};
 use crate::lifting::{Lifted, lift, put_back};
 use crate::sketch::Sketch;
-use grid_board::Bounds;
 use line_chains::Chain;
 use map_base::{NoMemory, NodeId};
-use octi_grid::{Dir, GridPoint};
+use octi_grid::GridPoint;
 use std::alloc::Global;
 
 /// A search under way: the drawing, what it weighs, and how many attempts were made.
@@ -17,17 +17,6 @@ pub(crate) struct Search {
     pub(crate) weight: u64,
     pub(crate) made: u32,
 }
-
-const DIRECTIONS: [Dir; 8] = [
-    Dir::N,
-    Dir::NE,
-    Dir::E,
-    Dir::SE,
-    Dir::S,
-    Dir::SW,
-    Dir::W,
-    Dir::NW,
-];
 
 impl Search {
     /// Makes the attempts of a group that make the drawing lighter, one after another, until so many were made in all.
@@ -70,12 +59,12 @@ impl Search {
             return Ok(None);
         }
         let base = lifted.rest + aparts_after(field, moved, vector);
-        let ahead = self.least_gains(field, runs, moved, vector);
+        let ahead = self.least_gains(runs, &lifted.least, moved, vector);
         if base + ahead >= self.weight {
             return Ok(None);
         }
         self.stand_moved(moved, vector);
-        let found = self.lay_all(alloc, field, runs, base, ahead)?;
+        let found = self.lay_all(alloc, field, runs, &lifted.least, base, ahead)?;
         if found.is_none() {
             self.lift_moved(field, moved);
         }
@@ -108,16 +97,16 @@ impl Search {
     /// What runs add at least where nodes have moved.
     fn least_gains(
         &self,
-        field: Field<'_>,
         runs: &[Chain],
+        least: &[LeastTurns],
         moved: &[(NodeId, GridPoint)],
         vector: Vector,
     ) -> u64 {
         let mut total = 0;
-        for run in runs {
-            let from = self.point_after(run.from, moved, vector);
-            let to = self.point_after(end_of(run), moved, vector);
-            total += field.least_gain(run, from, to);
+        for i in 0..runs.len() {
+            let from = self.point_after(runs[i].from, moved, vector);
+            let to = self.point_after(end_of(&runs[i]), moved, vector);
+            total += least[i].between(from, to);
         }
         total
     }
@@ -153,6 +142,7 @@ impl Search {
         alloc: Global,
         field: Field<'_>,
         runs: &[Chain],
+        least: &[LeastTurns],
         base: u64,
         ahead: u64,
     ) -> Result<Option<u64>, NoMemory> {
@@ -162,7 +152,7 @@ impl Search {
             let run = &runs[i];
             let from = self.sketch.point(run.from);
             let to = self.sketch.point(end_of(run));
-            ahead -= field.least_gain(run, from, to);
+            ahead -= least[i].between(from, to);
             let most = self.weight - 1 - weight - ahead + field.free_turns(run);
             if !self.sketch.lay(alloc, field.graph, run, most)? {
                 self.take_all(field, &runs[..i]);
