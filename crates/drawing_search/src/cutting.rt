@@ -1,5 +1,9 @@
 //! Walks that are cut at even points of their own.
 
+ghost use Rattle.std.specs.Prelude.{◌≡◌, ◌<◌, ◌+◌, length, option_map, IfOk};
+ghost use Rattle.octi_grid.specs.Walks.{points_of};
+ghost use Rattle.run_laying.specs.Pieces.{cuts_at};
+
 use map_base::NoMemory;
 use octi_grid::{Dir, GridPoint, Walk};
 use std::alloc::Global;
@@ -13,7 +17,10 @@ pub(crate) struct Track {
 
 impl Track {
     /// The steps of a walk.
-    pub(crate) fn of(alloc: Global, walk: &Walk) -> Result<Track, NoMemory> {
+    pub(crate) fn of(alloc: Global, walk: &Walk) -> Result<Track, NoMemory>
+        ensures points { IfOk result (λ t. t.points.items ≡ points_of walk.now) }
+        ensures steps { IfOk result (λ t. t.steps.items ≡ walk.now.steps) }
+    {
         let mut points = Vec::new(alloc);
         let mut steps = Vec::new(alloc);
         let mut at = walk.start();

@@ -1,5 +1,11 @@
 //! Runs that are laid anew.
 
+ghost use Rattle.std.specs.Prelude.{◌≡◌, ◌<◌, ◌^◌, IfOk};
+ghost use Rattle.graph_core.specs.Consistent.{IsConsistent};
+ghost use Rattle.run_laying.specs.Runs.{IsRun};
+ghost use Rattle.run_laying.specs.Sketches.{IsFreeFor, IsLegalSketch};
+ghost use Rattle.drawing_search.specs.Trying.{laid_within, IsLaid};
+
 use crate::cutting::Track;
 use crate::sketch::Sketch;
 use graph_core::LineGraph;
@@ -19,7 +25,14 @@ impl Sketch {
         graph: &LineGraph,
         run: &Chain,
         most: u64,
-    ) -> Result<bool, NoMemory> {
+    ) -> Result<bool, NoMemory>
+        requires graph { IsConsistent graph.now }
+        requires legal { IsLegalSketch graph.now self.old }
+        requires run { IsRun graph.now run.now }
+        requires free { IsFreeFor self.old run.now }
+        requires most { most < 2 ^ 63 }
+        ensures laid { IfOk result (λ is_laid. IsLaid (laid_within graph.now most run.now self.old) self.old self.new is_laid) }
+    {
         let steps = run.steps.as_slice();
         let Some(walk) = self.run_walk(alloc, graph, run, most)? else {
             return Ok(false);

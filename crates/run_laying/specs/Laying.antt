@@ -8,7 +8,7 @@ use Rattle.line_chains.specs.declared.chain.Chain.{Chain}
 use Rattle.line_chains.specs.declared.chain.ChainStep.{ChainStep}
 use Rattle.line_chains.specs.Chains.{end_of, ends_of, last_seg}
 use Rattle.octi_grid.specs.declared.point.GridPoint.{GridPoint}
-use Rattle.octi_grid.specs.Walks.{PlainWalk, end_point}
+use Rattle.octi_grid.specs.Walks.{PlainWalk, end_point, points_of}
 use Rattle.grid_board.specs.declared.bounds.Bounds.{Bounds}
 use Rattle.grid_board.specs.Boards.{BoardParts}
 use Rattle.walk_search.specs.Routes.{route}
@@ -81,7 +81,7 @@ with_pieces graph n (t ∷ ts) (w ∷ ws) k = with_pieces graph t.to ts ws (with
 abbrev pub laid_along : GraphParts → Chain → Sketch → Option PlainWalk → Option Sketch
 laid_along graph c k None = None
 laid_along graph c k (Some w) =
-    if nat_le (length c.steps) (even_steps w) then Some (with_pieces graph c.from c.steps (pieces_of w (length c.steps)) k) else None
+    if nat_le (length c.steps) (even_steps (points_of w)) then Some (with_pieces graph c.from c.steps (pieces_of w (length c.steps)) k) else None
 
 -- a run is laid, if it can be
 abbrev pub laid : GraphParts → Chain → Sketch → Option Sketch

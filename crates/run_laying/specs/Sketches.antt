@@ -1,5 +1,5 @@
 -- Changes of a drawing in the making, and when it is legal.
-use Rattle.std.specs.Prelude.{◌≡◌, ℕ, ◌<◌, ◌⊎◌, Bool, true, false, pos, List, [], length, Option, Some, None, Contains, slice_index_or, slice_set}
+use Rattle.std.specs.Prelude.{◌≡◌, ℕ, ◌<◌, ◌⊎◌, Bool, true, false, pos, List, [], length, Option, Some, None, All, Contains, slice_index_or, slice_set}
 use Rattle.std.specs.List.{filter_map, list_all}
 use Rattle.map_base.specs.declared.ids.NodeId.{NodeId}
 use Rattle.map_base.specs.declared.ids.SegId.{SegId}
@@ -10,7 +10,10 @@ use Rattle.octi_grid.specs.Walks.{doubled_of, end_point, points_of, PlainWalk}
 use Rattle.octi_grid.specs.Legal.{are_clockwise, are_distinct, is_even}
 use Rattle.grid_board.specs.Boards.{contains, AreBounds}
 use Rattle.segment_router.specs.Routes.{port_at_node}
-use Rattle.line_chains.specs.Chains.{ends_of}
+use Rattle.line_chains.specs.declared.chain.Chain.{Chain}
+use Rattle.line_chains.specs.declared.chain.ChainStep.{ChainStep}
+use Rattle.line_chains.specs.Chains.{end_of, ends_of}
+use Rattle.run_laying.specs.Attempts.{inner_nodes}
 use Rattle.run_laying.specs.Laying.{board_under, Sketch}
 
 -- a node stands at a point, or is taken off the board
@@ -67,3 +70,10 @@ pub record IsLegalSketch (graph : GraphParts) (k : Sketch) : Type 0 where
   pub apart : (s t : SegId) (v w : PlainWalk) (d : GridPoint) → (s.0 ≡ t.0 → ⊥) → walk_in k s ≡ Some v → walk_in k t ≡ Some w → Contains (doubled_of v) d → Contains (doubled_of w) d → IsMeeting graph k s t d
   pub clear : (s : SegId) (w : PlainWalk) (n : ℕ) → walk_in k s ≡ Some w → is_standing k n ≡ true → Contains (doubled_of w) (doubled (point_of_node k n)) → IsEndOf graph s n
   pub ports : (n : ℕ) → n < length graph.kinds → are_clockwise (filter_map (port_at_node graph (board_under k) n) (slice_index_or graph.rounds n [])) ≡ true
+
+-- a run may be laid: its ends stand, the nodes between them don't, and its segments have no walk
+pub record IsFreeFor (k : Sketch) (c : Chain) : Type 0 where
+  pub from : is_standing k c.from.0 ≡ true
+  pub end : is_standing k (end_of c).0 ≡ true
+  pub inner : All (λ (n : NodeId). is_standing k n.0 ≡ false) (inner_nodes c.steps)
+  pub walks : All (λ (t : ChainStep). walk_in k t.seg ≡ None) c.steps
