@@ -1,2 +1,5 @@
 pub mod Rounds
 pub mod Walking
+mod Listing
+mod Flags
+mod Farthest

@@ -1,10 +1,14 @@
 -- Ways, step by step.
-use Rattle.std.proofs.Common.{◌≡◌, ◌∙◌, refl, sym, ap, ℕ, zero, suc, ◌+◌, ◌-◌, ◌<◌, Bool, true, false, List, [], ◌∷◌, ◌++◌, append_assoc, append-nil, arith}
+use Rattle.std.proofs.Common.{◌≡◌, ◌∙◌, refl, sym, ap, ap₂, subst, ℕ, zero, suc, ◌+◌, ◌-◌, ◌<◌, ◌≤◌, Bool, true, false, not, ◌&&◌, ◌||◌, eqb, List, [], ◌∷◌, ◌++◌, length, map, get_or, drop, append_assoc, arith}
+use Rattle.std.specs.List.{All}
+use Rattle.std.proofs.lemmas.Bool.{eq-eqb}
+use Rattle.std.proofs.lemmas.List.{drop_more}
 use Rattle.map_base.specs.declared.ids.NodeId.{NodeId}
 use Rattle.map_base.specs.declared.ids.SegId.{SegId}
 use Rattle.graph_core.specs.declared.parts.GraphParts.{GraphParts}
 use Rattle.line_chains.specs.declared.chain.ChainStep.{ChainStep}
-use Rattle.line_chains.specs.Chains.{far_end, is_corner, other_of, round_of, steps_from, unless_ended}
+use Rattle.line_chains.specs.Chains.{end_after, far_end, is_corner, last_seg, nodes_along, other_of, round_of, stands_before, steps_from, unless_ended}
+use Rattle.line_chains.specs.declared.chain.Chain.{Chain}
 
 -- the step by a segment
 abbrev pub step_by : GraphParts → NodeId → SegId → ChainStep
@@ -33,3 +37,32 @@ steps_end graph corners most i n s seen whole h ended e =
     ap (λ (v : List ChainStep). seen ++ step_by graph n s ∷ v) (sym (ap (λ t. unless_ended t (steps_from graph corners (most - (i + 1)) (far_end graph s n) (other_of (round_of graph (far_end graph s n)) s))) ended))
     ∙ sym (ap (λ (v : List ChainStep). seen ++ v) (one_step graph corners most i n s h))
     ∙ e
+
+-- where steps end, and the last segment, one step on
+pub end_more : (n : NodeId) (steps : List ChainStep) (i : ℕ) (d : ChainStep) → i < length steps → end_after (get_or steps i d).to (drop (i + 1) steps) ≡ end_after n (drop i steps)
+end_more n steps i d h = sym (ap (end_after n) (drop_more steps i d h))
+
+pub last_more : (s : SegId) (steps : List ChainStep) (i : ℕ) (d : ChainStep) → i < length steps → last_seg (get_or steps i d).seg (drop (i + 1) steps) ≡ last_seg s (drop i steps)
+last_more s steps i d h = sym (ap (last_seg s) (drop_more steps i d h))
+
+-- no segment stands before itself
+both_false : (s t : Bool) → ((s && false) || (t && false)) ≡ false
+both_false true true = refl
+both_false true false = refl
+both_false false true = refl
+both_false false false = refl
+
+pub never_before : (round : List SegId) (a b : SegId) → a.0 ≡ b.0 → stands_before round a b ≡ false
+never_before [] a b e = refl
+never_before (r ∷ rest) a b e =
+    ap₂ (λ s t. (eqb r.0 a.0 && not s) || (not (eqb r.0 b.0) && t)) (eq-eqb a.0 b.0 e) (never_before rest a b e) ∙ both_false (eqb r.0 a.0) (not (eqb r.0 b.0))
+
+-- what holds of the nodes of steps holds of the nodes along a chain
+pub all_along : (m : ℕ) (n : NodeId) (steps : List ChainStep) → n.0 < m → All (λ (t : ChainStep). t.to.0 < m) steps → All (λ (k : NodeId). k.0 < m) (nodes_along (record { from = n; steps = steps }))
+all_along m n steps h all zero d below = h
+all_along m n steps h all (suc k) d below = of_steps steps all k d (omega arith)
+  where
+    of_steps : (ts : List ChainStep) → All (λ (t : ChainStep). t.to.0 < m) ts → (i : ℕ) (e : NodeId) → i < length (map (λ (t : ChainStep). t.to) ts) → (get_or (map (λ (t : ChainStep). t.to) ts) i e).0 < m
+    of_steps [] each i e h = let none : i < 0 = h in absurd (omega arith)
+    of_steps (t ∷ ts) each zero e h = each 0 t (omega arith)
+    of_steps (t ∷ ts) each (suc i) e h = of_steps ts (λ j f g. each (suc j) f (omega arith)) i e (omega arith)

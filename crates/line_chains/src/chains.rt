@@ -96,26 +96,31 @@ fn is_forward(graph: &LineGraph, s: SegId, way: &Chain) -> bool
 }
 
 /// Where steps from a node end.
+#[tactic(auto, using(crate::proofs::Walking::end_more))]
 fn end_after(n: NodeId, steps: &[ChainStep]) -> NodeId
     ensures { result ≡ end_after n steps.now }
 {
-    match steps.last() {
-        None => n,
-        Some(step) => step.to,
+    let mut at = n;
+    for step in steps {
+        at = step.to;
     }
+    at
 }
 
 /// The last segment of steps, or the one given where there is none.
+#[tactic(auto, using(crate::proofs::Walking::last_more))]
 fn last_seg(s: SegId, steps: &[ChainStep]) -> SegId
     ensures { result ≡ last_seg s steps.now }
 {
-    match steps.last() {
-        None => s,
-        Some(step) => step.seg,
+    let mut last = s;
+    for step in steps {
+        last = step.seg;
     }
+    last
 }
 
 /// Whether of two different segments of a round the first one stands before the other.
+#[tactic(auto, using(crate::proofs::Walking::never_before))]
 fn stands_before(round: &[SegId], a: SegId, b: SegId) -> bool
     ensures { result ≡ stands_before round.now a b }
 {
