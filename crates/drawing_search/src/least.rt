@@ -24,23 +24,53 @@ pub(crate) const DIRECTIONS: [Dir; 8] = [
 const NEVER: u64 = 1 << 50;
 
 /// What a run adds at least beside what it costs to come from one end to the other, by the number of the direction in which
-/// a straight way leads there, or by 8 where none does.
+/// a straight way leads there, or by 8 where none does; what a turn of 45 degrees in its walk adds at least; and how many
+/// such turns may add nothing, at nodes that no line goes over.
 #[derive(Clone, Copy, Debug)]
 pub(crate) struct LeastTurns {
-    pub(crate) by: [u64; 9],
+    by: [u64; 9],
+    per_turn: u64,
+    free_turns: u64,
 }
 
 impl LeastTurns {
     /// What the run adds at least between two points.
     pub(crate) fn between(self, from: GridPoint, to: GridPoint) -> u64 {
-        reach(from, to) + self.by[usize::from(straight_way(from, to))]
+        reach(from, to) + self.turns_between(from, to)
     }
 
-    /// The least of these and of a walk that leaves by one direction, comes in another, makes lines turn over its ends by
-    /// so much, and whose turns weigh so much each.
-    fn with_walk(&mut self, first: Dir, last: Dir, overs: u64, per_turn: u64) {
+    /// The same beside what it costs to come over.
+    fn turns_between(self, from: GridPoint, to: GridPoint) -> u64 {
+        self.by[usize::from(straight_way(from, to))]
+    }
+
+    /// What the walk of the run may cost between two points at most where the run may add so much, which is no less than it
+    /// adds at least. What it adds for turns it costs once more only for each turn.
+    pub(crate) fn walk_limit(self, may_add: u64, from: GridPoint, to: GridPoint) -> u64 {
+        let turns = self.turns_between(from, to);
+        if self.per_turn == 0 {
+            return may_add - turns + self.free_turns;
+        }
+        may_add - turns + turns / self.per_turn
+    }
+
+    /// The same of walks that leave by one port, if it is allowed.
+    fn with_first(&mut self, first: Dir, overs: Option<u64>, to: &[Option<u64>; 8]) {
+        let Some(here) = overs else {
+            return;
+        };
+        for e in DIRECTIONS {
+            if let Some(there) = to[usize::from(e.index())] {
+                self.with_walk(first, e.reverse(), here + there);
+            }
+        }
+    }
+
+    /// The least of these and of a walk that leaves by one direction, comes in another, and makes lines turn over its ends
+    /// by so much.
+    fn with_walk(&mut self, first: Dir, last: Dir, overs: u64) {
         for k in 0..9 {
-            let weight = overs + per_turn * turns_at_least(first, last, k);
+            let weight = overs + self.per_turn * turns_at_least(first, last, k);
             self.by[usize::from(k)] = self.by[usize::from(k)].min(weight);
         }
     }
@@ -59,31 +89,15 @@ impl<'a> Field<'a> {
         let last = steps[steps.len() - 1];
         let from = self.overs_at(alloc, sketch, run.from, steps[0].seg)?;
         let to = self.overs_at(alloc, sketch, last.to, last.seg)?;
-        let per_turn = self.turn_price(steps);
-        let mut least = LeastTurns { by: [NEVER; 9] };
+        let mut least = LeastTurns {
+            by: [NEVER; 9],
+            per_turn: self.turn_price(steps),
+            free_turns: 4 * self.free_nodes(steps),
+        };
         for d in DIRECTIONS {
-            self.with_first(&mut least, d, from[usize::from(d.index())], &to, per_turn);
+            least.with_first(d, from[usize::from(d.index())], &to);
         }
         Ok(least)
-    }
-
-    /// The same of walks that leave by one port.
-    fn with_first(
-        self,
-        least: &mut LeastTurns,
-        first: Dir,
-        overs: Option<u64>,
-        to: &[Option<u64>; 8],
-        per_turn: u64,
-    ) {
-        let Some(here) = overs else {
-            return;
-        };
-        for e in DIRECTIONS {
-            if let Some(there) = to[usize::from(e.index())] {
-                least.with_walk(first, e.reverse(), here + there, per_turn);
-            }
-        }
     }
 
     /// For each port that a segment may have at a node, what the turns then weigh that lines make from it to segments that
@@ -115,11 +129,6 @@ impl<'a> Field<'a> {
             return 0;
         }
         self.by.overs.min(1 + self.by.turns)
-    }
-
-    /// By how much the walk of a run may cost more than the run adds: the turns at nodes that no line goes over.
-    pub(crate) fn free_turns(self, run: &Chain) -> u64 {
-        4 * self.free_nodes(run.steps.as_slice())
     }
 
     /// How many of the nodes between the ends of a run no line goes over.

@@ -153,7 +153,7 @@ impl Search {
             let from = self.sketch.point(run.from);
             let to = self.sketch.point(end_of(run));
             ahead -= least[i].between(from, to);
-            let most = self.weight - 1 - weight - ahead + field.free_turns(run);
+            let most = least[i].walk_limit(self.weight - 1 - weight - ahead, from, to);
             if !self.sketch.lay(alloc, field.graph, run, most)? {
                 self.take_all(field, &runs[..i]);
                 return Ok(None);

@@ -66,3 +66,7 @@ all_along m n steps h all (suc k) d below = of_steps steps all k d (omega arith)
     of_steps [] each i e h = let none : i < 0 = h in absurd (omega arith)
     of_steps (t ∷ ts) each zero e h = each 0 t (omega arith)
     of_steps (t ∷ ts) each (suc i) e h = of_steps ts (λ j f g. each (suc j) f (omega arith)) i e (omega arith)
+
+pub one_below : (m : ℕ) (t : ChainStep) → t.to.0 < m → All (λ (u : ChainStep). u.to.0 < m) (t ∷ [])
+one_below m t h zero d below = h
+one_below m t h (suc k) d below = absurd (omega (arith, below))
