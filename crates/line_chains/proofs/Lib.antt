@@ -3,3 +3,5 @@ pub mod Walking
 mod Listing
 mod Flags
 mod Farthest
+mod Bending
+mod Reaching
