@@ -11,20 +11,17 @@ use Rattle.line_chains.specs.Bends.{bend_place, bends_of, far_off, first_place, 
 pub stands_below : (xs : List ℕ) → 0 < length xs → first_place (greatest xs) xs < length xs
 stands_below [] h = absurd (omega (arith, h))
 stands_below (x ∷ []) h = let first : eqb x (max x 0) ≡ true = eq-eqb x (max x 0) (omega arith) in subst (λ t. cond t 0 (suc 0) < 1) (sym first) (omega arith)
-stands_below (x ∷ y ∷ ys) h = by_order (cases_lt x (greatest (y ∷ ys)))
+stands_below (x ∷ y ∷ ys) h = by_order (stands_below (y ∷ ys) (omega arith)) (cases_lt x (greatest (y ∷ ys)))
   where
     g : ℕ
     g = greatest (y ∷ ys)
 
-    rest : first_place g (y ∷ ys) < length (y ∷ ys)
-    rest = stands_below (y ∷ ys) (omega arith)
-
-    by_order : (x < g) ⊎ (g ≤ x) → first_place (max x g) (x ∷ y ∷ ys) < length (x ∷ y ∷ ys)
-    by_order (inl low) =
+    by_order : first_place g (y ∷ ys) < length (y ∷ ys) → (x < g) ⊎ (g ≤ x) → first_place (max x g) (x ∷ y ∷ ys) < length (x ∷ y ∷ ys)
+    by_order rest (inl low) =
         let most : max x g ≡ g = omega arith in
         subst (λ m. first_place m (x ∷ y ∷ ys) < length (x ∷ y ∷ ys)) (sym most)
         (subst (λ t. cond t 0 (suc (first_place g (y ∷ ys))) < length (x ∷ y ∷ ys)) (sym (ne_eqb x g (λ e. omega (arith, e)))) (omega (arith, rest)))
-    by_order (inr high) =
+    by_order rest (inr high) =
         let most : max x g ≡ x = omega arith in
         subst (λ m. first_place m (x ∷ y ∷ ys) < length (x ∷ y ∷ ys)) (sym most)
         (subst (λ t. cond t 0 (suc (first_place x (y ∷ ys))) < length (x ∷ y ∷ ys)) (sym (eq-eqb x x refl)) (omega arith))
@@ -32,7 +29,7 @@ stands_below (x ∷ y ∷ ys) h = by_order (cases_lt x (greatest (y ∷ ys)))
 -- so a chain bends at a place between its ends
 length_offs : (graph : GraphParts) (nodes : List NodeId) → length (offs_of graph nodes) ≡ length nodes - 2
 length_offs graph nodes =
-    length-map (λ (n : NodeId). off_of (place_of graph (node_at nodes 0)) (place_of graph (node_at nodes (last_place nodes))) (place_of graph n)) (drop 1 (take (last_place nodes) nodes))
+    length-map (drop 1 (take (last_place nodes) nodes))
     ∙ length-drop 1 (take (last_place nodes) nodes)
     ∙ ap (λ n. n - 1) (length-take (last_place nodes) nodes)
     ∙ sizes (length nodes)
@@ -64,7 +61,7 @@ enough graph cell zero (suc k) nodes a b =
 enough graph cell (suc m) zero nodes a b =
     let p = bend_place graph nodes in
     ap (bends_by graph cell nodes (bends_of m graph cell (take (p + 1) nodes)) (bends_of m graph cell (drop p nodes))) (short graph cell nodes (omega arith))
-enough graph cell (suc m) (suc k) nodes a b = by_test (is_bent graph cell nodes) refl
+enough graph cell (suc m) (suc k) nodes a b = by_test (λ ns c d. enough graph cell m k ns c d) (is_bent graph cell nodes) refl
   where
     p : ℕ
     p = bend_place graph nodes
@@ -72,15 +69,16 @@ enough graph cell (suc m) (suc k) nodes a b = by_test (is_bent graph cell nodes)
     of : ℕ → Bool → List NodeId
     of j t = bends_by graph cell nodes (bends_of j graph cell (take (p + 1) nodes)) (bends_of j graph cell (drop p nodes)) t
 
-    by_test : (t : Bool) → is_bent graph cell nodes ≡ t → of m (is_bent graph cell nodes) ≡ of k (is_bent graph cell nodes)
-    by_test false e = ap (of m) e ∙ sym (ap (of k) e)
-    by_test true e =
+    by_test : ((ns : List NodeId) → length ns ≤ m → length ns ≤ k → bends_of m graph cell ns ≡ bends_of k graph cell ns)
+        → (t : Bool) → is_bent graph cell nodes ≡ t → of m (is_bent graph cell nodes) ≡ of k (is_bent graph cell nodes)
+    by_test parts false e = ap (of m) e ∙ sym (ap (of k) e)
+    by_test parts true e =
         let inside = place_inside graph nodes (bent_long graph cell nodes e) in
         let first : length (take (p + 1) nodes) ≡ min (p + 1) (length nodes) = length-take (p + 1) nodes in
         let second : length (drop p nodes) ≡ length nodes - p = length-drop p nodes in
         ap (of m) e
-        ∙ ap₂ (λ (x y : List NodeId). node_at nodes p ∷ (x ++ y)) (enough graph cell m k (take (p + 1) nodes) (omega (arith, first, inside)) (omega (arith, first, inside)))
-        (enough graph cell m k (drop p nodes) (omega (arith, second, inside)) (omega (arith, second, inside)))
+        ∙ ap₂ (λ (x y : List NodeId). node_at nodes p ∷ (x ++ y)) (parts (take (p + 1) nodes) (omega (arith, first, inside)) (omega (arith, first, inside)))
+        (parts (drop p nodes) (omega (arith, second, inside)) (omega (arith, second, inside)))
         ∙ sym (ap (of k) e)
 
 -- corners at the nodes at which a bent chain bends

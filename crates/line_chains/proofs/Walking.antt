@@ -1,7 +1,7 @@
 -- Ways, step by step.
-use Rattle.std.proofs.Common.{◌≡◌, ◌∙◌, refl, sym, ap, ap₂, subst, ℕ, zero, suc, ◌+◌, ◌-◌, ◌<◌, ◌≤◌, Bool, true, false, not, ◌&&◌, ◌||◌, eqb, List, [], ◌∷◌, ◌++◌, length, map, get_or, drop, append_assoc, arith}
+use Rattle.std.proofs.Common.{◌≡◌, ◌≢◌, ◌∙◌, refl, sym, ap, ap₂, subst, ℕ, zero, suc, ◌+◌, ◌-◌, ◌<◌, ◌≤◌, Bool, true, false, not, ◌&&◌, ◌||◌, eqb, List, [], ◌∷◌, ◌++◌, length, map, get_or, drop, append_assoc, arith}
 use Rattle.std.specs.List.{All}
-use Rattle.std.proofs.lemmas.Bool.{eq-eqb}
+use Rattle.std.proofs.lemmas.Bool.{eq-eqb, ne_eqb}
 use Rattle.std.proofs.lemmas.List.{drop_more}
 use Rattle.map_base.specs.declared.ids.NodeId.{NodeId}
 use Rattle.map_base.specs.declared.ids.SegId.{SegId}
@@ -70,3 +70,19 @@ all_along m n steps h all (suc k) d below = of_steps steps all k d (omega arith)
 pub one_below : (m : ℕ) (t : ChainStep) → t.to.0 < m → All (λ (u : ChainStep). u.to.0 < m) (t ∷ [])
 one_below m t h zero d below = h
 one_below m t h (suc k) d below = absurd (omega (arith, below))
+
+-- one segment of a round more
+pub stands_next : (round : List SegId) (i : ℕ) (d a b : SegId) → i < length round → (get_or round i d).0 ≢ a.0 → (get_or round i d).0 ≢ b.0 → stands_before (drop (i + 1) round) a b ≡ stands_before (drop i round) a b
+stands_next round i d a b h f g =
+    sym (ap (λ (v : List SegId). stands_before v a b) (drop_more round i d h)
+    ∙ ap₂ (λ s t. (s && not (eqb a.0 b.0)) || (not t && stands_before (drop (i + 1) round) a b)) (ne_eqb (get_or round i d).0 a.0 f) (ne_eqb (get_or round i d).0 b.0 g))
+
+pub stands_here : (round : List SegId) (i : ℕ) (d a b : SegId) → i < length round → (get_or round i d).0 ≡ a.0 → a.0 ≢ b.0 → stands_before (drop i round) a b ≡ true
+stands_here round i d a b h e f =
+    ap (λ (v : List SegId). stands_before v a b) (drop_more round i d h)
+    ∙ ap₂ (λ s t. (s && not t) || (not (eqb (get_or round i d).0 b.0) && stands_before (drop (i + 1) round) a b)) (eq-eqb (get_or round i d).0 a.0 e) (ne_eqb a.0 b.0 f)
+
+pub stands_not : (round : List SegId) (i : ℕ) (d a b : SegId) → i < length round → (get_or round i d).0 ≢ a.0 → (get_or round i d).0 ≡ b.0 → stands_before (drop i round) a b ≡ false
+stands_not round i d a b h f e =
+    ap (λ (v : List SegId). stands_before v a b) (drop_more round i d h)
+    ∙ ap₂ (λ s t. (s && not (eqb a.0 b.0)) || (not t && stands_before (drop (i + 1) round) a b)) (ne_eqb (get_or round i d).0 a.0 f) (eq-eqb (get_or round i d).0 b.0 e)

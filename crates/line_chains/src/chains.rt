@@ -120,7 +120,7 @@ fn last_seg(s: SegId, steps: &[ChainStep]) -> SegId
 }
 
 /// Whether of two different segments of a round the first one stands before the other.
-#[tactic(auto, using(crate::proofs::Walking::never_before))]
+#[tactic(auto, using(crate::proofs::Walking::never_before, crate::proofs::Walking::stands_next, crate::proofs::Walking::stands_here, crate::proofs::Walking::stands_not))]
 fn stands_before(round: &[SegId], a: SegId, b: SegId) -> bool
     ensures { result ≡ stands_before round.now a b }
 {

@@ -54,13 +54,21 @@ pub(crate) fn way_from(
         let to = far_end(graph, seg, at);
         steps.push(ChainStep { seg, to })?;
         if corners[to.0 as usize] {
-            break;
+            return Ok(chain_of(n, steps));
         }
         seg = other_of(graph.round(to), seg);
         at = to;
     }
-    Ok(Chain {
-        from: n,
+    Ok(chain_of(n, steps))
+}
+
+/// The chain of these steps.
+fn chain_of(from: NodeId, steps: Vec<ChainStep>) -> Chain
+    ensures from { result.from ≡ from }
+    ensures steps { result.steps ≡ steps.items }
+{
+    Chain {
+        from,
         steps: Sequence::of(steps),
-    })
+    }
 }

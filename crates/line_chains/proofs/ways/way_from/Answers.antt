@@ -9,7 +9,6 @@ use Rattle.line_chains.specs.declared.chain.ChainStep.{ChainStep}
 use Rattle.line_chains.specs.Chains.{far_end, is_corner, nodes_along, other_of, round_of, steps_from, way_from}
 use Rattle.line_chains.proofs.Walking.{all_along, one_below, step_by, steps_end, steps_go_on}
 use Rattle.line_chains.proofs.Rounds.{other_below, round_below}
-use Rattle.line_chains.proofs.ways.way_from.Goals.{else-loop-i-test, then-loop-i-test+in_ok-push+then-corners-to}
 use Rattle.line_chains.proofs.ways.way_from.Goals as goal
 
 pub loop-i-preserved : goal.loop-i-preserved
