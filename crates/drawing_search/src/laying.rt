@@ -107,14 +107,19 @@ impl Sketch {
         Ok(allowed_ports(graph, n, seg, &taken))
     }
 
-    /// Takes a run away that was laid.
+    /// Takes a run away that was laid: its walks, and then the nodes between its ends.
     pub(crate) fn take_run(&mut self, graph: &LineGraph, run: &Chain) {
         let steps = run.steps.as_slice();
-        for i in 0..steps.len() {
-            self.take_walk(graph, steps[i].seg);
-            if i + 1 < steps.len() {
-                self.lift(graph, steps[i].to);
-            }
+        for step in steps {
+            self.take_walk(graph, step.seg);
+        }
+        self.lift_between(graph, steps);
+    }
+
+    /// Takes the nodes between the ends of steps off the board.
+    fn lift_between(&mut self, graph: &LineGraph, steps: &[ChainStep]) {
+        for i in 1..steps.len() {
+            self.lift(graph, steps[i - 1].to);
         }
     }
 }

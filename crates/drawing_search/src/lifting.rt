@@ -4,7 +4,7 @@ use crate::gains::Field;
 use crate::group::Group;
 use crate::least::LeastTurns;
 use crate::sketch::Sketch;
-use line_chains::Chain;
+use line_chains::{Chain, ChainStep};
 use map_base::{NoMemory, NodeId, SegId};
 use octi_grid::{GridPoint, Walk};
 use std::alloc::Global;
@@ -51,7 +51,7 @@ pub(crate) fn lift(
     Ok(lifted)
 }
 
-/// Takes a run off the board.
+/// Takes a run off the board: its walks, and then the nodes between its ends.
 fn lift_run(
     field: Field<'_>,
     sketch: &mut Sketch,
@@ -59,15 +59,25 @@ fn lift_run(
     lifted: &mut Lifted,
 ) -> Result<(), NoMemory> {
     let steps = run.steps.as_slice();
-    for i in 0..steps.len() {
-        let step = steps[i];
+    for step in steps {
         if let Some(walk) = sketch.take_walk(field.graph, step.seg) {
             lifted.walks.push((step.seg, walk))?;
         }
-        if i + 1 < steps.len() {
-            lifted.inner.push((step.to, sketch.point(step.to)))?;
-            sketch.lift(field.graph, step.to);
-        }
+    }
+    lift_between(field, sketch, steps, lifted)
+}
+
+/// Takes the nodes between the ends of steps off the board.
+fn lift_between(
+    field: Field<'_>,
+    sketch: &mut Sketch,
+    steps: &[ChainStep],
+    lifted: &mut Lifted,
+) -> Result<(), NoMemory> {
+    for i in 1..steps.len() {
+        let n = steps[i - 1].to;
+        lifted.inner.push((n, sketch.point(n)))?;
+        sketch.lift(field.graph, n);
     }
     Ok(())
 }
