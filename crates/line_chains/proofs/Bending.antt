@@ -29,7 +29,7 @@ stands_below (x ∷ y ∷ ys) h = by_order (stands_below (y ∷ ys) (omega arith
 -- so a chain bends at a place between its ends
 length_offs : (graph : GraphParts) (nodes : List NodeId) → length (offs_of graph nodes) ≡ length nodes - 2
 length_offs graph nodes =
-    length-map (drop 1 (take (last_place nodes) nodes))
+    length-map (drop 1 (take (last_place nodes) nodes)) (λ (n : NodeId). off_of (place_of graph (node_at nodes 0)) (place_of graph (node_at nodes (last_place nodes))) (place_of graph n))
     ∙ length-drop 1 (take (last_place nodes) nodes)
     ∙ ap (λ n. n - 1) (length-take (last_place nodes) nodes)
     ∙ sizes (length nodes)

@@ -86,3 +86,12 @@ pub stands_not : (round : List SegId) (i : ℕ) (d a b : SegId) → i < length r
 stands_not round i d a b h f e =
     ap (λ (v : List SegId). stands_before v a b) (drop_more round i d h)
     ∙ ap₂ (λ s t. (s && not (eqb a.0 b.0)) || (not t && stands_before (drop (i + 1) round) a b)) (ne_eqb (get_or round i d).0 a.0 f) (eq-eqb (get_or round i d).0 b.0 e)
+
+-- and what holds of the nodes along a chain holds of each step's
+pub along_below : (m : ℕ) (c : Chain) (i : ℕ) (d : ChainStep) → i < length c.steps → All (λ (k : NodeId). k.0 < m) (nodes_along c) → (get_or c.steps i d).to.0 < m
+along_below m c i d h all = of_steps c.steps i h (λ j e g. all (suc j) e (omega arith))
+  where
+    of_steps : (ts : List ChainStep) (j : ℕ) → j < length ts → All (λ (k : NodeId). k.0 < m) (map (λ (t : ChainStep). t.to) ts) → (get_or ts j d).to.0 < m
+    of_steps [] j g each = absurd (omega (arith, g))
+    of_steps (t ∷ ts) zero g each = each 0 t.to (omega arith)
+    of_steps (t ∷ ts) (suc j) g each = of_steps ts j (omega arith) (λ k e f. each (suc k) e (omega arith))
