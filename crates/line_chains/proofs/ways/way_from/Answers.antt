@@ -68,5 +68,5 @@ returns-then-corners-to-clause-nodes c =
 pub returns-clause-nodes : goal.returns-clause-nodes
 returns-clause-nodes c =
     let g = c.args.graph.now in
-    subst (λ (w : Chain). All (λ (k : NodeId). k.0 < length g.kinds) (nodes_along w)) (sym (ap₂ (λ (n : NodeId) (v : List ChainStep). (let way : Chain = record { from = n; steps = v } in way)) c.chain_of.ensures.from c.chain_of.ensures.steps))
+    subst (λ (w : Chain). All (λ (k : NodeId). k.0 < length g.kinds) (nodes_along w)) (sym (ap₂ (λ (n : NodeId) (v : List ChainStep). (let way : Chain = record { from = n; steps = v } in way)) c.chain_of-2.ensures.from c.chain_of-2.ensures.steps))
     (all_along (length g.kinds) c.args.n c.loop-i.steps.items c.requires.node c.loop-i.invariant.nodes)
