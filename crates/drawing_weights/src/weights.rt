@@ -92,7 +92,7 @@ pub fn walk_weight(walk: &Walk) -> u64
 }
 
 /// What the turns of runs cost together.
-fn turns_of(runs: &[Run]) -> u64
+pub(crate) fn turns_of(runs: &[Run]) -> u64
     requires runs { are_runs runs.now ≡ true }
     requires few { length (steps_of runs.now) ≤ 16008001 }
     ensures turns { result ≡ turns_of (steps_of runs.now) }

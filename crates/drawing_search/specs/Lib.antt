@@ -1,0 +1,4 @@
+-- What a search keeps and promises.
+pub mod Shown
+pub mod Searched
+pub mod Trying

@@ -1,0 +1,152 @@
+//! Corners where the ground bends.
+
+ghost use Rattle.std.specs.Prelude.{◌≡◌, ◌≤◌, ◌<◌, ◌*◌, ◌+◌, fold, length, map, unsigned_abs, All, IfOk, IfSome, Some, None, if◌then◌else◌};
+ghost use Rattle.map_base.specs.declared.ids.NodeId.{NodeId as Node};
+ghost use Rattle.graph_core.specs.Consistent.{IsConsistent};
+ghost use Rattle.fixed_plane.specs.Plane.{IsInPlane};
+ghost use Rattle.fixed_plane.specs.Measures.{square_of};
+ghost use Rattle.line_chains.specs.Bends.{bend_place, bends_of, corners_of, first_place, greatest, is_bent, off_of, place_of, scale_of, with_corner};
+ghost use Rattle.line_chains.specs.Chains.{nodes_along};
+
+use crate::chain::Chain;
+use crate::chains::chains_of;
+use crate::corners::ring_corners;
+use fixed_plane::{dist2, side};
+use graph_core::LineGraph;
+use map_base::{NoMemory, NodeId, Point};
+use std::alloc::Global;
+
+/// The corners of a line graph that is drawn on cells of a side in decimetres, one flag for each node: where not two
+/// segments meet, the least node of a ring without such a node, and, again and again, of each chain between corners the
+/// first inner node that lies farthest off the straight piece between its ends, where that is more than three cells, or
+/// where both ends are one node.
+pub fn corners_of(alloc: Global, graph: &LineGraph, cell: u32) -> Result<Vec<bool>, NoMemory>
+    ensures { IfOk result (λ corners. corners.items ≡ corners_of graph.now cell) }
+{
+    let mut corners = ring_corners(alloc, graph)?;
+    let chains = chains_of(alloc, graph, &corners)?;
+    for chain in &chains {
+        let nodes = nodes_along(alloc, chain)?;
+        mark_bends(graph, cell, &nodes, &mut corners);
+    }
+    Ok(corners)
+}
+
+/// The nodes of a chain, from one end to the other.
+fn nodes_along(alloc: Global, chain: &Chain) -> Result<Vec<NodeId>, NoMemory>
+    ensures { IfOk result (λ nodes. nodes.items ≡ nodes_along chain.now) }
+{
+    let steps = chain.steps.as_slice();
+    let mut nodes = Vec::new(alloc);
+    nodes.push(chain.from)?;
+    for step in steps {
+        nodes.push(step.to)?;
+    }
+    Ok(nodes)
+}
+
+/// Makes the nodes corners at which the ground bends along a chain of these nodes.
+fn mark_bends(graph: &LineGraph, cell: u32, nodes: &[NodeId], corners: &mut [bool])
+    requires graph { IsConsistent graph.now }
+    requires nodes { All (λ (n : Node). n.0 < length graph.now.kinds) nodes.now }
+    requires each { length corners.old ≡ length graph.now.kinds }
+    ensures { corners.new ≡ fold with_corner corners.old (bends_of (length nodes.now) graph.now cell nodes.now) }
+{
+    let Some(place) = bend_place(graph, cell, nodes) else {
+        return;
+    };
+    corners[nodes[place].0 as usize] = true;
+    mark_bends(graph, cell, &nodes[..place + 1], corners);
+    mark_bends(graph, cell, &nodes[place..], corners);
+}
+
+/// The place of the node at which the ground bends first between the ends of a list, if it does.
+fn bend_place(graph: &LineGraph, cell: u32, nodes: &[NodeId]) -> Option<usize>
+    requires graph { IsConsistent graph.now }
+    requires nodes { All (λ (n : Node). n.0 < length graph.now.kinds) nodes.now }
+    ensures place { result ≡ (if is_bent graph.now cell nodes.now then Some (bend_place graph.now nodes.now) else None) }
+    ensures after { IfSome result (λ place. 0 < place) }
+    ensures before { IfSome result (λ place. place + 1 < length nodes.now) }
+{
+    if nodes.len() <= 2 {
+        return None;
+    }
+    let last = nodes.len() - 1;
+    let a = graph.place(nodes[0]);
+    let b = graph.place(nodes[last]);
+    let (place, off) = farthest(graph, a, b, &nodes[1..last]);
+    if nodes[0] == nodes[last] || far_off(cell, a, b) < off {
+        Some(place + 1)
+    } else {
+        None
+    }
+}
+
+/// The place of the first node that lies farthest off the straight piece from a to b, and how far off it lies.
+fn farthest(graph: &LineGraph, a: Point, b: Point, inner: &[NodeId]) -> (usize, u128)
+    requires graph { IsConsistent graph.now }
+    requires a { IsInPlane a }
+    requires b { IsInPlane b }
+    requires nodes { All (λ (n : Node). n.0 < length graph.now.kinds) inner.now }
+    requires some { 0 < length inner.now }
+    ensures place { result.0 ≡ first_place (greatest (map (λ n. off_of a b (place_of graph.now n)) inner.now)) (map (λ n. off_of a b (place_of graph.now n)) inner.now) }
+    ensures off { result.1 ≡ greatest (map (λ n. off_of a b (place_of graph.now n)) inner.now) }
+{
+    let mut best = 0;
+    let mut most = off_of(a, b, graph.place(inner[0]));
+    for i in 1..inner.len() {
+        let off = off_of(a, b, graph.place(inner[i]));
+        if most < off {
+            best = i;
+            most = off;
+        }
+    }
+    (best, most)
+}
+
+/// Nine times the square of a cell's side, by the scale of a straight piece.
+fn far_off(cell: u32, a: Point, b: Point) -> u128
+    requires a { IsInPlane a }
+    requires b { IsInPlane b }
+    ensures { result ≡ 9 * (cell * cell) * scale_of a b }
+{
+    9 * (u128::from(cell) * u128::from(cell)) * u128::from(scale_of(a, b))
+}
+
+/// The square of a straight piece's length, 1 where it is a point.
+fn scale_of(a: Point, b: Point) -> u64
+    requires a { IsInPlane a }
+    requires b { IsInPlane b }
+    ensures value { result ≡ scale_of a b }
+    ensures within { result ≤ 720000000000000000 }
+{
+    dist2(a, b).max(1)
+}
+
+/// The square of a point's distance from the straight piece from a to b, by the piece's scale.
+fn off_of(a: Point, b: Point, p: Point) -> u128
+    requires a { IsInPlane a }
+    requires b { IsInPlane b }
+    requires p { IsInPlane p }
+    ensures { result ≡ off_of a b p }
+{
+    let long = dist2(a, b);
+    let from_a = dist2(a, p);
+    let from_b = dist2(b, p);
+    if long + from_a <= from_b {
+        return u128::from(scale_of(a, b)) * u128::from(from_a);
+    }
+    if long + from_b <= from_a {
+        return u128::from(scale_of(a, b)) * u128::from(from_b);
+    }
+    square(side(a, b, p))
+}
+
+/// The square of a number.
+fn square(z: i64) -> u128
+    requires { unsigned_abs z ≤ 720000000000000000 }
+    ensures { result ≡ square_of z }
+{
+    let size = u128::from(z.unsigned_abs());
+    size * size
+}
