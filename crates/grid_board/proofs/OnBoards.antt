@@ -309,6 +309,14 @@ abbrev pub freed : BoardFlags → PlainWalk → Bool → Bool → List Bool
 freed b w keeps_start keeps_end =
     kept_flags b.bounds (end_point w) keeps_end (kept_flags b.bounds w.start keeps_start (flagged (doubled_bounds b.bounds) false b.taken (doubled_of w)))
 
+pub freed_by : (b : BoardFlags) (w : PlainWalk) (s e : Bool) (start end : GridPoint) (none started ended : List Bool) → none ≡ flagged (doubled_bounds b.bounds) false b.taken (doubled_of w) → start ≡ w.start →
+    started ≡ cond s (flagged (doubled_bounds b.bounds) true none (doubled start ∷ [])) none → end ≡ end_point w →
+    ended ≡ cond e (flagged (doubled_bounds b.bounds) true started (doubled end ∷ [])) started → ended ≡ freed b w s e
+freed_by b w s e start end none started ended cleared at_start first at_end last =
+    last
+    ∙ ap₂ (λ (p : GridPoint) (fs : List Bool). kept_flags b.bounds p e fs) at_end
+    (first ∙ ap₂ (λ (p : GridPoint) (fs : List Bool). kept_flags b.bounds p s fs) at_start cleared)
+
 pub shown_freed : (b : BoardFlags) (w : PlainWalk) (s e : Bool) → length b.taken ≡ cells_of (doubled_bounds b.bounds) → list_all (contains b.bounds) (points_of w) ≡ true →
     contains b.bounds (end_point w) ≡ true → parts_of (record { bounds = b.bounds; nodes = b.nodes; taken = freed b w s e }) ≡ without_walk (parts_of b) w s e
 unfolding parts_of

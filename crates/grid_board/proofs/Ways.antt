@@ -62,6 +62,10 @@ first_holds test p (d ∷ ds) h = (and_parts (test p) (list_all test (points_fro
 pub rest_holds : (test : GridPoint → Bool) (p : GridPoint) (d : Dir) (ds : List Dir) → list_all test (points_from p (d ∷ ds)) ≡ true → list_all test (points_from (step_from p d) ds) ≡ true
 rest_holds test p d ds h = (and_parts (test p) (list_all test (points_from (step_from p d) ds)) h).1
 
+pub last_holds : (test : GridPoint → Bool) (p : GridPoint) (ds : List Dir) → list_all test (points_from p ds) ≡ true → test (after p ds) ≡ true
+last_holds test p [] all = first_holds test p [] all
+last_holds test p (d ∷ ds) all = last_holds test (step_from p d) ds (rest_holds test p d ds all)
+
 pub holds_along : (test : GridPoint → Bool) (p : GridPoint) (d : Dir) (n m : ℕ) → n ≤ m → list_all test (points_from p (replicate m d)) ≡ true → test (after p (replicate n d)) ≡ true
 holds_along test p d zero m h all = first_holds test p (replicate m d) all
 holds_along test p d (suc n) zero h all = absurd (omega arith)
