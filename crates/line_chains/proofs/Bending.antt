@@ -1,11 +1,13 @@
 -- Where a chain bends: the place is one between its ends, and as many steps of splitting as it has nodes are enough.
-use Rattle.std.proofs.Common.{◌≡◌, ◌∙◌, refl, sym, ap, ap₂, subst, ℕ, zero, suc, ◌+◌, ◌-◌, ◌<◌, ◌≤◌, ◌⊎◌, inl, inr, Bool, true, false, cond, ◌&&◌, ◌||◌, eqb, nat_lt, max, min, List, [], ◌∷◌, ◌++◌, length, map, fold, take, drop, arith, length-drop}
+use Rattle.std.proofs.Common.{◌≡◌, ◌∙◌, refl, sym, ap, ap₂, subst, ℕ, zero, suc, ◌+◌, ◌-◌, ◌<◌, ◌≤◌, ◌⊎◌, inl, inr, Bool, true, false, cond, ◌&&◌, ◌||◌, eqb, nat_lt, max, min, List, [], ◌∷◌, ◌++◌, length, map, fold, take, drop, get_or, slice_range, Option, Some, None, arith, length-drop, length-set}
 use Rattle.std.proofs.lemmas.Bool.{and_parts, cases_lt, eq-eqb, ne_eqb, lt-ltb, ltb-true, le-ltb}
-use Rattle.std.proofs.lemmas.List.{length-map, length-take}
+use Rattle.std.specs.List.{flat_map}
+use Rattle.std.proofs.lemmas.List.{drop_more, length-map, length-take}
 use Rattle.std.proofs.lemmas.List.Sums.{fold-append}
 use Rattle.map_base.specs.declared.ids.NodeId.{NodeId}
 use Rattle.graph_core.specs.declared.parts.GraphParts.{GraphParts}
-use Rattle.line_chains.specs.Bends.{bend_place, bends_of, far_off, first_place, greatest, is_bent, last_place, node_at, off_of, offs_of, place_of, with_corner}
+use Rattle.line_chains.specs.declared.chain.Chain.{Chain}
+use Rattle.line_chains.specs.Bends.{bend_place, bends_of, chain_bends, far_off, first_place, greatest, is_bent, last_place, node_at, off_of, offs_of, place_of, with_corner}
 
 -- the greatest number stands in a list
 pub stands_below : (xs : List ℕ) → 0 < length xs → first_place (greatest xs) xs < length xs
@@ -29,23 +31,26 @@ stands_below (x ∷ y ∷ ys) h = by_order (stands_below (y ∷ ys) (omega arith
 -- so a chain bends at a place between its ends
 length_offs : (graph : GraphParts) (nodes : List NodeId) → length (offs_of graph nodes) ≡ length nodes - 2
 length_offs graph nodes =
-    length-map (drop 1 (take (last_place nodes) nodes)) (λ (n : NodeId). off_of (place_of graph (node_at nodes 0)) (place_of graph (node_at nodes (last_place nodes))) (place_of graph n))
-    ∙ length-drop 1 (take (last_place nodes) nodes)
-    ∙ ap (λ n. n - 1) (length-take (last_place nodes) nodes)
+    length-map (slice_range nodes 1 (last_place nodes)) (λ (n : NodeId). off_of (place_of graph (node_at nodes 0)) (place_of graph (node_at nodes (last_place nodes))) (place_of graph n))
+    ∙ length-take (last_place nodes - 1) (drop 1 nodes)
+    ∙ ap (min (last_place nodes - 1)) (length-drop 1 nodes)
     ∙ sizes (length nodes)
   where
-    sizes : (n : ℕ) → min (n - 1) n - 1 ≡ n - 2
+    sizes : (n : ℕ) → min (n - 1 - 1) (n - 1) ≡ n - 2
     sizes n = omega arith
 
-pub place_inside : (graph : GraphParts) (nodes : List NodeId) → 2 < length nodes → bend_place graph nodes + 1 < length nodes
-place_inside graph nodes h =
+pub offs_below : (graph : GraphParts) (nodes : List NodeId) → 2 < length nodes → first_place (greatest (offs_of graph nodes)) (offs_of graph nodes) + 2 < length nodes
+offs_below graph nodes h =
     let below = stands_below (offs_of graph nodes) (omega (arith, h, length_offs graph nodes)) in
     omega (arith, below, h, length_offs graph nodes)
+
+pub place_inside : (graph : GraphParts) (nodes : List NodeId) → 2 < length nodes → bend_place graph nodes + 1 < length nodes
+place_inside graph nodes h = omega (arith, offs_below graph nodes h)
 
 pub bent_long : (graph : GraphParts) (cell : ℕ) (nodes : List NodeId) → is_bent graph cell nodes ≡ true → 2 < length nodes
 bent_long graph cell nodes e = ltb-true 2 (length nodes) (and_parts (nat_lt 2 (length nodes)) _ e).0
 
-short : (graph : GraphParts) (cell : ℕ) (nodes : List NodeId) → length nodes ≤ 2 → is_bent graph cell nodes ≡ false
+pub short : (graph : GraphParts) (cell : ℕ) (nodes : List NodeId) → length nodes ≤ 2 → is_bent graph cell nodes ≡ false
 short graph cell nodes h =
     ap (λ t. t && (eqb (node_at nodes 0).0 (node_at nodes (last_place nodes)).0 || nat_lt (far_off graph cell nodes) (greatest (offs_of graph nodes)))) (le-ltb 2 (length nodes) h)
 
@@ -117,3 +122,36 @@ corners_straight graph cell nodes corners e = of_length (length nodes)
     of_length zero = refl
     of_length (suc n) =
         ap (λ t. fold with_corner corners (bends_by graph cell nodes (bends_of n graph cell (take (bend_place graph nodes + 1) nodes)) (bends_of n graph cell (drop (bend_place graph nodes) nodes)) t)) e
+
+-- the place of a bend, as it is told
+pub none_bent : (t : Bool) (p : ℕ) (o : Option ℕ) → o ≡ cond t (Some p) None → o ≡ None → t ≡ false
+none_bent true p o e none = cc
+none_bent false p o e none = refl
+
+pub some_bent : (t : Bool) (p q : ℕ) (o : Option ℕ) → o ≡ cond t (Some p) None → o ≡ Some q → (t ≡ true) × (q ≡ p)
+some_bent true p q o e some = (refl, cc)
+some_bent false p q o e some = cc
+
+-- corners at the nodes at which it does so, part by part
+pub corners_made : (graph : GraphParts) (cell : ℕ) (nodes : List NodeId) (place : ℕ) (corners first second third : List Bool) → is_bent graph cell nodes ≡ true → place ≡ bend_place graph nodes
+    → first ≡ with_corner corners (node_at nodes place) → second ≡ fold with_corner first (bends_of (length (take (place + 1) nodes)) graph cell (take (place + 1) nodes))
+    → third ≡ fold with_corner second (bends_of (length (drop place nodes)) graph cell (drop place nodes)) → third ≡ fold with_corner corners (bends_of (length nodes) graph cell nodes)
+corners_made graph cell nodes place corners first second third bent at one two three =
+    three
+    ∙ ap (λ (cs : List Bool). fold with_corner cs (bends_of (length (drop place nodes)) graph cell (drop place nodes))) (two ∙ ap (λ (cs : List Bool). fold with_corner cs (bends_of (length (take (place + 1) nodes)) graph cell (take (place + 1) nodes))) one)
+    ∙ ap (λ p. fold with_corner (fold with_corner (with_corner corners (node_at nodes p)) (bends_of (length (take (p + 1) nodes)) graph cell (take (p + 1) nodes))) (bends_of (length (drop p nodes)) graph cell (drop p nodes))) at
+    ∙ sym (corners_bent graph cell nodes corners bent)
+
+-- the corners of one chain more
+pub bends_more : (graph : GraphParts) (cell : ℕ) (chains : List Chain) (i : ℕ) (c : Chain) (corners new whole : List Bool) → i < length chains → c ≡ get_or chains i c
+    → new ≡ fold with_corner corners (chain_bends graph cell c) → fold with_corner corners (flat_map (chain_bends graph cell) (drop i chains)) ≡ whole
+    → fold with_corner new (flat_map (chain_bends graph cell) (drop (i + 1) chains)) ≡ whole
+bends_more graph cell chains i c corners new whole h at step e =
+    ap (λ (cs : List Bool). fold with_corner cs (flat_map (chain_bends graph cell) (drop (i + 1) chains))) (step ∙ ap (λ (x : Chain). fold with_corner corners (chain_bends graph cell x)) at)
+    ∙ sym (fold-append with_corner corners (chain_bends graph cell (get_or chains i c)) (flat_map (chain_bends graph cell) (drop (i + 1) chains)))
+    ∙ sym (ap (λ (v : List Chain). fold with_corner corners (flat_map (chain_bends graph cell) v)) (drop_more chains i c h))
+    ∙ e
+
+pub length-corners : (ns : List NodeId) (corners : List Bool) → length (fold with_corner corners ns) ≡ length corners
+length-corners [] corners = refl
+length-corners (n ∷ ns) corners = length-corners ns (with_corner corners n) ∙ length-set corners n.0 true

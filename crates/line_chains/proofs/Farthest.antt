@@ -1,6 +1,8 @@
 -- The first of the greatest numbers of a list, found from front to back.
-use Rattle.std.proofs.Common.{◌≡◌, ◌∙◌, refl, sym, ap, ap₂, ℕ, zero, suc, ◌+◌, ◌<◌, ◌≤◌, ◌⊎◌, inl, inr, Bool, true, false, cond, eqb, nat_lt, max, List, [], ◌∷◌, arith}
+use Rattle.std.proofs.Common.{◌≡◌, ◌∙◌, refl, sym, ap, ap₂, ℕ, zero, suc, ◌+◌, ◌<◌, ◌≤◌, ◌⊎◌, inl, inr, Bool, true, false, cond, eqb, nat_lt, max, List, [], ◌∷◌, length, map, drop, get_or, arith}
 use Rattle.std.proofs.lemmas.Bool.{cases_lt, eq-eqb, ne_eqb, lt-ltb, le-ltb}
+use Rattle.std.proofs.lemmas.List.{drop_all, drop_more}
+use Rattle.map_base.specs.declared.ids.NodeId.{NodeId}
 use Rattle.line_chains.specs.Bends.{first_place, greatest}
 
 -- the place so far and its number, and the next numbers from place i on
@@ -67,3 +69,19 @@ scan_all x xs = scan_is (0, x) 1 xs ∙ of_rest (cases_lt x (greatest xs))
         ap (λ t. cond t (1 + first_place g xs, g) (0, x)) (le-ltb x g not_above)
         ∙ sym (ap (λ t. (let p : ℕ × ℕ = (cond t 0 (suc (first_place x xs)), x) in p)) (eq-eqb x x refl))
         ∙ sym (ap (λ m. (let p : ℕ × ℕ = (first_place m (x ∷ xs), m) in p)) most)
+
+-- one node more, and all of them
+pub scan_more : (f : NodeId → ℕ) (inner : List NodeId) (i : ℕ) (d : NodeId) (best new whole : ℕ × ℕ) → i < length inner → new ≡ cond (nat_lt best.1 (f (get_or inner i d))) (i, f (get_or inner i d)) best
+    → scan best i (map f (drop i inner)) ≡ whole → scan new (i + 1) (map f (drop (i + 1) inner)) ≡ whole
+scan_more f inner i d best new whole h step e =
+    ap (λ (b : ℕ × ℕ). scan b (i + 1) (map f (drop (i + 1) inner))) step
+    ∙ sym (ap (λ (v : List NodeId). scan best i (map f v)) (drop_more inner i d h))
+    ∙ e
+
+pub scan_over : (f : NodeId → ℕ) (inner : List NodeId) (i : ℕ) (best whole : ℕ × ℕ) → length inner ≤ i → scan best i (map f (drop i inner)) ≡ whole → best ≡ whole
+scan_over f inner i best whole h e = sym (ap (λ (v : List NodeId). scan best i (map f v)) (drop_all i inner h)) ∙ e
+
+pub scanned_all : (f : NodeId → ℕ) (inner : List NodeId) (d : NodeId) → 0 < length inner
+    → scan (0, f (get_or inner 0 d)) 1 (map f (drop 1 inner)) ≡ (let p : ℕ × ℕ = (first_place (greatest (map f inner)) (map f inner), greatest (map f inner)) in p)
+scanned_all f [] d h = absurd (omega (arith, h))
+scanned_all f (n ∷ ns) d h = scan_all (f n) (map f ns)

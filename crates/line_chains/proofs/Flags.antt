@@ -1,11 +1,13 @@
 -- Flags of nodes that are raised along ways.
-use Rattle.std.proofs.Common.{◌≡◌, ◌≢◌, ◌∙◌, refl, sym, ap, subst, ℕ, suc, ◌+◌, ◌<◌, ◌⊎◌, inl, inr, Bool, true, false, ◌||◌, eqb, List, [], ◌∷◌, length, get_or, set, map, fold, arith, length-set, get_or-set_same, get_or-set_other}
+use Rattle.std.proofs.Common.{◌≡◌, ◌≢◌, ◌∙◌, refl, sym, ap, subst, ℕ, zero, suc, ◌+◌, ◌<◌, ◌≤◌, ◌⊎◌, inl, inr, Bool, true, false, ◌||◌, eqb, List, [], ◌∷◌, length, get_or, set, map, fold, drop, replicate, arith, length-set, get_or-set_same, get_or-set_other}
 use Rattle.std.specs.List.{list_any, All}
 use Rattle.std.proofs.lemmas.Bool.{cases_eq, eq-eqb, ne_eqb}
+use Rattle.std.proofs.lemmas.List.{drop_all, drop_more}
 use Rattle.map_base.specs.declared.ids.NodeId.{NodeId}
 use Rattle.map_base.specs.declared.ids.SegId.{SegId}
 use Rattle.graph_core.specs.declared.parts.GraphParts.{GraphParts}
 use Rattle.line_chains.specs.declared.chain.Chain.{Chain}
+use Rattle.line_chains.specs.declared.chain.ChainStep.{ChainStep}
 use Rattle.line_chains.specs.Chains.{comes_over, nodes_along, way_from}
 use Rattle.line_chains.specs.Marks.{marked, marked_from, marked_over}
 
@@ -60,3 +62,30 @@ flag_from graph corners n (s ∷ round) flags k each all =
   where
     way : Chain
     way = way_from graph corners n s
+
+-- the ways from a corner by one segment more
+pub marks_more : (graph : GraphParts) (corners : List Bool) (n : NodeId) (round : List SegId) (i : ℕ) (d : SegId) (way : Chain) (old new whole : List Bool) → i < length round
+    → way ≡ way_from graph corners n (get_or round i d) → new ≡ marked_over old way
+    → fold marked_over old (map (way_from graph corners n) (drop i round)) ≡ whole → fold marked_over new (map (way_from graph corners n) (drop (i + 1) round)) ≡ whole
+marks_more graph corners n round i d way old new whole h way_is step e =
+    ap (λ (fs : List Bool). fold marked_over fs (map (way_from graph corners n) (drop (i + 1) round))) (step ∙ ap (marked_over old) way_is)
+    ∙ sym (ap (λ (v : List SegId). fold marked_over old (map (way_from graph corners n) v)) (drop_more round i d h))
+    ∙ e
+
+pub marks_over : (graph : GraphParts) (corners : List Bool) (n : NodeId) (round : List SegId) (i : ℕ) (old whole : List Bool) → length round ≤ i
+    → fold marked_over old (map (way_from graph corners n) (drop i round)) ≡ whole → old ≡ whole
+marks_over graph corners n round i old whole h e = sym (ap (λ (v : List SegId). fold marked_over old (map (way_from graph corners n) v)) (drop_all i round h)) ∙ e
+
+-- the nodes of a way one by one
+pub nodes_more : (steps : List ChainStep) (i : ℕ) (d : ChainStep) (old new whole : List Bool) → i < length steps → new ≡ marked old (get_or steps i d).to
+    → fold marked old (map (λ (t : ChainStep). t.to) (drop i steps)) ≡ whole → fold marked new (map (λ (t : ChainStep). t.to) (drop (i + 1) steps)) ≡ whole
+nodes_more steps i d old new whole h step e =
+    ap (λ (fs : List Bool). fold marked fs (map (λ (t : ChainStep). t.to) (drop (i + 1) steps))) step
+    ∙ sym (ap (λ (v : List ChainStep). fold marked old (map (λ (t : ChainStep). t.to) v)) (drop_more steps i d h))
+    ∙ e
+
+-- no flag is raised
+pub none_raised : (m k : ℕ) → get_or (replicate m false) k false ≡ false
+none_raised zero k = refl
+none_raised (suc m) zero = refl
+none_raised (suc m) (suc k) = none_raised m k

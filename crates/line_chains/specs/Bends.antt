@@ -1,5 +1,5 @@
 -- Where chains bend on the ground.
-use Rattle.std.specs.Prelude.{ℕ, zero, suc, ◌+◌, ◌*◌, ◌-◌, ◌==◌, ◌||◌, ◌&&◌, nat_lt, nat_le, Bool, true, pos, List, [], ◌∷◌, ◌++◌, length, map, max, take, drop, fold, if◌then◌else◌, slice_index_or, slice_set}
+use Rattle.std.specs.Prelude.{ℕ, zero, suc, ◌+◌, ◌*◌, ◌-◌, ◌==◌, ◌||◌, ◌&&◌, nat_lt, nat_le, Bool, true, pos, List, [], ◌∷◌, ◌++◌, length, map, max, take, drop, fold, if◌then◌else◌, slice_index_or, slice_range, slice_set}
 use Rattle.std.specs.List.{flat_map}
 use Rattle.map_base.specs.declared.ids.NodeId.{NodeId}
 use Rattle.map_base.specs.declared.point.Point.{Point}
@@ -47,7 +47,7 @@ last_place nodes = length nodes - 1
 abbrev pub offs_of : GraphParts → List NodeId → List ℕ
 offs_of graph nodes =
     map (λ n. off_of (place_of graph (node_at nodes 0)) (place_of graph (node_at nodes (last_place nodes))) (place_of graph n))
-    (drop 1 (take (last_place nodes) nodes))
+    (slice_range nodes 1 (last_place nodes))
 
 -- the place of the first of the nodes between the ends that lies farthest off
 abbrev pub bend_place : GraphParts → List NodeId → ℕ

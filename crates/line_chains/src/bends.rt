@@ -1,11 +1,11 @@
 //! Corners where the ground bends.
 
-ghost use Rattle.std.specs.Prelude.{◌≡◌, ◌≤◌, ◌<◌, ◌*◌, ◌+◌, fold, length, map, unsigned_abs, All, IfOk, IfSome, Some, None, if◌then◌else◌};
+ghost use Rattle.std.specs.Prelude.{◌≡◌, ◌≤◌, ◌<◌, ◌*◌, ◌+◌, ◌==◌, ◌||◌, nat_lt, fold, length, map, unsigned_abs, All, IfOk, IfSome, Some, None, if◌then◌else◌};
 ghost use Rattle.map_base.specs.declared.ids.NodeId.{NodeId as Node};
 ghost use Rattle.graph_core.specs.Consistent.{IsConsistent};
 ghost use Rattle.fixed_plane.specs.Plane.{IsInPlane};
 ghost use Rattle.fixed_plane.specs.Measures.{square_of};
-ghost use Rattle.line_chains.specs.Bends.{bend_place, bends_of, corners_of, first_place, greatest, is_bent, off_of, place_of, scale_of, with_corner};
+ghost use Rattle.line_chains.specs.Bends.{bend_place, bends_of, corners_of, far_off, first_place, greatest, is_bent, last_place, node_at, off_of, offs_of, place_of, scale_of, with_corner};
 ghost use Rattle.line_chains.specs.Chains.{nodes_along};
 
 use crate::chain::Chain;
@@ -65,21 +65,48 @@ fn bend_place(graph: &LineGraph, cell: u32, nodes: &[NodeId]) -> Option<usize>
     requires graph { IsConsistent graph.now }
     requires nodes { All (λ (n : Node). n.0 < length graph.now.kinds) nodes.now }
     ensures place { result ≡ (if is_bent graph.now cell nodes.now then Some (bend_place graph.now nodes.now) else None) }
-    ensures after { IfSome result (λ place. 0 < place) }
     ensures before { IfSome result (λ place. place + 1 < length nodes.now) }
 {
     if nodes.len() <= 2 {
         return None;
     }
-    let last = nodes.len() - 1;
-    let a = graph.place(nodes[0]);
-    let b = graph.place(nodes[last]);
-    let (place, off) = farthest(graph, a, b, &nodes[1..last]);
-    if nodes[0] == nodes[last] || far_off(cell, a, b) < off {
+    let (place, off) = farthest_inner(graph, nodes);
+    if is_far(graph, cell, nodes, off) {
         Some(place + 1)
     } else {
         None
     }
+}
+
+/// Whether a node that lies so far off the straight piece between the ends of a list is a bend.
+fn is_far(graph: &LineGraph, cell: u32, nodes: &[NodeId], off: u128) -> bool
+    requires graph { IsConsistent graph.now }
+    requires nodes { All (λ (n : Node). n.0 < length graph.now.kinds) nodes.now }
+    requires long { 2 < length nodes.now }
+    ensures { result ≡ (((node_at nodes.now 0).0 == (node_at nodes.now (last_place nodes.now)).0) || nat_lt (far_off graph.now cell nodes.now) off) }
+{
+    let first = nodes[0];
+    let last = nodes[nodes.len() - 1];
+    if first.0 == last.0 {
+        return true;
+    }
+    far_off(cell, place_of(graph, first), place_of(graph, last)) < off
+}
+
+/// The place, among the nodes between the ends of a list, of the first one that lies farthest off the straight piece
+/// between these, and how far off it lies.
+fn farthest_inner(graph: &LineGraph, nodes: &[NodeId]) -> (usize, u128)
+    requires graph { IsConsistent graph.now }
+    requires nodes { All (λ (n : Node). n.0 < length graph.now.kinds) nodes.now }
+    requires long { 2 < length nodes.now }
+    ensures place { result.0 ≡ first_place (greatest (offs_of graph.now nodes.now)) (offs_of graph.now nodes.now) }
+    ensures off { result.1 ≡ greatest (offs_of graph.now nodes.now) }
+    ensures within { result.0 + 2 < length nodes.now }
+{
+    let last = nodes.len() - 1;
+    let a = place_of(graph, nodes[0]);
+    let b = place_of(graph, nodes[last]);
+    farthest(graph, a, b, &nodes[1..last])
 }
 
 /// The place of the first node that lies farthest off the straight piece from a to b, and how far off it lies.
@@ -89,19 +116,30 @@ fn farthest(graph: &LineGraph, a: Point, b: Point, inner: &[NodeId]) -> (usize, 
     requires b { IsInPlane b }
     requires nodes { All (λ (n : Node). n.0 < length graph.now.kinds) inner.now }
     requires some { 0 < length inner.now }
-    ensures place { result.0 ≡ first_place (greatest (map (λ n. off_of a b (place_of graph.now n)) inner.now)) (map (λ n. off_of a b (place_of graph.now n)) inner.now) }
-    ensures off { result.1 ≡ greatest (map (λ n. off_of a b (place_of graph.now n)) inner.now) }
+    ensures { result ≡ (first_place (greatest (map (λ n. off_of a b (place_of graph.now n)) inner.now)) (map (λ n. off_of a b (place_of graph.now n)) inner.now), greatest (map (λ n. off_of a b (place_of graph.now n)) inner.now)) }
 {
-    let mut best = 0;
-    let mut most = off_of(a, b, graph.place(inner[0]));
+    let mut best = (0, off_of(a, b, place_of(graph, inner[0])));
     for i in 1..inner.len() {
-        let off = off_of(a, b, graph.place(inner[i]));
-        if most < off {
-            best = i;
-            most = off;
-        }
+        best = farther(best, i, off_of(a, b, place_of(graph, inner[i])));
     }
-    (best, most)
+    best
+}
+
+/// The farthest of the places so far, and the next one.
+fn farther(best: (usize, u128), next: usize, off: u128) -> (usize, u128)
+    ensures { result ≡ (if nat_lt best.1 off then (next, off) else best) }
+{
+    if best.1 < off { (next, off) } else { best }
+}
+
+/// Where a node lies.
+fn place_of(graph: &LineGraph, n: NodeId) -> Point
+    requires graph { IsConsistent graph.now }
+    requires node { n.0 < length graph.now.kinds }
+    ensures value { result ≡ place_of graph.now n }
+    ensures in_plane { IsInPlane result }
+{
+    graph.place(n)
 }
 
 /// Nine times the square of a cell's side, by the scale of a straight piece.

@@ -3,7 +3,7 @@
 ghost use Rattle.std.specs.Prelude.{◌≡◌, ◌<◌, length, All, IfOk, OnOk};
 ghost use Rattle.map_base.specs.declared.ids.NodeId.{NodeId as Node};
 ghost use Rattle.graph_core.specs.Consistent.{IsConsistent};
-ghost use Rattle.line_chains.specs.Chains.{nodes_along, plain_corners, ring_corners};
+ghost use Rattle.line_chains.specs.Chains.{nodes_along, plain_corners, ring_corners, with_ring};
 ghost use Rattle.line_chains.specs.Marks.{marked, marked_from, marked_over, reached_by};
 
 use crate::chain::Chain;
@@ -19,13 +19,31 @@ pub(crate) fn ring_corners(alloc: Global, graph: &LineGraph) -> Result<Vec<bool>
     let mut corners = plain_corners(alloc, graph)?;
     let mut reached = reached_by(alloc, graph, &corners)?;
     for n in 0..graph.nodes() {
-        let n = NodeId(n);
-        if !reached[n.0 as usize] {
-            corners[n.0 as usize] = true;
-            mark_from(alloc, graph, &corners, n, &mut reached)?;
-        }
+        add_ring(alloc, graph, NodeId(n), &mut corners, &mut reached)?;
     }
     Ok(corners)
+}
+
+/// Makes a node a corner, if no way from a corner comes over it.
+fn add_ring(
+    alloc: Global,
+    graph: &LineGraph,
+    n: NodeId,
+    corners: &mut [bool],
+    reached: &mut [bool],
+) -> Result<(), NoMemory>
+    requires graph { IsConsistent graph.now }
+    requires each { length corners.old ≡ length graph.now.kinds }
+    requires reached { reached.old ≡ reached_by graph.now corners.old }
+    requires node { n.0 < length graph.now.kinds }
+    ensures corners { OnOk result (corners.new ≡ with_ring graph.now corners.old n) }
+    ensures reached { OnOk result (reached.new ≡ reached_by graph.now corners.new) }
+{
+    if reached[n.0 as usize] {
+        return Ok(());
+    }
+    corners[n.0 as usize] = true;
+    mark_from(alloc, graph, corners, n, reached)
 }
 
 /// The nodes at which not two segments meet.
