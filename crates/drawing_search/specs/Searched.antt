@@ -1,10 +1,9 @@
 -- What a search promises.
-use Rattle.std.specs.Prelude.{◌≡◌, ◌≤◌, ℕ, ◌==◌, Bool, false, List, [], ◌∷◌, length, All, if◌then◌else◌, slice_index_or}
+use Rattle.std.specs.Prelude.{◌≡◌, ◌≤◌, ℕ, ◌==◌, List, [], ◌∷◌, if◌then◌else◌}
 use Rattle.std.specs.List.{flat_map}
 use Rattle.graph_core.specs.declared.parts.GraphParts.{GraphParts}
 use Rattle.octi_grid.specs.declared.dir.Dir.TheVariants as dir
 use Rattle.octi_grid.specs.Walks.{PlainWalk}
-use Rattle.drawing_weights.specs.declared.weighing.Weighing.{Weighing}
 use Rattle.drawing_weights.specs.Scales.{weight_by, Scale}
 use Rattle.run_laying.specs.Attempts.{bounds_past, Attempt}
 use Rattle.run_laying.specs.Drawings.{IsOnBoard}
@@ -12,10 +11,6 @@ use Rattle.run_laying.specs.Runs.{IsFitting}
 use Rattle.run_laying.specs.Searches.{attempts_by, searched}
 use Rattle.drawing_search.specs.declared.group.Group.{Group}
 use Rattle.drawing_search.specs.declared.searching.Searched.{Searched}
-
--- by what a drawing is weighed
-abbrev pub scale_of : Weighing → Scale
-scale_of by = record { turns = by.turns; overs = by.overs; aparts = by.aparts; is_held = λ n. slice_index_or by.held.now n false }
 
 -- the attempts of a group: one where nothing moves, else one for each vector
 abbrev pub attempts_in : Group → List Attempt

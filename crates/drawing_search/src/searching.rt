@@ -2,9 +2,10 @@
 
 ghost use Rattle.std.specs.Prelude.{◌≡◌, ◌≤◌, ◌<◌, length, All, IfOk, true};
 ghost use Rattle.drawing_weights.specs.Drawn.{IsDrawn};
+ghost use Rattle.drawing_weights.specs.Scales.{scale_of};
 ghost use Rattle.grid_board.specs.Points.{are_near};
 ghost use Rattle.run_laying.specs.Runs.{IsFitting};
-ghost use Rattle.drawing_search.specs.Searched.{attempts_of, scale_of, IsSearched};
+ghost use Rattle.drawing_search.specs.Searched.{attempts_of, IsSearched};
 
 use crate::bounds::bounds_past;
 use crate::gains::Field;

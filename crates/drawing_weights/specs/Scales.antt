@@ -1,5 +1,5 @@
 -- What a drawing weighs by a scale.
-use Rattle.std.specs.Prelude.{ℕ, ◌+◌, ◌*◌, ◌==◌, ◌&&◌, ◌-ℤ◌, unsigned_abs, Bool, List, [], ◌∷◌, length, if◌then◌else◌, Option, Some, None, slice_index_or}
+use Rattle.std.specs.Prelude.{ℕ, ◌+◌, ◌*◌, ◌==◌, ◌&&◌, Bool, false, List, [], ◌∷◌, length, if◌then◌else◌, Option, Some, None, slice_index_or}
 use Rattle.std.specs.List.{list_any, range_with_len, sum_by}
 use Rattle.map_base.specs.declared.ids.SegId.{SegId}
 use Rattle.graph_core.specs.declared.parts.GraphParts.{GraphParts}
@@ -10,7 +10,8 @@ use Rattle.octi_grid.specs.Ways.{reverse_of}
 use Rattle.octi_grid.specs.Costs.{turn_between}
 use Rattle.octi_grid.specs.Walks.{PlainWalk, cost_of}
 use Rattle.octi_grid.specs.Legal.{legs_of, port_of}
-use Rattle.drawing_weights.specs.Weights.{point_of, square, turns_of}
+use Rattle.drawing_weights.specs.declared.weighing.Weighing.{Weighing}
+use Rattle.drawing_weights.specs.Weights.{point_of, square_apart, turns_of}
 
 -- By what a drawing is weighed: how often the turns of a walk count beside its cost, how often the turns that lines make
 -- over nodes, how often the square of a node's distance from where it first stood, and for which nodes that counts.
@@ -19,6 +20,10 @@ pub record Scale : Type 0 where
   pub overs : ℕ
   pub aparts : ℕ
   pub is_held : ℕ → Bool
+
+-- the scale of a weighing
+abbrev pub scale_of : Weighing → Scale
+scale_of by = record { turns = by.turns; overs = by.overs; aparts = by.aparts; is_held = λ n. slice_index_or by.held.now n false }
 
 -- a walk weighs what it costs, and its turns
 abbrev pub walk_weight_by : Scale → PlainWalk → ℕ
@@ -51,14 +56,13 @@ turns_over graph walks n = sum_by (turn_at graph walks n) (joined_pairs (slice_i
 
 -- ---- nodes and drawings
 
--- the square of the distance between two points
-abbrev pub square_apart : GridPoint → GridPoint → ℕ
-square_apart first here = square (unsigned_abs (here.x -ℤ first.x)) + square (unsigned_abs (here.y -ℤ first.y))
+-- a node weighs so much for its distance from where it first stood, where that counts
+abbrev pub apart_weight_by : Scale → ℕ → GridPoint → GridPoint → ℕ
+apart_weight_by scale n first here = if scale.is_held n then scale.aparts * square_apart first here else 0
 
--- a node weighs the turns that lines make over it, and its distance, where that counts
+-- and for the turns that lines make over it
 abbrev pub node_weight_by : Scale → GraphParts → List PlainWalk → List PlainWalk → ℕ → ℕ
-node_weight_by scale graph first walks n =
-    scale.overs * turns_over graph walks n + (if scale.is_held n then scale.aparts * square_apart (point_of graph first n) (point_of graph walks n) else 0)
+node_weight_by scale graph first walks n = scale.overs * turns_over graph walks n + apart_weight_by scale n (point_of graph first n) (point_of graph walks n)
 
 -- a drawing weighs its walks and its nodes, where the first one was this
 abbrev pub weight_by : Scale → GraphParts → List PlainWalk → List PlainWalk → ℕ
