@@ -5,6 +5,7 @@ ghost use Rattle.drawing_weights.specs.Drawn.{IsShort};
 ghost use Rattle.drawing_weights.specs.Scales.{apart_weight_by, scale_of, walk_weight_by};
 
 use crate::weights::{square_apart, turns_of};
+use bit_flags::Flags;
 use map_base::NodeId;
 use octi_grid::{GridPoint, Walk, walk_cost};
 
@@ -16,7 +17,7 @@ pub struct Weighing<'a> {
     pub turns: u64,
     pub overs: u64,
     pub aparts: u64,
-    pub held: &'a [bool],
+    pub held: &'a Flags,
 }
 
 impl<'a> Weighing<'a> {
@@ -41,7 +42,7 @@ impl<'a> Weighing<'a> {
         ensures weight { result ≡ apart_weight_by (scale_of self) n.0 first here }
         ensures small { result ≤ 2 ^ 32 }
     {
-        if !self.held[n.0 as usize] {
+        if !self.held.is_raised(n.0 as usize) {
             return 0;
         }
         times(self.aparts, square_apart(first, here))

@@ -11,6 +11,7 @@ ghost use Rattle.line_chains.specs.Chains.{nodes_along};
 use crate::chain::Chain;
 use crate::chains::chains_of;
 use crate::corners::ring_corners;
+use bit_flags::Flags;
 use fixed_plane::{dist2, side};
 use graph_core::LineGraph;
 use map_base::{NoMemory, NodeId, Point};
@@ -20,8 +21,8 @@ use std::alloc::Global;
 /// segments meet, the least node of a ring without such a node, and, again and again, of each chain between corners the
 /// first inner node that lies farthest off the straight piece between its ends, where that is more than three cells, or
 /// where both ends are one node.
-pub fn corners_of(alloc: Global, graph: &LineGraph, cell: u32) -> Result<Vec<bool>, NoMemory>
-    ensures { IfOk result (λ corners. corners.items ≡ corners_of graph.now cell) }
+pub fn corners_of(alloc: Global, graph: &LineGraph, cell: u32) -> Result<Flags, NoMemory>
+    ensures { IfOk result (λ corners. corners ≡ corners_of graph.now cell) }
 {
     let mut corners = ring_corners(alloc, graph)?;
     let chains = chains_of(alloc, graph, &corners)?;
@@ -46,7 +47,7 @@ fn nodes_along(alloc: Global, chain: &Chain) -> Result<Vec<NodeId>, NoMemory>
 }
 
 /// Makes the nodes corners at which the ground bends along a chain of these nodes.
-fn mark_bends(graph: &LineGraph, cell: u32, nodes: &[NodeId], corners: &mut [bool])
+fn mark_bends(graph: &LineGraph, cell: u32, nodes: &[NodeId], corners: &mut Flags)
     requires graph { IsConsistent graph.now }
     requires nodes { All (λ (n : Node). n.0 < length graph.now.kinds) nodes.now }
     requires each { length corners.old ≡ length graph.now.kinds }
@@ -55,7 +56,7 @@ fn mark_bends(graph: &LineGraph, cell: u32, nodes: &[NodeId], corners: &mut [boo
     let Some(place) = bend_place(graph, cell, nodes) else {
         return;
     };
-    corners[nodes[place].0 as usize] = true;
+    corners.raise(nodes[place].0 as usize);
     mark_bends(graph, cell, &nodes[..place + 1], corners);
     mark_bends(graph, cell, &nodes[place..], corners);
 }

@@ -7,13 +7,14 @@ ghost use Rattle.line_chains.specs.Chains.{chains_at, chains_by, chains_of, end_
 
 use crate::chain::{Chain, ChainStep};
 use crate::ways::way_from;
+use bit_flags::Flags;
 use graph_core::LineGraph;
 use map_base::{NoMemory, NodeId, SegId};
 use std::alloc::Global;
 
 /// The chains between corners, by their lower end, then by the place of their first segment in its round. Each is walked
 /// from its lower end; a ring over one corner from the one of its two segments there that comes first in the round.
-pub fn chains_of(alloc: Global, graph: &LineGraph, corners: &[bool]) -> Result<Vec<Chain>, NoMemory>
+pub fn chains_of(alloc: Global, graph: &LineGraph, corners: &Flags) -> Result<Vec<Chain>, NoMemory>
     requires { length corners.now ≡ length graph.now.kinds }
     ensures { IfOk result (λ chains. chains.items ≡ chains_of graph.now corners.now) }
 {
@@ -28,7 +29,7 @@ pub fn chains_of(alloc: Global, graph: &LineGraph, corners: &[bool]) -> Result<V
 fn push_chains_at(
     alloc: Global,
     graph: &LineGraph,
-    corners: &[bool],
+    corners: &Flags,
     n: NodeId,
     chains: &mut Vec<Chain>,
 ) -> Result<(), NoMemory>
@@ -37,7 +38,7 @@ fn push_chains_at(
     requires node { n.0 < length graph.now.kinds }
     ensures { OnOk result (chains.new.items ≡ chains.old.items ++ chains_at graph.now corners.now n) }
 {
-    if !corners[n.0 as usize] {
+    if !corners.is_raised(n.0 as usize) {
         return Ok(());
     }
     push_chains_by(alloc, graph, corners, n, graph.round(n), chains)
@@ -47,7 +48,7 @@ fn push_chains_at(
 fn push_chains_by(
     alloc: Global,
     graph: &LineGraph,
-    corners: &[bool],
+    corners: &Flags,
     n: NodeId,
     segs: &[SegId],
     chains: &mut Vec<Chain>,

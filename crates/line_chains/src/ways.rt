@@ -1,11 +1,11 @@
 //! Ways from corners.
 
-ghost use Rattle.std.specs.Prelude.{◌≡◌, ◌<◌, length, All, IfOk};
-ghost use Rattle.map_base.specs.declared.ids.NodeId.{NodeId as Node};
+ghost use Rattle.std.specs.Prelude.{◌≡◌, ◌<◌, length, IfOk};
 ghost use Rattle.graph_core.specs.Consistent.{IsConsistent};
-ghost use Rattle.line_chains.specs.Chains.{far_end, nodes_along, other_of, way_from};
+ghost use Rattle.line_chains.specs.Chains.{far_end, other_of, way_from};
 
 use crate::chain::{Chain, ChainStep};
+use bit_flags::Flags;
 use graph_core::LineGraph;
 use map_base::{NoMemory, NodeId, SegId, Sequence};
 use std::alloc::Global;
@@ -36,7 +36,7 @@ pub(crate) fn other_of(round: &[SegId], s: SegId) -> SegId
 pub(crate) fn way_from(
     alloc: Global,
     graph: &LineGraph,
-    corners: &[bool],
+    corners: &Flags,
     n: NodeId,
     s: SegId,
 ) -> Result<Chain, NoMemory>
@@ -44,8 +44,7 @@ pub(crate) fn way_from(
     requires each { length corners.now ≡ length graph.now.kinds }
     requires segment { s.0 < length graph.now.ends }
     requires node { n.0 < length graph.now.kinds }
-    ensures way { IfOk result (λ way. way ≡ way_from graph.now corners.now n s) }
-    ensures nodes { IfOk result (λ way. All (λ (m : Node). m.0 < length graph.now.kinds) (nodes_along way)) }
+    ensures { IfOk result (λ way. way ≡ way_from graph.now corners.now n s) }
 {
     let mut steps = Vec::new(alloc);
     let mut at = n;
@@ -53,7 +52,8 @@ pub(crate) fn way_from(
     for i in 0..graph.segs() {
         let to = far_end(graph, seg, at);
         steps.push(ChainStep { seg, to })?;
-        if corners[to.0 as usize] {
+        let is_end = corners.is_raised(to.0 as usize);
+        if is_end {
             return Ok(chain_of(n, steps));
         }
         seg = other_of(graph.round(to), seg);

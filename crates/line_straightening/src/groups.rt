@@ -1,6 +1,7 @@
 //! The groups of attempts, in their order.
 
 use crate::runs::{copies_of, copy_of, end_of, merged, runs_at_nodes, single_runs};
+use bit_flags::Flags;
 use drawing_search::Group;
 use graph_core::LineGraph;
 use line_chains::Chain;
@@ -16,7 +17,7 @@ const LENGTHS: u32 = 4;
 pub(crate) fn groups_of(
     alloc: Global,
     graph: &LineGraph,
-    corners: &[bool],
+    corners: &Flags,
     chains: &[Chain],
 ) -> Result<Vec<Group>, NoMemory> {
     let mut groups = Vec::new(alloc);
@@ -48,13 +49,13 @@ fn push_alone(alloc: Global, runs: &[Chain], groups: &mut Vec<Group>) -> Result<
 /// Lists each corner with the runs that end at it.
 fn push_corners(
     alloc: Global,
-    corners: &[bool],
+    corners: &Flags,
     runs: &[Chain],
     at: &[Vec<usize>],
     groups: &mut Vec<Group>,
 ) -> Result<(), NoMemory> {
     for n in 0..corners.len() {
-        if corners[n] {
+        if corners.is_raised(n) {
             groups.push(group_at(alloc, NodeId(n as u32), runs, &at[n])?)?;
         }
     }

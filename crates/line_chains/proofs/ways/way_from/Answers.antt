@@ -23,7 +23,7 @@ loop-i-preserved c =
     let round : c.round.result.now ≡ round_of g c.far_end-to.result = sym (get_or_from_slice_get g.rounds c.far_end-to.result.0 c.round.result.now [] c.round.ensures) in
     let other : c.other_of-seg.result ≡ other_of (round_of g (far_end g seg at)) seg =
     c.other_of-seg.ensures ∙ ap (λ (v : List SegId). other_of v seg) round ∙ ap (λ (n : NodeId). other_of (round_of g n) seg) far in
-    let open_far : is_corner cs (far_end g seg at) ≡ false = ap (is_corner cs) (sym far) ∙ c.if-corners-to.false in
+    let open_far : is_corner cs (far_end g seg at) ≡ false = ap (is_corner cs) (sym far) ∙ sym c.is_raised-is_end.ensures ∙ c.if-is_end.false in
     let new : c.push.new.self.items ≡ old ++ step_by g at seg ∷ [] =
     c.in_ok-push.ensures.items ∙ ap (λ (n : NodeId). old ++ (let t : ChainStep = record { seg = seg; to = n } in t) ∷ []) far in
     record {
@@ -35,14 +35,10 @@ loop-i-preserved c =
       seg =
           subst (λ (s : SegId). s.0 < length g.ends) (sym (c.other_of-seg.ensures ∙ ap (λ (v : List SegId). other_of v seg) round))
           (other_below (length g.ends) (round_of g c.far_end-to.result) seg (round_below g c.requires.graph c.far_end-to.result.0 c.far_end-to.ensures.node) c.loop-i.invariant.seg);
-      nodes =
-          subst (λ (v : List ChainStep). All (λ (t : ChainStep). t.to.0 < length g.kinds) v) (sym c.in_ok-push.ensures.items)
-          (All-append (λ (t : ChainStep). t.to.0 < length g.kinds) old (record { seg = seg; to = c.far_end-to.result } ∷ []) c.loop-i.invariant.nodes
-          (one_below (length g.kinds) (record { seg = seg; to = c.far_end-to.result }) c.far_end-to.ensures.node));
     }
 
-pub returns-then-corners-to-clause-way : goal.returns-then-corners-to-clause-way
-returns-then-corners-to-clause-way c =
+pub returns-then-is_end : goal.returns-then-is_end
+returns-then-is_end c =
     let g = c.args.graph.now in
     let cs = c.args.corners.now in
     let at = c.loop-i.at in
@@ -52,21 +48,5 @@ returns-then-corners-to-clause-way c =
     let far : c.far_end-to.result ≡ far_end g seg at = c.far_end-to.ensures.end in
     let all : c.push.new.self.items ≡ steps_from g cs (length g.ends) c.args.n c.args.s =
     c.in_ok-push.ensures.items ∙ ap (λ (n : NodeId). old ++ (let t : ChainStep = record { seg = seg; to = n } in t) ∷ []) far
-    ∙ steps_end g cs (length g.ends) c.loop-i.i at seg old (steps_from g cs (length g.ends) c.args.n c.args.s) below (ap (is_corner cs) (sym far) ∙ c.if-corners-to.true) c.loop-i.invariant.whole in
+    ∙ steps_end g cs (length g.ends) c.loop-i.i at seg old (steps_from g cs (length g.ends) c.args.n c.args.s) below (ap (is_corner cs) (sym far) ∙ sym c.is_raised-is_end.ensures ∙ c.if-is_end.true) c.loop-i.invariant.whole in
     ap₂ (λ (n : NodeId) (v : List ChainStep). (let way : Chain = record { from = n; steps = v } in way)) c.chain_of.ensures.from (c.chain_of.ensures.steps ∙ all)
-
-pub returns-then-corners-to-clause-nodes : goal.returns-then-corners-to-clause-nodes
-returns-then-corners-to-clause-nodes c =
-    let g = c.args.graph.now in
-    let all : All (λ (t : ChainStep). t.to.0 < length g.kinds) c.push.new.self.items =
-    subst (λ (v : List ChainStep). All (λ (t : ChainStep). t.to.0 < length g.kinds) v) (sym c.in_ok-push.ensures.items)
-    (All-append (λ (t : ChainStep). t.to.0 < length g.kinds) c.loop-i.steps.items (record { seg = c.loop-i.seg; to = c.far_end-to.result } ∷ []) c.loop-i.invariant.nodes
-    (one_below (length g.kinds) (record { seg = c.loop-i.seg; to = c.far_end-to.result }) c.far_end-to.ensures.node)) in
-    subst (λ (w : Chain). All (λ (k : NodeId). k.0 < length g.kinds) (nodes_along w)) (sym (ap₂ (λ (n : NodeId) (v : List ChainStep). (let way : Chain = record { from = n; steps = v } in way)) c.chain_of.ensures.from c.chain_of.ensures.steps))
-    (all_along (length g.kinds) c.args.n c.push.new.self.items c.requires.node all)
-
-pub returns-clause-nodes : goal.returns-clause-nodes
-returns-clause-nodes c =
-    let g = c.args.graph.now in
-    subst (λ (w : Chain). All (λ (k : NodeId). k.0 < length g.kinds) (nodes_along w)) (sym (ap₂ (λ (n : NodeId) (v : List ChainStep). (let way : Chain = record { from = n; steps = v } in way)) c.chain_of-2.ensures.from c.chain_of-2.ensures.steps))
-    (all_along (length g.kinds) c.args.n c.loop-i.steps.items c.requires.node c.loop-i.invariant.nodes)

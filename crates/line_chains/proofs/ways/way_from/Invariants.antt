@@ -11,5 +11,4 @@ invariant-loop-i l = record {
   whole : l.steps.items ++ steps_from l.graph l.corners (length l.graph.ends - l.i) l.at l.seg ≡ steps_from l.graph l.corners (length l.graph.ends) l.fn.n l.fn.s;
   at : l.at.0 < length l.graph.kinds;
   seg : l.seg.0 < length l.graph.ends;
-  nodes : All (λ (t : ChainStep). t.to.0 < length l.graph.kinds) l.steps.items;
 }
