@@ -1,0 +1,6 @@
+pub mod Reversed
+pub mod Cuts
+pub mod Standing
+pub mod Added
+pub mod Shown
+pub mod Whole

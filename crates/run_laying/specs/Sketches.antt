@@ -1,5 +1,5 @@
 -- Changes of a drawing in the making, and when it is legal.
-use Rattle.std.specs.Prelude.{◌≡◌, ℕ, ◌<◌, ◌⊎◌, Bool, true, false, pos, List, [], length, Option, Some, None, All, Contains, slice_index_or, slice_set}
+use Rattle.std.specs.Prelude.{◌≡◌, ℕ, ◌<◌, ◌⊎◌, Bool, true, false, pos, List, [], length, Option, Some, None, All, slice_index_or, slice_set}
 use Rattle.std.specs.List.{filter_map, list_all}
 use Rattle.map_base.specs.declared.ids.NodeId.{NodeId}
 use Rattle.map_base.specs.declared.ids.SegId.{SegId}
@@ -7,7 +7,7 @@ use Rattle.graph_core.specs.declared.parts.GraphParts.{GraphParts}
 use Rattle.octi_grid.specs.declared.point.GridPoint.{GridPoint}
 use Rattle.octi_grid.specs.Ways.{doubled}
 use Rattle.octi_grid.specs.Walks.{doubled_of, end_point, points_of, PlainWalk}
-use Rattle.octi_grid.specs.Legal.{are_clockwise, are_distinct, is_even}
+use Rattle.octi_grid.specs.Legal.{are_clockwise, are_distinct, is_among, is_even}
 use Rattle.grid_board.specs.Boards.{contains, AreBounds}
 use Rattle.segment_router.specs.Routes.{port_at_node}
 use Rattle.line_chains.specs.declared.chain.Chain.{Chain}
@@ -67,8 +67,8 @@ pub record IsLegalSketch (graph : GraphParts) (k : Sketch) : Type 0 where
   pub ends : (s : SegId) (w : PlainWalk) → walk_in k s ≡ Some w → end_point w ≡ point_of_node k (ends_of graph s).1.0
   pub within : (s : SegId) (w : PlainWalk) → walk_in k s ≡ Some w → list_all (contains k.bounds) (points_of w) ≡ true
   pub once : (s : SegId) (w : PlainWalk) → walk_in k s ≡ Some w → are_distinct (doubled_of w) ≡ true
-  pub apart : (s t : SegId) (v w : PlainWalk) (d : GridPoint) → (s.0 ≡ t.0 → ⊥) → walk_in k s ≡ Some v → walk_in k t ≡ Some w → Contains (doubled_of v) d → Contains (doubled_of w) d → IsMeeting graph k s t d
-  pub clear : (s : SegId) (w : PlainWalk) (n : ℕ) → walk_in k s ≡ Some w → is_standing k n ≡ true → Contains (doubled_of w) (doubled (point_of_node k n)) → IsEndOf graph s n
+  pub apart : (s t : SegId) (v w : PlainWalk) (d : GridPoint) → (s.0 ≡ t.0 → ⊥) → walk_in k s ≡ Some v → walk_in k t ≡ Some w → is_among (doubled_of v) d ≡ true → is_among (doubled_of w) d ≡ true → IsMeeting graph k s t d
+  pub clear : (s : SegId) (w : PlainWalk) (n : ℕ) → walk_in k s ≡ Some w → is_standing k n ≡ true → is_among (doubled_of w) (doubled (point_of_node k n)) ≡ true → IsEndOf graph s n
   pub ports : (n : ℕ) → n < length graph.kinds → are_clockwise (filter_map (port_at_node graph (board_under k) n) (slice_index_or graph.rounds n [])) ≡ true
 
 -- a run may be laid: its ends stand, the nodes between them don't, and its segments have no walk
