@@ -3,18 +3,20 @@ use Rattle.std.proofs.Common.{◌≡◌, refl, sym, ◌∙◌, ap, ap₂, subst,
 use Rattle.std.specs.List.{list_all}
 use Rattle.std.proofs.lemmas.Bool.{and_from, and_parts, lt-ltb}
 use Rattle.octi_grid.specs.declared.dir.Dir.{Dir}
-use Rattle.octi_grid.specs.declared.dir.Dir.TheVariants as dir
 use Rattle.octi_grid.specs.declared.point.GridPoint.{GridPoint}
 use Rattle.octi_grid.specs.Costs.{clockwise_from}
 use Rattle.octi_grid.specs.Ways.{after, doubled, doubled_from, number_of, points_from, reverse_of, step_from}
 use Rattle.octi_grid.specs.Walks.{doubled_of, end_point, end_port, last_of, points_of, start_port, PlainWalk}
 use Rattle.octi_grid.specs.Legal.{are_clockwise, are_distinct, is_even}
-use Rattle.octi_grid.proofs.Members.{in_append, in_left, in_right, In}
-use Rattle.octi_grid.proofs.MeetsLemmas.{distinct_from, distinct_not_later, distinct_rest, doubled-same}
+use Rattle.octi_grid.proofs.CostLemmas.{number_small}
+use Rattle.octi_grid.proofs.Members.{in_left, in_right, In}
+use Rattle.octi_grid.proofs.MeetsLemmas.{distinct_from, distinct_not_later, distinct_rest}
 use Rattle.octi_grid.proofs.WayLemmas.{after-append, list_all-points-append}
 use Rattle.grid_board.specs.Taking.{behind}
 use Rattle.grid_board.proofs.Ways.{behind-append, doubled_from-behind, first_holds}
-use Rattle.segment_router.proofs.LaidLemmas.{end_on_way}
+use Rattle.segment_router.proofs.LaidLemmas.{end_on_way, start_on_way}
+use Rattle.walk_search.specs.Moves.{direction}
+use Rattle.walk_search.proofs.Turning.{direction-number_of}
 use Rattle.run_laying.proofs.Reversed.{middle_back}
 
 -- a walk goes over one walk and then over another, which begins at an even point
@@ -100,19 +102,16 @@ module _ (w v rest : PlainWalk) (split : IsSplit w v rest) where
       which (inl e) = in_first d (subst (λ (q : GridPoint). In q (doubled_of v)) (sym e) (end_on_way v.start v.steps))
       which (inr n) = subst (λ (xs : List GridPoint). In d xs) (sym split_doubled) (in_right d (doubled_of v) (behind (end_point v) rest.steps) n)
 
+  parts_within : (test : GridPoint → Bool) → list_all test (points_of w) ≡ true → (list_all test (points_of v) ≡ true) × (list_all test (points_from (end_point v) rest.steps) ≡ true)
+  parts_within test e =
+      and_parts (list_all test (points_of v)) (list_all test (points_from (end_point v) rest.steps))
+      (sym (list_all-points-append test v.start v.steps rest.steps) ∙ ap (list_all test) (sym (ap₂ points_from (sym split.start) split.steps)) ∙ e)
+
   pub first_within : (test : GridPoint → Bool) → list_all test (points_of w) ≡ true → list_all test (points_of v) ≡ true
-  first_within test e = (both test e).0
-    where
-      both : (test : GridPoint → Bool) → list_all test (points_of w) ≡ true → (list_all test (points_of v) ≡ true) × (list_all test (points_from (end_point v) rest.steps) ≡ true)
-      both test e =
-          and_parts (list_all test (points_of v)) (list_all test (points_from (end_point v) rest.steps))
-          (sym (list_all-points-append test v.start v.steps rest.steps) ∙ ap (list_all test) (sym (ap₂ points_from (sym split.start) split.steps)) ∙ e)
+  first_within test e = (parts_within test e).0
 
   pub second_within : (test : GridPoint → Bool) → list_all test (points_of w) ≡ true → list_all test (points_of rest) ≡ true
-  second_within test e =
-      ap (λ (p : GridPoint). list_all test (points_from p rest.steps)) split.next
-      ∙ (and_parts (list_all test (points_of v)) (list_all test (points_from (end_point v) rest.steps))
-      (sym (list_all-points-append test v.start v.steps rest.steps) ∙ ap (list_all test) (sym (ap₂ points_from (sym split.start) split.steps)) ∙ e)).1
+  second_within test e = ap (λ (p : GridPoint). list_all test (points_from p rest.steps)) split.next ∙ (parts_within test e).1
 
   pub next_holds : (test : GridPoint → Bool) → list_all test (points_of w) ≡ true → test rest.start ≡ true
   next_holds test e = first_holds test rest.start rest.steps (second_within test e)
@@ -148,11 +147,7 @@ module _ (w v rest : PlainWalk) (split : IsSplit w v rest) where
     pub start_once : In (doubled w.start) (doubled_of rest) → ⊥
     start_once n =
         start_not_end v.start v.steps split.some first_once
-        (ap doubled split.start ∙ met_between (doubled w.start) (subst (λ (q : GridPoint). In (doubled q) (doubled_of v)) split.start (start_there v.start v.steps)) n ∙ ap doubled split.next)
-      where
-        start_there : (p : GridPoint) (ds : List Dir) → In (doubled p) (doubled_from p ds)
-        start_there p [] = inl refl
-        start_there p (d ∷ ds) = inl refl
+        (ap doubled split.start ∙ met_between (doubled w.start) (subst (λ (q : GridPoint). In (doubled q) (doubled_of v)) split.start (start_on_way v.start v.steps)) n ∙ ap doubled split.next)
 
     pub end_once : In (doubled (end_point w)) (doubled_of v) → ⊥
     end_once m =
@@ -176,17 +171,7 @@ module _ (w v rest : PlainWalk) (split : IsSplit w v rest) where
             (first_middle (end_point v) rest.steps begins)
 
 -- two different ports stand clockwise in either order
-number_small : (d : Dir) → number_of d < 8
-number_small dir.N = omega arith
-number_small dir.NE = omega arith
-number_small dir.E = omega arith
-number_small dir.SE = omega arith
-number_small dir.S = omega arith
-number_small dir.SW = omega arith
-number_small dir.W = omega arith
-number_small dir.NW = omega arith
-
-turn_some : (a b : ℕ) → a < 8 → b < 8 → (a ≡ b → ⊥) → 0 < (b + 8 - a) % 8
+turn_some : (a b : ℕ) → a ≤ 7 → b ≤ 7 → (a ≡ b → ⊥) → 0 < (b + 8 - a) % 8
 turn_some a b low high apart = omega (arith, apart)
 
 pub two_clockwise : (a b : Dir) → (a ≡ b → ⊥) → are_clockwise (a ∷ b ∷ []) ≡ true
