@@ -5,4 +5,5 @@ pub mod Added
 pub mod Shown
 pub mod Turned
 pub mod Piecewise
+pub mod FreeRoutes
 pub mod Whole

@@ -1,7 +1,7 @@
 -- What the board of a legal sketch shows: the points of the nodes that stand, and the doubled points of the walks.
 use Rattle.std.proofs.Common.{◌≡◌, refl, sym, ◌∙◌, ap, subst, ℕ, zero, suc, ◌<◌, ◌≤◌, Bool, true, false, List, [], ◌∷◌, length, get_or, Option, Some, None, ◌⊎◌, inl, inr, arith}
 use Rattle.std.proofs.lemmas.Bool.{cases_lt, true≢false}
-use Rattle.std.proofs.lemmas.List.{get_or_past}
+use Rattle.std.proofs.lemmas.List.{get_or_past, get_or-replicate}
 use Rattle.std.specs.List.{filter_map, list_any, zip}
 use Rattle.map_base.specs.declared.ids.SegId.{SegId}
 use Rattle.graph_core.specs.declared.parts.GraphParts.{GraphParts}
@@ -14,9 +14,9 @@ use Rattle.octi_grid.specs.Legal.{is_even}
 use Rattle.octi_grid.proofs.Members.{among_from, any_at, any_from, are_one-refl, one_point, In}
 use Rattle.grid_board.specs.Boards.{contains, IsBoard}
 use Rattle.grid_board.proofs.OnBoards.{ends_among}
-use Rattle.segment_router.specs.Routes.{has_doubled}
+use Rattle.segment_router.specs.Routes.{has_doubled, is_settled}
 use Rattle.segment_router.proofs.SettledLemmas.{nowhere}
-use Rattle.run_laying.specs.Laying.{board_of, standing_point, standing_points, Sketch}
+use Rattle.run_laying.specs.Laying.{board_of, board_under, standing_point, standing_points, Sketch}
 use Rattle.run_laying.specs.Sketches.{is_standing, point_of_node, walk_in, IsLegalSketch}
 
 -- nodes that stand
@@ -67,6 +67,10 @@ stands_below graph k h n stands = by_order (cases_lt n (length graph.kinds))
     by_order : (n < length graph.kinds) ⊎ (length graph.kinds ≤ n) → n < length graph.kinds
     by_order (inl below) = below
     by_order (inr past) = absurd (true≢false (sym stands ∙ get_or_past k.stand n false (omega (arith, past, h.stand_each))))
+
+-- and settled
+pub settled_there : (graph : GraphParts) (k : Sketch) → IsLegalSketch graph k → (n : ℕ) → is_standing k n ≡ true → is_settled (board_under k) n ≡ true
+settled_there graph k h n stands = get_or-replicate (length k.points) n true false (omega (arith, stands_below graph k h n stands, h.points_each))
 
 -- walks
 in_walks : (ws : List (Option PlainWalk)) (i : ℕ) (w : PlainWalk) → get_or ws i None ≡ Some w → In (Some w) ws

@@ -1,6 +1,6 @@
 -- A legal sketch in which all nodes stand and all segments have walks is a legal drawing.
 use Rattle.std.proofs.Common.{◌≡◌, refl, sym, ◌∙◌, ap, subst, ℕ, suc, ◌<◌, Bool, true, false, ◌⊎◌, inl, inr, List, [], ◌∷◌, length, get_or, replicate, Option, Some, None, arith}
-use Rattle.std.proofs.lemmas.List.{get_or-replicate, length-replicate}
+use Rattle.std.proofs.lemmas.List.{length-replicate}
 use Rattle.std.specs.List.{filter_map, list_all}
 use Rattle.map_base.specs.declared.ids.SegId.{SegId}
 use Rattle.graph_core.specs.declared.parts.GraphParts.{GraphParts}
@@ -12,22 +12,18 @@ use Rattle.octi_grid.proofs.Members.{all_from, among_from, In}
 use Rattle.grid_board.specs.declared.bounds.Bounds.{Bounds}
 use Rattle.grid_board.specs.Boards.{contains}
 use Rattle.drawing_weights.specs.Drawn.{IsDrawn}
-use Rattle.segment_router.specs.Routes.{is_settled}
 use Rattle.segment_router.specs.Underway.{IsUnderway}
 use Rattle.segment_router.proofs.LaidLemmas.{IsLaid, Meeting}
 use Rattle.segment_router.proofs.LegalRoutes.{all_kept, all_legal, AllThere, AreAll}
 use Rattle.run_laying.specs.Drawings.{IsOnBoard}
 use Rattle.run_laying.specs.Laying.{board_under, Sketch}
 use Rattle.run_laying.specs.Sketches.{is_standing, walk_in, IsLegalSketch, IsMeeting}
-use Rattle.run_laying.proofs.Shown.{board_fits, node_shown, stands_below, taken_shown}
+use Rattle.run_laying.proofs.Shown.{board_fits, node_shown, settled_there, taken_shown}
 
 -- all nodes stand, and all segments have walks
 pub record IsComplete (graph : GraphParts) (k : Sketch) : Type 0 where
   pub nodes : (n : ℕ) → n < length graph.kinds → is_standing k n ≡ true
   pub walks : (i : ℕ) → i < length graph.ends → (w : PlainWalk) × (get_or k.walks i None ≡ Some w)
-
-settled_all : (graph : GraphParts) (k : Sketch) → IsLegalSketch graph k → (n : ℕ) → is_standing k n ≡ true → is_settled (board_under k) n ≡ true
-settled_all graph k h n stands = get_or-replicate (length k.points) n true false (omega (arith, stands_below graph k h n stands, h.points_each))
 
 meeting_of : (graph : GraphParts) (k : Sketch) (s t : SegId) (d : GridPoint) → IsMeeting graph k s t d → Meeting graph (board_under k) s t d
 meeting_of graph k s t d m = record { node = m.node; of_one = m.of_one; of_other = m.of_other; there = m.there }
@@ -41,8 +37,8 @@ underway_of graph k h all = record {
   inside = λ n below. h.inside n (all n below);
   even = λ n below. h.even n (all n below);
   apart = λ n m below too same. h.own n m (all n below) (all m too) same;
-  low_settled = λ s w e. settled_all graph k h (ends_of graph s).0.0 (h.low s w e);
-  up_settled = λ s w e. settled_all graph k h (ends_of graph s).1.0 (h.up s w e);
+  low_settled = λ s w e. settled_there graph k h (ends_of graph s).0.0 (h.low s w e);
+  up_settled = λ s w e. settled_there graph k h (ends_of graph s).1.0 (h.up s w e);
 }
 
 laid_of : (graph : GraphParts) (k : Sketch) → IsLegalSketch graph k → ((n : ℕ) → n < length graph.kinds → is_standing k n ≡ true) → IsLaid graph (board_under k)
