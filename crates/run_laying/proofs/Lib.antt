@@ -6,4 +6,6 @@ pub mod Shown
 pub mod Turned
 pub mod Piecewise
 pub mod FreeRoutes
+pub mod RunFacts
+pub mod LaidRuns
 pub mod Whole
