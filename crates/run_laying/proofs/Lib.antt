@@ -8,4 +8,5 @@ pub mod Piecewise
 pub mod FreeRoutes
 pub mod RunFacts
 pub mod LaidRuns
+pub mod EvenCuts
 pub mod Whole
