@@ -9,4 +9,5 @@ pub mod FreeRoutes
 pub mod RunFacts
 pub mod LaidRuns
 pub mod EvenCuts
+pub mod Attempted
 pub mod Whole

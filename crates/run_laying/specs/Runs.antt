@@ -1,5 +1,5 @@
 -- Which chains may be laid anew as runs, and which attempts are of runs that fit together.
-use Rattle.std.specs.Prelude.{◌≡◌, ℕ, ◌<◌, ◌⊎◌, Bool, true, false, List, [], ◌∷◌, length, All, Contains, slice_index_or}
+use Rattle.std.specs.Prelude.{◌≡◌, ℕ, ◌%◌, ◌<◌, ◌⊎◌, Bool, true, false, List, [], ◌∷◌, length, All, Contains, slice_index_or}
 use Rattle.map_base.specs.declared.ids.NodeId.{NodeId}
 use Rattle.map_base.specs.declared.ids.SegId.{SegId}
 use Rattle.graph_core.specs.declared.parts.GraphParts.{GraphParts}
@@ -44,10 +44,11 @@ AreBeside [] = Unit {0}
 AreBeside (c ∷ cs) = IsBeside cs c × AreBeside cs
 
 -- an attempt fits a graph: its runs are runs that share no segment; nodes that move are nodes between no two steps, and
--- all their segments are on the runs
+-- all their segments are on the runs; and they move by an even number of steps
 pub record IsFitting (graph : GraphParts) (a : Attempt) : Type 0 where
   pub runs : All (IsRun graph) a.runs
   pub beside : AreBeside a.runs
   pub nodes : All (λ (n : NodeId). n.0 < length graph.kinds) a.nodes
   pub ends : All (λ (n : NodeId). is_inner a.runs n.0 ≡ false) a.nodes
   pub all : All (λ (n : NodeId). All (λ (s : SegId). is_on_runs a.runs s.0 ≡ true) (round_of graph n)) a.nodes
+  pub even : a.count % 2 ≡ 0
