@@ -11,3 +11,4 @@ pub mod LaidRuns
 pub mod EvenCuts
 pub mod Attempted
 pub mod Whole
+pub mod Begun

@@ -73,7 +73,7 @@ pub settled_there : (graph : GraphParts) (k : Sketch) → IsLegalSketch graph k 
 settled_there graph k h n stands = get_or-replicate (length k.points) n true false (omega (arith, stands_below graph k h n stands, h.points_each))
 
 -- walks
-in_walks : (ws : List (Option PlainWalk)) (i : ℕ) (w : PlainWalk) → get_or ws i None ≡ Some w → In (Some w) ws
+pub in_walks : (ws : List (Option PlainWalk)) (i : ℕ) (w : PlainWalk) → get_or ws i None ≡ Some w → In (Some w) ws
 in_walks [] i w e = cc
 in_walks (o ∷ ws) zero w e = inl (sym e)
 in_walks (o ∷ ws) (suc i) w e = inr (in_walks ws i w e)
