@@ -72,7 +72,7 @@ module _ (graph : GraphParts) (fit : IsConsistent graph) (bounds : Bounds) (walk
 
   -- ---- the drawing itself
 
-  walk_of : SegId → PlainWalk
+  pub walk_of : SegId → PlainWalk
   walk_of s = get_or walks s.0 no_way
 
   leg_at : (s : SegId) → s.0 < length graph.ends → slice_get (legs_of graph.ends walks) s.0 ≡ Some (let l : Leg = (ends_of graph s, walk_of s) in l)
@@ -147,7 +147,7 @@ module _ (graph : GraphParts) (fit : IsConsistent graph) (bounds : Bounds) (walk
     off : is_on_runs a.runs s.0 ≡ false
     is : walk_of s ≡ w
 
-  left_walk : (s : SegId) → s.0 < length graph.ends → walk_in k0 s ≡ walk_beside walks a.runs s.0
+  pub left_walk : (s : SegId) → s.0 < length graph.ends → walk_in k0 s ≡ walk_beside walks a.runs s.0
   left_walk s h = get_or-map-range_with_len (walk_beside walks a.runs) 0 (length graph.ends) s.0 s.0 None h (omega arith)
 
   left_of : (s : SegId) (w : PlainWalk) → walk_in k0 s ≡ Some w → IsLeft s w
@@ -166,7 +166,7 @@ module _ (graph : GraphParts) (fit : IsConsistent graph) (bounds : Bounds) (walk
     node : n < length graph.kinds
     outer : is_inner a.runs n ≡ false
 
-  flag_at : (n : ℕ) → n < length graph.kinds → is_standing k0 n ≡ not (is_inner a.runs n)
+  pub flag_at : (n : ℕ) → n < length graph.kinds → is_standing k0 n ≡ not (is_inner a.runs n)
   flag_at n h = get_or-map-range_with_len (λ n. not (is_inner a.runs n)) 0 (length graph.kinds) n n false h (omega arith)
 
   stands_of : (n : ℕ) → is_standing k0 n ≡ true → IsStanding n
@@ -194,7 +194,7 @@ module _ (graph : GraphParts) (fit : IsConsistent graph) (bounds : Bounds) (walk
   off_runs s off c m q on same =
       true≢false (sym (any_from (λ (c : Chain). list_any (λ (t : ChainStep). eqb t.seg.0 s.0) c.steps) a.runs c m (any_from (λ (t : ChainStep). eqb t.seg.0 s.0) c.steps q on (eq-eqb q.seg.0 s.0 same))) ∙ off)
 
-  run_in : (c : Chain) → In c a.runs → IsRun graph c
+  pub run_in : (c : Chain) → In c a.runs → IsRun graph c
   run_in c m = all_in (IsRun graph) a.runs c fits.runs m
 
   end_outer : (s : SegId) (n : ℕ) → s.0 < length graph.ends → is_on_runs a.runs s.0 ≡ false → IsEndOf graph s n → is_inner a.runs n ≡ false

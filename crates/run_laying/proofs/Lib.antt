@@ -12,3 +12,4 @@ pub mod EvenCuts
 pub mod Attempted
 pub mod Whole
 pub mod Begun
+pub mod Kept

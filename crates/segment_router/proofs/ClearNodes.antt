@@ -5,7 +5,7 @@ use Rattle.map_base.specs.declared.ids.SegId.{SegId}
 use Rattle.graph_core.specs.declared.parts.GraphParts.{GraphParts}
 use Rattle.octi_grid.specs.declared.dir.Dir.{Dir}
 use Rattle.octi_grid.specs.declared.point.GridPoint.{GridPoint}
-use Rattle.octi_grid.specs.Ways.{after, doubled, doubled_from, step_from}
+use Rattle.octi_grid.specs.Ways.{after, doubled, doubled_from, points_from, step_from}
 use Rattle.octi_grid.specs.Walks.{doubled_of, end_point, PlainWalk}
 use Rattle.octi_grid.proofs.Members.{any_from, In}
 use Rattle.walk_search.specs.Routes.{inner_points}
