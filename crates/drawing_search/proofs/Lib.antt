@@ -1,0 +1,3 @@
+mod BoundParts
+mod Trails
+mod Spans

@@ -2,3 +2,4 @@
 pub mod Shown
 pub mod Searched
 pub mod Trying
+pub mod Tracks

@@ -12,6 +12,7 @@ mod laying;
 mod least;
 mod lifting;
 mod pairs;
+mod points;
 mod searching;
 mod sketch;
 mod trying;

@@ -62,7 +62,7 @@ pub fn search(
         by,
         first: &first,
     };
-    let bounds = bounds_past(margin, &walks);
+    let bounds = bounds_past(alloc, margin, &walks)?;
     let sketch = sketch_of(alloc, bounds, &first, walks)?;
     let before = weight_of(field, &sketch);
     let mut search = Search {
