@@ -1,8 +1,8 @@
 -- Flags of nodes that are raised along ways.
-use Rattle.std.proofs.Common.{◌≡◌, ◌≢◌, ◌∙◌, refl, sym, ap, subst, ℕ, zero, suc, ◌+◌, ◌<◌, ◌≤◌, ◌⊎◌, inl, inr, Bool, true, false, ◌||◌, eqb, List, [], ◌∷◌, length, get_or, set, map, fold, drop, replicate, arith, length-set, get_or-set_same, get_or-set_other}
+use Rattle.std.proofs.Common.{◌≡◌, ◌≢◌, ◌∙◌, refl, sym, ap, subst, ℕ, zero, suc, ◌+◌, ◌<◌, ◌≤◌, ◌⊎◌, inl, inr, Bool, true, false, not, ◌||◌, eqb, List, [], ◌∷◌, length, get_or, set, map, fold, drop, replicate, arith, length-set, get_or-set_same, get_or-set_other}
 use Rattle.std.specs.List.{list_any, All}
 use Rattle.std.proofs.lemmas.Bool.{cases_eq, eq-eqb, ne_eqb}
-use Rattle.std.proofs.lemmas.List.{drop_all, drop_more}
+use Rattle.std.proofs.lemmas.List.{drop_all, drop_more, get_or_default, get_or-map, length-map, same_lists}
 use Rattle.map_base.specs.declared.ids.NodeId.{NodeId}
 use Rattle.map_base.specs.declared.ids.SegId.{SegId}
 use Rattle.graph_core.specs.declared.parts.GraphParts.{GraphParts}
@@ -89,3 +89,18 @@ pub none_raised : (m k : ℕ) → get_or (replicate m false) k false ≡ false
 none_raised zero k = refl
 none_raised (suc m) zero = refl
 none_raised (suc m) (suc k) = none_raised m k
+
+-- flags that are put one after another
+pub put_more : (f : ℕ → Bool) (flags : List Bool) (n : ℕ) (v : Bool) → n < length flags → ((k : ℕ) → k < n → get_or flags k false ≡ f k) → v ≡ f n → (k : ℕ) → k < n + 1 → get_or (set flags n v) k false ≡ f k
+put_more f flags n v below before here k h = by_cases (cases_eq k n)
+  where
+    by_cases : (k ≡ n) ⊎ (k ≢ n) → get_or (set flags n v) k false ≡ f k
+    by_cases (inl e) = ap (λ i. get_or (set flags n v) i false) e ∙ get_or-set_same flags n v false below ∙ here ∙ ap f (sym e)
+    by_cases (inr g) = get_or-set_other flags n k v false g ∙ before k (omega (arith, g))
+
+pub plain_are : (rounds : List (List SegId)) (flags : List Bool) → length flags ≡ length rounds → ((k : ℕ) → k < length rounds → get_or flags k false ≡ not (eqb (length (get_or rounds k [])) 2))
+    → flags ≡ map (λ (round : List SegId). not (eqb (length round) 2)) rounds
+plain_are rounds flags each same =
+    same_lists flags (map (λ (round : List SegId). not (eqb (length round) 2)) rounds) (each ∙ sym (length-map rounds (λ (round : List SegId). not (eqb (length round) 2))))
+    (λ k d h. let below : k < length rounds = omega (arith, each, h) in
+    get_or_default flags k d false h ∙ same k below ∙ sym (get_or-map (λ (round : List SegId). not (eqb (length round) 2)) rounds k [] d below))

@@ -10,12 +10,12 @@ use Rattle.graph_core.specs.declared.parts.GraphParts.{GraphParts}
 use Rattle.graph_core.specs.Consistent.{IsConsistent}
 use Rattle.line_chains.specs.declared.chain.Chain.{Chain}
 use Rattle.line_chains.specs.declared.chain.ChainStep.{ChainStep}
-use Rattle.line_chains.specs.Chains.{comes_over, is_corner, is_reached, is_reached_from, nodes_along, nodes_of, round_of, steps_from, way_from, with_ring}
+use Rattle.line_chains.specs.Chains.{comes_over, is_corner, is_reached, is_reached_from, nodes_along, nodes_of, plain_corners, ring_corners, round_of, steps_from, way_from, with_ring}
 use Rattle.line_chains.specs.Marks.{marked_from, reached_by}
 use Rattle.line_chains.proofs.Below.{ways_below}
 use Rattle.line_chains.proofs.Flags.{flag_from, length-ways}
 use Rattle.line_chains.proofs.Listing.{nodes_between, one_node}
-use Rattle.line_chains.proofs.Reaching.{same_steps}
+use Rattle.line_chains.proofs.Reaching.{reached_upto, same_steps, upto_corner, upto_other}
 
 -- flags, node by node
 node_by_number : (count k : ℕ) (d : NodeId) → k < count → get_or (nodes_between 0 count) k d ≡ record { 0 = k }
@@ -169,3 +169,36 @@ rings_more graph count i corners new whole h step e =
     ap (λ (cs : List Bool). fold (with_ring graph) cs (nodes_between (i + 1) (count - (i + 1)))) step
     ∙ sym (ap (λ (v : List NodeId). fold (with_ring graph) corners v) (one_node count i h))
     ∙ e
+
+pub rings_begin : (graph : GraphParts) (count : ℕ) (corners : List Bool) → count ≡ length graph.kinds → corners ≡ plain_corners graph → fold (with_ring graph) corners (nodes_between 0 (count - 0)) ≡ ring_corners graph
+rings_begin graph count corners each is =
+    let all : count - 0 ≡ length graph.kinds = omega (arith, each) in
+    ap₂ (λ (cs : List Bool) m. fold (with_ring graph) cs (nodes_between 0 m)) is all
+
+pub rings_over : (graph : GraphParts) (count i : ℕ) (corners whole : List Bool) → count ≤ i → fold (with_ring graph) corners (nodes_between i (count - i)) ≡ whole → corners ≡ whole
+rings_over graph count i corners whole h e =
+    let none : count - i ≡ 0 = omega arith in
+    sym (ap (λ m. fold (with_ring graph) corners (nodes_between i m)) none) ∙ e
+
+-- what ways from one corner more come over
+pub corner_more : (graph : GraphParts) → IsConsistent graph → (corners : List Bool) (n : ℕ) (reached new : List Bool) (k : NodeId) → length reached ≡ length graph.kinds → n < length graph.kinds
+    → new ≡ cond (is_corner corners (record { 0 = n })) (marked_from graph corners (record { 0 = n }) reached) reached → get_or reached k.0 false ≡ reached_upto graph corners n k
+    → get_or new k.0 false ≡ reached_upto graph corners (n + 1) k
+corner_more graph fit corners n reached new k each below step before = ap (λ (fs : List Bool). get_or fs k.0 false) step ∙ by_corner (is_corner corners m) refl
+  where
+    m : NodeId
+    m = record { 0 = n }
+
+    by_corner : (t : Bool) → is_corner corners m ≡ t → get_or (cond t (marked_from graph corners m reached) reached) k.0 false ≡ reached_upto graph corners (n + 1) k
+    by_corner true e = flag_from graph corners m (round_of graph m) reached k each (ways_below graph fit corners m below) ∙ upto_corner graph corners n k (get_or reached k.0 false) e before
+    by_corner false e = upto_other graph corners n k (get_or reached k.0 false) e before
+
+pub corner_length : (graph : GraphParts) (corners : List Bool) (n : NodeId) (reached : List Bool) → length (cond (is_corner corners n) (marked_from graph corners n reached) reached) ≡ length reached
+corner_length graph corners n reached = by_corner (is_corner corners n)
+  where
+    by_corner : (t : Bool) → length (cond t (marked_from graph corners n reached) reached) ≡ length reached
+    by_corner true = length-ways (map (way_from graph corners n) (round_of graph n)) reached
+    by_corner false = refl
+
+pub reached_all : (graph : GraphParts) (corners : List Bool) (n : ℕ) (k : NodeId) → n ≡ length graph.kinds → reached_upto graph corners n k ≡ is_reached graph corners k
+reached_all graph corners n k e = ap (λ m. list_any (is_reached_from graph corners k) (nodes_between 0 m)) e

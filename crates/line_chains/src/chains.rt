@@ -41,7 +41,8 @@ fn push_chains_at(
     if !corners.is_raised(n.0 as usize) {
         return Ok(());
     }
-    push_chains_by(alloc, graph, corners, n, graph.round(n), chains)
+    push_chains_by(alloc, graph, corners, n, graph.round(n), chains)?;
+    Ok(())
 }
 
 /// Lists the chains from a corner by segments of its round.

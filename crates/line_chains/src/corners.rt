@@ -44,7 +44,8 @@ fn add_ring(
         return Ok(());
     }
     corners.raise(n.0 as usize);
-    mark_from(alloc, graph, corners, n, reached)
+    mark_from(alloc, graph, corners, n, reached)?;
+    Ok(())
 }
 
 /// The nodes at which not two segments meet.
@@ -87,7 +88,8 @@ fn mark_from_corner(
     if !corners.is_raised(n.0 as usize) {
         return Ok(());
     }
-    mark_from(alloc, graph, corners, n, reached)
+    mark_from(alloc, graph, corners, n, reached)?;
+    Ok(())
 }
 
 /// Marks the nodes that ways from a corner come over.

@@ -1,8 +1,9 @@
-use Rattle.std.proofs.Common.{◌≡◌, ◌++◌, ◌==◌, not, drop, map, length, List}
-use Rattle.map_base.specs.declared.ids.SegId.{SegId}
-use Rattle.line_chains.specs.Chains.{plain_corners}
+use Rattle.std.proofs.Common.{◌≡◌, ℕ, ◌<◌, not, false, eqb, [], length, get_or}
 use Rattle.line_chains.proofs.corners.plain_corners.Given as goal
 
--- the flags so far, and those that are left
+-- the flags so far
 abbrev pub invariant-loop-n : goal.invariant-loop-n
-invariant-loop-n l = l.corners.items ++ map (λ (round : List SegId). not (length round == 2)) (drop l.n l.graph.rounds) ≡ plain_corners l.graph
+invariant-loop-n l = record {
+  each : length l.corners ≡ length l.graph.kinds;
+  flags : (k : ℕ) → k < l.n → get_or l.corners k false ≡ not (eqb (length (get_or l.graph.rounds k [])) 2);
+}
