@@ -3,3 +3,4 @@ pub mod Shown
 pub mod Searched
 pub mod Trying
 pub mod Tracks
+pub mod Gains
