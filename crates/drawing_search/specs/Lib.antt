@@ -4,3 +4,5 @@ pub mod Searched
 pub mod Trying
 pub mod Tracks
 pub mod Gains
+pub mod Least
+pub mod Bounds

@@ -1,5 +1,15 @@
 //! What runs add at least, and what their walks may cost.
 
+ghost use Rattle.std.specs.Prelude.{◌≡◌, ◌+◌, ◌*◌, ◌-◌, ◌/◌, ◌<◌, ◌≤◌, ◌==◌, ◌^◌, length, if◌then◌else◌, slice_index, IfOk};
+ghost use Rattle.drawing_weights.specs.Scales.{scale_of};
+ghost use Rattle.octi_grid.specs.Ways.{number_of, reverse_of};
+ghost use Rattle.run_laying.specs.Runs.{IsRun};
+ghost use Rattle.run_laying.specs.Sketches.{is_standing, IsLegalSketch};
+ghost use Rattle.walk_search.specs.Reaching.{reach_of};
+ghost use Rattle.drawing_search.specs.Gains.{IsField};
+ghost use Rattle.drawing_search.specs.Least.{diagonal, free_nodes, straight_way, turn_price, turns_at_least};
+ghost use Rattle.drawing_search.specs.Bounds.{with_walk_by, AreOvers, IsLeastOf, IsSmallLeast};
+
 use crate::gains::Field;
 use crate::sketch::Sketch;
 use line_chains::{Chain, ChainStep};
@@ -35,18 +45,30 @@ pub(crate) struct LeastTurns {
 
 impl LeastTurns {
     /// What the run adds at least between two points.
-    pub(crate) fn between(self, from: GridPoint, to: GridPoint) -> u64 {
+    pub(crate) fn between(self, from: GridPoint, to: GridPoint) -> u64
+        requires { IsSmallLeast self }
+        ensures value { result ≡ reach_of from to + slice_index self.by (straight_way from to) }
+        ensures small { result ≤ 2 ^ 51 }
+    {
         reach(from, to) + self.turns_between(from, to)
     }
 
     /// The same beside what it costs to come over.
-    fn turns_between(self, from: GridPoint, to: GridPoint) -> u64 {
+    fn turns_between(self, from: GridPoint, to: GridPoint) -> u64
+        ensures { result ≡ slice_index self.by (straight_way from to) }
+    {
         self.by[usize::from(straight_way(from, to))]
     }
 
     /// What the walk of the run may cost between two points at most where the run may add so much, which is no less than it
     /// adds at least. What it adds for turns it costs once more only for each turn.
-    pub(crate) fn walk_limit(self, may_add: u64, from: GridPoint, to: GridPoint) -> u64 {
+    pub(crate) fn walk_limit(self, may_add: u64, from: GridPoint, to: GridPoint) -> u64
+        requires small { IsSmallLeast self }
+        requires enough { slice_index self.by (straight_way from to) ≤ may_add }
+        requires may_add { may_add ≤ 2 ^ 57 }
+        ensures value { result ≡ (if self.per_turn == 0 then may_add - slice_index self.by (straight_way from to) + self.free_turns else may_add - slice_index self.by (straight_way from to) + slice_index self.by (straight_way from to) / self.per_turn) }
+        ensures small { result < 2 ^ 63 }
+    {
         let turns = self.turns_between(from, to);
         if self.per_turn == 0 {
             return may_add - turns + self.free_turns;
@@ -68,7 +90,11 @@ impl LeastTurns {
 
     /// The least of these and of a walk that leaves by one direction, comes in another, and makes lines turn over its ends
     /// by so much.
-    fn with_walk(&mut self, first: Dir, last: Dir, overs: u64) {
+    fn with_walk(&mut self, first: Dir, last: Dir, overs: u64)
+        requires small { IsSmallLeast self.old }
+        requires overs { overs ≤ 2 ^ 41 }
+        ensures { self.new ≡ with_walk_by self.old first last overs }
+    {
         for k in 0..9 {
             let weight = overs + self.per_turn * turns_at_least(first, last, k);
             self.by[usize::from(k)] = self.by[usize::from(k)].min(weight);
@@ -84,7 +110,13 @@ impl<'a> Field<'a> {
         alloc: Global,
         sketch: &Sketch,
         run: &Chain,
-    ) -> Result<LeastTurns, NoMemory> {
+    ) -> Result<LeastTurns, NoMemory>
+        requires field { IsField self }
+        requires legal { IsLegalSketch self.graph.now sketch.now }
+        requires run { IsRun self.graph.now run.now }
+        ensures least { IfOk result (IsLeastOf (scale_of self.by) self.graph.now sketch.now run.now) }
+        ensures small { IfOk result IsSmallLeast }
+    {
         let steps = run.steps.as_slice();
         let last = steps[steps.len() - 1];
         let from = self.overs_at(alloc, sketch, run.from, steps[0].seg)?;
@@ -108,7 +140,13 @@ impl<'a> Field<'a> {
         sketch: &Sketch,
         n: NodeId,
         s: SegId,
-    ) -> Result<[Option<u64>; 8], NoMemory> {
+    ) -> Result<[Option<u64>; 8], NoMemory>
+        requires field { IsField self }
+        requires legal { IsLegalSketch self.graph.now sketch.now }
+        requires node { n.0 < length self.graph.now.kinds }
+        requires segment { s.0 < length self.graph.now.ends }
+        ensures { IfOk result (AreOvers (scale_of self.by) self.graph.now sketch.now n.0 s) }
+    {
         let allowed = sketch.ports_for(alloc, self.graph, n, s)?;
         let mut overs = [None; 8];
         for d in DIRECTIONS {
@@ -121,7 +159,12 @@ impl<'a> Field<'a> {
 
     /// What a turn of 45 degrees in the walk of a run weighs at least: nothing where it may lie at a node that no line goes
     /// over.
-    fn turn_price(self, steps: &[ChainStep]) -> u64 {
+    fn turn_price(self, steps: &[ChainStep]) -> u64
+        requires field { IsField self }
+        requires some { 0 < length steps.now }
+        ensures price { result ≡ turn_price (scale_of self.by) self.graph.now steps.now }
+        ensures small { result ≤ 101 }
+    {
         if steps.len() == 1 {
             return 1 + self.by.turns;
         }
@@ -132,7 +175,11 @@ impl<'a> Field<'a> {
     }
 
     /// How many of the nodes between the ends of a run no line goes over.
-    fn free_nodes(self, steps: &[ChainStep]) -> u64 {
+    fn free_nodes(self, steps: &[ChainStep]) -> u64
+        requires field { IsField self }
+        ensures count { result ≡ free_nodes (scale_of self.by) self.graph.now steps.now }
+        ensures small { result ≤ length steps.now }
+    {
         let mut count = 0;
         for i in 1..steps.len() {
             if self.pairs.at(steps[i - 1].to).is_empty() || self.by.overs == 0 {
@@ -145,7 +192,10 @@ impl<'a> Field<'a> {
 
 /// How many turns of 45 degrees a walk makes at least that leaves by one direction, comes in another, and ends where a
 /// straight way in the direction of a number leads, or none.
-fn turns_at_least(first: Dir, last: Dir, straight: u8) -> u64 {
+fn turns_at_least(first: Dir, last: Dir, straight: u8) -> u64
+    ensures value { result ≡ turns_at_least first last straight }
+    ensures small { result ≤ 4 }
+{
     let between = u64::from(turn_cost(first, last));
     if first.index() == straight && last.index() == straight {
         between
@@ -155,7 +205,10 @@ fn turns_at_least(first: Dir, last: Dir, straight: u8) -> u64 {
 }
 
 /// The number of the direction in which a straight way leads from one point to another; 8 where none does.
-fn straight_way(from: GridPoint, to: GridPoint) -> u8 {
+fn straight_way(from: GridPoint, to: GridPoint) -> u8
+    ensures value { result ≡ straight_way from to }
+    ensures small { result ≤ 8 }
+{
     let across = to.x.abs_diff(from.x);
     let along = to.y.abs_diff(from.y);
     if across == 0 {
@@ -171,7 +224,10 @@ fn straight_way(from: GridPoint, to: GridPoint) -> u8 {
 }
 
 /// The number of a diagonal direction.
-fn diagonal(is_east: bool, is_north: bool) -> u8 {
+fn diagonal(is_east: bool, is_north: bool) -> u8
+    ensures value { result ≡ diagonal is_east is_north }
+    ensures small { result ≤ 8 }
+{
     match (is_east, is_north) {
         (true, true) => 1,
         (true, false) => 3,
