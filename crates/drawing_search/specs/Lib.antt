@@ -6,3 +6,5 @@ pub mod Tracks
 pub mod Gains
 pub mod Least
 pub mod Bounds
+pub mod Tries
+pub mod Lifting

@@ -1,5 +1,13 @@
 //! What a group of attempts takes off the board, and puts back.
 
+ghost use Rattle.std.specs.Prelude.{◌≡◌, All, IfOk, OnOk};
+ghost use Rattle.drawing_weights.specs.Scales.{scale_of};
+ghost use Rattle.run_laying.specs.Runs.{IsFitting};
+ghost use Rattle.drawing_search.specs.Gains.{IsField};
+ghost use Rattle.drawing_search.specs.Lifting.{put_back, IsLifted};
+ghost use Rattle.drawing_search.specs.Searched.{attempts_in};
+ghost use Rattle.drawing_search.specs.Tries.{IsSettled};
+
 use crate::gains::Field;
 use crate::group::Group;
 use crate::least::LeastTurns;
@@ -27,7 +35,12 @@ pub(crate) fn lift(
     sketch: &mut Sketch,
     group: &Group,
     weight: u64,
-) -> Result<Lifted, NoMemory> {
+) -> Result<Lifted, NoMemory>
+    requires field { IsField field }
+    requires settled { IsSettled (scale_of field.by) field.graph.now field.first.now sketch.old weight }
+    requires fitting { All (IsFitting field.graph.now) (attempts_in group.now) }
+    ensures { IfOk result (IsLifted (scale_of field.by) field.graph.now field.first.now group.now sketch.old sketch.new) }
+{
     let mut lifted = Lifted {
         walks: Vec::new(alloc),
         inner: Vec::new(alloc),
@@ -83,7 +96,9 @@ fn lift_between(
 }
 
 /// Puts on the board what was taken off.
-pub(crate) fn put_back(sketch: &mut Sketch, lifted: Lifted) {
+pub(crate) fn put_back(sketch: &mut Sketch, lifted: Lifted)
+    ensures { sketch.new ≡ put_back sketch.old lifted.moved.items lifted.inner.items lifted.walks.items }
+{
     for (n, at) in lifted.moved {
         sketch.stand(n, at);
     }

@@ -1,5 +1,16 @@
 //! Attempts of a group, one after another.
 
+ghost use Rattle.std.specs.Prelude.{◌≡◌, ◌+◌, ◌*◌, ◌<◌, ◌≤◌, ◌==◌, ◌%◌, ◌/◌, length, map, replicate, if◌then◌else◌, true, All, IfOk, OnOk};
+ghost use Rattle.drawing_weights.specs.Scales.{scale_of};
+ghost use Rattle.grid_board.specs.Points.{is_near};
+ghost use Rattle.octi_grid.specs.Ways.{after, number_of};
+ghost use Rattle.line_chains.specs.Chains.{end_of};
+ghost use Rattle.run_laying.specs.Runs.{IsFitting};
+ghost use Rattle.drawing_search.specs.Gains.{IsField};
+ghost use Rattle.drawing_search.specs.Lifting.{IsAttempted};
+ghost use Rattle.drawing_search.specs.Searched.{attempts_in};
+ghost use Rattle.drawing_search.specs.Tries.{after_tries, IsSettled};
+
 use crate::gains::Field;
 use crate::group::{Group, Vector};
 use crate::least::{DIRECTIONS, LeastTurns};
@@ -26,7 +37,14 @@ impl Search {
         field: Field<'_>,
         group: &Group,
         most: u32,
-    ) -> Result<(), NoMemory> {
+    ) -> Result<(), NoMemory>
+        requires field { IsField field }
+        requires settled { IsSettled (scale_of field.by) field.graph.now field.first.now self.old.sketch self.old.weight }
+        requires fitting { All (IsFitting field.graph.now) (attempts_in group.now) }
+        requires most { self.old.made ≤ most }
+        ensures settled { OnOk result (IsSettled (scale_of field.by) field.graph.now field.first.now self.new.sketch self.new.weight) }
+        ensures tried { OnOk result (record { sketch = self.new.sketch; made = self.new.made } ≡ after_tries (scale_of field.by) field.graph.now field.first.now most (attempts_in group.now) (record { sketch = self.old.sketch; made = self.old.made })) }
+    {
         let mut lifted = lift(alloc, field, &mut self.sketch, group, self.weight)?;
         for i in 0..vectors_of(group.lengths) {
             if self.made == most {
@@ -52,7 +70,12 @@ impl Search {
         group: &Group,
         lifted: &Lifted,
         vector: Vector,
-    ) -> Result<Option<u64>, NoMemory> {
+    ) -> Result<Option<u64>, NoMemory>
+        requires field { IsField field }
+        ensures { IfOk result (IsAttempted (scale_of field.by) field.graph.now field.first.now group.now lifted.now vector self.old.sketch self.old.weight self.new.sketch) }
+        ensures weight { OnOk result (self.new.weight ≡ self.old.weight) }
+        ensures made { OnOk result (self.new.made ≡ self.old.made) }
+    {
         let runs = group.runs.as_slice();
         let moved = lifted.moved.as_slice();
         if !self.has_room(moved, vector) {
@@ -185,12 +208,20 @@ fn aparts_after(field: Field<'_>, moved: &[(NodeId, GridPoint)], vector: Vector)
 }
 
 /// How many vectors of so many lengths are tried: one where nothing moves.
-fn vectors_of(lengths: u32) -> u32 {
+fn vectors_of(lengths: u32) -> u32
+    requires { lengths ≤ 4 }
+    ensures { result ≡ (if lengths == 0 then 1 else 8 * lengths) }
+{
     if lengths == 0 { 1 } else { 8 * lengths }
 }
 
 /// The vector of a number: by length, and then clockwise from north.
-fn vector_of(lengths: u32, i: u32) -> Vector {
+fn vector_of(lengths: u32, i: u32) -> Vector
+    requires lengths { lengths ≤ 4 }
+    requires i { i < 32 }
+    ensures dir { number_of result.dir ≡ i % 8 }
+    ensures count { result.count ≡ (if lengths == 0 then 0 else 2 * (i / 8 + 1)) }
+{
     Vector {
         dir: DIRECTIONS[(i % 8) as usize],
         count: if lengths == 0 { 0 } else { 2 * (i / 8 + 1) },
@@ -198,7 +229,11 @@ fn vector_of(lengths: u32, i: u32) -> Vector {
 }
 
 /// The point that a vector leads to.
-fn after(p: GridPoint, vector: Vector) -> GridPoint {
+fn after(p: GridPoint, vector: Vector) -> GridPoint
+    requires near { is_near 2000 p ≡ true }
+    requires count { vector.count ≤ 8 }
+    ensures { result ≡ after p (replicate vector.count vector.dir) }
+{
     let count = vector.count as i32;
     GridPoint {
         x: p.x + count * vector.dir.east(),
@@ -207,7 +242,9 @@ fn after(p: GridPoint, vector: Vector) -> GridPoint {
 }
 
 /// Where a run ends.
-fn end_of(run: &Chain) -> NodeId {
+fn end_of(run: &Chain) -> NodeId
+    ensures { result ≡ end_of run.now }
+{
     match run.steps.as_slice().last() {
         None => run.from,
         Some(step) => step.to,
