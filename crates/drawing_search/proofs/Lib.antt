@@ -1,3 +1,4 @@
 mod BoundParts
 mod Trails
 mod Spans
+mod BoardsOf

@@ -20,7 +20,7 @@ use Rattle.run_laying.specs.Laying.{board_of, board_under, standing_point, stand
 use Rattle.run_laying.specs.Sketches.{is_standing, point_of_node, walk_in, IsLegalSketch}
 
 -- nodes that stand
-in_standing : (stand : List Bool) (points : List GridPoint) (n : ℕ) → length stand ≡ length points → get_or stand n false ≡ true → In (get_or points n nowhere) (filter_map standing_point (zip stand points))
+pub in_standing : (stand : List Bool) (points : List GridPoint) (n : ℕ) → length stand ≡ length points → get_or stand n false ≡ true → In (get_or points n nowhere) (filter_map standing_point (zip stand points))
 in_standing [] points n each e = cc
 in_standing (b ∷ bs) [] n each e = absurd (omega arith)
 in_standing (true ∷ bs) (p ∷ ps) zero each e = inl refl
