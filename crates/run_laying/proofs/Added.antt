@@ -55,11 +55,11 @@ ports_beside graph fit k s o n h beside =
     (λ t m. ap (port_by (ends_of graph t) n) (walk_other k s t o (λ e. beside (subst (λ (u : SegId). IsEndOf graph u n) (same_seg t s e) (ends_round graph fit n h t m)))))
 
 module _ (graph : GraphParts) (fit : IsConsistent graph) (k : Sketch) (s : SegId) (w : PlainWalk) (h : IsLegalSketch graph k) (a : IsAddable graph k s w) where
-  abbrev added : Sketch
+  abbrev pub added : Sketch
   added = with_walk_of k s (Some w)
 
   -- the new walk, or one that was there before
-  which_walk : (t : SegId) (v : PlainWalk) → walk_in added t ≡ Some v → ((t ≡ s) × (w ≡ v)) ⊎ ((t.0 ≡ s.0 → ⊥) × (walk_in k t ≡ Some v))
+  pub which_walk : (t : SegId) (v : PlainWalk) → walk_in added t ≡ Some v → ((t ≡ s) × (w ≡ v)) ⊎ ((t.0 ≡ s.0 → ⊥) × (walk_in k t ≡ Some v))
   which_walk t v e = by_number (cases_eq t.0 s.0)
     where
       by_number : (t.0 ≡ s.0) ⊎ (t.0 ≡ s.0 → ⊥) → ((t ≡ s) × (w ≡ v)) ⊎ ((t.0 ≡ s.0 → ⊥) × (walk_in k t ≡ Some v))

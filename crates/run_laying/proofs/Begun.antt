@@ -67,12 +67,12 @@ in_range n m h =
     subst (λ k. In k (range_with_len 0 n)) there (in_at (range_with_len 0 n) m 0 (omega (arith, h, length-range_with_len 0 n)))
 
 module _ (graph : GraphParts) (fit : IsConsistent graph) (bounds : Bounds) (walks : List PlainWalk) (on_board : IsOnBoard graph bounds walks) (a : Attempt) (fits : IsFitting graph a) where
-  k0 : Sketch
+  abbrev pub k0 : Sketch
   k0 = without_runs graph bounds walks a
 
   -- ---- the drawing itself
 
-  pub walk_of : SegId → PlainWalk
+  abbrev pub walk_of : SegId → PlainWalk
   walk_of s = get_or walks s.0 no_way
 
   leg_at : (s : SegId) → s.0 < length graph.ends → slice_get (legs_of graph.ends walks) s.0 ≡ Some (let l : Leg = (ends_of graph s, walk_of s) in l)

@@ -95,7 +95,7 @@ inner_step (t ∷ u ∷ us) m (inl e) = (t, inl refl, e)
 inner_step (t ∷ u ∷ us) m (inr i) = let rest = inner_step (u ∷ us) m i in (rest.0, inr rest.1, rest.2)
 
 module _ (graph : GraphParts) (fit : IsConsistent graph) (bounds : Bounds) (walks : List PlainWalk) (on_board : IsOnBoard graph bounds walks) (a : Attempt) (fits : IsFitting graph a) where
-  k0 : Sketch
+  abbrev k0 : Sketch
   k0 = without_runs graph bounds walks a
 
   run : (c : Chain) → In c a.runs → IsRun graph c
