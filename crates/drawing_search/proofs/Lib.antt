@@ -2,3 +2,4 @@ mod BoundParts
 mod Trails
 mod Spans
 mod BoardsOf
+mod TakenOff

@@ -1,10 +1,11 @@
 //! Drawings in the making.
 
-ghost use Rattle.std.specs.Prelude.{◌≡◌, ◌<◌, length, slice_index_or, None, Some, false, true};
-ghost use Rattle.std.specs.List.{list_all};
+ghost use Rattle.std.specs.Prelude.{◌≡◌, ◌<◌, if◌then◌else◌, is_some, length, None, Some, false, true};
+ghost use Rattle.std.specs.List.{list_all, list_any};
+ghost use Rattle.line_chains.specs.Chains.{round_of};
 ghost use Rattle.graph_core.specs.Consistent.{IsConsistent};
 ghost use Rattle.octi_grid.specs.Legal.{is_even};
-ghost use Rattle.octi_grid.specs.Walks.{points_of};
+ghost use Rattle.octi_grid.specs.Walks.{end_port, points_of, start_port};
 ghost use Rattle.grid_board.specs.Boards.{contains};
 ghost use Rattle.segment_router.specs.Routes.{port_at_node};
 ghost use Rattle.run_laying.specs.Laying.{board_under};
@@ -101,7 +102,12 @@ impl Sketch {
     }
 
     /// Whether a segment at a node has a walk.
-    fn has_walk_at(&self, graph: &LineGraph, n: NodeId) -> bool {
+    fn has_walk_at(&self, graph: &LineGraph, n: NodeId) -> bool
+        requires graph { IsConsistent graph.now }
+        requires node { n.0 < length graph.now.kinds }
+        requires walks { length self.now.walks ≡ length graph.now.ends }
+        ensures { result ≡ list_any (λ t. is_some (walk_in self.now t)) (round_of graph.now n) }
+    {
         for s in graph.round(n) {
             if self.walks[s.0 as usize].is_some() {
                 return true;
@@ -124,7 +130,9 @@ impl Sketch {
 }
 
 /// The port of a walk at its start or at its end.
-fn port_of(walk: &Walk, at_start: bool) -> Dir {
+fn port_of(walk: &Walk, at_start: bool) -> Dir
+    ensures { (if at_start then start_port walk.now else end_port walk.now) ≡ Some result }
+{
     if at_start {
         walk.start_port()
     } else {
