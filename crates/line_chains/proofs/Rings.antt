@@ -123,15 +123,15 @@ from_all graph corners n k (m ∷ ms) below away =
 
 among : (n : NodeId) (i m : ℕ) → i ≤ n.0 → n.0 < i + m → list_any (λ (k : NodeId). eqb k.0 n.0) (nodes_between i m) ≡ true
 among n i zero low high = absurd (omega arith)
-among n i (suc m) low high = by_cases (cases_eq i n.0)
+among n i (suc m) low high = by_cases (λ f. among n (i + 1) m (omega (arith, f)) (omega arith)) (cases_eq i n.0)
   where
     or_true : (s t : Bool) → t ≡ true → (s || t) ≡ true
     or_true true t e = refl
     or_true false t e = e
 
-    by_cases : (i ≡ n.0) ⊎ (i ≢ n.0) → (eqb i n.0 || list_any (λ (k : NodeId). eqb k.0 n.0) (nodes_between (i + 1) m)) ≡ true
-    by_cases (inl e) = ap (λ t. t || list_any (λ (k : NodeId). eqb k.0 n.0) (nodes_between (i + 1) m)) (eq-eqb i n.0 e)
-    by_cases (inr f) = or_true (eqb i n.0) (list_any (λ (k : NodeId). eqb k.0 n.0) (nodes_between (i + 1) m)) (among n (i + 1) m (omega (arith, f)) (omega arith))
+    by_cases : ((i ≢ n.0) → list_any (λ (k : NodeId). eqb k.0 n.0) (nodes_between (i + 1) m) ≡ true) → (i ≡ n.0) ⊎ (i ≢ n.0) → (eqb i n.0 || list_any (λ (k : NodeId). eqb k.0 n.0) (nodes_between (i + 1) m)) ≡ true
+    by_cases later (inl e) = ap (λ t. t || list_any (λ (k : NodeId). eqb k.0 n.0) (nodes_between (i + 1) m)) (eq-eqb i n.0 e)
+    by_cases later (inr f) = or_true (eqb i n.0) (list_any (λ (k : NodeId). eqb k.0 n.0) (nodes_between (i + 1) m)) (later f)
 
 pub ring_reached : (graph : GraphParts) → IsConsistent graph → (corners : List Bool) (n : NodeId) (reached : List Bool) → length corners ≡ length graph.kinds → n.0 < length graph.kinds → is_reached graph corners n ≡ false
     → reached ≡ reached_by graph corners → marked_from graph (set corners n.0 true) n reached ≡ reached_by graph (set corners n.0 true)

@@ -66,6 +66,7 @@ fn bend_place(graph: &LineGraph, cell: u32, nodes: &[NodeId]) -> Option<usize>
     requires graph { IsConsistent graph.now }
     requires nodes { All (λ (n : Node). n.0 < length graph.now.kinds) nodes.now }
     ensures place { result ≡ (if is_bent graph.now cell nodes.now then Some (bend_place graph.now nodes.now) else None) }
+    ensures after { IfSome result (λ place. 0 < place) }
     ensures before { IfSome result (λ place. place + 1 < length nodes.now) }
 {
     if nodes.len() <= 2 {

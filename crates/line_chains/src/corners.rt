@@ -15,7 +15,9 @@ use std::alloc::Global;
 
 /// The nodes at which not two segments meet, and the least node of each ring over none of them, one flag for each node.
 pub(crate) fn ring_corners(alloc: Global, graph: &LineGraph) -> Result<Flags, NoMemory>
-    ensures { IfOk result (λ corners. corners ≡ ring_corners graph.now) }
+    ensures value { IfOk result (λ corners. corners ≡ ring_corners graph.now) }
+    ensures each { IfOk result (λ corners. length corners ≡ length graph.now.kinds) }
+    ensures fits { IfOk result (λ corners. IsConsistent graph.now) }
 {
     let mut corners = plain_corners(alloc, graph)?;
     let mut reached = reached_by(alloc, graph, &corners)?;
@@ -50,7 +52,8 @@ fn add_ring(
 
 /// The nodes at which not two segments meet.
 fn plain_corners(alloc: Global, graph: &LineGraph) -> Result<Flags, NoMemory>
-    ensures { IfOk result (λ corners. corners ≡ plain_corners graph.now) }
+    ensures value { IfOk result (λ corners. corners ≡ plain_corners graph.now) }
+    ensures each { IfOk result (λ corners. length corners ≡ length graph.now.kinds) }
 {
     let mut corners = Flags::none(alloc, graph.nodes() as usize)?;
     for n in 0..graph.nodes() {
