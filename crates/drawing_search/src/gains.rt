@@ -31,7 +31,7 @@ impl<'a> Field<'a> {
         requires field { IsField self }
         requires node { n.0 < length self.graph.now.kinds }
         requires near { is_near 2000 here ≡ true }
-        ensures weight { result ≡ apart_weight_by (scale_of self.by) n.0 (first_point self.first.now n.0) here }
+        ensures weight { result ≡ apart_weight_by (scale_of self.entry.by) n.0 (first_point self.entry.first.now n.0) here }
         ensures small { result ≤ 2 ^ 32 }
     {
         self.by.apart_weight(n, self.first[n.0 as usize], here)
@@ -43,7 +43,7 @@ impl<'a> Field<'a> {
         requires field { IsField self }
         requires legal { IsLegalSketch self.graph.now sketch.now }
         requires run { IsRun self.graph.now run.now }
-        ensures gain { result ≡ run_gain (scale_of self.by) self.graph.now self.first.now sketch.now run.now }
+        ensures gain { result ≡ run_gain (scale_of self.entry.by) self.entry.graph.now self.entry.first.now sketch.now run.now }
         ensures small { result ≤ 2 ^ 56 }
     {
         let steps = run.steps.as_slice();
@@ -59,7 +59,7 @@ impl<'a> Field<'a> {
         requires legal { IsLegalSketch self.graph.now sketch.now }
         requires steps { AreOnGraph self.graph.now steps.now }
         requires few { length steps.now ≤ 20000 }
-        ensures gain { result ≡ steps_gain (scale_of self.by) self.graph.now self.first.now sketch.now steps.now }
+        ensures gain { result ≡ steps_gain (scale_of self.entry.by) self.entry.graph.now self.entry.first.now sketch.now steps.now }
         ensures small { result ≤ 2 ^ 55 }
     {
         let mut total = 0;
@@ -75,7 +75,7 @@ impl<'a> Field<'a> {
         requires legal { IsLegalSketch self.graph.now sketch.now }
         requires segment { step.seg.0 < length self.graph.now.ends }
         requires node { step.to.0 < length self.graph.now.kinds }
-        ensures gain { result ≡ step_gain (scale_of self.by) self.graph.now self.first.now sketch.now step is_inner }
+        ensures gain { result ≡ step_gain (scale_of self.entry.by) self.entry.graph.now self.entry.first.now sketch.now step is_inner }
         ensures small { result ≤ 2 ^ 40 }
     {
         let walk = self.walk_at(sketch, step.seg);
@@ -91,7 +91,7 @@ impl<'a> Field<'a> {
         requires field { IsField self }
         requires legal { IsLegalSketch self.graph.now sketch.now }
         requires segment { s.0 < length self.graph.now.ends }
-        ensures weight { result ≡ segment_weight (scale_of self.by) sketch.now s }
+        ensures weight { result ≡ segment_weight (scale_of self.entry.by) sketch.now s }
         ensures small { result ≤ 2 ^ 33 }
     {
         match &sketch.walks[s.0 as usize] {
@@ -106,7 +106,7 @@ impl<'a> Field<'a> {
         requires legal { IsLegalSketch self.graph.now sketch.now }
         requires node { n.0 < length self.graph.now.kinds }
         requires stands { is_standing sketch.now n.0 ≡ true }
-        ensures weight { result ≡ node_weight_in (scale_of self.by) self.graph.now self.first.now sketch.now n.0 }
+        ensures weight { result ≡ node_weight_in (scale_of self.entry.by) self.entry.graph.now self.entry.first.now sketch.now n.0 }
         ensures small { result ≤ 2 ^ 40 }
     {
         let mut total = 0;
@@ -121,7 +121,7 @@ impl<'a> Field<'a> {
         requires field { IsField self }
         requires legal { IsLegalSketch self.graph.now sketch.now }
         requires node { n.0 < length self.graph.now.kinds }
-        ensures weight { result ≡ self.by.overs * turns_from self.graph.now sketch.now n.0 s }
+        ensures weight { result ≡ self.entry.by.overs * turns_from self.entry.graph.now sketch.now n.0 s }
         ensures small { result ≤ 2 ^ 39 }
     {
         let mut total = 0;
@@ -138,7 +138,7 @@ impl<'a> Field<'a> {
         requires field { IsField self }
         requires legal { IsLegalSketch self.graph.now sketch.now }
         requires node { n.0 < length self.graph.now.kinds }
-        ensures weight { result ≡ self.by.overs * turns_by self.graph.now sketch.now n.0 s port }
+        ensures weight { result ≡ self.entry.by.overs * turns_by self.entry.graph.now sketch.now n.0 s port }
         ensures small { result ≤ 2 ^ 39 }
     {
         let mut total = 0;
@@ -155,7 +155,7 @@ impl<'a> Field<'a> {
         requires legal { IsLegalSketch self.graph.now sketch.now }
         requires first { pair.0.0 < length self.graph.now.ends }
         requires second { pair.1.0 < length self.graph.now.ends }
-        ensures turn { result ≡ turn_by self.graph.now sketch.now n.0 s port pair }
+        ensures turn { result ≡ turn_by self.entry.graph.now sketch.now n.0 s port pair }
         ensures small { result ≤ 4 }
     {
         if pair.0.0 == s.0 {
@@ -173,7 +173,7 @@ impl<'a> Field<'a> {
         requires legal { IsLegalSketch self.graph.now sketch.now }
         requires first { pair.0.0 < length self.graph.now.ends }
         requires second { pair.1.0 < length self.graph.now.ends }
-        ensures turn { result ≡ turn_in self.graph.now sketch.now n.0 pair }
+        ensures turn { result ≡ turn_in self.entry.graph.now sketch.now n.0 pair }
         ensures small { result ≤ 4 }
     {
         turn_over(

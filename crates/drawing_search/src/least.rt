@@ -114,7 +114,7 @@ impl<'a> Field<'a> {
         requires field { IsField self }
         requires legal { IsLegalSketch self.graph.now sketch.now }
         requires run { IsRun self.graph.now run.now }
-        ensures least { IfOk result (IsLeastOf (scale_of self.by) self.graph.now sketch.now run.now) }
+        ensures least { IfOk result (IsLeastOf (scale_of self.entry.by) self.entry.graph.now sketch.now run.now) }
         ensures small { IfOk result IsSmallLeast }
     {
         let steps = run.steps.as_slice();
@@ -145,7 +145,7 @@ impl<'a> Field<'a> {
         requires legal { IsLegalSketch self.graph.now sketch.now }
         requires node { n.0 < length self.graph.now.kinds }
         requires segment { s.0 < length self.graph.now.ends }
-        ensures { IfOk result (AreOvers (scale_of self.by) self.graph.now sketch.now n.0 s) }
+        ensures { IfOk result (AreOvers (scale_of self.entry.by) self.entry.graph.now sketch.now n.0 s) }
     {
         let allowed = sketch.ports_for(alloc, self.graph, n, s)?;
         let mut overs = [None; 8];
@@ -162,7 +162,7 @@ impl<'a> Field<'a> {
     fn turn_price(self, steps: &[ChainStep]) -> u64
         requires field { IsField self }
         requires some { 0 < length steps.now }
-        ensures price { result ≡ turn_price (scale_of self.by) self.graph.now steps.now }
+        ensures price { result ≡ turn_price (scale_of self.entry.by) self.entry.graph.now steps.now }
         ensures small { result ≤ 101 }
     {
         if steps.len() == 1 {
@@ -177,7 +177,7 @@ impl<'a> Field<'a> {
     /// How many of the nodes between the ends of a run no line goes over.
     fn free_nodes(self, steps: &[ChainStep]) -> u64
         requires field { IsField self }
-        ensures count { result ≡ free_nodes (scale_of self.by) self.graph.now steps.now }
+        ensures count { result ≡ free_nodes (scale_of self.entry.by) self.entry.graph.now steps.now }
         ensures small { result ≤ length steps.now }
     {
         let mut count = 0;

@@ -39,7 +39,7 @@ pub(crate) fn lift(
     requires field { IsField field }
     requires settled { IsSettled (scale_of field.by) field.graph.now field.first.now sketch.old weight }
     requires fitting { All (IsFitting field.graph.now) (attempts_in group.now) }
-    ensures { IfOk result (IsLifted (scale_of field.by) field.graph.now field.first.now group.now sketch.old sketch.new) }
+    ensures { IfOk result (IsLifted (scale_of field.entry.by) field.entry.graph.now field.entry.first.now group.now sketch.old sketch.new) }
 {
     let mut lifted = Lifted {
         walks: Vec::new(alloc),

@@ -51,7 +51,7 @@ pub fn search(
     requires aparts { by.aparts ≤ 100 }
     requires fitting { All (IsFitting graph.now) (attempts_of groups.now) }
     requires some { 0 < at_once }
-    ensures { IfOk result (IsSearched graph.now (scale_of by) margin (attempts_of groups.now) at_once most drawing.walks) }
+    ensures { IfOk result (IsSearched graph.now (scale_of by.entry) margin (attempts_of groups.now) at_once most drawing.walks) }
 {
     let walks = drawing.walks.into_vec();
     let first = points_of(alloc, graph, &walks)?;

@@ -42,8 +42,8 @@ impl Search {
         requires settled { IsSettled (scale_of field.by) field.graph.now field.first.now self.old.sketch self.old.weight }
         requires fitting { All (IsFitting field.graph.now) (attempts_in group.now) }
         requires most { self.old.made ≤ most }
-        ensures settled { OnOk result (IsSettled (scale_of field.by) field.graph.now field.first.now self.new.sketch self.new.weight) }
-        ensures tried { OnOk result (record { sketch = self.new.sketch; made = self.new.made } ≡ after_tries (scale_of field.by) field.graph.now field.first.now most (attempts_in group.now) (record { sketch = self.old.sketch; made = self.old.made })) }
+        ensures settled { OnOk result (IsSettled (scale_of field.entry.by) field.entry.graph.now field.entry.first.now self.new.sketch self.new.weight) }
+        ensures tried { OnOk result (record { sketch = self.new.sketch; made = self.new.made } ≡ after_tries (scale_of field.entry.by) field.entry.graph.now field.entry.first.now most (attempts_in group.now) (record { sketch = self.old.sketch; made = self.old.made })) }
     {
         let mut lifted = lift(alloc, field, &mut self.sketch, group, self.weight)?;
         for i in 0..vectors_of(group.lengths) {
@@ -72,7 +72,7 @@ impl Search {
         vector: Vector,
     ) -> Result<Option<u64>, NoMemory>
         requires field { IsField field }
-        ensures { IfOk result (IsAttempted (scale_of field.by) field.graph.now field.first.now group.now lifted.now vector self.old.sketch self.old.weight self.new.sketch) }
+        ensures { IfOk result (IsAttempted (scale_of field.entry.by) field.entry.graph.now field.entry.first.now group.now lifted.now vector self.old.sketch self.old.weight self.new.sketch) }
         ensures weight { OnOk result (self.new.weight ≡ self.old.weight) }
         ensures made { OnOk result (self.new.made ≡ self.old.made) }
     {

@@ -25,7 +25,7 @@ impl<'a> Weighing<'a> {
     pub fn walk_weight(self, walk: &Walk) -> u64
         requires turns { self.turns ≤ 100 }
         requires short { IsShort walk.now }
-        ensures weight { result ≡ walk_weight_by (scale_of self) walk.now }
+        ensures weight { result ≡ walk_weight_by (scale_of self.entry) walk.now }
         ensures small { result ≤ 2 ^ 33 }
     {
         walk_cost(walk) + times(self.turns, turns_of(walk.runs()))
@@ -39,7 +39,7 @@ impl<'a> Weighing<'a> {
         requires first_y { unsigned_abs first.y ≤ 2000 }
         requires x { unsigned_abs here.x ≤ 2000 }
         requires y { unsigned_abs here.y ≤ 2000 }
-        ensures weight { result ≡ apart_weight_by (scale_of self) n.0 first here }
+        ensures weight { result ≡ apart_weight_by (scale_of self.entry) n.0 first here }
         ensures small { result ≤ 2 ^ 32 }
     {
         if !self.held.is_raised(n.0 as usize) {
