@@ -1,11 +1,13 @@
 //! Corners where the ground bends.
 
-ghost use Rattle.std.specs.Prelude.{◌≡◌, ◌≤◌, ◌<◌, ◌*◌, ◌+◌, ◌==◌, ◌||◌, nat_lt, fold, length, map, unsigned_abs, All, IfOk, IfSome, Some, None, if◌then◌else◌};
+ghost use Rattle.std.specs.Prelude.{◌≡◌, ◌≤◌, ◌<◌, ◌*◌, ◌+◌, ◌==◌, ◌||◌, nat_lt, fold, length, map, unsigned_abs, All, IfOk, IfSome, OnOk, Some, None, if◌then◌else◌};
+ghost use Rattle.std.specs.List.{flat_map};
 ghost use Rattle.map_base.specs.declared.ids.NodeId.{NodeId as Node};
+ghost use Rattle.line_chains.specs.declared.chain.Chain.{Chain as Ways};
 ghost use Rattle.graph_core.specs.Consistent.{IsConsistent};
 ghost use Rattle.fixed_plane.specs.Plane.{IsInPlane};
 ghost use Rattle.fixed_plane.specs.Measures.{square_of};
-ghost use Rattle.line_chains.specs.Bends.{bend_place, bends_of, corners_of, far_off, first_place, greatest, is_bent, last_place, node_at, off_of, offs_of, place_of, scale_of, with_corner};
+ghost use Rattle.line_chains.specs.Bends.{bend_place, bends_of, chain_bends, corners_of, far_off, first_place, greatest, is_bent, last_place, node_at, off_of, offs_of, place_of, scale_of, with_corner};
 ghost use Rattle.line_chains.specs.Chains.{nodes_along};
 
 use crate::chain::Chain;
@@ -26,11 +28,28 @@ pub fn corners_of(alloc: Global, graph: &LineGraph, cell: u32) -> Result<Flags, 
 {
     let mut corners = ring_corners(alloc, graph)?;
     let chains = chains_of(alloc, graph, &corners)?;
-    for chain in &chains {
-        let nodes = nodes_along(alloc, chain)?;
-        mark_bends(graph, cell, &nodes, &mut corners);
-    }
+    add_bends(alloc, graph, cell, &chains, &mut corners)?;
     Ok(corners)
+}
+
+/// Makes the nodes corners at which the ground bends along chains.
+fn add_bends(
+    alloc: Global,
+    graph: &LineGraph,
+    cell: u32,
+    chains: &[Chain],
+    corners: &mut Flags,
+) -> Result<(), NoMemory>
+    requires graph { IsConsistent graph.now }
+    requires chains { All (λ (c : Ways). All (λ (n : Node). n.0 < length graph.now.kinds) (nodes_along c)) chains.now }
+    requires each { length corners.old ≡ length graph.now.kinds }
+    ensures { OnOk result (corners.new ≡ fold with_corner corners.old (flat_map (chain_bends graph.now cell) chains.now)) }
+{
+    for chain in chains {
+        let nodes = nodes_along(alloc, chain)?;
+        mark_bends(graph, cell, &nodes, corners);
+    }
+    Ok(())
 }
 
 /// The nodes of a chain, from one end to the other.
