@@ -155,3 +155,10 @@ bends_more graph cell chains i c corners new whole h at step e =
 pub length-corners : (ns : List NodeId) (corners : List Bool) → length (fold with_corner corners ns) ≡ length corners
 length-corners [] corners = refl
 length-corners (n ∷ ns) corners = length-corners ns (with_corner corners n) ∙ length-set corners n.0 true
+
+-- what lies behind a place between the ends is shorter
+pub rear_shorter : (ns : List NodeId) (p : ℕ) → 0 < p → p < length ns → length (take (length ns - p) (drop p ns)) < length ns
+rear_shorter ns p some below =
+    let rest : length (drop p ns) ≡ length ns - p = length-drop p ns in
+    let all : length (take (length ns - p) (drop p ns)) ≡ min (length ns - p) (length (drop p ns)) = length-take (length ns - p) (drop p ns) in
+    omega (arith, rest, all, some, below)

@@ -66,6 +66,7 @@ fn nodes_along(alloc: Global, chain: &Chain) -> Result<Vec<NodeId>, NoMemory>
 }
 
 /// Makes the nodes corners at which the ground bends along a chain of these nodes.
+#[tactic(auto, using(crate::proofs::Bending::rear_shorter))]
 fn mark_bends(graph: &LineGraph, cell: u32, nodes: &[NodeId], corners: &mut Flags)
     requires graph { IsConsistent graph.now }
     requires nodes { All (λ (n : Node). n.0 < length graph.now.kinds) nodes.now }

@@ -11,9 +11,7 @@ returns t c =
     let ns = c.args.nodes.now in
     let p = c.in-Some.place in
     let bent = some_bent (is_bent g c.args.cell ns) (bend_place g ns) p c.bend_place.result c.bend_place.ensures.place c.in-Some.is in
-    let upto : p + 1 - 0 ≡ p + 1 = omega arith in
-    let front : take (p + 1 - 0) (drop 0 ns) ≡ take (p + 1) ns = ap (λ k. take k ns) upto in
     let rear : take (length ns - p) (drop p ns) ≡ drop p ns = take_all (length ns - p) (drop p ns) (omega (arith, length-drop p ns)) in
     corners_made g c.args.cell ns p c.args.corners.now c.raise.new.self c.mark_bends.new.corners c.mark_bends-2.new.corners bent.0 bent.1 c.raise.ensures
-    (c.mark_bends.ensures ∙ ap (λ (v : List NodeId). fold with_corner c.raise.new.self (bends_of (length v) g c.args.cell v)) front)
+    c.mark_bends.ensures
     (c.mark_bends-2.ensures ∙ ap (λ (v : List NodeId). fold with_corner c.mark_bends.new.corners (bends_of (length v) g c.args.cell v)) rear)
