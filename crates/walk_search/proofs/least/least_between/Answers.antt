@@ -4,10 +4,11 @@ use Rattle.octi_grid.specs.Walks.{PlainWalk}
 use Rattle.grid_board.specs.declared.bounds.Bounds.{Bounds}
 use Rattle.grid_board.specs.Boards.{parts_of}
 use Rattle.walk_search.specs.Asking.{question}
-use Rattle.walk_search.specs.Routes.{route}
+use Rattle.walk_search.specs.Routes.{route, IsRouteUpTo}
 use Rattle.walk_search.specs.Spots.{spots_of}
 use Rattle.walk_search.specs.Moves.{Question}
 use Rattle.walk_search.specs.Walked.{IsAnswer}
+use Rattle.walk_search.proofs.Limits.{route_upto}
 use Rattle.walk_search.proofs.Routing.{answer_is_route}
 use Rattle.walk_search.proofs.least.least_between.Goals as goal
 
@@ -28,5 +29,6 @@ note_costs-requires c =
 
 pub returns : goal.returns
 returns c =
-    IfOk-weaker c.walk.result (IsAnswer (question c.in_ok-asked.asked)) (λ (o : Option PlainWalk). o ≡ route (parts_of c.args.board.now) c.args.from c.args.to)
-    (λ o a. answer_is_route (question c.in_ok-asked.asked) c.in_ok-asked.asked.asked.asked o a ∙ ap (λ (x : Question). route x.board x.from x.to) c.in_ok-asked.ensures) c.walk.ensures
+    IfOk-weaker c.walk.result (IsAnswer (question c.in_ok-asked.asked)) (λ (o : Option PlainWalk). IsRouteUpTo c.args.limit c.args.from c.args.to (route (parts_of c.args.board.now) c.args.from c.args.to) o)
+    (λ o a. route_upto c.args.limit c.args.from c.args.to (route (parts_of c.args.board.now) c.args.from c.args.to) o
+    (answer_is_route (question c.in_ok-asked.asked) c.in_ok-asked.asked.asked.asked o a ∙ ap (λ (x : Question). route x.board x.from x.to) c.in_ok-asked.ensures)) c.walk.ensures

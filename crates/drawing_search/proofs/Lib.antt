@@ -1,0 +1,5 @@
+mod BoundParts
+mod Trails
+mod Spans
+mod BoardsOf
+mod TakenOff

@@ -1,0 +1,40 @@
+-- Lower bounds of runs, as they are kept.
+use Rattle.std.specs.Prelude.{◌≡◌, ℕ, ◌+◌, ◌*◌, ◌<◌, ◌≤◌, ◌^◌, ◌==◌, min, List, [], length, map, if◌then◌else◌, Option, Some, None, slice_index}
+use Rattle.std.specs.Int.{bit_at}
+use Rattle.std.specs.List.{range_with_len}
+use Rattle.map_base.specs.declared.ids.SegId.{SegId}
+use Rattle.graph_core.specs.declared.parts.GraphParts.{GraphParts}
+use Rattle.line_chains.specs.declared.chain.Chain.{Chain}
+use Rattle.octi_grid.specs.declared.dir.Dir.{Dir}
+use Rattle.octi_grid.specs.Ways.{number_of}
+use Rattle.walk_search.specs.Routes.{directions}
+use Rattle.drawing_weights.specs.Scales.{Scale}
+use Rattle.run_laying.specs.Laying.{Sketch}
+use Rattle.drawing_search.specs.declared.least.LeastTurns.{LeastTurns}
+use Rattle.drawing_search.specs.Gains.{turns_by}
+use Rattle.drawing_search.specs.Least.{free_nodes, least_beside, never, ports_for, turn_price, turns_at_least}
+
+-- the bounds of a run beside the walks of a sketch
+pub record IsLeastOf (scale : Scale) (graph : GraphParts) (k : Sketch) (c : Chain) (l : LeastTurns) : Type 0 where
+  pub by : l.by ≡ map (least_beside scale graph k c) (range_with_len 0 9)
+  pub price : l.per_turn ≡ turn_price scale graph c.steps
+  pub free : l.free_turns ≡ 4 * free_nodes scale graph c.steps
+
+-- and how large they are at most
+pub record IsSmallLeast (l : LeastTurns) : Type 0 where
+  pub by : (k : ℕ) → slice_index l.by k ≤ never
+  pub price : l.per_turn ≤ 101
+  pub free : l.free_turns ≤ 80000
+
+-- the least of bounds and of a walk that leaves by one direction, comes in another, and makes lines turn over its ends by so
+-- much
+abbrev pub with_walk_by : LeastTurns → Dir → Dir → ℕ → LeastTurns
+with_walk_by l first last overs =
+    record l { by = map (λ k. min (slice_index l.by k) (overs + l.per_turn * turns_at_least first last k)) (range_with_len 0 9) }
+
+-- for each port that a segment may have at node n, what the turns of lines from it weigh; none for the others
+abbrev pub overs_by : Scale → GraphParts → Sketch → ℕ → SegId → Dir → Option ℕ
+overs_by scale graph k n s d = if bit_at (ports_for graph k n s) (number_of d) == 1 then Some (scale.overs * turns_by graph k n s d) else None
+
+abbrev pub AreOvers : Scale → GraphParts → Sketch → ℕ → SegId → List (Option ℕ) → Type 0
+AreOvers scale graph k n s overs = overs ≡ map (overs_by scale graph k n s) directions

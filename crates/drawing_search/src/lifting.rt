@@ -1,0 +1,111 @@
+//! What a group of attempts takes off the board, and puts back.
+
+ghost use Rattle.std.specs.Prelude.{◌≡◌, All, IfOk, OnOk};
+ghost use Rattle.drawing_weights.specs.Scales.{scale_of};
+ghost use Rattle.run_laying.specs.Runs.{IsFitting};
+ghost use Rattle.drawing_search.specs.Gains.{IsField};
+ghost use Rattle.drawing_search.specs.Lifting.{put_back, IsLifted};
+ghost use Rattle.drawing_search.specs.Searched.{attempts_in};
+ghost use Rattle.drawing_search.specs.Tries.{IsSettled};
+
+use crate::gains::Field;
+use crate::group::Group;
+use crate::least::LeastTurns;
+use crate::sketch::Sketch;
+use line_chains::{Chain, ChainStep};
+use map_base::{NoMemory, NodeId, SegId};
+use octi_grid::{GridPoint, Walk};
+use std::alloc::Global;
+
+/// What was taken off the board: walks of segments, the points of nodes between ends of runs, and of nodes that move; and
+/// what the rest weighs; and what each run adds at least beside it.
+#[derive(Drop)]
+pub(crate) struct Lifted {
+    pub(crate) walks: Vec<(SegId, Walk)>,
+    pub(crate) inner: Vec<(NodeId, GridPoint)>,
+    pub(crate) moved: Vec<(NodeId, GridPoint)>,
+    pub(crate) rest: u64,
+    pub(crate) least: Vec<LeastTurns>,
+}
+
+/// Takes the runs of a group off the board, and the nodes that move, from a drawing of this weight.
+pub(crate) fn lift(
+    alloc: Global,
+    field: Field<'_>,
+    sketch: &mut Sketch,
+    group: &Group,
+    weight: u64,
+) -> Result<Lifted, NoMemory>
+    requires field { IsField field }
+    requires settled { IsSettled (scale_of field.by) field.graph.now field.first.now sketch.old weight }
+    requires fitting { All (IsFitting field.graph.now) (attempts_in group.now) }
+    ensures { IfOk result (IsLifted (scale_of field.entry.by) field.entry.graph.now field.entry.first.now group.now sketch.old sketch.new) }
+{
+    let mut lifted = Lifted {
+        walks: Vec::new(alloc),
+        inner: Vec::new(alloc),
+        moved: Vec::new(alloc),
+        rest: weight,
+        least: Vec::new(alloc),
+    };
+    for run in group.runs.as_slice() {
+        lifted.rest -= field.run_gain(sketch, run);
+        lift_run(field, sketch, run, &mut lifted)?;
+    }
+    for n in group.nodes.as_slice() {
+        let at = sketch.point(*n);
+        lifted.rest -= field.apart_weight(*n, at);
+        sketch.lift(field.graph, *n);
+        lifted.moved.push((*n, at))?;
+    }
+    for run in group.runs.as_slice() {
+        lifted.least.push(field.least_turns(alloc, sketch, run)?)?;
+    }
+    Ok(lifted)
+}
+
+/// Takes a run off the board: its walks, and then the nodes between its ends.
+fn lift_run(
+    field: Field<'_>,
+    sketch: &mut Sketch,
+    run: &Chain,
+    lifted: &mut Lifted,
+) -> Result<(), NoMemory> {
+    let steps = run.steps.as_slice();
+    for step in steps {
+        if let Some(walk) = sketch.take_walk(field.graph, step.seg) {
+            lifted.walks.push((step.seg, walk))?;
+        }
+    }
+    lift_between(field, sketch, steps, lifted)
+}
+
+/// Takes the nodes between the ends of steps off the board.
+fn lift_between(
+    field: Field<'_>,
+    sketch: &mut Sketch,
+    steps: &[ChainStep],
+    lifted: &mut Lifted,
+) -> Result<(), NoMemory> {
+    for i in 1..steps.len() {
+        let n = steps[i - 1].to;
+        lifted.inner.push((n, sketch.point(n)))?;
+        sketch.lift(field.graph, n);
+    }
+    Ok(())
+}
+
+/// Puts on the board what was taken off.
+pub(crate) fn put_back(sketch: &mut Sketch, lifted: Lifted)
+    ensures { sketch.new ≡ put_back sketch.old lifted.moved.items lifted.inner.items lifted.walks.items }
+{
+    for (n, at) in lifted.moved {
+        sketch.stand(n, at);
+    }
+    for (n, at) in lifted.inner {
+        sketch.stand(n, at);
+    }
+    for (s, walk) in lifted.walks {
+        sketch.put_walk(s, walk);
+    }
+}

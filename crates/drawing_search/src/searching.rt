@@ -1,0 +1,138 @@
+//! Passes over groups of attempts.
+
+ghost use Rattle.std.specs.Prelude.{◌≡◌, ◌≤◌, ◌<◌, length, All, IfOk, true};
+ghost use Rattle.drawing_weights.specs.Drawn.{IsDrawn};
+ghost use Rattle.drawing_weights.specs.Scales.{scale_of};
+ghost use Rattle.grid_board.specs.Points.{are_near};
+ghost use Rattle.run_laying.specs.Runs.{IsFitting};
+ghost use Rattle.drawing_search.specs.Searched.{attempts_of, IsSearched};
+
+use crate::bounds::bounds_past;
+use crate::gains::Field;
+use crate::group::Group;
+use crate::pairs::Pairs;
+use crate::sketch::Sketch;
+use crate::trying::Search;
+use drawing_weights::{Weighing, points_of};
+use graph_core::LineGraph;
+use grid_board::{Board, Bounds};
+use map_base::{NoMemory, NodeId, SegId, Sequence};
+use octi_grid::{Drawing, GridPoint, Walk};
+use std::alloc::Global;
+
+/// A drawing after a search: how many attempts were made, and what the drawing weighed before them and weighs now.
+#[derive(Debug, Drop)]
+pub struct Searched {
+    pub drawing: Drawing,
+    pub made: u32,
+    pub before: u64,
+    pub after: u64,
+}
+
+/// The drawing after passes over groups of attempts: each attempt that makes the drawing lighter is made, at most
+/// `at_once` of them in a pass, and `most` in all; passes follow each other until one makes nothing. The board reaches
+/// `margin` steps past the grid points of the drawing.
+pub fn search(
+    alloc: Global,
+    graph: &LineGraph,
+    drawing: Drawing,
+    by: Weighing<'_>,
+    margin: u32,
+    groups: &[Group],
+    at_once: u32,
+    most: u32,
+) -> Result<Searched, NoMemory>
+    requires drawn { IsDrawn graph.now drawing.walks }
+    requires near { are_near 1900 drawing.walks ≡ true }
+    requires margin { margin ≤ 20 }
+    requires held { length by.held.now ≡ length graph.now.kinds }
+    requires small { by.turns ≤ 100 }
+    requires overs { by.overs ≤ 100 }
+    requires aparts { by.aparts ≤ 100 }
+    requires fitting { All (IsFitting graph.now) (attempts_of groups.now) }
+    requires some { 0 < at_once }
+    ensures { IfOk result (IsSearched graph.now (scale_of by.entry) margin (attempts_of groups.now) at_once most drawing.walks) }
+{
+    let walks = drawing.walks.into_vec();
+    let first = points_of(alloc, graph, &walks)?;
+    let pairs = Pairs::of(alloc, graph)?;
+    let field = Field {
+        graph,
+        pairs: &pairs,
+        by,
+        first: &first,
+    };
+    let bounds = bounds_past(alloc, margin, &walks)?;
+    let sketch = sketch_of(alloc, bounds, &first, walks)?;
+    let before = weight_of(field, &sketch);
+    let mut search = Search {
+        sketch,
+        weight: before,
+        made: 0,
+    };
+    while search.made < most {
+        let made = search.made;
+        let limit = most.min(made.saturating_add(at_once));
+        for group in groups {
+            search.try_group(alloc, field, group, limit)?;
+        }
+        if search.made == made {
+            break;
+        }
+    }
+    searched(alloc, search, before)
+}
+
+/// What a search came to.
+fn searched(alloc: Global, search: Search, before: u64) -> Result<Searched, NoMemory> {
+    let mut walks = Vec::with_capacity(alloc, search.sketch.walks.len())?;
+    for walk in search.sketch.walks {
+        if let Some(walk) = walk {
+            walks.push(walk)?;
+        }
+    }
+    Ok(Searched {
+        drawing: Drawing {
+            walks: Sequence::of(walks),
+        },
+        made: search.made,
+        before,
+        after: search.weight,
+    })
+}
+
+/// A drawing on its board.
+fn sketch_of(
+    alloc: Global,
+    bounds: Bounds,
+    points: &[GridPoint],
+    walks: Vec<Walk>,
+) -> Result<Sketch, NoMemory> {
+    let mut board = Board::new(alloc, bounds.left, bounds.right, bounds.bottom, bounds.top)?;
+    for p in points {
+        board.add_node(*p);
+    }
+    let mut held = Vec::with_capacity(alloc, walks.len())?;
+    for walk in walks {
+        board.add_walk(&walk);
+        held.push(Some(walk))?;
+    }
+    Ok(Sketch {
+        board,
+        points: points.to_vec(alloc)?,
+        stand: vec![in alloc; true; points.len()]?,
+        walks: held,
+    })
+}
+
+/// What a whole drawing weighs.
+fn weight_of(field: Field<'_>, sketch: &Sketch) -> u64 {
+    let mut total = 0;
+    for s in 0..field.graph.segs() {
+        total += field.walk_at(sketch, SegId(s));
+    }
+    for n in 0..field.graph.nodes() {
+        total += field.node_weight(sketch, NodeId(n));
+    }
+    total
+}

@@ -1,0 +1,3 @@
+-- Lines that run straight through their stations.
+pub mod Straightening
+pub mod Straightened

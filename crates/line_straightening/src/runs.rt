@@ -1,0 +1,83 @@
+//! Runs, and those that end at nodes.
+
+use graph_core::LineGraph;
+use line_chains::{Chain, ChainStep};
+use map_base::{NoMemory, NodeId, SegId, Sequence};
+use std::alloc::Global;
+
+/// Runs of one segment each, from its lower end, by number.
+pub(crate) fn single_runs(alloc: Global, graph: &LineGraph) -> Result<Vec<Chain>, NoMemory> {
+    let mut runs = Vec::new(alloc);
+    for s in 0..graph.segs() {
+        runs.push(run_of(alloc, graph, SegId(s))?)?;
+    }
+    Ok(runs)
+}
+
+/// The run of one segment, from its lower end.
+fn run_of(alloc: Global, graph: &LineGraph, s: SegId) -> Result<Chain, NoMemory> {
+    let (low, up) = graph.ends(s);
+    let step = ChainStep { seg: s, to: up };
+    Ok(Chain {
+        from: low,
+        steps: Sequence::of(vec![in alloc; step; 1]?),
+    })
+}
+
+/// Where a run ends.
+pub(crate) fn end_of(run: &Chain) -> NodeId {
+    match run.steps.as_slice().last() {
+        None => run.from,
+        Some(step) => step.to,
+    }
+}
+
+/// The runs that end at each node, by their places in a list, rising; one list for each node.
+pub(crate) fn runs_at_nodes(
+    alloc: Global,
+    nodes: u32,
+    runs: &[Chain],
+) -> Result<Vec<Vec<usize>>, NoMemory> {
+    let mut at = Vec::with_capacity(alloc, nodes as usize)?;
+    for _ in 0..nodes {
+        at.push(Vec::new(alloc))?;
+    }
+    for i in 0..runs.len() {
+        at[runs[i].from.0 as usize].push(i)?;
+        at[end_of(&runs[i]).0 as usize].push(i)?;
+    }
+    Ok(at)
+}
+
+/// Copies of runs, by their places in a list.
+pub(crate) fn copies_of(
+    alloc: Global,
+    runs: &[Chain],
+    places: &[usize],
+) -> Result<Vec<Chain>, NoMemory> {
+    let mut copies = Vec::with_capacity(alloc, places.len())?;
+    for i in places {
+        copies.push(copy_of(alloc, &runs[*i])?)?;
+    }
+    Ok(copies)
+}
+
+/// A copy of a run.
+pub(crate) fn copy_of(alloc: Global, run: &Chain) -> Result<Chain, NoMemory> {
+    Ok(Chain {
+        from: run.from,
+        steps: Sequence::of(run.steps.as_slice().to_vec(alloc)?),
+    })
+}
+
+/// The numbers of two rising lists, each once, rising.
+pub(crate) fn merged(alloc: Global, a: &[usize], b: &[usize]) -> Result<Vec<usize>, NoMemory> {
+    let mut all = a.to_vec(alloc)?;
+    for i in b {
+        if !a.contains(i) {
+            all.push(*i)?;
+        }
+    }
+    all.sort()?;
+    Ok(all)
+}

@@ -1,0 +1,109 @@
+-- Runs that are laid on legal sketches: what comes of it is legal, and everything beside them stays.
+use Rattle.std.proofs.Common.{◌≡◌, refl, sym, ◌∙◌, ap, subst, ℕ, zero, suc, ◌<◌, Bool, true, false, List, [], ◌∷◌, length, get_or, set, Option, Some, None, ◌⊎◌, inl, inr, arith, length-set, get_or-set_same, get_or-set_other}
+use Rattle.std.proofs.lemmas.Bool.{cases_eq, true≢false}
+use Rattle.map_base.specs.declared.ids.NodeId.{NodeId}
+use Rattle.map_base.specs.declared.ids.SegId.{SegId}
+use Rattle.graph_core.specs.declared.parts.GraphParts.{GraphParts}
+use Rattle.graph_core.specs.Consistent.{IsConsistent}
+use Rattle.line_chains.specs.declared.chain.Chain.{Chain}
+use Rattle.line_chains.specs.declared.chain.ChainStep.{ChainStep}
+use Rattle.line_chains.specs.Chains.{end_after, last_seg}
+use Rattle.octi_grid.specs.Walks.{end_point, PlainWalk}
+use Rattle.octi_grid.proofs.Members.{In}
+use Rattle.grid_board.specs.declared.bounds.Bounds.{Bounds}
+use Rattle.run_laying.specs.Attempts.{inner_nodes}
+use Rattle.run_laying.specs.Laying.{first_seg_of, from_low, with_piece, with_pieces, Sketch}
+use Rattle.run_laying.specs.Runs.{AreOnce, AreSteps}
+use Rattle.run_laying.specs.Sketches.{is_standing, walk_in, IsEndOf, IsLegalSketch}
+use Rattle.run_laying.proofs.Cuts.{IsSplit}
+use Rattle.run_laying.proofs.Piecewise.{last_legal, piece_legal, rest_free, IsFreeWalk}
+use Rattle.run_laying.proofs.RunFacts.{end_below, inner_of, inner_off, leads_to, once_first, IsOff}
+
+-- a walk that is split into these, one after another
+abbrev pub IsCut : PlainWalk → List PlainWalk → Type 0
+IsCut w [] = ⊥
+IsCut w (v ∷ []) = (v ≡ w) × (0 < length w.steps)
+IsCut w (v ∷ u ∷ us) = (rest : PlainWalk) × IsSplit w v rest × IsCut rest (u ∷ us)
+
+-- ---- what pieces leave as it was
+
+pub same_walk : (graph : GraphParts) (n : NodeId) (ts : List ChainStep) (vs : List PlainWalk) (k : Sketch) (s : SegId) → IsOff ts s → walk_in (with_pieces graph n ts vs k) s ≡ walk_in k s
+same_walk graph n [] vs k s off = refl
+same_walk graph n (t ∷ ts) [] k s off = refl
+same_walk graph n (t ∷ ts) (v ∷ vs) k s off =
+    same_walk graph t.to ts vs (with_piece graph n t v k) s (λ q m e. off q (inr m) e) ∙ get_or-set_other k.walks t.seg.0 s.0 (Some (from_low graph t.seg n v)) None (λ e. off t (inl refl) (sym e))
+
+still_raised : (flags : List Bool) (i m : ℕ) → get_or flags m false ≡ true → get_or (set flags i true) m false ≡ true
+still_raised [] i m e = e
+still_raised (b ∷ bs) zero zero e = refl
+still_raised (b ∷ bs) zero (suc m) e = e
+still_raised (b ∷ bs) (suc i) zero e = e
+still_raised (b ∷ bs) (suc i) (suc m) e = still_raised bs i m e
+
+pub keeps_standing : (graph : GraphParts) (n : NodeId) (ts : List ChainStep) (vs : List PlainWalk) (k : Sketch) (m : ℕ) → is_standing k m ≡ true → is_standing (with_pieces graph n ts vs k) m ≡ true
+keeps_standing graph n [] vs k m e = e
+keeps_standing graph n (t ∷ ts) [] k m e = e
+keeps_standing graph n (t ∷ ts) (v ∷ vs) k m e = keeps_standing graph t.to ts vs (with_piece graph n t v k) m (still_raised k.stand t.to.0 m e)
+
+pub keeps_lifted : (graph : GraphParts) (n : NodeId) (ts : List ChainStep) (vs : List PlainWalk) (k : Sketch) (m : ℕ) → ((q : ChainStep) → In q ts → q.to.0 ≡ m → ⊥) → is_standing (with_pieces graph n ts vs k) m ≡ is_standing k m
+keeps_lifted graph n [] vs k m off = refl
+keeps_lifted graph n (t ∷ ts) [] k m off = refl
+keeps_lifted graph n (t ∷ ts) (v ∷ vs) k m off =
+    keeps_lifted graph t.to ts vs (with_piece graph n t v k) m (λ q i e. off q (inr i) e) ∙ get_or-set_other k.stand t.to.0 m true false (λ e. off t (inl refl) (sym e))
+
+pub same_bounds : (graph : GraphParts) (n : NodeId) (ts : List ChainStep) (vs : List PlainWalk) (k : Sketch) → (with_pieces graph n ts vs k).bounds ≡ k.bounds
+same_bounds graph n [] vs k = refl
+same_bounds graph n (t ∷ ts) [] k = refl
+same_bounds graph n (t ∷ ts) (v ∷ vs) k = same_bounds graph t.to ts vs (with_piece graph n t v k)
+
+-- and what they give
+pub has_walk : (graph : GraphParts) (n : NodeId) (ts : List ChainStep) (vs : List PlainWalk) (k : Sketch) → length vs ≡ length ts → AreOnce ts → (q : ChainStep) → In q ts → q.seg.0 < length k.walks
+    → (w : PlainWalk) × (walk_in (with_pieces graph n ts vs k) q.seg ≡ Some w)
+has_walk graph n [] vs k each once q m below = absurd m
+has_walk graph n (t ∷ ts) [] k each once q m below = absurd (omega arith)
+has_walk graph n (t ∷ ts) (v ∷ vs) k each once q (inl e) below =
+    (from_low graph t.seg n v,
+    ap (walk_in (with_pieces graph n (t ∷ ts) (v ∷ vs) k)) (ap (λ (p : ChainStep). p.seg) e)
+    ∙ same_walk graph t.to ts vs (with_piece graph n t v k) t.seg (once_first t ts once)
+    ∙ get_or-set_same k.walks t.seg.0 (Some (from_low graph t.seg n v)) None (subst (λ (p : ChainStep). p.seg.0 < length k.walks) e below))
+has_walk graph n (t ∷ ts) (v ∷ vs) k each once q (inr m) below =
+    has_walk graph t.to ts vs (with_piece graph n t v k) (omega arith) once.1 q m (omega (arith, below, length-set k.walks t.seg.0 (Some (from_low graph t.seg n v))))
+
+pub to_stands : (graph : GraphParts) (n : NodeId) (ts : List ChainStep) (vs : List PlainWalk) (k : Sketch) → length vs ≡ length ts → (q : ChainStep) → In q ts → q.to.0 < length k.stand → is_standing (with_pieces graph n ts vs k) q.to.0 ≡ true
+to_stands graph n [] vs k each q m below = absurd m
+to_stands graph n (t ∷ ts) [] k each q m below = absurd (omega arith)
+to_stands graph n (t ∷ ts) (v ∷ vs) k each q (inl e) below =
+    keeps_standing graph t.to ts vs (with_piece graph n t v k) q.to.0
+    (ap (λ (p : ChainStep). get_or (set k.stand t.to.0 true) p.to.0 false) e ∙ get_or-set_same k.stand t.to.0 true false (subst (λ (p : ChainStep). p.to.0 < length k.stand) e below))
+to_stands graph n (t ∷ ts) (v ∷ vs) k each q (inr m) below = to_stands graph t.to ts vs (with_piece graph n t v k) (omega arith) q m (omega (arith, below, length-set k.stand t.to.0 true))
+
+-- ---- a run
+
+pub run_legal : (graph : GraphParts) → IsConsistent graph → (n : NodeId) (ts : List ChainStep) (vs : List PlainWalk) (k : Sketch) (w : PlainWalk) (l : SegId) (e : ℕ) → IsLegalSketch graph k → AreSteps graph n ts → AreOnce ts
+    → length vs ≡ length ts → IsCut w vs → (end_after n ts).0 ≡ e → last_seg (first_seg_of ts) ts ≡ l → IsFreeWalk graph k n.0 e (first_seg_of ts) l w
+    → ((m : NodeId) → In m (inner_nodes ts) → is_standing k m.0 ≡ false) → ((q : ChainStep) → In q ts → walk_in k q.seg ≡ None) → IsLegalSketch graph (with_pieces graph n ts vs k)
+run_legal graph fit n [] [] k w l e h steps once each cut at last f lifted none = absurd cut
+run_legal graph fit n [] (v ∷ vs) k w l e h steps once each cut at last f lifted none = absurd (omega arith)
+run_legal graph fit n (t ∷ ts) [] k w l e h steps once each cut at last f lifted none = absurd (omega arith)
+run_legal graph fit n (t ∷ []) (v ∷ u ∷ us) k w l e h steps once each cut at last f lifted none = absurd (omega arith)
+run_legal graph fit n (t ∷ u ∷ us) (v ∷ []) k w l e h steps once each cut at last f lifted none = absurd (omega arith)
+run_legal graph fit n (t ∷ []) (v ∷ []) k w l e h steps once each cut at last f lifted none =
+    subst (λ (x : PlainWalk). IsLegalSketch graph (with_piece graph n t x k)) (sym cut.0)
+    (last_legal graph fit k h n t w (subst (λ (s : SegId). IsFreeWalk graph k n.0 t.to.0 t.seg s w) (sym last) (subst (λ j. IsFreeWalk graph k n.0 j t.seg l w) (sym at) f)) cut.1 steps.0 steps.1 (none t (inl refl)))
+run_legal graph fit n (t ∷ u ∷ us) (v ∷ x ∷ xs) k w l e h steps once each cut at last f lifted none =
+    run_legal graph fit t.to (u ∷ us) (x ∷ xs) (with_piece graph n t v k) cut.0 l e
+    (piece_legal graph fit k h n t u.seg l e w v cut.0 f cut.1 steps.0 steps.1 (none t (inl refl)) node (lifted t.to (inl refl)) steps.2 (none u (inr (inl refl))) next)
+    steps.3 once.1 (omega arith) cut.2 at last
+    (rest_free graph fit k h n t u.seg l e w v cut.0 f cut.1 steps.0 steps.1 (none t (inl refl)) node (lifted t.to (inl refl)) steps.2 (none u (inr (inl refl))) next)
+    (λ m i. get_or-set_other k.stand t.to.0 m.0 true false (other m i) ∙ lifted m (inr i))
+    (λ q m. get_or-set_other k.walks t.seg.0 q.seg.0 (Some (from_low graph t.seg n v)) None (λ same. once_first t (u ∷ us) once q m same) ∙ none q (inr m))
+  where
+    node : t.to.0 < length graph.kinds
+    node = end_below graph fit t.seg t.to.0 steps.0 (leads_to graph n t steps.1)
+
+    next : u.seg.0 ≡ t.seg.0 → ⊥
+    next same = once_first t (u ∷ us) once u (inl refl) same
+
+    other : (m : NodeId) → In m (inner_nodes (u ∷ us)) → m.0 ≡ t.to.0 → ⊥
+    other m i same =
+        inner_off graph fit (u ∷ us) m (inner_of graph fit t.to (u ∷ us) steps.3 m i) t.seg steps.0 (once_first t (u ∷ us) once) (subst (IsEndOf graph t.seg) (sym same) (leads_to graph n t steps.1))
