@@ -26,6 +26,10 @@ Waits queue s k = Contains queue (entry k s)
 abbrev pub queue_cmp : Reverse (ℕ × ℕ) → Reverse (ℕ × ℕ) → Ordering
 queue_cmp x y = ordering_then (nat_cmp y.0.0 x.0.0) (nat_cmp y.0.1 x.0.1)
 
+-- an estimate with its state comes no later than another: it is less, or as much with a state that is not greater
+abbrev pub IsNoLater : ℕ × ℕ → ℕ → ℕ → Type 0
+IsNoLater w s k = (w.0 < k) ⊎ ((w.0 ≡ k) × (w.1 ≤ s))
+
 -- there is a limit, and an estimate is above it
 abbrev pub IsBeyond : Option ℕ → ℕ → Type 0
 IsBeyond None k = ⊥

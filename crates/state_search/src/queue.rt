@@ -3,7 +3,7 @@
 ghost use Rattle.std.specs.Prelude.{◌≡◌, ℕ, ◌+◌, ◌<◌, ◌≤◌, ◌^◌, ◌↔◌, IsTrue, IfSome, IfNone, OnOk, IsPermutation, length, ◌∷◌, Contains};
 ghost use Rattle.std.specs.BinaryHeap.{IsHeap, heap_items, heap_len};
 ghost use Rattle.least_path.specs.Orders.{AtMost};
-ghost use Rattle.state_search.specs.Searching.{IsBeyond, IsLowered, Waits, entry, queue_cmp};
+ghost use Rattle.state_search.specs.Searching.{IsBeyond, IsLowered, IsNoLater, Waits, entry, queue_cmp};
 ghost use Rattle.state_search.specs.Rows.{IsRowLowered};
 
 use crate::known::Known;
@@ -15,11 +15,14 @@ use std::collections::BinaryHeap;
 /// Estimates of whole walks with the numbers of states on them, the least estimate first.
 pub type Queue = BinaryHeap<Reverse<(u64, u32)>>;
 
-/// Takes the least estimate that waits, with its state; none where nothing waits or all that waits is beyond a limit.
+/// Takes the least estimate that waits, with its state, among equals the least one, where it is within a limit; none where
+/// nothing waits or all that waits is beyond the limit.
 pub fn next(queue: &mut Queue, limit: Option<u64>) -> Option<(u64, u32)>
     requires order { IsHeap queue_cmp (heap_items queue.old) }
     ensures order { IsHeap queue_cmp (heap_items queue.new) }
     ensures taken { IfSome result (λ w. IsPermutation (heap_items queue.old) (entry w.0 w.1 ∷ heap_items queue.new)) }
+    ensures least { IfSome result (λ w. (s k : ℕ) → Waits (heap_items queue.old) s k → IsNoLater w s k) }
+    ensures within { IfSome result (λ w. IsBeyond limit w.0 → ⊥) }
     ensures shorter { IfSome result (λ _. heap_len queue.new + 1 ≡ heap_len queue.old) }
     ensures none { IfNone result ((s k : ℕ) → Waits (heap_items queue.old) s k → IsBeyond limit k) }
 {
