@@ -3,3 +3,4 @@ mod Trails
 mod Spans
 mod BoardsOf
 mod TakenOff
+mod Steps

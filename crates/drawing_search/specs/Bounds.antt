@@ -1,18 +1,22 @@
 -- Lower bounds of runs, as they are kept.
-use Rattle.std.specs.Prelude.{◌≡◌, ℕ, ◌+◌, ◌*◌, ◌<◌, ◌≤◌, ◌^◌, ◌==◌, min, List, [], length, map, if◌then◌else◌, Option, Some, None, slice_index}
+use Rattle.std.specs.Prelude.{◌≡◌, ℕ, ◌+◌, ◌*◌, ◌<◌, ◌≤◌, ◌^◌, ◌==◌, min, List, [], ◌∷◌, length, map, if◌then◌else◌, Option, Some, None, slice_index}
 use Rattle.std.specs.Int.{bit_at}
 use Rattle.std.specs.List.{range_with_len}
+use Rattle.map_base.specs.declared.ids.NodeId.{NodeId}
 use Rattle.map_base.specs.declared.ids.SegId.{SegId}
 use Rattle.graph_core.specs.declared.parts.GraphParts.{GraphParts}
 use Rattle.line_chains.specs.declared.chain.Chain.{Chain}
+use Rattle.line_chains.specs.Chains.{end_of}
 use Rattle.octi_grid.specs.declared.dir.Dir.{Dir}
+use Rattle.octi_grid.specs.declared.point.GridPoint.{GridPoint}
 use Rattle.octi_grid.specs.Ways.{number_of}
+use Rattle.walk_search.specs.Reaching.{reach_of}
 use Rattle.walk_search.specs.Routes.{directions}
 use Rattle.drawing_weights.specs.Scales.{Scale}
 use Rattle.run_laying.specs.Laying.{Sketch}
 use Rattle.drawing_search.specs.declared.least.LeastTurns.{LeastTurns}
 use Rattle.drawing_search.specs.Gains.{turns_by}
-use Rattle.drawing_search.specs.Least.{free_nodes, least_beside, never, ports_for, turn_price, turns_at_least}
+use Rattle.drawing_search.specs.Least.{free_nodes, least_beside, never, ports_for, straight_way, turn_price, turns_at_least}
 
 -- the bounds of a run beside the walks of a sketch
 pub record IsLeastOf (scale : Scale) (graph : GraphParts) (k : Sketch) (c : Chain) (l : LeastTurns) : Type 0 where
@@ -38,3 +42,22 @@ overs_by scale graph k n s d = if bit_at (ports_for graph k n s) (number_of d) =
 
 abbrev pub AreOvers : Scale → GraphParts → Sketch → ℕ → SegId → List (Option ℕ) → Type 0
 AreOvers scale graph k n s overs = overs ≡ map (overs_by scale graph k n s) directions
+
+-- what runs add at least together, where nodes stand at these points
+abbrev pub gains_at_least : (NodeId → GridPoint) → List Chain → List LeastTurns → ℕ
+gains_at_least at [] ls = 0
+gains_at_least at (c ∷ cs) [] = 0
+gains_at_least at (c ∷ cs) (l ∷ ls) = reach_of (at c.from) (at (end_of c)) + slice_index l.by (straight_way (at c.from) (at (end_of c))) + gains_at_least at cs ls
+
+-- past the ends of lists of runs and of their bounds
+abbrev pub no_run : Chain
+no_run = record { from = record { 0 = 0 }; steps = [] }
+
+abbrev pub no_least : LeastTurns
+no_least = record { by = []; per_turn = 0; free_turns = 0 }
+
+-- bounds of a run that were made beside no more walks than a sketch has: those beside its walks are no less
+pub record IsBoundOf (scale : Scale) (graph : GraphParts) (k : Sketch) (c : Chain) (l : LeastTurns) : Type 0 where
+  pub by : (way : ℕ) → way ≤ 8 → slice_index l.by way ≤ least_beside scale graph k c way
+  pub price : l.per_turn ≡ turn_price scale graph c.steps
+  pub free : l.free_turns ≡ 4 * free_nodes scale graph c.steps

@@ -7,4 +7,6 @@ pub mod Gains
 pub mod Least
 pub mod Bounds
 pub mod Tries
+pub mod Alike
+pub mod Changes
 pub mod Lifting

@@ -10,8 +10,9 @@ use Rattle.octi_grid.specs.Ways.{after}
 use Rattle.octi_grid.specs.Walks.{PlainWalk}
 use Rattle.drawing_weights.specs.Scales.{Scale}
 use Rattle.run_laying.specs.Attempts.{attempted_on, has_node, is_inner, is_on_runs, Attempt}
-use Rattle.run_laying.specs.Laying.{Sketch}
+use Rattle.run_laying.specs.Laying.{all_laid, Sketch}
 use Rattle.run_laying.specs.Sketches.{is_standing, point_of_node, walk_in, IsLegalSketch}
+use Rattle.drawing_search.specs.Alike.{AreAlike}
 use Rattle.drawing_search.specs.Gains.{sketch_weight}
 use Rattle.drawing_search.specs.Trying.{IsWhole}
 
@@ -53,14 +54,14 @@ without graph k a = record {
   walks = map (walk_left k a.runs) (range_with_len 0 (length graph.ends));
 }
 
--- a new sketch, if there is one and it weighs less
-abbrev pub if_less : (Sketch → ℕ) → Sketch → Option Sketch → Option Sketch
-if_less weigh k None = None
-if_less weigh k (Some new) = if nat_lt (weigh new) (weigh k) then Some new else None
+-- a new sketch, if there is one and it weighs less than so much
+abbrev pub if_below : (Sketch → ℕ) → ℕ → Option Sketch → Option Sketch
+if_below weigh weight None = None
+if_below weigh weight (Some new) = if nat_lt (weigh new) weight then Some new else None
 
 -- the sketch after an attempt that makes it lighter
 abbrev pub tried : Scale → GraphParts → List GridPoint → Sketch → Attempt → Option Sketch
-tried scale graph first k a = if_less (sketch_weight scale graph first) k (attempted_on graph (without graph k a) a)
+tried scale graph first k a = if_below (sketch_weight scale graph first) (sketch_weight scale graph first k) (attempted_on graph (without graph k a) a)
 
 -- the sketch after attempts, and how many of them were made
 pub record Tried : Type 0 where
@@ -77,6 +78,12 @@ after_try scale graph first most f a = if nat_le most f.made then f else with_tr
 
 abbrev pub after_tries : Scale → GraphParts → List GridPoint → ℕ → List Attempt → Tried → Tried
 after_tries scale graph first most attempts f = fold (after_try scale graph first most) f attempts
+
+-- runs were laid, and the drawing then weighs so much, which is less than a weight; else nothing that stands has changed
+abbrev pub AreAllLaid : Scale → GraphParts → List GridPoint → ℕ → List Chain → Sketch → Sketch → Option ℕ → Type 0
+AreAllLaid scale graph first weight runs old new None = (if_below (sketch_weight scale graph first) weight (all_laid graph runs old) ≡ None) × AreAlike new old
+AreAllLaid scale graph first weight runs old new (Some less) =
+    (if_below (sketch_weight scale graph first) weight (all_laid graph runs old) ≡ Some new) × (less ≡ sketch_weight scale graph first new)
 
 -- a search between two attempts: a whole legal drawing, and what it weighs
 pub record IsSettled (scale : Scale) (graph : GraphParts) (first : List GridPoint) (k : Sketch) (weight : ℕ) : Type 0 where

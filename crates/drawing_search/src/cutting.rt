@@ -1,14 +1,15 @@
 //! Walks that are cut at even points of their own.
 
-ghost use Rattle.std.specs.Prelude.{◌≡◌, ◌<◌, ◌≤◌, ◌+◌, ◌-◌, ◌*◌, ◌/◌, ◌^◌, ◌++◌, ◌∷◌, [], if◌then◌else◌, length, map, option_map, slice_index, true, vec_items, IfOk, OnOk};
+ghost use Rattle.std.specs.Prelude.{◌≡◌, ◌<◌, ◌≤◌, ◌+◌, ◌-◌, ◌*◌, ◌/◌, ◌^◌, ◌++◌, ◌∷◌, [], if◌then◌else◌, length, map, option_map, replicate, slice_index, true, vec_items, IfOk, OnOk};
 ghost use Rattle.std.specs.List.{range_with_len};
 ghost use Rattle.octi_grid.specs.Walks.{points_of};
 ghost use Rattle.octi_grid.specs.Legal.{is_even};
 ghost use Rattle.run_laying.specs.Pieces.{cuts_at, even_places, point_at, reversed_walk};
 ghost use Rattle.drawing_search.specs.Tracks.{piece_along, IsTrack};
 
+use crate::points::push_points;
 use map_base::NoMemory;
-use octi_grid::{Dir, GridPoint, Walk};
+use octi_grid::{Dir, GridPoint, Run, Walk};
 use std::alloc::Global;
 
 /// A walk step by step: its points, one more than its steps.
@@ -25,16 +26,8 @@ impl Track {
         ensures steps { IfOk result (λ t. t.steps.items ≡ walk.now.steps) }
     {
         let mut points = Vec::new(alloc);
-        let mut steps = Vec::new(alloc);
-        let mut at = walk.start();
-        points.push(at)?;
-        for run in walk.runs() {
-            for _ in 0..run.count {
-                at = at.step(run.dir);
-                points.push(at)?;
-                steps.push(run.dir)?;
-            }
-        }
+        push_points(&mut points, walk)?;
+        let steps = steps_of(alloc, walk)?;
         Ok(Track { points, steps })
     }
 
@@ -42,6 +35,7 @@ impl Track {
     /// coordinates even, as evenly as whole numbers allow. None where there are too few of them.
     pub(crate) fn cuts(&self, alloc: Global, pieces: usize) -> Result<Option<Vec<usize>>, NoMemory>
         requires pieces { 0 < pieces }
+        requires some { 0 < length self.now.points.items }
         requires few { length self.now.points.items < 2 ^ 31 }
         requires few_pieces { pieces < 2 ^ 31 }
         requires even { is_even (point_at self.now.points.items 0) ≡ true }
@@ -66,8 +60,28 @@ impl Track {
         Ok(places)
     }
 
+    /// The walk between two places, from the earlier one to the later one, or back.
+    pub(crate) fn piece_by(
+        &self,
+        alloc: Global,
+        from: usize,
+        to: usize,
+        is_forward: bool,
+    ) -> Result<Walk, NoMemory>
+        requires track { IsTrack self.now.points.items self.now.steps.items }
+        requires order { from < to }
+        requires within { to ≤ length self.now.steps.items }
+        ensures { IfOk result (λ walk. walk ≡ (if is_forward then piece_along self.now.points.items self.now.steps.items from to else reversed_walk (piece_along self.now.points.items self.now.steps.items from to))) }
+    {
+        if is_forward {
+            self.piece(alloc, from, to)
+        } else {
+            self.piece_back(alloc, from, to)
+        }
+    }
+
     /// The walk from one place to a later one.
-    pub(crate) fn piece(&self, alloc: Global, from: usize, to: usize) -> Result<Walk, NoMemory>
+    fn piece(&self, alloc: Global, from: usize, to: usize) -> Result<Walk, NoMemory>
         requires track { IsTrack self.now.points.items self.now.steps.items }
         requires order { from < to }
         requires within { to ≤ length self.now.steps.items }
@@ -81,7 +95,7 @@ impl Track {
     }
 
     /// The same from the later place to the earlier one.
-    pub(crate) fn piece_back(&self, alloc: Global, from: usize, to: usize) -> Result<Walk, NoMemory>
+    fn piece_back(&self, alloc: Global, from: usize, to: usize) -> Result<Walk, NoMemory>
         requires track { IsTrack self.now.points.items self.now.steps.items }
         requires order { from < to }
         requires within { to ≤ length self.now.steps.items }
@@ -93,6 +107,28 @@ impl Track {
         }
         Ok(walk)
     }
+}
+
+/// The steps of a walk.
+fn steps_of(alloc: Global, walk: &Walk) -> Result<Vec<Dir>, NoMemory>
+    ensures { IfOk result (λ steps. steps.items ≡ walk.now.steps) }
+{
+    let runs = walk.runs();
+    let mut steps = Vec::new(alloc);
+    for run in runs {
+        push_steps(&mut steps, *run)?;
+    }
+    Ok(steps)
+}
+
+/// Lists the steps of a run.
+fn push_steps(steps: &mut Vec<Dir>, run: Run) -> Result<(), NoMemory>
+    ensures { OnOk result (steps.new.items ≡ steps.old.items ++ replicate run.count run.dir) }
+{
+    for _ in 0..run.count {
+        steps.push(run.dir)?;
+    }
+    Ok(())
 }
 
 /// Cuts into so many pieces among places: every so many of them, as evenly as whole numbers allow.

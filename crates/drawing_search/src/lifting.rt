@@ -1,10 +1,13 @@
 //! What a group of attempts takes off the board, and puts back.
 
-ghost use Rattle.std.specs.Prelude.{◌≡◌, All, IfOk, OnOk};
+ghost use Rattle.std.specs.Prelude.{◌≡◌, ◌++◌, fold, All, IfOk, OnOk};
 ghost use Rattle.drawing_weights.specs.Scales.{scale_of};
+ghost use Rattle.run_laying.specs.Attempts.{inner_nodes};
 ghost use Rattle.run_laying.specs.Runs.{IsFitting};
+ghost use Rattle.run_laying.specs.Sketches.{lifted as lifted_off};
+ghost use Rattle.drawing_search.specs.Changes.{without_run, AreLiftable, IsTakable};
 ghost use Rattle.drawing_search.specs.Gains.{IsField};
-ghost use Rattle.drawing_search.specs.Lifting.{put_back, IsLifted};
+ghost use Rattle.drawing_search.specs.Lifting.{points_along, put_back, walks_along, CanPutBack, IsLifted};
 ghost use Rattle.drawing_search.specs.Searched.{attempts_in};
 ghost use Rattle.drawing_search.specs.Tries.{IsSettled};
 
@@ -70,7 +73,16 @@ fn lift_run(
     sketch: &mut Sketch,
     run: &Chain,
     lifted: &mut Lifted,
-) -> Result<(), NoMemory> {
+) -> Result<(), NoMemory>
+    requires field { IsField field }
+    requires takable { IsTakable field.graph.now sketch.old run.now }
+    ensures sketch { OnOk result (sketch.new ≡ without_run sketch.old run.now) }
+    ensures walks { OnOk result (lifted.new.walks.items ≡ lifted.old.walks.items ++ walks_along sketch.old run.now.steps) }
+    ensures inner { OnOk result (lifted.new.inner.items ≡ lifted.old.inner.items ++ points_along sketch.old run.now.steps) }
+    ensures moved { OnOk result (lifted.new.moved.items ≡ lifted.old.moved.items) }
+    ensures rest { OnOk result (lifted.new.rest ≡ lifted.old.rest) }
+    ensures least { OnOk result (lifted.new.least.items ≡ lifted.old.least.items) }
+{
     let steps = run.steps.as_slice();
     for step in steps {
         if let Some(walk) = sketch.take_walk(field.graph, step.seg) {
@@ -86,7 +98,15 @@ fn lift_between(
     sketch: &mut Sketch,
     steps: &[ChainStep],
     lifted: &mut Lifted,
-) -> Result<(), NoMemory> {
+) -> Result<(), NoMemory>
+    requires liftable { AreLiftable field.graph.now sketch.old (inner_nodes steps.now) }
+    ensures sketch { OnOk result (sketch.new ≡ fold lifted_off sketch.old (inner_nodes steps.now)) }
+    ensures inner { OnOk result (lifted.new.inner.items ≡ lifted.old.inner.items ++ points_along sketch.old steps.now) }
+    ensures walks { OnOk result (lifted.new.walks.items ≡ lifted.old.walks.items) }
+    ensures moved { OnOk result (lifted.new.moved.items ≡ lifted.old.moved.items) }
+    ensures rest { OnOk result (lifted.new.rest ≡ lifted.old.rest) }
+    ensures least { OnOk result (lifted.new.least.items ≡ lifted.old.least.items) }
+{
     for i in 1..steps.len() {
         let n = steps[i - 1].to;
         lifted.inner.push((n, sketch.point(n)))?;
@@ -97,6 +117,7 @@ fn lift_between(
 
 /// Puts on the board what was taken off.
 pub(crate) fn put_back(sketch: &mut Sketch, lifted: Lifted)
+    requires { CanPutBack sketch.old lifted.moved.items lifted.inner.items lifted.walks.items }
     ensures { sketch.new ≡ put_back sketch.old lifted.moved.items lifted.inner.items lifted.walks.items }
 {
     for (n, at) in lifted.moved {

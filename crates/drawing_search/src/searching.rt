@@ -1,11 +1,21 @@
 //! Passes over groups of attempts.
 
-ghost use Rattle.std.specs.Prelude.{◌≡◌, ◌≤◌, ◌<◌, length, All, IfOk, true};
+ghost use Rattle.std.specs.Prelude.{◌≡◌, ◌≤◌, ◌<◌, ◌^◌, length, All, IfOk, true};
+ghost use Rattle.std.specs.List.{list_all};
+ghost use Rattle.graph_core.specs.Consistent.{IsConsistent};
+ghost use Rattle.octi_grid.specs.Legal.{is_even};
+ghost use Rattle.octi_grid.specs.Walks.{points_of as walk_points, PlainWalk};
+ghost use Rattle.grid_board.specs.Boards.{contains, AreBounds};
+ghost use Rattle.grid_board.specs.Points.{are_near};
 ghost use Rattle.drawing_weights.specs.Drawn.{IsDrawn};
 ghost use Rattle.drawing_weights.specs.Scales.{scale_of};
-ghost use Rattle.grid_board.specs.Points.{are_near};
 ghost use Rattle.run_laying.specs.Runs.{IsFitting};
+ghost use Rattle.run_laying.specs.Sketches.{IsLegalSketch};
+ghost use Rattle.drawing_search.specs.declared.group.Group.{Group};
+ghost use Rattle.drawing_search.specs.Gains.{sketch_weight, IsField};
 ghost use Rattle.drawing_search.specs.Searched.{attempts_of, IsSearched};
+ghost use Rattle.drawing_search.specs.Shown.{whole_sketch};
+ghost use Rattle.drawing_search.specs.Trying.{walks_of, IsWhole};
 
 use crate::bounds::bounds_past;
 use crate::gains::Field;
@@ -15,7 +25,7 @@ use crate::sketch::Sketch;
 use crate::trying::Search;
 use drawing_weights::{Weighing, points_of};
 use graph_core::LineGraph;
-use grid_board::{Board, Bounds};
+use grid_board::Bounds;
 use map_base::{NoMemory, NodeId, SegId, Sequence};
 use octi_grid::{Drawing, GridPoint, Walk};
 use std::alloc::Global;
@@ -50,6 +60,7 @@ pub fn search(
     requires overs { by.overs ≤ 100 }
     requires aparts { by.aparts ≤ 100 }
     requires fitting { All (IsFitting graph.now) (attempts_of groups.now) }
+    requires lengths { All (λ (g : Group). g.lengths ≤ 4) groups.now }
     requires some { 0 < at_once }
     ensures { IfOk result (IsSearched graph.now (scale_of by.entry) margin (attempts_of groups.now) at_once most drawing.walks) }
 {
@@ -63,7 +74,7 @@ pub fn search(
         first: &first,
     };
     let bounds = bounds_past(alloc, margin, &walks)?;
-    let sketch = sketch_of(alloc, bounds, &first, walks)?;
+    let sketch = sketch_of(alloc, graph, bounds, &first, walks)?;
     let before = weight_of(field, &sketch);
     let mut search = Search {
         sketch,
@@ -84,49 +95,62 @@ pub fn search(
 }
 
 /// What a search came to.
-fn searched(alloc: Global, search: Search, before: u64) -> Result<Searched, NoMemory> {
-    let mut walks = Vec::with_capacity(alloc, search.sketch.walks.len())?;
-    for walk in search.sketch.walks {
-        if let Some(walk) = walk {
-            walks.push(walk)?;
-        }
-    }
+fn searched(alloc: Global, search: Search, before: u64) -> Result<Searched, NoMemory>
+    ensures drawing { IfOk result (λ s. s.drawing.walks ≡ walks_of search.sketch) }
+    ensures made { IfOk result (λ s. s.made ≡ search.made) }
+    ensures before { IfOk result (λ s. s.before ≡ before) }
+    ensures after { IfOk result (λ s. s.after ≡ search.weight) }
+{
+    let made = search.made;
+    let after = search.weight;
+    let walks = search.sketch.into_walks(alloc)?;
     Ok(Searched {
         drawing: Drawing {
             walks: Sequence::of(walks),
         },
-        made: search.made,
+        made,
         before,
-        after: search.weight,
+        after,
     })
 }
 
 /// A drawing on its board.
 fn sketch_of(
     alloc: Global,
+    graph: &LineGraph,
     bounds: Bounds,
     points: &[GridPoint],
     walks: Vec<Walk>,
-) -> Result<Sketch, NoMemory> {
-    let mut board = Board::new(alloc, bounds.left, bounds.right, bounds.bottom, bounds.top)?;
-    for p in points {
-        board.add_node(*p);
+) -> Result<Sketch, NoMemory>
+    requires graph { IsConsistent graph.now }
+    requires bounds { AreBounds bounds }
+    requires points { length points.now ≡ length graph.now.kinds }
+    requires walks { length walks.items ≡ length graph.now.ends }
+    requires inside { list_all (contains bounds) points.now ≡ true }
+    requires even { list_all is_even points.now ≡ true }
+    requires within { list_all (λ (w : PlainWalk). list_all (contains bounds) (walk_points w)) walks.items ≡ true }
+    ensures { IfOk result (λ sketch. sketch ≡ whole_sketch bounds points.now walks.items) }
+{
+    let mut sketch = Sketch::empty(alloc, bounds, points, walks.len())?;
+    for n in 0..graph.nodes() {
+        sketch.stand(NodeId(n), points[n as usize]);
     }
-    let mut held = Vec::with_capacity(alloc, walks.len())?;
+    let mut s = 0;
     for walk in walks {
-        board.add_walk(&walk);
-        held.push(Some(walk))?;
+        sketch.put_walk(SegId(s), walk);
+        s += 1;
     }
-    Ok(Sketch {
-        board,
-        points: points.to_vec(alloc)?,
-        stand: vec![in alloc; true; points.len()]?,
-        walks: held,
-    })
+    Ok(sketch)
 }
 
 /// What a whole drawing weighs.
-fn weight_of(field: Field<'_>, sketch: &Sketch) -> u64 {
+fn weight_of(field: Field<'_>, sketch: &Sketch) -> u64
+    requires field { IsField field }
+    requires legal { IsLegalSketch field.graph.now sketch.now }
+    requires whole { IsWhole sketch.now }
+    ensures weight { result ≡ sketch_weight (scale_of field.entry.by) field.entry.graph.now field.entry.first.now sketch.now }
+    ensures small { result ≤ 2 ^ 57 }
+{
     let mut total = 0;
     for s in 0..field.graph.segs() {
         total += field.walk_at(sketch, SegId(s));

@@ -1,20 +1,25 @@
 //! Drawings in the making.
 
-ghost use Rattle.std.specs.Prelude.{◌≡◌, ◌<◌, if◌then◌else◌, is_some, length, None, Some, false, true};
+ghost use Rattle.std.specs.Prelude.{◌≡◌, ◌<◌, if◌then◌else◌, is_some, length, replicate, IfOk, None, Some, false, true};
 ghost use Rattle.std.specs.List.{list_all, list_any};
 ghost use Rattle.line_chains.specs.Chains.{round_of};
 ghost use Rattle.graph_core.specs.Consistent.{IsConsistent};
 ghost use Rattle.octi_grid.specs.Legal.{is_even};
 ghost use Rattle.octi_grid.specs.Walks.{end_port, points_of, start_port};
-ghost use Rattle.grid_board.specs.Boards.{contains};
+ghost use Rattle.grid_board.specs.Boards.{contains, AreBounds};
+ghost use Rattle.grid_board.specs.Points.{is_near};
 ghost use Rattle.segment_router.specs.Routes.{port_at_node};
 ghost use Rattle.run_laying.specs.Laying.{board_under};
 ghost use Rattle.run_laying.specs.Sketches.{is_standing, lifted, point_of_node, stood, walk_in, with_walk_of, IsLegalSketch};
+ghost use Rattle.drawing_search.specs.Changes.{is_open};
+ghost use Rattle.drawing_search.specs.Shown.{bare_sketch};
+ghost use Rattle.drawing_search.specs.Trying.{walks_of};
 
 use graph_core::LineGraph;
-use grid_board::Board;
-use map_base::{NodeId, SegId};
+use grid_board::{Board, Bounds};
+use map_base::{NoMemory, NodeId, SegId};
 use octi_grid::{Dir, GridPoint, Walk};
+use std::alloc::Global;
 use std::marker::Model;
 
 /// A drawing in the making: the board, with the nodes that stand and the walks that there are; the point of each node, and
@@ -41,12 +46,60 @@ impl Model for Sketch {
 }
 
 impl Sketch {
+    /// Nodes with their points, of which none stands yet, and so many segments without walks.
+    pub(crate) fn empty(
+        alloc: Global,
+        bounds: Bounds,
+        points: &[GridPoint],
+        segments: usize,
+    ) -> Result<Sketch, NoMemory>
+        requires { AreBounds bounds }
+        ensures { IfOk result (λ sketch. sketch ≡ bare_sketch bounds points.now segments) }
+    {
+        let board = Board::new(alloc, bounds.left, bounds.right, bounds.bottom, bounds.top)?;
+        let stand = vec![in alloc; false; points.len()]?;
+        let points = points.to_vec(alloc)?;
+        Ok(Sketch {
+            board,
+            points,
+            stand,
+            walks: no_walks(alloc, segments)?,
+        })
+    }
+
+    /// The walks that there are.
+    pub(crate) fn into_walks(self, alloc: Global) -> Result<Vec<Walk>, NoMemory>
+        ensures { IfOk result (λ walks. walks.items ≡ walks_of self) }
+    {
+        let mut kept = Vec::new(alloc);
+        for walk in self.walks {
+            if let Some(walk) = walk {
+                kept.push(walk)?;
+            }
+        }
+        Ok(kept)
+    }
+
     /// Where a node stands, or stood last.
     pub(crate) fn point(&self, n: NodeId) -> GridPoint
         requires { n.0 < length self.now.points }
         ensures { result ≡ point_of_node self.now n.0 }
     {
         self.points[n.0 as usize]
+    }
+
+    /// Whether a point lies on the board, and no node and no walk has it.
+    pub(crate) fn is_open(&self, p: GridPoint) -> bool
+        requires { is_near 3000 p ≡ true }
+        ensures { result ≡ is_open self.now p }
+    {
+        if !self.board.bounds().contains(p) {
+            return false;
+        }
+        if self.board.is_node(p) {
+            return false;
+        }
+        !self.board.is_taken(p.doubled())
     }
 
     /// Puts a node that doesn't stand on a point.
@@ -127,6 +180,17 @@ impl Sketch {
             Some(walk) => Some(port_of(walk, graph.ends(s).0 == n)),
         }
     }
+}
+
+/// So many segments without walks.
+fn no_walks(alloc: Global, count: usize) -> Result<Vec<Option<Walk>>, NoMemory>
+    ensures { IfOk result (λ walks. walks.items ≡ replicate count None) }
+{
+    let mut walks = Vec::with_capacity(alloc, count)?;
+    for _ in 0..count {
+        walks.push(None)?;
+    }
+    Ok(walks)
 }
 
 /// The port of a walk at its start or at its end.

@@ -1,15 +1,23 @@
 //! Attempts of a group, one after another.
 
-ghost use Rattle.std.specs.Prelude.{◌≡◌, ◌+◌, ◌*◌, ◌<◌, ◌≤◌, ◌==◌, ◌%◌, ◌/◌, length, map, replicate, if◌then◌else◌, true, All, IfOk, OnOk};
-ghost use Rattle.drawing_weights.specs.Scales.{scale_of};
-ghost use Rattle.grid_board.specs.Points.{is_near};
-ghost use Rattle.octi_grid.specs.Ways.{after, number_of};
+ghost use Rattle.std.specs.Prelude.{◌≡◌, ◌+◌, ◌-◌, ◌*◌, ◌<◌, ◌≤◌, ◌==◌, ◌%◌, ◌/◌, ◌^◌, ℕ, fold, length, map, min, replicate, slice_index_or, if◌then◌else◌, true, All, IfOk, OnOk};
+ghost use Rattle.std.specs.List.{sum_by};
+ghost use Rattle.map_base.specs.declared.ids.NodeId.{NodeId};
+ghost use Rattle.graph_core.specs.Consistent.{IsConsistent};
+ghost use Rattle.line_chains.specs.declared.chain.Chain.{Chain};
 ghost use Rattle.line_chains.specs.Chains.{end_of};
+ghost use Rattle.octi_grid.specs.declared.point.GridPoint.{GridPoint};
+ghost use Rattle.octi_grid.specs.Ways.{after, number_of};
+ghost use Rattle.grid_board.specs.Points.{is_near};
+ghost use Rattle.drawing_weights.specs.Scales.{apart_weight_by, scale_of};
 ghost use Rattle.run_laying.specs.Runs.{IsFitting};
-ghost use Rattle.drawing_search.specs.Gains.{IsField};
-ghost use Rattle.drawing_search.specs.Lifting.{IsAttempted};
+ghost use Rattle.run_laying.specs.Sketches.{lifted, point_of_node};
+ghost use Rattle.drawing_search.specs.Bounds.{gains_at_least, no_least, no_run, IsBoundOf, IsSmallLeast};
+ghost use Rattle.drawing_search.specs.Changes.{all_moved, has_room, moved_by, point_after, stood_at, without_run, AreLayable, AreLiftable, AreTakable, CanStandEach};
+ghost use Rattle.drawing_search.specs.Gains.{first_point, sketch_weight, IsField};
+ghost use Rattle.drawing_search.specs.Lifting.{IsAttempted, IsOff};
 ghost use Rattle.drawing_search.specs.Searched.{attempts_in};
-ghost use Rattle.drawing_search.specs.Tries.{after_tries, IsSettled};
+ghost use Rattle.drawing_search.specs.Tries.{after_tries, AreAllLaid, IsSettled};
 
 use crate::gains::Field;
 use crate::group::{Group, Vector};
@@ -41,6 +49,7 @@ impl Search {
         requires field { IsField field }
         requires settled { IsSettled (scale_of field.by) field.graph.now field.first.now self.old.sketch self.old.weight }
         requires fitting { All (IsFitting field.graph.now) (attempts_in group.now) }
+        requires lengths { group.now.lengths ≤ 4 }
         requires most { self.old.made ≤ most }
         ensures settled { OnOk result (IsSettled (scale_of field.entry.by) field.entry.graph.now field.entry.first.now self.new.sketch self.new.weight) }
         ensures tried { OnOk result (record { sketch = self.new.sketch; made = self.new.made } ≡ after_tries (scale_of field.entry.by) field.entry.graph.now field.entry.first.now most (attempts_in group.now) (record { sketch = self.old.sketch; made = self.old.made })) }
@@ -72,6 +81,8 @@ impl Search {
         vector: Vector,
     ) -> Result<Option<u64>, NoMemory>
         requires field { IsField field }
+        requires count { vector.count ≤ 8 }
+        requires off { IsOff (scale_of field.by) field.graph.now field.first.now group.now lifted.now vector self.old.sketch self.old.weight }
         ensures { IfOk result (IsAttempted (scale_of field.entry.by) field.entry.graph.now field.entry.first.now group.now lifted.now vector self.old.sketch self.old.weight self.new.sketch) }
         ensures weight { OnOk result (self.new.weight ≡ self.old.weight) }
         ensures made { OnOk result (self.new.made ≡ self.old.made) }
@@ -83,7 +94,7 @@ impl Search {
         }
         let base = lifted.rest + aparts_after(field, moved, vector);
         let ahead = self.least_gains(runs, &lifted.least, moved, vector);
-        if base + ahead >= self.weight {
+        if base.saturating_add(ahead) >= self.weight {
             return Ok(None);
         }
         self.stand_moved(moved, vector);
@@ -96,48 +107,53 @@ impl Search {
 
     /// Whether nodes that are off the board may move by a vector: each comes to a point of the board that is no other
     /// node's and no walk's.
-    fn has_room(&self, moved: &[(NodeId, GridPoint)], vector: Vector) -> bool {
+    fn has_room(&self, moved: &[(NodeId, GridPoint)], vector: Vector) -> bool
+        requires near { All (λ (m : NodeId × GridPoint). is_near 2000 m.1 ≡ true) moved.now }
+        requires count { vector.count ≤ 8 }
+        ensures { result ≡ has_room self.now.sketch vector moved.now }
+    {
         for known in moved {
-            if !self.is_open(after(known.1, vector)) {
+            if !self.sketch.is_open(after(known.1, vector)) {
                 return false;
             }
         }
         true
     }
 
-    /// Whether a point lies on the board, and no node and no walk has it.
-    fn is_open(&self, p: GridPoint) -> bool {
-        let board = &self.sketch.board;
-        if !board.bounds().contains(p) {
-            return false;
-        }
-        if board.is_node(p) {
-            return false;
-        }
-        !board.is_taken(p.doubled())
-    }
-
-    /// What runs add at least where nodes have moved.
+    /// What runs add at least where nodes have moved, as far as that is a number of 64 bits.
     fn least_gains(
         &self,
         runs: &[Chain],
         least: &[LeastTurns],
         moved: &[(NodeId, GridPoint)],
         vector: Vector,
-    ) -> u64 {
-        let mut total = 0;
+    ) -> u64
+        requires near { All (λ (m : NodeId × GridPoint). is_near 2000 m.1 ≡ true) moved.now }
+        requires count { vector.count ≤ 8 }
+        requires from { All (λ (c : Chain). c.from.0 < length self.now.sketch.points) runs.now }
+        requires to { All (λ (c : Chain). (end_of c).0 < length self.now.sketch.points) runs.now }
+        requires each { length least.now ≡ length runs.now }
+        requires small { All IsSmallLeast least.now }
+        ensures { result ≡ min (2 ^ 64 - 1) (gains_at_least (point_after self.now.sketch vector moved.now) runs.now least.now) }
+    {
+        let mut total = 0u64;
         for i in 0..runs.len() {
             let from = self.point_after(runs[i].from, moved, vector);
             let to = self.point_after(end_of(&runs[i]), moved, vector);
-            total += least[i].between(from, to);
+            total = total.saturating_add(least[i].between(from, to));
         }
         total
     }
 
     /// Where a node stands once nodes have moved.
-    fn point_after(&self, n: NodeId, moved: &[(NodeId, GridPoint)], vector: Vector) -> GridPoint {
+    fn point_after(&self, n: NodeId, moved: &[(NodeId, GridPoint)], vector: Vector) -> GridPoint
+        requires node { n.0 < length self.now.sketch.points }
+        requires near { All (λ (m : NodeId × GridPoint). is_near 2000 m.1 ≡ true) moved.now }
+        requires count { vector.count ≤ 8 }
+        ensures { result ≡ point_after self.now.sketch vector moved.now n }
+    {
         for known in moved {
-            if known.0 == n {
+            if known.0.0 == n.0 {
                 return after(known.1, vector);
             }
         }
@@ -145,14 +161,26 @@ impl Search {
     }
 
     /// Puts nodes that move on the board.
-    fn stand_moved(&mut self, moved: &[(NodeId, GridPoint)], vector: Vector) {
+    fn stand_moved(&mut self, moved: &[(NodeId, GridPoint)], vector: Vector)
+        requires near { All (λ (m : NodeId × GridPoint). is_near 2000 m.1 ≡ true) moved.now }
+        requires count { vector.count ≤ 8 }
+        requires can { CanStandEach self.old.sketch (all_moved vector moved.now) }
+        ensures sketch { self.new.sketch ≡ fold stood_at self.old.sketch (all_moved vector moved.now) }
+        ensures weight { self.new.weight ≡ self.old.weight }
+        ensures made { self.new.made ≡ self.old.made }
+    {
         for known in moved {
             self.sketch.stand(known.0, after(known.1, vector));
         }
     }
 
     /// Takes nodes that moved off the board.
-    fn lift_moved(&mut self, field: Field<'_>, moved: &[(NodeId, GridPoint)]) {
+    fn lift_moved(&mut self, field: Field<'_>, moved: &[(NodeId, GridPoint)])
+        requires liftable { AreLiftable field.graph.now self.old.sketch (map (λ (m : NodeId × GridPoint). m.0) moved.now) }
+        ensures sketch { self.new.sketch ≡ fold lifted self.old.sketch (map (λ (m : NodeId × GridPoint). m.0) moved.now) }
+        ensures weight { self.new.weight ≡ self.old.weight }
+        ensures made { self.new.made ≡ self.old.made }
+    {
         for known in moved {
             self.sketch.lift(field.graph, known.0);
         }
@@ -168,7 +196,20 @@ impl Search {
         least: &[LeastTurns],
         base: u64,
         ahead: u64,
-    ) -> Result<Option<u64>, NoMemory> {
+    ) -> Result<Option<u64>, NoMemory>
+        requires field { IsField field }
+        requires runs { AreLayable field.graph.now self.old.sketch runs.now }
+        requires base { base ≡ sketch_weight (scale_of field.by) field.graph.now field.first.now self.old.sketch }
+        requires each { length least.now ≡ length runs.now }
+        requires bounds { (i : ℕ) → i < length runs.now → IsBoundOf (scale_of field.by) field.graph.now self.old.sketch (slice_index_or runs.now i no_run) (slice_index_or least.now i no_least) }
+        requires small { All IsSmallLeast least.now }
+        requires ahead { ahead ≡ gains_at_least (λ (n : NodeId). point_of_node self.old.sketch n.0) runs.now least.now }
+        requires less { base + ahead < self.old.weight }
+        requires weight { self.old.weight ≤ 2 ^ 57 }
+        ensures laid { IfOk result (AreAllLaid (scale_of field.entry.by) field.entry.graph.now field.entry.first.now self.old.weight runs.now self.old.sketch self.new.sketch) }
+        ensures weight { OnOk result (self.new.weight ≡ self.old.weight) }
+        ensures made { OnOk result (self.new.made ≡ self.old.made) }
+    {
         let mut weight = base;
         let mut ahead = ahead;
         for i in 0..runs.len() {
@@ -191,7 +232,13 @@ impl Search {
     }
 
     /// Takes runs away that were laid.
-    fn take_all(&mut self, field: Field<'_>, runs: &[Chain]) {
+    fn take_all(&mut self, field: Field<'_>, runs: &[Chain])
+        requires graph { IsConsistent field.graph.now }
+        requires takable { AreTakable field.graph.now self.old.sketch runs.now }
+        ensures sketch { self.new.sketch ≡ fold without_run self.old.sketch runs.now }
+        ensures weight { self.new.weight ≡ self.old.weight }
+        ensures made { self.new.made ≡ self.old.made }
+    {
         for run in runs {
             self.sketch.take_run(field.graph, run);
         }
@@ -199,7 +246,16 @@ impl Search {
 }
 
 /// What nodes weigh for their distances once they have moved.
-fn aparts_after(field: Field<'_>, moved: &[(NodeId, GridPoint)], vector: Vector) -> u64 {
+fn aparts_after(field: Field<'_>, moved: &[(NodeId, GridPoint)], vector: Vector) -> u64
+    requires field { IsField field }
+    requires nodes { All (λ (m : NodeId × GridPoint). m.0.0 < length field.graph.now.kinds) moved.now }
+    requires few { length moved.now ≤ 20000 }
+    requires near { All (λ (m : NodeId × GridPoint). is_near 2000 m.1 ≡ true) moved.now }
+    requires count { vector.count ≤ 8 }
+    requires there { All (λ (m : NodeId × GridPoint). is_near 2000 (moved_by vector m.1) ≡ true) moved.now }
+    ensures weight { result ≡ sum_by (λ (m : NodeId × GridPoint). apart_weight_by (scale_of field.entry.by) m.0.0 (first_point field.entry.first.now m.0.0) m.1) (all_moved vector moved.now) }
+    ensures small { result ≤ 20000 * 2 ^ 32 }
+{
     let mut total = 0;
     for known in moved {
         total += field.apart_weight(known.0, after(known.1, vector));

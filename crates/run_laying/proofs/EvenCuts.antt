@@ -108,11 +108,11 @@ share_last m count some = mul-div_cancel_left m some
 
 -- ---- a walk from one of its places on
 
-length-points : (p : GridPoint) (ds : List Dir) → length (points_from p ds) ≡ suc (length ds)
+pub length-points : (p : GridPoint) (ds : List Dir) → length (points_from p ds) ≡ suc (length ds)
 length-points p [] = refl
 length-points p (d ∷ ds) = ap suc (length-points (step_from p d) ds)
 
-point_after : (p : GridPoint) (ds : List Dir) (i : ℕ) → i ≤ length ds → get_or (points_from p ds) i nowhere ≡ after p (take i ds)
+pub point_after : (p : GridPoint) (ds : List Dir) (i : ℕ) → i ≤ length ds → get_or (points_from p ds) i nowhere ≡ after p (take i ds)
 point_after p [] zero h = refl
 point_after p [] (suc i) h = absurd (omega arith)
 point_after p (d ∷ ds) zero h = refl
