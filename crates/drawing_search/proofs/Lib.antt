@@ -4,3 +4,6 @@ mod Spans
 mod BoardsOf
 mod TakenOff
 mod Steps
+mod JoinedPairs
+mod RunEnds
+mod Takable

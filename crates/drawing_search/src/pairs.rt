@@ -1,6 +1,6 @@
 //! Pairs of segments over which lines go on.
 
-ghost use Rattle.std.specs.Prelude.{◌≡◌, ◌<◌, ◌+◌, [], length, map, slice_index_or, vec_items, IfOk};
+ghost use Rattle.std.specs.Prelude.{◌≡◌, ◌<◌, ◌+◌, ◌++◌, ◌∷◌, [], if◌then◌else◌, length, map, slice_index_or, vec_items, IfOk, OnOk};
 ghost use Rattle.graph_core.specs.Consistent.{AreSorted};
 ghost use Rattle.drawing_weights.specs.Scales.{joined_pairs};
 ghost use Rattle.drawing_search.specs.Gains.{is_followed};
@@ -43,11 +43,19 @@ fn pairs_of(alloc: Global, joins: &[Join]) -> Result<Vec<(SegId, SegId)>, NoMemo
 {
     let mut pairs = Vec::new(alloc);
     for i in 0..joins.len() {
-        if !is_followed(joins, i) {
-            pairs.push((joins[i].e, joins[i].f))?;
-        }
+        push_pair(&mut pairs, joins[i], is_followed(joins, i))?;
     }
     Ok(pairs)
+}
+
+/// Lists the pair of a join, unless the next one has it too.
+fn push_pair(pairs: &mut Vec<(SegId, SegId)>, join: Join, is_followed: bool) -> Result<(), NoMemory>
+    ensures { OnOk result (pairs.new.items ≡ (if is_followed then pairs.old.items else pairs.old.items ++ (join.e, join.f) ∷ [])) }
+{
+    if !is_followed {
+        pairs.push((join.e, join.f))?;
+    }
+    Ok(())
 }
 
 /// Whether the join behind a place joins the same segments.
