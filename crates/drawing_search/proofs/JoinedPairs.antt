@@ -1,6 +1,7 @@
 -- Pairs of segments that sorted joins join: joins of one pair are neighbours, and there are not many pairs.
-use Rattle.std.proofs.Common.{◌≡◌, refl, sym, ◌∙◌, ap, subst, ℕ, zero, suc, ◌+◌, ◌*◌, ◌<◌, ◌≤◌, Bool, true, false, cond, eqb, ◌&&◌, ◌||◌, List, [], ◌∷◌, ◌++◌, length, drop, ◌⊎◌, inl, inr, arith}
+use Rattle.std.proofs.Common.{◌≡◌, refl, sym, ◌∙◌, ap, subst, ℕ, zero, suc, ◌+◌, ◌*◌, ◌<◌, ◌≤◌, Bool, true, false, cond, eqb, ◌&&◌, ◌||◌, List, [], ◌∷◌, ◌++◌, length, drop, get_or, append_assoc, ◌⊎◌, inl, inr, arith}
 use Rattle.std.proofs.lemmas.Bool.{and_from, and_parts, cases_Bool, eq-eqb, eqb-true, true≢false}
+use Rattle.std.proofs.lemmas.List.{drop_more}
 use Rattle.std.proofs.lemmas.Bool.Decides.{nat_tests}
 use Rattle.std.specs.List.{list_any}
 use Rattle.map_base.specs.declared.ids.SegId.{SegId}
@@ -127,3 +128,23 @@ rising (j ∷ js) s below low from = by_test (list_any (join_same j) js) refl
 
 pub few_pairs : (js : List Join) → AreSorted js → AreBelow js → length (joined_pairs js) ≤ 400000000
 few_pairs js s below = few_rising 0 (joined_pairs js) (omega arith) (rising js s below 0 (λ k m. omega arith))
+
+-- one join more
+pub pairs_more : (joins : List Join) (i : ℕ) (d j : Join) (f : Bool) (pairs new : List (SegId × SegId)) → i < length joins → AreSorted joins → j ≡ get_or joins i d → f ≡ same_as_next (get_or joins i d) (drop (i + 1) joins)
+    → new ≡ cond f pairs (pairs ++ (j.e, j.f) ∷ []) → new ++ joined_pairs (drop (i + 1) joins) ≡ pairs ++ joined_pairs (drop i joins)
+pairs_more joins i d j f pairs new h s is follows new_is =
+    ap (λ (v : List (SegId × SegId)). v ++ joined_pairs rest) new_is
+    ∙ by_test f
+    ∙ ap (λ (k : Join). pairs ++ cond f (joined_pairs rest) ((k.e, k.f) ∷ joined_pairs rest)) is
+    ∙ ap (λ b. pairs ++ cond b (joined_pairs rest) (((get_or joins i d).e, (get_or joins i d).f) ∷ joined_pairs rest)) (follows ∙ sym (same_next (get_or joins i d) rest (subst AreSorted here (sorted_drop i joins s))))
+    ∙ ap (λ (v : List Join). pairs ++ joined_pairs v) (sym here)
+  where
+    rest : List Join
+    rest = drop (i + 1) joins
+
+    here : drop i joins ≡ get_or joins i d ∷ drop (i + 1) joins
+    here = drop_more joins i d h
+
+    by_test : (b : Bool) → cond b pairs (pairs ++ (j.e, j.f) ∷ []) ++ joined_pairs rest ≡ pairs ++ cond b (joined_pairs rest) ((j.e, j.f) ∷ joined_pairs rest)
+    by_test true = refl
+    by_test false = append_assoc pairs ((j.e, j.f) ∷ []) (joined_pairs rest)

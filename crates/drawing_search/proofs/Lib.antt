@@ -7,3 +7,4 @@ mod Steps
 mod JoinedPairs
 mod RunEnds
 mod Takable
+mod FieldFacts

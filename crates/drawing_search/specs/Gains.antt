@@ -44,8 +44,11 @@ turns_in graph k n = sum_by (turn_in graph k n) (pairs_at graph n)
 abbrev pub has_segment : SegId → SegId × SegId → Bool
 has_segment s pair = pair.0.0 == s.0 || pair.1.0 == s.0
 
+abbrev pub turn_if : GraphParts → Sketch → ℕ → SegId → SegId × SegId → ℕ
+turn_if graph k n s pair = if has_segment s pair then turn_in graph k n pair else 0
+
 abbrev pub turns_from : GraphParts → Sketch → ℕ → SegId → ℕ
-turns_from graph k n s = sum_by (turn_in graph k n) (filter (has_segment s) (pairs_at graph n))
+turns_from graph k n s = sum_by (turn_if graph k n s) (pairs_at graph n)
 
 -- the turns of lines from a segment without a walk, where it had this port there
 abbrev pub turn_by : GraphParts → Sketch → ℕ → SegId → Dir → SegId × SegId → ℕ

@@ -5,7 +5,7 @@ ghost use Rattle.drawing_weights.specs.Scales.{apart_weight_by, scale_of, turn_o
 ghost use Rattle.grid_board.specs.Points.{is_near};
 ghost use Rattle.run_laying.specs.Runs.{IsRun};
 ghost use Rattle.run_laying.specs.Sketches.{is_standing, IsLegalSketch};
-ghost use Rattle.drawing_search.specs.Gains.{first_point, node_weight_in, run_gain, segment_weight, step_gain, steps_gain, turn_by, turn_in, turns_by, turns_from, AreOnGraph, IsField};
+ghost use Rattle.drawing_search.specs.Gains.{first_point, node_weight_in, run_gain, segment_weight, step_gain, steps_gain, turn_by, turn_if, turn_in, turns_by, turns_from, AreOnGraph, IsField};
 
 use crate::pairs::Pairs;
 use crate::sketch::Sketch;
@@ -126,9 +126,7 @@ impl<'a> Field<'a> {
     {
         let mut total = 0;
         for pair in self.pairs.at(n) {
-            if pair.0.0 == s.0 || pair.1.0 == s.0 {
-                total += self.turn(sketch, n, *pair);
-            }
+            total += self.turn_if(sketch, n, *pair, s);
         }
         self.by.overs * total
     }
@@ -163,6 +161,21 @@ impl<'a> Field<'a> {
         }
         if pair.1.0 == s.0 {
             return turn_over(Some(port), sketch.port(self.graph, n, pair.0));
+        }
+        0
+    }
+
+    /// The turn over a node between two segments, if this is one of them and both have a walk.
+    fn turn_if(self, sketch: &Sketch, n: NodeId, pair: (SegId, SegId), s: SegId) -> u64
+        requires field { IsField self }
+        requires legal { IsLegalSketch self.graph.now sketch.now }
+        requires first { pair.0.0 < length self.graph.now.ends }
+        requires second { pair.1.0 < length self.graph.now.ends }
+        ensures turn { result ≡ turn_if self.entry.graph.now sketch.now n.0 s pair }
+        ensures small { result ≤ 4 }
+    {
+        if pair.0.0 == s.0 || pair.1.0 == s.0 {
+            return self.turn(sketch, n, pair);
         }
         0
     }
