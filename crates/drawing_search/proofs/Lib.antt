@@ -8,3 +8,4 @@ mod JoinedPairs
 mod RunEnds
 mod Takable
 mod FieldFacts
+mod Laid

@@ -19,7 +19,8 @@ use Rattle.run_laying.specs.Runs.{AreBeside, IsRun}
 use Rattle.run_laying.specs.Sketches.{is_standing, walk_in, IsEndOf, IsLegalSketch}
 use Rattle.run_laying.proofs.EvenCuts.{length-pieces, pieces_cut}
 use Rattle.run_laying.proofs.FreeRoutes.{free_of_route}
-use Rattle.run_laying.proofs.LaidRuns.{has_walk, keeps_lifted, keeps_standing, run_legal, same_bounds, same_walk, to_stands}
+use Rattle.run_laying.proofs.LaidRuns.{has_walk, keeps_lifted, keeps_standing, run_legal, same_bounds, same_walk, to_stands, IsLaying}
+use Rattle.run_laying.proofs.Piecewise.{IsFreeWalk}
 use Rattle.run_laying.proofs.RunFacts.{contains_in, end_below, inner_of, inner_off, leads_to, step_of, IsOff, IsOnRun}
 
 -- a run may be laid: its ends stand, the nodes between them don't, and its segments have no walk
@@ -35,6 +36,22 @@ pub record IsLaidOn (graph : GraphParts) (c : Chain) (k new : Sketch) : Type 0 w
   pub each : length pieces ≡ length c.steps
   pub is : with_pieces graph c.from c.steps pieces k ≡ new
   pub legal : IsLegalSketch graph new
+
+-- a run that may be laid along a free walk
+pub laying_of : (graph : GraphParts) (k : Sketch) (c : Chain) (w : PlainWalk) → IsLegalSketch graph k → IsRun graph c → IsClearFor k c → IsFreeWalk graph k c.from.0 (end_of c).0 (first_seg_of c.steps) (last_seg_of c) w
+    → length c.steps ≤ even_steps (points_of w) → IsLaying graph c.from c.steps (pieces_of w (length c.steps)) k w (last_seg_of c) (end_of c).0
+laying_of graph k c w h run clear free enough = record {
+  legal = h;
+  steps = run.steps;
+  once = run.once;
+  each = length-pieces w (length c.steps);
+  cut = pieces_cut w (length c.steps) (ap is_even free.start ∙ h.even c.from.0 clear.from) (ap is_even free.end ∙ h.even (end_of c).0 clear.end) run.some enough;
+  at = refl;
+  last = refl;
+  free = free;
+  lifted = clear.inner;
+  none = clear.walks;
+}
 
 pub laid_on : (graph : GraphParts) → IsConsistent graph → (c : Chain) (k new : Sketch) → IsLegalSketch graph k → IsRun graph c → IsClearFor k c → laid graph c k ≡ Some new → IsLaidOn graph c k new
 laid_on graph fit c k new h run clear e = by_walk (run_walk graph (board_under k) c) refl e
@@ -55,9 +72,7 @@ laid_on graph fit c k new h run clear e = by_walk (run_walk graph (board_under k
               is = new_is;
               legal =
                   subst (IsLegalSketch graph) new_is
-                  (run_legal graph fit c.from c.steps (pieces_of w (length c.steps)) k w (last_seg_of c) (end_of c).0 h run.steps run.once (length-pieces w (length c.steps))
-                  (pieces_cut w (length c.steps) (ap is_even free.start ∙ h.even c.from.0 clear.from) (ap is_even free.end ∙ h.even (end_of c).0 clear.end) run.some (leb-true (length c.steps) (even_steps (points_of w)) test))
-                  refl refl free clear.inner clear.walks);
+                  (run_legal graph fit c.from c.steps (pieces_of w (length c.steps)) k w (last_seg_of c) (end_of c).0 (laying_of graph k c w h run clear free (leb-true (length c.steps) (even_steps (points_of w)) test)));
             }
 
 -- runs beside each other

@@ -146,11 +146,11 @@ split_at w a b order below even = record {
     first = length-take (b - a) (drop a w.steps) ∙ ap (min (b - a)) (length-drop a w.steps)
 
 -- places at which it may be cut, from the i-th one on
-record AreCuts (w : PlainWalk) (c : ℕ → ℕ) (count : ℕ) : Type 0 where
-  rises : (j : ℕ) → j < count → c j < c (j + 1)
-  below : (j : ℕ) → j < count → c j < length w.steps
-  last : c count ≡ length w.steps
-  even : (j : ℕ) → j ≤ count → is_even (point_at (points_of w) (c j)) ≡ true
+pub record AreCuts (w : PlainWalk) (c : ℕ → ℕ) (count : ℕ) : Type 0 where
+  pub rises : (j : ℕ) → j < count → c j < c (j + 1)
+  pub below : (j : ℕ) → j < count → c j < length w.steps
+  pub last : c count ≡ length w.steps
+  pub even : (j : ℕ) → j ≤ count → is_even (point_at (points_of w) (c j)) ≡ true
 
 cut_from : (w : PlainWalk) (c : ℕ → ℕ) (count : ℕ) → AreCuts w c count → (i m : ℕ) → i + suc m ≡ count → IsCut (rest_from w (c i)) (map (piece_by w c) (range_with_len i (suc m)))
 cut_from w c count cuts i zero all = (ap (λ (ds : List Dir). (let v : PlainWalk = record { start = point_at (points_of w) (c i); steps = ds } in v)) rest, omega (arith, length-drop (c i) w.steps, cuts.below i (omega arith)))
@@ -160,89 +160,96 @@ cut_from w c count cuts i zero all = (ap (λ (ds : List Dir). (let v : PlainWalk
 
     rest : take (c (i + 1) - c i) (drop (c i) w.steps) ≡ drop (c i) w.steps
     rest = take_all (c (i + 1) - c i) (drop (c i) w.steps) (omega (arith, length-drop (c i) w.steps, last))
-cut_from w c count cuts i (suc m) all =
-    (rest_from w (c (i + 1)),
-    split_at w (c i) (c (i + 1)) (cuts.rises i (omega arith)) (cuts.below (i + 1) (omega arith)) (cuts.even (i + 1) (omega arith)),
-    cut_from w c count cuts (i + 1) m (omega arith))
+cut_from w c count cuts i (suc m) all = (
+  rest_from w (c (i + 1)),
+  split_at w (c i) (c (i + 1)) (cuts.rises i (omega arith)) (cuts.below (i + 1) (omega arith)) (cuts.even (i + 1) (omega arith)),
+  cut_from w c count cuts (i + 1) m (omega arith),
+)
 
 -- ---- the pieces of a walk
 
+module _ (w : PlainWalk) (n : ℕ) (first_even : is_even w.start ≡ true) (last_even : is_even (end_point w) ≡ true) (enough : suc n ≤ even_steps (points_of w)) where
+  count : ℕ
+  count = suc n
+
+  pts : List GridPoint
+  pts = points_of w
+
+  long : length pts ≡ suc (length w.steps)
+  long = length-points w.start w.steps
+
+  test : ℕ → Bool
+  test i = is_even (point_at pts i)
+
+  xs : List ℕ
+  xs = passing test 0 (suc (length w.steps))
+
+  places : even_places pts ≡ xs
+  places = ap (λ j. filter test (range_with_len 0 j)) long
+
+  start_is : point_at pts 0 ≡ w.start
+  start_is = point_after w.start w.steps 0 (omega arith)
+
+  end_is : point_at pts (length w.steps) ≡ end_point w
+  end_is = point_after w.start w.steps (length w.steps) (omega arith) ∙ ap (after w.start) (take_all (length w.steps) w.steps (omega arith))
+
+  last : HasLast xs (length w.steps)
+  last =
+      let same : 0 + length w.steps ≡ length w.steps = omega arith in
+      subst (λ j. HasLast xs j) same (passing_last test 0 (length w.steps) (ap test same ∙ ap is_even end_is ∙ last_even))
+
+  steps : ℕ
+  steps = even_steps pts
+
+  steps_is : steps ≡ last.at
+  steps_is = let many : length (even_places pts) ≡ suc last.at = ap length places ∙ last.long in omega arith
+
+  share : ℕ → ℕ
+  share i = i * steps / count
+
+  place_is : (i : ℕ) → cut_place pts count i ≡ get_or xs (share i) 0
+  place_is i = ap (λ (v : List ℕ). get_or v (share i) 0) places
+
+  share_below : (i : ℕ) → i ≤ count → share i < length xs
+  share_below i h =
+      let most : share i ≤ steps = omega (arith, share_grows i count steps count (omega arith) h, share_last steps count (omega arith)) in
+      omega (arith, most, steps_is, last.long)
+
+  rises : (j : ℕ) → j < count → cut_place pts count j < cut_place pts count (j + 1)
+  rises j h =
+      let order = rising test 0 (suc (length w.steps)) (share j) (share (j + 1)) (share_rises j steps count (omega arith) enough) (share_below (j + 1) (omega arith)) in
+      omega (arith, order, place_is j, place_is (j + 1))
+
+  cut_last : cut_place pts count count ≡ length w.steps
+  cut_last = place_is count ∙ ap (λ j. get_or xs j 0) (share_last steps count (omega arith) ∙ steps_is) ∙ last.there
+
+  cuts_are : AreCuts w (cut_place pts count) count
+  cuts_are = record {
+    rises = rises;
+    below = λ j h.
+        let more : share j < share count = omega (arith, share_rises j steps count (omega arith) enough, share_grows (j + 1) count steps count (omega arith) (omega (arith, h))) in
+        let order = rising test 0 (suc (length w.steps)) (share j) (share count) more (share_below count (omega arith)) in
+        omega (arith, order, place_is j, place_is count, cut_last);
+    last = cut_last;
+    even = λ j h. ap test (place_is j) ∙ (passing_at test 0 (suc (length w.steps)) (share j) (share_below j h)).0;
+  }
+
+  first_place : cut_place pts count 0 ≡ 0
+  first_place = place_is 0 ∙ ap (λ j. get_or xs j 0) (share_first steps count (omega arith)) ∙ passing_first test 0 (length w.steps) (ap is_even start_is ∙ first_even)
+
+  whole : rest_from w (cut_place pts count 0) ≡ w
+  whole = ap (rest_from w) first_place ∙ ap (λ (p : GridPoint). (let v : PlainWalk = record { start = p; steps = w.steps } in v)) start_is
+
+  pieces_split : IsCut w (pieces_of w count)
+  pieces_split = subst (λ (v : PlainWalk). IsCut v (pieces_of w count)) whole (cut_from w (cut_place (points_of w) count) count cuts_are 0 n (omega arith))
+
 pub pieces_cut : (w : PlainWalk) (count : ℕ) → is_even w.start ≡ true → is_even (end_point w) ≡ true → 0 < count → count ≤ even_steps (points_of w) → IsCut w (pieces_of w count)
 pieces_cut w zero first_even last_even some enough = absurd (omega (arith, some))
-pieces_cut w (suc n) first_even last_even some enough =
-    subst (λ (v : PlainWalk). IsCut v (pieces_of w count)) whole
-    (cut_from w (cut_place (points_of w) count) count cuts 0 n (omega arith))
-  where
-    count : ℕ
-    count = suc n
+pieces_cut w (suc n) first_even last_even some enough = pieces_split w n first_even last_even enough
 
-    pts : List GridPoint
-    pts = points_of w
-
-    long : length pts ≡ suc (length w.steps)
-    long = length-points w.start w.steps
-
-    test : ℕ → Bool
-    test i = is_even (point_at pts i)
-
-    xs : List ℕ
-    xs = passing test 0 (suc (length w.steps))
-
-    places : even_places pts ≡ xs
-    places = ap (λ j. filter test (range_with_len 0 j)) long
-
-    start_is : point_at pts 0 ≡ w.start
-    start_is = point_after w.start w.steps 0 (omega arith)
-
-    end_is : point_at pts (length w.steps) ≡ end_point w
-    end_is = point_after w.start w.steps (length w.steps) (omega arith) ∙ ap (after w.start) (take_all (length w.steps) w.steps (omega arith))
-
-    last : HasLast xs (length w.steps)
-    last =
-        let same : 0 + length w.steps ≡ length w.steps = omega arith in
-        subst (λ j. HasLast xs j) same (passing_last test 0 (length w.steps) (ap test same ∙ ap is_even end_is ∙ last_even))
-
-    steps : ℕ
-    steps = even_steps pts
-
-    steps_is : steps ≡ last.at
-    steps_is = let many : length (even_places pts) ≡ suc last.at = ap length places ∙ last.long in omega arith
-
-    share : ℕ → ℕ
-    share i = i * steps / count
-
-    place_is : (i : ℕ) → cut_place pts count i ≡ get_or xs (share i) 0
-    place_is i = ap (λ (v : List ℕ). get_or v (share i) 0) places
-
-    share_below : (i : ℕ) → i ≤ count → share i < length xs
-    share_below i h =
-        let most : share i ≤ steps = omega (arith, share_grows i count steps count (omega arith) h, share_last steps count (omega arith)) in
-        omega (arith, most, steps_is, last.long)
-
-    rises : (j : ℕ) → j < count → cut_place pts count j < cut_place pts count (j + 1)
-    rises j h =
-        let order = rising test 0 (suc (length w.steps)) (share j) (share (j + 1)) (share_rises j steps count (omega arith) enough) (share_below (j + 1) (omega arith)) in
-        omega (arith, order, place_is j, place_is (j + 1))
-
-    cut_last : cut_place pts count count ≡ length w.steps
-    cut_last = place_is count ∙ ap (λ j. get_or xs j 0) (share_last steps count (omega arith) ∙ steps_is) ∙ last.there
-
-    cuts : AreCuts w (cut_place pts count) count
-    cuts = record {
-      rises = rises;
-      below = λ j h.
-          let more : share j < share count = omega (arith, share_rises j steps count (omega arith) enough, share_grows (j + 1) count steps count (omega arith) (omega (arith, h))) in
-          let order = rising test 0 (suc (length w.steps)) (share j) (share count) more (share_below count (omega arith)) in
-          omega (arith, order, place_is j, place_is count, cut_last);
-      last = cut_last;
-      even = λ j h. ap test (place_is j) ∙ (passing_at test 0 (suc (length w.steps)) (share j) (share_below j h)).0;
-    }
-
-    first_place : cut_place pts count 0 ≡ 0
-    first_place = place_is 0 ∙ ap (λ j. get_or xs j 0) (share_first steps count (omega arith)) ∙ passing_first test 0 (length w.steps) (ap is_even start_is ∙ first_even)
-
-    whole : rest_from w (cut_place pts count 0) ≡ w
-    whole = ap (rest_from w) first_place ∙ ap (λ (p : GridPoint). (let v : PlainWalk = record { start = p; steps = w.steps } in v)) start_is
+pub cuts_of : (w : PlainWalk) (count : ℕ) → is_even w.start ≡ true → is_even (end_point w) ≡ true → 0 < count → count ≤ even_steps (points_of w) → AreCuts w (cut_place (points_of w) count) count
+cuts_of w zero first_even last_even some enough = absurd (omega (arith, some))
+cuts_of w (suc n) first_even last_even some enough = cuts_are w n first_even last_even enough
 
 pub length-pieces : (w : PlainWalk) (count : ℕ) → length (pieces_of w count) ≡ count
 length-pieces w count = length-map (range_with_len 0 count) (λ i. piece_between w (cut_place (points_of w) count i) (cut_place (points_of w) count (i + 1))) ∙ length-range_with_len 0 count

@@ -61,11 +61,12 @@ pub has_walk : (graph : GraphParts) (n : NodeId) (ts : List ChainStep) (vs : Lis
     → (w : PlainWalk) × (walk_in (with_pieces graph n ts vs k) q.seg ≡ Some w)
 has_walk graph n [] vs k each once q m below = absurd m
 has_walk graph n (t ∷ ts) [] k each once q m below = absurd (omega arith)
-has_walk graph n (t ∷ ts) (v ∷ vs) k each once q (inl e) below =
-    (from_low graph t.seg n v,
-    ap (walk_in (with_pieces graph n (t ∷ ts) (v ∷ vs) k)) (ap (λ (p : ChainStep). p.seg) e)
-    ∙ same_walk graph t.to ts vs (with_piece graph n t v k) t.seg (once_first t ts once)
-    ∙ get_or-set_same k.walks t.seg.0 (Some (from_low graph t.seg n v)) None (subst (λ (p : ChainStep). p.seg.0 < length k.walks) e below))
+has_walk graph n (t ∷ ts) (v ∷ vs) k each once q (inl e) below = (
+  from_low graph t.seg n v,
+  ap (walk_in (with_pieces graph n (t ∷ ts) (v ∷ vs) k)) (ap (λ (p : ChainStep). p.seg) e)
+      ∙ same_walk graph t.to ts vs (with_piece graph n t v k) t.seg (once_first t ts once)
+      ∙ get_or-set_same k.walks t.seg.0 (Some (from_low graph t.seg n v)) None (subst (λ (p : ChainStep). p.seg.0 < length k.walks) e below),
+)
 has_walk graph n (t ∷ ts) (v ∷ vs) k each once q (inr m) below =
     has_walk graph t.to ts vs (with_piece graph n t v k) (omega arith) once.1 q m (omega (arith, below, length-set k.walks t.seg.0 (Some (from_low graph t.seg n v))))
 
@@ -79,31 +80,62 @@ to_stands graph n (t ∷ ts) (v ∷ vs) k each q (inr m) below = to_stands graph
 
 -- ---- a run
 
-pub run_legal : (graph : GraphParts) → IsConsistent graph → (n : NodeId) (ts : List ChainStep) (vs : List PlainWalk) (k : Sketch) (w : PlainWalk) (l : SegId) (e : ℕ) → IsLegalSketch graph k → AreSteps graph n ts → AreOnce ts
-    → length vs ≡ length ts → IsCut w vs → (end_after n ts).0 ≡ e → last_seg (first_seg_of ts) ts ≡ l → IsFreeWalk graph k n.0 e (first_seg_of ts) l w
-    → ((m : NodeId) → In m (inner_nodes ts) → is_standing k m.0 ≡ false) → ((q : ChainStep) → In q ts → walk_in k q.seg ≡ None) → IsLegalSketch graph (with_pieces graph n ts vs k)
-run_legal graph fit n [] [] k w l e h steps once each cut at last f lifted none = absurd cut
-run_legal graph fit n [] (v ∷ vs) k w l e h steps once each cut at last f lifted none = absurd (omega arith)
-run_legal graph fit n (t ∷ ts) [] k w l e h steps once each cut at last f lifted none = absurd (omega arith)
-run_legal graph fit n (t ∷ []) (v ∷ u ∷ us) k w l e h steps once each cut at last f lifted none = absurd (omega arith)
-run_legal graph fit n (t ∷ u ∷ us) (v ∷ []) k w l e h steps once each cut at last f lifted none = absurd (omega arith)
-run_legal graph fit n (t ∷ []) (v ∷ []) k w l e h steps once each cut at last f lifted none =
-    subst (λ (x : PlainWalk). IsLegalSketch graph (with_piece graph n t x k)) (sym cut.0)
-    (last_legal graph fit k h n t w (subst (λ (s : SegId). IsFreeWalk graph k n.0 t.to.0 t.seg s w) (sym last) (subst (λ j. IsFreeWalk graph k n.0 j t.seg l w) (sym at) f)) cut.1 steps.0 steps.1 (none t (inl refl)))
-run_legal graph fit n (t ∷ u ∷ us) (v ∷ x ∷ xs) k w l e h steps once each cut at last f lifted none =
-    run_legal graph fit t.to (u ∷ us) (x ∷ xs) (with_piece graph n t v k) cut.0 l e
-    (piece_legal graph fit k h n t u.seg l e w v cut.0 f cut.1 steps.0 steps.1 (none t (inl refl)) node (lifted t.to (inl refl)) steps.2 (none u (inr (inl refl))) next)
-    steps.3 once.1 (omega arith) cut.2 at last
-    (rest_free graph fit k h n t u.seg l e w v cut.0 f cut.1 steps.0 steps.1 (none t (inl refl)) node (lifted t.to (inl refl)) steps.2 (none u (inr (inl refl))) next)
-    (λ m i. get_or-set_other k.stand t.to.0 m.0 true false (other m i) ∙ lifted m (inr i))
-    (λ q m. get_or-set_other k.walks t.seg.0 q.seg.0 (Some (from_low graph t.seg n v)) None (λ same. once_first t (u ∷ us) once q m same) ∙ none q (inr m))
+-- what is left of a run that is being laid: from a node a walk that is free beside the others, and the pieces into which it
+-- is split, one for each step
+pub record IsLaying (graph : GraphParts) (n : NodeId) (ts : List ChainStep) (vs : List PlainWalk) (k : Sketch) (w : PlainWalk) (l : SegId) (e : ℕ) : Type 0 where
+  pub legal : IsLegalSketch graph k
+  pub steps : AreSteps graph n ts
+  pub once : AreOnce ts
+  pub each : length vs ≡ length ts
+  pub cut : IsCut w vs
+  pub at : (end_after n ts).0 ≡ e
+  pub last : last_seg (first_seg_of ts) ts ≡ l
+  pub free : IsFreeWalk graph k n.0 e (first_seg_of ts) l w
+  pub lifted : (m : NodeId) → In m (inner_nodes ts) → is_standing k m.0 ≡ false
+  pub none : (q : ChainStep) → In q ts → walk_in k q.seg ≡ None
+
+pub last_laid : (graph : GraphParts) → IsConsistent graph → (n : NodeId) (t : ChainStep) (v : PlainWalk) (k : Sketch) (w : PlainWalk) (l : SegId) (e : ℕ) → IsLaying graph n (t ∷ []) (v ∷ []) k w l e
+    → IsLegalSketch graph (with_piece graph n t v k)
+last_laid graph fit n t v k w l e h =
+    subst (λ (x : PlainWalk). IsLegalSketch graph (with_piece graph n t x k)) (sym h.cut.0)
+    (last_legal graph fit k h.legal n t w (subst (λ (s : SegId). IsFreeWalk graph k n.0 t.to.0 t.seg s w) (sym h.last) (subst (λ j. IsFreeWalk graph k n.0 j t.seg l w) (sym h.at) h.free)) h.cut.1 h.steps.0 h.steps.1
+    (h.none t (inl refl)))
+
+pub laid_further : (graph : GraphParts) → IsConsistent graph → (n : NodeId) (t u : ChainStep) (us : List ChainStep) (v x : PlainWalk) (xs : List PlainWalk) (k : Sketch) (w : PlainWalk) (l : SegId) (e : ℕ)
+    → IsLaying graph n (t ∷ u ∷ us) (v ∷ x ∷ xs) k w l e → (rest : PlainWalk) × IsLaying graph t.to (u ∷ us) (x ∷ xs) (with_piece graph n t v k) rest l e
+laid_further graph fit n t u us v x xs k w l e h = (
+  h.cut.0,
+  record {
+    legal = piece_legal graph fit k h.legal n t u.seg l e w v h.cut.0 h.free h.cut.1 h.steps.0 h.steps.1 (h.none t (inl refl)) node (h.lifted t.to (inl refl)) h.steps.2 (h.none u (inr (inl refl))) next;
+    steps = h.steps.3;
+    once = h.once.1;
+    each = omega (arith, h.each);
+    cut = h.cut.2;
+    at = h.at;
+    last = h.last;
+    free = rest_free graph fit k h.legal n t u.seg l e w v h.cut.0 h.free h.cut.1 h.steps.0 h.steps.1 (h.none t (inl refl)) node (h.lifted t.to (inl refl)) h.steps.2 (h.none u (inr (inl refl))) next;
+    lifted = λ m i. get_or-set_other k.stand t.to.0 m.0 true false (other m i) ∙ h.lifted m (inr i);
+    none = λ q m. get_or-set_other k.walks t.seg.0 q.seg.0 (Some (from_low graph t.seg n v)) None (λ same. once_first t (u ∷ us) h.once q m same) ∙ h.none q (inr m);
+  },
+)
   where
     node : t.to.0 < length graph.kinds
-    node = end_below graph fit t.seg t.to.0 steps.0 (leads_to graph n t steps.1)
+    node = end_below graph fit t.seg t.to.0 h.steps.0 (leads_to graph n t h.steps.1)
 
     next : u.seg.0 ≡ t.seg.0 → ⊥
-    next same = once_first t (u ∷ us) once u (inl refl) same
+    next same = once_first t (u ∷ us) h.once u (inl refl) same
 
     other : (m : NodeId) → In m (inner_nodes (u ∷ us)) → m.0 ≡ t.to.0 → ⊥
     other m i same =
-        inner_off graph fit (u ∷ us) m (inner_of graph fit t.to (u ∷ us) steps.3 m i) t.seg steps.0 (once_first t (u ∷ us) once) (subst (IsEndOf graph t.seg) (sym same) (leads_to graph n t steps.1))
+        inner_off graph fit (u ∷ us) m (inner_of graph fit t.to (u ∷ us) h.steps.3 m i) t.seg h.steps.0 (once_first t (u ∷ us) h.once) (subst (IsEndOf graph t.seg) (sym same) (leads_to graph n t h.steps.1))
+
+pub run_legal : (graph : GraphParts) → IsConsistent graph → (n : NodeId) (ts : List ChainStep) (vs : List PlainWalk) (k : Sketch) (w : PlainWalk) (l : SegId) (e : ℕ) → IsLaying graph n ts vs k w l e
+    → IsLegalSketch graph (with_pieces graph n ts vs k)
+run_legal graph fit n [] [] k w l e h = absurd h.cut
+run_legal graph fit n [] (v ∷ vs) k w l e h = absurd (omega (arith, h.each))
+run_legal graph fit n (t ∷ ts) [] k w l e h = absurd (omega (arith, h.each))
+run_legal graph fit n (t ∷ []) (v ∷ u ∷ us) k w l e h = absurd (omega (arith, h.each))
+run_legal graph fit n (t ∷ u ∷ us) (v ∷ []) k w l e h = absurd (omega (arith, h.each))
+run_legal graph fit n (t ∷ []) (v ∷ []) k w l e h = last_laid graph fit n t v k w l e h
+run_legal graph fit n (t ∷ u ∷ us) (v ∷ x ∷ xs) k w l e h =
+    let rest = laid_further graph fit n t u us v x xs k w l e h in run_legal graph fit t.to (u ∷ us) (x ∷ xs) (with_piece graph n t v k) rest.0 l e rest.1
