@@ -116,7 +116,7 @@ module _ (graph : GraphParts) (fit : IsConsistent graph) (n : NodeId) (ts : List
   first_piece = drop_more vs i x (omega (arith, each, below))
 
   here : (h : IsLayingFrom graph n ts vs i k l e) → IsLaying graph n (t ∷ drop (i + 1) ts) (v ∷ drop (i + 1) vs) k h.walk l e
-  here h = subst (λ (as : List ChainStep). IsLaying graph n as (v ∷ drop (i + 1) vs) k h.walk l e) first (subst (λ (bs : List PlainWalk). IsLaying graph n (drop i ts) bs k h.walk l e) first_piece h.laying)
+  here h = subst (λ (qs : List ChainStep). IsLaying graph n qs (v ∷ drop (i + 1) vs) k h.walk l e) first (subst (λ (bs : List PlainWalk). IsLaying graph n (drop i ts) bs k h.walk l e) first_piece h.laying)
 
   pub step_of_run : IsLayingFrom graph n ts vs i k l e → (b : Bool) → b ≡ nat_lt (i + 1) (length ts) → IsStepOf graph b (get_or ts i d) (get_or vs i x) k
   step_of_run h b is = step_fits graph fit n t (drop (i + 1) ts) v (drop (i + 1) vs) k h.walk l e (here h) b (is ∙ last)
@@ -131,4 +131,4 @@ module _ (graph : GraphParts) (fit : IsConsistent graph) (n : NodeId) (ts : List
 
   -- the rest of the run is laid on what there is then
   pub pieces_more : with_pieces graph n (drop i ts) (drop i vs) k ≡ with_pieces graph (get_or ts i d).to (drop (i + 1) ts) (drop (i + 1) vs) (with_piece graph n (get_or ts i d) (get_or vs i x) k)
-  pieces_more = ap (λ (as : List ChainStep). with_pieces graph n as (drop i vs) k) first ∙ ap (λ (bs : List PlainWalk). with_pieces graph n (t ∷ drop (i + 1) ts) bs k) first_piece
+  pieces_more = ap (λ (qs : List ChainStep). with_pieces graph n qs (drop i vs) k) first ∙ ap (λ (bs : List PlainWalk). with_pieces graph n (t ∷ drop (i + 1) ts) bs k) first_piece
