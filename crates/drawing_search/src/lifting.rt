@@ -5,7 +5,7 @@ ghost use Rattle.drawing_weights.specs.Scales.{scale_of};
 ghost use Rattle.run_laying.specs.Attempts.{inner_nodes};
 ghost use Rattle.run_laying.specs.Runs.{IsFitting};
 ghost use Rattle.run_laying.specs.Sketches.{lifted as lifted_off};
-ghost use Rattle.drawing_search.specs.Changes.{without_run, AreLiftable, IsTakable};
+ghost use Rattle.drawing_search.specs.Changes.{walked_by, without_run, AreLiftable, CanWalkEach, IsTakable};
 ghost use Rattle.drawing_search.specs.Gains.{IsField};
 ghost use Rattle.drawing_search.specs.Lifting.{points_along, put_back, walks_along, CanPutBack, IsLifted};
 ghost use Rattle.drawing_search.specs.Searched.{attempts_in};
@@ -120,13 +120,17 @@ pub(crate) fn put_back(sketch: &mut Sketch, lifted: Lifted)
     requires { CanPutBack sketch.old lifted.moved.items lifted.inner.items lifted.walks.items }
     ensures { sketch.new ≡ put_back sketch.old lifted.moved.items lifted.inner.items lifted.walks.items }
 {
-    for (n, at) in lifted.moved {
-        sketch.stand(n, at);
-    }
-    for (n, at) in lifted.inner {
-        sketch.stand(n, at);
-    }
-    for (s, walk) in lifted.walks {
+    sketch.stand_each(&lifted.moved);
+    sketch.stand_each(&lifted.inner);
+    put_walks(sketch, lifted.walks);
+}
+
+/// Gives segments their walks again.
+fn put_walks(sketch: &mut Sketch, walks: Vec<(SegId, Walk)>)
+    requires { CanWalkEach sketch.old walks.items }
+    ensures { sketch.new ≡ fold walked_by sketch.old walks.items }
+{
+    for (s, walk) in walks {
         sketch.put_walk(s, walk);
     }
 }

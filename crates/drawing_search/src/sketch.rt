@@ -1,6 +1,6 @@
 //! Drawings in the making.
 
-ghost use Rattle.std.specs.Prelude.{◌≡◌, ◌<◌, if◌then◌else◌, is_some, length, replicate, IfOk, None, Some, false, true};
+ghost use Rattle.std.specs.Prelude.{◌≡◌, ◌<◌, fold, if◌then◌else◌, is_some, length, replicate, IfOk, None, Some, false, true};
 ghost use Rattle.std.specs.List.{list_all, list_any};
 ghost use Rattle.line_chains.specs.Chains.{round_of};
 ghost use Rattle.graph_core.specs.Consistent.{IsConsistent};
@@ -11,7 +11,7 @@ ghost use Rattle.grid_board.specs.Points.{is_near};
 ghost use Rattle.segment_router.specs.Routes.{port_at_node};
 ghost use Rattle.run_laying.specs.Laying.{board_under};
 ghost use Rattle.run_laying.specs.Sketches.{is_standing, lifted, point_of_node, stood, walk_in, with_walk_of, IsLegalSketch};
-ghost use Rattle.drawing_search.specs.Changes.{is_open};
+ghost use Rattle.drawing_search.specs.Changes.{is_open, stood_at, CanStandEach};
 ghost use Rattle.drawing_search.specs.Shown.{bare_sketch};
 ghost use Rattle.drawing_search.specs.Trying.{walks_of};
 
@@ -114,6 +114,16 @@ impl Sketch {
         self.board.add_node(at);
         self.points[n.0 as usize] = at;
         self.stand[n.0 as usize] = true;
+    }
+
+    /// Puts nodes that don't stand on their points.
+    pub(crate) fn stand_each(&mut self, known: &[(NodeId, GridPoint)])
+        requires { CanStandEach self.old known.now }
+        ensures { self.new ≡ fold stood_at self.old known.now }
+    {
+        for at in known {
+            self.stand(at.0, at.1);
+        }
     }
 
     /// Takes a node off the board.
