@@ -9,3 +9,4 @@ mod RunEnds
 mod Takable
 mod FieldFacts
 mod Laid
+mod Alikes

@@ -1,13 +1,14 @@
 -- Walks step by step: their points, and what lies on them between two places.
-use Rattle.std.proofs.Common.{◌≡◌, refl, sym, ◌∙◌, ap, subst, ℕ, zero, suc, ◌+◌, ◌-◌, ◌<◌, ◌≤◌, List, [], ◌∷◌, ◌++◌, length, map, take, drop, reverse, get_or, arith, length-drop}
+use Rattle.std.proofs.Common.{◌≡◌, refl, sym, ◌∙◌, ap, subst, ℕ, zero, suc, ◌+◌, ◌-◌, ◌<◌, ◌≤◌, Bool, true, List, [], ◌∷◌, ◌++◌, length, map, take, drop, reverse, get_or, arith, length-drop}
 use Rattle.std.proofs.Math.Seq.{take-add}
-use Rattle.std.proofs.lemmas.List.{drop_more, get_or-drop, map-append, reverse-append, take_more}
-use Rattle.std.specs.List.{AllByRecursion}
+use Rattle.std.proofs.lemmas.List.{drop_more, get_or-drop, take-append-drop, map-append, reverse-append, take_more}
+use Rattle.std.proofs.lemmas.Bool.{and_parts}
+use Rattle.std.specs.List.{list_all, AllByRecursion}
 use Rattle.octi_grid.specs.declared.dir.Dir.{Dir}
 use Rattle.octi_grid.specs.declared.point.GridPoint.{GridPoint}
 use Rattle.octi_grid.specs.Ways.{after, points_from, reverse_of, step_from, IsWithin}
-use Rattle.octi_grid.specs.Walks.{end_point, PlainWalk}
-use Rattle.octi_grid.proofs.WayLemmas.{after-append}
+use Rattle.octi_grid.specs.Walks.{end_point, points_of, PlainWalk}
+use Rattle.octi_grid.proofs.WayLemmas.{after-append, list_all-points-append}
 use Rattle.run_laying.specs.Pieces.{point_at, reversed_walk}
 use Rattle.run_laying.proofs.EvenCuts.{length-points, point_after}
 use Rattle.drawing_search.specs.Tracks.{piece_along, IsTrack}
@@ -47,6 +48,19 @@ module _ (points : List GridPoint) (steps : List Dir) (t : IsTrack points steps)
     where
       whole : a + (b - a) ≡ b
       whole = omega arith
+
+  -- what holds of all points holds of those of a piece
+  pub piece_all : (test : GridPoint → Bool) (a b : ℕ) → a ≤ b → b ≤ length steps → list_all test points ≡ true → list_all test (points_of (piece_along points steps a b)) ≡ true
+  piece_all test a b order h all =
+      let start = point_at points 0 in
+      let joined : list_all test (points_from start (take a steps ++ drop a steps)) ≡ true =
+      ap (λ (ds : List Dir). list_all test (points_from start ds)) (take-append-drop a steps) ∙ sym (ap (list_all test) t.points_are) ∙ all in
+      let rest = (and_parts (list_all test (points_from start (take a steps))) (list_all test (points_from (after start (take a steps)) (drop a steps))) (sym (list_all-points-append test start (take a steps) (drop a steps)) ∙ joined)).1 in
+      let parted : list_all test (points_from (after start (take a steps)) (take (b - a) (drop a steps) ++ drop (b - a) (drop a steps))) ≡ true =
+      ap (λ (ds : List Dir). list_all test (points_from (after start (take a steps)) ds)) (take-append-drop (b - a) (drop a steps)) ∙ rest in
+      ap (λ (p : GridPoint). list_all test (points_from p (take (b - a) (drop a steps)))) (at_is a (omega arith))
+      ∙ (and_parts (list_all test (points_from (after start (take a steps)) (take (b - a) (drop a steps)))) (list_all test (points_from (after (after start (take a steps)) (take (b - a) (drop a steps))) (drop (b - a) (drop a steps))))
+      (sym (list_all-points-append test (after start (take a steps)) (take (b - a) (drop a steps)) (drop (b - a) (drop a steps))) ∙ parted)).0
 
   -- and with a step more at its end
   pub piece_more : (a b : ℕ) (d : Dir) → a ≤ b → b < length steps → take (b + 1 - a) (drop a steps) ≡ take (b - a) (drop a steps) ++ get_or steps b d ∷ []
