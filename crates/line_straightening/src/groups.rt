@@ -1,5 +1,15 @@
 //! The groups of attempts, in their order.
 
+ghost use Rattle.std.specs.Prelude.{◌≡◌, ◌<◌, ◌≤◌, ◌++◌, ◌∷◌, [], false, true, filter, length, map, slice_index_or, vec_items, All, IfOk, OnOk};
+ghost use Rattle.std.specs.List.{flat_map};
+ghost use Rattle.line_chains.specs.declared.chain.Chain.{Chain};
+ghost use Rattle.line_chains.specs.Chains.{chains_of, end_of, is_corner};
+ghost use Rattle.run_laying.specs.Runs.{AreBeside};
+ghost use Rattle.run_laying.specs.Searches.{attempts_alone};
+ghost use Rattle.drawing_search.specs.Searched.{attempts_in, attempts_of};
+ghost use Rattle.line_straightening.specs.Groups.{all_nodes, all_places, places_at, AreGroupsFor, AreRunsOf};
+ghost use Rattle.line_straightening.specs.Straightening.{moves_of, straight_attempts};
+
 use crate::runs::{copies_of, copy_of, end_of, merged, runs_at_nodes, single_runs};
 use bit_flags::Flags;
 use drawing_search::Group;
@@ -19,7 +29,14 @@ pub(crate) fn groups_of(
     graph: &LineGraph,
     corners: &Flags,
     chains: &[Chain],
-) -> Result<Vec<Group>, NoMemory> {
+) -> Result<Vec<Group>, NoMemory>
+    requires flags { length corners.now ≡ length graph.now.kinds }
+    requires runs { AreRunsOf graph.now chains.now }
+    requires beside { AreBeside chains.now }
+    requires ends { All (λ (c : Chain). slice_index_or corners.now c.from.0 false ≡ true) chains.now }
+    requires are { chains.now ≡ chains_of graph.now corners.now }
+    ensures { IfOk result (λ groups. AreGroupsFor graph.now (straight_attempts graph.now corners.now) groups.items) }
+{
     let mut groups = Vec::new(alloc);
     push_alone(alloc, chains, &mut groups)?;
     let at = runs_at_nodes(alloc, graph.nodes(), chains)?;
@@ -33,7 +50,9 @@ pub(crate) fn groups_of(
 }
 
 /// Lists each run without a move.
-fn push_alone(alloc: Global, runs: &[Chain], groups: &mut Vec<Group>) -> Result<(), NoMemory> {
+fn push_alone(alloc: Global, runs: &[Chain], groups: &mut Vec<Group>) -> Result<(), NoMemory>
+    ensures { OnOk result (attempts_of groups.new.items ≡ attempts_of groups.old.items ++ map attempts_alone runs.now) }
+{
     for run in runs {
         let mut alone = Vec::new(alloc);
         alone.push(copy_of(alloc, run)?)?;
@@ -53,7 +72,11 @@ fn push_corners(
     runs: &[Chain],
     at: &[Vec<usize>],
     groups: &mut Vec<Group>,
-) -> Result<(), NoMemory> {
+) -> Result<(), NoMemory>
+    requires few { length corners.now ≤ 10000 }
+    requires places { map vec_items at.now ≡ all_places runs.now (length corners.now) }
+    ensures { OnOk result (attempts_of groups.new.items ≡ attempts_of groups.old.items ++ flat_map (λ n. moves_of runs.now (n ∷ [])) (filter (is_corner corners.now) (all_nodes (length corners.now)))) }
+{
     for n in 0..corners.len() {
         if corners.is_raised(n) {
             groups.push(group_at(alloc, NodeId(n as u32), runs, &at[n])?)?;
@@ -69,7 +92,10 @@ fn push_nodes(
     runs: &[Chain],
     at: &[Vec<usize>],
     groups: &mut Vec<Group>,
-) -> Result<(), NoMemory> {
+) -> Result<(), NoMemory>
+    requires places { map vec_items at.now ≡ all_places runs.now nodes }
+    ensures { OnOk result (attempts_of groups.new.items ≡ attempts_of groups.old.items ++ flat_map (λ n. moves_of runs.now (n ∷ [])) (all_nodes nodes)) }
+{
     for n in 0..nodes {
         groups.push(group_at(alloc, NodeId(n), runs, &at[n as usize])?)?;
     }
@@ -77,7 +103,10 @@ fn push_nodes(
 }
 
 /// A node with the runs that end at it.
-fn group_at(alloc: Global, n: NodeId, runs: &[Chain], places: &[usize]) -> Result<Group, NoMemory> {
+fn group_at(alloc: Global, n: NodeId, runs: &[Chain], places: &[usize]) -> Result<Group, NoMemory>
+    requires { places.now ≡ places_at runs.now n.0 }
+    ensures { IfOk result (λ group. attempts_in group ≡ moves_of runs.now (n ∷ [])) }
+{
     let nodes = vec![in alloc; n; 1]?;
     Ok(Group {
         nodes: Sequence::of(nodes),
@@ -92,7 +121,12 @@ fn push_ends(
     runs: &[Chain],
     at: &[Vec<usize>],
     groups: &mut Vec<Group>,
-) -> Result<(), NoMemory> {
+) -> Result<(), NoMemory>
+    requires from { All (λ (c : Chain). c.from.0 < length at.now) runs.now }
+    requires to { All (λ (c : Chain). (end_of c).0 < length at.now) runs.now }
+    requires places { map vec_items at.now ≡ all_places runs.now (length at.now) }
+    ensures { OnOk result (attempts_of groups.new.items ≡ attempts_of groups.old.items ++ flat_map (λ (c : Chain). moves_of runs.now (c.from ∷ end_of c ∷ [])) runs.now) }
+{
     for run in runs {
         let end = end_of(run);
         let places = merged(alloc, &at[run.from.0 as usize], &at[end.0 as usize])?;

@@ -1,12 +1,21 @@
 //! Runs, and those that end at nodes.
 
+ghost use Rattle.std.specs.Prelude.{◌≡◌, ◌≢◌, ◌<◌, ◌↔◌, ◌⊎◌, ℕ, length, map, vec_items, All, Contains, IfOk, IsStrictlySorted};
+ghost use Rattle.line_chains.specs.declared.chain.Chain.{Chain};
+ghost use Rattle.line_chains.specs.Chains.{end_of};
+ghost use Rattle.run_laying.specs.Attempts.{run_of};
+ghost use Rattle.line_straightening.specs.Groups.{all_places, run_at};
+ghost use Rattle.line_straightening.specs.Straightening.{single_runs};
+
 use graph_core::LineGraph;
 use line_chains::{Chain, ChainStep};
 use map_base::{NoMemory, NodeId, SegId, Sequence};
 use std::alloc::Global;
 
 /// Runs of one segment each, from its lower end, by number.
-pub(crate) fn single_runs(alloc: Global, graph: &LineGraph) -> Result<Vec<Chain>, NoMemory> {
+pub(crate) fn single_runs(alloc: Global, graph: &LineGraph) -> Result<Vec<Chain>, NoMemory>
+    ensures { IfOk result (λ runs. runs.items ≡ single_runs graph.now) }
+{
     let mut runs = Vec::new(alloc);
     for s in 0..graph.segs() {
         runs.push(run_of(alloc, graph, SegId(s))?)?;
@@ -15,7 +24,10 @@ pub(crate) fn single_runs(alloc: Global, graph: &LineGraph) -> Result<Vec<Chain>
 }
 
 /// The run of one segment, from its lower end.
-fn run_of(alloc: Global, graph: &LineGraph, s: SegId) -> Result<Chain, NoMemory> {
+fn run_of(alloc: Global, graph: &LineGraph, s: SegId) -> Result<Chain, NoMemory>
+    requires { s.0 < length graph.now.ends }
+    ensures { IfOk result (λ run. run ≡ run_of graph.now s) }
+{
     let (low, up) = graph.ends(s);
     let step = ChainStep { seg: s, to: up };
     Ok(Chain {
@@ -25,7 +37,9 @@ fn run_of(alloc: Global, graph: &LineGraph, s: SegId) -> Result<Chain, NoMemory>
 }
 
 /// Where a run ends.
-pub(crate) fn end_of(run: &Chain) -> NodeId {
+pub(crate) fn end_of(run: &Chain) -> NodeId
+    ensures { result ≡ end_of run.now }
+{
     match run.steps.as_slice().last() {
         None => run.from,
         Some(step) => step.to,
@@ -37,7 +51,12 @@ pub(crate) fn runs_at_nodes(
     alloc: Global,
     nodes: u32,
     runs: &[Chain],
-) -> Result<Vec<Vec<usize>>, NoMemory> {
+) -> Result<Vec<Vec<usize>>, NoMemory>
+    requires from { All (λ (c : Chain). c.from.0 < nodes) runs.now }
+    requires to { All (λ (c : Chain). (end_of c).0 < nodes) runs.now }
+    requires apart { All (λ (c : Chain). c.from.0 ≢ (end_of c).0) runs.now }
+    ensures { IfOk result (λ at. map vec_items at.items ≡ all_places runs.now nodes) }
+{
     let mut at = Vec::with_capacity(alloc, nodes as usize)?;
     for _ in 0..nodes {
         at.push(Vec::new(alloc))?;
@@ -54,7 +73,10 @@ pub(crate) fn copies_of(
     alloc: Global,
     runs: &[Chain],
     places: &[usize],
-) -> Result<Vec<Chain>, NoMemory> {
+) -> Result<Vec<Chain>, NoMemory>
+    requires { All (λ i. i < length runs.now) places.now }
+    ensures { IfOk result (λ copies. copies.items ≡ map (run_at runs.now) places.now) }
+{
     let mut copies = Vec::with_capacity(alloc, places.len())?;
     for i in places {
         copies.push(copy_of(alloc, &runs[*i])?)?;
@@ -63,7 +85,9 @@ pub(crate) fn copies_of(
 }
 
 /// A copy of a run.
-pub(crate) fn copy_of(alloc: Global, run: &Chain) -> Result<Chain, NoMemory> {
+pub(crate) fn copy_of(alloc: Global, run: &Chain) -> Result<Chain, NoMemory>
+    ensures { IfOk result (λ copy. copy ≡ run.now) }
+{
     Ok(Chain {
         from: run.from,
         steps: Sequence::of(run.steps.as_slice().to_vec(alloc)?),
@@ -71,7 +95,12 @@ pub(crate) fn copy_of(alloc: Global, run: &Chain) -> Result<Chain, NoMemory> {
 }
 
 /// The numbers of two rising lists, each once, rising.
-pub(crate) fn merged(alloc: Global, a: &[usize], b: &[usize]) -> Result<Vec<usize>, NoMemory> {
+pub(crate) fn merged(alloc: Global, a: &[usize], b: &[usize]) -> Result<Vec<usize>, NoMemory>
+    requires a { IsStrictlySorted a.now }
+    requires b { IsStrictlySorted b.now }
+    ensures rising { IfOk result (λ all. IsStrictlySorted all.items) }
+    ensures both { IfOk result (λ all. (i : ℕ) → Contains all.items i ↔ (Contains a.now i ⊎ Contains b.now i)) }
+{
     let mut all = a.to_vec(alloc)?;
     for i in b {
         if !a.contains(i) {
