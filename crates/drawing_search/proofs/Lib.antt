@@ -10,3 +10,4 @@ mod Takable
 mod FieldFacts
 mod Laid
 mod Alikes
+mod Growing
