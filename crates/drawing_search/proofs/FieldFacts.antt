@@ -1,5 +1,5 @@
 -- What the joined pairs of a field are.
-use Rattle.std.proofs.Common.{◌≡◌, refl, sym, ◌∙◌, ap, subst, ℕ, suc, ◌+◌, ◌*◌, ◌<◌, ◌≤◌, Bool, true, false, cond, List, [], ◌∷◌, length, map, drop, get_or, Contains, inl, inr, arith, length-drop}
+use Rattle.std.proofs.Common.{◌≡◌, refl, sym, ◌∙◌, ap, subst, ℕ, zero, suc, ◌+◌, ◌*◌, ◌<◌, ◌≤◌, Bool, true, false, cond, List, [], ◌∷◌, length, map, drop, get_or, Contains, inl, inr, arith, length-drop}
 use Rattle.std.proofs.Math.ListN.{get_or-map}
 use Rattle.std.proofs.lemmas.List.{drop_more}
 use Rattle.std.proofs.lemmas.Bool.Decides.{nat_tests}
@@ -32,6 +32,24 @@ of_join (j ∷ js) p m = by_test (list_any (join_same j) js) m
     by_test true k = later k
     by_test false (inl e) = (j, inl refl, e)
     by_test false (inr k) = later k
+
+-- a pair at a node: two segments of its round, the lesser first
+pub record IsJoined (graph : GraphParts) (n : ℕ) (p : SegId × SegId) : Type 0 where
+  pub order : p.0.0 < p.1.0
+  pub lesser : In p.0 (get_or graph.rounds n [])
+  pub greater : In p.1 (get_or graph.rounds n [])
+
+in_from : {X : Type 0} (xs : List X) (x : X) → Contains xs x → In x xs
+in_from [] x c = absurd (omega (arith, c.1))
+in_from (y ∷ ys) x (zero, h, e) = inl (sym e)
+in_from (y ∷ ys) x (suc i, h, e) = inr (in_from ys x (i, omega (arith, h), e))
+
+pub pair_joined : (graph : GraphParts) → IsConsistent graph → (n : ℕ) → n < length graph.kinds → (p : SegId × SegId) → In p (pairs_at graph n) → IsJoined graph n p
+pair_joined graph fit n node p m =
+    let found = of_join (get_or graph.joins n []) p m in
+    let is = all_in _ (get_or graph.joins n []) found.0 (fit.joins n (omega (arith, node, fit.joins_each))) found.1 in
+    subst (IsJoined graph n) (sym found.2)
+    (record { order = is.order; lesser = in_from (get_or graph.rounds n []) found.0.e is.lesser; greater = in_from (get_or graph.rounds n []) found.0.f is.greater })
 
 -- segments of a round, by their places
 in_round_below : (graph : GraphParts) → IsConsistent graph → (n : ℕ) → n < length graph.kinds → (s : SegId) → Contains (get_or graph.rounds n []) s → s.0 < length graph.ends

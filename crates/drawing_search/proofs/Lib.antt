@@ -11,3 +11,4 @@ mod FieldFacts
 mod Laid
 mod Alikes
 mod Growing
+mod Gained
