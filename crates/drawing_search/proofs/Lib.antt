@@ -12,3 +12,5 @@ mod Laid
 mod Alikes
 mod Growing
 mod Gained
+mod TurnSums
+mod Bounded
