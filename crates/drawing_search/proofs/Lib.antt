@@ -14,3 +14,4 @@ mod Growing
 mod Gained
 mod TurnSums
 mod Bounded
+mod OnWalks

@@ -186,16 +186,27 @@ module _ (graph : GraphParts) (fit : IsConsistent graph) (bounds : Bounds) (walk
           let step = any_at (λ (t : ChainStep). eqb t.seg.0 s.0) found.0.steps found.2 in
           subst (λ j. (w : PlainWalk) × (get_or new.walks j None ≡ Some w)) (eqb-true step.0.seg.0 s.0 step.2) (laid.segments found.0 found.1 step.0 step.1)
 
-  pub kept_legal : (new : List PlainWalk) → attempted graph bounds walks a ≡ Some new → IsOnBoard graph bounds new
-  kept_legal new e = by_move (may_move k0 a.nodes) refl e
-    where
-      by_laid : may_move k0 a.nodes ≡ true → (o : Option Sketch) → all_laid graph a.runs k0 ≡ o → walks_in o ≡ Some new → IsOnBoard graph bounds new
-      by_laid may None is found = cc
-      by_laid may (Some k) is found =
-          let laid = all_laid_on graph fit a.runs k0 k (begun_legal graph fit bounds walks on_board a fits may) run fits.beside clear_for is in
-          let same : filter_map (λ w. w) k.walks ≡ new = cc in
-          subst (IsOnBoard graph bounds) same (subst (λ (b : Bounds). IsOnBoard graph b (filter_map (λ w. w) k.walks)) laid.bounds (whole_legal graph fit k laid.legal (complete k laid)))
+  -- what comes of an attempt is a legal drawing on the same board
+  pub record IsKept (new : Sketch) : Type 0 where
+    pub legal : IsLegalSketch graph new
+    pub complete : IsComplete graph new
+    pub bounds_same : new.bounds ≡ bounds
 
-      by_move : (t : Bool) → may_move k0 a.nodes ≡ t → walks_in (cond t (all_laid graph a.runs k0) None) ≡ Some new → IsOnBoard graph bounds new
+  pub kept_sketch : (new : Sketch) → attempted_on graph (without_runs graph bounds walks a) a ≡ Some new → IsKept new
+  kept_sketch new e = by_move (may_move k0 a.nodes) refl e
+    where
+      by_move : (t : Bool) → may_move k0 a.nodes ≡ t → cond t (all_laid graph a.runs k0) None ≡ Some new → IsKept new
       by_move false may found = cc
-      by_move true may found = by_laid may (all_laid graph a.runs k0) refl found
+      by_move true may found =
+          let laid = all_laid_on graph fit a.runs k0 new (begun_legal graph fit bounds walks on_board a fits may) run fits.beside clear_for found in
+          record { legal = laid.legal; complete = complete new laid; bounds_same = laid.bounds }
+
+  pub kept_legal : (new : List PlainWalk) → attempted graph bounds walks a ≡ Some new → IsOnBoard graph bounds new
+  kept_legal new e = by_laid (attempted_on graph k0 a) refl e
+    where
+      by_laid : (o : Option Sketch) → attempted_on graph k0 a ≡ o → walks_in o ≡ Some new → IsOnBoard graph bounds new
+      by_laid None is found = cc
+      by_laid (Some k) is found =
+          let kept = kept_sketch k is in
+          let same : filter_map (λ w. w) k.walks ≡ new = cc in
+          subst (IsOnBoard graph bounds) same (subst (λ (b : Bounds). IsOnBoard graph b (filter_map (λ w. w) k.walks)) kept.bounds_same (whole_legal graph fit k kept.legal kept.complete))
