@@ -1,5 +1,5 @@
 -- Attempts on whole drawings in the making are those on their walks.
-use Rattle.std.proofs.Common.{◌≡◌, refl, sym, ◌∙◌, ap, ap₂, subst, ℕ, zero, suc, ◌+◌, ◌-◌, ◌*◌, ◌<◌, ◌≤◌, Bool, true, false, cond, eqb, not, ◌&&◌, nat_lt, List, [], ◌∷◌, length, map, get_or, replicate, slice_get, Option, Some, None, ◌⊎◌, inl, inr, arith}
+use Rattle.std.proofs.Common.{◌≡◌, refl, sym, ◌∙◌, ap, ap₂, subst, ℕ, zero, suc, ◌+◌, ◌-◌, ◌*◌, ◌<◌, ◌≤◌, Bool, true, false, cond, eqb, not, ◌&&◌, nat_le, nat_lt, List, [], ◌∷◌, length, map, get_or, replicate, slice_get, Option, Some, None, ◌⊎◌, inl, inr, arith}
 use Rattle.std.proofs.lemmas.Bool.{cases_lt}
 use Rattle.std.proofs.lemmas.List.{get_or-map, get_or_past, length-map, length-replicate, get_or-replicate, slice_get-get_or}
 use Rattle.std.proofs.lemmas.List.FromFn.{get_or-map-range_with_len, length-map-range_with_len}
@@ -27,12 +27,13 @@ use Rattle.run_laying.specs.Attempts.{attempted, attempted_on, has_node, if_ligh
 use Rattle.run_laying.specs.Drawings.{IsOnBoard}
 use Rattle.run_laying.specs.Laying.{board_under, Sketch}
 use Rattle.run_laying.specs.Runs.{IsFitting}
+use Rattle.run_laying.specs.Searches.{after_attempt, after_pass, found_with, Found}
 use Rattle.run_laying.specs.Sketches.{is_standing, point_of_node, walk_in, IsLegalSketch}
 use Rattle.run_laying.proofs.Kept.{kept_sketch}
 use Rattle.run_laying.proofs.Whole.{whole_legal, IsComplete}
 use Rattle.drawing_search.specs.Gains.{apart_in, node_weight_in, pairs_at, segment_weight, sketch_weight, turn_in, turns_in, walk_weight_if}
 use Rattle.drawing_search.specs.Shown.{whole_sketch}
-use Rattle.drawing_search.specs.Tries.{if_below, point_then, stands_then, tried, walk_left, without}
+use Rattle.drawing_search.specs.Tries.{after_tries, after_try, if_below, point_then, stands_then, tried, walk_left, with_tried, without, Tried}
 use Rattle.drawing_search.specs.Trying.{walks_of}
 use Rattle.drawing_search.proofs.FieldFacts.{pair_below}
 use Rattle.drawing_search.proofs.Growing.{same_sum, sum_map}
@@ -228,3 +229,69 @@ tried_on_walks graph fit scale first bounds ws a on_board fits =
         by_test : (t : Bool) → walks_in (cond t (Some new) None) ≡ cond t (Some (walks_of new)) None
         by_test true = refl
         by_test false = refl
+
+-- ---- attempts one after another
+
+-- a whole legal drawing on a board
+pub record IsGood (graph : GraphParts) (bounds : Bounds) (k : Sketch) : Type 0 where
+  pub legal : IsLegalSketch graph k
+  pub complete : IsComplete graph k
+  pub bounds_same : k.bounds ≡ bounds
+
+below_some : (weigh : Sketch → ℕ) (weight : ℕ) (o : Option Sketch) (new : Sketch) → if_below weigh weight o ≡ Some new → o ≡ Some new
+below_some weigh weight None new e = cc
+below_some weigh weight (Some j) new e = by_test (nat_lt (weigh j) weight) e
+  where
+    by_test : (t : Bool) → cond t (Some j) None ≡ Some new → Some j ≡ Some new
+    by_test true f = f
+    by_test false f = cc
+
+module _ (graph : GraphParts) (fit : IsConsistent graph) (scale : Scale) (first : List PlainWalk) (bounds : Bounds) where
+  abbrev try : List PlainWalk → Attempt → Option (List PlainWalk)
+  try ws a = improving graph bounds (weight_by scale graph first) ws a
+
+  on_board : (k : Sketch) → IsGood graph bounds k → IsOnBoard graph bounds (walks_of k)
+  on_board k good = subst (λ (b : Bounds). IsOnBoard graph b (walks_of k)) good.bounds_same (whole_legal graph fit k good.legal good.complete)
+
+  as_whole : (k : Sketch) → IsGood graph bounds k → k ≡ whole_sketch bounds (points_all graph (walks_of k)) (walks_of k)
+  as_whole k good = sketch_by_walks graph fit k good.legal good.complete ∙ ap (λ (b : Bounds). whole_sketch b (points_all graph (walks_of k)) (walks_of k)) good.bounds_same
+
+  tried_good : (k new : Sketch) (a : Attempt) → IsGood graph bounds k → IsFitting graph a → tried scale graph (points_all graph first) k a ≡ Some new → IsGood graph bounds new
+  tried_good k new a good fits e =
+      let laid : attempted_on graph (without graph k a) a ≡ Some new = below_some (sketch_weight scale graph (points_all graph first)) (sketch_weight scale graph (points_all graph first) k) (attempted_on graph (without graph k a) a) new e in
+      let same : without graph k a ≡ without_runs graph bounds (walks_of k) a = ap (λ (j : Sketch). without graph j a) (as_whole k good) ∙ without_is graph fit bounds (walks_of k) (on_board k good).drawn a in
+      let kept = kept_sketch graph fit bounds (walks_of k) (on_board k good) a fits new (ap (λ (j : Sketch). attempted_on graph j a) (sym same) ∙ laid) in
+      record { legal = kept.legal; complete = kept.complete; bounds_same = kept.bounds_same }
+
+  tried_there : (k : Sketch) (a : Attempt) → IsGood graph bounds k → IsFitting graph a → walks_in (tried scale graph (points_all graph first) k a) ≡ try (walks_of k) a
+  tried_there k a good fits =
+      ap (λ (j : Sketch). walks_in (tried scale graph (points_all graph first) j a)) (as_whole k good) ∙ tried_on_walks graph fit scale first bounds (walks_of k) a (on_board k good) fits
+
+  abbrev pub found_of : Tried → Found
+  found_of f = record { walks = walks_of f.sketch; made = f.made }
+
+  -- what comes of some attempts
+  pub record IsThere (new : Tried) (found : Found) : Type 0 where
+    pub good : IsGood graph bounds new.sketch
+    pub is : found_of new ≡ found
+
+  one_try : (most : ℕ) (f : Tried) (a : Attempt) → IsGood graph bounds f.sketch → IsFitting graph a → IsThere (after_try scale graph (points_all graph first) most f a) (after_attempt try most (found_of f) a)
+  one_try most f a good fits = by_test (nat_le most f.made)
+    where
+      by_found : (o : Option Sketch) → tried scale graph (points_all graph first) f.sketch a ≡ o → IsThere (with_tried f o) (found_with (found_of f) (walks_in o))
+      by_found None e = record { good = good; is = refl }
+      by_found (Some new) e = record { good = tried_good f.sketch new a good fits e; is = refl }
+
+      by_test : (t : Bool) → IsThere (cond t f (with_tried f (tried scale graph (points_all graph first) f.sketch a))) (cond t (found_of f) (found_with (found_of f) (try (walks_of f.sketch) a)))
+      by_test true = record { good = good; is = refl }
+      by_test false =
+          subst (λ (o : Option (List PlainWalk)). IsThere (with_tried f (tried scale graph (points_all graph first) f.sketch a)) (found_with (found_of f) o)) (tried_there f.sketch a good fits)
+          (by_found (tried scale graph (points_all graph first) f.sketch a) refl)
+
+  pub tries_there : (most : ℕ) (attempts : List Attempt) (f : Tried) → IsGood graph bounds f.sketch → ((a : Attempt) → In a attempts → IsFitting graph a)
+      → IsThere (after_tries scale graph (points_all graph first) most attempts f) (after_pass try attempts most (found_of f))
+  tries_there most [] f good fits = record { good = good; is = refl }
+  tries_there most (a ∷ rest) f good fits =
+      let one = one_try most f a good (fits a (inl refl)) in
+      subst (λ (g : Found). IsThere (after_tries scale graph (points_all graph first) most rest (after_try scale graph (points_all graph first) most f a)) (after_pass try rest most g)) one.is
+      (tries_there most rest (after_try scale graph (points_all graph first) most f a) one.good (λ b i. fits b (inr i)))
