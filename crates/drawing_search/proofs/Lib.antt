@@ -15,3 +15,4 @@ mod Gained
 mod TurnSums
 mod Bounded
 mod OnWalks
+mod PricedRuns

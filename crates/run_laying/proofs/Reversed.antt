@@ -22,7 +22,7 @@ turned ds = map reverse_of (reverse ds)
 turned-cons : (d : Dir) (ds : List Dir) → turned (d ∷ ds) ≡ turned ds ++ reverse_of d ∷ []
 turned-cons d ds = ap (map reverse_of) (reverse-append (d ∷ []) ds) ∙ map-append reverse_of (reverse ds) (d ∷ [])
 
-twice : (d : Dir) → reverse_of (reverse_of d) ≡ d
+pub twice : (d : Dir) → reverse_of (reverse_of d) ≡ d
 twice dir.N = refl
 twice dir.NE = refl
 twice dir.E = refl
