@@ -19,6 +19,7 @@ use Rattle.run_laying.specs.Laying.{Sketch}
 use Rattle.drawing_search.specs.declared.gains.Field.{Field}
 use Rattle.drawing_search.specs.Gains.{pairs_at, step_gain, steps_gain, IsField}
 use Rattle.drawing_search.proofs.JoinedPairs.{few_pairs, AreBelow}
+use Rattle.drawing_search.proofs.Takable.{in_from}
 
 -- a pair comes of a join
 pub of_join : (js : List Join) (p : SegId × SegId) → In p (joined_pairs js) → (j : Join) × In j js × (p ≡ (j.e, j.f))
@@ -38,11 +39,6 @@ pub record IsJoined (graph : GraphParts) (n : ℕ) (p : SegId × SegId) : Type 0
   pub order : p.0.0 < p.1.0
   pub lesser : In p.0 (get_or graph.rounds n [])
   pub greater : In p.1 (get_or graph.rounds n [])
-
-in_from : {X : Type 0} (xs : List X) (x : X) → Contains xs x → In x xs
-in_from [] x c = absurd (omega (arith, c.1))
-in_from (y ∷ ys) x (zero, h, e) = inl (sym e)
-in_from (y ∷ ys) x (suc i, h, e) = inr (in_from ys x (i, omega (arith, h), e))
 
 pub pair_joined : (graph : GraphParts) → IsConsistent graph → (n : ℕ) → n < length graph.kinds → (p : SegId × SegId) → In p (pairs_at graph n) → IsJoined graph n p
 pair_joined graph fit n node p m =

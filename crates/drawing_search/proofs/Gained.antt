@@ -27,11 +27,12 @@ use Rattle.run_laying.specs.Sketches.{is_standing, point_of_node, walk_in, IsEnd
 use Rattle.run_laying.proofs.Attempted.{IsClearFor}
 use Rattle.run_laying.proofs.LaidRuns.{keeps_lifted, keeps_standing, same_walk, to_stands}
 use Rattle.run_laying.proofs.Shown.{stands_below}
-use Rattle.run_laying.proofs.RunFacts.{end_below, inner_of, leads_to, once_first, only_two, step_of, IsInner, IsOff}
+use Rattle.run_laying.proofs.RunFacts.{contains_in, end_below, inner_of, leads_to, once_first, only_two, step_of, IsInner, IsOff}
+use Rattle.drawing_search.specs.Changes.{AreApart}
 use Rattle.drawing_search.specs.Gains.{apart_in, first_point, has_segment, node_weight_in, pairs_at, run_gain, segment_weight, sketch_weight, step_gain, steps_gain, turn_if, turn_in, turns_from, turns_in, walk_weight_if}
 use Rattle.drawing_search.proofs.FieldFacts.{pair_below, pair_joined}
 use Rattle.drawing_search.proofs.Growing.{grown, is_one_of, same_sum, sum_both, sum_grows, sum_map, AreDifferent}
-use Rattle.drawing_search.proofs.Takable.{inner_apart, on_or_off, AreApart}
+use Rattle.drawing_search.proofs.Takable.{inner_apart, on_or_off}
 
 -- ---- which segments of a run end where
 
@@ -152,7 +153,7 @@ once_different (t ∷ ts) once =
 apart_different : (ns : List NodeId) → AreApart ns → AreDifferent (map (λ (m : NodeId). m.0) ns)
 apart_different [] apart = tt
 apart_different (n ∷ ns) apart =
-    (none_of (map (λ (m : NodeId). m.0) ns) n.0 (λ i. let m = mapped (λ (p : NodeId). p.0) ns n.0 i in apart.0 m.0 m.1 m.2), apart_different ns apart.1)
+    (none_of (map (λ (m : NodeId). m.0) ns) n.0 (λ i. let m = mapped (λ (p : NodeId). p.0) ns n.0 i in apart.0 m.0 (contains_in ns m.0 m.1) m.2), apart_different ns apart.1)
 
 -- the first and the last segment of steps
 first_on : (ts : List ChainStep) → 0 < length ts → (q : ChainStep) × In q ts × (q.seg.0 ≡ (first_seg_of ts).0)

@@ -1,5 +1,5 @@
 -- Runs that stand may be taken off the board: first their walks, then the nodes between their ends.
-use Rattle.std.proofs.Common.{◌≡◌, refl, sym, ◌∙◌, ap, subst, ℕ, zero, suc, ◌<◌, ◌≤◌, true, false, List, [], ◌∷◌, length, get_or, set, Option, Some, None, ◌⊎◌, inl, inr, arith, get_or-set_other}
+use Rattle.std.proofs.Common.{◌≡◌, refl, sym, ◌∙◌, ap, subst, ℕ, zero, suc, ◌<◌, ◌≤◌, true, false, List, [], ◌∷◌, length, get_or, set, Contains, Option, Some, None, ◌⊎◌, inl, inr, arith, get_or-set_other}
 use Rattle.std.proofs.lemmas.Bool.{cases_eq, cases_lt}
 use Rattle.std.proofs.lemmas.List.{get_or_past}
 use Rattle.map_base.specs.declared.ids.NodeId.{NodeId}
@@ -14,16 +14,17 @@ use Rattle.run_laying.specs.Attempts.{inner_nodes}
 use Rattle.run_laying.specs.Laying.{Sketch}
 use Rattle.run_laying.specs.Runs.{AreOnce, AreSteps, IsRun}
 use Rattle.run_laying.specs.Sketches.{is_standing, lifted, walk_in, with_walk_of, IsEndOf, IsLegalSketch}
-use Rattle.run_laying.proofs.RunFacts.{inner_of, inner_off, leads_to, once_first, IsOff}
-use Rattle.drawing_search.specs.Changes.{without_walks, AreLiftable, IsTakable}
+use Rattle.run_laying.proofs.RunFacts.{contains_in, inner_of, inner_off, leads_to, once_first, IsOff}
+use Rattle.drawing_search.specs.Changes.{without_walks, AreApart, AreLiftable, IsTakable}
 use Rattle.drawing_search.proofs.TakenOff.{lifted_legal, off_legal}
 
--- ---- nodes
+-- what is at a place of a list is in it
+pub in_from : {X : Type 0} (xs : List X) (x : X) → Contains xs x → In x xs
+in_from [] x c = absurd (omega (arith, c.1))
+in_from (y ∷ ys) x (zero, h, e) = inl (sym e)
+in_from (y ∷ ys) x (suc i, h, e) = inr (in_from ys x (i, omega (arith, h), e))
 
--- no node is one of these twice
-abbrev pub AreApart : List NodeId → Type 0
-AreApart [] = Unit {0}
-AreApart (n ∷ ns) = ((m : NodeId) → In m ns → m.0 ≡ n.0 → ⊥) × AreApart ns
+-- ---- nodes
 
 -- no walk ends at a node
 abbrev pub IsBare : GraphParts → Sketch → NodeId → Type 0
@@ -34,7 +35,7 @@ pub liftable_each : (graph : GraphParts) (k : Sketch) → IsLegalSketch graph k 
 liftable_each graph k h [] stands bare apart = tt
 liftable_each graph k h (n ∷ ns) stands bare apart = (
   record { legal = h; stands = stands n (inl refl); bare = bare n (inl refl) },
-  liftable_each graph (lifted k n) (lifted_legal graph k h n (bare n (inl refl))) ns (λ m i. get_or-set_other k.stand n.0 m.0 false false (apart.0 m i) ∙ stands m (inr i))
+  liftable_each graph (lifted k n) (lifted_legal graph k h n (bare n (inl refl))) ns (λ m i. get_or-set_other k.stand n.0 m.0 false false (apart.0 m (contains_in ns m i)) ∙ stands m (inr i))
       (λ m i t v e is_end. bare m (inr i) t v e is_end) apart.1,
 )
 
@@ -44,8 +45,9 @@ inner_apart graph fit n [] steps once = tt
 inner_apart graph fit n (t ∷ []) steps once = tt
 inner_apart graph fit n (t ∷ u ∷ us) steps once = (other, inner_apart graph fit t.to (u ∷ us) steps.3 once.1)
   where
-    other : (m : NodeId) → In m (inner_nodes (u ∷ us)) → m.0 ≡ t.to.0 → ⊥
-    other m i same =
+    other : (m : NodeId) → Contains (inner_nodes (u ∷ us)) m → m.0 ≡ t.to.0 → ⊥
+    other m there same =
+        let i = in_from (inner_nodes (u ∷ us)) m there in
         inner_off graph fit (u ∷ us) m (inner_of graph fit t.to (u ∷ us) steps.3 m i) t.seg steps.0 (once_first t (u ∷ us) once) (subst (IsEndOf graph t.seg) (sym same) (leads_to graph n t steps.1))
 
 -- ---- walks

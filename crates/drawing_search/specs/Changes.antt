@@ -1,5 +1,5 @@
 -- Nodes and walks that are put on the board of a drawing in the making, and taken off it.
-use Rattle.std.specs.Prelude.{◌≡◌, ◌<◌, ◌==◌, ◌&&◌, not, Bool, true, false, ℕ, List, [], ◌∷◌, length, map, fold, replicate, if◌then◌else◌, Option, Some, None, All}
+use Rattle.std.specs.Prelude.{◌≡◌, ◌<◌, ◌==◌, ◌&&◌, not, Bool, true, false, ℕ, List, [], ◌∷◌, length, map, fold, replicate, if◌then◌else◌, Option, Some, None, All, Contains}
 use Rattle.std.specs.List.{list_all}
 use Rattle.map_base.specs.declared.ids.NodeId.{NodeId}
 use Rattle.map_base.specs.declared.ids.SegId.{SegId}
@@ -56,6 +56,11 @@ pub record IsLiftable (graph : GraphParts) (k : Sketch) (n : NodeId) : Type 0 wh
   pub legal : IsLegalSketch graph k
   pub stands : is_standing k n.0 ≡ true
   pub bare : (t : SegId) → (v : PlainWalk) → walk_in k t ≡ Some v → IsEndOf graph t n.0 → ⊥
+
+-- no node is one of these twice
+abbrev pub AreApart : List NodeId → Type 0
+AreApart [] = Unit {0}
+AreApart (n ∷ ns) = ((m : NodeId) → Contains ns m → m.0 ≡ n.0 → ⊥) × AreApart ns
 
 abbrev pub AreLiftable : GraphParts → Sketch → List NodeId → Type 0
 AreLiftable graph k [] = Unit {0}

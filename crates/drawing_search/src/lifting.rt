@@ -5,7 +5,7 @@ ghost use Rattle.drawing_weights.specs.Scales.{scale_of};
 ghost use Rattle.run_laying.specs.Attempts.{inner_nodes};
 ghost use Rattle.run_laying.specs.Runs.{IsFitting};
 ghost use Rattle.run_laying.specs.Sketches.{lifted as lifted_off};
-ghost use Rattle.drawing_search.specs.Changes.{walked_by, without_run, AreLiftable, CanWalkEach, IsTakable};
+ghost use Rattle.drawing_search.specs.Changes.{walked_by, without_run, AreApart, AreLiftable, CanWalkEach, IsTakable};
 ghost use Rattle.drawing_search.specs.Gains.{IsField};
 ghost use Rattle.drawing_search.specs.Lifting.{points_along, put_back, walks_along, CanPutBack, IsLifted};
 ghost use Rattle.drawing_search.specs.Searched.{attempts_in};
@@ -42,6 +42,7 @@ pub(crate) fn lift(
     requires field { IsField field }
     requires settled { IsSettled (scale_of field.by) field.graph.now field.first.now sketch.old weight }
     requires fitting { All (IsFitting field.graph.now) (attempts_in group.now) }
+    requires apart { AreApart group.now.nodes }
     ensures { IfOk result (IsLifted (scale_of field.entry.by) field.entry.graph.now field.entry.first.now group.now sketch.old sketch.new) }
 {
     let mut lifted = Lifted {

@@ -12,6 +12,7 @@ ghost use Rattle.drawing_weights.specs.Scales.{scale_of};
 ghost use Rattle.run_laying.specs.Runs.{IsFitting};
 ghost use Rattle.run_laying.specs.Sketches.{IsLegalSketch};
 ghost use Rattle.drawing_search.specs.declared.group.Group.{Group};
+ghost use Rattle.drawing_search.specs.Changes.{AreApart};
 ghost use Rattle.drawing_search.specs.Gains.{sketch_weight, IsField};
 ghost use Rattle.drawing_search.specs.Searched.{attempts_of, IsSearched};
 ghost use Rattle.drawing_search.specs.Shown.{whole_sketch};
@@ -60,6 +61,7 @@ pub fn search(
     requires overs { by.overs ≤ 100 }
     requires aparts { by.aparts ≤ 100 }
     requires fitting { All (IsFitting graph.now) (attempts_of groups.now) }
+    requires apart { All (λ (g : Group). AreApart g.nodes) groups.now }
     requires lengths { All (λ (g : Group). g.lengths ≤ 4) groups.now }
     requires some { 0 < at_once }
     ensures { IfOk result (IsSearched graph.now (scale_of by.entry) margin (attempts_of groups.now) at_once most drawing.walks) }

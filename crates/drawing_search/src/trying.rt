@@ -13,7 +13,7 @@ ghost use Rattle.drawing_weights.specs.Scales.{apart_weight_by, scale_of};
 ghost use Rattle.run_laying.specs.Runs.{IsFitting};
 ghost use Rattle.run_laying.specs.Sketches.{lifted, point_of_node};
 ghost use Rattle.drawing_search.specs.Bounds.{gains_at_least, no_least, no_run, IsBoundOf, IsSmallLeast};
-ghost use Rattle.drawing_search.specs.Changes.{all_moved, has_room, moved_by, point_after, stood_at, without_run, AreLayable, AreLiftable, AreTakable, CanStandEach};
+ghost use Rattle.drawing_search.specs.Changes.{all_moved, has_room, moved_by, point_after, stood_at, without_run, AreApart, AreLayable, AreLiftable, AreTakable, CanStandEach};
 ghost use Rattle.drawing_search.specs.Gains.{first_point, sketch_weight, IsField};
 ghost use Rattle.drawing_search.specs.Lifting.{IsAttempted, IsOff};
 ghost use Rattle.drawing_search.specs.Searched.{attempts_in};
@@ -49,6 +49,7 @@ impl Search {
         requires field { IsField field }
         requires settled { IsSettled (scale_of field.by) field.graph.now field.first.now self.old.sketch self.old.weight }
         requires fitting { All (IsFitting field.graph.now) (attempts_in group.now) }
+        requires apart { AreApart group.now.nodes }
         requires lengths { group.now.lengths ≤ 4 }
         requires most { self.old.made ≤ most }
         ensures settled { OnOk result (IsSettled (scale_of field.entry.by) field.entry.graph.now field.entry.first.now self.new.sketch self.new.weight) }

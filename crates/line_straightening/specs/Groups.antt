@@ -8,6 +8,7 @@ use Rattle.line_chains.specs.Chains.{end_of}
 use Rattle.run_laying.specs.Attempts.{Attempt}
 use Rattle.run_laying.specs.Runs.{IsFitting, IsRun}
 use Rattle.drawing_search.specs.declared.group.Group.{Group}
+use Rattle.drawing_search.specs.Changes.{AreApart}
 use Rattle.drawing_search.specs.Searched.{attempts_of}
 
 -- the run at a place of a list
@@ -41,4 +42,5 @@ AreRunsOf graph runs = All (λ (c : Chain). IsRun graph c × (c.from.0 < length 
 pub record AreGroupsFor (graph : GraphParts) (attempts : List Attempt) (groups : List Group) : Type 0 where
   pub attempts_are : attempts_of groups ≡ attempts
   pub fitting : All (IsFitting graph) attempts
+  pub apart : All (λ (g : Group). AreApart g.nodes) groups
   pub lengths : All (λ (g : Group). g.lengths ≤ 4) groups
