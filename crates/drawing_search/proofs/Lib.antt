@@ -16,3 +16,4 @@ mod TurnSums
 mod Bounded
 mod OnWalks
 mod PricedRuns
+mod PutBack
