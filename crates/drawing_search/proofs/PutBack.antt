@@ -169,13 +169,13 @@ all_back whole j moved inner walks l =
     ∙ ap (λ (fs : List Bool). (let k : Sketch = record { bounds = whole.bounds; points = whole.points; stand = fs; walks = all.walks } in k)) (walked_stand both walks ∙ same_list false both.stand whole.stand stand_each flags)
     ∙ ap (λ (os : List (Option PlainWalk)). (let k : Sketch = record { bounds = whole.bounds; points = whole.points; stand = whole.stand; walks = os } in k)) (same_list None all.walks whole.walks walks_each segments)
   where
-    abbrev first : Sketch
+    first : Sketch
     first = fold stood_at j moved
 
-    abbrev both : Sketch
+    both : Sketch
     both = fold stood_at first inner
 
-    abbrev all : Sketch
+    all : Sketch
     all = fold walked_by both walks
 
     points_each : length both.points ≡ length whole.points
