@@ -14,10 +14,13 @@ use Rattle.line_chains.specs.declared.chain.ChainStep.{ChainStep}
 use Rattle.line_chains.specs.Chains.{end_after, end_of, ends_of, last_seg, round_of}
 use Rattle.octi_grid.specs.declared.dir.Dir.{Dir}
 use Rattle.octi_grid.specs.declared.point.GridPoint.{GridPoint}
+use Rattle.octi_grid.specs.Costs.{turn_between}
+use Rattle.octi_grid.specs.Ways.{reverse_of}
 use Rattle.octi_grid.specs.Walks.{end_point, PlainWalk}
 use Rattle.octi_grid.proofs.Members.{false_from, In}
 use Rattle.segment_router.specs.Routes.{port_at_node, port_by}
 use Rattle.segment_router.proofs.MaskLemmas.{ends_round}
+use Rattle.segment_router.proofs.Places.{same_seg}
 use Rattle.segment_router.proofs.SettledLemmas.{nowhere}
 use Rattle.drawing_weights.specs.Scales.{apart_weight_by, turn_over, Scale}
 use Rattle.run_laying.specs.Attempts.{inner_nodes}
@@ -26,12 +29,14 @@ use Rattle.run_laying.specs.Runs.{AreOnce, AreSteps, IsRun, LeadsTo, MeetAlone}
 use Rattle.run_laying.specs.Sketches.{is_standing, point_of_node, walk_in, IsEndOf, IsLegalSketch}
 use Rattle.run_laying.proofs.Attempted.{IsClearFor}
 use Rattle.run_laying.proofs.LaidRuns.{keeps_lifted, keeps_standing, same_walk, to_stands}
+use Rattle.run_laying.proofs.Reversed.{twice}
 use Rattle.run_laying.proofs.Shown.{stands_below}
 use Rattle.run_laying.proofs.RunFacts.{contains_in, end_below, inner_of, leads_to, once_first, only_two, step_of, IsInner, IsOff}
 use Rattle.drawing_search.specs.Changes.{AreApart}
-use Rattle.drawing_search.specs.Gains.{apart_in, first_point, has_segment, node_weight_in, pairs_at, run_gain, segment_weight, sketch_weight, step_gain, steps_gain, turn_if, turn_in, turns_from, turns_in, walk_weight_if}
+use Rattle.drawing_search.specs.Gains.{apart_in, first_point, has_segment, node_weight_in, pairs_at, run_gain, segment_weight, sketch_weight, step_gain, steps_gain, turn_by, turn_if, turn_in, turns_by, turns_from, turns_in, walk_weight_if}
 use Rattle.drawing_search.proofs.FieldFacts.{pair_below, pair_joined}
 use Rattle.drawing_search.proofs.Growing.{grown, is_one_of, same_sum, sum_both, sum_grows, sum_map, AreDifferent}
+use Rattle.drawing_search.proofs.TurnSums.{turn_same_back, turn_turned}
 use Rattle.drawing_search.proofs.Takable.{inner_apart, on_or_off}
 
 -- ---- which segments of a run end where
@@ -112,6 +117,11 @@ same_point graph n (t ∷ ts) (v ∷ vs) k m off =
 turn_none : (p : Option Dir) → turn_over p None ≡ 0
 turn_none None = refl
 turn_none (Some d) = refl
+
+-- a line turns as much either way
+over_turned : (o : Option Dir) (d : Dir) → turn_over o (Some d) ≡ turn_over (Some d) o
+over_turned None d = refl
+over_turned (Some e) d = turn_turned (reverse_of e) d ∙ sym (turn_same_back d (reverse_of e)) ∙ ap (turn_between (reverse_of d)) (twice e)
 
 -- what is in lists of numbers
 one_of : (xs : List ℕ) (x : ℕ) → is_one_of xs x ≡ true → In x xs
@@ -228,6 +238,39 @@ module _ (graph : GraphParts) (fit : IsConsistent graph) (k : Sketch) (h : IsLeg
 
     more_turns : turns_in graph new n ≡ turns_in graph k n + turns_from graph new n s
     more_turns = same_sum (turn_in graph new n) (λ (pair : SegId × SegId). turn_in graph k n pair + turn_if graph new n s pair) (pairs_at graph n) one_turn ∙ sum_both (turn_in graph k n) (turn_if graph new n s) (pairs_at graph n)
+
+    -- by the port that the segment has there
+    turn_by_port : (d : Dir) → port_at_node graph (board_under new) n s ≡ Some d → (pair : SegId × SegId) → In pair (pairs_at graph n) → turn_if graph new n s pair ≡ turn_by graph k n s d pair
+    turn_by_port d port pair i = by_first (cases_Bool (eqb pair.0.0 s.0)) (cases_Bool (eqb pair.1.0 s.0))
+      where
+        joined = pair_joined graph fit n node pair i
+
+        other_port : (t : SegId) → In t (get_or graph.rounds n []) → (t.0 ≡ s.0 → ⊥) → port_at_node graph (board_under new) n t ≡ port_at_node graph (board_under k) n t
+        other_port t m differ = ap (port_by (ends_of graph t) n) (same_walk graph c.from c.steps pieces k t (is_off pair t m differ))
+
+        this_port : (t : SegId) → t.0 ≡ s.0 → port_at_node graph (board_under new) n t ≡ Some d
+        this_port t e = ap (port_at_node graph (board_under new) n) (same_seg t s e) ∙ port
+
+        by_first : (eqb pair.0.0 s.0 ≡ true) ⊎ (eqb pair.0.0 s.0 ≡ false) → (eqb pair.1.0 s.0 ≡ true) ⊎ (eqb pair.1.0 s.0 ≡ false) → turn_if graph new n s pair ≡ turn_by graph k n s d pair
+        by_first (inl e) o =
+            let one : pair.0.0 ≡ s.0 = eqb-true pair.0.0 s.0 e in
+            let differ : pair.1.0 ≡ s.0 → ⊥ = λ same. absurd (omega (arith, joined.order, one, same)) in
+            ap (λ b. cond (b || eqb pair.1.0 s.0) (turn_in graph new n pair) 0) e
+            ∙ ap₂ (λ (p q : Option Dir). turn_over p q) (this_port pair.0 one) (other_port pair.1 joined.greater differ)
+            ∙ sym (ap (λ b. cond b (turn_over (Some d) (port_at_node graph (board_under k) n pair.1)) (cond (eqb pair.1.0 s.0) (turn_over (Some d) (port_at_node graph (board_under k) n pair.0)) 0)) e)
+        by_first (inr f) (inl e) =
+            let one : pair.1.0 ≡ s.0 = eqb-true pair.1.0 s.0 e in
+            let differ : pair.0.0 ≡ s.0 → ⊥ = λ same. absurd (omega (arith, joined.order, one, same)) in
+            ap (λ b. cond b (turn_in graph new n pair) 0) (or_right (eqb pair.0.0 s.0) (eqb pair.1.0 s.0) e)
+            ∙ ap₂ (λ (p q : Option Dir). turn_over p q) (other_port pair.0 joined.lesser differ) (this_port pair.1 one)
+            ∙ over_turned (port_at_node graph (board_under k) n pair.0) d
+            ∙ sym (ap₂ (λ a b. cond a (turn_over (Some d) (port_at_node graph (board_under k) n pair.1)) (cond b (turn_over (Some d) (port_at_node graph (board_under k) n pair.0)) 0)) f e)
+        by_first (inr f) (inr g) =
+            ap₂ (λ a b. cond (a || b) (turn_in graph new n pair) 0) f g
+            ∙ sym (ap₂ (λ a b. cond a (turn_over (Some d) (port_at_node graph (board_under k) n pair.1)) (cond b (turn_over (Some d) (port_at_node graph (board_under k) n pair.0)) 0)) f g)
+
+    pub turns_by_port : (d : Dir) → port_at_node graph (board_under new) n s ≡ Some d → turns_from graph new n s ≡ turns_by graph k n s d
+    turns_by_port d port = same_sum (turn_if graph new n s) (turn_by graph k n s d) (pairs_at graph n) (λ pair i. turn_by_port d port pair i)
 
   -- ---- nodes
 

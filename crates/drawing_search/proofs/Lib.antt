@@ -17,3 +17,4 @@ mod Bounded
 mod OnWalks
 mod PricedRuns
 mod PutBack
+mod StraightWays

@@ -29,7 +29,7 @@ no_turn a b h k e = omega arith
 one_way : (d e : Dir) → turn_between d e ≡ 0 → d ≡ e
 one_way d e h = same_direction d e (no_turn (number_of d) (number_of e) (number_small d) (number_small e) h)
 
-all_one_way : (d : Dir) (ds : List Dir) → turns_of (d ∷ ds) ≡ 0 → d ∷ ds ≡ replicate (suc (length ds)) d
+pub all_one_way : (d : Dir) (ds : List Dir) → turns_of (d ∷ ds) ≡ 0 → d ∷ ds ≡ replicate (suc (length ds)) d
 all_one_way d [] h = refl
 all_one_way d (e ∷ ds) h =
     let same : d ≡ e = one_way d e (omega (arith, h)) in
