@@ -269,7 +269,7 @@ module _ (graph : GraphParts) (fit : IsConsistent graph) (k : Sketch) (h : IsLeg
             ap₂ (λ a b. cond (a || b) (turn_in graph new n pair) 0) f g
             ∙ sym (ap₂ (λ a b. cond a (turn_over (Some d) (port_at_node graph (board_under k) n pair.1)) (cond b (turn_over (Some d) (port_at_node graph (board_under k) n pair.0)) 0)) f g)
 
-    pub turns_by_port : (d : Dir) → port_at_node graph (board_under new) n s ≡ Some d → turns_from graph new n s ≡ turns_by graph k n s d
+    turns_by_port : (d : Dir) → port_at_node graph (board_under new) n s ≡ Some d → turns_from graph new n s ≡ turns_by graph k n s d
     turns_by_port d port = same_sum (turn_if graph new n s) (turn_by graph k n s d) (pairs_at graph n) (λ pair i. turn_by_port d port pair i)
 
   -- ---- nodes
@@ -418,6 +418,18 @@ module _ (graph : GraphParts) (fit : IsConsistent graph) (k : Sketch) (h : IsLeg
   end_more =
       at_end end (stands_below graph k h end clear.end) clear.end (keeps_standing graph c.from c.steps pieces k end clear.end) there (last_seg_of c) (last_on (first_seg_of c.steps) c.steps run.some)
       (λ q i e. last_at graph c.from c.steps (first_seg_of c.steps) run.steps run.apart end_off q i e)
+
+  -- by the ports of its first and its last segment there
+  pub from_turns : (d : Dir) → port_at_node graph (board_under (with_pieces graph c.from c.steps pieces k)) c.from.0 (first_seg_of c.steps) ≡ Some d
+      → turns_from graph (with_pieces graph c.from c.steps pieces k) c.from.0 (first_seg_of c.steps) ≡ turns_by graph k c.from.0 (first_seg_of c.steps) d
+  from_turns d port =
+      turns_by_port from (stands_below graph k h from clear.from) (first_seg_of c.steps) (first_on c.steps run.some) (λ q i e. first_at graph c.from c.steps run.steps run.apart from_off q i e) d port
+
+  pub end_turns : (d : Dir) → port_at_node graph (board_under (with_pieces graph c.from c.steps pieces k)) (end_of c).0 (last_seg_of c) ≡ Some d
+      → turns_from graph (with_pieces graph c.from c.steps pieces k) (end_of c).0 (last_seg_of c) ≡ turns_by graph k (end_of c).0 (last_seg_of c) d
+  end_turns d port =
+      turns_by_port end (stands_below graph k h end clear.end) (last_seg_of c) (last_on (first_seg_of c.steps) c.steps run.some)
+      (λ q i e. last_at graph c.from c.steps (first_seg_of c.steps) run.steps run.apart end_off q i e) d port
 
   inner_none : (m : NodeId) → In m inner → node_weight_in scale graph first k m.0 ≡ 0
   inner_none m i =

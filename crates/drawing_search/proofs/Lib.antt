@@ -18,3 +18,4 @@ mod OnWalks
 mod PricedRuns
 mod PutBack
 mod StraightWays
+mod RunBounds

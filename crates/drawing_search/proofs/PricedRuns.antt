@@ -72,6 +72,10 @@ weight_low scale graph s n v = by_test (eqb (ends_of graph s).0.0 n.0)
 priced : (scale : Scale) (p : ℕ) → p ≤ 1 + scale.turns → (w : PlainWalk) → steps_cost w.steps + p * turns_of w.steps ≤ walk_weight_by scale w
 priced scale p low w = omega (arith, cost_parts w.steps, mul-le-mul_right (turns_of w.steps) low)
 
+-- a price that no turn in pieces goes below, and none at a node between steps but at free ones
+abbrev pub IsPrice : Scale → GraphParts → ℕ → List ChainStep → Type 0
+IsPrice scale graph p ts = (p ≤ 1 + scale.turns) × ((m : NodeId) → In m (inner_nodes ts) → is_free_node scale graph m ≡ false → p ≤ scale.overs)
+
 -- ---- turns at nodes between steps
 
 of_two : (graph : GraphParts) (a : SegId) (m : NodeId) (b : SegId) → MeetAlone graph a m b → (s : SegId) → In s (get_or graph.rounds m.0 []) → (s ≡ a) ⊎ (s ≡ b)
@@ -88,16 +92,16 @@ of_two graph a m b (inr e) s i = which (subst (λ (v : List SegId). In s v) e i)
     which (inr (inl f)) = inl f
     which (inr (inr n)) = absurd n
 
-false_first : (a b : Bool) → (a || b) ≡ false → a ≡ false
+pub false_first : (a b : Bool) → (a || b) ≡ false → a ≡ false
 false_first true b e = cc
 false_first false b e = refl
 
-first_leads : (graph : GraphParts) (n : NodeId) (u : ChainStep) (us : List ChainStep) → AreSteps graph n (u ∷ us) → (u.seg.0 < length graph.ends) × LeadsTo graph n u
+pub first_leads : (graph : GraphParts) (n : NodeId) (u : ChainStep) (us : List ChainStep) → AreSteps graph n (u ∷ us) → (u.seg.0 < length graph.ends) × LeadsTo graph n u
 first_leads graph n u [] steps = (steps.0, steps.1)
 first_leads graph n u (w ∷ ws) steps = (steps.0, steps.1)
 
 -- the ends of a segment are different nodes
-leads_apart : (graph : GraphParts) → IsConsistent graph → (n : NodeId) (t : ChainStep) → t.seg.0 < length graph.ends → LeadsTo graph n t → n.0 ≡ t.to.0 → ⊥
+pub leads_apart : (graph : GraphParts) → IsConsistent graph → (n : NodeId) (t : ChainStep) → t.seg.0 < length graph.ends → LeadsTo graph n t → n.0 ≡ t.to.0 → ⊥
 leads_apart graph fit n t below leads same = by_way leads
   where
     are : AreEnds (length graph.kinds) (ends_of graph t.seg)
@@ -168,10 +172,6 @@ module _ (graph : GraphParts) (fit : IsConsistent graph) (k : Sketch) (scale : S
 
   -- ---- all steps
 
-  -- a price that no turn at a node goes below, but at free ones
-  abbrev pub IsPrice : ℕ → List ChainStep → Type 0
-  IsPrice p ts = (p ≤ 1 + scale.turns) × ((m : NodeId) → In m (inner_nodes ts) → is_free_node scale graph m ≡ false → p ≤ scale.overs)
-
   cut_small : (v x : PlainWalk) → turn_over_cut (last_of v.steps) (slice_get x.steps 0) ≤ 4
   cut_small v x = small (last_of v.steps) (slice_get x.steps 0)
     where
@@ -180,7 +180,7 @@ module _ (graph : GraphParts) (fit : IsConsistent graph) (k : Sketch) (scale : S
       small (Some d) None = omega arith
       small (Some d) (Some e) = turn_small d e
 
-  pub priced_run : (first : List GridPoint) (p : ℕ) (n : NodeId) (ts : List ChainStep) (vs : List PlainWalk) (w : PlainWalk) → AreSteps graph n ts → length vs ≡ length ts → IsCut w vs → HavePieces graph n ts vs k → IsPrice p ts
+  pub priced_run : (first : List GridPoint) (p : ℕ) (n : NodeId) (ts : List ChainStep) (vs : List PlainWalk) (w : PlainWalk) → AreSteps graph n ts → length vs ≡ length ts → IsCut w vs → HavePieces graph n ts vs k → IsPrice scale graph p ts
       → steps_cost w.steps + p * turns_of w.steps ≤ steps_gain scale graph first k ts + 4 * p * free_nodes scale graph ts
   priced_run first p n [] [] w steps each cut have price = absurd cut
   priced_run first p n [] (v ∷ vs) w steps each cut have price = absurd (omega (arith, each))

@@ -1,5 +1,5 @@
 -- A way without turns leads straight on: by the number of its direction.
-use Rattle.std.proofs.Common.{◌≡◌, refl, sym, ◌∙◌, ap, ap₂, ℕ, zero, suc, ◌+◌, ◌<◌, ◌≤◌, Bool, true, false, cond, eqb, ◌&&◌, max, List, [], ◌∷◌, length, replicate, ℤ, pos, ◌+ℤ◌, ◌-ℤ◌, unsigned_abs, Option, Some, None, ◌⊎◌, inl, inr, arith}
+use Rattle.std.proofs.Common.{◌≡◌, refl, sym, ◌∙◌, ap, ap₂, subst, ℕ, zero, suc, ◌+◌, ◌<◌, ◌≤◌, Bool, true, false, cond, eqb, ◌&&◌, max, List, [], ◌∷◌, length, replicate, ℤ, pos, ◌+ℤ◌, ◌-ℤ◌, unsigned_abs, slice_get, Option, Some, None, ◌⊎◌, inl, inr, arith}
 use Rattle.std.specs.Prelude.{int_lt}
 use Rattle.std.proofs.lemmas.Int.{ints}
 use Rattle.std.proofs.lemmas.Bool.{cases_Bool, eq-eqb, eqb-true, ne_eqb}
@@ -97,3 +97,22 @@ turns_no_less p d ds e last = by_turns (turns_of (d ∷ ds)) refl
         either : (b : Bool) → cond b (turn_between d e) (max 1 (turn_between d e)) ≤ turns_of (d ∷ ds)
         either true = enough
         either false = omega (arith, enough, some_made)
+
+pub walk_turns : (p : GridPoint) (ds : List Dir) (d e : Dir) → slice_get ds 0 ≡ Some d → last_of ds ≡ Some e → turns_at_least d e (straight_way p (after p ds)) ≤ turns_of ds
+walk_turns p [] d e first last = cc
+walk_turns p (f ∷ ds) d e first last = let same : f ≡ d = cc in subst (λ (g : Dir). turns_at_least g e (straight_way p (after p (f ∷ ds))) ≤ turns_of (f ∷ ds)) same (turns_no_less p f ds e last)
+
+way_few : (a b c east north : Bool) → cond a (cond north 0 4) (cond b (cond east 2 6) (cond c (diagonal east north) 8)) ≤ 8
+way_few true b c east true = omega arith
+way_few true b c east false = omega arith
+way_few false true c true north = omega arith
+way_few false true c false north = omega arith
+way_few false false true true true = omega arith
+way_few false false true true false = omega arith
+way_few false false true false true = omega arith
+way_few false false true false false = omega arith
+way_few false false false east north = omega arith
+
+pub way_small : (a b : GridPoint) → straight_way a b ≤ 8
+way_small a b =
+    way_few (eqb (unsigned_abs (b.x -ℤ a.x)) 0) (eqb (unsigned_abs (b.y -ℤ a.y)) 0) (eqb (unsigned_abs (b.x -ℤ a.x)) (unsigned_abs (b.y -ℤ a.y))) (int_lt a.x b.x) (int_lt a.y b.y)

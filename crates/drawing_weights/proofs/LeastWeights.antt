@@ -17,7 +17,7 @@ use Rattle.walk_search.proofs.LeastReach.{reach_none, reach_step}
 use Rattle.drawing_weights.specs.Weights.{is_straight, least_weight, turns_of, walk_weight}
 
 -- a walk costs what it costs at least to come over, and its turns
-reach_turns : (a b : GridPoint) (ds : List Dir) → reach_of a (after b ds) + turns_of ds ≤ reach_of a b + way_cost ds
+pub reach_turns : (a b : GridPoint) (ds : List Dir) → reach_of a (after b ds) + turns_of ds ≤ reach_of a b + way_cost ds
 reach_turns a b [] = omega arith
 reach_turns a b (d ∷ []) = omega (arith, reach_step a b d)
 reach_turns a b (d ∷ e ∷ ds) = omega (arith, reach_step a b d, reach_turns a (step_from b d) (e ∷ ds))
