@@ -19,3 +19,4 @@ mod PricedRuns
 mod PutBack
 mod StraightWays
 mod RunBounds
+mod Spaced
