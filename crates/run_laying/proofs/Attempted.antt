@@ -19,7 +19,7 @@ use Rattle.run_laying.specs.Runs.{AreBeside, IsRun}
 use Rattle.run_laying.specs.Sketches.{is_standing, walk_in, IsEndOf, IsLegalSketch}
 use Rattle.run_laying.proofs.EvenCuts.{length-pieces, pieces_cut}
 use Rattle.run_laying.proofs.FreeRoutes.{free_of_route}
-use Rattle.run_laying.proofs.LaidRuns.{has_walk, keeps_lifted, keeps_standing, run_legal, same_bounds, same_walk, to_stands, IsLaying}
+use Rattle.run_laying.proofs.LaidRuns.{has_walk, keeps_lifted, keeps_standing, run_legal, same_bounds, same_walk, to_stands, IsCut, IsLaying}
 use Rattle.run_laying.proofs.Piecewise.{IsFreeWalk}
 use Rattle.run_laying.proofs.RunFacts.{contains_in, end_below, inner_of, inner_off, leads_to, step_of, IsOff, IsOnRun}
 
@@ -30,9 +30,13 @@ pub record IsClearFor (k : Sketch) (c : Chain) : Type 0 where
   pub inner : (m : NodeId) → In m (inner_nodes c.steps) → is_standing k m.0 ≡ false
   pub walks : (q : ChainStep) → In q c.steps → walk_in k q.seg ≡ None
 
--- one run was laid
+-- one run was laid along a walk
 pub record IsLaidOn (graph : GraphParts) (c : Chain) (k new : Sketch) : Type 0 where
+  pub walk : PlainWalk
+  pub route : run_walk graph (board_under k) c ≡ Some walk
+  pub free : IsFreeWalk graph k c.from.0 (end_of c).0 (first_seg_of c.steps) (last_seg_of c) walk
   pub pieces : List PlainWalk
+  pub cut : IsCut walk pieces
   pub each : length pieces ≡ length c.steps
   pub is : with_pieces graph c.from c.steps pieces k ≡ new
   pub legal : IsLegalSketch graph new
@@ -67,7 +71,11 @@ laid_on graph fit c k new h run clear e = by_walk (run_walk graph (board_under k
         by_test true test there =
             let new_is : with_pieces graph c.from c.steps (pieces_of w (length c.steps)) k ≡ new = cc in
             record {
+              walk = w;
+              route = is;
+              free = free;
               pieces = pieces_of w (length c.steps);
+              cut = (laying_of graph k c w h run clear free (leb-true (length c.steps) (even_steps (points_of w)) test)).cut;
               each = length-pieces w (length c.steps);
               is = new_is;
               legal =
@@ -82,7 +90,7 @@ beside_off c cs beside d m q p on_c on_d same =
     (sym (any_from (λ (x : Chain). list_any (λ (t : ChainStep). eqb t.seg.0 q.seg.0) x.steps) cs d m (any_from (λ (t : ChainStep). eqb t.seg.0 q.seg.0) d.steps p on_d (eq-eqb p.seg.0 q.seg.0 same)))
     ∙ beside.0 q (contains_in c.steps q on_c))
 
-still_clear : (graph : GraphParts) → IsConsistent graph → (c d : Chain) (vs : List PlainWalk) (k : Sketch) → IsRun graph c → IsRun graph d → ((q p : ChainStep) → In q c.steps → In p d.steps → p.seg.0 ≡ q.seg.0 → ⊥) → IsClearFor k d
+pub still_clear : (graph : GraphParts) → IsConsistent graph → (c d : Chain) (vs : List PlainWalk) (k : Sketch) → IsRun graph c → IsRun graph d → ((q p : ChainStep) → In q c.steps → In p d.steps → p.seg.0 ≡ q.seg.0 → ⊥) → IsClearFor k d
     → IsClearFor (with_pieces graph c.from c.steps vs k) d
 still_clear graph fit c d vs k run other off clear = record {
   from = keeps_standing graph c.from c.steps vs k d.from.0 clear.from;
