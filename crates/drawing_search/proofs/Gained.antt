@@ -48,7 +48,7 @@ which_end graph n t (inr e) m (inl a) = inr (sym a ∙ ap (λ (p : NodeId × Nod
 which_end graph n t (inr e) m (inr b) = inl (sym b ∙ ap (λ (p : NodeId × NodeId). p.1.0) e)
 
 -- node m lies between the steps
-abbrev IsBetweenSteps : List ChainStep → ℕ → Type 0
+abbrev pub IsBetweenSteps : List ChainStep → ℕ → Type 0
 IsBetweenSteps ts m = (p : NodeId) × In p (inner_nodes ts) × (p.0 ≡ m)
 
 touches : (graph : GraphParts) (n : NodeId) (ts : List ChainStep) → AreSteps graph n ts → (q : ChainStep) → In q ts → (m : ℕ) → IsEndOf graph q.seg m → (m ≡ n.0) ⊎ ((m ≡ (end_after n ts).0) ⊎ IsBetweenSteps ts m)
@@ -96,7 +96,7 @@ last_at graph n (t ∷ u ∷ us) s steps apart off q (inl same) e = absurd (by_e
 last_at graph n (t ∷ u ∷ us) s steps apart off q (inr i) e = last_at graph t.to (u ∷ us) t.seg steps.3 (λ b. off (t.to, inl refl, b)) (λ k. off (k.0, inr k.1, k.2)) q i e
 
 -- where a step leads to
-leads_where : (n : NodeId) (ts : List ChainStep) → (q : ChainStep) → In q ts → (q.to.0 ≡ (end_after n ts).0) ⊎ IsBetweenSteps ts q.to.0
+pub leads_where : (n : NodeId) (ts : List ChainStep) → (q : ChainStep) → In q ts → (q.to.0 ≡ (end_after n ts).0) ⊎ IsBetweenSteps ts q.to.0
 leads_where n [] q i = absurd i
 leads_where n (t ∷ []) q (inl same) = inl (ap (λ (p : ChainStep). p.to.0) same)
 leads_where n (t ∷ []) q (inr i) = absurd i
@@ -108,7 +108,7 @@ leads_where n (t ∷ u ∷ us) q (inr i) = later (leads_where t.to (u ∷ us) q 
     later (inr (p, k, f)) = inr (p, inr k, f)
 
 -- a node to which no step leads stays where it was
-same_point : (graph : GraphParts) (n : NodeId) (ts : List ChainStep) (vs : List PlainWalk) (k : Sketch) (m : ℕ) → ((q : ChainStep) → In q ts → q.to.0 ≡ m → ⊥) → point_of_node (with_pieces graph n ts vs k) m ≡ point_of_node k m
+pub same_point : (graph : GraphParts) (n : NodeId) (ts : List ChainStep) (vs : List PlainWalk) (k : Sketch) (m : ℕ) → ((q : ChainStep) → In q ts → q.to.0 ≡ m → ⊥) → point_of_node (with_pieces graph n ts vs k) m ≡ point_of_node k m
 same_point graph n [] vs k m off = refl
 same_point graph n (t ∷ ts) [] k m off = refl
 same_point graph n (t ∷ ts) (v ∷ vs) k m off =

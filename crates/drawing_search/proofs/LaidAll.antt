@@ -1,7 +1,7 @@
 -- Runs that are laid one after another add no less than their bounds say, also those that were made beside fewer walks.
-use Rattle.std.proofs.Common.{◌≡◌, refl, sym, ◌∙◌, ap, ap₂, subst, ℕ, zero, suc, ◌+◌, ◌*◌, ◌<◌, ◌≤◌, Bool, true, false, cond, eqb, min, List, [], ◌∷◌, length, filter, fold, map, get_or, Option, Some, None, option_map, ◌⊎◌, inl, inr, arith}
+use Rattle.std.proofs.Common.{◌≡◌, refl, sym, ◌∙◌, ap, ap₂, subst, ℕ, zero, suc, ◌+◌, ◌-◌, ◌*◌, ◌/◌, ◌<◌, ◌≤◌, Bool, true, false, cond, eqb, min, List, [], ◌∷◌, length, filter, fold, map, get_or, Option, Some, None, ◌⊎◌, inl, inr, arith, length-set, get_or-set_same}
 use Rattle.std.proofs.Math.Nat.{mul-le-mul_left}
-use Rattle.std.proofs.lemmas.Bool.{cases_Bool, eq-eqb}
+use Rattle.std.proofs.lemmas.Bool.{cases_eq, eq-eqb, true≢false}
 use Rattle.std.proofs.lemmas.List.Sums.{sum_by-cons}
 use Rattle.std.specs.Int.{bit_at}
 use Rattle.std.specs.List.{flat_map, sum_by}
@@ -12,33 +12,39 @@ use Rattle.graph_core.specs.declared.parts.GraphParts.{GraphParts}
 use Rattle.graph_core.specs.Consistent.{IsConsistent}
 use Rattle.line_chains.specs.declared.chain.Chain.{Chain}
 use Rattle.line_chains.specs.declared.chain.ChainStep.{ChainStep}
-use Rattle.line_chains.specs.Chains.{end_of, ends_of}
+use Rattle.line_chains.specs.Chains.{end_after, end_of, ends_of, last_seg}
 use Rattle.octi_grid.specs.declared.dir.Dir.{Dir}
 use Rattle.octi_grid.specs.declared.point.GridPoint.{GridPoint}
-use Rattle.octi_grid.specs.Ways.{number_of, reverse_of}
-use Rattle.octi_grid.specs.Walks.{end_point, points_of, PlainWalk}
+use Rattle.octi_grid.specs.Ways.{after, number_of}
+use Rattle.octi_grid.specs.Walks.{cost_of, end_point, PlainWalk}
 use Rattle.octi_grid.proofs.Fronts.{IsSameOrNone}
-use Rattle.octi_grid.proofs.Members.{from_flat_map, in_flat_map, In}
+use Rattle.octi_grid.proofs.Members.{from_flat_map, In}
 use Rattle.walk_search.specs.Reaching.{reach_of}
 use Rattle.walk_search.specs.Routes.{allows, directions}
 use Rattle.segment_router.specs.Ports.{is_allowed, stops_from, with_port, with_stop}
 use Rattle.segment_router.specs.Routes.{end_at, port_at_node, port_by}
 use Rattle.segment_router.proofs.ClockLemmas.{bit_told}
-use Rattle.segment_router.proofs.Places.{same_seg}
-use Rattle.segment_router.proofs.RouteLemmas.{route_parts}
+use Rattle.segment_router.proofs.RouteLemmas.{in_filter, route_parts}
+use Rattle.segment_router.proofs.SettledLemmas.{nowhere}
 use Rattle.drawing_weights.specs.Scales.{turn_over, Scale}
-use Rattle.run_laying.specs.Laying.{all_laid, board_of, board_under, first_seg_of, if_laid, laid, last_seg_of, with_pieces, Sketch}
-use Rattle.run_laying.specs.Runs.{AreBeside, IsRun}
-use Rattle.run_laying.specs.Sketches.{point_of_node, walk_in, IsLegalSketch}
+use Rattle.run_laying.specs.Attempts.{inner_nodes}
+use Rattle.run_laying.specs.Laying.{all_laid, board_of, board_under, first_seg_of, if_laid, laid, last_seg_of, with_piece, with_pieces, Sketch}
+use Rattle.run_laying.specs.Runs.{AreBeside, AreSteps, IsRun}
+use Rattle.run_laying.specs.Sketches.{is_standing, point_of_node, walk_in, IsEndOf, IsLegalSketch}
 use Rattle.run_laying.proofs.Attempted.{beside_off, laid_on, still_clear, IsClearFor, IsLaidOn}
-use Rattle.run_laying.proofs.RunFacts.{in_round, leads_to, step_of}
+use Rattle.run_laying.proofs.Cuts.{split_end}
+use Rattle.run_laying.proofs.LaidRuns.{same_walk, IsCut}
+use Rattle.run_laying.proofs.RunFacts.{end_below, in_round, leads_from, leads_to, IsOff}
+use Rattle.run_laying.proofs.Shown.{stands_below}
 use Rattle.drawing_search.specs.declared.least.LeastTurns.{LeastTurns}
 use Rattle.drawing_search.specs.Bounds.{gains_at_least, IsBoundOf}
 use Rattle.drawing_search.specs.Gains.{pairs_at, run_gain, sketch_weight, turn_by, turns_by}
-use Rattle.drawing_search.specs.Least.{allowed_dirs, least_beside, least_by, never, ports_for, straight_way, turn_price, turns_at_least}
-use Rattle.drawing_search.proofs.Gained.{run_gained}
-use Rattle.drawing_search.proofs.RunBounds.{run_no_less, run_within}
+use Rattle.drawing_search.specs.Least.{allowed_dirs, least_beside, least_by, never, ports_for, straight_way}
+use Rattle.drawing_search.proofs.Gained.{leads_where, run_gained, same_point}
+use Rattle.drawing_search.proofs.PricedRuns.{first_leads}
+use Rattle.drawing_search.proofs.RunBounds.{fold_least, least_allowed, run_no_less, run_within}
 use Rattle.drawing_search.proofs.Spaced.{allowed_fewer}
+use Rattle.drawing_search.proofs.Takable.{on_or_off}
 
 -- ---- bounds beside more walks
 
@@ -95,3 +101,170 @@ module _ (graph : GraphParts) (k j : Sketch) (more : HasMore k j) where
   least_more : (low : ℕ) (xs : List ℕ) (a : ℕ) → a ≤ low → ((x : ℕ) → In x xs → a ≤ x) → a ≤ fold min low xs
   least_more low [] a h each = h
   least_more low (x ∷ xs) a h each = least_more (min low x) xs a (omega (arith, h, each x (inl refl))) (λ y i. each y (inr i))
+
+  from_mapped : {X : Type 0} (f : X → ℕ) (xs : List X) (n : ℕ) → In n (map f xs) → (x : X) × In x xs × (n ≡ f x)
+  from_mapped f [] n i = absurd i
+  from_mapped f (x ∷ xs) n (inl e) = (x, inl refl, e)
+  from_mapped f (x ∷ xs) n (inr i) = let rest = from_mapped f xs n i in (rest.0, inr rest.1, rest.2)
+
+  pub bound_still : IsConsistent graph → (scale : Scale) (c : Chain) (way : ℕ) → In (first_seg_of c.steps) (get_or graph.rounds c.from.0 []) → In (last_seg_of c) (get_or graph.rounds (end_of c).0 []) → least_beside scale graph k c way ≤ least_beside scale graph j c way
+  bound_still fit scale c way from_on to_on =
+      least_more never (flat_map (λ d. map (least_by scale graph j c way d) (allowed_dirs graph j (end_of c).0 (last_seg_of c))) (allowed_dirs graph j c.from.0 (first_seg_of c.steps))) (least_beside scale graph k c way)
+      (fold_least never (flat_map (λ d. map (least_by scale graph k c way d) (allowed_dirs graph k (end_of c).0 (last_seg_of c))) (allowed_dirs graph k c.from.0 (first_seg_of c.steps)))) each
+    where
+      of_ports : (d e : Dir) → allows (ports_for graph j c.from.0 (first_seg_of c.steps)) (Some d) ≡ true → allows (ports_for graph j (end_of c).0 (last_seg_of c)) (Some e) ≡ true → least_beside scale graph k c way ≤ least_by scale graph j c way d e
+      of_ports d e leaves arrives =
+          omega (arith, least_allowed scale graph k c way d e (allowed_still c.from.0 (first_seg_of c.steps) d from_on leaves) (allowed_still (end_of c).0 (last_seg_of c) e to_on arrives), mul-le-mul_left scale.overs (more_turns c.from.0 (first_seg_of c.steps) d), mul-le-mul_left scale.overs (more_turns (end_of c).0 (last_seg_of c) e))
+
+      each : (x : ℕ) → In x (flat_map (λ d. map (least_by scale graph j c way d) (allowed_dirs graph j (end_of c).0 (last_seg_of c))) (allowed_dirs graph j c.from.0 (first_seg_of c.steps))) → least_beside scale graph k c way ≤ x
+      each x i =
+          let found = from_flat_map (λ d. map (least_by scale graph j c way d) (allowed_dirs graph j (end_of c).0 (last_seg_of c))) (allowed_dirs graph j c.from.0 (first_seg_of c.steps)) x i in
+          let other = from_mapped (least_by scale graph j c way found.0) (allowed_dirs graph j (end_of c).0 (last_seg_of c)) x found.2 in
+          let leaves = in_filter (λ d. eqb (bit_at (ports_for graph j c.from.0 (first_seg_of c.steps)) (number_of d)) 1) directions found.0 found.1 in
+          let arrives = in_filter (λ d. eqb (bit_at (ports_for graph j (end_of c).0 (last_seg_of c)) (number_of d)) 1) directions other.0 other.1 in
+          subst (λ n. least_beside scale graph k c way ≤ n) (sym other.2) (of_ports found.0 other.0 leaves.0 arrives.0)
+
+-- ---- one run
+
+-- the end of a run stays where it was
+end_there : (graph : GraphParts) (n : NodeId) (ts : List ChainStep) (vs : List PlainWalk) (k : Sketch) (w : PlainWalk) → length vs ≡ length ts → IsCut w vs → (end_after n ts).0 < length k.points → point_of_node (with_pieces graph n ts vs k) (end_after n ts).0 ≡ end_point w
+end_there graph n [] [] k w each cut below = absurd cut
+end_there graph n [] (v ∷ vs) k w each cut below = absurd (omega (arith, each))
+end_there graph n (t ∷ ts) [] k w each cut below = absurd cut
+end_there graph n (t ∷ []) (v ∷ x ∷ xs) k w each cut below = absurd (omega (arith, each))
+end_there graph n (t ∷ u ∷ us) (v ∷ []) k w each cut below = absurd (omega (arith, each))
+end_there graph n (t ∷ []) (v ∷ []) k w each cut below = get_or-set_same k.points t.to.0 (end_point v) nowhere below ∙ ap end_point cut.0
+end_there graph n (t ∷ u ∷ us) (v ∷ x ∷ xs) k w each cut below =
+    end_there graph t.to (u ∷ us) (x ∷ xs) (with_piece graph n t v k) cut.0 (omega (arith, each)) cut.2 (omega (arith, below, length-set k.points t.to.0 (end_point v))) ∙ sym (split_end w v cut.0 cut.1)
+
+-- the first and the last segment of a run end where it does
+first_end : (graph : GraphParts) (n : NodeId) (ts : List ChainStep) → AreSteps graph n ts → 0 < length ts → ((first_seg_of ts).0 < length graph.ends) × IsEndOf graph (first_seg_of ts) n.0
+first_end graph n [] steps some = absurd (omega (arith, some))
+first_end graph n (t ∷ ts) steps some = let on = first_leads graph n t ts steps in (on.0, leads_from graph n t on.1)
+
+last_end : (graph : GraphParts) (s : SegId) (n : NodeId) (ts : List ChainStep) → AreSteps graph n ts → 0 < length ts → ((last_seg s ts).0 < length graph.ends) × IsEndOf graph (last_seg s ts) (end_after n ts).0
+last_end graph s n [] steps some = absurd (omega (arith, some))
+last_end graph s n (t ∷ []) steps some = (steps.0, leads_to graph n t steps.1)
+last_end graph s n (t ∷ u ∷ us) steps some = last_end graph t.seg t.to (u ∷ us) steps.3 (omega arith)
+
+module _ (graph : GraphParts) (fit : IsConsistent graph) (scale : Scale) (first : List GridPoint) where
+  -- what a run that was laid adds
+  pub record IsGained (c : Chain) (k new : Sketch) (l : LeastTurns) (walk : PlainWalk) : Type 0 where
+    pub weight : sketch_weight scale graph first new ≡ sketch_weight scale graph first k + run_gain scale graph first new c
+    pub no_less : reach_of (point_of_node k c.from.0) (point_of_node k (end_of c).0) + slice_index l.by (straight_way (point_of_node k c.from.0) (point_of_node k (end_of c).0)) ≤ run_gain scale graph first new c
+    pub within : (may : ℕ) → run_gain scale graph first new c ≤ may
+        → cost_of walk
+        ≤ cond (eqb l.per_turn 0) (may - slice_index l.by (straight_way (point_of_node k c.from.0) (point_of_node k (end_of c).0)) + l.free_turns)
+        (may - slice_index l.by (straight_way (point_of_node k c.from.0) (point_of_node k (end_of c).0)) + slice_index l.by (straight_way (point_of_node k c.from.0) (point_of_node k (end_of c).0)) / l.per_turn)
+
+  pub gained : (c : Chain) (k new : Sketch) (l : LeastTurns) → IsLegalSketch graph k → IsRun graph c → IsClearFor k c → IsBoundOf scale graph k c l → (on : IsLaidOn graph c k new) → IsGained c k new l on.walk
+  gained c k new l h run clear bound on =
+      subst (λ (j : Sketch). IsGained c k j l on.walk) on.is
+      (record {
+        weight = run_gained graph fit k h c run clear on.pieces on.each there scale first;
+        no_less = run_no_less graph fit k h c run clear on.pieces on.each there scale first on.walk on.cut some on.free.start on.free.end r.leaves r.arrives l bound;
+        within = run_within graph fit k h c run clear on.pieces on.each there scale first on.walk on.cut some on.free.start on.free.end r.leaves r.arrives l bound;
+      })
+    where
+      r = route_parts (board_of k) (end_at graph (board_under k) (first_seg_of c.steps) c.from.0) (end_at graph (board_under k) (last_seg_of c) (end_of c).0) on.walk on.route
+
+      there : point_of_node (with_pieces graph c.from c.steps on.pieces k) (end_of c).0 ≡ point_of_node k (end_of c).0
+      there = end_there graph c.from c.steps on.pieces k on.walk on.each on.cut (omega (arith, stands_below graph k h (end_of c).0 clear.end, h.points_each)) ∙ on.free.end
+
+      some : 0 < length on.walk.steps
+      some = steps_some on.walk (λ e. run.apart (h.own c.from.0 (end_of c).0 clear.from clear.end (sym on.free.start ∙ e ∙ on.free.end)))
+        where
+          steps_some : (w : PlainWalk) → (w.start ≡ end_point w → ⊥) → 0 < length w.steps
+          steps_some w f = by_steps w.steps refl
+            where
+              by_steps : (ds : List Dir) → w.steps ≡ ds → 0 < length w.steps
+              by_steps [] e = absurd (f (sym (ap (after w.start) e)))
+              by_steps (d ∷ ds) e = omega (arith, ap length e)
+
+  -- ---- runs one after another
+
+  -- each run has its bounds
+  abbrev pub HaveBounds : Sketch → List Chain → List LeastTurns → Type 0
+  HaveBounds k [] ls = Unit {0}
+  HaveBounds k (c ∷ cs) [] = ⊥
+  HaveBounds k (c ∷ cs) (l ∷ ls) = IsBoundOf scale graph k c l × HaveBounds k cs ls
+
+  pub bounds_still : (k j : Sketch) → HasMore k j → (cs : List Chain) (ls : List LeastTurns) → ((c : Chain) → In c cs → IsRun graph c) → HaveBounds k cs ls → HaveBounds j cs ls
+  bounds_still k j more [] ls runs have = tt
+  bounds_still k j more (c ∷ cs) [] runs have = have
+  bounds_still k j more (c ∷ cs) (l ∷ ls) runs have = (
+    record {
+      by = λ way few. omega (arith, have.0.by way few, bound_still graph k j more fit scale c way (in_first_round run) (in_last_round run));
+      price = have.0.price;
+      free = have.0.free;
+    },
+    bounds_still k j more cs ls (λ d i. runs d (inr i)) have.1,
+  )
+    where
+      run : IsRun graph c
+      run = runs c (inl refl)
+
+      in_first_round : IsRun graph c → In (first_seg_of c.steps) (get_or graph.rounds c.from.0 [])
+      in_first_round r = let at = first_end graph c.from c.steps r.steps r.some in in_round graph fit (first_seg_of c.steps) c.from.0 at.0 (end_below graph fit (first_seg_of c.steps) c.from.0 at.0 at.1) at.1
+
+      in_last_round : IsRun graph c → In (last_seg_of c) (get_or graph.rounds (end_of c).0 [])
+      in_last_round r = let at = last_end graph (first_seg_of c.steps) c.from c.steps r.steps r.some in in_round graph fit (last_seg_of c) (end_of c).0 at.0 (end_below graph fit (last_seg_of c) (end_of c).0 at.0 at.1) at.1
+
+  has_more : (n : NodeId) (ts : List ChainStep) (vs : List PlainWalk) (k : Sketch) → ((q : ChainStep) → In q ts → walk_in k q.seg ≡ None) → HasMore k (with_pieces graph n ts vs k)
+  has_more n ts vs k none t = by_run (on_or_off ts t)
+    where
+      by_run : ((q : ChainStep) × In q ts × (q.seg.0 ≡ t.0)) ⊎ IsOff ts t → IsSameOrNone (walk_in k t) (walk_in (with_pieces graph n ts vs k) t)
+      by_run (inl (q, i, e)) = inl (ap (λ m. get_or k.walks m None) (sym e) ∙ none q i)
+      by_run (inr off) = inr (sym (same_walk graph n ts vs k t off))
+
+  same_ends : (c : Chain) (k : Sketch) (pieces : List PlainWalk) → IsClearFor k c → point_of_node (with_pieces graph c.from c.steps pieces k) (end_of c).0 ≡ point_of_node k (end_of c).0 → (m : ℕ) → is_standing k m ≡ true
+      → point_of_node (with_pieces graph c.from c.steps pieces k) m ≡ point_of_node k m
+  same_ends c k pieces clear there m stands = by_end (cases_eq m (end_of c).0)
+    where
+      by_end : (m ≡ (end_of c).0) ⊎ (m ≡ (end_of c).0 → ⊥) → point_of_node (with_pieces graph c.from c.steps pieces k) m ≡ point_of_node k m
+      by_end (inl e) = ap (point_of_node (with_pieces graph c.from c.steps pieces k)) e ∙ there ∙ ap (point_of_node k) (sym e)
+      by_end (inr other) = same_point graph c.from c.steps pieces k m off
+        where
+          off : (q : ChainStep) → In q c.steps → q.to.0 ≡ m → ⊥
+          off q i e = by_place (leads_where c.from c.steps q i)
+            where
+              by_place : (q.to.0 ≡ (end_of c).0) ⊎ ((p : NodeId) × In p (inner_nodes c.steps) × (p.0 ≡ q.to.0)) → ⊥
+              by_place (inl a) = other (sym e ∙ a)
+              by_place (inr (p, j, f)) = true≢false (sym stands ∙ ap (is_standing k) (sym e ∙ sym f) ∙ clear.inner p j)
+
+  same_gains : (f g : NodeId → GridPoint) (cs : List Chain) (ls : List LeastTurns) → ((c : Chain) → In c cs → (f c.from ≡ g c.from) × (f (end_of c) ≡ g (end_of c))) → gains_at_least f cs ls ≡ gains_at_least g cs ls
+  same_gains f g [] ls same = refl
+  same_gains f g (c ∷ cs) [] same = refl
+  same_gains f g (c ∷ cs) (l ∷ ls) same =
+      let here = same c (inl refl) in
+      ap₂ (λ (a b : GridPoint). reach_of a b + slice_index l.by (straight_way a b) + gains_at_least f cs ls) here.0 here.1
+      ∙ ap (λ n. reach_of (g c.from) (g (end_of c)) + slice_index l.by (straight_way (g c.from) (g (end_of c))) + n) (same_gains f g cs ls (λ d i. same d (inr i)))
+
+  -- all of them add no less than their bounds together
+  pub rest_no_less : (cs : List Chain) (ls : List LeastTurns) (k fin : Sketch) → IsLegalSketch graph k → ((c : Chain) → In c cs → IsRun graph c) → AreBeside cs → ((c : Chain) → In c cs → IsClearFor k c) → HaveBounds k cs ls → all_laid graph cs k ≡ Some fin
+      → sketch_weight scale graph first k + gains_at_least (λ (n : NodeId). point_of_node k n.0) cs ls ≤ sketch_weight scale graph first fin
+  rest_no_less [] ls k fin h runs beside clear have e = let same : k ≡ fin = cc in omega (arith, ap (sketch_weight scale graph first) same)
+  rest_no_less (c ∷ cs) [] k fin h runs beside clear have e = absurd have
+  rest_no_less (c ∷ cs) (l ∷ ls) k fin h runs beside clear have e = by_laid (laid graph c k) refl e
+    where
+      here : IsClearFor k c
+      here = clear c (inl refl)
+
+      run : IsRun graph c
+      run = runs c (inl refl)
+
+      of_laid : (mid : Sketch) → IsLaidOn graph c k mid → all_laid graph cs mid ≡ Some fin → sketch_weight scale graph first k + gains_at_least (λ (n : NodeId). point_of_node k n.0) (c ∷ cs) (l ∷ ls) ≤ sketch_weight scale graph first fin
+      of_laid mid on found =
+          let g = gained c k mid l h run here have.0 on in
+          let more : HasMore k mid = subst (HasMore k) on.is (has_more c.from c.steps on.pieces k here.walks) in
+          let later = rest_no_less cs ls mid fin on.legal (λ d i. runs d (inr i)) beside.1
+          (λ d i. subst (λ (j : Sketch). IsClearFor j d) on.is (still_clear graph fit c d on.pieces k run (runs d (inr i)) (λ q p on_c on_d. beside_off c cs beside d i q p on_c on_d) (clear d (inr i))))
+          (bounds_still k mid more cs ls (λ d i. runs d (inr i)) have.1) found in
+          let there : point_of_node (with_pieces graph c.from c.steps on.pieces k) (end_of c).0 ≡ point_of_node k (end_of c).0 = end_there graph c.from c.steps on.pieces k on.walk on.each on.cut (omega (arith, stands_below graph k h (end_of c).0 here.end, h.points_each)) ∙ on.free.end in
+          let same = same_gains (λ (n : NodeId). point_of_node mid n.0) (λ (n : NodeId). point_of_node k n.0) cs ls
+          (λ d i. (ap (λ (j : Sketch). point_of_node j d.from.0) (sym on.is) ∙ same_ends c k on.pieces here there d.from.0 (clear d (inr i)).from, ap (λ (j : Sketch). point_of_node j (end_of d).0) (sym on.is) ∙ same_ends c k on.pieces here there (end_of d).0 (clear d (inr i)).end)) in
+          omega (arith, g.weight, g.no_less, later, same)
+
+      by_laid : (o : Option Sketch) → laid graph c k ≡ o → if_laid (all_laid graph cs) o ≡ Some fin → sketch_weight scale graph first k + gains_at_least (λ (n : NodeId). point_of_node k n.0) (c ∷ cs) (l ∷ ls) ≤ sketch_weight scale graph first fin
+      by_laid None is found = cc
+      by_laid (Some mid) is found = of_laid mid (laid_on graph fit c k mid h run here is) found

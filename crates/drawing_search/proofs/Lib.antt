@@ -20,3 +20,4 @@ mod PutBack
 mod StraightWays
 mod RunBounds
 mod Spaced
+mod LaidAll

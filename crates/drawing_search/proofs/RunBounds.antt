@@ -76,7 +76,7 @@ last_port_there graph fit k s n (t ∷ u ∷ us) (v ∷ x ∷ xs) w steps each c
 
 -- ---- the least over all allowed ports
 
-fold_least : (low : ℕ) (xs : List ℕ) → fold min low xs ≤ low
+pub fold_least : (low : ℕ) (xs : List ℕ) → fold min low xs ≤ low
 fold_least low [] = omega arith
 fold_least low (x ∷ xs) = omega (arith, fold_least (min low x) xs)
 
