@@ -1,8 +1,8 @@
 -- Drawings in the making that differ at most in where nodes lie that don't stand: they have one board, weigh the same, and
 -- the same runs can be laid on them.
-use Rattle.std.proofs.Common.{◌≡◌, refl, sym, ◌∙◌, ap, subst, ℕ, zero, suc, ◌+◌, ◌*◌, ◌<◌, Bool, true, false, cond, not, nat_le, List, [], ◌∷◌, length, get_or, set, replicate, zip, Option, Some, None, ◌⊎◌, inl, inr, arith, length-set, get_or-set_other}
+use Rattle.std.proofs.Common.{◌≡◌, refl, sym, ◌∙◌, ap, ap₂, subst, ℕ, zero, suc, ◌+◌, ◌*◌, ◌<◌, Bool, true, false, cond, not, nat_le, List, [], ◌∷◌, length, get_or, set, replicate, zip, Option, Some, None, ◌⊎◌, inl, inr, arith, length-set, get_or-set_other}
 use Rattle.std.proofs.lemmas.Bool.{cases_Bool, cases_eq}
-use Rattle.std.specs.List.{filter_map, list_any, range_with_len, sum_by}
+use Rattle.std.specs.List.{filter_map, list_all, list_any, range_with_len, sum_by}
 use Rattle.map_base.specs.declared.ids.NodeId.{NodeId}
 use Rattle.map_base.specs.declared.ids.SegId.{SegId}
 use Rattle.graph_core.specs.declared.parts.GraphParts.{GraphParts}
@@ -12,9 +12,10 @@ use Rattle.line_chains.specs.Chains.{end_of, ends_of}
 use Rattle.octi_grid.specs.declared.dir.Dir.{Dir}
 use Rattle.octi_grid.specs.declared.point.GridPoint.{GridPoint}
 use Rattle.octi_grid.specs.Ways.{are_one, doubled}
-use Rattle.octi_grid.specs.Walks.{end_point, points_of, PlainWalk}
+use Rattle.octi_grid.specs.Legal.{are_clockwise, is_among, is_even}
+use Rattle.octi_grid.specs.Walks.{doubled_of, end_point, points_of, PlainWalk}
 use Rattle.grid_board.specs.declared.bounds.Bounds.{Bounds}
-use Rattle.grid_board.specs.Boards.{BoardParts}
+use Rattle.grid_board.specs.Boards.{contains, AreBounds, BoardParts}
 use Rattle.walk_search.specs.declared.ends.End.{End}
 use Rattle.walk_search.specs.Routes.{route}
 use Rattle.segment_router.specs.Ports.{allowed_mask}
@@ -173,3 +174,41 @@ along_alike graph c j k a (Some w) = by_test (nat_le (length c.steps) (even_step
 pub laid_alike : (graph : GraphParts) (c : Chain) (j k : Sketch) → AreAlike j k → is_standing k c.from.0 ≡ true → is_standing k (end_of c).0 ≡ true → ComesAlike (laid graph c j) (laid graph c k)
 laid_alike graph c j k a from to =
     subst (λ (o : Option PlainWalk). ComesAlike (laid_along graph c j o) (laid graph c k)) (sym (same_run_walk j k a graph c from to)) (along_alike graph c j k a (run_walk graph (board_under k) c))
+
+-- ---- and both are legal, or neither
+
+pub legal_alike : (graph : GraphParts) (j k : Sketch) → AreAlike j k → IsLegalSketch graph k → IsLegalSketch graph j
+legal_alike graph j k a h = record {
+  bounds = subst AreBounds (sym a.bounds) h.bounds;
+  points_each = a.points_each ∙ h.points_each;
+  stand_each = ap length a.stand ∙ h.stand_each;
+  walks_each = ap length a.walks ∙ h.walks_each;
+  inside = λ n e. ap₂ (λ (b : Bounds) (p : GridPoint). contains b p) a.bounds (there n e) ∙ h.inside n (stands n e);
+  even = λ n e. ap is_even (there n e) ∙ h.even n (stands n e);
+  own = λ n m e f same. h.own n m (stands n e) (stands m f) (sym (there n e) ∙ same ∙ there m f);
+  low = λ s w e. same_stands j k a (ends_of graph s).0.0 ∙ h.low s w (walk s w e);
+  up = λ s w e. same_stands j k a (ends_of graph s).1.0 ∙ h.up s w (walk s w e);
+  starts = λ s w e. h.starts s w (walk s w e) ∙ sym (a.points (ends_of graph s).0.0 (h.low s w (walk s w e)));
+  ends = λ s w e. h.ends s w (walk s w e) ∙ sym (a.points (ends_of graph s).1.0 (h.up s w (walk s w e)));
+  within = λ s w e. ap (λ (b : Bounds). list_all (contains b) (points_of w)) a.bounds ∙ h.within s w (walk s w e);
+  once = λ s w e. h.once s w (walk s w e);
+  apart = λ s t v w d differ e f i m. meeting s t v d e (h.apart s t v w d differ (walk s v e) (walk t w f) i m);
+  clear = λ s w n e f i. h.clear s w n (walk s w e) (stands n f) (subst (λ (p : GridPoint). is_among (doubled_of w) (doubled p) ≡ true) (there n f) i);
+  ports = λ n below. ap (λ (f : SegId → Option Dir). are_clockwise (filter_map f (get_or graph.rounds n []))) (λ i s. same_port j k a graph n s i) ∙ h.ports n below;
+}
+  where
+    stands : (n : ℕ) → is_standing j n ≡ true → is_standing k n ≡ true
+    stands n e = sym (same_stands j k a n) ∙ e
+
+    there : (n : ℕ) → is_standing j n ≡ true → point_of_node j n ≡ point_of_node k n
+    there n e = a.points n (stands n e)
+
+    walk : (s : SegId) (w : PlainWalk) → walk_in j s ≡ Some w → walk_in k s ≡ Some w
+    walk s w e = sym (same_walk j k a s) ∙ e
+
+    meeting : (s t : SegId) (v : PlainWalk) (d : GridPoint) → walk_in j s ≡ Some v → IsMeeting graph k s t d → IsMeeting graph j s t d
+    meeting s t v d e m = record { node = m.node; of_one = m.of_one; of_other = m.of_other; there = ap doubled (by_end m.of_one) ∙ m.there }
+      where
+        by_end : IsEndOf graph s m.node → point_of_node j m.node ≡ point_of_node k m.node
+        by_end (inl f) = a.points m.node (ap (is_standing k) (sym f) ∙ h.low s v (walk s v e))
+        by_end (inr f) = a.points m.node (ap (is_standing k) (sym f) ∙ h.up s v (walk s v e))
