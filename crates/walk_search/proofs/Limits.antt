@@ -1,23 +1,20 @@
 -- Routes up to a limit.
-use Rattle.std.proofs.Common.{◌≡◌, refl, sym, ◌∙◌, ap, ap₂, subst, ℕ, ◌+◌, ◌*◌, ◌<◌, ◌≤◌, ◌⊎◌, inl, inr, Bool, true, false, cond, ◌||◌, ◌&&◌, nat_le, List, [], ◌∷◌, Option, Some, None, ℤ, ◌-ℤ◌, unsigned_abs, arith, IsTrue}
-use Rattle.std.specs.List.{list_all, list_any}
+use Rattle.std.proofs.Common.{◌≡◌, refl, sym, ◌∙◌, ap, ap₂, subst, ℕ, ◌+◌, ◌*◌, ◌<◌, ◌≤◌, ◌⊎◌, inl, inr, Bool, true, false, cond, nat_le, List, ◌∷◌, map, Option, Some, None, ℤ, ◌-ℤ◌, unsigned_abs, arith}
 use Rattle.std.proofs.lemmas.Int.{ints}
-use Rattle.std.proofs.lemmas.Bool.{and_parts}
+use Rattle.std.proofs.lemmas.Bool.{and_parts, leb-true}
 use Rattle.octi_grid.specs.declared.point.GridPoint.{GridPoint}
-use Rattle.octi_grid.specs.Ways.{are_one}
+use Rattle.octi_grid.specs.Ways.{number_of}
 use Rattle.octi_grid.specs.Walks.{PlainWalk, cost_of, end_point}
-use Rattle.octi_grid.specs.Legal.{is_among}
 use Rattle.state_search.specs.Goals.{PathTo}
 use Rattle.state_search.specs.Searching.{IsBeyond}
 use Rattle.grid_board.specs.Boards.{BoardParts}
-use Rattle.grid_board.proofs.Marks.{one_true}
 use Rattle.walk_search.specs.declared.ends.End.{End}
-use Rattle.walk_search.specs.Seats.{seat_cost, seats_of}
+use Rattle.walk_search.specs.Seats.{seat_cost}
 use Rattle.walk_search.specs.Routes.{if_within, is_free, route, total_of, IsRouteUpTo}
 use Rattle.walk_search.specs.Spots.{spots_of}
 use Rattle.walk_search.specs.Moves.{Question, IsQuestion, space_of}
 use Rattle.walk_search.proofs.Best.{route_free}
-use Rattle.walk_search.proofs.FreeWalks.{path_of_walk}
+use Rattle.walk_search.proofs.FreeWalks.{path_of_walk, settled_at, HasPath}
 use Rattle.walk_search.proofs.Routing.{answer_is_route}
 
 -- an answer that is the route is that up to a limit too
@@ -31,12 +28,12 @@ pub route_beyond : (q : Question) → IsQuestion q → (limit : Option ℕ) → 
 route_beyond q h None never = answer_is_route q h None never
 route_beyond q h (Some limit) beyond = inr (refl, λ w e. of_path w (path_of_walk q h w.start w.steps (route_free q w e)))
   where
-    of_path : (w : PlainWalk) → _ → limit < total_of q.from q.to w + 1
-    of_path w path = beyond _ (total_of q.from q.to w + 1) path.path
+    of_path : (w : PlainWalk) → HasPath q (record { start = w.start; steps = w.steps }) → limit < total_of q.from q.to w + 1
+    of_path w path = beyond (path.place ∷ map number_of w.steps) (total_of q.from q.to w + 1) path.path
 
 -- the seats of settled ends cost nothing
 none_apart : (a : ℤ) → unsigned_abs (a -ℤ a) ≡ 0
-none_apart a = grind (arith, ints)
+none_apart a = omega (arith, ints)
 
 no_seat_cost : (p q : GridPoint) → p ≡ q → seat_cost q p ≡ 0
 no_seat_cost p q e = ap (λ (x : GridPoint). seat_cost q x) e ∙ ap₂ (λ m n. 5 * (m + n)) (none_apart q.x) (none_apart q.y)
@@ -44,16 +41,17 @@ no_seat_cost p q e = ap (λ (x : GridPoint). seat_cost q x) e ∙ ap₂ (λ m n.
 abbrev pub settled : GridPoint → ℕ → End
 settled p ports = record { at = p; is_free = false; ports = ports }
 
-or_nothing : (t : Bool) → (t || false) ≡ true → t ≡ true
-or_nothing true e = e
-or_nothing false e = e
-
 pub total_settled : (board : BoardParts) (from to : GridPoint) (m n : ℕ) (w : PlainWalk) → is_free board (settled from m) (settled to n) w ≡ true → total_of (settled from m) (settled to n) w ≡ cost_of w
 total_settled board from to m n w free =
-    let first = and_parts (is_among (seats_of board (settled from m)) w.start) _ free in
-    let second = and_parts (is_among (seats_of board (settled to n)) (end_point w)) _ first.1 in
-    let start : seat_cost from w.start ≡ 0 = no_seat_cost w.start from (one_true w.start from (or_nothing (are_one w.start from) first.0)) in
-    let end : seat_cost to (end_point w) ≡ 0 = no_seat_cost (end_point w) to (one_true (end_point w) to (or_nothing (are_one (end_point w) to) second.0)) in
+    let seven = and_parts _ _ free in
+    let six = and_parts _ _ seven.0 in
+    let five = and_parts _ _ six.0 in
+    let four = and_parts _ _ five.0 in
+    let three = and_parts _ _ four.0 in
+    let two = and_parts _ _ three.0 in
+    let one = and_parts _ _ two.0 in
+    let start : seat_cost from w.start ≡ 0 = no_seat_cost w.start from (settled_at board (settled from m) w.start refl one.0) in
+    let end : seat_cost to (end_point w) ≡ 0 = no_seat_cost (end_point w) to (settled_at board (settled to n) (end_point w) refl one.1) in
     omega (arith, start, end)
 
 -- what a search up to a limit gives, as far as it costs at most so much
@@ -66,7 +64,8 @@ within_upto board from to m n most found (inr h) = ap (if_within most) h.0 ∙ o
     q = record { board = board; from = settled from m; to = settled to n }
 
     too_dear : (t : Bool) (a b : ℕ) → nat_le a b ≡ t → b < a → t ≡ false
-    too_dear t a b e above = grind (arith, e)
+    too_dear true a b e above = absurd (omega (arith, leb-true a b e, above))
+    too_dear false a b e above = refl
 
     of_route : (r : Option PlainWalk) → route board (settled from m) (settled to n) ≡ r → if_within most None ≡ if_within most r
     of_route None e = refl
