@@ -407,14 +407,11 @@ kept_freed b w s e h inside end board = record {
   board = subst (λ (x : BoardParts). IsBoard x) (sym (shown_freed b w s e h.doubled_points inside end)) board;
 }
 
-and_second : (t x : Bool) → (t && x) ≡ true → x ≡ true
-and_second true x e = e
-
 board_without_node : (board : BoardParts) (at : GridPoint) → IsBoard board → IsBoard (without_node board at)
 board_without_node board at h = record {
   in_range = h.in_range;
-  nodes_inside = λ p e. h.nodes_inside p (and_second (not (are_one at p)) (board.is_node p) e);
-  nodes_even = λ p e. h.nodes_even p (and_second (not (are_one at p)) (board.is_node p) e);
+  nodes_inside = λ p e. h.nodes_inside p (and_parts (not (are_one at p)) (board.is_node p) e).1;
+  nodes_even = λ p e. h.nodes_even p (and_parts (not (are_one at p)) (board.is_node p) e).1;
   ends_taken = h.ends_taken;
 }
 
