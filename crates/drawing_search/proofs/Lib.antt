@@ -1,23 +1,30 @@
+-- The board on which attempts are made, and points of walks
 mod BoundParts
 mod Trails
 mod Spans
+-- how the board of a sketch changes, and what it is when something is taken off
 mod BoardsOf
 mod TakenOff
+-- walks step by step, and runs that are laid along a walk that is cut
 mod Steps
-mod JoinedPairs
 mod RunEnds
-mod Takable
-mod FieldFacts
 mod Laid
+-- runs and nodes that are taken off and put back; drawings that differ where nodes lie that don't stand
+mod Takable
+mod PutBack
 mod Alikes
+-- pairs of segments that lines join, and what a run adds to the weight of a drawing
+mod JoinedPairs
+mod FieldFacts
 mod Growing
 mod Gained
+-- bounds: sums of turns, straight ways, prices of turns, the limit of a walk; fewer ports, and runs one after another
 mod TurnSums
-mod Bounded
-mod OnWalks
-mod PricedRuns
-mod PutBack
 mod StraightWays
+mod PricedRuns
+mod Bounded
 mod RunBounds
 mod Spaced
 mod LaidAll
+-- attempts on whole drawings are those on their walks
+mod OnWalks
