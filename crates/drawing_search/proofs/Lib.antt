@@ -12,6 +12,7 @@ mod Laid
 -- runs and nodes that are taken off and put back; drawings that differ where nodes lie that don't stand
 mod Takable
 mod PutBack
+mod TakenBack
 mod Alikes
 -- pairs of segments that lines join, and what a run adds to the weight of a drawing
 mod JoinedPairs
