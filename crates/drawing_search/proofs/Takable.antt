@@ -72,7 +72,7 @@ gone_here [] i = refl
 gone_here (o ∷ ws) zero = refl
 gone_here (o ∷ ws) (suc i) = gone_here ws i
 
-still_none : (k : Sketch) (ts : List ChainStep) (s : SegId) → walk_in k s ≡ None → walk_in (without_walks k ts) s ≡ None
+pub still_none : (k : Sketch) (ts : List ChainStep) (s : SegId) → walk_in k s ≡ None → walk_in (without_walks k ts) s ≡ None
 still_none k [] s e = e
 still_none k (t ∷ ts) s e = still_none (with_walk_of k t.seg None) ts s (gone k.walks t.seg.0 s.0 e)
 

@@ -1,21 +1,22 @@
 -- Runs that were laid are taken away again: what stands then is what stood before.
-use Rattle.std.proofs.Common.{◌≡◌, refl, sym, ◌∙◌, ap, subst, ℕ, zero, suc, ◌+◌, ◌<◌, ◌≤◌, Bool, true, false, List, [], ◌∷◌, length, fold, get_or, set, None, inl, inr, length-set, get_or-set_other}
+use Rattle.std.proofs.Common.{◌≡◌, refl, sym, ◌∙◌, ap, subst, ℕ, zero, suc, ◌+◌, ◌<◌, ◌≤◌, Bool, true, false, List, [], ◌∷◌, length, fold, get_or, set, Option, None, inl, inr, length-set, get_or-set_other}
 use Rattle.map_base.specs.declared.ids.NodeId.{NodeId}
 use Rattle.map_base.specs.declared.ids.SegId.{SegId}
 use Rattle.graph_core.specs.declared.parts.GraphParts.{GraphParts}
 use Rattle.graph_core.specs.Consistent.{IsConsistent}
 use Rattle.line_chains.specs.declared.chain.Chain.{Chain}
 use Rattle.line_chains.specs.declared.chain.ChainStep.{ChainStep}
+use Rattle.octi_grid.specs.Walks.{PlainWalk}
 use Rattle.octi_grid.proofs.Members.{In}
 use Rattle.segment_router.proofs.MaskLemmas.{ends_round}
 use Rattle.run_laying.specs.Attempts.{inner_nodes}
 use Rattle.run_laying.specs.Laying.{Sketch}
 use Rattle.run_laying.specs.Runs.{AreBeside, IsRun, MeetAlone}
-use Rattle.run_laying.specs.Sketches.{is_standing, lifted, with_walk_of, IsEndOf, IsLegalSketch}
+use Rattle.run_laying.specs.Sketches.{is_standing, lifted, walk_in, with_walk_of, IsEndOf, IsLegalSketch}
 use Rattle.run_laying.proofs.Attempted.{beside_off}
 use Rattle.run_laying.proofs.RunFacts.{inner_of, inner_off, step_of, IsInner, IsOff}
 use Rattle.drawing_search.specs.Changes.{without_run, without_walks, AreLiftable, AreTakable}
-use Rattle.drawing_search.proofs.Takable.{legal_without, run_takable, same_stand}
+use Rattle.drawing_search.proofs.Takable.{legal_without, none_left, run_takable, same_stand, same_walks_off, still_none}
 use Rattle.drawing_search.proofs.TakenOff.{lifted_legal}
 
 -- ---- nodes
@@ -112,3 +113,69 @@ takable_each graph fit (c ∷ cs) k h runs beside stand =
     still : (d : Chain) → In d cs → (m : NodeId) → In m (inner_nodes d.steps) → is_standing (without_run k c) m.0 ≡ true
     still d i m j =
         run_stands k c m.0 (inner_beside graph fit c d (runs c (inl refl)) (runs d (inr i)) (λ q p on_c on_d. beside_off c cs beside d i q p on_c on_d) m j) ∙ stand d (inr i) m j
+
+-- ---- what was laid is as it was but on the runs
+
+-- a node lies between the ends of one of these runs, and a segment is on one of them
+abbrev pub IsInnerOf : List Chain → ℕ → Type 0
+IsInnerOf cs n = (c : Chain) × In c cs × IsOneOf (inner_nodes c.steps) n
+
+abbrev pub IsOnOf : List Chain → SegId → Type 0
+IsOnOf cs s = (c : Chain) × In c cs × ((q : ChainStep) × In q c.steps × (q.seg.0 ≡ s.0))
+
+pub record IsSameBeside (cs : List Chain) (k new : Sketch) : Type 0 where
+  pub bounds : new.bounds ≡ k.bounds
+  pub points_each : length new.points ≡ length k.points
+  pub stand_each : length new.stand ≡ length k.stand
+  pub walks_each : length new.walks ≡ length k.walks
+  pub stand : (n : ℕ) → (IsInnerOf cs n → ⊥) → is_standing new n ≡ is_standing k n
+  pub walks : (s : SegId) → (IsOnOf cs s → ⊥) → walk_in new s ≡ walk_in k s
+
+-- runs are taken off
+without_each : (k : Sketch) (ts : List ChainStep) → length (without_walks k ts).walks ≡ length k.walks
+without_each k [] = refl
+without_each k (t ∷ ts) = without_each (with_walk_of k t.seg None) ts ∙ length-set k.walks t.seg.0 None
+
+run_walks : (k : Sketch) (c : Chain) (s : SegId) → (((q : ChainStep) × In q c.steps × (q.seg.0 ≡ s.0)) → ⊥) → walk_in (without_run k c) s ≡ walk_in k s
+run_walks k c s off =
+    ap (λ (os : List (Option PlainWalk)). get_or os s.0 None) (lift_walks (without_walks k c.steps) (inner_nodes c.steps)) ∙ same_walks_off k c.steps s (λ q i e. off (q, i, e))
+
+run_none : (k : Sketch) (c : Chain) (q : ChainStep) → In q c.steps → walk_in (without_run k c) q.seg ≡ None
+run_none k c q i = ap (λ (os : List (Option PlainWalk)). get_or os q.seg.0 None) (lift_walks (without_walks k c.steps) (inner_nodes c.steps)) ∙ none_left k c.steps q i
+
+pub runs_beside : (cs : List Chain) (k : Sketch) → IsSameBeside cs k (fold without_run k cs)
+runs_beside [] k = record { bounds = refl; points_each = refl; stand_each = refl; walks_each = refl; stand = λ n off. refl; walks = λ s off. refl }
+runs_beside (c ∷ cs) k =
+    let rest = runs_beside cs (without_run k c) in
+    record {
+      bounds = rest.bounds ∙ run_bounds k c;
+      points_each = rest.points_each ∙ ap length (run_points k c);
+      stand_each = rest.stand_each ∙ lift_flags (without_walks k c.steps) (inner_nodes c.steps) ∙ ap length (same_stand k c.steps);
+      walks_each = rest.walks_each ∙ ap length (lift_walks (without_walks k c.steps) (inner_nodes c.steps)) ∙ without_each k c.steps;
+      stand = λ n off. rest.stand n (λ (d, i, m). off (d, inr i, m)) ∙ run_stands k c n (λ m. off (c, inl refl, m));
+      walks = λ s off. rest.walks s (λ (d, i, m). off (d, inr i, m)) ∙ run_walks k c s (λ m. off (c, inl refl, m));
+    }
+
+pub runs_points : (cs : List Chain) (k : Sketch) → (fold without_run k cs).points ≡ k.points
+runs_points [] k = refl
+runs_points (c ∷ cs) k = runs_points cs (without_run k c) ∙ run_points k c
+
+-- what is on a run is off then
+pub low_on_runs : (cs : List Chain) (k : Sketch) (n : ℕ) → IsInnerOf cs n → is_standing (fold without_run k cs) n ≡ false
+low_on_runs [] k n (c, i, m) = absurd i
+low_on_runs (d ∷ cs) k n (c, inl e, m) = stays cs (without_run k d) n (low_each (without_walks k d.steps) (inner_nodes d.steps) n (subst (λ (x : Chain). IsOneOf (inner_nodes x.steps) n) e m))
+  where
+    stays : (ds : List Chain) (j : Sketch) (n : ℕ) → is_standing j n ≡ false → is_standing (fold without_run j ds) n ≡ false
+    stays [] j n e = e
+    stays (x ∷ ds) j n e = stays ds (without_run j x) n (still_low (without_walks j x.steps) (inner_nodes x.steps) n (ap (λ (fs : List Bool). get_or fs n false) (same_stand j x.steps) ∙ e))
+low_on_runs (d ∷ cs) k n (c, inr i, m) = low_on_runs cs (without_run k d) n (c, i, m)
+
+pub none_on_runs : (cs : List Chain) (k : Sketch) (s : SegId) → IsOnOf cs s → walk_in (fold without_run k cs) s ≡ None
+none_on_runs [] k s (c, i, m) = absurd i
+none_on_runs (d ∷ cs) k s (c, inl e, (q, on, same)) =
+    stays cs (without_run k d) s (ap (λ j. get_or (without_run k d).walks j None) (sym same) ∙ run_none k d q (subst (λ (x : Chain). In q x.steps) e on))
+  where
+    stays : (ds : List Chain) (j : Sketch) (s : SegId) → walk_in j s ≡ None → walk_in (fold without_run j ds) s ≡ None
+    stays [] j s e = e
+    stays (x ∷ ds) j s e = stays ds (without_run j x) s (ap (λ (os : List (Option PlainWalk)). get_or os s.0 None) (lift_walks (without_walks j x.steps) (inner_nodes x.steps)) ∙ still_none j x.steps s e)
+none_on_runs (d ∷ cs) k s (c, inr i, m) = none_on_runs cs (without_run k d) s (c, i, m)
