@@ -37,7 +37,7 @@ use Rattle.run_laying.proofs.LaidRuns.{same_walk, IsCut}
 use Rattle.run_laying.proofs.RunFacts.{end_below, in_round, leads_from, leads_to, IsOff}
 use Rattle.run_laying.proofs.Shown.{stands_below}
 use Rattle.drawing_search.specs.declared.least.LeastTurns.{LeastTurns}
-use Rattle.drawing_search.specs.Bounds.{gains_at_least, IsBoundOf}
+use Rattle.drawing_search.specs.Bounds.{gains_at_least, HaveBounds, IsBoundOf}
 use Rattle.drawing_search.specs.Gains.{pairs_at, run_gain, sketch_weight, turn_by, turns_by}
 use Rattle.drawing_search.specs.Least.{allowed_dirs, least_beside, least_by, never, ports_for, straight_way}
 use Rattle.drawing_search.proofs.Gained.{leads_where, run_gained, same_point}
@@ -183,13 +183,7 @@ module _ (graph : GraphParts) (fit : IsConsistent graph) (scale : Scale) (first 
 
   -- ---- runs one after another
 
-  -- each run has its bounds
-  abbrev pub HaveBounds : Sketch → List Chain → List LeastTurns → Type 0
-  HaveBounds k [] ls = Unit {0}
-  HaveBounds k (c ∷ cs) [] = ⊥
-  HaveBounds k (c ∷ cs) (l ∷ ls) = IsBoundOf scale graph k c l × HaveBounds k cs ls
-
-  pub bounds_still : (k j : Sketch) → HasMore k j → (cs : List Chain) (ls : List LeastTurns) → ((c : Chain) → In c cs → IsRun graph c) → HaveBounds k cs ls → HaveBounds j cs ls
+  pub bounds_still : (k j : Sketch) → HasMore k j → (cs : List Chain) (ls : List LeastTurns) → ((c : Chain) → In c cs → IsRun graph c) → HaveBounds scale graph k cs ls → HaveBounds scale graph j cs ls
   bounds_still k j more [] ls runs have = tt
   bounds_still k j more (c ∷ cs) [] runs have = have
   bounds_still k j more (c ∷ cs) (l ∷ ls) runs have = (
@@ -241,7 +235,7 @@ module _ (graph : GraphParts) (fit : IsConsistent graph) (scale : Scale) (first 
       ∙ ap (λ n. reach_of (g c.from) (g (end_of c)) + slice_index l.by (straight_way (g c.from) (g (end_of c))) + n) (same_gains f g cs ls (λ d i. same d (inr i)))
 
   -- all of them add no less than their bounds together
-  pub rest_no_less : (cs : List Chain) (ls : List LeastTurns) (k fin : Sketch) → IsLegalSketch graph k → ((c : Chain) → In c cs → IsRun graph c) → AreBeside cs → ((c : Chain) → In c cs → IsClearFor k c) → HaveBounds k cs ls → all_laid graph cs k ≡ Some fin
+  pub rest_no_less : (cs : List Chain) (ls : List LeastTurns) (k fin : Sketch) → IsLegalSketch graph k → ((c : Chain) → In c cs → IsRun graph c) → AreBeside cs → ((c : Chain) → In c cs → IsClearFor k c) → HaveBounds scale graph k cs ls → all_laid graph cs k ≡ Some fin
       → sketch_weight scale graph first k + gains_at_least (λ (n : NodeId). point_of_node k n.0) cs ls ≤ sketch_weight scale graph first fin
   rest_no_less [] ls k fin h runs beside clear have e = let same : k ≡ fin = cc in omega (arith, ap (sketch_weight scale graph first) same)
   rest_no_less (c ∷ cs) [] k fin h runs beside clear have e = absurd have

@@ -49,15 +49,20 @@ gains_at_least at [] ls = 0
 gains_at_least at (c ∷ cs) [] = 0
 gains_at_least at (c ∷ cs) (l ∷ ls) = reach_of (at c.from) (at (end_of c)) + slice_index l.by (straight_way (at c.from) (at (end_of c))) + gains_at_least at cs ls
 
--- past the ends of lists of runs and of their bounds
-abbrev pub no_run : Chain
-no_run = record { from = record { 0 = 0 }; steps = [] }
-
-abbrev pub no_least : LeastTurns
-no_least = record { by = []; per_turn = 0; free_turns = 0 }
-
 -- bounds of a run that were made beside no more walks than a sketch has: those beside its walks are no less
 pub record IsBoundOf (scale : Scale) (graph : GraphParts) (k : Sketch) (c : Chain) (l : LeastTurns) : Type 0 where
   pub by : (way : ℕ) → way ≤ 8 → slice_index l.by way ≤ least_beside scale graph k c way
   pub price : l.per_turn ≡ turn_price scale graph c.steps
   pub free : l.free_turns ≡ 4 * free_nodes scale graph c.steps
+
+-- each run has its bounds beside the walks of a sketch
+abbrev pub HaveLeast : Scale → GraphParts → Sketch → List Chain → List LeastTurns → Type 0
+HaveLeast scale graph k [] ls = Unit {0}
+HaveLeast scale graph k (c ∷ cs) [] = ⊥
+HaveLeast scale graph k (c ∷ cs) (l ∷ ls) = IsLeastOf scale graph k c l × HaveLeast scale graph k cs ls
+
+-- or bounds that were made beside no more walks
+abbrev pub HaveBounds : Scale → GraphParts → Sketch → List Chain → List LeastTurns → Type 0
+HaveBounds scale graph k [] ls = Unit {0}
+HaveBounds scale graph k (c ∷ cs) [] = ⊥
+HaveBounds scale graph k (c ∷ cs) (l ∷ ls) = IsBoundOf scale graph k c l × HaveBounds scale graph k cs ls

@@ -17,7 +17,7 @@ use Rattle.drawing_search.specs.declared.group.Group.{Group}
 use Rattle.drawing_search.specs.declared.group.Vector.{Vector}
 use Rattle.drawing_search.specs.declared.lifting.Lifted.{Lifted}
 use Rattle.drawing_search.specs.Alike.{AreAlike}
-use Rattle.drawing_search.specs.Bounds.{no_least, IsLeastOf, IsSmallLeast}
+use Rattle.drawing_search.specs.Bounds.{HaveLeast, IsSmallLeast}
 use Rattle.drawing_search.specs.Changes.{stood_at, walked_by, CanStandEach, CanWalkEach}
 use Rattle.drawing_search.specs.Gains.{sketch_weight}
 use Rattle.drawing_search.specs.Tries.{taken_off, tried, IsSettled}
@@ -52,7 +52,7 @@ pub record IsLifted (scale : Scale) (graph : GraphParts) (first : List GridPoint
   pub back : (k : Sketch) → AreAlike k new → put_back k l.moved.items l.inner.items l.walks.items ≡ old
   pub rest : l.rest ≡ sketch_weight scale graph first new
   pub each : length l.least.items ≡ length g.runs
-  pub least : (i : ℕ) → (c : Chain) → i < length g.runs → slice_index_or g.runs i c ≡ c → IsLeastOf scale graph new c (slice_index_or l.least.items i no_least)
+  pub least : HaveLeast scale graph new g.runs l.least.items
   pub small : All IsSmallLeast l.least.items
 
 -- What came of an attempt of a group by a vector, where its runs and nodes had been taken off a drawing of this weight: the

@@ -12,7 +12,7 @@ ghost use Rattle.grid_board.specs.Points.{is_near};
 ghost use Rattle.drawing_weights.specs.Scales.{apart_weight_by, scale_of};
 ghost use Rattle.run_laying.specs.Runs.{IsFitting};
 ghost use Rattle.run_laying.specs.Sketches.{lifted, point_of_node};
-ghost use Rattle.drawing_search.specs.Bounds.{gains_at_least, no_least, no_run, IsBoundOf, IsSmallLeast};
+ghost use Rattle.drawing_search.specs.Bounds.{gains_at_least, HaveBounds, IsSmallLeast};
 ghost use Rattle.drawing_search.specs.Changes.{all_moved, has_room, moved_by, point_after, stood_at, without_run, AreApart, AreLayable, AreLiftable, AreTakable, CanStandEach};
 ghost use Rattle.drawing_search.specs.Gains.{first_point, sketch_weight, IsField};
 ghost use Rattle.drawing_search.specs.Lifting.{IsAttempted, IsOff};
@@ -202,7 +202,7 @@ impl Search {
         requires runs { AreLayable field.graph.now self.old.sketch runs.now }
         requires base { base ≡ sketch_weight (scale_of field.by) field.graph.now field.first.now self.old.sketch }
         requires each { length least.now ≡ length runs.now }
-        requires bounds { (i : ℕ) → i < length runs.now → IsBoundOf (scale_of field.by) field.graph.now self.old.sketch (slice_index_or runs.now i no_run) (slice_index_or least.now i no_least) }
+        requires bounds { HaveBounds (scale_of field.by) field.graph.now self.old.sketch runs.now least.now }
         requires small { All IsSmallLeast least.now }
         requires ahead { ahead ≡ gains_at_least (λ (n : NodeId). point_of_node self.old.sketch n.0) runs.now least.now }
         requires less { base + ahead < self.old.weight }
