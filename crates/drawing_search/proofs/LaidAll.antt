@@ -234,6 +234,19 @@ module _ (graph : GraphParts) (fit : IsConsistent graph) (scale : Scale) (first 
       ap₂ (λ (a b : GridPoint). reach_of a b + slice_index l.by (straight_way a b) + gains_at_least f cs ls) here.0 here.1
       ∙ ap (λ n. reach_of (g c.from) (g (end_of c)) + slice_index l.by (straight_way (g c.from) (g (end_of c))) + n) (same_gains f g cs ls (λ d i. same d (inr i)))
 
+  -- what one run leaves for the others
+  pub more_walks : (c : Chain) (k mid : Sketch) → IsClearFor k c → IsLaidOn graph c k mid → HasMore k mid
+  more_walks c k mid clear on = subst (HasMore k) on.is (has_more c.from c.steps on.pieces k clear.walks)
+
+  pub gains_stay : (c : Chain) (k mid : Sketch) → IsLegalSketch graph k → IsClearFor k c → IsLaidOn graph c k mid → (cs : List Chain) (ls : List LeastTurns) → ((d : Chain) → In d cs → IsClearFor k d)
+      → gains_at_least (λ (n : NodeId). point_of_node mid n.0) cs ls ≡ gains_at_least (λ (n : NodeId). point_of_node k n.0) cs ls
+  gains_stay c k mid h clear on cs ls others =
+      same_gains (λ (n : NodeId). point_of_node mid n.0) (λ (n : NodeId). point_of_node k n.0) cs ls
+      (λ d i. (ap (λ (j : Sketch). point_of_node j d.from.0) (sym on.is) ∙ same_ends c k on.pieces clear there d.from.0 (others d i).from, ap (λ (j : Sketch). point_of_node j (end_of d).0) (sym on.is) ∙ same_ends c k on.pieces clear there (end_of d).0 (others d i).end))
+    where
+      there : point_of_node (with_pieces graph c.from c.steps on.pieces k) (end_of c).0 ≡ point_of_node k (end_of c).0
+      there = end_there graph c.from c.steps on.pieces k on.walk on.each on.cut (omega (arith, stands_below graph k h (end_of c).0 clear.end, h.points_each)) ∙ on.free.end
+
   -- all of them add no less than their bounds together
   pub rest_no_less : (cs : List Chain) (ls : List LeastTurns) (k fin : Sketch) → IsLegalSketch graph k → ((c : Chain) → In c cs → IsRun graph c) → AreBeside cs → ((c : Chain) → In c cs → IsClearFor k c) → HaveBounds scale graph k cs ls → all_laid graph cs k ≡ Some fin
       → sketch_weight scale graph first k + gains_at_least (λ (n : NodeId). point_of_node k n.0) cs ls ≤ sketch_weight scale graph first fin
@@ -250,13 +263,11 @@ module _ (graph : GraphParts) (fit : IsConsistent graph) (scale : Scale) (first 
       of_laid : (mid : Sketch) → IsLaidOn graph c k mid → all_laid graph cs mid ≡ Some fin → sketch_weight scale graph first k + gains_at_least (λ (n : NodeId). point_of_node k n.0) (c ∷ cs) (l ∷ ls) ≤ sketch_weight scale graph first fin
       of_laid mid on found =
           let g = gained c k mid l h run here have.0 on in
-          let more : HasMore k mid = subst (HasMore k) on.is (has_more c.from c.steps on.pieces k here.walks) in
+          let more = more_walks c k mid here on in
           let later = rest_no_less cs ls mid fin on.legal (λ d i. runs d (inr i)) beside.1
           (λ d i. subst (λ (j : Sketch). IsClearFor j d) on.is (still_clear graph fit c d on.pieces k run (runs d (inr i)) (λ q p on_c on_d. beside_off c cs beside d i q p on_c on_d) (clear d (inr i))))
           (bounds_still k mid more cs ls (λ d i. runs d (inr i)) have.1) found in
-          let there : point_of_node (with_pieces graph c.from c.steps on.pieces k) (end_of c).0 ≡ point_of_node k (end_of c).0 = end_there graph c.from c.steps on.pieces k on.walk on.each on.cut (omega (arith, stands_below graph k h (end_of c).0 here.end, h.points_each)) ∙ on.free.end in
-          let same = same_gains (λ (n : NodeId). point_of_node mid n.0) (λ (n : NodeId). point_of_node k n.0) cs ls
-          (λ d i. (ap (λ (j : Sketch). point_of_node j d.from.0) (sym on.is) ∙ same_ends c k on.pieces here there d.from.0 (clear d (inr i)).from, ap (λ (j : Sketch). point_of_node j (end_of d).0) (sym on.is) ∙ same_ends c k on.pieces here there (end_of d).0 (clear d (inr i)).end)) in
+          let same = gains_stay c k mid h here on cs ls (λ d i. clear d (inr i)) in
           omega (arith, g.weight, g.no_less, later, same)
 
       by_laid : (o : Option Sketch) → laid graph c k ≡ o → if_laid (all_laid graph cs) o ≡ Some fin → sketch_weight scale graph first k + gains_at_least (λ (n : NodeId). point_of_node k n.0) (c ∷ cs) (l ∷ ls) ≤ sketch_weight scale graph first fin

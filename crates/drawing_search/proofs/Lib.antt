@@ -27,5 +27,6 @@ mod Bounded
 mod RunBounds
 mod Spaced
 mod LaidAll
+mod LayingAll
 -- attempts on whole drawings are those on their walks
 mod OnWalks
