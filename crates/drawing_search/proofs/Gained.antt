@@ -35,7 +35,7 @@ use Rattle.run_laying.proofs.RunFacts.{contains_in, end_below, inner_of, leads_t
 use Rattle.drawing_search.specs.Changes.{AreApart}
 use Rattle.drawing_search.specs.Gains.{apart_in, first_point, has_segment, node_weight_in, pairs_at, run_gain, segment_weight, sketch_weight, step_gain, steps_gain, turn_by, turn_if, turn_in, turns_by, turns_from, turns_in, walk_weight_if}
 use Rattle.drawing_search.proofs.FieldFacts.{pair_below, pair_joined}
-use Rattle.drawing_search.proofs.Growing.{grown, is_one_of, same_sum, sum_both, sum_grows, sum_map, AreDifferent}
+use Rattle.drawing_search.proofs.Growing.{grown, in_range, is_one_of, same_sum, sum_both, sum_grows, sum_map, AreDifferent}
 use Rattle.drawing_search.proofs.TurnSums.{turn_same_back, turn_turned}
 use Rattle.drawing_search.proofs.Takable.{inner_apart, on_or_off}
 
@@ -149,11 +149,6 @@ in_map : {X : Type 0} (f : X → ℕ) (xs : List X) (x : X) (n : ℕ) → In x x
 in_map f [] x n i e = absurd i
 in_map f (y ∷ ys) x n (inl same) e = inl (sym e ∙ ap f same)
 in_map f (y ∷ ys) x n (inr i) e = inr (in_map f ys x n i e)
-
-in_range : (a n x : ℕ) → In x (range_with_len a n) → x < a + n
-in_range a zero x i = absurd i
-in_range a (suc n) x (inl e) = omega (arith, e)
-in_range a (suc n) x (inr i) = omega (arith, in_range (a + 1) n x i)
 
 once_different : (ts : List ChainStep) → AreOnce ts → AreDifferent (map (λ (t : ChainStep). t.seg.0) ts)
 once_different [] once = tt

@@ -22,6 +22,12 @@ sum_both f g (x ∷ xs) =
     let other = sum_by-cons g x xs in
     omega (arith, rest, all, one, other)
 
+-- the numbers of a range
+pub in_range : (a n x : ℕ) → In x (range_with_len a n) → x < a + n
+in_range a zero x i = absurd i
+in_range a (suc n) x (inl e) = omega (arith, e)
+in_range a (suc n) x (inr i) = omega (arith, in_range (a + 1) n x i)
+
 -- ---- at one number
 
 abbrev one_more : (ℕ → ℕ) → ℕ → ℕ → ℕ → ℕ

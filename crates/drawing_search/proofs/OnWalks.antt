@@ -36,7 +36,7 @@ use Rattle.drawing_search.specs.Shown.{whole_sketch}
 use Rattle.drawing_search.specs.Tries.{after_tries, after_try, if_below, point_then, stands_then, tried, walk_left, with_tried, without, Tried}
 use Rattle.drawing_search.specs.Trying.{walks_of}
 use Rattle.drawing_search.proofs.FieldFacts.{pair_below}
-use Rattle.drawing_search.proofs.Growing.{same_sum, sum_map}
+use Rattle.drawing_search.proofs.Growing.{in_range, same_sum, sum_map}
 
 -- ---- lists of numbers and their values
 
@@ -63,11 +63,6 @@ by_places d xs n each = from_place d xs 0 n each
     from_place d (x ∷ xs) a zero each = absurd (omega (arith, each))
     from_place d (x ∷ xs) a (suc n) each =
         let none : a - a ≡ 0 = omega arith in ap₂ (λ y ys. y ∷ ys) (ap (λ j. get_or (x ∷ xs) j d) none) (next_places d x xs a n ∙ from_place d xs (a + 1) n (omega (arith, each)))
-
-in_range : (a n x : ℕ) → In x (range_with_len a n) → x < a + n
-in_range a zero x i = absurd i
-in_range a (suc n) x (inl e) = omega (arith, e)
-in_range a (suc n) x (inr i) = omega (arith, in_range (a + 1) n x i)
 
 -- ---- the drawing of walks
 
