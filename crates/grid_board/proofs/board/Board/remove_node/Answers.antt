@@ -1,4 +1,4 @@
-use Rattle.std.proofs.Common.{◌≡◌, sym, ◌∙◌, ap, subst, false, set}
+use Rattle.std.proofs.Common.{sym, ◌∙◌, ap, subst, false, set}
 use Rattle.grid_board.specs.Boards.{BoardFlags, IsKept, parts_of, without_node}
 use Rattle.grid_board.proofs.Within.{frame_of}
 use Rattle.grid_board.proofs.OnBoards.{kept_bounds, kept_lifted, seen_inside, shown_lifted}
