@@ -53,21 +53,25 @@ complete -c octimap -n '__octimap_in map' -l edits -r -F -d 'A file of edits, on
 complete -c octimap -n '__octimap_at map 1' -a '(__fish_complete_directories (commandline -ct))'
 complete -c octimap -n '__octimap_at map 2' -a '(__octimap_files svg)'
 complete -c octimap -n '__octimap_at map 3' -F
+complete -c octimap -n '__octimap_in make' -s q -l quiet -d 'Leave out the lines on standard error that say more than the status'
 complete -c octimap -n '__octimap_in make' -l settings -r -F -d 'A file of settings in TOML, such as examples/settings.toml'
 complete -c octimap -n '__octimap_in make' -l edits -r -F -d 'A file of edits, one a line, such as examples/edits.txt; they are done to the tables and settings first'
 complete -c octimap -n '__octimap_at make 1' -a '(__fish_complete_directories (commandline -ct))'
 complete -c octimap -n '__octimap_at make 2' -a '(__octimap_files svg)'
 complete -c octimap -n '__octimap_at make 3' -F
+complete -c octimap -n '__octimap_in improve' -s q -l quiet -d 'Leave out the lines on standard error that say more than the status'
 complete -c octimap -n '__octimap_in improve' -l settings -r -F -d 'A file of settings in TOML, such as examples/settings.toml'
 complete -c octimap -n '__octimap_in improve' -l edits -r -F -d 'A file of edits, one a line, such as examples/edits.txt; they are done to the tables and settings first'
 complete -c octimap -n '__octimap_at improve 1' -a '(__fish_complete_directories (commandline -ct))'
 complete -c octimap -n '__octimap_at improve 2' -a '(__octimap_files svg)'
 complete -c octimap -n '__octimap_at improve 3' -F
+complete -c octimap -n '__octimap_in check' -s q -l quiet -d 'Leave out the lines on standard error that say more than the status'
 complete -c octimap -n '__octimap_in check' -l settings -r -F -d 'A file of settings in TOML, such as examples/settings.toml'
 complete -c octimap -n '__octimap_in check' -l edits -r -F -d 'A file of edits, one a line, such as examples/edits.txt; they are done to the tables and settings first'
 complete -c octimap -n '__octimap_at check 1' -a '(__fish_complete_directories (commandline -ct))'
 complete -c octimap -n '__octimap_at check 2' -a '(__octimap_files svg)'
 complete -c octimap -n '__octimap_at check 3' -F
+complete -c octimap -n '__octimap_in labels' -s q -l quiet -d 'Leave out the lines on standard error that say more than the status'
 complete -c octimap -n '__octimap_in labels' -l settings -r -F -d 'A file of settings in TOML, such as examples/settings.toml'
 complete -c octimap -n '__octimap_in labels' -l edits -r -F -d 'A file of edits, one a line, such as examples/edits.txt; they are done to the tables and settings first'
 complete -c octimap -n '__octimap_at labels 1' -a '(__fish_complete_directories (commandline -ct))'
@@ -82,9 +86,13 @@ complete -c octimap -n '__octimap_in session' -l settings -r -F -d 'A file of se
 complete -c octimap -n '__octimap_at session 1' -a '(__fish_complete_directories (commandline -ct))'
 complete -c octimap -n '__octimap_at session 2' -F
 complete -c octimap -n '__octimap_at session 3' -F
+complete -c octimap -n '__octimap_in graph' -s q -l quiet -d 'Leave out the lines on standard error that say more than the status'
 complete -c octimap -n '__octimap_in graph' -l settings -r -F -d 'A file of settings in TOML, such as examples/settings.toml'
 complete -c octimap -n '__octimap_in graph' -l edits -r -F -d 'A file of edits, one a line, such as examples/edits.txt; they are done to the tables and settings first'
 complete -c octimap -n '__octimap_at graph 1' -a '(__fish_complete_directories (commandline -ct))'
+complete -c octimap -n '__octimap_in stations' -s q -l quiet -d 'Leave out the lines on standard error that say more than the status'
 complete -c octimap -n '__octimap_at stations 1' -a '(__fish_complete_directories (commandline -ct))'
+complete -c octimap -n '__octimap_in page' -s q -l quiet -d 'Leave out the lines on standard error that say more than the status'
 complete -c octimap -n '__octimap_at page 1' -a '(__octimap_files svg)'
 complete -c octimap -n '__octimap_at page 2' -a '(__octimap_files html)'
+complete -c octimap -n '__octimap_in trial' -s q -l quiet -d 'Leave out the lines on standard error that say more than the status'

@@ -27,6 +27,7 @@ unchanged loaded (refused.Spent component branches) defined gives = ap (changed_
 unchanged loaded (refused.Limit limit) defined gives = ap (changed_by loaded) gives
 unchanged loaded (refused.Refuted item) defined gives = ap (changed_by loaded) gives
 unchanged loaded (refused.BadSettings bad) defined gives = ap (changed_by loaded) gives
+unchanged loaded (refused.BadGraph bad) defined gives = ap (changed_by loaded) gives
 unchanged loaded (refused.BadEdit line) defined gives = ap (changed_by loaded) gives
 unchanged loaded (refused.Missing input) defined gives = ap (changed_by loaded) gives
 

@@ -2,3 +2,4 @@ pub mod FileLemmas
 pub mod TableLemmas
 pub mod LoadLemmas
 pub mod EditLemmas
+mod SetLemmas

@@ -11,7 +11,8 @@ use Rattle.run_status.specs.declared.refusal.Refusal.{Refusal}
 use Rattle.run_status.specs.Following.{Follows, Gives}
 use Rattle.run_status.proofs.FollowLemmas.{IsRefusedAs, follows_refused, follows_then, follows_value, gives_follows}
 use Rattle.command_inputs.specs.declared.loaded.Loaded.{Loaded}
-use Rattle.command_inputs.specs.Loading.{edited_by, edits_file_work, feed_work, settings_by, settings_file_work, tables_work}
+use Rattle.map_settings.specs.Outcome.{sets_outcome}
+use Rattle.command_inputs.specs.Loading.{edited_by, edits_file_work, feed_work, settings_by, settings_file_work, settings_given, tables_work}
 
 abbrev pub Told : Type 0
 Told = Option (List (List ℕ × List ℕ))
@@ -25,17 +26,17 @@ abbrev pub with_settings : MapSettings → Work Input Refusal Loaded
 with_settings choices = tables_work choices.settings.types >>= (λ feed. ends (Ok (loaded_by choices feed)))
 
 -- a user who names no file has the standard settings
-pub settings_none : (told : Told) (paths : Input → List ℕ) (rose : Type 0) (defaults : Defaults) (chosen : Option (List ℕ)) (result : Result MapSettings Refusal) → chosen ≡ None
-    → Gives (λ (s : MapSettings). s) result (Ok (default_choices defaults)) → Follows told paths rose (λ (s : MapSettings). s) (settings_by defaults chosen) result
-settings_none told paths rose defaults chosen result none gives =
-    subst (λ (c : Option (List ℕ)). Follows told paths rose (λ (s : MapSettings). s) (settings_by defaults c) result) (sym none)
-    (gives_follows told paths rose (λ (s : MapSettings). s) (Ok (default_choices defaults)) result gives)
+pub settings_none : (told : Told) (paths : Input → List ℕ) (rose : Type 0) (defaults : Defaults) (sets : List (List ℕ)) (chosen : Option (List ℕ)) (result : Result MapSettings Refusal) → chosen ≡ None
+    → Gives (λ (s : MapSettings). s) result (settings_given (sets_outcome sets (Ok (default_choices defaults)))) → Follows told paths rose (λ (s : MapSettings). s) (settings_by defaults sets chosen) result
+settings_none told paths rose defaults sets chosen result none gives =
+    subst (λ (c : Option (List ℕ)). Follows told paths rose (λ (s : MapSettings). s) (settings_by defaults sets c) result) (sym none)
+    (gives_follows told paths rose (λ (s : MapSettings). s) (settings_given (sets_outcome sets (Ok (default_choices defaults)))) result gives)
 
 -- one who names a file has those that it gives
-pub settings_some : (told : Told) (paths : Input → List ℕ) (rose : Type 0) (defaults : Defaults) (chosen : Option (List ℕ)) (path : List ℕ) (result : Result MapSettings Refusal) → chosen ≡ Some path
-    → Follows told paths rose (λ (s : MapSettings). s) (settings_file_work defaults) result → Follows told paths rose (λ (s : MapSettings). s) (settings_by defaults chosen) result
-settings_some told paths rose defaults chosen path result some follows =
-    subst (λ (c : Option (List ℕ)). Follows told paths rose (λ (s : MapSettings). s) (settings_by defaults c) result) (sym some) follows
+pub settings_some : (told : Told) (paths : Input → List ℕ) (rose : Type 0) (defaults : Defaults) (sets : List (List ℕ)) (chosen : Option (List ℕ)) (path : List ℕ) (result : Result MapSettings Refusal) → chosen ≡ Some path
+    → Follows told paths rose (λ (s : MapSettings). s) (settings_file_work defaults sets) result → Follows told paths rose (λ (s : MapSettings). s) (settings_by defaults sets chosen) result
+settings_some told paths rose defaults sets chosen path result some follows =
+    subst (λ (c : Option (List ℕ)). Follows told paths rose (λ (s : MapSettings). s) (settings_by defaults sets c) result) (sym some) follows
 
 -- one who names no file of edits has settings and tables as they are
 pub edits_none : (told : Told) (paths : Input → List ℕ) (rose : Type 0) (named : Option (List ℕ)) (loaded : Loaded) → named ≡ None
@@ -53,14 +54,14 @@ edits_some told paths rose named path loaded result some follows =
 module _ (told : Told) (paths : Input → List ℕ) (chosen : Chosen) where
   -- the settings are refused
   pub settings_refused : (rose : Type 0) (why : Refusal) (result : Result Loaded Refusal) → IsRefusedAs why result
-      → Follows told paths rose (λ (s : MapSettings). s) (settings_by chosen.defaults chosen.settings) (Err why) → Follows told paths rose (λ (l : Loaded). l) (feed_work chosen) result
+      → Follows told paths rose (λ (s : MapSettings). s) (settings_by chosen.defaults chosen.sets chosen.settings) (Err why) → Follows told paths rose (λ (l : Loaded). l) (feed_work chosen) result
   settings_refused rose why result is first =
-      follows_refused told paths rose (λ (s : MapSettings). s) (λ (l : Loaded). l) (settings_by chosen.defaults chosen.settings) with_settings why result is first
+      follows_refused told paths rose (λ (s : MapSettings). s) (λ (l : Loaded). l) (settings_by chosen.defaults chosen.sets chosen.settings) with_settings why result is first
 
-  module _ (first_rose later rose : Type 0) (choices : MapSettings) (widen : later → rose) (first : Follows told paths first_rose (λ (s : MapSettings). s) (settings_by chosen.defaults chosen.settings) (Ok choices)) where
+  module _ (first_rose later rose : Type 0) (choices : MapSettings) (widen : later → rose) (first : Follows told paths first_rose (λ (s : MapSettings). s) (settings_by chosen.defaults chosen.sets chosen.settings) (Ok choices)) where
     past_settings : (result : Result Loaded Refusal) → Follows told paths later (λ (l : Loaded). l) (with_settings choices) result → Follows told paths rose (λ (l : Loaded). l) (feed_work chosen) result
     past_settings result second =
-        follows_then told paths first_rose later rose (λ (s : MapSettings). s) (λ (l : Loaded). l) (settings_by chosen.defaults chosen.settings) with_settings choices result widen first second
+        follows_then told paths first_rose later rose (λ (s : MapSettings). s) (λ (l : Loaded). l) (settings_by chosen.defaults chosen.sets chosen.settings) with_settings choices result widen first second
 
     -- the tables are refused
     pub tables_refused : (why : Refusal) (result : Result Loaded Refusal) → IsRefusedAs why result

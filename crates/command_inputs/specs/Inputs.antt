@@ -6,7 +6,7 @@ use Rattle.run_status.specs.declared.input.Input.{Input}
 use Rattle.run_status.specs.declared.input.Input.TheVariants as input
 use Rattle.command_inputs.specs.declared.inputs.Inputs.{Inputs}
 
--- the folder of the feed, what the user chose, a map and its certificate, a script; a path is empty where the command has no such
+-- the folder of the feed, what the user chose, a map and its certificate, a script or a graph file; a path is empty where the command has no such
 -- input
 pub record InputPaths : Type 0 where
   pub feed : List ℕ
@@ -23,6 +23,7 @@ abbrev pub input_at : InputPaths → Input → List ℕ
 input_at inputs input.Settings = unwrap_or inputs.chosen.settings []
 input_at inputs input.Edits = unwrap_or inputs.chosen.edits []
 input_at inputs (input.Table table) = path_in inputs.feed table
+input_at inputs input.Graph = inputs.script
 input_at inputs input.Script = inputs.script
 input_at inputs input.Certificate = inputs.files.certificate
 input_at inputs input.Picture = inputs.files.picture

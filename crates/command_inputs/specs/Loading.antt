@@ -12,7 +12,7 @@ use Rattle.transit_feed.specs.Feeds.{Feed}
 use Rattle.gtfs_tables.specs.Feed.{feed_of, routes_outcome, stops_table_outcome, trips_outcome, shapes_outcome, stop_times_outcome}
 use Rattle.map_settings.specs.declared.fault.SettingsWhy.{SettingsWhy}
 use Rattle.map_settings.specs.declared.fault.SettingsWhy.TheVariants as why
-use Rattle.map_settings.specs.Outcome.{settings_outcome}
+use Rattle.map_settings.specs.Outcome.{settings_outcome, sets_outcome}
 use Rattle.map_edits.specs.declared.edit.Edit.{Edit}
 use Rattle.map_edits.specs.Effects.{choices_after, feed_after}
 use Rattle.map_edits.specs.Standing.{edits_in}
@@ -60,25 +60,25 @@ abbrev pub settings_given : Result MapSettings SettingsWhy → Result MapSetting
 settings_given (Ok choices) = Ok choices
 settings_given (Err why) = Err (refused.BadSettings why)
 
-abbrev pub settings_in : Defaults → Option (List ℕ) → Result MapSettings Refusal
-settings_in defaults None = Err (refused.BadSettings why.Missing)
-settings_in defaults (Some bytes) = settings_given (settings_outcome defaults bytes)
+abbrev pub settings_in : Defaults → List (List ℕ) → Option (List ℕ) → Result MapSettings Refusal
+settings_in defaults sets None = Err (refused.BadSettings why.Missing)
+settings_in defaults sets (Some bytes) = settings_given (sets_outcome sets (settings_outcome defaults bytes))
 
--- a file of settings is read
-abbrev pub settings_file_work : Defaults → Work Input Refusal MapSettings
-settings_file_work defaults = do
+-- a file of settings is read, and what is set takes the place of its keys
+abbrev pub settings_file_work : Defaults → List (List ℕ) → Work Input Refusal MapSettings
+settings_file_work defaults sets = do
   file ← file_work input.Settings
-  ends (settings_in defaults file)
+  ends (settings_in defaults sets file)
 
--- the settings by the file that the user names, or those that hold where a user sets none
-abbrev pub settings_by : Defaults → Option (List ℕ) → Work Input Refusal MapSettings
-settings_by defaults None = ends (Ok (default_choices defaults))
-settings_by defaults (Some path) = settings_file_work defaults
+-- the settings by the file that the user names, or those that hold where a user names none, after what is set
+abbrev pub settings_by : Defaults → List (List ℕ) → Option (List ℕ) → Work Input Refusal MapSettings
+settings_by defaults sets None = ends (settings_given (sets_outcome sets (Ok (default_choices defaults))))
+settings_by defaults sets (Some path) = settings_file_work defaults sets
 
 -- the settings come first, and then the tables by them
 abbrev pub feed_work : Chosen → Work Input Refusal Loaded
 feed_work chosen = do
-  all ← settings_by chosen.defaults chosen.settings
+  all ← settings_by chosen.defaults chosen.sets chosen.settings
   feed ← tables_work all.settings.types
   ends (Ok (record { settings = all.settings; method = all.method; tables = feed }))
 

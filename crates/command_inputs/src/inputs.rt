@@ -17,7 +17,7 @@ pub struct Inputs<'a> {
     pub options: Options<'a>,
     /// A map and its certificate.
     pub files: MapFiles<'a>,
-    /// The script of a session.
+    /// The script of a session, or the graph file of an import.
     pub script: &'a str,
 }
 
@@ -34,6 +34,7 @@ pub fn path_of(alloc: Global, inputs: &Inputs<'_>, input: Input) -> Result<Text,
             let path = format!(in alloc; "{folder}/{name}")?;
             Text::of(alloc, path.as_str())
         }
+        Input::Graph => Text::of(alloc, inputs.script),
         Input::Script => Text::of(alloc, inputs.script),
         Input::Certificate => Text::of(alloc, inputs.files.certificate),
         Input::Picture => Text::of(alloc, inputs.files.picture),

@@ -11,3 +11,4 @@ mod settings;
 pub use input_file::read_file;
 pub use inputs::{Inputs, path_of};
 pub use loaded::{Loaded, load};
+pub use settings::settings_for;

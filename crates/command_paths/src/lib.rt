@@ -3,9 +3,13 @@
 #![tactic(auto)]
 
 mod map_files;
+mod new_files;
 mod options;
 mod picture;
+mod sets;
 
 pub use map_files::MapFiles;
+pub use new_files::NewFiles;
 pub use options::Options;
 pub use picture::Picture;
+pub use sets::next_set;

@@ -11,4 +11,6 @@ pub struct Options<'a> {
     pub settings: Option<&'a str>,
     /// A file of edits.
     pub edits: Option<&'a str>,
+    /// The words of the command line, whose `--set` take the place of keys of the file of settings.
+    pub words: &'a [String],
 }

@@ -1,4 +1,5 @@
 pub mod Apart
+pub mod OnLiterals
 mod Reading
 mod Numbers
 mod Building

@@ -1,9 +1,9 @@
 //! Commands with what they work on.
 
-use command_paths::{MapFiles, Options, Picture};
+use command_paths::{MapFiles, NewFiles, Options, Picture};
 
 /// A command with what it works on.
-#[derive(Clone, Copy, Debug)]
+#[derive(Clone, Copy)]
 pub enum Command<'a> {
     /// The stations of the feed in this folder.
     Stations {
@@ -14,11 +14,23 @@ pub enum Command<'a> {
         feed: &'a str,
         options: Options<'a>,
     },
-    /// The map of the feed in this folder, and its certificate; `map` and `make` differ in the settings where the user
-    /// sets none.
+    /// The line graph of the feed in this folder, as a file.
+    Export {
+        feed: &'a str,
+        out: &'a str,
+        options: Options<'a>,
+    },
+    /// The map of a graph file, and its certificate.
+    Import {
+        graph: &'a str,
+        files: MapFiles<'a>,
+        options: Options<'a>,
+    },
+    /// The map of the feed in this folder, its certificate, and its page where one is asked for; `map` and `make` differ
+    /// in the settings where the user sets none.
     Make {
         feed: &'a str,
-        files: MapFiles<'a>,
+        files: NewFiles<'a>,
         options: Options<'a>,
     },
     /// The same map after so many moves more at most, and what they made of its drawing.

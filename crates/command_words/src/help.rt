@@ -5,7 +5,7 @@ pub(crate) const PROGRAM: &str =
     "Makes schematic maps of transit networks from GTFS Schedule feeds, and checks them";
 
 /// The version of the program, which `--version` prints: that of `dist/version`.
-pub(crate) const VERSION: &str = "0.1.0";
+pub const VERSION: &str = "0.1.0";
 
 /// What stands below the list of commands.
 pub(crate) const AFTER_PROGRAM: &str = "\
@@ -19,13 +19,15 @@ Examples:
   octimap page map.svg map.html
   octimap session examples/vienna-ubahn examples/session.txt draws.txt
   octimap graph examples/vienna-ubahn
+  octimap export examples/vienna-ubahn graph.json
+  octimap import graph.json map.svg map.cert
   octimap stations examples/vienna-ubahn
   octimap trial 152
 
 Exit status:
    0  done
    1  the map or its certificate is refused; the line names the first item that is wrong
-   2  the words were not understood, or help or the version was asked for
+   2  the words were not understood, or help was asked for
    3  the feed has a bad row; the line names the table, the row and the reason
    4  no grid is fine enough for the network; the line names the first segment without a way
    5  the search for line orders took too long; the line names the part and its branch nodes
@@ -35,6 +37,7 @@ Exit status:
    9  no memory
   10  the settings are bad; the line names the key
   11  an edit is bad; the line names its line in the file, or 0 where there is no file
+  12  the graph file is bad; the line names what is wrong
   13  a file that is needed is not there; the line names it";
 
 pub(crate) const STATIONS: &str = "Print each station of a feed: its place and its id";
@@ -55,6 +58,26 @@ north, and where lines go on from segment to segment. X and Y are whole decimetr
 Example:
   octimap graph examples/vienna-ubahn";
 
+pub(crate) const EXPORT: &str = "Write the line graph of a feed as GeoJSON";
+
+pub(crate) const AFTER_EXPORT: &str = "\
+OUT is one line of JSON. Nodes are Points with the segments round them, the lines that go on there and, at a station,
+its name; segments are LineStrings with the numbers of their two nodes and of their lines. Beside these stand the lines
+with names, colours and importance. Coordinates are whole decimetres, X eastwards and Y northwards, and not degrees.
+
+Example:
+  octimap export examples/vienna-ubahn graph.json";
+
+pub(crate) const IMPORT: &str = "Make the map of a graph file, and its certificate";
+
+pub(crate) const AFTER_IMPORT: &str = "\
+JSON is a file as `octimap export` writes it, of a feed or changed by hand. Of the settings those count that draw a map
+and order its lines; what a feed is chosen and named by stands in the file.
+
+Example:
+  octimap export examples/vienna-ubahn graph.json
+  octimap import graph.json map.svg map.cert";
+
 pub(crate) const MAP: &str =
     "Make the map of a feed, and a certificate that its line orders cost least";
 
@@ -64,7 +87,8 @@ printed. SVG and CERT are two files; what they held before is lost. Finer grids 
 line orders are searched for longer than by `make`.
 
 Example:
-  octimap map examples/vienna-ubahn map.svg map.cert";
+  octimap map examples/vienna-ubahn map.svg map.cert
+  octimap map --page map.html examples/vienna-ubahn map.svg map.cert";
 
 pub(crate) const MAKE: &str = "Make the map of a feed by other settings than `map` has";
 
@@ -150,9 +174,14 @@ Example:
 
 pub(crate) const FEED: &str = "The folder with the tables of an unpacked GTFS Schedule feed";
 
+pub(crate) const QUIET: &str =
+    "Leave out the lines on standard error that say more than the status";
+
 pub(crate) const NEW_SVG: &str = "The file that the map is written to";
 
 pub(crate) const NEW_CERT: &str = "The file that the certificate is written to";
+
+pub(crate) const NEW_PAGE: &str = "The file that a page of the map is written to, for a browser";
 
 pub(crate) const MOVES: &str = "How many moves there may be, from 0 to 10000";
 
@@ -162,6 +191,10 @@ pub(crate) const CERT: &str = "The file of its certificate";
 
 pub(crate) const LABELLED: &str = "The file that the map with its names is written to";
 
+pub(crate) const READ_GRAPH: &str = "The graph file";
+
+pub(crate) const GRAPH_FILE: &str = "The file that the line graph is written to";
+
 pub(crate) const GEOGRAPHIC: &str = "The file that the geographic map is written to";
 
 pub(crate) const SCRIPT: &str =
@@ -170,6 +203,9 @@ pub(crate) const SCRIPT: &str =
 pub(crate) const DRAWS: &str = "The file that the maps and certificates are written to";
 
 pub(crate) const SETTINGS: &str = "A file of settings in TOML, such as examples/settings.toml";
+
+pub(crate) const SET: &str =
+    "A key of the settings in place of that of the file, as often as wanted, such as near=400";
 
 pub(crate) const EDITS: &str =
     "A file of edits, one a line, such as examples/edits.txt; they are done to the tables and settings first";
@@ -182,7 +218,7 @@ pub(crate) const NUMBER: &str = "The number of the feed, from 0 to 4294967295";
 
 /// What is said where a map and its certificate are to be one file.
 pub(crate) const ONE_MAP: &str = "\
-error: SVG and CERT are one file
+error: two of SVG, CERT and HTML are one file
 
 Usage: octimap map [OPTIONS] <FEED> <SVG> <CERT>
 
@@ -191,7 +227,7 @@ For more information, try '--help'.
 
 /// The same of `make`.
 pub(crate) const ONE_FILE: &str = "\
-error: SVG and CERT are one file
+error: two of SVG, CERT and HTML are one file
 
 Usage: octimap make [OPTIONS] <FEED> <SVG> <CERT>
 
@@ -207,11 +243,20 @@ Usage: octimap improve [OPTIONS] <FEED> <SVG> <CERT> <MOVES>
 For more information, try '--help'.
 ";
 
+/// The same of `import`.
+pub(crate) const ONE_IMPORTED: &str = "\
+error: SVG and CERT are one file
+
+Usage: octimap import [OPTIONS] <JSON> <SVG> <CERT>
+
+For more information, try '--help'.
+";
+
 /// What is said where a map and its page are to be one file.
 pub(crate) const ONE_PAGE: &str = "\
 error: SVG and HTML are one file
 
-Usage: octimap page <SVG> <HTML>
+Usage: octimap page [OPTIONS] <SVG> <HTML>
 
 For more information, try '--help'.
 ";

@@ -8,8 +8,13 @@ mod fault;
 mod help;
 mod matches;
 mod program;
+mod quiet;
+mod version;
 mod words;
 
 pub use command::Command;
 pub use fault::WordsFault;
+pub use help::VERSION;
+pub use quiet::is_quiet;
+pub use version::asks_version;
 pub use words::command_of;

@@ -2,6 +2,7 @@
 
 ghost use Rattle.std.specs.Prelude.{◌≡◌};
 ghost use Rattle.clap.specs.Words.{app_of, kind_of, subcommand_rows_of};
+ghost use Rattle.command_paths.specs.Sets.{sets_of};
 ghost use Rattle.command_words.specs.Program.{octimap_app};
 ghost use Rattle.command_words.specs.Words.{Matches, Reads, asked_in, named_in};
 
@@ -21,16 +22,20 @@ pub fn command_of<'a>(alloc: Global, words: &'a [String]) -> Result<Command<'a>,
     ensures { Reads (asked_in words.now) result }
 {
     match matches_of(alloc, words) {
-        Ok(matches) => command_by(alloc, &matches),
+        Ok(matches) => command_by(alloc, &matches, words),
         Err(fault) => Err(fault),
     }
 }
 
 /// The command that the matches ask for.
-fn command_by<'a>(alloc: Global, matches: &ArgMatches<'a>) -> Result<Command<'a>, WordsFault>
-    ensures { Reads (named_in (subcommand_rows_of matches.now)) result }
+fn command_by<'a>(
+    alloc: Global,
+    matches: &ArgMatches<'a>,
+    words: &'a [String],
+) -> Result<Command<'a>, WordsFault>
+    ensures { Reads (named_in (sets_of words.now) (subcommand_rows_of matches.now)) result }
 {
-    match command_in(matches) {
+    match command_in(matches, words) {
         Some(command) => Ok(command),
         None => Err(shown(String::from_str(alloc, one_file(matches)))),
     }
@@ -42,13 +47,14 @@ fn one_file(matches: &ArgMatches<'_>) -> &'static str {
         Some(name) if name == "page" => help::ONE_PAGE,
         Some(name) if name == "map" => help::ONE_MAP,
         Some(name) if name == "improve" => help::ONE_IMPROVED,
+        Some(name) if name == "import" => help::ONE_IMPORTED,
         _ => help::ONE_FILE,
     }
 }
 
 /// The matches of the words, or the text for the user.
 fn matches_of<'a>(alloc: Global, words: &'a [String]) -> Result<ArgMatches<'a>, WordsFault>
-    ensures { Matches (asked_in words.now) result }
+    ensures { Matches (sets_of words.now) (asked_in words.now) result }
 {
     match program(alloc) {
         Ok(program) => matches_by(alloc, program, words),
@@ -63,7 +69,7 @@ fn matches_by<'a>(
     words: &'a [String],
 ) -> Result<ArgMatches<'a>, WordsFault>
     requires { app_of program ≡ octimap_app }
-    ensures { Matches (asked_in words.now) result }
+    ensures { Matches (sets_of words.now) (asked_in words.now) result }
 {
     match program.try_get_matches_from(words) {
         Ok(matches) => Ok(matches),

@@ -1,7 +1,7 @@
 //! Standard output and real files, to be written.
 
 ghost use Rattle.std.specs.Prelude.{◌≡◌, ◌≤◌, None, Some, length, IfOk, IsErr, IsSome};
-ghost use Rattle.files_door.specs.Fault.{HasCause};
+ghost use Rattle.files_door.specs.Fault.{HasCause, Rose};
 ghost use Rattle.files_door.specs.declared.target.Target.TheVariants.{Path};
 ghost use Rattle.disk_door.specs.Places.{target_of};
 
@@ -12,7 +12,7 @@ use crate::outputs::{Output, output_at};
 use crate::placing::{place_all, remove_all};
 use crate::retries::write_once;
 use files_door::{Sinks, Stop, Target};
-use map_base::Text;
+use map_base::{NoMemory, Text};
 use std::alloc::Global;
 use std::fs::OpenFile;
 use std::io::{ErrorKind, Write};
@@ -46,6 +46,17 @@ pub struct DiskSinks<R: rt::Files + Print> {
     most: u64,
     failures: u64,
     is_lost: bool,
+    last_error: Option<io::Error>,
+    last_path: Option<Text>,
+}
+
+/// An error of the system in writing.
+#[derive(Clone, Copy, Debug)]
+pub struct WriteError<'a> {
+    /// What the system said.
+    pub error: io::Error,
+    /// The output that could not be written; none where it is standard output, or all of them.
+    pub path: Option<&'a str>,
 }
 
 impl<R: rt::Files + Print> DiskSinks<R> {
@@ -63,7 +74,19 @@ impl<R: rt::Files + Print> DiskSinks<R> {
             most,
             failures: 0,
             is_lost: false,
+            last_error: None,
+            last_path: None,
         }
+    }
+
+    /// The last error of the system in writing, if there was one.
+    pub fn last_error(&self) -> Option<WriteError<'_>> {
+        let error = self.last_error?;
+        let path = match &self.last_path {
+            Some(path) => Some(path.as_str()),
+            None => None,
+        };
+        Some(WriteError { error, path })
     }
 
     /// Puts all that was written in its place: each file that was begun is the new one, and its bytes are on the disk.
@@ -74,7 +97,7 @@ impl<R: rt::Files + Print> DiskSinks<R> {
     {
         match self.settle() {
             Ok(()) => Ok(()),
-            Err(error) => Err(stop_of(&mut self.failures, &error)),
+            Err(error) => Err(self.stopped(error)),
         }
     }
 
@@ -99,12 +122,26 @@ impl<R: rt::Files + Print> DiskSinks<R> {
         is_begun || self.drafts.iter().any(|draft| draft.length > 0)
     }
 
+    /// What an error of the system is answered as. It is the last error from now on.
+    fn stopped(&mut self, error: io::Error) -> Stop
+        ensures place { self.new.place ≡ self.old.place }
+        ensures failed { result ≡ Stop.Failed → Rose self.old.failures self.new.failures }
+        ensures later { self.old.failures ≤ self.new.failures }
+    {
+        let stop = stop_of(&mut self.failures, &error);
+        self.last_error = Some(error);
+        stop
+    }
+
     /// Closes the current target, and puts all drafts in their places.
     fn settle(&mut self) -> io::Result<()>
         ensures nowhere { target_of self.new.place ≡ None }
         ensures count { self.new.failures ≡ self.old.failures }
     {
         let left = self.leave();
+        if left.is_ok() {
+            self.last_path = None;
+        }
         let drafts = mem::replace(&mut self.drafts, Vec::new(self.alloc));
         if let Err(error) = left {
             remove_all(&self.rt, &drafts);
@@ -150,9 +187,8 @@ impl<R: rt::Files + Print> DiskSinks<R> {
     {
         // Room for this draft where it is closed.
         self.drafts.reserve(1)?;
-        let Ok(kept) = Text::of(self.alloc, path.as_str()) else {
-            return Err(io::Error::from(ErrorKind::OutOfMemory));
-        };
+        let kept = copied(self.alloc, path)?;
+        self.last_path = Some(copied(self.alloc, path)?);
         match output_at(&self.rt, self.alloc, path.as_str())? {
             Output::Draft(draft) => Ok(Place::Draft(kept, draft)),
             Output::Straight(file) => Ok(Place::Straight(kept, file)),
@@ -166,6 +202,7 @@ impl<R: rt::Files + Print> DiskSinks<R> {
         ensures count { self.new.failures ≡ self.old.failures }
     {
         self.leave()?;
+        self.last_path = None;
         self.place = match to {
             Target::Said => Place::Said,
             Target::Path(path) => self.open(path)?,
@@ -186,6 +223,16 @@ impl<R: rt::Files + Print> DiskSinks<R> {
             Place::Draft(_, draft) => draft.write(piece, self.most),
             Place::Straight(_, file) => write_straight(file, piece, self.most),
         }
+    }
+}
+
+/// A path again.
+fn copied(alloc: Global, path: &Text) -> io::Result<Text>
+    ensures { IfOk result (λ text. text ≡ path.now) }
+{
+    match Text::of(alloc, path.as_str()) {
+        Ok(text) => Ok(text),
+        Err(NoMemory) => Err(io::Error::from(ErrorKind::OutOfMemory)),
     }
 }
 
@@ -232,7 +279,7 @@ impl<R: rt::Files + Print> Sinks for DiskSinks<R> {
     fn begin(&mut self, to: &Target) -> Result<(), Stop> {
         match self.turn_to(to) {
             Ok(()) => Ok(()),
-            Err(error) => Err(stop_of(&mut self.failures, &error)),
+            Err(error) => Err(self.stopped(error)),
         }
     }
 
@@ -244,7 +291,7 @@ impl<R: rt::Files + Print> Sinks for DiskSinks<R> {
                 }
                 Ok(count)
             }
-            Err(error) => Err(stop_of(&mut self.failures, &error)),
+            Err(error) => Err(self.stopped(error)),
         }
     }
 }

@@ -15,5 +15,5 @@ mod placing;
 mod retries;
 
 pub use disk_files::DiskFiles;
-pub use disk_sinks::DiskSinks;
+pub use disk_sinks::{DiskSinks, WriteError};
 pub use leads::{DiskLeads, Leads};

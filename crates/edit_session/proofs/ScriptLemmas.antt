@@ -17,11 +17,13 @@ use Rattle.kept_trees.specs.Keeping.{is_held}
 use Rattle.kept_trees.proofs.HeldLists.{held_is_in, in_is_held}
 use Rattle.map_edits.specs.declared.edit.Edit.{Edit}
 use Rattle.map_edits.specs.Effects.{feed_after, choices_after}
-use Rattle.map_engine.specs.declared.fault.MakeFault.{MakeFault}
-use Rattle.map_engine.specs.Problems.{Drawn, drawn_outcome, untangled_problem}
-use Rattle.map_engine.specs.Solving.{parts_in}
-use Rattle.map_engine.specs.Making.{plan_of}
-use Rattle.map_engine.specs.Keeping.{parts_missing, missing_branches, branches_left}
+use Rattle.map_faults.specs.declared.fault.MakeFault.{MakeFault}
+use Rattle.graph_maps.specs.Problems.{Drawn, untangled_problem}
+use Rattle.map_engine.specs.Making.{drawn_outcome}
+use Rattle.graph_maps.specs.Solving.{parts_in}
+use Rattle.graph_maps.specs.Making.{plan_of}
+use Rattle.graph_maps.specs.Keeping.{parts_missing, missing_branches}
+use Rattle.map_engine.specs.Keeping.{branches_left}
 use Rattle.edit_session.specs.Scripts.{finished_with, branches_over}
 
 -- where one test passes no more elements than another, their sum is no greater

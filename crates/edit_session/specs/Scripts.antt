@@ -11,8 +11,9 @@ use Rattle.map_edits.specs.declared.reading.ScriptLine.TheVariants as script
 use Rattle.map_edits.specs.Grammar.{script_line_in}
 use Rattle.map_edits.specs.Effects.{feed_after, choices_after}
 use Rattle.map_edits.specs.Standing.{Named, named_in, is_due, after_edit}
-use Rattle.map_engine.specs.declared.fault.MakeFault.{MakeFault}
-use Rattle.map_engine.specs.Making.{MapBytes, make_outcome}
+use Rattle.map_faults.specs.declared.fault.MakeFault.{MakeFault}
+use Rattle.graph_maps.specs.Making.{MapBytes}
+use Rattle.map_engine.specs.Making.{make_outcome}
 use Rattle.map_engine.specs.Keeping.{finished_parts, branches_left}
 
 -- a script as it is followed: the edits that stand at each of its draws, in their order, up to its first bad line; and

@@ -10,8 +10,9 @@ use Rattle.map_edits.specs.declared.fault.EditStop.TheVariants as stop
 use Rattle.map_edits.specs.Kinds.{is_undo}
 use Rattle.map_edits.specs.Effects.{IsInRange, feed_after, choices_after}
 use Rattle.map_edits.specs.Standing.{Named, named_in, is_named, is_due, after_edit}
-use Rattle.map_engine.specs.declared.fault.MakeFault.{MakeFault}
-use Rattle.map_engine.specs.Making.{MapBytes, make_outcome}
+use Rattle.map_faults.specs.declared.fault.MakeFault.{MakeFault}
+use Rattle.graph_maps.specs.Making.{MapBytes}
+use Rattle.map_engine.specs.Making.{make_outcome}
 use Rattle.map_engine.specs.Keeping.{finished_parts, branches_left}
 
 -- The tables and settings that a session was begun with, how its maps are found, the edits that stand, in their order, and

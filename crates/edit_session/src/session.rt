@@ -1,8 +1,8 @@
 //! A session of an editor of maps.
 
 ghost use Rattle.std.specs.Prelude.{◌≡◌, ◌≤◌, ◌+◌, All, Contains, IfOk, IfErr, OnOk, OnErr};
-ghost use Rattle.map_engine.specs.Keeping.{HoldsFinished};
-ghost use Rattle.map_engine.specs.Making.{bytes_of, Gives};
+ghost use Rattle.graph_maps.specs.Keeping.{HoldsFinished};
+ghost use Rattle.graph_maps.specs.Making.{bytes_of, Gives};
 ghost use Rattle.map_engine.specs.Promises.{IsMade};
 ghost use Rattle.edit_session.specs.Sessions.{begun, with_edit, with_held, IsRefused, MayCome, drawn_feed, drawn_choices, draw_outcome, draw_parts, branches_to_draw};
 

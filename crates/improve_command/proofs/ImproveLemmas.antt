@@ -1,10 +1,11 @@
 -- What `improve` promises, and how many steps it takes.
 use Rattle.std.proofs.Common.{◌≡◌, ◌≤◌, ◌+◌, ℕ, inr, List, [], Option, Result, Ok, Err, IfOk, ap, sym, subst}
 use Rattle.command_run.specs.declared.output.Output.{Output}
-use Rattle.map_engine.specs.declared.fault.MakeFault.{MakeFault}
-use Rattle.map_engine.specs.declared.fault.MakeFault.TheVariants as fault
-use Rattle.map_engine.specs.Making.{HasCause}
-use Rattle.map_engine.specs.Improving.{ImprovedBytes, improve_outcome, IsImprovedMap}
+use Rattle.map_faults.specs.declared.fault.MakeFault.{MakeFault}
+use Rattle.map_faults.specs.declared.fault.MakeFault.TheVariants as fault
+use Rattle.graph_maps.specs.Making.{HasCause}
+use Rattle.graph_maps.specs.Improving.{ImprovedBytes}
+use Rattle.map_engine.specs.Improving.{improve_outcome, IsImprovedMap}
 use Rattle.map_engine.specs.Keeping.{branches_left}
 use Rattle.command_inputs.specs.declared.loaded.Loaded.{Loaded}
 use Rattle.run_status.specs.declared.refusal.Refusal.{Refusal}

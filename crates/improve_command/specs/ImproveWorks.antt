@@ -1,9 +1,10 @@
 -- What `improve` does, and what it promises.
 use Rattle.std.specs.Prelude.{◌≡◌, ℕ, ◌++◌, codes, List, Option, Result, Ok, Err}
 use Rattle.std.specs.Fmt.{decimal}
-use Rattle.map_engine.specs.declared.fault.MakeFault.{MakeFault}
-use Rattle.map_engine.specs.declared.improvement.Improvement.{Improvement}
-use Rattle.map_engine.specs.Improving.{ImprovedBytes, improve_outcome, IsImprovedMap}
+use Rattle.map_faults.specs.declared.fault.MakeFault.{MakeFault}
+use Rattle.graph_maps.specs.declared.improvement.Improvement.{Improvement}
+use Rattle.graph_maps.specs.Improving.{ImprovedBytes}
+use Rattle.map_engine.specs.Improving.{improve_outcome, IsImprovedMap}
 use Rattle.command_run.specs.declared.output.Output.{Output}
 use Rattle.command_run.specs.Work.{Work, ends, ◌>>=◌}
 use Rattle.command_paths.specs.Paths.{Chosen, MapPaths}

@@ -2,7 +2,8 @@
 
 ghost use Rattle.std.specs.Prelude.{Ok, ◌≡◌, ◌≤◌, ◌+◌, [], IfOk};
 ghost use Rattle.files_door.specs.Fault.{Rose};
-ghost use Rattle.map_engine.specs.Improving.{ImprovedBytes, improve_outcome, IsImprovedMap};
+ghost use Rattle.graph_maps.specs.Improving.{ImprovedBytes};
+ghost use Rattle.map_engine.specs.Improving.{improve_outcome, IsImprovedMap};
 ghost use Rattle.map_engine.specs.Keeping.{branches_left};
 ghost use Rattle.command_paths.specs.Paths.{paths_by};
 ghost use Rattle.command_inputs.specs.Inputs.{input_at, inputs_by};

@@ -1,7 +1,7 @@
 //! The outputs of `improve`.
 
 ghost use Rattle.std.specs.Prelude.{◌≡◌, ◌++◌, IfOk, OnOk, string_bytes};
-ghost use Rattle.map_engine.specs.Improving.{improved_bytes};
+ghost use Rattle.graph_maps.specs.Improving.{improved_bytes};
 ghost use Rattle.command_paths.specs.Paths.{paths_by};
 ghost use Rattle.run_status.specs.Outputs.{said};
 ghost use Rattle.improve_command.specs.ImproveWorks.{improved_line, improved_outputs};

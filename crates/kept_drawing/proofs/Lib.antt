@@ -1,3 +1,1 @@
-mod Lists
-mod Walks
 mod Graphs

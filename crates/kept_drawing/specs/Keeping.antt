@@ -1,21 +1,9 @@
--- What is kept: the line graph of courses, and the walks of a line graph.
-use Rattle.std.specs.Prelude.{◌≡◌, ℕ, List, length, true, Ok}
-use Rattle.map_method.specs.declared.spread.Spread.{Spread}
+-- What is kept: the line graph of courses.
+use Rattle.std.specs.Prelude.{◌≡◌, ℕ, Ok}
 use Rattle.graph_core.specs.declared.parts.GraphParts.{GraphParts}
 use Rattle.feed_courses.specs.declared.courses.Courses.{Courses}
 use Rattle.line_graph.specs.Outcome.{net_of_courses, graph_over_net}
-use Rattle.octi_grid.specs.Walks.{PlainWalk}
-use Rattle.octi_grid.specs.Legal.{legal}
-use Rattle.grid_board.specs.Points.{are_near}
-use Rattle.segment_router.specs.Routing.{route_outcome}
 
 -- a graph is the line graph of courses, of that many lines
 abbrev pub IsGraphOf : ℕ → ℕ → Courses → GraphParts → Type 0
 IsGraphOf near lines all graph = graph_over_net near lines all (net_of_courses near all) ≡ Ok graph
-
--- walks are the routes of a line graph: a legal drawing, near the origin
-pub record AreRoutes (graph : GraphParts) (cell : ℕ) (spread : Spread) (finest : ℕ) (walks : List PlainWalk) : Type 0 where
-  pub routed : route_outcome graph cell spread finest ≡ Ok walks
-  pub legal : legal graph walks ≡ true
-  pub each : length walks ≡ length graph.ends
-  pub near : are_near 1800 walks ≡ true

@@ -7,10 +7,10 @@ ghost use Rattle.line_graph.specs.Outcome.{graph_outcome, graph_over_net, net_of
 ghost use Rattle.map_base.specs.Faults.{HasCause};
 ghost use Rattle.kept_drawing.specs.Keeping.{IsGraphOf};
 
-use crate::copies::copy_of_graph;
 use crate::same_courses::are_same_courses;
 use feed_courses::{Courses, courses_of};
 use graph_core::LineGraph;
+use kept_walks::copy_of_graph;
 use line_graph::{build, graph_of_courses};
 use map_base::{LimitFault, NoMemory, Settings};
 use std::alloc::Global;

@@ -1,7 +1,7 @@
 //! What was drawn last.
 
 use crate::kept_graph::KeptGraph;
-use crate::kept_walks::KeptWalks;
+use kept_walks::KeptWalks;
 
 /// The line graph that was built last and the drawing that was routed last, if they are kept. What is drawn is the same
 /// whatever is kept.

@@ -4,8 +4,8 @@
 
 ghost use Rattle.std.specs.Prelude.{◌≡◌, ◌<◌, ◌⊎◌, false, IsErrOf, OnOk};
 
-use command_words::command_of;
-use disk_door::{DiskFiles, DiskLeads, DiskSinks};
+use command_words::{VERSION, asks_version, command_of, is_quiet};
+use disk_door::{DiskFiles, DiskLeads, DiskSinks, WriteError};
 use files_door::Stop;
 use map_base::{NoMemory, Steps};
 use map_run::run;
@@ -15,13 +15,30 @@ use std::marker::Brand;
 use std::process::ExitCode;
 use std::sync::ledger::{Blank, Ledger};
 use std::{env, io, rt};
+use user_messages::message;
 
 fn main(rt: HostRuntime) -> ExitCode {
     let status = match words_of(&rt) {
-        Ok(words) => run_counted::<Brand>(&rt, &words, Blank::new(1)),
+        Ok(words) => run_words(&rt, &words),
         Err(error) => unread_words(&rt, &error),
     };
     ExitCode::from(status.number())
+}
+
+/// Tells the version where the words ask for it, and else runs.
+fn run_words(rt: &HostRuntime, words: &[String]) -> Status {
+    if asks_version(words) {
+        return tell_version(rt);
+    }
+    run_counted::<Brand>(rt, words, Blank::new(1))
+}
+
+/// Prints the version of the program.
+fn tell_version(rt: &HostRuntime) -> Status {
+    match println!(rt; "octimap {VERSION}") {
+        Ok(()) => Status::Done,
+        Err(_) => Status::WriteFault,
+    }
 }
 
 /// The words after the program's name.
@@ -59,7 +76,16 @@ fn run_on_disk<L: Ledger>(rt: &HostRuntime, words: &[String], blank: Blank) -> S
     let mut sinks = DiskSinks::new(rt, rt.alloc());
     let mut steps = Steps::<L>::open(blank);
     let status = run(rt.alloc(), words, &mut files, &mut sinks, &mut steps);
-    if is_put_in_place(&status, words, &sinks) {
+    let ended = end(status, words, &mut sinks);
+    if !is_quiet(words) {
+        say_more(rt, words, &ended, sinks.last_error());
+    }
+    ended
+}
+
+/// Puts what a run wrote in its place, or forgets it; the status that the program ends with.
+fn end<R: rt::Files + Print>(status: Status, words: &[String], sinks: &mut DiskSinks<R>) -> Status {
+    if is_put_in_place(&status, words, sinks) {
         return status_after(status, sinks.put_in_place());
     }
     sinks.discard();
@@ -102,7 +128,7 @@ fn status_after(status: Status, placed: Result<(), Stop>) -> Status
     }
 }
 
-/// An output of what the words ask for that is one file with an input, or with the other output. Words that are not
+/// An output of what the words ask for that is one file with an input, or with another output. Words that are not
 /// read are told by the run.
 fn clash_in(rt: &HostRuntime, words: &[String]) -> Result<Option<Clash>, NoMemory> {
     match command_of(rt.alloc(), words) {
@@ -121,6 +147,13 @@ fn refuse_clash(rt: &HostRuntime, clash: &Clash) -> Status
         "error: the output {output} is one file with {other}\n\nFor more information, try '--help'."
     );
     Status::Usage
+}
+
+/// Says on standard error what a status means for the user, if there is anything to say and memory for it.
+fn say_more(rt: &HostRuntime, words: &[String], status: &Status, fault: Option<WriteError<'_>>) {
+    if let Ok(lines) = message(rt, words, status, fault) {
+        let _not_shown = eprint!(rt; "{lines}");
+    }
 }
 
 /// The words are no text, or there is no memory for them.

@@ -4,11 +4,13 @@ use Rattle.std.specs.Option.{option_map}
 use Rattle.graph_core.specs.declared.parts.GraphParts.{GraphParts}
 use Rattle.line_graph.specs.Outcome.{graph_outcome}
 use Rattle.files_door.specs.Files.{file_at}
-use Rattle.map_engine.specs.declared.fault.CheckItem.{CheckItem}
-use Rattle.map_engine.specs.declared.fault.CheckItem.TheVariants as found
-use Rattle.map_engine.specs.declared.checked.Checked.{Checked}
-use Rattle.map_engine.specs.declared.checked.Proved.{Proved}
-use Rattle.map_engine.specs.Checking.{PlainChecked, checked_bytes, first_difference, unless_refused}
+use Rattle.map_faults.specs.declared.fault.CheckFault.{CheckFault}
+use Rattle.map_faults.specs.declared.fault.CheckFault.TheVariants as refuted
+use Rattle.map_faults.specs.declared.fault.CheckItem.{CheckItem}
+use Rattle.map_faults.specs.declared.fault.CheckItem.TheVariants as found
+use Rattle.graph_maps.specs.declared.checked.Checked.{Checked}
+use Rattle.graph_maps.specs.declared.checked.Proved.{Proved}
+use Rattle.graph_maps.specs.Checking.{PlainChecked, checked_bytes, first_difference, unless_refused, HasCause}
 use Rattle.map_engine.specs.Promises.{IsCertified}
 use Rattle.command_run.specs.declared.output.Output.{Output}
 use Rattle.command_run.specs.Work.{Work, ends, ◌>>=◌}
@@ -22,10 +24,11 @@ use Rattle.command_paths.specs.Paths.{Chosen}
 use Rattle.command_inputs.specs.Inputs.{InputPaths, input_at}
 use Rattle.map_commands.specs.MapWorks.{proved_line, built, certificate_work, picture_work, check_work, picture_checked, checked_as}
 use Rattle.run_status.specs.Outputs.{said}
+use Rattle.run_status.specs.Refusals.{of_check}
 use Rattle.command_inputs.specs.Loading.{load_work}
 use Rattle.run_status.specs.Following.{Follows, Gives}
 use Rattle.map_commands.specs.Promises.{AreOfYes, IsAccepted}
-use Rattle.run_status.proofs.FollowLemmas.{IsRefusedAs, follows_refused, follows_then, gives_follows}
+use Rattle.run_status.proofs.FollowLemmas.{IsRefusedAs, follows_refused, follows_then, gives_follows, refused_as}
 
 abbrev pub Told : Type 0
 Told = Option (List (List ℕ × List ℕ))
@@ -134,3 +137,15 @@ pub accepted_by : (told : Told) (inputs : InputPaths) (loaded : Loaded) (picture
     → IsAccepted told inputs loaded picture proved
 accepted_by None inputs loaded picture proved bytes lies found = (found.0, tt, found.2)
 accepted_by (Some all) inputs loaded picture proved bytes lies found = (found.0, lies ∙ found.1, found.2)
+
+-- a certificate that is refused gives its refusal
+refused_given : (fault : CheckFault) (outcome : Result PlainChecked CheckFault) → HasCause outcome fault
+    → Gives checked_bytes (Err (of_check fault)) (checked_as outcome)
+refused_given refuted.NoMemory outcome cause = tt
+refused_given (refuted.Refuted found) outcome cause = ap checked_as cause
+refused_given (refuted.Limit limit) outcome cause = ap checked_as cause
+
+pub given_refused : (fault : CheckFault) (outcome : Result PlainChecked CheckFault) (result : Result Checked Refusal)
+    → IsRefusedAs (of_check fault) result → HasCause outcome fault → Gives checked_bytes result (checked_as outcome)
+given_refused fault outcome result is cause = subst (λ r. Gives checked_bytes r (checked_as outcome))
+    (sym (refused_as (of_check fault) result is)) (refused_given fault outcome cause)

@@ -4,16 +4,19 @@ use Rattle.std.specs.Fmt.{decimal}
 use Rattle.map_base.specs.declared.limit.Limit.{Limit}
 use Rattle.graph_core.specs.declared.parts.GraphParts.{GraphParts}
 use Rattle.line_graph.specs.Outcome.{graph_outcome}
-use Rattle.map_engine.specs.declared.fault.MakeFault.{MakeFault}
-use Rattle.map_engine.specs.declared.fault.CheckFault.{CheckFault}
-use Rattle.map_engine.specs.declared.checked.Proved.{Proved}
-use Rattle.map_engine.specs.Making.{MapBytes, make_outcome}
-use Rattle.map_engine.specs.Readings.{certificate_in}
-use Rattle.map_engine.specs.Checking.{PlainChecked, checked_text, pictured}
+use Rattle.map_faults.specs.declared.fault.MakeFault.{MakeFault}
+use Rattle.map_faults.specs.declared.fault.CheckFault.{CheckFault}
+use Rattle.graph_maps.specs.declared.checked.Proved.{Proved}
+use Rattle.graph_maps.specs.Making.{MapBytes}
+use Rattle.map_engine.specs.Making.{make_outcome}
+use Rattle.graph_maps.specs.Readings.{certificate_in}
+use Rattle.graph_maps.specs.Checking.{PlainChecked, pictured}
+use Rattle.map_engine.specs.Checking.{checked_text}
 use Rattle.files_door.specs.declared.target.Target.TheVariants.{Path}
 use Rattle.command_run.specs.declared.output.Output.{Output}
 use Rattle.command_run.specs.Work.{Work, ends, ◌>>=◌}
-use Rattle.command_paths.specs.Paths.{Chosen, MapPaths}
+use Rattle.map_page.specs.Pages.{page_bytes}
+use Rattle.command_paths.specs.Paths.{Chosen, MapPaths, NewPaths}
 use Rattle.run_status.specs.declared.input.Input.{Input}
 use Rattle.run_status.specs.declared.input.Input.TheVariants as input
 use Rattle.run_status.specs.declared.item.Item.TheVariants as item
@@ -29,6 +32,15 @@ abbrev pub map_outputs : MapPaths → MapBytes → List Output
 map_outputs paths made =
     record { to = Path paths.picture; bytes = made.svg } ∷ record { to = Path paths.certificate; bytes = made.certificate } ∷ []
 
+-- the page of a map goes to its file, if one is named
+abbrev pub page_output : Option (List ℕ) → List ℕ → List Output
+page_output None svg = []
+page_output (Some path) svg = record { to = Path path; bytes = page_bytes svg } ∷ []
+
+-- a new map and its certificate go to their files, and then its page
+abbrev pub new_outputs : NewPaths → MapBytes → List Output
+new_outputs paths made = map_outputs paths.map made ++ page_output paths.page made.svg
+
 -- what `check` prints of a map that is accepted: that its orders are best, where the bound is what they cost, else both
 abbrev pub best_line : ℕ → List ℕ
 best_line cost = codes "best " ++ (decimal cost ++ codes "\n")
@@ -40,12 +52,12 @@ abbrev pub proved_line : Proved → List ℕ
 proved_line proved = if proved.bound == proved.cost then best_line proved.cost else bound_line proved.cost proved.bound
 
 -- the files of a map that is made, or why there is none
-abbrev pub made_at : MapPaths → Result MapBytes MakeFault → Result (List Output) Refusal
-made_at paths (Ok made) = Ok (map_outputs paths made)
+abbrev pub made_at : NewPaths → Result MapBytes MakeFault → Result (List Output) Refusal
+made_at paths (Ok made) = Ok (new_outputs paths made)
 made_at paths (Err fault) = Err (of_make fault)
 
--- `make`: the map of the feed is made, and its certificate
-abbrev pub make_work : Chosen → MapPaths → Work Input Refusal (List Output)
+-- `make`: the map of the feed is made, its certificate, and its page where one is named
+abbrev pub make_work : Chosen → NewPaths → Work Input Refusal (List Output)
 make_work chosen paths = do
   loaded ← load_work chosen
   ends (made_at paths (make_outcome loaded.tables loaded.settings loaded.method))

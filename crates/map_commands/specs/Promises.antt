@@ -2,27 +2,28 @@
 use Rattle.std.specs.Prelude.{◌≡◌, ◌≤◌, ◌⊎◌, ℕ, ◌+◌, List, [], Option, Some, Ok, IfSome}
 use Rattle.files_door.specs.Files.{file_at}
 use Rattle.command_run.specs.declared.output.Output.{Output}
-use Rattle.map_engine.specs.declared.checked.Proved.{Proved}
-use Rattle.map_engine.specs.Making.{MapBytes, make_outcome}
+use Rattle.graph_maps.specs.declared.checked.Proved.{Proved}
+use Rattle.graph_maps.specs.Making.{MapBytes}
+use Rattle.map_engine.specs.Making.{make_outcome}
 use Rattle.map_engine.specs.Keeping.{branches_left}
 use Rattle.map_engine.specs.Promises.{IsMade, IsCertified}
-use Rattle.command_paths.specs.Paths.{MapPaths}
+use Rattle.command_paths.specs.Paths.{NewPaths}
 use Rattle.run_status.specs.Outputs.{said}
 use Rattle.command_inputs.specs.declared.loaded.Loaded.{Loaded}
 use Rattle.command_inputs.specs.Inputs.{InputPaths}
 use Rattle.command_inputs.specs.Loading.{Loads}
-use Rattle.map_commands.specs.MapWorks.{proved_line, map_outputs}
+use Rattle.map_commands.specs.MapWorks.{proved_line, new_outputs}
 
--- The outputs of `make` are a map and its certificate, at their paths: those that are defined for the feed. The map shows
--- exactly the line graph of the feed, in a legal drawing, and no line orders cost less than the bound that the certificate
--- proves, which is the cost where best orders are claimed; the check says yes to both.
-pub record AreOfMap (told : Option (List (List ℕ × List ℕ))) (inputs : InputPaths) (paths : MapPaths) (outputs : List Output) : Type 0 where
+-- The outputs of `make` are a map and its certificate, at their paths, and its page where one is named: those that are
+-- defined for the feed. The map shows exactly the line graph of the feed, in a legal drawing, and no line orders cost less
+-- than the bound that the certificate proves, which is the cost where best orders are claimed; the check says yes to both.
+pub record AreOfMap (told : Option (List (List ℕ × List ℕ))) (inputs : InputPaths) (paths : NewPaths) (outputs : List Output) : Type 0 where
   pub loaded : Loaded
   pub loads : Loads told inputs loaded
   pub made : MapBytes
   pub defined : make_outcome loaded.tables loaded.settings loaded.method ≡ Ok made
   pub is_made : IsMade loaded.tables loaded.settings loaded.method.claim made
-  pub are : outputs ≡ map_outputs paths made
+  pub are : outputs ≡ new_outputs paths made
 
 -- The certificate at its path certifies this map, this cost and this bound. Its walks are a legal drawing of exactly the
 -- line graph of the feed, its orders have this cost, and none cost less than the bound; the map is the picture of both.

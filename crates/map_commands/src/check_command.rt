@@ -4,7 +4,7 @@ ghost use Rattle.std.specs.Prelude.{◌≡◌, ◌≤◌, ℕ, List, option_map,
 ghost use Rattle.files_door.specs.Fault.{Rose};
 ghost use Rattle.files_door.specs.Files.{file_at};
 ghost use Rattle.line_graph.specs.Outcome.{graph_outcome};
-ghost use Rattle.map_engine.specs.Checking.{checked_bytes};
+ghost use Rattle.graph_maps.specs.Checking.{checked_bytes};
 ghost use Rattle.map_engine.specs.Promises.{IsCertified};
 ghost use Rattle.command_inputs.specs.Inputs.{input_at, inputs_by};
 ghost use Rattle.run_status.specs.Outputs.{said};

@@ -1,50 +1,50 @@
--- How much lines count: each number is one that a line may have.
-use Rattle.std.proofs.Common.{◌≡◌, ℕ, ◌<◌, ◌≤◌, ◌⊎◌, inl, inr, Bool, true, false, cond, List, [], ◌∷◌, length, get_or, arith, All}
+-- What the tables of a feed tell: each number is one that a line may have, and each line on a segment has one.
+use Rattle.std.proofs.Common.{◌≡◌, ◌∙◌, ap, sym, subst, ℕ, ◌<◌, ◌^◌, Bool, true, false, cond, List, [], ◌∷◌, length, get_or, arith, All}
 use Rattle.std.specs.Prelude.{bytes_eq}
-use Rattle.std.proofs.lemmas.Bool.{cases_lt}
-use Rattle.std.proofs.lemmas.List.{get_or_past, length-map}
-use Rattle.std.proofs.lemmas.List.Elements.{All-head, All-tail, All-map, All-weaker}
+use Rattle.std.proofs.lemmas.List.{length-map}
+use Rattle.std.proofs.lemmas.List.Elements.{All-head, All-tail, All-map}
 use Rattle.map_base.specs.declared.ids.LineId.{LineId}
 use Rattle.map_base.specs.Settings.{Choices, IsImportance}
 use Rattle.transit_feed.specs.declared.line.Line.{Line}
 use Rattle.transit_feed.specs.Feeds.{Feed}
 use Rattle.graph_core.specs.declared.parts.GraphParts.{GraphParts}
-use Rattle.order_terms.specs.Terms.{HasImportance, HaveImportance}
-use Rattle.map_engine.specs.Tables.{importance_among, importance_by, AreOfFeed}
+use Rattle.svg_writer.specs.declared.names.Names.{Names}
+use Rattle.graph_maps.specs.Subjects.{told_by, AreListed}
+use Rattle.map_engine.specs.Tables.{importance_among, importance_by, names_by, subject_of, AreOfFeed}
 
 -- the number of a pair
 abbrev HasNumber : List ℕ × ℕ → Type 0
 HasNumber p = IsImportance p.1
 
-among_in_range : (pairs : List (List ℕ × ℕ)) (id : List ℕ) → All HasNumber pairs → IsImportance (importance_among pairs id)
+among_in_range : (pairs : List (List ℕ × ℕ)) (id : List ℕ) → All HasNumber pairs
+    → IsImportance (importance_among pairs id)
 among_in_range [] id all = (omega arith, omega arith)
-among_in_range (p ∷ pairs) id all = by_test (bytes_eq p.0 id) (All-head HasNumber p pairs all) (among_in_range pairs id (All-tail HasNumber p pairs all))
+among_in_range (p ∷ pairs) id all = by_test (bytes_eq p.0 id) (All-head HasNumber p pairs all)
+    (among_in_range pairs id (All-tail HasNumber p pairs all))
   where
-    by_test : (b : Bool) → IsImportance p.1 → IsImportance (importance_among pairs id) → IsImportance (cond b p.1 (importance_among pairs id))
+    by_test : (b : Bool) → IsImportance p.1 → IsImportance (importance_among pairs id)
+        → IsImportance (cond b p.1 (importance_among pairs id))
     by_test true here rest = here
     by_test false here rest = rest
 
-line_has : (feed : Feed) (choices : Choices) (a : LineId) → All HasNumber choices.importance → a.0 < length feed.lines → HasImportance (importance_by feed choices) a
-line_has feed choices a all below =
-    let number : Line → ℕ = λ (l : Line). importance_among choices.importance l.id in
-    let each : length (importance_by feed choices) ≡ length feed.lines = length-map feed.lines number in
-    let within : a.0 < length (importance_by feed choices) = omega (arith, each, below) in
-    (within, All-map IsImportance number feed.lines (λ k d h. among_in_range choices.importance (get_or feed.lines k d).id all) a.0 0 within)
+module _ (feed : Feed) (choices : Choices) where
+  abbrev number : Line → ℕ
+  number l = importance_among choices.importance l.id
 
--- no number is above 16
-pub number_at : (feed : Feed) (choices : Choices) → All HasNumber choices.importance → (k : ℕ) → get_or (importance_by feed choices) k 1 ≤ 16
-number_at feed choices all k = by_place (cases_lt k (length (importance_by feed choices)))
-  where
-    by_place : (k < length (importance_by feed choices)) ⊎ (length (importance_by feed choices) ≤ k) → get_or (importance_by feed choices) k 1 ≤ 16
-    by_place (inl h) =
-        let number : Line → ℕ = λ (l : Line). importance_among choices.importance l.id in
-        (All-map IsImportance number feed.lines (λ i d below. among_in_range choices.importance (get_or feed.lines i d).id all) k 1 h).1
-    by_place (inr h) = omega (arith, get_or_past (importance_by feed choices) k 1 h)
+  pub numbers_in : All HasNumber choices.importance → All IsImportance (importance_by feed choices)
+  numbers_in all = All-map IsImportance number feed.lines
+      (λ k d h. among_in_range choices.importance (get_or feed.lines k d).id all)
 
--- all lines of a feed's graph have their numbers
-pub have_importance : (feed : Feed) (choices : Choices) (graph : GraphParts) → All (λ (p : List ℕ × ℕ). IsImportance p.1) choices.importance → AreOfFeed feed graph
-    → HaveImportance (importance_by feed choices) graph.lines
-have_importance feed choices graph all of_feed =
-    All-weaker (All (λ (a : LineId). a.0 < length feed.lines)) (All (HasImportance (importance_by feed choices)))
-    (λ lines h. All-weaker (λ (a : LineId). a.0 < length feed.lines) (HasImportance (importance_by feed choices)) (λ a. line_has feed choices a all) lines h)
-    graph.lines of_feed
+  pub few_in : length feed.lines < 2 ^ 32 → length (importance_by feed choices) < 2 ^ 32
+  few_in few = omega (arith, few, length-map feed.lines number)
+
+  pub listed_in : (graph : GraphParts) (numbers : List ℕ) → numbers ≡ importance_by feed choices → AreOfFeed feed graph
+      → AreListed numbers graph
+  listed_in graph numbers are of_feed =
+      subst (λ (ns : List ℕ). AreListed ns graph) (sym are)
+      (subst (λ (n : ℕ). All (All (λ (a : LineId). a.0 < n)) graph.lines) (sym (length-map feed.lines number)) of_feed)
+
+  pub subject_is : (names : Names) (numbers : List ℕ) → names ≡ names_by feed → numbers ≡ importance_by feed choices
+      → told_by names numbers ≡ subject_of feed choices
+  subject_is names numbers named are =
+      ap (λ (ns : Names). told_by ns numbers) named ∙ ap (told_by (names_by feed)) are

@@ -1,23 +1,2 @@
-mod DrawnLemmas
-mod ItemLemmas
-mod HeldOrders
-mod ReadAgain
-mod MadeProblem
-mod CheckSteps
-mod PictureSteps
-pub mod Shown
-mod SolveLemmas
 mod ImportanceLemmas
-mod DrawingLemmas
-mod UntangledLemmas
-mod MovedDrawings
-mod MadeLemmas
-mod KeepLemmas
-mod NoneLeft
-mod CostParts
-mod PartOrders
-mod Accepting
-mod Promised
-mod TreeRanges
-mod RuleRanges
-mod CertificateRanges
+mod FeedMaps

@@ -1,170 +1,33 @@
--- The check of a map and its certificate: the first item that is refused, or what is proved of its orders.
-use Rattle.std.specs.Prelude.{◌≡◌, ℕ, ◌+◌, ◌==◌, ◌&&◌, Bool, true, false, List, [], ◌∷◌, length, option_map, Option, Some, None, Result, Ok, Err, if◌then◌else◌}
-use Rattle.std.specs.List.{list_all}
-use Rattle.map_base.specs.declared.ids.SegId.{SegId}
-use Rattle.map_base.specs.declared.ids.LineId.{LineId}
+-- The check of a map of a feed and its certificate: the first item that is refused, or what is proved of its orders.
+use Rattle.std.specs.Prelude.{ℕ, List, Result, Ok, Err}
 use Rattle.map_base.specs.declared.limit.Limit.{Limit}
 use Rattle.map_base.specs.Settings.{Choices}
+use Rattle.map_method.specs.declared.claim.Claim.{Claim}
 use Rattle.transit_feed.specs.Feeds.{Feed}
 use Rattle.graph_core.specs.declared.parts.GraphParts.{GraphParts}
 use Rattle.line_graph.specs.Outcome.{graph_outcome}
-use Rattle.octi_grid.specs.declared.drawing.DrawWhy.{DrawWhy}
-use Rattle.octi_grid.specs.Legal.{first_illegal}
-use Rattle.order_model.specs.declared.problem.ProblemParts.{ProblemParts}
-use Rattle.order_model.specs.Costs.{cost_of}
-use Rattle.order_model.specs.Places.{has_line}
-use Rattle.map_method.specs.declared.claim.Claim.{Claim}
-use Rattle.map_method.specs.declared.claim.Claim.TheVariants.{Best, Bound}
-use Rattle.order_check.specs.Verdict.{verdict, bound_refusal, targets}
-use Rattle.order_proof.specs.Plain.{PlainProof}
-use Rattle.svg_writer.specs.Picture.{picture_text}
 use Rattle.cert_file.specs.Plain.{PlainCertificate}
-use Rattle.map_engine.specs.declared.fault.CheckItem.{CheckItem}
-use Rattle.map_engine.specs.declared.fault.CheckItem.TheVariants as item
-use Rattle.map_engine.specs.declared.fault.CheckFault.{CheckFault}
-use Rattle.map_engine.specs.declared.fault.CheckFault.TheVariants as fault
-use Rattle.map_engine.specs.declared.checked.Checked.{Checked}
-use Rattle.map_engine.specs.declared.checked.Proved.{Proved}
-use Rattle.map_engine.specs.Tables.{names_by}
-use Rattle.map_engine.specs.Problems.{problem_within}
-use Rattle.map_engine.specs.Certificates.{line_count, weighty_lines}
+use Rattle.map_faults.specs.declared.fault.CheckFault.{CheckFault}
+use Rattle.map_faults.specs.declared.fault.CheckFault.TheVariants as fault
+use Rattle.graph_maps.specs.declared.checked.Proved.{Proved}
+use Rattle.graph_maps.specs.Checking.{PlainChecked, certificate_on, pictured}
+use Rattle.map_engine.specs.Tables.{subject_of}
 
--- The items, each with the item that is refused, where it is.
+-- every item but the picture, by the line graph of the feed
+abbrev pub checked_text : Feed → Choices → Claim → GraphParts → Result PlainCertificate ℕ
+    → Result PlainChecked CheckFault
+checked_text feed choices claim graph read = certificate_on (subject_of feed choices) choices claim graph read
 
--- an item that holds or is refused
-abbrev pub refused_unless : Bool → CheckItem → Option CheckItem
-refused_unless holds item = if holds then None else Some item
-
--- the counts are those of the line graph
-abbrev pub graph_item : Feed → GraphParts → PlainCertificate → Option CheckItem
-graph_item feed graph c =
-    refused_unless (c.nodes == length graph.kinds && c.segs == length graph.ends && c.lines == line_count feed graph) item.Graph
-
--- the same lines with the same numbers
-abbrev pub are_same_pairs : List (LineId × ℕ) → List (LineId × ℕ) → Bool
-are_same_pairs [] [] = true
-are_same_pairs [] (q ∷ others) = false
-are_same_pairs (p ∷ pairs) [] = false
-are_same_pairs (p ∷ pairs) (q ∷ others) = p.0.0 == q.0.0 && p.1 == q.1 && are_same_pairs pairs others
-
--- the important lines are those of the line graph
-abbrev pub importance_item : Feed → Choices → GraphParts → PlainCertificate → Option CheckItem
-importance_item feed choices graph c = refused_unless (are_same_pairs (weighty_lines feed choices graph) c.importance) item.Importance
-
--- the first walk that with its predecessors is not legal
-abbrev pub walk_refused : SegId × DrawWhy → CheckItem
-walk_refused bad = item.Walk bad.0 bad.1
-
-abbrev pub walk_item : GraphParts → PlainCertificate → Option CheckItem
-walk_item graph c = option_map walk_refused (first_illegal graph c.walks)
-
--- An order has as many lines as its segment, and each of them is one of the segment's. As no line stands twice in an
--- order of a certificate, it then is one of the segment's orders.
-abbrev pub is_order : List LineId → List LineId → Bool
-is_order lines order = length order == length lines && list_all (has_line lines) order
-
--- the first segment, from segment k on, whose order has not its lines
-abbrev pub first_disorder : ℕ → List (List LineId) → List (List LineId) → Option SegId
-first_disorder k [] orders = None
-first_disorder k (lines ∷ segs) [] = Some (record { 0 = k })
-first_disorder k (lines ∷ segs) (order ∷ orders) =
-    if is_order lines order then first_disorder (k + 1) segs orders else Some (record { 0 = k })
-
-abbrev pub order_item : GraphParts → PlainCertificate → Option CheckItem
-order_item graph c = option_map item.Order (first_disorder 0 graph.lines c.orders)
-
--- the cost is that of the orders
-abbrev pub cost_item : ProblemParts → List (List LineId) → ℕ → Option CheckItem
-cost_item p orders cost = refused_unless (cost == cost_of p.terms orders) item.Cost
-
--- the first item of the proof that is refused: where best orders are claimed, the total of the targets is an item, which has
--- to be the cost of the orders
-abbrev pub proof_item : Claim → ProblemParts → List (List LineId) → PlainProof → Option CheckItem
-proof_item Best p orders proof = option_map item.Proof (verdict p orders proof)
-proof_item Bound p orders proof = option_map item.Proof (bound_refusal p proof)
-
--- the place of the first byte that differs, or the lesser length where one is the beginning of the other
-abbrev pub first_difference : List ℕ → List ℕ → Option ℕ
-first_difference [] [] = None
-first_difference [] (y ∷ ys) = Some 0
-first_difference (x ∷ xs) [] = Some 0
-first_difference (x ∷ xs) (y ∷ ys) = if x == y then option_map (λ at. 1 + at) (first_difference xs ys) else Some 0
-
--- the bytes are those of the picture
-abbrev pub picture_item : List ℕ → List ℕ → Option CheckItem
-picture_item picture svg = option_map item.Picture (first_difference picture svg)
-
--- The items in their order.
-
--- what comes next, unless an item is refused
-abbrev pub unless_refused : {A : Type 0} → Option CheckItem → Result A CheckFault → Result A CheckFault
-unless_refused None next = next
-unless_refused (Some i) next = Err (fault.Refuted i)
-
--- what was found of a certificate that is accepted but for the picture: what is proved of its orders, and the picture that
--- is due
-pub record PlainChecked : Type 0 where
-  pub proved : Proved
-  pub svg : List ℕ
-
-abbrev pub checked_bytes : Checked → PlainChecked
-checked_bytes checked = record { proved = checked.proved; svg = checked.svg.items }
-
--- what a certificate proves: what its orders cost, and the sum of its targets, which no orders cost less than
-abbrev pub proved_by : PlainCertificate → Proved
-proved_by c = record { cost = c.cost; bound = targets c.proof.parts }
-
--- what comes next, unless the cost of orders or the proof of their bound is refused
-abbrev pub unless_costlier : {A : Type 0} → Claim → ProblemParts → List (List LineId) → ℕ → PlainProof → Result A CheckFault → Result A CheckFault
-unless_costlier claim p orders cost proof next = unless_refused (cost_item p orders cost) (unless_refused (proof_item claim p orders proof) next)
-
--- cost and proof, by the problem of the line graph
-abbrev pub checked_orders : Feed → Claim → GraphParts → PlainCertificate → Result ProblemParts Limit → Result PlainChecked CheckFault
-checked_orders feed claim graph c (Err limit) = Err (fault.Limit limit)
-checked_orders feed claim graph c (Ok p) =
-    unless_costlier claim p c.orders c.cost c.proof (Ok (record { proved = proved_by c; svg = picture_text (names_by feed) graph c.walks c.orders }))
-
--- walks and orders; then the terms are counted
-abbrev pub checked_walks : Feed → Choices → Claim → GraphParts → PlainCertificate → Result PlainChecked CheckFault
-checked_walks feed choices claim graph c =
-    unless_refused (walk_item graph c) (unless_refused (order_item graph c)
-    (checked_orders feed claim graph c (problem_within feed choices graph)))
-
--- counts and importance come first
-abbrev pub checked_items : Feed → Choices → Claim → GraphParts → PlainCertificate → Result PlainChecked CheckFault
-checked_items feed choices claim graph c =
-    unless_refused (graph_item feed graph c) (unless_refused (importance_item feed choices graph c) (checked_walks feed choices claim graph c))
-
--- a text that is no certificate's is refused where its first wrong line begins
-abbrev pub checked_text : Feed → Choices → Claim → GraphParts → Result PlainCertificate ℕ → Result PlainChecked CheckFault
-checked_text feed choices claim graph (Err at) = Err (fault.Refuted (item.Text at))
-checked_text feed choices claim graph (Ok c) = checked_items feed choices claim graph c
-
-abbrev pub checked_on : Feed → Choices → Claim → Result PlainCertificate ℕ → Result GraphParts Limit → Result PlainChecked CheckFault
+abbrev pub checked_on : Feed → Choices → Claim → Result PlainCertificate ℕ → Result GraphParts Limit
+    → Result PlainChecked CheckFault
 checked_on feed choices claim read (Err limit) = Err (fault.Limit limit)
 checked_on feed choices claim read (Ok graph) = checked_text feed choices claim graph read
 
--- Every item but the picture, by what the certificate's text is read as: what is proved of its orders and the picture that
--- is due, or the limit that is met or the item refused first.
+-- Every item but the picture, by what the certificate's text is read as: what is proved of its orders and the picture
+-- that is due, or the limit that is met or the item refused first.
 abbrev pub certificate_outcome : Feed → Choices → Claim → Result PlainCertificate ℕ → Result PlainChecked CheckFault
 certificate_outcome feed choices claim read = checked_on feed choices claim read (graph_outcome choices.near feed)
-
--- last the picture
-abbrev pub pictured : List ℕ → Result PlainChecked CheckFault → Result Proved CheckFault
-pictured svg (Err stop) = Err stop
-pictured svg (Ok checked) = unless_refused (picture_item checked.svg svg) (Ok checked.proved)
 
 -- what is proved of a map that is accepted with its certificate, or the limit that is met or the item refused first
 abbrev pub check_outcome : Feed → Choices → Claim → List ℕ → Result PlainCertificate ℕ → Result Proved CheckFault
 check_outcome feed choices claim svg read = pictured svg (certificate_outcome feed choices claim read)
-
--- the fault is the one that comes by definition; want of memory is free
-abbrev pub HasCause : {A : Type 0} → Result A CheckFault → CheckFault → Type 0
-HasCause outcome fault.NoMemory = Unit {0}
-HasCause outcome (fault.Refuted i) = outcome ≡ Err (fault.Refuted i)
-HasCause outcome (fault.Limit limit) = outcome ≡ Err (fault.Limit limit)
-
--- what was answered, seen by view, is what comes by definition, unless memory ran out
-abbrev pub Gives : {X Y : Type 0} → (X → Y) → Result X CheckFault → Result Y CheckFault → Type 0
-Gives view (Ok x) outcome = outcome ≡ Ok (view x)
-Gives view (Err e) outcome = HasCause outcome e

@@ -1,51 +1,19 @@
--- What is kept from map to map: what was found of parts, each part by itself.
-use Rattle.std.specs.Prelude.{ℕ, not, List, [], map, filter, sum_by, All, Contains, Result, Ok, Err}
-use Rattle.std.specs.List.{take_while}
-use Rattle.map_base.specs.declared.ids.SegId.{SegId}
+-- What is kept from map to map of a feed.
+use Rattle.std.specs.Prelude.{ℕ, List}
 use Rattle.map_base.specs.Settings.{Choices}
 use Rattle.map_method.specs.Methods.{MethodChoices}
 use Rattle.transit_feed.specs.Feeds.{Feed}
-use Rattle.order_model.specs.declared.problem.ProblemParts.{ProblemParts}
-use Rattle.kept_trees.specs.declared.plan.SearchPlan.{SearchPlan}
-use Rattle.kept_trees.specs.Results.{branches_met}
-use Rattle.kept_trees.specs.OwnTrees.{HeldPart, held_as}
-use Rattle.kept_trees.specs.Keeping.{is_held}
-use Rattle.map_engine.specs.declared.fault.MakeFault.{MakeFault}
-use Rattle.map_engine.specs.declared.fault.MakeFault.TheVariants as fault
-use Rattle.map_engine.specs.Problems.{Drawn, drawn_outcome, untangled_problem}
-use Rattle.map_engine.specs.Solving.{parts_in, is_solvable}
-use Rattle.map_engine.specs.Making.{plan_of}
-
--- the parts of a problem, each by itself, before the first that is not solved; or all
-abbrev pub finished_of : SearchPlan → ProblemParts → List HeldPart
-finished_of plan p = map (held_as plan p) (take_while (is_solvable plan p) (parts_in p))
+use Rattle.kept_trees.specs.OwnTrees.{HeldPart}
+use Rattle.graph_maps.specs.Making.{plan_of}
+use Rattle.graph_maps.specs.Keeping.{finished_in, missing_branches}
+use Rattle.map_engine.specs.Making.{drawn_outcome}
 
 -- the parts that a map finishes: those of the untangled problem before the first that is not solved, or all; none where
 -- there is no problem
-abbrev pub finished_in : SearchPlan → Result Drawn MakeFault → List HeldPart
-finished_in plan (Err stop) = []
-finished_in plan (Ok drawn) = finished_of plan (untangled_problem drawn.problem)
-
 abbrev pub finished_parts : Feed → Choices → MethodChoices → List HeldPart
 finished_parts feed choices method = finished_in (plan_of choices method) (drawn_outcome feed choices method)
 
--- every part that the map finishes is held afterwards, unless memory ran out
-abbrev pub HoldsFinished : {X : Type 0} → Result X MakeFault → List HeldPart → List HeldPart → Type 0
-HoldsFinished (Ok x) finished held = All (Contains held) finished
-HoldsFinished (Err fault.NoMemory) finished held = Unit {0}
-HoldsFinished (Err (fault.NoRoute seg)) finished held = All (Contains held) finished
-HoldsFinished (Err (fault.Spent component branches)) finished held = All (Contains held) finished
-HoldsFinished (Err (fault.Limit limit)) finished held = All (Contains held) finished
-
--- the parts of a problem that are not held
-abbrev pub parts_missing : List HeldPart → SearchPlan → ProblemParts → List (List SegId)
-parts_missing held plan p = filter (λ part. not (is_held held (held_as plan p part))) (parts_in p)
-
--- how many branch nodes their searches meet
-abbrev pub missing_branches : List HeldPart → SearchPlan → Result Drawn MakeFault → ℕ
-missing_branches held plan (Err stop) = 0
-missing_branches held plan (Ok drawn) = let p = untangled_problem drawn.problem in sum_by (branches_met plan p) (parts_missing held plan p)
-
 -- how many branch nodes the searches of those parts of a feed's untangled problem meet that are not held
 abbrev pub branches_left : List HeldPart → Feed → Choices → MethodChoices → ℕ
-branches_left held feed choices method = missing_branches held (plan_of choices method) (drawn_outcome feed choices method)
+branches_left held feed choices method = missing_branches held (plan_of choices method)
+    (drawn_outcome feed choices method)

@@ -7,25 +7,20 @@ use Rattle.graph_core.specs.declared.parts.GraphParts.{GraphParts}
 use Rattle.line_graph.specs.Outcome.{graph_outcome}
 use Rattle.label_place.specs.Labelled.{labelled_text}
 use Rattle.cert_file.specs.Plain.{PlainCertificate}
-use Rattle.map_engine.specs.declared.fault.CheckItem.TheVariants as item
-use Rattle.map_engine.specs.declared.fault.CheckFault.{CheckFault}
-use Rattle.map_engine.specs.declared.fault.CheckFault.TheVariants as fault
-use Rattle.map_engine.specs.Tables.{names_by}
-use Rattle.map_engine.specs.Checking.{PlainChecked, checked_items}
-use Rattle.map_engine.specs.declared.checked.Proved.{Proved}
+use Rattle.map_faults.specs.declared.fault.CheckFault.{CheckFault}
+use Rattle.map_faults.specs.declared.fault.CheckFault.TheVariants as fault
+use Rattle.map_engine.specs.Tables.{importance_by, names_by}
+use Rattle.graph_maps.specs.Checking.{accepted_text}
+use Rattle.graph_maps.specs.declared.checked.Proved.{Proved}
 use Rattle.map_method.specs.declared.claim.Claim.{Claim}
 use Rattle.map_engine.specs.Promises.{IsCertified}
 
--- this picture where the certificate is accepted, or why it is not
-abbrev pub if_accepted : List ℕ → Result PlainChecked CheckFault → Result (List ℕ) CheckFault
-if_accepted map (Ok checked) = Ok map
-if_accepted map (Err stop) = Err stop
-
 -- A picture of a certificate: all items of the certificate are checked but the picture that is due; a text that is no
 -- certificate's is refused where its first wrong line begins.
-abbrev pub pictured_items : (PlainCertificate → List ℕ) → Feed → Choices → Claim → GraphParts → Result PlainCertificate ℕ → Result (List ℕ) CheckFault
-pictured_items draw feed choices claim graph (Err at) = Err (fault.Refuted (item.Text at))
-pictured_items draw feed choices claim graph (Ok c) = if_accepted (draw c) (checked_items feed choices claim graph c)
+abbrev pub pictured_items : (PlainCertificate → List ℕ) → Feed → Choices → Claim → GraphParts
+    → Result PlainCertificate ℕ → Result (List ℕ) CheckFault
+pictured_items draw feed choices claim graph read = accepted_text draw
+    (importance_by feed choices) choices claim graph read
 
 -- the walks and the orders of a certificate as a map with its names at free places
 abbrev pub labelled_by : Feed → GraphParts → PlainCertificate → List ℕ
@@ -35,17 +30,19 @@ labelled_by feed graph c = labelled_text (names_by feed) graph c.walks c.orders
 abbrev pub labelled_items : Feed → Choices → Claim → GraphParts → Result PlainCertificate ℕ → Result (List ℕ) CheckFault
 labelled_items feed choices claim graph read = pictured_items (labelled_by feed graph) feed choices claim graph read
 
-abbrev pub labels_on : Feed → Choices → Claim → Result PlainCertificate ℕ → Result GraphParts Limit → Result (List ℕ) CheckFault
+abbrev pub labels_on : Feed → Choices → Claim → Result PlainCertificate ℕ → Result GraphParts Limit
+    → Result (List ℕ) CheckFault
 labels_on feed choices claim read (Err limit) = Err (fault.Limit limit)
 labels_on feed choices claim read (Ok graph) = labelled_items feed choices claim graph read
 
--- The map with its names, by what the certificate's text is read as; or the limit that is met, or the item refused first.
+-- The map with its names, by what the certificate's text is read as; or the limit that is met, or the item refused
+-- first.
 abbrev pub labels_outcome : Feed → Choices → Claim → Result PlainCertificate ℕ → Result (List ℕ) CheckFault
 labels_outcome feed choices claim read = labels_on feed choices claim read (graph_outcome choices.near feed)
 
--- A map with its names, by a certificate, whoever made that: the certificate certifies the picture that is due, as `check`
--- does, so its walks are a legal drawing of exactly the feed's line graph, with line orders of which this is proved; and
--- the map shows these walks and orders, with the names at free places.
+-- A map with its names, by a certificate, whoever made that: the certificate certifies the picture that is due, as
+-- `check` does, so its walks are a legal drawing of exactly the feed's line graph, with line orders of which this is
+-- proved; and the map shows these walks and orders, with the names at free places.
 pub record IsLabelledMap (feed : Feed) (choices : Choices) (claim : Claim) (map bytes : List ℕ) : Type 0 where
   pub picture : List ℕ
   pub proved : Proved

@@ -1,82 +1,34 @@
 -- The map of a feed and its certificate; or why there is none.
-use Rattle.std.specs.Prelude.{◌≡◌, ℕ, List, Result, Ok, Err}
+use Rattle.std.specs.Prelude.{Result, Ok, Err}
+use Rattle.map_base.specs.declared.limit.Limit.{Limit}
 use Rattle.map_base.specs.Settings.{Choices}
 use Rattle.map_method.specs.Methods.{MethodChoices}
 use Rattle.transit_feed.specs.Feeds.{Feed}
-use Rattle.kept_trees.specs.declared.plan.SearchPlan.{SearchPlan}
-use Rattle.svg_writer.specs.Picture.{picture_text}
-use Rattle.cert_file.specs.Text.{certificate_text}
-use Rattle.map_engine.specs.declared.fault.MakeFault.{MakeFault}
-use Rattle.map_engine.specs.declared.fault.MakeFault.TheVariants as fault
-use Rattle.map_engine.specs.declared.made.Made.{Made}
-use Rattle.map_engine.specs.Tables.{names_by}
-use Rattle.map_engine.specs.Problems.{Drawn, drawn_outcome, untangled_problem}
-use Rattle.map_engine.specs.Moving.{after_moves}
-use Rattle.map_engine.specs.Solving.{SolvedPart, solve_outcome}
-use Rattle.map_engine.specs.Lifted.{lifted_by}
-use Rattle.map_engine.specs.Certificates.{certificate_of}
+use Rattle.graph_core.specs.declared.parts.GraphParts.{GraphParts}
+use Rattle.line_graph.specs.Outcome.{graph_outcome}
+use Rattle.map_faults.specs.declared.fault.MakeFault.{MakeFault}
+use Rattle.map_faults.specs.declared.fault.MakeFault.TheVariants as fault
+use Rattle.graph_maps.specs.Problems.{Drawn, drawn_on}
+use Rattle.graph_maps.specs.Making.{MapBytes, SolvedMap, if_solved, solved_map, solved_of}
+use Rattle.map_engine.specs.Tables.{importance_by, subject_of}
 
--- the bytes of a map and of its certificate
-pub record MapBytes : Type 0 where
-  pub svg : List ℕ
-  pub certificate : List ℕ
+-- what comes of a line graph, or the limit that it is over
+abbrev pub over_graph : {A : Type 0} → (GraphParts → Result A MakeFault) → Result GraphParts Limit → Result A MakeFault
+over_graph makes (Ok graph) = makes graph
+over_graph makes (Err limit) = Err (fault.Limit limit)
 
--- the map and the certificate of a drawing with the solved parts of its untangled problem
-abbrev pub map_of : Feed → Choices → Drawn → List SolvedPart → MapBytes
-map_of feed choices drawn parts = record {
-  svg = picture_text (names_by feed) drawn.graph drawn.walks (lifted_by drawn.problem parts);
-  certificate = certificate_text (certificate_of feed choices drawn parts);
-}
+-- The drawing of a feed's line graph and the problem of its line orders: the graph comes first, then its walks, then
+-- the terms are counted.
+abbrev pub drawn_outcome : Feed → Choices → MethodChoices → Result Drawn MakeFault
+drawn_outcome feed choices method = over_graph (λ graph. drawn_on (importance_by feed choices) choices method graph)
+    (graph_outcome choices.near feed)
 
--- how the orders of parts are searched for
-abbrev pub plan_of : Choices → MethodChoices → SearchPlan
-plan_of choices method = record { search = method.search; claim = method.claim; budget = choices.budget }
-
--- a drawing with the solved parts of its untangled problem
-pub record SolvedMap : Type 0 where
-  pub drawn : Drawn
-  pub parts : List SolvedPart
-
--- what comes of a drawing and the parts of its untangled problem: the drawing after at most so many moves, with the parts
-abbrev pub solved_with : ℕ → Drawn → Result (List SolvedPart) MakeFault → Result SolvedMap MakeFault
-solved_with moves drawn (Ok parts) = Ok (record { drawn = after_moves moves drawn; parts = parts })
-solved_with moves drawn (Err stop) = Err stop
-
-abbrev pub solved_on : Choices → MethodChoices → Result Drawn MakeFault → Result SolvedMap MakeFault
-solved_on choices method (Ok drawn) = solved_with method.moves drawn (solve_outcome (plan_of choices method) (untangled_problem drawn.problem))
-solved_on choices method (Err stop) = Err stop
-
--- The drawing of a feed and its line orders; or the first cause why there is none: a limit of the line graph, of cells, no
--- route, a limit of terms, or a part of the untangled problem that is over the limit of places or over the budget. It
--- never is want of memory. The moves follow the routes, and no order depends on them.
+-- The drawing of a feed and its line orders; or the first cause why there is none: a limit of the line graph or of
+-- cells, no route, a limit of terms, or a part of the untangled problem that is over the limit of places or over the
+-- budget. It never is want of memory.
 abbrev pub solved_outcome : Feed → Choices → MethodChoices → Result SolvedMap MakeFault
-solved_outcome feed choices method = solved_on choices method (drawn_outcome feed choices method)
-
--- what is made of a drawing with its line orders, where they are there
-abbrev pub if_solved : {A : Type 0} → (SolvedMap → A) → Result SolvedMap MakeFault → Result A MakeFault
-if_solved makes (Ok solved) = Ok (makes solved)
-if_solved makes (Err stop) = Err stop
-
--- the map and the certificate of a drawing with its line orders
-abbrev pub solved_map : Feed → Choices → SolvedMap → MapBytes
-solved_map feed choices solved = map_of feed choices solved.drawn solved.parts
+solved_outcome feed choices method = solved_of choices method (drawn_outcome feed choices method)
 
 -- The map of a feed and its certificate; or the first cause why there is none.
 abbrev pub make_outcome : Feed → Choices → MethodChoices → Result MapBytes MakeFault
-make_outcome feed choices method = if_solved (solved_map feed choices) (solved_outcome feed choices method)
-
--- the bytes of what was made
-abbrev pub bytes_of : Made → MapBytes
-bytes_of made = record { svg = made.svg.items; certificate = made.certificate.items }
-
--- the fault is the one that comes by definition; want of memory is free
-abbrev pub HasCause : {A : Type 0} → Result A MakeFault → MakeFault → Type 0
-HasCause outcome fault.NoMemory = Unit {0}
-HasCause outcome (fault.NoRoute seg) = outcome ≡ Err (fault.NoRoute seg)
-HasCause outcome (fault.Spent component branches) = outcome ≡ Err (fault.Spent component branches)
-HasCause outcome (fault.Limit limit) = outcome ≡ Err (fault.Limit limit)
-
--- what was answered, seen by view, is what comes by definition, unless memory ran out
-abbrev pub Gives : {X Y : Type 0} → (X → Y) → Result X MakeFault → Result Y MakeFault → Type 0
-Gives view (Ok x) outcome = outcome ≡ Ok (view x)
-Gives view (Err e) outcome = HasCause outcome e
+make_outcome feed choices method = if_solved (solved_map (subject_of feed choices)) (solved_outcome feed choices method)

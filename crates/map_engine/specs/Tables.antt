@@ -6,6 +6,7 @@ use Rattle.transit_feed.specs.declared.station.Station.{Station}
 use Rattle.transit_feed.specs.declared.line.Line.{Line}
 use Rattle.transit_feed.specs.Feeds.{Feed}
 use Rattle.graph_core.specs.declared.parts.GraphParts.{GraphParts}
+use Rattle.graph_maps.specs.Subjects.{Subject}
 use Rattle.svg_writer.specs.declared.names.Names.{Names}
 
 -- the names of all stations, and the names and colours of all lines, each in the order of their numbers
@@ -27,3 +28,7 @@ importance_by feed choices = map (λ (l : Line). importance_among choices.import
 -- each line on a segment is one of the feed's
 abbrev pub AreOfFeed : Feed → GraphParts → Type 0
 AreOfFeed feed graph = All (All (λ (a : LineId). a.0 < length feed.lines)) graph.lines
+
+-- what the tables of a feed tell of what a map of its line graph is made of
+abbrev pub subject_of : Feed → Choices → Subject
+subject_of feed choices = record { names = names_by feed; importance = importance_by feed choices }

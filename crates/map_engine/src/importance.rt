@@ -1,6 +1,7 @@
 //! How much each line counts.
 
-ghost use Rattle.std.specs.Prelude.{◌≡◌, map, IfOk};
+ghost use Rattle.std.specs.Prelude.{◌≡◌, ◌<◌, ◌^◌, length, map, All, IfOk};
+ghost use Rattle.map_base.specs.Settings.{IsImportance};
 ghost use Rattle.transit_feed.specs.declared.line.Line.{Line as FeedLine};
 ghost use Rattle.map_engine.specs.Tables.{importance_among, importance_by};
 
@@ -8,8 +9,8 @@ use map_base::{NoMemory, Settings, Text};
 use std::alloc::Global;
 use transit_feed::{Line, Tables};
 
-/// How much a crossing of each line counts, in the order of the lines: the number of the line's id in the settings, and 1
-/// where it has none.
+/// How much a crossing of each line counts, in the order of the lines: the number of the line's id in the settings, and
+/// 1 where it has none.
 pub fn importance_of(
     alloc: Global,
     tables: &Tables,
@@ -24,9 +25,27 @@ pub fn importance_of(
     )
 }
 
+/// The same, with what a map of the line graph asks of these numbers.
+pub(crate) fn line_numbers(
+    alloc: Global,
+    tables: &Tables,
+    settings: &Settings,
+) -> Result<Vec<u32>, NoMemory>
+    ensures value { IfOk result (λ numbers. numbers.items ≡ importance_by tables.now settings.now) }
+    ensures range { IfOk result (λ numbers. All IsImportance numbers.items) }
+    ensures few { IfOk result (λ numbers. length numbers.items < 2 ^ 32) }
+{
+    // What is read of tables and settings tells their laws.
+    let _lines = tables.lines.len();
+    let _near = settings.near;
+    let numbers = importance_of(alloc, tables, settings)?;
+    Ok(numbers)
+}
+
 /// The same by pairs of an id and a number.
 fn importance_in(alloc: Global, lines: &[Line], pairs: &[(Text, u32)]) -> Result<Vec<u32>, NoMemory>
-    ensures { IfOk result (λ numbers. numbers.items ≡ map (λ (l : FeedLine). importance_among pairs.now l.id) lines.now) }
+    ensures { IfOk result (λ numbers. numbers.items
+        ≡ map (λ (l : FeedLine). importance_among pairs.now l.id) lines.now) }
 {
     let mut numbers = Vec::with_capacity(alloc, lines.len())?;
     for line in lines {

@@ -1,7 +1,7 @@
 -- The work of a command, by the command that is asked for.
 use Rattle.std.proofs.Common.{◌≡◌, ℕ, ◌⊎◌, inl, inr, true, List, [], length, take, Option, Some, Result, Ok, Err, IfOk, refl, sym, ap, subst, arith}
 use Rattle.std.proofs.Math.Seq.{take-length}
-use Rattle.command_paths.specs.Paths.{Chosen, MapPaths}
+use Rattle.command_paths.specs.Paths.{Chosen, MapPaths, NewPaths}
 use Rattle.files_door.specs.Targets.{Written}
 use Rattle.files_door.specs.Acts.{Act, Does}
 use Rattle.command_run.specs.declared.output.Output.{Output}
@@ -11,7 +11,7 @@ use Rattle.command_run.specs.Delivered.{outputs_acts, IsSaid, IsDelivered}
 use Rattle.command_run.specs.Work.{Work, ends}
 use Rattle.command_run.proofs.ActLemmas.{delivered_whole}
 use Rattle.output_pieces.proofs.PieceLemmas.{delivered_left}
-use Rattle.command_words.specs.Asked.{Asked, stations, graph, make, improve, check, depict, session, trial, page}
+use Rattle.command_words.specs.Asked.{Asked, stations, graph, export, imported, make, improve, check, depict, session, trial, page}
 use Rattle.run_status.specs.declared.input.Input.{Input}
 use Rattle.run_status.specs.declared.refusal.Refusal.{Refusal}
 use Rattle.run_status.specs.declared.status.Status.{Status}
@@ -20,6 +20,8 @@ use Rattle.run_status.proofs.FollowLemmas.{follows_refused, follows_value, gives
 use Rattle.command_inputs.specs.Inputs.{InputPaths, input_at}
 use Rattle.table_commands.specs.TableWorks.{graph_work, stations_work}
 use Rattle.map_commands.specs.MapWorks.{check_work, make_work}
+use Rattle.export_command.specs.ExportWorks.{export_work}
+use Rattle.import_command.specs.ImportWorks.{import_work, AreOfImported, SearchesImported}
 use Rattle.page_command.specs.PageWorks.{page_work}
 use Rattle.map_commands.specs.Promises.{AreOfMap, AreOfYes, SearchesParts}
 use Rattle.improve_command.specs.ImproveWorks.{improve_work, AreOfImproved}
@@ -111,9 +113,17 @@ module _ (told : Told) (asked : Asked) where
       → Follows told (input_at inputs) rose same (graph_work inputs.chosen) result → Follows told (input_path asked) rose at_end (work asked) end
   graph_follows {feed} {chosen} rose result end inputs ended is lie follows = outputs_follow rose result end (graph feed chosen) inputs (λ p. graph_work p.chosen) ended is lie refl follows
 
-  pub make_follows : {feed : List ℕ} {paths : MapPaths} {chosen : Chosen} (rose : Type 0) (result : Result (List Output) Refusal) (end : Result Finished Refusal) (inputs : InputPaths) → end ≡ whole_by result → asked ≡ make feed paths chosen → inputs ≡ inputs_of asked
+  pub export_follows : {feed out : List ℕ} {chosen : Chosen} (rose : Type 0) (result : Result (List Output) Refusal) (end : Result Finished Refusal) (inputs : InputPaths) → end ≡ whole_by result → asked ≡ export feed out chosen → inputs ≡ inputs_of asked
+      → Follows told (input_at inputs) rose same (export_work inputs.chosen out) result → Follows told (input_path asked) rose at_end (work asked) end
+  export_follows {feed} {out} {chosen} rose result end inputs ended is lie follows = outputs_follow rose result end (export feed out chosen) inputs (λ p. export_work p.chosen out) ended is lie refl follows
+
+  pub make_follows : {feed : List ℕ} {paths : NewPaths} {chosen : Chosen} (rose : Type 0) (result : Result (List Output) Refusal) (end : Result Finished Refusal) (inputs : InputPaths) → end ≡ whole_by result → asked ≡ make feed paths chosen → inputs ≡ inputs_of asked
       → Follows told (input_at inputs) rose same (make_work inputs.chosen paths) result → Follows told (input_path asked) rose at_end (work asked) end
   make_follows {feed} {paths} {chosen} rose result end inputs ended is lie follows = outputs_follow rose result end (make feed paths chosen) inputs (λ p. make_work p.chosen paths) ended is lie refl follows
+
+  pub import_follows : {json : List ℕ} {paths : MapPaths} {chosen : Chosen} (rose : Type 0) (result : Result (List Output) Refusal) (end : Result Finished Refusal) (inputs : InputPaths) → end ≡ whole_by result → asked ≡ imported json paths chosen → inputs ≡ inputs_of asked
+      → Follows told (input_at inputs) rose same (import_work inputs.chosen paths) result → Follows told (input_path asked) rose at_end (work asked) end
+  import_follows {json} {paths} {chosen} rose result end inputs ended is lie follows = outputs_follow rose result end (imported json paths chosen) inputs (λ p. import_work p.chosen paths) ended is lie refl follows
 
   pub improve_follows : {feed : List ℕ} {paths : MapPaths} {moves : ℕ} {chosen : Chosen} (rose : Type 0) (result : Result (List Output) Refusal) (end : Result Finished Refusal) (inputs : InputPaths) → end ≡ whole_by result → asked ≡ improve feed paths moves chosen
       → inputs ≡ inputs_of asked → Follows told (input_at inputs) rose same (improve_work inputs.chosen paths moves) result → Follows told (input_path asked) rose at_end (work asked) end
@@ -153,6 +163,10 @@ module _ (told : Told) (asked : Asked) where
   graph_keeps {feed} {chosen} (Ok outputs) end ended is = keeps_as (graph feed chosen) (Ok (whole outputs)) end ended is tt
   graph_keeps {feed} {chosen} (Err why) end ended is = keeps_as (graph feed chosen) (Err why) end ended is tt
 
+  pub export_keeps : {feed out : List ℕ} {chosen : Chosen} (result : Result (List Output) Refusal) (end : Result Finished Refusal) → end ≡ whole_by result → asked ≡ export feed out chosen → Keeps told asked end
+  export_keeps {feed} {out} {chosen} (Ok outputs) end ended is = keeps_as (export feed out chosen) (Ok (whole outputs)) end ended is tt
+  export_keeps {feed} {out} {chosen} (Err why) end ended is = keeps_as (export feed out chosen) (Err why) end ended is tt
+
   pub trial_keeps : {number : ℕ} (result : Result (List Output) Refusal) (end : Result Finished Refusal) → end ≡ whole_by result → asked ≡ trial number → Keeps told asked end
   trial_keeps {number} (Ok outputs) end ended is = keeps_as (trial number) (Ok (whole outputs)) end ended is tt
   trial_keeps {number} (Err why) end ended is = keeps_as (trial number) (Err why) end ended is tt
@@ -165,11 +179,17 @@ module _ (told : Told) (asked : Asked) where
   by_inputs : (P : InputPaths → Type 0) (command : Asked) (inputs : InputPaths) → asked ≡ command → inputs ≡ inputs_of asked → P inputs → P (inputs_of command)
   by_inputs P command inputs is lie promised = subst (λ (a : Asked). P (inputs_of a)) is (subst P lie promised)
 
-  pub make_keeps : {feed : List ℕ} {paths : MapPaths} {chosen : Chosen} (inputs : InputPaths) (result : Result (List Output) Refusal) (end : Result Finished Refusal) → end ≡ whole_by result → asked ≡ make feed paths chosen → inputs ≡ inputs_of asked
+  pub make_keeps : {feed : List ℕ} {paths : NewPaths} {chosen : Chosen} (inputs : InputPaths) (result : Result (List Output) Refusal) (end : Result Finished Refusal) → end ≡ whole_by result → asked ≡ make feed paths chosen → inputs ≡ inputs_of asked
       → IfOk result (AreOfMap told inputs paths) → Keeps told asked end
   make_keeps {feed} {paths} {chosen} inputs (Ok outputs) end ended is lie are =
       keeps_as (make feed paths chosen) (Ok (whole outputs)) end ended is (by_inputs (λ p. AreOfMap told p paths outputs) (make feed paths chosen) inputs is lie are)
   make_keeps {feed} {paths} {chosen} inputs (Err why) end ended is lie are = keeps_as (make feed paths chosen) (Err why) end ended is tt
+
+  pub import_keeps : {json : List ℕ} {paths : MapPaths} {chosen : Chosen} (inputs : InputPaths) (result : Result (List Output) Refusal) (end : Result Finished Refusal) → end ≡ whole_by result → asked ≡ imported json paths chosen → inputs ≡ inputs_of asked
+      → IfOk result (AreOfImported told inputs paths) → Keeps told asked end
+  import_keeps {json} {paths} {chosen} inputs (Ok outputs) end ended is lie are =
+      keeps_as (imported json paths chosen) (Ok (whole outputs)) end ended is (by_inputs (λ p. AreOfImported told p paths outputs) (imported json paths chosen) inputs is lie are)
+  import_keeps {json} {paths} {chosen} inputs (Err why) end ended is lie are = keeps_as (imported json paths chosen) (Err why) end ended is tt
 
   pub improve_keeps : {feed : List ℕ} {paths : MapPaths} {moves : ℕ} {chosen : Chosen} (inputs : InputPaths) (result : Result (List Output) Refusal) (end : Result Finished Refusal) → end ≡ whole_by result → asked ≡ improve feed paths moves chosen
       → inputs ≡ inputs_of asked → IfOk result (AreOfImproved told inputs paths moves) → Keeps told asked end
@@ -253,6 +273,9 @@ module _ (told : Told) (asked : Asked) where
   pub graph_steps : {feed : List ℕ} {chosen : Chosen} (steps : ℕ) → asked ≡ graph feed chosen → TakesSteps told (Some asked) steps steps
   graph_steps {feed} {chosen} steps is = steps_as (graph feed chosen) steps steps is refl
 
+  pub export_steps : {feed out : List ℕ} {chosen : Chosen} (steps : ℕ) → asked ≡ export feed out chosen → TakesSteps told (Some asked) steps steps
+  export_steps {feed} {out} {chosen} steps is = steps_as (export feed out chosen) steps steps is refl
+
   pub check_steps : {feed : List ℕ} {paths : MapPaths} {chosen : Chosen} (steps : ℕ) → asked ≡ check feed paths chosen → TakesSteps told (Some asked) steps steps
   check_steps {feed} {paths} {chosen} steps is = steps_as (check feed paths chosen) steps steps is refl
 
@@ -270,10 +293,15 @@ module _ (told : Told) (asked : Asked) where
   pub trial_steps : {number : ℕ} (before now : ℕ) → asked ≡ trial number → TakesTrialSteps number before now → TakesSteps told (Some asked) before now
   trial_steps {number} before now is few = steps_as (trial number) before now is few
 
-  pub make_steps : {feed : List ℕ} {paths : MapPaths} {chosen : Chosen} (inputs : InputPaths) (before now : ℕ) → asked ≡ make feed paths chosen → inputs ≡ inputs_of asked
+  pub make_steps : {feed : List ℕ} {paths : NewPaths} {chosen : Chosen} (inputs : InputPaths) (before now : ℕ) → asked ≡ make feed paths chosen → inputs ≡ inputs_of asked
       → SearchesParts told inputs before now → TakesSteps told (Some asked) before now
   make_steps {feed} {paths} {chosen} inputs before now is lie few =
       steps_as (make feed paths chosen) before now is (by_inputs (λ p. SearchesParts told p before now) (make feed paths chosen) inputs is lie few)
+
+  pub import_steps : {json : List ℕ} {paths : MapPaths} {chosen : Chosen} (inputs : InputPaths) (before now : ℕ) → asked ≡ imported json paths chosen → inputs ≡ inputs_of asked
+      → SearchesImported told inputs before now → TakesSteps told (Some asked) before now
+  import_steps {json} {paths} {chosen} inputs before now is lie few =
+      steps_as (imported json paths chosen) before now is (by_inputs (λ p. SearchesImported told p before now) (imported json paths chosen) inputs is lie few)
 
   pub improve_steps : {feed : List ℕ} {paths : MapPaths} {moves : ℕ} {chosen : Chosen} (inputs : InputPaths) (before now : ℕ) → asked ≡ improve feed paths moves chosen → inputs ≡ inputs_of asked
       → SearchesParts told inputs before now → TakesSteps told (Some asked) before now

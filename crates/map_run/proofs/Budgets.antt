@@ -13,7 +13,8 @@ use Rattle.toml.specs.Data.{Data, Members}
 use Rattle.map_settings.specs.Values.{near_of, cell_of, budget_of, types_of, weights_of, importance_of, search_of, claim_of, spread_of, finest_of, moves_of}
 use Rattle.map_settings.specs.Tables.{entries}
 use Rattle.map_settings.specs.Entries.{near_is, cell_is, budget_is, types_are, junction_is, station_is, importance_is, search_is, claim_is, spread_is, finest_is, moves_are, settings_change, method_change, is_of_method, in_settings, in_method, change_of}
-use Rattle.map_settings.specs.Outcome.{bad_keys, least, changed, after, unless_bad, table_outcome, with_table}
+use Rattle.map_settings.specs.Outcome.{bad_keys, least, changed, after, set_outcome, sets_outcome, settings_outcome, unless_bad, table_outcome, with_table}
+use Rattle.map_settings.specs.declared.fault.SettingsWhy.{SettingsWhy}
 use Rattle.map_edits.specs.declared.edit.Edit.{Edit}
 use Rattle.map_edits.specs.declared.edit.Edit.TheVariants as edit
 use Rattle.map_edits.specs.Effects.{choices_by, choices_after, feed_after}
@@ -22,6 +23,7 @@ use Rattle.command_paths.specs.Paths.{Chosen}
 use Rattle.run_status.specs.declared.input.Input.{Input}
 use Rattle.run_status.specs.declared.input.Input.TheVariants as input
 use Rattle.run_status.specs.declared.refusal.Refusal.{Refusal}
+use Rattle.run_status.specs.declared.refusal.Refusal.TheVariants as refused
 use Rattle.command_inputs.specs.declared.loaded.Loaded.{Loaded}
 use Rattle.command_inputs.specs.Loading.{changed_by, changed_in, edited_by, edits_of, feed_work, file_outcome, load_work, settings_by, settings_given, settings_in, tables_work}
 
@@ -127,17 +129,44 @@ defaults_alike Make Map = (refl, refl)
 defaults_alike Map Make = (refl, refl)
 defaults_alike Map Map = (refl, refl)
 
-file_alike : (c d : Defaults) (file : Option (List ℕ)) → AlikeBy Alike (settings_in c file) (settings_in d file)
-file_alike c d None = refl
-file_alike c d (Some bytes) = by_table (table_outcome bytes)
+-- both are refused for one reason, or neither is, and the two are alike
+abbrev AreAlikeReadings : Result MapSettings SettingsWhy → Result MapSettings SettingsWhy → Type 0
+AreAlikeReadings (Ok x) (Ok y) = Alike x y
+AreAlikeReadings (Ok x) (Err why) = ⊥
+AreAlikeReadings (Err why) (Ok y) = ⊥
+AreAlikeReadings (Err why) (Err other) = why ≡ other
+
+-- a text makes alike settings of alike ones
+text_alike : (x y : MapSettings) (bytes : List ℕ) → Alike x y → AreAlikeReadings (set_outcome x bytes) (set_outcome y bytes)
+text_alike x y bytes alike = by_table (table_outcome bytes)
   where
-    by_table : (table : Option Members) → AlikeBy Alike (settings_given (with_table c table)) (settings_given (with_table d table))
+    by_table : (table : Option Members) → AreAlikeReadings (with_table x table) (with_table y table)
     by_table None = refl
     by_table (Some table) = by_bad (least (bad_keys (entries table)))
       where
-        by_bad : (bad : Option (List ℕ)) → AlikeBy Alike (settings_given (unless_bad bad (after (entries table) (default_choices c)))) (settings_given (unless_bad bad (after (entries table) (default_choices d))))
-        by_bad None = after_alike (entries table) (default_choices c) (default_choices d) (defaults_alike c d)
+        by_bad : (bad : Option (List ℕ)) → AreAlikeReadings (unless_bad bad (after (entries table) x)) (unless_bad bad (after (entries table) y))
+        by_bad None = after_alike (entries table) x y alike
         by_bad (Some key) = refl
+
+-- and so do texts one after another
+sets_alike : (sets : List (List ℕ)) (x y : Result MapSettings SettingsWhy) → AreAlikeReadings x y → AreAlikeReadings (sets_outcome sets x) (sets_outcome sets y)
+sets_alike [] x y alike = alike
+sets_alike (text ∷ more) (Ok x) (Ok y) alike = sets_alike more (set_outcome x text) (set_outcome y text) (text_alike x y text alike)
+sets_alike (text ∷ more) (Ok x) (Err why) alike = absurd alike
+sets_alike (text ∷ more) (Err why) (Ok y) alike = absurd alike
+sets_alike (text ∷ more) (Err why) (Err other) alike = alike
+
+given_alike : (x y : Result MapSettings SettingsWhy) → AreAlikeReadings x y → AlikeBy Alike (settings_given x) (settings_given y)
+given_alike (Ok x) (Ok y) alike = alike
+given_alike (Ok x) (Err why) alike = alike
+given_alike (Err why) (Ok y) alike = alike
+given_alike (Err why) (Err other) alike = ap (λ (w : SettingsWhy). refused.BadSettings w) alike
+
+file_alike : (c d : Defaults) (sets : List (List ℕ)) (file : Option (List ℕ)) → AlikeBy Alike (settings_in c sets file) (settings_in d sets file)
+file_alike c d sets None = refl
+file_alike c d sets (Some bytes) =
+    given_alike (sets_outcome sets (settings_outcome c bytes)) (sets_outcome sets (settings_outcome d bytes))
+    (sets_alike sets (settings_outcome c bytes) (settings_outcome d bytes) (text_alike (default_choices c) (default_choices d) bytes (defaults_alike c d)))
 
 -- Works over alike settings.
 
@@ -147,15 +176,16 @@ bound (ends (Ok value)) next given = refl
 bound (ends (Err why)) next given = refl
 bound (reads one rest) next given = bound (rest (given one)) next given
 
-abbrev by_file : Defaults → Option (List ℕ) → Work Input Refusal MapSettings
-by_file defaults file = ends (settings_in defaults file)
+abbrev by_file : Defaults → List (List ℕ) → Option (List ℕ) → Work Input Refusal MapSettings
+by_file defaults sets file = ends (settings_in defaults sets file)
 
-settings_alike : (c d : Defaults) (settings : Option (List ℕ)) (given : Given) → AlikeBy Alike (outcome (settings_by c settings) given) (outcome (settings_by d settings) given)
-settings_alike c d None given = defaults_alike c d
-settings_alike c d (Some path) given = by_read (file_outcome (given input.Settings))
+settings_alike : (c d : Defaults) (sets : List (List ℕ)) (settings : Option (List ℕ)) (given : Given) → AlikeBy Alike (outcome (settings_by c sets settings) given) (outcome (settings_by d sets settings) given)
+settings_alike c d sets None given =
+    given_alike (sets_outcome sets (Ok (default_choices c))) (sets_outcome sets (Ok (default_choices d))) (sets_alike sets (Ok (default_choices c)) (Ok (default_choices d)) (defaults_alike c d))
+settings_alike c d sets (Some path) given = by_read (file_outcome (given input.Settings))
   where
-    by_read : (read : Result (Option (List ℕ)) Refusal) → AlikeBy Alike (outcome (ends read >>= by_file c) given) (outcome (ends read >>= by_file d) given)
-    by_read (Ok file) = file_alike c d file
+    by_read : (read : Result (Option (List ℕ)) Refusal) → AlikeBy Alike (outcome (ends read >>= by_file c sets) given) (outcome (ends read >>= by_file d sets) given)
+    by_read (Ok file) = file_alike c d sets file
     by_read (Err why) = refl
 
 -- the tables are the same, and the settings alike, and the same is to be proved
@@ -187,10 +217,10 @@ over defaults chosen = record chosen { defaults = defaults }
 
 feed_alike : (chosen : Chosen) (d : Defaults) (given : Given) → AlikeBy AreLoadedAlike (outcome (feed_work chosen) given) (outcome (feed_work (over d chosen)) given)
 feed_alike chosen d given =
-    let first : Defaults → Result MapSettings Refusal = λ c. outcome (settings_by c chosen.settings) given in
-    subst (λ (r : Result Loaded Refusal). AlikeBy AreLoadedAlike r (outcome (feed_work (over d chosen)) given)) (sym (bound (settings_by chosen.defaults chosen.settings) tables_as given))
-    (subst (λ (r : Result Loaded Refusal). AlikeBy AreLoadedAlike (outcome (ends (first chosen.defaults) >>= tables_as) given) r) (sym (bound (settings_by d chosen.settings) tables_as given))
-    (by_settings (first chosen.defaults) (first d) (settings_alike chosen.defaults d chosen.settings given)))
+    let first : Defaults → Result MapSettings Refusal = λ c. outcome (settings_by c chosen.sets chosen.settings) given in
+    subst (λ (r : Result Loaded Refusal). AlikeBy AreLoadedAlike r (outcome (feed_work (over d chosen)) given)) (sym (bound (settings_by chosen.defaults chosen.sets chosen.settings) tables_as given))
+    (subst (λ (r : Result Loaded Refusal). AlikeBy AreLoadedAlike (outcome (ends (first chosen.defaults) >>= tables_as) given) r) (sym (bound (settings_by d chosen.sets chosen.settings) tables_as given))
+    (by_settings (first chosen.defaults) (first d) (settings_alike chosen.defaults d chosen.sets chosen.settings given)))
   where
     by_settings : (x y : Result MapSettings Refusal) → AlikeBy Alike x y → AlikeBy AreLoadedAlike (outcome (ends x >>= tables_as) given) (outcome (ends y >>= tables_as) given)
     by_settings (Ok x) (Ok y) alike = tables_alike x y given alike

@@ -17,7 +17,7 @@ use Rattle.run_status.specs.declared.status.Status.TheVariants as status
 use Rattle.command_words.specs.declared.fault.WordsFault.{WordsFault}
 use Rattle.command_words.specs.declared.fault.WordsFault.TheVariants as fault
 use Rattle.command_words.specs.Words.{Reads as ReadsWords}
-use Rattle.command_words.specs.Asked.{Asked, stations, graph, make, improve, check, depict, session, trial, page}
+use Rattle.command_words.specs.Asked.{Asked, stations, graph, export, imported, make, improve, check, depict, session, trial, page}
 use Rattle.map_run.specs.Inputs.{input_path}
 use Rattle.map_run.specs.Answers.{Finished, alone, done, answer_by, status_at}
 use Rattle.run_status.specs.Statuses.{status_of}
@@ -64,6 +64,8 @@ pub no_steps : (told : Told) (asked : Option Asked) (steps : ℕ) → TakesSteps
 no_steps told None steps = refl
 no_steps told (Some (stations feed)) steps = refl
 no_steps told (Some (graph feed chosen)) steps = refl
+no_steps told (Some (export feed out chosen)) steps = refl
+no_steps told (Some (imported json paths chosen)) steps = inl refl
 no_steps told (Some (make feed paths chosen)) steps = inl refl
 no_steps told (Some (improve feed paths moves chosen)) steps = inl refl
 no_steps told (Some (check feed paths chosen)) steps = refl
@@ -93,6 +95,7 @@ answer_caused (Some asked) told files_rose sinks_rose answer (result, comes, kee
     by_result (Err (refused.Limit limit)) comes = read
     by_result (Err (refused.Refuted item)) comes = read
     by_result (Err (refused.BadSettings why)) comes = read
+    by_result (Err (refused.BadGraph why)) comes = read
     by_result (Err (refused.BadEdit line)) comes = read
     by_result (Err (refused.Missing input)) comes = read
     by_result (Err (refused.ReadFault input)) comes = (comes.0, (asked, input, refl, refl, (comes.1.seen, comes.1.runs)))

@@ -9,19 +9,20 @@ use Rattle.files_door.specs.Targets.{Written, held_by}
 use Rattle.std.proofs.lemmas.Slice.Eq.{bytes_eq-Decides}
 use Rattle.command_run.specs.declared.output.Output.{Output}
 use Rattle.command_run.specs.Held.{held_after, line_outputs, IsBeginning}
-use Rattle.map_engine.specs.Making.{MapBytes}
+use Rattle.graph_maps.specs.Making.{MapBytes}
 use Rattle.map_run.specs.declared.answer.Answer.{Answer}
 use Rattle.run_status.specs.declared.input.Input.{Input}
 use Rattle.run_status.specs.declared.refusal.Refusal.{Refusal}
 use Rattle.run_status.specs.declared.refusal.Refusal.TheVariants as refused
 use Rattle.run_status.specs.declared.status.Status.{Status}
 use Rattle.run_status.specs.declared.status.Status.TheVariants as status
-use Rattle.command_words.specs.Asked.{Asked, stations, graph, make, improve, check, depict, session, trial, page}
+use Rattle.command_words.specs.Asked.{Asked, stations, graph, export, imported, make, improve, check, depict, session, trial, page}
 use Rattle.command_paths.specs.Paths.{MapPaths}
 use Rattle.command_words.specs.Words.{asked, asked_in}
-use Rattle.command_words.proofs.Apart.{AreApart, asked_apart}
+use Rattle.command_words.proofs.Apart.{AreApart, AreNewApart, asked_apart}
 use Rattle.map_run.specs.Inputs.{input_path}
-use Rattle.map_commands.specs.MapWorks.{map_outputs}
+use Rattle.map_page.specs.Pages.{page_bytes}
+use Rattle.map_commands.specs.MapWorks.{map_outputs, page_output}
 use Rattle.session_command.specs.SessionWorks.{Played, session_text}
 use Rattle.map_run.specs.Answers.{Finished, answer_by, status_at}
 use Rattle.run_status.specs.Statuses.{status_of}
@@ -60,6 +61,36 @@ certificate_held paths made held = by_test (bytes_eq paths.certificate paths.cer
     by_test true before e = refl
     by_test false before e = absurd (cc)
 
+-- what targets hold after the outputs of a new map, with its page or without one
+
+-- another target doesn't touch what is held
+not_this : (same : Bool) (bytes : List ℕ) (before : Option (List ℕ)) → same ≡ false → (if same then Some ([] ++ bytes) else before) ≡ before
+not_this true bytes before e = absurd (cc)
+not_this false bytes before e = refl
+
+new_map_held : (paths : MapPaths) (page : Option (List ℕ)) (made : MapBytes) (held : Option (List ℕ)) → AreNewApart (record { map = paths; page = page })
+    → held_after (Path paths.picture) (map_outputs paths made ++ page_output page made.svg) held ≡ Some made.svg
+new_map_held paths None made held apart = map_held paths made held apart.0
+new_map_held paths (Some path) made held apart =
+    not_this (bytes_eq path paths.picture) (page_bytes made.svg) (held_after (Path paths.picture) (map_outputs paths made) held) apart.1.0 ∙ map_held paths made held apart.0
+
+new_certificate_held : (paths : MapPaths) (page : Option (List ℕ)) (made : MapBytes) (held : Option (List ℕ)) → AreNewApart (record { map = paths; page = page })
+    → held_after (Path paths.certificate) (map_outputs paths made ++ page_output page made.svg) held ≡ Some made.certificate
+new_certificate_held paths None made held apart = certificate_held paths made held
+new_certificate_held paths (Some path) made held apart =
+    not_this (bytes_eq path paths.certificate) (page_bytes made.svg) (held_after (Path paths.certificate) (map_outputs paths made) held) apart.1.1 ∙ certificate_held paths made held
+
+new_page_held : (paths : MapPaths) (page : Option (List ℕ)) (made : MapBytes) (old new : Written)
+    → ((target : Target) → held_by target new ≡ held_after target (map_outputs paths made ++ page_output page made.svg) (held_by target old))
+    → IfSome page (λ path. held_by (Path path) new ≡ Some (page_bytes made.svg))
+new_page_held paths None made old new holds = tt
+new_page_held paths (Some path) made old new holds =
+    holds (Path path) ∙ by_test (bytes_eq path path) (held_after (Path path) (map_outputs paths made) (held_by (Path path) old)) ((bytes_eq-Decides path path).1 refl)
+  where
+    by_test : (same : Bool) (before : Option (List ℕ)) → same ≡ true → (if same then Some ([] ++ page_bytes made.svg) else before) ≡ Some (page_bytes made.svg)
+    by_test true before e = refl
+    by_test false before e = absurd (cc)
+
 -- what one file holds after one output
 one_held : (out bytes : List ℕ) (held : Option (List ℕ)) → held_after (Path out) (record { to = Path out; bytes = bytes } ∷ []) held ≡ Some bytes
 one_held out bytes held = by_test (bytes_eq out out) ((bytes_eq-Decides out out).1 refl)
@@ -83,6 +114,7 @@ refusal_not_done paths (refused.Limit limit) same = cc
 refusal_not_done paths (refused.Refuted item) same = cc
 refusal_not_done paths (refused.BadSettings why) same = cc
 refusal_not_done paths (refused.BadEdit line) same = cc
+refusal_not_done paths (refused.BadGraph why) same = cc
 refusal_not_done paths (refused.Missing input) same = cc
 refusal_not_done paths (refused.ReadFault input) same = cc
 refusal_not_done paths refused.NoMemory same = cc
@@ -94,8 +126,19 @@ Holds outputs old new = (target : Target) → held_by target new ≡ held_after 
 means : (told : Told) (command : Asked) (finished : Finished) (old new : Written) → AreApart (Some command) → Promised told command finished → finished.bad_line ≡ None → Holds finished.outputs old new → MeansDone told command old new
 means told (stations feed) finished old new apart promised none holds = tt
 means told (graph feed chosen) finished old new apart promised none holds = tt
+means told (export feed out chosen) finished old new apart promised none holds = tt
 means told (trial number) finished old new apart promised none holds = tt
 means told (page shown html) finished old new apart promised none holds = tt
+means told (imported json paths chosen) finished old new apart promised none holds =
+    let has = subst (λ (o : List Output). Holds o old new) promised.are holds in
+    record {
+      both = promised.both;
+      reads = promised.reads;
+      made = promised.made;
+      promised = promised.promised;
+      map = has (Path paths.picture) ∙ map_held paths promised.made (held_by (Path paths.picture) old) apart;
+      certificate = has (Path paths.certificate) ∙ certificate_held paths promised.made (held_by (Path paths.certificate) old);
+    }
 means told (make feed paths chosen) finished old new apart promised none holds =
     let has = subst (λ (o : List Output). Holds o old new) promised.are holds in
     record {
@@ -104,8 +147,9 @@ means told (make feed paths chosen) finished old new apart promised none holds =
       made = promised.made;
       defined = promised.defined;
       is_made = promised.is_made;
-      map = has (Path paths.picture) ∙ map_held paths promised.made (held_by (Path paths.picture) old) apart;
-      certificate = has (Path paths.certificate) ∙ certificate_held paths promised.made (held_by (Path paths.certificate) old);
+      map = has (Path paths.map.picture) ∙ new_map_held paths.map paths.page promised.made (held_by (Path paths.map.picture) old) apart;
+      certificate = has (Path paths.map.certificate) ∙ new_certificate_held paths.map paths.page promised.made (held_by (Path paths.map.certificate) old) apart;
+      page = new_page_held paths.map paths.page promised.made old new has;
     }
 means told (improve feed paths moves chosen) finished old new apart promised none holds =
     let has = subst (λ (o : List Output). Holds o old new) promised.are holds in

@@ -43,6 +43,7 @@ result_no_fault asked (Err (refused.Spent component branches)) same = cc
 result_no_fault asked (Err (refused.Limit limit)) same = cc
 result_no_fault asked (Err (refused.Refuted item)) same = cc
 result_no_fault asked (Err (refused.BadSettings why)) same = cc
+result_no_fault asked (Err (refused.BadGraph why)) same = cc
 result_no_fault asked (Err (refused.BadEdit line)) same = cc
 result_no_fault asked (Err (refused.Missing input)) same = cc
 result_no_fault asked (Err (refused.ReadFault input)) same = cc

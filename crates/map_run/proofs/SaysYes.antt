@@ -17,13 +17,14 @@ use Rattle.transit_feed.specs.Feeds.{Feed}
 use Rattle.gtfs_tables.specs.Feed.{routes_outcome, stops_table_outcome, trips_outcome, shapes_outcome, stop_times_outcome}
 use Rattle.graph_core.specs.declared.parts.GraphParts.{GraphParts}
 use Rattle.line_graph.specs.Outcome.{graph_outcome}
-use Rattle.map_engine.specs.declared.fault.CheckFault.{CheckFault}
+use Rattle.map_faults.specs.declared.fault.CheckFault.{CheckFault}
 use Rattle.map_method.specs.declared.claim.Claim.{Claim}
-use Rattle.map_engine.specs.declared.checked.Proved.{Proved}
-use Rattle.map_engine.specs.Making.{MapBytes}
-use Rattle.map_engine.specs.Readings.{certificate_in}
+use Rattle.graph_maps.specs.declared.checked.Proved.{Proved}
+use Rattle.graph_maps.specs.Making.{MapBytes}
+use Rattle.graph_maps.specs.Readings.{certificate_in}
 use Rattle.map_engine.specs.Promises.{IsMade}
-use Rattle.map_engine.specs.Checking.{PlainChecked, check_outcome, checked_on, checked_text, pictured}
+use Rattle.graph_maps.specs.Checking.{PlainChecked, pictured}
+use Rattle.map_engine.specs.Checking.{check_outcome, checked_on, checked_text}
 use Rattle.command_run.specs.declared.output.Output.{Output}
 use Rattle.command_run.specs.Work.{Work, ends, reads, ◌>>=◌, outcome}
 use Rattle.command_run.specs.Held.{held_after}
@@ -37,7 +38,7 @@ use Rattle.run_status.specs.declared.refusal.Refusal.TheVariants as refused
 use Rattle.run_status.specs.declared.status.Status.{Status}
 use Rattle.run_status.specs.declared.status.Status.TheVariants as status
 use Rattle.command_words.specs.Asked.{Asked, make, improve, check}
-use Rattle.command_paths.specs.Paths.{Chosen, MapPaths}
+use Rattle.command_paths.specs.Paths.{Chosen, MapPaths, NewPaths}
 use Rattle.map_run.specs.Inputs.{inputs_of, input_path}
 use Rattle.map_commands.specs.MapWorks.{proved_line, printed, built, certificate_checked, certificate_work, check_work, checked_as, picture_checked, picture_work}
 use Rattle.run_status.specs.Outputs.{said}
@@ -105,16 +106,16 @@ past_file : {A : Type 0} (given later : Given) (read : Result (Option (List ℕ)
 past_file given later (Ok file) gives = tt
 past_file given later (Err why) gives = tt
 
-settings_same : (given later : Given) (defaults : Defaults) (settings : Option (List ℕ)) → IfSome settings (λ path. later input.Settings ≡ given input.Settings) → ReadsSame given later (settings_by defaults settings)
-settings_same given later defaults None same = tt
-settings_same given later defaults (Some path) same = (same, λ file. past_file given later (file_outcome file) (settings_in defaults))
+settings_same : (given later : Given) (defaults : Defaults) (sets : List (List ℕ)) (settings : Option (List ℕ)) → IfSome settings (λ path. later input.Settings ≡ given input.Settings) → ReadsSame given later (settings_by defaults sets settings)
+settings_same given later defaults sets None same = tt
+settings_same given later defaults sets (Some path) same = (same, λ file. past_file given later (file_outcome file) (settings_in defaults sets))
 
 feed_same : (given later : Given) (chosen : Chosen) → IfSome chosen.settings (λ path. later input.Settings ≡ given input.Settings) → ((table : Table) → later (input.Table table) ≡ given (input.Table table))
     → ReadsSame given later (feed_work chosen)
 feed_same given later chosen settings tables =
     let loaded : MapSettings → Feed → Work Input Refusal Loaded = λ choices feed. ends (Ok (record { settings = choices.settings; method = choices.method; tables = feed })) in
     let after : MapSettings → Work Input Refusal Loaded = λ choices. tables_work choices.settings.types >>= loaded choices in
-    same_then given later (settings_by chosen.defaults chosen.settings) after (settings_same given later chosen.defaults chosen.settings settings)
+    same_then given later (settings_by chosen.defaults chosen.sets chosen.settings) after (settings_same given later chosen.defaults chosen.sets chosen.settings settings)
     (λ choices. same_then given later (tables_work choices.settings.types) (loaded choices) (tables_same given later tables choices.settings.types) (λ feed. tt))
 
 edits_same : (given later : Given) (edits : Option (List ℕ)) (loaded : Loaded) → IfSome edits (λ path. later input.Edits ≡ given input.Edits) → ReadsSame given later (edited_by edits loaded)
@@ -198,16 +199,16 @@ as_well P x y alike holds =
     (subst (P x.tables (record x.settings { budget = y.settings.budget })) alike.2 holds))
 
 -- A map of a feed that lies with its certificate as it was written, by whichever of the commands that make maps.
-module _ (feed : List ℕ) (paths : MapPaths) (chosen : Chosen) (files later : List (List ℕ × List ℕ)) (made : Written) (loaded : Loaded) (loads : Loads (Some files) (inputs_of (make feed paths chosen)) loaded)
+module _ (feed : List ℕ) (paths : MapPaths) (chosen : Chosen) (files later : List (List ℕ × List ℕ)) (made : Written) (loaded : Loaded) (loads : Loads (Some files) (inputs_of (make feed (record { map = paths; page = None }) chosen)) loaded)
     (bytes : MapBytes) (is_made : IsMade loaded.tables loaded.settings loaded.method.claim bytes) (map : held_by (Path paths.picture) made ≡ Some bytes.svg) (certificate : held_by (Path paths.certificate) made ≡ Some bytes.certificate)
     (lie : LieAsMade files later feed paths chosen made) where
   yes_to : outcome (work (check feed paths (to_check chosen))) (file_of later (input_path (check feed paths (to_check chosen)))) ≡ Ok (whole (said (proved_line is_made.proved)))
   yes_to =
-      let before : Given = file_of files (input_path (make feed paths chosen)) in
+      let before : Given = file_of files (input_path (make feed (record { map = paths; page = None }) chosen)) in
       let given : Given = file_of later (input_path (check feed paths (to_check chosen))) in
       let certified = is_made.certified in
       let same : ReadsSame before given (load_work chosen) = load_same before given chosen (named_lies files later chosen.settings lie.same_settings) (named_lies files later chosen.edits lie.same_edits) lie.same_feed in
-      let load : outcome (load_work chosen) given ≡ Ok loaded = same_outcome before given (load_work chosen) same ∙ loads_are files (make feed paths chosen) loaded loads in
+      let load : outcome (load_work chosen) given ≡ Ok loaded = same_outcome before given (load_work chosen) same ∙ loads_are files (make feed (record { map = paths; page = None }) chosen) loaded loads in
       let other = loads_over chosen Make given loaded load in
       let drawn = as_well (λ feed choices claim. graph_outcome choices.near feed ≡ Ok certified.graph) loaded other.0 other.2 certified.of_feed in
       let accepted = as_well (λ feed choices claim. check_outcome feed choices claim bytes.svg (certificate_in bytes.certificate) ≡ Ok is_made.proved) loaded other.0 other.2 is_made.accepted in
@@ -230,18 +231,18 @@ module _ (feed : List ℕ) (paths : MapPaths) (chosen : Chosen) (files later : L
       by_end (inr out) = inr out
 
 -- what `make` wrote
-pub says_yes : (feed : List ℕ) (paths : MapPaths) (chosen : Chosen) (files later : List (List ℕ × List ℕ)) (made : Written)
-    → (written : IsMapWritten (Some files) (make feed paths chosen) paths made) → LieAsMade files later feed paths chosen made
-    → outcome (work (check feed paths (to_check chosen))) (file_of later (input_path (check feed paths (to_check chosen)))) ≡ Ok (whole (said (proved_line written.is_made.proved)))
+pub says_yes : (feed : List ℕ) (paths : NewPaths) (chosen : Chosen) (files later : List (List ℕ × List ℕ)) (made : Written)
+    → (written : IsMapWritten (Some files) (make feed paths chosen) paths made) → LieAsMade files later feed paths.map chosen made
+    → outcome (work (check feed paths.map (to_check chosen))) (file_of later (input_path (check feed paths.map (to_check chosen)))) ≡ Ok (whole (said (proved_line written.is_made.proved)))
 says_yes feed paths chosen files later made written lie =
-    yes_to feed paths chosen files later made written.loaded written.loads written.made written.is_made written.map written.certificate lie
+    yes_to feed paths.map chosen files later made written.loaded written.loads written.made written.is_made written.map written.certificate lie
 
-pub ends_with_yes : (feed : List ℕ) (paths : MapPaths) (chosen : Chosen) (files later : List (List ℕ × List ℕ)) (made : Written) (files_rose rose : Type 0) (old new : Written) (ended : Status)
-    → (written : IsMapWritten (Some files) (make feed paths chosen) paths made) → LieAsMade files later feed paths chosen made
-    → Ends (Some (check feed paths (to_check chosen))) (Some later) files_rose rose (Some old) (Some new) ended → (files_rose → ⊥) → (rose → ⊥)
+pub ends_with_yes : (feed : List ℕ) (paths : NewPaths) (chosen : Chosen) (files later : List (List ℕ × List ℕ)) (made : Written) (files_rose rose : Type 0) (old new : Written) (ended : Status)
+    → (written : IsMapWritten (Some files) (make feed paths chosen) paths made) → LieAsMade files later feed paths.map chosen made
+    → Ends (Some (check feed paths.map (to_check chosen))) (Some later) files_rose rose (Some old) (Some new) ended → (files_rose → ⊥) → (rose → ⊥)
     → ((ended ≡ status.Done) × SaysProved old new written.is_made.proved) ⊎ (ended ≡ status.NoMemory)
 ends_with_yes feed paths chosen files later made files_rose rose old new ended written lie finish told steady =
-    ends_yes feed paths chosen files later made written.loaded written.loads written.made written.is_made written.map written.certificate lie files_rose rose old new ended finish told steady
+    ends_yes feed paths.map chosen files later made written.loaded written.loads written.made written.is_made written.map written.certificate lie files_rose rose old new ended finish told steady
 
 -- what `improve` wrote
 pub says_yes_again : (feed : List ℕ) (paths : MapPaths) (moves : ℕ) (chosen : Chosen) (files later : List (List ℕ × List ℕ)) (before made : Written)

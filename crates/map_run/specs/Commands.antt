@@ -2,7 +2,7 @@
 use Rattle.std.specs.Prelude.{Bool, true, false, List, Ok}
 use Rattle.command_run.specs.declared.output.Output.{Output}
 use Rattle.command_run.specs.Work.{Work, ends, ◌>>=◌}
-use Rattle.command_words.specs.Asked.{Asked, stations, graph, make, improve, check, depict, session, trial, page}
+use Rattle.command_words.specs.Asked.{Asked, stations, graph, export, imported, make, improve, check, depict, session, trial, page}
 use Rattle.run_status.specs.declared.input.Input.{Input}
 use Rattle.run_status.specs.declared.refusal.Refusal.{Refusal}
 use Rattle.table_commands.specs.TableWorks.{graph_work, stations_work}
@@ -11,6 +11,8 @@ use Rattle.improve_command.specs.ImproveWorks.{improve_work}
 use Rattle.picture_command.specs.PictureWorks.{picture_work}
 use Rattle.session_command.specs.SessionWorks.{Played, session_work}
 use Rattle.trial_command.specs.Trials.{trial_work}
+use Rattle.export_command.specs.ExportWorks.{export_work}
+use Rattle.import_command.specs.ImportWorks.{import_work}
 use Rattle.page_command.specs.PageWorks.{page_work}
 use Rattle.map_run.specs.Answers.{Finished, stopped, whole}
 
@@ -30,6 +32,8 @@ to_a_stop first = do
 abbrev pub work : Asked → Work Input Refusal Finished
 work (stations feed) = to_the_end stations_work
 work (graph feed chosen) = to_the_end (graph_work chosen)
+work (export feed out chosen) = to_the_end (export_work chosen out)
+work (imported json paths chosen) = to_the_end (import_work chosen paths)
 work (make feed paths chosen) = to_the_end (make_work chosen paths)
 work (improve feed paths moves chosen) = to_the_end (improve_work chosen paths moves)
 work (check feed paths chosen) = to_the_end (check_work chosen)

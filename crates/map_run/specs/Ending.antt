@@ -123,6 +123,7 @@ IsCaused asked files_rose sinks_rose status.Done = asked ≢ None
 IsCaused asked files_rose sinks_rose (status.Refuted item) = asked ≢ None
 IsCaused asked files_rose sinks_rose (status.BadSettings why) = asked ≢ None
 IsCaused asked files_rose sinks_rose (status.BadEdit line) = asked ≢ None
+IsCaused asked files_rose sinks_rose (status.BadGraph why) = asked ≢ None
 IsCaused asked files_rose sinks_rose (status.Missing path) = asked ≢ None
 IsCaused asked files_rose sinks_rose (status.BadRow table row why) = asked ≢ None
 IsCaused asked files_rose sinks_rose (status.NoRoute seg) = asked ≢ None

@@ -8,35 +8,47 @@ use Rattle.files_door.specs.Files.{file_at}
 use Rattle.files_door.specs.Targets.{Written, held_by}
 use Rattle.table_rows.specs.declared.why.Table.{Table}
 use Rattle.table_rows.specs.Folder.{path_in}
-use Rattle.map_engine.specs.Making.{MapBytes, make_outcome}
+use Rattle.graph_maps.specs.Making.{MapBytes}
+use Rattle.map_engine.specs.Making.{make_outcome}
 use Rattle.map_engine.specs.Promises.{IsMade}
-use Rattle.map_engine.specs.Improving.{ImprovedBytes, improve_outcome, IsImprovedMap}
+use Rattle.graph_maps.specs.Improving.{ImprovedBytes}
+use Rattle.map_engine.specs.Improving.{improve_outcome, IsImprovedMap}
 use Rattle.command_paths.specs.declared.picture.Picture.{Picture}
 use Rattle.picture_command.specs.PictureWorks.{IsPicture}
 use Rattle.edit_session.specs.Scripts.{followed_in}
 use Rattle.session_command.specs.SessionWorks.{session_text}
 use Rattle.session_command.specs.Promises.{KeepDraws}
 use Rattle.command_inputs.specs.declared.loaded.Loaded.{Loaded}
-use Rattle.command_words.specs.Asked.{Asked, stations, graph, make, improve, check, depict, session, trial, page}
-use Rattle.command_paths.specs.Paths.{Chosen, MapPaths}
+use Rattle.command_words.specs.Asked.{Asked, stations, graph, make, improve, check, depict, session, trial, page, export, imported}
+use Rattle.command_paths.specs.Paths.{Chosen, MapPaths, NewPaths}
+use Rattle.map_page.specs.Pages.{page_bytes}
 use Rattle.map_commands.specs.MapWorks.{proved_line}
-use Rattle.map_engine.specs.declared.checked.Proved.{Proved}
+use Rattle.graph_maps.specs.declared.checked.Proved.{Proved}
 use Rattle.improve_command.specs.ImproveWorks.{improved_line}
 use Rattle.command_inputs.specs.Loading.{Loads}
-use Rattle.map_run.specs.Inputs.{inputs_of}
+use Rattle.map_method.specs.declared.map_settings.MapSettings.{MapSettings}
+use Rattle.graph_json.specs.declared.imported.Imported.{Imported}
+use Rattle.graph_maps.specs.Promises.{IsMadeOn}
+use Rattle.graph_maps.specs.Subjects.{told_by}
+use Rattle.command_run.specs.Told.{IsRun}
+use Rattle.run_status.specs.declared.refusal.Refusal.TheVariants as refused
+use Rattle.import_command.specs.ImportWorks.{read_work}
+use Rattle.map_run.specs.Inputs.{inputs_of, input_path}
 use Rattle.map_commands.specs.Promises.{IsAccepted}
 
 -- The map of a feed is written, and its certificate: those that are defined for the feed's tables. The map shows exactly
 -- the line graph of these tables, in a legal drawing; no line orders cost less than the bound that the certificate proves, which
--- is the cost where best orders are claimed: the check says yes to both. The two files hold the two.
-pub record IsMapWritten (told : Option (List (List ℕ × List ℕ))) (asked : Asked) (paths : MapPaths) (new : Written) : Type 0 where
+-- is the cost where best orders are claimed: the check says yes to both. The two files hold the two, and a third one the page
+-- of the map, where it is named.
+pub record IsMapWritten (told : Option (List (List ℕ × List ℕ))) (asked : Asked) (paths : NewPaths) (new : Written) : Type 0 where
   pub loaded : Loaded
   pub loads : Loads told (inputs_of asked) loaded
   pub made : MapBytes
   pub defined : make_outcome loaded.tables loaded.settings loaded.method ≡ Ok made
   pub is_made : IsMade loaded.tables loaded.settings loaded.method.claim made
-  pub map : held_by (Path paths.picture) new ≡ Some made.svg
-  pub certificate : held_by (Path paths.certificate) new ≡ Some made.certificate
+  pub map : held_by (Path paths.map.picture) new ≡ Some made.svg
+  pub certificate : held_by (Path paths.map.certificate) new ≡ Some made.certificate
+  pub page : IfSome paths.page (λ path. held_by (Path path) new ≡ Some (page_bytes made.svg))
 
 -- The map of a feed is written after more moves on its drawing, and its certificate: those that are defined for the feed's
 -- tables. The map shows exactly the line graph of these tables, in a legal drawing that is no heavier than that of `make`; no
@@ -51,6 +63,16 @@ pub record IsImprovedMapWritten (told : Option (List (List ℕ × List ℕ))) (a
   pub map : held_by (Path paths.picture) new ≡ Some improved.map.svg
   pub certificate : held_by (Path paths.certificate) new ≡ Some improved.map.certificate
   pub printed : held_by Said new ≡ Some (unwrap_or (held_by Said old) [] ++ improved_line improved.improvement)
+
+-- The map of a graph file is written, and its certificate: the map shows exactly the line graph that was read, in a legal
+-- drawing; no line orders cost less than the bound that the certificate proves, and the check says yes to both.
+pub record IsImportWritten (told : Option (List (List ℕ × List ℕ))) (asked : Asked) (paths : MapPaths) (new : Written) : Type 0 where
+  pub both : MapSettings × Imported
+  pub reads : IsRun refused.ReadFault told (input_path asked) (read_work (inputs_of asked).chosen) (Ok both)
+  pub made : MapBytes
+  pub promised : IsMadeOn (told_by both.1.names both.1.importance) both.0.settings both.0.method.claim both.1.graph made
+  pub map : held_by (Path paths.picture) new ≡ Some made.svg
+  pub certificate : held_by (Path paths.certificate) new ≡ Some made.certificate
 
 -- what is proved is printed behind what standard output held
 abbrev pub SaysProved : Written → Written → Proved → Type 0
@@ -96,6 +118,8 @@ pub record IsSessionWritten (told : Option (List (List ℕ × List ℕ))) (asked
 abbrev pub MeansDone : Option (List (List ℕ × List ℕ)) → Asked → Written → Written → Type 0
 MeansDone told (stations feed) old new = ⊤
 MeansDone told (graph feed chosen) old new = ⊤
+MeansDone told (export feed out chosen) old new = ⊤
+MeansDone told (imported json paths chosen) old new = IsImportWritten told (imported json paths chosen) paths new
 MeansDone told (make feed paths chosen) old new = IsMapWritten told (make feed paths chosen) paths new
 MeansDone told (improve feed paths moves chosen) old new = IsImprovedMapWritten told (improve feed paths moves chosen) paths moves old new
 MeansDone told (depict kind feed certificate out chosen) old new = IsPictureWritten kind told (depict kind feed certificate out chosen) certificate out new

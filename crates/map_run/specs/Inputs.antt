@@ -2,13 +2,13 @@
 use Rattle.std.specs.Prelude.{ℕ, List, [], None}
 use Rattle.map_method.specs.declared.defaults.Defaults.TheVariants.{Make}
 use Rattle.command_paths.specs.Paths.{Chosen, MapPaths}
-use Rattle.command_words.specs.Asked.{Asked, stations, graph, make, improve, check, depict, session, trial, page}
+use Rattle.command_words.specs.Asked.{Asked, stations, graph, export, imported, make, improve, check, depict, session, trial, page}
 use Rattle.run_status.specs.declared.input.Input.{Input}
 use Rattle.command_inputs.specs.Inputs.{InputPaths, input_at}
 
 -- no file of settings, and none of edits: the settings of `make`
 abbrev pub no_choice : Chosen
-no_choice = record { defaults = Make; settings = None; edits = None }
+no_choice = record { defaults = Make; settings = None; edits = None; sets = [] }
 
 -- no map and no certificate
 abbrev pub no_map : MapPaths
@@ -18,6 +18,8 @@ no_map = record { picture = []; certificate = [] }
 abbrev pub inputs_of : Asked → InputPaths
 inputs_of (stations feed) = record { feed = feed; chosen = no_choice; files = no_map; script = [] }
 inputs_of (graph feed chosen) = record { feed = feed; chosen = chosen; files = no_map; script = [] }
+inputs_of (export feed out chosen) = record { feed = feed; chosen = chosen; files = no_map; script = [] }
+inputs_of (imported json paths chosen) = record { feed = []; chosen = chosen; files = no_map; script = json }
 inputs_of (make feed paths chosen) = record { feed = feed; chosen = chosen; files = no_map; script = [] }
 inputs_of (improve feed paths moves chosen) = record { feed = feed; chosen = chosen; files = no_map; script = [] }
 inputs_of (check feed paths chosen) = record { feed = feed; chosen = chosen; files = paths; script = [] }

@@ -1,9 +1,10 @@
 -- What commands promise of their outputs and their steps. One line a command.
 use Rattle.std.specs.Prelude.{◌≡◌, ℕ, List, Option, None, Some, Result, Ok, Err, ⊤}
-use Rattle.command_words.specs.Asked.{Asked, stations, graph, make, improve, check, depict, session, trial, page}
+use Rattle.command_words.specs.Asked.{Asked, stations, graph, export, imported, make, improve, check, depict, session, trial, page}
 use Rattle.run_status.specs.declared.refusal.Refusal.{Refusal}
 use Rattle.map_commands.specs.Promises.{AreOfMap, AreOfYes, SearchesParts}
 use Rattle.improve_command.specs.ImproveWorks.{AreOfImproved}
+use Rattle.import_command.specs.ImportWorks.{AreOfImported, SearchesImported}
 use Rattle.picture_command.specs.PictureWorks.{AreOfPicture}
 use Rattle.session_command.specs.SessionWorks.{Played}
 use Rattle.session_command.specs.Promises.{AreOfSession, TakesSessionSteps}
@@ -19,6 +20,8 @@ played_of finished = record { outputs = finished.outputs; bad = finished.bad_lin
 abbrev pub Promised : Option (List (List ℕ × List ℕ)) → Asked → Finished → Type 0
 Promised told (stations feed) finished = ⊤
 Promised told (graph feed chosen) finished = ⊤
+Promised told (export feed out chosen) finished = ⊤
+Promised told (imported json paths chosen) finished = AreOfImported told (inputs_of (imported json paths chosen)) paths finished.outputs
 Promised told (make feed paths chosen) finished = AreOfMap told (inputs_of (make feed paths chosen)) paths finished.outputs
 Promised told (improve feed paths moves chosen) finished = AreOfImproved told (inputs_of (improve feed paths moves chosen)) paths moves finished.outputs
 Promised told (check feed paths chosen) finished = AreOfYes told (inputs_of (check feed paths chosen)) finished.outputs
@@ -37,6 +40,8 @@ abbrev pub TakesSteps : Option (List (List ℕ × List ℕ)) → Option Asked �
 TakesSteps told None before now = now ≡ before
 TakesSteps told (Some (stations feed)) before now = now ≡ before
 TakesSteps told (Some (graph feed chosen)) before now = now ≡ before
+TakesSteps told (Some (export feed out chosen)) before now = now ≡ before
+TakesSteps told (Some (imported json paths chosen)) before now = SearchesImported told (inputs_of (imported json paths chosen)) before now
 TakesSteps told (Some (make feed paths chosen)) before now = SearchesParts told (inputs_of (make feed paths chosen)) before now
 TakesSteps told (Some (improve feed paths moves chosen)) before now = SearchesParts told (inputs_of (improve feed paths moves chosen)) before now
 TakesSteps told (Some (check feed paths chosen)) before now = now ≡ before

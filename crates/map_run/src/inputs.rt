@@ -21,6 +21,8 @@ pub fn inputs_of<'a>(command: &Command<'a>) -> Inputs<'a>
     match command {
         Command::Stations { feed } => of_feed(feed, no_choice()),
         Command::Graph { feed, options } => of_feed(feed, *options),
+        Command::Export { feed, options, .. } => of_feed(feed, *options),
+        Command::Import { graph, options, .. } => of_script("", *options, graph),
         Command::Make { feed, options, .. } => of_feed(feed, *options),
         Command::Improve { feed, options, .. } => of_feed(feed, *options),
         Command::Check {
@@ -60,6 +62,7 @@ fn no_choice<'a>() -> Options<'a>
         defaults: Defaults::Make,
         settings: None,
         edits: None,
+        words: &[],
     }
 }
 
@@ -95,7 +98,7 @@ fn of_map<'a>(feed: &'a str, options: Options<'a>, files: MapFiles<'a>) -> Input
     }
 }
 
-/// A feed, and a script over it.
+/// A feed, and a script over it; or a graph file in the place of both.
 fn of_script<'a>(feed: &'a str, options: Options<'a>, script: &'a str) -> Inputs<'a>
     ensures { inputs_by result ≡ record { feed = feed.entry.now; chosen = options_by options.entry; files = no_map; script = script.entry.now } }
 {

@@ -14,7 +14,7 @@ ghost use Rattle.run_status.specs.declared.input.Input.{Input};
 ghost use Rattle.run_status.specs.declared.status.Status.{Status};
 ghost use Rattle.run_status.specs.declared.status.Status.TheVariants as status;
 ghost use Rattle.command_words.specs.Asked.{Asked, check, improve, make};
-ghost use Rattle.command_paths.specs.Paths.{Chosen, MapPaths};
+ghost use Rattle.command_paths.specs.Paths.{Chosen, MapPaths, NewPaths};
 ghost use Rattle.map_run.specs.Inputs.{input_path};
 ghost use Rattle.map_commands.specs.MapWorks.{proved_line};
 ghost use Rattle.map_run.specs.Answers.{Finished, alone, answer_by, status_at, whole};
@@ -83,12 +83,12 @@ pub fn what_is_defined_is_done()
 /// proved of the map's line orders; and a run of it on which no count of faults rises ends with status 0 and prints this, or
 /// memory ran out.
 pub fn check_says_yes_to_what_make_wrote()
-    ensures defined { (feed : List ℕ) (paths : MapPaths) (chosen : Chosen) (files later : List (List ℕ × List ℕ)) (made : Written)
-        → (written : IsMapWritten (Some files) (make feed paths chosen) paths made) → LieAsMade files later feed paths chosen made
-        → outcome (work (check feed paths (to_check chosen))) (file_of later (input_path (check feed paths (to_check chosen)))) ≡ Ok (whole (said (proved_line written.is_made.proved))) }
-    ensures done { (feed : List ℕ) (paths : MapPaths) (chosen : Chosen) (files later : List (List ℕ × List ℕ)) (made : Written) (files_before files_now before now : ℕ) (old new : Written) (ended : Status)
-        → (written : IsMapWritten (Some files) (make feed paths chosen) paths made) → LieAsMade files later feed paths chosen made
-        → Ends (Some (check feed paths (to_check chosen))) (Some later) (Rose files_before files_now) (Rose before now) (Some old) (Some new) ended
+    ensures defined { (feed : List ℕ) (paths : NewPaths) (chosen : Chosen) (files later : List (List ℕ × List ℕ)) (made : Written)
+        → (written : IsMapWritten (Some files) (make feed paths chosen) paths made) → LieAsMade files later feed paths.map chosen made
+        → outcome (work (check feed paths.map (to_check chosen))) (file_of later (input_path (check feed paths.map (to_check chosen)))) ≡ Ok (whole (said (proved_line written.is_made.proved))) }
+    ensures done { (feed : List ℕ) (paths : NewPaths) (chosen : Chosen) (files later : List (List ℕ × List ℕ)) (made : Written) (files_before files_now before now : ℕ) (old new : Written) (ended : Status)
+        → (written : IsMapWritten (Some files) (make feed paths chosen) paths made) → LieAsMade files later feed paths.map chosen made
+        → Ends (Some (check feed paths.map (to_check chosen))) (Some later) (Rose files_before files_now) (Rose before now) (Some old) (Some new) ended
         → (Rose files_before files_now → ⊥) → (Rose before now → ⊥)
         → ((ended ≡ status.Done) × SaysProved old new written.is_made.proved) ⊎ (ended ≡ status.NoMemory) }
 {}

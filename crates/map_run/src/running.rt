@@ -15,7 +15,9 @@ use crate::answer::{Answer, Reply, end_with, status_at};
 use crate::inputs::{inputs_of, path_for};
 use command_run::{Ending, Output, deliver, out_of_memory};
 use command_words::{Command, WordsFault, command_of};
+use export_command::export_graph;
 use files_door::{Files, Sinks};
+use import_command::import_graph;
 use improve_command::improve_map;
 use map_base::{NoMemory, Sequence, Steps};
 use map_commands::{check_map, make_map};
@@ -43,6 +45,8 @@ use trial_command::print_trial;
 /// ground. Each draw of a `session` has the bytes of a fresh map with the edits that stand there, and is written as
 /// soon as it is made; a bad line of its script ends it, and the draws before it stay. Where a file of edits is named,
 /// the feed is as these make it. `page` writes the bytes of the page's head, of the map and of the page's tail.
+/// `export` writes the line graph of the feed as a graph file. Where `import` ends with status 0, the map that is written
+/// shows exactly the line graph of such a file, with a certificate as that of `make`.
 /// `trial` reads and writes no file.
 pub fn run<F: Files, S: Sinks, L: Ledger>(
     alloc: Global,
@@ -118,11 +122,22 @@ fn run_command<F: Files, S: Sinks, L: Ledger>(
             let outcome = print_line_graph(alloc, &inputs, files);
             write_outcome(alloc, command, outcome, sinks)
         }
-        Command::Make {
+        Command::Export { out, .. } => {
+            let outcome = export_graph(alloc, &inputs, out, files);
+            write_outcome(alloc, command, outcome, sinks)
+        }
+        Command::Import {
             files: map_files,
             ..
         } => {
-            let outcome = make_map(alloc, &inputs, map_files, files, steps);
+            let outcome = import_graph(alloc, &inputs, map_files, files, steps);
+            write_outcome(alloc, command, outcome, sinks)
+        }
+        Command::Make {
+            files: new_files,
+            ..
+        } => {
+            let outcome = make_map(alloc, &inputs, new_files, files, steps);
             write_outcome(alloc, command, outcome, sinks)
         }
         Command::Improve {
@@ -301,6 +316,7 @@ fn refuse(alloc: Global, command: &Command<'_>, refusal: Refusal) -> Result<Answ
         Refusal::Refuted(item) => Status::Refuted(item),
         Refusal::BadSettings(why) => Status::BadSettings(why),
         Refusal::BadEdit { line } => Status::BadEdit { line },
+        Refusal::BadGraph(why) => Status::BadGraph(why),
         Refusal::Missing { input } => Status::Missing {
             path: path_for(alloc, command, input)?,
         },

@@ -10,9 +10,7 @@ use Rattle.std.specs.Map.{keys_of}
 use Rattle.std.specs.Option.{is_none}
 use Rattle.std.specs.Ordering.{is_lt, ordering_reverse}
 use Rattle.std.specs.String.{string_cmp}
-use Rattle.map_method.specs.declared.defaults.Defaults.{Defaults}
 use Rattle.map_method.specs.declared.map_settings.MapSettings.{MapSettings}
-use Rattle.map_method.specs.Defaults.{default_choices}
 use Rattle.toml.specs.Data.{Data}
 use Rattle.toml.specs.View.{view, members_view}
 use Rattle.toml.specs.declared.value.Value.{Value}
@@ -94,22 +92,22 @@ first_bad entry left bad s =
     ∙ ap Some (lesser-first (string_bytes entry.0) (least (bad_keys (map entry_view left))) (above (string_bytes entry.0) left (sorted_head string_cmp entry.0 (keys_of left) s)))
 
 -- an entry that changes nothing
-pub bad_entry : (defaults : Defaults) (entry : Entry) (left file : List Entry) (text : List ℕ) → text ≡ string_bytes entry.0 → change_of (text, view entry.1) ≡ None
+pub bad_entry : (base : MapSettings) (entry : Entry) (left file : List Entry) (text : List ℕ) → text ≡ string_bytes entry.0 → change_of (text, view entry.1) ≡ None
     → IsStrictlySortedBy string_cmp (keys_of (entry ∷ left)) → bad_keys (map entry_view (entry ∷ left)) ≡ bad_keys (map entry_view file)
-    → entries_outcome defaults (entries (members_view file)) ≡ Err (Key text)
-bad_entry defaults entry left file text named bad s same =
+    → entries_outcome base (entries (members_view file)) ≡ Err (Key text)
+bad_entry base entry left file text named bad s same =
     let here : change_of (entry_view entry) ≡ None = sym (ap (λ t. change_of (t, view entry.1)) named) ∙ bad in
     let some : least (bad_keys (map entry_view file)) ≡ Some text = sym (ap least same) ∙ first_bad entry left here s ∙ ap Some (sym named) in
-    ap (entries_outcome defaults) (entries-members_view file) ∙ ap (λ o. unless_bad o (after (map entry_view file) (default_choices defaults))) some
+    ap (entries_outcome base) (entries-members_view file) ∙ ap (λ o. unless_bad o (after (map entry_view file) base)) some
 
 -- no entry is left
-pub good_file : (defaults : Defaults) (left file : List Entry) (settings : MapSettings) → left ≡ [] → bad_keys (map entry_view left) ≡ bad_keys (map entry_view file)
-    → after (map entry_view left) settings ≡ after (map entry_view file) (default_choices defaults)
-    → entries_outcome defaults (entries (members_view file)) ≡ Ok settings
-good_file defaults left file settings none same made =
+pub good_file : (base : MapSettings) (left file : List Entry) (settings : MapSettings) → left ≡ [] → bad_keys (map entry_view left) ≡ bad_keys (map entry_view file)
+    → after (map entry_view left) settings ≡ after (map entry_view file) base
+    → entries_outcome base (entries (members_view file)) ≡ Ok settings
+good_file base left file settings none same made =
     let no_key : least (bad_keys (map entry_view file)) ≡ None = sym (ap least same) ∙ ap (λ es. least (bad_keys (map entry_view es))) none in
-    let is : after (map entry_view file) (default_choices defaults) ≡ settings = sym made ∙ ap (λ es. after (map entry_view es) settings) none in
-    ap (entries_outcome defaults) (entries-members_view file) ∙ ap (λ o. unless_bad o (after (map entry_view file) (default_choices defaults))) no_key ∙ ap Ok is
+    let is : after (map entry_view file) base ≡ settings = sym made ∙ ap (λ es. after (map entry_view es) settings) none in
+    ap (entries_outcome base) (entries-members_view file) ∙ ap (λ o. unless_bad o (after (map entry_view file) base)) no_key ∙ ap Ok is
 
 -- a fault that names the least bad key
 pub reads_named : (fault : SettingsFault) (key : List ℕ) (outcome : Result MapSettings SettingsWhy) → Names fault key → outcome ≡ Err (Key key)

@@ -45,19 +45,29 @@ abbrev pub unless_bad : Option (List ℕ) → MapSettings → Result MapSettings
 unless_bad (Some key) settings = Err (Key key)
 unless_bad None settings = Ok settings
 
--- what the entries of a file make: the defaults with their changes, unless a key is bad; then the least bad key is named
-abbrev pub entries_outcome : Defaults → List (List ℕ × Data) → Result MapSettings SettingsWhy
-entries_outcome defaults file = unless_bad (least (bad_keys file)) (after file (default_choices defaults))
+-- what the entries of a file make of settings: these with their changes, unless a key is bad; then the least bad key is named
+abbrev pub entries_outcome : MapSettings → List (List ℕ × Data) → Result MapSettings SettingsWhy
+entries_outcome base file = unless_bad (least (bad_keys file)) (after file base)
 
 -- the table of a TOML document, which is UTF-8
 abbrev pub table_outcome : List ℕ → Option Members
 table_outcome bytes = if is_utf8 bytes then parse_document bytes else None
 
 -- the entries of a table, if there is one
-abbrev pub with_table : Defaults → Option Members → Result MapSettings SettingsWhy
-with_table defaults None = Err NotToml
-with_table defaults (Some table) = entries_outcome defaults (entries table)
+abbrev pub with_table : MapSettings → Option Members → Result MapSettings SettingsWhy
+with_table base None = Err NotToml
+with_table base (Some table) = entries_outcome base (entries table)
+
+-- what a text makes of settings: its keys take the place of theirs
+abbrev pub set_outcome : MapSettings → List ℕ → Result MapSettings SettingsWhy
+set_outcome base bytes = with_table base (table_outcome bytes)
 
 -- what a file with these bytes makes
 abbrev pub settings_outcome : Defaults → List ℕ → Result MapSettings SettingsWhy
-settings_outcome defaults bytes = with_table defaults (table_outcome bytes)
+settings_outcome defaults bytes = set_outcome (default_choices defaults) bytes
+
+-- what texts make of settings, one after another, or of a refusal: that refusal
+abbrev pub sets_outcome : List (List ℕ) → Result MapSettings SettingsWhy → Result MapSettings SettingsWhy
+sets_outcome [] settings = settings
+sets_outcome (text ∷ more) (Err why) = Err why
+sets_outcome (text ∷ more) (Ok base) = sets_outcome more (set_outcome base text)

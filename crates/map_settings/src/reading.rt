@@ -4,7 +4,7 @@ ghost use Rattle.std.specs.Prelude.{◌≡◌};
 ghost use Rattle.map_settings.specs.Tables.{entries};
 ghost use Rattle.toml.specs.View.{table_view};
 ghost use Rattle.map_settings.specs.Faults.{Names, Reads, ReadsTable};
-ghost use Rattle.map_settings.specs.Outcome.{settings_outcome, table_outcome, entries_outcome};
+ghost use Rattle.map_settings.specs.Outcome.{settings_outcome, set_outcome, table_outcome, entries_outcome};
 
 use crate::entries::change;
 use crate::fault::{EntryFault, SettingsFault, SettingsWhy};
@@ -21,8 +21,21 @@ pub fn read_settings(
 ) -> Result<MapSettings, SettingsFault>
     ensures { Reads result (settings_outcome defaults bytes.now) }
 {
+    let base = MapSettings::standard(alloc, defaults)?;
+    set_settings(alloc, bytes, base)
+}
+
+/// The settings that a text in TOML makes of these: its keys take the place of theirs. It is judged and refused as a
+/// file of settings is.
+pub fn set_settings(
+    alloc: Global,
+    bytes: &[u8],
+    base: MapSettings,
+) -> Result<MapSettings, SettingsFault>
+    ensures { Reads result (set_outcome base bytes.now) }
+{
     let table = table_of(alloc, bytes)?;
-    settings_of(alloc, &table, defaults)
+    settings_of(alloc, &table, base)
 }
 
 /// The table that a document in TOML is.
@@ -40,15 +53,15 @@ fn table_of(alloc: Global, bytes: &[u8]) -> Result<Table, SettingsFault>
     }
 }
 
-/// The settings that the entries of a table make.
+/// The settings that the entries of a table make of these.
 fn settings_of(
     alloc: Global,
     table: &Table,
-    defaults: Defaults,
+    base: MapSettings,
 ) -> Result<MapSettings, SettingsFault>
-    ensures { Reads result (entries_outcome defaults (entries (table_view table.now))) }
+    ensures { Reads result (entries_outcome base (entries (table_view table.now))) }
 {
-    let mut settings = MapSettings::standard(alloc, defaults)?;
+    let mut settings = base;
     for (key, value) in table.iter() {
         match change(alloc, &mut settings, key.as_str(), value) {
             Ok(()) => {}

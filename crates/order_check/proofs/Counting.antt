@@ -1,29 +1,48 @@
 -- Sums over a part's terms: of those that count, and of the others.
-use Rattle.std.proofs.Common.{◌≡◌, ℕ, zero, suc, ◌+◌, ◌*◌, ◌<◌, ◌≤◌, ◌==◌, ◌&&◌, ◌||◌, not, Bool, true, false, cond, List, [], ◌∷◌, length, map, take, get_or, refl, sym, ◌∙◌, ap, subst, arith, Some, None}
+use Rattle.std.proofs.Common.{◌≡◌, ℕ, zero, suc, ◌+◌, ◌*◌, ◌<◌, ◌≤◌, ◌==◌, ◌&&◌, ◌||◌, ◌++◌, not, Bool, true, false, cond, List, [], ◌∷◌, length, map, take, get_or, refl, sym, ◌∙◌, ap, subst, arith, length-append, append_assoc, append-nil, true≢false}
 use Rattle.std.specs.Prelude.{ℤ, pos, ◌+ℤ◌, ◌-ℤ◌, unsigned_abs}
 use Rattle.std.specs.List.{sum_by, filter}
+use Rattle.std.proofs.Math.Bool.{and-false}
 use Rattle.std.proofs.lemmas.Int.{ints}
-use Rattle.std.proofs.lemmas.List.{take_all}
+use Rattle.std.proofs.lemmas.List.{take_all, take_more}
+use Rattle.std.proofs.lemmas.List.Elements.{All-append, All-filter, filter-append}
+use Rattle.std.proofs.lemmas.List.Filters.{length-filter_both}
 use Rattle.std.proofs.lemmas.List.Sums.{sum_by-cons}
 use Rattle.map_base.specs.declared.ids.LineId.{LineId}
 use Rattle.order_model.specs.declared.term.Term.{Term}
-use Rattle.order_model.specs.Problems.{IsTerm}
+use Rattle.order_model.specs.Problems.{lines_on, IsTerm}
 use Rattle.order_model.specs.Costs.{same_answer}
+use Rattle.order_model.specs.Prefixes.{is_left}
+use Rattle.order_model.proofs.PlaceLemmas.{line_is}
 use Rattle.order_bound.specs.Decided.{decided_cost, decided_sum}
 use Rattle.whole_sums.specs.Sums.{int_sum}
-use Rattle.whole_sums.proofs.Sums.{int_sum_equal, int_sum_both, int_sum_pos}
+use Rattle.whole_sums.proofs.Sums.{int_sum-append, int_sum_equal, int_sum_both, int_sum_pos}
 use Rattle.order_check.specs.declared.slot.PartTerm.{PartTerm}
 use Rattle.order_check.specs.declared.slot.Charge.{Charge}
-use Rattle.order_check.specs.declared.spot.Spot.{Spot}
 use Rattle.order_check.specs.declared.placing.Placing.{Placing}
-use Rattle.order_check.specs.declared.slot_costs.Counted.{Counted}
+use Rattle.order_check.specs.declared.picking.Pick.{Pick}
+use Rattle.order_check.specs.declared.asked.Asked.{Asked}
 use Rattle.order_check.specs.Slots.{plain_term, charge_on}
 use Rattle.order_check.specs.Charging.{no_part_term, AreTerms}
-use Rattle.order_check.specs.Spots.{is_on, is_of_line, is_at}
-use Rattle.order_check.specs.Placings.{spot_on, changes, counted, is_fresh, is_fresh_at}
-use Rattle.order_check.specs.Counting.{added_by, counted_by, beside_by, decided_by, decided_beside, shifted, turned}
+use Rattle.order_check.specs.Spots.{is_on, is_of_line, is_at, is_apart}
+use Rattle.order_check.specs.Placings.{beside_line, is_picked, is_picked_at, own_pick, last_pick, left_pick, changes, picked_terms, changed_terms}
+use Rattle.order_check.specs.Counting.{added_by, decided_of, shifted, turned, AreThose}
 use Rattle.order_check.proofs.SignedSums.{abs_sum, sum_more}
 use Rattle.order_check.proofs.Charging.{small_charges, decided_is}
+
+-- What a term adds, or costs where it is decided, if it is one of those that count; and if it is not.
+
+abbrev pub counted_by : (Term → Bool) → List (List LineId) → List (List LineId) → ℕ → Bool → PartTerm → ℤ
+counted_by counts segs placed k x t = cond (counts t.term) (added_by segs placed k x t) (pos 0)
+
+abbrev pub beside_by : (Term → Bool) → List (List LineId) → List (List LineId) → ℕ → Bool → PartTerm → ℤ
+beside_by counts segs placed k x t = cond (counts t.term) (pos 0) (added_by segs placed k x t)
+
+abbrev pub decided_by : (Term → Bool) → List (List LineId) → List (List LineId) → PartTerm → ℕ
+decided_by counts segs placed t = cond (counts t.term) (decided_cost segs placed t.term) 0
+
+abbrev pub decided_beside : (Term → Bool) → List (List LineId) → List (List LineId) → PartTerm → ℕ
+decided_beside counts segs placed t = cond (counts t.term) 0 (decided_cost segs placed t.term)
 
 -- Added, or taken off.
 
@@ -54,19 +73,8 @@ turned_small true c h = omega (arith, ints, h)
 
 -- What a term adds is small.
 
-pub counted_if : (counts : Term → Bool) (segs placed : List (List LineId)) (k : ℕ) (x : Bool) (t : PartTerm) → IsTerm segs t.term → unsigned_abs (counted_by counts segs placed k x t) ≤ 256000
-counted_if counts segs placed k x t fits = by_test (counts t.term)
-  where
-    by_test : (b : Bool) → unsigned_abs (cond b (added_by segs placed k x t) (pos 0)) ≤ 256000
-    by_test true = (small_charges segs placed t.term t.here t.there (pos 0) fits (omega (arith, ints))).both k x
-    by_test false = omega (arith, ints)
-
-pub beside_if : (counts : Term → Bool) (segs placed : List (List LineId)) (k : ℕ) (x : Bool) (t : PartTerm) → IsTerm segs t.term → unsigned_abs (beside_by counts segs placed k x t) ≤ 256000
-beside_if counts segs placed k x t fits = by_test (counts t.term)
-  where
-    by_test : (b : Bool) → unsigned_abs (cond b (pos 0) (added_by segs placed k x t)) ≤ 256000
-    by_test false = (small_charges segs placed t.term t.here t.there (pos 0) fits (omega (arith, ints))).both k x
-    by_test true = omega (arith, ints)
+pub added_small : (segs placed : List (List LineId)) (k : ℕ) (x : Bool) (t : PartTerm) → IsTerm segs t.term → unsigned_abs (added_by segs placed k x t) ≤ 256000
+added_small segs placed k x t fits = (small_charges segs placed t.term t.here t.there (pos 0) fits (omega (arith, ints))).both k x
 
 -- the first terms add no more than so much each
 pub small_sum : {A : Type 0} (f : A → ℤ) (xs : List A) (d : A) (i : ℕ) → ((j : ℕ) → j < length xs → unsigned_abs (f (get_or xs j d)) ≤ 256000) → i ≤ length xs
@@ -79,13 +87,15 @@ small_sum f xs d (suc i) small h =
     let sum = abs_sum (int_sum f (take i xs)) (f (get_or xs i d)) (256000 * i) 256000 rest (small i (omega (arith, h))) in
     rw more (omega (arith, sum))
 
-pub whole_small : {A : Type 0} (f : A → ℤ) (xs : List A) (d : A) → ((j : ℕ) → j < length xs → unsigned_abs (f (get_or xs j d)) ≤ 256000) → length xs ≤ 4000000
-    → unsigned_abs (int_sum f xs) ≤ 1024000000000
-whole_small f xs d small few =
+pub whole_small : {A : Type 0} (f : A → ℤ) (xs : List A) (d : A) → ((j : ℕ) → j < length xs → unsigned_abs (f (get_or xs j d)) ≤ 256000) → unsigned_abs (int_sum f xs) ≤ 256000 * length xs
+whole_small f xs d small =
     let all : take (length xs) xs ≡ xs = take_all (length xs) xs (omega arith) in
     let most = small_sum f xs d (length xs) small (omega arith) in
-    let here : unsigned_abs (int_sum f xs) ≤ 256000 * length xs = subst (λ l. unsigned_abs (int_sum f l) ≤ 256000 * length xs) all most in
-    omega (arith, here, few)
+    subst (λ l. unsigned_abs (int_sum f l) ≤ 256000 * length xs) all most
+
+-- what terms add to a slot
+pub terms_small : (segs placed : List (List LineId)) (table : List PartTerm) (k : ℕ) (x : Bool) → AreTerms segs table → unsigned_abs (int_sum (added_by segs placed k x) table) ≤ 256000 * length table
+terms_small segs placed table k x fits = whole_small (added_by segs placed k x) table no_part_term (λ j h. added_small segs placed k x (get_or table j no_part_term) (fits j no_part_term h))
 
 -- All terms are those that count and the others.
 
@@ -129,77 +139,52 @@ decided_parts counts segs placed table =
     ∙ omega (arith, ints, whole, int_sum_pos f table, int_sum_pos (decided_beside counts segs placed) table, int_sum_pos (decided_by counts segs placed) table)
 
 -- the sum of the decided terms is small
-small_part : (counts : Term → Bool) (segs placed : List (List LineId)) (t : PartTerm) → IsTerm segs t.term → decided_by counts segs placed t ≤ 256000
-small_part counts segs placed t fits = by_test (counts t.term)
-  where
-    one : decided_cost segs placed t.term ≤ 256000
-    one = subst (λ n. n ≤ 256000) (decided_is segs placed t.term t.here t.there (pos 0)) (small_charges segs placed t.term t.here t.there (pos 0) fits (omega (arith, ints))).decided
+small_part : (segs placed : List (List LineId)) (t : PartTerm) → IsTerm segs t.term → unsigned_abs (pos (decided_of segs placed t)) ≤ 256000
+small_part segs placed t fits =
+    subst (λ n. unsigned_abs (pos n) ≤ 256000) (decided_is segs placed t.term t.here t.there (pos 0))
+    (omega (arith, ints, (small_charges segs placed t.term t.here t.there (pos 0) fits (omega (arith, ints))).decided))
 
-    by_test : (b : Bool) → cond b (decided_cost segs placed t.term) 0 ≤ 256000
-    by_test true = one
-    by_test false = omega arith
+pub small_decided : (segs placed : List (List LineId)) (table : List PartTerm) → AreTerms segs table → sum_by (decided_of segs placed) table ≤ 256000 * length table
+small_decided segs placed table fits =
+    let most = whole_small (λ t. pos (decided_of segs placed t)) table no_part_term (λ j h. small_part segs placed (get_or table j no_part_term) (fits j no_part_term h)) in
+    omega (arith, ints, most, int_sum_pos (decided_of segs placed) table)
 
-pub small_decided_sum : (segs placed : List (List LineId)) (table : List PartTerm) → AreTerms segs table → length table ≤ 4000000 → decided_sum segs placed (map plain_term table) ≤ 1024000000000
-small_decided_sum segs placed table fits few =
-    let f : PartTerm → ℕ = λ t. decided_cost segs placed t.term in
-    let most = whole_small (λ t. pos (decided_by (λ t. true) segs placed t)) table no_part_term
-    (λ j h. (let one : decided_by (λ t. true) segs placed (get_or table j no_part_term) ≤ 256000 = small_part (λ t. true) segs placed (get_or table j no_part_term) (fits j no_part_term h) in omega (arith, ints, one))) few in
-    omega (arith, ints, most, int_sum_pos f table, decided_table segs placed table)
+-- What is summed over the terms that a placing may change, pick after pick.
 
--- The terms that a placing may change, one line after the other.
+-- no term is of two picks
+none_twice : (e a b c x p q r : Bool)
+    → (((e && a) && (same_answer x false && p)) && (((e && b) && (same_answer x true && q)) || ((e && c) && (same_answer x true && (r && not b))))) ≡ false
+none_twice false a b c x p q r = refl
+none_twice true false b c x p q r = refl
+none_twice true true b c true p q r = refl
+none_twice true true b c false p q r = ap (λ t. (p && (t || (c && false)))) (and-false b) ∙ ap (λ t. p && t) (and-false c) ∙ and-false p
 
-thirds : (g : Bool → ℤ) → g false ≡ pos 0 → (a b c d : Bool)
-    → g (a && (b || (c || d))) ≡ (g ((a && b) && not (false || false)) +ℤ g ((a && c) && not (b || false))) +ℤ g ((a && d) && not (b || c))
-thirds g none false b c d = omega (arith, ints, none)
-thirds g none true true true true = omega (arith, ints, none)
-thirds g none true true true false = omega (arith, ints, none)
-thirds g none true true false true = omega (arith, ints, none)
-thirds g none true true false false = omega (arith, ints, none)
-thirds g none true false true true = omega (arith, ints, none)
-thirds g none true false true false = omega (arith, ints, none)
-thirds g none true false false true = omega (arith, ints, none)
-thirds g none true false false false = omega (arith, ints, none)
+last_or_left : (e b c x q r : Bool) → (((e && b) && (same_answer x true && q)) && ((e && c) && (same_answer x true && (r && not b)))) ≡ false
+last_or_left false b c x q r = refl
+last_or_left true false c x q r = refl
+last_or_left true true c false q r = refl
+last_or_left true true false true q r = and-false q
+last_or_left true true true true q r = ap (λ t. q && t) (and-false r) ∙ and-false q
 
-abbrev pub own_terms : Placing → Term → Bool
-own_terms p = is_fresh_at (spot_on p p.line) (counted None None)
+of_either : (g : Bool → ℤ) → g false ≡ pos 0 → (b c : Bool) → (b && c) ≡ false → g (b || c) ≡ g b +ℤ g c
+of_either g none true true h = absurd (true≢false h)
+of_either g none true false h = omega (arith, ints, none)
+of_either g none false c h = omega (arith, ints, none)
 
-abbrev pub last_terms : Placing → Term → Bool
-last_terms p = is_fresh_at (spot_on p p.last) (counted (Some p.line) None)
-
-abbrev pub left_terms : Placing → Term → Bool
-left_terms p = is_fresh_at (spot_on p p.left) (counted (Some p.line) (Some p.last))
-
-changed_parts : (g : Bool → ℤ) → g false ≡ pos 0 → (p : Placing) (t : Term) → g (changes p t) ≡ (g (own_terms p t) +ℤ g (last_terms p t)) +ℤ g (left_terms p t)
-changed_parts g none p t = thirds g none (is_on p.seg.0 t) (is_of_line p.line t) (is_of_line p.last t) (is_of_line p.left t)
-
-in_thirds : (f a b c : PartTerm → ℤ) (table : List PartTerm) → ((t : PartTerm) → f t ≡ (a t +ℤ b t) +ℤ c t) → int_sum f table ≡ (int_sum a table +ℤ int_sum b table) +ℤ int_sum c table
-in_thirds f a b c table same =
-    int_sum_equal f (λ t. (a t +ℤ b t) +ℤ c t) table same ∙ int_sum_both (λ t. a t +ℤ b t) c table ∙ ap (λ v. v +ℤ int_sum c table) (int_sum_both a b table)
-
-pub changed_sum : (p : Placing) (segs placed : List (List LineId)) (table : List PartTerm) (k : ℕ) (x : Bool)
-    → int_sum (counted_by (changes p) segs placed k x) table
-    ≡ (int_sum (counted_by (own_terms p) segs placed k x) table +ℤ int_sum (counted_by (last_terms p) segs placed k x) table) +ℤ int_sum (counted_by (left_terms p) segs placed k x) table
-changed_sum p segs placed table k x =
-    in_thirds (counted_by (changes p) segs placed k x) (counted_by (own_terms p) segs placed k x) (counted_by (last_terms p) segs placed k x) (counted_by (left_terms p) segs placed k x) table
-    (λ t. changed_parts (λ b. cond b (added_by segs placed k x t) (pos 0)) refl p t.term)
-
-pub changed_decided : (p : Placing) (segs placed : List (List LineId)) (table : List PartTerm)
-    → sum_by (decided_by (changes p) segs placed) table
-    ≡ sum_by (decided_by (own_terms p) segs placed) table + sum_by (decided_by (last_terms p) segs placed) table + sum_by (decided_by (left_terms p) segs placed) table
-changed_decided p segs placed table =
-    let whole = in_thirds (λ t. pos (decided_by (changes p) segs placed t)) (λ t. pos (decided_by (own_terms p) segs placed t)) (λ t. pos (decided_by (last_terms p) segs placed t))
-    (λ t. pos (decided_by (left_terms p) segs placed t)) table (λ t. changed_parts (λ b. pos (cond b (decided_cost segs placed t.term) 0)) refl p t.term) in
-    omega (
-      arith,
-      ints,
-      whole,
-      int_sum_pos (decided_by (changes p) segs placed) table,
-      int_sum_pos (decided_by (own_terms p) segs placed) table,
-      int_sum_pos (decided_by (last_terms p) segs placed) table,
-      int_sum_pos (decided_by (left_terms p) segs placed) table,
-    )
-
--- The terms at a spot are those of its list.
+in_picks : (g : Bool → ℤ) → g false ≡ pos 0 → (p : Placing) (lines placed : List LineId) (t : Term)
+    → (g (is_picked_at (own_pick p) lines placed t) +ℤ g (is_picked_at (last_pick p) lines placed t)) +ℤ g (is_picked_at (left_pick p) lines placed t) ≡ g (changes p lines placed t)
+in_picks g none p lines placed t =
+    let own : Bool = is_picked_at (own_pick p) lines placed t in
+    let last : Bool = is_picked_at (last_pick p) lines placed t in
+    let left : Bool = is_picked_at (left_pick p) lines placed t in
+    let e : Bool = is_on p.seg.0 t in
+    let first : g (changes p lines placed t) ≡ g (is_picked_at (own_pick p) lines placed t) +ℤ g (is_picked_at (last_pick p) lines placed t || is_picked_at (left_pick p) lines placed t) =
+    of_either g none own (last || left) (none_twice e (is_of_line p.line t) (is_of_line p.last t) (is_of_line p.left t) (is_apart t)
+    (is_left lines placed (beside_line p.line t) && true) (is_left lines placed (beside_line p.last t) && true) (is_left lines placed (beside_line p.left t))) in
+    let second : g (is_picked_at (last_pick p) lines placed t || is_picked_at (left_pick p) lines placed t) ≡ g (is_picked_at (last_pick p) lines placed t) +ℤ g (is_picked_at (left_pick p) lines placed t) =
+    of_either g none last left (last_or_left e (is_of_line p.last t) (is_of_line p.left t) (is_apart t)
+    (is_left lines placed (beside_line p.last t) && true) (is_left lines placed (beside_line p.left t))) in
+    omega (arith, ints, first, second)
 
 filtered_sum : {A : Type 0} (f : A → ℤ) (p : A → Bool) (xs : List A) → int_sum f (filter p xs) ≡ int_sum (λ x. cond (p x) (f x) (pos 0)) xs
 filtered_sum f p [] = refl
@@ -209,32 +194,114 @@ filtered_sum f p (x ∷ xs) = by_test (p x) (int_sum f (filter p xs)) (int_sum (
     by_test true u v rest is = ap (λ w. f x +ℤ w) (is ∙ rest)
     by_test false u v rest is = omega (arith, ints, rest, is)
 
-pub spot_sum : (u : Spot) (c : Counted) (segs placed : List (List LineId)) (table : List PartTerm) (k : ℕ) (x : Bool)
-    → int_sum (counted_by (is_fresh c) segs placed k x) (filter (λ (t : PartTerm). is_at u t.term) table) ≡ int_sum (counted_by (is_fresh_at u c) segs placed k x) table
-spot_sum u c segs placed table k x =
-    filtered_sum (counted_by (is_fresh c) segs placed k x) (λ (t : PartTerm). is_at u t.term) table
-    ∙ int_sum_equal (λ (t : PartTerm). cond (is_at u t.term) (counted_by (is_fresh c) segs placed k x t) (pos 0)) (counted_by (is_fresh_at u c) segs placed k x) table (λ t. by_test t (is_at u t.term))
-  where
-    by_test : (t : PartTerm) (b : Bool) → cond b (cond (is_fresh c t.term) (added_by segs placed k x t) (pos 0)) (pos 0) ≡ cond (b && is_fresh c t.term) (added_by segs placed k x t) (pos 0)
-    by_test t true = refl
-    by_test t false = refl
+pub changed_sum : (f : PartTerm → ℤ) (p : Placing) (lines placed : List LineId) (table : List PartTerm)
+    → int_sum f (changed_terms p lines placed table) ≡ int_sum (λ (t : PartTerm). cond (changes p lines placed t.term) (f t) (pos 0)) table
+changed_sum f p lines placed table =
+    let part : Pick → PartTerm → ℤ = λ c t. cond (is_picked_at c lines placed t.term) (f t) (pos 0) in
+    int_sum-append f (picked_terms (own_pick p) lines placed table ++ picked_terms (last_pick p) lines placed table) (picked_terms (left_pick p) lines placed table)
+    ∙ ap (λ v. v +ℤ int_sum f (picked_terms (left_pick p) lines placed table)) (int_sum-append f (picked_terms (own_pick p) lines placed table) (picked_terms (last_pick p) lines placed table))
+    ∙ ap (λ v. (v +ℤ int_sum f (picked_terms (last_pick p) lines placed table)) +ℤ int_sum f (picked_terms (left_pick p) lines placed table))
+    (filtered_sum f (λ (t : PartTerm). is_picked_at (own_pick p) lines placed t.term) table)
+    ∙ ap (λ v. (int_sum (part (own_pick p)) table +ℤ v) +ℤ int_sum f (picked_terms (left_pick p) lines placed table))
+    (filtered_sum f (λ (t : PartTerm). is_picked_at (last_pick p) lines placed t.term) table)
+    ∙ ap (λ v. (int_sum (part (own_pick p)) table +ℤ int_sum (part (last_pick p)) table) +ℤ v)
+    (filtered_sum f (λ (t : PartTerm). is_picked_at (left_pick p) lines placed t.term) table)
+    ∙ sym (int_sum_both (λ t. part (own_pick p) t +ℤ part (last_pick p) t) (part (left_pick p)) table ∙ ap (λ v. v +ℤ int_sum (part (left_pick p)) table) (int_sum_both (part (own_pick p)) (part (last_pick p)) table))
+    ∙ int_sum_equal (λ t. (part (own_pick p) t +ℤ part (last_pick p) t) +ℤ part (left_pick p) t) (λ (t : PartTerm). cond (changes p lines placed t.term) (f t) (pos 0)) table
+    (λ t. in_picks (λ b. cond b (f t) (pos 0)) refl p lines placed t.term)
 
-pub spot_decided : (u : Spot) (c : Counted) (segs placed : List (List LineId)) (table : List PartTerm)
-    → sum_by (decided_by (is_fresh c) segs placed) (filter (λ (t : PartTerm). is_at u t.term) table) ≡ sum_by (decided_by (is_fresh_at u c) segs placed) table
-spot_decided u c segs placed table =
-    let listed : List PartTerm = filter (λ (t : PartTerm). is_at u t.term) table in
-    let whole = filtered_sum (λ t. pos (decided_by (is_fresh c) segs placed t)) (λ (t : PartTerm). is_at u t.term) table
-    ∙ int_sum_equal (λ (t : PartTerm). cond (is_at u t.term) (pos (decided_by (is_fresh c) segs placed t)) (pos 0)) (λ t. pos (decided_by (is_fresh_at u c) segs placed t)) table
-    (λ t. by_test t (is_at u t.term)) in
-    omega (arith, ints, whole, int_sum_pos (decided_by (is_fresh c) segs placed) listed, int_sum_pos (decided_by (is_fresh_at u c) segs placed) table)
-  where
-    by_test : (t : PartTerm) (b : Bool)
-        → cond b (pos (cond (is_fresh c t.term) (decided_cost segs placed t.term) 0)) (pos 0) ≡ pos (cond (b && is_fresh c t.term) (decided_cost segs placed t.term) 0)
-    by_test t true = refl
-    by_test t false = refl
+filter_shorter : {A : Type 0} (p : A → Bool) (xs : List A) → length (filter p xs) ≤ length xs
+filter_shorter p xs = omega (arith, length-filter_both p (λ x. not (p x)) (λ x. refl) xs)
 
--- what the counted terms of a list add is small
-pub counted_small : (counts : Term → Bool) (segs placed : List (List LineId)) (table : List PartTerm) (k : ℕ) (x : Bool) → AreTerms segs table → length table ≤ 4000000
-    → unsigned_abs (int_sum (counted_by counts segs placed k x) table) ≤ 1024000000000
-counted_small counts segs placed table k x fits few =
-    whole_small (counted_by counts segs placed k x) table no_part_term (λ j h. counted_if counts segs placed k x (get_or table j no_part_term) (fits j no_part_term h)) few
+-- the terms that a placing may change are those that its test picks
+pub changed_are : (p : Placing) (lines placed : List LineId) (asked : Asked) (some : List PartTerm) → AreTerms asked.problem.now.segs asked.table.now.terms.items
+    → length asked.table.now.terms.items ≤ 4000000 → some ≡ changed_terms p lines placed asked.table.now.terms.items → AreThose (changes p lines placed) asked some
+changed_are p lines placed asked some fits few is = record {
+  fits = subst (AreTerms asked.problem.now.segs) (sym is)
+      (All-append (λ (t : PartTerm). IsTerm asked.problem.now.segs t.term) (picked_terms (own_pick p) lines placed table ++ picked_terms (last_pick p) lines placed table) (picked_terms (left_pick p) lines placed table)
+      (All-append (λ (t : PartTerm). IsTerm asked.problem.now.segs t.term) (picked_terms (own_pick p) lines placed table) (picked_terms (last_pick p) lines placed table) (of_pick (own_pick p)) (of_pick (last_pick p)))
+      (of_pick (left_pick p)));
+  few = omega (
+    arith,
+    ap length is,
+    few,
+    length-append (picked_terms (own_pick p) lines placed table ++ picked_terms (last_pick p) lines placed table) (picked_terms (left_pick p) lines placed table),
+    length-append (picked_terms (own_pick p) lines placed table) (picked_terms (last_pick p) lines placed table),
+    filter_shorter (λ (t : PartTerm). is_picked_at (own_pick p) lines placed t.term) table,
+    filter_shorter (λ (t : PartTerm). is_picked_at (last_pick p) lines placed t.term) table,
+    filter_shorter (λ (t : PartTerm). is_picked_at (left_pick p) lines placed t.term) table,
+  );
+  sums = λ f. ap (int_sum f) is ∙ changed_sum f p lines placed table;
+}
+  where
+    table : List PartTerm
+    table = asked.table.now.terms.items
+
+    of_pick : (c : Pick) → AreTerms asked.problem.now.segs (picked_terms c lines placed table)
+    of_pick c = All-filter (λ (t : PartTerm). is_picked_at c lines placed t.term) (λ (t : PartTerm). IsTerm asked.problem.now.segs t.term) table fits
+
+-- The terms that a pick picks of those at its spot.
+pub picked_of_spot : (c : Pick) (lines placed : List LineId) (table : List PartTerm)
+    → filter (λ (t : PartTerm). is_picked c lines placed t.term) (filter (λ (t : PartTerm). is_at c.spot t.term) table) ≡ picked_terms c lines placed table
+picked_of_spot c lines placed [] = refl
+picked_of_spot c lines placed (t ∷ table) = by_test (is_at c.spot t.term) (picked_of_spot c lines placed table)
+  where
+    own : PartTerm → Bool
+    own u = is_picked c lines placed u.term
+
+    by_test : (b : Bool) → filter own (filter (λ (u : PartTerm). is_at c.spot u.term) table) ≡ picked_terms c lines placed table
+        → filter own (cond b (t ∷ filter (λ (u : PartTerm). is_at c.spot u.term) table) (filter (λ (u : PartTerm). is_at c.spot u.term) table))
+        ≡ cond (b && own t) (t ∷ picked_terms c lines placed table) (picked_terms c lines placed table)
+    by_test true rest = ap (λ l. cond (own t) (t ∷ l) l) rest
+    by_test false rest = rest
+
+-- where the other line that is left is the one that is placed last, its pick picks none
+pub left_none : (p : Placing) (lines placed : List LineId) (table : List PartTerm) → p.left.0 ≡ p.last.0 → picked_terms (left_pick p) lines placed table ≡ []
+left_none p lines placed [] same = refl
+left_none p lines placed (t ∷ table) same =
+    ap (λ b. cond b (t ∷ picked_terms (left_pick p) lines placed table) (picked_terms (left_pick p) lines placed table)) none ∙ left_none p lines placed table same
+  where
+    by_test : (e b x r : Bool) → ((e && b) && (same_answer x true && (r && not b))) ≡ false
+    by_test false b x r = refl
+    by_test true false x r = refl
+    by_test true true false r = refl
+    by_test true true true r = and-false r
+
+    none : is_picked_at (left_pick p) lines placed t.term ≡ false
+    none =
+        ap (λ (l : LineId). (is_on p.seg.0 t.term && is_of_line l t.term) && (same_answer (is_apart t.term) true && (is_left lines placed (beside_line p.left t.term) && not (is_of_line p.last t.term))))
+        (line_is p.left p.last same)
+        ∙ by_test (is_on p.seg.0 t.term) (is_of_line p.last t.term) (is_apart t.term) (is_left lines placed (beside_line p.left t.term))
+
+-- The picks of a placing, one after the other.
+
+pub picked_more : (c : Pick) (lines placed : List LineId) (terms old list more : List PartTerm) (i : ℕ) → i < length terms
+    → list ≡ old ++ filter (λ (t : PartTerm). is_picked c lines placed t.term) (take i terms)
+    → more ≡ list ++ cond (is_picked c lines placed (get_or terms i no_part_term).term) (get_or terms i no_part_term ∷ []) []
+    → more ≡ old ++ filter (λ (t : PartTerm). is_picked c lines placed t.term) (take (i + 1) terms)
+picked_more c lines placed terms old list more i below before pushed =
+    let own : PartTerm → Bool = λ t. is_picked c lines placed t.term in
+    let next : List PartTerm = get_or terms i no_part_term ∷ [] in
+    pushed ∙ ap (λ l. l ++ filter own next) before ∙ append_assoc old (filter own (take i terms)) (filter own next)
+    ∙ ap (λ l. old ++ l) (sym (ap (filter own) (take_more terms i no_part_term below) ∙ filter-append own (take i terms) next))
+
+abbrev pub of_pick : List (List LineId) → List (List LineId) → List PartTerm → Pick → List PartTerm
+of_pick segs placed table c = picked_terms c (lines_on segs c.spot.seg) (lines_on placed c.spot.seg) table
+
+pub two_picked : (p : Placing) (segs placed : List (List LineId)) (table none one two : List PartTerm) (a b : Pick) → a ≡ own_pick p → b ≡ last_pick p → none ≡ []
+    → one ≡ none ++ of_pick segs placed table a → two ≡ one ++ of_pick segs placed table b → two ≡ of_pick segs placed table (own_pick p) ++ of_pick segs placed table (last_pick p)
+two_picked p segs placed table none one two a b own last empty first second =
+    second ∙ ap (λ q. one ++ of_pick segs placed table q) last
+    ∙ ap (λ l. l ++ of_pick segs placed table (last_pick p)) (first ∙ ap (λ q. none ++ of_pick segs placed table q) own ∙ ap (λ l. l ++ of_pick segs placed table (own_pick p)) empty)
+
+pub all_picked : (p : Placing) (segs placed : List (List LineId)) (table two three : List PartTerm) (c : Pick) → c ≡ left_pick p
+    → two ≡ of_pick segs placed table (own_pick p) ++ of_pick segs placed table (last_pick p) → three ≡ two ++ of_pick segs placed table c
+    → three ≡ changed_terms p (lines_on segs p.seg) (lines_on placed p.seg) table
+all_picked p segs placed table two three c left both third =
+    third ∙ ap (λ q. two ++ of_pick segs placed table q) left ∙ ap (λ l. l ++ of_pick segs placed table (left_pick p)) both
+
+pub none_left : (p : Placing) (segs placed : List (List LineId)) (table two : List PartTerm) → p.left.0 ≡ p.last.0
+    → two ≡ of_pick segs placed table (own_pick p) ++ of_pick segs placed table (last_pick p) → two ≡ changed_terms p (lines_on segs p.seg) (lines_on placed p.seg) table
+none_left p segs placed table two same both =
+    let pair : List PartTerm = of_pick segs placed table (own_pick p) ++ of_pick segs placed table (last_pick p) in
+    both ∙ sym (ap (λ l. pair ++ l) (left_none p (lines_on segs p.seg) (lines_on placed p.seg) table same) ∙ append-nil pair)

@@ -76,3 +76,11 @@ charge_set costs charge c within changed k below x = by_test (charge.slot == k) 
         ∙ ap (λ n. cost_in (get_or costs n no_cost) x +ℤ cond (same_answer charge.lesser_first x) charge.amount (pos 0)) same
     by_test false e =
         ap (λ d. cost_in d x) (get_or-set_other costs charge.slot k c no_cost (λ h. eqb-false charge.slot k e (sym h))) ∙ none_more (cost_at costs k x)
+
+-- a charge of 0 adds nothing
+pub none_added : (c : Charge) (k : ℕ) (x : Bool) (v : ℤ) → c.amount ≡ pos 0 → v ≡ v +ℤ charge_on c k x
+none_added c k x v none = by_test ((c.slot == k) && same_answer c.lesser_first x)
+  where
+    by_test : (b : Bool) → v ≡ v +ℤ cond b c.amount (pos 0)
+    by_test true = omega (arith, ints, none)
+    by_test false = omega (arith, ints)

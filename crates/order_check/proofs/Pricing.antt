@@ -22,8 +22,8 @@ use Rattle.order_check.specs.Counting.{added_by}
 use Rattle.order_check.specs.Prices.{may_have, AreNumbersOf, IsPlaceOf}
 use Rattle.order_check.specs.Pricing.{priced_by, term_of, priced_if, price_on, ArePriced, AreSmallPrices}
 use Rattle.order_check.proofs.SignedSums.{sum_more}
-use Rattle.order_check.proofs.Charging.{small_charges, small_charged}
-use Rattle.order_check.proofs.Counting.{whole_small}
+use Rattle.order_check.proofs.Charging.{small_charged}
+use Rattle.order_check.proofs.Counting.{terms_small}
 use Rattle.order_check.proofs.PriceLemmas.{count_read, number_read, rising_all, spread_none, spread_more}
 
 -- What an open Link adds.
@@ -148,10 +148,9 @@ priced_small : (segs placed : List (List LineId)) (table : List PartTerm) (qs : 
     → (k : ℕ) (x : Bool) → unsigned_abs (int_sum (price_on table k x) qs) ≤ 2048000000000
 priced_small segs placed table qs fits few priced k x =
     let most = small_charged segs placed table priced.prices (length table) k x fits priced.spread.small (omega arith) in
-    let plain = whole_small (added_by segs placed k x) table no_part_term
-    (λ j h. (let t : PartTerm = get_or table j no_part_term in (small_charges segs placed t.term t.here t.there (pos 0) (fits j no_part_term h) (omega (arith, ints))).both k x)) few in
+    let plain = terms_small segs placed table k x fits in
     difference (charged segs placed table priced.prices (length table) k x) (int_sum (added_by segs placed k x) table) (int_sum (price_on table k x) qs) (priced.slots k x)
-    (omega (arith, most, few)) plain
+    (omega (arith, most, few)) (omega (arith, plain, few))
   where
     difference : (a b c : ℤ) → a ≡ b +ℤ c → unsigned_abs a ≤ 1024000000000 → unsigned_abs b ≤ 1024000000000 → unsigned_abs c ≤ 2048000000000
     difference a b c e p q = omega (arith, ints, e, p, q)

@@ -1,5 +1,5 @@
 -- What the terms of a part come to with no prices, as it is kept while lines are placed.
-use Rattle.std.specs.Prelude.{◌≡◌, ℕ, ◌<◌, ◌≤◌, Bool, true, false, List, length, map, sum_by, if◌then◌else◌}
+use Rattle.std.specs.Prelude.{◌≡◌, ℕ, ◌+◌, ◌<◌, ◌≤◌, Bool, true, false, List, length, map, sum_by, if◌then◌else◌}
 use Rattle.std.specs.Prelude.{ℤ, pos, ◌+ℤ◌, ◌-ℤ◌, unsigned_abs}
 use Rattle.map_base.specs.declared.ids.LineId.{LineId}
 use Rattle.order_model.specs.declared.term.Term.{Term}
@@ -14,25 +14,16 @@ use Rattle.order_check.specs.declared.slot.Sums.{Sums}
 use Rattle.order_check.specs.declared.asked.Asked.{Asked}
 use Rattle.order_check.specs.Slots.{plain_term, cost_in, cost_at, charge_on}
 use Rattle.order_check.specs.Charges.{charges_by}
+use Rattle.order_check.specs.Charging.{AreTerms}
 
 -- what a term adds to a slot by an order of its lines, with no price
 abbrev pub added_by : List (List LineId) → List (List LineId) → ℕ → Bool → PartTerm → ℤ
 added_by segs placed k x t =
     let c : Charges = charges_by segs placed t.term t.here t.there (pos 0) in charge_on c.here k x +ℤ charge_on c.there k x
 
--- the same of those that count, and of the others
-abbrev pub counted_by : (Term → Bool) → List (List LineId) → List (List LineId) → ℕ → Bool → PartTerm → ℤ
-counted_by counts segs placed k x t = if counts t.term then added_by segs placed k x t else pos 0
-
-abbrev pub beside_by : (Term → Bool) → List (List LineId) → List (List LineId) → ℕ → Bool → PartTerm → ℤ
-beside_by counts segs placed k x t = if counts t.term then pos 0 else added_by segs placed k x t
-
--- what a term costs where it is decided: of those that count, and of the others
-abbrev pub decided_by : (Term → Bool) → List (List LineId) → List (List LineId) → PartTerm → ℕ
-decided_by counts segs placed t = if counts t.term then decided_cost segs placed t.term else 0
-
-abbrev pub decided_beside : (Term → Bool) → List (List LineId) → List (List LineId) → PartTerm → ℕ
-decided_beside counts segs placed t = if counts t.term then 0 else decided_cost segs placed t.term
+-- what it costs where it is decided
+abbrev pub decided_of : List (List LineId) → List (List LineId) → PartTerm → ℕ
+decided_of segs placed t = decided_cost segs placed t.term
 
 -- a number less another, or more
 abbrev pub shifted : Bool → ℤ → ℤ → ℤ
@@ -58,9 +49,19 @@ pub record IsTally (asked : Asked) (placed : List (List LineId)) (sums : Sums) (
   pub slots : (k : ℕ) → k < length costs → (x : Bool) → cost_at costs k x ≡ int_sum (added_by asked.problem.now.segs placed k x) asked.table.now.terms.items
   pub least : sums.least ≡ least_sum costs
 
--- the same of the terms that do not count
-pub record IsTallyBeside (counts : Term → Bool) (asked : Asked) (placed : List (List LineId)) (sums : Sums) (costs : List SlotCost) : Type 0 where
-  pub decided : sums.decided ≡ sum_by (decided_beside counts asked.problem.now.segs placed) asked.table.now.terms.items
+-- these are the part's terms that a test picks, none of them twice: whatever is summed over them
+pub record AreThose (picks : Term → Bool) (asked : Asked) (some : List PartTerm) : Type 0 where
+  pub fits : AreTerms asked.problem.now.segs some
+  pub few : length some ≤ 12000000
+  pub sums : (f : PartTerm → ℤ) → int_sum f some ≡ int_sum (λ (t : PartTerm). if picks t.term then f t else pos 0) asked.table.now.terms.items
+
+-- these are some of the part's terms
+abbrev pub ArePicked : Asked → List PartTerm → Type 0
+ArePicked asked some = (picks : Term → Bool) × AreThose picks asked some
+
+-- the same tally of all terms but some
+pub record IsTallyWithout (some : List PartTerm) (asked : Asked) (placed : List (List LineId)) (sums : Sums) (costs : List SlotCost) : Type 0 where
+  pub decided : sums.decided + sum_by (decided_of asked.problem.now.segs placed) some ≡ decided_sum asked.problem.now.segs placed (map plain_term asked.table.now.terms.items)
   pub slots : (k : ℕ) → k < length costs → (x : Bool)
-      → cost_at costs k x ≡ int_sum (beside_by counts asked.problem.now.segs placed k x) asked.table.now.terms.items
+      → cost_at costs k x +ℤ int_sum (added_by asked.problem.now.segs placed k x) some ≡ int_sum (added_by asked.problem.now.segs placed k x) asked.table.now.terms.items
   pub least : sums.least ≡ least_sum costs

@@ -1,14 +1,17 @@
 -- The terms that a placing may change.
-use Rattle.std.specs.Prelude.{◌+◌, ◌-◌, nat_le, Bool, false, ◌&&◌, ◌||◌, not, List, [], ◌∷◌, ◌++◌, length, find, Option, Some, None, unwrap_or, slice_index_or, if◌then◌else◌}
+use Rattle.std.specs.Prelude.{◌+◌, ◌-◌, ◌==◌, nat_le, Bool, true, false, ◌&&◌, ◌||◌, not, List, [], ◌∷◌, ◌++◌, length, find, filter, Option, Some, None, unwrap_or, slice_index_or, if◌then◌else◌}
 use Rattle.map_base.specs.declared.ids.SegId.{SegId}
 use Rattle.map_base.specs.declared.ids.LineId.{LineId}
 use Rattle.order_model.specs.declared.term.Term.{Term}
+use Rattle.order_model.specs.declared.term.Term.TheVariants.{Side, Link, Apart}
 use Rattle.order_model.specs.Problems.{lines_on}
-use Rattle.order_model.specs.Prefixes.{is_unplaced}
+use Rattle.order_model.specs.Costs.{same_answer}
+use Rattle.order_model.specs.Prefixes.{is_unplaced, is_left}
+use Rattle.order_check.specs.declared.slot.PartTerm.{PartTerm}
 use Rattle.order_check.specs.declared.placing.Placing.{Placing}
-use Rattle.order_check.specs.declared.slot_costs.Counted.{Counted}
+use Rattle.order_check.specs.declared.picking.Pick.{Pick}
 use Rattle.order_check.specs.declared.spot.Spot.{Spot}
-use Rattle.order_check.specs.Spots.{is_on, is_of_line, is_at}
+use Rattle.order_check.specs.Spots.{is_apart, is_of_line, is_at}
 
 -- the last of these lines, or another where there is none
 abbrev pub last_or : List LineId → LineId → LineId
@@ -18,9 +21,9 @@ last_or lines other = slice_index_or lines (length lines - 1) other
 abbrev pub other_left : List LineId → LineId → List LineId → LineId
 other_left placed line lines = unwrap_or (find (is_unplaced (placed ++ line ∷ [])) lines) line
 
--- the same where no more than three lines are left; else this one
+-- the same where no more than three lines are left; else the line that is placed last
 abbrev pub left_or : List LineId → List LineId → LineId → LineId
-left_or lines placed line = if nat_le (length lines) (length placed + 3) then other_left placed line lines else line
+left_or lines placed line = if nat_le (length lines) (length placed + 3) then other_left placed line lines else last_or placed line
 
 -- the placing of a line that is next on a segment
 abbrev pub placing_of : List (List LineId) → List (List LineId) → SegId → LineId → Placing
@@ -35,23 +38,49 @@ placing_of segs placed s a = record {
 abbrev pub spot_on : Placing → LineId → Spot
 spot_on p a = record { seg = p.seg; line = a }
 
--- the terms that the placing may change: those of its lines on its segment
-abbrev pub changes : Placing → Term → Bool
-changes p t = is_on p.seg.0 t && (is_of_line p.line t || (is_of_line p.last t || is_of_line p.left t))
+-- of two lines the other one than this
+abbrev pub other_than : LineId → LineId → LineId → LineId
+other_than a b line = if a.0 == line.0 then b else a
+
+-- the other line of a term that has this one
+abbrev pub beside_line : LineId → Term → LineId
+beside_line line (Side seg first second w) = other_than first second line
+beside_line line (Link seg other flip a b w) = other_than a b line
+beside_line line (Apart seg other a b w) = other_than a b line
 
 -- the term has the line, if there is one
 abbrev pub is_of_any : Option LineId → Term → Bool
 is_of_any None t = false
 is_of_any (Some line) t = is_of_line line t
 
--- that the terms of these lines were counted before
-abbrev pub counted : Option LineId → Option LineId → Counted
-counted a b = record { first = a; second = b }
+-- the terms that a pick picks, where these lines of the segment are placed: of its kind, their other line left, and not of
+-- the line that is left out
+abbrev pub is_picked : Pick → List LineId → List LineId → Term → Bool
+is_picked c lines placed t = same_answer (is_apart t) c.apart && (is_left lines placed (beside_line c.spot.line t) && not (is_of_any c.but t))
 
--- the term has no line whose terms were counted before
-abbrev pub is_fresh : Counted → Term → Bool
-is_fresh c t = not (is_of_any c.first t || is_of_any c.second t)
+-- the same of all terms of a part
+abbrev pub is_picked_at : Pick → List LineId → List LineId → Term → Bool
+is_picked_at c lines placed t = is_at c.spot t && is_picked c lines placed t
 
--- the same of the terms at a spot
-abbrev pub is_fresh_at : Spot → Counted → Term → Bool
-is_fresh_at u c t = is_at u t && is_fresh c t
+-- the picks of a placing: by which its line stands before another; the Aparts of the line that is placed last, and of another
+-- one that is left
+abbrev pub own_pick : Placing → Pick
+own_pick p = record { spot = spot_on p p.line; apart = false; but = None }
+
+abbrev pub last_pick : Placing → Pick
+last_pick p = record { spot = spot_on p p.last; apart = true; but = None }
+
+abbrev pub left_pick : Placing → Pick
+left_pick p = record { spot = spot_on p p.left; apart = true; but = Some p.last }
+
+-- the terms that it may change
+abbrev pub changes : Placing → List LineId → List LineId → Term → Bool
+changes p lines placed t = is_picked_at (own_pick p) lines placed t || (is_picked_at (last_pick p) lines placed t || is_picked_at (left_pick p) lines placed t)
+
+-- those of them that a pick picks, and all
+abbrev pub picked_terms : Pick → List LineId → List LineId → List PartTerm → List PartTerm
+picked_terms c lines placed terms = filter (λ (t : PartTerm). is_picked_at c lines placed t.term) terms
+
+abbrev pub changed_terms : Placing → List LineId → List LineId → List PartTerm → List PartTerm
+changed_terms p lines placed terms =
+    (picked_terms (own_pick p) lines placed terms ++ picked_terms (last_pick p) lines placed terms) ++ picked_terms (left_pick p) lines placed terms

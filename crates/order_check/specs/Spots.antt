@@ -1,5 +1,5 @@
 -- The terms of a part by segment and line.
-use Rattle.std.specs.Prelude.{◌≡◌, ◌≢◌, ℕ, zero, suc, ◌==◌, Bool, ◌&&◌, ◌||◌, List, [], ◌∷◌, ◌++◌, length, map, filter, if◌then◌else◌, Vec}
+use Rattle.std.specs.Prelude.{◌≡◌, ◌≢◌, ℕ, zero, suc, ◌==◌, Bool, true, false, ◌&&◌, ◌||◌, List, [], ◌∷◌, ◌++◌, length, map, filter, if◌then◌else◌, Vec}
 use Rattle.std.specs.Global.{Global}
 use Rattle.map_base.specs.declared.ids.LineId.{LineId}
 use Rattle.order_model.specs.declared.term.Term.{Term}
@@ -21,6 +21,12 @@ abbrev pub is_of_line : LineId → Term → Bool
 is_of_line line (Side seg first second w) = is_either first second line
 is_of_line line (Link seg other flip a b w) = is_either a b line
 is_of_line line (Apart seg other a b w) = is_either a b line
+
+-- the term is an Apart
+abbrev pub is_apart : Term → Bool
+is_apart (Side seg first second w) = false
+is_apart (Link seg other flip a b w) = false
+is_apart (Apart seg other a b w) = true
 
 -- the term is at the spot: on its segment, and of its line
 abbrev pub is_at : Spot → Term → Bool

@@ -11,6 +11,7 @@ mod close;
 mod node;
 mod part;
 mod part_table;
+mod picking;
 mod placing;
 mod refusal;
 mod rules;

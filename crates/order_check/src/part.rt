@@ -134,7 +134,7 @@ fn check_tree(
     let mut way = Vec::new(alloc);
     let costs = costs.as_mut_slice();
     let sums = first_tally(asked, prefix, costs);
-    if walk(asked, prefix, sums, costs, &mut way, tree)? {
+    if walk(alloc, asked, prefix, sums, costs, &mut way, tree)? {
         return Ok(());
     }
     Err(ProofStop::Refuted(ProofItem::Part {

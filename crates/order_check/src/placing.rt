@@ -9,8 +9,7 @@ use map_base::{LineId, SegId};
 use order_model::{Prefix, Problem};
 
 /// The placing of a line on a segment, with the lines there whose terms it may change: the line itself, the one that is
-/// placed last before it, and where no more than three lines are left another one of these. Of other pairs none is decided
-/// by it, or settled as neighbours.
+/// placed last before it, and where no more than three lines are left another one of these.
 #[derive(Clone, Copy, Debug)]
 pub(crate) struct Placing {
     /// The segment.
@@ -19,7 +18,7 @@ pub(crate) struct Placing {
     pub(crate) line: LineId,
     /// The line that is placed last before it; itself where there is none.
     pub(crate) last: LineId,
-    /// Another line that is left where few are; else the line itself.
+    /// Another line that is left where few are; else the one that is placed last.
     pub(crate) left: LineId,
 }
 
@@ -47,7 +46,8 @@ fn last_or(lines: &[LineId], other: LineId) -> LineId
     lines[lines.len() - 1]
 }
 
-/// Where no more than three lines are left on a segment, the first of them beside a line that is one of them; else the line.
+/// Where no more than three lines are left on a segment, the first of them beside a line that is one of them; else the
+/// line that is placed last.
 fn left_or(problem: &Problem, prefix: &Prefix, seg: SegId, line: LineId) -> LineId
     requires fits { IsPrefixOf problem.now.segs prefix.now }
     requires seg { seg.0 < length problem.now.segs }
@@ -56,7 +56,7 @@ fn left_or(problem: &Problem, prefix: &Prefix, seg: SegId, line: LineId) -> Line
     let segs = problem.segs();
     let lines = segs[seg.0 as usize].as_slice();
     if lines.len() > prefix.placed(seg).len() + 3 {
-        return line;
+        return last_or(prefix.placed(seg), line);
     }
     other_left(problem, prefix, seg, line, lines)
 }

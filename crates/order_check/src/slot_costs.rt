@@ -8,51 +8,38 @@ ghost use Rattle.order_bound.specs.Values.{least_answer};
 ghost use Rattle.whole_sums.specs.Sums.{int_sum};
 ghost use Rattle.order_check.specs.Slots.{cost_in, cost_at, charge_on};
 ghost use Rattle.order_check.specs.Charging.{AreTerms};
-ghost use Rattle.order_check.specs.Placings.{is_of_any, is_fresh};
-ghost use Rattle.order_check.specs.Spots.{is_of_line};
-ghost use Rattle.order_check.specs.Counting.{counted_by, decided_by, shifted, turned, least_sum};
+ghost use Rattle.order_check.specs.Counting.{added_by, decided_of, shifted, turned, least_sum};
 
 use crate::charges::charges;
 use crate::slot::{Charge, Charges, PartTerm, SlotCost, Sums};
-use map_base::LineId;
-use order_model::{Prefix, Problem, Term};
+use order_model::{Prefix, Problem};
 
-/// Lines whose terms were counted before.
-#[derive(Clone, Copy, Debug)]
-pub(crate) struct Counted {
-    /// The first.
-    pub(crate) first: Option<LineId>,
-    /// The second.
-    pub(crate) second: Option<LineId>,
-}
-
-/// Adds to the table of slots what terms add for a prefix, with no prices, or takes it off again; but not the terms of lines
-/// that were counted before. Sums those of them that are decided, and keeps up the sum over the slots.
+/// Adds to the table of slots what terms add for a prefix, with no prices, or takes it off again. Sums those of them that
+/// are decided, and keeps up the sum over the slots.
 pub(crate) fn count(
     problem: &Problem,
     prefix: &Prefix,
     terms: &[PartTerm],
-    counted: Counted,
     costs: &mut [SlotCost],
     least: i128,
     off: bool,
 ) -> Sums
     requires fits { IsPrefixOf problem.now.segs prefix.now }
     requires terms { AreTerms problem.now.segs terms.now }
-    requires few { length terms.now ≤ 4000000 }
+    requires few { length terms.now ≤ 12000000 }
     requires few_slots { length costs.old ≤ 8000000 }
     requires small { (k : ℕ) (x : Bool) → k < length costs.old → unsigned_abs (cost_at costs.old k x) ≤ 8192000000000 }
     requires least { least ≡ least_sum costs.old }
-    ensures decided { result.decided ≡ sum_by (decided_by (is_fresh counted) problem.now.segs prefix.now.placed) terms.now }
-    ensures most { result.decided ≤ 1024000000000 }
+    ensures decided { result.decided ≡ sum_by (decided_of problem.now.segs prefix.now.placed) terms.now }
+    ensures most { result.decided ≤ 3072000000000 }
     ensures least { result.least ≡ least_sum costs.new }
     ensures slots { (k : ℕ) → k < length costs.old → (x : Bool)
-        → cost_at costs.new k x ≡ shifted off (cost_at costs.old k x) (int_sum (counted_by (is_fresh counted) problem.now.segs prefix.now.placed k x) terms.now) }
+        → cost_at costs.new k x ≡ shifted off (cost_at costs.old k x) (int_sum (added_by problem.now.segs prefix.now.placed k x) terms.now) }
 {
     let mut decided: u64 = 0;
     let mut least = least;
     for i in 0..terms.len() {
-        let added = count_term(problem, prefix, terms[i], counted, costs, least, off);
+        let added = count_term(problem, prefix, terms[i], costs, least, off);
         decided += added.decided;
         least = added.least;
     }
@@ -64,7 +51,6 @@ fn count_term(
     problem: &Problem,
     prefix: &Prefix,
     t: PartTerm,
-    counted: Counted,
     costs: &mut [SlotCost],
     least: i128,
     off: bool,
@@ -74,50 +60,17 @@ fn count_term(
     requires few_slots { length costs.old ≤ 8000000 }
     requires small { (k : ℕ) (x : Bool) → k < length costs.old → unsigned_abs (cost_at costs.old k x) ≤ 2 ^ 60 }
     requires least { least ≡ least_sum costs.old }
-    ensures decided { result.decided ≡ decided_by (is_fresh counted) problem.now.segs prefix.now.placed t }
+    ensures decided { result.decided ≡ decided_of problem.now.segs prefix.now.placed t }
     ensures most { result.decided ≤ 256000 }
     ensures least { result.least ≡ least_sum costs.new }
     ensures slots { (k : ℕ) → k < length costs.old → (x : Bool)
-        → cost_at costs.new k x ≡ shifted off (cost_at costs.old k x) (counted_by (is_fresh counted) problem.now.segs prefix.now.placed k x t) }
+        → cost_at costs.new k x ≡ shifted off (cost_at costs.old k x) (added_by problem.now.segs prefix.now.placed k x t) }
 {
-    if !is_fresh(counted, t.term) {
-        return Sums { decided: 0, least };
-    }
     let added = charges(problem, prefix, t, 0);
     let least = add_both(costs, added, least, off);
     Sums {
         decided: added.decided,
         least,
-    }
-}
-
-/// Whether a term has none of the lines whose terms were counted before.
-fn is_fresh(counted: Counted, term: Term) -> bool
-    ensures { result ≡ is_fresh counted term }
-{
-    if is_of_any(counted.first, term) {
-        return false;
-    }
-    !is_of_any(counted.second, term)
-}
-
-/// Whether a term has a line, if there is one.
-fn is_of_any(line: Option<LineId>, term: Term) -> bool
-    ensures { result ≡ is_of_any line term }
-{
-    match line {
-        None => false,
-        Some(line) => is_of_line(line, term),
-    }
-}
-
-/// Whether a term has a line.
-fn is_of_line(line: LineId, term: Term) -> bool
-    ensures { result ≡ is_of_line line term }
-{
-    match term {
-        Term::Side { first, second, .. } => first.0 == line.0 || second.0 == line.0,
-        Term::Link { a, b, .. } | Term::Apart { a, b, .. } => a.0 == line.0 || b.0 == line.0,
     }
 }
 
@@ -166,7 +119,7 @@ pub(crate) fn clear(costs: &mut [SlotCost])
     }
 }
 
-/// Adds a charge to its slot, if there is such a slot. Answers the sum over the slots after it.
+/// Adds a charge to its slot, if there is such a slot and the charge is not 0. Answers the sum over the slots after it.
 fn add(costs: &mut [SlotCost], charge: Charge, least: i128) -> i128
     requires few { length costs.old ≤ 8000000 }
     requires small { (k : ℕ) (x : Bool) → k < length costs.old → unsigned_abs (cost_at costs.old k x) ≤ 2 ^ 61 }
@@ -175,6 +128,9 @@ fn add(costs: &mut [SlotCost], charge: Charge, least: i128) -> i128
     ensures slots { (k : ℕ) → k < length costs.old → (x : Bool) → cost_at costs.new k x ≡ cost_at costs.old k x +ℤ charge_on charge k x }
     ensures least { result ≡ least_sum costs.new }
 {
+    if charge.amount == 0 {
+        return least;
+    }
     let k = charge.slot as usize;
     if k >= costs.len() {
         return least;

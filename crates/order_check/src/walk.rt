@@ -15,17 +15,20 @@ ghost use Rattle.order_check.specs.Walking.{IsWalked, split_test};
 use crate::asked::Asked;
 use crate::close::is_closed;
 use crate::node::is_split;
+use crate::picking::changed_terms;
 use crate::placing::placing_of;
 use crate::slot::{SlotCost, Sums};
 use crate::tally::{put_on, take_off};
 use map_base::{LineId, NoMemory, SegId};
 use order_model::Prefix;
 use order_proof::Tree;
+use std::alloc::Global;
 
 /// Whether a tree is accepted for a prefix, whose tally is at hand. Where it is not, the lines on the way to the first node
 /// that fails are added to `way`. The prefix and the tally are left as they were.
 #[cycle(walk)]
 pub(crate) fn walk(
+    alloc: Global,
     asked: &Asked,
     prefix: &mut Prefix,
     sums: Sums,
@@ -46,7 +49,16 @@ pub(crate) fn walk(
     match tree {
         Tree::Close { prices } => Ok(is_closed(asked, prefix, sums, costs, prices)),
         Tree::Split { seg, children } => {
-            walk_split(asked, prefix, sums, costs, way, *seg, children.as_slice())
+            walk_split(
+                alloc,
+                asked,
+                prefix,
+                sums,
+                costs,
+                way,
+                *seg,
+                children.as_slice(),
+            )
         }
     }
 }
@@ -54,6 +66,7 @@ pub(crate) fn walk(
 /// The same of a Split.
 #[cycle(walk)]
 fn walk_split(
+    alloc: Global,
     asked: &Asked,
     prefix: &mut Prefix,
     sums: Sums,
@@ -75,12 +88,13 @@ fn walk_split(
     if !is_split(asked, prefix, seg, children) {
         return Ok(false);
     }
-    walk_cases(asked, prefix, sums, costs, way, seg, children)
+    walk_cases(alloc, asked, prefix, sums, costs, way, seg, children)
 }
 
 /// The same of the cases of a Split that holds.
 #[cycle(walk)]
 fn walk_cases(
+    alloc: Global,
     asked: &Asked,
     prefix: &mut Prefix,
     sums: Sums,
@@ -101,17 +115,20 @@ fn walk_cases(
     ensures walked { IfOk result (IsWalked (failing (question_of asked.now) prefix.old.placed (split seg (plain_children children.now))) way.old.items way.new.items) }
 {
     for child in children {
-        if !walk_case(asked, prefix, sums, costs, way, seg, child.0, &child.1)? {
+        if !walk_case(
+            alloc, asked, prefix, sums, costs, way, seg, child.0, &child.1,
+        )? {
             return Ok(false);
         }
     }
     Ok(true)
 }
 
-/// The same of one case, whose line is placed while its tree is walked. The terms that this may change are taken off the tally,
-/// and put on again once it is placed; and so where it is taken back.
+/// The same of one case, whose line is placed while its tree is walked. The terms that this may change are picked once;
+/// they are taken off the tally, and put on again once the line is placed; and so where it is taken back.
 #[cycle(walk)]
 fn walk_case(
+    alloc: Global,
     asked: &Asked,
     prefix: &mut Prefix,
     sums: Sums,
@@ -137,13 +154,15 @@ fn walk_case(
 {
     way.push(line)?;
     let placing = placing_of(asked.problem, prefix, seg, line);
-    let beside = take_off(asked, prefix, placing, sums, costs);
+    let changed = changed_terms(alloc, asked, prefix, placing)?;
+    let some = changed.as_slice();
+    let beside = take_off(asked, prefix, some, sums, costs);
     prefix.place(asked.problem, seg, line);
-    let after = put_on(asked, prefix, placing, beside, costs);
-    let outcome = walk(asked, prefix, after, costs, way, tree);
-    let left = take_off(asked, prefix, placing, after, costs);
+    let after = put_on(asked, prefix, some, beside, costs);
+    let outcome = walk(alloc, asked, prefix, after, costs, way, tree);
+    let left = take_off(asked, prefix, some, after, costs);
     prefix.take_back(asked.problem, seg);
-    let _same = put_on(asked, prefix, placing, left, costs);
+    let _same = put_on(asked, prefix, some, left, costs);
     if !outcome? {
         return Ok(false);
     }

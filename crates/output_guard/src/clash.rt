@@ -1,11 +1,13 @@
-//! Which output of a command is a file that it reads, or its other output.
+//! Which output of a command is a file that it reads, or another of its outputs.
 
 ghost use Rattle.std.specs.Prelude.{◌≡◌, [], ◌∷◌, IfOk, IfSome, OnOk, option_map};
 ghost use Rattle.std.specs.List.{find};
+ghost use Rattle.command_paths.specs.Paths.{new_paths_by};
 ghost use Rattle.command_words.specs.Asked.{asked_by};
-ghost use Rattle.output_guard.specs.Guarded.{clash_with, first_clash, has_feed, has_certificate, has_picture, has_script, is_read, outputs_of, paths_read, with_read, with_tables};
+ghost use Rattle.output_guard.specs.Guarded.{clash_with, files_of, first_clash, has_feed, has_certificate, has_picture, has_script, is_read, outputs_of, page_file, paths_read, with_read, with_tables, has_graph};
 
 use crate::outputs::{Outputs, outputs_of};
+use command_paths::NewFiles;
 use command_words::Command;
 use disk_door::Leads;
 use map_base::{NoMemory, Text};
@@ -39,30 +41,49 @@ pub fn clash_of<D: Leads>(
             let read = input_paths(alloc, command)?;
             clash_among(alloc, disk, output, &read)
         }
-        Outputs::Pair(picture, certificate) => {
+        Outputs::Map(files) => {
             let read = input_paths(alloc, command)?;
-            clash_of_two(alloc, disk, picture, certificate, read)
+            clash_of_map(alloc, disk, files, read)
         }
     }
 }
 
-/// The first of two outputs that is one file with some paths that are read, or the second where it is one with the first.
-fn clash_of_two<D: Leads>(
+/// The first of the files of a map that is one file with some paths that are read, or with a file of the map before it.
+fn clash_of_map<D: Leads>(
     alloc: Global,
     disk: &D,
-    first: &str,
-    second: &str,
+    files: NewFiles<'_>,
     read: Vec<Text>,
 ) -> Result<Option<Clash>, NoMemory>
     ensures { IfOk result (λ found. IfSome (D.same disk.now) (λ same.
-        found ≡ first_clash same (first.now ∷ second.now ∷ []) read.items)) }
+        found ≡ first_clash same (files_of (new_paths_by files.entry)) read.items)) }
 {
-    if let Some(clash) = clash_among(alloc, disk, first, &read)? {
+    let mut others = read;
+    if let Some(clash) = clash_among(alloc, disk, files.map.picture, &others)? {
         return Ok(Some(clash));
     }
-    let mut others = read;
-    others.push(Text::of(alloc, first)?)?;
-    clash_among(alloc, disk, second, &others)
+    others.push(Text::of(alloc, files.map.picture)?)?;
+    if let Some(clash) = clash_among(alloc, disk, files.map.certificate, &others)? {
+        return Ok(Some(clash));
+    }
+    others.push(Text::of(alloc, files.map.certificate)?)?;
+    clash_of_page(alloc, disk, files.page, &others)
+}
+
+/// A page, if there is one, and the first of some paths that is one file with it, if any.
+fn clash_of_page<D: Leads>(
+    alloc: Global,
+    disk: &D,
+    page: Option<&str>,
+    others: &[Text],
+) -> Result<Option<Clash>, NoMemory>
+    ensures { IfOk result (λ found. IfSome (D.same disk.now) (λ same.
+        found ≡ first_clash same (page_file (option_map (λ path. path.now) page.entry)) others.now)) }
+{
+    match page {
+        None => Ok(None),
+        Some(path) => clash_among(alloc, disk, path, others),
+    }
 }
 
 /// An output, and the first of some paths that is one file with it, if any.
@@ -108,6 +129,7 @@ fn input_paths(alloc: Global, command: &Command<'_>) -> Result<Vec<Text>, NoMemo
     push_read(alloc, command, Input::Settings, &mut paths)?;
     push_read(alloc, command, Input::Edits, &mut paths)?;
     push_tables(alloc, command, &mut paths)?;
+    push_read(alloc, command, Input::Graph, &mut paths)?;
     push_read(alloc, command, Input::Script, &mut paths)?;
     push_read(alloc, command, Input::Certificate, &mut paths)?;
     push_read(alloc, command, Input::Picture, &mut paths)?;
@@ -149,6 +171,7 @@ fn is_read(command: &Command<'_>, input: Input) -> bool
         Input::Settings => inputs_of(command).options.settings.is_some(),
         Input::Edits => inputs_of(command).options.edits.is_some(),
         Input::Table(_) => has_feed(command),
+        Input::Graph => has_graph(command),
         Input::Script => has_script(command),
         Input::Certificate => has_certificate(command),
         Input::Picture => has_picture(command),
@@ -160,9 +183,20 @@ fn has_feed(command: &Command<'_>) -> bool
     ensures { result ≡ has_feed (asked_by command.now) }
 {
     match command {
+        Command::Import { .. } => false,
         Command::Trial { .. } => false,
         Command::Page { .. } => false,
         _ => true,
+    }
+}
+
+/// Whether a command reads a graph file.
+fn has_graph(command: &Command<'_>) -> bool
+    ensures { result ≡ has_graph (asked_by command.now) }
+{
+    match command {
+        Command::Import { .. } => true,
+        _ => false,
     }
 }
 

@@ -8,8 +8,8 @@ use Rattle.graph_core.specs.declared.parts.GraphParts.{GraphParts}
 use Rattle.line_graph.specs.Outcome.{graph_outcome}
 use Rattle.files_door.specs.declared.target.Target.TheVariants.{Path}
 use Rattle.files_door.specs.Files.{file_at}
-use Rattle.map_engine.specs.declared.fault.CheckFault.{CheckFault}
-use Rattle.map_engine.specs.Readings.{certificate_in}
+use Rattle.map_faults.specs.declared.fault.CheckFault.{CheckFault}
+use Rattle.graph_maps.specs.Readings.{certificate_in}
 use Rattle.map_engine.specs.Labelling.{labelled_by, pictured_items, IsLabelledMap}
 use Rattle.map_engine.specs.Geographic.{geographic_by, lines_by, IsGeographicMap}
 use Rattle.cert_file.specs.Plain.{PlainCertificate}

@@ -6,9 +6,9 @@ ghost use Rattle.line_graph.specs.Outcome.{graph_outcome};
 ghost use Rattle.run_status.specs.Following.{Follows, Gives};
 ghost use Rattle.command_inputs.specs.Inputs.{input_at, inputs_by};
 ghost use Rattle.picture_command.specs.PictureWorks.{built, certificate_work, picture_at, picture_outputs, picture_by, picture_work, AreOfPicture, HasLines, IsPicture, IsPictureAt};
-ghost use Rattle.map_engine.specs.Checking.{Gives as EngineGives};
+ghost use Rattle.graph_maps.specs.Checking.{Gives as EngineGives};
 ghost use Rattle.map_engine.specs.Labelling.{pictured_items};
-ghost use Rattle.map_engine.specs.Readings.{certificate_in};
+ghost use Rattle.graph_maps.specs.Readings.{certificate_in};
 
 use command_inputs::{Inputs, Loaded, load, read_file};
 use command_paths::Picture;

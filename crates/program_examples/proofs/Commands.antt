@@ -7,15 +7,16 @@ use Rattle.table_rows.specs.declared.why.Table.TheVariants.{Routes, Trips, StopT
 use Rattle.table_rows.specs.declared.why.Why.TheVariants.{MissingFile}
 use Rattle.command_run.specs.Work.{outcome, Runs}
 use Rattle.map_settings.specs.declared.fault.SettingsWhy.TheVariants as why
-use Rattle.map_engine.specs.declared.fault.MakeFault.TheVariants as fault
-use Rattle.map_engine.specs.declared.fault.CheckItem.TheVariants as found
+use Rattle.map_faults.specs.declared.fault.MakeFault.TheVariants as fault
+use Rattle.map_faults.specs.declared.fault.CheckItem.TheVariants as found
 use Rattle.order_check.specs.declared.refusal.ProofItem.TheVariants as proof
 use Rattle.run_status.specs.declared.input.Input.TheVariants as input
 use Rattle.run_status.specs.declared.item.Item.TheVariants as item
 use Rattle.run_status.specs.declared.refusal.Refusal.TheVariants as refused
 use Rattle.run_status.specs.declared.status.Status.TheVariants as status
 use Rattle.command_words.specs.Asked.{graph, make, check, page}
-use Rattle.command_paths.specs.Paths.{Chosen, MapPaths}
+use Rattle.map_page.specs.Pages.{page_bytes}
+use Rattle.command_paths.specs.Paths.{Chosen, MapPaths, NewPaths}
 use Rattle.page_command.specs.PageWorks.{page_work}
 use Rattle.map_run.specs.Inputs.{input_path}
 use Rattle.map_run.specs.Answers.{alone, answer_by, whole_by}
@@ -26,10 +27,10 @@ use Rattle.run_status.specs.Items.{item_text}
 use Rattle.run_status.specs.Lines.{status_line, status_number}
 
 abbrev standard : Chosen
-standard = record { defaults = Make; settings = None; edits = None }
+standard = record { defaults = Make; settings = None; edits = None; sets = [] }
 
 abbrev by_mine : Chosen
-by_mine = record { defaults = Make; settings = Some (codes "my.toml"); edits = None }
+by_mine = record { defaults = Make; settings = Some (codes "my.toml"); edits = None; sets = [] }
 
 -- where a table lies
 table_path : input_path (graph (codes "feed") standard) (input.Table StopTimes) ≡ codes "feed/stop_times.txt"
@@ -58,6 +59,10 @@ routes_unread = refl
 places : MapPaths
 places = record { picture = codes "map.svg"; certificate = codes "map.cert" }
 
+-- the same of a map that is made, without a page
+new_places : NewPaths
+new_places = record { map = places; page = None }
+
 -- what is checked lies at the two paths, and what is made is no input
 certificate_path : input_path (check (codes "feed") places standard) input.Certificate ≡ codes "map.cert"
 unfolding places
@@ -68,13 +73,19 @@ unfolding places
 picture_path = refl
 
 -- the map goes before its certificate, each to its file
-both_files : made_at places (Ok (record { svg = codes "s"; certificate = codes "c" })) ≡ Ok (record { to = Path (codes "map.svg"); bytes = codes "s" } ∷ record { to = Path (codes "map.cert"); bytes = codes "c" } ∷ [])
-unfolding places
+both_files : made_at new_places (Ok (record { svg = codes "s"; certificate = codes "c" })) ≡ Ok (record { to = Path (codes "map.svg"); bytes = codes "s" } ∷ record { to = Path (codes "map.cert"); bytes = codes "c" } ∷ [])
+unfolding places new_places
 both_files = refl
 
--- a part over the budget is named, with its branch nodes
-spent_line : answer_by (input_path (make (codes "feed") places standard)) (whole_by (made_at places (Err (fault.Spent 0 2)))) ≡ alone (status.Spent 0 2)
+-- and then its page, where one is named
+page_too : made_at (record { map = places; page = Some (codes "map.html") }) (Ok (record { svg = codes "s"; certificate = codes "c" }))
+    ≡ Ok (record { to = Path (codes "map.svg"); bytes = codes "s" } ∷ record { to = Path (codes "map.cert"); bytes = codes "c" } ∷ record { to = Path (codes "map.html"); bytes = page_bytes (codes "s") } ∷ [])
 unfolding places
+page_too = refl
+
+-- a part over the budget is named, with its branch nodes
+spent_line : answer_by (input_path (make (codes "feed") new_places standard)) (whole_by (made_at new_places (Err (fault.Spent 0 2)))) ≡ alone (status.Spent 0 2)
+unfolding places new_places
 spent_line = refl
 
 spent_text : status_line (status.Spent 0 2) ≡ Some (codes "spent: 0 2\n")
@@ -152,7 +163,7 @@ bad_settings_number : status_number (status.BadSettings why.NotToml) ≡ 10
 bad_settings_number = refl
 
 -- a file of edits lies at its path, and a bad line is named
-edits_path : input_path (graph (codes "feed") (record { defaults = Make; settings = None; edits = Some (codes "my.edits") })) input.Edits ≡ codes "my.edits"
+edits_path : input_path (graph (codes "feed") (record { defaults = Make; settings = None; edits = Some (codes "my.edits"); sets = [] })) input.Edits ≡ codes "my.edits"
 edits_path = refl
 
 bad_edit_text : status_line (status.BadEdit 2) ≡ Some (codes "bad edit: 2\n")

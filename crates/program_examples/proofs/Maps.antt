@@ -10,9 +10,9 @@ use Rattle.order_proof.specs.Reading as proofs
 use Rattle.order_values.specs.DualTrees.{fork, stop}
 use Rattle.order_proof.specs.Plain.{split, close, no_case, case_of, by_cases, by_pairs}
 use Rattle.cert_file.specs.Forms.{spoken_front}
-use Rattle.map_engine.specs.FrontReadings.{tree_at, dual_at, part_at, proof_at}
-use Rattle.map_engine.specs.Readings.{certificate_at, certificate_in}
-use Rattle.map_engine.specs.Checking.{are_same_pairs, is_order, first_disorder, first_difference}
+use Rattle.graph_maps.specs.FrontReadings.{tree_at, dual_at, part_at, proof_at}
+use Rattle.graph_maps.specs.Readings.{certificate_at, certificate_in}
+use Rattle.graph_maps.specs.Checking.{are_same_pairs, is_order, first_disorder, first_difference}
 
 abbrev line : ℕ → LineId
 line n = record { 0 = n }

@@ -8,7 +8,7 @@ use Rattle.map_base.specs.declared.limit.LimitKind.TheVariants.{Cells}
 use Rattle.map_base.specs.Settings.{standard_choices}
 use Rattle.map_method.specs.declared.defaults.Defaults.TheVariants.{Make}
 use Rattle.map_method.specs.Defaults.{method_of}
-use Rattle.map_engine.specs.declared.fault.MakeFault.TheVariants as fault
+use Rattle.map_faults.specs.declared.fault.MakeFault.TheVariants as fault
 use Rattle.run_status.specs.declared.refusal.Refusal.TheVariants as refused
 use Rattle.command_inputs.specs.declared.loaded.Loaded.{Loaded}
 use Rattle.session_command.specs.DrawTexts.{draw_text, draws_text}

@@ -152,7 +152,10 @@ fn words_that_are_not_read_get_a_text(rt: HostRuntime) -> Result<(), Fail> {
             "make feed map.svg",
             "error: the following required arguments were not provided:\n  <CERT>\n\nUsage: octimap make ",
         ),
-        ("make feed map map", "error: SVG and CERT are one file"),
+        (
+            "make feed map map",
+            "error: two of SVG, CERT and HTML are one file",
+        ),
         ("page map map", "error: SVG and HTML are one file"),
         ("trial x", "error: invalid value 'x' for '<N>'"),
         ("help trial", "Make the map of a built-in random feed"),
@@ -167,6 +170,41 @@ fn words_that_are_not_read_get_a_text(rt: HostRuntime) -> Result<(), Fail> {
         assert_eq!(rt; run_on(alloc, &words, &mut files, &mut sinks), 2);
         let held = sinks.written(&Target::Said).unwrap_or(b"");
         assert!(rt; held.starts_with(beginning.as_bytes()), "{line}");
+    }
+    Ok(())
+}
+
+#[test]
+fn what_is_set_comes_behind_the_file(rt: HostRuntime) -> Result<(), Fail> {
+    let alloc = rt.alloc();
+    for (line, status, said) in [
+        (
+            "graph --set near=19 feed --settings feed/stops.txt",
+            10,
+            "bad settings: near\n",
+        ),
+        (
+            "graph feed --settings feed/stops.txt --set near=auto",
+            10,
+            "bad settings: not toml\n",
+        ),
+        (
+            "graph --set near=19 --set near=20 feed",
+            10,
+            "bad settings: near\n",
+        ),
+        (
+            "graph --set near=20 --set=cell=0 feed --settings feed/stops.txt",
+            3,
+            "bad row: routes.txt 0 missing file\n",
+        ),
+    ] {
+        let words = words_of(alloc, line)?;
+        let mut files = SteadyFiles::with(feed_with(alloc, Some("near = 500"))?);
+        let mut sinks = SteadySinks::none(alloc);
+        assert_eq!(rt; run_on(alloc, &words, &mut files, &mut sinks), status);
+        let held = sinks.written(&Target::Said).unwrap_or(b"");
+        assert_eq!(rt; held, said.as_bytes());
     }
     Ok(())
 }

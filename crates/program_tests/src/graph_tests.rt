@@ -40,6 +40,14 @@ round 0 0 1
 round 1 0 1
 ";
 
+const TWO_LINES_AS_A_FILE: &str = concat!(
+    r#"{"features":[{"geometry":{"coordinates":[0,0],"type":"Point"},"properties":{"joins":[],"name":"X","round":[0]},"type":"Feature"},"#,
+    r#"{"geometry":{"coordinates":[5000,0],"type":"Point"},"properties":{"joins":[],"name":"Y","round":[0]},"type":"Feature"},"#,
+    r#"{"geometry":{"coordinates":[[0,0],[5000,0]],"type":"LineString"},"properties":{"ends":[0,1],"lines":[0,1]},"type":"Feature"}],"#,
+    r#""lines":[{"colour":"e6194b","importance":1,"name":"A"},{"colour":"3cb44b","importance":1,"name":"B"}],"type":"FeatureCollection"}"#,
+    "\n"
+);
+
 /// One more file of the folder `feed`.
 pub(crate) fn put_file(
     alloc: Global,
@@ -77,6 +85,19 @@ fn a_graph_is_printed(rt: HostRuntime) -> Result<(), Fail> {
     assert_eq!(rt; run_on(alloc, &words, &mut files, &mut sinks), 0);
     let held = sinks.written(&Target::Said).unwrap_or(b"");
     assert_eq!(rt; held, TWO_LINES_AS_ONE.as_bytes());
+    Ok(())
+}
+
+#[test]
+fn a_graph_is_written_to_a_file(rt: HostRuntime) -> Result<(), Fail> {
+    let alloc = rt.alloc();
+    let words = words_of(alloc, "export feed graph.json")?;
+    let mut files = SteadyFiles::with(feed_of(alloc, ROUTES, TRIPS, STOP_TIMES)?);
+    let mut sinks = SteadySinks::none(alloc);
+    assert_eq!(rt; run_on(alloc, &words, &mut files, &mut sinks), 0);
+    let to = Target::Path(Text::of(alloc, "graph.json")?);
+    let held = sinks.written(&to).unwrap_or(b"");
+    assert_eq!(rt; held, TWO_LINES_AS_A_FILE.as_bytes());
     Ok(())
 }
 

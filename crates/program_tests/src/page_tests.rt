@@ -2,6 +2,7 @@
 
 use crate::command_tests::{run_on, words_of};
 use crate::graph_tests::put_file;
+use crate::map_tests::{SMALLEST_MAP, at, smallest_feed};
 use files_door::{SteadyFiles, SteadySinks, Target};
 use map_base::{NoMemory, Text};
 use map_page::page_of;
@@ -30,6 +31,21 @@ fn a_page_has_the_map_in_it(rt: HostRuntime) -> Result<(), Fail> {
         .count();
     assert_eq!(rt; map, 1);
     assert!(rt; page.ends_with(b"<!-- the picture ends here -->\n".as_slice()));
+    Ok(())
+}
+
+#[test]
+fn a_map_is_made_with_its_page(rt: HostRuntime) -> Result<(), Fail> {
+    let alloc = rt.alloc();
+    let words = words_of(alloc, "make feed map.svg map.cert --page map.html")?;
+    let mut files = SteadyFiles::with(smallest_feed(alloc)?);
+    let mut sinks = SteadySinks::none(alloc);
+    assert_eq!(rt; run_on(alloc, &words, &mut files, &mut sinks), 0);
+    let map = sinks.written(&at(alloc, "map.svg")?).unwrap_or(b"");
+    assert_eq!(rt; map, SMALLEST_MAP.as_bytes());
+    let due = page_of(alloc, SMALLEST_MAP.as_bytes())?;
+    let page = sinks.written(&page(alloc)?).unwrap_or(b"");
+    assert_eq!(rt; page, due.as_slice());
     Ok(())
 }
 

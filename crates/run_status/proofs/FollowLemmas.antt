@@ -41,6 +41,7 @@ refusal_follows told paths rose first_view view work next (refused.Spent compone
 refusal_follows told paths rose first_view view work next (refused.Refuted item) first = (tt, refused_run refused.ReadFault told paths work next (refused.Refuted item) first.1)
 refusal_follows told paths rose first_view view work next (refused.Missing input) first = (tt, refused_run refused.ReadFault told paths work next (refused.Missing input) first.1)
 refusal_follows told paths rose first_view view work next (refused.BadSettings bad) first = (tt, refused_run refused.ReadFault told paths work next (refused.BadSettings bad) first.1)
+refusal_follows told paths rose first_view view work next (refused.BadGraph bad) first = (tt, refused_run refused.ReadFault told paths work next (refused.BadGraph bad) first.1)
 refusal_follows told paths rose first_view view work next (refused.BadEdit line) first = (tt, refused_run refused.ReadFault told paths work next (refused.BadEdit line) first.1)
 
 pub follows_refused : {A B C D : Type 0} (told : Told) (paths : Input → List ℕ) (rose : Type 0) (first_view : A → B) (view : C → D) (work : Work Input Refusal B) (next : B → Work Input Refusal D) (why : Refusal) (result : Result C Refusal)
@@ -70,6 +71,8 @@ follows_then told paths first_rose later rose first_view view work next value (E
     (tt, then_run refused.ReadFault told paths work next (first_view value) (Err (refused.Missing input)) first.1 second.1)
 follows_then told paths first_rose later rose first_view view work next value (Err (refused.BadSettings bad)) widen first second =
     (tt, then_run refused.ReadFault told paths work next (first_view value) (Err (refused.BadSettings bad)) first.1 second.1)
+follows_then told paths first_rose later rose first_view view work next value (Err (refused.BadGraph bad)) widen first second =
+    (tt, then_run refused.ReadFault told paths work next (first_view value) (Err (refused.BadGraph bad)) first.1 second.1)
 follows_then told paths first_rose later rose first_view view work next value (Err (refused.BadEdit line)) widen first second =
     (tt, then_run refused.ReadFault told paths work next (first_view value) (Err (refused.BadEdit line)) first.1 second.1)
 
@@ -94,6 +97,8 @@ gives_follows {A} {B} told paths rose view defined (Err (refused.Missing input))
     (tt, subst (λ (d : Result B Refusal). IsRun refused.ReadFault told paths (ends d) (Err (refused.Missing input))) (sym gives) (ends_run refused.ReadFault told paths (Err (refused.Missing input))))
 gives_follows {A} {B} told paths rose view defined (Err (refused.BadSettings bad)) gives =
     (tt, subst (λ (d : Result B Refusal). IsRun refused.ReadFault told paths (ends d) (Err (refused.BadSettings bad))) (sym gives) (ends_run refused.ReadFault told paths (Err (refused.BadSettings bad))))
+gives_follows {A} {B} told paths rose view defined (Err (refused.BadGraph bad)) gives =
+    (tt, subst (λ (d : Result B Refusal). IsRun refused.ReadFault told paths (ends d) (Err (refused.BadGraph bad))) (sym gives) (ends_run refused.ReadFault told paths (Err (refused.BadGraph bad))))
 gives_follows {A} {B} told paths rose view defined (Err (refused.BadEdit line)) gives =
     (tt, subst (λ (d : Result B Refusal). IsRun refused.ReadFault told paths (ends d) (Err (refused.BadEdit line))) (sym gives) (ends_run refused.ReadFault told paths (Err (refused.BadEdit line))))
 
@@ -109,6 +114,7 @@ comes_to told paths rose view work (refused.Spent component branches) free follo
 comes_to told paths rose view work (refused.Refuted item) free follows = follows
 comes_to told paths rose view work (refused.Missing input) free follows = follows
 comes_to told paths rose view work (refused.BadSettings bad) free follows = follows
+comes_to told paths rose view work (refused.BadGraph bad) free follows = follows
 comes_to told paths rose view work (refused.BadEdit line) free follows = follows
 
 -- a refusal of one piece of work
@@ -142,4 +148,5 @@ told_gives {A} {B} files paths rose view work result steady follows = by_result 
     by_result (Err (refused.Refuted item)) follows = defined (Err (refused.Refuted item)) (λ input same. cc) follows.1
     by_result (Err (refused.Missing one)) follows = defined (Err (refused.Missing one)) (λ input same. cc) follows.1
     by_result (Err (refused.BadSettings bad)) follows = defined (Err (refused.BadSettings bad)) (λ input same. cc) follows.1
+    by_result (Err (refused.BadGraph bad)) follows = defined (Err (refused.BadGraph bad)) (λ input same. cc) follows.1
     by_result (Err (refused.BadEdit line)) follows = defined (Err (refused.BadEdit line)) (λ input same. cc) follows.1

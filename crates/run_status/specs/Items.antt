@@ -5,8 +5,8 @@ use Rattle.std.specs.Fmt.{decimal}
 use Rattle.map_base.specs.declared.ids.LineId.{LineId}
 use Rattle.order_check.specs.declared.refusal.ProofItem.{ProofItem}
 use Rattle.order_check.specs.declared.refusal.ProofItem.TheVariants as proof
-use Rattle.map_engine.specs.declared.fault.CheckItem.{CheckItem}
-use Rattle.map_engine.specs.declared.fault.CheckItem.TheVariants as check
+use Rattle.map_faults.specs.declared.fault.CheckItem.{CheckItem}
+use Rattle.map_faults.specs.declared.fault.CheckItem.TheVariants as check
 use Rattle.run_status.specs.declared.item.Item.{Item}
 use Rattle.run_status.specs.declared.item.Item.TheVariants as item
 

@@ -8,6 +8,8 @@ use Rattle.table_rows.specs.declared.why.Why.TheVariants.{MissingFile, MissingCo
 use Rattle.map_settings.specs.declared.fault.SettingsWhy.{SettingsWhy}
 use Rattle.map_settings.specs.declared.fault.SettingsWhy.TheVariants as settings
 use Rattle.command_run.specs.Delivered.{no_memory_line}
+use Rattle.run_status.specs.declared.graph_why.GraphWhy.{GraphWhy}
+use Rattle.run_status.specs.declared.graph_why.GraphWhy.TheVariants as graph
 use Rattle.run_status.specs.declared.status.Status.{Status}
 use Rattle.run_status.specs.declared.status.Status.TheVariants as status
 use Rattle.run_status.specs.Items.{item_text}
@@ -37,6 +39,14 @@ settings_text settings.Missing = codes "missing"
 settings_text settings.NotToml = codes "not toml"
 settings_text (settings.Key key) = key
 
+-- why a graph file gives no graph
+abbrev pub graph_why_text : GraphWhy → List ℕ
+graph_why_text graph.Missing = codes "missing"
+graph_why_text graph.Json = codes "json"
+graph_why_text graph.Whole = codes "whole"
+graph_why_text (graph.Line index) = codes "line " ++ decimal index
+graph_why_text (graph.Feature index) = codes "feature " ++ decimal index
+
 -- the number that the process ends with
 abbrev pub status_number : Status → ℕ
 status_number status.Done = 0
@@ -51,6 +61,7 @@ status_number status.WriteFault = 8
 status_number status.NoMemory = 9
 status_number (status.BadSettings why) = 10
 status_number (status.BadEdit line) = 11
+status_number (status.BadGraph why) = 12
 status_number (status.Missing path) = 13
 
 -- the line that a status prints on standard output, empty for those that print none; the text for words that
@@ -69,3 +80,4 @@ status_line status.WriteFault = Some []
 status_line status.NoMemory = Some no_memory_line
 status_line (status.BadSettings why) = Some (codes "bad settings: " ++ (settings_text why ++ codes "\n"))
 status_line (status.BadEdit line) = Some (codes "bad edit: " ++ (decimal line ++ codes "\n"))
+status_line (status.BadGraph why) = Some (codes "bad graph: " ++ (graph_why_text why ++ codes "\n"))

@@ -9,12 +9,16 @@ use Rattle.map_settings.specs.declared.fault.SettingsFault.{SettingsFault}
 use Rattle.map_settings.specs.declared.fault.SettingsFault.TheVariants as settings
 use Rattle.map_edits.specs.declared.fault.EditsFault.{EditsFault}
 use Rattle.map_edits.specs.declared.fault.EditsFault.TheVariants as edits
+use Rattle.graph_json.specs.declared.fault.JsonFault.{JsonFault}
+use Rattle.graph_json.specs.declared.fault.JsonFault.TheVariants as json
+use Rattle.graph_json.specs.declared.imported.Imported.{Imported}
+use Rattle.run_status.specs.declared.graph_why.GraphWhy.TheVariants as why
 use Rattle.map_base.specs.declared.limit_fault.LimitFault.{LimitFault}
 use Rattle.map_base.specs.declared.limit_fault.LimitFault.TheVariants as limit
-use Rattle.map_engine.specs.declared.fault.MakeFault.{MakeFault}
-use Rattle.map_engine.specs.declared.fault.MakeFault.TheVariants as make
-use Rattle.map_engine.specs.declared.fault.CheckFault.{CheckFault}
-use Rattle.map_engine.specs.declared.fault.CheckFault.TheVariants as check
+use Rattle.map_faults.specs.declared.fault.MakeFault.{MakeFault}
+use Rattle.map_faults.specs.declared.fault.MakeFault.TheVariants as make
+use Rattle.map_faults.specs.declared.fault.CheckFault.{CheckFault}
+use Rattle.map_faults.specs.declared.fault.CheckFault.TheVariants as check
 use Rattle.run_status.specs.declared.input.Input.{Input}
 use Rattle.run_status.specs.declared.input.Input.TheVariants as input
 use Rattle.run_status.specs.declared.item.Item.TheVariants as item
@@ -37,6 +41,20 @@ of_settings settings.NoMemory = refused.NoMemory
 abbrev pub of_edits : EditsFault → Refusal
 of_edits (edits.BadEdit line) = refused.BadEdit line
 of_edits edits.NoMemory = refused.NoMemory
+
+-- a graph file that is refused
+abbrev pub of_graph : JsonFault → Refusal
+of_graph json.Json = refused.BadGraph why.Json
+of_graph json.Whole = refused.BadGraph why.Whole
+of_graph (json.Line index) = refused.BadGraph (why.Line index)
+of_graph (json.Feature index) = refused.BadGraph (why.Feature index)
+of_graph (json.Limit limit) = refused.Limit limit
+of_graph json.NoMemory = refused.NoMemory
+
+-- the graph that was read, or why there is none
+abbrev pub graph_given : Result Imported JsonFault → Result Imported Refusal
+graph_given (Ok read) = Ok read
+graph_given (Err fault) = Err (of_graph fault)
 
 -- a line graph that is refused
 abbrev pub of_limit : LimitFault → Refusal

@@ -15,6 +15,7 @@ status_of paths (refused.Limit limit) = status.Limit limit
 status_of paths (refused.Refuted item) = status.Refuted item
 status_of paths (refused.BadSettings why) = status.BadSettings why
 status_of paths (refused.BadEdit line) = status.BadEdit line
+status_of paths (refused.BadGraph why) = status.BadGraph why
 status_of paths (refused.Missing input) = status.Missing (paths input)
 status_of paths (refused.ReadFault input) = status.ReadFault (paths input)
 status_of paths refused.NoMemory = status.NoMemory

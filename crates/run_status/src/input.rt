@@ -11,6 +11,8 @@ pub enum Input {
     Edits,
     /// A table of the feed.
     Table(Table),
+    /// The graph file of an import.
+    Graph,
     /// The script of a session.
     Script,
     /// The certificate that is checked.

@@ -4,7 +4,7 @@ ghost use Rattle.std.specs.Prelude.{◌≡◌, ◌++◌, IfOk, OnOk, string_byte
 ghost use Rattle.run_status.specs.Items.{check_text, item_text, next_line, part_text, proof_text};
 
 use map_base::{LineId, NoMemory};
-use map_engine::CheckItem;
+use map_faults::CheckItem;
 use order_check::ProofItem;
 use std::alloc::Global;
 use std::fmt::Write;

@@ -2,6 +2,7 @@
 //! standard output. `specs/Following.antt` says what it means that a call does a piece of work.
 #![tactic(auto)]
 
+mod graph_why;
 mod input;
 mod item;
 mod line;
@@ -9,6 +10,7 @@ mod outputs;
 mod refusal;
 mod status;
 
+pub use graph_why::GraphWhy;
 pub use input::Input;
 pub use item::Item;
 pub use line::{file_name, line_of};

@@ -4,6 +4,7 @@ ghost use Rattle.std.specs.Prelude.{◌≡◌, IfOk, IfSome, string_bytes};
 ghost use Rattle.table_rows.specs.Folder.{file_name};
 ghost use Rattle.run_status.specs.Lines.{reason_text, settings_text, status_line};
 
+use crate::graph_why::graph_why_text;
 use crate::status::Status;
 use map_base::NoMemory;
 use map_settings::SettingsWhy;
@@ -53,6 +54,10 @@ pub fn line_of(alloc: Global, status: &Status) -> Result<String, NoMemory>
         Status::BadSettings(why) => {
             let why = settings_text(why);
             Ok(format!(in alloc; "bad settings: {why}\n")?)
+        }
+        Status::BadGraph(why) => {
+            let why = graph_why_text(alloc, *why)?;
+            Ok(format!(in alloc; "bad graph: {why}\n")?)
         }
         Status::BadEdit { line } => Ok(format!(in alloc; "bad edit: {line}\n")?),
     }

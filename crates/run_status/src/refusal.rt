@@ -2,13 +2,15 @@
 
 ghost use Rattle.std.specs.Prelude.{◌≡◌};
 ghost use Rattle.run_status.specs.declared.refusal.Refusal.TheVariants as refused;
-ghost use Rattle.run_status.specs.Refusals.{of_check, of_edits, of_feed, of_limit, of_make, of_settings};
+ghost use Rattle.run_status.specs.Refusals.{of_check, of_edits, of_feed, of_graph, of_limit, of_make, of_settings};
 
+use crate::graph_why::GraphWhy;
 use crate::input::Input;
 use crate::item::Item;
+use graph_json::JsonFault;
 use map_base::{Limit, LimitFault, NoMemory, SegId};
 use map_edits::EditsFault;
-use map_engine::{CheckFault, MakeFault};
+use map_faults::{CheckFault, MakeFault};
 use map_settings::{SettingsFault, SettingsWhy};
 use table_rows::{FeedFault, Table, Why};
 
@@ -32,6 +34,8 @@ pub enum Refusal {
     /// This line of the file of edits, counted from 1, is no edit, names no line or station, or undoes with nothing
     /// left; 0 where there is no such file.
     BadEdit { line: u64 },
+    /// The graph file gives no graph, for this reason.
+    BadGraph(GraphWhy),
     /// This input, which is needed, is not there.
     Missing { input: Input },
     /// This input could not be read.
@@ -81,6 +85,21 @@ impl From<EditsFault> for Refusal {
         match fault {
             EditsFault::BadEdit { line } => Refusal::BadEdit { line },
             EditsFault::NoMemory => Refusal::NoMemory,
+        }
+    }
+}
+
+impl From<JsonFault> for Refusal {
+    ghost from_gives = { λ fault refusal. refusal ≡ of_graph fault };
+
+    fn from(fault: JsonFault) -> Refusal {
+        match fault {
+            JsonFault::Json => Refusal::BadGraph(GraphWhy::Json),
+            JsonFault::Whole => Refusal::BadGraph(GraphWhy::Whole),
+            JsonFault::Line { index } => Refusal::BadGraph(GraphWhy::Line { index }),
+            JsonFault::Feature { index } => Refusal::BadGraph(GraphWhy::Feature { index }),
+            JsonFault::Limit(limit) => Refusal::Limit(limit),
+            JsonFault::NoMemory => Refusal::NoMemory,
         }
     }
 }

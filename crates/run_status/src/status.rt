@@ -2,6 +2,7 @@
 
 ghost use Rattle.std.specs.Prelude.{◌≡◌};
 
+use crate::graph_why::GraphWhy;
 use crate::item::Item;
 use map_base::{Limit, SegId, Text};
 use map_settings::SettingsWhy;
@@ -39,6 +40,8 @@ pub enum Status {
     /// This line of the file of edits, counted from 1, is no edit, names no line or station, or undoes with nothing
     /// left; 0 where there is no such file.
     BadEdit { line: u64 },
+    /// The graph file gives no graph, for this reason.
+    BadGraph(GraphWhy),
 }
 
 impl Status {
@@ -61,6 +64,7 @@ impl Status {
             Status::NoMemory => 9,
             Status::BadSettings(_) => 10,
             Status::BadEdit { .. } => 11,
+            Status::BadGraph(_) => 12,
             Status::Missing { .. } => 13,
         }
     }

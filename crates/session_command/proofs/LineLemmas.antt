@@ -22,8 +22,8 @@ use Rattle.map_edits.specs.declared.reading.ScriptLine.TheVariants as script
 use Rattle.map_edits.specs.Grammar.{script_line_in}
 use Rattle.map_edits.specs.Effects.{feed_after, choices_after}
 use Rattle.map_edits.specs.Standing.{named_in, is_due, after_edit}
-use Rattle.map_engine.specs.declared.fault.MakeFault.{MakeFault}
-use Rattle.map_engine.specs.Making.{MapBytes}
+use Rattle.map_faults.specs.declared.fault.MakeFault.{MakeFault}
+use Rattle.graph_maps.specs.Making.{MapBytes}
 use Rattle.map_engine.specs.Promises.{IsMade}
 use Rattle.edit_session.specs.Scripts.{Followed, ends_behind, followed_by, followed_from, followed_in, draw_with, draws_in, finished_with, branches_over, branches_to_follow}
 use Rattle.edit_session.specs.Sessions.{SessionState, begun, with_edit, with_held, drawn_feed, drawn_choices, draw_outcome, draw_parts, branches_to_draw}

@@ -1,8 +1,8 @@
 -- What draws append to the output of a session.
 use Rattle.std.specs.Prelude.{ℕ, ◌+◌, List, [], ◌∷◌, ◌++◌, length, codes, unwrap_or, Result, Ok, Err}
 use Rattle.std.specs.Fmt.{decimal}
-use Rattle.map_engine.specs.declared.fault.MakeFault.{MakeFault}
-use Rattle.map_engine.specs.Making.{MapBytes}
+use Rattle.map_faults.specs.declared.fault.MakeFault.{MakeFault}
+use Rattle.graph_maps.specs.Making.{MapBytes}
 use Rattle.run_status.specs.Lines.{status_line}
 use Rattle.run_status.specs.Refusals.{of_make}
 use Rattle.run_status.specs.Statuses.{status_of}

@@ -2,7 +2,7 @@
 
 ghost use Rattle.std.specs.Prelude.{◌≡◌, ◌≢◌, ◌≤◌, ◌+◌, [], IfOk, OnOk, Ok, Err, string_bytes};
 ghost use Rattle.edit_session.specs.Sessions.{draw_outcome, branches_to_draw};
-ghost use Rattle.map_engine.specs.Making.{bytes_of};
+ghost use Rattle.graph_maps.specs.Making.{bytes_of};
 ghost use Rattle.run_status.specs.Refusals.{of_make};
 ghost use Rattle.run_status.specs.Statuses.{status_of};
 ghost use Rattle.session_command.specs.DrawTexts.{draw_text, map_line, refusal_line};

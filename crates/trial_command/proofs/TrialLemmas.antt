@@ -3,7 +3,7 @@ use Rattle.std.proofs.Common.{◌≡◌, ◌<◌, ℕ, List, Some, Result, Ok, E
 use Rattle.files_door.specs.Fault.{Rose}
 use Rattle.cert_file.specs.Plain.{PlainCertificate}
 use Rattle.map_engine.specs.Making.{make_outcome}
-use Rattle.map_engine.specs.Readings.{certificate_in}
+use Rattle.graph_maps.specs.Readings.{certificate_in}
 use Rattle.command_run.specs.declared.output.Output.{Output}
 use Rattle.run_status.specs.declared.refusal.Refusal.{Refusal}
 use Rattle.run_status.specs.declared.refusal.Refusal.TheVariants as refused
@@ -50,6 +50,7 @@ unloaded trial (refused.Spent component branches) gives = ap (tried_on trial) gi
 unloaded trial (refused.Limit limit) gives = ap (tried_on trial) gives
 unloaded trial (refused.Refuted item) gives = ap (tried_on trial) gives
 unloaded trial (refused.BadSettings bad) gives = ap (tried_on trial) gives
+unloaded trial (refused.BadGraph bad) gives = ap (tried_on trial) gives
 unloaded trial (refused.BadEdit line) gives = ap (tried_on trial) gives
 unloaded trial (refused.Missing input) gives = ap (tried_on trial) gives
 

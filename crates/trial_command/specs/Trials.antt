@@ -4,10 +4,11 @@ use Rattle.map_method.specs.declared.defaults.Defaults.TheVariants.{Make}
 use Rattle.order_proof.specs.Plain.{PlainPartTree, by_cases, by_pairs, PlainPart}
 use Rattle.order_proof.specs.Trees.{splits_of}
 use Rattle.cert_file.specs.Plain.{PlainCertificate}
-use Rattle.map_engine.specs.declared.fault.MakeFault.{MakeFault}
-use Rattle.map_engine.specs.Making.{MapBytes, make_outcome}
+use Rattle.map_faults.specs.declared.fault.MakeFault.{MakeFault}
+use Rattle.graph_maps.specs.Making.{MapBytes}
+use Rattle.map_engine.specs.Making.{make_outcome}
 use Rattle.map_engine.specs.Keeping.{branches_left}
-use Rattle.map_engine.specs.Readings.{certificate_in}
+use Rattle.graph_maps.specs.Readings.{certificate_in}
 use Rattle.command_run.specs.declared.output.Output.{Output}
 use Rattle.command_run.specs.Work.{Work, ends, outcome}
 use Rattle.command_run.specs.Told.{file_of}
@@ -24,7 +25,7 @@ use Rattle.trial_feed.specs.Summary.{trial_line}
 
 -- the inputs of a trial: its folder, no file of settings and none of edits
 abbrev pub trial_inputs : InputPaths
-trial_inputs = record { feed = codes "trial"; chosen = record { defaults = Make; settings = None; edits = None }; files = record { picture = []; certificate = [] }; script = [] }
+trial_inputs = record { feed = codes "trial"; chosen = record { defaults = Make; settings = None; edits = None; sets = [] }; files = record { picture = []; certificate = [] }; script = [] }
 
 -- the settings and the tables of the folder of a trial: what each command loads, where these are the files
 unfoldable pub trial_loaded : ℕ → Result Loaded Refusal

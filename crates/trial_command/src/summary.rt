@@ -6,8 +6,8 @@ ghost use Rattle.trial_command.specs.Trials.{Tells, summary_of};
 
 use crate::splits::splits_of_parts;
 use cert_file::{Certificate, read_certificate};
+use graph_maps::each_certificate_is_read_from_its_text;
 use map_base::NoMemory;
-use map_engine::each_certificate_is_read_from_its_text;
 use std::alloc::Global;
 use trial_feed::Summary;
 

@@ -3,7 +3,7 @@
 ghost use Rattle.std.specs.Prelude.{◌≡◌, ◌≤◌, ◌+◌, Ok, [], IfOk};
 ghost use Rattle.map_engine.specs.Making.{make_outcome};
 ghost use Rattle.map_engine.specs.Keeping.{branches_left};
-ghost use Rattle.map_engine.specs.Readings.{certificate_in};
+ghost use Rattle.graph_maps.specs.Readings.{certificate_in};
 ghost use Rattle.run_status.specs.Following.{Gives};
 ghost use Rattle.command_inputs.specs.Inputs.{inputs_by};
 ghost use Rattle.trial_command.specs.Trials.{TakesTrialSteps, told_as, trial_inputs, trial_loaded, trial_outcome, tried};
@@ -44,6 +44,7 @@ fn trial_inputs() -> Inputs<'static>
             defaults: Defaults::Make,
             settings: None,
             edits: None,
+            words: &[],
         },
         files: MapFiles {
             picture: "",

@@ -14,5 +14,5 @@ returns-clause-follows g c =
     let paths = input_at (inputs_by c.args.inputs.now) in
     let rose = Rose (g.F.Files.faults c.args.files.now) (g.F.Files.faults c.read_file.new.files) in
     follows_value told paths rose (λ bytes. option_map (λ (v : Vec ℕ Global). v.items) bytes) (λ (s : MapSettings). s) (file_work input.Settings)
-    (λ file. settings_in c.args.inputs.now.options.defaults file) c.in_ok-bytes.bytes c.settings_in.result
+    (λ file. settings_in c.args.inputs.now.options.defaults (inputs_by c.args.inputs.now).chosen.sets file) c.in_ok-bytes.bytes c.settings_in.result
     c.in_ok-bytes.ensures.follows c.settings_in.ensures

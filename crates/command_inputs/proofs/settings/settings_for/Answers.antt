@@ -9,11 +9,11 @@ returns-in-Some-clause-follows g c =
     let inputs = inputs_by c.args.inputs.now in
     let chosen = ap (option_map (λ path. path.now)) c.in-Some.is in
     settings_some (g.F.Files.told c.args.files.now) (input_at inputs) (Rose (g.F.Files.faults c.args.files.now) (g.F.Files.faults c.settings_file.new.files))
-    inputs.chosen.defaults inputs.chosen.settings _ c.settings_file.result chosen c.settings_file.ensures.follows
+    inputs.chosen.defaults inputs.chosen.sets inputs.chosen.settings _ c.settings_file.result chosen c.settings_file.ensures.follows
 
 pub returns-in-None-clause-follows : goal.returns-in-None-clause-follows
 returns-in-None-clause-follows g c =
     let inputs = inputs_by c.args.inputs.now in
     let chosen = ap (option_map (λ path. path.now)) c.in-None.is in
     settings_none (g.F.Files.told c.args.files.now) (input_at inputs) (Rose (g.F.Files.faults c.args.files.now) (g.F.Files.faults c.args.files.now))
-    inputs.chosen.defaults inputs.chosen.settings c.standard.result chosen c.standard.ensures
+    inputs.chosen.defaults inputs.chosen.sets inputs.chosen.settings c.standard.result chosen c.standard.ensures

@@ -1,15 +1,11 @@
-use Rattle.std.proofs.lemmas.Result.{IfOk-weaker}
 use Rattle.std.proofs.Common.{codes}
-use Rattle.command_words.specs.Program.{octimap_alone, improve_app, map_app, picture_app, session_app}
-use Rattle.command_words.proofs.Building.{added}
+use Rattle.command_words.specs.Program.{map_app, octimap_made, octimap_maps, picture_app, session_app, with_command}
 use Rattle.command_words.proofs.program.over_maps.Goals as goal
 
 pub returns : goal.returns
+unfolding octimap_maps
 returns c =
-    let one = added _ _ _ octimap_alone (map_app (codes "map")) c.in_ok-subcommand.ensures c.in_ok-map.ensures.local c.in_ok-alone.ensures c.in_ok-map.ensures.app in
-    let two = added _ _ _ _ (map_app (codes "make")) c.in_ok-subcommand-2.ensures c.in_ok-make.ensures.local one c.in_ok-make.ensures.app in
-    let three = added _ _ _ _ improve_app c.in_ok-subcommand-3.ensures c.in_ok-improve.ensures.local two c.in_ok-improve.ensures.app in
-    let four = added _ _ _ _ (map_app (codes "check")) c.in_ok-subcommand-4.ensures c.in_ok-check.ensures.local three c.in_ok-check.ensures.app in
-    let five = added _ _ _ _ (picture_app (codes "labels")) c.in_ok-subcommand-5.ensures c.in_ok-labels.ensures.local four c.in_ok-labels.ensures.app in
-    let six = added _ _ _ _ (picture_app (codes "geo")) c.in_ok-subcommand-6.ensures c.in_ok-geo.ensures.local five c.in_ok-geo.ensures.app in
-    IfOk-weaker c.subcommand-7.result _ _ (λ program adds. added _ _ program _ session_app adds c.in_ok-session.ensures.local six c.in_ok-session.ensures.app) c.subcommand-7.ensures
+    let one = c.in_ok-program-2.ensures octimap_made (map_app (codes "check")) c.in_ok-program.ensures c.check.ensures.app c.check.ensures.local in
+    let two = c.in_ok-program-3.ensures (with_command octimap_made (map_app (codes "check"))) (picture_app (codes "labels")) one c.labels.ensures.app c.labels.ensures.local in
+    let three = c.in_ok-program-4.ensures (with_command (with_command octimap_made (map_app (codes "check"))) (picture_app (codes "labels"))) (picture_app (codes "geo")) two c.geo.ensures.app c.geo.ensures.local in
+    c.with_command-4.ensures (with_command (with_command (with_command octimap_made (map_app (codes "check"))) (picture_app (codes "labels"))) (picture_app (codes "geo"))) session_app three c.session.ensures.app c.session.ensures.local

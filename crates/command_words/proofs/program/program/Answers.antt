@@ -1,13 +1,10 @@
-use Rattle.std.proofs.lemmas.Result.{IfOk-weaker}
 use Rattle.std.proofs.Common.{codes}
-use Rattle.command_words.specs.Program.{octimap_app, octimap_maps, graph_app, feed_app, page_app, trial_app}
-use Rattle.command_words.proofs.Building.{added}
+use Rattle.command_words.specs.Program.{feed_app, octimap_app, octimap_graphs, page_app, trial_app, with_command}
 use Rattle.command_words.proofs.program.program.Goals as goal
 
 pub returns : goal.returns
 unfolding octimap_app
 returns c =
-    let one = added _ _ _ octimap_maps graph_app c.in_ok-subcommand.ensures c.in_ok-graph.ensures.local c.in_ok-over_maps.ensures c.in_ok-graph.ensures.app in
-    let two = added _ _ _ _ (feed_app (codes "stations")) c.in_ok-subcommand-2.ensures c.in_ok-stations.ensures.local one c.in_ok-stations.ensures.app in
-    let three = added _ _ _ _ page_app c.in_ok-subcommand-3.ensures c.in_ok-page.ensures.local two c.in_ok-page.ensures.app in
-    IfOk-weaker c.subcommand-4.result _ _ (λ program adds. added _ _ program _ trial_app adds c.in_ok-trial.ensures.local three c.in_ok-trial.ensures.app) c.subcommand-4.ensures
+    let one = c.in_ok-program-2.ensures octimap_graphs (feed_app (codes "stations")) c.in_ok-program.ensures c.stations.ensures.app c.stations.ensures.local in
+    let two = c.in_ok-program-3.ensures (with_command octimap_graphs (feed_app (codes "stations"))) page_app one c.page.ensures.app c.page.ensures.local in
+    c.with_command-3.ensures (with_command (with_command octimap_graphs (feed_app (codes "stations"))) page_app) trial_app two c.trial.ensures.app c.trial.ensures.local

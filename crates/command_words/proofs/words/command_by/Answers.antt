@@ -1,5 +1,6 @@
 use Rattle.std.proofs.Common.{◌∙◌, ap, option_map, sym}
 use Rattle.clap.specs.Simple.{subcommand_rows_of}
+use Rattle.command_paths.specs.Sets.{sets_of}
 use Rattle.command_words.specs.Asked.{asked_by}
 use Rattle.command_words.specs.Words.{named_in}
 use Rattle.command_words.proofs.Reading.{unread}
@@ -10,4 +11,4 @@ returns-in-Some c = sym c.command_in.ensures ∙ ap (option_map asked_by) c.in-S
 
 pub returns-in-None : goal.returns-in-None
 returns-in-None c =
-    unread (named_in (subcommand_rows_of c.args.matches.now)) c.shown.result (sym c.command_in.ensures ∙ ap (option_map asked_by) c.in-None.is)
+    unread (named_in (sets_of c.args.words.now) (subcommand_rows_of c.args.matches.now)) c.shown.result (sym c.command_in.ensures ∙ ap (option_map asked_by) c.in-None.is)

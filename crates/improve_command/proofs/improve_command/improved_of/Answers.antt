@@ -1,7 +1,8 @@
 use Rattle.std.proofs.Common.{◌∙◌, Ok, ap, sym}
 use Rattle.std.proofs.lemmas.Result.{err_from_is_err_and}
 use Rattle.command_paths.specs.Paths.{paths_by}
-use Rattle.map_engine.specs.Improving.{improve_outcome, improved_bytes}
+use Rattle.graph_maps.specs.Improving.{improved_bytes}
+use Rattle.map_engine.specs.Improving.{improve_outcome}
 use Rattle.improve_command.specs.ImproveWorks.{improved_at}
 use Rattle.improve_command.proofs.ImproveLemmas.{improved_refused}
 use Rattle.improve_command.proofs.improve_command.improved_of.Goals as goal

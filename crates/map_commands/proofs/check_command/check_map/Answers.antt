@@ -3,7 +3,7 @@ use Rattle.std.proofs.lemmas.Result.{err_from_is_err_and}
 use Rattle.files_door.specs.Fault.{Rose}
 use Rattle.files_door.specs.Files.{file_at}
 use Rattle.files_door.proofs.Faults.{rose_later}
-use Rattle.map_engine.specs.Checking.{checked_bytes}
+use Rattle.graph_maps.specs.Checking.{checked_bytes}
 use Rattle.run_status.specs.declared.input.Input.TheVariants as input
 use Rattle.command_inputs.specs.Inputs.{input_at, inputs_by}
 use Rattle.map_commands.specs.MapWorks.{certificate_work, picture_work}

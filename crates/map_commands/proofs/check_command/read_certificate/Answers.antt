@@ -1,7 +1,7 @@
 use Rattle.std.proofs.Common.{ℕ, Vec, option_map}
 use Rattle.std.specs.Global.{Global}
 use Rattle.files_door.specs.Fault.{Rose}
-use Rattle.map_engine.specs.Checking.{checked_bytes}
+use Rattle.graph_maps.specs.Checking.{checked_bytes}
 use Rattle.run_status.specs.declared.input.Input.TheVariants as input
 use Rattle.command_inputs.specs.Inputs.{input_at, inputs_by}
 use Rattle.map_commands.specs.MapWorks.{certificate_checked}

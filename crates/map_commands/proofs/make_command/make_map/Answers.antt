@@ -5,7 +5,7 @@ use Rattle.map_engine.specs.Making.{make_outcome}
 use Rattle.command_run.specs.declared.output.Output.{Output}
 use Rattle.command_run.specs.Work.{ends}
 use Rattle.command_inputs.specs.declared.loaded.Loaded.{Loaded}
-use Rattle.command_paths.specs.Paths.{paths_by}
+use Rattle.command_paths.specs.Paths.{new_paths_by}
 use Rattle.command_inputs.specs.Inputs.{input_at, inputs_by}
 use Rattle.map_commands.specs.MapWorks.{made_at}
 use Rattle.command_inputs.specs.Loading.{load_work}
@@ -18,7 +18,7 @@ returns-in_err-loaded-clause-follows g c =
     let told = g.F.Files.told c.args.files.now in
     let paths = input_at (inputs_by c.args.inputs.now) in
     let rose = Rose (g.F.Files.faults c.args.files.now) (g.F.Files.faults c.load.new.files) in
-    follows_refused told paths rose (λ (l : Loaded). l) (λ (o : List Output). o) (load_work (inputs_by c.args.inputs.now).chosen) (λ l. ends (made_at (paths_by c.args.map_files.now) (make_outcome l.tables l.settings l.method))) c.in_err-loaded.field-0.0 c.from_residual.result
+    follows_refused told paths rose (λ (l : Loaded). l) (λ (o : List Output). o) (load_work (inputs_by c.args.inputs.now).chosen) (λ l. ends (made_at (new_paths_by c.args.new_files.now) (make_outcome l.tables l.settings l.method))) c.in_err-loaded.field-0.0 c.from_residual.result
     (err_from_is_err_and c.from_residual.result c.from_residual.ensures.1) c.in_err-loaded.ensures.follows
 
 pub returns-clause-follows : goal.returns-clause-follows
@@ -26,13 +26,13 @@ returns-clause-follows g c =
     let told = g.F.Files.told c.args.files.now in
     let paths = input_at (inputs_by c.args.inputs.now) in
     let rose = Rose (g.F.Files.faults c.args.files.now) (g.F.Files.faults c.load.new.files) in
-    follows_value told paths rose (λ (l : Loaded). l) (λ (o : List Output). o) (load_work (inputs_by c.args.inputs.now).chosen) (λ l. made_at (paths_by c.args.map_files.now) (make_outcome l.tables l.settings l.method)) c.in_ok-loaded.loaded c.map_of.result
+    follows_value told paths rose (λ (l : Loaded). l) (λ (o : List Output). o) (load_work (inputs_by c.args.inputs.now).chosen) (λ l. made_at (new_paths_by c.args.new_files.now) (make_outcome l.tables l.settings l.method)) c.in_ok-loaded.loaded c.map_of.result
     c.in_ok-loaded.ensures.follows c.map_of.ensures.given
 
 pub returns-clause-keeps : goal.returns-clause-keeps
 returns-clause-keeps g c =
     are_of_map (g.F.Files.told c.args.files.now) (inputs_by c.args.inputs.now) (Rose (g.F.Files.faults c.args.files.now) (g.F.Files.faults c.load.new.files))
-    (paths_by c.args.map_files.now) c.in_ok-loaded.loaded c.map_of.result c.in_ok-loaded.ensures.follows c.map_of.ensures.made
+    (new_paths_by c.args.new_files.now) c.in_ok-loaded.loaded c.map_of.result c.in_ok-loaded.ensures.follows c.map_of.ensures.made
 
 pub returns-clause-steps : goal.returns-clause-steps
 returns-clause-steps g c =

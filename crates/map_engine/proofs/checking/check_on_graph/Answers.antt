@@ -1,25 +1,68 @@
-use Rattle.std.proofs.Common.{ap}
-use Rattle.std.proofs.lemmas.Result.{err_from_is_err_and}
-use Rattle.cert_file.specs.Plain.{plain}
-use Rattle.map_engine.specs.Readings.{certificate_in}
-use Rattle.map_engine.specs.Checking.{checked_bytes, checked_items, checked_text}
+use Rattle.std.proofs.Common.{◌∙◌, ℕ, ◌<◌, ◌^◌, List, length, All, IfOk, sym, subst}
+use Rattle.std.proofs.lemmas.Result.{IfOk-weaker}
+use Rattle.map_base.specs.Settings.{IsImportance}
 use Rattle.line_graph.proofs.FeedLines.{lines_of_feed}
-use Rattle.map_engine.proofs.ReadAgain.{text_read}
-use Rattle.map_engine.proofs.CheckSteps.{text_refused, gives_same}
+use Rattle.graph_maps.specs.Subjects.{Subject}
+use Rattle.graph_maps.specs.declared.checked.Checked.{Checked}
+use Rattle.graph_maps.specs.Readings.{certificate_in}
+use Rattle.graph_maps.specs.Checking.{certificate_on, checked_bytes, Gives}
+use Rattle.graph_maps.specs.Promises.{IsCertifiedOn}
+use Rattle.map_engine.specs.Tables.{subject_of}
+use Rattle.map_engine.specs.Promises.{IsCertified, ShowsLineGraph}
+use Rattle.map_engine.proofs.ImportanceLemmas.{listed_in, subject_is}
+use Rattle.map_engine.proofs.FeedMaps.{certified_of, shown_of}
 use Rattle.map_engine.proofs.checking.check_on_graph.Goals as goal
 
-pub returns-in_err-read-clause-outcome : goal.returns-in_err-read-clause-outcome
-returns-in_err-read-clause-outcome c =
-    let p = err_from_is_err_and c.from_residual.result c.from_residual.ensures.1 in
-    rw (p.1, p.2) (text_refused c.args.tables.now c.args.settings.now c.args.claim c.args.graph.now c.args.certificate.now c.in_err-read.field-0.0 c.in_err-read.ensures.end)
+pub check_from-requires-clause-numbers : goal.check_from-requires-clause-numbers
+check_from-requires-clause-numbers c = subst (All IsImportance)
+    (sym c.as_slice.ensures.value) c.in_ok-importance.ensures.range
 
-pub check_items-requires-clause-lines : goal.check_items-requires-clause-lines
-check_items-requires-clause-lines c = lines_of_feed c.args.settings.now.near c.args.tables.now c.args.graph.now c.requires
+pub check_from-requires-clause-lines : goal.check_from-requires-clause-lines
+check_from-requires-clause-lines c =
+    listed_in c.args.tables.now c.args.settings.now c.args.graph.now c.as_slice.result.now
+    (c.as_slice.ensures.value ∙ c.in_ok-importance.ensures.value)
+    (lines_of_feed c.args.settings.now.near c.args.tables.now c.args.graph.now c.requires)
+
+pub check_from-requires-clause-few : goal.check_from-requires-clause-few
+check_from-requires-clause-few c = subst (λ (ns : List ℕ). length ns < 2 ^ 32)
+    (sym c.as_slice.ensures.value) c.in_ok-importance.ensures.few
 
 pub returns-clause-outcome : goal.returns-clause-outcome
 returns-clause-outcome c =
-    let read = plain c.in_ok-read.read in
-    gives_same checked_bytes c.check_items.result (checked_text c.args.tables.now c.args.settings.now c.args.claim c.args.graph.now (certificate_in c.args.certificate.now))
-    (checked_items c.args.tables.now c.args.settings.now c.args.claim c.args.graph.now read)
-    (ap (checked_text c.args.tables.now c.args.settings.now c.args.claim c.args.graph.now) (text_read read c.args.certificate.now c.in_ok-read.ensures.certificate))
-    c.check_items.ensures.outcome
+    let told = subject_is c.args.tables.now c.args.settings.now c.in_ok-names.names c.as_slice.result.now
+    c.in_ok-names.ensures (c.as_slice.ensures.value ∙ c.in_ok-importance.ensures.value) in
+    subst (λ (s : Subject). Gives checked_bytes c.check_from.result
+    (certificate_on s c.args.settings.now c.args.claim c.args.graph.now (certificate_in c.args.certificate.now)))
+    told c.check_from.ensures.outcome
+
+pub returns-clause-certified : goal.returns-clause-certified
+returns-clause-certified c =
+    let feed = c.args.tables.now in
+    let choices = c.args.settings.now in
+    let told = subject_is feed choices c.in_ok-names.names c.as_slice.result.now c.in_ok-names.ensures
+    (c.as_slice.ensures.value ∙ c.in_ok-importance.ensures.value) in
+    IfOk-weaker c.check_from.result
+    (λ (x : Checked). IsCertifiedOn (subject_of feed choices) choices c.args.claim c.args.graph.now x.svg.items
+    c.args.certificate.now x.proved)
+    (λ (x : Checked). IsCertified feed choices c.args.claim x.svg.items c.args.certificate.now x.proved)
+    (λ x is. certified_of feed choices c.args.graph.now c.requires c.args.claim x.svg.items c.args.certificate.now
+    x.proved is)
+    (subst (λ (s : Subject). IfOk c.check_from.result
+    (λ (x : Checked). IsCertifiedOn s choices c.args.claim c.args.graph.now x.svg.items c.args.certificate.now
+    x.proved)) told c.check_from.ensures.certified)
+
+pub returns-clause-shown : goal.returns-clause-shown
+returns-clause-shown c =
+    let feed = c.args.tables.now in
+    let choices = c.args.settings.now in
+    let told = subject_is feed choices c.in_ok-names.names c.as_slice.result.now c.in_ok-names.ensures
+    (c.as_slice.ensures.value ∙ c.in_ok-importance.ensures.value) in
+    IfOk-weaker c.check_from.result
+    (λ (x : Checked). IsCertifiedOn (subject_of feed choices) choices c.args.claim c.args.graph.now x.svg.items
+    c.args.certificate.now x.proved)
+    (λ (x : Checked). ShowsLineGraph feed choices c.args.claim x.svg.items x.proved)
+    (λ x is. shown_of feed choices c.args.graph.now c.requires c.args.claim x.svg.items c.args.certificate.now x.proved
+    is)
+    (subst (λ (s : Subject). IfOk c.check_from.result
+    (λ (x : Checked). IsCertifiedOn s choices c.args.claim c.args.graph.now x.svg.items c.args.certificate.now
+    x.proved)) told c.check_from.ensures.certified)

@@ -1,26 +1,51 @@
-use Rattle.std.proofs.Common.{◌∙◌, ap, sym, Ok, ℕ, List, Result}
-use Rattle.std.proofs.lemmas.Result.{err_from_is_err_and}
-use Rattle.cert_file.specs.Plain.{plain}
-use Rattle.map_engine.specs.declared.fault.CheckFault.{CheckFault}
-use Rattle.map_engine.specs.Checking.{checked_bytes}
-use Rattle.map_engine.specs.Labelling.{labelled_by}
-use Rattle.map_engine.proofs.PictureSteps.{accepted_drawn, is_labelled, text_undrawn}
+use Rattle.std.proofs.Common.{◌∙◌, ℕ, ◌<◌, ◌^◌, List, Vec, length, All, IfOk, sym, subst}
+use Rattle.std.specs.Global.{Global}
+use Rattle.std.proofs.lemmas.Result.{IfOk-weaker}
+use Rattle.map_base.specs.Settings.{IsImportance}
+use Rattle.line_graph.proofs.FeedLines.{lines_of_feed}
+use Rattle.graph_maps.specs.Subjects.{Subject}
+use Rattle.graph_maps.specs.Readings.{certificate_in}
+use Rattle.graph_maps.specs.Checking.{Gives}
+use Rattle.graph_maps.specs.Labelling.{labelled_on, IsLabelledOn}
+use Rattle.map_engine.specs.Tables.{subject_of}
+use Rattle.map_engine.specs.Labelling.{IsLabelledMap}
+use Rattle.map_engine.proofs.ImportanceLemmas.{listed_in, subject_is}
+use Rattle.map_engine.proofs.FeedMaps.{labelled_of}
 use Rattle.map_engine.proofs.labelled.labels_on_graph.Goals as goal
 
-pub returns-in_err-read-clause-outcome : goal.returns-in_err-read-clause-outcome
-returns-in_err-read-clause-outcome c =
-    let p = err_from_is_err_and c.from_residual-in_err-read.result c.from_residual-in_err-read.ensures.1 in
-    rw (p.1, p.2) (text_undrawn (labelled_by c.args.tables.now c.args.graph.now) c.args.tables.now c.args.settings.now c.args.claim c.args.graph.now c.args.certificate.now c.in_err-read.field-0.0 c.in_err-read.ensures.end)
+pub labels_from-requires-clause-numbers : goal.labels_from-requires-clause-numbers
+labels_from-requires-clause-numbers c = subst (All IsImportance)
+    (sym c.as_slice.ensures.value) c.in_ok-importance.ensures.range
+
+pub labels_from-requires-clause-lines : goal.labels_from-requires-clause-lines
+labels_from-requires-clause-lines c =
+    listed_in c.args.tables.now c.args.settings.now c.args.graph.now c.as_slice.result.now
+    (c.as_slice.ensures.value ∙ c.in_ok-importance.ensures.value)
+    (lines_of_feed c.args.settings.now.near c.args.tables.now c.args.graph.now c.requires)
+
+pub labels_from-requires-clause-few : goal.labels_from-requires-clause-few
+labels_from-requires-clause-few c = subst (λ (ns : List ℕ). length ns < 2 ^ 32)
+    (sym c.as_slice.ensures.value) c.in_ok-importance.ensures.few
 
 pub returns-clause-outcome : goal.returns-clause-outcome
 returns-clause-outcome c =
-    let ok : List ℕ → Result (List ℕ) CheckFault = λ bytes. Ok bytes in
-    accepted_drawn (labelled_by c.args.tables.now c.args.graph.now) c.args.tables.now c.args.settings.now c.args.claim c.args.graph.now (plain c.in_ok-read.read) c.args.certificate.now (checked_bytes c.in_ok-_accepted._accepted)
-    c.in_ok-read.ensures.certificate c.in_ok-_accepted.ensures.outcome
-    ∙ ap ok (sym c.in_ok-labelled_map.ensures)
+    let told = subject_is c.args.tables.now c.args.settings.now c.in_ok-names.names c.as_slice.result.now
+    c.in_ok-names.ensures (c.as_slice.ensures.value ∙ c.in_ok-importance.ensures.value) in
+    subst (λ (s : Subject). Gives (λ (v : Vec ℕ Global). v.items) c.labels_from.result
+    (labelled_on s c.args.settings.now c.args.claim c.args.graph.now (certificate_in c.args.certificate.now))) told
+    c.labels_from.ensures.outcome
 
 pub returns-clause-certified : goal.returns-clause-certified
 returns-clause-certified c =
-    is_labelled c.args.tables.now c.args.settings.now c.args.claim c.args.graph.now (plain c.in_ok-read.read) c.args.certificate.now
-    c.in_ok-_accepted._accepted.svg.items c.in_ok-_accepted._accepted.proved c.requires c.in_ok-read.ensures.certificate c.in_ok-_accepted.ensures.certified
-    c.in_ok-labelled_map.field-0.items c.in_ok-labelled_map.ensures
+    let feed = c.args.tables.now in
+    let choices = c.args.settings.now in
+    let told = subject_is feed choices c.in_ok-names.names c.as_slice.result.now c.in_ok-names.ensures
+    (c.as_slice.ensures.value ∙ c.in_ok-importance.ensures.value) in
+    IfOk-weaker c.labels_from.result
+    (λ (v : Vec ℕ Global). IsLabelledOn (subject_of feed choices) choices c.args.claim c.args.graph.now v.items
+    c.args.certificate.now)
+    (λ (v : Vec ℕ Global). IsLabelledMap feed choices c.args.claim v.items c.args.certificate.now)
+    (λ v is. labelled_of feed choices c.args.graph.now c.requires c.args.claim v.items c.args.certificate.now is)
+    (subst (λ (s : Subject). IfOk c.labels_from.result
+    (λ (v : Vec ℕ Global). IsLabelledOn s choices c.args.claim c.args.graph.now v.items c.args.certificate.now))
+    told c.labels_from.ensures.certified)

@@ -1,146 +1,121 @@
-use Rattle.std.proofs.Common.{◌≡◌, ◌∙◌, ℕ, ◌+◌, ◌≤◌, List, length, sum_by, All, Contains, sym, ap, subst, Ok, Err, arith}
-use Rattle.std.proofs.lemmas.List.{length-map}
+use Rattle.std.proofs.Common.{◌∙◌, ℕ, ◌<◌, ◌^◌, List, length, All, IfOk, sym, ap, subst, arith}
 use Rattle.std.proofs.lemmas.List.Elements.{All-contains_itself}
-use Rattle.std.proofs.lemmas.Result.{err_from_is_err_and}
-use Rattle.map_base.specs.declared.ids.LineId.{LineId}
-use Rattle.transit_feed.specs.declared.line.Line.{Line}
-use Rattle.map_method.specs.Methods.{MethodChoices}
-use Rattle.order_model.specs.declared.problem.ProblemParts.{ProblemParts}
-use Rattle.kept_trees.specs.declared.plan.SearchPlan.{SearchPlan}
+use Rattle.std.proofs.lemmas.Result.{err_from_is_err_and, IfOk-weaker}
+use Rattle.map_base.specs.Settings.{IsImportance}
 use Rattle.kept_trees.specs.OwnTrees.{HeldPart}
-use Rattle.kept_trees.specs.Keeping.{branches_to_meet}
-use Rattle.order_model.specs.Costs.{AreOrders}
-use Rattle.map_engine.specs.declared.best_orders.BestOrders.{BestOrders}
-use Rattle.map_engine.specs.declared.improvement.ImprovedMap.{ImprovedMap}
-use Rattle.map_engine.specs.Tables.{importance_among}
-use Rattle.map_engine.specs.Problems.{untangled_problem}
-use Rattle.map_engine.specs.Solving.{solve_outcome, parts_in}
-use Rattle.map_engine.specs.Keeping.{finished_of, finished_parts, HoldsFinished}
-use Rattle.map_engine.specs.Making.{plan_of, HasCause}
-use Rattle.map_engine.specs.Improving.{ImprovedBytes, improved_map}
-use Rattle.map_engine.specs.Stages.{drawn_after, drawn_of, AreBestBy, IsWritten}
-use Rattle.map_engine.specs.Promises.{IsMade}
-use Rattle.map_engine.proofs.MadeLemmas.{outcome_is, solved_is, not_drawn, not_solved}
-use Rattle.map_engine.proofs.MovedDrawings.{whole_moved}
-use Rattle.map_engine.proofs.KeepLemmas.{left_is, finished_is, nothing_finished, same_held}
-use Rattle.map_engine.proofs.Promised.{whole_is}
-use Rattle.map_engine.proofs.CertificateRanges.{made_by}
+use Rattle.map_faults.specs.Faults.{of_limit}
+use Rattle.graph_maps.specs.Subjects.{Subject}
+use Rattle.graph_maps.specs.declared.improvement.ImprovedMap.{ImprovedMap}
+use Rattle.graph_maps.specs.Making.{plan_of, Gives}
+use Rattle.graph_maps.specs.Keeping.{finished_on, left_on, HoldsFinished}
+use Rattle.graph_maps.specs.Improving.{ImprovedBytes, improved_bytes, improved_map, improved_on, IsImprovedOn}
+use Rattle.graph_maps.proofs.MadeLemmas.{not_drawn}
+use Rattle.graph_maps.proofs.KeepLemmas.{nothing_finished}
+use Rattle.map_engine.specs.Tables.{subject_of}
+use Rattle.map_engine.specs.Making.{drawn_outcome}
+use Rattle.map_engine.specs.Improving.{IsImprovedMap}
+use Rattle.map_engine.proofs.ImportanceLemmas.{listed_in, subject_is}
+use Rattle.map_engine.proofs.FeedMaps.{finished_is, improved_is, improved_of, left_is, not_built}
 use Rattle.map_engine.proofs.making.make_with.Goals as goal
 
-pub returns-in_err-drawn-clause-outcome : goal.returns-in_err-drawn-clause-outcome
-returns-in_err-drawn-clause-outcome g c =
+pub make_improved_from-requires-clause-numbers : goal.make_improved_from-requires-clause-numbers
+make_improved_from-requires-clause-numbers g c = subst (All IsImportance)
+    (sym c.as_slice.ensures.value) c.in_ok-importance.ensures.range
+
+pub make_improved_from-requires-clause-lines : goal.make_improved_from-requires-clause-lines
+make_improved_from-requires-clause-lines g c =
+    listed_in c.args.tables.now c.args.settings.now c.in_ok-graph.graph c.as_slice.result.now
+    (c.as_slice.ensures.value ∙ c.in_ok-importance.ensures.value)
+    (c.in_ok-graph.ensures.lines)
+
+pub make_improved_from-requires-clause-few : goal.make_improved_from-requires-clause-few
+make_improved_from-requires-clause-few g c = subst (λ (ns : List ℕ). length ns < 2 ^ 32)
+    (sym c.as_slice.ensures.value) c.in_ok-importance.ensures.few
+
+pub returns-in_err-graph-clause-outcome : goal.returns-in_err-graph-clause-outcome
+returns-in_err-graph-clause-outcome g c =
+    let feed = c.args.tables.now in
+    let choices = c.args.settings.now in
+    let method = c.args.method.now in
+    let stop = c.in_err-graph.field-0.0 in
     let same = err_from_is_err_and c.from_residual.result c.from_residual.ensures.1 in
-    rw (same.1, same.2) (not_drawn ImprovedBytes (improved_map c.args.tables.now c.args.settings.now c.args.moves) c.args.tables.now c.args.settings.now c.args.method.now c.in_err-drawn.field-0.0 c.in_err-drawn.ensures.outcome)
+    rw (same.1, same.2) (not_drawn ImprovedBytes (improved_map (subject_of feed choices) c.args.moves) choices method
+    (drawn_outcome feed choices method) (of_limit stop)
+    (not_built feed choices method stop c.in_err-graph.ensures.cause))
 
-pub returns-in_err-best-clause-outcome : goal.returns-in_err-best-clause-outcome
-returns-in_err-best-clause-outcome g c =
-    let e = c.in_err-best.field-0.0 in
-    let p = c.in_ok-drawn.problem in
-    let cause = subst (λ (plan : SearchPlan). HasCause (solve_outcome plan (untangled_problem p)) e) c.plan_of.ensures.plan c.in_err-best.ensures.found in
-    let same = err_from_is_err_and c.from_residual-in_err-best.result c.from_residual-in_err-best.ensures.1 in
-    rw (same.1, same.2) (not_solved ImprovedBytes (improved_map c.args.tables.now c.args.settings.now c.args.moves) c.args.tables.now c.args.settings.now c.args.method.now c.in_ok-drawn.drawn p e c.in_ok-drawn.ensures.outcome cause)
+pub returns-in_err-graph-clause-kept : goal.returns-in_err-graph-clause-kept
+returns-in_err-graph-clause-kept g c = All-contains_itself c.args.kept.now
 
-pub returns-in_err-best-clause-steps : goal.returns-in_err-best-clause-steps
-returns-in_err-best-clause-steps g c =
-    let p : ProblemParts = untangled_problem c.in_ok-drawn.problem in
-    let steps = subst (λ (plan : SearchPlan). c.best_orders.new.steps ≤ c.args.steps.now + sum_by (branches_to_meet c.args.kept.now plan p) (parts_in p)) c.plan_of.ensures.plan
-    c.best_orders.ensures.steps in
-    omega (
-      arith,
-      left_is c.args.kept.now c.args.tables.now c.args.settings.now c.args.method.now c.in_ok-drawn.drawn c.in_ok-drawn.problem c.in_ok-drawn.ensures.outcome,
-      steps,
-    )
+pub returns-in_err-names-clause-kept : goal.returns-in_err-names-clause-kept
+returns-in_err-names-clause-kept g c = All-contains_itself c.args.kept.now
 
-pub returns-in_err-moved_map-clause-steps : goal.returns-in_err-moved_map-clause-steps
-returns-in_err-moved_map-clause-steps g c =
-    let p : ProblemParts = untangled_problem c.in_ok-drawn.problem in
-    let steps = subst (λ (plan : SearchPlan). c.best_orders.new.steps ≤ c.args.steps.now + sum_by (branches_to_meet c.args.kept.now plan p) (parts_in p)) c.plan_of.ensures.plan
-    c.best_orders.ensures.steps in
-    omega (
-      arith,
-      left_is c.args.kept.now c.args.tables.now c.args.settings.now c.args.method.now c.in_ok-drawn.drawn c.in_ok-drawn.problem c.in_ok-drawn.ensures.outcome,
-      steps,
-    )
+pub returns-in_err-importance-clause-kept : goal.returns-in_err-importance-clause-kept
+returns-in_err-importance-clause-kept g c = All-contains_itself c.args.kept.now
 
-pub returns-clause-steps : goal.returns-clause-steps
-returns-clause-steps g c =
-    let p : ProblemParts = untangled_problem c.in_ok-drawn.problem in
-    let steps = subst (λ (plan : SearchPlan). c.best_orders.new.steps ≤ c.args.steps.now + sum_by (branches_to_meet c.args.kept.now plan p) (parts_in p)) c.plan_of.ensures.plan
-    c.best_orders.ensures.steps in
-    omega (
-      arith,
-      left_is c.args.kept.now c.args.tables.now c.args.settings.now c.args.method.now c.in_ok-drawn.drawn c.in_ok-drawn.problem c.in_ok-drawn.ensures.outcome,
-      steps,
-    )
-
-pub returns-in_err-drawn-clause-kept : goal.returns-in_err-drawn-clause-kept
-returns-in_err-drawn-clause-kept g c = All-contains_itself c.args.kept.now
-
-pub returns-in_err-drawn-clause-finished : goal.returns-in_err-drawn-clause-finished
-returns-in_err-drawn-clause-finished g c =
+pub returns-in_err-graph-clause-finished : goal.returns-in_err-graph-clause-finished
+returns-in_err-graph-clause-finished g c =
+    let feed = c.args.tables.now in
+    let choices = c.args.settings.now in
+    let method = c.args.method.now in
+    let stop = c.in_err-graph.field-0.0 in
     let same = err_from_is_err_and c.from_residual.result c.from_residual.ensures.1 in
-    rw (same.1, same.2) (nothing_finished ImprovedMap c.args.tables.now c.args.settings.now c.args.method.now c.args.kept.now c.in_err-drawn.field-0.0 c.in_err-drawn.ensures.outcome)
-
-pub returns-in_err-best-clause-finished : goal.returns-in_err-best-clause-finished
-returns-in_err-best-clause-finished g c =
-    let e = c.in_err-best.field-0.0 in
-    let p = c.in_ok-drawn.problem in
-    let held = c.best_orders.new.kept in
-    let of_problem = subst (λ (plan : SearchPlan). HoldsFinished {X = BestOrders} (Err e) (finished_of plan (untangled_problem p)) held) c.plan_of.ensures.plan c.in_err-best.ensures.finished in
-    let of_feed = subst (λ (parts : List HeldPart). HoldsFinished {X = BestOrders} (Err e) parts held) (sym (finished_is c.args.tables.now c.args.settings.now c.args.method.now c.in_ok-drawn.drawn p c.in_ok-drawn.ensures.outcome)) of_problem in
-    let same = err_from_is_err_and c.from_residual-in_err-best.result c.from_residual-in_err-best.ensures.1 in
-    rw (same.1, same.2) (same_held BestOrders ImprovedMap e (finished_parts c.args.tables.now c.args.settings.now c.args.method.now) held of_feed)
-
-pub returns-clause-finished : goal.returns-clause-finished
-returns-clause-finished g c =
-    let p = c.in_ok-drawn.problem in
-    let held = c.best_orders.new.kept in
-    let of_problem = subst (λ (plan : SearchPlan). All (Contains held) (finished_of plan (untangled_problem p))) c.plan_of.ensures.plan c.in_ok-best.ensures.finished in
-    subst (λ (parts : List HeldPart). All (Contains held) parts) (sym (finished_is c.args.tables.now c.args.settings.now c.args.method.now c.in_ok-drawn.drawn p c.in_ok-drawn.ensures.outcome)) of_problem
-
-pub moved_map-requires-clause-lines : goal.moved_map-requires-clause-lines
-moved_map-requires-clause-lines g c =
-    ap length c.in_ok-drawn.ensures.importance ∙ length-map c.args.tables.now.lines (λ (l : Line). importance_among c.args.settings.now.importance l.id)
-
-pub moved_map-requires-clause-orders : goal.moved_map-requires-clause-orders
-moved_map-requires-clause-orders g c =
-    subst (λ (segs : List (List LineId)). AreOrders segs c.in_ok-best.best.orders.lists) (ap (λ (p : ProblemParts). p.segs) c.in_ok-drawn.ensures.problem) c.in_ok-best.ensures.orders
+    rw (same.1, same.2) (nothing_finished ImprovedMap (plan_of choices method)
+    (drawn_outcome feed choices method) c.args.kept.now (of_limit stop)
+    (not_built feed choices method stop c.in_err-graph.ensures.cause))
 
 pub returns-clause-outcome : goal.returns-clause-outcome
 returns-clause-outcome g c =
-    let p = c.in_ok-drawn.problem in
-    let d = c.in_ok-drawn.drawn in
-    let best = c.in_ok-best.best in
-    let improved = c.in_ok-moved_map.field-0 in
-    let found = c.in_ok-best.ensures.found in
-    let solved = subst (λ (plan : SearchPlan). solve_outcome plan (untangled_problem p) ≡ Ok found.0) c.plan_of.ensures.plan found.1 in
-    let best_is = subst (λ (plan : SearchPlan). AreBestBy plan p found.0 best) c.plan_of.ensures.plan found.2 in
-    let written = subst (λ (m : MethodChoices). IsWritten c.args.tables.now d best m.moves c.args.moves improved) c.method.view_is c.in_ok-moved_map.ensures in
-    outcome_is c.args.tables.now c.args.settings.now c.args.method.now d p best found.0 c.args.moves improved c.in_ok-drawn.ensures.outcome solved c.in_ok-drawn.ensures.importance best_is written
+    let feed = c.args.tables.now in
+    let choices = c.args.settings.now in
+    let method = c.args.method.now in
+    let graph = c.in_ok-graph.graph in
+    let told = subject_is feed choices c.in_ok-names.names c.as_slice.result.now c.in_ok-names.ensures
+    (c.as_slice.ensures.value ∙ c.in_ok-importance.ensures.value) in
+    subst (Gives improved_bytes c.make_improved_from.result)
+    (sym (improved_is feed choices graph c.in_ok-graph.ensures.graph method c.args.moves))
+    (subst (λ (s : Subject). Gives improved_bytes c.make_improved_from.result
+    (improved_on s choices method c.args.moves graph)) told c.make_improved_from.ensures.outcome)
 
 pub returns-clause-improved : goal.returns-clause-improved
 returns-clause-improved g c =
     let feed = c.args.tables.now in
     let choices = c.args.settings.now in
     let method = c.args.method.now in
-    let plan = plan_of choices method in
-    let d = c.in_ok-drawn.drawn in
-    let p = c.in_ok-drawn.problem in
-    let best = c.in_ok-best.best in
-    let improved = c.in_ok-moved_map.field-0 in
-    let found = c.in_ok-best.ensures.found in
-    let solved = subst (λ (q : SearchPlan). solve_outcome q (untangled_problem p) ≡ Ok found.0) c.plan_of.ensures.plan found.1 in
-    let best_is = subst (λ (q : SearchPlan). AreBestBy q p found.0 best) c.plan_of.ensures.plan found.2 in
-    let written = subst (λ (m : MethodChoices). IsWritten feed d best m.moves c.args.moves improved) c.method.view_is c.in_ok-moved_map.ensures in
-    let drawing = c.in_ok-drawn.ensures.drawing in
-    let whole = whole_is feed choices method d p best found.0 c.in_ok-drawn.ensures.outcome drawing.each drawing.legal c.in_ok-drawn.ensures.problem c.in_ok-drawn.ensures.problem_fits solved best_is in
-    let last = drawn_after c.args.moves (drawn_after method.moves d) in
-    record {
-      made = subst (IsMade feed choices method.claim) (sym written.map)
-          (made_by plan feed choices last p best found.0 (whole_moved plan feed choices d p found.0 method.moves c.args.moves whole written.drawing) written.drawing.fits written.drawing.walks
-          written.drawing.first c.in_ok-drawn.ensures.lines written.few c.plan_of.ensures.importance c.in_ok-drawn.ensures.importance best_is);
-      no_heavier = written.no_heavier;
-      solved = record { drawn = drawn_of (drawn_after method.moves d, p); parts = found.0 };
-      of_feed = solved_is feed choices method d p found.0 c.in_ok-drawn.ensures.outcome solved;
-      to_the_end = written.to_the_end;
-    }
+    let graph = c.in_ok-graph.graph in
+    let told = subject_is feed choices c.in_ok-names.names c.as_slice.result.now c.in_ok-names.ensures
+    (c.as_slice.ensures.value ∙ c.in_ok-importance.ensures.value) in
+    IfOk-weaker c.make_improved_from.result
+    (λ (x : ImprovedMap). IsImprovedOn (subject_of feed choices) choices method graph c.args.moves (improved_bytes x))
+    (λ (x : ImprovedMap). IsImprovedMap feed choices method c.args.moves (improved_bytes x))
+    (λ x is. improved_of feed choices graph c.in_ok-graph.ensures.graph method c.args.moves (improved_bytes x) is)
+    (subst (λ (s : Subject). IfOk c.make_improved_from.result
+    (λ (x : ImprovedMap). IsImprovedOn s choices method graph c.args.moves (improved_bytes x))) told
+    c.make_improved_from.ensures.improved)
+
+pub returns-clause-finished : goal.returns-clause-finished
+returns-clause-finished g c =
+    let feed = c.args.tables.now in
+    let choices = c.args.settings.now in
+    let method = c.args.method.now in
+    let graph = c.in_ok-graph.graph in
+    let held = c.make_improved_from.new.kept in
+    subst (λ (parts : List HeldPart). HoldsFinished c.make_improved_from.result parts held)
+    (sym (finished_is feed choices graph c.in_ok-graph.ensures.graph method))
+    (subst (λ (ns : List ℕ). HoldsFinished c.make_improved_from.result (finished_on ns choices method graph) held)
+    (c.as_slice.ensures.value ∙ c.in_ok-importance.ensures.value) c.make_improved_from.ensures.finished)
+
+pub returns-clause-steps : goal.returns-clause-steps
+returns-clause-steps g c =
+    let feed = c.args.tables.now in
+    let choices = c.args.settings.now in
+    let method = c.args.method.now in
+    let graph = c.in_ok-graph.graph in
+    let left = ap (λ (ns : List ℕ). left_on c.args.kept.now ns choices method graph)
+    (c.as_slice.ensures.value ∙ c.in_ok-importance.ensures.value) in
+    omega (
+      arith,
+      c.make_improved_from.ensures.steps,
+      left,
+      left_is feed choices graph c.in_ok-graph.ensures.graph
+          c.args.kept.now method,
+    )

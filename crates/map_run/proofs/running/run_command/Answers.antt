@@ -5,7 +5,7 @@ use Rattle.command_words.specs.Asked.{asked_by}
 use Rattle.command_inputs.specs.Inputs.{inputs_by}
 use Rattle.map_run.specs.Answers.{whole_by}
 use Rattle.map_run.proofs.EndingLemmas.{command_ends}
-use Rattle.map_run.proofs.ArmLemmas.{stations_follows, graph_follows, make_follows, improve_follows, check_follows, depict_follows, session_ends, page_follows, trial_follows, stations_keeps, graph_keeps, make_keeps, improve_keeps, check_keeps, depict_keeps, page_keeps, trial_keeps, stations_steps, graph_steps, make_steps, improve_steps, check_steps, depict_steps, session_steps, page_steps, trial_steps}
+use Rattle.map_run.proofs.ArmLemmas.{stations_follows, graph_follows, export_follows, make_follows, import_follows, improve_follows, check_follows, depict_follows, session_ends, page_follows, trial_follows, stations_keeps, graph_keeps, export_keeps, make_keeps, import_keeps, improve_keeps, check_keeps, depict_keeps, page_keeps, trial_keeps, stations_steps, graph_steps, export_steps, make_steps, import_steps, improve_steps, check_steps, depict_steps, session_steps, page_steps, trial_steps}
 use Rattle.map_run.proofs.running.run_command.Goals as goal
 
 pub returns-in-Stations-clause-ends : goal.returns-in-Stations-clause-ends
@@ -22,12 +22,26 @@ returns-in-Graph-clause-ends g c =
     (graph_keeps (g.F.Files.told c.args.files.now) (asked_by c.args.command.now) c.print_line_graph-outcome.result (whole_by c.print_line_graph-outcome.result) refl (ap asked_by c.in-Graph.is))
     c.write_outcome-in-Graph.ensures.written
 
+pub returns-in-Export-clause-ends : goal.returns-in-Export-clause-ends
+returns-in-Export-clause-ends g c =
+    command_ends (g.F.Files.told c.args.files.now) (asked_by c.args.command.now) (Rose (g.F.Files.faults c.args.files.now) (g.F.Files.faults c.export_graph-outcome.new.files)) _ (whole_by c.export_graph-outcome.result) (g.S.Sinks.written c.args.sinks.now) (g.S.Sinks.written c.write_outcome-in-Export.new.sinks) c.write_outcome-in-Export.result
+    (export_follows (g.F.Files.told c.args.files.now) (asked_by c.args.command.now) (Rose (g.F.Files.faults c.args.files.now) (g.F.Files.faults c.export_graph-outcome.new.files)) c.export_graph-outcome.result (whole_by c.export_graph-outcome.result) (inputs_by c.inputs_of-inputs.result) refl (ap asked_by c.in-Export.is) c.inputs_of-inputs.ensures c.export_graph-outcome.ensures.follows)
+    (export_keeps (g.F.Files.told c.args.files.now) (asked_by c.args.command.now) c.export_graph-outcome.result (whole_by c.export_graph-outcome.result) refl (ap asked_by c.in-Export.is))
+    c.write_outcome-in-Export.ensures.written
+
 pub returns-in-Make-clause-ends : goal.returns-in-Make-clause-ends
 returns-in-Make-clause-ends g c =
     command_ends (g.F.Files.told c.args.files.now) (asked_by c.args.command.now) (Rose (g.F.Files.faults c.args.files.now) (g.F.Files.faults c.make_map-outcome.new.files)) _ (whole_by c.make_map-outcome.result) (g.S.Sinks.written c.args.sinks.now) (g.S.Sinks.written c.write_outcome-in-Make.new.sinks) c.write_outcome-in-Make.result
     (make_follows (g.F.Files.told c.args.files.now) (asked_by c.args.command.now) (Rose (g.F.Files.faults c.args.files.now) (g.F.Files.faults c.make_map-outcome.new.files)) c.make_map-outcome.result (whole_by c.make_map-outcome.result) (inputs_by c.inputs_of-inputs.result) refl (ap asked_by c.in-Make.is) c.inputs_of-inputs.ensures c.make_map-outcome.ensures.follows)
     (make_keeps (g.F.Files.told c.args.files.now) (asked_by c.args.command.now) (inputs_by c.inputs_of-inputs.result) c.make_map-outcome.result (whole_by c.make_map-outcome.result) refl (ap asked_by c.in-Make.is) c.inputs_of-inputs.ensures c.make_map-outcome.ensures.keeps)
     c.write_outcome-in-Make.ensures.written
+
+pub returns-in-Import-clause-ends : goal.returns-in-Import-clause-ends
+returns-in-Import-clause-ends g c =
+    command_ends (g.F.Files.told c.args.files.now) (asked_by c.args.command.now) (Rose (g.F.Files.faults c.args.files.now) (g.F.Files.faults c.import_graph-outcome.new.files)) _ (whole_by c.import_graph-outcome.result) (g.S.Sinks.written c.args.sinks.now) (g.S.Sinks.written c.write_outcome-in-Import.new.sinks) c.write_outcome-in-Import.result
+    (import_follows (g.F.Files.told c.args.files.now) (asked_by c.args.command.now) (Rose (g.F.Files.faults c.args.files.now) (g.F.Files.faults c.import_graph-outcome.new.files)) c.import_graph-outcome.result (whole_by c.import_graph-outcome.result) (inputs_by c.inputs_of-inputs.result) refl (ap asked_by c.in-Import.is) c.inputs_of-inputs.ensures c.import_graph-outcome.ensures.follows)
+    (import_keeps (g.F.Files.told c.args.files.now) (asked_by c.args.command.now) (inputs_by c.inputs_of-inputs.result) c.import_graph-outcome.result (whole_by c.import_graph-outcome.result) refl (ap asked_by c.in-Import.is) c.inputs_of-inputs.ensures c.import_graph-outcome.ensures.keeps)
+    c.write_outcome-in-Import.ensures.written
 
 pub returns-in-Improve-clause-ends : goal.returns-in-Improve-clause-ends
 returns-in-Improve-clause-ends g c =
@@ -84,9 +98,17 @@ pub returns-in-Graph-clause-steps : goal.returns-in-Graph-clause-steps
 returns-in-Graph-clause-steps g c =
     graph_steps (g.F.Files.told c.args.files.now) (asked_by c.args.command.now) c.args.steps.now (ap asked_by c.in-Graph.is)
 
+pub returns-in-Export-clause-steps : goal.returns-in-Export-clause-steps
+returns-in-Export-clause-steps g c =
+    export_steps (g.F.Files.told c.args.files.now) (asked_by c.args.command.now) c.args.steps.now (ap asked_by c.in-Export.is)
+
 pub returns-in-Make-clause-steps : goal.returns-in-Make-clause-steps
 returns-in-Make-clause-steps g c =
     make_steps (g.F.Files.told c.args.files.now) (asked_by c.args.command.now) (inputs_by c.inputs_of-inputs.result) c.args.steps.now c.make_map-outcome.new.steps (ap asked_by c.in-Make.is) c.inputs_of-inputs.ensures c.make_map-outcome.ensures.steps
+
+pub returns-in-Import-clause-steps : goal.returns-in-Import-clause-steps
+returns-in-Import-clause-steps g c =
+    import_steps (g.F.Files.told c.args.files.now) (asked_by c.args.command.now) (inputs_by c.inputs_of-inputs.result) c.args.steps.now c.import_graph-outcome.new.steps (ap asked_by c.in-Import.is) c.inputs_of-inputs.ensures c.import_graph-outcome.ensures.steps
 
 pub returns-in-Improve-clause-steps : goal.returns-in-Improve-clause-steps
 returns-in-Improve-clause-steps g c =

@@ -31,8 +31,8 @@ returns-in-Err-Bad c =
     let steps : c.loop-key.key-iterator ≡ entry ∷ left = c.in-Some.ensures.steps in
     let text = c.as_str-in-Err-Bad.result.now in
     let nothing = rw c.in-Err-Bad.field-0-is at c.in-Err-Bad.ensures in
-    reads_named c.bad_key.result text (entries_outcome c.args.defaults (entries (table_view c.args.table.now))) c.bad_key.ensures
-    (bad_entry c.args.defaults entry left c.args.table.now.entries text c.as_str-in-Err-Bad.ensures.value
+    reads_named c.bad_key.result text (entries_outcome c.args.base (entries (table_view c.args.table.now))) c.bad_key.ensures
+    (bad_entry c.args.base entry left c.args.table.now.entries text c.as_str-in-Err-Bad.ensures.value
     (ap (λ t. change_of (t, view entry.1)) (c.as_str-in-Err-Bad.ensures.value ∙ sym c.as_str.ensures.value) ∙ nothing)
     (subst (λ es. IsStrictlySortedBy string_cmp (keys_of es)) steps sorted)
     (sym (ap (λ es. bad_keys (map entry_view es)) steps) ∙ bad))
@@ -40,4 +40,4 @@ returns-in-Err-Bad c =
 pub returns : goal.returns
 returns c =
     let (sorted, bad, made) = c.loop-key.invariant in
-    good_file c.args.defaults c.loop-key.key-iterator c.args.table.now.entries c.loop-key.settings c.in-None.ensures.steps.0 bad made
+    good_file c.args.base c.loop-key.key-iterator c.args.table.now.entries c.loop-key.settings c.in-None.ensures.steps.0 bad made

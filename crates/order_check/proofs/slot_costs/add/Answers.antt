@@ -1,9 +1,15 @@
-use Rattle.std.proofs.Common.{◌≡◌, ◌∙◌, true, false, set, arith, refl, rules, w64, to_z, of_z}
+use Rattle.std.proofs.Common.{◌≡◌, ◌∙◌, true, false, set, sym, ap, arith, refl, rules, w64, to_z, of_z}
 use Rattle.std.specs.Prelude.{◌+ℤ◌, ◌-ℤ◌}
 use Rattle.std.specs.Int.{w128}
 use Rattle.std.proofs.lemmas.Int.{ints, to_z-of_z}
-use Rattle.order_check.proofs.Leasts.{least_bound, least_moved, charge_set}
+use Rattle.order_check.specs.Slots.{cost_at}
+use Rattle.order_check.proofs.Leasts.{least_bound, least_moved, charge_set, none_added}
 use Rattle.order_check.proofs.slot_costs.add.Goals as goal
+
+pub returns-then-charge-eq0-clause-slots : goal.returns-then-charge-eq0-clause-slots
+returns-then-charge-eq0-clause-slots c = λ k below x.
+    (let own : to_z w64 (of_z w64 c.args.charge.amount) ≡ c.args.charge.amount = to_z-of_z w64 c.args.charge.amount (search rules) in
+    none_added c.args.charge k x (cost_at c.args.costs.now k x) (sym own ∙ ap (to_z w64) c.if-charge-eq0.true))
 
 pub with_charge-after-requires-clause-lesser : goal.with_charge-after-requires-clause-lesser
 with_charge-after-requires-clause-lesser c = c.requires.small c.args.charge.slot true (omega (arith, c.if-k-costs.false))

@@ -1,12 +1,10 @@
-use Rattle.std.proofs.Common.{◌≡◌, ◌∙◌, true, cond, List, ap, sym, arith}
+use Rattle.std.proofs.Common.{◌∙◌, ap, arith}
 use Rattle.std.specs.Prelude.{ℤ, pos, ◌+ℤ◌}
 use Rattle.std.proofs.lemmas.Int.{ints}
-use Rattle.map_base.specs.declared.ids.LineId.{LineId}
 use Rattle.order_check.specs.declared.slot.PartTerm.{PartTerm}
 use Rattle.order_check.specs.declared.slot.Charges.{Charges}
 use Rattle.order_check.specs.Slots.{cost_at, charge_on}
-use Rattle.order_check.specs.Placings.{is_fresh}
-use Rattle.order_check.specs.Counting.{added_by, shifted}
+use Rattle.order_check.specs.Counting.{shifted}
 use Rattle.order_check.proofs.Charging.{AreSmallCharges, small_charges}
 use Rattle.order_check.proofs.slot_costs.count_term.Goals as goal
 
@@ -26,13 +24,9 @@ add_both-least-requires-clause-there c =
 
 pub returns-clause-slots : goal.returns-clause-slots
 returns-clause-slots c = λ k below x.
-    (let segs : List (List LineId) = c.args.problem.now.segs in
-    let placed : List (List LineId) = c.args.prefix.now.placed in
-    let a : ℤ = cost_at c.args.costs.now k x in
-    let counted : is_fresh c.args.counted c.args.t.term ≡ true = sym c.is_fresh.ensures ∙ c.if-not-is_fresh.false in
+    (let a : ℤ = cost_at c.args.costs.now k x in
     c.add_both-least.ensures.slots k below x
-    ∙ ap (λ (d : Charges). shifted c.args.off a (charge_on d.here k x +ℤ charge_on d.there k x)) c.charges-added.ensures
-    ∙ sym (ap (λ b. shifted c.args.off a (cond b (added_by segs placed k x c.args.t) (pos 0))) counted))
+    ∙ ap (λ (d : Charges). shifted c.args.off a (charge_on d.here k x +ℤ charge_on d.there k x)) c.charges-added.ensures)
 
 pub returns-clause-most : goal.returns-clause-most
 returns-clause-most c =

@@ -12,11 +12,11 @@ use Rattle.order_model.specs.Questions.{Question}
 use Rattle.order_bound.proofs.Sound.{rising_at, all_in}
 use Rattle.order_check.specs.Asking.{question_of}
 use Rattle.order_check.specs.Children.{child_lines}
-use Rattle.order_check.specs.declared.placing.Placing.{Placing}
+use Rattle.order_check.specs.declared.slot.PartTerm.{PartTerm}
 use Rattle.order_check.specs.Placings.{placing_of, changes}
-use Rattle.order_check.specs.Counting.{IsTallyBeside}
+use Rattle.order_check.specs.Counting.{IsTallyWithout}
 use Rattle.order_check.specs.Walking.{IsWalked, split_test}
-use Rattle.order_check.proofs.Tallies.{beside_placed, beside_back, case_tally}
+use Rattle.order_check.proofs.Tallies.{without_placed, without_back, case_those, case_tally}
 use Rattle.order_check.proofs.Walks.{distinct_children, child_is_tree, split_walked, not_split_walked, case_next, of_part, case_refused, cases_passed, case_restored, chosen_walked}
 use Rattle.order_check.proofs.walk.+walk.Goals as goal
 
@@ -108,16 +108,44 @@ walk_case-take_back-requires-clause-some t c =
     chosen_walked c.args.asked.now.problem.now.segs c.args.prefix.now.placed c.place.new.self.placed c.walk-outcome.new.prefix.placed s c.args.line
     (omega (arith, c.requires.seg, c.requires.fits.each)) (c.requires.fits.lines s.0 c.requires.seg) c.requires.line c.requires.unplaced c.place.ensures.placed c.walk-outcome.ensures.placed
 
+-- the terms that the placing may change are picked
+pub walk_case-take_off-beside-requires-clause-picked : goal.walk_case-take_off-beside-requires-clause-picked
+walk_case-take_off-beside-requires-clause-picked t c =
+    let asked = c.args.asked.now in
+    let those = case_those asked c.args.prefix.now.placed c.args.seg c.args.line c.placing_of-placing.result c.as_slice-some.result.now c.in_ok-changed.changed.items c.requires.asked c.placing_of-placing.ensures
+    c.in_ok-changed.ensures c.as_slice-some.ensures.value in
+    (changes (placing_of asked.problem.now.segs c.args.prefix.now.placed c.args.seg c.args.line) (lines_on asked.problem.now.segs c.args.seg) (lines_on c.args.prefix.now.placed c.args.seg), those)
+
+pub walk_case-put_on-after-requires-clause-picked : goal.walk_case-put_on-after-requires-clause-picked
+walk_case-put_on-after-requires-clause-picked t c =
+    let asked = c.args.asked.now in
+    let those = case_those asked c.args.prefix.now.placed c.args.seg c.args.line c.placing_of-placing.result c.as_slice-some.result.now c.in_ok-changed.changed.items c.requires.asked c.placing_of-placing.ensures
+    c.in_ok-changed.ensures c.as_slice-some.ensures.value in
+    (changes (placing_of asked.problem.now.segs c.args.prefix.now.placed c.args.seg c.args.line) (lines_on asked.problem.now.segs c.args.seg) (lines_on c.args.prefix.now.placed c.args.seg), those)
+
+pub walk_case-take_off-left-requires-clause-picked : goal.walk_case-take_off-left-requires-clause-picked
+walk_case-take_off-left-requires-clause-picked t c =
+    let asked = c.args.asked.now in
+    let those = case_those asked c.args.prefix.now.placed c.args.seg c.args.line c.placing_of-placing.result c.as_slice-some.result.now c.in_ok-changed.changed.items c.requires.asked c.placing_of-placing.ensures
+    c.in_ok-changed.ensures c.as_slice-some.ensures.value in
+    (changes (placing_of asked.problem.now.segs c.args.prefix.now.placed c.args.seg c.args.line) (lines_on asked.problem.now.segs c.args.seg) (lines_on c.args.prefix.now.placed c.args.seg), those)
+
+pub walk_case-put_on-same-requires-clause-picked : goal.walk_case-put_on-same-requires-clause-picked
+walk_case-put_on-same-requires-clause-picked t c =
+    let asked = c.args.asked.now in
+    let those = case_those asked c.args.prefix.now.placed c.args.seg c.args.line c.placing_of-placing.result c.as_slice-some.result.now c.in_ok-changed.changed.items c.requires.asked c.placing_of-placing.ensures
+    c.in_ok-changed.ensures c.as_slice-some.ensures.value in
+    (changes (placing_of asked.problem.now.segs c.args.prefix.now.placed c.args.seg c.args.line) (lines_on asked.problem.now.segs c.args.seg) (lines_on c.args.prefix.now.placed c.args.seg), those)
+
 -- the tally of the others, once the line is placed
 pub walk_case-put_on-after-requires-clause-tally : goal.walk_case-put_on-after-requires-clause-tally
 walk_case-put_on-after-requires-clause-tally t c =
     let s = c.args.seg in
     let asked = c.args.asked.now in
-    let placed : List (List LineId) = c.args.prefix.now.placed in
-    let beside = subst (λ (p : Placing). IsTallyBeside (changes p) asked placed c.take_off-beside.result c.take_off-beside.new.costs) c.placing_of-placing.ensures c.take_off-beside.ensures in
-    rw c.placing_of-placing.ensures
-    (beside_placed s c.args.line asked placed c.place.new.self.placed c.requires.asked (omega (arith, c.requires.seg, c.requires.fits.each)) (c.requires.fits.lines s.0 c.requires.seg) c.requires.line
-    c.requires.unplaced c.place.ensures.placed c.take_off-beside.result c.take_off-beside.new.costs beside)
+    let those = case_those asked c.args.prefix.now.placed c.args.seg c.args.line c.placing_of-placing.result c.as_slice-some.result.now c.in_ok-changed.changed.items c.requires.asked c.placing_of-placing.ensures
+    c.in_ok-changed.ensures c.as_slice-some.ensures.value in
+    without_placed s c.args.line asked c.args.prefix.now.placed c.place.new.self.placed c.requires.asked (omega (arith, c.requires.seg, c.requires.fits.each)) (c.requires.fits.lines s.0 c.requires.seg)
+    c.requires.line c.requires.unplaced c.place.ensures.placed c.as_slice-some.result.now c.take_off-beside.result c.take_off-beside.new.costs those c.take_off-beside.ensures
 
 -- and once it is taken back
 pub walk_case-put_on-same-requires-clause-tally : goal.walk_case-put_on-same-requires-clause-tally
@@ -125,16 +153,16 @@ walk_case-put_on-same-requires-clause-tally t c =
     let s = c.args.seg in
     let asked = c.args.asked.now in
     let placed : List (List LineId) = c.args.prefix.now.placed in
+    let some : List PartTerm = c.as_slice-some.result.now in
     let known : s.0 < length placed = omega (arith, c.requires.seg, c.requires.fits.each) in
-    let placing = placing_of asked.problem.now.segs placed s c.args.line in
-    let walked = subst (λ (p : Placing). IsTallyBeside (changes p) asked c.walk-outcome.new.prefix.placed c.take_off-left.result c.take_off-left.new.costs) c.placing_of-placing.ensures c.take_off-left.ensures in
-    let there = subst (λ (l : List (List LineId)). IsTallyBeside (changes placing) asked l c.take_off-left.result c.take_off-left.new.costs) c.walk-outcome.ensures.placed walked in
-    let here = beside_back s c.args.line asked placed c.place.new.self.placed c.requires.asked known (c.requires.fits.lines s.0 c.requires.seg) c.requires.line c.requires.unplaced c.place.ensures.placed
-    c.take_off-left.result c.take_off-left.new.costs there in
+    let those = case_those asked c.args.prefix.now.placed c.args.seg c.args.line c.placing_of-placing.result c.as_slice-some.result.now c.in_ok-changed.changed.items c.requires.asked c.placing_of-placing.ensures
+    c.in_ok-changed.ensures c.as_slice-some.ensures.value in
+    let there = subst (λ (l : List (List LineId)). IsTallyWithout some asked l c.take_off-left.result c.take_off-left.new.costs) c.walk-outcome.ensures.placed c.take_off-left.ensures in
+    let here = without_back s c.args.line asked placed c.place.new.self.placed c.requires.asked known (c.requires.fits.lines s.0 c.requires.seg) c.requires.line c.requires.unplaced c.place.ensures.placed
+    some c.take_off-left.result c.take_off-left.new.costs those there in
     let restored = case_restored asked.problem.now.segs placed c.place.new.self.placed c.walk-outcome.new.prefix.placed c.take_back.new.self.placed s c.args.line known
     (rising_at asked.problem.now.segs s.0 c.requires.asked.problem.rising) (c.requires.fits.lines s.0 c.requires.seg) c.place.ensures.placed c.walk-outcome.ensures.placed c.take_back.ensures.placed in
-    rw c.placing_of-placing.ensures
-    (subst (λ (l : List (List LineId)). IsTallyBeside (changes placing) asked l c.take_off-left.result c.take_off-left.new.costs) (sym restored) here)
+    subst (λ (l : List (List LineId)). IsTallyWithout some asked l c.take_off-left.result c.take_off-left.new.costs) (sym restored) here
 
 pub walk_case-returns-in_err-outcome-clause-tally : goal.walk_case-returns-in_err-outcome-clause-tally
 walk_case-returns-in_err-outcome-clause-tally t c =

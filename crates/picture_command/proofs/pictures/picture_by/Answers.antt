@@ -4,8 +4,8 @@ use Rattle.map_base.specs.declared.point.Point.{Point}
 use Rattle.map_method.specs.declared.claim.Claim.{Claim}
 use Rattle.command_paths.specs.declared.picture.Picture.{Picture}
 use Rattle.command_paths.specs.declared.picture.Picture.TheVariants.{Geographic}
-use Rattle.map_engine.specs.Readings.{certificate_in}
-use Rattle.map_engine.specs.Checking.{Gives}
+use Rattle.graph_maps.specs.Readings.{certificate_in}
+use Rattle.graph_maps.specs.Checking.{Gives}
 use Rattle.map_engine.specs.Labelling.{pictured_items}
 use Rattle.map_engine.specs.Geographic.{geographic_by, lines_by, lines_or_none}
 use Rattle.picture_command.specs.PictureWorks.{picture_by, HasLines}

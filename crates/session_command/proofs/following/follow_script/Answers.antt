@@ -7,7 +7,7 @@ use Rattle.map_edits.specs.Grammar.{script_line_in}
 use Rattle.session_command.specs.declared.following.LineEnd.{LineEnd}
 use Rattle.session_command.specs.Stages.{EndsLine, line_text, stage_of}
 use Rattle.session_command.proofs.EditLemmas.{count_more}
-use Rattle.session_command.proofs.LineLemmas.{refused_due, written_begun, written_more, written_left, written_to_bad, steps_left}
+use Rattle.session_command.proofs.LineLemmas.{refused_due, written_begun, written_more, written_whole, written_left, written_to_bad, steps_left}
 use Rattle.session_command.proofs.following.follow_script.Goals as goal
 
 pub loop-line-init : goal.loop-line-init
@@ -53,6 +53,25 @@ returns-in-Bad-clause-written g c =
     (written_to_bad session.feed session.choices session.method c.args.script.now c.args.steps.now (g.S.Sinks.current c.args.sinks.now) (g.S.Sinks.written c.args.sinks.now)
     here c.loop-line.done c.loop-line.rest.now c.in-Some.line.now c.in-Some.left.now c.loop-line.steps c.follow_line.new.steps mid now c.in-Some.ensures.lines ends.0
     c.in_ok-follow_line.ensures.steps c.loop-line.invariant.way does).does
+
+pub returns-in-Bad-clause-kept : goal.returns-in-Bad-clause-kept
+returns-in-Bad-clause-kept g c =
+    let session = c.args.session.now in
+    let here = stage_of c.loop-line.session c.loop-line.count in
+    let mid = g.S.Sinks.written c.loop-line.sinks in
+    let now = g.S.Sinks.written c.follow_line.new.sinks in
+    let ends = subst (λ (e : LineEnd). EndsLine here (script_line_in c.in-Some.line.now) (stage_of c.follow_line.new.session c.follow_line.new.count) e) c.in-Bad.is c.in_ok-follow_line.ensures.ended in
+    let does = subst (λ (t : Option Target). Does (puts t (line_text here (script_line_in c.in-Some.line.now))) mid now) c.loop-line.invariant.current c.in_ok-follow_line.ensures.written in
+    (written_to_bad session.feed session.choices session.method c.args.script.now c.args.steps.now (g.S.Sinks.current c.args.sinks.now) (g.S.Sinks.written c.args.sinks.now)
+    here c.loop-line.done c.loop-line.rest.now c.in-Some.line.now c.in-Some.left.now c.loop-line.steps c.follow_line.new.steps mid now c.in-Some.ensures.lines ends.0
+    c.in_ok-follow_line.ensures.steps c.loop-line.invariant.way does).kept
+
+pub returns-clause-kept : goal.returns-clause-kept
+returns-clause-kept g c =
+    let session = c.args.session.now in
+    (written_whole session.feed session.choices session.method c.args.script.now c.args.steps.now (g.S.Sinks.current c.args.sinks.now) (g.S.Sinks.written c.args.sinks.now)
+    (stage_of c.loop-line.session c.loop-line.count) c.loop-line.done c.loop-line.rest.now c.loop-line.steps (g.S.Sinks.written c.loop-line.sinks)
+    c.in_default.ensures.lines c.loop-line.invariant.way).kept
 
 pub loop-line-preserved : goal.loop-line-preserved
 loop-line-preserved g c =

@@ -1,0 +1,12 @@
+mod Lists
+mod Texts
+mod ColumnLemmas
+mod Rounds
+mod Consistency
+mod Assembly
+mod FormFacts
+mod PlainValues
+mod ListBack
+mod ReadBack
+mod Sound
+mod WrittenAgain

@@ -1,0 +1,116 @@
+-- What comes of a check after each of its steps.
+use Rattle.std.proofs.Common.{◌≡◌, ◌∙◌, ap, sym, subst, refl, arith, ℕ, ◌+◌, ◌==◌, eq-eqb, eqb-true, Bool, true, false, cond, List, [], ◌∷◌, length, Option, Some, None, option_map, Result, Ok, Err}
+use Rattle.map_base.specs.declared.ids.LineId.{LineId}
+use Rattle.map_base.specs.Settings.{Choices}
+use Rattle.graph_core.specs.declared.parts.GraphParts.{GraphParts}
+use Rattle.decimal_text.specs.declared.fault.BadText.{BadText}
+use Rattle.decimal_text.specs.declared.fault.BadText.TheVariants as bad
+use Rattle.decimal_text.specs.Readers.{EndsAs}
+use Rattle.order_model.specs.declared.problem.ProblemParts.{ProblemParts}
+use Rattle.order_model.specs.Costs.{cost_of, AreBest, AreOrders}
+use Rattle.map_method.specs.declared.claim.Claim.{Claim}
+use Rattle.order_check.specs.declared.refusal.ProofItem.{ProofItem}
+use Rattle.order_check.specs.declared.refusal.ProofItem.TheVariants as refused
+use Rattle.order_check.specs.declared.refusal.ProofStop.{ProofStop}
+use Rattle.order_check.specs.declared.refusal.ProofStop.TheVariants as stopped
+use Rattle.order_check.specs.Verdict.{first_item, targets, total_refusal, bound_refusal, verdict, IsCause}
+use Rattle.order_proof.specs.Plain.{PlainProof}
+use Rattle.order_check.specs.LowerBounds.{IsLowerBound}
+use Rattle.cert_file.specs.declared.certificate.Certificate.{Certificate}
+use Rattle.cert_file.specs.Plain.{PlainCertificate}
+use Rattle.cert_file.specs.Reading.{certificate_end}
+use Rattle.map_faults.specs.declared.fault.CheckItem.{CheckItem}
+use Rattle.map_faults.specs.declared.fault.CheckItem.TheVariants as item
+use Rattle.map_faults.specs.declared.fault.CheckFault.{CheckFault}
+use Rattle.map_faults.specs.Faults.{proof_stop, text_stop}
+use Rattle.graph_maps.specs.Problems.{problem_within}
+use Rattle.graph_maps.specs.Promises.{AreBounded}
+use Rattle.graph_maps.specs.Readings.{certificate_in}
+use Rattle.graph_maps.specs.Checking.{first_difference, accepted_text, proof_item, unless_costlier, unless_refused, HasCause, Gives}
+use Rattle.graph_maps.proofs.ReadAgain.{wrong_read}
+use Rattle.graph_maps.proofs.MadeProblem.{problem_is}
+
+-- a text that is no certificate's is refused where reading stops
+pub text_refused : {A : Type 0} (gives : PlainCertificate → A) (importance : List ℕ) (choices : Choices) (claim : Claim) (graph : GraphParts) (bytes : List ℕ) (stop : BadText)
+    → EndsAs (λ (c : Certificate). length bytes) (Err stop) (certificate_end bytes)
+    → HasCause (accepted_text gives importance choices claim graph (certificate_in bytes)) (text_stop stop)
+text_refused gives importance choices claim graph bytes (bad.At at) h = ap (accepted_text gives importance choices claim graph) (wrong_read bytes at h)
+text_refused gives importance choices claim graph bytes bad.NoMemory h = tt
+
+-- what is given of an outcome is given of an equal one
+pub gives_same : {X Y : Type 0} (view : X → Y) (result : Result X CheckFault) (a b : Result Y CheckFault) → a ≡ b → Gives view result b → Gives view result a
+gives_same {X} {Y} view result a b same h = subst (λ (outcome : Result Y CheckFault). Gives view result outcome) (sym same) h
+
+-- texts that differ nowhere are one
+pub no_difference : (xs ys : List ℕ) → first_difference xs ys ≡ None → xs ≡ ys
+no_difference [] [] none = refl
+no_difference [] (y ∷ ys) none = absurd cc
+no_difference (x ∷ xs) [] none = absurd cc
+no_difference (x ∷ xs) (y ∷ ys) none = by (x == y) refl (first_difference xs ys) (no_difference xs ys) none
+  where
+    by : (t : Bool) → (x == y) ≡ t → (o : Option ℕ) → (o ≡ None → xs ≡ ys) → cond t (option_map (λ at. 1 + at) o) (Some 0) ≡ None → x ∷ xs ≡ y ∷ ys
+    by true same None rest h = ap (λ (z : ℕ). z ∷ xs) (eqb-true x y same) ∙ ap (λ (zs : List ℕ). y ∷ zs) (rest refl)
+    by true same (Some at) rest h = absurd cc
+    by false same o rest h = absurd cc
+
+-- what is proved of line orders in the problem that was made is proved in the graph's
+pub orders_bounded : (importance : List ℕ) (choices : Choices) (graph : GraphParts) (p : ProblemParts) (orders : List (List LineId))
+    (cost bound : ℕ) → problem_within importance choices graph ≡ Ok p
+    → cost_of p.terms orders ≡ cost → IsLowerBound p.segs p.terms bound
+    → AreBounded importance choices graph orders (record { cost = cost; bound = bound })
+orders_bounded importance choices graph p orders cost bound made costs least =
+    let same = problem_is importance choices graph p made in
+    record {
+      costs = subst (λ (q : ProblemParts). cost_of q.terms orders ≡ cost) same costs;
+      bound = subst (λ (q : ProblemParts). IsLowerBound q.segs q.terms bound) same least;
+    }
+
+-- orders of a graph's segments are orders of its problem's
+pub orders_fit : (importance : List ℕ) (choices : Choices) (graph : GraphParts) (p : ProblemParts) (orders : List (List LineId)) → problem_within importance choices graph ≡ Ok p
+    → AreOrders graph.lines orders → AreOrders p.segs orders
+orders_fit importance choices graph p orders made are = subst (λ (q : ProblemParts). AreOrders q.segs orders) (sym (problem_is importance choices graph p made)) are
+
+-- Cost and proof.
+
+module _ {A : Type 0} (claim : Claim) (p : ProblemParts) (orders : List (List LineId)) (cost : ℕ) (proof : PlainProof)
+    (next : Result A CheckFault) (refusal : Option ProofItem) (is : proof_item claim p orders proof ≡ option_map item.Proof refusal)
+    (costs : cost_of p.terms orders ≡ cost) where
+  by_refusal : unless_costlier claim p orders cost proof next ≡ unless_refused (option_map item.Proof refusal) next
+  by_refusal =
+      ap (λ (b : Bool). unless_refused (cond b None (Some item.Cost)) (unless_refused (proof_item claim p orders proof) next))
+      (eq-eqb cost (cost_of p.terms orders) (sym costs))
+      ∙ ap (λ (o : Option CheckItem). unless_refused o next) is
+
+  -- nothing is refused
+  pub proof_held : refusal ≡ None → unless_costlier claim p orders cost proof next ≡ next
+  proof_held none = by_refusal ∙ ap (λ (o : Option ProofItem). unless_refused (option_map item.Proof o) next) none
+
+  -- an item of the proof is refused
+  pub proof_stopped : (stop : ProofStop) → IsCause refusal stop
+      → HasCause (unless_costlier claim p orders cost proof next) (proof_stop stop)
+  proof_stopped (stopped.Refuted i) h =
+      by_refusal ∙ ap (λ (o : Option ProofItem). unless_refused (option_map item.Proof o) next) h
+  proof_stopped stopped.NoMemory h = tt
+
+-- the targets sum to the cost of orders where no item of the proof and no total is refused
+pub total_there : (p : ProblemParts) (orders : List (List LineId)) (proof : PlainProof) → verdict p orders proof ≡ None
+    → targets proof.parts ≡ cost_of p.terms orders
+total_there p orders proof h = by_refusal (bound_refusal p proof) h
+  where
+    total : ℕ
+    total = cost_of p.terms orders
+
+    by_test : (b : Bool) → (targets proof.parts == total) ≡ b → cond b None (Some refused.Total) ≡ None
+        → targets proof.parts ≡ total
+    by_test true same e = eqb-true (targets proof.parts) total same
+    by_test false same e = absurd cc
+
+    by_refusal : (o : Option ProofItem) → first_item o (total_refusal proof.parts total) ≡ None
+        → targets proof.parts ≡ total
+    by_refusal None e = by_test (targets proof.parts == total) refl e
+    by_refusal (Some i) e = absurd cc
+
+-- orders that cost least are a bound
+pub best_bounds : (p : ProblemParts) (orders : List (List LineId)) (cost : ℕ) → cost_of p.terms orders ≡ cost
+    → AreBest p.segs p.terms orders → IsLowerBound p.segs p.terms cost
+best_bounds p orders cost costs best others are = omega (arith, costs, best others are)

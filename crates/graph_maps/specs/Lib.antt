@@ -1,0 +1,17 @@
+pub mod Subjects
+pub mod Problems
+pub mod Solving
+pub mod Lifted
+pub mod Certificates
+pub mod DrawnLines
+pub mod Moving
+pub mod Making
+pub mod Stages
+pub mod FrontReadings
+pub mod Readings
+pub mod Checking
+pub mod Keeping
+pub mod Promises
+pub mod Improving
+pub mod Wholes
+pub mod Labelling

@@ -1,5 +1,0 @@
-use Rattle.map_engine.proofs.ReadAgain.{wrong_read}
-use Rattle.map_engine.proofs.laws.each_other_text_is_refused_at_its_first_wrong_line.Goals as goal
-
-pub returns : goal.returns
-returns c = λ bytes at e. wrong_read bytes at e

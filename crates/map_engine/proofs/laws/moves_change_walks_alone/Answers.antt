@@ -1,5 +1,0 @@
-use Rattle.std.proofs.Common.{refl}
-use Rattle.map_engine.proofs.laws.moves_change_walks_alone.Goals as goal
-
-pub returns : goal.returns
-returns c = λ feed choices drawn parts moves. refl

@@ -1,0 +1,19 @@
+-- The keys of a file of settings.
+use Rattle.std.specs.Prelude.{ℕ, List, codes}
+use Rattle.message_texts.specs.declared.setting_key.SettingKey.{SettingKey}
+use Rattle.message_texts.specs.declared.setting_key.SettingKey.TheVariants as key
+
+-- a key as it is written
+abbrev pub key_name : SettingKey → List ℕ
+key_name key.Types = codes "types"
+key_name key.Near = codes "near"
+key_name key.Junction = codes "junction"
+key_name key.Station = codes "station"
+key_name key.Importance = codes "importance"
+key_name key.Cell = codes "cell"
+key_name key.Spread = codes "spread"
+key_name key.Finest = codes "finest"
+key_name key.Moves = codes "moves"
+key_name key.Search = codes "search"
+key_name key.Proof = codes "proof"
+key_name key.Budget = codes "budget"

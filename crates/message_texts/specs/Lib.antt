@@ -1,0 +1,4 @@
+pub mod Keys
+pub mod Meant
+pub mod Seems
+pub mod Troubles

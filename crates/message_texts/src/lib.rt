@@ -1,0 +1,24 @@
+//! What messages to a user say, as functions over what was found: which known word was meant, what a path seems to be,
+//! which field of a row a reason speaks of and what is due there, what is wrong in a line that is no edit, which
+//! stations lie far from all others. Nothing here reads a file or prints.
+#![tactic(auto)]
+
+mod edit_word;
+mod far_off;
+mod limit_hints;
+mod meant_word;
+mod row_field;
+mod seeming;
+mod setting_key;
+mod shown;
+mod trouble;
+
+pub use edit_word::{EDIT_WORDS, EditWord};
+pub use far_off::far_stations;
+pub use limit_hints::limit_hint;
+pub use meant_word::meant;
+pub use row_field::{column_of, due_in, id_column, required_column};
+pub use seeming::{Found, Seeming, path_seems};
+pub use setting_key::{SETTING_KEYS, SettingKey};
+pub use shown::{list_of, plain, quoted};
+pub use trouble::{Trouble, trouble_of};

@@ -1,0 +1,59 @@
+//! Texts of a feed or of the command line, as messages show them.
+
+use map_base::{NoMemory, Text};
+use std::alloc::Global;
+
+/// How many characters of a text are shown.
+const SHOWN: usize = 80;
+
+/// A text between quotes, as `plain` shows it.
+pub fn quoted(alloc: Global, bytes: &[u8]) -> Result<String, NoMemory> {
+    let text = plain(alloc, bytes)?;
+    Ok(format!(in alloc; "\"{text}\"")?)
+}
+
+/// The first 80 characters of a text, with `<TAB>` for a TAB, and U+FFFD for each that would control a terminal and for
+/// bytes that are no UTF-8.
+pub fn plain(alloc: Global, bytes: &[u8]) -> Result<String, NoMemory> {
+    let text = String::from_utf8_lossy(alloc, bytes)?;
+    let mut shown = String::new(alloc);
+    for (place, character) in text.as_str().chars().enumerate() {
+        if place == SHOWN {
+            shown.push_str("..")?;
+            break;
+        }
+        match character {
+            '\t' => shown.push_str("<TAB>")?,
+            _ => shown.push(visible(character))?,
+        }
+    }
+    Ok(shown)
+}
+
+/// The character, or U+FFFD in place of one that would control a terminal.
+fn visible(character: char) -> char {
+    if character.is_control() {
+        '\u{FFFD}'
+    } else {
+        character
+    }
+}
+
+/// Texts between quotes, with a comma between them: the first `most`, and how many more there are.
+pub fn list_of(alloc: Global, texts: &[Text], most: usize) -> Result<String, NoMemory> {
+    let mut list = String::new(alloc);
+    for (place, text) in texts.iter().enumerate() {
+        if place == most {
+            let more = texts.len() - most;
+            let rest = format!(in alloc; " and {more} more")?;
+            list.push_str(rest.as_str())?;
+            break;
+        }
+        if place > 0 {
+            list.push_str(", ")?;
+        }
+        let text = quoted(alloc, text.as_str().as_bytes())?;
+        list.push_str(text.as_str())?;
+    }
+    Ok(list)
+}

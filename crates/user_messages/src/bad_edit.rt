@@ -1,0 +1,167 @@
+//! A line of a file of edits, or of a script, that is refused.
+
+use crate::files::missing;
+use crate::lookup::bytes_at;
+use crate::table_ids::{ids_at, question};
+use command_inputs::Inputs;
+use map_base::{NoMemory, Text};
+use map_edits::{Edit, next_line};
+use message_texts::{EDIT_WORDS, EditWord, Trouble, list_of, quoted, trouble_of};
+use std::alloc::Global;
+use std::rt::Files;
+
+/// How many first words of a line are named at most.
+const TOLD: usize = 20;
+
+/// The lines for the line of this number, counted from 1; 0 where there is no file.
+pub(crate) fn bad_edit<R: Files + AllocGlobal>(
+    rt: &R,
+    inputs: &Inputs<'_>,
+    line: u64,
+) -> Result<String, NoMemory> {
+    let alloc = rt.alloc();
+    let path = edits_path(inputs);
+    if line == 0 {
+        return missing(rt, path);
+    }
+    let Some(bytes) = bytes_at(rt, path)? else {
+        return Ok(String::new(alloc));
+    };
+    let Some(text) = line_at(bytes.as_slice(), line) else {
+        return Ok(String::new(alloc));
+    };
+    let wrong = wrong_in(rt, inputs, text)?;
+    let shown = quoted(alloc, path.as_bytes())?;
+    let text = quoted(alloc, text)?;
+    Ok(format!(in alloc; "octimap: {shown}, line {line}: {text}: {wrong}\n")?)
+}
+
+/// Where the edits stand: in a script, or in a file of edits.
+fn edits_path<'a>(inputs: &Inputs<'a>) -> &'a str {
+    if inputs.script.is_empty() {
+        inputs.options.edits.unwrap_or("")
+    } else {
+        inputs.script
+    }
+}
+
+/// The line of this number, counted from 1.
+fn line_at(script: &[u8], number: u64) -> Option<&[u8]> {
+    let mut rest = script;
+    let mut found = None;
+    for _ in 0..number {
+        let (line, behind) = next_line(rest)?;
+        found = Some(line);
+        rest = behind;
+    }
+    found
+}
+
+/// What is wrong in a line.
+fn wrong_in<R: Files + AllocGlobal>(
+    rt: &R,
+    inputs: &Inputs<'_>,
+    line: &[u8],
+) -> Result<String, NoMemory> {
+    let alloc = rt.alloc();
+    match trouble_of(alloc, line)? {
+        Trouble::Reads(edit) => not_due(rt, inputs.feed, &edit),
+        Trouble::Empty => Ok(String::from_str(alloc, "a line is empty; take it out")?),
+        Trouble::Spaces(word) => spaces(alloc, word),
+        Trouble::Unknown => unknown(alloc, line, !inputs.script.is_empty()),
+        Trouble::Count(word, count) => wrong_count(alloc, word, count),
+        Trouble::Value(word) => Ok(String::from_str(alloc, word.form())?),
+    }
+}
+
+/// Spaces stand where TABs are due.
+fn spaces(alloc: Global, word: EditWord) -> Result<String, NoMemory> {
+    let form = word.form();
+    Ok(format!(in alloc; "a TAB is due between two words, not spaces; {form}")?)
+}
+
+/// Too few or too many words.
+fn wrong_count(alloc: Global, word: EditWord, count: usize) -> Result<String, NoMemory> {
+    let form = word.form();
+    let due = word.arguments();
+    Ok(format!(in alloc;
+        "words behind the first: {count}, and {due} are due, each after one TAB; {form}"
+    )?)
+}
+
+/// The first word begins no edit, nor is it the draw of a script.
+fn unknown(alloc: Global, line: &[u8], is_script: bool) -> Result<String, NoMemory> {
+    let first = first_word(line);
+    if is_script && first == b"draw".as_slice() {
+        return Ok(String::from_str(alloc, "draw takes nothing")?);
+    }
+    let words = first_words(alloc, is_script)?;
+    let near = question(alloc, first, words.as_slice())?;
+    let list = list_of(alloc, words.as_slice(), TOLD)?;
+    Ok(format!(in alloc; "no edit begins so{near}; a line begins with {list}")?)
+}
+
+/// The words that a line may begin with.
+fn first_words(alloc: Global, is_script: bool) -> Result<Vec<Text>, NoMemory> {
+    let mut words = Vec::new(alloc);
+    for word in EDIT_WORDS {
+        words.push(Text::of(alloc, word.name())?)?;
+    }
+    if is_script {
+        words.push(Text::of(alloc, "draw")?)?;
+    }
+    Ok(words)
+}
+
+/// What stands before the first TAB or space.
+fn first_word(line: &[u8]) -> &[u8] {
+    for (place, byte) in line.iter().enumerate() {
+        if *byte == b'\t' || *byte == b' ' {
+            return line.split_at(place).0;
+        }
+    }
+    line
+}
+
+/// A line is an edit, but its line or station is not there, or there is nothing to undo.
+fn not_due<R: Files + AllocGlobal>(rt: &R, feed: &str, edit: &Edit) -> Result<String, NoMemory> {
+    let alloc = rt.alloc();
+    match edit {
+        Edit::Hide { line } => no_line(rt, feed, line),
+        Edit::Show { line } => no_line(rt, feed, line),
+        Edit::Colour { line, .. } => no_line(rt, feed, line),
+        Edit::Importance { line, .. } => no_line(rt, feed, line),
+        Edit::Rename { stop, .. } => no_station(rt, feed, stop),
+        Edit::Move { stop, .. } => no_station(rt, feed, stop),
+        Edit::Undo => Ok(String::from_str(alloc, "no edit is left to undo")?),
+        _ => Ok(String::new(alloc)),
+    }
+}
+
+/// No line that is drawn has this route id.
+fn no_line<R: Files + AllocGlobal>(rt: &R, feed: &str, line: &Text) -> Result<String, NoMemory> {
+    let alloc = rt.alloc();
+    let path = format!(in alloc; "{feed}/routes.txt")?;
+    let ids = ids_at(rt, path.as_str(), "route_id")?;
+    let shown = quoted(alloc, line.as_str().as_bytes())?;
+    if ids.iter().any(|id| id.as_str() == line.as_str()) {
+        return Ok(format!(in alloc;
+            "the route {shown} is not drawn; add its route_type to the key types"
+        )?);
+    }
+    let near = question(alloc, line.as_str().as_bytes(), ids.as_slice())?;
+    Ok(format!(in alloc; "routes.txt has no route_id {shown}{near}")?)
+}
+
+/// No station has this id.
+fn no_station<R: Files + AllocGlobal>(rt: &R, feed: &str, stop: &Text) -> Result<String, NoMemory> {
+    let alloc = rt.alloc();
+    let path = format!(in alloc; "{feed}/stops.txt")?;
+    let ids = ids_at(rt, path.as_str(), "stop_id")?;
+    let shown = quoted(alloc, stop.as_str().as_bytes())?;
+    if ids.iter().any(|id| id.as_str() == stop.as_str()) {
+        return Ok(format!(in alloc; "{shown} is no station of its own; name its parent_station")?);
+    }
+    let near = question(alloc, stop.as_str().as_bytes(), ids.as_slice())?;
+    Ok(format!(in alloc; "stops.txt has no stop_id {shown}{near}")?)
+}

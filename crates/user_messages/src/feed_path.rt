@@ -1,0 +1,139 @@
+//! A folder of a feed in which a table is missing: what it seems to be, and what to do.
+
+use crate::lookup::{Folder, folder_at, is_archive, is_plain};
+use map_base::NoMemory;
+use message_texts::{Found, Seeming, list_of, meant, path_seems, quoted};
+use std::alloc::Global;
+use std::rt::Files;
+
+/// How many names of a folder are told.
+const TOLD: usize = 12;
+
+/// The table of this name is missing in the folder of a feed.
+pub(crate) fn missing_table<R: Files + AllocGlobal + Clone + Drop>(
+    rt: &R,
+    feed: &str,
+    name: &str,
+) -> Result<String, NoMemory> {
+    let alloc = rt.alloc();
+    match folder_at(rt, feed)? {
+        Some(folder) => in_folder(rt, feed, name, &folder),
+        None => no_folder(alloc, feed, path_seems(feed, found_file(rt, feed))),
+    }
+}
+
+/// What lies at a path that is no folder.
+fn found_file<R: Files>(rt: &R, path: &str) -> Found {
+    if is_plain(rt, path) {
+        Found::File {
+            is_zip: is_archive(rt, path),
+        }
+    } else {
+        Found::Nothing
+    }
+}
+
+/// What a path seems to be where no folder is.
+fn no_folder(alloc: Global, feed: &str, seems: Seeming) -> Result<String, NoMemory> {
+    let shown = quoted(alloc, feed.as_bytes())?;
+    match seems {
+        Seeming::Empty => Ok(format!(in alloc;
+            "octimap: FEED is an empty word; name the folder of an unpacked feed\n"
+        )?),
+        Seeming::Address => Ok(format!(in alloc;
+            "octimap: {shown} is an address; download the feed, unpack it, and name the folder\n"
+        )?),
+        Seeming::Packed => Ok(format!(in alloc;
+            "octimap: {shown} is a packed feed; unpack it, as by: unzip -d feed {shown}, and name the folder\n"
+        )?),
+        Seeming::File => Ok(format!(in alloc;
+            "octimap: {shown} is a file; name the folder of an unpacked feed\n"
+        )?),
+        _ => Ok(format!(in alloc;
+            "octimap: there is no folder {shown}; name the folder of an unpacked feed\n"
+        )?),
+    }
+}
+
+/// What a folder seems to be in which a table is missing.
+fn in_folder<R: Files + AllocGlobal>(
+    rt: &R,
+    feed: &str,
+    name: &str,
+    folder: &Folder,
+) -> Result<String, NoMemory> {
+    let alloc = rt.alloc();
+    let inner = inner_of(rt, feed, name, folder)?;
+    let found = Found::Folder {
+        has_table: false,
+        has_inner: inner.is_some(),
+        has_packed: !folder.archives.is_empty(),
+    };
+    match path_seems(feed, found) {
+        Seeming::Outer => outer(alloc, feed, name, inner.unwrap_or("")),
+        Seeming::HoldsPacked => holds_packed(alloc, feed, name, folder),
+        _ => other(alloc, feed, name, folder),
+    }
+}
+
+/// The first folder of a folder that has the table.
+fn inner_of<'a, R: Files + AllocGlobal>(
+    rt: &R,
+    feed: &str,
+    name: &str,
+    folder: &'a Folder,
+) -> Result<Option<&'a str>, NoMemory> {
+    let alloc = rt.alloc();
+    for inner in &folder.folders {
+        let inner = inner.as_str();
+        let table = format!(in alloc; "{feed}/{inner}/{name}")?;
+        if is_plain(rt, table.as_str()) {
+            return Ok(Some(inner));
+        }
+    }
+    Ok(None)
+}
+
+/// A folder with a folder in it that has the table.
+fn outer(alloc: Global, feed: &str, name: &str, inner: &str) -> Result<String, NoMemory> {
+    let path = format!(in alloc; "{feed}/{inner}")?;
+    let path = quoted(alloc, path.as_bytes())?;
+    Ok(format!(in alloc; "octimap: {name} lies in {path}; name that folder\n")?)
+}
+
+/// A folder with an archive in it.
+fn holds_packed(
+    alloc: Global,
+    feed: &str,
+    name: &str,
+    folder: &Folder,
+) -> Result<String, NoMemory> {
+    let Some(archive) = folder.archives.first() else {
+        return other(alloc, feed, name, folder);
+    };
+    let archive = archive.as_str();
+    let path = format!(in alloc; "{feed}/{archive}")?;
+    let path = quoted(alloc, path.as_bytes())?;
+    Ok(format!(in alloc;
+        "octimap: there is no {name}, but the packed feed {path}; unpack it, and name the folder\n"
+    )?)
+}
+
+/// A folder with other things in it.
+fn other(alloc: Global, feed: &str, name: &str, folder: &Folder) -> Result<String, NoMemory> {
+    let shown = quoted(alloc, feed.as_bytes())?;
+    let names = folder.names.as_slice();
+    if let Some(place) = meant(alloc, name, names)? {
+        if let Some(near) = names.get(place) {
+            let near = quoted(alloc, near.as_str().as_bytes())?;
+            return Ok(format!(in alloc;
+                "octimap: there is no {name} in {shown} (did you mean {near}?)\n"
+            )?);
+        }
+    }
+    if names.is_empty() {
+        return Ok(format!(in alloc; "octimap: the folder {shown} is empty\n")?);
+    }
+    let list = list_of(alloc, names, TOLD)?;
+    Ok(format!(in alloc; "octimap: there is no {name} in {shown}; there are {list}\n")?)
+}

@@ -1,0 +1,46 @@
+//! Files that are not there, can't be read, or can't be written.
+
+use crate::lookup::{is_folder, read_fault};
+use disk_door::WriteError;
+use map_base::NoMemory;
+use message_texts::quoted;
+use std::alloc::Global;
+use std::rt::Files;
+
+/// A file that is needed is not there.
+pub(crate) fn missing<R: Files + AllocGlobal>(rt: &R, path: &str) -> Result<String, NoMemory> {
+    let alloc = rt.alloc();
+    let shown = quoted(alloc, path.as_bytes())?;
+    if path.is_empty() {
+        return Ok(format!(in alloc; "octimap: a path is an empty word\n")?);
+    }
+    Ok(format!(in alloc; "octimap: there is no file {shown}\n")?)
+}
+
+/// A file can't be read.
+pub(crate) fn unread<R: Files + AllocGlobal>(rt: &R, path: &str) -> Result<String, NoMemory> {
+    let alloc = rt.alloc();
+    let shown = quoted(alloc, path.as_bytes())?;
+    if is_folder(rt, path) {
+        return Ok(format!(in alloc; "octimap: {shown} is a folder, and a file is due there\n")?);
+    }
+    match read_fault(rt, path) {
+        Some(error) => Ok(format!(in alloc; "octimap: {shown} can't be read: {error}\n")?),
+        None => Ok(format!(in alloc; "octimap: {shown} couldn't be read to its end\n")?),
+    }
+}
+
+/// An output can't be written. `fault` is what the system said, if it said a word.
+pub(crate) fn unwritten(alloc: Global, fault: Option<WriteError<'_>>) -> Result<String, NoMemory> {
+    let Some(fault) = fault else {
+        return Ok(format!(in alloc; "octimap: not all of the output was taken\n")?);
+    };
+    let error = fault.error;
+    match fault.path {
+        Some(path) => {
+            let shown = quoted(alloc, path.as_bytes())?;
+            Ok(format!(in alloc; "octimap: {shown} can't be written: {error}\n")?)
+        }
+        None => Ok(format!(in alloc; "octimap: the output can't be written: {error}\n")?),
+    }
+}

@@ -1,0 +1,77 @@
+//! The lines for a user, by how a run ended.
+
+use crate::bad_edit::bad_edit;
+use crate::bad_graph::bad_graph;
+use crate::bad_row::{BadRow, bad_row};
+use crate::bad_settings::bad_settings;
+use crate::blank_map::blank_map;
+use crate::files::{missing, unread, unwritten};
+use crate::limits::{above, no_memory, spent};
+use crate::no_route::no_route;
+use crate::refuted::refuted;
+use command_inputs::Inputs;
+use command_words::{Command, command_of};
+use disk_door::WriteError;
+use map_base::NoMemory;
+use map_run::inputs_of;
+use run_status::Status;
+use std::rt::Files;
+
+/// The lines that standard error gets after a run of the program on these words that ended with this status, each with an
+/// LF at its end: empty where nothing is to be said. `fault` is the last error of the system in writing, if there was one.
+pub fn message<R: Files + AllocGlobal + Clone + Drop>(
+    rt: &R,
+    words: &[String],
+    status: &Status,
+    fault: Option<WriteError<'_>>,
+) -> Result<String, NoMemory> {
+    match command_of(rt.alloc(), words) {
+        Ok(command) => of_command(rt, &command, status, fault),
+        Err(_) => Ok(String::new(rt.alloc())),
+    }
+}
+
+/// The lines for a command that was read.
+fn of_command<R: Files + AllocGlobal + Clone + Drop>(
+    rt: &R,
+    command: &Command<'_>,
+    status: &Status,
+    fault: Option<WriteError<'_>>,
+) -> Result<String, NoMemory> {
+    let inputs = inputs_of(command);
+    match status {
+        Status::Done => blank_map(rt, command, &inputs),
+        Status::WriteFault => unwritten(rt.alloc(), fault),
+        Status::BadEdit { line } => bad_edit(rt, &inputs, *line),
+        Status::NoRoute { seg } => no_route(rt, command, &inputs, *seg),
+        _ => of_inputs(rt, &inputs, status),
+    }
+}
+
+/// The lines where what a command reads is all that matters.
+fn of_inputs<R: Files + AllocGlobal + Clone + Drop>(
+    rt: &R,
+    inputs: &Inputs<'_>,
+    status: &Status,
+) -> Result<String, NoMemory> {
+    let alloc = rt.alloc();
+    match status {
+        Status::BadRow { table, row, why } => {
+            let (table, row, why) = (*table, *row, *why);
+            bad_row(rt, inputs.feed, BadRow { table, row, why })
+        }
+        Status::Refuted(item) => refuted(alloc, item),
+        Status::Spent { branches, .. } => spent(alloc, *branches),
+        Status::Limit(limit) => above(alloc, *limit),
+        Status::Missing { path } => missing(rt, path.as_str()),
+        Status::ReadFault { path } => unread(rt, path.as_str()),
+        Status::BadSettings(why) => bad_settings(rt, &inputs.options, why),
+        Status::BadGraph(why) => bad_graph(rt, inputs.script, *why),
+        Status::NoMemory => no_memory(alloc),
+        Status::Done
+        | Status::Usage
+        | Status::WriteFault
+        | Status::NoRoute { .. }
+        | Status::BadEdit { .. } => Ok(String::new(alloc)),
+    }
+}

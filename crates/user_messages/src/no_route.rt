@@ -1,0 +1,87 @@
+//! No grid gives each segment a way.
+
+use crate::network::{Network, network_of};
+use command_inputs::Inputs;
+use command_words::Command;
+use map_base::{NoMemory, NodeId, SegId};
+use map_method::Defaults;
+use std::alloc::Global;
+use std::rt::Files;
+
+/// The lines for the first segment without a way: between which stations it lies, and what may do.
+pub(crate) fn no_route<R: Files + AllocGlobal>(
+    rt: &R,
+    command: &Command<'_>,
+    inputs: &Inputs<'_>,
+    seg: SegId,
+) -> Result<String, NoMemory> {
+    let alloc = rt.alloc();
+    let mut text = String::new(alloc);
+    if let Some(network) = network_of(rt, command, inputs)? {
+        let line = between(alloc, &network, seg)?;
+        text.push_str(line.as_str())?;
+        let line = network.far_line(alloc)?;
+        text.push_str(line.as_str())?;
+    }
+    text.push_str(hint(command, inputs.options.defaults))?;
+    Ok(text)
+}
+
+/// Between which stations a segment lies, and whether more segments meet there than have room.
+fn between(alloc: Global, network: &Network, seg: SegId) -> Result<String, NoMemory> {
+    if seg.0 >= network.graph.segs() {
+        return Ok(String::new(alloc));
+    }
+    let (low, up) = network.graph.ends(seg);
+    let one = network.name(alloc, low)?;
+    let other = network.name(alloc, up)?;
+    let crowd = crowd(alloc, network, low, up)?;
+    Ok(format!(in alloc;
+        "octimap: on no grid that was tried is there a free way from {one} to {other}{crowd}\n"
+    )?)
+}
+
+/// What is said where more than eight segments meet at an end.
+fn crowd(alloc: Global, network: &Network, low: NodeId, up: NodeId) -> Result<String, NoMemory> {
+    let most = meeting(network, low).max(meeting(network, up));
+    if most > 8 {
+        return Ok(format!(in alloc;
+            "; {most} segments meet at one of them, and the grid has eight directions"
+        )?);
+    }
+    Ok(String::new(alloc))
+}
+
+/// How many segments meet at a node.
+fn meeting(network: &Network, node: NodeId) -> usize {
+    if node.0 < network.graph.nodes() {
+        network.graph.round(node).len()
+    } else {
+        0
+    }
+}
+
+/// What may do.
+fn hint(command: &Command<'_>, defaults: Defaults) -> &'static str {
+    match command {
+        Command::Import { .. } => {
+            "octimap: finer grids and room for a dense centre may do, as by --set finest=16 and \
+             --set 'spread=\"auto\"'; or place stations farther apart\n"
+        }
+        _ => hint_of(defaults),
+    }
+}
+
+/// What may do for the map of a feed.
+fn hint_of(defaults: Defaults) -> &'static str {
+    match defaults {
+        Defaults::Make => {
+            "octimap: `octimap map` tries finer grids and gives a dense centre room, as do --set finest=16 and \
+             --set 'spread=\"auto\"'\n"
+        }
+        Defaults::Map => {
+            "octimap: a larger near joins ways that lie side by side, as --set near=1000; fewer lines have more room \
+             (the key types, or edits with hide)\n"
+        }
+    }
+}

@@ -1,0 +1,59 @@
+//! The ids of a table.
+
+use crate::lookup::bytes_at;
+use map_base::{NoMemory, Text};
+use message_texts::{meant, quoted};
+use std::alloc::Global;
+use std::rt::Files;
+use table_rows::{bare, column_of, field_in, rows_of};
+
+/// The field of each row of a table in the column of this name, as far as they are texts; none where the table or the
+/// column is not there.
+pub(crate) fn ids_at<R: Files + AllocGlobal>(
+    rt: &R,
+    path: &str,
+    name: &str,
+) -> Result<Vec<Text>, NoMemory> {
+    match bytes_at(rt, path)? {
+        Some(bytes) => ids_in(rt.alloc(), bytes.as_slice(), name),
+        None => Ok(Vec::new(rt.alloc())),
+    }
+}
+
+/// The same of the bytes of a table.
+fn ids_in(alloc: Global, bytes: &[u8], name: &str) -> Result<Vec<Text>, NoMemory> {
+    let rows = rows_of(alloc, bytes)?;
+    let mut ids = Vec::new(alloc);
+    if rows.is_empty() {
+        return Ok(ids);
+    }
+    let column = column_of(&rows, name.as_bytes());
+    for row in 1..rows.len() {
+        if let Ok(id) = str::from_utf8(field_in(&rows, row, column)) {
+            ids.push(Text::of(alloc, id)?)?;
+        }
+    }
+    Ok(ids)
+}
+
+/// The id that may be meant by a word that is none, as a question behind a message; empty where none is near.
+pub(crate) fn question(alloc: Global, word: &[u8], ids: &[Text]) -> Result<String, NoMemory> {
+    let Ok(word) = str::from_utf8(bare(word)) else {
+        return Ok(String::new(alloc));
+    };
+    match meant(alloc, word, ids)? {
+        Some(place) => asked(alloc, ids.get(place)),
+        None => Ok(String::new(alloc)),
+    }
+}
+
+/// The question whether a text is meant.
+fn asked(alloc: Global, near: Option<&Text>) -> Result<String, NoMemory> {
+    match near {
+        Some(near) => {
+            let near = quoted(alloc, near.as_str().as_bytes())?;
+            Ok(format!(in alloc; " (did you mean {near}?)")?)
+        }
+        None => Ok(String::new(alloc)),
+    }
+}
