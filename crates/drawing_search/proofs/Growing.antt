@@ -30,7 +30,7 @@ in_range a (suc n) x (inr i) = omega (arith, in_range (a + 1) n x i)
 
 -- ---- at one number
 
-abbrev one_more : (ℕ → ℕ) → ℕ → ℕ → ℕ → ℕ
+abbrev pub one_more : (ℕ → ℕ) → ℕ → ℕ → ℕ → ℕ
 one_more f x a i = f i + cond (eqb i x) a 0
 
 past_it : (f : ℕ → ℕ) (x a lo n : ℕ) → x < lo → sum_by (one_more f x a) (range_with_len lo n) ≡ sum_by f (range_with_len lo n)
@@ -42,7 +42,7 @@ past_it f x a lo (suc n) h =
     let without = sum_by-cons f lo (range_with_len (lo + 1) n) in
     omega (arith, rest, none, with_more, without)
 
-at_one : (f : ℕ → ℕ) (x a lo n : ℕ) → lo ≤ x → x < lo + n → sum_by (one_more f x a) (range_with_len lo n) ≡ sum_by f (range_with_len lo n) + a
+pub at_one : (f : ℕ → ℕ) (x a lo n : ℕ) → lo ≤ x → x < lo + n → sum_by (one_more f x a) (range_with_len lo n) ≡ sum_by f (range_with_len lo n) + a
 at_one f x a lo zero low high = absurd (omega (arith, low, high))
 at_one f x a lo (suc n) low high = by_first (cases_eq lo x)
   where

@@ -147,6 +147,27 @@ last_end graph s n [] steps some = absurd (omega (arith, some))
 last_end graph s n (t ∷ []) steps some = (steps.0, leads_to graph n t steps.1)
 last_end graph s n (t ∷ u ∷ us) steps some = last_end graph t.seg t.to (u ∷ us) steps.3 (omega arith)
 
+same_ends : (graph : GraphParts) (c : Chain) (k : Sketch) (pieces : List PlainWalk) → IsClearFor k c → point_of_node (with_pieces graph c.from c.steps pieces k) (end_of c).0 ≡ point_of_node k (end_of c).0 → (m : ℕ) → is_standing k m ≡ true
+    → point_of_node (with_pieces graph c.from c.steps pieces k) m ≡ point_of_node k m
+same_ends graph c k pieces clear there m stands = by_end (cases_eq m (end_of c).0)
+  where
+    by_end : (m ≡ (end_of c).0) ⊎ (m ≡ (end_of c).0 → ⊥) → point_of_node (with_pieces graph c.from c.steps pieces k) m ≡ point_of_node k m
+    by_end (inl e) = ap (point_of_node (with_pieces graph c.from c.steps pieces k)) e ∙ there ∙ ap (point_of_node k) (sym e)
+    by_end (inr other) = same_point graph c.from c.steps pieces k m off
+      where
+        off : (q : ChainStep) → In q c.steps → q.to.0 ≡ m → ⊥
+        off q i e = by_place (leads_where c.from c.steps q i)
+          where
+            by_place : (q.to.0 ≡ (end_of c).0) ⊎ ((p : NodeId) × In p (inner_nodes c.steps) × (p.0 ≡ q.to.0)) → ⊥
+            by_place (inl a) = other (sym e ∙ a)
+            by_place (inr (p, j, f)) = true≢false (sym stands ∙ ap (is_standing k) (sym e ∙ sym f) ∙ clear.inner p j)
+
+-- so a node that stood stays where it was
+pub same_standing_points : (graph : GraphParts) (c : Chain) (k mid : Sketch) → IsLegalSketch graph k → IsClearFor k c → (on : IsLaidOn graph c k mid) → (m : ℕ) → is_standing k m ≡ true
+    → point_of_node (with_pieces graph c.from c.steps on.pieces k) m ≡ point_of_node k m
+same_standing_points graph c k mid h clear on m stands =
+    same_ends graph c k on.pieces clear (end_there graph c.from c.steps on.pieces k on.walk on.each on.cut (omega (arith, stands_below graph k h (end_of c).0 clear.end, h.points_each)) ∙ on.free.end) m stands
+
 module _ (graph : GraphParts) (fit : IsConsistent graph) (scale : Scale) (first : List GridPoint) where
   -- what a run that was laid adds
   pub record IsGained (c : Chain) (k new : Sketch) (l : LeastTurns) (walk : PlainWalk) : Type 0 where
@@ -211,21 +232,6 @@ module _ (graph : GraphParts) (fit : IsConsistent graph) (scale : Scale) (first 
       by_run (inl (q, i, e)) = inl (ap (λ m. get_or k.walks m None) (sym e) ∙ none q i)
       by_run (inr off) = inr (sym (same_walk graph n ts vs k t off))
 
-  same_ends : (c : Chain) (k : Sketch) (pieces : List PlainWalk) → IsClearFor k c → point_of_node (with_pieces graph c.from c.steps pieces k) (end_of c).0 ≡ point_of_node k (end_of c).0 → (m : ℕ) → is_standing k m ≡ true
-      → point_of_node (with_pieces graph c.from c.steps pieces k) m ≡ point_of_node k m
-  same_ends c k pieces clear there m stands = by_end (cases_eq m (end_of c).0)
-    where
-      by_end : (m ≡ (end_of c).0) ⊎ (m ≡ (end_of c).0 → ⊥) → point_of_node (with_pieces graph c.from c.steps pieces k) m ≡ point_of_node k m
-      by_end (inl e) = ap (point_of_node (with_pieces graph c.from c.steps pieces k)) e ∙ there ∙ ap (point_of_node k) (sym e)
-      by_end (inr other) = same_point graph c.from c.steps pieces k m off
-        where
-          off : (q : ChainStep) → In q c.steps → q.to.0 ≡ m → ⊥
-          off q i e = by_place (leads_where c.from c.steps q i)
-            where
-              by_place : (q.to.0 ≡ (end_of c).0) ⊎ ((p : NodeId) × In p (inner_nodes c.steps) × (p.0 ≡ q.to.0)) → ⊥
-              by_place (inl a) = other (sym e ∙ a)
-              by_place (inr (p, j, f)) = true≢false (sym stands ∙ ap (is_standing k) (sym e ∙ sym f) ∙ clear.inner p j)
-
   same_gains : (f g : NodeId → GridPoint) (cs : List Chain) (ls : List LeastTurns) → ((c : Chain) → In c cs → (f c.from ≡ g c.from) × (f (end_of c) ≡ g (end_of c))) → gains_at_least f cs ls ≡ gains_at_least g cs ls
   same_gains f g [] ls same = refl
   same_gains f g (c ∷ cs) [] same = refl
@@ -242,7 +248,7 @@ module _ (graph : GraphParts) (fit : IsConsistent graph) (scale : Scale) (first 
       → gains_at_least (λ (n : NodeId). point_of_node mid n.0) cs ls ≡ gains_at_least (λ (n : NodeId). point_of_node k n.0) cs ls
   gains_stay c k mid h clear on cs ls others =
       same_gains (λ (n : NodeId). point_of_node mid n.0) (λ (n : NodeId). point_of_node k n.0) cs ls
-      (λ d i. (ap (λ (j : Sketch). point_of_node j d.from.0) (sym on.is) ∙ same_ends c k on.pieces clear there d.from.0 (others d i).from, ap (λ (j : Sketch). point_of_node j (end_of d).0) (sym on.is) ∙ same_ends c k on.pieces clear there (end_of d).0 (others d i).end))
+      (λ d i. (ap (λ (j : Sketch). point_of_node j d.from.0) (sym on.is) ∙ same_ends graph c k on.pieces clear there d.from.0 (others d i).from, ap (λ (j : Sketch). point_of_node j (end_of d).0) (sym on.is) ∙ same_ends graph c k on.pieces clear there (end_of d).0 (others d i).end))
     where
       there : point_of_node (with_pieces graph c.from c.steps on.pieces k) (end_of c).0 ≡ point_of_node k (end_of c).0
       there = end_there graph c.from c.steps on.pieces k on.walk on.each on.cut (omega (arith, stands_below graph k h (end_of c).0 clear.end, h.points_each)) ∙ on.free.end

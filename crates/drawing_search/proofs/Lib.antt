@@ -19,6 +19,9 @@ mod JoinedPairs
 mod FieldFacts
 mod Growing
 mod Gained
+-- what a drawing weighs without runs and nodes, and that they can be put back
+mod Restored
+mod Lifts
 -- bounds: sums of turns, straight ways, prices of turns, the limit of a walk; fewer ports, and runs one after another
 mod TurnSums
 mod StraightWays
@@ -27,6 +30,7 @@ mod Bounded
 mod RunBounds
 mod Spaced
 mod LaidAll
+mod LaidBack
 mod LayingAll
 -- attempts on whole drawings are those on their walks
 mod OnWalks

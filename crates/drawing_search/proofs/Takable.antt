@@ -102,7 +102,7 @@ on_or_off (t ∷ ts) s = by_first (cases_eq t.seg.0 s.0) (on_or_off ts s)
         both q (inl e) same = f (ap (λ (p : ChainStep). p.seg.0) (sym e) ∙ same)
         both q (inr m) same = off q m same
 
-walk_below : (graph : GraphParts) (k : Sketch) → IsLegalSketch graph k → (s : SegId) (v : PlainWalk) → walk_in k s ≡ Some v → s.0 < length graph.ends
+pub walk_below : (graph : GraphParts) (k : Sketch) → IsLegalSketch graph k → (s : SegId) (v : PlainWalk) → walk_in k s ≡ Some v → s.0 < length graph.ends
 walk_below graph k h s v e = by_order (cases_lt s.0 (length graph.ends))
   where
     by_order : (s.0 < length graph.ends) ⊎ (length graph.ends ≤ s.0) → s.0 < length graph.ends

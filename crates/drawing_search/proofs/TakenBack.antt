@@ -29,7 +29,7 @@ pub still_standing : (k : Sketch) (ns : List NodeId) (n : ℕ) → (IsOneOf ns n
 still_standing k [] n off = refl
 still_standing k (m ∷ ns) n off = still_standing (lifted k m) ns n (λ (p, i, e). off (p, inr i, e)) ∙ get_or-set_other k.stand m.0 n false false (λ e. off (m, inl refl, sym e))
 
-still_low : (k : Sketch) (ns : List NodeId) (n : ℕ) → is_standing k n ≡ false → is_standing (fold lifted k ns) n ≡ false
+pub still_low : (k : Sketch) (ns : List NodeId) (n : ℕ) → is_standing k n ≡ false → is_standing (fold lifted k ns) n ≡ false
 still_low k [] n e = e
 still_low k (m ∷ ns) n e = still_low (lifted k m) ns n (lowered k.stand m.0 n e)
   where
@@ -72,11 +72,11 @@ lift_legal graph k (n ∷ ns) h can = lift_legal graph (lifted k n) ns (lifted_l
 
 -- ---- runs
 
-without_points : (k : Sketch) (ts : List ChainStep) → (without_walks k ts).points ≡ k.points
+pub without_points : (k : Sketch) (ts : List ChainStep) → (without_walks k ts).points ≡ k.points
 without_points k [] = refl
 without_points k (t ∷ ts) = without_points (with_walk_of k t.seg None) ts
 
-without_bounds : (k : Sketch) (ts : List ChainStep) → (without_walks k ts).bounds ≡ k.bounds
+pub without_bounds : (k : Sketch) (ts : List ChainStep) → (without_walks k ts).bounds ≡ k.bounds
 without_bounds k [] = refl
 without_bounds k (t ∷ ts) = without_bounds (with_walk_of k t.seg None) ts
 
@@ -90,7 +90,7 @@ pub run_stands : (k : Sketch) (c : Chain) (n : ℕ) → (IsOneOf (inner_nodes c.
 run_stands k c n off = still_standing (without_walks k c.steps) (inner_nodes c.steps) n off ∙ ap (λ (fs : List Bool). get_or fs n false) (same_stand k c.steps)
 
 -- a node between the ends of a run is between those of no run beside it
-inner_beside : (graph : GraphParts) → IsConsistent graph → (c d : Chain) → IsRun graph c → IsRun graph d → ((q p : ChainStep) → In q c.steps → In p d.steps → p.seg.0 ≡ q.seg.0 → ⊥) → (m : NodeId) → In m (inner_nodes d.steps) → IsOneOf (inner_nodes c.steps) m.0 → ⊥
+pub inner_beside : (graph : GraphParts) → IsConsistent graph → (c d : Chain) → IsRun graph c → IsRun graph d → ((q p : ChainStep) → In q c.steps → In p d.steps → p.seg.0 ≡ q.seg.0 → ⊥) → (m : NodeId) → In m (inner_nodes d.steps) → IsOneOf (inner_nodes c.steps) m.0 → ⊥
 inner_beside graph fit c d run other off m i (n, j, e) = by_step (inner_of graph fit c.from c.steps run.steps n j)
   where
     by_step : IsInner graph c.steps n → ⊥
@@ -132,15 +132,15 @@ pub record IsSameBeside (cs : List Chain) (k new : Sketch) : Type 0 where
   pub walks : (s : SegId) → (IsOnOf cs s → ⊥) → walk_in new s ≡ walk_in k s
 
 -- runs are taken off
-without_each : (k : Sketch) (ts : List ChainStep) → length (without_walks k ts).walks ≡ length k.walks
+pub without_each : (k : Sketch) (ts : List ChainStep) → length (without_walks k ts).walks ≡ length k.walks
 without_each k [] = refl
 without_each k (t ∷ ts) = without_each (with_walk_of k t.seg None) ts ∙ length-set k.walks t.seg.0 None
 
-run_walks : (k : Sketch) (c : Chain) (s : SegId) → (((q : ChainStep) × In q c.steps × (q.seg.0 ≡ s.0)) → ⊥) → walk_in (without_run k c) s ≡ walk_in k s
+pub run_walks : (k : Sketch) (c : Chain) (s : SegId) → (((q : ChainStep) × In q c.steps × (q.seg.0 ≡ s.0)) → ⊥) → walk_in (without_run k c) s ≡ walk_in k s
 run_walks k c s off =
     ap (λ (os : List (Option PlainWalk)). get_or os s.0 None) (lift_walks (without_walks k c.steps) (inner_nodes c.steps)) ∙ same_walks_off k c.steps s (λ q i e. off (q, i, e))
 
-run_none : (k : Sketch) (c : Chain) (q : ChainStep) → In q c.steps → walk_in (without_run k c) q.seg ≡ None
+pub run_none : (k : Sketch) (c : Chain) (q : ChainStep) → In q c.steps → walk_in (without_run k c) q.seg ≡ None
 run_none k c q i = ap (λ (os : List (Option PlainWalk)). get_or os q.seg.0 None) (lift_walks (without_walks k c.steps) (inner_nodes c.steps)) ∙ none_left k c.steps q i
 
 pub runs_beside : (cs : List Chain) (k : Sketch) → IsSameBeside cs k (fold without_run k cs)

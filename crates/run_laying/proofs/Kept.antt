@@ -24,7 +24,7 @@ use Rattle.run_laying.proofs.RunFacts.{end_below, inner_of, inner_off, leads_fro
 use Rattle.run_laying.proofs.Whole.{whole_legal, IsComplete}
 
 -- no segment leads from a node to itself
-no_loop : (graph : GraphParts) → IsConsistent graph → (n : NodeId) (t : ChainStep) → t.seg.0 < length graph.ends → LeadsTo graph n t → t.to.0 ≡ n.0 → ⊥
+pub no_loop : (graph : GraphParts) → IsConsistent graph → (n : NodeId) (t : ChainStep) → t.seg.0 < length graph.ends → LeadsTo graph n t → t.to.0 ≡ n.0 → ⊥
 no_loop graph fit n t below leads same = by_way leads
   where
     none : NodeId
@@ -37,12 +37,12 @@ no_loop graph fit n t below leads same = by_way leads
     by_way (inl e) = let order : n.0 < t.to.0 = subst (λ (p : NodeId × NodeId). p.0.0 < p.1.0) e are.0 in omega (arith, order, same)
     by_way (inr e) = let order : t.to.0 < n.0 = subst (λ (p : NodeId × NodeId). p.0.0 < p.1.0) e are.0 in omega (arith, order, same)
 
-first_leads : (graph : GraphParts) (n : NodeId) (t : ChainStep) (ts : List ChainStep) → AreSteps graph n (t ∷ ts) → (t.seg.0 < length graph.ends) × LeadsTo graph n t
+pub first_leads : (graph : GraphParts) (n : NodeId) (t : ChainStep) (ts : List ChainStep) → AreSteps graph n (t ∷ ts) → (t.seg.0 < length graph.ends) × LeadsTo graph n t
 first_leads graph n t [] steps = steps
 first_leads graph n t (u ∷ us) steps = (steps.0, steps.1)
 
 -- where a run begins is between no two of its steps
-first_outer : (graph : GraphParts) → IsConsistent graph → (n : NodeId) (ts : List ChainStep) → AreSteps graph n ts → AreOnce ts → (m : NodeId) → In m (inner_nodes ts) → m.0 ≡ n.0 → ⊥
+pub first_outer : (graph : GraphParts) → IsConsistent graph → (n : NodeId) (ts : List ChainStep) → AreSteps graph n ts → AreOnce ts → (m : NodeId) → In m (inner_nodes ts) → m.0 ≡ n.0 → ⊥
 first_outer graph fit n [] steps once m i same = i
 first_outer graph fit n (t ∷ []) steps once m i same = i
 first_outer graph fit n (t ∷ u ∷ us) steps once m (inl e) same = no_loop graph fit n t steps.0 steps.1 (ap (λ (p : NodeId). p.0) (sym e) ∙ same)
@@ -60,7 +60,7 @@ last_step : (graph : GraphParts) (n : NodeId) (t : ChainStep) (ts : List ChainSt
 last_step graph n t [] steps = record { step = t; on = inl refl; segment = steps.0; is_end = leads_to graph n t steps.1 }
 last_step graph n t (u ∷ us) steps = let rest = last_step graph t.to u us steps.3 in record { step = rest.step; on = inr rest.on; segment = rest.segment; is_end = rest.is_end }
 
-last_outer : (graph : GraphParts) → IsConsistent graph → (n : NodeId) (ts : List ChainStep) → AreSteps graph n ts → AreOnce ts → (m : NodeId) → In m (inner_nodes ts) → m.0 ≡ (end_after n ts).0 → ⊥
+pub last_outer : (graph : GraphParts) → IsConsistent graph → (n : NodeId) (ts : List ChainStep) → AreSteps graph n ts → AreOnce ts → (m : NodeId) → In m (inner_nodes ts) → m.0 ≡ (end_after n ts).0 → ⊥
 last_outer graph fit n [] steps once m i same = i
 last_outer graph fit n (t ∷ []) steps once m i same = i
 last_outer graph fit n (t ∷ u ∷ us) steps once m (inr i) same = last_outer graph fit t.to (u ∷ us) steps.3 once.1 m i same
@@ -88,7 +88,7 @@ beside_cases (x ∷ cs) beside c d (inr m) (inl f) = inr (λ q p on_c on_d same.
 beside_cases (x ∷ cs) beside c d (inr m) (inr n) = beside_cases cs beside.1 c d m n
 
 -- a node between steps is where a step leads
-inner_step : (ts : List ChainStep) (m : NodeId) → In m (inner_nodes ts) → (q : ChainStep) × In q ts × (m ≡ q.to)
+pub inner_step : (ts : List ChainStep) (m : NodeId) → In m (inner_nodes ts) → (q : ChainStep) × In q ts × (m ≡ q.to)
 inner_step [] m i = absurd i
 inner_step (t ∷ []) m i = absurd i
 inner_step (t ∷ u ∷ us) m (inl e) = (t, inl refl, e)

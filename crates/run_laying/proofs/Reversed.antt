@@ -128,6 +128,17 @@ distinct_back (p ∷ ps) e =
 pub back_end : (w : PlainWalk) → end_point (reversed_walk w) ≡ w.start
 back_end w = back_to w.start w.steps
 
+-- and back again
+turned-push : (ds : List Dir) (e : Dir) → turned (ds ++ e ∷ []) ≡ reverse_of e ∷ turned ds
+turned-push ds e = ap (map reverse_of) (reverse-append ds (e ∷ []))
+
+turned_again : (ds : List Dir) → turned (turned ds) ≡ ds
+turned_again [] = refl
+turned_again (d ∷ ds) = ap turned (turned-cons d ds) ∙ turned-push (turned ds) (reverse_of d) ∙ ap₂ (λ (e : Dir) (es : List Dir). e ∷ es) (twice d) (turned_again ds)
+
+pub back_again : (w : PlainWalk) → reversed_walk (reversed_walk w) ≡ w
+back_again w = ap₂ (λ (p : GridPoint) (ds : List Dir). (let v : PlainWalk = record { start = p; steps = ds } in v)) (back_end w) (turned_again w.steps)
+
 pub back_doubled : (w : PlainWalk) (d : GridPoint) → In d (doubled_of (reversed_walk w)) → In d (doubled_of w)
 back_doubled w d m = in_back (doubled_of w) d (subst (λ (v : List GridPoint). In d v) (doubled_back w.start w.steps) m)
 
