@@ -34,3 +34,6 @@ mod LaidBack
 mod LayingAll
 -- attempts on whole drawings are those on their walks
 mod OnWalks
+-- and what an attempt takes off, moves and lays
+mod Moving
+mod Attempting

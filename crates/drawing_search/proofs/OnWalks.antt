@@ -233,7 +233,7 @@ pub record IsGood (graph : GraphParts) (bounds : Bounds) (k : Sketch) : Type 0 w
   pub complete : IsComplete graph k
   pub bounds_same : k.bounds ≡ bounds
 
-below_some : (weigh : Sketch → ℕ) (weight : ℕ) (o : Option Sketch) (new : Sketch) → if_below weigh weight o ≡ Some new → o ≡ Some new
+pub below_some : (weigh : Sketch → ℕ) (weight : ℕ) (o : Option Sketch) (new : Sketch) → if_below weigh weight o ≡ Some new → o ≡ Some new
 below_some weigh weight None new e = cc
 below_some weigh weight (Some j) new e = by_test (nat_lt (weigh j) weight) e
   where

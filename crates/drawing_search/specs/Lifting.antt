@@ -18,7 +18,7 @@ use Rattle.drawing_search.specs.declared.group.Vector.{Vector}
 use Rattle.drawing_search.specs.declared.lifting.Lifted.{Lifted}
 use Rattle.drawing_search.specs.Alike.{AreAlike}
 use Rattle.drawing_search.specs.Bounds.{HaveLeast, IsSmallLeast}
-use Rattle.drawing_search.specs.Changes.{stood_at, walked_by, CanStandEach, CanWalkEach}
+use Rattle.drawing_search.specs.Changes.{stood_at, walked_by, AreApart, CanStandEach, CanWalkEach}
 use Rattle.drawing_search.specs.Gains.{sketch_weight}
 use Rattle.drawing_search.specs.Tries.{taken_off, tried, IsSettled}
 
@@ -68,9 +68,10 @@ abbrev pub IsAttempted : Scale → GraphParts → List GridPoint → Group → L
 IsAttempted scale graph first g l v old weight new found =
     (whole : Sketch) → IsSettled scale graph first whole weight → IsFitting graph (attempt_by g v) → IsLifted scale graph first g whole old l → CameOf scale graph first g v whole old new found
 
--- what is off the board was taken off some drawing of this weight, and an attempt by a vector fits the graph
+-- what is off the board was taken off some drawing of this weight, and an attempt by a vector fits the graph and moves no node twice
 pub record IsOff (scale : Scale) (graph : GraphParts) (first : List GridPoint) (g : Group) (l : Lifted) (v : Vector) (old : Sketch) (weight : ℕ) : Type 0 where
   pub whole : Sketch
   pub settled : IsSettled scale graph first whole weight
   pub fitting : IsFitting graph (attempt_by g v)
   pub lifted : IsLifted scale graph first g whole old l
+  pub apart : AreApart g.nodes

@@ -1,5 +1,5 @@
 -- Attempts on a drawing in the making.
-use Rattle.std.specs.Prelude.{◌≡◌, ℕ, ◌+◌, ◌<◌, ◌≤◌, ◌&&◌, ◌==◌, nat_le, nat_lt, not, Bool, true, false, List, [], ◌∷◌, length, map, fold, replicate, if◌then◌else◌, Option, Some, None, slice_index_or}
+use Rattle.std.specs.Prelude.{◌≡◌, ℕ, ◌+◌, ◌<◌, ◌≤◌, ◌^◌, ◌&&◌, ◌==◌, nat_le, nat_lt, not, Bool, true, false, List, [], ◌∷◌, length, map, fold, replicate, if◌then◌else◌, Option, Some, None, slice_index_or}
 use Rattle.std.specs.List.{range_with_len}
 use Rattle.map_base.specs.declared.ids.NodeId.{NodeId}
 use Rattle.map_base.specs.declared.ids.SegId.{SegId}
@@ -85,8 +85,9 @@ AreAllLaid scale graph first weight runs old new None = (if_below (sketch_weight
 AreAllLaid scale graph first weight runs old new (Some less) =
     (if_below (sketch_weight scale graph first) weight (all_laid graph runs old) ≡ Some new) × (less ≡ sketch_weight scale graph first new)
 
--- a search between two attempts: a whole legal drawing, and what it weighs
+-- a search between two attempts: a whole legal drawing, and what it weighs, which is a number that can be added to
 pub record IsSettled (scale : Scale) (graph : GraphParts) (first : List GridPoint) (k : Sketch) (weight : ℕ) : Type 0 where
   pub legal : IsLegalSketch graph k
   pub whole : IsWhole k
   pub weight_is : weight ≡ sketch_weight scale graph first k
+  pub small : weight ≤ 2 ^ 57

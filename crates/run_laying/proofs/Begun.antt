@@ -52,7 +52,7 @@ two_even p d e =
     (eq-eqb (unsigned_abs q.x % 2) 0 (even_twice p.x (east_of d) (eqb-true (unsigned_abs p.x % 2) 0 parts.0)))
     (eq-eqb (unsigned_abs q.y % 2) 0 (even_twice p.y (north_of d) (eqb-true (unsigned_abs p.y % 2) 0 parts.1)))
 
-steps_even : (p : GridPoint) (d : Dir) (n : ℕ) → n % 2 ≡ 0 → is_even p ≡ true → is_even (after p (replicate n d)) ≡ true
+pub steps_even : (p : GridPoint) (d : Dir) (n : ℕ) → n % 2 ≡ 0 → is_even p ≡ true → is_even (after p (replicate n d)) ≡ true
 steps_even p d zero h e = e
 steps_even p d (suc zero) h e = absurd (omega (arith, h))
 steps_even p d (suc (suc n)) h e = steps_even (step_from (step_from p d) d) d n (omega (arith, h)) (two_even p d e)
@@ -61,7 +61,7 @@ steps_even p d (suc (suc n)) h e = steps_even (step_from (step_from p d) d) d n 
 steps_apart : (p q : GridPoint) (ds : List Dir) → after p ds ≡ after q ds → p ≡ q
 steps_apart p q ds e = sym (back_to p ds) ∙ ap (λ (r : GridPoint). after r (turned ds)) e ∙ back_to q ds
 
-in_range : (n m : ℕ) → m < n → In m (range_with_len 0 n)
+pub in_range : (n m : ℕ) → m < n → In m (range_with_len 0 n)
 in_range n m h =
     let there : get_or (range_with_len 0 n) m 0 ≡ m = get_or-range_with_len 0 n m 0 h ∙ omega arith in
     subst (λ k. In k (range_with_len 0 n)) there (in_at (range_with_len 0 n) m 0 (omega (arith, h, length-range_with_len 0 n)))

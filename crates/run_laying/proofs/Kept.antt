@@ -149,7 +149,7 @@ module _ (graph : GraphParts) (fit : IsConsistent graph) (bounds : Bounds) (walk
   inner_true : (c : Chain) → In c a.runs → (m : NodeId) → In m (inner_nodes c.steps) → is_inner a.runs m.0 ≡ true
   inner_true c on m i = any_from (λ (x : Chain). has_node (inner_nodes x.steps) m.0) a.runs c on (any_from (λ (p : NodeId). eqb p.0 m.0) (inner_nodes c.steps) m i (eq-eqb m.0 m.0 refl))
 
-  clear_for : (c : Chain) → In c a.runs → IsClearFor k0 c
+  pub clear_for : (c : Chain) → In c a.runs → IsClearFor k0 c
   clear_for c on =
       let r = run c on in
       let ends = end_steps c r in
