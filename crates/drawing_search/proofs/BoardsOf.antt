@@ -19,25 +19,25 @@ use Rattle.run_laying.proofs.Shown.{in_standing, node_shown, shown_node, stands_
 -- ---- nodes
 
 -- a node that didn't stand stands at a point
-standing_more : (stand : List Bool) (points : List GridPoint) (n : ℕ) (p x : GridPoint) → length stand ≡ length points → n < length stand → get_or stand n false ≡ false
+standing_more : (stand : List Bool) (points : List GridPoint) (n : ℕ) (p x : GridPoint) → n < length points → n < length stand → get_or stand n false ≡ false
     → list_any (λ (q : GridPoint). are_one q x) (filter_map standing_point (zip (set stand n true) (set points n p))) ≡ (are_one p x || list_any (λ (q : GridPoint). are_one q x) (filter_map standing_point (zip stand points)))
-standing_more [] points n p x each below e = absurd (omega (arith, below))
-standing_more (b ∷ bs) [] n p x each below e = absurd (omega arith)
-standing_more (true ∷ bs) (q ∷ qs) zero p x each below e = cc
-standing_more (false ∷ bs) (q ∷ qs) zero p x each below e = refl
-standing_more (true ∷ bs) (q ∷ qs) (suc n) p x each below e =
+standing_more [] points n p x there below e = absurd (omega (arith, below))
+standing_more (b ∷ bs) [] n p x there below e = absurd (omega (arith, there))
+standing_more (true ∷ bs) (q ∷ qs) zero p x there below e = cc
+standing_more (false ∷ bs) (q ∷ qs) zero p x there below e = refl
+standing_more (true ∷ bs) (q ∷ qs) (suc n) p x there below e =
     ap (λ t. are_one q x || t) (standing_more bs qs n p x (omega arith) (omega arith) e) ∙ exchanged (are_one q x) (are_one p x) (list_any (λ (q : GridPoint). are_one q x) (filter_map standing_point (zip bs qs)))
   where
     exchanged : (s t u : Bool) → (s || (t || u)) ≡ (t || (s || u))
     exchanged true true u = refl
     exchanged true false u = refl
     exchanged false t u = refl
-standing_more (false ∷ bs) (q ∷ qs) (suc n) p x each below e = standing_more bs qs n p x (omega arith) (omega arith) e
+standing_more (false ∷ bs) (q ∷ qs) (suc n) p x there below e = standing_more bs qs n p x (omega arith) (omega arith) e
 
-pub board_stood : (graph : GraphParts) (k : Sketch) (n : NodeId) (p : GridPoint) → length k.stand ≡ length k.points → n.0 < length k.stand → is_standing k n.0 ≡ false → board_of (stood k n p) ≡ with_node (board_of k) p
-board_stood graph k n p each below e = λ i. record {
+pub board_stood : (k : Sketch) (n : NodeId) (p : GridPoint) → n.0 < length k.points → n.0 < length k.stand → is_standing k n.0 ≡ false → board_of (stood k n p) ≡ with_node (board_of k) p
+board_stood k n p there below e = λ i. record {
   bounds = k.bounds;
-  is_node = λ x. standing_more k.stand k.points n.0 p x each below e i;
+  is_node = λ x. standing_more k.stand k.points n.0 p x there below e i;
   is_taken = (board_of k).is_taken;
 }
 

@@ -5,6 +5,7 @@ mod Spans
 -- how the board of a sketch changes, and what it is when something is taken off
 mod BoardsOf
 mod TakenOff
+mod OnSketches
 -- walks step by step, and runs that are laid along a walk that is cut
 mod Steps
 mod RunEnds
@@ -28,6 +29,7 @@ mod StraightWays
 mod PricedRuns
 mod Bounded
 mod RunBounds
+mod LeastTurning
 mod Spaced
 mod LaidAll
 mod LaidBack

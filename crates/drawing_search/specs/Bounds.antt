@@ -1,5 +1,5 @@
 -- Lower bounds of runs, as they are kept.
-use Rattle.std.specs.Prelude.{◌≡◌, ℕ, ◌+◌, ◌*◌, ◌<◌, ◌≤◌, ◌^◌, ◌==◌, min, List, [], ◌∷◌, length, map, if◌then◌else◌, Option, Some, None, slice_index}
+use Rattle.std.specs.Prelude.{◌≡◌, ℕ, ◌+◌, ◌*◌, ◌<◌, ◌≤◌, ◌^◌, ◌==◌, min, List, [], ◌∷◌, length, map, fold, if◌then◌else◌, Option, Some, None, slice_index, slice_index_or}
 use Rattle.std.specs.Int.{bit_at}
 use Rattle.std.specs.List.{range_with_len}
 use Rattle.map_base.specs.declared.ids.NodeId.{NodeId}
@@ -9,7 +9,7 @@ use Rattle.line_chains.specs.declared.chain.Chain.{Chain}
 use Rattle.line_chains.specs.Chains.{end_of}
 use Rattle.octi_grid.specs.declared.dir.Dir.{Dir}
 use Rattle.octi_grid.specs.declared.point.GridPoint.{GridPoint}
-use Rattle.octi_grid.specs.Ways.{number_of}
+use Rattle.octi_grid.specs.Ways.{number_of, reverse_of}
 use Rattle.walk_search.specs.Reaching.{reach_of}
 use Rattle.walk_search.specs.Routes.{directions}
 use Rattle.drawing_weights.specs.Scales.{Scale}
@@ -35,6 +35,20 @@ pub record IsSmallLeast (l : LeastTurns) : Type 0 where
 abbrev pub with_walk_by : LeastTurns → Dir → Dir → ℕ → LeastTurns
 with_walk_by l first last overs =
     record l { by = map (λ k. min (slice_index l.by k) (overs + l.per_turn * turns_at_least first last k)) (range_with_len 0 9) }
+
+-- the same of walks that come by one port, if it is allowed; and of walks that leave by one port, if it is, and come by any
+abbrev pub with_last_by : LeastTurns → Dir → ℕ → Dir → Option ℕ → LeastTurns
+with_last_by l first here e None = l
+with_last_by l first here e (Some there) = with_walk_by l first (reverse_of e) (here + there)
+
+abbrev pub with_first_by : LeastTurns → Dir → Option ℕ → List (Option ℕ) → LeastTurns
+with_first_by l first None to = l
+with_first_by l first (Some here) to = fold (λ (m : LeastTurns) (e : Dir). with_last_by m first here e (slice_index_or to (number_of e) None)) l directions
+
+-- what turns weigh for a port that is allowed is a number that can be added to
+abbrev pub IsSmallOver : Option ℕ → Type 0
+IsSmallOver None = Unit {0}
+IsSmallOver (Some weight) = weight ≤ 2 ^ 39
 
 -- for each port that a segment may have at node n, what the turns of lines from it weigh; none for the others
 abbrev pub overs_by : Scale → GraphParts → Sketch → ℕ → SegId → Dir → Option ℕ

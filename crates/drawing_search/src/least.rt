@@ -1,14 +1,15 @@
 //! What runs add at least, and what their walks may cost.
 
-ghost use Rattle.std.specs.Prelude.{◌≡◌, ◌+◌, ◌*◌, ◌-◌, ◌/◌, ◌<◌, ◌≤◌, ◌==◌, ◌^◌, length, if◌then◌else◌, slice_index, IfOk};
+ghost use Rattle.std.specs.Prelude.{◌≡◌, ◌+◌, ◌*◌, ◌-◌, ◌/◌, ◌<◌, ◌≤◌, ◌==◌, ◌^◌, length, if◌then◌else◌, slice_index, All, IfOk};
 ghost use Rattle.drawing_weights.specs.Scales.{scale_of};
 ghost use Rattle.octi_grid.specs.Ways.{number_of, reverse_of};
 ghost use Rattle.run_laying.specs.Runs.{IsRun};
 ghost use Rattle.run_laying.specs.Sketches.{is_standing, IsLegalSketch};
+ghost use Rattle.walk_search.specs.Moves.{direction};
 ghost use Rattle.walk_search.specs.Reaching.{reach_of};
 ghost use Rattle.drawing_search.specs.Gains.{IsField};
-ghost use Rattle.drawing_search.specs.Least.{diagonal, free_nodes, straight_way, turn_price, turns_at_least};
-ghost use Rattle.drawing_search.specs.Bounds.{with_walk_by, AreOvers, IsLeastOf, IsSmallLeast};
+ghost use Rattle.drawing_search.specs.Least.{diagonal, free_nodes, ports_for, straight_way, turn_price, turns_at_least};
+ghost use Rattle.drawing_search.specs.Bounds.{overs_by, with_first_by, with_last_by, with_walk_by, AreOvers, IsLeastOf, IsSmallLeast, IsSmallOver};
 
 use crate::gains::Field;
 use crate::sketch::Sketch;
@@ -17,18 +18,6 @@ use map_base::{NoMemory, NodeId, SegId};
 use octi_grid::{Dir, GridPoint, turn_cost};
 use std::alloc::Global;
 use walk_search::reach;
-
-/// The eight directions, clockwise from north.
-pub(crate) const DIRECTIONS: [Dir; 8] = [
-    Dir::N,
-    Dir::NE,
-    Dir::E,
-    Dir::SE,
-    Dir::S,
-    Dir::SW,
-    Dir::W,
-    Dir::NW,
-];
 
 /// More than any drawing weighs: where a segment may have no port.
 const NEVER: u64 = 1 << 50;
@@ -76,15 +65,32 @@ impl LeastTurns {
         may_add - turns + turns / self.per_turn
     }
 
-    /// The same of walks that leave by one port, if it is allowed.
-    fn with_first(&mut self, first: Dir, overs: Option<u64>, to: &[Option<u64>; 8]) {
+    /// The least of these and of walks that leave by one port, if it is allowed, and come by any port that is.
+    fn with_first(&mut self, first: Dir, overs: Option<u64>, to: &[Option<u64>; 8])
+        requires small { IsSmallLeast self.old }
+        requires overs { IsSmallOver overs }
+        requires to { All IsSmallOver to.now }
+        ensures value { self.new ≡ with_first_by self.old first overs.entry to.now }
+        ensures small { IsSmallLeast self.new }
+    {
         let Some(here) = overs else {
             return;
         };
-        for e in DIRECTIONS {
-            if let Some(there) = to[usize::from(e.index())] {
-                self.with_walk(first, e.reverse(), here + there);
-            }
+        for i in 0..8u8 {
+            self.with_last(first, here, direction(i), to[usize::from(i)]);
+        }
+    }
+
+    /// The same of walks that come by one port, if it is allowed.
+    fn with_last(&mut self, first: Dir, here: u64, port: Dir, overs: Option<u64>)
+        requires small { IsSmallLeast self.old }
+        requires here { here ≤ 2 ^ 39 }
+        requires overs { IsSmallOver overs }
+        ensures value { self.new ≡ with_last_by self.old first here port overs.entry }
+        ensures small { IsSmallLeast self.new }
+    {
+        if let Some(there) = overs {
+            self.with_walk(first, port.reverse(), here + there);
         }
     }
 
@@ -93,11 +99,12 @@ impl LeastTurns {
     fn with_walk(&mut self, first: Dir, last: Dir, overs: u64)
         requires small { IsSmallLeast self.old }
         requires overs { overs ≤ 2 ^ 41 }
-        ensures { self.new ≡ with_walk_by self.old first last overs }
+        ensures value { self.new ≡ with_walk_by self.old first last overs }
+        ensures small { IsSmallLeast self.new }
     {
-        for k in 0..9 {
-            let weight = overs + self.per_turn * turns_at_least(first, last, k);
-            self.by[usize::from(k)] = self.by[usize::from(k)].min(weight);
+        for way in 0..9u8 {
+            let weight = overs + self.per_turn * turns_at_least(first, last, way);
+            self.by[usize::from(way)] = self.by[usize::from(way)].min(weight);
         }
     }
 }
@@ -126,8 +133,8 @@ impl<'a> Field<'a> {
             per_turn: self.turn_price(steps),
             free_turns: 4 * self.free_nodes(steps),
         };
-        for d in DIRECTIONS {
-            least.with_first(d, from[usize::from(d.index())], &to);
+        for i in 0..8u8 {
+            least.with_first(direction(i), from[usize::from(i)], &to);
         }
         Ok(least)
     }
@@ -145,16 +152,32 @@ impl<'a> Field<'a> {
         requires legal { IsLegalSketch self.graph.now sketch.now }
         requires node { n.0 < length self.graph.now.kinds }
         requires segment { s.0 < length self.graph.now.ends }
-        ensures { IfOk result (AreOvers (scale_of self.entry.by) self.entry.graph.now sketch.now n.0 s) }
+        ensures overs { IfOk result (AreOvers (scale_of self.entry.by) self.entry.graph.now sketch.now n.0 s) }
+        ensures small { IfOk result (All IsSmallOver) }
     {
         let allowed = sketch.ports_for(alloc, self.graph, n, s)?;
         let mut overs = [None; 8];
-        for d in DIRECTIONS {
-            if (allowed >> d.index()) & 1 == 1 {
-                overs[usize::from(d.index())] = Some(self.turns_by(sketch, n, s, d));
-            }
+        for i in 0..8u8 {
+            overs[usize::from(i)] = self.over_by(sketch, n, s, allowed, direction(i));
         }
         Ok(overs)
+    }
+
+    /// What the turns weigh for one port, if these ports hold it.
+    fn over_by(self, sketch: &Sketch, n: NodeId, s: SegId, ports: u8, port: Dir) -> Option<u64>
+        requires field { IsField self }
+        requires legal { IsLegalSketch self.graph.now sketch.now }
+        requires node { n.0 < length self.graph.now.kinds }
+        requires segment { s.0 < length self.graph.now.ends }
+        requires ports { ports ≡ ports_for self.graph.now sketch.now n.0 s }
+        ensures value { result ≡ overs_by (scale_of self.entry.by) self.entry.graph.now sketch.now n.0 s port }
+        ensures small { IsSmallOver result }
+    {
+        if (ports >> port.index()) & 1 == 1 {
+            Some(self.turns_by(sketch, n, s, port))
+        } else {
+            None
+        }
     }
 
     /// What a turn of 45 degrees in the walk of a run weighs at least: nothing where it may lie at a node that no line goes
@@ -187,6 +210,23 @@ impl<'a> Field<'a> {
             }
         }
         count
+    }
+}
+
+/// The direction of a number, clockwise from north.
+pub(crate) fn direction(number: u8) -> Dir
+    requires { number < 8 }
+    ensures { result ≡ direction number }
+{
+    match number {
+        0 => Dir::N,
+        1 => Dir::NE,
+        2 => Dir::E,
+        3 => Dir::SE,
+        4 => Dir::S,
+        5 => Dir::SW,
+        6 => Dir::W,
+        _ => Dir::NW,
     }
 }
 

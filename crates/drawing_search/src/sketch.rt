@@ -1,6 +1,6 @@
 //! Drawings in the making.
 
-ghost use Rattle.std.specs.Prelude.{◌≡◌, ◌<◌, fold, if◌then◌else◌, is_some, length, replicate, IfOk, None, Some, false, true};
+ghost use Rattle.std.specs.Prelude.{◌≡◌, ◌<◌, fold, if◌then◌else◌, is_some, length, replicate, slice_index_or, IfOk, None, Some, false, true};
 ghost use Rattle.std.specs.List.{list_all, list_any};
 ghost use Rattle.line_chains.specs.Chains.{round_of};
 ghost use Rattle.graph_core.specs.Consistent.{IsConsistent};
@@ -158,25 +158,10 @@ impl Sketch {
     {
         let walk = self.walks[s.0 as usize].take()?;
         let (low, up) = graph.ends(s);
-        let keeps_start = self.has_walk_at(graph, low);
-        let keeps_end = self.has_walk_at(graph, up);
+        let keeps_start = has_walk_at(&self.walks, graph, low);
+        let keeps_end = has_walk_at(&self.walks, graph, up);
         self.board.remove_walk(&walk, keeps_start, keeps_end);
         Some(walk)
-    }
-
-    /// Whether a segment at a node has a walk.
-    fn has_walk_at(&self, graph: &LineGraph, n: NodeId) -> bool
-        requires graph { IsConsistent graph.now }
-        requires node { n.0 < length graph.now.kinds }
-        requires walks { length self.now.walks ≡ length graph.now.ends }
-        ensures { result ≡ list_any (λ t. is_some (walk_in self.now t)) (round_of graph.now n) }
-    {
-        for s in graph.round(n) {
-            if self.walks[s.0 as usize].is_some() {
-                return true;
-            }
-        }
-        false
     }
 
     /// The port of a segment at an end node, if it has a walk.
@@ -190,6 +175,21 @@ impl Sketch {
             Some(walk) => Some(port_of(walk, graph.ends(s).0 == n)),
         }
     }
+}
+
+/// Whether a segment at a node has one of these walks.
+fn has_walk_at(walks: &[Option<Walk>], graph: &LineGraph, n: NodeId) -> bool
+    requires graph { IsConsistent graph.now }
+    requires node { n.0 < length graph.now.kinds }
+    requires walks { length walks.now ≡ length graph.now.ends }
+    ensures { result ≡ list_any (λ t. is_some (slice_index_or walks.now t.0 None)) (round_of graph.now n) }
+{
+    for s in graph.round(n) {
+        if walks[s.0 as usize].is_some() {
+            return true;
+        }
+    }
+    false
 }
 
 /// So many segments without walks.

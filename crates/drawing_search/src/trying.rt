@@ -7,7 +7,8 @@ ghost use Rattle.graph_core.specs.Consistent.{IsConsistent};
 ghost use Rattle.line_chains.specs.declared.chain.Chain.{Chain};
 ghost use Rattle.line_chains.specs.Chains.{end_of};
 ghost use Rattle.octi_grid.specs.declared.point.GridPoint.{GridPoint};
-ghost use Rattle.octi_grid.specs.Ways.{after, number_of};
+ghost use Rattle.octi_grid.specs.Ways.{after};
+ghost use Rattle.walk_search.specs.Moves.{direction};
 ghost use Rattle.grid_board.specs.Points.{is_near};
 ghost use Rattle.drawing_weights.specs.Scales.{apart_weight_by, scale_of};
 ghost use Rattle.run_laying.specs.Runs.{IsFitting};
@@ -21,7 +22,7 @@ ghost use Rattle.drawing_search.specs.Tries.{after_tries, AreAllLaid, IsSettled}
 
 use crate::gains::Field;
 use crate::group::{Group, Vector};
-use crate::least::{DIRECTIONS, LeastTurns};
+use crate::least::{LeastTurns, direction};
 use crate::lifting::{Lifted, lift, put_back};
 use crate::sketch::Sketch;
 use line_chains::Chain;
@@ -276,11 +277,11 @@ fn vectors_of(lengths: u32) -> u32
 fn vector_of(lengths: u32, i: u32) -> Vector
     requires lengths { lengths ≤ 4 }
     requires i { i < 32 }
-    ensures dir { number_of result.dir ≡ i % 8 }
+    ensures dir { result.dir ≡ direction (i % 8) }
     ensures count { result.count ≡ (if lengths == 0 then 0 else 2 * (i / 8 + 1)) }
 {
     Vector {
-        dir: DIRECTIONS[(i % 8) as usize],
+        dir: direction((i % 8) as u8),
         count: if lengths == 0 { 0 } else { 2 * (i / 8 + 1) },
     }
 }
