@@ -51,6 +51,17 @@ within_laid graph most c k w is few =
     ∙ ap (λ b. laid_along graph c k (cond b (Some w) None)) (le-leb (cost_of w) most few)
     ∙ ap (laid_along graph c k) (sym is)
 
+pub laid_from_within : (graph : GraphParts) (most : ℕ) (c : Chain) (k mid : Sketch) → laid_within graph most c k ≡ Some mid → laid graph c k ≡ Some mid
+laid_from_within graph most c k mid e = by_walk (run_walk graph (board_under k) c) e
+  where
+    by_walk : (o : Option PlainWalk) → laid_along graph c k (if_within most o) ≡ Some mid → laid_along graph c k o ≡ Some mid
+    by_walk None f = cc
+    by_walk (Some w) f = by_test (nat_le (cost_of w) most) f
+      where
+        by_test : (t : Bool) → laid_along graph c k (cond t (Some w) None) ≡ Some mid → laid_along graph c k (Some w) ≡ Some mid
+        by_test true g = g
+        by_test false g = cc
+
 module _ (graph : GraphParts) (fit : IsConsistent graph) (scale : Scale) (first : List GridPoint) where
   abbrev weigh : Sketch → ℕ
   weigh k = sketch_weight scale graph first k

@@ -39,3 +39,5 @@ mod OnWalks
 -- and what an attempt takes off, moves and lays
 mod Moving
 mod Attempting
+mod TriedGroups
+mod Passes

@@ -1,9 +1,8 @@
-use Rattle.std.proofs.Common.{◌≡◌, ◌+◌, ◌<◌, drop, fold, take}
+use Rattle.std.proofs.Common.{◌≡◌, ◌+◌, ◌<◌, drop, take}
 use Rattle.drawing_weights.specs.Scales.{scale_of}
 use Rattle.run_laying.specs.Laying.{all_laid}
-use Rattle.drawing_search.specs.Alike.{AreAlike}
-use Rattle.drawing_search.specs.Changes.{without_run, AreTakable}
 use Rattle.drawing_search.specs.Gains.{sketch_weight}
+use Rattle.drawing_search.proofs.LaidBack.{IsSoFar}
 use Rattle.drawing_search.proofs.LayingAll.{least_of, IsReady}
 use Rattle.drawing_search.proofs.trying.Search.lay_all.Given as goal
 
@@ -15,8 +14,7 @@ invariant-loop-i l = record {
   weight : l.weight ≡ sketch_weight (scale_of l.field.by) l.field.graph.now l.field.first.now l.self.sketch;
   ahead : l.ahead ≡ least_of l.self.sketch (drop l.i l.runs) (drop l.i l.least);
   less : l.weight + l.ahead < l.self.weight;
-  can : AreTakable l.field.graph.now l.self.sketch (take l.i l.runs);
-  back : AreAlike (fold without_run l.self.sketch (take l.i l.runs)) l.initial.self.sketch;
+  so_far : IsSoFar (take l.i l.runs) l.initial.self.sketch l.self.sketch;
   kept : l.self.weight ≡ l.initial.self.weight;
   made : l.self.made ≡ l.initial.self.made;
 }
