@@ -232,7 +232,7 @@ module _ (graph : GraphParts) (fit : IsConsistent graph) (scale : Scale) (first 
       by_run (inl (q, i, e)) = inl (ap (λ m. get_or k.walks m None) (sym e) ∙ none q i)
       by_run (inr off) = inr (sym (same_walk graph n ts vs k t off))
 
-  same_gains : (f g : NodeId → GridPoint) (cs : List Chain) (ls : List LeastTurns) → ((c : Chain) → In c cs → (f c.from ≡ g c.from) × (f (end_of c) ≡ g (end_of c))) → gains_at_least f cs ls ≡ gains_at_least g cs ls
+  pub same_gains : (f g : NodeId → GridPoint) (cs : List Chain) (ls : List LeastTurns) → ((c : Chain) → In c cs → (f c.from ≡ g c.from) × (f (end_of c) ≡ g (end_of c))) → gains_at_least f cs ls ≡ gains_at_least g cs ls
   same_gains f g [] ls same = refl
   same_gains f g (c ∷ cs) [] same = refl
   same_gains f g (c ∷ cs) (l ∷ ls) same =

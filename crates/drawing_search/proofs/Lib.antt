@@ -23,6 +23,7 @@ mod Gained
 -- what a drawing weighs without runs and nodes, and that they can be put back
 mod Restored
 mod Lifts
+mod LiftedGroups
 -- bounds: sums of turns, straight ways, prices of turns, the limit of a walk; fewer ports, and runs one after another
 mod TurnSums
 mod StraightWays
@@ -39,5 +40,6 @@ mod OnWalks
 -- and what an attempt takes off, moves and lays
 mod Moving
 mod Attempting
+mod AttemptCases
 mod TriedGroups
 mod Passes

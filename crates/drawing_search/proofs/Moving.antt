@@ -156,7 +156,7 @@ module _ (graph : GraphParts) (fit : IsConsistent graph) (whole old : Sketch) (h
   old_flag : (n : ℕ) → n < length graph.kinds → is_standing old n ≡ stays_standing whole nodes runs n
   old_flag n below = ap (λ (fs : List Bool). get_or fs n false) off.stand ∙ get_or-map-range_with_len (stays_standing whole nodes runs) 0 (length graph.kinds) n n false below (omega arith)
 
-  old_flags : length old.stand ≡ length graph.kinds
+  pub old_flags : length old.stand ≡ length graph.kinds
   old_flags = ap length off.stand ∙ length-map-range_with_len (stays_standing whole nodes runs) 0 (length graph.kinds)
 
   old_points : length old.points ≡ length graph.kinds
