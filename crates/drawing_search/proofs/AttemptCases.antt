@@ -19,6 +19,7 @@ use Rattle.run_laying.specs.Laying.{all_laid, Sketch}
 use Rattle.run_laying.specs.Runs.{IsFitting, IsRun}
 use Rattle.run_laying.specs.Sketches.{is_standing, lifted, point_of_node, walk_in, IsFreeFor, IsLegalSketch}
 use Rattle.run_laying.proofs.Attempted.{IsClearFor}
+use Rattle.run_laying.proofs.Shown.{stands_below}
 use Rattle.drawing_search.specs.declared.group.Group.{Group}
 use Rattle.drawing_search.specs.declared.group.Vector.{Vector}
 use Rattle.drawing_search.specs.declared.lifting.Lifted.{Lifted}
@@ -33,8 +34,8 @@ use Rattle.drawing_search.proofs.Attempting.{came_none, came_some, have_bounds, 
 use Rattle.drawing_search.proofs.LaidAll.{same_gains}
 use Rattle.drawing_search.proofs.LayingAll.{least_of, too_heavy, IsReady}
 use Rattle.drawing_search.proofs.Lifts.{group_of, IsGroup}
-use Rattle.drawing_search.proofs.Moving.{begun_clear, begun_is_legal, can_stand_moved, moved_back, moved_liftable, old_flags, same_room, stood_alike, stood_each_weighs}
-use Rattle.drawing_search.proofs.PutBack.{stood_walks}
+use Rattle.drawing_search.proofs.Moving.{begun_clear, begun_is_legal, can_stand_moved, moved_back, moved_liftable, moved_once, old_flags, same_room, stood_alike, stood_each_weighs}
+use Rattle.drawing_search.proofs.PutBack.{stood_walks, ArePutOnce, IsPut}
 
 -- runs may be laid on what is alike
 clear_alike : (j k : Sketch) (c : Chain) → AreAlike j k → IsClearFor k c → IsClearFor j c
@@ -52,6 +53,33 @@ free_of k c h = record {
   inner = λ i d below. h.inner (get_or (inner_nodes c.steps) i d) (in_at (inner_nodes c.steps) i d below);
   walks = λ i d below. h.walks (get_or c.steps i d) (in_at c.steps i d below);
 }
+
+-- a node that is not put stays where it was, and where nodes stand that move is where they are put
+point_still : (j : Sketch) (ms : List (NodeId × GridPoint)) (n : ℕ) → (IsPut n ms → ⊥) → point_of_node (fold stood_at j ms) n ≡ point_of_node j n
+point_still j [] n out = refl
+point_still j (m ∷ ms) n out = point_still (stood_at j m) ms n (λ (p, i, same). out (p, inr i, same)) ∙ get_or-set_other j.points m.0.0 n m.1 nowhere (λ e. out (m, inl refl, sym e))
+
+point_after_is : (k : Sketch) (v : Vector) (ms : List (NodeId × GridPoint)) (n : NodeId) → n.0 < length k.points → ArePutOnce (all_moved v ms) → point_after k v ms n ≡ point_of_node (fold stood_at k (all_moved v ms)) n.0
+point_after_is k v [] n below once = refl
+point_after_is k v (m ∷ ms) n below once = by_number (cases_eq m.0.0 n.0)
+  where
+    next : Sketch
+    next = stood_at k (m.0, moved_by v m.1)
+
+    others : (m.0.0 ≡ n.0 → ⊥) → (ps : List (NodeId × GridPoint)) → point_after k v ps n ≡ point_after next v ps n
+    others f [] = sym (get_or-set_other k.points m.0.0 n.0 (moved_by v m.1) nowhere (λ e. f (sym e)))
+    others f (p ∷ ps) = ap (cond (eqb p.0.0 n.0) (moved_by v p.1)) (others f ps)
+
+    by_number : (m.0.0 ≡ n.0) ⊎ (m.0.0 ≡ n.0 → ⊥) → cond (eqb m.0.0 n.0) (moved_by v m.1) (point_after k v ms n) ≡ point_of_node (fold stood_at next (all_moved v ms)) n.0
+    by_number (inl e) =
+        ap (λ b. cond b (moved_by v m.1) (point_after k v ms n)) (eq-eqb m.0.0 n.0 e)
+        ∙ sym (point_still next (all_moved v ms) n.0 (λ (p, i, same). once.0 (p, i, same ∙ sym e))
+        ∙ ap (λ i. get_or (set k.points m.0.0 (moved_by v m.1)) i nowhere) (sym e)
+        ∙ get_or-set_same k.points m.0.0 (moved_by v m.1) nowhere (omega (arith, below, e)))
+    by_number (inr f) =
+        ap (λ b. cond b (moved_by v m.1) (point_after k v ms n)) (ne_eqb m.0.0 n.0 f)
+        ∙ others f ms
+        ∙ point_after_is next v ms n (omega (arith, below, length-set k.points m.0.0 (moved_by v m.1))) once.1
 
 module _ (graph : GraphParts) (fit : IsConsistent graph) (scale : Scale) (first : List GridPoint) (g : Group) (v : Vector) (whole old : Sketch) (weight : ℕ) (l : Lifted) (apart : AreApart g.nodes) (s : IsSettled scale graph first whole weight)
     (fits : IsFitting graph (attempt_by g v)) (off : IsLifted scale graph first g whole old l) where
@@ -102,6 +130,18 @@ module _ (graph : GraphParts) (fit : IsConsistent graph) (scale : Scale) (first 
     weight_moved =
         let all = stood_each_weighs scale graph first old (all_moved v l.moved.items) (off.off.points_each ∙ s.legal.points_each) (old_flags graph fit whole old s.legal s.whole g.nodes g.runs v fits apart off.off) can_move in
         omega (arith, all, off.rest)
+
+    -- and what the runs add at least
+    pub least_moved : gains_at_least (point_after old v l.moved.items) g.runs l.least.items ≡ least_of (fold stood_at old (all_moved v l.moved.items)) g.runs l.least.items
+    least_moved =
+        same_gains graph fit scale first (point_after old v l.moved.items) (λ (n : NodeId). point_of_node moved_on n.0) g.runs l.least.items
+        (λ c i. (point_after_is old v l.moved.items c.from (there c.from.0 (clear_moved c i).from) once, point_after_is old v l.moved.items (end_of c) (there (end_of c).0 (clear_moved c i).end) once))
+      where
+        once : ArePutOnce (all_moved v l.moved.items)
+        once = subst (λ ms. ArePutOnce (all_moved v ms)) (sym off.moved) (moved_once graph fit whole old s.legal s.whole g.nodes g.runs v fits apart off.off g.nodes apart)
+
+        there : (n : ℕ) → is_standing moved_on n ≡ true → n < length old.points
+        there n stands = omega (arith, stands_below graph moved_on legal_moved n stands, off.off.points_each, s.legal.points_each)
 
     pub case_heavy : weight ≤ sketch_weight scale graph first (fold stood_at old (all_moved v l.moved.items)) + least_of (fold stood_at old (all_moved v l.moved.items)) g.runs l.least.items → CameOf scale graph first g v whole old old None
     case_heavy heavy =

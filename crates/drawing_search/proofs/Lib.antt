@@ -43,3 +43,4 @@ mod Attempting
 mod AttemptCases
 mod TriedGroups
 mod Passes
+mod Searches

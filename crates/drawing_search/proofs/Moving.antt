@@ -290,9 +290,20 @@ module _ (graph : GraphParts) (fit : IsConsistent graph) (whole old : Sketch) (h
           let before : is_standing old n ≡ true = old_flag n below ∙ and_from (is_standing whole n) (not (is_inner runs n) && not (has_node nodes n)) flags.0 (and_from (not (is_inner runs n)) (not (has_node nodes n)) flags.1 (ap not e)) in
           point_back begun_on old (all_moved v moved_from) n are_of (omega (arith, below, old_points)) (inl (old_point n before ∙ sym (stays_there n below e)))
 
+  -- each of them once
+  pub moved_once : (ns : List NodeId) → AreApart ns → ArePutOnce (all_moved v (map (λ (n : NodeId). (n, point_of_node whole n.0)) ns))
+  moved_once [] apart = tt
+  moved_once (n ∷ ns) apart = (λ (p, i, e). again p i e, moved_once ns apart.1)
+    where
+      again : (p : NodeId × GridPoint) → In p (all_moved v (map (λ (m : NodeId). (m, point_of_node whole m.0)) ns)) → p.0.0 ≡ n.0 → ⊥
+      again p i e =
+          let m = from_map (λ (m : NodeId × GridPoint). (m.0, moved_by v m.1)) (map (λ (m : NodeId). (m, point_of_node whole m.0)) ns) p i in
+          let q = from_map (λ (q : NodeId). (q, point_of_node whole q.0)) ns m.0 m.1 in
+          apart.0 q.0 (contains_in ns q.0 q.1) (ap (λ (x : NodeId × GridPoint). x.0.0) (sym q.2) ∙ ap (λ (x : NodeId × GridPoint). x.0.0) (sym m.2) ∙ e)
+
   -- they can be put there
   pub can_stand_moved : may_move (without graph whole attempt) nodes ≡ true → CanStandEach old (all_moved v moved_from)
-  can_stand_moved may = can_stand_each old (all_moved v moved_from) can (once nodes apart)
+  can_stand_moved may = can_stand_each old (all_moved v moved_from) can (moved_once nodes apart)
     where
       legal : IsLegalSketch graph begun_on
       legal = begun_is_legal may
@@ -315,16 +326,6 @@ module _ (graph : GraphParts) (fit : IsConsistent graph) (whole old : Sketch) (h
           let m = from_map (λ (m : NodeId × GridPoint). (m.0, moved_by v m.1)) moved_from p i in
           let q = from_map (λ (q : NodeId). (q, point_of_node whole q.0)) nodes m.0 m.1 in
           subst (λ (x : NodeId × GridPoint). CanStand old x.0 x.1) (sym m.2) (subst (λ (x : NodeId × GridPoint). CanStand old x.0 (moved_by v x.1)) (sym q.2) (of_node q.0 q.1))
-
-      once : (ns : List NodeId) → AreApart ns → ArePutOnce (all_moved v (map (λ (n : NodeId). (n, point_of_node whole n.0)) ns))
-      once [] apart = tt
-      once (n ∷ ns) apart = (λ (p, i, e). again p i e, once ns apart.1)
-        where
-          again : (p : NodeId × GridPoint) → In p (all_moved v (map (λ (m : NodeId). (m, point_of_node whole m.0)) ns)) → p.0.0 ≡ n.0 → ⊥
-          again p i e =
-              let m = from_map (λ (m : NodeId × GridPoint). (m.0, moved_by v m.1)) (map (λ (m : NodeId). (m, point_of_node whole m.0)) ns) p i in
-              let q = from_map (λ (q : NodeId). (q, point_of_node whole q.0)) ns m.0 m.1 in
-              apart.0 q.0 (contains_in ns q.0 q.1) (ap (λ (x : NodeId × GridPoint). x.0.0) (sym q.2) ∙ ap (λ (x : NodeId × GridPoint). x.0.0) (sym m.2) ∙ e)
 
   -- ---- and are taken off again
 
