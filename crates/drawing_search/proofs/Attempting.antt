@@ -171,11 +171,10 @@ module _ (graph : GraphParts) (fit : IsConsistent graph) (scale : Scale) (first 
           by_both None f x = absurd x
           by_both (Some m) f x =
               let kept = comes_kept graph fit whole old s.legal s.whole nodes runs v fits apart off m (attempted_is ∙ f) in
-              let one : new ≡ m = alike_whole new m x (λ n below. kept.complete.nodes n (omega (arith, below, kept.legal.points_each))) in
-              (
+              let one : new ≡ m = alike_whole new m x (λ n below. kept.complete.nodes n (omega (arith, below, kept.legal.points_each))) in (
                 ap (if_below weigh (weigh whole)) (attempted_is ∙ f ∙ ap (λ (y : Sketch). Some y) (sym one))
-                ∙ ap (λ n. if_below weigh n (Some new)) (sym s.weight_is)
-                ∙ ap (λ b. cond b (Some new) None) lighter,
+                    ∙ ap (λ n. if_below weigh n (Some new)) (sym s.weight_is)
+                    ∙ ap (λ b. cond b (Some new) None) lighter,
                 record {
                   legal = subst (IsLegalSketch graph) (sym one) kept.legal;
                   whole = subst IsWhole (sym one) (record { nodes = λ n below. kept.complete.nodes n (omega (arith, below, kept.legal.stand_each)); walks = λ i below. kept.complete.walks i (omega (arith, below, kept.legal.walks_each)) });

@@ -77,7 +77,7 @@ module _ (scale : Scale) (graph : GraphParts) (k : Sketch) (c : Chain) where
 
       by_test : (b : Bool) → flat_map (λ f. value_if d (scale.overs * turns_by graph k c.from.0 (first_seg_of c.steps) d) price way f (to_over f)) es ≡ map (least_by scale graph k c way d) kept
           → value_if d (scale.overs * turns_by graph k c.from.0 (first_seg_of c.steps) d) price way e (cond b (Some (scale.overs * turns_by graph k (end_of c).0 (last_seg_of c) e)) None)
-              ++ flat_map (λ f. value_if d (scale.overs * turns_by graph k c.from.0 (first_seg_of c.steps) d) price way f (to_over f)) es
+          ++ flat_map (λ f. value_if d (scale.overs * turns_by graph k c.from.0 (first_seg_of c.steps) d) price way f (to_over f)) es
           ≡ map (least_by scale graph k c way d) (cond b (e ∷ kept) kept)
       by_test true rest = ap (λ (ns : List ℕ). least_by scale graph k c way d e ∷ ns) rest
       by_test false rest = rest
@@ -87,13 +87,13 @@ module _ (scale : Scale) (graph : GraphParts) (k : Sketch) (c : Chain) where
 
   first_values : (l : LeastTurns) (way : ℕ) (ds : List Dir) → way < 9 → l.per_turn ≡ price
       → (slice_index (fold (λ (m : LeastTurns) (d : Dir). with_first_by m d (from_over d) (map to_over directions)) l ds).by way
-          ≡ fold min (slice_index l.by way) (flat_map (all_last way) (filter (λ d. eqb (bit_at (ports_for graph k c.from.0 (first_seg_of c.steps)) (number_of d)) 1) ds)))
+      ≡ fold min (slice_index l.by way) (flat_map (all_last way) (filter (λ d. eqb (bit_at (ports_for graph k c.from.0 (first_seg_of c.steps)) (number_of d)) 1) ds)))
       × ((fold (λ (m : LeastTurns) (d : Dir). with_first_by m d (from_over d) (map to_over directions)) l ds).per_turn ≡ l.per_turn)
       × ((fold (λ (m : LeastTurns) (d : Dir). with_first_by m d (from_over d) (map to_over directions)) l ds).free_turns ≡ l.free_turns)
   first_values l way [] few same = (refl, refl, refl)
   first_values l way (d ∷ ds) few same = by_test (eqb (bit_at (ports_for graph k c.from.0 (first_seg_of c.steps)) (number_of d)) 1)
     where
-      abbrev all : LeastTurns → LeastTurns
+      all : LeastTurns → LeastTurns
       all m = fold (λ (x : LeastTurns) (e : Dir). with_first_by x e (from_over e) (map to_over directions)) m ds
 
       kept : List Dir
@@ -120,11 +120,10 @@ module _ (scale : Scale) (graph : GraphParts) (k : Sketch) (c : Chain) where
           × ((all (with_first_by l d (cond b (Some here) None) (map to_over directions))).free_turns ≡ l.free_turns)
       by_test false = first_values l way ds few same
       by_test true =
-          let rest = first_values next way ds few (next_price.0 ∙ same) in
-          (
+          let rest = first_values next way ds few (next_price.0 ∙ same) in (
             rest.0
-            ∙ ap (λ n. fold min n (flat_map (all_last way) kept)) next_value
-            ∙ sym (fold-append min (slice_index l.by way) (all_last way d) (flat_map (all_last way) kept)),
+                ∙ ap (λ n. fold min n (flat_map (all_last way) kept)) next_value
+                ∙ sym (fold-append min (slice_index l.by way) (all_last way d) (flat_map (all_last way) kept)),
             rest.1 ∙ next_price.0,
             rest.2 ∙ next_price.1,
           )

@@ -6,9 +6,9 @@ use Rattle.run_laying.specs.Attempts.{Attempt}
 use Rattle.run_laying.specs.Searches.{after_attempt, after_pass, after_passes, found_with, unless_same, Found}
 
 module _ (try : List PlainWalk → Attempt → Option (List PlainWalk)) (attempts : List Attempt) (at_once most : ℕ) where
-  pass_full : (limit : ℕ) (as : List Attempt) (f : Found) → limit ≤ f.made → after_pass try as limit f ≡ f
+  pass_full : (limit : ℕ) (rest : List Attempt) (f : Found) → limit ≤ f.made → after_pass try rest limit f ≡ f
   pass_full limit [] f full = refl
-  pass_full limit (a ∷ as) f full = ap (λ b. after_pass try as limit (cond b f (found_with f (try f.walks a)))) (le-leb limit f.made full) ∙ pass_full limit as f full
+  pass_full limit (a ∷ rest) f full = ap (λ b. after_pass try rest limit (cond b f (found_with f (try f.walks a)))) (le-leb limit f.made full) ∙ pass_full limit rest f full
 
   -- so many passes are left, enough for all attempts that may be made
   abbrev pub IsEnough : ℕ → Found → Found → Type 0

@@ -37,6 +37,10 @@ pub record IsPassing (scale : Scale) (graph : GraphParts) (first : List GridPoin
   pub rest : after_tries scale graph first limit (attempts_of (drop i groups)) (record { sketch = k; made = made }) ≡ after_tries scale graph first limit (attempts_of groups) start
   pub few : made ≤ limit
 
+pub pass_over : (scale : Scale) (graph : GraphParts) (first : List GridPoint) (limit : ℕ) (groups : List Group) (start : Tried) (i : ℕ) (k : Sketch) (weight made : ℕ) → length groups ≤ i → IsPassing scale graph first limit groups start i k weight made
+    → (let f : Tried = record { sketch = k; made = made } in f) ≡ after_tries scale graph first limit (attempts_of groups) start
+pass_over scale graph first limit groups start i k weight made past p = ap (λ (gs : List Group). after_tries scale graph first limit (attempts_of gs) (let f : Tried = record { sketch = k; made = made } in f)) (sym (drop_all i groups past)) ∙ p.rest
+
 -- between passes: those that are left come to what all of them come to
 pub record IsBetweenPasses (scale : Scale) (graph : GraphParts) (first : List PlainWalk) (bounds : Bounds) (groups : List Group) (at_once most before : ℕ) (k : Sketch) (weight made : ℕ) : Type 0 where
   pub settled : IsSettled scale graph (points_all graph first) k weight
@@ -59,18 +63,11 @@ module _ (scale : Scale) (graph : GraphParts) (fit : IsConsistent graph) (first 
     pub passes_end : most ≤ made → (let f : Found = record { walks = walks_of k; made = made } in f) ≡ result
     passes_end full = passes_full (improving graph bounds (weight_by scale graph first)) (attempts_of groups) at_once most b.passes (found_of graph fit scale first bounds now) result full b.enough
 
-    module _ (room : made < most) (i : ℕ) (past : length groups ≤ i) (new : Sketch) (less more : ℕ) (p : IsPassing scale graph (points_all graph first) (min most (made + at_once)) groups now i new less more) where
-      limit : ℕ
-      limit = min most (made + at_once)
-
+    module _ (room : made < most) (new : Sketch) (less more : ℕ) (settled : IsSettled scale graph (points_all graph first) new less)
+        (is : (let f : Tried = record { sketch = new; made = more } in f) ≡ after_tries scale graph (points_all graph first) (min most (made + at_once)) (attempts_of groups) (record { sketch = k; made = made })) where
       then : Tried
       then = record { sketch = new; made = more }
-
-      is : then ≡ after_tries scale graph (points_all graph first) (min most (made + at_once)) (attempts_of groups) now
-      is = ap (λ (gs : List Group). after_tries scale graph (points_all graph first) (min most (made + at_once)) (attempts_of gs) then) (sym (drop_all i groups past)) ∙ p.rest
-
       after = tries_after scale graph (points_all graph first) (min most (made + at_once)) (attempts_of groups) now (omega (arith, room))
-
       there = tries_there graph fit scale first bounds (min most (made + at_once)) (attempts_of groups) now b.good fits
 
       found : found_of graph fit scale first bounds then ≡ after_pass (improving graph bounds (weight_by scale graph first)) (attempts_of groups) (min most (made + at_once)) (found_of graph fit scale first bounds now)
@@ -83,7 +80,7 @@ module _ (scale : Scale) (graph : GraphParts) (fit : IsConsistent graph) (first 
           ∙ pass_none (improving graph bounds (weight_by scale graph first)) (attempts_of groups) at_once most b.passes (found_of graph fit scale first bounds now) result room b.enough (ap (λ (f : Found). f.made) (sym found) ∙ same)
 
       lighter : less ≤ weight
-      lighter = let down = after.lighter in let one = ap (λ (f : Tried). sketch_weight scale graph (points_all graph first) f.sketch) is in omega (arith, down, one, p.settled.weight_is, b.settled.weight_is)
+      lighter = let down = after.lighter in let one = ap (λ (f : Tried). sketch_weight scale graph (points_all graph first) f.sketch) is in omega (arith, down, one, settled.weight_is, b.settled.weight_is)
 
       pub good_then : IsGood graph bounds new
       good_then = subst (λ (f : Tried). IsGood graph bounds f.sketch) (sym is) there.good
@@ -96,11 +93,11 @@ module _ (scale : Scale) (graph : GraphParts) (fit : IsConsistent graph) (first 
           let rises : made < more = omega (arith, other, up, count) in
           let next = pass_some (improving graph bounds (weight_by scale graph first)) (attempts_of groups) at_once most b.passes (found_of graph fit scale first bounds now) result room b.enough (let same = ap (λ (f : Found). f.made) found in omega (arith, rises, same)) in
           record {
-            settled = p.settled;
+            settled = settled;
             good = good_then;
             passes = next.0;
             enough = subst (λ (f : Found). IsEnough (improving graph bounds (weight_by scale graph first)) (attempts_of groups) at_once most next.0 f result) (sym found) next.1;
-            few = omega (arith, p.few);
+            few = omega (arith, after.few, count);
             no_heavier = omega (arith, lighter, b.no_heavier);
           }
 

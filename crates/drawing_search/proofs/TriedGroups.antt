@@ -90,10 +90,10 @@ attempt_at g i d v h dir_is count_is =
 
 module _ (scale : Scale) (graph : GraphParts) (first : List GridPoint) where
   -- none is made once so many were
-  pub tries_full : (most : ℕ) (f : Tried) (as : List Attempt) → most ≤ f.made → after_tries scale graph first most as f ≡ f
+  pub tries_full : (most : ℕ) (f : Tried) (more : List Attempt) → most ≤ f.made → after_tries scale graph first most more f ≡ f
   tries_full most f [] full = refl
-  tries_full most f (a ∷ as) full =
-      ap (λ b. after_tries scale graph first most as (cond b f (with_tried f (tried scale graph first f.sketch a)))) (le-leb most f.made full) ∙ tries_full most f as full
+  tries_full most f (a ∷ more) full =
+      ap (λ b. after_tries scale graph first most more (cond b f (with_tried f (tried scale graph first f.sketch a)))) (le-leb most f.made full) ∙ tries_full most f more full
 
   -- or it weighs less, and one more was made
   pub record IsAfter (most : ℕ) (f new : Tried) : Type 0 where
@@ -127,11 +127,11 @@ module _ (scale : Scale) (graph : GraphParts) (first : List GridPoint) where
           below : nat_le most f.made ≡ false → f.made < most
           below e = leb-false most f.made e
 
-  pub tries_after : (most : ℕ) (as : List Attempt) (f : Tried) → f.made ≤ most → IsAfter most f (after_tries scale graph first most as f)
+  pub tries_after : (most : ℕ) (more : List Attempt) (f : Tried) → f.made ≤ most → IsAfter most f (after_tries scale graph first most more f)
   tries_after most [] f few = record { lighter = omega arith; more = omega arith; few = few; same = λ s. refl }
-  tries_after most (a ∷ as) f few =
+  tries_after most (a ∷ more) f few =
       let one = one_after most f a few in
-      let rest = tries_after most as (after_try scale graph first most f a) one.few in
+      let rest = tries_after most more (after_try scale graph first most f a) one.few in
       record {
         lighter = omega (arith, one.lighter, rest.lighter);
         more = omega (arith, one.more, rest.more);
@@ -157,14 +157,14 @@ module _ (scale : Scale) (graph : GraphParts) (first : List GridPoint) where
     all_full full = sym (tries_full most now (drop i (attempts_in g)) (omega (arith, full))) ∙ t.rest
 
     pub all_tried : length (attempts_in g) ≤ i → now ≡ after_tries scale graph first most (attempts_in g) start
-    all_tried past = ap (λ (as : List Attempt). after_tries scale graph first most as now) (sym (drop_all i (attempts_in g) past)) ∙ t.rest
+    all_tried past = ap (λ (more : List Attempt). after_tries scale graph first most more now) (sym (drop_all i (attempts_in g) past)) ∙ t.rest
 
     module _ (v : Vector) (below : i < length (attempts_in g)) (is : get_or (attempts_in g) i (attempt_by g v) ≡ attempt_by g v) (room : made < most) where
       one_tried : after_tries scale graph first most (drop (i + 1) (attempts_in g)) (with_tried now (tried scale graph first t.whole (attempt_by g v))) ≡ after_tries scale graph first most (attempts_in g) start
       one_tried =
           ap (λ b. after_tries scale graph first most (drop (i + 1) (attempts_in g)) (cond b now (with_tried now (tried scale graph first t.whole (attempt_by g v))))) (sym (lt-leb most made room))
           ∙ ap (λ (a : Attempt). after_tries scale graph first most (drop (i + 1) (attempts_in g)) (after_try scale graph first most now a)) (sym is)
-          ∙ ap (λ (as : List Attempt). after_tries scale graph first most as now) (sym (drop_more (attempts_in g) i (attempt_by g v) below))
+          ∙ ap (λ (more : List Attempt). after_tries scale graph first most more now) (sym (drop_more (attempts_in g) i (attempt_by g v) below))
           ∙ t.rest
 
       pub none_more : (new : Sketch) → CameOf scale graph first g v t.whole k new None → IsTrying g most start (i + 1) new weight made l

@@ -86,9 +86,7 @@ pub fn search(
     while search.made < most {
         let made = search.made;
         let limit = most.min(made.saturating_add(at_once));
-        for group in groups {
-            search.try_group(alloc, field, group, limit)?;
-        }
+        search.try_groups(alloc, field, groups, limit)?;
         if search.made == made {
             break;
         }

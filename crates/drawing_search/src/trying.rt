@@ -17,7 +17,8 @@ ghost use Rattle.drawing_search.specs.Bounds.{gains_at_least, HaveBounds, IsSmal
 ghost use Rattle.drawing_search.specs.Changes.{all_moved, has_room, moved_by, point_after, stood_at, without_run, AreApart, AreLayable, AreLiftable, AreTakable, CanStandEach};
 ghost use Rattle.drawing_search.specs.Gains.{first_point, sketch_weight, IsField};
 ghost use Rattle.drawing_search.specs.Lifting.{IsAttempted, IsOff};
-ghost use Rattle.drawing_search.specs.Searched.{attempts_in};
+ghost use Rattle.drawing_search.specs.declared.group.Group.{Group as Groups};
+ghost use Rattle.drawing_search.specs.Searched.{attempts_in, attempts_of};
 ghost use Rattle.drawing_search.specs.Tries.{after_tries, AreAllLaid, IsSettled};
 
 use crate::gains::Field;
@@ -39,8 +40,31 @@ pub(crate) struct Search {
 }
 
 impl Search {
+    /// Makes the attempts of groups that make the drawing lighter, one after another, until so many were made in all.
+    pub(crate) fn try_groups(
+        &mut self,
+        alloc: Global,
+        field: Field<'_>,
+        groups: &[Group],
+        most: u32,
+    ) -> Result<(), NoMemory>
+        requires field { IsField field }
+        requires settled { IsSettled (scale_of field.by) field.graph.now field.first.now self.old.sketch self.old.weight }
+        requires fitting { All (IsFitting field.graph.now) (attempts_of groups.now) }
+        requires apart { All (λ (g : Groups). AreApart g.nodes) groups.now }
+        requires lengths { All (λ (g : Groups). g.lengths ≤ 4) groups.now }
+        requires most { self.old.made ≤ most }
+        ensures settled { OnOk result (IsSettled (scale_of field.entry.by) field.entry.graph.now field.entry.first.now self.new.sketch self.new.weight) }
+        ensures tried { OnOk result (record { sketch = self.new.sketch; made = self.new.made } ≡ after_tries (scale_of field.entry.by) field.entry.graph.now field.entry.first.now most (attempts_of groups.now) (record { sketch = self.old.sketch; made = self.old.made })) }
+    {
+        for group in groups {
+            self.try_group(alloc, field, group, most)?;
+        }
+        Ok(())
+    }
+
     /// Makes the attempts of a group that make the drawing lighter, one after another, until so many were made in all.
-    pub(crate) fn try_group(
+    fn try_group(
         &mut self,
         alloc: Global,
         field: Field<'_>,
